@@ -1,0 +1,4 @@
+pub mod Tok
+pub mod Words
+pub mod Numerals
+pub mod Tokens

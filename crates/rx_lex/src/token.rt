@@ -1,0 +1,22 @@
+//! Tokens, which borrow their text from the source.
+
+use rx_core::Span;
+
+/// What kind of word a token is.
+#[derive(Clone, Copy, Debug, PartialEq, Eq)]
+pub enum Class {
+    Identifier,
+    Keyword,
+    Lifetime,
+    Number,
+    Format,
+    Mark,
+}
+
+/// A token: its class, where it stands, and its bytes there.
+#[derive(Clone, Copy, Debug)]
+pub struct Token<'t> {
+    pub class: Class,
+    pub span: Span,
+    pub text: &'t str,
+}
