@@ -59,14 +59,14 @@ token_at at c w = record { class = c; span = record { start = at; end = at + len
 -- the tokens of a text whose first byte stands at a place
 pub data Tokens : ℕ → List ℕ → List Tok → Type 0 where
   none : {at : ℕ} → Tokens at [] []
-  gap : {at n : ℕ} {t r : List ℕ} {ts : List Tok} → Gap t r → length t ≡ n + length r → Tokens (at + n) r ts → Tokens at t ts
+  gap : {at : ℕ} (n : ℕ) {t r : List ℕ} {ts : List Tok} → Gap t r → length t ≡ n + length r → Tokens (at + n) r ts → Tokens at t ts
   token : {at : ℕ} {t : List ℕ} {ts : List Tok} (c : Class) (w r : List ℕ) → ((q : List ℕ) → Gap t q → ⊥) → Longest c w r t
       → Tokens (at + length w) r ts → Tokens at t (token_at at c w ∷ ts)
 
 -- going on from a place, the first place where neither a blank, a comment nor a token begins
 pub data Stuck : ℕ → List ℕ → ℕ → Type 0 where
   here : {at : ℕ} {t : List ℕ} → t ≢ [] → ((q : List ℕ) → Gap t q → ⊥) → ((c : Class) (w r : List ℕ) → Front c w r t → ⊥) → Stuck at t at
-  after_gap : {at n bad : ℕ} {t r : List ℕ} → Gap t r → length t ≡ n + length r → Stuck (at + n) r bad → Stuck at t bad
+  after_gap : {at bad : ℕ} (n : ℕ) {t r : List ℕ} → Gap t r → length t ≡ n + length r → Stuck (at + n) r bad → Stuck at t bad
   after_token : {at bad : ℕ} {t : List ℕ} (c : Class) (w r : List ℕ) → ((q : List ℕ) → Gap t q → ⊥) → Longest c w r t
       → Stuck (at + length w) r bad → Stuck at t bad
 
