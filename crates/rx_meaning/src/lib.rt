@@ -1,0 +1,2 @@
+//! What a program of the language does when it runs.
+#![tactic(auto)]
