@@ -1,3 +1,4 @@
 pub mod Plain
 pub mod PlainOf
 pub mod Erase
+pub mod Lists

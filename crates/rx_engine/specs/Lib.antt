@@ -1,0 +1,6 @@
+pub mod Names
+pub mod Accepted
+pub mod Plan
+pub mod Run
+pub mod Extracted
+pub mod Conditions

@@ -1,0 +1,2 @@
+//! Extract function: a run of statements becomes a function of its own.
+#![tactic(auto)]
