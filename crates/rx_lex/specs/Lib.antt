@@ -2,3 +2,4 @@ pub mod Tok
 pub mod Words
 pub mod Numerals
 pub mod Tokens
+pub mod Stands
