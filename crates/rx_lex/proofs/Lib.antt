@@ -1,3 +1,5 @@
 pub mod FirstBytes
 pub mod LongestWord
 pub mod Standing
+pub mod Seek
+pub mod Gaps

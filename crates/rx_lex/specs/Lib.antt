@@ -3,3 +3,4 @@ pub mod Words
 pub mod Numerals
 pub mod Tokens
 pub mod Stands
+pub mod Scan

@@ -2,5 +2,6 @@
 #![tactic(auto)]
 
 mod token;
+mod words;
 
 pub use token::{Class, Token};
