@@ -1,5 +1,5 @@
 -- The conditions of an extraction, and the programs that this stage extracts from.
-use Rattle.std.specs.Prelude.{◌≡◌, ℕ, Bool, true, false, not, ◌&&◌, ◌||◌, List, [], ◌∷◌, ◌++◌, Option, Some, None, codes}
+use Rattle.std.specs.Prelude.{ℕ, Bool, true, false, not, ◌&&◌, ◌||◌, List, [], ◌∷◌, ◌++◌, Option, Some, None, codes}
 use Rattle.std.specs.List.{list_any, list_all, starts_with}
 use Rattle.std.specs.Prelude.{nat_eq}
 use Rattle.rx_core.specs.declared.types.Kind.{Kind}
@@ -7,7 +7,6 @@ use Rattle.rx_core.specs.declared.types.Kind.TheVariants.{I64}
 use Rattle.rx_core.specs.Bytes.{same_bytes, is_one_of}
 use Rattle.rx_tree.specs.declared.tree.BinaryOp.{BinaryOp}
 use Rattle.rx_tree.specs.declared.tree.BinaryOp.TheVariants.{Add, Sub, Mul, Div, Rem}
-use Rattle.rx_tree.specs.declared.tree.BoundLifetime.{BoundLifetime}
 use Rattle.rx_tree.specs.Plain as plain
 use Rattle.rx_tree.specs.Plain.{Expression, OptionalExpression, Statement, Parameter, Function, ItemTree, ProgramTree, PatternTree, TypeTree}
 use Rattle.rx_tree.specs.Lists.{statements, tail}

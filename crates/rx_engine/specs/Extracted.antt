@@ -1,5 +1,5 @@
 -- The extraction: what it means that a run became a call of a new function. A relation between two programs, apart from spans.
-use Rattle.std.specs.Prelude.{◌≡◌, ℕ, ◌+◌, suc, Bool, false, true, List, [], ◌∷◌, ◌++◌, length, map, Option, Some, None}
+use Rattle.std.specs.Prelude.{◌≡◌, ℕ, ◌+◌, suc, false, true, List, [], ◌∷◌, ◌++◌, length, map, Option, Some, None}
 use Rattle.rx_core.specs.declared.types.Span.{Span}
 use Rattle.rx_core.specs.declared.types.Kind.TheVariants.{I64}
 use Rattle.rx_tree.specs.declared.tree.Ident.{Ident}
@@ -82,7 +82,7 @@ pub record Parts (p : ProgramTree) (r : Run) : Type 0 where
 abbrev pub extraction : {p : ProgramTree} {r : Run} → Parts p r → List ℕ → Option (List ℕ) → ProgramTree
 extraction c name out =
     c.before ++ (plain.function_item c.span (with_call c.function c.front (call_statement name (params c.run) out) c.rest c.tail)
-      ∷ plain.function_item nowhere (new_function name c.run out) ∷ c.behind)
+    ∷ plain.function_item nowhere (new_function name c.run out) ∷ c.behind)
 
 -- q is p with the run r moved into a function of this name
 pub record Extracted (p : ProgramTree) (r : Run) (name : List ℕ) (q : ProgramTree) : Type 0 where

@@ -1,5 +1,5 @@
 -- What the parts of a program name and declare, in the order of the text (Rust Reference, "Names", "Scopes").
-use Rattle.std.specs.Prelude.{ℕ, Bool, true, false, not, List, [], ◌∷◌, ◌++◌, map, filter, Option, Some, None}
+use Rattle.std.specs.Prelude.{ℕ, not, List, [], ◌∷◌, ◌++◌, map, filter, Option, Some, None}
 use Rattle.rx_core.specs.Bytes.{same_bytes}
 use Rattle.rx_tree.specs.declared.tree.Ident.{Ident}
 use Rattle.rx_tree.specs.Plain as plain
