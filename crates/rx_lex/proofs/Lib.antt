@@ -3,3 +3,4 @@ pub mod LongestWord
 pub mod Standing
 pub mod Seek
 pub mod Gaps
+pub mod TokenLaws
