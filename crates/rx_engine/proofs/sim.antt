@@ -1,0 +1,6 @@
+pub mod World
+pub mod Steps
+pub mod Like
+pub mod Declared
+pub mod Entry
+pub mod Sim
