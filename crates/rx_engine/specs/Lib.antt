@@ -4,3 +4,4 @@ pub mod Plan
 pub mod Run
 pub mod Extracted
 pub mod Conditions
+pub mod Avoids
