@@ -96,7 +96,7 @@ other_name : (L : List Signature) (name x : List ℕ) (h : Signature) → is_one
     → same_bytes x name ≡ false
 other_name L name x h e f =
     unequal x name (λ same. false_true (is_one_of name (map (λ (g : Signature). g.name) L)) e
-      (subst (λ (w : List ℕ). is_one_of w (map (λ (g : Signature). g.name) L) ≡ true) same (signature_named L x h f)))
+    (subst (λ (w : List ℕ). is_one_of w (map (λ (g : Signature). g.name) L) ≡ true) same (signature_named L x h f)))
 
 grown : (A : List Signature) (f g : Signature) (B : List Signature) → is_one_of g.name (map (λ (g : Signature). g.name) (A ++ (f ∷ B))) ≡ false
     → Grown (A ++ (f ∷ B)) (A ++ (f ∷ g ∷ B))
@@ -133,7 +133,7 @@ params_avoid : (name : List ℕ) (V : Scope) (ps : List Parameter) → Every (Av
 params_avoid name V [] h e = e
 params_avoid name V (p ∷ ps) h e =
     params_avoid name ((p.name.name, integer) ∷ V) ps h.1
-      (ap (λ b. cond b (Some integer) (type_in V name)) (unequal name p.name.name (λ same. h.0 (sym same))) ∙ e)
+    (ap (λ b. cond b (Some integer) (type_in V name)) (unequal name p.name.name (λ same. h.0 (sym same))) ∙ e)
 
 -- ---- the new function's parameters
 
@@ -170,7 +170,7 @@ arguments_typed : (G : List Signature) (V : Scope) (ps : List (List ℕ)) → ((
 arguments_typed G V [] h = accepted.AreIntegers.none
 arguments_typed G V (p ∷ ps) h =
     accepted.AreIntegers.one_more (accepted.HasType.var (h p (or_left (same_bytes p p) (is_one_of p ps) (same_bytes-self p))))
-      (arguments_typed G V ps (λ y e. h y (or_keep (same_bytes y p) (is_one_of y ps) e)))
+    (arguments_typed G V ps (λ y e. h y (or_keep (same_bytes y p) (is_one_of y ps) e)))
   where
     or_keep : (a b : Bool) → b ≡ true → (a || b) ≡ true
     or_keep true b e = refl
@@ -209,7 +209,7 @@ call_keeps : (run : List Statement) (needed : List (List ℕ)) (V : Scope) (out 
 call_keeps run needed V None y h e = refl
 call_keeps run needed V (Some x) y h e =
     ap (λ b. cond b (Some integer) (type_in V y))
-      (unequal y x (λ same. false_true (declared_in y run) e (subst (λ (w : List ℕ). declared_in w run ≡ true) (sym same) (out_declared run needed x h))))
+    (unequal y x (λ same. false_true (declared_in y run) e (subst (λ (w : List ℕ). declared_in w run ≡ true) (sym same) (out_declared run needed x h))))
 
 call_hands : (run : List Statement) (needed : List (List ℕ)) (V : Scope) (out : Option (List ℕ)) (y : List ℕ) → outs run needed ≡ handed_out out
     → is_one_of y (outs run needed) ≡ true → type_in (after_call out V) y ≡ Some integer
@@ -325,7 +325,7 @@ with_call_typed {F = F} {G = G} f front run rest y name out g d b absent found =
       result = d.result;
       end = last.end;
       body = subst (λ (l : List Statement). AreTyped G (scope_from [] f.params) l last.end) (sym (listed-statements_of (front ++ (call_statement name (params run) out ∷ rest))))
-        (typed_joined (front_grown g b.front) (statement_typed name (params run) out (call_typed run name out absent found b.run.given) last.typed));
+          (typed_joined (front_grown g b.front) (statement_typed name (params run) out (call_typed run name out absent found b.run.given) last.typed));
       gives = gives_serve g b.gives last.serves;
     }
 
@@ -353,24 +353,24 @@ functions_inserted : (A : List Function) (f g : Function) (b : Body) (B : List F
 functions_inserted A f g b B a e both_typed =
     let before : map signature (A ++ (f ∷ B)) ≡ map signature A ++ (signature f ∷ map signature B) = map-append signature A (f ∷ B) in
     let behind : map signature (A ++ (record f { body = b } ∷ g ∷ B)) ≡ map signature A ++ (signature f ∷ signature g ∷ map signature B) =
-      map-append signature A (record f { body = b } ∷ g ∷ B) in
+    map-append signature A (record f { body = b } ∷ g ∷ B) in
     let out : is_one_of g.name.name (map (λ (h : Signature). h.name) (map signature A ++ (signature f ∷ map signature B))) ≡ false =
-      subst (λ (L : List Signature). is_one_of g.name.name (map (λ (h : Signature). h.name) L) ≡ false) before e in
+    subst (λ (L : List Signature). is_one_of g.name.name (map (λ (h : Signature). h.name) L) ≡ false) before e in
     let more : Grown (map signature (A ++ (f ∷ B))) (map signature A ++ (signature f ∷ signature g ∷ map signature B)) =
-      subst (λ (L : List Signature). Grown L (map signature A ++ (signature f ∷ signature g ∷ map signature B))) (sym before)
-        (grown (map signature A) (signature f) (signature g) (map signature B) out) in
+    subst (λ (L : List Signature). Grown L (map signature A ++ (signature f ∷ signature g ∷ map signature B))) (sym before)
+    (grown (map signature A) (signature f) (signature g) (map signature B) out) in
     let two = both_typed (map signature A ++ (signature f ∷ signature g ∷ map signature B)) more
-      (signature_found (map signature A) (signature f) (signature g) (map signature B) out) in
+    (signature_found (map signature A) (signature f) (signature g) (map signature B) out) in
     let old = every-map (IsTyped (map signature (A ++ (f ∷ B)))) (IsTyped (map signature A ++ (signature f ∷ signature g ∷ map signature B))) (A ++ (f ∷ B))
-      (λ x d. typed_grown x more d) a.typed in
+    (λ x d. typed_grown x more d) a.typed in
     let back = every-back (IsTyped (map signature A ++ (signature f ∷ signature g ∷ map signature B))) A (f ∷ B) old in
     record {
       apart = subst (λ (L : List Signature). AreDistinct (map (λ (h : Signature). h.name) L)) (sym behind)
-        (distinct_inserted (map signature A) (signature f) (signature g) (map signature B) out
+          (distinct_inserted (map signature A) (signature f) (signature g) (map signature B) out
           (subst (λ (L : List Signature). AreDistinct (map (λ (h : Signature). h.name) L)) before a.apart));
       main = ap (λ L. signature_of L (codes "main")) behind ∙ more (codes "main") _ a.main;
       typed = subst (λ (L : List Signature). Every (IsTyped L) (A ++ (record f { body = b } ∷ g ∷ B))) (sym behind)
-        (every-append (IsTyped (map signature A ++ (signature f ∷ signature g ∷ map signature B))) A (record f { body = b } ∷ g ∷ B)
+          (every-append (IsTyped (map signature A ++ (signature f ∷ signature g ∷ map signature B))) A (record f { body = b } ∷ g ∷ B)
           (every-front (IsTyped (map signature A ++ (signature f ∷ signature g ∷ map signature B))) A (f ∷ B) old)
           (two.0, (two.1, back.1)));
     }
@@ -389,7 +389,7 @@ body_typed : {F : List Signature} (f : Function) (braces : Span) (front run rest
     → TypedBody F (scope_from [] f.params) front run rest y (given_by f.result) out
 body_typed {F = F} f braces front run rest y out is handed d given made =
     let all : AreTyped F (scope_from [] f.params) (front ++ (run ++ rest)) d.end =
-      subst (λ (l : List Statement). AreTyped F (scope_from [] f.params) l d.end) (ap statements is ∙ listed-statements_of (front ++ (run ++ rest))) d.body in
+    subst (λ (l : List Statement). AreTyped F (scope_from [] f.params) l d.end) (ap statements is ∙ listed-statements_of (front ++ (run ++ rest))) d.body in
     let one = typed_split front (run ++ rest) all in
     let two = typed_split run rest one.back in
     record {
@@ -406,32 +406,32 @@ front_avoids : (name : List ℕ) (f : Function) (braces : Span) (front more : Li
     → AvoidsFunction name f → Every (AvoidsStatement name) front
 front_avoids name f braces front more y is h =
     every-front (AvoidsStatement name) front more
-      (subst (λ (l : List Statement). Every (AvoidsStatement name) l) (ap statements is ∙ listed-statements_of (front ++ more)) h.body)
+    (subst (λ (l : List Statement). Every (AvoidsStatement name) l) (ap statements is ∙ listed-statements_of (front ++ more)) h.body)
 
 pub extraction_accepted : (p : ProgramTree) (r : Run) (name : List ℕ) (c : Parts p r) (out : Option (List ℕ)) → Accepted p
     → outs c.run (free c.rest c.tail) ≡ handed_out out → Avoids name p → HasIntegers c → Accepted (extraction c name out)
 extraction_accepted p r name c out a handed avoids integers =
     let here : functions p ≡ functions c.before ++ (c.function ∷ functions c.behind) =
-      ap functions c.items ∙ functions-append c.before (plain.function_item c.span c.function ∷ c.behind) in
+    ap functions c.items ∙ functions-append c.before (plain.function_item c.span c.function ∷ c.behind) in
     let old : AcceptedFunctions (functions c.before ++ (c.function ∷ functions c.behind)) =
-      subst AcceptedFunctions here (record { apart = a.apart; main = a.main; typed = a.typed }) in
+    subst AcceptedFunctions here (record { apart = a.apart; main = a.main; typed = a.typed }) in
     let item : Every (AvoidsItem name) (plain.function_item c.span c.function ∷ c.behind) =
-      every-back (AvoidsItem name) c.before (plain.function_item c.span c.function ∷ c.behind) (subst (Avoids name) c.items avoids) in
+    every-back (AvoidsItem name) c.before (plain.function_item c.span c.function ∷ c.behind) (subst (Avoids name) c.items avoids) in
     let own : IsTyped (signatures p) c.function =
-      (every-back (IsTyped (signatures p)) (functions c.before) (c.function ∷ functions c.behind)
-        (subst (Every (IsTyped (signatures p))) here a.typed)).0 in
+    (every-back (IsTyped (signatures p)) (functions c.before) (c.function ∷ functions c.behind)
+    (subst (Every (IsTyped (signatures p))) here a.typed)).0 in
     let b = body_typed c.function c.braces c.front c.run c.rest c.tail out c.body handed own integers.given integers.made in
     let absent = typed_avoids name b.front (front_avoids name c.function c.braces c.front (c.run ++ c.rest) c.tail c.body item.0)
-      (params_avoid name [] c.function.params item.0.params refl) in
+    (params_avoid name [] c.function.params item.0.params refl) in
     let made = functions_inserted (functions c.before) c.function (new_function name c.run out)
-      (plain.body nowhere (statements_of (c.front ++ (call_statement name (params c.run) out ∷ c.rest))) c.tail) (functions c.behind) old
-      (subst (λ (l : List Function). is_one_of name (map (λ (h : Signature). h.name) (map signature l)) ≡ false) here (names_avoid name p avoids))
-      (λ G g found.
-        let h : Grown (signatures p) G = subst (λ (l : List Function). Grown (map signature l) G) (sym here) g in
-        (with_call_typed c.function c.front c.run c.rest c.tail name out h own b absent found, new_typed name h b.run)) in
+    (plain.body nowhere (statements_of (c.front ++ (call_statement name (params c.run) out ∷ c.rest))) c.tail) (functions c.behind) old
+    (subst (λ (l : List Function). is_one_of name (map (λ (h : Signature). h.name) (map signature l)) ≡ false) here (names_avoid name p avoids))
+    (λ G g found.
+    let h : Grown (signatures p) G = subst (λ (l : List Function). Grown (map signature l) G) (sym here) g in
+    (with_call_typed c.function c.front c.run c.rest c.tail name out h own b absent found, new_typed name h b.run)) in
     let there : functions (extraction c name out)
-      ≡ functions c.before ++ (with_call c.function c.front (call_statement name (params c.run) out) c.rest c.tail ∷ new_function name c.run out ∷ functions c.behind) =
-      functions-append c.before (plain.function_item c.span (with_call c.function c.front (call_statement name (params c.run) out) c.rest c.tail)
-        ∷ plain.function_item nowhere (new_function name c.run out) ∷ c.behind) in
+    ≡ functions c.before ++ (with_call c.function c.front (call_statement name (params c.run) out) c.rest c.tail ∷ new_function name c.run out ∷ functions c.behind) =
+    functions-append c.before (plain.function_item c.span (with_call c.function c.front (call_statement name (params c.run) out) c.rest c.tail)
+    ∷ plain.function_item nowhere (new_function name c.run out) ∷ c.behind) in
     let all = subst AcceptedFunctions (sym there) made in
     record { apart = all.apart; main = all.main; typed = all.typed }

@@ -24,8 +24,8 @@ handed_has y None ss needed e f g = absurd (cc)
 handed_has y (Some x) ss needed e f g =
     let h = same_bytes-true y x e in
     let k : (is_one_of x needed && not (declared_in x ss)) ≡ true =
-      both (is_one_of x needed) (not (declared_in x ss)) (subst (λ (w : List ℕ). is_one_of w needed ≡ true) h f)
-        (ap not (subst (λ (w : List ℕ). declared_in w ss ≡ false) h g)) in
+    both (is_one_of x needed) (not (declared_in x ss)) (subst (λ (w : List ℕ). is_one_of w needed ≡ true) h f)
+    (ap not (subst (λ (w : List ℕ). declared_in w ss ≡ false) h g)) in
     ap (λ b. is_one_of y (cond b (x ∷ []) [])) k ∙ or_left (same_bytes y x) false e
 
 handed_only : (y : List ℕ) (d : Option (List ℕ)) (ss : List Statement) (needed : List (List ℕ)) → is_one_of y (handed d ss needed) ≡ true
@@ -36,6 +36,7 @@ handed_only y (Some x) ss needed e = by_test (is_one_of x needed && not (declare
     member : is_one_of x needed ≡ true → (same_bytes y x ≡ true) ⊎ (false ≡ true) → (same_bytes y x ≡ true) × (is_one_of y needed ≡ true)
     member k (inl h) = (h, subst (λ (w : List ℕ). is_one_of w needed ≡ true) (sym (same_bytes-true y x h)) k)
     member k (inr h) = absurd (cc)
+
     by_test : (b : Bool) → (is_one_of x needed && not (declared_in x ss)) ≡ b → is_one_of y (cond b (x ∷ []) []) ≡ true
         → (same_bytes y x ≡ true) × (is_one_of y needed ≡ true)
     by_test true k h = member (both_true (is_one_of x needed) (not (declared_in x ss)) k).0 (or_true (same_bytes y x) false h)
@@ -73,15 +74,16 @@ free_with y (a ∷ ss) t e =
     covered : (x : List ℕ) → same_bytes y x ≡ false
         → (is_one_of y (free ss plain.absent) ≡ true) ⊎ ((is_one_of y (names (uses_given t)) ≡ true) × (declared_in y ss ≡ false))
         → (is_one_of y (names (uses_in a) ++ remove x (free ss plain.absent)) ≡ true)
-            ⊎ ((is_one_of y (names (uses_given t)) ≡ true) × ((same_bytes y x || declared_in y ss) ≡ false))
+        ⊎ ((is_one_of y (names (uses_given t)) ≡ true) × ((same_bytes y x || declared_in y ss) ≡ false))
     covered x f (inl h) = inl (one_of-right y (names (uses_in a)) (remove x (free ss plain.absent)) (one_of-remove y x (free ss plain.absent) h f))
     covered x f (inr h) = inr (h.0, ap (λ b. b || declared_in y ss) f ∙ h.1)
+
     by_side : (d : Option (List ℕ))
         → (is_one_of y (free ss t) ≡ true
-            → (is_one_of y (free ss plain.absent) ≡ true) ⊎ ((is_one_of y (names (uses_given t)) ≡ true) × (declared_in y ss ≡ false)))
+        → (is_one_of y (free ss plain.absent) ≡ true) ⊎ ((is_one_of y (names (uses_given t)) ≡ true) × (declared_in y ss ≡ false)))
         → (is_one_of y (names (uses_in a)) ≡ true) ⊎ (is_one_of y (without d (free ss t)) ≡ true)
         → (is_one_of y (names (uses_in a) ++ without d (free ss plain.absent)) ≡ true)
-            ⊎ ((is_one_of y (names (uses_given t)) ≡ true) × ((is_declared y d || declared_in y ss) ≡ false))
+        ⊎ ((is_one_of y (names (uses_given t)) ≡ true) × ((is_declared y d || declared_in y ss) ≡ false))
     by_side d more (inl h) = inl (one_of-left y (names (uses_in a)) (without d (free ss plain.absent)) h)
     by_side None more (inr h) = later (more h)
       where

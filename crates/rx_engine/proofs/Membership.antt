@@ -76,6 +76,7 @@ one_of-removed y x (z ∷ l) e = by_head (same_bytes z x) refl (one_of-removed y
         → (same_bytes y z ≡ true) ⊎ (is_one_of y (remove x l) ≡ true) → (is_one_of y (z ∷ l) ≡ true) × (same_bytes y x ≡ false)
     kept h more (inl g) = (or_left (same_bytes y z) (is_one_of y l) g, ap (λ w. same_bytes w x) (same_bytes-true y z g) ∙ h)
     kept h more (inr g) = let r = more g in (or_right (same_bytes y z) (is_one_of y l) r.0, r.1)
+
     by_head : (t : Bool) → same_bytes z x ≡ t → (is_one_of y (remove x l) ≡ true → (is_one_of y l ≡ true) × (same_bytes y x ≡ false))
         → is_one_of y (cond (not t) (z ∷ remove x l) (remove x l)) ≡ true → (is_one_of y (z ∷ l) ≡ true) × (same_bytes y x ≡ false)
     by_head false h more g = kept h more (or_true (same_bytes y z) (is_one_of y (remove x l)) g)

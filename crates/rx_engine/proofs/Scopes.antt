@@ -67,6 +67,7 @@ serves_declared {V = V} {W = W} x t N s = record { agree = λ y e. agree_at y (s
         → cond b (Some t) (type_in V y) ≡ cond b (Some t) (type_in W y)
     agree_at y true h e = refl
     agree_at y false h e = s.agree y (one_of-remove y x N e h)
+
     less_at : (y : List ℕ) (b : Bool) → cond b (Some t) (type_in V y) ≡ None → cond b (Some t) (type_in W y) ≡ None
     less_at y true e = absurd (cc)
     less_at y false e = s.less y e
@@ -166,14 +167,14 @@ mutual
   integers_use y accepted.AreIntegers.none e = absurd (cc)
   integers_use y (accepted.AreIntegers.one_more {e = a} {es = es} d more) e =
       either (λ h. typed_uses y d h) (λ h. integers_use y more h)
-        (one_of-either y (names (uses a)) (names (uses_all es)) (ap (is_one_of y) (sym (names-append (uses a) (uses_all es))) ∙ e))
+      (one_of-either y (names (uses a)) (names (uses_all es)) (ap (is_one_of y) (sym (names-append (uses a) (uses_all es))) ∙ e))
 
 pub free_typed : {F : List Signature} {V E : Scope} {ss : List Statement} (y : List ℕ) → AreTyped F V ss E → is_one_of y (free ss plain.absent) ≡ true
     → InScope V y
 free_typed y accepted.AreTyped.none e = absurd (cc)
 free_typed {V = V} y (accepted.AreTyped.declared {x = x} {e = a} {t = t} {ss = ss} d more) e =
     either (λ h. typed_uses y d h) (λ h. undeclared (one_of-removed y x.name (free ss plain.absent) h) (λ k. free_typed y more k))
-      (one_of-either y (names (uses a)) (remove x.name (free ss plain.absent)) e)
+    (one_of-either y (names (uses a)) (remove x.name (free ss plain.absent)) e)
   where
     undeclared : (is_one_of y (free ss plain.absent) ≡ true) × (same_bytes y x.name ≡ false)
         → (is_one_of y (free ss plain.absent) ≡ true → InScope ((x.name, t) ∷ V) y) → InScope V y
