@@ -1,7 +1,7 @@
 -- `same_bytes` and `is_one_of` decide equality and membership, by recursion on both lists.
-use Rattle.std.proofs.Common.{◌≡◌, ℕ, Bool, true, false, ◌&&◌, List, [], ◌∷◌, refl, sym, ap, ◌∙◌, eqb, eqb-true, eq-eqb, cond}
+use Rattle.std.proofs.Common.{◌≡◌, ℕ, Bool, true, false, ◌&&◌, List, [], ◌∷◌, refl, sym, ap, ◌∙◌, eqb-true, eq-eqb}
 use Rattle.std.specs.Prelude.{◌==◌}
-use Rattle.rx_core.specs.Bytes.{same_bytes, is_one_of}
+use Rattle.rx_core.specs.Bytes.{same_bytes}
 
 both_true : (a b : Bool) → (a && b) ≡ true → (a ≡ true) × (b ≡ true)
 both_true true b e = (refl, e)

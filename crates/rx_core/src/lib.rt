@@ -3,10 +3,24 @@
 
 mod boxed;
 mod list;
+mod never;
+mod read;
+mod sink;
+mod source;
+mod std_streams;
+#[cfg(test)]
+mod tests;
 mod text;
 mod types;
+mod write;
 
 pub use boxed::Boxed;
 pub use list::List;
+pub use never::{NeverSink, NeverSource};
+pub use read::{ReadFail, read_all};
+pub use sink::Sink;
+pub use source::{Failed, Source};
+pub use std_streams::{StdSink, StdSource};
 pub use text::{Name, Text};
 pub use types::{Bound, Edit, Edits, Kind, Place, Position, Span, Step, Ty, Which};
+pub use write::{WriteFail, write_all_of};

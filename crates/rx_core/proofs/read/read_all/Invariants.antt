@@ -1,0 +1,12 @@
+-- What was read is a front of what was left at entry, at least a byte each turn.
+use Rattle.std.proofs.Common.{◌≤◌, length}
+use Rattle.rx_core.specs.Streams.{Gone}
+use Rattle.rx_core.proofs.read.read_all.Given as goal
+
+abbrev pub invariant-loop-turn : goal.invariant-loop-turn
+invariant-loop-turn g l = record {
+  busy : l._turn ≤ length l.bytes.items;
+  within : length l.bytes.items ≤ l.limit;
+  gone : Gone (g.S.Source.remaining l.fn.source) (g.S.Source.remaining l.source) l.bytes.items;
+  faults : g.S.Source.faults l.fn.source ≤ g.S.Source.faults l.source;
+}

@@ -1,0 +1,79 @@
+//! Reads all that a source has.
+
+ghost use Rattle.std.specs.Prelude.{◌≡◌, ◌+◌, ◌≤◌, ℕ, List as ListOf, Some, [], length, IfOk, OnErr, IsErrOf, ◌++◌};
+ghost use Rattle.rx_core.specs.Streams.{Rose, Told, Gone};
+
+use crate::list::List;
+use crate::source::{Failed, Source};
+use std::alloc::{AllocError, Global};
+use thiserror::Error;
+
+/// Why a source was not read whole.
+#[derive(Debug, Drop, Error)]
+pub enum ReadFail {
+    #[error("the source failed")]
+    ReadFault,
+    #[error("too many bytes")]
+    TooLong,
+    #[error("out of memory")]
+    OutOfMemory,
+}
+
+/// The bytes that one call takes at most.
+const PIECE: usize = 4096;
+
+/// Takes one piece of at most `room` bytes, and adds it to `bytes`. Gives how many came.
+fn read_piece<S: Source>(
+    source: &mut S,
+    room: usize,
+    bytes: &mut Vec<u8>,
+) -> Result<usize, ReadFail>
+    requires { 1 ≤ room }
+    ensures gives { IfOk result (λ n. (piece : ListOf ℕ) × (length piece ≡ n) × (n ≤ room)
+        × (bytes.new.items ≡ bytes.old.items ++ piece) × Gone (S.remaining source.old) (S.remaining source.new) piece) }
+    ensures end { IfOk result (λ n. Told (S.remaining source.old) (λ left. n ≡ 0 → left ≡ [])) }
+    ensures lost { OnErr result ((piece : ListOf ℕ) × (length piece ≤ room) × Gone (S.remaining source.old) (S.remaining source.new) piece) }
+    ensures fault { IsErrOf result ReadFail.ReadFault → Rose (S.faults source.old) (S.faults source.new) }
+    ensures fit { ¬ IsErrOf result ReadFail.TooLong }
+    ensures faults { S.faults source.old ≤ S.faults source.new }
+{
+    let mut buf = [0u8; PIECE];
+    let wanted = room.min(PIECE);
+    let n = match source.take(&mut buf[..wanted]) {
+        Ok(n) => n,
+        Err(Failed) => return Err(ReadFail::ReadFault),
+    };
+    match bytes.extend_from_slice(&buf[..n]) {
+        Ok(()) => Ok(n),
+        Err(AllocError) => Err(ReadFail::OutOfMemory),
+    }
+}
+
+/// Reads a source to its end, which is where a piece with room gets no byte. It reads at most one byte more than
+/// `limit`, and fails with `TooLong` where it got that byte.
+pub fn read_all<S: Source>(
+    alloc: Global,
+    source: &mut S,
+    limit: usize,
+) -> Result<List<u8>, ReadFail>
+    requires { limit ≤ 16777216 }
+    ensures all { IfOk result (λ bytes. Told (S.remaining source.old) (λ left. (bytes ≡ left) × (S.remaining source.new ≡ Some []))) }
+    ensures within { IfOk result (λ bytes. length bytes ≤ limit) }
+    ensures too_long { IsErrOf result ReadFail.TooLong → (bytes : ListOf ℕ) × (length bytes ≡ limit + 1)
+        × Gone (S.remaining source.old) (S.remaining source.new) bytes }
+    ensures fault { IsErrOf result ReadFail.ReadFault → Rose (S.faults source.old) (S.faults source.new) }
+    ensures gone { (bytes : ListOf ℕ) × (length bytes ≤ limit + 1) × Gone (S.remaining source.old) (S.remaining source.new) bytes }
+    ensures faults { S.faults source.old ≤ S.faults source.new }
+{
+    let mut bytes = Vec::new(alloc);
+    for _turn in 0..limit + 1 {
+        let room = limit + 1 - bytes.len();
+        if read_piece(source, room, &mut bytes)? == 0 {
+            return Ok(List::from_vec(bytes));
+        }
+        if bytes.len() > limit {
+            return Err(ReadFail::TooLong);
+        }
+    }
+    unreachable!()
+}
