@@ -1,6 +1,6 @@
 //! The standard streams of a program, and other readers and writers of std. They tell nothing of their bytes.
 
-ghost use Rattle.std.specs.Prelude.{None};
+ghost use Rattle.std.specs.Prelude.{◌≡◌, None};
 
 use crate::sink::Sink;
 use crate::source::{Failed, Source};
@@ -14,7 +14,10 @@ pub struct StdSource<R> {
 }
 
 impl<R> StdSource<R> {
-    pub fn new(reader: R) -> StdSource<R> {
+    /// A source of what the reader gives, with no fault so far.
+    pub fn new(reader: R) -> StdSource<R>
+        ensures { (result.reader ≡ reader) × (result.faults ≡ 0) }
+    {
         StdSource { reader, faults: 0 }
     }
 }
@@ -44,7 +47,10 @@ pub struct StdSink<W> {
 }
 
 impl<W> StdSink<W> {
-    pub fn new(writer: W) -> StdSink<W> {
+    /// A sink to what the writer takes, with no fault and no standstill so far.
+    pub fn new(writer: W) -> StdSink<W>
+        ensures { (result.writer ≡ writer) × (result.faults ≡ 0) × (result.standstills ≡ 0) }
+    {
         StdSink {
             writer,
             faults: 0,
