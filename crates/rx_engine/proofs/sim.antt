@@ -4,3 +4,5 @@ pub mod Like
 pub mod Declared
 pub mod Entry
 pub mod Sim
+pub mod Members
+pub mod Typed
