@@ -8,7 +8,9 @@ use Rattle.rx_core.specs.declared.types.Kind.{Kind}
 use Rattle.rx_core.specs.declared.types.Kind.TheVariants.{U8, U32, U64, I32, I64}
 use Rattle.rx_core.specs.Bytes.{same_bytes, is_one_of}
 use Rattle.rx_core.proofs.BytesLemmas.{same_bytes-true}
-use Rattle.rx_lex.specs.Numerals.{IsNumeral, decimal, based, Base, hexadecimal, octal, binary, is_digit, is_digit_of, is_among, is_among_decimal, prefix, suffix_text}
+use Rattle.rx_lex.specs.declared.numeral.Base.{Base}
+use Rattle.rx_lex.specs.declared.numeral.Base.TheVariants.{Hexadecimal, Octal, Binary}
+use Rattle.rx_lex.specs.Numerals.{IsNumeral, decimal, based, is_digit, is_digit_of, is_among, is_among_decimal, prefix, suffix_text}
 use Rattle.rx_lex.specs.Words.{is_start, is_continue, is_letter}
 
 abbrev pub first : List ℕ → ℕ
@@ -52,7 +54,7 @@ between a b x y c p q e =
     and_from (nat_le x c) (nat_le c y) (le-leb x c (omega arith)) (le-leb c y (omega arith))
 
 continue_of : (b : Base) (c : ℕ) → is_digit_of b c ≡ true → is_continue c ≡ true
-continue_of hexadecimal c e =
+continue_of Hexadecimal c e =
     elim (or_cases (is_digit c || (nat_le 97 c && nat_le c 102)) (nat_le 65 c && nat_le c 70) e) [
       | inl h ↦ elim (or_cases (is_digit c) (nat_le 97 c && nat_le c 102) h) [
         | inl d ↦ continue_digit c d
@@ -60,8 +62,8 @@ continue_of hexadecimal c e =
       ]
       | inr l ↦ continue_letter c (or_right (nat_le 97 c && nat_le c 122) (nat_le 65 c && nat_le c 90) (between 65 70 65 90 c (omega arith) (omega arith) l))
     ]
-continue_of octal c e = continue_digit c (between 48 55 48 57 c (omega arith) (omega arith) e)
-continue_of binary c e = continue_digit c (between 48 49 48 57 c (omega arith) (omega arith) e)
+continue_of Octal c e = continue_digit c (between 48 55 48 57 c (omega arith) (omega arith) e)
+continue_of Binary c e = continue_digit c (between 48 49 48 57 c (omega arith) (omega arith) e)
 
 pub continue_among : (b : Base) (c : ℕ) → is_among b c ≡ true → is_continue c ≡ true
 continue_among b c e = elim (or_cases (is_digit_of b c) (c == 95) e) [ inl h ↦ continue_of b c h | inr h ↦ continue_line c h ]
@@ -78,9 +80,9 @@ suffix_continues (Some I32) = refl
 suffix_continues (Some I64) = refl
 
 prefix_continues : (b : Base) → list_all is_continue (prefix b) ≡ true
-prefix_continues hexadecimal = refl
-prefix_continues octal = refl
-prefix_continues binary = refl
+prefix_continues Hexadecimal = refl
+prefix_continues Octal = refl
+prefix_continues Binary = refl
 
 all_joined : (a b : List ℕ) → list_all is_continue a ≡ true → list_all is_continue b ≡ true → list_all is_continue (a ++ b) ≡ true
 all_joined a b p q = list_all-append is_continue a b ∙ and_from (list_all is_continue a) (list_all is_continue b) p q
@@ -96,6 +98,6 @@ numeral_continues (based b cs k a n e) =
 -- a number begins with a digit
 pub numeral_digit : {w : List ℕ} {v : ℕ} {k : Option Kind} → IsNumeral w v k → is_digit (first w) ≡ true
 numeral_digit (decimal c cs k d a e) = ap (λ l. is_digit (first l)) e ∙ d
-numeral_digit (based hexadecimal cs k a n e) = ap (λ l. is_digit (first l)) e
-numeral_digit (based octal cs k a n e) = ap (λ l. is_digit (first l)) e
-numeral_digit (based binary cs k a n e) = ap (λ l. is_digit (first l)) e
+numeral_digit (based Hexadecimal cs k a n e) = ap (λ l. is_digit (first l)) e
+numeral_digit (based Octal cs k a n e) = ap (λ l. is_digit (first l)) e
+numeral_digit (based Binary cs k a n e) = ap (λ l. is_digit (first l)) e

@@ -4,3 +4,4 @@ pub mod Standing
 pub mod Seek
 pub mod Gaps
 pub mod TokenLaws
+pub mod NumeralLaws

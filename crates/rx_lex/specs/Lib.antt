@@ -4,3 +4,4 @@ pub mod Numerals
 pub mod Tokens
 pub mod Stands
 pub mod Scan
+pub mod Digits

@@ -2,31 +2,27 @@
 use Rattle.std.specs.Prelude.{◌≡◌, ℕ, ◌+◌, ◌-◌, ◌*◌, Bool, true, ◌==◌, ◌&&◌, ◌||◌, if◌then◌else◌, nat_le, List, [], ◌∷◌, ◌++◌, Option, Some, None, codes}
 use Rattle.std.specs.List.{list_all, list_any}
 use Rattle.rx_core.specs.declared.types.Kind.{Kind}
+use Rattle.rx_lex.specs.declared.numeral.Base.{Base}
+use Rattle.rx_lex.specs.declared.numeral.Base.TheVariants.{Hexadecimal, Octal, Binary}
 use Rattle.rx_core.specs.declared.types.Kind.TheVariants.{U8, U32, U64, I32, I64}
 
 abbrev pub is_digit : ℕ → Bool
 is_digit c = nat_le 48 c && nat_le c 57
 
--- the bases with a prefix
-pub data Base : Type 0 where
-  hexadecimal : Base
-  octal : Base
-  binary : Base
-
 abbrev pub radix : Base → ℕ
-radix hexadecimal = 16
-radix octal = 8
-radix binary = 2
+radix Hexadecimal = 16
+radix Octal = 8
+radix Binary = 2
 
 abbrev pub prefix : Base → List ℕ
-prefix hexadecimal = codes "0x"
-prefix octal = codes "0o"
-prefix binary = codes "0b"
+prefix Hexadecimal = codes "0x"
+prefix Octal = codes "0o"
+prefix Binary = codes "0b"
 
 abbrev pub is_digit_of : Base → ℕ → Bool
-is_digit_of hexadecimal c = is_digit c || (nat_le 97 c && nat_le c 102) || (nat_le 65 c && nat_le c 70)
-is_digit_of octal c = nat_le 48 c && nat_le c 55
-is_digit_of binary c = nat_le 48 c && nat_le c 49
+is_digit_of Hexadecimal c = is_digit c || (nat_le 97 c && nat_le c 102) || (nat_le 65 c && nat_le c 70)
+is_digit_of Octal c = nat_le 48 c && nat_le c 55
+is_digit_of Binary c = nat_le 48 c && nat_le c 49
 
 -- what may stand among the digits
 abbrev pub is_among : Base → ℕ → Bool

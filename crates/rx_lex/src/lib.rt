@@ -1,7 +1,9 @@
 //! Tokens of a text (Rust Reference, "Lexical structure").
 #![tactic(auto)]
 
+mod numeral;
 mod token;
 mod words;
 
+pub use numeral::{Numeral, numeral_of};
 pub use token::{Class, Token};

@@ -1,7 +1,7 @@
 //! Keywords and marks.
 
 ghost use Rattle.std.specs.Prelude.{◌≡◌, map};
-ghost use Rattle.rx_core.specs.Bytes.{is_one_of};
+ghost use Rattle.rx_core.specs.Bytes.{is_one_of, same_bytes};
 ghost use Rattle.rx_lex.specs.Words.{keywords, marks};
 
 static KEYWORDS: [&[u8]; 58] = [
@@ -70,7 +70,7 @@ fn stands_among(word: &[u8], words: &[&[u8]]) -> bool
     ensures { result ≡ is_one_of word.now (map (λ w. w.now) words.now) }
 {
     for other in words {
-        if word == *other {
+        if is_same(word, *other) {
             return true;
         }
     }
@@ -81,4 +81,10 @@ pub(crate) fn is_keyword(word: &[u8]) -> bool
     ensures { result ≡ is_one_of word.now keywords }
 {
     stands_among(word, &KEYWORDS)
+}
+
+pub(crate) fn is_same(a: &[u8], b: &[u8]) -> bool
+    ensures { result ≡ same_bytes a.now b.now }
+{
+    a == b
 }
