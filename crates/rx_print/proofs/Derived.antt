@@ -1,5 +1,5 @@
 -- The tokens of the canonical text of a program are derived as the same program: by recursion on the tree, one lemma for each form.
-use Rattle.std.proofs.Common.{◌≡◌, ℕ, zero, suc, ◌+◌, ◌≤◌, max, Bool, true, false, List, [], ◌∷◌, ◌++◌, length, map, Option, Some, None, refl, sym, ap, subst, ◌∙◌, arith, append_assoc, inl, inr}
+use Rattle.std.proofs.Common.{◌≡◌, ℕ, suc, ◌+◌, ◌≤◌, max, Bool, true, false, List, [], ◌∷◌, ◌++◌, length, map, Option, Some, None, refl, sym, ap, subst, ◌∙◌, arith, append_assoc, inl, inr}
 use Rattle.std.specs.Prelude.{◌⊎◌, codes, option_map}
 use Rattle.rx_core.specs.declared.types.Span.{Span}
 use Rattle.rx_core.specs.declared.types.Kind.TheVariants.{I64}
@@ -10,14 +10,14 @@ use Rattle.rx_tree.specs.Plain.{TypeTree, PatternTree, Expression, OptionalExpre
 use Rattle.rx_tree.specs.Erase.{erase, erase_optional, erase_statement, erase_statements, erase_body, erase_type, erase_ident, erase_lifetime, erase_parameter, erase_function, erase_item, erase_program, nowhere}
 use Rattle.rx_lex.specs.declared.token.Class.TheVariants.{Identifier, Keyword, Format, Mark}
 use Rattle.rx_lex.specs.Tok.{Tok}
-use Rattle.rx_lex.specs.Words.{is_identifier, format_text}
+use Rattle.rx_lex.specs.Words.{format_text}
 use Rattle.rx_lex.specs.Tokens.{token_at}
 use Rattle.rx_parse.specs.Grammar as g
 use Rattle.rx_parse.specs.Grammar.{Given, IsStatement, AreStatements, IsBody, Parameters, Result, IsFunction, File, span_of, join}
-use Rattle.rx_print.specs.Print.{Piece, space, line, indent, mark_piece, weakest, expression_pieces, statement_pieces, statements_pieces, tail_pieces, last_line, is_empty, body_pieces, parameter_pieces, more_parameters, parameters_pieces, result_pieces, function_pieces, item_pieces, after_item, pieces}
+use Rattle.rx_print.specs.Print.{Piece, space, indent, mark_piece, weakest, expression_pieces, statement_pieces, statements_pieces, tail_pieces, last_line, is_empty, body_pieces, parameters_pieces, result_pieces, function_pieces, item_pieces, after_item, pieces}
 use Rattle.rx_print.specs.Printable.{written_type_levels, expression_levels, optional_levels, statement_levels, statements_levels, body_levels, parameters_levels, function_levels, item_levels, levels_of, IsValue, IsCall, IsPrint, IsStatementForm, AreStatementForms, IsTail, IsBodyForm, IsI64, IsResultForm, AreParameterForms, IsFunctionForm, IsItemForm, AreItemForms}
 use Rattle.rx_print.proofs.Pieces.{places, places-append, past}
-use Rattle.rx_print.proofs.DerivedExpressions.{Reads, ReadsCall, whole_reads, call_reads, for_binding, for_initial, for_print, for_i64}
+use Rattle.rx_print.proofs.DerivedExpressions.{whole_reads, call_reads, for_binding, for_initial, for_print, for_i64}
 
 -- ---- statements
 

@@ -1,27 +1,25 @@
 -- The tokens of the canonical text are derived as the same tree: by recursion on the tree, one lemma for each form.
-use Rattle.std.proofs.Common.{◌≡◌, ℕ, zero, suc, ◌+◌, ◌≤◌, max, Bool, true, false, List, [], ◌∷◌, ◌++◌, length, map, Option, Some, None, refl, sym, ap, subst, ◌∙◌, arith, append_assoc, inl, inr}
-use Rattle.std.specs.Prelude.{◌⊎◌, codes, nat_lt, option_map}
+use Rattle.std.proofs.Common.{◌≡◌, ℕ, zero, suc, ◌+◌, ◌≤◌, max, Bool, true, false, List, [], ◌∷◌, ◌++◌, length, Option, Some, refl, sym, ap, subst, arith, inl, inr}
+use Rattle.std.specs.Prelude.{◌⊎◌, codes, nat_lt}
 use Rattle.std.proofs.lemmas.Bool.{cases_lt, ltb-false}
 use Rattle.rx_core.specs.declared.types.Span.{Span}
 use Rattle.rx_core.specs.declared.types.Kind.{Kind}
 use Rattle.rx_core.specs.declared.types.Kind.TheVariants.{I64}
 use Rattle.rx_tree.specs.declared.tree.Ident.{Ident}
-use Rattle.rx_tree.specs.declared.tree.BoundLifetime.{BoundLifetime}
 use Rattle.rx_tree.specs.declared.tree.BinaryOp.{BinaryOp}
 use Rattle.rx_tree.specs.declared.tree.BinaryOp.TheVariants.{Add, Sub, Mul, Div, Rem}
 use Rattle.rx_tree.specs.Plain as plain
 use Rattle.rx_tree.specs.Plain.{TypeTree, PatternTree, Expression, Expressions, OptionalExpression, Body, Statement, Statements, Parameter, Function, ItemTree, ProgramTree}
-use Rattle.rx_tree.specs.Erase.{erase, erase_all, erase_optional, erase_statement, erase_statements, erase_body, erase_type, erase_ident, erase_lifetime, erase_parameter, erase_function, erase_item, erase_program, nowhere}
-use Rattle.rx_lex.specs.declared.token.Class.{Class}
-use Rattle.rx_lex.specs.declared.token.Class.TheVariants.{Identifier, Keyword, Number, Format, Mark}
+use Rattle.rx_tree.specs.Erase.{erase, erase_all}
+use Rattle.rx_lex.specs.declared.token.Class.TheVariants.{Identifier, Number, Mark}
 use Rattle.rx_lex.specs.Tok.{Tok}
-use Rattle.rx_lex.specs.Words.{is_identifier, format_text}
+use Rattle.rx_lex.specs.Words.{is_identifier}
 use Rattle.rx_lex.specs.Numerals.{greatest}
 use Rattle.rx_lex.specs.Tokens.{token_at}
 use Rattle.rx_parse.specs.Grammar as g
 use Rattle.rx_parse.specs.Grammar.{Ex, Arguments, Call, Given, IsStatement, AreStatements, IsBody, Parameters, Result, IsFunction, File, IsMark, span_of, join, i64_at}
-use Rattle.rx_print.specs.Print.{Piece, word, flat, space, line, mark_piece, enclosed, strength, left_strength, right_strength, operator_text, weakest, expression_pieces, list_pieces, more_pieces, statement_pieces, statements_pieces, tail_pieces, last_line, is_empty, body_pieces, parameter_pieces, more_parameters, parameters_pieces, result_pieces, function_pieces, item_pieces, after_item, pieces}
-use Rattle.rx_print.specs.Printable.{enclosed_levels, written_type_levels, expression_levels, list_levels, optional_levels, statement_levels, statements_levels, body_levels, parameters_levels, function_levels, item_levels, levels_of, IsArithmetic, IsValue, IsVariable, AreVariables, IsCall, IsPrint, IsInitial, IsBinding, IsStatementForm, AreStatementForms, IsTail, IsBodyForm, IsI64, IsResultForm, AreParameterForms, IsFunctionForm, IsItemForm, AreItemForms}
+use Rattle.rx_print.specs.Print.{Piece, space, mark_piece, enclosed, strength, left_strength, right_strength, operator_text, weakest, expression_pieces, list_pieces}
+use Rattle.rx_print.specs.Printable.{enclosed_levels, expression_levels, list_levels, IsArithmetic, IsValue, IsVariable, AreVariables, IsCall, IsPrint, IsInitial, IsBinding, IsI64}
 use Rattle.rx_print.proofs.Pieces.{places, places-append, past}
 use Rattle.rx_print.proofs.DecimalDigits.{decimal_numeral}
 

@@ -1,28 +1,26 @@
 -- What the grammar derives is printable with at most the levels of its derivation: by induction on derivations, since the canonical
 -- text has parentheses only where each text of the tree has some.
-use Rattle.std.proofs.Common.{◌≡◌, ℕ, zero, suc, ◌+◌, ◌≤◌, max, Bool, true, false, List, [], ◌∷◌, ◌++◌, length, Option, Some, None, refl, sym, ap, subst, ◌∙◌, arith, inl, inr}
-use Rattle.std.specs.Prelude.{◌⊎◌, codes, nat_lt}
-use Rattle.std.proofs.lemmas.Bool.{cases_Bool, ltb-true, ltb-false, lt-ltb, le-ltb}
+use Rattle.std.proofs.Common.{◌≡◌, ℕ, suc, ◌≤◌, max, Bool, true, false, List, [], ◌∷◌, ◌++◌, Option, refl, sym, subst, arith, inl, inr}
+use Rattle.std.specs.Prelude.{◌⊎◌, nat_lt}
+use Rattle.std.proofs.lemmas.Bool.{cases_Bool, ltb-true, lt-ltb, le-ltb}
 use Rattle.rx_core.specs.declared.types.Span.{Span}
 use Rattle.rx_core.specs.declared.types.Kind.{Kind}
 use Rattle.rx_tree.specs.declared.tree.BinaryOp.{BinaryOp}
-use Rattle.rx_tree.specs.declared.tree.BinaryOp.TheVariants.{Add, Sub, Mul, Div, Rem}
 use Rattle.rx_tree.specs.Plain as plain
 use Rattle.rx_tree.specs.Erase.{SameProgram}
 use Rattle.rx_tree.specs.Plain.{TypeTree, PatternTree, Expression, Expressions, OptionalExpression, Body, Statement, Statements, Parameter, Function, ItemTree, ProgramTree}
 use Rattle.rx_lex.specs.declared.token.Class.{Class}
-use Rattle.rx_lex.specs.declared.token.Class.TheVariants.{Identifier, Keyword, Lifetime, Number, Format, Mark}
+use Rattle.rx_lex.specs.declared.token.Class.TheVariants.{Identifier, Number}
 use Rattle.rx_lex.specs.Tok.{Tok}
 use Rattle.rx_lex.specs.Words as words
 use Rattle.rx_lex.specs.Words.{IsWord, is_identifier}
 use Rattle.rx_lex.specs.Numerals.{IsNumeral, greatest}
-use Rattle.rx_lex.specs.Tokens.{Tokens, Lexes}
-use Rattle.rx_lex.specs.Tokens as tokens
+use Rattle.rx_lex.proofs.NumeralLaws.{numeral_one}
 use Rattle.rx_lex.proofs.TokenLaws.{EachIsWord, tokens_are_words}
 use Rattle.rx_parse.specs.Grammar as g
 use Rattle.rx_parse.specs.Grammar.{Ex, IsOperator, Arguments, Call, Given, IsStatement, AreStatements, IsBody, Parameters, Result, IsFunction, File, Parses, IsName}
 use Rattle.rx_print.specs.Print.{strength, left_strength, right_strength, weakest, print_program}
-use Rattle.rx_print.specs.Printable.{Printable, enclosed_levels, type_levels, written_type_levels, expression_levels, list_levels, optional_levels, statement_levels, statements_levels, body_levels, parameters_levels, function_levels, item_levels, levels_of, IsArithmetic, IsValue, AreVariables, IsCall, IsPrint, IsInitial, IsStatementForm, AreStatementForms, IsTail, IsBodyForm, IsResultForm, AreParameterForms, IsFunctionForm, IsItemForm, AreItemForms}
+use Rattle.rx_print.specs.Printable.{Printable, enclosed_levels, written_type_levels, expression_levels, list_levels, optional_levels, statement_levels, statements_levels, body_levels, parameters_levels, function_levels, levels_of, IsArithmetic, IsValue, AreVariables, IsCall, IsStatementForm, AreStatementForms, IsTail, IsBodyForm, IsResultForm, AreParameterForms, IsFunctionForm, AreItemForms}
 use Rattle.rx_print.proofs.DerivedExpressions.{weak_levels}
 use Rattle.rx_print.proofs.PrintParses.{print_parses}
 
@@ -45,9 +43,6 @@ identifier_by (words.mark e) h = absurd (cc)
 
 name_word : (t : Tok) → IsWord t.class t.text → IsName t → is_identifier t.text ≡ true
 name_word t w n = identifier_by w n
-
-numeral_one : {w : List ℕ} {v u : ℕ} {k j : Option Kind} → IsNumeral w v k → IsNumeral w u j → (v ≡ u) × (k ≡ j)
-numeral_one a b = ?
 
 number_low : {c : Class} {w : List ℕ} {v : ℕ} {k : Option Kind} → IsWord c w → c ≡ Number → IsNumeral w v k → v ≤ greatest
 number_low (words.identifier e) h n = absurd (cc)

@@ -1,5 +1,5 @@
 -- The canonical text of a printable tree parses to this tree apart from spans: its pieces are its tokens, and they are derived as the tree.
-use Rattle.std.proofs.Common.{◌≡◌, ℕ, ◌≤◌, List, arith}
+use Rattle.std.proofs.Common.{arith}
 use Rattle.rx_tree.specs.Plain.{ProgramTree}
 use Rattle.rx_tree.specs.Erase.{SameProgram}
 use Rattle.rx_parse.specs.Grammar.{Parses}

@@ -1,14 +1,13 @@
 -- What is printed, and whether a tree is printable, is the same for trees that are equal apart from spans: nothing but spans is erased.
-use Rattle.std.proofs.Common.{◌≡◌, ℕ, zero, suc, ◌≤◌, max, Bool, List, [], ◌∷◌, ◌++◌, Option, Some, None, refl, sym, ap, subst, ◌∙◌, inl, inr}
-use Rattle.std.specs.Prelude.{◌⊎◌, codes, map, option_map}
-use Rattle.rx_tree.specs.declared.tree.BinaryOp.{BinaryOp}
+use Rattle.std.proofs.Common.{◌≡◌, ℕ, suc, ◌≤◌, List, [], ◌∷◌, Option, Some, None, refl, sym, ap, subst, ◌∙◌}
+use Rattle.std.specs.Prelude.{◌⊎◌, map, option_map}
 use Rattle.rx_tree.specs.Plain as plain
 use Rattle.rx_tree.specs.Plain.{TypeTree, PatternTree, Expression, Expressions, OptionalExpression, Body, Statement, Statements, Parameter, Function, ItemTree, ProgramTree}
 use Rattle.rx_tree.specs.Erase.{erase, erase_all, erase_optional, erase_pattern, erase_statement, erase_statements, erase_body, erase_type, erase_lifetime, erase_parameter, erase_function, erase_item, erase_program, SameProgram}
 use Rattle.rx_tree.specs.declared.tree.BoundLifetime.{BoundLifetime}
 use Rattle.rx_parse.specs.Grammar.{levels}
-use Rattle.rx_print.specs.Print.{Piece, flat, space, line, mark_piece, strength, left_strength, right_strength, weakest, expression_pieces, list_pieces, more_pieces, type_pieces, written_type, pattern_pieces, initial_pieces, semicolon, statement_pieces, statements_pieces, tail_pieces, last_line, is_empty, body_pieces, parameter_pieces, more_parameters, parameters_pieces, result_pieces, function_pieces, item_pieces, after_item, pieces, print_program}
-use Rattle.rx_print.specs.Printable.{Printable, type_levels, written_type_levels, expression_levels, list_levels, optional_levels, pattern_levels, statement_levels, statements_levels, body_levels, parameters_levels, function_levels, item_levels, levels_of, IsValue, IsVariable, AreVariables, IsCall, IsPrint, IsInitial, IsBinding, IsStatementForm, AreStatementForms, IsTail, IsBodyForm, IsI64, IsResultForm, AreParameterForms, IsFunctionForm, IsItemForm, AreItemForms}
+use Rattle.rx_print.specs.Print.{flat, left_strength, right_strength, weakest, expression_pieces, list_pieces, more_pieces, type_pieces, written_type, pattern_pieces, initial_pieces, statement_pieces, statements_pieces, tail_pieces, is_empty, body_pieces, parameter_pieces, more_parameters, parameters_pieces, result_pieces, function_pieces, item_pieces, after_item, pieces, print_program}
+use Rattle.rx_print.specs.Printable.{Printable, written_type_levels, expression_levels, list_levels, optional_levels, statement_levels, statements_levels, body_levels, parameters_levels, item_levels, levels_of, IsValue, IsVariable, AreVariables, IsCall, IsPrint, IsInitial, IsBinding, IsStatementForm, AreStatementForms, IsTail, IsBodyForm, IsI64, IsResultForm, AreParameterForms, IsItemForm, AreItemForms}
 
 -- ---- the pieces
 

@@ -1,6 +1,6 @@
 -- In the canonical text each word ends before the next: by recursion on the tree, with what follows each form.
 use Rattle.std.proofs.Common.{◌≡◌, ℕ, zero, suc, Bool, true, false, List, [], ◌∷◌, ◌++◌, Option, Some, None, refl, ap, inl, inr}
-use Rattle.std.specs.Prelude.{◌⊎◌, codes, nat_lt, not, ⊤}
+use Rattle.std.specs.Prelude.{◌⊎◌, codes, nat_lt, not}
 use Rattle.std.specs.List.{list_all}
 use Rattle.rx_core.specs.declared.types.Kind.{Kind}
 use Rattle.rx_core.specs.declared.types.Kind.TheVariants.{U8, U32, U64, I32, I64}
@@ -8,13 +8,13 @@ use Rattle.rx_tree.specs.declared.tree.BinaryOp.{BinaryOp}
 use Rattle.rx_tree.specs.declared.tree.BinaryOp.TheVariants.{Or, And, Eq, Ne, Lt, Le, Gt, Ge, Add, Sub, Mul, Div, Rem}
 use Rattle.rx_tree.specs.Plain as plain
 use Rattle.rx_tree.specs.Plain.{TypeTree, PatternTree, Expression, Expressions, OptionalExpression, Body, Statement, Statements, Parameter, Function, ItemTree, ProgramTree}
-use Rattle.rx_lex.specs.declared.token.Class.TheVariants.{Identifier, Keyword, Number, Format, Mark}
+use Rattle.rx_lex.specs.declared.token.Class.TheVariants.{Identifier, Keyword, Mark}
 use Rattle.rx_lex.specs.Words as words
 use Rattle.rx_lex.specs.Words.{IsWord, goes_on}
 use Rattle.rx_lex.specs.Numerals.{kind_name}
 use Rattle.rx_lex.specs.Tokens.{is_blank}
 use Rattle.rx_lex.proofs.Standing.{stands_before_blank, whole_mark_stands}
-use Rattle.rx_print.specs.Print.{Piece, word, blanks, flat, space, line, indent, mark_piece, enclosed, strength, left_strength, right_strength, operator_text, weakest, expression_pieces, list_pieces, more_pieces, type_pieces, written_type, mutable_pieces, pattern_pieces, initial_pieces, semicolon, statement_pieces, statements_pieces, tail_pieces, last_line, is_empty, body_pieces, parameter_pieces, more_parameters, parameters_pieces, result_pieces, function_pieces, item_pieces, after_item, pieces}
+use Rattle.rx_print.specs.Print.{Piece, word, flat, space, indent, mark_piece, enclosed, strength, left_strength, right_strength, operator_text, weakest, expression_pieces, list_pieces, more_pieces, type_pieces, written_type, mutable_pieces, pattern_pieces, initial_pieces, semicolon, statement_pieces, statements_pieces, tail_pieces, last_line, is_empty, body_pieces, parameter_pieces, more_parameters, parameters_pieces, result_pieces, function_pieces, item_pieces, after_item, pieces}
 use Rattle.rx_print.specs.Printable.{IsValue, IsVariable, AreVariables, IsCall, IsPrint, IsInitial, IsBinding, IsStatementForm, AreStatementForms, IsTail, IsBodyForm, IsI64, IsResultForm, AreParameterForms, IsFunctionForm, IsItemForm, AreItemForms}
 use Rattle.rx_print.proofs.Pieces.{Stand, stand-append}
 use Rattle.rx_print.proofs.DecimalDigits.{decimal_numeral}
