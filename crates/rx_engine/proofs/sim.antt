@@ -6,3 +6,4 @@ pub mod Entry
 pub mod Sim
 pub mod Members
 pub mod Typed
+pub mod Extraction

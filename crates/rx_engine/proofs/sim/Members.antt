@@ -1,12 +1,11 @@
 -- Which names a list has after one is removed, after lists are joined, and among the free and handed names of statements: by recursion on the lists.
 use Rattle.std.proofs.Common.{◌≡◌, ℕ, List, [], ◌∷◌, ◌++◌, Option, Some, None, refl, sym, ap, ◌∙◌, Bool, true, false, not, ◌&&◌, ◌||◌, cond, ◌⊎◌, inl, inr, ⊎_elim}
-use Rattle.std.specs.Prelude.{map}
 use Rattle.rx_core.specs.Bytes.{same_bytes, is_one_of}
-use Rattle.rx_core.proofs.BytesLemmas.{same_bytes-true, same_bytes-self, same_bytes-equal}
+use Rattle.rx_core.proofs.BytesLemmas.{same_bytes-true}
 use Rattle.rx_tree.specs.declared.tree.Ident.{Ident}
 use Rattle.rx_tree.specs.Plain as plain
 use Rattle.rx_tree.specs.Plain.{Statement, OptionalExpression}
-use Rattle.rx_engine.specs.Names.{names, remove, without, distinct, uses_in, uses_given, declares, free}
+use Rattle.rx_engine.specs.Names.{names, remove, without, distinct, uses_in, declares, free}
 use Rattle.rx_engine.specs.Plan.{is_declared, declared_in, handed, outs}
 use Rattle.rx_engine.proofs.sim.World.{Names, Knows}
 use Rattle.rx_engine.proofs.sim.Declared.{neither}

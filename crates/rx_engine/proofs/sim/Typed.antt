@@ -1,21 +1,18 @@
 -- Typed parts: their free names are in scope, and with these names known they are like themselves, by induction on the typing.
-use Rattle.std.proofs.Common.{◌≡◌, ℕ, zero, suc, ◌+◌, ◌≤◌, List, [], ◌∷◌, ◌++◌, Option, Some, None, refl, sym, ap, ◌∙◌, subst, arith, Bool, true, false, ◌||◌, cond, ◌⊎◌, inl, inr, ⊎_elim}
-use Rattle.std.specs.Prelude.{map}
+use Rattle.std.proofs.Common.{◌≡◌, ℕ, List, [], ◌∷◌, ◌++◌, Option, Some, None, refl, sym, ap, ◌∙◌, subst, arith, Bool, true, false, ◌||◌, cond, ⊎_elim, append-nil}
 use Rattle.rx_core.specs.Bytes.{same_bytes, is_one_of}
 use Rattle.rx_core.proofs.BytesLemmas.{same_bytes-true, same_bytes-self}
 use Rattle.rx_tree.specs.Plain as plain
 use Rattle.rx_tree.specs.Plain.{Expression, Expressions, OptionalExpression, Body, Statement, Statements, Parameter, Function, ProgramTree}
 use Rattle.rx_tree.specs.PlainOf.{statements_of}
-use Rattle.rx_tree.specs.Lists.{listed, statements, tail}
-use Rattle.rx_tree.proofs.ListsLemmas.{statements_of-listed}
 use Rattle.rx_meaning.specs.Meaning.{function_named}
-use Rattle.rx_engine.specs.Accepted.{ValueType, integer, unit, Scope, type_in, Signature, signature_of, HasType, AreIntegers, AreTyped, Gives, int, var, binary, call, print, none, one_more, declared, evaluated, nothing, tail_value, parameter_names, scope_from}
-use Rattle.rx_engine.specs.Names.{names, uses, uses_all, uses_in, uses_given, declares, without, free}
+use Rattle.rx_engine.specs.Accepted.{ValueType, integer, Scope, type_in, Signature, signature_of, HasType, AreIntegers, AreTyped, Gives, int, var, binary, call, print, none, one_more, declared, evaluated, nothing, tail_value, parameter_names, scope_from}
+use Rattle.rx_engine.specs.Names.{names, uses, uses_all, uses_given, declares, without, free}
 use Rattle.rx_engine.specs.Plan.{is_declared, declared_in}
 use Rattle.rx_engine.proofs.sim.World.{Names, Knows, Permits}
 use Rattle.rx_engine.proofs.sim.Steps.{onto}
-use Rattle.rx_engine.proofs.sim.Like.{New, append, declared_by, LikeExpression, LikeExpressions, LikeOptional, LikeBody, LikeStatement, LikeStatements, like_int, like_var, like_binary, like_call, like_print, like_none, like_more, like_absent, like_present, like_body, like_let, like_evaluated, like_end, like_next}
-use Rattle.rx_engine.proofs.sim.Members.{one_of_two, or_left, or_right, knows_first, knows_older, knows_none, knows_front, knows_behind, knows_parts, names_append, without_keeps, without_from, removed_from, removed_keeps}
+use Rattle.rx_engine.proofs.sim.Like.{New, append, declared_by, LikeExpression, LikeExpressions, LikeOptional, LikeStatements, like_int, like_var, like_binary, like_call, like_print, like_none, like_more, like_absent, like_present, like_let, like_evaluated, like_end, like_next}
+use Rattle.rx_engine.proofs.sim.Members.{one_of_two, knows_first, knows_older, knows_none, knows_front, knows_behind, knows_parts, names_append, free_behind, removed_from, removed_keeps}
 
 knows_self : (x : List ℕ) → Knows (x ∷ []) x
 knows_self x = knows_first x [] x (same_bytes-self x)
@@ -65,6 +62,14 @@ scope_known V K (p ∷ ps) h z i = scope_known ((p.name.name, integer) ∷ V) (p
     first w true e k = knows_first p.name.name K w e
     first w false e k = knows_older p.name.name K w (h w (older_type V p.name.name w integer e k))
 
+pub onto_old : (K xs : Names) (z : List ℕ) → Knows K z → Knows (onto K xs) z
+onto_old K [] z k = k
+onto_old K (x ∷ xs) z k = onto_old (x ∷ K) xs z (knows_older x K z k)
+
+pub onto_new : (K xs : Names) (z : List ℕ) → Knows xs z → Knows (onto K xs) z
+onto_new K [] z k = absurd (knows_none z k)
+onto_new K (x ∷ xs) z k = ⊎_elim (λ f. onto_old (x ∷ K) xs z (knows_first x K z f)) (λ f. onto_new (x ∷ K) xs z f) (one_of_two (same_bytes z x) (is_one_of z xs) k)
+
 -- statements one after another
 pub typed_split : (F : List Signature) (V W : Scope) (ss rest : List Statement) → AreTyped F V (ss ++ rest) W → (U : Scope) × AreTyped F V ss U × AreTyped F U rest W
 typed_split F V W [] rest h = (V, none, h)
@@ -98,6 +103,14 @@ after_declared K [] z k = absurd (cc)
 after_declared K (a ∷ ss) z k =
     ⊎_elim (λ f. after_keeps (known_with (declares a) K) ss z (with_declared (declares a) K z f)) (λ f. after_declared (known_with (declares a) K) ss z f) (one_of_two (is_declared z (declares a)) (declared_in z ss) k)
 
+-- what follows needs is known behind the statements, where all that is free in front of them is known there
+pub known_behind : (K : Names) (ss rest : List Statement) (o : OptionalExpression) → ((z : List ℕ) → Knows (free (ss ++ rest) o) z → Knows K z) → (z : List ℕ) → Knows (free rest o) z → Knows (known_after K ss) z
+known_behind K ss rest o h z f = cases (declared_in z ss) refl
+  where
+    cases : (b : Bool) → declared_in z ss ≡ b → Knows (known_after K ss) z
+    cases true e = after_declared K ss z e
+    cases false e = after_keeps K ss z (h z (free_behind ss rest o z e f))
+
 pub declared_same : (ss : List Statement) (z : List ℕ) → declared_by (statements_of ss) z ≡ declared_in z ss
 declared_same [] z = refl
 declared_same (a ∷ ss) z = ap (λ b. is_declared z (declares a) || b) (declared_same ss z)
@@ -129,8 +142,8 @@ module _ (P : ProgramTree) (new : New) (J : Permits) (F : List Signature) (calle
   like_given k V K o t (tail_value {e = e} g) h = like_present (like_expression k V K e t g h)
 
   -- statements in front of parts that are alike, where all that is free in front is known
-  pub like_front : (k : ℕ) (V U : Scope) (K W : Names) (ss more more' : List Statement) (o : OptionalExpression) → AreTyped F V ss U → ((z : List ℕ) → Knows (free (ss ++ more) o) z → Knows K z) → (((z : List ℕ) → Knows (free more o) z → Knows (known_after K ss) z) → LikeStatements P new k J (known_after K ss) W (statements_of more) (statements_of more')) → LikeStatements P new k J K W (statements_of (ss ++ more)) (statements_of (ss ++ more'))
-  like_front k V U K W ss more more' o none h go = go h
+  pub like_front : (k : ℕ) (V U : Scope) (K W : Names) (ss more more' : List Statement) (o : OptionalExpression) → AreTyped F V ss U → ((z : List ℕ) → Knows (free (ss ++ more) o) z → Knows K z) → LikeStatements P new k J (known_after K ss) W (statements_of more) (statements_of more') → LikeStatements P new k J K W (statements_of (ss ++ more)) (statements_of (ss ++ more'))
+  like_front k V U K W ss more more' o none h go = go
   like_front k V U K W ss more more' o (declared {x = x} {e = e} {t = t} {ss = rest} he hs) h go =
       like_next (x.name ∷ K) 0 k (omega arith) (like_let (like_expression 0 V K e t he (λ z f. h z (knows_front (names (uses e)) _ z f)))) (like_front k ((x.name, t) ∷ V) U (x.name ∷ K) W rest more more' o hs (λ z f. later z (same_bytes z x.name) refl f) go)
     where
@@ -139,3 +152,9 @@ module _ (P : ProgramTree) (new : New) (J : Permits) (F : List Signature) (calle
       later z false n f = knows_older x.name K z (h z (knows_behind (names (uses e)) _ z (removed_keeps x.name z (free (rest ++ more) o) n f)))
   like_front k V U K W ss more more' o (evaluated {e = e} {t = t} {ss = rest} he hs) h go =
       like_next K 0 k (omega arith) (like_evaluated (like_expression 0 V K e t he (λ z f. h z (knows_front (names (uses e)) _ z f)))) (like_front k V U K W rest more more' o hs (λ z f. h z (knows_behind (names (uses e)) _ z f)) go)
+
+  -- statements and what they give
+  pub like_all : (k : ℕ) (V U : Scope) (K : Names) (ss : List Statement) (o : OptionalExpression) (t : ValueType) → AreTyped F V ss U → Gives F U o t → ((z : List ℕ) → Knows (free ss o) z → Knows K z) → LikeStatements P new k J K (known_after K ss) (statements_of ss) (statements_of ss) × LikeOptional P new k J (known_after K ss) o o
+  like_all k V U K ss o t h g known =
+      let all : (z : List ℕ) → Knows (free (ss ++ []) o) z → Knows K z = λ z f. known z (ap (λ l. is_one_of z (free l o)) (sym (append-nil ss)) ∙ f) in
+      (subst (λ (l : List Statement). LikeStatements P new k J K (known_after K ss) (statements_of l) (statements_of l)) (append-nil ss) (like_front k V U K (known_after K ss) ss [] [] o h all like_end), like_given k U (known_after K ss) o t g (known_behind K ss [] o all))
