@@ -4,3 +4,6 @@ pub mod Membership
 pub mod Scopes
 pub mod Handed
 pub mod AcceptedLemmas
+pub mod CheckForms
+pub mod Typing
+pub mod Verdicts

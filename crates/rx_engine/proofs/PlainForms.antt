@@ -38,24 +38,24 @@ pattern_of_node p = pattern_is p.span p.node
 
 -- ---- expressions
 
-abbrev Layer : Type 0
+abbrev pub Layer : Type 0
 Layer = ExprNode-F ExprNode StmtNode Arm Block Expr FieldExpr Stmt
 
-abbrev seen : Layer → Span → Expression
+abbrev pub seen : Layer → Span → Expression
 seen x = expression_node_step (map-ExprNode ExprNode StmtNode Arm Block Expr FieldExpr Stmt (Span → Expression) (Span → Statement) (PatternTree × Expression) Body Expression (Ident × Expression) Statement plain-ExprNode plain-StmtNode plain-Arm plain-Block plain-Expr plain-FieldExpr plain-Stmt x)
 
-seen_is : (n : ExprNode) (s : Span) → plain-ExprNode n s ≡ seen (out-ExprNode n) s
+pub seen_is : (n : ExprNode) (s : Span) → plain-ExprNode n s ≡ seen (out-ExprNode n) s
 unfolding plain-ExprNode plain-StmtNode plain-Arm plain-Block plain-Expr plain-FieldExpr plain-Stmt
 seen_is n s = ap (λ (f : Span → Expression). f s) (fold_out-ExprNode (Span → Expression) (Span → Statement) (PatternTree × Expression) Body Expression (Ident × Expression) Statement expression_node_step statement_node_step arm_step block_step expression_step field_expression_step statement_step n)
 
-layer_other : (x : Layer) (s : Span) → ((v : ℕ) (k : Option Kind) → x ≡ form.Int v k → ⊥) → ((y : List ℕ) → x ≡ form.Var y → ⊥)
+pub layer_other : (x : Layer) (s : Span) → ((v : ℕ) (k : Option Kind) → x ≡ form.Int v k → ⊥) → ((y : List ℕ) → x ≡ form.Var y → ⊥)
     → ((o : BinaryOp) (a b : Expr) → x ≡ form.Binary o a b → ⊥) → is_plain_expression (seen x s) ≡ false
 layer_other (form.Int v k) s i v' b = absurd (i v k refl)
 layer_other (form.Var y) s i v b = absurd (v y refl)
 layer_other (form.Binary o l r) s i v b = absurd (b o l r refl)
 layer_other _ s i v b = refl
 
-back : (n : ExprNode) (x : Layer) → out-ExprNode n ≡ x → n ≡ roll-ExprNode x
+pub back : (n : ExprNode) (x : Layer) → out-ExprNode n ≡ x → n ≡ roll-ExprNode x
 back n x e = sym (roll-out-ExprNode n) ∙ ap roll-ExprNode e
 
 -- an expression that is neither a literal, a variable nor a binary operation is not plain
@@ -75,13 +75,13 @@ other_print e p = ap is_plain_print (expression_node e ∙ seen_is e.node e.span
 
 -- ---- patterns
 
-abbrev PatternLayer : Type 0
+abbrev pub PatternLayer : Type 0
 PatternLayer = PatternNode-F PatternNode FieldPattern Pattern
 
-abbrev pattern_seen : PatternLayer → Span → PatternTree
+abbrev pub pattern_seen : PatternLayer → Span → PatternTree
 pattern_seen x = pattern_node_step (map-PatternNode PatternNode FieldPattern Pattern (Span → PatternTree) (Ident × PatternTree) PatternTree plain-PatternNode plain-FieldPattern plain-Pattern x)
 
-pattern_seen_is : (n : PatternNode) (s : Span) → plain-PatternNode n s ≡ pattern_seen (out-PatternNode n) s
+pub pattern_seen_is : (n : PatternNode) (s : Span) → plain-PatternNode n s ≡ pattern_seen (out-PatternNode n) s
 unfolding plain-PatternNode plain-FieldPattern plain-Pattern
 pattern_seen_is n s = ap (λ (f : Span → PatternTree). f s) (fold_out-PatternNode (Span → PatternTree) (Ident × PatternTree) PatternTree pattern_node_step field_pattern_step pattern_step n)
 

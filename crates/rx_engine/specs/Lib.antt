@@ -5,3 +5,5 @@ pub mod Run
 pub mod Extracted
 pub mod Conditions
 pub mod Avoids
+pub mod Faults
+pub mod Firsts

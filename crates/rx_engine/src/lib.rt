@@ -1,6 +1,8 @@
 //! Extract function: a run of statements becomes a function of its own.
 #![tactic(auto)]
 
+mod check;
 mod plain;
 
+pub use check::{CheckFault, NameFault, Rule, TypeFault, check_program};
 pub use plain::is_plain;
