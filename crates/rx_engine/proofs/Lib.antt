@@ -7,3 +7,4 @@ pub mod AcceptedLemmas
 pub mod CheckForms
 pub mod Typing
 pub mod Verdicts
+pub mod PlanForms

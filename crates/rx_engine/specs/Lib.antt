@@ -7,3 +7,4 @@ pub mod Conditions
 pub mod Avoids
 pub mod Faults
 pub mod Firsts
+pub mod Chosen

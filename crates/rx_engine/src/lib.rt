@@ -3,6 +3,7 @@
 
 mod check;
 mod plain;
+mod plan;
 
 pub use check::{CheckFault, NameFault, Rule, TypeFault, check_program};
 pub use plain::is_plain;
