@@ -2,8 +2,10 @@
 #![tactic(auto)]
 
 mod check;
+mod laws;
 mod plain;
 mod plan;
 
 pub use check::{CheckFault, NameFault, Rule, TypeFault, check_program};
+pub use laws::extraction_keeps_runs;
 pub use plain::is_plain;

@@ -7,6 +7,7 @@ use Rattle.rx_meaning.specs.Meaning.{State, bind, Env, slot_of, some_if, Meaning
 use Rattle.rx_meaning.proofs.Results.{after_nil, bind_bind, bind_ext}
 use Rattle.rx_engine.specs.Names.{declares}
 use Rattle.rx_engine.specs.Plan.{is_declared}
+use Rattle.rx_engine.proofs.Membership.{or_false}
 use Rattle.rx_engine.proofs.sim.World.{Pair, Names, Binds}
 use Rattle.rx_engine.proofs.sim.Like.{append, declared_by}
 
@@ -18,14 +19,10 @@ pub record Declared (W : Names) (env : Env) (declared : List ℕ → Bool) (j : 
 pub none_declared : (W : Names) (env e' : Env) (j : List Pair) → Binds W j env e' → Declared W env (λ z. false) j env e'
 none_declared W env e' j b = record { binds = b; old = λ z e. refl }
 
-pub neither : (a b : Bool) → a || b ≡ false → (a ≡ false) × (b ≡ false)
-neither true b e = absurd (cc)
-neither false b e = (refl, e)
-
 pub declared_then : (U W : Names) (env e e1' f f' : Env) (D E : List ℕ → Bool) (j j1 : List Pair) → Declared U env D j e e1' → Declared W e E j1 f f' → Declared W env (λ z. D z || E z) j1 f f'
 declared_then U W env e e1' f f' D E j j1 b c = record {
   binds = c.binds;
-  old = λ z h. let both = neither (D z) (E z) h in c.old z both.1 ∙ b.old z both.0;
+  old = λ z h. let both = or_false (D z) (E z) h in c.old z both.1 ∙ b.old z both.0;
 }
 
 pub slot_new : (b : Bool) (i : ℕ) (o : Option ℕ) → b ≡ true → some_if b i o ≡ Some i

@@ -22,8 +22,11 @@ use Rattle.rx_engine.proofs.sim.World.{Names, Knows, Permits}
 use Rattle.rx_engine.proofs.sim.Steps.{no_jumps, call_jumps, onto}
 use Rattle.rx_engine.proofs.sim.Like.{New, declared_by, OutKnown, OutFits, LikeOptional, LikeBody, LikeStatements, like_body, like_here, LikeFunction, Moved}
 use Rattle.rx_engine.proofs.sim.Sim.{answer_upto, text_upto}
-use Rattle.rx_engine.proofs.sim.Members.{knows_none, knows_first, knows_older, one_of_two, free_front, free_behind, distinct_keeps, distinct_from, outs_all, outs_declared}
-use Rattle.rx_engine.proofs.sim.Typed.{IsIn, typed_free, scope_known, typed_split, known_after, after_declared, known_behind, declared_same, append_is, onto_new, like_front, like_all}
+use Rattle.rx_engine.proofs.Membership.{or_true, one_of-distinct, distinct_one_of}
+use Rattle.rx_engine.proofs.Handed.{outs_has, outs_only}
+use Rattle.rx_engine.proofs.Scopes.{Split, typed_split}
+use Rattle.rx_engine.proofs.sim.Members.{knows_none, knows_first, knows_older, free_front, free_behind}
+use Rattle.rx_engine.proofs.sim.Typed.{IsIn, typed_free, scope_known, known_after, after_declared, known_behind, declared_same, append_is, onto_new, like_front, like_all}
 
 -- ---- what a function's name finds
 
@@ -96,7 +99,7 @@ module _ (K : Names) (moved rest : List Statement) (o : OptionalExpression) (kno
   fits_none e z f = cases (declared_in z moved) refl
     where
       cases : (b : Bool) → declared_in z moved ≡ b → Knows K z × (declared_by (statements_of moved) z ≡ false)
-      cases true g = absurd (knows_none z (ap (λ l. is_one_of z l) (sym e) ∙ outs_all moved (free rest o) z g f))
+      cases true g = absurd (knows_none z (ap (λ l. is_one_of z l) (sym e) ∙ outs_has z moved (free rest o) g f))
       cases false g = (known z (free_behind moved rest o z g f), declared_same moved z ∙ g)
 
   fits_some : (x : List ℕ) → outs moved (free rest o) ≡ x ∷ [] → (z : List ℕ) → Knows (free rest o) z → (z ≡ x) ⊎ ((same_bytes z x ≡ false) × Knows K z × (declared_by (statements_of moved) z ≡ false))
@@ -105,7 +108,7 @@ module _ (K : Names) (moved rest : List Statement) (o : OptionalExpression) (kno
       cases : (b c : Bool) → same_bytes z x ≡ b → declared_in z moved ≡ c → (z ≡ x) ⊎ ((same_bytes z x ≡ false) × Knows K z × (declared_by (statements_of moved) z ≡ false))
       cases true c n g = inl (same_bytes-true z x n)
       cases false true n g =
-          ⊎_elim (λ k. absurd (cc (n, k))) (λ k. absurd (knows_none z k)) (one_of_two (same_bytes z x) false (ap (λ l. is_one_of z l) (sym e) ∙ outs_all moved (free rest o) z g f))
+          ⊎_elim (λ k. absurd (cc (n, k))) (λ k. absurd (knows_none z k)) (or_true (same_bytes z x) false (ap (λ l. is_one_of z l) (sym e) ∙ outs_has z moved (free rest o) g f))
       cases false false n g = inr (n, known z (free_behind moved rest o z g f), declared_same moved z ∙ g)
 
   out_fits : (out : Option (List ℕ)) → outs moved (free rest o) ≡ handed_out out → OutFits out K (free rest o) (declared_by (statements_of moved))
@@ -114,7 +117,7 @@ module _ (K : Names) (moved rest : List Statement) (o : OptionalExpression) (kno
 
 out_known : (K : Names) (moved : List Statement) (needed : Names) (out : Option (List ℕ)) → outs moved needed ≡ handed_out out → OutKnown out (known_after K moved)
 out_known K moved needed None e = tt
-out_known K moved needed (Some x) e = after_declared K moved x (outs_declared moved needed x (ap (λ l. is_one_of x l) e ∙ knows_first x [] x (same_bytes-self x)))
+out_known K moved needed (Some x) e = after_declared K moved x ((outs_only x moved needed (ap (λ l. is_one_of x l) e ∙ knows_first x [] x (same_bytes-self x))).0)
 
 -- ---- the functions of both programs
 
@@ -150,25 +153,25 @@ module _ (P : ProgramTree) (F : List Signature) (callee : (f : List ℕ) (g : Si
       known1 : (z : List ℕ) → Knows (free (moved ++ rest) o) z → Knows K1 z
       known1 = known_behind K front (moved ++ rest) o known
 
-      one : (U : Scope) × AreTyped F (scope_from [] f.params) front U × AreTyped F U (moved ++ rest) t.end
-      one = typed_split F (scope_from [] f.params) t.end front (moved ++ rest) typed
+      one : Split F (scope_from [] f.params) front (moved ++ rest) t.end
+      one = typed_split front (moved ++ rest) typed
 
-      two : (U : Scope) × AreTyped F one.0 moved U × AreTyped F U rest t.end
-      two = typed_split F one.0 t.end moved rest one.2
+      two : Split F one.middle moved rest t.end
+      two = typed_split moved rest one.back
 
       first : LikeStatements P new 0 no_jumps (onto [] (params moved)) (known_after (onto [] (params moved)) moved) (statements_of moved) (statements_of moved)
-      first = (like_all P new no_jumps F callee 0 one.0 two.0 (onto [] (params moved)) moved plain.absent unit two.1 nothing (λ z k. onto_new [] (params moved) z (distinct_keeps (free moved plain.absent) z k))).0
+      first = (like_all P new no_jumps F callee 0 one.middle two.middle (onto [] (params moved)) moved plain.absent unit two.front nothing (λ z k. onto_new [] (params moved) z (one_of-distinct z (free moved plain.absent) k))).0
 
       last : LikeStatements P new 0 call_jumps (free rest o) (known_after (free rest o) rest) (statements_of rest) (statements_of rest) × LikeOptional P new 0 call_jumps (known_after (free rest o) rest) o o
-      last = like_all P new call_jumps F callee 0 two.0 t.end (free rest o) rest o (given_by f.result) two.2 gives (λ z k. k)
+      last = like_all P new call_jumps F callee 0 two.middle t.end (free rest o) rest o (given_by f.result) two.back gives (λ z k. k)
 
       here : LikeStatements P new 1 call_jumps K1 (known_after (free rest o) rest) (statements_of (moved ++ rest)) (statements_of (call ∷ rest))
       here =
           subst (λ (l : Statements). LikeStatements P new 1 call_jumps K1 (known_after (free rest o) rest) l (statements_of (call ∷ rest))) (append_is moved rest)
-          (like_here (statements_of moved) (known_after (onto [] (params moved)) moved) (free rest o) 0 (omega arith) (every_known K1 (params moved) (λ z k. known1 z (free_front moved rest o z (distinct_from (free moved plain.absent) z k)))) first (out_known (onto [] (params moved)) moved (free rest o) out handed) (out_fits K1 moved rest o known1 out handed) last.0)
+          (like_here (statements_of moved) (known_after (onto [] (params moved)) moved) (free rest o) 0 (omega arith) (every_known K1 (params moved) (λ z k. known1 z (free_front moved rest o z (distinct_one_of z (free moved plain.absent) k)))) first (out_known (onto [] (params moved)) moved (free rest o) out handed) (out_fits K1 moved rest o known1 out handed) last.0)
 
       all : LikeStatements P new 1 call_jumps K (known_after (free rest o) rest) (statements_of (front ++ (moved ++ rest))) (statements_of (front ++ (call ∷ rest)))
-      all = like_front P new call_jumps F callee 1 (scope_from [] f.params) one.0 K (known_after (free rest o) rest) front (moved ++ rest) (call ∷ rest) o one.1 known here
+      all = like_front P new call_jumps F callee 1 (scope_from [] f.params) one.middle K (known_after (free rest o) rest) front (moved ++ rest) (call ∷ rest) o one.front known here
 
 module _ (P : ProgramTree) (new : New) (F : List Signature) (callee : (f : List ℕ) (g : Signature) → signature_of F f ≡ Some g → (d : Function) × (function_named P f ≡ Some d)) (at_span new_span : Span) (f f' g : Function) (same_name : f'.name.name ≡ f.name.name) (new_name : g.name.name ≡ new.name) (like : LikeFunction P new f f') (behind : ProgramTree) where
   abbrev Found : Option Function → Option Function → Type 0
