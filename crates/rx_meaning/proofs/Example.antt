@@ -1,14 +1,14 @@
--- Runs of one program, computed.
+-- Runs of one program and single operations, computed.
 use Rattle.std.proofs.Common.{◌≡◌, ℕ, List, [], ◌∷◌, Some, None, refl, arith, true, false}
 use Rattle.std.proofs.lemmas.Fmt.{decimal_digit}
-use Rattle.std.specs.Prelude.{codes}
+use Rattle.std.specs.Prelude.{pos, negsuc, codes}
 use Rattle.rx_core.specs.declared.types.Kind.TheVariants.{I64}
 use Rattle.rx_tree.specs.declared.tree.Ident.{Ident}
-use Rattle.rx_tree.specs.declared.tree.BinaryOp.TheVariants.{Mul}
+use Rattle.rx_tree.specs.declared.tree.BinaryOp.TheVariants.{Add, Mul, Div, Rem}
 use Rattle.rx_tree.specs.Erase.{nowhere}
 use Rattle.rx_tree.specs.Plain.{Expression, Statement, ProgramTree}
 use Rattle.rx_tree.specs.Plain as plain
-use Rattle.rx_meaning.specs.Meaning.{run, ended, running, expression, below_level}
+use Rattle.rx_meaning.specs.Meaning.{State, number, on, stops, trapped, overflow, divide_by_zero, least, greatest, compute, run, ended, running, expression, below_level}
 
 abbrev word : List ℕ → Ident
 word x = record { span = nowhere; name = x }
@@ -45,3 +45,33 @@ product_ends = rw (decimal_digit 6 (omega arith)) refl
 product_begins : run product [] 0 ≡ record { printed = []; ending = running }
 unfolding expression below_level
 product_begins = refl
+
+-- the least value divided or taken modulo -1, and by 0
+least_divided : (s : State) → compute Div least (negsuc 0) s ≡ stops [] (trapped overflow)
+least_divided s = refl
+
+least_remainder : (s : State) → compute Rem least (negsuc 0) s ≡ stops [] (trapped overflow)
+least_remainder s = refl
+
+divided_by_zero : (s : State) → compute Div (pos 7) (pos 0) s ≡ stops [] (trapped divide_by_zero)
+divided_by_zero s = refl
+
+remainder_by_zero : (s : State) → compute Rem (pos 7) (pos 0) s ≡ stops [] (trapped divide_by_zero)
+remainder_by_zero s = refl
+
+-- -7 / 2 is -3, -7 % 2 is -1, and 7 % -2 is 1
+towards_zero : (s : State) → compute Div (negsuc 6) (pos 2) s ≡ on [] (number (negsuc 2)) s
+towards_zero s = refl
+
+sign_of_dividend : (s : State) → compute Rem (negsuc 6) (pos 2) s ≡ on [] (number (negsuc 0)) s
+sign_of_dividend s = refl
+
+other_sign : (s : State) → compute Rem (pos 7) (negsuc 1) s ≡ on [] (number (pos 1)) s
+other_sign s = refl
+
+-- the greatest value and 1, and the least and 0
+past_greatest : (s : State) → compute Add greatest (pos 1) s ≡ stops [] (trapped overflow)
+past_greatest s = refl
+
+least_stays : (s : State) → compute Add least (pos 0) s ≡ on [] (number least) s
+least_stays s = refl
