@@ -14,7 +14,7 @@ use Rattle.rx_tree.specs.Plain.{Expression, Expressions, OptionalExpression, Bod
 use Rattle.rx_lex.specs.declared.token.Class.{Class}
 use Rattle.rx_lex.specs.declared.token.Class.TheVariants.{Identifier, Keyword, Number, Format, Mark}
 use Rattle.rx_lex.specs.Tok.{Tok}
-use Rattle.rx_lex.specs.Numerals.{IsNumeral}
+use Rattle.rx_lex.specs.Numerals.{IsNumeral, greatest}
 use Rattle.rx_lex.specs.Tokens.{Lexes}
 
 abbrev pub IsMark : List ℕ → Tok → Type 0
@@ -57,7 +57,8 @@ pub data IsOperator : ℕ → Tok → BinaryOp → Type 0 where
 
 -- these tokens are an expression of this strength
 pub data Ex : ℕ → List Tok → Expression → ℕ → Type 0 where
-  number : {ts : List Tok} (t : Tok) (v : ℕ) → t.class ≡ Number → IsNumeral t.text v (Some I64) → ts ≡ t ∷ [] → Ex 0 ts (plain.int t.span v (Some I64)) 1
+  number : {ts : List Tok} (t : Tok) (v : ℕ) → t.class ≡ Number → IsNumeral t.text v (Some I64) → v ≤ greatest → ts ≡ t ∷ []
+      → Ex 0 ts (plain.int t.span v (Some I64)) 1
   variable : {ts : List Tok} (t : Tok) → IsName t → ts ≡ t ∷ [] → Ex 0 ts (variable_of t) 1
   parentheses : {ts : List Tok} (o c : Tok) (us : List Tok) (x : Expression) (h : ℕ) → IsMark (codes "(") o → IsMark (codes ")") c → Ex 3 us x h
       → ts ≡ o ∷ (us ++ c ∷ []) → Ex 0 ts x (suc h)
