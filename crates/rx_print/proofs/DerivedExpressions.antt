@@ -131,7 +131,7 @@ unfolding ReadsAs
 int_reads s v k depth place h b at = subst (λ l. Reads place (places at (expression_pieces depth place (plain.int s v l))) (plain.int s v l) 1) (sym h) (raised 0 place (omega arith) (record {
   tree = _;
   height = 1;
-  ex = g.number (token_at at Number _) v refl (decimal_numeral v (Some I64) b) refl;
+  ex = g.number (token_at at Number _) v refl (decimal_numeral v (Some I64) b) b refl;
   low = omega arith;
   same = refl;
 }))

@@ -4,18 +4,15 @@ use Rattle.std.proofs.Common.{◌≡◌, ℕ, suc, ◌≤◌, max, Bool, true, f
 use Rattle.std.specs.Prelude.{◌⊎◌, nat_lt}
 use Rattle.std.proofs.lemmas.Bool.{cases_Bool, ltb-true, lt-ltb, le-ltb}
 use Rattle.rx_core.specs.declared.types.Span.{Span}
-use Rattle.rx_core.specs.declared.types.Kind.{Kind}
 use Rattle.rx_tree.specs.declared.tree.BinaryOp.{BinaryOp}
 use Rattle.rx_tree.specs.Plain as plain
 use Rattle.rx_tree.specs.Erase.{SameProgram}
 use Rattle.rx_tree.specs.Plain.{TypeTree, PatternTree, Expression, Expressions, OptionalExpression, Body, Statement, Statements, Parameter, Function, ItemTree, ProgramTree}
 use Rattle.rx_lex.specs.declared.token.Class.{Class}
-use Rattle.rx_lex.specs.declared.token.Class.TheVariants.{Identifier, Number}
+use Rattle.rx_lex.specs.declared.token.Class.TheVariants.{Identifier}
 use Rattle.rx_lex.specs.Tok.{Tok}
 use Rattle.rx_lex.specs.Words as words
 use Rattle.rx_lex.specs.Words.{IsWord, is_identifier}
-use Rattle.rx_lex.specs.Numerals.{IsNumeral, greatest}
-use Rattle.rx_lex.proofs.NumeralLaws.{numeral_one}
 use Rattle.rx_lex.proofs.TokenLaws.{EachIsWord, tokens_are_words}
 use Rattle.rx_parse.specs.Grammar as g
 use Rattle.rx_parse.specs.Grammar.{Ex, IsOperator, Arguments, Call, Given, IsStatement, AreStatements, IsBody, Parameters, Result, IsFunction, File, Parses, IsName}
@@ -43,13 +40,6 @@ identifier_by (words.mark e) h = absurd (cc)
 
 name_word : (t : Tok) → IsWord t.class t.text → IsName t → is_identifier t.text ≡ true
 name_word t w n = identifier_by w n
-
-number_low : {c : Class} {w : List ℕ} {v : ℕ} {k : Option Kind} → IsWord c w → c ≡ Number → IsNumeral w v k → v ≤ greatest
-number_low (words.identifier e) h n = absurd (cc)
-number_low (words.keyword e) h n = absurd (cc)
-number_low (words.number m b) h n = subst (λ v. v ≤ greatest) (numeral_one m n).0 b
-number_low (words.format e) h n = absurd (cc)
-number_low (words.mark e) h n = absurd (cc)
 
 -- ---- a place that takes weaker expressions needs no more levels, and one that takes stronger ones one more at most
 
@@ -117,7 +107,7 @@ inside : (o c : Tok) (us : List Tok) → EachIsWord (o ∷ (us ++ c ∷ [])) →
 inside o c us a = words_left us (c ∷ []) a.1
 
 ex_fits : {j : ℕ} {ts : List Tok} {x : Expression} {h : ℕ} → Ex j ts x h → EachIsWord ts → Fits j x h
-ex_fits (g.number t v c n is) a = let w = subst EachIsWord is a in record { value = (refl, number_low w.0 c n); low = omega arith }
+ex_fits (g.number t v c n b is) a = record { value = (refl, b); low = omega arith }
 ex_fits (g.variable t n is) a = let w = subst EachIsWord is a in record { value = name_word t w.0 n; low = omega arith }
 ex_fits (g.parentheses o c us x h k l d is) a =
     let r = ex_fits d (inside o c us (subst EachIsWord is a)) in
