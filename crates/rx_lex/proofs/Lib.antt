@@ -5,3 +5,4 @@ pub mod Seek
 pub mod Gaps
 pub mod TokenLaws
 pub mod NumeralLaws
+pub mod BlockSteps

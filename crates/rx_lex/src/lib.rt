@@ -2,6 +2,7 @@
 #![tactic(auto)]
 
 mod numeral;
+mod scan;
 mod token;
 mod words;
 
