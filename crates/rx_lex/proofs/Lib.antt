@@ -6,3 +6,4 @@ pub mod Gaps
 pub mod TokenLaws
 pub mod NumeralLaws
 pub mod BlockSteps
+pub mod FrontWords

@@ -112,7 +112,7 @@ word_not_empty {w = w} i = by_kind (kind_of i)
 
 -- ---- the longest word
 
-mark_length : (w : List ℕ) → is_one_of w marks ≡ true → length w ≤ 2
+pub mark_length : (w : List ℕ) → is_one_of w marks ≡ true → length w ≤ 2
 mark_length w e = leb-true (length w) 2 (one_of_all (λ l. nat_le (length l) 2) w marks refl e)
 
 marks_compare : (w v r q : List ℕ) → is_one_of w marks ≡ true → is_one_of v marks ≡ true → not (makes_longer w r) ≡ true → w ++ r ≡ v ++ q → length v ≤ length w
@@ -133,10 +133,10 @@ same_first w r v q a b e = sym (first-append w r a) ∙ ap first e ∙ first-app
 not_both : (c d : ℕ) → c ≡ d → is_continue c ≡ true → is_continue d ≡ false → ⊥
 not_both c d e a b = both_ways (is_continue d) b (ap is_continue (sym e) ∙ a)
 
-mark_not_empty : {w : List ℕ} → is_one_of w marks ≡ true → w ≢ []
+pub mark_not_empty : {w : List ℕ} → is_one_of w marks ≡ true → w ≢ []
 mark_not_empty e n = false≢true (sym (ap (λ l. is_one_of l marks) n) ∙ e)
 
-format_not_empty : {w : List ℕ} → w ≡ format_text → w ≢ []
+pub format_not_empty : {w : List ℕ} → w ≡ format_text → w ≢ []
 format_not_empty e n = cc
 
 compare : {c d : Class} {w v : List ℕ} (r q : List ℕ) → Kind_of c w → Kind_of d v → stands c w r ≡ true → may_follow d v q ≡ true → w ++ r ≡ v ++ q → length v ≤ length w

@@ -5,3 +5,4 @@ pub mod Tokens
 pub mod Stands
 pub mod Scan
 pub mod Digits
+pub mod FrontWord

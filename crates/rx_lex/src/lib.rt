@@ -1,6 +1,7 @@
 //! Tokens of a text (Rust Reference, "Lexical structure").
 #![tactic(auto)]
 
+mod front;
 mod numeral;
 mod scan;
 mod token;

@@ -29,6 +29,7 @@ pub struct Numeral {
 /// The number that the text is. `None` if it is no number, or one of more than 64 bits.
 pub fn numeral_of(text: &str) -> Option<Numeral>
     ensures some { IfSome result (λ n. IsNumeral text.now n.value n.suffix) }
+    ensures fits { IfSome result (λ n. n.value ≤ greatest) }
     ensures none { IfNone result ((v : ℕ) (k : Option KindOf) → IsNumeral text.now v k → v ≤ greatest → ⊥) }
 {
     numeral_in(text.as_bytes())
@@ -36,6 +37,7 @@ pub fn numeral_of(text: &str) -> Option<Numeral>
 
 pub(crate) fn numeral_in(word: &[u8]) -> Option<Numeral>
     ensures some { IfSome result (λ n. IsNumeral word.now n.value n.suffix) }
+    ensures fits { IfSome result (λ n. n.value ≤ greatest) }
     ensures none { IfNone result ((v : ℕ) (k : Option KindOf) → IsNumeral word.now v k → v ≤ greatest → ⊥) }
 {
     let at = body_length(word);

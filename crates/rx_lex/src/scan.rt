@@ -22,7 +22,7 @@ fn is_continue(byte: u8) -> bool
 }
 
 /// How many bytes of identifiers come first.
-fn run_length(rest: &[u8]) -> usize
+pub(crate) fn run_length(rest: &[u8]) -> usize
     ensures within { result ≤ length rest.now }
     ensures run { list_all is_continue_of (take result rest.now) ≡ true }
     ensures ends { goes_on (drop result rest.now) ≡ false }
@@ -84,7 +84,7 @@ fn block_length(rest: &[u8]) -> Option<usize>
 }
 
 /// The length of the blank or the comment that comes first.
-fn gap_length(rest: &[u8]) -> Option<usize>
+pub(crate) fn gap_length(rest: &[u8]) -> Option<usize>
     ensures { MatchOption result (gap_rest rest.now ≡ None) (λ n. (n ≤ length rest.now) × (gap_rest rest.now ≡ Some (drop n rest.now))) }
 {
     if rest.is_empty() {

@@ -88,3 +88,15 @@ pub(crate) fn is_same(a: &[u8], b: &[u8]) -> bool
 {
     a == b
 }
+
+static MARKS: [&[u8]; 36] = [
+    b"->", b"=>", b"::", b"==", b"!=", b"<=", b">=", b"&&", b"||", b"+=", b"-=", b"*=", b"/=",
+    b"%=", b"(", b")", b"{", b"}", b"[", b"]", b"<", b">", b",", b";", b":", b".", b"=", b"+",
+    b"-", b"*", b"/", b"%", b"!", b"&", b"#", b"_",
+];
+
+pub(crate) fn is_mark(word: &[u8]) -> bool
+    ensures { result ≡ is_one_of word.now marks }
+{
+    stands_among(word, &MARKS)
+}
