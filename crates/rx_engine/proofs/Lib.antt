@@ -8,3 +8,4 @@ pub mod CheckForms
 pub mod Typing
 pub mod Verdicts
 pub mod PlanForms
+pub mod FreshLemmas

@@ -1,0 +1,144 @@
+-- A name that is taken by no token stands nowhere in the tree of these tokens: by induction on derivations, since each name in a tree is
+-- the text of an identifier.
+use Rattle.std.proofs.Common.{◌≡◌, ℕ, Bool, true, false, ◌||◌, List, [], ◌∷◌, ◌++◌, refl, sym, subst}
+use Rattle.std.specs.Prelude.{codes, nat_eq}
+use Rattle.std.specs.List.{list_any, starts_with}
+use Rattle.rx_core.specs.declared.types.Span.{Span}
+use Rattle.rx_core.specs.Bytes.{same_bytes, is_one_of}
+use Rattle.rx_core.proofs.BytesLemmas.{same_bytes-equal}
+use Rattle.rx_tree.specs.Plain as plain
+use Rattle.rx_tree.specs.Plain.{TypeTree, Expression, Expressions, OptionalExpression, Body, Statement, Statements, Parameter, Function, ProgramTree}
+use Rattle.rx_tree.specs.Lists.{listed, statements, tail, Every}
+use Rattle.rx_lex.specs.declared.token.Class.{Class}
+use Rattle.rx_lex.specs.declared.token.Class.TheVariants.{Identifier}
+use Rattle.rx_lex.specs.Tok.{Tok}
+use Rattle.rx_parse.specs.Grammar as g
+use Rattle.rx_parse.specs.Grammar.{Ex, Arguments, Call, Given, IsStatement, AreStatements, IsBody, Parameters, IsFunction, File, IsName}
+use Rattle.rx_engine.specs.Conditions.{reserved, exit_name, is_identifier_of, is_taken}
+use Rattle.rx_engine.specs.Avoids.{IsOther, AvoidsExpression, AvoidsExpressions, AvoidsGiven, AvoidsStatement, AvoidsParameter, AvoidsFunction, Avoids}
+use Rattle.rx_engine.proofs.Membership.{false_true, or_false}
+use Rattle.rx_engine.proofs.AcceptedLemmas.{every-front, every-back}
+
+-- ---- tokens that are no identifier of a name
+
+abbrev Other : List ℕ → Tok → Type 0
+Other name t = IsName t → IsOther name t.text
+
+abbrev Others : List ℕ → List Tok → Type 0
+Others name = Every (Other name)
+
+other_at : (name : List ℕ) (c : Class) (s : Span) (w : List ℕ) → is_identifier_of name (record { class = c; span = s; text = w }) ≡ false
+    → c ≡ Identifier → IsOther name w
+other_at name Identifier s w h n e = false_true (same_bytes w name) h (same_bytes-equal w name e)
+other_at name _ s w h n e = absurd (cc)
+
+others : (name : List ℕ) (ts : List Tok) → list_any (is_identifier_of name) ts ≡ false → Others name ts
+others name [] h = tt
+others name (t ∷ ts) h =
+    let p = or_false (is_identifier_of name t) (list_any (is_identifier_of name) ts) h in
+    (other_at name t.class t.span t.text p.0, others name ts p.1)
+
+others_left : (name : List ℕ) (us vs : List Tok) → Others name (us ++ vs) → Others name us
+others_left name us vs a = every-front (Other name) us vs a
+
+others_right : (name : List ℕ) (us vs : List Tok) → Others name (us ++ vs) → Others name vs
+others_right name us vs a = every-back (Other name) us vs a
+
+inside : (name : List ℕ) (o c : Tok) (us : List Tok) → Others name (o ∷ (us ++ c ∷ [])) → Others name us
+inside name o c us a = others_left name us (c ∷ []) a.1
+
+-- ---- expressions and statements
+
+ex_avoids : {j : ℕ} {ts : List Tok} {x : Expression} {h : ℕ} (name : List ℕ) → Ex j ts x h → Others name ts → AvoidsExpression name x
+ex_avoids name (g.number t v c n b is) a = tt
+ex_avoids name (g.variable t n is) a = (subst (Others name) is a).0 n
+ex_avoids name (g.parentheses o c us x h k l d is) a = ex_avoids name d (inside name o c us (subst (Others name) is a))
+ex_avoids name (g.stronger d) a = ex_avoids name d a
+ex_avoids name (g.chain us vs t o l r m n k d e is) a =
+    let w = subst (Others name) is a in
+    (ex_avoids name d (others_left name us (t ∷ vs) w), ex_avoids name e (others_right name us (t ∷ vs) w).1)
+
+arguments_avoid : {ts : List Tok} {xs : Expressions} {h : ℕ} (name : List ℕ) → Arguments ts xs h → Others name ts → AvoidsExpressions name xs
+arguments_avoid name g.no_argument a = tt
+arguments_avoid name (g.last_argument t n) a = (a.0 n, tt)
+arguments_avoid name (g.argument t c us xs h n k d) a = (a.0 n, arguments_avoid name d a.1.1)
+
+call_avoids : {ts : List Tok} {x : Expression} {h : ℕ} (name : List ℕ) → Call ts x h → Others name ts → AvoidsExpression name x
+call_avoids name (g.call t o c us xs h n k l d is) a =
+    let w = subst (Others name) is a in
+    (w.0 n, arguments_avoid name d (inside name o c us w.1))
+
+given_avoids : {ts : List Tok} {x : Expression} {h : ℕ} (name : List ℕ) → Given ts x h → Others name ts → AvoidsExpression name x
+given_avoids name (g.value d) a = ex_avoids name d a
+given_avoids name (g.result d) a = call_avoids name d a
+
+statement_avoids : {ts : List Tok} {x : Statement} {h : ℕ} (name : List ℕ) → IsStatement ts x h → Others name ts → AvoidsStatement name x
+statement_avoids name (g.let_is t n q z us x h k m l o d is) a =
+    let w = subst (Others name) is a in
+    (w.1.0 m, given_avoids name d (others_left name us (z ∷ []) w.1.1.1))
+statement_avoids name (g.call_is z us x h k d is) a = call_avoids name d (others_left name us (z ∷ []) (subst (Others name) is a))
+statement_avoids name (g.print_is p b o f m c z us x h n e k l i j v u d is) a =
+    let w = subst (Others name) is a in
+    ex_avoids name d (others_left name us (c ∷ z ∷ []) w.1.1.1.1.1)
+
+record AvoidBetween (name : List ℕ) (ss : Statements) (y : OptionalExpression) : Type 0 where
+  statements : Every (AvoidsStatement name) (listed ss)
+  tail : AvoidsGiven name y
+
+between_avoid : {ts : List Tok} {ss : Statements} {y : OptionalExpression} {h : ℕ} (name : List ℕ) → AreStatements ts ss y h → Others name ts → AvoidBetween name ss y
+between_avoid name g.end a = record { statements = tt; tail = tt }
+between_avoid name (g.tail d) a = record { statements = tt; tail = ex_avoids name d a }
+between_avoid name (g.more us vs s ss y h i d e is) a =
+    let w = subst (Others name) is a in
+    let r = between_avoid name e (others_right name us vs w) in
+    record { statements = (statement_avoids name d (others_left name us vs w), r.statements); tail = r.tail }
+
+record AvoidsBody (name : List ℕ) (b : Body) : Type 0 where
+  statements : Every (AvoidsStatement name) (statements b)
+  tail : AvoidsGiven name (tail b)
+
+body_avoids : {ts : List Tok} {b : Body} {h : ℕ} (name : List ℕ) → IsBody ts b h → Others name ts → AvoidsBody name b
+body_avoids name (g.braces o c us ss y h k l d is) a =
+    let r = between_avoid name d (inside name o c us (subst (Others name) is a)) in
+    record { statements = r.statements; tail = r.tail }
+
+-- ---- functions and programs
+
+parameters_avoid : {ts : List Tok} {xs : List Parameter} {h : ℕ} (name : List ℕ) → Parameters ts xs h → Others name ts → Every (AvoidsParameter name) xs
+parameters_avoid name g.no_parameter a = tt
+parameters_avoid name (g.last_parameter n d y m k l) a = (a.0 m, tt)
+parameters_avoid name (g.one_parameter n d y c us ps h m k l i e) a = (a.0 m, parameters_avoid name e a.1.1.1.1)
+
+function_avoids : {ts : List Tok} {f : Function} {h : ℕ} (name : List ℕ) → IsFunction ts f h → Others name ts → AvoidsFunction name f
+function_avoids name (g.function f n o c us vs ws ps r b h i k kf nn ko kc dp dr db is) a =
+    let w = subst (Others name) is a in
+    let rest = w.1.1.1 in
+    let behind = (others_right name us (c ∷ (vs ++ ws)) rest).1 in
+    let z = body_avoids name db (others_right name vs ws behind) in
+    record {
+      own = w.1.0 nn;
+      params = parameters_avoid name dp (others_left name us (c ∷ (vs ++ ws)) rest);
+      body = z.statements;
+      tail = z.tail;
+    }
+
+file_avoids : {ts : List Tok} {p : ProgramTree} {h : ℕ} (name : List ℕ) → File ts p h → Others name ts → Avoids name p
+file_avoids name g.no_item a = tt
+file_avoids name (g.item us vs f is' h i d e is) a =
+    let w = subst (Others name) is a in
+    (function_avoids name d (others_left name us vs w), file_avoids name e (others_right name us vs w))
+
+not_taken : (ts : List Tok) (name : List ℕ) → is_taken ts name ≡ false → list_any (is_identifier_of name) ts ≡ false
+not_taken ts name h =
+    let a = list_any (is_identifier_of name) ts in
+    let b = list_any (is_identifier_of (exit_name name)) ts in
+    let c = is_one_of name reserved in
+    let d = starts_with nat_eq name (codes "out_") in
+    let e = starts_with nat_eq name (codes "Break_") in
+    let f = starts_with nat_eq name (codes "Continue_") in
+    let i = starts_with nat_eq name (codes "Exit_") in
+    (or_false a b (or_false (a || b) c (or_false (a || b || c) d (or_false (a || b || c || d) e (or_false (a || b || c || d || e) f
+    (or_false (a || b || c || d || e || f) i h).0).0).0).0).0).0
+
+pub fresh : (ts : List Tok) (p : ProgramTree) (h : ℕ) (name : List ℕ) → File ts p h → is_taken ts name ≡ false → Avoids name p
+fresh ts p h name d e = file_avoids name d (others name ts (not_taken ts name e))
