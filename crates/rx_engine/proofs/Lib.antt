@@ -9,3 +9,6 @@ pub mod Typing
 pub mod Verdicts
 pub mod PlanForms
 pub mod FreshLemmas
+pub mod SelectForms
+pub mod SelectLemmas
+pub mod Places

@@ -8,3 +8,4 @@ pub mod Avoids
 pub mod Faults
 pub mod Firsts
 pub mod Chosen
+pub mod Selecting

@@ -5,7 +5,9 @@ mod check;
 mod laws;
 mod plain;
 mod plan;
+mod select;
 
 pub use check::{CheckFault, NameFault, Rule, TypeFault, check_program};
 pub use laws::extraction_keeps_runs;
 pub use plain::is_plain;
+pub use select::{Run, select_run};
