@@ -7,3 +7,4 @@ pub mod TokenLaws
 pub mod NumeralLaws
 pub mod BlockSteps
 pub mod FrontWords
+pub mod Reading

@@ -6,3 +6,4 @@ pub mod Stands
 pub mod Scan
 pub mod Digits
 pub mod FrontWord
+pub mod Lexing
