@@ -1,9 +1,10 @@
 -- A text begins with at most one blank or comment, and scanning from the left finds it: by induction on what is balanced, and on the text.
-use Rattle.std.proofs.Common.{◌≡◌, ℕ, zero, suc, ◌≤◌, ◌<◌, true, false, cond, List, [], ◌∷◌, ◌++◌, length, length-append, Option, Some, None, refl, sym, ap, subst, ◌∙◌, arith, inl, inr}
+use Rattle.std.proofs.Common.{◌≡◌, ℕ, ◌+◌, zero, suc, ◌≤◌, ◌<◌, true, false, cond, List, [], ◌∷◌, ◌++◌, length, length-append, append_assoc, take, Option, Some, None, refl, sym, ap, subst, ◌∙◌, arith, inl, inr}
 use Rattle.std.specs.Prelude.{◌==◌, ◌&&◌, not}
 use Rattle.std.specs.List.{list_all}
 use Rattle.std.proofs.lemmas.Bool.{and_parts, or_parts, or_from, not-true, eqb-true, cases_Bool, cond-true, cond-false}
-use Rattle.rx_lex.specs.Tokens.{Gap, blank, line_comment, block_comment, is_blank, opening, closing, at_line_end, begins_pair, Balanced, nothing, plain, nested}
+use Rattle.std.proofs.Math.Seq.{take-append_seam}
+use Rattle.rx_lex.specs.Tokens.{slashes, Gap, blank, line_comment, block_comment, is_blank, opening, closing, at_line_end, begins_pair, Balanced, nothing, plain, nested}
 use Rattle.rx_lex.specs.Scan.{line_rest, block_rest, comment_rest, gap_rest}
 
 -- ---- block comments
@@ -151,3 +152,34 @@ pub gap_shorter : {t r : List ℕ} → Gap t r → length r < length t
 gap_shorter (blank e) = omega arith
 gap_shorter (line_comment u {r = r} a b e) = omega (arith, ap length e, length-append u r)
 gap_shorter (block_comment b) = let h = balanced_shorter b in omega arith
+
+-- ---- a gap is the front of its text
+
+abbrev Ends : List ℕ → List ℕ → Type 0
+Ends t r = (u : List ℕ) × (t ≡ u ++ r)
+
+balanced_front : {t u : List ℕ} → Balanced t u → Ends t u
+balanced_front nothing = ([], refl)
+balanced_front (plain {c = c} e b) = let p = balanced_front b in (c ∷ p.0, ap (λ l. c ∷ l) p.1)
+balanced_front (nested {u = u} {r = r} b d) =
+    let p = balanced_front b in
+    let q = balanced_front d in (
+      opening ++ (p.0 ++ (closing ++ q.0)),
+      ap (λ l. opening ++ l) (p.1 ∙ (ap (λ l. p.0 ++ (closing ++ l)) q.1 ∙ sym (append_assoc p.0 (closing ++ q.0) r))),
+    )
+
+gap_ends : {t r : List ℕ} → Gap t r → Ends t r
+gap_ends (blank {c = c} e) = (c ∷ [], refl)
+gap_ends (line_comment u {r = r} a b e) = (slashes ++ u, e)
+gap_ends (block_comment {r = r} b) =
+    let p = balanced_front b in
+    (opening ++ (p.0 ++ closing), ap (λ l. opening ++ l) (p.1 ∙ sym (append_assoc p.0 closing r)))
+
+front_take : (n : ℕ) (t u r : List ℕ) → t ≡ u ++ r → length t ≡ n + length r → t ≡ take n t ++ r
+front_take n t u r e l =
+    let k : length u ≡ n = omega (arith, ap length e, length-append u r) in
+    let f : take n t ≡ u = ap (λ x. take n x) e ∙ (ap (λ m. take m (u ++ r)) (sym k) ∙ take-append_seam u r) in
+    e ∙ ap (λ l. l ++ r) (sym f)
+
+pub gap_front : {t r : List ℕ} (n : ℕ) → Gap t r → length t ≡ n + length r → t ≡ take n t ++ r
+gap_front {t} {r} n g l = let p = gap_ends g in front_take n t p.0 r p.1 l

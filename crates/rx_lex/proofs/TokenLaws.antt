@@ -1,5 +1,5 @@
 -- A text has at most one list of tokens, in order, each a word; one that gets stuck has none: by induction on how the text is read.
-use Rattle.std.proofs.Common.{◌≡◌, ℕ, ◌+◌, ◌≤◌, ◌<◌, Bool, true, false, cond, List, [], ◌∷◌, ◌++◌, length, length-append, refl, sym, ap, subst, ◌∙◌, arith, inl, inr}
+use Rattle.std.proofs.Common.{◌≡◌, ℕ, ◌+◌, ◌≤◌, ◌<◌, Bool, true, false, cond, List, [], ◌∷◌, ◌++◌, length, length-append, length-take, take, drop, ◌-◌, append_assoc, refl, sym, ap, subst, ◌∙◌, arith, inl, inr}
 use Rattle.std.specs.Prelude.{◌≢◌, ◌==◌, ◌&&◌, not, if◌then◌else◌, codes, nat_le}
 use Rattle.std.specs.List.{list_all}
 use Rattle.std.proofs.lemmas.Bool.{and_parts, or_cases, not-true, false≢true, false_from_ne_true, eqb-true, leb-true}
@@ -12,7 +12,8 @@ use Rattle.rx_lex.specs.Tok.{Tok}
 use Rattle.rx_lex.specs.Tokens.{Front, Longest, Gap, Tokens, none, gap, token, token_at, Stuck, here, after_gap, after_token, Lexes}
 use Rattle.rx_lex.proofs.FirstBytes.{first, one_of_all, numeral_digit}
 use Rattle.rx_lex.proofs.LongestWord.{gap_begins, word_not_empty}
-use Rattle.rx_lex.proofs.Gaps.{gap_one}
+use Rattle.std.proofs.Math.Seq.{take-append_seam}
+use Rattle.rx_lex.proofs.Gaps.{gap_one, gap_front}
 
 -- ---- a word is of one class
 
@@ -209,3 +210,29 @@ each_word (token c w r n l d) = (l.front.word, each_word d)
 
 pub tokens_are_words : (at : ℕ) (t : List ℕ) (ts : List Tok) → Tokens at t ts → EachIsWord ts
 tokens_are_words at t ts d = each_word d
+
+-- ---- each token stands where its span says
+
+abbrev pub EachStands : List ℕ → List Tok → Type 0
+EachStands bytes [] = Unit {0}
+EachStands bytes (t ∷ ts) = (t.text ≡ take (t.span.end - t.span.start) (drop t.span.start bytes)) × EachStands bytes ts
+
+seam : (before w r : List ℕ) → w ≡ take (length before + length w - length before) (drop (length before) (before ++ (w ++ r)))
+seam [] w r = let e : 0 + length w - 0 ≡ length w = omega arith in rw e (sym (take-append_seam w r))
+seam (b ∷ before) w r =
+    let e : length (b ∷ before) + length w - length (b ∷ before) ≡ length before + length w - length before = omega arith in
+    rw e (seam before w r)
+
+each_stands : {at : ℕ} {t : List ℕ} {ts : List Tok} (bytes before : List ℕ) → length before ≡ at → bytes ≡ before ++ t → Tokens at t ts → EachStands bytes ts
+each_stands bytes before n e none = tt
+each_stands bytes before n e (gap k {t = t} {r = r} g l d) =
+    let f : t ≡ take k t ++ r = gap_front k g l in
+    each_stands bytes (before ++ take k t) (omega (arith, length-append before (take k t), length-take k t)) (e ∙ (ap (λ x. before ++ x) f ∙ sym (append_assoc before (take k t) r))) d
+each_stands {at = at} bytes before n e (token {t = t} c w r m l d) =
+    let f : bytes ≡ before ++ (w ++ r) = e ∙ ap (λ x. before ++ x) l.front.is in
+    let h : w ≡ take (at + length w - at) (drop at bytes) =
+    subst (λ a. w ≡ take (a + length w - a) (drop a bytes)) n (seam before w r ∙ ap (λ x. take (length before + length w - length before) (drop (length before) x)) (sym f)) in
+    (h, each_stands bytes (before ++ w) (omega (arith, length-append before w)) (f ∙ sym (append_assoc before w r)) d)
+
+pub tokens_stand : (bytes : List ℕ) (ts : List Tok) → Tokens 0 bytes ts → EachStands bytes ts
+tokens_stand bytes ts d = each_stands bytes [] refl refl d

@@ -2,12 +2,14 @@
 #![tactic(auto)]
 
 mod front;
+mod laws;
 mod lexer;
 mod numeral;
 mod scan;
 mod token;
 mod words;
 
+pub use laws::{one_number, one_token_list, tokens_or_stuck};
 pub use lexer::{LexFault, Tokens, lex};
 pub use numeral::{Numeral, numeral_of};
 pub use token::{Class, Token};

@@ -1,0 +1,22 @@
+//! Laws of tokens, each as the contract of a function that does nothing.
+
+ghost use Rattle.std.specs.Prelude.{◌≡◌, ℕ, List, Option};
+ghost use Rattle.rx_core.specs.declared.types.Kind.{Kind};
+ghost use Rattle.rx_lex.specs.Numerals.{IsNumeral};
+ghost use Rattle.rx_lex.specs.Tok.{Tok};
+ghost use Rattle.rx_lex.specs.Tokens.{Lexes, Stuck};
+
+/// A text has at most one list of tokens.
+pub fn one_token_list()
+    ensures { (bytes : List ℕ) (ts us : List Tok) → Lexes bytes ts → Lexes bytes us → ts ≡ us }
+{}
+
+/// A text that has tokens gets stuck nowhere.
+pub fn tokens_or_stuck()
+    ensures { (bytes : List ℕ) (ts : List Tok) (at : ℕ) → Lexes bytes ts → Stuck 0 bytes at → ⊥ }
+{}
+
+/// A word is a number in at most one way.
+pub fn one_number()
+    ensures { (word : List ℕ) (v u : ℕ) (k j : Option Kind) → IsNumeral word v k → IsNumeral word u j → (v ≡ u) × (k ≡ j) }
+{}
