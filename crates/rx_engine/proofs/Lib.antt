@@ -12,3 +12,4 @@ pub mod FreshLemmas
 pub mod SelectForms
 pub mod SelectLemmas
 pub mod Places
+pub mod PrintableLemmas
