@@ -6,3 +6,6 @@ pub mod Derived
 pub mod PrintParses
 pub mod SameText
 pub mod Measured
+pub mod Rules
+pub mod TextSteps
+pub mod BodySteps

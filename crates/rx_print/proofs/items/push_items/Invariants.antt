@@ -1,0 +1,8 @@
+use Rattle.std.proofs.Common.{◌≡◌, ◌++◌, drop, map}
+use Rattle.rx_tree.specs.PlainOf.{plain-Item}
+use Rattle.rx_print.specs.Print.{flat, pieces}
+use Rattle.rx_print.proofs.TextSteps.{left_of_items}
+use Rattle.rx_print.proofs.items.push_items.Given as goal
+
+abbrev pub invariant-loop-item : goal.invariant-loop-item
+invariant-loop-item l = l.out ++ flat (left_of_items l.follows (map plain-Item (drop l.item-index l.list))) ≡ l.fn.out ++ flat (pieces (map plain-Item l.list))
