@@ -13,3 +13,4 @@ pub mod SelectForms
 pub mod SelectLemmas
 pub mod Places
 pub mod PrintableLemmas
+pub mod OneExtraction
