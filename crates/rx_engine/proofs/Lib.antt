@@ -14,3 +14,5 @@ pub mod SelectLemmas
 pub mod Places
 pub mod PrintableLemmas
 pub mod OneExtraction
+pub mod PlainIntegers
+pub mod SameAccepted
