@@ -1,7 +1,7 @@
 -- The verdict on a plain program: the first faults that the search finds, or that it is accepted, from what each search says.
 use Rattle.std.proofs.Common.{◌≡◌, ℕ, Bool, true, false, ◌&&◌, ◌||◌, not, List, [], ◌∷◌, ◌++◌, length, nat_le, Option, Some, None, if◌then◌else◌, refl, ap, sym, ◌∙◌, subst, append-nil}
 use Rattle.std.proofs.Common.{inl, inr}
-use Rattle.std.specs.Prelude.{IfSome, codes}
+use Rattle.std.specs.Prelude.{IfSome, codes, ◌↔◌}
 use Rattle.std.specs.List.{list_all}
 use Rattle.rx_core.specs.declared.types.Span.{Span}
 use Rattle.rx_core.specs.Bytes.{same_bytes, is_one_of}
@@ -234,4 +234,13 @@ verdict_literal s f at p u l =
       unbound_is f h ∙ all_bound f u,
       subst (λ ls. IsAmong at ls) (sym (too_large_is f h)) i,
       λ a. subst (λ ls. IsAmong at ls) (has s f h a).small i,
+    )
+
+-- a plain program is accepted exactly where no name is unbound, no literal too large, and its function is main
+pub accepted_exactly : (s : Span) (f : Function) → is_plain_function f ≡ true
+    → Accepted (plain.function_item s f ∷ []) ↔ ((unbound_in (f ∷ []) ≡ []) × (too_large (f ∷ []) ≡ []) × (f.name.name ≡ codes "main"))
+accepted_exactly s f p =
+    let h = plain_parts f p in (
+      λ a. let b = has s f h a in (unbound_is f h ∙ b.bound, too_large_is f h ∙ b.small, is_main s f b.main),
+      λ t. accepted s f h (sym (unbound_is f h) ∙ t.0) (sym (too_large_is f h) ∙ t.1) t.2,
     )
