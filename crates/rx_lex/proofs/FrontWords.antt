@@ -17,6 +17,7 @@ use Rattle.rx_lex.specs.FrontWord.{WordOf, NoWord, begins_comment}
 use Rattle.rx_lex.specs.Scan.{gap_rest, line_rest}
 use Rattle.rx_lex.proofs.FirstBytes.{first, first-append, one_of_all}
 use Rattle.rx_lex.proofs.LongestWord.{Run, same_run, Kind_of, run, a_format, a_mark, kind_of, word_longest, mark_length, mark_not_empty, format_not_empty}
+use Rattle.rx_lex.proofs.OfItsClass.{mark_is}
 use Rattle.rx_lex.proofs.Gaps.{gap_is}
 use Rattle.rx_lex.proofs.TokenLaws.{class_of, word_class}
 
@@ -125,13 +126,6 @@ name_word w p a d k l =
 
 abbrev has : ℕ → List ℕ → Bool
 has n t = nat_le n (length t) && is_one_of (take n t) marks
-
-mark_is : {c : Class} {w : List ℕ} → IsWord c w → c ≡ Mark → is_one_of w marks ≡ true
-mark_is (identifier i) e = absurd (cc)
-mark_is (keyword i) e = absurd (cc)
-mark_is (number i b) e = absurd (cc)
-mark_is (format i) e = absurd (cc)
-mark_is (mark i) e = i
 
 three_no_mark : (a b d : ℕ) → is_one_of (a ∷ b ∷ d ∷ []) marks ≡ false
 three_no_mark a b d = false_from_ne_true (is_one_of (a ∷ b ∷ d ∷ []) marks) (λ h. let m = mark_length (a ∷ b ∷ d ∷ []) h in absurd (omega arith))

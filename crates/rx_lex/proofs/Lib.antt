@@ -8,3 +8,4 @@ pub mod NumeralLaws
 pub mod BlockSteps
 pub mod FrontWords
 pub mod Reading
+pub mod OfItsClass

@@ -236,3 +236,25 @@ each_stands {at = at} bytes before n e (token {t = t} c w r m l d) =
 
 pub tokens_stand : (bytes : List ℕ) (ts : List Tok) → Tokens 0 bytes ts → EachStands bytes ts
 tokens_stand bytes ts d = each_stands bytes [] refl refl d
+
+-- ---- a text gets stuck at one place
+
+same_place : {at a b : ℕ} {t : List ℕ} → Stuck at t a → Stuck at t b → a ≡ b
+same_place (here n g f) (here m h k) = refl
+same_place (here n g f) (after_gap m {r = q} h l s) = absurd (g q h)
+same_place (here n g f) (after_token c w r m l s) = absurd (f c w r l.front)
+same_place (after_gap n {r = r} g l s) (here m h k) = absurd (h r g)
+same_place {at = at} {b = b} (after_gap n {t = t} {r = r} g l s) (after_gap m {r = q} h k e) =
+    let p = gap_one g h in
+    let i = same_step n m r q t l k p in
+    same_place s (subst (λ x. Stuck (at + n) x b) (sym p) (subst (λ x. Stuck (at + x) q b) (sym i) e))
+same_place (after_gap n {r = r} g l s) (after_token c w q m k e) = absurd (m r g)
+same_place (after_token c w r n l s) (here m h k) = absurd (k c w r l.front)
+same_place (after_token c w r n l s) (after_gap m {r = q} g k e) = absurd (n q g)
+same_place {at = at} {b = b} (after_token c w r n l s) (after_token d v q m k e) =
+    let p = longest_one l k in
+    let i : length v ≡ length w = ap length (sym p.1) in
+    same_place s (subst (λ x. Stuck (at + length w) x b) (sym p.2) (subst (λ x. Stuck (at + x) q b) i e))
+
+pub stuck_one : (at a b : ℕ) (t : List ℕ) → Stuck at t a → Stuck at t b → a ≡ b
+stuck_one at a b t s e = same_place s e

@@ -16,6 +16,11 @@ pub fn tokens_or_stuck()
     ensures { (bytes : List ℕ) (ts : List Tok) (at : ℕ) → Lexes bytes ts → Stuck 0 bytes at → ⊥ }
 {}
 
+/// A text gets stuck at one place at most.
+pub fn one_stuck_place()
+    ensures { (bytes : List ℕ) (at other : ℕ) → Stuck 0 bytes at → Stuck 0 bytes other → at ≡ other }
+{}
+
 /// A word is a number in at most one way.
 pub fn one_number()
     ensures { (word : List ℕ) (v u : ℕ) (k j : Option Kind) → IsNumeral word v k → IsNumeral word u j → (v ≡ u) × (k ≡ j) }
