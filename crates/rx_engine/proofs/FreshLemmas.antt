@@ -1,13 +1,12 @@
 -- A name that is taken by no token stands nowhere in the tree of these tokens: by induction on derivations, since each name in a tree is
 -- the text of an identifier.
-use Rattle.std.proofs.Common.{◌≡◌, ℕ, Bool, true, false, ◌||◌, List, [], ◌∷◌, ◌++◌, refl, sym, subst}
+use Rattle.std.proofs.Common.{◌≡◌, ℕ, false, ◌||◌, List, [], ◌∷◌, ◌++◌, subst}
 use Rattle.std.specs.Prelude.{codes, nat_eq}
 use Rattle.std.specs.List.{list_any, starts_with}
 use Rattle.rx_core.specs.declared.types.Span.{Span}
 use Rattle.rx_core.specs.Bytes.{same_bytes, is_one_of}
 use Rattle.rx_core.proofs.BytesLemmas.{same_bytes-equal}
-use Rattle.rx_tree.specs.Plain as plain
-use Rattle.rx_tree.specs.Plain.{TypeTree, Expression, Expressions, OptionalExpression, Body, Statement, Statements, Parameter, Function, ProgramTree}
+use Rattle.rx_tree.specs.Plain.{Expression, Expressions, OptionalExpression, Body, Statement, Statements, Parameter, Function, ProgramTree}
 use Rattle.rx_tree.specs.Lists.{listed, statements, tail, Every}
 use Rattle.rx_lex.specs.declared.token.Class.{Class}
 use Rattle.rx_lex.specs.declared.token.Class.TheVariants.{Identifier}

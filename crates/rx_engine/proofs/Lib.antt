@@ -16,3 +16,4 @@ pub mod PrintableLemmas
 pub mod OneExtraction
 pub mod PlainIntegers
 pub mod SameAccepted
+pub mod AnswerLemmas

@@ -1,11 +1,10 @@
 -- In a plain program each variable is an integer: by recursion on the statements, the scope behind them holds the declared names as integers.
-use Rattle.std.proofs.Common.{◌≡◌, ℕ, Bool, true, false, ◌&&◌, ◌||◌, List, [], ◌∷◌, ◌++◌, Option, Some, None, if◌then◌else◌, refl, sym, ap, ◌∙◌, subst, append_assoc}
+use Rattle.std.proofs.Common.{◌≡◌, ℕ, Bool, true, false, ◌&&◌, List, [], ◌∷◌, ◌++◌, Option, Some, None, if◌then◌else◌, refl, sym, ap, ◌∙◌, subst, append_assoc}
 use Rattle.std.specs.List.{list_all}
 use Rattle.rx_core.specs.declared.types.Span.{Span}
 use Rattle.rx_core.specs.Bytes.{same_bytes, is_one_of}
 use Rattle.rx_tree.specs.Plain as plain
 use Rattle.rx_tree.specs.Plain.{Expression, OptionalExpression, Statement, Function, ItemTree, ProgramTree}
-use Rattle.rx_tree.specs.PlainOf.{statements_of}
 use Rattle.rx_tree.specs.Lists.{statements, Every}
 use Rattle.rx_tree.proofs.ListsLemmas.{listed-statements_of}
 use Rattle.rx_engine.specs.Names.{declares, free}
@@ -18,7 +17,7 @@ use Rattle.rx_engine.specs.Accepted as accepted
 use Rattle.rx_engine.specs.Accepted.{ValueType, integer, Scope, type_in, Signature, signatures, functions, HasType, AreTyped, scope_from, IsTyped, Accepted}
 use Rattle.rx_engine.proofs.Membership.{false_true, or_right, distinct_one_of}
 use Rattle.rx_engine.proofs.Handed.{outs_only}
-use Rattle.rx_engine.proofs.Scopes.{InScope, typed_split, typed_joined, typed_lacks, free_typed}
+use Rattle.rx_engine.proofs.Scopes.{InScope, typed_split, typed_lacks, free_typed}
 use Rattle.rx_engine.proofs.Typing.{integers, and_true, expression_typed}
 use Rattle.rx_engine.proofs.Verdicts.{plain_parts}
 use Rattle.rx_engine.proofs.AcceptedLemmas.{every-back, functions-append, HasIntegers}

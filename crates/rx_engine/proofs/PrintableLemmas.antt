@@ -1,5 +1,5 @@
 -- The extraction of a printable program is printable: the names that it writes are words of the program, and what it adds needs three levels.
-use Rattle.std.proofs.Common.{◌≡◌, ℕ, suc, ◌≤◌, max, Bool, true, false, not, ◌&&◌, List, [], ◌∷◌, ◌++◌, map, Option, Some, None, inl, inr, refl, sym, ap, subst, cond, arith}
+use Rattle.std.proofs.Common.{◌≡◌, ℕ, suc, ◌≤◌, Bool, true, false, not, ◌&&◌, List, [], ◌∷◌, ◌++◌, map, Option, Some, None, inl, inr, refl, sym, subst, cond, arith}
 use Rattle.std.specs.Prelude.{◌⊎◌}
 use Rattle.rx_core.specs.declared.types.Span.{Span}
 use Rattle.rx_core.specs.Bytes.{same_bytes, is_one_of}
@@ -10,8 +10,7 @@ use Rattle.rx_tree.specs.PlainOf.{statements_of}
 use Rattle.rx_tree.specs.Lists.{Every}
 use Rattle.rx_lex.specs.Words.{is_identifier}
 use Rattle.rx_parse.specs.Grammar.{levels}
-use Rattle.rx_print.specs.Print.{weakest}
-use Rattle.rx_print.specs.Printable.{Printable, list_levels, optional_levels, statement_levels, statements_levels, parameters_levels, written_type_levels, function_levels, levels_of, IsValue, IsVariable, AreVariables, IsCall, IsPrint, IsInitial, IsBinding, IsStatementForm, AreStatementForms, IsTail, IsBodyForm, IsResultForm, AreParameterForms, IsFunctionForm, AreItemForms}
+use Rattle.rx_print.specs.Printable.{Printable, list_levels, optional_levels, statement_levels, statements_levels, parameters_levels, written_type_levels, function_levels, levels_of, IsValue, AreVariables, IsCall, IsPrint, IsInitial, IsStatementForm, AreStatementForms, IsTail, IsResultForm, AreParameterForms, IsFunctionForm, AreItemForms}
 use Rattle.rx_print.proofs.SameText.{printable_same}
 use Rattle.rx_engine.specs.Names.{uses, uses_all, uses_given, uses_in, declares, names, remove, without, distinct, free}
 use Rattle.rx_engine.specs.Plan.{params, declared_in, handed, outs}

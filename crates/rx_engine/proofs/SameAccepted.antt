@@ -1,7 +1,6 @@
 -- Types look at no span: programs that are equal apart from spans are accepted together, by induction on the derivations of the first.
-use Rattle.std.proofs.Common.{◌≡◌, ℕ, ◌≤◌, suc, false, true, List, [], ◌∷◌, ◌++◌, map, length, Option, Some, None, IfSome, refl, sym, ap, ◌∙◌, subst}
+use Rattle.std.proofs.Common.{◌≡◌, ℕ, ◌≤◌, suc, false, true, List, [], ◌∷◌, map, length, Option, Some, None, IfSome, refl, sym, ap, ◌∙◌, subst}
 use Rattle.std.specs.Prelude.{option_map}
-use Rattle.rx_core.specs.declared.types.Span.{Span}
 use Rattle.rx_core.specs.declared.types.Kind.TheVariants.{I64}
 use Rattle.rx_tree.specs.declared.tree.Ident.{Ident}
 use Rattle.rx_tree.specs.declared.tree.BoundLifetime.{BoundLifetime}

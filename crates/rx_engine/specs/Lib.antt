@@ -9,3 +9,4 @@ pub mod Faults
 pub mod Firsts
 pub mod Chosen
 pub mod Selecting
+pub mod Promise

@@ -1,0 +1,169 @@
+-- The answer keeps its promise, and no other text could be answered: a text has one tree, a range one run of it, and the run one extraction
+-- apart from spans, so each condition that fails excludes every extraction.
+use Rattle.std.proofs.Common.{◌≡◌, ℕ, ◌≤◌, true, false, List, [], ◌∷◌, length, Option, Some, None, refl, sym, ap, ◌∙◌, subst, arith}
+use Rattle.rx_core.specs.declared.types.Span.{Span}
+use Rattle.rx_tree.specs.Plain as plain
+use Rattle.rx_tree.specs.Plain.{Function, ProgramTree}
+use Rattle.rx_tree.specs.Erase.{SameProgram}
+use Rattle.rx_lex.specs.declared.lexer.LexFault.{LexFault}
+use Rattle.rx_lex.specs.declared.lexer.LexFault.TheVariants.{OutOfMemory}
+use Rattle.rx_lex.specs.Tok.{Tok}
+use Rattle.rx_lex.specs.Tokens.{Lexes}
+use Rattle.rx_lex.specs.Words.{is_identifier}
+use Rattle.rx_lex.specs.Lexing.{FaultOf}
+use Rattle.rx_lex.proofs.TokenLaws.{lexes_one}
+use Rattle.rx_lex.proofs.Reading.{only_memory}
+use Rattle.rx_parse.specs.Grammar.{File, Parses, levels}
+use Rattle.rx_print.specs.Print.{print_program}
+use Rattle.rx_print.proofs.PrintParses.{print_parses}
+use Rattle.rx_print.proofs.SameText.{print_same}
+use Rattle.rx_print.proofs.Measured.{parses_printable}
+use Rattle.rx_engine.specs.Names.{free}
+use Rattle.rx_engine.specs.Accepted.{Accepted}
+use Rattle.rx_engine.specs.Plan.{outs}
+use Rattle.rx_engine.specs.Run.{Run, RunOf}
+use Rattle.rx_engine.specs.Selecting.{PlacedIn}
+use Rattle.rx_engine.specs.Extracted.{handed_out, Parts, Extracted}
+use Rattle.rx_engine.specs.Conditions.{is_plain_program, is_taken}
+use Rattle.rx_engine.specs.Promise.{Accepts, Selects, Names, IsExtraction, Keeps, HandsOutMore}
+use Rattle.rx_engine.proofs.Membership.{false_true}
+use Rattle.rx_engine.proofs.FreshLemmas.{fresh}
+use Rattle.rx_engine.proofs.PrintableLemmas.{printable_extraction}
+use Rattle.rx_engine.proofs.OneExtraction.{outs_same, extraction_unique}
+use Rattle.rx_engine.proofs.SameAccepted.{accepted_extraction}
+use Rattle.rx_engine.proofs.SelectLemmas.{one_run}
+use Rattle.rx_engine.proofs.Places.{parses_placed}
+use Rattle.rx_engine.proofs.sim.Extraction.{avoided, extraction_runs, program_runs}
+
+-- ---- the promise
+
+-- the same extraction by another tree
+moved_to : {p : ProgramTree} {r : Run} {name : List ℕ} {q : ProgramTree} (s : ProgramTree) → SameProgram s q → Extracted p r name q → Extracted p r name s
+moved_to s h e = record { parts = e.parts; out = e.out; outs = e.outs; same = h ∙ e.same }
+
+pub keeps : (bytes : List ℕ) (start end : ℕ) (name answer : List ℕ) (p q : ProgramTree) (r : Run) → Names bytes start end name p r → Extracted p r name q
+    → answer ≡ print_program q → Keeps bytes start end name answer
+keeps bytes start end name answer p q r n e a =
+    let t = n.selects.accepts in
+    let k = print_parses q (printable_extraction p r name q (parses_printable bytes p t.parses) n.word e) in
+    let x = moved_to k.0 k.2 e in
+    let avoids = fresh t.parses.tokens p t.parses.height name t.parses.derived n.fresh in
+    let absent = avoided p name avoids in
+    record {
+      p = p;
+      q = k.0;
+      extraction = record { run = r; names = n; extracted = x };
+      parses = subst (λ (b : List ℕ). Parses b k.0) (sym a) k.1;
+      accepted = accepted_extraction p r name k.0 t.plain t.accepted avoids x;
+      rendered = a ∙ sym (print_same k.0 q k.2);
+      runs = record {
+        answer = λ input turns. extraction_runs p r name k.0 t.accepted absent x input turns;
+        text = λ input turns. program_runs p r name k.0 t.accepted absent x input turns;
+      };
+    }
+
+-- ---- one tree, one run
+
+-- the bytes have no other tree
+abbrev pub Only : List ℕ → ProgramTree → Type 0
+Only bytes p = (b : ProgramTree) → Parses bytes b → p ≡ b
+
+at_tree : (bytes : List ℕ) (start end : ℕ) (name : List ℕ) (p p2 q2 : ProgramTree) → Only bytes p → IsExtraction bytes start end name p2 q2
+    → IsExtraction bytes start end name p q2
+at_tree bytes start end name p p2 q2 only x =
+    subst (λ (z : ProgramTree). IsExtraction bytes start end name z q2) (sym (only p2 x.names.selects.accepts.parses)) x
+
+-- the one function of a plain program
+pub record OneFunction (p : ProgramTree) : Type 0 where
+  pub span : Span
+  pub function : Function
+  pub is : p ≡ plain.function_item span function ∷ []
+
+pub one_function : (p : ProgramTree) → is_plain_program p ≡ true → OneFunction p
+one_function [] h = absurd (cc)
+one_function (plain.function_item s f ∷ []) h = record { span = s; function = f; is = refl }
+one_function (plain.function_item s f ∷ i ∷ is) h = absurd (cc)
+one_function (plain.rt_item s ∷ is) h = absurd (cc)
+one_function (plain.struct_item s x ∷ is) h = absurd (cc)
+one_function (plain.enum_item s x ∷ is) h = absurd (cc)
+
+-- a range selects one run of a plain program at most, whichever way its text is read
+runs_one : (bytes : List ℕ) (start end : ℕ) (p : ProgramTree) (r q : Run) (ts us : List Tok) → is_plain_program p ≡ true → Parses bytes p → Lexes bytes ts → Lexes bytes us
+    → RunOf (length bytes) ts p start end r → RunOf (length bytes) us p start end q → r ≡ q
+runs_one bytes start end p r q ts us h d l m x y =
+    let o = one_function p h in
+    let s = lexes_one bytes us ts m l in
+    let k = subst (λ (z : ProgramTree). PlacedIn ts z) o.is (parses_placed bytes ts p l d) in
+    one_run (length bytes) start end ts o.span o.function r q k.0
+    (subst (λ (z : ProgramTree). RunOf (length bytes) ts z start end r) o.is x)
+    (subst (λ (z : ProgramTree). RunOf (length bytes) ts z start end q) o.is (subst (λ (vs : List Tok). RunOf (length bytes) vs p start end q) s y))
+
+pub one_selected : (bytes : List ℕ) (start end : ℕ) (p : ProgramTree) (r q : Run) → Selects bytes start end p r → Selects bytes start end p q → r ≡ q
+one_selected bytes start end p r q x y =
+    runs_one bytes start end p r q x.accepts.parses.tokens y.accepts.parses.tokens x.accepts.plain x.accepts.parses x.accepts.parses.lexed y.accepts.parses.lexed x.run y.run
+
+-- the tree of an extraction at the run that the range selects
+at_run : (bytes : List ℕ) (start end : ℕ) (name : List ℕ) (p q2 : ProgramTree) (r : Run) → Selects bytes start end p r → IsExtraction bytes start end name p q2
+    → Extracted p r name q2
+at_run bytes start end name p q2 r s x =
+    subst (λ (z : Run). Extracted p z name q2) (one_selected bytes start end p x.run r x.names.selects s) x.extracted
+
+-- ---- what is answered where there is an extraction
+
+pub whole : (bytes : List ℕ) (start end : ℕ) (name : List ℕ) (p q : ProgramTree) (r : Run) → Only bytes p → Names bytes start end name p r → Extracted p r name q
+    → (p2 q2 : ProgramTree) → IsExtraction bytes start end name p2 q2 → print_program q ≡ print_program q2
+whole bytes start end name p q r only n e p2 q2 x =
+    let y = at_run bytes start end name p q2 r n.selects (at_tree bytes start end name p p2 q2 only x) in
+    print_same q q2 (extraction_unique p r name q q2 e y)
+
+-- ---- what excludes an extraction
+
+-- the bytes are no text of tokens
+pub no_tokens : (bytes : List ℕ) (f : LexFault) → FaultOf f bytes → (f ≡ OutOfMemory → ⊥) → (p : ProgramTree) → Parses bytes p → ⊥
+no_tokens bytes f h n p d = n (only_memory f bytes h d.tokens d.lexed)
+
+-- the tokens are no program within the levels
+pub no_tree : (bytes : List ℕ) (ts : List Tok) → Lexes bytes ts → ((p : ProgramTree) (h : ℕ) → h ≤ levels → File ts p h → ⊥) → (p : ProgramTree) → Parses bytes p → ⊥
+no_tree bytes ts l n p d =
+    n p d.height d.low (subst (λ (us : List Tok). File us p d.height) (lexes_one bytes d.tokens ts d.lexed l) d.derived)
+
+pub unread : (bytes : List ℕ) (start end : ℕ) (name : List ℕ) → ((p : ProgramTree) → Parses bytes p → ⊥) → (p2 q2 : ProgramTree) → IsExtraction bytes start end name p2 q2 → ⊥
+unread bytes start end name n p2 q2 x = n p2 x.names.selects.accepts.parses
+
+pub not_accepted : (bytes : List ℕ) (start end : ℕ) (name : List ℕ) (p : ProgramTree) → Only bytes p → (Accepted p → ⊥)
+    → (p2 q2 : ProgramTree) → IsExtraction bytes start end name p2 q2 → ⊥
+not_accepted bytes start end name p only n p2 q2 x = n (at_tree bytes start end name p p2 q2 only x).names.selects.accepts.accepted
+
+pub not_plain : (bytes : List ℕ) (start end : ℕ) (name : List ℕ) (p : ProgramTree) → Only bytes p → is_plain_program p ≡ false
+    → (p2 q2 : ProgramTree) → IsExtraction bytes start end name p2 q2 → ⊥
+not_plain bytes start end name p only n p2 q2 x =
+    false_true (is_plain_program p) n (at_tree bytes start end name p p2 q2 only x).names.selects.accepts.plain
+
+pub not_a_run : (bytes : List ℕ) (start end : ℕ) (name : List ℕ) (p : ProgramTree) → Only bytes p → (a : Accepts bytes p)
+    → ((r : Run) → RunOf (length bytes) a.parses.tokens p start end r → ⊥) → (p2 q2 : ProgramTree) → IsExtraction bytes start end name p2 q2 → ⊥
+not_a_run bytes start end name p only a n p2 q2 x =
+    let y = at_tree bytes start end name p p2 q2 only x in
+    let s = y.names.selects in
+    n y.run (subst (λ (ts : List Tok). RunOf (length bytes) ts p start end y.run) (lexes_one bytes s.accepts.parses.tokens a.parses.tokens s.accepts.parses.lexed a.parses.lexed) s.run)
+
+pub bad_name : (bytes : List ℕ) (start end : ℕ) (name : List ℕ) → is_identifier name ≡ false → (p2 q2 : ProgramTree) → IsExtraction bytes start end name p2 q2 → ⊥
+bad_name bytes start end name n p2 q2 x = false_true (is_identifier name) n x.names.word
+
+-- the tokens of a text are its only ones
+pub name_taken : (bytes : List ℕ) (start end : ℕ) (name : List ℕ) (ts : List Tok) → Lexes bytes ts → is_taken ts name ≡ true
+    → (p2 q2 : ProgramTree) → IsExtraction bytes start end name p2 q2 → ⊥
+name_taken bytes start end name ts l n p2 q2 x =
+    let d = x.names.selects.accepts.parses in
+    false_true (is_taken ts name) (subst (λ (us : List Tok). is_taken us name ≡ false) (lexes_one bytes d.tokens ts d.lexed l) x.names.fresh) n
+
+at_most_one : (o : Option (List ℕ)) → length (handed_out o) ≤ 1
+at_most_one None = omega arith
+at_most_one (Some x) = omega arith
+
+pub hands_out_more : (bytes : List ℕ) (start end : ℕ) (name : List ℕ) (p : ProgramTree) (r : Run) → Only bytes p → Selects bytes start end p r
+    → (c : Parts p r) → HandsOutMore c → (p2 q2 : ProgramTree) → IsExtraction bytes start end name p2 q2 → ⊥
+hands_out_more bytes start end name p r only s c n p2 q2 x =
+    let y = at_run bytes start end name p q2 r s (at_tree bytes start end name p p2 q2 only x) in
+    let e : outs c.run (free c.rest c.tail) ≡ handed_out y.out = outs_same c y.parts ∙ y.outs in
+    let l = at_most_one y.out in
+    omega (arith, ap length e)
