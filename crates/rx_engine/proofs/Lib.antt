@@ -17,3 +17,4 @@ pub mod OneExtraction
 pub mod PlainIntegers
 pub mod SameAccepted
 pub mod AnswerLemmas
+pub mod TextLemmas
