@@ -2,16 +2,14 @@
 -- The last number of each judgement counts the levels: a node is one deeper than the node around it, and a pair of
 -- parentheses is a level. A node's span goes from the first to the last token of its production.
 -- The strengths of expressions: 0 a primary, 1 a unary, 2 a product, 3 a sum.
-use Rattle.std.specs.Prelude.{◌≡◌, ℕ, suc, ◌≤◌, max, Bool, false, true, List, [], ◌∷◌, ◌++◌, Option, Some, None, codes}
+use Rattle.std.specs.Prelude.{◌≡◌, ℕ, suc, ◌≤◌, max, false, true, List, [], ◌∷◌, ◌++◌, Option, Some, None, codes}
 use Rattle.rx_core.specs.declared.types.Span.{Span}
-use Rattle.rx_core.specs.declared.types.Kind.{Kind}
 use Rattle.rx_core.specs.declared.types.Kind.TheVariants.{I64}
 use Rattle.rx_tree.specs.declared.tree.Ident.{Ident}
 use Rattle.rx_tree.specs.declared.tree.BinaryOp.{BinaryOp}
 use Rattle.rx_tree.specs.declared.tree.BinaryOp.TheVariants.{Add, Sub, Mul, Div, Rem}
 use Rattle.rx_tree.specs.Plain as plain
 use Rattle.rx_tree.specs.Plain.{Expression, Expressions, OptionalExpression, Body, Statement, Statements, Parameter, Function, ItemTree, ProgramTree, TypeTree}
-use Rattle.rx_lex.specs.declared.token.Class.{Class}
 use Rattle.rx_lex.specs.declared.token.Class.TheVariants.{Identifier, Keyword, Number, Format, Mark}
 use Rattle.rx_lex.specs.Tok.{Tok}
 use Rattle.rx_lex.specs.Numerals.{IsNumeral, greatest}

@@ -1,0 +1,10 @@
+pub mod Rules
+pub mod Turns
+pub mod SymbolLemmas
+pub mod NumberLaws
+pub mod CodeSteps
+pub mod Complete
+pub mod CompleteFile
+pub mod Sound
+pub mod SoundFile
+pub mod Whole
