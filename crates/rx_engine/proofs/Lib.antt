@@ -18,3 +18,4 @@ pub mod PlainIntegers
 pub mod SameAccepted
 pub mod AnswerLemmas
 pub mod TextLemmas
+pub mod HoistForms

@@ -2,6 +2,7 @@
 #![tactic(auto)]
 
 mod check;
+mod hoist;
 mod laws;
 mod plain;
 mod plan;
