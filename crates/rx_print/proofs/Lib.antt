@@ -9,3 +9,4 @@ pub mod Measured
 pub mod Rules
 pub mod TextSteps
 pub mod BodySteps
+pub mod Example

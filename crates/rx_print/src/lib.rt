@@ -9,3 +9,6 @@ mod statements;
 
 pub use items::print;
 pub use laws::{parses_printable, print_parses, print_same, printable_same, reads_back};
+
+#[cfg(test)]
+mod tests;
