@@ -2,6 +2,7 @@
 #![tactic(auto)]
 
 mod front;
+mod identifier;
 mod laws;
 mod lexer;
 mod numeral;
@@ -9,6 +10,7 @@ mod scan;
 mod token;
 mod words;
 
+pub use identifier::is_identifier;
 pub use laws::{one_number, one_stuck_place, one_token_list, tokens_or_stuck};
 pub use lexer::{LexFault, Tokens, lex};
 pub use numeral::{Numeral, numeral_of};

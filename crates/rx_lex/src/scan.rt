@@ -8,14 +8,14 @@ ghost use Rattle.rx_lex.specs.Scan.{line_rest, block_rest, comment_rest, gap_res
 
 use crate::numeral::is_digit_byte;
 
-fn is_letter(byte: u8) -> bool
+pub(crate) fn is_letter(byte: u8) -> bool
     ensures { result ≡ is_letter_of byte }
 {
     (b'a' <= byte && byte <= b'z') || (b'A' <= byte && byte <= b'Z')
 }
 
 /// Whether the byte may stand in an identifier behind its first byte.
-fn is_continue(byte: u8) -> bool
+pub(crate) fn is_continue(byte: u8) -> bool
     ensures { result ≡ is_continue_of byte }
 {
     is_letter(byte) || byte == b'_' || is_digit_byte(byte)
