@@ -377,14 +377,14 @@ functions_inserted A f g b B a e both_typed =
 
 -- each param has an integer in front of the run, each out behind it
 pub record HasIntegers {p : ProgramTree} {r : Run} (c : Parts p r) : Type 0 where
-  pub given : (V E : Scope) → AreTyped (signatures p) (scope_from [] c.function.params) c.front V → AreTyped (signatures p) V c.run E
+  pub given : (V : Scope) → AreTyped (signatures p) (scope_from [] c.function.params) c.front V
       → (y : List ℕ) → is_one_of y (params c.run) ≡ true → type_in V y ≡ Some integer
   pub made : (V : Scope) → AreTyped (signatures p) (scope_from [] c.function.params) (c.front ++ c.run) V
       → (y : List ℕ) → is_one_of y (outs c.run (free c.rest c.tail)) ≡ true → type_in V y ≡ Some integer
 
 body_typed : {F : List Signature} (f : Function) (braces : Span) (front run rest : List Statement) (y : OptionalExpression) (out : Option (List ℕ))
     → f.body ≡ plain.body braces (statements_of (front ++ (run ++ rest))) y → outs run (free rest y) ≡ handed_out out → IsTyped F f
-    → ((V E : Scope) → AreTyped F (scope_from [] f.params) front V → AreTyped F V run E → (y : List ℕ) → is_one_of y (params run) ≡ true → type_in V y ≡ Some integer)
+    → ((V : Scope) → AreTyped F (scope_from [] f.params) front V → (y : List ℕ) → is_one_of y (params run) ≡ true → type_in V y ≡ Some integer)
     → ((V : Scope) → AreTyped F (scope_from [] f.params) (front ++ run) V → (x : List ℕ) → is_one_of x (outs run (free rest y)) ≡ true → type_in V x ≡ Some integer)
     → TypedBody F (scope_from [] f.params) front run rest y (given_by f.result) out
 body_typed {F = F} f braces front run rest y out is handed d given made =
@@ -397,7 +397,7 @@ body_typed {F = F} f braces front run rest y out is handed d given made =
       behind = two.middle;
       end = d.end;
       front = one.front;
-      run = record { typed = two.front; given = given one.middle two.middle one.front two.front; made = made two.middle (typed_joined one.front two.front); handed = handed };
+      run = record { typed = two.front; given = given one.middle one.front; made = made two.middle (typed_joined one.front two.front); handed = handed };
       rest = two.back;
       gives = subst (λ (z : OptionalExpression). Gives F d.end z (given_by f.result)) (ap tail is) d.gives;
     }

@@ -19,4 +19,3 @@ pub mod SameAccepted
 pub mod AnswerLemmas
 pub mod TextLemmas
 pub mod HoistForms
-pub mod PlainAccepted
