@@ -1,54 +1,42 @@
-//! Texts of trees that are put together by hand.
+//! Texts that are parsed and printed.
 
 use crate::print;
-use rx_core::{List, Span, Text};
-use rx_tree::{Block, Func, Ident, Item, ItemNode, Program};
-use std::alloc::{AllocError, Global};
+use rx_core::Text;
+use rx_parse::parse;
+use std::alloc::Global;
 
-fn nowhere() -> Span {
-    Span { start: 0, end: 0 }
-}
-
-/// `fn f() {}`
-fn function(alloc: Global) -> Result<Item, AllocError> {
-    let name = Ident {
-        span: nowhere(),
-        name: Text::new(alloc, "f")?,
-    };
-    let body = Block {
-        span: nowhere(),
-        stmts: List::new(alloc),
-        tail: None,
-    };
-    let node = ItemNode::Func(Func {
-        name,
-        lifetimes: List::new(alloc),
-        params: List::new(alloc),
-        result: None,
-        body,
-    });
-    Ok(Item {
-        span: nowhere(),
-        node,
-    })
-}
-
-fn printed(alloc: Global, functions: u32) -> Result<Text, AllocError> {
-    let mut items = List::new(alloc);
-    for _ in 0..functions {
-        items.push(function(alloc)?)?;
+fn reprinted(alloc: Global, text: &[u8]) -> Option<Text> {
+    match parse(alloc, text) {
+        Ok(program) => print(alloc, &program).ok(),
+        Err(_) => None,
     }
-    print(alloc, &Program { items })
 }
 
 #[test]
-fn prints_functions(rt: HostRuntime) {
-    let text = printed(rt.alloc(), 2).expect(&rt, "memory");
-    assert_eq!(rt; text.as_str(), "fn f() {}\n\nfn f() {}\n");
-}
-
-#[test]
-fn prints_no_item(rt: HostRuntime) {
-    let text = printed(rt.alloc(), 0).expect(&rt, "memory");
-    assert_eq!(rt; text.as_str(), "\n");
+fn texts_are_printed_anew(rt: HostRuntime) {
+    let table: [(&[u8], &str); 7] = [
+        (b" // nothing", "\n"),
+        (
+            b"fn f(a:i64,b:i64,)->i64{(a+b)*(a*b)}fn g(){}",
+            "fn f(a: i64, b: i64) -> i64 {\n    (a + b) * (a * b)\n}\n\nfn g() {}\n",
+        ),
+        (
+            b"fn main(){let c=f(a,b);f(c);println!(\"{}\",((c)));}",
+            "fn main() {\n    let c = f(a, b);\n    f(c);\n    println!(\"{}\", c);\n}\n",
+        ),
+        (b"fn f(){(a-b)-c}", "fn f() {\n    a - b - c\n}\n"),
+        (b"fn f(){a-(b-c)}", "fn f() {\n    a - (b - c)\n}\n"),
+        (
+            b"fn f(){(a*b)+(a/b)%c}",
+            "fn f() {\n    a * b + a / b % c\n}\n",
+        ),
+        (
+            b"fn f(){0x1_0i64+007i64}",
+            "fn f() {\n    16i64 + 7i64\n}\n",
+        ),
+    ];
+    for (text, want) in table {
+        let printed = reprinted(rt.alloc(), text).expect(&rt, "a text of the grammar");
+        assert_eq!(rt; printed.as_str(), want);
+    }
 }
