@@ -1,8 +1,7 @@
 -- A name that is taken by no token stands nowhere in the tree of these tokens: by induction on derivations, since each name in a tree is
 -- the text of an identifier.
 use Rattle.std.proofs.Common.{◌≡◌, ℕ, false, ◌||◌, List, [], ◌∷◌, ◌++◌, subst}
-use Rattle.std.specs.Prelude.{codes, nat_eq}
-use Rattle.std.specs.List.{list_any, starts_with}
+use Rattle.std.specs.List.{list_any}
 use Rattle.rx_core.specs.declared.types.Span.{Span}
 use Rattle.rx_core.specs.Bytes.{same_bytes, is_one_of}
 use Rattle.rx_core.proofs.BytesLemmas.{same_bytes-equal}
@@ -13,7 +12,7 @@ use Rattle.rx_lex.specs.declared.token.Class.TheVariants.{Identifier}
 use Rattle.rx_lex.specs.Tok.{Tok}
 use Rattle.rx_parse.specs.Grammar as g
 use Rattle.rx_parse.specs.Grammar.{Ex, Arguments, Call, Given, IsStatement, AreStatements, IsBody, Parameters, IsFunction, File, IsName}
-use Rattle.rx_engine.specs.Conditions.{reserved, exit_name, is_identifier_of, is_taken}
+use Rattle.rx_engine.specs.Conditions.{reserved, exit_name, begins_as_made, is_identifier_of, is_taken}
 use Rattle.rx_engine.specs.Avoids.{IsOther, AvoidsExpression, AvoidsExpressions, AvoidsGiven, AvoidsStatement, AvoidsParameter, AvoidsFunction, Avoids}
 use Rattle.rx_engine.proofs.Membership.{false_true, or_false}
 use Rattle.rx_engine.proofs.AcceptedLemmas.{every-front, every-back}
@@ -131,13 +130,7 @@ not_taken : (ts : List Tok) (name : List ℕ) → is_taken ts name ≡ false →
 not_taken ts name h =
     let a = list_any (is_identifier_of name) ts in
     let b = list_any (is_identifier_of (exit_name name)) ts in
-    let c = is_one_of name reserved in
-    let d = starts_with nat_eq name (codes "out_") in
-    let e = starts_with nat_eq name (codes "Break_") in
-    let f = starts_with nat_eq name (codes "Continue_") in
-    let i = starts_with nat_eq name (codes "Exit_") in
-    (or_false a b (or_false (a || b) c (or_false (a || b || c) d (or_false (a || b || c || d) e (or_false (a || b || c || d || e) f
-    (or_false (a || b || c || d || e || f) i h).0).0).0).0).0).0
+    (or_false a b (or_false (a || b) (is_one_of name reserved || begins_as_made name) h).0).0
 
 pub fresh : (ts : List Tok) (p : ProgramTree) (h : ℕ) (name : List ℕ) → File ts p h → is_taken ts name ≡ false → Avoids name p
 fresh ts p h name d e = file_avoids name d (others name ts (not_taken ts name e))

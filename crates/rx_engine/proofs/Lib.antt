@@ -19,3 +19,4 @@ pub mod SameAccepted
 pub mod AnswerLemmas
 pub mod TextLemmas
 pub mod HoistForms
+pub mod RefusalLemmas

@@ -77,15 +77,20 @@ reserved = codes "main" ∷ codes "rt" ∷ codes "next" ∷ codes "println" ∷ 
 abbrev pub exit_name : List ℕ → List ℕ
 exit_name name = codes "Exit_" ++ name
 
+abbrev pub is_identifier_class : Class → Bool
+is_identifier_class Identifier = true
+is_identifier_class _ = false
+
+-- whether a token is this identifier
 abbrev pub is_identifier_of : List ℕ → Tok → Bool
-is_identifier_of name t = is_class t.class && same_bytes t.text name
-  where
-    is_class : Class → Bool
-    is_class Identifier = true
-    is_class _ = false
+is_identifier_of name t = is_identifier_class t.class && same_bytes t.text name
+
+-- whether a name begins as those do that the extraction makes
+abbrev pub begins_as_made : List ℕ → Bool
+begins_as_made name =
+    starts_with nat_eq name (codes "out_") || starts_with nat_eq name (codes "Break_") || starts_with nat_eq name (codes "Continue_") || starts_with nat_eq name (codes "Exit_")
 
 -- the name is reserved, or the file or a made name has it already
 abbrev pub is_taken : List Tok → List ℕ → Bool
 is_taken ts name =
-    list_any (is_identifier_of name) ts || list_any (is_identifier_of (exit_name name)) ts || is_one_of name reserved
-    || starts_with nat_eq name (codes "out_") || starts_with nat_eq name (codes "Break_") || starts_with nat_eq name (codes "Continue_") || starts_with nat_eq name (codes "Exit_")
+    list_any (is_identifier_of name) ts || list_any (is_identifier_of (exit_name name)) ts || (is_one_of name reserved || begins_as_made name)

@@ -10,3 +10,4 @@ pub mod Firsts
 pub mod Chosen
 pub mod Selecting
 pub mod Promise
+pub mod Verdict
