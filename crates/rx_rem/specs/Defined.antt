@@ -1,0 +1,37 @@
+-- The defined answer of words on a text: a status, the bytes for standard output, and the line for standard error.
+use Rattle.std.specs.Prelude.{ℕ, ◌≡◌, List, [], Option, Some, None, Result, Ok, Err}
+use Rattle.rx_engine.specs.declared.extraction.Answer.{Answer}
+use Rattle.rx_engine.specs.declared.extraction.Fault.{Fault}
+use Rattle.rx_engine.specs.Verdict.{Extracts}
+use Rattle.rx_rem.specs.declared.status.Status.{Status}
+use Rattle.rx_rem.specs.declared.status.Status.TheVariants.{Done, Usage, OutOfMemory}
+use Rattle.rx_rem.specs.Forms.{Command, extracts, command_of}
+use Rattle.rx_rem.specs.Lines.{status_line, fault_status, fault_line}
+
+abbrev pub result_status : Result Answer Fault → Status
+result_status (Ok a) = Done
+result_status (Err f) = fault_status f
+
+abbrev pub result_bytes : Result Answer Fault → List ℕ
+result_bytes (Ok a) = a.text
+result_bytes (Err f) = []
+
+abbrev pub result_line : Result Answer Fault → List ℕ
+result_line (Ok a) = []
+result_line (Err f) = fault_line f
+
+-- these are of a result of the extraction that is no want of memory
+pub record Obtained (text name : List ℕ) (start end : ℕ) (status : Status) (out err : List ℕ) : Type 0 where
+  pub result : Result Answer Fault
+  pub extracts : Extracts text start end name result
+  pub found : status ≡ OutOfMemory → ⊥
+  pub status_is : status ≡ result_status result
+  pub out_is : out ≡ result_bytes result
+  pub err_is : err ≡ result_line result
+
+abbrev pub AnswersTo : Option Command → List ℕ → Status → List ℕ → List ℕ → Type 0
+AnswersTo None text status out err = (status ≡ Usage) × (out ≡ []) × (err ≡ status_line Usage)
+AnswersTo (Some (extracts name start end)) text status out err = Obtained text name start end status out err
+
+abbrev pub Defined : List (List ℕ) → List ℕ → Status → List ℕ → List ℕ → Type 0
+Defined words text status out err = AnswersTo (command_of words) text status out err

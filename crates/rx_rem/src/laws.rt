@@ -1,0 +1,21 @@
+//! Laws of the tool, each as the contract of a function that does nothing.
+
+ghost use Rattle.std.specs.Prelude.{◌≡◌, ℕ, List, [], Some};
+ghost use Rattle.rx_rem.specs.declared.status.Status.{Status};
+ghost use Rattle.rx_print.specs.Print.{print_program};
+ghost use Rattle.rx_engine.specs.Promise.{IsExtraction};
+ghost use Rattle.rx_rem.specs.Forms.{command_of, extracts};
+ghost use Rattle.rx_rem.specs.Defined.{Defined};
+ghost use Rattle.rx_tree.specs.Plain.{ProgramTree};
+
+/// Two defined answers of the same words on the same text have one status and one output. They may differ in the fault
+/// that their line names.
+pub fn one_answer()
+    ensures { (words : List (List ℕ)) (text : List ℕ) (s t : Status) (a b c d : List ℕ) → Defined words text s a b → Defined words text t c d → (s ≡ t) × (a ≡ c) }
+{}
+
+/// Where no condition of the extraction fails, its canonical text is the defined answer.
+pub fn extraction_is_defined()
+    ensures { (words : List (List ℕ)) (text name : List ℕ) (start end : ℕ) (p q : ProgramTree) → command_of words ≡ Some (extracts name start end)
+        → IsExtraction text start end name p q → Defined words text Status.Done (print_program q) [] }
+{}

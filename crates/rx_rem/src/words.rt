@@ -1,0 +1,69 @@
+//! The words of the command line, read by their position.
+
+ghost use Rattle.std.specs.Prelude.{◌≡◌, ◌<◌, [], ◌∷◌, length};
+ghost use Rattle.rx_rem.specs.Forms.{digits_from, number_of, command_of};
+ghost use Rattle.rx_rem.specs.Asked.{asked};
+
+use rx_core::Text;
+use rx_engine::Selection;
+
+/// What the words ask for.
+pub enum Command<'w> {
+    /// The run that a range of bytes selects becomes a function of this name.
+    Extract { name: &'w str, selection: Selection },
+    /// Nothing: the words have no form.
+    Usage,
+}
+
+/// The value of at most 19 decimal digits, or `None` where another byte is among them.
+fn digits(word: &[u8]) -> Option<u64>
+    requires { length word.now < 20 }
+    ensures { result ≡ digits_from 0 word.now }
+{
+    let mut value = 0u64;
+    for byte in word {
+        if !byte.is_ascii_digit() {
+            return None;
+        }
+        value = value * 10 + u64::from(*byte - b'0');
+    }
+    Some(value)
+}
+
+/// The value of a word of 1 to 19 decimal digits.
+fn number(word: &str) -> Option<u64>
+    ensures { result ≡ number_of word.now }
+{
+    let bytes = word.as_bytes();
+    if bytes.is_empty() || bytes.len() >= 20 {
+        return None;
+    }
+    digits(bytes)
+}
+
+fn extract_words<'w>(verb: &str, name: &'w str, start: &str, end: &str) -> Command<'w>
+    ensures { asked result ≡ command_of (verb.now ∷ name.now ∷ start.now ∷ end.now ∷ []) }
+{
+    if verb != "extract" {
+        return Command::Usage;
+    }
+    match (number(start), number(end)) {
+        (Some(start), Some(end)) => Command::Extract {
+            name,
+            selection: Selection { start, end },
+        },
+        _ => Command::Usage,
+    }
+}
+
+/// What the words after the program's name ask for.
+pub fn read_words(words: &[Text]) -> Command<'_>
+    ensures { asked result ≡ command_of words.now }
+{
+    match words {
+        [verb, name, start, end] => {
+            extract_words(verb.as_str(), name.as_str(), start.as_str(), end.as_str())
+        }
+        _ => Command::Usage,
+    }
+}
