@@ -1,27 +1,26 @@
 -- The extraction of an accepted program is accepted: the new function's name is free, the call finds it, and each of the
 -- three parts of the enclosing body is typed in the scope that it gets.
-use Rattle.std.proofs.Common.{◌≡◌, ℕ, suc, Bool, true, false, not, ◌&&◌, ◌||◌, List, [], ◌∷◌, ◌++◌, map, length, Option, Some, None, IfSome, ◌⊎◌, inl, inr, refl, sym, ap, ◌∙◌, subst, cond}
+use Rattle.std.proofs.Common.{◌≡◌, ℕ, suc, Bool, true, false, ◌||◌, List, [], ◌∷◌, ◌++◌, map, length, Option, Some, None, IfSome, ◌⊎◌, inl, inr, refl, sym, ap, ◌∙◌, subst, cond}
 use Rattle.std.specs.Prelude.{codes}
 use Rattle.std.proofs.lemmas.List.{map-append}
 use Rattle.rx_core.specs.declared.types.Span.{Span}
 use Rattle.rx_core.specs.Bytes.{same_bytes, is_one_of}
-use Rattle.rx_core.proofs.BytesLemmas.{same_bytes-true, same_bytes-self, same_bytes-equal}
-use Rattle.rx_tree.specs.declared.tree.Ident.{Ident}
+use Rattle.rx_core.proofs.BytesLemmas.{same_bytes-true, same_bytes-self}
 use Rattle.rx_tree.specs.Plain as plain
 use Rattle.rx_tree.specs.Plain.{Expression, Expressions, OptionalExpression, Body, Statement, Statements, Parameter, Function, ItemTree, ProgramTree}
 use Rattle.rx_tree.specs.PlainOf.{statements_of}
-use Rattle.rx_tree.specs.Lists.{listed, statements, tail, Every}
+use Rattle.rx_tree.specs.Lists.{statements, tail, Every}
 use Rattle.rx_tree.specs.Erase.{nowhere}
 use Rattle.rx_tree.proofs.ListsLemmas.{listed-statements_of}
 use Rattle.rx_engine.specs.Names.{uses, uses_given, names, free}
 use Rattle.rx_engine.specs.Plan.{params, declared_in, outs}
-use Rattle.rx_engine.specs.Avoids.{IsOther, AvoidsStatement, AvoidsParameter, AvoidsFunction, AvoidsItem, Avoids}
+use Rattle.rx_engine.specs.Avoids.{AvoidsStatement, AvoidsParameter, AvoidsFunction, AvoidsItem, Avoids}
 use Rattle.rx_engine.specs.Accepted as accepted
 use Rattle.rx_engine.specs.Accepted.{ValueType, integer, unit, Scope, type_in, Signature, signature, signatures, signature_of, functions, given_by, HasType, AreIntegers, AreTyped, Gives, IsI64, IsParameter, parameter_names, AreDistinct, scope_from, IsTyped, HasMain, Accepted}
 use Rattle.rx_engine.specs.Run.{Run}
-use Rattle.rx_engine.specs.Extracted.{written, arguments, call_of, call_statement, by_value, result_of, tail_of, new_function, with_call, handed_out, Parts, extraction}
+use Rattle.rx_engine.specs.Extracted.{arguments, call_of, call_statement, by_value, result_of, tail_of, new_function, with_call, handed_out, Parts, extraction}
 use Rattle.rx_engine.proofs.Membership.{false_true, unequal, unequal-sym, or_true, or_false, or_left, one_of-distinct, are_distinct}
-use Rattle.rx_engine.proofs.Scopes.{Serves, Grown, Served, typed_serves, statements_serve, gives_serve, typed_split, typed_joined, typed_keeps, typed_lacks}
+use Rattle.rx_engine.proofs.Scopes.{Serves, Grown, typed_serves, statements_serve, gives_serve, typed_split, typed_joined, typed_keeps, typed_lacks}
 use Rattle.rx_engine.proofs.Handed.{outs_has, outs_only, free_with}
 
 -- ---- every

@@ -1,13 +1,12 @@
 -- Which names are handed out, and which are free with a tail: by recursion on the statements.
-use Rattle.std.proofs.Common.{◌≡◌, ℕ, suc, Bool, true, false, not, ◌&&◌, ◌||◌, List, [], ◌∷◌, ◌++◌, length, Option, Some, None, ◌⊎◌, inl, inr, refl, sym, ap, ◌∙◌, subst, cond}
+use Rattle.std.proofs.Common.{◌≡◌, ℕ, Bool, true, false, not, ◌&&◌, ◌||◌, List, [], ◌∷◌, ◌++◌, Option, Some, None, ◌⊎◌, inl, inr, refl, sym, ap, ◌∙◌, subst, cond}
 use Rattle.rx_core.specs.Bytes.{same_bytes, is_one_of}
-use Rattle.rx_core.proofs.BytesLemmas.{same_bytes-true, same_bytes-self, same_bytes-equal}
+use Rattle.rx_core.proofs.BytesLemmas.{same_bytes-true}
 use Rattle.rx_tree.specs.Plain as plain
 use Rattle.rx_tree.specs.Plain.{OptionalExpression, Statement}
 use Rattle.rx_engine.specs.Names.{uses_given, uses_in, declares, names, remove, without, free}
-use Rattle.rx_engine.specs.Plan.{params, is_declared, declared_in, handed, outs}
-use Rattle.rx_engine.specs.Extracted.{handed_out}
-use Rattle.rx_engine.proofs.Membership.{false_true, or_true, or_false, or_left, or_right, one_of-left, one_of-right, one_of-either, one_of-remove, one_of-removed}
+use Rattle.rx_engine.specs.Plan.{is_declared, declared_in, handed, outs}
+use Rattle.rx_engine.proofs.Membership.{false_true, or_true, or_left, or_right, one_of-left, one_of-right, one_of-either, one_of-remove, one_of-removed}
 
 both : (a b : Bool) → a ≡ true → b ≡ true → (a && b) ≡ true
 both true b e f = f

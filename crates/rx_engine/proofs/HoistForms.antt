@@ -5,14 +5,10 @@ use Rattle.std.proofs.lemmas.List.{map-append, length-drop, take-map, drop-map, 
 use Rattle.rx_core.specs.declared.types.Span.{Span}
 use Rattle.rx_tree.specs.declared.tree.Ident.{Ident}
 use Rattle.rx_tree.specs.declared.tree.TypeText.{TypeText}
-use Rattle.rx_tree.specs.declared.tree.Pattern.{Pattern}
-use Rattle.rx_tree.specs.declared.tree.PatternNode.{PatternNode}
 use Rattle.rx_tree.specs.declared.tree.PatternNode.TheVariants as pattern_node
 use Rattle.rx_tree.specs.declared.tree.Expr.{Expr}
-use Rattle.rx_tree.specs.declared.tree.ExprNode.{ExprNode}
 use Rattle.rx_tree.specs.declared.tree.ExprNode.TheVariants as node
 use Rattle.rx_tree.specs.declared.tree.Stmt.{Stmt}
-use Rattle.rx_tree.specs.declared.tree.StmtNode.{StmtNode}
 use Rattle.rx_tree.specs.declared.tree.StmtNode.TheVariants as stmt_node
 use Rattle.rx_tree.specs.declared.tree.Block.{Block, out-Block, roll-Block, roll-out-Block}
 use Rattle.rx_tree.specs.declared.tree.Param.{Param}
@@ -20,15 +16,14 @@ use Rattle.rx_tree.specs.declared.tree.Func.{Func}
 use Rattle.rx_tree.specs.Plain as plain
 use Rattle.rx_tree.specs.Plain.{Expression, Expressions, OptionalExpression, Body, Statement, Statements, Parameter, Function, ItemTree, ProgramTree, TypeTree}
 use Rattle.rx_tree.specs.PlainOf.{plain-TypeText, plain-TypeNode, plain-Pattern, plain-PatternNode, plain-Expr, plain-ExprNode, plain-Stmt, plain-StmtNode, plain-Block, plain-Param, plain-Func, expressions_of, optional_of, statements_of, type_is, type_kind, block_is, expression_is, expression_var, expression_call, statement_is, statement_let, statement_eval, pattern_is, pattern_bind}
-use Rattle.rx_tree.specs.Lists.{listed, statements, tail}
-use Rattle.rx_tree.specs.Erase.{nowhere, erase_ident, erase_type, erase, erase_all, erase_optional, erase_statement, erase_statements, erase_body, erase_parameter, erase_function, erase_item, SameProgram}
+use Rattle.rx_tree.specs.Lists.{statements, tail}
+use Rattle.rx_tree.specs.Erase.{nowhere, erase_ident, erase_type, erase, erase_all, erase_optional, erase_statement, erase_statements, erase_body, erase_parameter, erase_function, erase_item}
 use Rattle.rx_tree.proofs.ListsLemmas.{listed-statements_of, statements_of-listed}
 use Rattle.rx_engine.specs.Names.{free}
 use Rattle.rx_engine.specs.Plan.{params, outs}
 use Rattle.rx_engine.specs.Conditions.{is_empty, is_none, is_absent, is_plain_function, is_plain_program}
 use Rattle.rx_engine.specs.Chosen.{chosen, behind, first_body, first_of, body_with, with_statements, IsOnly}
-use Rattle.rx_engine.specs.Run.{Run}
-use Rattle.rx_engine.specs.Extracted.{written, i64_type, arguments, call_of, call_statement, by_value, result_of, tail_of, new_function, with_call, handed_out, Parts, extraction, Extracted}
+use Rattle.rx_engine.specs.Extracted.{written, arguments, call_of, call_statement, by_value, result_of, tail_of, new_function, with_call, handed_out, Parts, Extracted}
 use Rattle.rx_engine.proofs.PlainForms.{expression_node, statement_node, pattern_of_node}
 
 pub type_node : (t : TypeText) → plain-TypeText t ≡ plain-TypeNode t.node t.span

@@ -1,5 +1,5 @@
 -- Membership in lists of names, and the first of each name: each fact by recursion on the list, with cases on the test of its head.
-use Rattle.std.proofs.Common.{◌≡◌, ℕ, Bool, true, false, not, ◌&&◌, ◌||◌, List, [], ◌∷◌, ◌++◌, map, filter, Option, Some, None, ◌⊎◌, inl, inr, refl, sym, ap, ◌∙◌, cond}
+use Rattle.std.proofs.Common.{◌≡◌, ℕ, Bool, true, false, not, ◌||◌, List, [], ◌∷◌, ◌++◌, Option, Some, None, ◌⊎◌, inl, inr, refl, sym, ap, ◌∙◌, cond}
 use Rattle.std.proofs.lemmas.List.{map-append}
 use Rattle.rx_core.specs.Bytes.{same_bytes, is_one_of}
 use Rattle.rx_core.proofs.BytesLemmas.{same_bytes-true, same_bytes-self, same_bytes-equal}

@@ -1,11 +1,10 @@
 -- What the plan of a run needs of each form, and names told forwards: by recursion on the lists.
 use Rattle.std.specs.List.{list_all}
 use Rattle.std.proofs.Common.{◌≡◌, ℕ, zero, suc, ◌+◌, ◌<◌, length, take, drop, get_or, arith, drop-cons, Bool, true, false, not, ◌&&◌, ◌||◌, List, [], ◌∷◌, ◌++◌, map, filter, Option, Some, None, refl, sym, ap, ◌∙◌, cond, append_assoc, append-nil}
-use Rattle.std.specs.Prelude.{option_map, if◌then◌else◌, IsTrue, ◌↔◌}
+use Rattle.std.specs.Prelude.{option_map, IsTrue, ◌↔◌}
 use Rattle.rx_core.specs.declared.types.Span.{Span}
 use Rattle.rx_core.specs.Bytes.{same_bytes, is_one_of}
-use Rattle.rx_core.proofs.BytesLemmas.{same_bytes-true, same_bytes-self, same_bytes-equal}
-use Rattle.rx_tree.specs.declared.tree.Ident.{Ident}
+use Rattle.rx_core.proofs.BytesLemmas.{same_bytes-true, same_bytes-equal}
 use Rattle.rx_tree.specs.declared.tree.BinaryOp.{BinaryOp}
 use Rattle.rx_tree.specs.declared.tree.Expr.{Expr}
 use Rattle.rx_tree.specs.declared.tree.TypeText.{TypeText}

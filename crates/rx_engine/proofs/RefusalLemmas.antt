@@ -1,5 +1,5 @@
 -- Each early refusal has its cause, and then there is no extraction: by cases on the fault, as a text has one tree.
-use Rattle.std.proofs.Common.{◌≡◌, ℕ, Bool, true, false, List, ◌⊎◌, inl, inr, length, refl, sym, ap, subst, ◌∙◌}
+use Rattle.std.proofs.Common.{◌≡◌, ℕ, true, false, List, inl, inr, length, refl, sym, subst}
 use Rattle.rx_tree.specs.Plain.{ProgramTree}
 use Rattle.rx_parse.specs.Grammar.{Parses}
 use Rattle.rx_parse.specs.Answer.{IsCause}
@@ -15,9 +15,7 @@ use Rattle.rx_engine.specs.Conditions.{is_plain_program, is_taken}
 use Rattle.rx_engine.specs.Faults.{Breaks}
 use Rattle.rx_lex.specs.Tok.{Tok}
 use Rattle.rx_lex.specs.Tokens.{Lexes}
-use Rattle.rx_print.specs.Print.{print_program}
 use Rattle.rx_engine.specs.declared.extraction.Fault.{Fault}
-use Rattle.rx_engine.specs.declared.extraction.Refusal.{Refusal}
 use Rattle.rx_engine.specs.Run.{Run, RunOf}
 use Rattle.rx_engine.specs.Promise.{Accepts, Names, IsExtraction}
 use Rattle.rx_engine.specs.Verdict.{Refuses, IsChoiceFault, IsMoveFault, syntax_of, not_accepted}

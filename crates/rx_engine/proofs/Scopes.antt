@@ -1,16 +1,15 @@
 -- Typed parts stay typed in another scope that serves the names they use, where more functions are declared: by induction on derivations.
-use Rattle.std.proofs.Common.{◌≡◌, ℕ, suc, Bool, true, false, not, ◌&&◌, ◌||◌, List, [], ◌∷◌, ◌++◌, map, length, Option, Some, None, ◌⊎◌, inl, inr, refl, sym, ap, ◌∙◌, subst, cond}
-use Rattle.rx_core.specs.declared.types.Span.{Span}
+use Rattle.std.proofs.Common.{◌≡◌, ℕ, Bool, true, false, ◌||◌, List, [], ◌∷◌, ◌++◌, Some, None, ◌⊎◌, inl, inr, refl, sym, ap, ◌∙◌, subst, cond}
 use Rattle.rx_core.specs.Bytes.{same_bytes, is_one_of}
-use Rattle.rx_core.proofs.BytesLemmas.{same_bytes-true, same_bytes-self, same_bytes-equal}
+use Rattle.rx_core.proofs.BytesLemmas.{same_bytes-true, same_bytes-self}
 use Rattle.rx_tree.specs.declared.tree.Ident.{Ident}
 use Rattle.rx_tree.specs.Plain as plain
 use Rattle.rx_tree.specs.Plain.{Expression, Expressions, OptionalExpression, Statement}
-use Rattle.rx_engine.specs.Names.{uses, uses_all, uses_given, uses_in, declares, names, remove, without, free}
-use Rattle.rx_engine.specs.Plan.{is_declared, declared_in}
+use Rattle.rx_engine.specs.Names.{uses, uses_all, uses_given, names, remove, free}
+use Rattle.rx_engine.specs.Plan.{declared_in}
 use Rattle.rx_engine.specs.Accepted as accepted
 use Rattle.rx_engine.specs.Accepted.{ValueType, integer, unit, Scope, type_in, Signature, signature_of, HasType, AreIntegers, AreTyped, Gives}
-use Rattle.rx_engine.proofs.Membership.{false_true, or_true, or_false, or_left, or_right, one_of-left, one_of-right, one_of-either, one_of-remove, one_of-removed, names-append}
+use Rattle.rx_engine.proofs.Membership.{or_true, or_false, or_left, one_of-left, one_of-right, one_of-either, one_of-remove, one_of-removed, names-append}
 
 -- the second scope serves the names N as the first does, and declares no other name
 pub record Serves (N : List (List ℕ)) (V W : Scope) : Type 0 where

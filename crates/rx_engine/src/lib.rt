@@ -10,8 +10,6 @@ mod plain;
 mod plan;
 mod select;
 
-pub use check::{CheckFault, NameFault, Rule, TypeFault, check_program};
+pub use check::{CheckFault, NameFault, Rule, TypeFault};
 pub use extraction::{Answer, Fault, Refusal, Selection, extract};
 pub use laws::extraction_keeps_runs;
-pub use plain::is_plain;
-pub use select::{Run, select_run};

@@ -1,5 +1,5 @@
 -- Each answer and each fault by its lemma: the promise of an answer, the cause of a fault, and that there is no extraction then.
-use Rattle.std.proofs.Common.{sym, ◌∙◌}
+use Rattle.std.proofs.Common.{◌∙◌}
 use Rattle.rx_tree.specs.PlainOf.{plain-Program}
 use Rattle.rx_lex.specs.Tok.{toks}
 use Rattle.rx_engine.specs.Selecting.{run as run_of}

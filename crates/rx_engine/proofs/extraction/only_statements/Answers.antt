@@ -1,8 +1,7 @@
 use Rattle.std.proofs.Common.{◌≡◌, true, map, ap, sym, ◌∙◌, subst, arith}
 use Rattle.std.specs.List.{list_all}
-use Rattle.rx_tree.specs.Plain.{ProgramTree, Statement}
-use Rattle.rx_tree.specs.Plain as plain
-use Rattle.rx_tree.specs.PlainOf.{plain-Program, plain-Func, plain-Stmt}
+use Rattle.rx_tree.specs.Plain.{ProgramTree}
+use Rattle.rx_tree.specs.PlainOf.{plain-Func, plain-Stmt}
 use Rattle.rx_tree.specs.Lists.{statements}
 use Rattle.rx_engine.specs.Chosen.{first_body}
 use Rattle.rx_engine.specs.Conditions.{is_plain_program, is_plain_statement, is_plain_function}

@@ -1,4 +1,4 @@
-use Rattle.std.proofs.Common.{◌≡◌, ap, ◌∙◌}
+use Rattle.std.proofs.Common.{◌∙◌}
 use Rattle.rx_engine.proofs.HoistForms.{let_erased}
 use Rattle.rx_engine.specs.Extracted.{call_of}
 use Rattle.rx_engine.proofs.hoist.call_stmt.Goals as goal

@@ -1,4 +1,4 @@
-use Rattle.std.proofs.Common.{◌≡◌, ◌+◌, arith, sym, ap, ◌∙◌, take, drop}
+use Rattle.std.proofs.Common.{◌+◌, arith}
 use Rattle.rx_engine.proofs.HoistForms.{take_front, drop_front}
 use Rattle.rx_engine.proofs.hoist.cut.Goals as goal
 

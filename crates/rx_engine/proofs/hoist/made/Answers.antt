@@ -1,7 +1,5 @@
-use Rattle.std.proofs.Common.{◌≡◌, [], sym, ap, ◌∙◌}
+use Rattle.std.proofs.Common.{◌≡◌}
 use Rattle.std.specs.Option.{option_copied}
-use Rattle.rx_engine.specs.Plan.{params}
-use Rattle.rx_engine.specs.Extracted.{by_value}
 use Rattle.rx_engine.proofs.HoistForms.{made_erased, by_values}
 use Rattle.rx_engine.proofs.hoist.made.Goals as goal
 

@@ -1,8 +1,8 @@
-use Rattle.std.proofs.Common.{◌≡◌, ◌++◌, ◌∷◌, map, take, sym, ap, ◌∙◌}
-use Rattle.rx_tree.specs.Lists.{statements, tail}
+use Rattle.std.proofs.Common.{◌++◌, ◌∷◌, map, take, sym, ap, ◌∙◌}
+use Rattle.rx_tree.specs.Lists.{statements}
 use Rattle.rx_tree.specs.PlainOf.{plain-Stmt, plain-Func}
 use Rattle.rx_tree.specs.Erase.{erase_statement, erase_function}
-use Rattle.rx_engine.specs.Chosen.{chosen, behind, first_of}
+use Rattle.rx_engine.specs.Chosen.{behind, first_of}
 use Rattle.rx_engine.specs.Extracted.{call_statement, new_function}
 use Rattle.rx_engine.specs.Plan.{params}
 use Rattle.rx_engine.proofs.HoistForms.{statements_with, in_stmts, run_is, front_is, rest_is, split_old}

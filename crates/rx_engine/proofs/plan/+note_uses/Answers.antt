@@ -1,4 +1,4 @@
-use Rattle.std.proofs.Common.{rules, arith, sym, ap, ◌∙◌, ◌++◌, append-nil}
+use Rattle.std.proofs.Common.{arith, sym, ap, ◌∙◌, ◌++◌, append-nil}
 use Rattle.rx_tree.specs.PlainOf.{plain-Expr}
 use Rattle.rx_engine.specs.Names.{names}
 use Rattle.rx_engine.specs.Chosen.{outside}

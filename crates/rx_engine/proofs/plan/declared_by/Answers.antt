@@ -1,4 +1,4 @@
-use Rattle.std.proofs.Common.{◌≡◌, true, false, sym, ◌∙◌}
+use Rattle.std.proofs.Common.{sym, ◌∙◌}
 use Rattle.rx_engine.proofs.PlainForms.{other_bind}
 use Rattle.rx_engine.proofs.PlanForms.{let_parts}
 use Rattle.rx_engine.proofs.plan.declared_by.Goals as goal

@@ -1,4 +1,4 @@
-use Rattle.std.proofs.Common.{◌≡◌, true, false, sym, ◌∙◌}
+use Rattle.std.proofs.Common.{sym, ◌∙◌}
 use Rattle.rx_engine.proofs.PlainForms.{other_print}
 use Rattle.rx_engine.proofs.PlanForms.{eval_part}
 use Rattle.rx_engine.proofs.plan.evaluated.Goals as goal

@@ -1,5 +1,4 @@
-use Rattle.std.proofs.Common.{◌≡◌, ◌++◌, [], map, drop, ◌+◌, sym, ap, ◌∙◌, rules, arith, get_or}
-use Rattle.std.proofs.lemmas.Grind.{common_steps}
+use Rattle.std.proofs.Common.{◌++◌, map, drop, ◌+◌, sym, ap, ◌∙◌}
 use Rattle.rx_tree.specs.Plain.{absent}
 use Rattle.rx_tree.specs.PlainOf.{plain-Stmt}
 use Rattle.rx_engine.specs.Names.{free}
