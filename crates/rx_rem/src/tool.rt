@@ -3,7 +3,6 @@
 ghost use Rattle.std.specs.Prelude.{◌≡◌, ◌≤◌, ◌⊎◌, List as ListOf, ℕ, None, length};
 ghost use Rattle.rx_rem.specs.Lines.{fault_line, fault_status, status_line};
 ghost use Rattle.rx_rem.specs.Forms.{command_of};
-ghost use Rattle.rx_rem.specs.Defined.{Obtained};
 ghost use Rattle.rx_rem.specs.Replies.{Ending, Found, Replies, Reports, sink_state, source_state};
 
 use crate::line::{line_of_fault, status_of_fault};
