@@ -176,7 +176,10 @@ fn chosen_run(
         Some(run) => run,
         None => return Err(Fault::Refused(Refusal::NotARun)),
     };
-    if !is_identifier(name.as_bytes()) {
+    let Ok(is_word) = is_identifier(alloc, name) else {
+        return Err(Fault::OutOfMemory);
+    };
+    if !is_word {
         return Err(Fault::Refused(Refusal::BadName));
     }
     match is_taken(alloc, tokens.list.as_slice(), name) {

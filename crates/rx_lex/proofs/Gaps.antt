@@ -1,8 +1,11 @@
 -- A text begins with at most one blank or comment, and scanning from the left finds it: by induction on what is balanced, and on the text.
-use Rattle.std.proofs.Common.{◌≡◌, ℕ, ◌+◌, zero, suc, ◌≤◌, ◌<◌, true, false, cond, List, [], ◌∷◌, ◌++◌, length, length-append, append_assoc, take, Option, Some, None, refl, sym, ap, subst, ◌∙◌, arith, inl, inr}
-use Rattle.std.specs.Prelude.{◌==◌, ◌&&◌, not}
+use Rattle.std.proofs.Common.{◌≡◌, ℕ, ◌+◌, zero, suc, ◌≤◌, ◌<◌, true, false, cond, List, [], ◌∷◌, ◌++◌, length, length-append, append_assoc, take, drop, get_or, Option, Some, None, refl, sym, ap, subst, ◌∙◌, arith, inl, inr}
+use Rattle.std.specs.Prelude.{◌==◌, ◌&&◌, ◌||◌, not}
 use Rattle.std.specs.List.{list_all}
-use Rattle.std.proofs.lemmas.Bool.{and_parts, or_parts, or_from, not-true, eqb-true, cases_Bool, cond-true, cond-false}
+use Rattle.std.specs.Str.{IsUtf8}
+use Rattle.std.proofs.lemmas.Bool.{and_parts, or_cases, or_parts, or_from, not-true, eqb-true, cases_Bool, cond-true, cond-false}
+use Rattle.std.proofs.lemmas.List.{drop-drop}
+use Rattle.std.proofs.lemmas.Str.{IsUtf8-nil, IsUtf8-drop, IsCharBoundary-before_ascii, IsCharBoundary-after_ascii}
 use Rattle.std.proofs.Math.Seq.{take-append_seam}
 use Rattle.rx_lex.specs.Tokens.{slashes, Gap, blank, line_comment, block_comment, is_blank, opening, closing, at_line_end, begins_pair, Balanced, nothing, plain, nested}
 use Rattle.rx_lex.specs.Scan.{line_rest, block_rest, comment_rest, gap_rest}
@@ -183,3 +186,54 @@ front_take n t u r e l =
 
 pub gap_front : {t r : List ℕ} (n : ℕ) → Gap t r → length t ≡ n + length r → t ≡ take n t ++ r
 gap_front {t} {r} n g l = let p = gap_ends g in front_take n t p.0 r p.1 l
+
+-- ---- a gap ends where a character does
+
+at_seam : (xs : List ℕ) (b : ℕ) (r : List ℕ) → get_or (xs ++ (b ∷ r)) (length xs) 0 ≡ b
+at_seam [] b r = refl
+at_seam (x ∷ xs) b r = at_seam xs b r
+
+from_seam : (xs r : List ℕ) → drop (length xs) (xs ++ r) ≡ r
+from_seam [] r = refl
+from_seam (x ∷ xs) r = from_seam xs r
+
+-- behind a byte of ASCII, and before one
+utf8_behind : (xs : List ℕ) (b : ℕ) (r : List ℕ) → b < 128 → IsUtf8 (xs ++ (b ∷ r)) → IsUtf8 r
+utf8_behind xs b r h u =
+    let n : length xs < length (xs ++ (b ∷ r)) = omega (arith, length-append xs (b ∷ r)) in
+    let e : drop (length xs + 1) (xs ++ (b ∷ r)) ≡ r = sym (drop-drop 1 (length xs) (xs ++ (b ∷ r))) ∙ ap (drop 1) (from_seam xs (b ∷ r)) in
+    subst IsUtf8 e (IsUtf8-drop (xs ++ (b ∷ r)) (length xs + 1) u
+    (IsCharBoundary-after_ascii (xs ++ (b ∷ r)) (length xs) u n (subst (λ x. x < 128) (sym (at_seam xs b r)) h)))
+
+utf8_before : (xs : List ℕ) (b : ℕ) (r : List ℕ) → b < 128 → IsUtf8 (xs ++ (b ∷ r)) → IsUtf8 (b ∷ r)
+utf8_before xs b r h u =
+    let n : length xs < length (xs ++ (b ∷ r)) = omega (arith, length-append xs (b ∷ r)) in
+    subst IsUtf8 (from_seam xs (b ∷ r)) (IsUtf8-drop (xs ++ (b ∷ r)) (length xs) u
+    (IsCharBoundary-before_ascii (xs ++ (b ∷ r)) (length xs) n (subst (λ x. x < 128) (sym (at_seam xs b r)) h)))
+
+line_end_utf8 : (xs r : List ℕ) → at_line_end r ≡ true → IsUtf8 (xs ++ r) → IsUtf8 r
+line_end_utf8 xs [] e u = IsUtf8-nil
+line_end_utf8 xs (c ∷ r) e u = let h : c ≡ 10 = eqb-true c 10 e in utf8_before xs c r (omega arith) u
+
+low_blank : (c : ℕ) → is_blank c ≡ true → c < 128
+low_blank c e =
+    elim (or_cases ((c == 32) || (c == 9) || (c == 10)) (c == 13) e) [
+      | inl h ↦ elim (or_cases ((c == 32) || (c == 9)) (c == 10) h) [
+        | inl h ↦ elim (or_cases (c == 32) (c == 9) h) [
+          | inl h ↦ let m : c ≡ 32 = eqb-true c 32 h in omega arith
+          | inr h ↦ let m : c ≡ 9 = eqb-true c 9 h in omega arith
+        ]
+        | inr h ↦ let m : c ≡ 10 = eqb-true c 10 h in omega arith
+      ]
+      | inr h ↦ let m : c ≡ 13 = eqb-true c 13 h in omega arith
+    ]
+
+closed_utf8 : (u xs r : List ℕ) → u ≡ xs ++ (closing ++ r) → IsUtf8 (opening ++ u) → IsUtf8 r
+closed_utf8 u xs r e v =
+    let f : opening ++ u ≡ (opening ++ (xs ++ (42 ∷ []))) ++ (47 ∷ r) = ap (λ l. opening ++ l) (e ∙ sym (append_assoc xs (42 ∷ []) (47 ∷ r))) in
+    utf8_behind (opening ++ (xs ++ (42 ∷ []))) 47 r (omega arith) (subst IsUtf8 f v)
+
+pub gap_utf8 : {t r : List ℕ} → Gap t r → IsUtf8 t → IsUtf8 r
+gap_utf8 (blank {c = c} {r = r} e) u = utf8_behind [] c r (low_blank c e) u
+gap_utf8 (line_comment v {r = r} a b e) u = line_end_utf8 (slashes ++ v) r b (subst IsUtf8 e u)
+gap_utf8 (block_comment {u = u} {r = r} b) v = let p = balanced_front b in closed_utf8 u p.0 r p.1 v

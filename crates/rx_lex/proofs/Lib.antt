@@ -1,4 +1,7 @@
 pub mod FirstBytes
+pub mod Names
+pub mod NameTests
+pub mod Classes
 pub mod LongestWord
 pub mod Standing
 pub mod Seek

@@ -1,35 +1,33 @@
 -- What was read of a text: with tokens of the rest it has these before them, and where the rest gets stuck it does.
-use Rattle.std.proofs.Common.{◌≡◌, ℕ, suc, ◌+◌, ◌-◌, ◌≤◌, ◌<◌, Bool, true, false, List, [], ◌∷◌, ◌++◌, length, length-drop, take, drop, get_or, refl, sym, ap, subst, ◌∙◌, arith, append_assoc, append-nil, zero, Some, None, Ok, Err, Result, inl, inr}
+use Rattle.std.proofs.Common.{◌≡◌, ℕ, ◌+◌, ◌-◌, ◌≤◌, ◌<◌, false, List, [], ◌∷◌, ◌++◌, length, length-drop, take, drop, refl, sym, ap, subst, ◌∙◌, arith, append_assoc, append-nil, Option, Some, None, Ok, Err, Result}
 use Rattle.std.specs.Result.{is_err, OnOk}
-use Rattle.std.specs.Prelude.{◌≢◌, ◌==◌, ◌&&◌, nat_le, nat_lt}
-use Rattle.std.specs.List.{list_all}
+use Rattle.std.specs.Prelude.{◌≢◌, MatchOption}
 use Rattle.std.specs.Str.{IsUtf8, IsCharBoundary}
-use Rattle.std.proofs.lemmas.List.{drop-drop, length-take-le, get_or-take, get_or-drop, take_rest, map-append}
-use Rattle.std.proofs.lemmas.Str.{IsCharBoundary-before_ascii, IsCharBoundary-after_ascii}
-use Rattle.std.proofs.lemmas.Bool.{and_parts, or_cases, ltb-true, leb-true, eqb-true, lt-ltb}
+use Rattle.std.proofs.lemmas.List.{drop-drop, length-take-le, take_rest, map-append}
+use Rattle.std.proofs.lemmas.Str.{IsCharBoundary-from_drop}
 use Rattle.rx_lex.specs.declared.token.Class.{Class}
+use Rattle.rx_lex.specs.declared.front.Word.{Word}
 use Rattle.rx_lex.specs.declared.lexer.LexFault.{LexFault}
 use Rattle.rx_lex.specs.declared.lexer.LexFault.TheVariants.{NotText, BadToken, OutOfMemory}
 use Rattle.rx_lex.specs.Lexing.{FaultOf}
-use Rattle.rx_lex.specs.Numerals.{is_digit}
-use Rattle.rx_lex.specs.Words.{is_continue, is_start, is_letter, marks}
 use Rattle.rx_lex.specs.Tok.{Tok, tok, toks}
 use Rattle.rx_lex.specs.declared.token.Token.{Token}
 use Rattle.rx_lex.specs.Tokens.{Tokens, none, gap, token, token_at, Stuck, here, after_gap, after_token, Lexes}
 use Rattle.rx_lex.specs.FrontWord.{WordOf, NoWord}
 use Rattle.rx_lex.specs.Scan.{gap_rest}
-use Rattle.rx_lex.proofs.FirstBytes.{one_of_all, all_more}
-use Rattle.rx_lex.proofs.LongestWord.{Kind_of, run, a_format, a_mark, kind_of}
+use Rattle.rx_lex.proofs.Names.{rest_text}
+use Rattle.rx_lex.proofs.LongestWord.{word_utf8}
 use Rattle.rx_lex.proofs.TokenLaws.{tokens_or_stuck}
-use Rattle.rx_lex.proofs.Gaps.{gap_is, gap_none, gap_shorter}
+use Rattle.rx_lex.proofs.Gaps.{gap_is, gap_none, gap_shorter, gap_utf8}
 
 pub record Reading (bytes : List ℕ) (at : ℕ) (ts : List Tok) : Type 0 where
   pub within : at ≤ length bytes
+  pub text : IsUtf8 (drop at bytes)
   pub tokens : (us : List Tok) → Tokens at (drop at bytes) us → Tokens 0 bytes (ts ++ us)
   pub stuck : (bad : ℕ) → Stuck at (drop at bytes) bad → Stuck 0 bytes bad
 
-pub reading_begins : (bytes : List ℕ) → Reading bytes 0 []
-reading_begins bytes = record { within = omega arith; tokens = λ us d. d; stuck = λ bad s. s }
+pub reading_begins : (bytes : List ℕ) → IsUtf8 bytes → Reading bytes 0 []
+reading_begins bytes u = record { within = omega arith; text = u; tokens = λ us d. d; stuck = λ bad s. s }
 
 drop_on : (at n : ℕ) (bytes : List ℕ) → drop n (drop at bytes) ≡ drop (at + n) bytes
 drop_on at n bytes = drop-drop n at bytes
@@ -45,6 +43,7 @@ reading_gap bytes at n ts h g r =
     let m = lengths n (drop at bytes) h in
     record {
       within = let b = r.within in omega (arith, length-drop at bytes);
+      text = subst IsUtf8 e (gap_utf8 k r.text);
       tokens = λ us d. r.tokens us (gap n k m (subst (λ l. Tokens (at + n) l us) (sym e) d));
       stuck = λ bad s. r.stuck bad (after_gap n k m (subst (λ l. Stuck (at + n) l bad) (sym e) s));
     }
@@ -61,6 +60,7 @@ reading_word bytes at n ts c g w r =
     let t = token_at at c (take n (drop at bytes)) in
     record {
       within = let b = r.within in let v = w.within in omega (arith, length-drop at bytes);
+      text = subst IsUtf8 e (rest_text n (drop at bytes) w.within r.text (word_utf8 w.longest.front.word));
       tokens = λ us d.
           subst (Tokens 0 bytes) (sym (append_assoc ts (t ∷ []) us))
           (r.tokens (t ∷ us) (token c (take n (drop at bytes)) (drop n (drop at bytes)) k w.longest
@@ -90,57 +90,16 @@ reading_stuck bytes at ts h g w r =
     not_past : (at : ℕ) (bytes : List ℕ) → at < length bytes → drop at bytes ≢ []
     not_past at bytes h e = let n : length (drop at bytes) ≡ 0 = ap length e in absurd (omega (arith, length-drop at bytes))
 
--- ---- words are made of bytes below 128
+-- ---- words begin and end where characters do
 
-abbrev is_low : ℕ → Bool
-is_low c = nat_lt c 128
+pub word_begins_char : (bytes : List ℕ) (at : ℕ) → at ≤ length bytes → IsUtf8 (drop at bytes) → IsCharBoundary bytes at
+word_begins_char bytes at b u = IsCharBoundary-from_drop bytes at b u
 
-continue_low : (c : ℕ) → is_continue c ≡ true → is_low c ≡ true
-continue_low c e =
-    lt-low (elim (or_cases (is_start c) (is_digit c) e) [
-      | inl h ↦ elim (or_cases (is_letter c) (c == 95) h) [
-        | inl l ↦ elim (or_cases (nat_le 97 c && nat_le c 122) (nat_le 65 c && nat_le c 90) l) [
-          | inl k ↦ let m : c ≤ 122 = leb-true c 122 (and_parts (nat_le 97 c) (nat_le c 122) k).1 in omega arith
-          | inr k ↦ let m : c ≤ 90 = leb-true c 90 (and_parts (nat_le 65 c) (nat_le c 90) k).1 in omega arith
-        ]
-        | inr l ↦ let m : c ≡ 95 = eqb-true c 95 l in omega arith
-      ]
-      | inr h ↦ let m : c ≤ 57 = leb-true c 57 (and_parts (nat_le 48 c) (nat_le c 57) h).1 in omega arith
-    ])
-  where
-    lt-low : {c : ℕ} → c < 128 → is_low c ≡ true
-    lt-low {c} h = lt-ltb c 128 h
-
-word_low : {c : Class} {w : List ℕ} → Kind_of c w → list_all is_low w ≡ true
-word_low (run {w = w} f s a b n) = all_more is_continue is_low continue_low w a
-word_low (a_format e) = ap (list_all is_low) e
-word_low (a_mark {w = w} e i a b) = one_of_all (list_all is_low) w marks refl i
-
-low_at : (w : List ℕ) (k : ℕ) → k < length w → list_all is_low w ≡ true → get_or w k 0 < 128
-low_at [] k h a = absurd (omega arith)
-low_at (c ∷ w) zero h a = ltb-true c 128 (and_parts (is_low c) (list_all is_low w) a).0
-low_at (c ∷ w) (suc k) h a = low_at w k (omega arith) (and_parts (is_low c) (list_all is_low w) a).1
-
-byte_low : (bytes : List ℕ) (at n k : ℕ) (c : Class) → WordOf c n (drop at bytes) → k < n → get_or bytes (at + k) 0 < 128
-byte_low bytes at n k c w h =
-    let i : length (take n (drop at bytes)) ≡ n = length-take-le n (drop at bytes) w.within in
-    let b = low_at (take n (drop at bytes)) k (omega arith) (word_low (kind_of w.longest.front.word)) in
-    let e = get_or-take n (drop at bytes) k 0 h ∙ get_or-drop at bytes k 0 in
-    subst (λ x. x < 128) e b
-
-pub word_begins_char : (bytes : List ℕ) (at n : ℕ) (c : Class) → at ≤ length bytes → WordOf c n (drop at bytes) → IsCharBoundary bytes at
-word_begins_char bytes at n c b w =
-    let p = w.not_empty in
-    let q = w.within in
-    let e : at + 0 ≡ at = omega arith in
-    IsCharBoundary-before_ascii bytes at (omega (arith, length-drop at bytes)) (subst (λ i. get_or bytes i 0 < 128) e (byte_low bytes at n 0 c w p))
-
-pub word_ends_char : (bytes : List ℕ) (at n : ℕ) (c : Class) → IsUtf8 bytes → at ≤ length bytes → WordOf c n (drop at bytes) → IsCharBoundary bytes (at + n)
-word_ends_char bytes at n c u b w =
-    let p = w.not_empty in
-    let q = w.within in
-    let e : at + (n - 1) + 1 ≡ at + n = omega arith in
-    subst (IsCharBoundary bytes) e (IsCharBoundary-after_ascii bytes (at + (n - 1)) u (omega (arith, length-drop at bytes)) (byte_low bytes at n (n - 1) c w (omega arith)))
+pub word_ends_char : (bytes : List ℕ) (at n : ℕ) (c : Class) → at ≤ length bytes → IsUtf8 (drop at bytes) → WordOf c n (drop at bytes) → IsCharBoundary bytes (at + n)
+word_ends_char bytes at n c b u w =
+    let h = w.within in
+    IsCharBoundary-from_drop bytes (at + n) (omega (arith, length-drop at bytes))
+    (subst IsUtf8 (drop_on at n bytes) (rest_text n (drop at bytes) h u (word_utf8 w.longest.front.word)))
 
 -- ---- what the scanner answers on the bytes from a place on
 
@@ -166,6 +125,16 @@ reads_word text rest at n ts us t c e g w h k r =
 pub reads_stuck : (text rest : List ℕ) (at : ℕ) (ts : List Tok) → rest ≡ drop at text → at < length text → gap_rest rest ≡ None → NoWord rest → Reading text at ts
     → Stuck 0 text at
 reads_stuck text rest at ts e h g w r = reading_stuck text at ts h (ap gap_rest (sym e) ∙ g) (subst NoWord e w) r
+
+-- what is said of the word that comes first
+abbrev pub WordIs : List ℕ → Option Word → Type 0
+WordIs t o = MatchOption o (NoWord t) (λ x. WordOf x.class x.length t)
+
+pub word_found : (t u : List ℕ) (o : Option Word) (w : Word) → t ≡ u → o ≡ Some w → WordIs t o → WordOf w.class w.length u
+word_found t u o w e f h = subst (WordOf w.class w.length) e (subst (WordIs t) f h)
+
+pub word_none : (t u : List ℕ) (o : Option Word) → t ≡ u → o ≡ None → WordIs t o → NoWord u
+word_none t u o e f h = subst NoWord e (subst (WordIs t) f h)
 
 -- ---- bytes with tokens fail for want of memory alone
 

@@ -4,10 +4,11 @@ use Rattle.std.specs.Prelude.{◌==◌, ◌&&◌, ◌||◌, not, nat_le, codes}
 use Rattle.std.proofs.lemmas.Bool.{and_from, and_left, and_right, or_cases, or_parts, not-true, not_from_false, false≢true, leb-true, eqb-true, both_ways, false_from_ne_true, or_from}
 use Rattle.rx_core.specs.Bytes.{same_bytes, is_one_of}
 use Rattle.rx_lex.specs.declared.token.Class.{Class}
-use Rattle.rx_lex.specs.Words.{IsWord, identifier, keyword, number, format, mark, is_continue, marks}
+use Rattle.rx_lex.specs.Words.{IsWord, identifier, keyword, lifetime, number, format, mark, goes_on, marks}
 use Rattle.rx_lex.specs.Tokens.{is_blank}
 use Rattle.rx_lex.specs.Stands.{makes_longer, makes_comment, stands_alone, stands}
 use Rattle.rx_lex.proofs.FirstBytes.{one_of_all}
+use Rattle.rx_lex.proofs.Names.{opens}
 
 -- whether the byte makes no mark longer and begins no comment behind a `/`
 abbrev pub is_apart : ℕ → Bool
@@ -42,14 +43,14 @@ no_comment d r a =
     let t = or_parts (d == 38) ((d == 124) || ((d == 42) || (d == 47))) s.1 in
     (or_parts (d == 124) ((d == 42) || (d == 47)) t.1).1
 
--- a mark before a byte that makes none longer; behind `_` no byte of an identifier
-pub mark_before : (w : List ℕ) (d : ℕ) (r : List ℕ) → is_one_of w marks ≡ true → is_apart d ≡ true → (same_bytes w (codes "_") && is_continue d) ≡ false
+-- a mark before a byte that makes none longer; behind `_` no character of an identifier
+pub mark_before : (w : List ℕ) (d : ℕ) (r : List ℕ) → is_one_of w marks ≡ true → is_apart d ≡ true → (same_bytes w (codes "_") && goes_on (d ∷ r)) ≡ false
     → stands_alone w (d ∷ r) ≡ true
 mark_before w d r i a e =
-    and_from (not (makes_longer w (d ∷ r))) (not (same_bytes w (codes "_") && is_continue d) && not (same_bytes w (codes "/") && makes_comment (d ∷ r)))
+    and_from (not (makes_longer w (d ∷ r))) (not (same_bytes w (codes "_") && goes_on (d ∷ r)) && not (same_bytes w (codes "/") && makes_comment (d ∷ r)))
     (not_from_false (makes_longer w (d ∷ r)) (not_longer w d r i a))
-    (and_from (not (same_bytes w (codes "_") && is_continue d)) (not (same_bytes w (codes "/") && makes_comment (d ∷ r)))
-    (not_from_false (same_bytes w (codes "_") && is_continue d) e)
+    (and_from (not (same_bytes w (codes "_") && goes_on (d ∷ r))) (not (same_bytes w (codes "/") && makes_comment (d ∷ r)))
+    (not_from_false (same_bytes w (codes "_") && goes_on (d ∷ r)) e)
     (not_from_false (same_bytes w (codes "/") && makes_comment (d ∷ r)) (and_right (same_bytes w (codes "/")) (makes_comment (d ∷ r)) (no_comment d r a))))
 
 near_by : (P : ℕ → Bool) (d : ℕ) → P d ≡ true → P 62 ≡ false → P 61 ≡ false → P 58 ≡ false → P 38 ≡ false → P 124 ≡ false → P 42 ≡ false → P 47 ≡ false → is_apart d ≡ true
@@ -63,42 +64,44 @@ near_by P d e p q r s t u v =
     (or_from (d == 124) ((d == 42) || (d == 47)) (no 124 t)
     (or_from (d == 42) (d == 47) (no 42 u) (no 47 v)))))))
 
-pub continue_is_apart : (d : ℕ) → is_continue d ≡ true → is_apart d ≡ true
-continue_is_apart d e = near_by is_continue d e refl refl refl refl refl refl refl
+pub opens_is_apart : (d : ℕ) → opens d ≡ true → is_apart d ≡ true
+opens_is_apart d e = near_by opens d e refl refl refl refl refl refl refl
 
 pub blank_is_apart : (d : ℕ) → is_blank d ≡ true → is_apart d ≡ true
 blank_is_apart d e = near_by is_blank d e refl refl refl refl refl refl refl
 
 -- a mark other than `_` before a name, a keyword or a number
-pub mark_before_word : (w : List ℕ) (d : ℕ) (r : List ℕ) → is_one_of w marks ≡ true → same_bytes w (codes "_") ≡ false → is_continue d ≡ true
+pub mark_before_word : (w : List ℕ) (d : ℕ) (r : List ℕ) → is_one_of w marks ≡ true → same_bytes w (codes "_") ≡ false → opens d ≡ true
     → stands_alone w (d ∷ r) ≡ true
-mark_before_word w d r i n e = mark_before w d r i (continue_is_apart d e) (and_left (same_bytes w (codes "_")) (is_continue d) n)
+mark_before_word w d r i n e = mark_before w d r i (opens_is_apart d e) (and_left (same_bytes w (codes "_")) (goes_on (d ∷ r)) n)
 
-blank_no_continue : (d : ℕ) → is_blank d ≡ true → is_continue d ≡ false
-blank_no_continue d e =
+blank_ends : (d : ℕ) (r : List ℕ) → is_blank d ≡ true → goes_on (d ∷ r) ≡ false
+blank_ends d r e =
     elim (or_cases ((d == 32) || (d == 9) || (d == 10)) (d == 13) e) [
       | inl h ↦ elim (or_cases ((d == 32) || (d == 9)) (d == 10) h) [
         | inl h ↦ elim (or_cases (d == 32) (d == 9) h) [
-          | inl h ↦ ap is_continue (eqb-true d 32 h)
-          | inr h ↦ ap is_continue (eqb-true d 9 h)
+          | inl h ↦ ap (λ c. goes_on (c ∷ r)) (eqb-true d 32 h)
+          | inr h ↦ ap (λ c. goes_on (c ∷ r)) (eqb-true d 9 h)
         ]
-        | inr h ↦ ap is_continue (eqb-true d 10 h)
+        | inr h ↦ ap (λ c. goes_on (c ∷ r)) (eqb-true d 10 h)
       ]
-      | inr h ↦ ap is_continue (eqb-true d 13 h)
+      | inr h ↦ ap (λ c. goes_on (c ∷ r)) (eqb-true d 13 h)
     ]
 
 -- any word before a blank
 pub stands_before_blank : {c : Class} {w : List ℕ} (d : ℕ) (r : List ℕ) → IsWord c w → is_blank d ≡ true → stands c w (d ∷ r) ≡ true
-stands_before_blank d r (identifier i) e = not_from_false (is_continue d) (blank_no_continue d e)
-stands_before_blank d r (keyword i) e = not_from_false (is_continue d) (blank_no_continue d e)
-stands_before_blank d r (number i b) e = not_from_false (is_continue d) (blank_no_continue d e)
+stands_before_blank d r (identifier i) e = not_from_false (goes_on (d ∷ r)) (blank_ends d r e)
+stands_before_blank d r (keyword i) e = not_from_false (goes_on (d ∷ r)) (blank_ends d r e)
+stands_before_blank d r (lifetime i b) e = not_from_false (goes_on (d ∷ r)) (blank_ends d r e)
+stands_before_blank d r (number i b) e = not_from_false (goes_on (d ∷ r)) (blank_ends d r e)
 stands_before_blank d r (format i) e = refl
-stands_before_blank d r (mark {w = w} i) e = mark_before w d r i (blank_is_apart d e) (and_right (same_bytes w (codes "_")) (is_continue d) (blank_no_continue d e))
+stands_before_blank d r (mark {w = w} i) e = mark_before w d r i (blank_is_apart d e) (and_right (same_bytes w (codes "_")) (goes_on (d ∷ r)) (blank_ends d r e))
 
 -- any word at the end of the text
 pub stands_at_end : {c : Class} {w : List ℕ} → IsWord c w → stands c w [] ≡ true
 stands_at_end (identifier i) = refl
 stands_at_end (keyword i) = refl
+stands_at_end (lifetime i b) = refl
 stands_at_end (number i b) = refl
 stands_at_end (format i) = refl
 stands_at_end (mark {w = w} i) =

@@ -1,17 +1,17 @@
 -- A text has at most one list of tokens, in order, each a word; one that gets stuck has none: by induction on how the text is read.
-use Rattle.std.proofs.Common.{◌≡◌, ℕ, ◌+◌, ◌≤◌, ◌<◌, Bool, true, false, cond, List, [], ◌∷◌, ◌++◌, length, length-append, length-take, take, drop, ◌-◌, append_assoc, refl, sym, ap, subst, ◌∙◌, arith, inl, inr}
-use Rattle.std.specs.Prelude.{◌≢◌, ◌==◌, ◌&&◌, not, if◌then◌else◌, codes, nat_le}
-use Rattle.std.specs.List.{list_all}
-use Rattle.std.proofs.lemmas.Bool.{and_parts, or_cases, not-true, false≢true, false_from_ne_true, eqb-true, leb-true}
+use Rattle.std.proofs.Common.{◌≡◌, ℕ, ◌+◌, ◌≤◌, ◌<◌, Bool, true, false, cond, List, [], ◌∷◌, ◌++◌, length, length-append, length-take, take, drop, ◌-◌, append_assoc, refl, sym, ap, subst, ◌∙◌, arith}
+use Rattle.std.specs.Prelude.{◌≢◌, ◌==◌, ◌&&◌, not, if◌then◌else◌, codes}
+use Rattle.std.proofs.lemmas.Bool.{and_parts, not-true, false≢true}
 use Rattle.rx_core.specs.Bytes.{same_bytes, is_one_of}
 use Rattle.rx_lex.specs.declared.token.Class.{Class}
 use Rattle.rx_lex.specs.declared.token.Class.TheVariants.{Identifier, Keyword, Lifetime, Number, Format, Mark}
 use Rattle.rx_lex.specs.Numerals.{is_digit}
-use Rattle.rx_lex.specs.Words.{IsWord, identifier, keyword, number, format, mark, is_start, is_continue, is_letter, keywords, marks, begins_as_name}
+use Rattle.rx_lex.specs.Words.{IsWord, identifier, keyword, lifetime, number, format, mark, is_name, keywords, marks}
 use Rattle.rx_lex.specs.Tok.{Tok}
 use Rattle.rx_lex.specs.Tokens.{Front, Longest, Gap, Tokens, none, gap, token, token_at, Stuck, here, after_gap, after_token, Lexes}
 use Rattle.rx_lex.proofs.FirstBytes.{first, one_of_all, numeral_digit}
-use Rattle.rx_lex.proofs.LongestWord.{gap_begins, word_not_empty}
+use Rattle.rx_lex.proofs.Names.{name_no_digit, name_run}
+use Rattle.rx_lex.proofs.LongestWord.{gap_begins, word_not_empty, run_no_quote}
 use Rattle.std.proofs.Math.Seq.{take-append_seam}
 use Rattle.rx_lex.proofs.Gaps.{gap_one, gap_front}
 
@@ -23,8 +23,9 @@ class_of w =
     if is_digit (first w) then Number
     else (if is_one_of w keywords then Keyword
     else (if same_bytes w (codes "_") then Mark
-    else (if is_start (first w) then Identifier
-    else (if first w == 34 then Format else Mark))))
+    else (if first w == 39 then Lifetime
+    else (if is_name w then Identifier
+    else (if first w == 34 then Format else Mark)))))
 
 abbrev is_keyword_class : Class → Bool
 is_keyword_class Keyword = true
@@ -50,36 +51,20 @@ mark_class Number e = absurd (false≢true e)
 mark_class Format e = absurd (false≢true e)
 mark_class Mark e = refl
 
-start_no_digit : (c : ℕ) → is_start c ≡ true → is_digit c ≡ false
-start_no_digit c e = false_from_ne_true (is_digit c) (λ d.
-    let p = and_parts (nat_le 48 c) (nat_le c 57) d in
-    let h : c ≤ 57 = leb-true c 57 p.1 in
-    elim (or_cases (is_letter c) (c == 95) e) [
-      | inl l ↦ elim (or_cases (nat_le 97 c && nat_le c 122) (nat_le 65 c && nat_le c 90) l) [
-        | inl k ↦ let m : 97 ≤ c = leb-true 97 c (and_parts (nat_le 97 c) (nat_le c 122) k).0 in absurd (omega arith)
-        | inr k ↦ let m : 65 ≤ c = leb-true 65 c (and_parts (nat_le 65 c) (nat_le c 90) k).0 in absurd (omega arith)
-      ]
-      | inr l ↦ let m : c ≡ 95 = eqb-true c 95 l in absurd (omega arith)
-    ])
-
-name_start : (w : List ℕ) → begins_as_name w ≡ true → is_start (first w) ≡ true
-name_start [] e = absurd (false≢true e)
-name_start (c ∷ cs) e = (and_parts (is_start c) (list_all is_continue cs) e).0
-
 pub word_class : {c : Class} {w : List ℕ} → IsWord c w → class_of w ≡ c
 word_class (identifier {w = w} e) =
-    let p = and_parts (begins_as_name w && not (same_bytes w (codes "_"))) (not (is_one_of w keywords)) e in
-    let q = and_parts (begins_as_name w) (not (same_bytes w (codes "_"))) p.0 in
-    let s = name_start w q.0 in
-    by_tests (is_digit (first w)) (is_one_of w keywords) (same_bytes w (codes "_")) (is_start (first w)) (first w == 34)
-    (start_no_digit (first w) s) (not-true (is_one_of w keywords) p.1) (not-true (same_bytes w (codes "_")) q.1) s
+    let p = and_parts (is_name w && not (same_bytes w (codes "_"))) (not (is_one_of w keywords)) e in
+    let q = and_parts (is_name w) (not (same_bytes w (codes "_"))) p.0 in
+    by_tests (is_digit (first w)) (is_one_of w keywords) (same_bytes w (codes "_")) (first w == 39) (is_name w) (first w == 34)
+    (name_no_digit w q.0) (not-true (is_one_of w keywords) p.1) (not-true (same_bytes w (codes "_")) q.1) (run_no_quote w (name_run w q.0)) q.0
   where
-    by_tests : (a b c d e : Bool) → a ≡ false → b ≡ false → c ≡ false → d ≡ true
-        → cond {A = Class} a Number (cond b Keyword (cond c Mark (cond d Identifier (cond e Format Mark)))) ≡ Identifier
-    by_tests a b c d e p q r s = rw (p, q, r, s)
+    by_tests : (a b c d e f : Bool) → a ≡ false → b ≡ false → c ≡ false → d ≡ false → e ≡ true
+        → cond {A = Class} a Number (cond b Keyword (cond c Mark (cond d Lifetime (cond e Identifier (cond f Format Mark))))) ≡ Identifier
+    by_tests a b c d e f p q r s t = rw (p, q, r, s, t)
+word_class (lifetime i e) = ap class_of e
 word_class (keyword {w = w} e) = keyword_class (class_of w) (one_of_all (λ l. is_keyword_class (class_of l)) w keywords refl e)
 word_class (number {w = w} n b) =
-    ap (λ t. cond {A = Class} t Number (cond (is_one_of w keywords) Keyword (cond (same_bytes w (codes "_")) Mark (cond (is_start (first w)) Identifier (cond (first w == 34) Format Mark)))))
+    ap (λ t. cond {A = Class} t Number (cond (is_one_of w keywords) Keyword (cond (same_bytes w (codes "_")) Mark (cond (first w == 39) Lifetime (cond (is_name w) Identifier (cond (first w == 34) Format Mark))))))
     (numeral_digit n)
 word_class (format e) = ap class_of e
 word_class (mark {w = w} e) = mark_class (class_of w) (one_of_all (λ l. is_mark_class (class_of l)) w marks refl e)

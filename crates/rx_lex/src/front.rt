@@ -1,6 +1,6 @@
 //! The word at the front of a text.
 
-ghost use Rattle.std.specs.Prelude.{◌≡◌, ℕ, ◌≤◌, ◌<◌, ◌&&◌, true, false, nat_le, List, length, take, drop, MatchOption};
+ghost use Rattle.std.specs.Prelude.{◌≡◌, ℕ, ◌≤◌, ◌<◌, ◌&&◌, true, false, nat_le, List, length, take, drop, chars, IfOk, MatchOption};
 ghost use Rattle.std.specs.List.{list_all};
 ghost use Rattle.rx_core.specs.Bytes.{same_bytes, is_one_of};
 ghost use Rattle.rx_lex.specs.declared.token.Class.{Class as ClassOf};
@@ -8,12 +8,13 @@ ghost use Rattle.rx_lex.specs.declared.token.Class.TheVariants.{Mark};
 ghost use Rattle.rx_lex.specs.Words.{IsWord, is_continue, goes_on, marks, format_text};
 ghost use Rattle.rx_lex.specs.Tokens.{Gap, Front};
 ghost use Rattle.rx_lex.specs.Stands.{stands_alone};
-ghost use Rattle.rx_lex.specs.FrontWord.{WordOf, NoWord, begins_comment as begins_comment_of};
+ghost use Rattle.rx_lex.specs.FrontWord.{WordOf, NoWord, begins_comment as begins_comment_of, begins_quote as begins_quote_of};
 
+use crate::identifier::{is_lifetime_name, is_name, run_length};
 use crate::numeral::{is_digit_byte, numeral_in};
-use crate::scan::run_length;
 use crate::token::Class;
 use crate::words::{is_keyword, is_mark, is_same};
+use std::alloc::{AllocError, Global};
 
 /// A word, by its class and how many bytes it has.
 #[derive(Clone, Copy, Debug)]
@@ -23,50 +24,84 @@ pub(crate) struct Word {
 }
 
 /// The longest word that comes first. `None` if none does.
-pub(crate) fn front_word(rest: &[u8]) -> Option<Word>
-    ensures { MatchOption result (NoWord rest.now) (λ x. WordOf x.class x.length rest.now) }
+///
+/// # Errors
+/// An error if no memory is found for the test of the normalization form.
+pub(crate) fn front_word(alloc: Global, rest: &str) -> Result<Option<Word>, AllocError>
+    ensures { IfOk result (λ o. MatchOption o (NoWord rest.now) (λ x. WordOf x.class x.length rest.now)) }
 {
     let run = run_length(rest);
     if run > 0 {
-        return match run_class(&rest[..run]) {
-            Some(class) => Some(Word { class, length: run }),
-            None => None,
+        return match run_class(alloc, &rest[..run])? {
+            Some(class) => Ok(Some(Word { class, length: run })),
+            None => Ok(None),
         };
     }
-    if has_format(rest) {
-        return Some(Word {
+    let bytes = rest.as_bytes();
+    if begins_quote(bytes) {
+        return lifetime(alloc, rest);
+    }
+    if has_format(bytes) {
+        return Ok(Some(Word {
             class: Class::Format,
             length: 4,
-        });
+        }));
     }
-    match mark_length(rest) {
-        Some(length) => Some(Word {
+    match mark_length(bytes) {
+        Some(length) => Ok(Some(Word {
             class: Class::Mark,
             length,
-        }),
-        None => None,
+        })),
+        None => Ok(None),
     }
 }
 
-/// The class of a word made of bytes of identifiers. `None` if it begins with a digit and is no number of 64 bits.
-fn run_class(run: &[u8]) -> Option<Class>
+/// The class of a word made of characters of identifiers. `None` if it begins with a digit and is no number of 64 bits, or is no name.
+fn run_class(alloc: Global, run: &str) -> Result<Option<Class>, AllocError>
     requires not_empty { 0 < length run.now }
-    requires continues { list_all is_continue run.now ≡ true }
-    ensures { MatchOption result ((c : ClassOf) → IsWord c run.now → ⊥) (λ c. IsWord c run.now) }
+    requires continues { list_all is_continue (chars run.now) ≡ true }
+    ensures { IfOk result (λ o. MatchOption o ((c : ClassOf) → IsWord c run.now → ⊥) (λ c. IsWord c run.now)) }
 {
-    if is_digit_byte(run[0]) {
-        return match numeral_in(run) {
-            Some(_) => Some(Class::Number),
-            None => None,
+    let bytes = run.as_bytes();
+    if is_digit_byte(bytes[0]) {
+        return match numeral_in(bytes) {
+            Some(_) => Ok(Some(Class::Number)),
+            None => Ok(None),
         };
     }
-    if is_keyword(run) {
-        return Some(Class::Keyword);
+    if is_keyword(bytes) {
+        return Ok(Some(Class::Keyword));
     }
-    if is_same(run, b"_") {
-        return Some(Class::Mark);
+    if is_same(bytes, b"_") {
+        return Ok(Some(Class::Mark));
     }
-    Some(Class::Identifier)
+    if is_name(alloc, run)? {
+        return Ok(Some(Class::Identifier));
+    }
+    Ok(None)
+}
+
+/// Whether `'` comes first.
+fn begins_quote(rest: &[u8]) -> bool
+    ensures { result ≡ begins_quote_of rest.now }
+{
+    rest.len() > 0 && rest[0] == b'\''
+}
+
+/// The lifetime that comes first, behind its `'`.
+fn lifetime(alloc: Global, rest: &str) -> Result<Option<Word>, AllocError>
+    requires { begins_quote_of rest.now ≡ true }
+    ensures { IfOk result (λ o. MatchOption o (NoWord rest.now) (λ x. WordOf x.class x.length rest.now)) }
+{
+    let name = &rest[1..];
+    let run = run_length(name);
+    if is_lifetime_name(alloc, &name[..run])? {
+        return Ok(Some(Word {
+            class: Class::Lifetime,
+            length: 1 + run,
+        }));
+    }
+    Ok(None)
 }
 
 /// Whether `"{}"` comes first.

@@ -1,6 +1,6 @@
 //! The tokens of a text, in one pass.
 
-ghost use Rattle.std.specs.Prelude.{◌≡◌, ℕ, ◌≤◌, List as ListOf, length, take, drop, IfOk, IfErr, MatchResult};
+ghost use Rattle.std.specs.Prelude.{◌≡◌, ℕ, ◌≤◌, List as ListOf, length, take, drop, IfOk, IfErr, MatchResult, IsUtf8};
 ghost use Rattle.rx_lex.specs.Tok.{Tok, tok, toks};
 ghost use Rattle.rx_lex.specs.Tokens.{Lexes, Tokens as TokensOf, token_at as token_of};
 ghost use Rattle.rx_lex.specs.FrontWord.{WordOf};
@@ -60,16 +60,18 @@ fn read_tokens(alloc: Global, text: &str) -> Result<List<Token<'_>>, LexFault>
     ensures tokens { IfOk result (λ l. TokensOf 0 text.now (toks l)) }
     ensures fault { IfErr result (λ e. FaultOf e text.now) }
 {
-    let bytes = text.as_bytes();
     let mut list = List::new(alloc);
     let mut at = 0;
-    while at < bytes.len() {
-        let rest = &bytes[at..];
-        if let Some(length) = gap_length(rest) {
+    while at < text.len() {
+        let rest = &text[at..];
+        if let Some(length) = gap_length(rest.as_bytes()) {
             at += length;
             continue;
         }
-        let Some(word) = front_word(rest) else {
+        let Ok(first) = front_word(alloc, rest) else {
+            return Err(LexFault::OutOfMemory);
+        };
+        let Some(word) = first else {
             return Err(LexFault::BadToken { at: at as u64 });
         };
         if list.push(token_at(text, at, word)).is_err() {
@@ -83,6 +85,7 @@ fn read_tokens(alloc: Global, text: &str) -> Result<List<Token<'_>>, LexFault>
 /// The token of the word that stands at a place.
 fn token_at(text: &str, at: usize, word: Word) -> Token<'_>
     requires within { at ≤ length text.now }
+    requires text { IsUtf8 (drop at text.now) }
     requires word { WordOf word.class word.length (drop at text.now) }
     ensures { tok result ≡ token_of at word.class (take word.length (drop at text.now)) }
 {

@@ -1,38 +1,8 @@
-//! Where the blank, the comment or the word at the front of a text ends.
+//! Where the blank or the comment at the front of a text ends.
 
 ghost use Rattle.std.specs.Prelude.{◌≡◌, ℕ, ◌+◌, ◌≤◌, ◌<◌, ◌&&◌, ◌==◌, true, false, None, Some, List, length, take, drop, slice_index, MatchOption};
-ghost use Rattle.std.specs.List.{list_all};
-ghost use Rattle.rx_lex.specs.Words.{is_letter as is_letter_of, is_continue as is_continue_of, goes_on};
 ghost use Rattle.rx_lex.specs.Tokens.{is_blank as is_blank_of};
 ghost use Rattle.rx_lex.specs.Scan.{line_rest, block_rest, comment_rest, gap_rest};
-
-use crate::numeral::is_digit_byte;
-
-pub(crate) fn is_letter(byte: u8) -> bool
-    ensures { result ≡ is_letter_of byte }
-{
-    (b'a' <= byte && byte <= b'z') || (b'A' <= byte && byte <= b'Z')
-}
-
-/// Whether the byte may stand in an identifier behind its first byte.
-pub(crate) fn is_continue(byte: u8) -> bool
-    ensures { result ≡ is_continue_of byte }
-{
-    is_letter(byte) || byte == b'_' || is_digit_byte(byte)
-}
-
-/// How many bytes of identifiers come first.
-pub(crate) fn run_length(rest: &[u8]) -> usize
-    ensures within { result ≤ length rest.now }
-    ensures run { list_all is_continue_of (take result rest.now) ≡ true }
-    ensures ends { goes_on (drop result rest.now) ≡ false }
-{
-    let mut at = 0;
-    while at < rest.len() && is_continue(rest[at]) {
-        at += 1;
-    }
-    at
-}
 
 fn is_blank(byte: u8) -> bool
     ensures { result ≡ is_blank_of byte }

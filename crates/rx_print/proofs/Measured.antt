@@ -8,11 +8,9 @@ use Rattle.rx_tree.specs.declared.tree.BinaryOp.{BinaryOp}
 use Rattle.rx_tree.specs.Plain as plain
 use Rattle.rx_tree.specs.Erase.{SameProgram}
 use Rattle.rx_tree.specs.Plain.{TypeTree, PatternTree, Expression, Expressions, OptionalExpression, Body, Statement, Statements, Parameter, Function, ItemTree, ProgramTree}
-use Rattle.rx_lex.specs.declared.token.Class.{Class}
-use Rattle.rx_lex.specs.declared.token.Class.TheVariants.{Identifier}
 use Rattle.rx_lex.specs.Tok.{Tok}
-use Rattle.rx_lex.specs.Words as words
 use Rattle.rx_lex.specs.Words.{IsWord, is_identifier}
+use Rattle.rx_lex.proofs.OfItsClass.{identifier_is}
 use Rattle.rx_lex.proofs.TokenLaws.{EachIsWord, tokens_are_words}
 use Rattle.rx_parse.specs.Grammar as g
 use Rattle.rx_parse.specs.Grammar.{Ex, IsOperator, Arguments, Call, Given, IsStatement, AreStatements, IsBody, Parameters, Result, IsFunction, File, Parses, IsName}
@@ -31,15 +29,8 @@ words_right : (us vs : List Tok) → EachIsWord (us ++ vs) → EachIsWord vs
 words_right [] vs a = a
 words_right (u ∷ us) vs a = words_right us vs a.1
 
-identifier_by : {c : Class} {w : List ℕ} → IsWord c w → c ≡ Identifier → is_identifier w ≡ true
-identifier_by (words.identifier e) h = e
-identifier_by (words.keyword e) h = absurd (cc)
-identifier_by (words.number n b) h = absurd (cc)
-identifier_by (words.format e) h = absurd (cc)
-identifier_by (words.mark e) h = absurd (cc)
-
 name_word : (t : Tok) → IsWord t.class t.text → IsName t → is_identifier t.text ≡ true
-name_word t w n = identifier_by w n
+name_word t w n = identifier_is w n
 
 -- ---- a place that takes weaker expressions needs no more levels, and one that takes stronger ones one more at most
 

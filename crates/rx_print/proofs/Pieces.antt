@@ -1,22 +1,20 @@
 -- Pieces of which each stands before the next are the tokens of their text: by recursion on the pieces.
-use Rattle.std.proofs.Common.{◌≡◌, ℕ, ◌+◌, Bool, true, List, [], ◌∷◌, ◌++◌, length, refl, sym, ap, subst, ◌∙◌, arith, append_assoc, append-nil}
-use Rattle.std.specs.Prelude.{nat_lt, slice_index_or, ⊤}
+use Rattle.std.proofs.Common.{◌≡◌, ℕ, ◌+◌, true, List, [], ◌∷◌, ◌++◌, length, refl, sym, ap, subst, ◌∙◌, arith, append_assoc, append-nil}
+use Rattle.std.specs.Prelude.{⊤}
 use Rattle.std.specs.List.{list_all}
-use Rattle.std.proofs.lemmas.List.Sums.{AllPass-from_list_all}
-use Rattle.std.specs.Str.{IsAscii}
-use Rattle.std.proofs.lemmas.Bool.{and_parts, and_from, ltb-true}
+use Rattle.std.specs.Char.{is_ascii}
+use Rattle.std.specs.Str.{IsUtf8}
+use Rattle.std.proofs.lemmas.Bool.{and_parts}
 use Rattle.std.proofs.lemmas.Bool.Decides.{nat_tests}
-use Rattle.std.proofs.lemmas.List.Folds.{list_all-append}
-use Rattle.std.proofs.lemmas.Str.{IsUtf8-from_ascii}
-use Rattle.std.proofs.lemmas.Str.Ascii.{IsAscii-from_all}
-use Rattle.rx_lex.specs.declared.token.Class.{Class}
+use Rattle.std.proofs.lemmas.Str.{IsUtf8-nil, IsUtf8-append}
 use Rattle.rx_lex.specs.Tok.{Tok}
-use Rattle.rx_lex.specs.Words.{IsWord, marks, is_continue}
+use Rattle.rx_lex.specs.Words.{IsWord}
 use Rattle.rx_lex.specs.Stands.{stands}
 use Rattle.rx_lex.specs.Tokens.{Tokens, Lexes, token_at, is_blank}
 use Rattle.rx_lex.specs.Tokens as tokens
-use Rattle.rx_lex.proofs.FirstBytes.{all_more, one_of_all}
-use Rattle.rx_lex.proofs.LongestWord.{token_then, blank_then, kind_of, Kind_of, run, a_format, a_mark}
+use Rattle.rx_lex.proofs.FirstBytes.{all_more}
+use Rattle.rx_lex.proofs.Names.{ascii_utf8}
+use Rattle.rx_lex.proofs.LongestWord.{token_then, blank_then, word_utf8}
 use Rattle.rx_print.specs.Print.{Piece, word, blanks, bytes_of, flat}
 
 -- each word is one of its class and ends before what follows it; the blanks are blank
@@ -68,32 +66,18 @@ stand_tokens at [] s = tokens.none
 stand_tokens at (word c w ∷ ps) s = token_then c w s.0 (ap (stands c w) (sym (append-nil (flat ps))) ∙ s.1) (stand_tokens (at + length w) ps s.2)
 stand_tokens at (blanks b ∷ ps) s = blanks_then b at s.0 (stand_tokens (at + length b) ps s.1)
 
--- ---- each byte is ASCII
+-- ---- the whole is a text
 
-abbrev small : ℕ → Bool
-small c = nat_lt c 128
+blank_ascii : (c : ℕ) → is_blank c ≡ true → is_ascii c ≡ true
+blank_ascii c e = grind (arith, nat_tests)
 
-small_continue : (c : ℕ) → is_continue c ≡ true → small c ≡ true
-small_continue c e = grind (arith, nat_tests)
-
-small_blank : (c : ℕ) → is_blank c ≡ true → small c ≡ true
-small_blank c e = grind (arith, nat_tests)
-
-small_kind : {c : Class} {w : List ℕ} → Kind_of c w → list_all small w ≡ true
-small_kind (run {w = w} f s a b n) = all_more is_continue small small_continue w a
-small_kind (a_format e) = ap (list_all small) e
-small_kind (a_mark {w = w} k e a b) = one_of_all (list_all small) w marks refl e
-
-small_pieces : (ps : List Piece) (rest : List ℕ) → Stand ps rest → list_all small (flat ps) ≡ true
-small_pieces [] rest s = refl
-small_pieces (word c w ∷ ps) rest s = list_all-append small w (flat ps) ∙ and_from (list_all small w) (list_all small (flat ps)) (small_kind (kind_of s.0)) (small_pieces ps rest s.2)
-small_pieces (blanks b ∷ ps) rest s = list_all-append small b (flat ps) ∙ and_from (list_all small b) (list_all small (flat ps)) (all_more is_blank small small_blank b s.0) (small_pieces ps rest s.1)
-
-small_ascii : (bs : List ℕ) → list_all small bs ≡ true → IsAscii bs
-small_ascii bs e = IsAscii-from_all bs (λ k d i. ltb-true (slice_index_or bs k d) 128 (AllPass-from_list_all small bs e k d i))
+text_pieces : (ps : List Piece) (rest : List ℕ) → Stand ps rest → IsUtf8 (flat ps)
+text_pieces [] rest s = IsUtf8-nil
+text_pieces (word c w ∷ ps) rest s = IsUtf8-append w (flat ps) (word_utf8 s.0) (text_pieces ps rest s.2)
+text_pieces (blanks b ∷ ps) rest s = IsUtf8-append b (flat ps) (ascii_utf8 b (all_more is_blank is_ascii blank_ascii b s.0)) (text_pieces ps rest s.1)
 
 pub stand_lexes : (ps : List Piece) → Stand ps [] → Lexes (flat ps) (places 0 ps)
 stand_lexes ps s = record {
-  text = IsUtf8-from_ascii (flat ps) (small_ascii (flat ps) (small_pieces ps [] s));
+  text = text_pieces ps [] s;
   tokens = stand_tokens 0 ps s;
 }
