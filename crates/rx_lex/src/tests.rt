@@ -37,7 +37,7 @@ fn shown(alloc: Global, bytes: &[u8]) -> Result<String, Fail> {
 
 #[test]
 fn texts(rt: HostRuntime) -> Result<(), Fail> {
-    let table: [(&[u8], &str); 22] = [
+    let table: [(&[u8], &str); 23] = [
         (
             b"fn f(x: i64) -> i64 { x }",
             "K0-2 I3-4 M4-5 I5-6 M6-7 K8-11 M11-12 M13-15 K16-19 M20-21 I22-23 M24-25 ",
@@ -60,6 +60,7 @@ fn texts(rt: HostRuntime) -> Result<(), Fail> {
         (b"/* /* */", "no token begins at byte 0"),
         (b"/ *", "M0-1 M2-3 "),
         (b">=", "M0-2 "),
+        (b">>", "M0-1 M1-2 "),
         (b"&&&", "M0-2 M2-3 "),
         (b"a 'a", "I0-1 L2-4 "),
         (b"// \xc3\xa9\nx", "I6-7 "),
