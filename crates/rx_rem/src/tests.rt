@@ -157,7 +157,9 @@ fn other_words_are_usage(rt: HostRuntime) -> Result<(), Fail> {
         "extract f 1 12345678901234567890",
         "check",
         "check now",
+        "run",
         "run 5",
+        "gen 0",
         "gen 1",
     ];
     for line in lines {
