@@ -2,3 +2,5 @@ pub mod Plain
 pub mod PlainOf
 pub mod Erase
 pub mod Lists
+pub mod Positions
+pub mod NodeOf
