@@ -1,0 +1,6 @@
+pub mod Words
+pub mod Types
+pub mod Patterns
+pub mod Expressions
+pub mod Items
+pub mod Begins

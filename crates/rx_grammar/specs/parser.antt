@@ -1,0 +1,11 @@
+pub mod Symbols
+pub mod Steps
+pub mod Numbers
+pub mod Lists
+pub mod Types
+pub mod Patterns
+pub mod Operators
+pub mod Expressions
+pub mod Blocks
+pub mod Items
+pub mod Places

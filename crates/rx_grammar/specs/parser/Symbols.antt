@@ -1,0 +1,56 @@
+-- What a token is to the grammar, and the steps on a list of tokens.
+use Rattle.std.specs.Prelude.{ℕ, Bool, if◌then◌else◌, List, [], ◌∷◌, map, codes}
+use Rattle.std.specs.Str.{bytes_eq}
+use denote.Enum.Bare.{sameb}
+use Rattle.rx_lex.specs.declared.token.Class.{Class}
+use Rattle.rx_lex.specs.declared.token.Class.TheVariants as class
+use Rattle.rx_lex.specs.Tok.{Tok}
+use Rattle.rx_grammar.specs.declared.symbol.Symbol.{Symbol}
+use Rattle.rx_grammar.specs.declared.symbol.Symbol.TheVariants as symbol
+use Rattle.rx_grammar.specs.declared.symbol.TheConstants.{KEYWORDS, MARKS}
+use Rattle.rx_grammar.specs.contracts.symbol.Symbol.{the_type}
+
+abbrev pub lookup : List (List ℕ × Symbol) → List ℕ → Symbol
+lookup [] word = symbol.Other
+lookup (k ∷ ks) word = if bytes_eq k.0 word then k.1 else lookup ks word
+
+unfoldable pub keyword : List ℕ → Symbol
+keyword = lookup (map (λ k. (k.0.now, k.1)) KEYWORDS)
+
+unfoldable pub mark : List ℕ → Symbol
+mark = lookup (map (λ k. (k.0.now, k.1)) MARKS)
+
+-- `'_` is a symbol of its own
+abbrev pub lifetime : List ℕ → Symbol
+lifetime word = if bytes_eq word (codes "'_") then symbol.Anonymous else symbol.Lifetime
+
+abbrev pub symbol_by : Class → List ℕ → Symbol
+symbol_by class.Identifier word = symbol.Name
+symbol_by class.Keyword word = keyword word
+symbol_by class.Lifetime word = lifetime word
+symbol_by class.Number word = symbol.Number
+symbol_by class.Format word = symbol.Format
+symbol_by class.Mark word = mark word
+
+unfoldable pub symbol_of : Tok → Symbol
+symbol_of t = symbol_by t.class t.text
+
+-- `==` on symbols
+unfoldable pub same_symbol : Symbol → Symbol → Bool
+same_symbol = sameb the_type
+
+-- what stands for the end
+abbrev pub none : Tok
+none = record { class = class.Mark; span = record { start = 0; end = 0 }; text = [] }
+
+abbrev pub head : List Tok → Tok
+head [] = none
+head (t ∷ ts) = t
+
+abbrev pub tail : List Tok → List Tok
+tail [] = []
+tail (t ∷ ts) = ts
+
+abbrev pub peek : List Tok → Symbol
+peek [] = symbol.End
+peek (t ∷ ts) = symbol_of t
