@@ -1,0 +1,5 @@
+pub mod Place
+pub mod GotOf
+pub mod SettingOf
+pub mod Levels
+pub mod Members
