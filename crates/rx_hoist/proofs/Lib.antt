@@ -1,0 +1,3 @@
+pub mod Membership
+pub mod PlanForms
+pub mod HoistForms
