@@ -5,7 +5,11 @@ pub mod DerivedExpressions
 pub mod Derived
 pub mod PrintParses
 pub mod SameText
+pub mod Levels
 pub mod Measured
+pub mod FirstIsWhole
+pub mod WholeMeasured
+pub mod FirstForms
 pub mod Rules
 pub mod TextSteps
 pub mod BodySteps

@@ -1,16 +1,14 @@
 -- What the grammar derives is printable with at most the levels of its derivation: by induction on derivations, since the canonical
 -- text has parentheses only where each text of the tree has some.
-use Rattle.std.proofs.Common.{◌≡◌, ℕ, suc, ◌≤◌, max, Bool, true, false, List, [], ◌∷◌, ◌++◌, Option, refl, sym, subst, arith, inl, inr}
+use Rattle.std.proofs.Common.{◌≡◌, ℕ, suc, ◌≤◌, max, false, List, [], ◌∷◌, ◌++◌, Option, refl, sym, subst, arith, inl, inr}
 use Rattle.std.specs.Prelude.{◌⊎◌, nat_lt}
-use Rattle.std.proofs.lemmas.Bool.{cases_Bool, ltb-true, lt-ltb, le-ltb}
+use Rattle.std.proofs.lemmas.Bool.{le-ltb}
 use Rattle.rx_core.specs.declared.types.Span.{Span}
 use Rattle.rx_tree.specs.declared.tree.BinaryOp.{BinaryOp}
 use Rattle.rx_tree.specs.Plain as plain
 use Rattle.rx_tree.specs.Erase.{SameProgram}
 use Rattle.rx_tree.specs.Plain.{TypeTree, PatternTree, Expression, Expressions, OptionalExpression, Body, Statement, Statements, Parameter, Function, ItemTree, ProgramTree}
 use Rattle.rx_lex.specs.Tok.{Tok}
-use Rattle.rx_lex.specs.Words.{IsWord, is_identifier}
-use Rattle.rx_lex.proofs.OfItsClass.{identifier_is}
 use Rattle.rx_lex.proofs.TokenLaws.{EachIsWord, tokens_are_words}
 use Rattle.rx_parse.specs.Grammar as g
 use Rattle.rx_parse.specs.Grammar.{Ex, IsOperator, Arguments, Call, Given, IsStatement, AreStatements, IsBody, Parameters, Result, IsFunction, File, Parses, IsName}
@@ -18,49 +16,7 @@ use Rattle.rx_print.specs.Print.{strength, left_strength, right_strength, weakes
 use Rattle.rx_print.specs.Printable.{Printable, enclosed_levels, written_type_levels, expression_levels, list_levels, optional_levels, statement_levels, statements_levels, body_levels, parameters_levels, function_levels, levels_of, IsArithmetic, IsValue, AreVariables, IsCall, IsStatementForm, AreStatementForms, IsTail, IsBodyForm, IsResultForm, AreParameterForms, IsFunctionForm, AreItemForms}
 use Rattle.rx_print.proofs.DerivedExpressions.{weak_levels}
 use Rattle.rx_print.proofs.PrintParses.{print_parses}
-
--- ---- each token of a text is a word
-
-words_left : (us vs : List Tok) → EachIsWord (us ++ vs) → EachIsWord us
-words_left [] vs a = tt
-words_left (u ∷ us) vs a = (a.0, words_left us vs a.1)
-
-words_right : (us vs : List Tok) → EachIsWord (us ++ vs) → EachIsWord vs
-words_right [] vs a = a
-words_right (u ∷ us) vs a = words_right us vs a.1
-
-name_word : (t : Tok) → IsWord t.class t.text → IsName t → is_identifier t.text ≡ true
-name_word t w n = identifier_is w n
-
--- ---- a place that takes weaker expressions needs no more levels, and one that takes stronger ones one more at most
-
-enclosed_stronger : (o : BinaryOp) (place c : ℕ) → enclosed_levels (nat_lt (suc place) (strength o)) c ≤ enclosed_levels (nat_lt place (strength o)) c
-enclosed_stronger o place c = elim (cases_Bool (nat_lt (suc place) (strength o))) [
-  | inl t ↦
-      let b = ltb-true (suc place) (strength o) t in
-      let u : nat_lt place (strength o) ≡ true = lt-ltb place (strength o) (omega arith) in
-      rw (t, u) (omega arith)
-  | inr f ↦ rw f (at_least (nat_lt place (strength o)))
-]
-  where
-    at_least : (b : Bool) → c ≤ enclosed_levels b c
-    at_least false = omega arith
-    at_least true = omega arith
-
-enclosed_any : (a b : Bool) (c : ℕ) → enclosed_levels a c ≤ suc (enclosed_levels b c)
-enclosed_any false false c = omega arith
-enclosed_any false true c = omega arith
-enclosed_any true false c = omega arith
-enclosed_any true true c = omega arith
-
-levels_stronger : (e : Expression) (place : ℕ) → expression_levels (suc place) e ≤ expression_levels place e
-levels_stronger (plain.binary s o a b) place = enclosed_stronger o place (suc (max (expression_levels (left_strength o) a) (expression_levels (right_strength o) b)))
-levels_stronger _ place = omega arith
-
-levels_any : (e : Expression) (place other : ℕ) → expression_levels place e ≤ suc (expression_levels other e)
-levels_any (plain.binary s o a b) place other =
-    enclosed_any (nat_lt place (strength o)) (nat_lt other (strength o)) (suc (max (expression_levels (left_strength o) a) (expression_levels (right_strength o) b)))
-levels_any _ place other = omega arith
+use Rattle.rx_print.proofs.Levels.{words_left, words_right, name_word, levels_stronger, levels_any, inside}
 
 -- ---- expressions
 
@@ -93,9 +49,6 @@ chain_fits s o j l r m n p a b =
       value = (p.arithmetic, a.value, b.value);
       low = subst (λ b. enclosed_levels b (suc (max (expression_levels (left_strength o) l) (expression_levels (right_strength o) r))) ≤ suc (max m n)) (sym t) (omega arith);
     }
-
-inside : (o c : Tok) (us : List Tok) → EachIsWord (o ∷ (us ++ c ∷ [])) → EachIsWord us
-inside o c us a = words_left us (c ∷ []) a.1
 
 ex_fits : {j : ℕ} {ts : List Tok} {x : Expression} {h : ℕ} → Ex j ts x h → EachIsWord ts → Fits j x h
 ex_fits (g.number t v c n b is) a = record { value = (refl, b); low = omega arith }
