@@ -12,14 +12,15 @@ use Rattle.rx_tree.specs.PlainOf.{statements_of}
 use Rattle.rx_tree.specs.Lists.{statements, tail, Every}
 use Rattle.rx_tree.specs.Erase.{nowhere}
 use Rattle.rx_tree.proofs.ListsLemmas.{listed-statements_of}
-use Rattle.rx_engine.specs.Names.{uses, uses_given, names, free}
-use Rattle.rx_engine.specs.Plan.{params, declared_in, outs}
+use Rattle.rx_check.specs.Names.{uses, uses_given, names, free}
+use Rattle.rx_hoist.specs.Plan.{params, declared_in, outs}
+use Rattle.rx_engine.specs.Promise.{HasIntegers}
 use Rattle.rx_engine.specs.Avoids.{AvoidsStatement, AvoidsParameter, AvoidsFunction, AvoidsItem, Avoids}
-use Rattle.rx_engine.specs.Accepted as accepted
-use Rattle.rx_engine.specs.Accepted.{ValueType, integer, unit, Scope, type_in, Signature, signature, signatures, signature_of, functions, given_by, HasType, AreIntegers, AreTyped, Gives, IsI64, IsParameter, parameter_names, AreDistinct, scope_from, IsTyped, HasMain, Accepted}
-use Rattle.rx_engine.specs.Run.{Run}
-use Rattle.rx_engine.specs.Extracted.{arguments, call_of, call_statement, by_value, result_of, tail_of, new_function, with_call, handed_out, Parts, extraction}
-use Rattle.rx_engine.proofs.Membership.{false_true, unequal, unequal-sym, or_true, or_false, or_left, one_of-distinct, are_distinct}
+use Rattle.rx_check.specs.Accepted as accepted
+use Rattle.rx_check.specs.Accepted.{ValueType, integer, unit, Scope, type_in, Signature, signature, signatures, signature_of, functions, given_by, HasType, AreIntegers, AreTyped, Gives, IsI64, IsParameter, parameter_names, AreDistinct, scope_from, IsTyped, HasMain, Accepted}
+use Rattle.rx_select.specs.Run.{Run}
+use Rattle.rx_hoist.specs.Extracted.{arguments, call_of, call_statement, by_value, result_of, tail_of, new_function, with_call, handed_out, Parts, extraction}
+use Rattle.rx_hoist.proofs.Membership.{false_true, unequal, unequal-sym, or_true, or_false, or_left, one_of-distinct, are_distinct}
 use Rattle.rx_engine.proofs.Scopes.{Serves, Grown, typed_serves, statements_serve, gives_serve, typed_split, typed_joined, typed_keeps, typed_lacks}
 use Rattle.rx_engine.proofs.Handed.{outs_has, outs_only, free_with}
 
@@ -373,13 +374,6 @@ functions_inserted A f g b B a e both_typed =
           (every-front (IsTyped (map signature A ++ (signature f ∷ signature g ∷ map signature B))) A (f ∷ B) old)
           (two.0, (two.1, back.1)));
     }
-
--- each param has an integer in front of the run, each out behind it
-pub record HasIntegers {p : ProgramTree} {r : Run} (c : Parts p r) : Type 0 where
-  pub given : (V : Scope) → AreTyped (signatures p) (scope_from [] c.function.params) c.front V
-      → (y : List ℕ) → is_one_of y (params c.run) ≡ true → type_in V y ≡ Some integer
-  pub made : (V : Scope) → AreTyped (signatures p) (scope_from [] c.function.params) (c.front ++ c.run) V
-      → (y : List ℕ) → is_one_of y (outs c.run (free c.rest c.tail)) ≡ true → type_in V y ≡ Some integer
 
 body_typed : {F : List Signature} (f : Function) (braces : Span) (front run rest : List Statement) (y : OptionalExpression) (out : Option (List ℕ))
     → f.body ≡ plain.body braces (statements_of (front ++ (run ++ rest))) y → outs run (free rest y) ≡ handed_out out → IsTyped F f

@@ -1,49 +1,14 @@
 -- A name that is taken by no token stands nowhere in the tree of these tokens: by induction on derivations, since each name in a tree is
 -- the text of an identifier.
-use Rattle.std.proofs.Common.{◌≡◌, ℕ, false, ◌||◌, List, [], ◌∷◌, ◌++◌, subst}
-use Rattle.std.specs.List.{list_any}
-use Rattle.rx_core.specs.declared.types.Span.{Span}
-use Rattle.rx_core.specs.Bytes.{same_bytes, is_one_of}
-use Rattle.rx_core.proofs.BytesLemmas.{same_bytes-equal}
+use Rattle.std.proofs.Common.{◌≡◌, ℕ, false, List, [], ◌∷◌, ◌++◌, subst}
 use Rattle.rx_tree.specs.Plain.{Expression, Expressions, OptionalExpression, Body, Statement, Statements, Parameter, Function, ProgramTree}
 use Rattle.rx_tree.specs.Lists.{listed, statements, tail, Every}
-use Rattle.rx_lex.specs.declared.token.Class.{Class}
-use Rattle.rx_lex.specs.declared.token.Class.TheVariants.{Identifier}
 use Rattle.rx_lex.specs.Tok.{Tok}
 use Rattle.rx_parse.specs.Grammar as g
 use Rattle.rx_parse.specs.Grammar.{Ex, Arguments, Call, Given, IsStatement, AreStatements, IsBody, Parameters, IsFunction, File, IsName}
-use Rattle.rx_engine.specs.Conditions.{reserved, exit_name, begins_as_made, is_identifier_of, is_taken}
-use Rattle.rx_engine.specs.Avoids.{IsOther, AvoidsExpression, AvoidsExpressions, AvoidsGiven, AvoidsStatement, AvoidsParameter, AvoidsFunction, Avoids}
-use Rattle.rx_engine.proofs.Membership.{false_true, or_false}
-use Rattle.rx_engine.proofs.AcceptedLemmas.{every-front, every-back}
-
--- ---- tokens that are no identifier of a name
-
-abbrev Other : List ℕ → Tok → Type 0
-Other name t = IsName t → IsOther name t.text
-
-abbrev Others : List ℕ → List Tok → Type 0
-Others name = Every (Other name)
-
-other_at : (name : List ℕ) (c : Class) (s : Span) (w : List ℕ) → is_identifier_of name (record { class = c; span = s; text = w }) ≡ false
-    → c ≡ Identifier → IsOther name w
-other_at name Identifier s w h n e = false_true (same_bytes w name) h (same_bytes-equal w name e)
-other_at name _ s w h n e = absurd (cc)
-
-others : (name : List ℕ) (ts : List Tok) → list_any (is_identifier_of name) ts ≡ false → Others name ts
-others name [] h = tt
-others name (t ∷ ts) h =
-    let p = or_false (is_identifier_of name t) (list_any (is_identifier_of name) ts) h in
-    (other_at name t.class t.span t.text p.0, others name ts p.1)
-
-others_left : (name : List ℕ) (us vs : List Tok) → Others name (us ++ vs) → Others name us
-others_left name us vs a = every-front (Other name) us vs a
-
-others_right : (name : List ℕ) (us vs : List Tok) → Others name (us ++ vs) → Others name vs
-others_right name us vs a = every-back (Other name) us vs a
-
-inside : (name : List ℕ) (o c : Tok) (us : List Tok) → Others name (o ∷ (us ++ c ∷ [])) → Others name us
-inside name o c us a = others_left name us (c ∷ []) a.1
+use Rattle.rx_engine.specs.Conditions.{is_taken}
+use Rattle.rx_engine.specs.Avoids.{AvoidsExpression, AvoidsExpressions, AvoidsGiven, AvoidsStatement, AvoidsParameter, AvoidsFunction, Avoids}
+use Rattle.rx_engine.proofs.OtherNames.{Others, others_left, others_right, inside, untaken}
 
 -- ---- expressions and statements
 
@@ -126,11 +91,5 @@ file_avoids name (g.item us vs f is' h i d e is) a =
     let w = subst (Others name) is a in
     (function_avoids name d (others_left name us vs w), file_avoids name e (others_right name us vs w))
 
-not_taken : (ts : List Tok) (name : List ℕ) → is_taken ts name ≡ false → list_any (is_identifier_of name) ts ≡ false
-not_taken ts name h =
-    let a = list_any (is_identifier_of name) ts in
-    let b = list_any (is_identifier_of (exit_name name)) ts in
-    (or_false a b (or_false (a || b) (is_one_of name reserved || begins_as_made name) h).0).0
-
 pub fresh : (ts : List Tok) (p : ProgramTree) (h : ℕ) (name : List ℕ) → File ts p h → is_taken ts name ≡ false → Avoids name p
-fresh ts p h name d e = file_avoids name d (others name ts (not_taken ts name e))
+fresh ts p h name d e = file_avoids name d (untaken ts name e)

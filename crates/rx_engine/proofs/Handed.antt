@@ -4,9 +4,9 @@ use Rattle.rx_core.specs.Bytes.{same_bytes, is_one_of}
 use Rattle.rx_core.proofs.BytesLemmas.{same_bytes-true}
 use Rattle.rx_tree.specs.Plain as plain
 use Rattle.rx_tree.specs.Plain.{OptionalExpression, Statement}
-use Rattle.rx_engine.specs.Names.{uses_given, uses_in, declares, names, remove, without, free}
-use Rattle.rx_engine.specs.Plan.{is_declared, declared_in, handed, outs}
-use Rattle.rx_engine.proofs.Membership.{false_true, or_true, or_left, or_right, one_of-left, one_of-right, one_of-either, one_of-remove, one_of-removed}
+use Rattle.rx_check.specs.Names.{uses_given, uses_in, declares, names, remove, without, free}
+use Rattle.rx_hoist.specs.Plan.{is_declared, declared_in, handed, outs}
+use Rattle.rx_hoist.proofs.Membership.{false_true, or_true, or_left, or_right, one_of-left, one_of-right, one_of-either, one_of-remove, one_of-removed}
 
 both : (a b : Bool) → a ≡ true → b ≡ true → (a && b) ≡ true
 both true b e f = f

@@ -1,16 +1,21 @@
 -- A run has one extraction apart from spans: the parts of a program at a run are told by the lengths in front of them.
-use Rattle.std.proofs.Common.{◌≡◌, ℕ, suc, ◌+◌, List, [], ◌∷◌, ◌++◌, length, Option, Some, None, refl, sym, ap, ◌∙◌, arith}
+use Rattle.std.proofs.Common.{◌≡◌, ℕ, suc, ◌+◌, ◌<◌, List, [], ◌∷◌, ◌++◌, length, Option, Some, None, refl, sym, ap, ◌∙◌, subst, arith, length-append}
 use Rattle.rx_core.specs.declared.types.Span.{Span}
+use Rattle.rx_core.specs.Bytes.{is_one_of}
 use Rattle.rx_tree.specs.Plain as plain
 use Rattle.rx_tree.specs.Plain.{OptionalExpression, Statement, Function, ItemTree, ProgramTree}
 use Rattle.rx_tree.specs.PlainOf.{statements_of}
 use Rattle.rx_tree.specs.Lists.{statements, tail}
 use Rattle.rx_tree.specs.Erase.{nowhere, erase_program, SameProgram}
 use Rattle.rx_tree.proofs.ListsLemmas.{listed-statements_of}
-use Rattle.rx_engine.specs.Names.{free}
-use Rattle.rx_engine.specs.Plan.{params, outs}
-use Rattle.rx_engine.specs.Run.{Run}
-use Rattle.rx_engine.specs.Extracted.{call_statement, new_function, with_call, handed_out, Parts, Extracted, extraction}
+use Rattle.rx_check.specs.Names.{free}
+use Rattle.rx_check.specs.Accepted.{signatures, AreTyped, scope_from}
+use Rattle.rx_hoist.specs.Plan.{params, outs}
+use Rattle.rx_select.specs.Run.{Run}
+use Rattle.rx_hoist.specs.Chosen.{statements_at}
+use Rattle.rx_hoist.proofs.HoistForms.{statements_here}
+use Rattle.rx_engine.specs.Promise.{HasIntegers}
+use Rattle.rx_hoist.specs.Extracted.{call_statement, new_function, with_call, handed_out, Parts, Extracted, extraction}
 
 -- equal lists have equal parts behind equal lengths
 record SameParts {A : Type 0} (a b c d : List A) : Type 0 where
@@ -88,6 +93,36 @@ pub outs_same : {p : ProgramTree} {r : Run} (c d : Parts p r) → outs c.run (fr
 outs_same c d =
     let s = same c d in
     ap (λ l. outs l (free c.rest c.tail)) s.run ∙ ap (λ l. outs d.run (free l c.tail)) s.rest ∙ ap (λ t. outs d.run (free d.rest t)) s.tail
+
+-- and so are its params, and whether its variables are integers
+pub params_same : {p : ProgramTree} {r : Run} (c d : Parts p r) → params c.run ≡ params d.run
+params_same c d = ap params (same c d).run
+
+pub integers_same : {p : ProgramTree} {r : Run} (c d : Parts p r) → HasIntegers c → HasIntegers d
+integers_same {p = p} c d h =
+    let s = same c d in
+    record {
+      given = λ V t y e.
+          h.given V (subst (λ (l : List Statement). AreTyped (signatures p) (scope_from [] c.function.params) l V) (sym s.front)
+          (subst (λ (f : Function). AreTyped (signatures p) (scope_from [] f.params) d.front V) (sym s.function) t)) y
+          (ap (λ l. is_one_of y (params l)) s.run ∙ e);
+      made = λ V t y e.
+          h.made V (subst (λ (l : List Statement). AreTyped (signatures p) (scope_from [] c.function.params) (l ++ c.run) V) (sym s.front)
+          (subst (λ (l : List Statement). AreTyped (signatures p) (scope_from [] c.function.params) (d.front ++ l) V) (sym s.run)
+          (subst (λ (f : Function). AreTyped (signatures p) (scope_from [] f.params) (d.front ++ d.run) V) (sym s.function) t))) y
+          (ap (is_one_of y) (outs_same c d) ∙ e);
+    }
+
+-- a run that has parts is one of statements
+pub parts_within : {p : ProgramTree} {r : Run} → Parts p r → r.last < length (statements_at p r.item)
+parts_within {p = p} {r = r} c =
+    let l : statements_at p r.item ≡ statements c.function.body =
+    ap (statements_at p) (sym c.place) ∙ ap (λ z. statements_at z (length c.before)) c.items ∙ statements_here c.before c.behind (plain.function_item c.span c.function) in
+    let m : statements c.function.body ≡ c.front ++ (c.run ++ c.rest) = ap statements c.body ∙ listed-statements_of (c.front ++ (c.run ++ c.rest)) in
+    let n = length-append c.front (c.run ++ c.rest) in
+    let o = length-append c.run c.rest in
+    let k = ap length (l ∙ m) in
+    omega (arith, k, n, o, c.last)
 
 pub extraction_unique : (p : ProgramTree) (r : Run) (name : List ℕ) (q s : ProgramTree) → Extracted p r name q → Extracted p r name s → SameProgram q s
 extraction_unique p r name q s e f =

@@ -12,11 +12,11 @@ use Rattle.rx_lex.specs.Words.{is_identifier}
 use Rattle.rx_parse.specs.Grammar.{levels}
 use Rattle.rx_print.specs.Printable.{Printable, list_levels, optional_levels, statement_levels, statements_levels, parameters_levels, written_type_levels, function_levels, levels_of, IsValue, AreVariables, IsCall, IsPrint, IsInitial, IsStatementForm, AreStatementForms, IsTail, IsResultForm, AreParameterForms, IsFunctionForm, AreItemForms}
 use Rattle.rx_print.proofs.SameText.{printable_same}
-use Rattle.rx_engine.specs.Names.{uses, uses_all, uses_given, uses_in, declares, names, remove, without, distinct, free}
-use Rattle.rx_engine.specs.Plan.{params, declared_in, handed, outs}
-use Rattle.rx_engine.specs.Run.{Run}
-use Rattle.rx_engine.specs.Extracted.{arguments, call_statement, by_value, result_of, tail_of, new_function, with_call, handed_out, Parts, Extracted, extraction}
-use Rattle.rx_engine.proofs.Membership.{names-append}
+use Rattle.rx_check.specs.Names.{uses, uses_all, uses_given, uses_in, declares, names, remove, without, distinct, free}
+use Rattle.rx_hoist.specs.Plan.{params, declared_in, handed, outs}
+use Rattle.rx_select.specs.Run.{Run}
+use Rattle.rx_hoist.specs.Extracted.{arguments, call_statement, by_value, result_of, tail_of, new_function, with_call, handed_out, Parts, Extracted, extraction}
+use Rattle.rx_hoist.proofs.Membership.{names-append}
 use Rattle.rx_engine.proofs.AcceptedLemmas.{every-append, every-front, every-back}
 
 -- ---- the names of a printable run are words

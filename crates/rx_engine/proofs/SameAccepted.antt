@@ -8,14 +8,13 @@ use Rattle.rx_tree.specs.Plain as plain
 use Rattle.rx_tree.specs.Plain.{TypeTree, Expression, Expressions, OptionalExpression, Body, Statement, Statements, Parameter, Function, ItemTree, ProgramTree}
 use Rattle.rx_tree.specs.Lists.{listed, statements, tail, Every}
 use Rattle.rx_tree.specs.Erase.{erase, erase_all, erase_ident, erase_optional, erase_statement, erase_statements, erase_body, erase_type, erase_lifetime, erase_parameter, erase_function, erase_program, SameProgram}
-use Rattle.rx_engine.specs.Run.{Run}
-use Rattle.rx_engine.specs.Extracted.{Extracted, extraction}
+use Rattle.rx_select.specs.Run.{Run}
+use Rattle.rx_hoist.specs.Extracted.{Extracted, extraction}
 use Rattle.rx_engine.specs.Avoids.{Avoids}
-use Rattle.rx_engine.specs.Conditions.{is_plain_program}
-use Rattle.rx_engine.specs.Accepted as accepted
-use Rattle.rx_engine.specs.Accepted.{ValueType, integer, Scope, type_in, Signature, signature, signatures, signature_of, functions, given_by, HasType, AreIntegers, AreTyped, Gives, IsI64, IsParameter, parameter_names, AreDistinct, scope_from, IsTyped, HasMain, Accepted}
+use Rattle.rx_engine.specs.Promise.{HasIntegers}
+use Rattle.rx_check.specs.Accepted as accepted
+use Rattle.rx_check.specs.Accepted.{ValueType, integer, Scope, type_in, Signature, signature, signatures, signature_of, functions, given_by, HasType, AreIntegers, AreTyped, Gives, IsI64, IsParameter, parameter_names, AreDistinct, scope_from, IsTyped, HasMain, Accepted}
 use Rattle.rx_engine.proofs.AcceptedLemmas.{extraction_accepted}
-use Rattle.rx_engine.proofs.PlainIntegers.{plain_integers}
 
 -- ---- expressions
 
@@ -182,8 +181,7 @@ accepted_same p q e a =
       typed = subst (λ (L : List Signature). Every (IsTyped L) (functions q)) s (functions_same (signatures p) (functions p) (functions q) f a.typed);
     }
 
--- the extraction of an accepted plain program is accepted
-pub accepted_extraction : (p : ProgramTree) (r : Run) (name : List ℕ) (q : ProgramTree) → is_plain_program p ≡ true → Accepted p → Avoids name p → Extracted p r name q → Accepted q
-accepted_extraction p r name q h a n e =
-    accepted_same (extraction e.parts name e.out) q (sym e.same)
-    (extraction_accepted p r name e.parts e.out a e.outs n (plain_integers p r e.parts h a))
+-- the extraction of an accepted program is accepted, where the variables of the run are integers
+pub accepted_extraction : (p : ProgramTree) (r : Run) (name : List ℕ) (q : ProgramTree) (e : Extracted p r name q) → Accepted p → Avoids name p → HasIntegers e.parts → Accepted q
+accepted_extraction p r name q e a n h =
+    accepted_same (extraction e.parts name e.out) q (sym e.same) (extraction_accepted p r name e.parts e.out a e.outs n h)

@@ -1,13 +1,5 @@
-pub mod Names
-pub mod Accepted
-pub mod Plan
-pub mod Run
-pub mod Extracted
 pub mod Conditions
 pub mod Avoids
-pub mod Faults
-pub mod Firsts
-pub mod Chosen
-pub mod Selecting
 pub mod Promise
+pub mod Built
 pub mod Verdict

@@ -1,22 +1,29 @@
 -- What the extraction of a text is, and what its answer promises.
-use Rattle.std.specs.Prelude.{◌≡◌, ℕ, ℤ, ◌≤◌, ◌*◌, true, false, List, length}
+use Rattle.std.specs.Prelude.{◌≡◌, ℕ, ℤ, ◌≤◌, ◌*◌, true, false, List, [], ◌++◌, length, Some}
+use Rattle.rx_core.specs.Bytes.{is_one_of}
 use Rattle.rx_tree.specs.Plain.{ProgramTree}
 use Rattle.rx_lex.specs.Words.{is_identifier}
 use Rattle.rx_parse.specs.Grammar.{Parses}
 use Rattle.rx_print.specs.Print.{print_program}
 use Rattle.rx_meaning.specs.Meaning.{run, UpTo}
-use Rattle.rx_engine.specs.Names.{free}
-use Rattle.rx_engine.specs.Accepted.{Accepted}
-use Rattle.rx_engine.specs.Plan.{outs}
-use Rattle.rx_engine.specs.Run.{Run, RunOf}
-use Rattle.rx_engine.specs.Extracted.{Parts, Extracted}
-use Rattle.rx_engine.specs.Conditions.{is_plain_program, is_taken}
+use Rattle.rx_check.specs.FirstGrammar.{is_first_program}
+use Rattle.rx_check.specs.Names.{free}
+use Rattle.rx_check.specs.Accepted.{integer, Scope, type_in, signatures, AreTyped, scope_from, Accepted}
+use Rattle.rx_select.specs.Run.{Run, RunOf}
+use Rattle.rx_hoist.specs.Plan.{params, outs}
+use Rattle.rx_hoist.specs.Extracted.{Parts, Extracted}
+use Rattle.rx_engine.specs.Conditions.{most_parameters, most_bytes, is_taken}
 
 -- the bytes are an accepted text with this tree
 pub record Accepts (bytes : List ℕ) (p : ProgramTree) : Type 0 where
   pub parses : Parses bytes p
-  pub plain : is_plain_program p ≡ true
   pub accepted : Accepted p
+
+-- the bytes are an accepted text: a program of the first grammar that breaks no rule
+pub record IsAccepted (bytes : List ℕ) : Type 0 where
+  pub p : ProgramTree
+  pub first : is_first_program p ≡ true
+  pub accepts : Accepts bytes p
 
 -- the range selects this run of an accepted text
 pub record Selects (bytes : List ℕ) (start end : ℕ) (p : ProgramTree) (r : Run) : Type 0 where
@@ -29,11 +36,25 @@ pub record Names (bytes : List ℕ) (start end : ℕ) (name : List ℕ) (p : Pro
   pub word : is_identifier name ≡ true
   pub fresh : is_taken selects.accepts.parses.tokens name ≡ false
 
+-- each param is an integer in front of the run, and each variable that is handed out is one behind it
+pub record HasIntegers {p : ProgramTree} {r : Run} (c : Parts p r) : Type 0 where
+  pub given : (V : Scope) → AreTyped (signatures p) (scope_from [] c.function.params) c.front V
+      → (y : List ℕ) → is_one_of y (params c.run) ≡ true → type_in V y ≡ Some integer
+  pub made : (V : Scope) → AreTyped (signatures p) (scope_from [] c.function.params) (c.front ++ c.run) V
+      → (y : List ℕ) → is_one_of y (outs c.run (free c.rest c.tail)) ≡ true → type_in V y ≡ Some integer
+
+-- q is p with the run moved: it hands out one variable at most, its variables are integers, and its params are not too many
+pub record Moves (p : ProgramTree) (r : Run) (name : List ℕ) (q : ProgramTree) : Type 0 where
+  pub extracted : Extracted p r name q
+  pub integers : HasIntegers extracted.parts
+  pub few : length (params extracted.parts.run) ≤ most_parameters
+
 -- no condition fails, and q is the extraction
 pub record IsExtraction (bytes : List ℕ) (start end : ℕ) (name : List ℕ) (p q : ProgramTree) : Type 0 where
   pub run : Run
   pub names : Names bytes start end name p run
-  pub extracted : Extracted p run name q
+  pub moves : Moves p run name q
+  pub short : length (print_program q) ≤ most_bytes
 
 -- for every input and number of turns, what the second does in so many turns is what the first does up to there, and what
 -- the first does in so many is what the second does in twice as many up to there
@@ -50,7 +71,3 @@ pub record Keeps (bytes : List ℕ) (start end : ℕ) (name answer : List ℕ) :
   pub accepted : Accepted q
   pub rendered : answer ≡ print_program q
   pub runs : KeepsRuns p q
-
--- the run hands out two variables or more
-abbrev pub HandsOutMore : {p : ProgramTree} {r : Run} → Parts p r → Type 0
-HandsOutMore c = 2 ≤ length (outs c.run (free c.rest c.tail))

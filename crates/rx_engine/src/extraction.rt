@@ -1,34 +1,44 @@
 //! The extraction over texts: parse, check, select, plan, move, print.
 
-ghost use Rattle.std.specs.Prelude.{◌≡◌, ◌≤◌, ◌<◌, ℕ, List as ListOf, true, false, length, map, IfOk, IfErr, MatchResult};
-ghost use Rattle.std.specs.List.{list_all};
+ghost use Rattle.std.specs.Prelude.{◌≡◌, ◌≤◌, ◌<◌, ◌+◌, ◌||◌, ℕ, [], List as ListOf, true, false, length, map, take, Some, IfOk, IfErr, MatchResult, Err};
+ghost use Rattle.rx_core.specs.declared.types.Span.{Span};
+ghost use Rattle.rx_tree.specs.Plain as plain;
 ghost use Rattle.rx_tree.specs.Plain.{ProgramTree};
-ghost use Rattle.rx_tree.specs.PlainOf.{plain-Program, plain-Stmt};
+ghost use Rattle.rx_tree.specs.PlainOf.{plain-Program, plain-Func, plain-Stmt};
+ghost use Rattle.rx_tree.specs.Lists.{nth};
 ghost use Rattle.rx_lex.specs.Tok.{toks};
 ghost use Rattle.rx_lex.specs.Words.{is_identifier as is_word};
 ghost use Rattle.rx_lex.specs.Tokens.{Lexes};
 ghost use Rattle.rx_parse.specs.Grammar.{Parses};
 ghost use Rattle.rx_print.specs.Print.{print_program};
-ghost use Rattle.rx_engine.specs.Conditions.{is_plain_program, is_plain_statement, is_taken as taken};
-ghost use Rattle.rx_engine.specs.Chosen.{first_body};
-ghost use Rattle.rx_engine.specs.Selecting.{PlacedIn, run as run_is};
-ghost use Rattle.rx_engine.specs.Run.{RunOf};
-ghost use Rattle.rx_engine.specs.Extracted.{Extracted};
-ghost use Rattle.rx_engine.specs.Promise.{Accepts, IsExtraction};
-ghost use Rattle.rx_engine.specs.Verdict.{Extracts, AnswersText, Refuses, IsChoiceFault, IsMoveFault, syntax_of, not_accepted};
+ghost use Rattle.rx_check.specs.Accepted.{Accepted, type_in, signatures, scope_from};
+ghost use Rattle.rx_check.specs.FirstGrammar.{is_first_program};
+ghost use Rattle.rx_check.specs.Types.{scope_after};
+ghost use Rattle.rx_select.specs.Placed.{PlacedIn};
+ghost use Rattle.rx_select.specs.Selecting.{run as run_is};
+ghost use Rattle.rx_select.specs.Run.{RunOf};
+ghost use Rattle.rx_hoist.specs.Chosen.{is_function_at};
+ghost use Rattle.rx_engine.specs.Conditions.{is_taken as taken};
+ghost use Rattle.rx_engine.specs.Promise.{Accepts, IsAccepted, Moves, IsExtraction};
+ghost use Rattle.rx_engine.specs.Built.{any_unit, IsBuilt};
+ghost use Rattle.rx_engine.specs.Verdict.{Extracts, Checks, AnswersText, Refuses, IsChoiceFault, IsMoveFault, syntax_of, not_accepted};
 
-use crate::check::{CheckFault, check_program};
-use crate::hoist::hoist;
 use crate::names::is_taken;
-use crate::plain::is_plain;
-use crate::plan::plan_run;
-use crate::select::{Run, select_run};
-use rx_core::{Bound, List, Text};
+use rx_check::{CheckFault, Scope, accepted, scope_behind};
+use rx_core::{Bound, List, Name, Text, Which};
+use rx_hoist::{Plan, hoist, plan_run};
 use rx_lex::{Tokens, is_identifier, lex};
 use rx_parse::{SyntaxFault, parse};
 use rx_print::print;
-use rx_tree::{ItemNode, Program, Stmt};
-use std::alloc::Global;
+use rx_select::{Run, select_run};
+use rx_tree::{Func, ItemNode, Program, Stmt};
+use std::alloc::{AllocError, Global};
+
+/// The most parameters of the new function.
+const MOST_PARAMETERS: usize = 64;
+
+/// The most bytes of a text, and of an answer.
+const MOST_BYTES: usize = 1_048_576;
 
 /// A range of bytes of the text: it selects the statements whose tokens are exactly those within.
 #[derive(Clone, Copy, Debug)]
@@ -53,8 +63,11 @@ pub enum Refusal {
     BadName,
     /// The name is reserved, or the text has it already.
     NameTaken,
-    /// The text is of a form that is not built yet, or the run hands out two variables or more.
+    /// The run contains the tail of its block, hands out two variables or more, or has a param or a variable that it hands
+    /// out of the unit type: forms that are not built yet.
     NotBuilt,
+    /// The new function's parameters, or the answer's bytes, pass their limit; the number that does.
+    Limit { which: Which, count: u64 },
 }
 
 /// Why there is no answer.
@@ -84,22 +97,38 @@ fn check_fault(fault: CheckFault) -> Fault
     }
 }
 
-/// The tree of a text that is accepted and of the form that is extracted from.
+/// The tree of a text that is accepted.
 fn accepted_program(alloc: Global, text: &[u8]) -> Result<Program, Fault>
     ensures found { IfOk result (λ p. Accepts text.now (plain-Program p)) }
+    ensures first { IfOk result (λ p. is_first_program (plain-Program p) ≡ true) }
     ensures only { IfOk result (λ p. (q : ProgramTree) → Parses text.now q → plain-Program p ≡ q) }
+    ensures cause { IfErr result (λ f. Checks text.now (Err f)) }
+    ensures memory { IfErr result (λ f. (q : ProgramTree) → Accepts text.now q → f ≡ Fault.OutOfMemory) }
     ensures fault { IfErr result (λ f. (start end : ℕ) (name : ListOf ℕ) → Refuses text.now start end name f) }
 {
     let program = match parse(alloc, text) {
         Ok(program) => program,
         Err(fault) => return Err(syntax_fault(fault)),
     };
-    if !is_plain(&program) {
-        return Err(Fault::Refused(Refusal::NotBuilt));
-    }
-    match check_program(&program) {
+    match accepted(alloc, &program) {
         Ok(()) => Ok(program),
         Err(fault) => Err(check_fault(fault)),
+    }
+}
+
+/// Whether a text is accepted: it is a program that breaks no rule.
+///
+/// # Errors
+/// `Syntax` where the text is not read, and `NotAccepted` with the first fault of its tree. `Refused` is never answered.
+pub fn check(alloc: Global, text: &[u8]) -> Result<(), Fault>
+    // A text that passes is accepted; each fault has its cause.
+    ensures verdict { Checks text.now result }
+    // An accepted text passes, unless memory runs out.
+    ensures complete { IsAccepted text.now → IfErr result (λ f. f ≡ Fault.OutOfMemory) }
+{
+    match accepted_program(alloc, text) {
+        Ok(_program) => Ok(()),
+        Err(fault) => Err(fault),
     }
 }
 
@@ -114,39 +143,103 @@ fn tokens_of(alloc: Global, text: &[u8]) -> Result<Tokens<'_>, Fault>
     }
 }
 
-/// The statements of the program's one function.
-fn only_statements(program: &Program) -> &[Stmt]
-    requires { is_plain_program (plain-Program program.now) ≡ true }
-    ensures statements { map plain-Stmt result.now ≡ first_body (plain-Program program.now) }
-    ensures plain { list_all is_plain_statement (map plain-Stmt result.now) ≡ true }
+/// The function at a place of a program.
+fn function_at(program: &Program, at: usize) -> &Func
+    requires within { at < length program.now.items }
+    requires function { is_function_at (plain-Program program.now) at ≡ true }
+    ensures { (s : Span) × (nth (plain-Program program.now) at ≡ Some (plain.function_item s (plain-Func result.now))) }
 {
-    match program.items.as_slice() {
-        [item] => match &item.node {
-            ItemNode::Func(f) => f.body.stmts.as_slice(),
-            _ => unreachable!(),
-        },
+    let item = &program.items.as_slice()[at];
+    match &item.node {
+        ItemNode::Func(function) => function,
         _ => unreachable!(),
     }
 }
 
-/// Moves a run of an accepted program into a function of this name.
-fn moved(alloc: Global, program: Program, run: Run, name: &str) -> Result<Program, Fault>
-    requires plain { is_plain_program (plain-Program program) ≡ true }
-    requires only { run.item ≡ 0 }
-    requires forward { run.first ≤ run.last }
-    requires within { run.last < length (first_body (plain-Program program)) }
-    ensures found { IfOk result (λ q. Extracted (plain-Program program) (run_is run) name.now (plain-Program q)) }
-    ensures fault { IfErr result (λ f. IsMoveFault (plain-Program program) (run_is run) f) }
+/// Whether one of these variables is a unit.
+fn has_unit(scope: &Scope<'_>, names: &[Name]) -> bool
+    ensures { result ≡ any_unit scope.now names.now }
 {
-    let stmts = only_statements(&program);
-    let plan = match plan_run(alloc, stmts, run.first, run.last) {
+    for name in names {
+        if scope.is_unit(name) {
+            return true;
+        }
+    }
+    false
+}
+
+/// Whether a param is a unit in front of the run, or a variable that it hands out is one behind it.
+fn hands_unit(
+    alloc: Global,
+    program: &Program,
+    function: &Func,
+    stmts: &[Stmt],
+    run: Run,
+    plan: &Plan,
+) -> Result<bool, AllocError>
+    requires forward { run.first ≤ run.last }
+    requires within { run.last < length stmts.now }
+    ensures { IfOk result (λ b. b
+        ≡ (any_unit (scope_after (signatures (plain-Program program.now)) (scope_from [] (plain-Func function.now).params) (map plain-Stmt (take run.first stmts.now))) plan.now.params
+        || any_unit (scope_after (signatures (plain-Program program.now)) (scope_from [] (plain-Func function.now).params) (map plain-Stmt (take (run.last + 1) stmts.now))) plan.now.outs)) }
+{
+    let front = scope_behind(alloc, program, function, &stmts[..run.first])?;
+    if has_unit(&front, plan.params.as_slice()) {
+        return Ok(true);
+    }
+    let behind = scope_behind(alloc, program, function, &stmts[..run.last + 1])?;
+    Ok(has_unit(&behind, plan.outs.as_slice()))
+}
+
+/// What a run of a form that is built is given and hands out, within the limit of parameters.
+fn built_plan(alloc: Global, program: &Program, run: Run) -> Result<Plan, Fault>
+    requires accepted { Accepted (plain-Program program.now) }
+    requires item { run.item < length program.now.items }
+    requires function { is_function_at (plain-Program program.now) run.item ≡ true }
+    requires forward { run.first ≤ run.last }
+    ensures found { IfOk result (λ c. IsBuilt (plain-Program program.now) (run_is run) c.params c.outs) }
+    ensures fault { IfErr result (λ f. IsMoveFault (plain-Program program.now) (run_is run) f) }
+{
+    let function = function_at(program, run.item);
+    let stmts = function.body.stmts.as_slice();
+    if run.last >= stmts.len() {
+        return Err(Fault::Refused(Refusal::NotBuilt));
+    }
+    let plan = match plan_run(alloc, &function.body, run.first, run.last) {
         Ok(plan) => plan,
         Err(_) => return Err(Fault::OutOfMemory),
     };
     if plan.outs.len() > 1 {
         return Err(Fault::Refused(Refusal::NotBuilt));
     }
-    match hoist(alloc, program, run.first, run.last, &plan, name) {
+    let Ok(units) = hands_unit(alloc, program, function, stmts, run, &plan) else {
+        return Err(Fault::OutOfMemory);
+    };
+    if units {
+        return Err(Fault::Refused(Refusal::NotBuilt));
+    }
+    if plan.params.len() > MOST_PARAMETERS {
+        let which = Which::Parameters;
+        let count = plan.params.len() as u64;
+        return Err(Fault::Refused(Refusal::Limit { which, count }));
+    }
+    Ok(plan)
+}
+
+/// Moves a run of an accepted program into a function of this name.
+fn moved(alloc: Global, program: Program, run: Run, name: &str) -> Result<Program, Fault>
+    requires accepted { Accepted (plain-Program program) }
+    requires item { run.item < length program.items }
+    requires function { is_function_at (plain-Program program) run.item ≡ true }
+    requires forward { run.first ≤ run.last }
+    ensures found { IfOk result (λ q. Moves (plain-Program program) (run_is run) name.now (plain-Program q)) }
+    ensures fault { IfErr result (λ f. IsMoveFault (plain-Program program) (run_is run) f) }
+{
+    let plan = match built_plan(alloc, &program, run) {
+        Ok(plan) => plan,
+        Err(fault) => return Err(fault),
+    };
+    match hoist(alloc, program, run, &plan, name) {
         Ok(program) => Ok(program),
         Err(_) => Err(Fault::OutOfMemory),
     }
@@ -161,7 +254,6 @@ fn chosen_run(
     name: &str,
 ) -> Result<Run, Fault>
     requires placed { PlacedIn (toks tokens.now.list) (plain-Program program.now) }
-    requires plain { is_plain_program (plain-Program program.now) ≡ true }
     ensures found { IfOk result (λ r. RunOf tokens.now.length (toks tokens.now.list) (plain-Program program.now) selection.start selection.end (run_is r)
         × (is_word name.now ≡ true) × (taken (toks tokens.now.list) name.now ≡ false)) }
     ensures fault { IfErr result (λ f. IsChoiceFault tokens.now.length (toks tokens.now.list) (plain-Program program.now) selection.start selection.end name.now f) }
@@ -222,11 +314,16 @@ pub fn extract(
         Ok(program) => program,
         Err(fault) => return Err(fault),
     };
-    match print(alloc, &program) {
-        Ok(text) => Ok(Answer {
-            text,
-            bounds: List::new(alloc),
-        }),
-        Err(_) => Err(Fault::OutOfMemory),
+    let Ok(text) = print(alloc, &program) else {
+        return Err(Fault::OutOfMemory);
+    };
+    if text.as_str().len() > MOST_BYTES {
+        let which = Which::Bytes;
+        let count = text.as_str().len() as u64;
+        return Err(Fault::Refused(Refusal::Limit { which, count }));
     }
+    Ok(Answer {
+        text,
+        bounds: List::new(alloc),
+    })
 }

@@ -6,7 +6,7 @@ use Rattle.rx_core.specs.declared.types.Kind.TheVariants.{I64}
 use Rattle.rx_tree.specs.declared.tree.Ident.{Ident}
 use Rattle.rx_tree.specs.declared.tree.BinaryOp.TheVariants.{Add, Mul, Div, Rem}
 use Rattle.rx_tree.specs.Erase.{nowhere}
-use Rattle.rx_tree.specs.Plain.{Expression, Statement, ProgramTree}
+use Rattle.rx_tree.specs.Plain.{Expression, Statement, Function, ProgramTree}
 use Rattle.rx_tree.specs.Plain as plain
 use Rattle.rx_meaning.specs.Meaning.{State, number, on, stops, trapped, overflow, divide_by_zero, least, greatest, compute, run, ended, running, expression, below_level}
 
@@ -75,3 +75,51 @@ past_greatest s = refl
 
 least_stays : (s : State) → compute Add least (pos 0) s ≡ on [] (number least) s
 least_stays s = refl
+
+-- fn twice(x: i64) -> i64 { x * 2i64 }
+abbrev twice : Function
+twice = record {
+  name = word (codes "twice");
+  lifetimes = [];
+  params = record { name = word (codes "x"); mutable = false; typ = plain.kind_type nowhere I64 } ∷ [];
+  result = Some (plain.kind_type nowhere I64);
+  body = plain.body nowhere plain.no_statement (plain.present (plain.binary nowhere Mul (named (codes "x")) (literal 2)));
+}
+
+-- fn main() { let a = 3i64; let b = 4i64; let c = twice(b); println!("{}", a); }
+abbrev caller : Function
+caller = record {
+  name = word (codes "main");
+  lifetimes = [];
+  params = [];
+  result = None;
+  body = plain.body nowhere
+      (plain.statement_and (let_is (codes "a") (literal 3))
+      (plain.statement_and (let_is (codes "b") (literal 4))
+      (plain.statement_and (let_is (codes "c") (plain.call nowhere (word (codes "twice")) (plain.expression_and (named (codes "b")) plain.no_expression)))
+      (plain.statement_and (plain.expression_statement nowhere (plain.print nowhere (named (codes "a"))) true) plain.no_statement))))
+      plain.absent;
+}
+
+-- an activation has variables of its own
+variables_are_own : run (plain.function_item nowhere twice ∷ plain.function_item nowhere caller ∷ []) [] 2 ≡ record { printed = codes "3\n"; ending = ended }
+unfolding expression below_level
+variables_are_own = rw (decimal_digit 3 (omega arith)) refl
+
+-- fn main() { let a = 1i64 / 0i64 + 9223372036854775807i64 * 2i64; }
+abbrev two_traps : ProgramTree
+two_traps =
+    plain.function_item nowhere (record {
+      name = word (codes "main");
+      lifetimes = [];
+      params = [];
+      result = None;
+      body = plain.body nowhere
+          (plain.statement_and (let_is (codes "a") (plain.binary nowhere Add (plain.binary nowhere Div (literal 1) (literal 0)) (plain.binary nowhere Mul (literal 9223372036854775807) (literal 2)))) plain.no_statement)
+          plain.absent;
+    }) ∷ []
+
+-- the left operand comes first, so its trap is the one
+left_comes_first : run two_traps [] 1 ≡ record { printed = []; ending = trapped divide_by_zero }
+unfolding expression below_level
+left_comes_first = refl

@@ -1,3 +1,4 @@
 pub mod Digits
 pub mod Replies
+pub mod Checking
 pub mod Agreement

@@ -7,19 +7,19 @@ use Rattle.rx_lex.specs.declared.lexer.LexFault.{LexFault}
 use Rattle.rx_lex.specs.declared.lexer.LexFault.TheVariants as lex
 use Rattle.rx_parse.specs.declared.fault.SyntaxFault.{SyntaxFault}
 use Rattle.rx_parse.specs.declared.fault.SyntaxFault.TheVariants as syntax
-use Rattle.rx_engine.specs.declared.check.NameFault.{NameFault}
-use Rattle.rx_engine.specs.declared.check.NameFault.TheVariants as name
-use Rattle.rx_engine.specs.declared.check.TypeFault.{TypeFault}
-use Rattle.rx_engine.specs.declared.check.TypeFault.TheVariants as type
-use Rattle.rx_engine.specs.declared.check.CheckFault.{CheckFault}
-use Rattle.rx_engine.specs.declared.check.CheckFault.TheVariants as check
+use Rattle.rx_check.specs.declared.fault.NameFault.{NameFault}
+use Rattle.rx_check.specs.declared.fault.NameFault.TheVariants as name
+use Rattle.rx_check.specs.declared.fault.TypeFault.{TypeFault}
+use Rattle.rx_check.specs.declared.fault.TypeFault.TheVariants as type
+use Rattle.rx_check.specs.declared.fault.CheckFault.{CheckFault}
+use Rattle.rx_check.specs.declared.fault.CheckFault.TheVariants as check
 use Rattle.rx_engine.specs.declared.extraction.Fault.TheVariants as fault
 use Rattle.rx_rem.specs.declared.status.Status.{Status}
 use Rattle.rx_rem.specs.declared.status.Status.TheVariants.{Done, Usage, NotAccepted, Refused, ReadFault, WriteFault, OutOfMemory, TooLong, StillRunning, Wrong, Trapped}
 use Rattle.rx_engine.specs.Verdict.{Extracts}
-use Rattle.rx_rem.specs.Forms.{Command, extracts, command_of}
+use Rattle.rx_rem.specs.Forms.{Command, extracts, checks, command_of}
 use Rattle.rx_rem.specs.Lines.{status_line, fault_line, lex_line, syntax_line, name_line, type_line, check_line, fault_status, lex_status, syntax_status, name_status, type_status, check_status}
-use Rattle.rx_rem.specs.Defined.{Defined, AnswersTo, result_status, result_bytes, result_line}
+use Rattle.rx_rem.specs.Defined.{Defined, AnswersTo, Checked, passed, no_program, faulty, result_status, result_bytes, result_line}
 use Rattle.rx_rem.specs.Replies.{Stream, IsForm, HasFailed, HasAll, IsRead, Due, answered, not_read, too_long, no_memory, Ending, whole, out_cut, both_cut, err_cut, IsComplete, Replies, Reports, Delivers, Found, defined, no_room}
 
 -- the statuses that a text's answer has
@@ -44,6 +44,7 @@ syntax_answers syntax.OutOfMemory = tt
 
 name_answers : (f : NameFault) → IsAnswer (name_status f)
 name_answers (name.Unknown at) = tt
+name_answers (name.Twice a b) = tt
 name_answers name.OutOfMemory = tt
 
 type_answers : (f : TypeFault) → IsAnswer (type_status f)
@@ -54,6 +55,7 @@ type_answers type.OutOfMemory = tt
 check_answers : (f : CheckFault) → IsAnswer (check_status f)
 check_answers (check.Name f) = name_answers f
 check_answers (check.Types f) = type_answers f
+check_answers (check.NotBuilt at) = tt
 check_answers check.OutOfMemory = tt
 
 fault_answers : (f : Fault) → IsAnswer (fault_status f)
@@ -66,9 +68,15 @@ result_answers : (r : Result Answer Fault) → IsAnswer (result_status r)
 result_answers (Ok a) = tt
 result_answers (Err f) = fault_answers f
 
+checked_answers : (text : List ℕ) (status : Status) (outs errs : List ℕ) → Checked text status outs errs → IsAnswer status
+checked_answers text _ _ _ (passed a) = tt
+checked_answers text _ _ _ (no_program f n c) = tt
+checked_answers text _ _ _ (faulty p f d e) = tt
+
 asked_answers : (q : Option Command) (text : List ℕ) (status : Status) (outs errs : List ℕ) → AnswersTo q text status outs errs → IsAnswer status
 asked_answers None text status outs errs a = subst IsAnswer (sym a.0) tt
 asked_answers (Some (extracts name start end)) text status outs errs a = subst IsAnswer (sym a.status_is) (result_answers a.result)
+asked_answers (Some checks) text status outs errs a = checked_answers text status outs errs a
 
 defined_answers : (words : List (List ℕ)) (text : List ℕ) (status : Status) (outs errs : List ℕ) → Defined words text status outs errs → IsAnswer status
 defined_answers words text status outs errs d = asked_answers (command_of words) text status outs errs d
@@ -171,6 +179,7 @@ syntax_memory syntax.OutOfMemory e = refl
 
 name_memory : (f : NameFault) → name_status f ≡ OutOfMemory → name_line f ≡ status_line OutOfMemory
 name_memory (name.Unknown at) e = absurd (cc)
+name_memory (name.Twice a b) e = absurd (cc)
 name_memory name.OutOfMemory e = refl
 
 type_memory : (f : TypeFault) → type_status f ≡ OutOfMemory → type_line f ≡ status_line OutOfMemory
@@ -181,6 +190,7 @@ type_memory type.OutOfMemory e = refl
 check_memory : (f : CheckFault) → check_status f ≡ OutOfMemory → check_line f ≡ status_line OutOfMemory
 check_memory (check.Name f) e = name_memory f e
 check_memory (check.Types f) e = type_memory f e
+check_memory (check.NotBuilt at) e = absurd (cc)
 check_memory check.OutOfMemory e = refl
 
 fault_memory : (f : Fault) → fault_status f ≡ OutOfMemory → fault_line f ≡ status_line OutOfMemory
@@ -190,12 +200,13 @@ fault_memory (fault.Refused r) e = absurd (cc)
 fault_memory fault.OutOfMemory e = refl
 
 found_no_room : (text name : List ℕ) (start end : ℕ) (status : Status) (line : List ℕ) → status ≡ OutOfMemory → line ≡ status_line OutOfMemory
-    → Found text name start end status [] line
+    → Found (extracts name start end) text status [] line
 found_no_room text name start end status line e l =
-    subst (λ (s : Status). Found text name start end s [] line) (sym e) (subst (λ (b : List ℕ). Found text name start end OutOfMemory [] b) (sym l) no_room)
+    let command = extracts name start end in
+    subst (λ (s : Status). Found command text s [] line) (sym e) (subst (λ (b : List ℕ). Found command text OutOfMemory [] b) (sym l) no_room)
 
 pub found_fault : (text name : List ℕ) (start end : ℕ) (r : Result Answer Fault) (f : Fault) → Extracts text start end name r → r ≡ Err f
-    → Found text name start end (fault_status f) [] (fault_line f)
+    → Found (extracts name start end) text (fault_status f) [] (fault_line f)
 found_fault text name start end r f x e =
     elim (status_memory (fault_status f)) [
       | inl m ↦ found_no_room text name start end (fault_status f) (fault_line f) m (fault_memory f m)
@@ -203,16 +214,16 @@ found_fault text name start end r f x e =
     ]
 
 pub found_answer : (text name : List ℕ) (start end : ℕ) (r : Result Answer Fault) (a : Answer) (bytes : List ℕ) → Extracts text start end name r → r ≡ Ok a → bytes ≡ a.text
-    → Found text name start end Done bytes []
+    → Found (extracts name start end) text Done bytes []
 found_answer text name start end r a bytes x e b =
     defined (record { result = r; extracts = x; found = λ m. cc; status_is = ap result_status (sym e); out_is = b ∙ ap result_bytes (sym e); err_is = ap result_line (sym e) })
 
 -- what is found for the text that was read is due
-pub found_due : (words : List (List ℕ)) (s s' : Stream) (text name : List ℕ) (start end : ℕ) (status : Status) (outs errs : List ℕ)
-    → Some (extracts name start end) ≡ command_of words → IsRead s s' text → Found text name start end status outs errs → Due words s s' status outs errs
-found_due words s s' text name start end status outs errs e r (defined d) =
+pub found_due : (words : List (List ℕ)) (s s' : Stream) (command : Command) (text : List ℕ) (status : Status) (outs errs : List ℕ)
+    → Some command ≡ command_of words → IsRead s s' text → Found command text status outs errs → Due words s s' status outs errs
+found_due words s s' command text status outs errs e r (defined d) =
     answered text (λ form. r) (subst (λ (q : Option Command). AnswersTo q text status outs errs) e d)
-found_due words s s' text name start end _ _ _ e r no_room = no_memory (λ n. cc)
+found_due words s s' command text _ _ _ e r no_room = no_memory (λ n. cc)
 
 -- a source that gave more bytes than a number had more left
 pub too_many : (s s' : Option (List ℕ)) (bytes : List ℕ) (n : ℕ) → length bytes ≡ n + 1 → Gone s s' bytes → Told s (λ all. n < length all)

@@ -1,9 +1,8 @@
 -- What a command of the code asks for.
-use Rattle.std.specs.Prelude.{Option, Some, None}
 use Rattle.rx_rem.specs.declared.words.Command.{Command}
-use Rattle.rx_rem.specs.declared.words.Command.TheVariants.{Extract, Usage}
+use Rattle.rx_rem.specs.declared.words.Command.TheVariants.{Extract, Check}
 use Rattle.rx_rem.specs.Forms as forms
 
-abbrev pub asked : Command → Option forms.Command
-asked (Extract name selection) = Some (forms.extracts name.now selection.start selection.end)
-asked Usage = None
+abbrev pub asked : Command → forms.Command
+asked (Extract name selection) = forms.extracts name.now selection.start selection.end
+asked Check = forms.checks

@@ -1,12 +1,20 @@
 -- The defined answer of words on a text: a status, the bytes for standard output, and the line for standard error.
-use Rattle.std.specs.Prelude.{ℕ, ◌≡◌, List, [], Option, Some, None, Result, Ok, Err}
+use Rattle.std.specs.Prelude.{ℕ, ◌≡◌, ◌≢◌, List, [], Option, Some, None, Result, Ok, Err, codes}
+use Rattle.rx_tree.specs.Plain.{ProgramTree}
+use Rattle.rx_parse.specs.Grammar.{Parses}
+use Rattle.rx_parse.specs.Answer.{IsCause}
+use Rattle.rx_parse.specs.declared.fault.SyntaxFault.{SyntaxFault}
+use Rattle.rx_parse.specs.declared.fault.SyntaxFault.TheVariants as syntax
+use Rattle.rx_check.specs.declared.fault.CheckFault.{CheckFault}
+use Rattle.rx_check.specs.Faults.{first, faults}
 use Rattle.rx_engine.specs.declared.extraction.Answer.{Answer}
 use Rattle.rx_engine.specs.declared.extraction.Fault.{Fault}
+use Rattle.rx_engine.specs.Promise.{IsAccepted}
 use Rattle.rx_engine.specs.Verdict.{Extracts}
 use Rattle.rx_rem.specs.declared.status.Status.{Status}
-use Rattle.rx_rem.specs.declared.status.Status.TheVariants.{Done, Usage, OutOfMemory}
-use Rattle.rx_rem.specs.Forms.{Command, extracts, command_of}
-use Rattle.rx_rem.specs.Lines.{status_line, fault_status, fault_line}
+use Rattle.rx_rem.specs.declared.status.Status.TheVariants.{Done, Usage, NotAccepted, OutOfMemory}
+use Rattle.rx_rem.specs.Forms.{Command, extracts, checks, command_of}
+use Rattle.rx_rem.specs.Lines.{status_line, fault_status, syntax_line, check_line, fault_line}
 
 abbrev pub result_status : Result Answer Fault → Status
 result_status (Ok a) = Done
@@ -29,9 +37,18 @@ pub record Obtained (text name : List ℕ) (start end : ℕ) (status : Status) (
   pub out_is : out ≡ result_bytes result
   pub err_is : err ≡ result_line result
 
+-- these are of whether the text is accepted
+pub data Checked (text : List ℕ) : Status → List ℕ → List ℕ → Type 0 where
+  passed : IsAccepted text → Checked text Done (codes "accepted\n") []
+  -- it is no program, and the line says why
+  no_program : (f : SyntaxFault) → f ≢ syntax.OutOfMemory → IsCause f text → Checked text NotAccepted [] (syntax_line f)
+  -- it is a program that breaks rules, and the line says the first fault
+  faulty : (p : ProgramTree) (f : CheckFault) → Parses text p → first (faults p) ≡ Some f → Checked text NotAccepted [] (check_line f)
+
 abbrev pub AnswersTo : Option Command → List ℕ → Status → List ℕ → List ℕ → Type 0
 AnswersTo None text status out err = (status ≡ Usage) × (out ≡ []) × (err ≡ status_line Usage)
 AnswersTo (Some (extracts name start end)) text status out err = Obtained text name start end status out err
+AnswersTo (Some checks) text status out err = Checked text status out err
 
 abbrev pub Defined : List (List ℕ) → List ℕ → Status → List ℕ → List ℕ → Type 0
 Defined words text status out err = AnswersTo (command_of words) text status out err

@@ -18,11 +18,13 @@ number_of word = if nat_lt 0 (length word) && nat_lt (length word) 20 then digit
 pub data Command : Type 0 where
   -- a name and two numbers
   extracts : List ℕ → ℕ → ℕ → Command
+  checks : Command
 
 abbrev pub extracts_of : List ℕ → Option ℕ → Option ℕ → Option Command
 extracts_of name (Some start) (Some end) = Some (extracts name start end)
 extracts_of name _ _ = None
 
 abbrev pub command_of : List (List ℕ) → Option Command
+command_of (verb ∷ []) = if same_bytes verb (codes "check") then Some checks else None
 command_of (verb ∷ name ∷ start ∷ end ∷ []) = if same_bytes verb (codes "extract") then extracts_of name (number_of start) (number_of end) else None
 command_of _ = None

@@ -2,27 +2,29 @@
 use Rattle.std.specs.Prelude.{ℕ, List, [], ◌∷◌, ◌++◌, codes, flat_map}
 use Rattle.std.specs.Fmt.{decimal}
 use Rattle.rx_core.specs.declared.types.Span.{Span}
+use Rattle.rx_core.specs.declared.types.Which.{Which}
+use Rattle.rx_core.specs.declared.types.Which.TheVariants.{Parameters, Lifetimes, Levels, Parts, Sites, Positions, Bytes}
 use Rattle.rx_rem.specs.declared.status.Status.{Status}
 use Rattle.rx_rem.specs.declared.status.Status.TheVariants.{Done, Refused, Usage, NotAccepted, ReadFault, WriteFault, OutOfMemory, TooLong, StillRunning, Wrong, Trapped}
-use Rattle.rx_engine.specs.declared.check.Rule.{Rule}
-use Rattle.rx_engine.specs.declared.check.Rule.TheVariants.{Main}
+use Rattle.rx_check.specs.declared.fault.Rule.{Rule}
+use Rattle.rx_check.specs.declared.fault.Rule.TheVariants.{Equal, KindOf, Count, NotFunction, Main}
 use Rattle.rx_engine.specs.declared.extraction.Refusal.{Refusal}
-use Rattle.rx_engine.specs.declared.extraction.Refusal.TheVariants.{NotARun, BadName, NameTaken, NotBuilt}
+use Rattle.rx_engine.specs.declared.extraction.Refusal.TheVariants.{NotARun, BadName, NameTaken, NotBuilt, Limit}
 use Rattle.rx_lex.specs.declared.lexer.LexFault.{LexFault}
 use Rattle.rx_lex.specs.declared.lexer.LexFault.TheVariants.{NotText, BadToken}
 use Rattle.rx_lex.specs.declared.lexer.LexFault.TheVariants as lex
 use Rattle.rx_parse.specs.declared.fault.SyntaxFault.{SyntaxFault}
 use Rattle.rx_parse.specs.declared.fault.SyntaxFault.TheVariants.{Lex, Syntax, TooDeep}
 use Rattle.rx_parse.specs.declared.fault.SyntaxFault.TheVariants as syntax
-use Rattle.rx_engine.specs.declared.check.NameFault.{NameFault}
-use Rattle.rx_engine.specs.declared.check.NameFault.TheVariants.{Unknown}
-use Rattle.rx_engine.specs.declared.check.NameFault.TheVariants as name
-use Rattle.rx_engine.specs.declared.check.TypeFault.{TypeFault}
-use Rattle.rx_engine.specs.declared.check.TypeFault.TheVariants.{Mismatch, Literal}
-use Rattle.rx_engine.specs.declared.check.TypeFault.TheVariants as type
-use Rattle.rx_engine.specs.declared.check.CheckFault.{CheckFault}
-use Rattle.rx_engine.specs.declared.check.CheckFault.TheVariants.{Name, Types}
-use Rattle.rx_engine.specs.declared.check.CheckFault.TheVariants as check
+use Rattle.rx_check.specs.declared.fault.NameFault.{NameFault}
+use Rattle.rx_check.specs.declared.fault.NameFault.TheVariants.{Unknown, Twice}
+use Rattle.rx_check.specs.declared.fault.NameFault.TheVariants as name
+use Rattle.rx_check.specs.declared.fault.TypeFault.{TypeFault}
+use Rattle.rx_check.specs.declared.fault.TypeFault.TheVariants.{Mismatch, Literal}
+use Rattle.rx_check.specs.declared.fault.TypeFault.TheVariants as type
+use Rattle.rx_check.specs.declared.fault.CheckFault.{CheckFault}
+use Rattle.rx_check.specs.declared.fault.CheckFault.TheVariants.{Name, Types}
+use Rattle.rx_check.specs.declared.fault.CheckFault.TheVariants as check
 use Rattle.rx_engine.specs.declared.extraction.Fault.{Fault}
 use Rattle.rx_engine.specs.declared.extraction.Fault.TheVariants as fault
 
@@ -67,11 +69,22 @@ with_numbers words numbers = words ++ flat_map (λ n. codes " " ++ decimal n) nu
 abbrev pub with_span : List ℕ → Span → List ℕ
 with_span words s = with_numbers words (s.start ∷ s.end ∷ [])
 
+-- the limit that is passed
+abbrev pub which_words : Which → List ℕ
+which_words Parameters = codes "Refused Limit Parameters"
+which_words Lifetimes = codes "Refused Limit Lifetimes"
+which_words Levels = codes "Refused Limit Levels"
+which_words Parts = codes "Refused Limit Parts"
+which_words Sites = codes "Refused Limit Sites"
+which_words Positions = codes "Refused Limit Positions"
+which_words Bytes = codes "Refused Limit Bytes"
+
 abbrev pub refusal_line : Refusal → List ℕ
 refusal_line NotARun = line_of (codes "Refused NotARun")
 refusal_line BadName = line_of (codes "Refused BadName")
 refusal_line NameTaken = line_of (codes "Refused NameTaken")
 refusal_line NotBuilt = line_of (codes "Refused NotBuilt")
+refusal_line (Limit which count) = line_of (with_numbers (which_words which) (count ∷ []))
 
 abbrev pub lex_line : LexFault → List ℕ
 lex_line (NotText at) = line_of (with_numbers (codes "NotAccepted NotText") (at ∷ []))
@@ -85,10 +98,15 @@ syntax_line (TooDeep at) = line_of (with_numbers (codes "NotAccepted TooDeep") (
 syntax_line syntax.OutOfMemory = line_of (codes "OutOfMemory")
 
 abbrev pub rule_words : Rule → List ℕ
+rule_words Equal = codes " Equal"
+rule_words KindOf = codes " KindOf"
+rule_words Count = codes " Count"
+rule_words NotFunction = codes " NotFunction"
 rule_words Main = codes " Main"
 
 abbrev pub name_line : NameFault → List ℕ
 name_line (Unknown at) = line_of (with_span (codes "NotAccepted Unknown") at)
+name_line (Twice first second) = line_of (with_numbers (codes "NotAccepted Twice") (first.start ∷ first.end ∷ second.start ∷ second.end ∷ []))
 name_line name.OutOfMemory = line_of (codes "OutOfMemory")
 
 abbrev pub type_line : TypeFault → List ℕ
@@ -99,6 +117,7 @@ type_line type.OutOfMemory = line_of (codes "OutOfMemory")
 abbrev pub check_line : CheckFault → List ℕ
 check_line (Name f) = name_line f
 check_line (Types f) = type_line f
+check_line (check.NotBuilt at) = line_of (with_span (codes "NotAccepted NotBuilt") at)
 check_line check.OutOfMemory = line_of (codes "OutOfMemory")
 
 abbrev pub fault_line : Fault → List ℕ
@@ -128,6 +147,7 @@ type_status _ = NotAccepted
 abbrev pub check_status : CheckFault → Status
 check_status (Name f) = name_status f
 check_status (Types f) = type_status f
+check_status (check.NotBuilt at) = NotAccepted
 check_status check.OutOfMemory = OutOfMemory
 
 abbrev pub fault_status : Fault → Status

@@ -3,9 +3,9 @@ use Rattle.std.specs.Prelude.{ℕ, ◌≡◌, ◌<◌, ◌≤◌, ◌⊎◌, Lis
 use Rattle.rx_core.specs.Streams.{Rose, Told, Grown}
 use Rattle.rx_rem.specs.declared.status.Status.{Status}
 use Rattle.rx_rem.specs.declared.status.Status.TheVariants.{ReadFault, WriteFault, OutOfMemory, TooLong}
-use Rattle.rx_rem.specs.Forms.{command_of}
+use Rattle.rx_rem.specs.Forms.{Command, command_of}
 use Rattle.rx_rem.specs.Lines.{status_line}
-use Rattle.rx_rem.specs.Defined.{Defined, Obtained}
+use Rattle.rx_rem.specs.Defined.{AnswersTo, Defined}
 
 -- the bytes of a source or a sink, where it tells them, and its counts
 pub record Stream : Type 0 where
@@ -69,10 +69,10 @@ pub record Replies (words : List (List ℕ)) (source source' out out' err err' :
   pub complete : IsForm words → (text : List ℕ) → source.bytes ≡ Some text → length text ≤ 1048576 → (Rose source.faults source'.faults → ⊥)
       → (HasFailed out out' → ⊥) → (HasFailed err err' → ⊥) → IsComplete words text out out' err err' result
 
--- what is found for a text: a result of the extraction, or want of memory
-pub data Found (text name : List ℕ) (start end : ℕ) : Status → List ℕ → List ℕ → Type 0 where
-  defined : {status : Status} {outs errs : List ℕ} → Obtained text name start end status outs errs → Found text name start end status outs errs
-  no_room : Found text name start end OutOfMemory [] (status_line OutOfMemory)
+-- what is found for a command and a text: the defined answer, or want of memory
+pub data Found (command : Command) (text : List ℕ) : Status → List ℕ → List ℕ → Type 0 where
+  defined : {status : Status} {outs errs : List ℕ} → AnswersTo (Some command) text status outs errs → Found command text status outs errs
+  no_room : Found command text OutOfMemory [] (status_line OutOfMemory)
 
 -- one line was written, or cut
 abbrev pub Reports : Stream → Stream → Status → List ℕ → Status → Type 0

@@ -1,10 +1,10 @@
 //! Laws of the tool, each as the contract of a function that does nothing.
 
-ghost use Rattle.std.specs.Prelude.{◌≡◌, ℕ, List, [], Some};
+ghost use Rattle.std.specs.Prelude.{◌≡◌, ℕ, List, [], Some, codes};
 ghost use Rattle.rx_rem.specs.declared.status.Status.{Status};
 ghost use Rattle.rx_print.specs.Print.{print_program};
-ghost use Rattle.rx_engine.specs.Promise.{IsExtraction};
-ghost use Rattle.rx_rem.specs.Forms.{command_of, extracts};
+ghost use Rattle.rx_engine.specs.Promise.{IsAccepted, IsExtraction};
+ghost use Rattle.rx_rem.specs.Forms.{command_of, extracts, checks};
 ghost use Rattle.rx_rem.specs.Defined.{Defined};
 ghost use Rattle.rx_tree.specs.Plain.{ProgramTree};
 
@@ -18,4 +18,10 @@ pub fn one_answer()
 pub fn extraction_is_defined()
     ensures { (words : List (List ℕ)) (text name : List ℕ) (start end : ℕ) (p q : ProgramTree) → command_of words ≡ Some (extracts name start end)
         → IsExtraction text start end name p q → Defined words text Status.Done (print_program q) [] }
+{}
+
+/// The defined answer of a check is `accepted` where the text is accepted, and nowhere else.
+pub fn acceptance_is_defined()
+    ensures accepted { (words : List (List ℕ)) (text : List ℕ) → command_of words ≡ Some checks → IsAccepted text → Defined words text Status.Done (codes "accepted\n") [] }
+    ensures only { (words : List (List ℕ)) (text out err : List ℕ) → command_of words ≡ Some checks → Defined words text Status.Done out err → IsAccepted text }
 {}

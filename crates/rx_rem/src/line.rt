@@ -1,10 +1,10 @@
 //! The line that says why there is no answer.
 
 ghost use Rattle.std.specs.Prelude.{◌≡◌, ◌++◌, IfOk};
-ghost use Rattle.rx_rem.specs.Lines.{line_of, with_numbers, fault_status, syntax_status, check_status, fault_line, syntax_line, lex_line, check_line, name_line, type_line, refusal_line, rule_words};
+ghost use Rattle.rx_rem.specs.Lines.{line_of, with_numbers, fault_status, syntax_status, check_status, fault_line, syntax_line, lex_line, check_line, name_line, type_line, refusal_line, which_words, rule_words};
 
 use crate::status::Status;
-use rx_core::Text;
+use rx_core::{Text, Which};
 use rx_engine::{CheckFault, Fault, NameFault, Refusal, Rule, TypeFault};
 use rx_lex::LexFault;
 use rx_parse::SyntaxFault;
@@ -25,6 +25,20 @@ fn line(alloc: Global, words: &str, numbers: &[u64], rest: &str) -> Result<Text,
     Ok(line)
 }
 
+fn limit_words(which: Which) -> &'static str
+    ensures { result.now ≡ which_words which }
+{
+    match which {
+        Which::Parameters => "Refused Limit Parameters",
+        Which::Lifetimes => "Refused Limit Lifetimes",
+        Which::Levels => "Refused Limit Levels",
+        Which::Parts => "Refused Limit Parts",
+        Which::Sites => "Refused Limit Sites",
+        Which::Positions => "Refused Limit Positions",
+        Which::Bytes => "Refused Limit Bytes",
+    }
+}
+
 fn refusal(alloc: Global, refusal: &Refusal) -> Result<Text, AllocError>
     ensures { IfOk result (λ l. l ≡ refusal_line refusal.now) }
 {
@@ -33,6 +47,7 @@ fn refusal(alloc: Global, refusal: &Refusal) -> Result<Text, AllocError>
         Refusal::BadName => line(alloc, "Refused BadName", &[], ""),
         Refusal::NameTaken => line(alloc, "Refused NameTaken", &[], ""),
         Refusal::NotBuilt => line(alloc, "Refused NotBuilt", &[], ""),
+        Refusal::Limit { which, count } => line(alloc, limit_words(*which), &[*count], ""),
     }
 }
 
@@ -61,6 +76,10 @@ fn rule_rest(rule: &Rule) -> &'static str
     ensures { result.now ≡ rule_words rule.now }
 {
     match rule {
+        Rule::Equal => " Equal",
+        Rule::KindOf => " KindOf",
+        Rule::Count => " Count",
+        Rule::NotFunction => " NotFunction",
         Rule::Main => " Main",
     }
 }
@@ -70,6 +89,10 @@ fn name_fault(alloc: Global, fault: &NameFault) -> Result<Text, AllocError>
 {
     match fault {
         NameFault::Unknown { at } => line(alloc, "NotAccepted Unknown", &[at.start, at.end], ""),
+        NameFault::Twice { first, second } => {
+            let numbers = [first.start, first.end, second.start, second.end];
+            line(alloc, "NotAccepted Twice", &numbers, "")
+        }
         NameFault::OutOfMemory => line(alloc, "OutOfMemory", &[], ""),
     }
 }
@@ -93,6 +116,9 @@ fn check_fault(alloc: Global, fault: &CheckFault) -> Result<Text, AllocError>
     match fault {
         CheckFault::Name(fault) => name_fault(alloc, fault),
         CheckFault::Types(fault) => type_fault(alloc, fault),
+        CheckFault::NotBuilt { at } => {
+            line(alloc, "NotAccepted NotBuilt", &[at.start, at.end], "")
+        }
         CheckFault::OutOfMemory => line(alloc, "OutOfMemory", &[], ""),
     }
 }

@@ -1,9 +1,13 @@
-//! Extracts a run of statements of a Rust file into a function of its own.
+//! Extracts a run of statements of a Rust file into a function of its own, or checks the file.
 #![tactic(auto)]
 
+#[cfg(test)]
+mod checks;
 mod laws;
 mod line;
 mod reply;
+#[cfg(test)]
+mod rows;
 mod status;
 #[cfg(test)]
 mod tests;

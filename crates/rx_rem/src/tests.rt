@@ -9,7 +9,7 @@ use std::io::{ErrorKind, Read};
 use std::test::Fail;
 
 /// Words parted by blanks.
-fn words(alloc: Global, line: &str) -> Result<List<Text>, AllocError> {
+pub fn words(alloc: Global, line: &str) -> Result<List<Text>, AllocError> {
     let mut words = List::new(alloc);
     for word in line.split_ascii_whitespace() {
         words.push(Text::new(alloc, word)?)?;
@@ -18,20 +18,20 @@ fn words(alloc: Global, line: &str) -> Result<List<Text>, AllocError> {
 }
 
 /// What the tool writes for words and a text.
-fn written(
+pub fn written(
     alloc: Global,
     line: &str,
     text: &[u8],
 ) -> Result<(Status, NeverSink, NeverSink), AllocError> {
     let mut source = NeverSource::new(List::from_slice(alloc, text)?);
-    let mut out = NeverSink::new(alloc, 1000)?;
+    let mut out = NeverSink::new(alloc, 4000)?;
     let mut err = NeverSink::new(alloc, 100)?;
     let status = rem(alloc, &words(alloc, line)?, &mut source, &mut out, &mut err);
     Ok((status, out, err))
 }
 
 /// 92 bytes, the third statement from 52 to 66.
-const TIMES: &[u8] =
+pub const TIMES: &[u8] =
     b"fn main() {\n    let a = 2i64;\n    let b = 3i64;\n    let c = a * b;\n    println!(\"{}\", c);\n}\n";
 
 const TIMES_ANSWER: &[u8] =
@@ -117,19 +117,12 @@ fn a_text_has_128_levels(rt: HostRuntime) -> Result<(), Fail> {
 }
 
 #[test]
-fn what_is_not_built_is_refused(rt: HostRuntime) -> Result<(), Fail> {
-    let two_outs =
+fn two_variables_handed_out_are_not_built(rt: HostRuntime) -> Result<(), Fail> {
+    let text =
         b"fn main() {\n    let a = 2i64;\n    let b = a + 1i64;\n    let c = a * b;\n    println!(\"{}\", b);\n    println!(\"{}\", c);\n}\n";
-    let rows: [(&[u8], &str); 3] = [
-        (two_outs.as_slice(), "extract two 34 70"),
-        (b"", "extract f 0 0"),
-        (b"fn main() {} fn other() {}", "extract f 0 0"),
-    ];
-    for (text, line) in rows {
-        let (status, _, err) = written(rt.alloc(), line, text)?;
-        assert_eq!(rt; status, Status::Refused);
-        assert_eq!(rt; err.held(), b"error: Refused NotBuilt\n".as_slice());
-    }
+    let (status, _, err) = written(rt.alloc(), "extract two 34 70", text.as_slice())?;
+    assert_eq!(rt; status, Status::Refused);
+    assert_eq!(rt; err.held(), b"error: Refused NotBuilt\n".as_slice());
     Ok(())
 }
 
@@ -155,7 +148,7 @@ fn other_words_are_usage(rt: HostRuntime) -> Result<(), Fail> {
         "extract f 1 2 copy",
         "extract f -1 2",
         "extract f 1 12345678901234567890",
-        "check",
+        "checks",
         "check now",
         "run",
         "run 5",

@@ -2,7 +2,8 @@
 
 ghost use Rattle.std.specs.Prelude.{◌≡◌, ◌≤◌, ◌⊎◌, List as ListOf, ℕ, None, length};
 ghost use Rattle.rx_rem.specs.Lines.{fault_line, fault_status, status_line};
-ghost use Rattle.rx_rem.specs.Forms.{command_of};
+ghost use Rattle.rx_rem.specs.Asked.{asked};
+ghost use Rattle.rx_rem.specs.Forms.{checks, command_of, extracts};
 ghost use Rattle.rx_rem.specs.Replies.{Ending, Found, Replies, Reports, sink_state, source_state};
 
 use crate::line::{line_of_fault, status_of_fault};
@@ -10,7 +11,7 @@ use crate::reply::{deliver, report, report_name};
 use crate::status::Status;
 use crate::words::{Command, read_words};
 use rx_core::{List, ReadFail, Sink, Source, Text, read_all};
-use rx_engine::{Fault, Selection, extract};
+use rx_engine::{Fault, Selection, check, extract};
 use std::alloc::{AllocError, Global};
 
 /// The bytes of a text at most.
@@ -37,13 +38,46 @@ fn extract_run<O: Sink, E: Sink>(
     name: &str,
 ) -> Status
     requires { length text.now ≤ 1048576 }
-    ensures { (status : Status) × (outs : ListOf ℕ) × (errs : ListOf ℕ) × Found text.now name.now selection.start selection.end status outs errs
+    ensures { (status : Status) × (outs : ListOf ℕ) × (errs : ListOf ℕ) × Found (extracts name.now selection.start selection.end) text.now status outs errs
         × Ending (sink_state O.contents O.faults O.standstills out.old) (sink_state O.contents O.faults O.standstills out.new)
         (sink_state E.contents E.faults E.standstills err.old) (sink_state E.contents E.faults E.standstills err.new) status outs errs result }
 {
     match extract(alloc, text, selection, name) {
         Ok(answer) => deliver(out, err, answer.text.as_str()),
         Err(fault) => refuse(alloc, err, &fault),
+    }
+}
+
+/// Checks a text, and writes `accepted` or why it is not.
+fn check_text<O: Sink, E: Sink>(alloc: Global, out: &mut O, err: &mut E, text: &[u8]) -> Status
+    ensures { (status : Status) × (outs : ListOf ℕ) × (errs : ListOf ℕ) × Found checks text.now status outs errs
+        × Ending (sink_state O.contents O.faults O.standstills out.old) (sink_state O.contents O.faults O.standstills out.new)
+        (sink_state E.contents E.faults E.standstills err.old) (sink_state E.contents E.faults E.standstills err.new) status outs errs result }
+{
+    match check(alloc, text) {
+        Ok(()) => deliver(out, err, "accepted\n"),
+        Err(fault) => refuse(alloc, err, &fault),
+    }
+}
+
+/// Does what a command asks for a text.
+fn answer<O: Sink, E: Sink>(
+    alloc: Global,
+    out: &mut O,
+    err: &mut E,
+    text: &[u8],
+    command: Command<'_>,
+) -> Status
+    requires { length text.now ≤ 1048576 }
+    ensures { (status : Status) × (outs : ListOf ℕ) × (errs : ListOf ℕ) × Found (asked command.entry) text.now status outs errs
+        × Ending (sink_state O.contents O.faults O.standstills out.old) (sink_state O.contents O.faults O.standstills out.new)
+        (sink_state E.contents E.faults E.standstills err.old) (sink_state E.contents E.faults E.standstills err.new) status outs errs result }
+{
+    match command {
+        Command::Extract { name, selection } => {
+            extract_run(alloc, out, err, text, selection, name)
+        }
+        Command::Check => check_text(alloc, out, err, text),
     }
 }
 
@@ -61,15 +95,13 @@ pub fn rem<S: Source, O: Sink, E: Sink>(
         (sink_state E.contents E.faults E.standstills err.old) (sink_state E.contents E.faults E.standstills err.new) result }
     ensures unread { command_of words.now ≡ None → source.new ≡ source.old }
 {
-    match read_words(words.as_slice()) {
-        Command::Usage => report_name(err, Status::Usage),
-        Command::Extract { name, selection } => {
-            match read_all(alloc, source, TEXT_LIMIT) {
-                Ok(text) => extract_run(alloc, out, err, text.as_slice(), selection, name),
-                Err(ReadFail::ReadFault) => report_name(err, Status::ReadFault),
-                Err(ReadFail::TooLong) => report_name(err, Status::TooLong),
-                Err(ReadFail::OutOfMemory) => report_name(err, Status::OutOfMemory),
-            }
-        }
+    let Some(command) = read_words(words.as_slice()) else {
+        return report_name(err, Status::Usage);
+    };
+    match read_all(alloc, source, TEXT_LIMIT) {
+        Ok(text) => answer(alloc, out, err, text.as_slice(), command),
+        Err(ReadFail::ReadFault) => report_name(err, Status::ReadFault),
+        Err(ReadFail::TooLong) => report_name(err, Status::TooLong),
+        Err(ReadFail::OutOfMemory) => report_name(err, Status::OutOfMemory),
     }
 }

@@ -1,6 +1,6 @@
 //! The words of the command line, read by their position.
 
-ghost use Rattle.std.specs.Prelude.{◌≡◌, ◌<◌, [], ◌∷◌, length};
+ghost use Rattle.std.specs.Prelude.{◌≡◌, ◌<◌, [], ◌∷◌, length, option_map};
 ghost use Rattle.rx_rem.specs.Forms.{digits_from, number_of, command_of};
 ghost use Rattle.rx_rem.specs.Asked.{asked};
 
@@ -8,11 +8,12 @@ use rx_core::Text;
 use rx_engine::Selection;
 
 /// What the words ask for.
+#[derive(Clone, Copy)]
 pub enum Command<'w> {
     /// The run that a range of bytes selects becomes a function of this name.
     Extract { name: &'w str, selection: Selection },
-    /// Nothing: the words have no form.
-    Usage,
+    /// Whether the text is accepted.
+    Check,
 }
 
 /// The value of at most 19 decimal digits, or `None` where another byte is among them.
@@ -41,29 +42,39 @@ fn number(word: &str) -> Option<u64>
     digits(bytes)
 }
 
-fn extract_words<'w>(verb: &str, name: &'w str, start: &str, end: &str) -> Command<'w>
-    ensures { asked result ≡ command_of (verb.now ∷ name.now ∷ start.now ∷ end.now ∷ []) }
+fn check_words<'w>(verb: &str) -> Option<Command<'w>>
+    ensures { option_map asked result ≡ command_of (verb.now ∷ []) }
+{
+    if verb != "check" {
+        return None;
+    }
+    Some(Command::Check)
+}
+
+fn extract_words<'w>(verb: &str, name: &'w str, start: &str, end: &str) -> Option<Command<'w>>
+    ensures { option_map asked result ≡ command_of (verb.now ∷ name.now ∷ start.now ∷ end.now ∷ []) }
 {
     if verb != "extract" {
-        return Command::Usage;
+        return None;
     }
     match (number(start), number(end)) {
-        (Some(start), Some(end)) => Command::Extract {
+        (Some(start), Some(end)) => Some(Command::Extract {
             name,
             selection: Selection { start, end },
-        },
-        _ => Command::Usage,
+        }),
+        _ => None,
     }
 }
 
-/// What the words after the program's name ask for.
-pub fn read_words(words: &[Text]) -> Command<'_>
-    ensures { asked result ≡ command_of words.now }
+/// What the words after the program's name ask for, or `None` where they have no form.
+pub fn read_words(words: &[Text]) -> Option<Command<'_>>
+    ensures { option_map asked result ≡ command_of words.now }
 {
     match words {
+        [verb] => check_words(verb.as_str()),
         [verb, name, start, end] => {
             extract_words(verb.as_str(), name.as_str(), start.as_str(), end.as_str())
         }
-        _ => Command::Usage,
+        _ => None,
     }
 }

@@ -12,17 +12,17 @@ use Rattle.rx_tree.specs.Lists.{listed, statements, tail, Every}
 use Rattle.rx_tree.proofs.ListsLemmas.{statements_of-listed, listed-statements_of}
 use Rattle.rx_meaning.specs.Meaning.{some_if, function_named, Outcome, run, UpTo}
 use Rattle.rx_meaning.proofs.Spans.{same_runs}
-use Rattle.rx_engine.specs.Names.{free}
-use Rattle.rx_engine.specs.Plan.{params, outs, declared_in}
-use Rattle.rx_engine.specs.Accepted.{ValueType, unit, Scope, Signature, signature, functions, signatures, signature_of, AreTyped, Gives, nothing, given_by, scope_from, parameter_names, IsTyped, Accepted}
-use Rattle.rx_engine.specs.Run.{Run}
-use Rattle.rx_engine.specs.Extracted.{call_statement, new_function, with_call, handed_out, Parts, extraction, Extracted}
+use Rattle.rx_check.specs.Names.{free}
+use Rattle.rx_hoist.specs.Plan.{params, outs, declared_in}
+use Rattle.rx_check.specs.Accepted.{ValueType, unit, Scope, Signature, signature, functions, signatures, signature_of, AreTyped, Gives, nothing, given_by, scope_from, parameter_names, IsTyped, Accepted}
+use Rattle.rx_select.specs.Run.{Run}
+use Rattle.rx_hoist.specs.Extracted.{call_statement, new_function, with_call, handed_out, Parts, extraction, Extracted}
 use Rattle.rx_engine.specs.Avoids.{Avoids}
 use Rattle.rx_engine.proofs.sim.World.{Names, Knows, Permits}
 use Rattle.rx_engine.proofs.sim.Steps.{no_jumps, call_jumps, onto}
 use Rattle.rx_engine.proofs.sim.Like.{New, declared_by, OutKnown, OutFits, LikeOptional, LikeBody, LikeStatements, like_body, like_here, LikeFunction, Moved}
 use Rattle.rx_engine.proofs.sim.Sim.{answer_upto, text_upto}
-use Rattle.rx_engine.proofs.Membership.{or_true, one_of-distinct, distinct_one_of}
+use Rattle.rx_hoist.proofs.Membership.{or_true, one_of-distinct, distinct_one_of}
 use Rattle.rx_engine.proofs.Handed.{outs_has, outs_only}
 use Rattle.rx_engine.proofs.Scopes.{Split, typed_split}
 use Rattle.rx_engine.proofs.sim.Members.{knows_none, knows_first, knows_older, free_front, free_behind}

@@ -1,7 +1,8 @@
 -- The status that is due is that of the words, of the reading, or of what is found.
 use Rattle.std.proofs.Common.{[], Some, None, Err, ◌≡◌, ◌∙◌, refl, sym, ap, subst, Option}
+use Rattle.std.specs.Prelude.{option_map}
 use Rattle.rx_rem.specs.declared.status.Status.TheVariants.{Usage, ReadFault, TooLong, OutOfMemory}
-use Rattle.rx_rem.specs.Forms.{Command, command_of, extracts}
+use Rattle.rx_rem.specs.Forms.{Command, command_of}
 use Rattle.rx_rem.specs.Asked.{asked}
 use Rattle.rx_rem.specs.Lines.{status_line}
 use Rattle.rx_rem.specs.Defined.{AnswersTo}
@@ -9,39 +10,39 @@ use Rattle.rx_rem.specs.Replies.{answered, not_read, too_long, no_memory, source
 use Rattle.rx_rem.proofs.Replies.{replies, reported, found_due, too_many, read_whole}
 use Rattle.rx_rem.proofs.tool.rem.Goals as goal
 
-pub returns-in-Usage-clause-replies : goal.returns-in-Usage-clause-replies
-returns-in-Usage-clause-replies g c =
-    let e : None ≡ command_of c.args.words.now = ap asked (sym c.in-Usage.is) ∙ (c.read_words.ensures ∙ ap command_of c.as_slice.ensures) in
+pub returns-in_default-clause-replies : goal.returns-in_default-clause-replies
+returns-in_default-clause-replies g c =
+    let e : None ≡ command_of c.args.words.now = ap (option_map asked) (sym c.in_default.is) ∙ (c.read_words.ensures ∙ ap command_of c.as_slice.ensures) in
     let d = subst (λ (q : Option Command). AnswersTo q [] Usage [] (status_line Usage)) e (refl, refl, refl) in
     replies _ _ _ _ _ _ _ Usage [] (status_line Usage) c.report_name.result (answered [] (λ form. absurd (form (sym e))) d)
     (reported _ _ _ Usage c.report_name.result _ c.report_name.ensures)
 
 pub returns-in-Ok-clause-replies : goal.returns-in-Ok-clause-replies
 returns-in-Ok-clause-replies g c =
-    let e : Some (extracts c.in-Extract.name.now c.in-Extract.selection.start c.in-Extract.selection.end) ≡ command_of c.args.words.now
-    = ap asked (sym c.in-Extract.is) ∙ (c.read_words.ensures ∙ ap command_of c.as_slice.ensures) in
-    let f = c.extract_run.ensures in
+    let e : Some (asked c.in-Some.command) ≡ command_of c.args.words.now
+    = ap (option_map asked) (sym c.in-Some.is) ∙ (c.read_words.ensures ∙ ap command_of c.as_slice.ensures) in
+    let f = c.answer.ensures in
     let r = read_whole (source_state g.S.Source.remaining g.S.Source.faults c.args.source.now) (source_state g.S.Source.remaining g.S.Source.faults c.read_all.new.source)
     c.as_slice-in-Ok.result.now c.in-Ok.text c.as_slice-in-Ok.ensures c.in-Ok.ensures.all c.in-Ok.ensures.within in
-    replies _ _ _ _ _ _ _ f.0 f.1 f.2 c.extract_run.result (found_due _ _ _ _ _ _ _ f.0 f.1 f.2 e r f.3) f.4
+    replies _ _ _ _ _ _ _ f.0 f.1 f.2 c.answer.result (found_due _ _ _ _ _ f.0 f.1 f.2 e r f.3) f.4
 
 pub returns-in-Err-ReadFault-clause-replies : goal.returns-in-Err-ReadFault-clause-replies
 returns-in-Err-ReadFault-clause-replies g c =
-    let e : Some (extracts c.in-Extract.name.now c.in-Extract.selection.start c.in-Extract.selection.end) ≡ command_of c.args.words.now
-    = ap asked (sym c.in-Extract.is) ∙ (c.read_words.ensures ∙ ap command_of c.as_slice.ensures) in
+    let e : Some (asked c.in-Some.command) ≡ command_of c.args.words.now
+    = ap (option_map asked) (sym c.in-Some.is) ∙ (c.read_words.ensures ∙ ap command_of c.as_slice.ensures) in
     replies _ _ _ _ _ _ _ ReadFault [] (status_line ReadFault) c.report_name-in-Err-ReadFault.result (not_read (λ n. cc) (c.in-Err-ReadFault.ensures.fault (ap Err c.in-Err-ReadFault.field-0-is)))
     (reported _ _ _ ReadFault c.report_name-in-Err-ReadFault.result _ c.report_name-in-Err-ReadFault.ensures)
 
 pub returns-in-Err-TooLong-clause-replies : goal.returns-in-Err-TooLong-clause-replies
 returns-in-Err-TooLong-clause-replies g c =
-    let e : Some (extracts c.in-Extract.name.now c.in-Extract.selection.start c.in-Extract.selection.end) ≡ command_of c.args.words.now
-    = ap asked (sym c.in-Extract.is) ∙ (c.read_words.ensures ∙ ap command_of c.as_slice.ensures) in
+    let e : Some (asked c.in-Some.command) ≡ command_of c.args.words.now
+    = ap (option_map asked) (sym c.in-Some.is) ∙ (c.read_words.ensures ∙ ap command_of c.as_slice.ensures) in
     replies _ _ _ _ _ _ _ TooLong [] (status_line TooLong) c.report_name-in-Err-TooLong.result (too_long (λ n. cc) (let p = c.in-Err-TooLong.ensures.too_long (ap Err c.in-Err-TooLong.field-0-is) in too_many _ _ p.0 1048576 p.1 p.2))
     (reported _ _ _ TooLong c.report_name-in-Err-TooLong.result _ c.report_name-in-Err-TooLong.ensures)
 
 pub returns-in-Err-OutOfMemory-clause-replies : goal.returns-in-Err-OutOfMemory-clause-replies
 returns-in-Err-OutOfMemory-clause-replies g c =
-    let e : Some (extracts c.in-Extract.name.now c.in-Extract.selection.start c.in-Extract.selection.end) ≡ command_of c.args.words.now
-    = ap asked (sym c.in-Extract.is) ∙ (c.read_words.ensures ∙ ap command_of c.as_slice.ensures) in
+    let e : Some (asked c.in-Some.command) ≡ command_of c.args.words.now
+    = ap (option_map asked) (sym c.in-Some.is) ∙ (c.read_words.ensures ∙ ap command_of c.as_slice.ensures) in
     replies _ _ _ _ _ _ _ OutOfMemory [] (status_line OutOfMemory) c.report_name-in-Err-OutOfMemory.result (no_memory (λ n. cc))
     (reported _ _ _ OutOfMemory c.report_name-in-Err-OutOfMemory.result _ c.report_name-in-Err-OutOfMemory.ensures)

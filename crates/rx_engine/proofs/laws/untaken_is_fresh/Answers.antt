@@ -1,0 +1,5 @@
+use Rattle.rx_engine.proofs.WholeFresh.{fresh}
+use Rattle.rx_engine.proofs.laws.untaken_is_fresh.Goals as goal
+
+pub returns : goal.returns
+returns c = fresh
