@@ -1,4 +1,3 @@
-pub mod NodeForms
 pub mod Rules
 pub mod Turns
 pub mod CursorLemmas
@@ -7,4 +6,3 @@ pub mod ListSteps
 pub mod TypeSteps
 pub mod PatternSteps
 pub mod Placed
-pub mod MemberSteps

@@ -4,7 +4,7 @@ use Rattle.rx_core.specs.declared.types.Kind.{Kind}
 use Rattle.rx_lex.specs.declared.numeral.Numeral.{Numeral}
 use Rattle.rx_grammar.specs.parser.Steps as steps
 use Rattle.rx_grammar.specs.parser.Numbers as numbers
-use Rattle.rx_descent.specs.declared.number.Numbered.{Numbered}
+use Rattle.rx_descent.specs.declared.numbers.Numbered.{Numbered}
 use Rattle.rx_grammar.specs.parser.Lists as lists
 use Rattle.rx_descent.specs.declared.got.Got.{Got}
 use Rattle.rx_descent.specs.declared.got.Items.{Items}

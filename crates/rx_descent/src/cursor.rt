@@ -174,4 +174,24 @@ impl<'t> Cursor<'t> {
             Err(self.refuse())
         }
     }
+
+    /// Whether the next token is a name that is this word.
+    #[tactic(auto, unfolding(rx_grammar::specs::parser::Steps::sees_word))]
+    pub fn sees_word(&self, word: &str) -> bool
+        ensures { result ≡ steps.sees_word word.now self.now }
+    {
+        self.sees(Symbol::Name) && self.token().text == word
+    }
+
+    /// Goes past a name that is this word.
+    #[tactic(auto, unfolding(rx_grammar::specs::parser::Steps::expect_word))]
+    pub fn expect_word(&mut self, word: &str) -> Result<Token<'t>, Stop>
+        ensures { ReadsAs tok (steps.expect_word word.now self.old) result self.new }
+    {
+        if self.sees_word(word) {
+            Ok(self.take())
+        } else {
+            Err(self.refuse())
+        }
+    }
 }

@@ -14,7 +14,7 @@ ghost use Rattle.rx_descent.specs.GotOf.{got_of, items_of, numbered_of};
 
 use crate::cursor::Cursor;
 use crate::got::{Found, Got, Items, ident, join};
-use crate::number::{Numbered, number};
+use crate::numbers::{Numbered, number};
 use rx_core::{List, Span};
 use rx_grammar::{Stop, Symbol};
 use rx_lex::Token;
