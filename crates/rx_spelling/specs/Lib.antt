@@ -1,0 +1,9 @@
+pub mod Pieces
+pub mod Places
+pub mod Types
+pub mod Patterns
+pub mod Expressions
+pub mod Items
+pub mod Levels
+pub mod Formed
+pub mod ReadBack
