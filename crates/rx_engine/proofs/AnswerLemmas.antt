@@ -3,21 +3,19 @@
 use Rattle.std.proofs.Common.{◌≡◌, ℕ, ◌≤◌, true, false, List, length, Option, Some, None, sym, ap, ◌∙◌, subst, arith}
 use Rattle.rx_tree.specs.Plain.{ProgramTree}
 use Rattle.rx_tree.specs.Erase.{SameProgram}
-use Rattle.rx_lex.specs.declared.lexer.LexFault.{LexFault}
-use Rattle.rx_lex.specs.declared.lexer.LexFault.TheVariants.{OutOfMemory}
-use Rattle.rx_lex.specs.Lexing.{FaultOf}
-use Rattle.rx_lex.proofs.Reading.{only_memory}
 use Rattle.rx_lex.specs.Tok.{Tok}
 use Rattle.rx_lex.specs.Tokens.{Lexes}
 use Rattle.rx_lex.specs.Words.{is_identifier}
 use Rattle.rx_lex.proofs.TokenLaws.{lexes_one}
-use Rattle.rx_parse.specs.Grammar.{File, Parses, levels}
-use Rattle.rx_print.specs.Print.{print_program}
-use Rattle.rx_print.proofs.PrintParses.{print_parses}
-use Rattle.rx_print.proofs.SameText.{print_same}
-use Rattle.rx_print.proofs.Measured.{parses_printable}
+use Rattle.rx_grammar.specs.grammar.Items.{Parses}
+use Rattle.rx_spelling.specs.Items.{print_program}
+use Rattle.rx_printable.proofs.PrintParses.{print_parses}
+use Rattle.rx_spelling.proofs.SameText.{print_same}
+use Rattle.rx_printable.proofs.SamePrintable.{printable_same}
+use Rattle.rx_printable.proofs.FirstForms.{printable_first}
+use Rattle.rx_printable.proofs.Measured.{parses_printable}
 use Rattle.rx_check.specs.Names.{free}
-use Rattle.rx_check.specs.Accepted.{unit, integer, Accepted}
+use Rattle.rx_check.specs.Accepted.{unit, integer}
 use Rattle.rx_select.specs.Run.{Run, RunOf}
 use Rattle.rx_select.proofs.RunLemmas.{one_run}
 use Rattle.rx_select.proofs.Places.{parses_placed}
@@ -47,7 +45,8 @@ pub keeps : (bytes : List ℕ) (start end : ℕ) (name answer : List ℕ) (p q :
     → answer ≡ print_program q → length answer ≤ most_bytes → Keeps bytes start end name answer
 keeps bytes start end name answer p q r n m a l =
     let t = n.selects.accepts in
-    let k = print_parses q (printable_extraction p r name q (parses_printable bytes p t.parses) n.word m.extracted) in
+    let printable = printable_extraction p r name q (parses_printable bytes p t.parses t.first) n.word m.extracted in
+    let k = print_parses q printable in
     let x = moved_to k.0 k.2 m in
     let avoids = fresh t.parses.tokens p t.parses.height name t.parses.derived n.fresh in
     let absent = avoided p name avoids in
@@ -56,8 +55,11 @@ keeps bytes start end name answer p q r n m a l =
       p = p;
       q = k.0;
       extraction = record { run = r; names = n; moves = x; short = subst (λ (b : List ℕ). length b ≤ most_bytes) rendered l };
-      parses = subst (λ (b : List ℕ). Parses b k.0) (sym a) k.1;
-      accepted = accepted_extraction p r name k.0 x.extracted t.accepted avoids x.integers;
+      accepts = record {
+        parses = subst (λ (b : List ℕ). Parses b k.0) (sym a) k.1;
+        first = printable_first k.0 (printable_same q k.0 (sym k.2) printable);
+        accepted = accepted_extraction p r name k.0 x.extracted t.accepted avoids x.integers;
+      };
       rendered = rendered;
       runs = record {
         answer = λ input turns. extraction_runs p r name k.0 t.accepted absent x.extracted input turns;
@@ -101,19 +103,6 @@ whole bytes start end name p q r only s m p2 q2 x =
     print_same q q2 (extraction_unique p r name q q2 m.extracted y.extracted)
 
 -- ---- what excludes an extraction
-
--- the bytes are no text of tokens
-pub no_tokens : (bytes : List ℕ) (f : LexFault) → FaultOf f bytes → (f ≡ OutOfMemory → ⊥) → (p : ProgramTree) → Parses bytes p → ⊥
-no_tokens bytes f h n p d = n (only_memory f bytes h d.tokens d.lexed)
-
--- the tokens are no program within the levels
-pub no_tree : (bytes : List ℕ) (ts : List Tok) → Lexes bytes ts → ((p : ProgramTree) (h : ℕ) → h ≤ levels → File ts p h → ⊥) → (p : ProgramTree) → Parses bytes p → ⊥
-no_tree bytes ts l n p d =
-    n p d.height d.low (subst (λ (us : List Tok). File us p d.height) (lexes_one bytes d.tokens ts d.lexed l) d.derived)
-
-pub not_accepted : (bytes : List ℕ) (start end : ℕ) (name : List ℕ) (p : ProgramTree) → Only bytes p → (Accepted p → ⊥)
-    → (p2 q2 : ProgramTree) → IsExtraction bytes start end name p2 q2 → ⊥
-not_accepted bytes start end name p only n p2 q2 x = n (at_tree bytes start end name p p2 q2 only x).names.selects.accepts.accepted
 
 pub not_a_run : (bytes : List ℕ) (start end : ℕ) (name : List ℕ) (p : ProgramTree) → Only bytes p → (a : Accepts bytes p)
     → ((r : Run) → RunOf (length bytes) a.parses.tokens p start end r → ⊥) → (p2 q2 : ProgramTree) → IsExtraction bytes start end name p2 q2 → ⊥

@@ -1,12 +1,13 @@
 -- Why a text does not pass: what the parser and the checker say of it, by cases on the fault.
-use Rattle.std.proofs.Common.{◌≡◌, ℕ, List, Some, Err, ◌⊎◌, sym, ap, subst}
+use Rattle.std.proofs.Common.{◌≡◌, ℕ, true, List, Some, Err, ◌⊎◌, sym, ap, subst}
 use Rattle.rx_tree.specs.Plain.{ProgramTree}
-use Rattle.rx_parse.specs.Grammar.{Parses}
+use Rattle.rx_grammar.specs.grammar.Items.{Parses}
 use Rattle.rx_parse.specs.Answer.{IsCause}
 use Rattle.rx_parse.specs.declared.fault.SyntaxFault.{SyntaxFault}
 use Rattle.rx_parse.specs.declared.fault.SyntaxFault.TheVariants as syntax_fault
 use Rattle.rx_check.specs.declared.fault.CheckFault.{CheckFault}
 use Rattle.rx_check.specs.declared.fault.CheckFault.TheVariants as check_fault
+use Rattle.rx_check.specs.FirstGrammar.{is_first_program}
 use Rattle.rx_check.specs.Accepted.{Accepted}
 use Rattle.rx_check.specs.Faults.{Breaks, first, faults}
 use Rattle.rx_engine.specs.declared.extraction.Fault.TheVariants as fault
@@ -34,6 +35,8 @@ broken_checks bytes p (check_fault.Types g) d b h = (λ e. cc, p, d, b, the_firs
 broken_checks bytes p (check_fault.NotBuilt at) d b h = (λ e. cc, p, d, b, the_first p (check_fault.NotBuilt at) (λ e. cc) h)
 
 -- a text whose one tree is not accepted is not, or memory ran out
-pub broken_memory : (bytes : List ℕ) (p : ProgramTree) (f : CheckFault) → Only bytes p → (Accepted p → f ≡ check_fault.OutOfMemory)
+pub broken_memory : (bytes : List ℕ) (p : ProgramTree) (f : CheckFault) → Only bytes p → (is_first_program p ≡ true → Accepted p → f ≡ check_fault.OutOfMemory)
     → (q : ProgramTree) → Accepts bytes q → not_accepted f ≡ fault.OutOfMemory
-broken_memory bytes p f only memory q a = ap not_accepted (memory (subst Accepted (sym (only q a.parses)) a.accepted))
+broken_memory bytes p f only memory q a =
+    let e = sym (only q a.parses) in
+    ap not_accepted (memory (subst (λ (z : ProgramTree). is_first_program z ≡ true) e a.first) (subst Accepted e a.accepted))

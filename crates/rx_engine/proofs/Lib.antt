@@ -4,8 +4,6 @@ pub mod Handed
 pub mod AcceptedLemmas
 pub mod OtherNames
 pub mod FreshLemmas
-pub mod WholeFresh
-pub mod FirstLemmas
 pub mod BuiltLemmas
 pub mod PrintableLemmas
 pub mod OneExtraction

@@ -17,10 +17,9 @@ use Rattle.rx_check.specs.Types.{scope_after}
 use Rattle.rx_select.specs.Run.{Run}
 use Rattle.rx_hoist.specs.Plan.{params, outs}
 use Rattle.rx_hoist.specs.Chosen.{chosen, behind, statements_in, tail_in, statements_at, tail_at, is_function, is_function_at}
-use Rattle.rx_hoist.specs.Extracted.{Extracted}
 use Rattle.rx_hoist.proofs.HoistForms.{PartsOf, parts_of, take_parts}
 use Rattle.rx_engine.specs.Conditions.{most_parameters}
-use Rattle.rx_engine.specs.Promise.{HasIntegers, Moves}
+use Rattle.rx_engine.specs.Promise.{HasIntegers}
 use Rattle.rx_engine.specs.Built.{any_unit, IsBuilt}
 use Rattle.rx_engine.specs.Verdict.{IsNotBuilt, with_tail, hands_out_more, unit_given, unit_made, HasTooManyParams}
 use Rattle.rx_engine.proofs.BuiltLemmas as built
@@ -189,9 +188,6 @@ found_built p r s f ps os c e k given handed n one few =
 
 pub found_tail : (p : ProgramTree) (r : Run) (s : Span) (f : Function) → nth p r.item ≡ Some (plain.function_item s f) → length (statements f.body) ≤ r.last → IsNotBuilt p r
 found_tail p r s f e h = with_tail (subst (λ (x : List Statement). length x ≤ r.last) (sym (statements_there p r.item (plain.function_item s f) e)) h)
-
-pub built_moves : (p q : ProgramTree) (r : Run) (name : List ℕ) (ps os : List (List ℕ)) → IsBuilt p r ps os → Extracted p r name q → Moves p r name q
-built_moves p q r name ps os b e = record { extracted = e; integers = b.integers e.parts; few = b.few e.parts }
 
 pub units_told : (F : List Signature) (V : Scope) (ss : List Statement) (l : List Stmt) (m n : ℕ) (ps os : List (List ℕ)) → ss ≡ map plain-Stmt l
     → (any_unit (scope_after F V (map plain-Stmt (take m l))) ps || any_unit (scope_after F V (map plain-Stmt (take n l))) os)

@@ -9,9 +9,9 @@ use Rattle.rx_tree.specs.Plain.{Expression, Expressions, OptionalExpression, Bod
 use Rattle.rx_tree.specs.PlainOf.{statements_of}
 use Rattle.rx_tree.specs.Lists.{Every}
 use Rattle.rx_lex.specs.Words.{is_identifier}
-use Rattle.rx_parse.specs.Grammar.{levels}
-use Rattle.rx_print.specs.Printable.{Printable, list_levels, optional_levels, statement_levels, statements_levels, parameters_levels, written_type_levels, function_levels, levels_of, IsValue, AreVariables, IsCall, IsPrint, IsInitial, IsStatementForm, AreStatementForms, IsTail, IsResultForm, AreParameterForms, IsFunctionForm, AreItemForms}
-use Rattle.rx_print.proofs.SameText.{printable_same}
+use Rattle.rx_grammar.specs.grammar.Items.{levels}
+use Rattle.rx_printable.specs.Printable.{Printable, list_levels, optional_levels, statement_levels, statements_levels, parameters_levels, written_type_levels, function_levels, levels_of, IsValue, AreVariables, IsCall, IsPrint, IsInitial, IsStatementForm, AreStatementForms, IsTail, IsResultForm, AreParameterForms, IsFunctionForm, AreItemForms}
+use Rattle.rx_printable.proofs.SamePrintable.{printable_same}
 use Rattle.rx_check.specs.Names.{uses, uses_all, uses_given, uses_in, declares, names, remove, without, distinct, free}
 use Rattle.rx_hoist.specs.Plan.{params, declared_in, handed, outs}
 use Rattle.rx_select.specs.Run.{Run}

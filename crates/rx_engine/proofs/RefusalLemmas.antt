@@ -1,7 +1,7 @@
 -- Each early refusal has its cause, and then there is no extraction: by cases on the fault, as a text has one tree.
 use Rattle.std.proofs.Common.{◌≡◌, ℕ, ◌<◌, true, false, List, Some, Result, Ok, Err, ◌⊎◌, inl, inr, length, refl, sym, ap, ◌∙◌, subst}
 use Rattle.rx_tree.specs.Plain.{ProgramTree}
-use Rattle.rx_parse.specs.Grammar.{Parses}
+use Rattle.rx_grammar.specs.grammar.Items.{Parses}
 use Rattle.rx_parse.specs.Answer.{IsCause}
 use Rattle.rx_parse.specs.declared.fault.SyntaxFault.{SyntaxFault}
 use Rattle.rx_parse.specs.declared.fault.SyntaxFault.TheVariants as syntax_fault
@@ -9,12 +9,13 @@ use Rattle.rx_check.specs.declared.fault.CheckFault.{CheckFault}
 use Rattle.rx_check.specs.declared.fault.CheckFault.TheVariants as check_fault
 use Rattle.rx_engine.specs.declared.extraction.Fault.TheVariants as fault
 use Rattle.rx_engine.specs.declared.extraction.Refusal.TheVariants as refusal
+use Rattle.rx_check.specs.FirstGrammar.{is_first_program}
 use Rattle.rx_check.specs.Accepted.{Accepted}
 use Rattle.rx_lex.specs.Words.{is_identifier}
 use Rattle.rx_engine.specs.Conditions.{most_bytes, is_taken}
 use Rattle.rx_check.specs.Faults.{Breaks, first, faults}
 use Rattle.rx_core.specs.declared.types.Which.TheVariants as which
-use Rattle.rx_print.specs.Print.{print_program}
+use Rattle.rx_spelling.specs.Items.{print_program}
 use Rattle.rx_lex.specs.Tok.{Tok}
 use Rattle.rx_lex.specs.Tokens.{Lexes}
 use Rattle.rx_engine.specs.declared.extraction.Fault.{Fault}
@@ -38,10 +39,12 @@ refuses_syntax bytes start end name (syntax_fault.Syntax at) cause only =
 refuses_syntax bytes start end name (syntax_fault.TooDeep at) cause only =
     record { cause = cause; none = λ p q x. absurd (none_parses bytes start end name p q (λ p h. let e = only p h in cc) x) }
 
-none_accepted : (bytes : List ℕ) (start end : ℕ) (name : List ℕ) (p a q : ProgramTree) → ¬ (Accepted p) → ((q : ProgramTree) → Parses bytes q → p ≡ q)
+none_accepted : (bytes : List ℕ) (start end : ℕ) (name : List ℕ) (p a q : ProgramTree) → (is_first_program p ≡ true → Accepted p → ⊥) → ((q : ProgramTree) → Parses bytes q → p ≡ q)
     → IsExtraction bytes start end name a q → ⊥
 none_accepted bytes start end name p a q never one x =
-    never (subst Accepted (sym (one a x.names.selects.accepts.parses)) x.names.selects.accepts.accepted)
+    let k = x.names.selects.accepts in
+    let e = sym (one a k.parses) in
+    never (subst (λ (z : ProgramTree). is_first_program z ≡ true) e k.first) (subst Accepted e k.accepted)
 
 -- a fault that is no want of memory is the first
 pub the_first : (p : ProgramTree) (f : CheckFault) → (f ≡ check_fault.OutOfMemory → ⊥) → (f ≡ check_fault.OutOfMemory) ⊎ (first (faults p) ≡ Some f) → first (faults p) ≡ Some f
@@ -50,19 +53,19 @@ the_first p f n (inr e) = e
 
 -- the text is not accepted
 pub refuses_check : (bytes : List ℕ) (start end : ℕ) (name : List ℕ) (p : ProgramTree) (f : CheckFault) → Parses bytes p → Breaks p f
-    → (f ≡ check_fault.OutOfMemory) ⊎ (first (faults p) ≡ Some f) → (Accepted p → f ≡ check_fault.OutOfMemory) → ((q : ProgramTree) → Parses bytes q → p ≡ q) → Refuses bytes start end name (not_accepted f)
+    → (f ≡ check_fault.OutOfMemory) ⊎ (first (faults p) ≡ Some f) → (is_first_program p ≡ true → Accepted p → f ≡ check_fault.OutOfMemory) → ((q : ProgramTree) → Parses bytes q → p ≡ q) → Refuses bytes start end name (not_accepted f)
 refuses_check bytes start end name p check_fault.OutOfMemory h breaks one_first memory one = record { cause = tt; none = λ a q x. refl }
 refuses_check bytes start end name p (check_fault.Name g) h breaks one_first memory one =
-    record { cause = (p, h, breaks, the_first p (check_fault.Name g) (λ e. cc) one_first); none = λ a q x. absurd (none_accepted bytes start end name p a q (λ k. let e = memory k in cc) one x) }
+    record { cause = (p, h, breaks, the_first p (check_fault.Name g) (λ e. cc) one_first); none = λ a q x. absurd (none_accepted bytes start end name p a q (λ i k. let e = memory i k in cc) one x) }
 refuses_check bytes start end name p (check_fault.Types g) h breaks one_first memory one =
-    record { cause = (p, h, breaks, the_first p (check_fault.Types g) (λ e. cc) one_first); none = λ a q x. absurd (none_accepted bytes start end name p a q (λ k. let e = memory k in cc) one x) }
+    record { cause = (p, h, breaks, the_first p (check_fault.Types g) (λ e. cc) one_first); none = λ a q x. absurd (none_accepted bytes start end name p a q (λ i k. let e = memory i k in cc) one x) }
 refuses_check bytes start end name p (check_fault.NotBuilt at) h breaks one_first memory one =
-    record { cause = (p, h, breaks, the_first p (check_fault.NotBuilt at) (λ e. cc) one_first); none = λ a q x. absurd (none_accepted bytes start end name p a q (λ k. let e = memory k in cc) one x) }
+    record { cause = (p, h, breaks, the_first p (check_fault.NotBuilt at) (λ e. cc) one_first); none = λ a q x. absurd (none_accepted bytes start end name p a q (λ i k. let e = memory i k in cc) one x) }
 
 -- the checker passes what is accepted, unless memory runs out
 pub only_memory : (p : ProgramTree) (o : Result Unit CheckFault) (f : CheckFault) → o ≡ Err f
-    → (Accepted p → (o ≡ Ok tt) ⊎ (o ≡ Err check_fault.OutOfMemory)) → Accepted p → f ≡ check_fault.OutOfMemory
-only_memory p o f e h a = by_side (h a)
+    → (is_first_program p ≡ true → Accepted p → (o ≡ Ok tt) ⊎ (o ≡ Err check_fault.OutOfMemory)) → is_first_program p ≡ true → Accepted p → f ≡ check_fault.OutOfMemory
+only_memory p o f e h i a = by_side (h i a)
   where
     by_side : (o ≡ Ok tt) ⊎ (o ≡ Err check_fault.OutOfMemory) → f ≡ check_fault.OutOfMemory
     by_side (inl k) = absurd (cc)

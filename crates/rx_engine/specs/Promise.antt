@@ -3,8 +3,8 @@ use Rattle.std.specs.Prelude.{◌≡◌, ℕ, ℤ, ◌≤◌, ◌*◌, true, fal
 use Rattle.rx_core.specs.Bytes.{is_one_of}
 use Rattle.rx_tree.specs.Plain.{ProgramTree}
 use Rattle.rx_lex.specs.Words.{is_identifier}
-use Rattle.rx_parse.specs.Grammar.{Parses}
-use Rattle.rx_print.specs.Print.{print_program}
+use Rattle.rx_grammar.specs.grammar.Items.{Parses}
+use Rattle.rx_spelling.specs.Items.{print_program}
 use Rattle.rx_meaning.specs.Meaning.{run, UpTo}
 use Rattle.rx_check.specs.FirstGrammar.{is_first_program}
 use Rattle.rx_check.specs.Names.{free}
@@ -14,15 +14,15 @@ use Rattle.rx_hoist.specs.Plan.{params, outs}
 use Rattle.rx_hoist.specs.Extracted.{Parts, Extracted}
 use Rattle.rx_engine.specs.Conditions.{most_parameters, most_bytes, is_taken}
 
--- the bytes are an accepted text with this tree
+-- the bytes are an accepted text with this tree: it is a program of the first grammar's form that breaks no rule
 pub record Accepts (bytes : List ℕ) (p : ProgramTree) : Type 0 where
   pub parses : Parses bytes p
+  pub first : is_first_program p ≡ true
   pub accepted : Accepted p
 
--- the bytes are an accepted text: a program of the first grammar that breaks no rule
+-- the bytes are an accepted text
 pub record IsAccepted (bytes : List ℕ) : Type 0 where
   pub p : ProgramTree
-  pub first : is_first_program p ≡ true
   pub accepts : Accepts bytes p
 
 -- the range selects this run of an accepted text
@@ -67,7 +67,6 @@ pub record Keeps (bytes : List ℕ) (start end : ℕ) (name answer : List ℕ) :
   pub p : ProgramTree
   pub q : ProgramTree
   pub extraction : IsExtraction bytes start end name p q
-  pub parses : Parses answer q
-  pub accepted : Accepted q
+  pub accepts : Accepts answer q
   pub rendered : answer ≡ print_program q
   pub runs : KeepsRuns p q

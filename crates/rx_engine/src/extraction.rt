@@ -9,10 +9,9 @@ ghost use Rattle.rx_tree.specs.Lists.{nth};
 ghost use Rattle.rx_lex.specs.Tok.{toks};
 ghost use Rattle.rx_lex.specs.Words.{is_identifier as is_word};
 ghost use Rattle.rx_lex.specs.Tokens.{Lexes};
-ghost use Rattle.rx_parse.specs.Grammar.{Parses};
-ghost use Rattle.rx_print.specs.Print.{print_program};
+ghost use Rattle.rx_grammar.specs.grammar.Items.{Parses};
+ghost use Rattle.rx_spelling.specs.Items.{print_program};
 ghost use Rattle.rx_check.specs.Accepted.{Accepted, type_in, signatures, scope_from};
-ghost use Rattle.rx_check.specs.FirstGrammar.{is_first_program};
 ghost use Rattle.rx_check.specs.Types.{scope_after};
 ghost use Rattle.rx_select.specs.Placed.{PlacedIn};
 ghost use Rattle.rx_select.specs.Selecting.{run as run_is};
@@ -100,7 +99,6 @@ fn check_fault(fault: CheckFault) -> Fault
 /// The tree of a text that is accepted.
 fn accepted_program(alloc: Global, text: &[u8]) -> Result<Program, Fault>
     ensures found { IfOk result (λ p. Accepts text.now (plain-Program p)) }
-    ensures first { IfOk result (λ p. is_first_program (plain-Program p) ≡ true) }
     ensures only { IfOk result (λ p. (q : ProgramTree) → Parses text.now q → plain-Program p ≡ q) }
     ensures cause { IfErr result (λ f. Checks text.now (Err f)) }
     ensures memory { IfErr result (λ f. (q : ProgramTree) → Accepts text.now q → f ≡ Fault.OutOfMemory) }

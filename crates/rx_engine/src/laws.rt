@@ -19,7 +19,7 @@ pub fn extraction_keeps_runs()
     ensures program { (p : ProgramTree) (r : Run) (name : List ℕ) (q : ProgramTree) → Accepted p → Avoids name p → Extracted p r name q → (input : List ℤ) (n : ℕ) → UpTo (run p input n) (run q input (2 * n)) }
 {}
 
-/// A name that tokens leave free stands nowhere in the program that the whole grammar derives for them.
+/// A name that tokens leave free stands nowhere in the program that the grammar derives for them.
 pub fn untaken_is_fresh()
     ensures { (ts : List Tok) (p : ProgramTree) (h : ℕ) (name : List ℕ) → IsFile ts p h → taken ts name ≡ false → Avoids name p }
 {}

@@ -1,10 +1,6 @@
 pub mod Rules
-pub mod Turns
-pub mod SymbolLemmas
-pub mod NumberLaws
-pub mod CodeSteps
-pub mod Complete
-pub mod CompleteFile
-pub mod Sound
-pub mod SoundFile
+pub mod ItemSteps
+pub mod Places
 pub mod Whole
+pub mod Causes
+pub mod OnePlace

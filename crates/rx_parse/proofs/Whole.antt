@@ -1,56 +1,87 @@
--- What the whole parser answers, from what the rules read: a tree that is read is derived, and a derived tree is read.
-use Rattle.std.proofs.Common.{◌≡◌, ℕ, ◌≤◌, List, [], Result, Ok, Err, refl, sym, ap, subst, ◌∙◌}
+-- What the whole parser answers, from what the rules read: a tree that is read is derived, a derived tree is read, and where the rules stop the
+-- tokens stop being a program, by the laws of the grammar.
+use Rattle.std.proofs.Common.{◌≡◌, ℕ, List, [], ◌∷◌, ◌++◌, length, Ok, Err, inl, inr, refl, sym, ap, subst, ◌∙◌}
 use Rattle.std.specs.Prelude.{◌≢◌}
 use Rattle.rx_tree.specs.declared.tree.Item.{Item}
 use Rattle.rx_tree.specs.Plain.{ItemTree, ProgramTree}
-use Rattle.rx_lex.specs.declared.lexer.LexFault.{LexFault}
 use Rattle.rx_lex.specs.Tok.{Tok}
+use Rattle.rx_lex.specs.Words.{IsWord}
 use Rattle.rx_lex.specs.Tokens.{Lexes}
 use Rattle.rx_lex.proofs.TokenLaws.{lexes_one}
-use Rattle.rx_parse.specs.declared.fault.Stop.{Stop}
-use Rattle.rx_parse.specs.declared.fault.Stop.TheVariants as stop
-use Rattle.rx_parse.specs.declared.fault.SyntaxFault.{SyntaxFault}
+use Rattle.rx_grammar.specs.declared.stop.Stop.{Stop}
+use Rattle.rx_grammar.specs.declared.stop.Stop.TheVariants as stop
+use Rattle.rx_grammar.specs.grammar.Items.{IsFile, Parses, levels}
+use Rattle.rx_grammar.specs.parser.Steps.{Outcome, ReadsAs}
+use Rattle.rx_grammar.specs.parser.Items.{file}
+use Rattle.rx_grammar.specs.parser.Places.{Says, program, syntax_at, syntax_at_end, too_deep_at}
+use Rattle.rx_grammar.proofs.Deriving.{same_pair}
+use Rattle.rx_grammar.proofs.Whole.{program_read, program_derived}
+use Rattle.rx_grammar.proofs.Places.{says, text_word}
+use Rattle.rx_descent.specs.declared.got.Found.{Found}
 use Rattle.rx_parse.specs.declared.fault.SyntaxFault.TheVariants as fault
-use Rattle.rx_parse.specs.Steps.{Outcome, ReadsAs}
-use Rattle.rx_parse.specs.GotOf.{plain_items}
-use Rattle.rx_parse.specs.Parser.{items, value}
-use Rattle.rx_parse.specs.Grammar.{File, Parses, levels}
-use Rattle.rx_tree.specs.declared.tree.Program.{Program}
-use Rattle.rx_parse.specs.Answer.{Answers, IsCause}
-use Rattle.rx_parse.proofs.CompleteFile.{complete_file, one_file}
-use Rattle.rx_parse.proofs.Complete.{same_pair}
-use Rattle.rx_parse.proofs.SoundFile.{sound_file}
+use Rattle.rx_parse.specs.ItemsOf.{file_of}
+use Rattle.rx_parse.specs.Place.{place_of, fault_of}
+use Rattle.rx_parse.specs.Answer.{IsCause}
+use Rattle.rx_parse.proofs.Places.{place_at, place_at_end}
 
--- an error is want of memory
-only_memory : (e : Stop) (o : Outcome (List ItemTree)) (p : List ItemTree × List Tok) → o ≡ Ok p → (e ≢ stop.OutOfMemory → o ≡ Err e) → e ≡ stop.OutOfMemory
-only_memory stop.OutOfMemory o p r f = refl
-only_memory (stop.Syntax n) o p r f = let w : o ≡ Err (stop.Syntax n) = f (λ a. cc) in cc
-only_memory (stop.TooDeep n) o p r f = let w : o ≡ Err (stop.TooDeep n) = f (λ a. cc) in cc
+-- ---- trees
 
-pub memory : (ts new : List Tok) (e : Stop) (p : ProgramTree) (h : ℕ) → h ≤ levels → File ts p h
-    → ReadsAs {A = List Item} plain_items (items (value 126) (value 125) ts) (Err e) new → e ≡ stop.OutOfMemory
-memory ts new e p h low d r = only_memory e (items (value 126) (value 125) ts) (p, []) (complete_file ts p h d 125 low) r
-
-pub same_tree : (ts r : List Tok) (q p : ProgramTree) (h : ℕ) → h ≤ levels → File ts p h → items (value 126) (value 125) ts ≡ Ok (q, r) → q ≡ p
-same_tree ts r q p h low d e = ap (λ (z : ProgramTree × List Tok). z.0) (same_pair (q, r) (p, []) (sym e ∙ complete_file ts p h d 125 low))
-
-pub found : (ts r : List Tok) (q : ProgramTree) → items (value 126) (value 125) ts ≡ Ok (q, r) → (h : ℕ) × (h ≤ levels) × File ts q h
-found ts r q e = sound_file 125 ts r q e
-
--- a fault's cause
-pub cause : (bytes : List ℕ) (ts : List Tok) (e : SyntaxFault) → Lexes bytes ts → ((f : LexFault) → e ≢ fault.Lex f)
-    → ((p : ProgramTree) (h : ℕ) → h ≤ levels → File ts p h → e ≡ fault.OutOfMemory) → IsCause e bytes
-cause bytes ts (fault.Lex f) l n o = absurd (n f refl)
-cause bytes ts (fault.Syntax at) l n o = (ts, l, λ p h low d. let z : fault.Syntax at ≡ fault.OutOfMemory = o p h low d in cc)
-cause bytes ts (fault.TooDeep at) l n o = (ts, l, λ p h low d. let z : fault.TooDeep at ≡ fault.OutOfMemory = o p h low d in cc)
-cause bytes ts fault.OutOfMemory l n o = tt
-
-pub one_text : (bytes : List ℕ) (p q : ProgramTree) → Parses bytes p → Parses bytes q → p ≡ q
-one_text bytes p q a b =
-    one_file a.tokens p q a.height b.height a.derived (subst (λ ts. File ts q b.height) (lexes_one bytes b.tokens a.tokens b.lexed a.lexed) b.derived)
+pub found : (bytes : List ℕ) (ts rest : List Tok) (p : ProgramTree) (h : ℕ) → Lexes bytes ts → file levels ts ≡ Ok ((p, h), rest) → Parses bytes p
+found bytes ts rest p h l e = let w = program_derived levels ts rest p h e in record { tokens = ts; lexed = l; height = h; derived = w.2; low = w.1 }
 
 -- a text's tree is read from its tokens
-pub read_tree : (bytes : List ℕ) (ts : List Tok) (r : Result Program SyntaxFault) → Lexes bytes ts
-    → ((p : ProgramTree) (h : ℕ) → h ≤ levels → File ts p h → Answers r p) → (p : ProgramTree) → Parses bytes p → Answers r p
-read_tree bytes ts r l only p a =
-    only p a.height a.low (subst (λ us. File us p a.height) (lexes_one bytes a.tokens ts a.lexed l) a.derived)
+read : (bytes : List ℕ) (ts : List Tok) (p : ProgramTree) → Lexes bytes ts → (d : Parses bytes p) → file levels ts ≡ Ok ((p, d.height), [])
+read bytes ts p l d = program_read levels ts p d.height d.low (subst (λ (us : List Tok). IsFile us p d.height) (lexes_one bytes d.tokens ts d.lexed l) d.derived)
+
+pub same_tree : (bytes : List ℕ) (ts rest : List Tok) (q p : ProgramTree) (h : ℕ) → Lexes bytes ts → file levels ts ≡ Ok ((q, h), rest) → Parses bytes p → q ≡ p
+same_tree bytes ts rest q p h l e d =
+    ap (λ (z : (List ItemTree × ℕ) × List Tok). z.0.0) (same_pair ((q, h), rest) ((p, d.height), []) (sym e ∙ read bytes ts p l d))
+
+-- an error is want of memory
+only_memory : (e : Stop) (o : Outcome (List ItemTree × ℕ)) (x : (List ItemTree × ℕ) × List Tok) → o ≡ Ok x → (e ≢ stop.OutOfMemory → o ≡ Err e) → e ≡ stop.OutOfMemory
+only_memory stop.OutOfMemory o x r f = refl
+only_memory (stop.Syntax n) o x r f = let w : o ≡ Err (stop.Syntax n) = f (λ a. cc) in cc
+only_memory (stop.TooDeep n) o x r f = let w : o ≡ Err (stop.TooDeep n) = f (λ a. cc) in cc
+
+pub memory : (bytes : List ℕ) (ts new : List Tok) (e : Stop) (p : ProgramTree) (end : ℕ) → Lexes bytes ts → ReadsAs {A = Found Item} file_of (file levels ts) (Err e) new
+    → Parses bytes p → fault_of e ts end ≡ fault.OutOfMemory
+memory bytes ts new e p end l r d = ap (λ (s : Stop). fault_of s ts end) (only_memory e (file levels ts) ((p, d.height), []) (read bytes ts p l d) r)
+
+-- ---- places
+
+syntax_cause : (bytes : List ℕ) (ts : List Tok) (n : ℕ) (o : Outcome (List ItemTree × ℕ)) → Lexes bytes ts → Says levels ts o → o ≡ Err (stop.Syntax n)
+    → IsCause (fault.Syntax (place_of n ts (length bytes))) bytes
+syntax_cause bytes ts n o l (program p h low d) e = absurd (cc)
+syntax_cause bytes ts n o l (too_deep_at us rest t is b s) e = absurd (cc)
+syntax_cause bytes ts n o l (syntax_at us rest t is b s) e =
+    let k : n ≡ length (t ∷ rest) = cc in
+    (ts, l, inl (record { here = record { before = us; token = t; behind = rest; tokens = is; place = place_at ts us rest t n (length bytes) is k }; begins = b; stops = s }))
+syntax_cause bytes ts n o l (syntax_at_end b s) e =
+    let k : n ≡ 0 = cc in
+    (ts, l, inr (record { place = place_at_end ts n (length bytes) k; begins = b; none = s }))
+
+word_of : (bytes : List ℕ) (ts us rest : List Tok) (t : Tok) → Lexes bytes ts → ts ≡ us ++ (t ∷ rest) → IsWord t.class t.text
+word_of bytes ts us rest t l is = text_word bytes us rest t (subst (λ (z : List Tok). Lexes bytes z) is l)
+
+too_deep_cause : (bytes : List ℕ) (ts : List Tok) (n : ℕ) (o : Outcome (List ItemTree × ℕ)) → Lexes bytes ts → Says levels ts o → o ≡ Err (stop.TooDeep n)
+    → IsCause (fault.TooDeep (place_of n ts (length bytes))) bytes
+too_deep_cause bytes ts n o l (program p h low d) e = absurd (cc)
+too_deep_cause bytes ts n o l (syntax_at us rest t is b s) e = absurd (cc)
+too_deep_cause bytes ts n o l (syntax_at_end b s) e = absurd (cc)
+too_deep_cause bytes ts n o l (too_deep_at us rest t is b s) e =
+    let k : n ≡ length (t ∷ rest) = cc in (
+      ts,
+      l,
+      record {
+        here = record { before = us; token = t; behind = rest; tokens = is; place = place_at ts us rest t n (length bytes) is k };
+        begins = b (word_of bytes ts us rest t l is);
+        stops = s;
+      },
+    )
+
+-- the cause of a stop
+pub cause : (bytes : List ℕ) (ts new : List Tok) (e : Stop) → Lexes bytes ts → ReadsAs {A = Found Item} file_of (file levels ts) (Err e) new
+    → IsCause (fault_of e ts (length bytes)) bytes
+cause bytes ts new stop.OutOfMemory l r = tt
+cause bytes ts new (stop.Syntax n) l r = syntax_cause bytes ts n (file levels ts) l (says levels ts) (r (λ a. cc))
+cause bytes ts new (stop.TooDeep n) l r = too_deep_cause bytes ts n (file levels ts) l (says levels ts) (r (λ a. cc))

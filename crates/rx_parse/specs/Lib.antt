@@ -1,8 +1,3 @@
-pub mod Symbols
+pub mod ItemsOf
 pub mod Place
-pub mod Steps
-pub mod Numbers
-pub mod Grammar
-pub mod Parser
-pub mod GotOf
 pub mod Answer

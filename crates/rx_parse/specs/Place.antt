@@ -1,10 +1,21 @@
--- What a cursor shows: the tokens from its place on.
-use Rattle.std.specs.Prelude.{◌≤◌, List, length, drop}
-use Rattle.rx_parse.specs.declared.cursor.Cursor.TheInside.{Inside}
-use Rattle.rx_lex.specs.Tok.{Tok, toks}
+-- Where the tokens of a text stop: at a token, or at the text's end.
+use Rattle.std.specs.Prelude.{ℕ, ◌-◌, List, [], ◌∷◌, length, drop}
+use Rattle.rx_lex.specs.Tok.{Tok}
+use Rattle.rx_grammar.specs.declared.stop.Stop.{Stop}
+use Rattle.rx_grammar.specs.declared.stop.Stop.TheVariants as stop
+use Rattle.rx_parse.specs.declared.fault.SyntaxFault.{SyntaxFault}
+use Rattle.rx_parse.specs.declared.fault.SyntaxFault.TheVariants as fault
 
-abbrev pub rest_of : Inside → List Tok
-rest_of c = toks (drop c.at c.tokens.now)
+-- where the first of these tokens stands, or the end
+abbrev pub start_of : List Tok → ℕ → ℕ
+start_of [] end = end
+start_of (t ∷ ts) end = t.span.start
 
-abbrev pub IsWithin : Inside → Type 0
-IsWithin c = c.at ≤ length c.tokens.now
+-- where the token stands before which so many tokens end
+abbrev pub place_of : ℕ → List Tok → ℕ → ℕ
+place_of left ts end = start_of (drop (length ts - left) ts) end
+
+abbrev pub fault_of : Stop → List Tok → ℕ → SyntaxFault
+fault_of stop.OutOfMemory ts end = fault.OutOfMemory
+fault_of (stop.Syntax left) ts end = fault.Syntax (place_of left ts end)
+fault_of (stop.TooDeep left) ts end = fault.TooDeep (place_of left ts end)

@@ -1,10 +1,10 @@
-//! Laws of the grammar, each as the contract of a function that does nothing.
+//! Laws of faults, each as the contract of a function that does nothing.
 
 ghost use Rattle.std.specs.Prelude.{◌≡◌, ℕ, List};
-ghost use Rattle.rx_tree.specs.Plain.{ProgramTree};
-ghost use Rattle.rx_parse.specs.Grammar.{Parses};
+ghost use Rattle.rx_parse.specs.declared.fault.SyntaxFault.TheVariants.{Syntax};
+ghost use Rattle.rx_parse.specs.Answer.{IsCause};
 
-/// A text has at most one tree.
-pub fn one_tree()
-    ensures { (bytes : List ℕ) (p q : ProgramTree) → Parses bytes p → Parses bytes q → p ≡ q }
+/// The tokens of a text stop being a program at one place at most.
+pub fn one_place()
+    ensures { (bytes : List ℕ) (at other : ℕ) → IsCause (Syntax at) bytes → IsCause (Syntax other) bytes → at ≡ other }
 {}

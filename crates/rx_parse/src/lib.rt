@@ -1,20 +1,22 @@
-//! The parser of the first grammar: functions over `i64`, with `let`, calls and `println!`.
+//! The parser of the whole language: the program of a text, or why and where it is none.
 #![tactic(auto)]
 
-mod cursor;
-mod expression;
+mod derives;
 mod fault;
-mod got;
-mod item;
+mod fields;
+mod items;
 mod laws;
-mod number;
+mod lifetimes;
+mod lists;
 mod program;
-mod statement;
-mod symbol;
 
 pub use fault::SyntaxFault;
-pub use laws::one_tree;
+pub use laws::one_place;
 pub use program::parse;
 
+#[cfg(test)]
+mod bank;
+#[cfg(test)]
+mod stops;
 #[cfg(test)]
 mod tests;

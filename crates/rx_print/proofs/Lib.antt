@@ -1,16 +1,10 @@
-pub mod Pieces
-pub mod DecimalDigits
-pub mod TreesStand
-pub mod DerivedExpressions
-pub mod Derived
-pub mod PrintParses
-pub mod SameText
-pub mod Levels
-pub mod Measured
-pub mod FirstIsWhole
-pub mod WholeMeasured
-pub mod FirstForms
+-- The goals that no tactic closes: by the lemmas of texts and lists written one part after the other.
+pub mod Flat
 pub mod Rules
-pub mod TextSteps
-pub mod BodySteps
-pub mod Example
+pub mod Written
+pub mod WrittenLists
+pub mod Seen
+pub mod WrittenBlocks
+pub mod WrittenForms
+pub mod WrittenItems
+pub mod ReadBack

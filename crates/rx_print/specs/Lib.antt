@@ -1,3 +1,3 @@
-pub mod Print
-pub mod Printable
 pub mod Parts
+pub mod ExpressionParts
+pub mod ItemParts

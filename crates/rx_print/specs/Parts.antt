@@ -1,61 +1,59 @@
 -- Parts of the canonical text that a function of their own writes.
-use Rattle.std.specs.Prelude.{ℕ, suc, Bool, true, false, List, [], ◌∷◌, ◌++◌, Option, codes}
+use Rattle.std.specs.Prelude.{ℕ, zero, suc, Bool, true, false, List, [], ◌∷◌, ◌++◌, Option, codes}
 use Rattle.rx_tree.specs.declared.tree.Ident.{Ident}
-use Rattle.rx_tree.specs.declared.tree.BinaryOp.{BinaryOp}
-use Rattle.rx_tree.specs.Plain.{TypeTree, PatternTree, Expression, Expressions, OptionalExpression, Statement, Statements, Parameter, ItemTree}
-use Rattle.rx_lex.specs.declared.token.Class.TheVariants.{Format}
-use Rattle.rx_lex.specs.Words.{format_text}
-use Rattle.rx_print.specs.Print.{Piece, word, blanks, space, mark_piece, identifier_piece, operator_text, left_strength, right_strength, weakest, expression_pieces, list_pieces, keyword_piece, line, pattern_pieces, written_type, initial_pieces, semicolon, statement_pieces, statements_pieces, tail_pieces, is_empty, last_line, parameter_pieces, item_pieces}
+use Rattle.rx_core.specs.declared.types.Kind.{Kind}
+use Rattle.rx_tree.specs.Plain.{TypeTree, PatternTree, PatternTrees, FieldPatterns}
+use Rattle.rx_spelling.specs.Pieces.{Piece, mark, space, name, number, fields_of, mutable_pieces, with_ampersand}
+use Rattle.rx_spelling.specs.Types.{lifetime_pieces, arguments_pieces, type_pieces}
+use Rattle.rx_spelling.specs.Patterns.{minus_pieces, parts_of, pattern_pieces, each_pattern, each_field_pattern}
 
-abbrev pub operator_pieces : BinaryOp → List Piece
-operator_pieces o = space ∷ mark_piece (operator_text o) ∷ space ∷ []
+-- how many levels of blanks these are
+abbrev pub depth_of : List ℕ → ℕ
+depth_of (a ∷ b ∷ c ∷ d ∷ rest) = suc (depth_of rest)
+depth_of _ = zero
 
--- the left operand, behind a parenthesis or not
-abbrev pub left_pieces : ℕ → Bool → BinaryOp → Expression → List Piece
-left_pieces depth false o a = expression_pieces depth (left_strength o) a
-left_pieces depth true o a = mark_piece (codes "(") ∷ expression_pieces depth (left_strength o) a
+-- ---- lists
 
--- an operator and its right operand, before a parenthesis or not
-abbrev pub right_pieces : ℕ → Bool → BinaryOp → Expression → List Piece
-right_pieces depth false o b = operator_pieces o ++ expression_pieces depth (right_strength o) b
-right_pieces depth true o b = operator_pieces o ++ (expression_pieces depth (right_strength o) b ++ mark_piece (codes ")") ∷ [])
+-- before an element of a list that follows another
+abbrev pub comma_pieces : Bool → List Piece
+comma_pieces false = []
+comma_pieces true = mark (codes ",") ∷ space ∷ []
 
-abbrev pub call_pieces : ℕ → Ident → Expressions → List Piece
-call_pieces depth f es = identifier_piece f.name ∷ mark_piece (codes "(") ∷ (list_pieces depth es ++ mark_piece (codes ")") ∷ [])
+-- an element of a list, behind a comma where it follows another
+abbrev pub next_of : Bool → List Piece → List Piece
+next_of follows ps = comma_pieces follows ++ ps
 
-abbrev pub print_pieces : ℕ → Expression → List Piece
-print_pieces depth e =
-    identifier_piece (codes "println") ∷ mark_piece (codes "!") ∷ mark_piece (codes "(") ∷ word Format format_text ∷ mark_piece (codes ",") ∷ space
-    ∷ (expression_pieces depth weakest e ++ mark_piece (codes ")") ∷ [])
+-- behind the parts of a tuple, of which there may be only one
+abbrev pub closed_tuple : Bool → List Piece
+closed_tuple false = mark (codes ")") ∷ []
+closed_tuple true = mark (codes ",") ∷ mark (codes ")") ∷ []
 
--- an expression of a list, behind a comma where it follows another
-abbrev pub next_pieces : ℕ → Bool → Expression → List Piece
-next_pieces depth false e = expression_pieces depth weakest e
-next_pieces depth true e = mark_piece (codes ",") ∷ space ∷ expression_pieces depth weakest e
+-- ---- types
 
-abbrev pub let_pieces : ℕ → PatternTree → Option TypeTree → OptionalExpression → List Piece
-let_pieces depth p t i = keyword_piece (codes "let") ∷ space ∷ (pattern_pieces p ++ (written_type t ++ (initial_pieces depth i ++ mark_piece (codes ";") ∷ [])))
+-- behind the `&` of a reference
+abbrev pub pointee_pieces : Option Ident → Bool → TypeTree → List Piece
+pointee_pieces l m t = lifetime_pieces l ++ (mutable_pieces m ++ type_pieces false t)
 
-abbrev pub evaluated_pieces : ℕ → Expression → Bool → List Piece
-evaluated_pieces depth e b = expression_pieces depth weakest e ++ semicolon b
+-- a reference, or two whose `&` are one mark
+abbrev pub pointer_pieces : Bool → Option Ident → Bool → TypeTree → List Piece
+pointer_pieces joined l m t = with_ampersand joined (pointee_pieces l m t) (type_pieces true t)
 
--- a statement on a line of its own
-abbrev pub line_pieces : ℕ → Statement → List Piece
-line_pieces depth a = line depth ∷ statement_pieces depth a
+abbrev pub named_pieces : Ident → Option (List (Option Ident)) → List Piece
+named_pieces n ls = name n ∷ arguments_pieces ls
 
--- the brace that closes a body, empty or not
-abbrev pub brace_pieces : ℕ → Bool → List Piece
-brace_pieces depth empty = last_line depth empty ++ mark_piece (codes "}") ∷ []
+-- ---- patterns
 
-abbrev pub between_pieces : ℕ → Statements → OptionalExpression → List Piece
-between_pieces depth ss y = statements_pieces (suc depth) ss ++ (tail_pieces (suc depth) y ++ brace_pieces depth (is_empty ss y))
+abbrev pub bound_name_pieces : Ident → Bool → List Piece
+bound_name_pieces n m = mutable_pieces m ++ (name n ∷ [])
 
--- a parameter, behind a comma where it follows another
-abbrev pub next_parameter : Bool → Parameter → List Piece
-next_parameter false x = parameter_pieces x
-next_parameter true x = mark_piece (codes ",") ∷ space ∷ parameter_pieces x
+abbrev pub integer_pieces : Bool → ℕ → Option Kind → List Piece
+integer_pieces g v k = minus_pieces g ++ (number v k ∷ [])
 
--- an item, behind an empty line where it follows another
-abbrev pub next_item : Bool → ItemTree → List Piece
-next_item false i = item_pieces i
-next_item true i = blanks (10 ∷ 10 ∷ []) ∷ item_pieces i
+abbrev pub variant_pattern_pieces : Ident → Ident → PatternTrees → List Piece
+variant_pattern_pieces a v ps = name a ∷ mark (codes "::") ∷ name v ∷ parts_of (each_pattern ps)
+
+abbrev pub make_pattern_pieces : Ident → FieldPatterns → List Piece
+make_pattern_pieces n fs = name n ∷ space ∷ fields_of (each_field_pattern fs)
+
+abbrev pub field_pattern_pieces : Ident × PatternTree → List Piece
+field_pattern_pieces f = name f.0 ∷ mark (codes ":") ∷ space ∷ pattern_pieces f.1

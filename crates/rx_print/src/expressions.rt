@@ -1,100 +1,282 @@
 //! The canonical text of expressions.
 
-ghost use Rattle.std.specs.Prelude.{◌≡◌, ◌++◌, OnOk, map};
-ghost use Rattle.std.specs.Fmt.{decimal};
-ghost use Rattle.rx_lex.specs.Numerals.{kind_name, suffix_text};
-ghost use Rattle.rx_tree.specs.PlainOf.{plain-Expr, expressions_of};
-ghost use Rattle.rx_print.specs.Print.{flat, expression_pieces, list_pieces};
-ghost use Rattle.rx_print.specs.Parts.{operator_pieces, left_pieces, right_pieces, call_pieces, print_pieces, next_pieces};
+ghost use Rattle.std.specs.Prelude.{◌≡◌, ◌++◌, [], ◌∷◌, not, ◌&&◌, true, false, OnOk, map};
+ghost use Rattle.rx_tree.specs.PlainOf.{plain-Expr, plain-FieldExpr, plain-Block, expressions_of, field_expressions_of};
+ghost use Rattle.rx_spelling.specs.Pieces.{flat, enclosed, separated, tuple_of, arguments_of, fields_of};
+ghost use Rattle.rx_spelling.specs.Expressions.{label_pieces, is_borrow, pieces, each, each_field};
+ghost use Rattle.rx_print.specs.Parts.{next_of};
+ghost use Rattle.rx_print.specs.ExpressionParts.{jump_pieces, path_pieces, member_pieces, part_pieces, borrowed_pieces, pointer_pieces, binary_pieces, assigned_pieces, call_pieces, variant_pieces, make_pieces, field_pieces, print_pieces, if_pieces, if_else_pieces, loop_pieces, while_pieces};
 
-use crate::operators;
-use crate::operators::{Strength, WEAKEST};
-use rx_core::{Kind, Text};
-use rx_tree::{BinaryOp, Expr, ExprNode, Ident};
+use crate::blocks::{push_block, push_match};
+use crate::margin::Margin;
+use crate::places::{too_weak, unfit};
+use crate::words::{
+    comma, left_strength, operator_text, push_decimal, push_mutable, push_number, right_strength,
+    truth_text, tuple_end, update_text,
+};
+use rx_core::Text;
+use rx_tree::{BinaryOp, Block, Expr, ExprNode, FieldExpr, Ident};
 use std::alloc::{AllocError, Global};
 
-pub fn kind_text(kind: Kind) -> &'static str
-    ensures { result.now ≡ kind_name kind }
+/// Adds the label before a loop, where one is written.
+#[tactic(auto, using(crate::proofs::Rules::text_rules))]
+fn push_label(out: &mut Text, label: &Option<Ident>) -> Result<(), AllocError>
+    ensures { OnOk result (out.new ≡ out.old ++ flat (label_pieces label.now)) }
 {
-    match kind {
-        Kind::U8 => "u8",
-        Kind::U32 => "u32",
-        Kind::U64 => "u64",
-        Kind::I32 => "i32",
-        Kind::I64 => "i64",
-    }
-}
-
-fn push_suffix(out: &mut Text, suffix: &Option<Kind>) -> Result<(), AllocError>
-    ensures { OnOk result (out.new ≡ out.old ++ suffix_text suffix.now) }
-{
-    match suffix {
-        Some(kind) => out.push(kind_text(*kind)),
+    match label {
+        Some(l) => {
+            out.push(l.name.as_str())?;
+            out.push(": ")
+        }
         None => Ok(()),
     }
 }
 
-fn push_number(
-    alloc: Global,
-    out: &mut Text,
-    value: u64,
-    suffix: &Option<Kind>,
-) -> Result<(), AllocError>
-    ensures { OnOk result (out.new ≡ out.old ++ (decimal value ++ suffix_text suffix.now)) }
-{
-    let digits = format!(in alloc; "{value}")?;
-    out.push(digits.as_str())?;
-    push_suffix(out, suffix)
-}
-
-/// Adds an operator, between blanks.
+/// Adds a `break` or a `continue`, and the label behind it.
 #[tactic(auto, using(crate::proofs::Rules::text_rules))]
-fn push_operator(out: &mut Text, op: BinaryOp) -> Result<(), AllocError>
-    ensures { OnOk result (out.new ≡ out.old ++ flat (operator_pieces op)) }
+fn push_jump(out: &mut Text, jump: &str, label: &Option<Ident>) -> Result<(), AllocError>
+    ensures { OnOk result (out.new ≡ out.old ++ flat (jump_pieces jump.now label.now)) }
 {
-    out.push(" ")?;
-    out.push(operators::text(op))?;
-    out.push(" ")
-}
-
-/// Adds the left operand of an operation, behind a parenthesis where one stands round the operation.
-#[cycle(expressions)]
-#[tactic(auto, using(crate::proofs::Rules::text_rules))]
-fn push_left(
-    alloc: Global,
-    out: &mut Text,
-    depth: usize,
-    enclosed: bool,
-    op: BinaryOp,
-    operand: &Expr,
-) -> Result<(), AllocError>
-    ensures { OnOk result (out.new ≡ out.old ++ flat (left_pieces depth enclosed op (plain-Expr operand.now))) }
-{
-    if enclosed {
-        out.push("(")?;
+    out.push(jump)?;
+    match label {
+        Some(l) => {
+            out.push(" ")?;
+            out.push(l.name.as_str())
+        }
+        None => Ok(()),
     }
-    push_expression(alloc, out, depth, operators::left(op), operand)
 }
 
-/// Adds an operator and its right operand, and the parenthesis that closes the operation.
+/// Adds the name of a variant.
+#[tactic(auto, using(crate::proofs::Rules::text_rules))]
+fn push_path(out: &mut Text, name: &Ident, variant: &Ident) -> Result<(), AllocError>
+    ensures { OnOk result (out.new ≡ out.old ++ flat (path_pieces name.now variant.now)) }
+{
+    out.push(name.name.as_str())?;
+    out.push("::")?;
+    out.push(variant.name.as_str())
+}
+
+/// Whether an expression is a borrow.
+#[tactic(auto, using(crate::proofs::Rules::expression_rules))]
+fn is_borrow(e: &Expr) -> bool
+    ensures { result ≡ is_borrow (plain-Expr e.now) }
+{
+    match &e.node {
+        ExprNode::Borrow(..) => true,
+        ExprNode::Int(..) | ExprNode::Bool(_) | ExprNode::Tuple(_) | ExprNode::Var(_) => false,
+        ExprNode::Field(..) | ExprNode::Part(..) | ExprNode::Deref(_) | ExprNode::Neg(_) => false,
+        ExprNode::Not(_) | ExprNode::Binary(..) | ExprNode::Assign(..) => false,
+        ExprNode::Update(..) | ExprNode::Call(..) | ExprNode::NextInput => false,
+        ExprNode::Variant(..) | ExprNode::Make(..) | ExprNode::Print(_) => false,
+        ExprNode::Block(_) | ExprNode::If(..) | ExprNode::Match(..) | ExprNode::Loop(..) => false,
+        ExprNode::While(..) | ExprNode::Break(_) | ExprNode::Continue(_) => false,
+        ExprNode::Return(_) => false,
+    }
+}
+
+/// Whether the `&` of a borrow and that of what it borrows are one mark.
+fn joins(mutable: bool, e: &Expr) -> bool
+    ensures { result ≡ (not mutable && is_borrow (plain-Expr e.now)) }
+{
+    !mutable && is_borrow(e)
+}
+
+/// Adds an expression between two texts, in parentheses or not.
 #[cycle(expressions)]
 #[tactic(auto, using(crate::proofs::Rules::text_rules))]
-fn push_right(
+pub fn push_between(
     alloc: Global,
     out: &mut Text,
-    depth: usize,
-    enclosed: bool,
-    op: BinaryOp,
-    operand: &Expr,
+    margin: &Margin,
+    before: &str,
+    within: bool,
+    e: &Expr,
+    after: &str,
 ) -> Result<(), AllocError>
-    ensures { OnOk result (out.new ≡ out.old ++ flat (right_pieces depth enclosed op (plain-Expr operand.now))) }
+    ensures { OnOk result (out.new ≡ out.old ++ (before.now ++ (flat (enclosed within (pieces false margin.now (plain-Expr e.now))) ++ after.now))) }
 {
-    push_operator(out, op)?;
-    push_expression(alloc, out, depth, operators::right(op), operand)?;
-    if enclosed {
-        return out.push(")");
+    out.push(before)?;
+    if within {
+        out.push("(")?;
+        push_expression(alloc, out, margin, false, e)?;
+        out.push(")")?;
+        return out.push(after);
+    }
+    push_expression(alloc, out, margin, false, e)?;
+    out.push(after)
+}
+
+/// Adds a field of an expression.
+#[cycle(expressions)]
+#[tactic(auto, using(crate::proofs::Rules::text_rules))]
+fn push_member(
+    alloc: Global,
+    out: &mut Text,
+    margin: &Margin,
+    e: &Expr,
+    name: &Ident,
+) -> Result<(), AllocError>
+    ensures { OnOk result (out.new ≡ out.old ++ flat (member_pieces margin.now (plain-Expr e.now) name.now)) }
+{
+    push_between(alloc, out, margin, "", too_weak(0, e), e, ".")?;
+    out.push(name.name.as_str())
+}
+
+/// Adds a part of a tuple.
+#[cycle(expressions)]
+#[tactic(auto, using(crate::proofs::Rules::text_rules))]
+fn push_part(
+    alloc: Global,
+    out: &mut Text,
+    margin: &Margin,
+    tuple: &Expr,
+    index: u64,
+) -> Result<(), AllocError>
+    ensures { OnOk result (out.new ≡ out.old ++ flat (part_pieces margin.now (plain-Expr tuple.now) index)) }
+{
+    push_between(alloc, out, margin, "", too_weak(0, tuple), tuple, ".")?;
+    push_decimal(alloc, out, index)
+}
+
+/// Adds what stands behind the `&` of a borrow.
+#[cycle(expressions)]
+#[tactic(auto, using(crate::proofs::Rules::text_rules))]
+fn push_borrowed(
+    alloc: Global,
+    out: &mut Text,
+    margin: &Margin,
+    mutable: bool,
+    e: &Expr,
+) -> Result<(), AllocError>
+    ensures { OnOk result (out.new ≡ out.old ++ flat (borrowed_pieces margin.now mutable (plain-Expr e.now))) }
+{
+    push_mutable(out, mutable)?;
+    push_between(alloc, out, margin, "", too_weak(1, e), e, "")
+}
+
+/// Adds a borrow, or two whose `&` are one mark.
+#[cycle(expressions)]
+#[tactic(auto, using(crate::proofs::Rules::text_rules))]
+fn push_pointer(
+    alloc: Global,
+    out: &mut Text,
+    margin: &Margin,
+    joined: bool,
+    mutable: bool,
+    e: &Expr,
+) -> Result<(), AllocError>
+    ensures { OnOk result (out.new ≡ out.old ++ flat (pointer_pieces margin.now joined mutable (plain-Expr e.now))) }
+{
+    if joined {
+        out.push("&&")?;
+        return push_expression(alloc, out, margin, true, e);
+    }
+    out.push("&")?;
+    push_borrowed(alloc, out, margin, mutable, e)
+}
+
+/// Adds an operator and its two operands.
+#[cycle(expressions)]
+#[tactic(auto, using(crate::proofs::Rules::text_rules))]
+fn push_binary(
+    alloc: Global,
+    out: &mut Text,
+    margin: &Margin,
+    op: BinaryOp,
+    a: &Expr,
+    b: &Expr,
+) -> Result<(), AllocError>
+    ensures { OnOk result (out.new ≡ out.old ++ flat (binary_pieces margin.now op (plain-Expr a.now) (plain-Expr b.now))) }
+{
+    let left = too_weak(left_strength(op), a);
+    let right = too_weak(right_strength(op), b);
+    push_between(alloc, out, margin, "", left, a, " ")?;
+    out.push(operator_text(op))?;
+    push_between(alloc, out, margin, " ", right, b, "")
+}
+
+/// Adds an assignment with this mark.
+#[cycle(expressions)]
+#[tactic(auto, using(crate::proofs::Rules::text_rules))]
+fn push_assigned(
+    alloc: Global,
+    out: &mut Text,
+    margin: &Margin,
+    mark: &str,
+    a: &Expr,
+    b: &Expr,
+) -> Result<(), AllocError>
+    ensures { OnOk result (out.new ≡ out.old ++ flat (assigned_pieces margin.now mark.now (plain-Expr a.now) (plain-Expr b.now))) }
+{
+    push_between(alloc, out, margin, "", too_weak(6, a), a, " ")?;
+    out.push(mark)?;
+    push_between(alloc, out, margin, " ", false, b, "")
+}
+
+/// Adds an expression, behind a comma where it follows another.
+#[cycle(expressions)]
+#[tactic(auto, using(crate::proofs::Rules::text_rules))]
+fn push_next(
+    alloc: Global,
+    out: &mut Text,
+    margin: &Margin,
+    follows: bool,
+    e: &Expr,
+) -> Result<(), AllocError>
+    ensures { OnOk result (out.new ≡ out.old ++ flat (next_of follows (pieces false margin.now (plain-Expr e.now)))) }
+{
+    out.push(comma(follows))?;
+    push_expression(alloc, out, margin, false, e)
+}
+
+/// Adds expressions, with a comma between each two.
+#[cycle(expressions)]
+fn push_each(
+    alloc: Global,
+    out: &mut Text,
+    margin: &Margin,
+    list: &[Expr],
+) -> Result<(), AllocError>
+    ensures { OnOk result (out.new ≡ out.old ++ flat (separated (each margin.now (expressions_of (map plain-Expr list.now))))) }
+{
+    let mut follows = false;
+    for e in list {
+        push_next(alloc, out, margin, follows, e)?;
+        follows = true;
     }
     Ok(())
+}
+
+/// Adds a tuple.
+#[cycle(expressions)]
+fn push_tuple(
+    alloc: Global,
+    out: &mut Text,
+    margin: &Margin,
+    list: &[Expr],
+) -> Result<(), AllocError>
+    ensures { OnOk result (out.new ≡ out.old ++ flat (tuple_of (each margin.now (expressions_of (map plain-Expr list.now))))) }
+{
+    out.push("(")?;
+    push_each(alloc, out, margin, list)?;
+    out.push(tuple_end(list.len() == 1))
+}
+
+/// Adds expressions in parentheses.
+#[cycle(expressions)]
+#[tactic(auto, using(crate::proofs::Rules::text_rules))]
+fn push_arguments(
+    alloc: Global,
+    out: &mut Text,
+    margin: &Margin,
+    list: &[Expr],
+) -> Result<(), AllocError>
+    ensures { OnOk result (out.new ≡ out.old ++ flat (arguments_of (each margin.now (expressions_of (map plain-Expr list.now))))) }
+{
+    out.push("(")?;
+    push_each(alloc, out, margin, list)?;
+    out.push(")")
 }
 
 /// Adds a call of a function.
@@ -103,90 +285,269 @@ fn push_right(
 fn push_call(
     alloc: Global,
     out: &mut Text,
-    depth: usize,
+    margin: &Margin,
     name: &Ident,
-    arguments: &[Expr],
+    list: &[Expr],
 ) -> Result<(), AllocError>
-    ensures { OnOk result (out.new ≡ out.old ++ flat (call_pieces depth name.now (expressions_of (map plain-Expr arguments.now)))) }
+    ensures { OnOk result (out.new ≡ out.old ++ flat (call_pieces margin.now name.now (expressions_of (map plain-Expr list.now)))) }
 {
     out.push(name.name.as_str())?;
-    out.push("(")?;
-    push_list(alloc, out, depth, arguments)?;
-    out.push(")")
+    push_arguments(alloc, out, margin, list)
 }
 
-/// Adds an expression of a list, behind a comma where it follows another.
+/// Adds a variant with arguments.
 #[cycle(expressions)]
 #[tactic(auto, using(crate::proofs::Rules::text_rules))]
-fn push_next(
+fn push_variant(
     alloc: Global,
     out: &mut Text,
-    depth: usize,
-    follows: bool,
-    e: &Expr,
+    margin: &Margin,
+    name: &Ident,
+    variant: &Ident,
+    list: &[Expr],
 ) -> Result<(), AllocError>
-    ensures { OnOk result (out.new ≡ out.old ++ flat (next_pieces depth follows (plain-Expr e.now))) }
+    ensures { OnOk result (out.new ≡ out.old ++ flat (variant_pieces margin.now name.now variant.now (expressions_of (map plain-Expr list.now)))) }
 {
-    if follows {
-        out.push(", ")?;
-    }
-    push_expression(alloc, out, depth, WEAKEST, e)
+    push_path(out, name, variant)?;
+    push_arguments(alloc, out, margin, list)
 }
 
-/// Adds expressions, with a comma between each two.
+/// Adds a field of a struct literal, behind a comma where it follows another.
 #[cycle(expressions)]
-#[tactic(auto, using(crate::proofs::Rules::text_rules))]
-fn push_list(alloc: Global, out: &mut Text, depth: usize, list: &[Expr]) -> Result<(), AllocError>
-    ensures { OnOk result (out.new ≡ out.old ++ flat (list_pieces depth (expressions_of (map plain-Expr list.now)))) }
+#[tactic(auto, using(crate::proofs::Rules::field_rules))]
+fn push_field(
+    alloc: Global,
+    out: &mut Text,
+    margin: &Margin,
+    follows: bool,
+    field: &FieldExpr,
+) -> Result<(), AllocError>
+    ensures { OnOk result (out.new ≡ out.old ++ flat (next_of follows (field_pieces margin.now (plain-FieldExpr field.now)))) }
+{
+    out.push(comma(follows))?;
+    out.push(field.field.name.as_str())?;
+    out.push(": ")?;
+    push_expression(alloc, out, margin, false, &field.value)
+}
+
+/// Adds fields, with a comma between each two.
+#[cycle(expressions)]
+fn push_fields(
+    alloc: Global,
+    out: &mut Text,
+    margin: &Margin,
+    list: &[FieldExpr],
+) -> Result<(), AllocError>
+    ensures { OnOk result (out.new ≡ out.old ++ flat (separated (each_field margin.now (field_expressions_of (map plain-FieldExpr list.now))))) }
 {
     let mut follows = false;
-    for e in list {
-        push_next(alloc, out, depth, follows, e)?;
+    for field in list {
+        push_field(alloc, out, margin, follows, field)?;
         follows = true;
     }
     Ok(())
 }
 
-/// Adds a `println!` of an expression.
+/// Adds fields in braces.
 #[cycle(expressions)]
-#[tactic(auto, using(crate::proofs::Rules::text_rules))]
-fn push_print(alloc: Global, out: &mut Text, depth: usize, e: &Expr) -> Result<(), AllocError>
-    ensures { OnOk result (out.new ≡ out.old ++ flat (print_pieces depth (plain-Expr e.now))) }
+fn push_braces(
+    alloc: Global,
+    out: &mut Text,
+    margin: &Margin,
+    list: &[FieldExpr],
+) -> Result<(), AllocError>
+    ensures { OnOk result (out.new ≡ out.old ++ flat (fields_of (each_field margin.now (field_expressions_of (map plain-FieldExpr list.now))))) }
 {
-    out.push("println!(\"{}\", ")?;
-    push_expression(alloc, out, depth, WEAKEST, e)?;
-    out.push(")")
+    if list.is_empty() {
+        return out.push("{}");
+    }
+    out.push("{ ")?;
+    push_fields(alloc, out, margin, list)?;
+    out.push(" }")
 }
 
-/// Adds an expression to a text, at a place that takes expressions so weak, on a line at a depth.
+/// Adds a struct literal.
+#[cycle(expressions)]
+#[tactic(auto, using(crate::proofs::Rules::text_rules))]
+fn push_make(
+    alloc: Global,
+    out: &mut Text,
+    margin: &Margin,
+    name: &Ident,
+    list: &[FieldExpr],
+) -> Result<(), AllocError>
+    ensures { OnOk result (out.new ≡ out.old ++ flat (make_pieces margin.now name.now (field_expressions_of (map plain-FieldExpr list.now)))) }
+{
+    out.push(name.name.as_str())?;
+    out.push(" ")?;
+    push_braces(alloc, out, margin, list)
+}
+
+/// Adds a `println!` of an expression.
+#[cycle(expressions)]
+fn push_print(alloc: Global, out: &mut Text, margin: &Margin, e: &Expr) -> Result<(), AllocError>
+    ensures { OnOk result (out.new ≡ out.old ++ flat (print_pieces margin.now (plain-Expr e.now))) }
+{
+    push_between(alloc, out, margin, "println!(\"{}\", ", false, e, ")")
+}
+
+/// Adds an `if` without what follows `else`.
+#[cycle(expressions)]
+#[tactic(auto, using(crate::proofs::Rules::text_rules))]
+fn push_if(
+    alloc: Global,
+    out: &mut Text,
+    margin: &Margin,
+    condition: &Expr,
+    body: &Block,
+) -> Result<(), AllocError>
+    ensures { OnOk result (out.new ≡ out.old ++ flat (if_pieces margin.now (plain-Expr condition.now) (plain-Block body.now))) }
+{
+    push_between(alloc, out, margin, "if ", unfit(condition), condition, " ")?;
+    push_block(alloc, out, margin, body)
+}
+
+/// Adds an `if` with what follows `else`.
+#[cycle(expressions)]
+#[tactic(auto, using(crate::proofs::Rules::text_rules))]
+fn push_if_else(
+    alloc: Global,
+    out: &mut Text,
+    margin: &Margin,
+    condition: &Expr,
+    body: &Block,
+    e: &Expr,
+) -> Result<(), AllocError>
+    ensures { OnOk result (out.new ≡ out.old ++ flat (if_else_pieces margin.now (plain-Expr condition.now) (plain-Block body.now) (plain-Expr e.now))) }
+{
+    push_if(alloc, out, margin, condition, body)?;
+    push_between(alloc, out, margin, " else ", false, e, "")
+}
+
+/// Adds a `loop`.
+#[cycle(expressions)]
+#[tactic(auto, using(crate::proofs::Rules::text_rules))]
+fn push_loop(
+    alloc: Global,
+    out: &mut Text,
+    margin: &Margin,
+    label: &Option<Ident>,
+    body: &Block,
+) -> Result<(), AllocError>
+    ensures { OnOk result (out.new ≡ out.old ++ flat (loop_pieces margin.now label.now (plain-Block body.now))) }
+{
+    push_label(out, label)?;
+    out.push("loop ")?;
+    push_block(alloc, out, margin, body)
+}
+
+/// Adds a `while`.
+#[cycle(expressions)]
+#[tactic(auto, using(crate::proofs::Rules::text_rules))]
+fn push_while(
+    alloc: Global,
+    out: &mut Text,
+    margin: &Margin,
+    label: &Option<Ident>,
+    condition: &Expr,
+    body: &Block,
+) -> Result<(), AllocError>
+    ensures { OnOk result (out.new ≡ out.old ++ flat (while_pieces margin.now label.now (plain-Expr condition.now) (plain-Block body.now))) }
+{
+    push_label(out, label)?;
+    push_between(
+        alloc,
+        out,
+        margin,
+        "while ",
+        unfit(condition),
+        condition,
+        " ",
+    )?;
+    push_block(alloc, out, margin, body)
+}
+
+/// Adds an expression, whose first line stands at this margin. The `&` of a borrow may be written already, as the
+/// second half of a mark `&&`.
 #[cycle(expressions)]
 #[tactic(auto, using(crate::proofs::Rules::expression_rules))]
 pub fn push_expression(
     alloc: Global,
     out: &mut Text,
-    depth: usize,
-    place: Strength,
+    margin: &Margin,
+    second: bool,
     e: &Expr,
 ) -> Result<(), AllocError>
-    ensures { OnOk result (out.new ≡ out.old ++ flat (expression_pieces depth place (plain-Expr e.now))) }
+    ensures { OnOk result (out.new ≡ out.old ++ flat (pieces second margin.now (plain-Expr e.now))) }
 {
     match &e.node {
         ExprNode::Int(value, suffix) => push_number(alloc, out, *value, suffix),
+        ExprNode::Bool(value) => out.push(truth_text(*value)),
+        ExprNode::Tuple(list) => push_tuple(alloc, out, margin, list.as_slice()),
         ExprNode::Var(name) => out.push(name.as_str()),
-        ExprNode::Binary(op, a, b) => {
-            let enclosed = place < operators::strength(*op);
-            push_left(alloc, out, depth, enclosed, *op, a.get())?;
-            push_right(alloc, out, depth, enclosed, *op, b.get())
+        ExprNode::Field(a, name) => push_member(alloc, out, margin, a.get(), name),
+        ExprNode::Part(a, index) => push_part(alloc, out, margin, a.get(), *index),
+        ExprNode::Deref(a) => {
+            push_between(alloc, out, margin, "*", too_weak(1, a.get()), a.get(), "")
         }
-        ExprNode::Call(name, arguments) => push_call(alloc, out, depth, name, arguments.as_slice()),
-        ExprNode::Print(inner) => push_print(alloc, out, depth, inner.get()),
-        ExprNode::Bool(_) | ExprNode::Tuple(_) | ExprNode::Field(..) | ExprNode::Part(..) => Ok(()),
-        ExprNode::Deref(_) | ExprNode::Neg(_) | ExprNode::Not(_) | ExprNode::Borrow(..) => Ok(()),
-        ExprNode::Assign(..) | ExprNode::Update(..) | ExprNode::NextInput => Ok(()),
-        ExprNode::Variant(..) | ExprNode::Make(..) | ExprNode::Block(_) | ExprNode::If(..) => Ok(
-            (),
+        ExprNode::Neg(a) => push_between(
+            alloc,
+            out,
+            margin,
+            "-",
+            too_weak(1, a.get()),
+            a.get(),
+            "",
         ),
-        ExprNode::Match(..) | ExprNode::Loop(..) | ExprNode::While(..) => Ok(()),
-        ExprNode::Break(_) | ExprNode::Continue(_) | ExprNode::Return(_) => Ok(()),
+        ExprNode::Not(a) => push_between(
+            alloc,
+            out,
+            margin,
+            "!",
+            too_weak(1, a.get()),
+            a.get(),
+            "",
+        ),
+        ExprNode::Borrow(mutable, a) => {
+            if second {
+                return push_borrowed(alloc, out, margin, *mutable, a.get());
+            }
+            let joined = joins(*mutable, a.get());
+            push_pointer(alloc, out, margin, joined, *mutable, a.get())
+        }
+        ExprNode::Binary(op, a, b) => push_binary(alloc, out, margin, *op, a.get(), b.get()),
+        ExprNode::Assign(a, b) => push_assigned(alloc, out, margin, "=", a.get(), b.get()),
+        ExprNode::Update(op, a, b) => {
+            push_assigned(alloc, out, margin, update_text(*op), a.get(), b.get())
+        }
+        ExprNode::Call(name, list) => push_call(alloc, out, margin, name, list.as_slice()),
+        ExprNode::NextInput => out.push("rt::next()"),
+        ExprNode::Variant(name, variant, list) => match list {
+            None => push_path(out, name, variant),
+            Some(list) => push_variant(alloc, out, margin, name, variant, list.as_slice()),
+        },
+        ExprNode::Make(name, list) => push_make(alloc, out, margin, name, list.as_slice()),
+        ExprNode::Print(a) => push_print(alloc, out, margin, a.get()),
+        ExprNode::Block(body) => push_block(alloc, out, margin, body.get()),
+        ExprNode::If(condition, body, other) => match other {
+            None => push_if(alloc, out, margin, condition.get(), body.get()),
+            Some(a) => push_if_else(alloc, out, margin, condition.get(), body.get(), a.get()),
+        },
+        ExprNode::Match(a, list) => push_match(alloc, out, margin, a.get(), list.as_slice()),
+        ExprNode::Loop(label, body) => push_loop(alloc, out, margin, label, body.get()),
+        ExprNode::While(label, condition, body) => push_while(
+            alloc,
+            out,
+            margin,
+            label,
+            condition.get(),
+            body.get(),
+        ),
+        ExprNode::Break(label) => push_jump(out, "break", label),
+        ExprNode::Continue(label) => push_jump(out, "continue", label),
+        ExprNode::Return(value) => match value {
+            None => out.push("return"),
+            Some(a) => push_between(alloc, out, margin, "return ", false, a.get(), ""),
+        },
     }
 }

@@ -1,13 +1,14 @@
 -- Two results of one extraction agree, but for which fault is named: a text has one tree, so what one result says of it excludes the others.
 use Rattle.std.specs.Prelude.{◌≢◌, codes}
-use Rattle.std.proofs.Common.{ℕ, ◌≡◌, List, [], Option, Some, None, Result, Ok, Err, refl, sym, ap, ◌∙◌, subst}
+use Rattle.std.proofs.Common.{ℕ, ◌≡◌, true, List, [], Option, Some, None, Result, Ok, Err, refl, sym, ap, ◌∙◌, subst}
 use Rattle.rx_tree.specs.Plain.{ProgramTree}
 use Rattle.rx_lex.specs.declared.lexer.LexFault.{LexFault}
 use Rattle.rx_lex.specs.declared.lexer.LexFault.TheVariants as lex
-use Rattle.rx_parse.specs.Grammar.{Parses}
+use Rattle.rx_grammar.specs.grammar.Items.{Parses}
 use Rattle.rx_parse.specs.Answer.{IsCause}
 use Rattle.rx_parse.specs.declared.fault.SyntaxFault.{SyntaxFault}
 use Rattle.rx_parse.specs.declared.fault.SyntaxFault.TheVariants as syntax
+use Rattle.rx_parse.proofs.Causes.{cause_excludes}
 use Rattle.rx_check.specs.declared.fault.NameFault.TheVariants as name
 use Rattle.rx_check.specs.declared.fault.TypeFault.TheVariants as type
 use Rattle.rx_check.specs.declared.fault.CheckFault.{CheckFault}
@@ -19,14 +20,14 @@ use Rattle.rx_engine.specs.declared.extraction.Refusal.{Refusal}
 use Rattle.rx_engine.specs.declared.extraction.Refusal.TheVariants as refusal
 use Rattle.rx_core.specs.declared.types.Which.{Which}
 use Rattle.rx_core.specs.declared.types.Which.TheVariants as which
+use Rattle.rx_check.specs.FirstGrammar.{is_first_program}
 use Rattle.rx_check.specs.Accepted.{Accepted}
 use Rattle.rx_check.specs.Faults.{Breaks, first, faults}
 use Rattle.rx_check.proofs.Verdicts.{unbroken, no_faults}
 use Rattle.rx_engine.specs.Promise.{Accepts, IsAccepted, IsExtraction}
 use Rattle.rx_engine.specs.Verdict.{IsPastLimit, RefusedBy, Extracts}
-use Rattle.rx_engine.proofs.FirstLemmas.{parses_first}
-use Rattle.rx_print.specs.Print.{print_program}
-use Rattle.rx_engine.proofs.AnswerLemmas.{Only, keeps, whole, no_tokens, no_tree, not_a_run, bad_name, name_taken, form_not_built, too_many_params, too_long}
+use Rattle.rx_spelling.specs.Items.{print_program}
+use Rattle.rx_engine.proofs.AnswerLemmas.{Only, keeps, whole, not_a_run, bad_name, name_taken, form_not_built, too_many_params, too_long}
 use Rattle.rx_rem.proofs.Checking.{syntax_refuses}
 use Rattle.rx_rem.specs.declared.status.Status.{Status}
 use Rattle.rx_rem.specs.declared.status.Status.TheVariants.{Done, NotAccepted, OutOfMemory}
@@ -68,13 +69,14 @@ check_known (check.NotBuilt at) n = refl
 check_known check.OutOfMemory n = absurd (n refl)
 
 no_text : (f : SyntaxFault) (bytes : List ℕ) → IsKnown (syntax_status f) → IsCause f bytes → (p : ProgramTree) → Parses bytes p → ⊥
-no_text (syntax.Lex f) bytes n h p d = no_tokens bytes f h.1 h.0 p d
-no_text (syntax.Syntax at) bytes n h p d = no_tree bytes h.0 h.1 h.2 p d
-no_text (syntax.TooDeep at) bytes n h p d = no_tree bytes h.0 h.1 h.2 p d
-no_text syntax.OutOfMemory bytes n h p d = n refl
+no_text f bytes n h p d = cause_excludes bytes f (λ e. n (ap syntax_status e)) h p d
 
-broken : (bytes : List ℕ) (p : ProgramTree) (f : CheckFault) → Parses bytes p → IsKnown (check_status f) → Breaks p f → Accepted p → ⊥
-broken bytes p f d n b a = n (ap check_status (unbroken p (parses_first bytes p d) a f b))
+broken : (p : ProgramTree) (f : CheckFault) → IsKnown (check_status f) → Breaks p f → is_first_program p ≡ true → Accepted p → ⊥
+broken p f n b first a = n (ap check_status (unbroken p first a f b))
+
+-- what is accepted breaks no rule, whichever way its text is read
+not_broken : (bytes : List ℕ) (p q : ProgramTree) (f : CheckFault) → OneTree bytes → Parses bytes p → IsKnown (check_status f) → Breaks p f → Accepts bytes q → ⊥
+not_broken bytes p q f one d n b a = let k = subst (Accepts bytes) (one q p a.parses d) a in broken p f n b k.first k.accepted
 
 past_limit_text : (bytes : List ℕ) (start end : ℕ) (name : List ℕ) (p : ProgramTree) (w : Which) (count : ℕ) → IsPastLimit bytes start end name p w count → Accepts bytes p
 past_limit_text bytes start end name p which.Parameters count h = h.1.selects.accepts
@@ -117,8 +119,7 @@ answer_excludes : (bytes : List ℕ) (start end : ℕ) (name : List ℕ) (a : An
     → Extracts bytes start end name (Err f) → IsKnown (fault_status f) → ⊥
 answer_excludes bytes start end name a (fault.Syntax f) one x y n = no_text f bytes n y x.0.p x.0.extraction.names.selects.accepts.parses
 answer_excludes bytes start end name a (fault.NotAccepted f) one x y n =
-    let t = x.0.extraction.names.selects.accepts in
-    broken bytes y.0 f y.1 n y.2 (subst Accepted (one x.0.p y.0 t.parses y.1) t.accepted)
+    not_broken bytes y.0 x.0.p f one y.1 n y.2 x.0.extraction.names.selects.accepts
 answer_excludes bytes start end name a (fault.Refused r) one x y n =
     refused_none bytes start end name y.0 r (only bytes y.0 one (refused_text bytes start end name y.0 r y.1).parses) y.1 x.0.p x.0.q x.0.extraction
 answer_excludes bytes start end name a fault.OutOfMemory one x y n = n refl
@@ -127,8 +128,7 @@ answer_excludes bytes start end name a fault.OutOfMemory one x y n = n refl
 refusal_excludes : (bytes : List ℕ) (start end : ℕ) (name : List ℕ) (f : CheckFault) (r : Refusal) → OneTree bytes
     → Extracts bytes start end name (Err (fault.NotAccepted f)) → Extracts bytes start end name (Err (fault.Refused r)) → IsKnown (check_status f) → ⊥
 refusal_excludes bytes start end name f r one x y n =
-    let t = refused_text bytes start end name y.0 r y.1 in
-    broken bytes x.0 f x.1 n x.2 (subst Accepted (one y.0 x.0 t.parses x.1) t.accepted)
+    not_broken bytes x.0 y.0 f one x.1 n x.2 (refused_text bytes start end name y.0 r y.1)
 
 faults_agree : (bytes : List ℕ) (start end : ℕ) (name : List ℕ) (f g : Fault) → OneTree bytes → Extracts bytes start end name (Err f)
     → Extracts bytes start end name (Err g) → IsKnown (fault_status f) → IsKnown (fault_status g) → fault_status f ≡ fault_status g
@@ -166,7 +166,7 @@ accepted_read text f a n c = let e = syntax_refuses f text n c in no_text f text
 accepted_faulty : (text : List ℕ) (p : ProgramTree) (f : CheckFault) → OneTree text → IsAccepted text → Parses text p → first (faults p) ≡ Some f → ⊥
 accepted_faulty text p f one a d e =
     let o = one a.p p a.accepts.parses d in
-    let h = ap (first {A = CheckFault}) (no_faults a.p a.first a.accepts.accepted) in
+    let h = ap (first {A = CheckFault}) (no_faults a.p a.accepts.first a.accepts.accepted) in
     let k = subst (λ (q : ProgramTree). first (faults q) ≡ None) o h in
     absurd (cc)
 

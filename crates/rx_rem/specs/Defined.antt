@@ -1,7 +1,7 @@
 -- The defined answer of words on a text: a status, the bytes for standard output, and the line for standard error.
 use Rattle.std.specs.Prelude.{ℕ, ◌≡◌, ◌≢◌, List, [], Option, Some, None, Result, Ok, Err, codes}
 use Rattle.rx_tree.specs.Plain.{ProgramTree}
-use Rattle.rx_parse.specs.Grammar.{Parses}
+use Rattle.rx_grammar.specs.grammar.Items.{Parses}
 use Rattle.rx_parse.specs.Answer.{IsCause}
 use Rattle.rx_parse.specs.declared.fault.SyntaxFault.{SyntaxFault}
 use Rattle.rx_parse.specs.declared.fault.SyntaxFault.TheVariants as syntax

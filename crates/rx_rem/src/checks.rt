@@ -69,6 +69,71 @@ fn other_texts_fail_with_their_first_fault(rt: HostRuntime) -> Result<(), Fail> 
 }
 
 #[test]
+fn programs_of_other_forms_are_not_built(rt: HostRuntime) -> Result<(), Fail> {
+    let rows: [(&[u8], &str); 10] = [
+        (
+            b"fn main() { if true {} }",
+            "error: NotAccepted NotBuilt 0 24\n",
+        ),
+        (
+            b"fn main() { let c = 1; }",
+            "error: NotAccepted NotBuilt 0 24\n",
+        ),
+        (b"mod rt; fn main() {}", "error: NotAccepted NotBuilt 0 7\n"),
+        (
+            b"fn main() {} struct S {}",
+            "error: NotAccepted NotBuilt 13 24\n",
+        ),
+        (
+            b"fn main() {} #[derive(Clone)] enum E { A }",
+            "error: NotAccepted NotBuilt 13 42\n",
+        ),
+        (
+            b"fn f(a: u8) {} fn main() {}",
+            "error: NotAccepted NotBuilt 0 14\n",
+        ),
+        (
+            b"fn main() { x; } enum E { A }",
+            "error: NotAccepted NotBuilt 0 16\n",
+        ),
+        (
+            b"fn main() { f(1i64); }",
+            "error: NotAccepted NotBuilt 0 22\n",
+        ),
+        (
+            b"fn main() { let a = -1i64; }",
+            "error: NotAccepted NotBuilt 0 28\n",
+        ),
+        (
+            b"fn a() {} fn a() {} struct S {}",
+            "error: NotAccepted NotBuilt 20 31\n",
+        ),
+    ];
+    for (text, line) in rows {
+        assert!(rt; fails(rt.alloc(), text, line)?);
+    }
+    Ok(())
+}
+
+#[test]
+fn texts_stop_where_no_program_goes_on(rt: HostRuntime) -> Result<(), Fail> {
+    let rows: [(&[u8], &str); 5] = [
+        (b"fn main() {", "error: NotAccepted Syntax 11\n"),
+        (b"fn main() { x // ", "error: NotAccepted Syntax 17\n"),
+        (b"fn main() { x y }", "error: NotAccepted Syntax 14\n"),
+        (
+            b"fn main() { a == b == c; }",
+            "error: NotAccepted Syntax 19\n",
+        ),
+        (b"fn main() {} let", "error: NotAccepted Syntax 13\n"),
+    ];
+    for (text, line) in rows {
+        assert!(rt; fails(rt.alloc(), text, line)?);
+    }
+    Ok(())
+}
+
+#[test]
 fn a_text_of_as_many_bytes_as_are_read_is_checked(rt: HostRuntime) -> Result<(), Fail> {
     let text = vec![in rt.alloc(); 32u8; 1_048_576]?;
     assert!(rt;

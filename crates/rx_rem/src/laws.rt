@@ -2,7 +2,7 @@
 
 ghost use Rattle.std.specs.Prelude.{◌≡◌, ℕ, List, [], Some, codes};
 ghost use Rattle.rx_rem.specs.declared.status.Status.{Status};
-ghost use Rattle.rx_print.specs.Print.{print_program};
+ghost use Rattle.rx_spelling.specs.Items.{print_program};
 ghost use Rattle.rx_engine.specs.Promise.{IsAccepted, IsExtraction};
 ghost use Rattle.rx_rem.specs.Forms.{command_of, extracts, checks};
 ghost use Rattle.rx_rem.specs.Defined.{Defined};

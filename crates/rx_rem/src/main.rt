@@ -5,6 +5,8 @@
 mod checks;
 mod laws;
 mod line;
+#[cfg(test)]
+mod prints;
 mod reply;
 #[cfg(test)]
 mod rows;

@@ -102,7 +102,7 @@ fn names_of_the_file_and_made_names_are_taken(rt: HostRuntime) -> Result<(), Fai
     Ok(())
 }
 
-const FAULTS: [(&str, &str); 24] = [
+const FAULTS: [(&str, &str); 27] = [
     (
         "fn main() { let a = 1i64; f(a); }",
         "error: NotAccepted Unknown 26 27\n",
@@ -195,6 +195,15 @@ const FAULTS: [(&str, &str); 24] = [
     (
         "fn u() {} fn main() { let x = 1i64; let x = u(); println!(\"{}\", x); }",
         "error: NotAccepted Mismatch 64 65 KindOf\n",
+    ),
+    (
+        "fn main() { if true {} }",
+        "error: NotAccepted NotBuilt 0 24\n",
+    ),
+    ("mod rt; fn main() {}", "error: NotAccepted NotBuilt 0 7\n"),
+    (
+        "fn f() {} fn f() {} struct S { a: i64 } fn main() { y(); }",
+        "error: NotAccepted NotBuilt 20 39\n",
     ),
 ];
 

@@ -112,7 +112,7 @@ fn a_text_has_128_levels(rt: HostRuntime) -> Result<(), Fail> {
     let deeper = nested(rt.alloc(), 127)?;
     let (status, _, err) = written(rt.alloc(), "extract f 0 0", deeper.as_slice())?;
     assert_eq!(rt; status, Status::NotAccepted);
-    assert_eq!(rt; err.held(), b"error: NotAccepted TooDeep 146\n".as_slice());
+    assert_eq!(rt; err.held(), b"error: NotAccepted TooDeep 147\n".as_slice());
     Ok(())
 }
 

@@ -169,9 +169,6 @@ pub record Begins (ts : List Tok) : Type 0 where
   pub rest : List Tok
   pub is : ts ≡ token ∷ rest
 
-pub begins_append : (us vs ts : List Tok) → Begins us → ts ≡ us ++ vs → Begins ts
-begins_append us vs ts b e = record { token = b.token; rest = b.rest ++ vs; is = e ∙ ap (λ l. l ++ vs) b.is }
-
 -- ---- between the braces
 
 pub record Stand (all : List Tok) (from to : ℕ) (ss : List Statement) (y : OptionalExpression) : Type 0 where

@@ -5,4 +5,3 @@ pub mod RunLemmas
 pub mod RunFacts
 pub mod Inside
 pub mod Places
-pub mod WholePlaces

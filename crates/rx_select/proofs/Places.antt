@@ -1,18 +1,26 @@
--- The program of a text is placed among the text's tokens: by induction on the derivation, with the tokens of each part
--- seen inside those of the text.
-use Rattle.std.proofs.Common.{◌≡◌, ℕ, List, [], ◌∷◌, ◌++◌, refl, ap, sym, ◌∙◌, subst, arith, append_assoc}
+-- The program of a text is placed among the text's tokens: by induction on the derivation, with the tokens of each part seen inside those
+-- of the text.
+use Rattle.std.proofs.Common.{◌≡◌, ℕ, ◌≤◌, List, [], ◌∷◌, ◌++◌, refl, ap, sym, ◌∙◌, subst, arith}
 use Rattle.std.proofs.Common.{inl}
+use Rattle.std.specs.Prelude.{◌≢◌, false}
 use Rattle.rx_core.specs.declared.types.Span.{Span}
-use Rattle.rx_tree.specs.Plain.{Expression, OptionalExpression, Body, Statement, Statements, Function, ProgramTree}
-use Rattle.rx_tree.specs.Lists.{listed, statement_span}
+use Rattle.rx_tree.specs.Plain as plain
+use Rattle.rx_tree.specs.Plain.{OptionalExpression, Body, Statement, Expression, ItemTree, ProgramTree}
+use Rattle.rx_tree.specs.PlainOf.{statements_of}
+use Rattle.rx_tree.specs.Lists.{statement_span}
+use Rattle.rx_tree.proofs.ListsLemmas.{listed-statements_of}
 use Rattle.rx_lex.specs.Tok.{Tok}
 use Rattle.rx_lex.specs.Tokens.{Lexes}
 use Rattle.rx_lex.proofs.TokenLaws.{tokens_in_order, lexes_one}
-use Rattle.rx_parse.specs.Grammar as grammar
-use Rattle.rx_parse.specs.Grammar.{IsMark, final_span, span_of, Ex, IsStatement, Call, AreStatements, IsBody, IsFunction, File, Parses}
+use Rattle.rx_grammar.specs.grammar.Words.{final_span, span_of}
+use Rattle.rx_grammar.specs.grammar.Expressions as grammar
+use Rattle.rx_grammar.specs.grammar.Expressions.{IsStatement, AreStatements, IsBlock}
+use Rattle.rx_grammar.specs.grammar.Items as items
+use Rattle.rx_grammar.specs.grammar.Items.{IsItem, IsFile, Parses}
+use Rattle.rx_grammar.proofs.ExpressionsFront.{expression_some, like_some}
 use Rattle.rx_select.specs.Run.{body_span}
 use Rattle.rx_select.specs.Placed.{IsToken, PlacedFrom, PlacedIn}
-use Rattle.rx_select.proofs.Inside.{Inside, inside_front, inside_back, inside_before, inside_is, token_right, last_end, last, Spans, Begins, begins_append, Stand, holds, stand_more, stand_is, PlacedBody, one_long, placed_near, ordered_above, ordered_at, ordered_long, EachLong, each_long}
+use Rattle.rx_select.proofs.Inside.{Inside, inside_front, inside_back, inside_before, inside_is, token_right, last_end, last, Spans, Begins, Stand, holds, stand_more, stand_is, PlacedBody, one_long, placed_near, ordered_above, ordered_at, ordered_long, EachLong, each_long}
 
 -- ---- spans of tokens
 
@@ -23,6 +31,14 @@ final_end s (t ∷ ts) = final_end t.span ts
 final_last : (s : Span) (us : List Tok) (c : Tok) → final_span s (us ++ c ∷ []) ≡ c.span
 final_last s [] c = refl
 final_last s (u ∷ us) c = final_last u.span us c
+
+begins : (ts : List Tok) → ts ≢ [] → Begins ts
+begins [] n = absurd (n refl)
+begins (t ∷ ts) n = record { token = t; rest = ts; is = refl }
+
+begins_at : (us vs ts : List Tok) (t : Tok) → ts ≡ us ++ (t ∷ vs) → Begins ts
+begins_at [] vs ts t e = record { token = t; rest = vs; is = e }
+begins_at (u ∷ us) vs ts t e = record { token = u; rest = us ++ (t ∷ vs); is = e }
 
 spans_at : (all : List Tok) (from to : ℕ) (t : Tok) (ts : List Tok) → Inside all from to (t ∷ ts) → Spans all from (last_end from (t ∷ ts)) (span_of (t ∷ ts))
 spans_at all from to t ts x =
@@ -47,49 +63,53 @@ spans_at all from to t ts x =
       ends = f;
     }
 
-expression_begins : {j : ℕ} {ts : List Tok} {x : Expression} {h : ℕ} → Ex j ts x h → Begins ts
-expression_begins (grammar.number t v c n g e) = record { token = t; rest = []; is = e }
-expression_begins (grammar.variable t n e) = record { token = t; rest = []; is = e }
-expression_begins (grammar.parentheses o c us x h m n d e) = record { token = o; rest = us ++ c ∷ []; is = e }
-expression_begins (grammar.stronger d) = expression_begins d
-expression_begins (grammar.chain {ts = ts} us vs t o l r m n i d f e) = begins_append us (t ∷ vs) ts (expression_begins d) e
+part_placed : (all : List Tok) (from to : ℕ) (ts : List Tok) → Begins ts → Inside all from to ts → Spans all from (last_end from ts) (span_of ts)
+part_placed all from to ts b x =
+    let P : List Tok → Type 0 = λ l. Spans all from (last_end from l) (span_of l) in
+    subst P (sym b.is) (spans_at all from to b.token b.rest (inside_is all from to ts (b.token ∷ b.rest) b.is x))
+
+-- ---- statements
 
 statement_begins : {ts : List Tok} {a : Statement} {h : ℕ} → IsStatement ts a h → Begins ts
-statement_begins (grammar.let_is t n q z us x h k m o p g e) = record { token = t; rest = n ∷ q ∷ (us ++ z ∷ []); is = e }
-statement_begins (grammar.call_is {ts = ts} z us x h m c e) = begins_append us (z ∷ []) ts (call_begins c) e
-  where
-    call_begins : {vs : List Tok} {y : _} {i : ℕ} → Call vs y i → Begins vs
-    call_begins (grammar.call t o c us xs h n p q g e) = record { token = t; rest = o ∷ (us ++ c ∷ []); is = e }
-statement_begins (grammar.print_is p b o f m c z us x h n e d g k l r s y q) = record { token = p; rest = b ∷ o ∷ f ∷ m ∷ (us ++ c ∷ z ∷ []); is = q }
+statement_begins (grammar.let_with t q z ps ys us p y x m n k kt kq kz dp dy dx e) = record { token = t; rest = ps ++ (ys ++ (q ∷ (us ++ z ∷ []))); is = e }
+statement_begins (grammar.let_without t n z ms ys m y h kt kn kz dm dy e) = record { token = t; rest = (ms ++ n ∷ []) ++ (ys ++ z ∷ []); is = e }
+statement_begins (grammar.done {ts = ts} z us x h kz d b e) = begins_at us [] ts z e
+statement_begins (grammar.done_like {ts = ts} z us x h kz d e) = begins_at us [] ts z e
 
 statement_spans : {ts : List Tok} {a : Statement} {h : ℕ} → IsStatement ts a h → statement_span a ≡ span_of ts
-statement_spans (grammar.let_is t n q z us x h k m o p g e) = refl
-statement_spans (grammar.call_is z us x h m c e) = refl
-statement_spans (grammar.print_is p b o f m c z us x h n e d g k l r s y q) = refl
+statement_spans (grammar.let_with t q z ps ys us p y x m n k kt kq kz dp dy dx e) = refl
+statement_spans (grammar.let_without t n z ms ys m y h kt kn kz dm dy e) = refl
+statement_spans (grammar.done z us x h kz d b e) = refl
+statement_spans (grammar.done_like z us x h kz d e) = refl
 
 statement_placed : (all : List Tok) (from to : ℕ) {ts : List Tok} {a : Statement} {h : ℕ} → IsStatement ts a h → Inside all from to ts → Spans all from (last_end from ts) (statement_span a)
 statement_placed all from to {ts = ts} {a = a} d x =
-    let b = statement_begins d in
-    let P : List Tok → Type 0 = λ l. Spans all from (last_end from l) (span_of l) in
-    subst (λ (s : Span). Spans all from (last_end from ts) s) (sym (statement_spans d)) (subst P (sym b.is) (spans_at all from to b.token b.rest (inside_is all from to ts (b.token ∷ b.rest) b.is x)))
+    subst (λ (s : Span). Spans all from (last_end from ts) s) (sym (statement_spans d)) (part_placed all from to ts (statement_begins d) x)
 
 -- ---- bodies
 
-stand : (all : List Tok) (from to : ℕ) {ts : List Tok} {ss : Statements} {y : OptionalExpression} {h : ℕ} → AreStatements ts ss y h → Inside all from to ts → Stand all from to (listed ss) y
-stand all from to grammar.end x = record { ordered = x.ordered; covered = tt; held = tt }
-stand all from to (grammar.tail {ts = ts} e) x =
-    let k = holds all from to ts (expression_begins e) x in
-    let i = k.within in
-    let b = expression_begins e in
+tail_stands : (all : List Tok) (from to : ℕ) {ts : List Tok} (x : Expression) → Begins ts → Inside all from to ts → Stand all from to [] (plain.present x)
+tail_stands all from to {ts = ts} y b x =
+    let k = holds all from to ts b x in
     let o = ordered_at from to ts b.token x.ordered (subst (λ (l : List Tok). IsToken b.token l) (sym b.is) (inl refl)) in
     record { ordered = (omega arith, omega (arith, o.0, o.1, o.2), omega arith); covered = tt; held = (k, tt) }
-stand all from to (grammar.more {ts = ts} us vs a ss y h i d ds e) x =
+
+stand : (all : List Tok) (from to : ℕ) {ts : List Tok} {ss : List Statement} {y : OptionalExpression} {h : ℕ} → AreStatements ts ss y h → Inside all from to ts → Stand all from to ss y
+stand all from to grammar.end x = record { ordered = x.ordered; covered = tt; held = tt }
+stand all from to (grammar.tail {ts = ts} {x = y} d n) x = tail_stands all from to y (begins ts (expression_some d)) x
+stand all from to (grammar.tail_like {ts = ts} {x = y} d) x = tail_stands all from to y (begins ts (like_some d)) x
+stand all from to (grammar.statement_and {ts = ts} us vs a ss y m n d ds e) x =
     let z = inside_is all from to ts (us ++ vs) e x in
-    stand_more all from (last_end from us) to a (listed ss) y (statement_placed all from (last_end from us) d (inside_front all from to us vs z))
+    stand_more all from (last_end from us) to a ss y (statement_placed all from (last_end from us) d (inside_front all from to us vs z))
+    (stand all (last_end from us) to ds (inside_back all from to us vs z))
+stand all from to (grammar.like_and {ts = ts} us vs w ss y m n d ds b e) x =
+    let z = inside_is all from to ts (us ++ vs) e x in
+    stand_more all from (last_end from us) to (plain.expression_statement (span_of us) w false) ss y
+    (part_placed all from (last_end from us) us (begins us (like_some d)) (inside_front all from to us vs z))
     (stand all (last_end from us) to ds (inside_back all from to us vs z))
 
-body_placed : (all : List Tok) (from to : ℕ) {ts : List Tok} {b : Body} {h : ℕ} → EachLong all → IsBody ts b h → Inside all from to ts → PlacedBody all from to b
-body_placed all from to l (grammar.braces {ts = ts} o c us ss y h mo mc d e) x =
+block_placed : (all : List Tok) (from to : ℕ) {ts : List Tok} {b : Body} {h : ℕ} → EachLong all → IsBlock ts b h → Inside all from to ts → PlacedBody all from to b
+block_placed all from to l (grammar.braces {ts = ts} o c us ss y h mo mc d e) x =
     let z = inside_is all from to ts (o ∷ (us ++ c ∷ [])) e x in
     let r = inside_back all from to (o ∷ []) (us ++ c ∷ []) z in
     let m = one_long all o 123 l (z.is o (inl refl)) mo.1 in
@@ -99,32 +119,51 @@ body_placed all from to l (grammar.braces {ts = ts} o c us ss y h mo mc d e) x =
     let w = ordered_at o.span.end to (us ++ c ∷ []) c r.ordered (token_right c us (c ∷ []) (inl refl)) in
     let q = z.ordered in
     let v = q.0 in
+    let within = inside_before all o.span.end to us [] c r in
     record {
       starts = omega (arith, g, v);
       ends = omega (arith, f, w.2);
-      placed = stand_is all o.span.end c.span.start (span_of ts) ss y (omega (arith, m, g)) (omega (arith, n, f))
-          (stand all o.span.end c.span.start d (inside_before all o.span.end to us [] c r));
+      placed = stand_is all o.span.end c.span.start (span_of ts) (statements_of ss) y (omega (arith, m, g)) (omega (arith, n, f))
+          (subst (λ k. Stand all o.span.end c.span.start k y) (sym (listed-statements_of ss)) (stand all o.span.end c.span.start d within));
     }
-
-function_placed : (all : List Tok) (from to : ℕ) {ts : List Tok} {g : Function} {h : ℕ} → EachLong all → IsFunction ts g h → Inside all from to ts → PlacedBody all from to g.body
-function_placed all from to l (grammar.function {ts = ts} f n o c us vs ws ps r b h i k mf mn mo mc dp dr db e) x =
-    let xs = f ∷ n ∷ o ∷ (us ++ (c ∷ vs)) in
-    let g : ts ≡ xs ++ ws = e ∙ ap (λ l. f ∷ n ∷ o ∷ l) (sym (append_assoc us (c ∷ vs) ws)) in
-    let z = inside_is all from to ts (xs ++ ws) g x in
-    let p = body_placed all (last_end from xs) to l db (inside_back all from to xs ws z) in
-    let a = ordered_above from (last_end from xs) xs (inside_front all from to xs ws z).ordered in
-    let s = p.starts in
-    record { starts = omega (arith, a, s); ends = p.ends; placed = p.placed }
 
 -- ---- programs
 
-file_placed : (all : List Tok) (from to : ℕ) {ts : List Tok} {p : ProgramTree} {h : ℕ} → EachLong all → File ts p h → Inside all from to ts → PlacedFrom from all p
-file_placed all from to l grammar.no_item x = tt
-file_placed all from to l (grammar.item {ts = ts} us vs f is h i d ds e) x =
+-- what is left of the tokens, behind some of them
+record Rest (all : List Tok) (from to : ℕ) (ts : List Tok) : Type 0 where
+  at : ℕ
+  above : from ≤ at
+  inside : Inside all at to ts
+
+rest : {all : List Tok} {from to : ℕ} (us vs : List Tok) → Rest all from to (us ++ vs) → Rest all from to vs
+rest {all = all} {to = to} us vs r =
+    let a = ordered_above r.at (last_end r.at us) us (inside_front all r.at to us vs r.inside).ordered in
+    let b = r.above in
+    record { at = last_end r.at us; above = omega (arith, a, b); inside = inside_back all r.at to us vs r.inside }
+
+-- the item, and then the items behind it
+item_placed : (all : List Tok) (from to : ℕ) {ts : List Tok} {a : ItemTree} {h : ℕ} (is : ProgramTree) → EachLong all → IsItem ts a h → Inside all from to ts
+    → PlacedFrom to all is → PlacedFrom from all (a ∷ is)
+item_placed all from to {ts = ts} is l (items.rt m r z km kr kz e) x p = placed_near to from all is (ordered_above from to ts x.ordered) p
+item_placed all from to {ts = ts} is l (items.structure t n o c ds ls us xs k fs h kt kn ko kc dd dl df e) x p = placed_near to from all is (ordered_above from to ts x.ordered) p
+item_placed all from to {ts = ts} is l (items.enumeration t n o c ds ls us xs k v vs h kt kn ko kc dd dl dv e) x p =
+    placed_near to from all is (ordered_above from to ts x.ordered) p
+item_placed all from to {ts = ts} is l (items.function f n o c ls us rs bs k ps r b h i j kf kn ko kc dl dp dr db e) x p =
+    let w = inside_is all from to ts _ e x in
+    let r0 : Rest all from to (f ∷ n ∷ (ls ++ (o ∷ (us ++ (c ∷ (rs ++ bs)))))) = record { at = from; above = omega arith; inside = w } in
+    let r1 = rest (f ∷ n ∷ ls) (o ∷ (us ++ (c ∷ (rs ++ bs)))) r0 in
+    let r2 = rest (o ∷ us) (c ∷ (rs ++ bs)) r1 in
+    let r3 = rest (c ∷ rs) bs r2 in
+    let q = block_placed all r3.at to l db r3.inside in
+    let a = r3.above in
+    let s = q.starts in
+    (omega (arith, a, s), q.placed, placed_near to (body_span b).end all is q.ends p)
+
+file_placed : (all : List Tok) (from to : ℕ) {ts : List Tok} {p : ProgramTree} {h : ℕ} → EachLong all → IsFile ts p h → Inside all from to ts → PlacedFrom from all p
+file_placed all from to l items.no_item x = tt
+file_placed all from to l (items.item_and {ts = ts} us vs a is m n d ds e) x =
     let z = inside_is all from to ts (us ++ vs) e x in
-    let p = function_placed all from (last_end from us) l d (inside_front all from to us vs z) in
-    let r = file_placed all (last_end from us) to l ds (inside_back all from to us vs z) in
-    (p.starts, p.placed, placed_near (last_end from us) (body_span f.body).end all is p.ends r)
+    item_placed all from (last_end from us) is l d (inside_front all from to us vs z) (file_placed all (last_end from us) to l ds (inside_back all from to us vs z))
 
 -- the program of a text is placed among the tokens of the text
 pub parses_placed : (bytes : List ℕ) (ts : List Tok) (p : ProgramTree) → Lexes bytes ts → Parses bytes p → PlacedIn ts p

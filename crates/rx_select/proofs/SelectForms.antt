@@ -2,7 +2,6 @@
 use Rattle.std.proofs.Common.{◌≡◌, ℕ, zero, suc, ◌+◌, ◌-◌, ◌<◌, nat_le, true, false, List, [], ◌∷◌, ◌++◌, length, map, drop, get_or, drop-cons, Option, Some, None, option_map, if◌then◌else◌, refl, ap, sym, ◌∙◌, arith, eq-eqb, ne_eqb}
 use Rattle.std.specs.Prelude.{slice_get}
 use Rattle.std.specs.Option.{is_some}
-use Rattle.std.proofs.lemmas.Option.{slice_get-get_or}
 use Rattle.rx_core.specs.declared.types.Span.{Span}
 use Rattle.rx_tree.specs.declared.tree.Ident.{Ident}
 use Rattle.rx_tree.specs.declared.tree.Arm.{Arm}
@@ -58,10 +57,6 @@ ends_last at (suc n) (x ∷ y ∷ ss) a k e = ends_last (statement_span (plain-S
 pub ends_at_last : (at : ℕ) (ss : List Stmt) (a : Stmt) → slice_get ss (length ss - 1) ≡ Some a → end_of at (map plain-Stmt ss) ≡ a.span.end
 ends_at_last at [] a e = absurd (cc)
 ends_at_last at (x ∷ ss) a e = ends_last at (length (x ∷ ss) - 1) (x ∷ ss) a (omega arith) e
-
-pub ends_in_front : (at : ℕ) (ss : List Stmt) → slice_get ss (length ss - 1) ≡ None → end_of at (map plain-Stmt ss) ≡ at
-ends_in_front at [] e = refl
-ends_in_front at (x ∷ ss) e = let q = slice_get-get_or (x ∷ ss) (length (x ∷ ss) - 1) x (omega arith) in absurd (cc)
 
 -- ---- bodies
 

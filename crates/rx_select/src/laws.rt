@@ -4,8 +4,7 @@ ghost use Rattle.std.specs.Prelude.{◌≡◌, ℕ, List};
 ghost use Rattle.rx_tree.specs.Plain.{ProgramTree};
 ghost use Rattle.rx_lex.specs.Tok.{Tok};
 ghost use Rattle.rx_lex.specs.Tokens.{Lexes};
-ghost use Rattle.rx_parse.specs.Grammar.{Parses};
-ghost use Rattle.rx_grammar.specs.grammar.Items.{Parses as ParsesWhole};
+ghost use Rattle.rx_grammar.specs.grammar.Items.{Parses};
 ghost use Rattle.rx_select.specs.Run.{Run, RunOf};
 ghost use Rattle.rx_select.specs.Placed.{PlacedIn};
 
@@ -17,9 +16,4 @@ pub fn one_run()
 /// The program of a text is placed among the text's tokens.
 pub fn parsed_is_placed()
     ensures { (bytes : List ℕ) (ts : List Tok) (p : ProgramTree) → Lexes bytes ts → Parses bytes p → PlacedIn ts p }
-{}
-
-/// The program of a text of the whole grammar is placed among the text's tokens.
-pub fn whole_is_placed()
-    ensures { (bytes : List ℕ) (ts : List Tok) (p : ProgramTree) → Lexes bytes ts → ParsesWhole bytes p → PlacedIn ts p }
 {}

@@ -4,7 +4,7 @@
 mod laws;
 mod select;
 
-pub use laws::{one_run, parsed_is_placed, whole_is_placed};
+pub use laws::{one_run, parsed_is_placed};
 pub use select::{Run, select_run};
 
 #[cfg(test)]

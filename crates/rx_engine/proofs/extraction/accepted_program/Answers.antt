@@ -3,7 +3,6 @@ use Rattle.rx_tree.specs.PlainOf.{plain-Program}
 use Rattle.rx_engine.specs.declared.extraction.Fault.{Fault}
 use Rattle.rx_engine.specs.Verdict.{Refuses, Checks}
 use Rattle.rx_engine.proofs.CheckLemmas.{unread_checks, unread_memory, broken_checks, broken_memory}
-use Rattle.rx_engine.proofs.FirstLemmas.{parses_first}
 use Rattle.rx_engine.proofs.RefusalLemmas.{refuses_syntax, refuses_check, only_memory}
 use Rattle.rx_engine.proofs.extraction.accepted_program.Goals as goal
 
@@ -15,10 +14,9 @@ returns-in-Err-clause-fault c = λ start end name.
 pub returns-in-Err-accepted-clause-fault : goal.returns-in-Err-accepted-clause-fault
 returns-in-Err-accepted-clause-fault c = λ start end name.
     let p = plain-Program c.in-Ok.program in
-    let first = parses_first c.args.text.now p c.in-Ok.ensures.found in
     subst (λ (f : Fault). Refuses c.args.text.now start end name f) (sym c.check_fault.ensures)
     (refuses_check c.args.text.now start end name p c.in-Err-accepted.fault c.in-Ok.ensures.found c.in-Err-accepted.ensures.broken c.in-Err-accepted.ensures.first
-    (only_memory p (Err c.in-Err-accepted.fault) c.in-Err-accepted.fault refl (c.in-Err-accepted.ensures.complete first)) c.in-Ok.ensures.only)
+    (only_memory p (Err c.in-Err-accepted.fault) c.in-Err-accepted.fault refl c.in-Err-accepted.ensures.complete) c.in-Ok.ensures.only)
 
 pub returns-in-Err-clause-cause : goal.returns-in-Err-clause-cause
 returns-in-Err-clause-cause c =
@@ -35,7 +33,6 @@ returns-in-Err-accepted-clause-cause c =
 pub returns-in-Err-accepted-clause-memory : goal.returns-in-Err-accepted-clause-memory
 returns-in-Err-accepted-clause-memory c = λ q a.
     let p = plain-Program c.in-Ok.program in
-    let first = parses_first c.args.text.now p c.in-Ok.ensures.found in
     c.check_fault.ensures
     ∙ broken_memory c.args.text.now p c.in-Err-accepted.fault c.in-Ok.ensures.only
-    (only_memory p (Err c.in-Err-accepted.fault) c.in-Err-accepted.fault refl (c.in-Err-accepted.ensures.complete first)) q a
+    (only_memory p (Err c.in-Err-accepted.fault) c.in-Err-accepted.fault refl c.in-Err-accepted.ensures.complete) q a

@@ -71,7 +71,7 @@ returns-then-as_str-gt-MOST_BYTES-clause-verdict c =
     (toks c.in-Ok-tokens_of.tokens.list) c.in-Ok-tokens_of.tokens.length c.in-Ok.ensures.found c.in-Ok-tokens_of.ensures.0 c.in-Ok-tokens_of.ensures.1
     c.in-Ok-chosen_run.ensures.found in
     (refuses_text c.args.text.now c.args.selection.start c.args.selection.end c.args.name.now (plain-Program c.in-Ok.program) (plain-Program c.in-Ok-moved.program)
-    (run_of c.in-Ok-chosen_run.run') c.in-Ok-print.text (length c.as_str-then-as_str-gt-MOST_BYTES.result.now) n c.in-Ok.ensures.only c.in-Ok-moved.ensures.found c.in-Ok-print.ensures
+    (run_of c.in-Ok-chosen_run.run') c.in-Ok-print.text (length c.as_str-then-as_str-gt-MOST_BYTES.result.now) n c.in-Ok.ensures.only c.in-Ok-moved.ensures.found c.in-Ok-print.ensures.text
     (ap length c.as_str-then-as_str-gt-MOST_BYTES.ensures) (omega (arith, c.if-as_str-gt-MOST_BYTES.true, ap length c.as_str.ensures, ap length c.as_str-then-as_str-gt-MOST_BYTES.ensures))).cause
 
 pub returns-then-as_str-gt-MOST_BYTES-clause-complete : goal.returns-then-as_str-gt-MOST_BYTES-clause-complete
@@ -80,7 +80,7 @@ returns-then-as_str-gt-MOST_BYTES-clause-complete c =
     (toks c.in-Ok-tokens_of.tokens.list) c.in-Ok-tokens_of.tokens.length c.in-Ok.ensures.found c.in-Ok-tokens_of.ensures.0 c.in-Ok-tokens_of.ensures.1
     c.in-Ok-chosen_run.ensures.found in
     (refuses_text c.args.text.now c.args.selection.start c.args.selection.end c.args.name.now (plain-Program c.in-Ok.program) (plain-Program c.in-Ok-moved.program)
-    (run_of c.in-Ok-chosen_run.run') c.in-Ok-print.text (length c.as_str-then-as_str-gt-MOST_BYTES.result.now) n c.in-Ok.ensures.only c.in-Ok-moved.ensures.found c.in-Ok-print.ensures
+    (run_of c.in-Ok-chosen_run.run') c.in-Ok-print.text (length c.as_str-then-as_str-gt-MOST_BYTES.result.now) n c.in-Ok.ensures.only c.in-Ok-moved.ensures.found c.in-Ok-print.ensures.text
     (ap length c.as_str-then-as_str-gt-MOST_BYTES.ensures) (omega (arith, c.if-as_str-gt-MOST_BYTES.true, ap length c.as_str.ensures, ap length c.as_str-then-as_str-gt-MOST_BYTES.ensures))).none
 
 pub returns-clause-verdict : goal.returns-clause-verdict
@@ -89,7 +89,7 @@ returns-clause-verdict c =
     (toks c.in-Ok-tokens_of.tokens.list) c.in-Ok-tokens_of.tokens.length c.in-Ok.ensures.found c.in-Ok-tokens_of.ensures.0 c.in-Ok-tokens_of.ensures.1
     c.in-Ok-chosen_run.ensures.found in (
       keeps c.args.text.now c.args.selection.start c.args.selection.end c.args.name.now c.in-Ok-print.text (plain-Program c.in-Ok.program)
-          (plain-Program c.in-Ok-moved.program) (run_of c.in-Ok-chosen_run.run') n c.in-Ok-moved.ensures.found c.in-Ok-print.ensures
+          (plain-Program c.in-Ok-moved.program) (run_of c.in-Ok-chosen_run.run') n c.in-Ok-moved.ensures.found c.in-Ok-print.ensures.text
           (omega (arith, c.if-as_str-gt-MOST_BYTES.false, ap length c.as_str.ensures)),
       c.new.ensures,
     )
@@ -99,6 +99,6 @@ returns-clause-complete c = λ p q x.
     let n = names_of c.args.text.now c.args.selection.start c.args.selection.end c.args.name.now (plain-Program c.in-Ok.program) (run_of c.in-Ok-chosen_run.run')
     (toks c.in-Ok-tokens_of.tokens.list) c.in-Ok-tokens_of.tokens.length c.in-Ok.ensures.found c.in-Ok-tokens_of.ensures.0 c.in-Ok-tokens_of.ensures.1
     c.in-Ok-chosen_run.ensures.found in
-    c.in-Ok-print.ensures
+    c.in-Ok-print.ensures.text
     ∙ whole c.args.text.now c.args.selection.start c.args.selection.end c.args.name.now (plain-Program c.in-Ok.program) (plain-Program c.in-Ok-moved.program)
     (run_of c.in-Ok-chosen_run.run') c.in-Ok.ensures.only n.selects c.in-Ok-moved.ensures.found p q x

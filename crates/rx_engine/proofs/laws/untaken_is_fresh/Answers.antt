@@ -1,4 +1,4 @@
-use Rattle.rx_engine.proofs.WholeFresh.{fresh}
+use Rattle.rx_engine.proofs.FreshLemmas.{fresh}
 use Rattle.rx_engine.proofs.laws.untaken_is_fresh.Goals as goal
 
 pub returns : goal.returns

@@ -1,5 +1,5 @@
 -- A text has one tree, so two results of its extraction agree.
-use Rattle.rx_parse.proofs.Whole.{one_text}
+use Rattle.rx_grammar.proofs.Whole.{one_text}
 use Rattle.rx_rem.proofs.Agreement.{defined_agree}
 use Rattle.rx_rem.proofs.laws.one_answer.Goals as goal
 

@@ -1,5 +1,0 @@
-use Rattle.rx_parse.proofs.Whole.{one_text}
-use Rattle.rx_parse.proofs.laws.one_tree.Goals as goal
-
-pub returns : goal.returns
-returns c = one_text
