@@ -17,6 +17,8 @@ pub use program::parse;
 #[cfg(test)]
 mod bank;
 #[cfg(test)]
+mod nested;
+#[cfg(test)]
 mod stops;
 #[cfg(test)]
 mod tests;

@@ -6,7 +6,7 @@ use std::alloc::{AllocError, Global};
 use std::test::Fail;
 
 /// The text without its mark, and where the mark stands, in bytes.
-fn unmarked(alloc: Global, marked: &str) -> Result<(String, u64), AllocError> {
+pub fn unmarked(alloc: Global, marked: &str) -> Result<(String, u64), AllocError> {
     match marked.split_once('‸') {
         Some((front, back)) => {
             let mut text = String::from_str(alloc, front)?;
@@ -132,7 +132,7 @@ fn enclosed(alloc: Global, marked: &str, pairs: usize) -> Result<(String, u64), 
     unmarked(alloc, text.as_str())
 }
 
-/// With one pair of parentheses less each has 128 levels, of which the number behind it are its own and the body's.
+/// Each value with the number of its levels. Pairs of parentheses fill up to 127, 128 and 129 levels, the body's with them.
 #[test]
 fn levels_end_at_the_mark(rt: HostRuntime) -> Result<(), Fail> {
     let values: [(&str, usize); 51] = [
@@ -189,8 +189,15 @@ fn levels_end_at_the_mark(rt: HostRuntime) -> Result<(), Fail> {
         ("{ { ‸x } }", 5),
     ];
     for (marked, levels) in values {
-        let (text, _) = enclosed(rt.alloc(), marked, 127usize.saturating_sub(levels))?;
-        assert_eq!(rt; answer(rt.alloc(), text.as_bytes()), ('k', 1), "{marked}");
+        for total in [127usize, 128] {
+            let pairs = total.saturating_sub(1).saturating_sub(levels);
+            let (text, _) = enclosed(rt.alloc(), marked, pairs)?;
+            assert_eq!(rt;
+                answer(rt.alloc(), text.as_bytes()),
+                ('k', 1),
+                "{marked} {total}"
+            );
+        }
         let (text, at) = enclosed(rt.alloc(), marked, 128usize.saturating_sub(levels))?;
         assert_eq!(rt; answer(rt.alloc(), text.as_bytes()), ('d', at), "{marked}");
     }
