@@ -12,7 +12,6 @@ use Rattle.rx_spelling.specs.Items.{print_program}
 use Rattle.rx_printable.proofs.PrintParses.{print_parses}
 use Rattle.rx_spelling.proofs.SameText.{print_same}
 use Rattle.rx_printable.proofs.SamePrintable.{printable_same}
-use Rattle.rx_printable.proofs.FirstForms.{printable_first}
 use Rattle.rx_printable.proofs.Measured.{parses_printable}
 use Rattle.rx_check.specs.Names.{free}
 use Rattle.rx_check.specs.Accepted.{unit, integer}
@@ -57,7 +56,7 @@ keeps bytes start end name answer p q r n m a l =
       extraction = record { run = r; names = n; moves = x; short = subst (λ (b : List ℕ). length b ≤ most_bytes) rendered l };
       accepts = record {
         parses = subst (λ (b : List ℕ). Parses b k.0) (sym a) k.1;
-        first = printable_first k.0 (printable_same q k.0 (sym k.2) printable);
+        first = (printable_same q k.0 (sym k.2) printable).first;
         accepted = accepted_extraction p r name k.0 x.extracted t.accepted avoids x.integers;
       };
       rendered = rendered;

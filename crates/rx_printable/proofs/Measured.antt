@@ -1,15 +1,11 @@
--- The canonical text of a tree that the grammar derives has at most the levels of the derivation, and where the tree is of the first
--- grammar, it is printable: by induction on derivations, since the canonical text has parentheses only where each text of the
--- tree has some.
-use Rattle.std.proofs.Common.{◌≡◌, ℕ, suc, ◌≤◌, max, Bool, true, false, List, [], ◌∷◌, ◌++◌, Option, Some, None, refl, ap, sym, ◌∙◌, subst, arith, inl, inr}
+-- The canonical text of a tree of the first grammar has at most the levels of each derivation of the tree, so the tree of a text is
+-- printable: by induction on derivations, since the canonical text has parentheses only where each text of the tree has some.
+use Rattle.std.proofs.Common.{◌≡◌, ℕ, suc, ◌≤◌, max, Bool, true, false, List, [], ◌∷◌, map, Option, Some, None, refl, ap, sym, ◌∙◌, subst, arith, inl, inr}
 use Rattle.std.specs.Prelude.{◌≢◌, ◌⊎◌, ◌&&◌, ◌||◌, not, nat_lt}
 use Rattle.std.specs.List.{list_all}
-use Rattle.std.proofs.lemmas.Bool.{le-ltb, and_parts}
+use Rattle.std.proofs.lemmas.Bool.{le-ltb, and_parts, cases_Bool, ltb-true, lt-ltb}
 use Rattle.rx_core.specs.declared.types.Span.{Span}
-use Rattle.rx_core.specs.declared.types.Kind.{Kind}
-use Rattle.rx_core.specs.declared.types.Kind.TheVariants.{I64}
 use Rattle.rx_tree.specs.declared.tree.BinaryOp.{BinaryOp}
-use Rattle.rx_tree.specs.declared.tree.BinaryOp.TheVariants.{Add, Sub, Mul, Div, Rem}
 use Rattle.rx_tree.specs.Plain as plain
 use Rattle.rx_tree.specs.Plain.{TypeTree, PatternTree, Expression, OptionalExpression, Body, Statement, Parameter, ItemTree, ProgramTree}
 use Rattle.rx_tree.specs.PlainOf.{expressions_of, statements_of}
@@ -17,23 +13,20 @@ use Rattle.rx_tree.specs.Lists.{statements, tail}
 use Rattle.rx_tree.specs.Erase.{SameProgram}
 use Rattle.rx_tree.proofs.ListsLemmas.{listed-statements_of}
 use Rattle.rx_lex.specs.Tok.{Tok}
-use Rattle.rx_lex.proofs.TokenLaws.{EachIsWord, tokens_are_words}
 use Rattle.rx_grammar.specs.grammar.Words.{IsListOf, no_element, last_element, element}
-use Rattle.rx_grammar.specs.grammar.Patterns as pattern
-use Rattle.rx_grammar.specs.grammar.Patterns.{IsPattern}
 use Rattle.rx_grammar.specs.grammar.Expressions as g
-use Rattle.rx_grammar.specs.grammar.Expressions.{IsExpression, IsOperand, IsUnary, IsPostfix, IsPrimary, AreArguments, IsLike, IsIf, IsBlock, IsStatement, AreStatements, IsAnnotation, IsOperator}
+use Rattle.rx_grammar.specs.grammar.Expressions.{IsExpression, IsOperand, IsUnary, IsPostfix, IsPrimary, AreArguments, IsLike, IsIf, IsBlock, IsStatement, AreStatements, IsOperator}
 use Rattle.rx_grammar.specs.grammar.Items as item
 use Rattle.rx_grammar.specs.grammar.Items.{IsParameter, IsResult, IsItem, IsFile, Parses}
 use Rattle.rx_grammar.proofs.TypesRead.{type_positive}
 use Rattle.rx_grammar.proofs.PatternsRead.{pattern_positive}
-use Rattle.rx_check.specs.FirstGrammar.{is_arithmetic, is_i64, is_first_value, is_variable, are_variables, is_first_call, is_first_print, is_first_given, is_first_binding, is_none, is_empty, is_first_statement, is_first_tail, is_i64_type, is_first_parameter, is_first_result, is_first_item, is_first_program}
-use Rattle.rx_spelling.specs.Places.{strength, left_strength, right_strength}
-use Rattle.rx_spelling.specs.Levels.{enclosed_levels}
+use Rattle.rx_check.specs.FirstGrammar.{is_arithmetic, is_first_value, is_variable, are_variables, is_first_call, is_first_print, is_first_given, is_first_binding, is_none, is_empty, is_first_statement, is_first_tail, is_i64_type, is_first_parameter, is_first_result, is_first_item, is_first_program}
+use Rattle.rx_spelling.specs.Places.{strength, left_strength, right_strength, too_weak, weakness, begins, shown, is_like}
+use Rattle.rx_spelling.specs.Levels.{enclosed_levels, deepest, type_levels, written_levels, pattern_levels, placed_levels, stated_levels, expression_levels, list_levels, statement_levels, statements_levels, block_levels, tail_levels, parameter_levels, item_levels, levels_of}
 use Rattle.rx_spelling.specs.Items.{print_program}
-use Rattle.rx_printable.specs.Printable.{Printable, weakest, written_type_levels, expression_levels, list_levels, optional_levels, statement_levels, statements_levels, body_levels, parameters_levels, item_levels, levels_of, IsArithmetic, IsValue, IsVariable, AreVariables, IsCall, IsPrint, IsBinding, IsStatementForm, AreStatementForms, IsTail, IsBodyForm, IsI64, IsResultForm, AreParameterForms, IsItemForm, AreItemForms}
+use Rattle.rx_spelling.proofs.ItemsFormed.{text_formed}
+use Rattle.rx_printable.specs.Printable.{Printable}
 use Rattle.rx_printable.proofs.PrintParses.{print_parses}
-use Rattle.rx_printable.proofs.Levels.{words_left, words_right, name_word, levels_stronger, levels_any, inside}
 
 -- ---- tests that hold
 
@@ -65,70 +58,83 @@ either : (a b : Bool) → (a || b) ≡ true → (a ≡ true) ⊎ (b ≡ true)
 either true b e = inl refl
 either false b e = inr e
 
-arithmetic : (o : BinaryOp) → is_arithmetic o ≡ true → IsArithmetic o
-arithmetic Add e = tt
-arithmetic Sub e = tt
-arithmetic Mul e = tt
-arithmetic Div e = tt
-arithmetic Rem e = tt
-arithmetic _ e = absurd (cc)
+-- ---- parentheses
 
-kind_i64 : (k : Kind) → is_i64 (Some k) ≡ true → k ≡ I64
-kind_i64 I64 e = refl
-kind_i64 _ e = absurd (cc)
+at_least : (b : Bool) (c : ℕ) → c ≤ enclosed_levels b c
+at_least false c = omega arith
+at_least true c = omega arith
 
-suffix_i64 : (k : Option Kind) → is_i64 k ≡ true → k ≡ Some I64
-suffix_i64 None e = absurd (cc)
-suffix_i64 (Some k) e = ap (λ l. Some l) (kind_i64 k e)
+at_most : (b : Bool) (c : ℕ) → enclosed_levels b c ≤ suc c
+at_most false c = omega arith
+at_most true c = omega arith
 
-type_i64 : (y : TypeTree) → is_i64_type y ≡ true → IsI64 y
-type_i64 (plain.kind_type s k) e = kind_i64 k e
-type_i64 _ e = absurd (cc)
+-- a place that takes weaker expressions needs no more levels
+enclosed_stronger : (w place c : ℕ) → enclosed_levels (nat_lt (suc place) w) c ≤ enclosed_levels (nat_lt place w) c
+enclosed_stronger w place c = elim (cases_Bool (nat_lt (suc place) w)) [
+  | inl t ↦
+      let b = ltb-true (suc place) w t in
+      let u : nat_lt place w ≡ true = lt-ltb place w (omega arith) in
+      rw (t, u) (omega arith)
+  | inr f ↦ rw f (at_least (nat_lt place w) c)
+]
 
-no_type : (y : Option TypeTree) → is_none y ≡ true → y ≡ None
-no_type None e = refl
-no_type (Some y) e = absurd (cc)
+shown_nothing : (b : Bool) → shown b false ≡ false
+shown_nothing true = refl
+shown_nothing false = refl
 
-none_left : {A : Type 0} (l : List A) → is_empty l ≡ true → l ≡ []
-none_left [] e = refl
-none_left (x ∷ l) e = absurd (cc)
+nothing_goes_on : (b : Bool) → (b && false) ≡ false
+nothing_goes_on true = refl
+nothing_goes_on false = refl
 
-unmarked : (m : Bool) → not m ≡ true → m ≡ false
-unmarked false e = refl
-unmarked true e = absurd (cc)
+stated_plain : (e : Expression) (h : ℕ) → begins e ≡ false → stated_levels e h ≡ h
+stated_plain e h b = ap (λ z. enclosed_levels z h) (ap (λ z. not (is_like e) && z) b ∙ nothing_goes_on (not (is_like e)))
+
+value_begins : (e : Expression) → is_first_value e ≡ true → begins e ≡ false
+value_begins (plain.int s v k) h = refl
+value_begins (plain.var s x) h = refl
+value_begins (plain.binary s o a b) h =
+    ap (shown (too_weak (left_strength o) a)) (value_begins a (three (is_arithmetic o) (is_first_value a) (is_first_value b) h).1) ∙ shown_nothing (too_weak (left_strength o) a)
+value_begins _ h = never h
+
+call_begins : (e : Expression) → is_first_call e ≡ true → begins e ≡ false
+call_begins (plain.call s f es) h = refl
+call_begins _ h = never h
+
+print_begins : (e : Expression) → is_first_print e ≡ true → begins e ≡ false
+print_begins (plain.print s e) h = refl
+print_begins _ h = never h
+
+variable_value : (e : Expression) → is_variable e ≡ true → is_first_value e ≡ true
+variable_value (plain.var s x) h = refl
+variable_value _ h = never h
 
 -- ---- expressions
 
--- the levels at a place, and what is a name or a number where the form is of the first grammar
+-- the levels at a place, where the form is of the first grammar
 record Fits (place : ℕ) (x : Expression) (h : ℕ) : Type 0 where
-  low : expression_levels place x ≤ h
-  value : is_first_value x ≡ true → IsValue x
-  variable : is_variable x ≡ true → IsVariable x
-  called : is_first_call x ≡ true → IsCall x
-  printed : is_first_print x ≡ true → IsPrint x
+  value : is_first_value x ≡ true → placed_levels place x (expression_levels x) ≤ h
+  called : is_first_call x ≡ true → expression_levels x ≤ h
+  printed : is_first_print x ≡ true → expression_levels x ≤ h
 
 -- a form that the first grammar lacks
-other : {place : ℕ} {x : Expression} {h : ℕ} → expression_levels place x ≤ h → is_first_value x ≡ false → is_variable x ≡ false → is_first_call x ≡ false → is_first_print x ≡ false
-    → Fits place x h
-other l v w c p = record {
-  low = l;
-  value = λ e. never (sym v ∙ e);
-  variable = λ e. never (sym w ∙ e);
-  called = λ e. never (sym c ∙ e);
-  printed = λ e. never (sym p ∙ e);
-}
+other : {place : ℕ} {x : Expression} {h : ℕ} → is_first_value x ≡ false → is_first_call x ≡ false → is_first_print x ≡ false → Fits place x h
+other v c p = record { value = λ e. never (sym v ∙ e); called = λ e. never (sym c ∙ e); printed = λ e. never (sym p ∙ e) }
 
 weaker : {place : ℕ} {x : Expression} {h : ℕ} → Fits place x h → Fits (suc place) x h
 weaker {place = place} {x = x} r =
-    let low = r.low in
-    let b = levels_stronger x place in
-    record { low = omega arith; value = r.value; variable = r.variable; called = r.called; printed = r.printed }
+    record { value = λ e. let l = r.value e in let b = enclosed_stronger (weakness x) place (expression_levels x) in omega arith; called = r.called; printed = r.printed }
 
-enclosed : {x : Expression} {h : ℕ} → Fits weakest x h → Fits 0 x (suc h)
+-- the levels of a value by itself
+bare : {place : ℕ} {x : Expression} {h : ℕ} → Fits place x h → is_first_value x ≡ true → expression_levels x ≤ h
+bare {place = place} {x = x} r e = let l = r.value e in let b = at_least (too_weak place x) (expression_levels x) in omega arith
+
+enclosed : {place : ℕ} {x : Expression} {h : ℕ} → Fits place x h → Fits 0 x (suc h)
 enclosed {x = x} r =
-    let low = r.low in
-    let b = levels_any x 0 weakest in
-    record { low = omega arith; value = r.value; variable = r.variable; called = r.called; printed = r.printed }
+    record {
+      value = λ e. let l = bare r e in let b = at_most (too_weak 0 x) (expression_levels x) in omega arith;
+      called = λ e. let l = r.called e in omega arith;
+      printed = λ e. let l = r.printed e in omega arith;
+    }
 
 -- the places of an operator's operands
 record Operates (place left right : ℕ) (o : BinaryOp) : Type 0 where
@@ -171,301 +177,207 @@ binary_fits : (s : Span) (o : BinaryOp) (place left right : ℕ) (l r : Expressi
 binary_fits s o place left right l r m n p a b =
     let strong = p.strong in
     let t : nat_lt place (strength o) ≡ false = le-ltb place (strength o) (omega arith) in
-    let x : expression_levels (left_strength o) l ≤ m = subst (λ k. expression_levels k l ≤ m) (sym p.left_is) a.low in
-    let y : expression_levels (right_strength o) r ≤ n = subst (λ k. expression_levels k r ≤ n) (sym p.right_is) b.low in
     record {
-      low = subst (λ b. enclosed_levels b (suc (max (expression_levels (left_strength o) l) (expression_levels (right_strength o) r))) ≤ suc (max m n)) (sym t) (omega arith);
-      value = λ e. let u = three (is_arithmetic o) (is_first_value l) (is_first_value r) e in (arithmetic o u.0, a.value u.1, b.value u.2);
-      variable = λ e. never e;
+      value = λ e.
+          let u = three (is_arithmetic o) (is_first_value l) (is_first_value r) e in
+          let x : placed_levels (left_strength o) l (expression_levels l) ≤ m = subst (λ k. placed_levels k l (expression_levels l) ≤ m) (sym p.left_is) (a.value u.1) in
+          let y : placed_levels (right_strength o) r (expression_levels r) ≤ n = subst (λ k. placed_levels k r (expression_levels r) ≤ n) (sym p.right_is) (b.value u.2) in
+          subst (λ b. enclosed_levels b (expression_levels (plain.binary s o l r)) ≤ suc (max m n)) (sym t) (omega arith);
       called = λ e. never e;
       printed = λ e. never e;
     }
 
-if_fits : {ts : List Tok} {x : Expression} {h : ℕ} → IsIf ts x h → Fits 0 x h
-if_fits (g.if_alone t us vs x b m n st c d is) = other (omega arith) refl refl refl refl
-if_fits (g.if_else t e us vs ws x y b m n k st se c d w is) = other (omega arith) refl refl refl refl
+if_fits : {place : ℕ} {ts : List Tok} {x : Expression} {h : ℕ} → IsIf ts x h → Fits place x h
+if_fits (g.if_alone t us vs x b m n st c d is) = other refl refl refl
+if_fits (g.if_else t e us vs ws x y b m n k st se c d w is) = other refl refl refl
 
-like_fits : {ts : List Tok} {x : Expression} {h : ℕ} → IsLike ts x h → Fits 0 x h
-like_fits (g.block b h d) = other (omega arith) refl refl refl refl
+like_fits : {place : ℕ} {ts : List Tok} {x : Expression} {h : ℕ} → IsLike ts x h → Fits place x h
+like_fits (g.block b h d) = other refl refl refl
 like_fits (g.conditional d) = if_fits d
-like_fits (g.match t o c us vs x a more m n st so sc d ds is) = other (omega arith) refl refl refl refl
-like_fits (g.loop ls us t l b h sl st d is) = other (omega arith) refl refl refl refl
-like_fits (g.while ls us vs t l x b m n sl st c d is) = other (omega arith) refl refl refl refl
-
--- an expression where any may stand
-whole_like : {ts : List Tok} {x : Expression} {h : ℕ} → IsLike ts x h → Fits weakest x h
-whole_like d = weaker (weaker (weaker (weaker (weaker (weaker (weaker (like_fits d)))))))
-
-record FitsList (xs : List Expression) (h : ℕ) : Type 0 where
-  low : list_levels (expressions_of xs) ≤ h
-  variables : are_variables (expressions_of xs) ≡ true → AreVariables (expressions_of xs)
+like_fits (g.match t o c us vs x a more m n st so sc d ds is) = other refl refl refl
+like_fits (g.loop ls us t l b h sl st d is) = other refl refl refl
+like_fits (g.while ls us vs t l x b m n sl st c d is) = other refl refl refl
 
 mutual
-  expression_fits : {ts : List Tok} {x : Expression} {h : ℕ} → IsExpression ts x h → EachIsWord ts → Fits weakest x h
-  expression_fits (g.operand d) a = weaker (operand_fits d a)
-  expression_fits (g.assign us vs t l r m n s d e is) a = other (omega arith) refl refl refl refl
-  expression_fits (g.update us vs t o l r m n s d e is) a = other (omega arith) refl refl refl refl
-  expression_fits (g.return t s is) a = other (omega arith) refl refl refl refl
-  expression_fits (g.return_with t us x h s d is) a = other (omega arith) refl refl refl refl
-  expression_fits (g.break t s is) a = other (omega arith) refl refl refl refl
-  expression_fits (g.break_from t l s sl is) a = other (omega arith) refl refl refl refl
-  expression_fits (g.continue t s is) a = other (omega arith) refl refl refl refl
-  expression_fits (g.continue_with t l s sl is) a = other (omega arith) refl refl refl refl
+  expression_fits : {ts : List Tok} {x : Expression} {h : ℕ} → IsExpression ts x h → Fits 7 x h
+  expression_fits (g.operand d) = weaker (operand_fits d)
+  expression_fits (g.assign us vs t l r m n s d e is) = other refl refl refl
+  expression_fits (g.update us vs t o l r m n s d e is) = other refl refl refl
+  expression_fits (g.return t s is) = other refl refl refl
+  expression_fits (g.return_with t us x h s d is) = other refl refl refl
+  expression_fits (g.break t s is) = other refl refl refl
+  expression_fits (g.break_from t l s sl is) = other refl refl refl
+  expression_fits (g.continue t s is) = other refl refl refl
+  expression_fits (g.continue_with t l s sl is) = other refl refl refl
 
-  operand_fits : {f : Bool} {j : ℕ} {ts : List Tok} {x : Expression} {h : ℕ} → IsOperand f j ts x h → EachIsWord ts → Fits (suc j) x h
-  operand_fits (g.unary d) a = unary_fits d a
-  operand_fits (g.stronger d) a = weaker (operand_fits d a)
-  operand_fits (g.chain {j = j} us vs t o l r m n c k d e is) a =
-      let w = subst EachIsWord is a in
-      binary_fits _ o (suc (suc j)) (suc (suc j)) (suc j) l r m n (chained c k) (operand_fits d (words_left us (t ∷ vs) w)) (operand_fits e (words_right us (t ∷ vs) w).1)
-  operand_fits (g.compare {j = j} us vs t o l r m n c k d e is) a =
-      let w = subst EachIsWord is a in
-      binary_fits _ o (suc (suc j)) (suc j) (suc j) l r m n (compared c k) (operand_fits d (words_left us (t ∷ vs) w)) (operand_fits e (words_right us (t ∷ vs) w).1)
+  operand_fits : {f : Bool} {j : ℕ} {ts : List Tok} {x : Expression} {h : ℕ} → IsOperand f j ts x h → Fits (suc j) x h
+  operand_fits (g.unary d) = unary_fits d
+  operand_fits (g.stronger d) = weaker (operand_fits d)
+  operand_fits (g.chain {j = j} us vs t o l r m n c k d e is) =
+      binary_fits _ o (suc (suc j)) (suc (suc j)) (suc j) l r m n (chained c k) (operand_fits d) (operand_fits e)
+  operand_fits (g.compare {j = j} us vs t o l r m n c k d e is) =
+      binary_fits _ o (suc (suc j)) (suc j) (suc j) l r m n (compared c k) (operand_fits d) (operand_fits e)
 
-  unary_fits : {f : Bool} {ts : List Tok} {x : Expression} {h : ℕ} → IsUnary f ts x h → EachIsWord ts → Fits 1 x h
-  unary_fits (g.postfix d) a = weaker (postfix_fits d a)
-  unary_fits (g.negate t us x h s d is) a = other (omega arith) refl refl refl refl
-  unary_fits (g.invert t us x h s d is) a = other (omega arith) refl refl refl refl
-  unary_fits (g.deref t us x h s d is) a = other (omega arith) refl refl refl refl
-  unary_fits (g.borrow t ms us m x h s sm d is) a = other (omega arith) refl refl refl refl
-  unary_fits (g.borrow_twice t us x h s d is) a = other (omega arith) refl refl refl refl
+  unary_fits : {f : Bool} {ts : List Tok} {x : Expression} {h : ℕ} → IsUnary f ts x h → Fits 1 x h
+  unary_fits (g.postfix d) = weaker (postfix_fits d)
+  unary_fits (g.negate t us x h s d is) = other refl refl refl
+  unary_fits (g.invert t us x h s d is) = other refl refl refl
+  unary_fits (g.deref t us x h s d is) = other refl refl refl
+  unary_fits (g.borrow t ms us m x h s sm d is) = other refl refl refl
+  unary_fits (g.borrow_twice t us x h s d is) = other refl refl refl
 
-  postfix_fits : {f : Bool} {ts : List Tok} {x : Expression} {h : ℕ} → IsPostfix f ts x h → EachIsWord ts → Fits 0 x h
-  postfix_fits (g.primary d) a = primary_fits d a
-  postfix_fits (g.field us d n x h sd sn e is) a = other (omega arith) refl refl refl refl
-  postfix_fits (g.part us d t v x h sd st e is) a = other (omega arith) refl refl refl refl
+  postfix_fits : {f : Bool} {ts : List Tok} {x : Expression} {h : ℕ} → IsPostfix f ts x h → Fits 0 x h
+  postfix_fits (g.primary d) = primary_fits d
+  postfix_fits (g.field us d n x h sd sn e is) = other refl refl refl
+  postfix_fits (g.part us d t v x h sd st e is) = other refl refl refl
 
-  primary_fits : {f : Bool} {ts : List Tok} {x : Expression} {h : ℕ} → IsPrimary f ts x h → EachIsWord ts → Fits 0 x h
-  primary_fits (g.number t v k s is) a =
-      record { low = omega arith; value = λ e. (suffix_i64 k e, s.fits); variable = λ e. never e; called = λ e. never e; printed = λ e. never e }
-  primary_fits (g.true_is t s is) a = other (omega arith) refl refl refl refl
-  primary_fits (g.false_is t s is) a = other (omega arith) refl refl refl refl
-  primary_fits (g.variable t s is) a =
-      let w = subst EachIsWord is a in
-      record { low = omega arith; value = λ e. name_word t w.0 s; variable = λ e. name_word t w.0 s; called = λ e. never e; printed = λ e. never e }
-  primary_fits (g.call t o c us xs h s so sc d is) a =
-      let w = subst EachIsWord is a in
-      let r = arguments_fit d (inside o c us w.1) in
-      let low = r.low in
-      record { low = omega arith; value = λ e. never e; variable = λ e. never e; called = λ e. (name_word t w.0 s, r.variables e); printed = λ e. never e }
-  primary_fits (g.next_input r p n o c sr sp sn so sc is) a = other (omega arith) refl refl refl refl
-  primary_fits (g.variant e p v se sp sv is) a = other (omega arith) refl refl refl refl
-  primary_fits (g.variant_with e p v o c us x xs h se sp sv so sc d is) a = other (omega arith) refl refl refl refl
-  primary_fits (g.structure n o c us fs h sn so sc d is) a = other (omega arith) refl refl refl refl
-  primary_fits (g.print p b o q m c us x h sp sb so sq sm sc d is) a =
-      let w = subst EachIsWord is a in
-      let r = expression_fits d (words_left us (c ∷ []) w.1.1.1.1.1) in
-      let low = r.low in
-      record { low = omega arith; value = λ e. never e; variable = λ e. never e; called = λ e. never e; printed = r.value }
-  primary_fits (g.unit o c so sc is) a = other (omega arith) refl refl refl refl
-  primary_fits (g.parentheses o c us x h so sc d is) a = enclosed (expression_fits d (inside o c us (subst EachIsWord is a)))
-  primary_fits (g.tuple o m c us vs x xs h i so sm sc d ds is) a = other (omega arith) refl refl refl refl
-  primary_fits (g.like d) a = like_fits d
+  primary_fits : {f : Bool} {ts : List Tok} {x : Expression} {h : ℕ} → IsPrimary f ts x h → Fits 0 x h
+  primary_fits (g.number t v k s is) = record { value = λ e. omega arith; called = λ e. never e; printed = λ e. never e }
+  primary_fits (g.true_is t s is) = other refl refl refl
+  primary_fits (g.false_is t s is) = other refl refl refl
+  primary_fits (g.variable t s is) = record { value = λ e. omega arith; called = λ e. never e; printed = λ e. never e }
+  primary_fits (g.call t o c us xs h s so sc d is) =
+      record { value = λ e. never e; called = λ e. let l = arguments_fit d e in omega arith; printed = λ e. never e }
+  primary_fits (g.next_input r p n o c sr sp sn so sc is) = other refl refl refl
+  primary_fits (g.variant e p v se sp sv is) = other refl refl refl
+  primary_fits (g.variant_with e p v o c us x xs h se sp sv so sc d is) = other refl refl refl
+  primary_fits (g.structure n o c us fs h sn so sc d is) = other refl refl refl
+  primary_fits (g.print p b o q m c us x h sp sb so sq sm sc d is) =
+      let r = expression_fits d in
+      record { value = λ e. never e; called = λ e. never e; printed = λ e. let l = bare r e in omega arith }
+  primary_fits (g.unit o c so sc is) = other refl refl refl
+  primary_fits (g.parentheses o c us x h so sc d is) = enclosed (expression_fits d)
+  primary_fits (g.tuple o m c us vs x xs h i so sm sc d ds is) = other refl refl refl
+  primary_fits (g.like d) = like_fits d
 
-  arguments_fit : {ts : List Tok} {xs : List Expression} {h : ℕ} → AreArguments ts xs h → EachIsWord ts → FitsList xs h
-  arguments_fit g.no_argument a = record { low = omega arith; variables = λ e. tt }
-  arguments_fit (g.last_argument {x = x} d) a =
-      let r = expression_fits d a in
-      let low = r.low in
-      record { low = omega arith; variables = λ e. (r.variable (and_parts (is_variable x) true e).0, tt) }
-  arguments_fit (g.argument_and us vs c x xs m n d s ds is) a =
-      let w = subst EachIsWord is a in
-      let r = expression_fits d (words_left us (c ∷ vs) w) in
-      let q = arguments_fit ds (words_right us (c ∷ vs) w).1 in
-      let rl = r.low in
-      let ql = q.low in
-      record {
-        low = omega arith;
-        variables = λ e. let u = and_parts (is_variable x) (are_variables (expressions_of xs)) e in (r.variable u.0, q.variables u.1);
-      }
+  arguments_fit : {ts : List Tok} {xs : List Expression} {h : ℕ} → AreArguments ts xs h → are_variables (expressions_of xs) ≡ true → list_levels (expressions_of xs) ≤ h
+  arguments_fit g.no_argument e = omega arith
+  arguments_fit (g.last_argument {x = x} d) e =
+      let l = bare (expression_fits d) (variable_value x (and_parts (is_variable x) true e).0) in
+      omega arith
+  arguments_fit (g.argument_and us vs c x xs m n d s ds is) e =
+      let u = and_parts (is_variable x) (are_variables (expressions_of xs)) e in
+      let l = bare (expression_fits d) (variable_value x u.0) in
+      let k = arguments_fit ds u.1 in
+      omega arith
 
 -- ---- statements
 
-pattern_binds : {ts : List Tok} {y : PatternTree} {h : ℕ} → IsPattern ts y h → EachIsWord ts → is_first_binding y ≡ true → IsBinding y
-pattern_binds (pattern.wild t s is) a e = never e
-pattern_binds (pattern.binding n s is) a e = let w = subst EachIsWord is a in (name_word n w.0 s, refl)
-pattern_binds (pattern.mutable_binding m n s sn is) a e = never e
-pattern_binds (pattern.number t v k s is) a e = never e
-pattern_binds (pattern.negative m t v k sm s is) a e = never e
-pattern_binds (pattern.true_is t s is) a e = never e
-pattern_binds (pattern.false_is t s is) a e = never e
-pattern_binds (pattern.unit o c so sc is) a e = never e
-pattern_binds (pattern.parentheses o c us y h so sc d is) a e = pattern_binds d (inside o c us (subst EachIsWord is a)) e
-pattern_binds (pattern.tuple o m c us vs y ys h i so sm sc d ds is) a e = never e
-pattern_binds (pattern.variant f p v se sp sv is) a e = never e
-pattern_binds (pattern.variant_with f p v o c us y ys h se sp sv so sc d is) a e = never e
-pattern_binds (pattern.structure n o c us fs h sn so sc d is) a e = never e
+binding_levels : (p : PatternTree) → is_first_binding p ≡ true → pattern_levels p ≡ 1
+binding_levels (plain.bind s n m) e = refl
+binding_levels _ e = never e
 
-annotation_low : {ts : List Tok} {y : Option TypeTree} {h : ℕ} → IsAnnotation ts y h → written_type_levels y ≤ h
-annotation_low g.no_type = omega arith
-annotation_low (g.with_type c us y h s d is) = type_positive d
+no_type_levels : (t : Option TypeTree) → is_none t ≡ true → written_levels t ≡ 0
+no_type_levels None e = refl
+no_type_levels (Some t) e = never e
 
-record FitsStatement (x : Statement) (h : ℕ) : Type 0 where
-  low : statement_levels x ≤ h
-  form : is_first_statement x ≡ true → IsStatementForm x
+given_levels : {x : Expression} {h : ℕ} → Fits 7 x h → (is_first_value x ≡ true) ⊎ (is_first_call x ≡ true) → expression_levels x ≤ h
+given_levels r (inl e) = bare r e
+given_levels r (inr e) = r.called e
 
-given : {x : Expression} {h : ℕ} → Fits weakest x h → (is_first_value x ≡ true) ⊎ (is_first_call x ≡ true) → IsValue x ⊎ IsCall x
-given r (inl e) = inl (r.value e)
-given r (inr e) = inr (r.called e)
-
-done_fits : (s : Span) (x : Expression) (h : ℕ) → Fits weakest x h → FitsStatement (plain.expression_statement s x true) h
-done_fits s x h r = record { low = r.low; form = λ e. (by (either (is_first_call x) (is_first_print x) e), refl) }
+done_levels : (x : Expression) (h : ℕ) → Fits 7 x h → (is_first_call x || is_first_print x) ≡ true → stated_levels x (expression_levels x) ≤ h
+done_levels x h r e = by (either (is_first_call x) (is_first_print x) e)
   where
-    by : (is_first_call x ≡ true) ⊎ (is_first_print x ≡ true) → IsCall x ⊎ IsPrint x
-    by (inl e) = inl (r.called e)
-    by (inr e) = inr (r.printed e)
+    by : (is_first_call x ≡ true) ⊎ (is_first_print x ≡ true) → stated_levels x (expression_levels x) ≤ h
+    by (inl e) = subst (λ z. z ≤ h) (sym (stated_plain x (expression_levels x) (call_begins x e))) (r.called e)
+    by (inr e) = subst (λ z. z ≤ h) (sym (stated_plain x (expression_levels x) (print_begins x e))) (r.printed e)
 
-statement_fits : {ts : List Tok} {x : Statement} {h : ℕ} → IsStatement ts x h → EachIsWord ts → FitsStatement x h
-statement_fits (g.let_with t q z ps ys us p y x m n k st sq sz dp dy d is) a =
-    let w = (subst EachIsWord is a).1 in
-    let front = words_left ps (ys ++ (q ∷ (us ++ z ∷ []))) w in
-    let behind = (words_right ys (q ∷ (us ++ z ∷ [])) (words_right ps (ys ++ (q ∷ (us ++ z ∷ []))) w)).1 in
-    let r = expression_fits d (words_left us (z ∷ []) behind) in
-    let low = r.low in
-    let pl = pattern_positive dp in
-    let yl = annotation_low dy in
-    record {
-      low = omega arith;
-      form = λ e.
-          let u = three (is_first_binding p) (is_none y) (is_first_given (plain.present x)) e in
-          (pattern_binds dp front u.0, no_type y u.1, given r (either (is_first_value x) (is_first_call x) u.2));
-    }
-statement_fits (g.let_without t n z ms ys m y h st sn sz dm dy is) a =
-    let yl = annotation_low dy in
-    record { low = omega arith; form = λ e. never (three (not m) (is_none y) false e).2 }
-statement_fits (g.done z us x h sz d b is) a = done_fits _ x h (expression_fits d (words_left us (z ∷ []) (subst EachIsWord is a)))
-statement_fits (g.done_like z us x h sz d is) a = done_fits _ x h (whole_like d)
+statement_fits : {ts : List Tok} {x : Statement} {h : ℕ} → IsStatement ts x h → is_first_statement x ≡ true → statement_levels x ≤ h
+statement_fits (g.let_with t q z ps ys us p y x m n k st sq sz dp dy d is) e =
+    let u = three (is_first_binding p) (is_none y) (is_first_given (plain.present x)) e in
+    let pl = binding_levels p u.0 in
+    let yl = no_type_levels y u.1 in
+    let low = given_levels (expression_fits d) (either (is_first_value x) (is_first_call x) u.2) in
+    let positive = pattern_positive dp in
+    omega arith
+statement_fits (g.let_without t n z ms ys m y h st sn sz dm dy is) e = never (three (not m) (is_none y) false e).2
+statement_fits (g.done z us x h sz d b is) e = done_levels x h (expression_fits d) e
+statement_fits (g.done_like z us x h sz d is) e = done_levels x h (like_fits d) e
 
+-- statements, and the tail behind them
 record FitsBetween (ss : List Statement) (y : OptionalExpression) (h : ℕ) : Type 0 where
-  low : max (statements_levels (statements_of ss)) (optional_levels y) ≤ h
-  statements : list_all is_first_statement ss ≡ true → AreStatementForms (statements_of ss)
-  tail : is_first_tail y ≡ true → IsTail y
+  statements : list_all is_first_statement ss ≡ true → statements_levels (statements_of ss) ≤ h
+  tail : is_first_tail y ≡ true → tail_levels y ≤ h
 
-tail_fits : (x : Expression) (h : ℕ) → Fits weakest x h → FitsBetween [] (plain.present x) h
-tail_fits x h r = let low = r.low in record { low = omega arith; statements = λ e. tt; tail = r.value }
+tail_fits : (x : Expression) (h : ℕ) → Fits 7 x h → FitsBetween [] (plain.present x) h
+tail_fits x h r = record {
+  statements = λ e. omega arith;
+  tail = λ e. subst (λ z. z ≤ h) (sym (stated_plain x (expression_levels x) (value_begins x e))) (bare r e);
+}
 
-more_fits : (a : Statement) (ss : List Statement) (y : OptionalExpression) (m n : ℕ) → FitsStatement a m → FitsBetween ss y n → FitsBetween (a ∷ ss) y (max m n)
-more_fits a ss y m n x r =
-    let xl = x.low in
-    let rl = r.low in
-    record {
-      low = omega arith;
-      statements = λ e. let u = and_parts (is_first_statement a) (list_all is_first_statement ss) e in (x.form u.0, r.statements u.1);
-      tail = r.tail;
-    }
+more_fits : (a : Statement) (ss : List Statement) (y : OptionalExpression) (m n : ℕ) → (is_first_statement a ≡ true → statement_levels a ≤ m) → FitsBetween ss y n → FitsBetween (a ∷ ss) y (max m n)
+more_fits a ss y m n x r = record {
+  statements = λ e.
+      let u = and_parts (is_first_statement a) (list_all is_first_statement ss) e in
+      let l = x u.0 in
+      let k = r.statements u.1 in
+      omega arith;
+  tail = λ e. let l = r.tail e in omega arith;
+}
 
-between_fits : {ts : List Tok} {ss : List Statement} {y : OptionalExpression} {h : ℕ} → AreStatements ts ss y h → EachIsWord ts → FitsBetween ss y h
-between_fits g.end a = record { low = omega arith; statements = λ e. tt; tail = λ e. tt }
-between_fits (g.tail {x = x} {h = h} d b) a = tail_fits x h (expression_fits d a)
-between_fits (g.tail_like {x = x} {h = h} d) a = tail_fits x h (whole_like d)
-between_fits (g.statement_and us vs s ss y m n d ds is) a =
-    let w = subst EachIsWord is a in
-    more_fits s ss y m n (statement_fits d (words_left us vs w)) (between_fits ds (words_right us vs w))
-between_fits (g.like_and us vs x ss y m n d ds b is) a =
-    let w = subst EachIsWord is a in
-    let r = whole_like d in
-    more_fits _ ss y m n (record { low = r.low; form = λ e. never e }) (between_fits ds (words_right us vs w))
+between_fits : {ts : List Tok} {ss : List Statement} {y : OptionalExpression} {h : ℕ} → AreStatements ts ss y h → FitsBetween ss y h
+between_fits g.end = record { statements = λ e. omega arith; tail = λ e. omega arith }
+between_fits (g.tail {x = x} {h = h} d b) = tail_fits x h (expression_fits d)
+between_fits (g.tail_like {x = x} {h = h} d) = tail_fits x h (like_fits d)
+between_fits (g.statement_and us vs s ss y m n d ds is) = more_fits s ss y m n (statement_fits d) (between_fits ds)
+between_fits (g.like_and us vs x ss y m n d ds b is) = more_fits _ ss y m n (λ e. never e) (between_fits ds)
 
-record FitsBody (b : Body) (h : ℕ) : Type 0 where
-  low : body_levels b ≤ h
-  form : list_all is_first_statement (statements b) ≡ true → is_first_tail (tail b) ≡ true → IsBodyForm b
-
-block_fits : {ts : List Tok} {b : Body} {h : ℕ} → IsBlock ts b h → EachIsWord ts → FitsBody b h
-block_fits (g.braces o c us ss y h so sc d is) a =
-    let r = between_fits d (inside o c us (subst EachIsWord is a)) in
-    let low = r.low in
-    record {
-      low = omega arith;
-      form = λ e f. (r.statements (subst (λ l. list_all is_first_statement l ≡ true) (listed-statements_of ss) e), r.tail f);
-    }
+block_fits : {ts : List Tok} {b : Body} {h : ℕ} → IsBlock ts b h → list_all is_first_statement (statements b) ≡ true → is_first_tail (tail b) ≡ true → block_levels b ≤ h
+block_fits (g.braces o c us ss y h so sc d is) e f =
+    let r = between_fits d in
+    let l = r.statements (subst (λ l. list_all is_first_statement l ≡ true) (listed-statements_of ss) e) in
+    let k = r.tail f in
+    omega arith
 
 -- ---- functions and programs
 
-record FitsParameters (xs : List Parameter) (h : ℕ) : Type 0 where
-  low : parameters_levels xs ≤ h
-  forms : list_all is_first_parameter xs ≡ true → AreParameterForms xs
+i64_levels : (t : TypeTree) → is_i64_type t ≡ true → type_levels t ≡ 1
+i64_levels (plain.kind_type s k) e = refl
+i64_levels _ e = never e
 
-more_parameters : {ts : List Tok} (x : Parameter) (xs : List Parameter) (m n : ℕ) → IsParameter ts x m → EachIsWord ts → FitsParameters xs n → FitsParameters (x ∷ xs) (max m n)
-more_parameters x xs p q (item.parameter ms us n c m y h sm sn sc d is) a r =
-    let rl = r.low in
-    let yl = type_positive d in
-    let w = words_right ms (n ∷ c ∷ us) (subst EachIsWord is a) in
-    record {
-      low = omega arith;
-      forms = λ e.
-          let u = and_parts (not m && is_i64_type y) (list_all is_first_parameter xs) e in
-          let v = and_parts (not m) (is_i64_type y) u.0 in
-          (name_word n w.0 sn, unmarked m v.0, type_i64 y v.1, r.forms u.1);
-    }
+parameter_fits : {ts : List Tok} {x : Parameter} {h : ℕ} → IsParameter ts x h → is_first_parameter x ≡ true → parameter_levels x ≤ h
+parameter_fits (item.parameter ms us n c m y h sm sn sc d is) e =
+    let l = i64_levels y (and_parts (not m) (is_i64_type y) e).1 in
+    let positive = type_positive d in
+    omega arith
 
-no_parameters : FitsParameters [] 0
-no_parameters = record { low = omega arith; forms = λ e. tt }
+parameters_fit : {ts : List Tok} {xs : List Parameter} {h : ℕ} → IsListOf IsParameter ts xs h → list_all is_first_parameter xs ≡ true → deepest (map parameter_levels xs) ≤ h
+parameters_fit no_element e = omega arith
+parameters_fit (last_element {x = x} {h = h} d) e = let l = parameter_fits d (and_parts (is_first_parameter x) true e).0 in omega arith
+parameters_fit (element us vs c x xs m n d s ds is) e =
+    let u = and_parts (is_first_parameter x) (list_all is_first_parameter xs) e in
+    let l = parameter_fits d u.0 in
+    let k = parameters_fit ds u.1 in
+    omega arith
 
-parameters_fit : {ts : List Tok} {xs : List Parameter} {h : ℕ} → IsListOf IsParameter ts xs h → EachIsWord ts → FitsParameters xs h
-parameters_fit no_element a = no_parameters
-parameters_fit (last_element {x = x} {h = h} d) a =
-    let r = more_parameters x [] h 0 d a no_parameters in
-    let low = r.low in
-    record { low = omega arith; forms = r.forms }
-parameters_fit (element us vs c x xs m n d s ds is) a =
-    let w = subst EachIsWord is a in
-    more_parameters x xs m n d (words_left us (c ∷ vs) w) (parameters_fit ds (words_right us (c ∷ vs) w).1)
+result_fits : {ts : List Tok} {r : Option TypeTree} {h : ℕ} → IsResult ts r h → is_first_result r ≡ true → written_levels r ≤ h
+result_fits item.no_result e = omega arith
+result_fits (item.result a us y h s d is) e = let l = i64_levels y e in let positive = type_positive d in omega arith
 
-result_low : {ts : List Tok} {r : Option TypeTree} {h : ℕ} → IsResult ts r h → written_type_levels r ≤ h
-result_low item.no_result = omega arith
-result_low (item.result a us y h s d is) = type_positive d
+item_fits : {ts : List Tok} {x : ItemTree} {h : ℕ} → IsItem ts x h → is_first_item x ≡ true → item_levels x ≤ h
+item_fits (item.rt m r z sm sr sz is) e = never e
+item_fits (item.structure t n o c ds ls us xs l fs h st sn so sc dd dl d is) e = never e
+item_fits (item.enumeration t n o c ds ls us xs l v vs h st sn so sc dd dl d is) e = never e
+item_fits (item.function f n o c ls us rs bs l ps r b h i k sf sn so sc dl dp dr db is) e =
+    let u = five (is_empty l) (list_all is_first_parameter ps) (is_first_result r) (list_all is_first_statement (statements b)) (is_first_tail (tail b)) e in
+    let x = parameters_fit dp u.second in
+    let y = result_fits dr u.third in
+    let z = block_fits db u.fourth u.fifth in
+    omega arith
 
-result_form : (r : Option TypeTree) → is_first_result r ≡ true → IsResultForm r
-result_form None e = tt
-result_form (Some y) e = type_i64 y e
-
-record FitsItem (x : ItemTree) (h : ℕ) : Type 0 where
-  low : item_levels x ≤ h
-  form : is_first_item x ≡ true → IsItemForm x
-
-item_fits : {ts : List Tok} {x : ItemTree} {h : ℕ} → IsItem ts x h → EachIsWord ts → FitsItem x h
-item_fits (item.rt m r z sm sr sz is) a = record { low = omega arith; form = λ e. never e }
-item_fits (item.structure t n o c ds ls us xs l fs h st sn so sc dd dl d is) a = record { low = omega arith; form = λ e. never e }
-item_fits (item.enumeration t n o c ds ls us xs l v vs h st sn so sc dd dl d is) a = record { low = omega arith; form = λ e. never e }
-item_fits (item.function f n o c ls us rs bs l ps r b h i k sf sn so sc dl dp dr db is) a =
-    let w = subst EachIsWord is a in
-    let behind = (words_right ls (o ∷ (us ++ (c ∷ (rs ++ bs)))) w.1.1).1 in
-    let rest = (words_right us (c ∷ (rs ++ bs)) behind).1 in
-    let x = parameters_fit dp (words_left us (c ∷ (rs ++ bs)) behind) in
-    let z = block_fits db (words_right rs bs rest) in
-    let xl = x.low in
-    let yl = result_low dr in
-    let zl = z.low in
-    record {
-      low = omega arith;
-      form = λ e.
-          let u = five (is_empty l) (list_all is_first_parameter ps) (is_first_result r) (list_all is_first_statement (statements b)) (is_first_tail (tail b)) e in
-          (name_word n w.1.0 sn, none_left l u.first, x.forms u.second, result_form r u.third, z.form u.fourth u.fifth);
-    }
-
-record FitsFile (p : ProgramTree) (h : ℕ) : Type 0 where
-  low : levels_of p ≤ h
-  forms : is_first_program p ≡ true → AreItemForms p
-
-file_fits : {ts : List Tok} {p : ProgramTree} {h : ℕ} → IsFile ts p h → EachIsWord ts → FitsFile p h
-file_fits item.no_item a = record { low = omega arith; forms = λ e. tt }
-file_fits (item.item_and us vs i is' m n d ds is) a =
-    let w = subst EachIsWord is a in
-    let x = item_fits d (words_left us vs w) in
-    let r = file_fits ds (words_right us vs w) in
-    let xl = x.low in
-    let rl = r.low in
-    record {
-      low = omega arith;
-      forms = λ e. let u = and_parts (is_first_item i) (list_all is_first_item is') e in (x.form u.0, r.forms u.1);
-    }
+file_fits : {ts : List Tok} {p : ProgramTree} {h : ℕ} → IsFile ts p h → is_first_program p ≡ true → levels_of p ≤ h
+file_fits item.no_item e = omega arith
+file_fits (item.item_and us vs i is' m n d ds is) e =
+    let u = and_parts (is_first_item i) (list_all is_first_item is') e in
+    let x = item_fits d u.0 in
+    let r = file_fits ds u.1 in
+    omega arith
 
 pub parses_printable : (bytes : List ℕ) (p : ProgramTree) → Parses bytes p → is_first_program p ≡ true → Printable p
 parses_printable bytes p h e =
-    let r = file_fits h.derived (tokens_are_words 0 bytes h.tokens h.lexed.tokens) in
-    let low = r.low in
+    let low = file_fits h.derived e in
     let within = h.low in
-    record { forms = r.forms e; low = omega arith }
+    record { first = e; formed = text_formed bytes h.tokens p h.height h.lexed h.derived; low = omega arith }
 
 pub reads_back : (bytes : List ℕ) (p : ProgramTree) → Parses bytes p → is_first_program p ≡ true → (q : ProgramTree) × Parses (print_program p) q × SameProgram q p
 reads_back bytes p h e = print_parses p (parses_printable bytes p h e)

@@ -27,8 +27,3 @@ pub fn reads_back()
 pub fn printable_same()
     ensures { (p q : ProgramTree) → SameProgram p q → Printable p → Printable q }
 {}
-
-/// A printable tree is of the first grammar.
-pub fn printable_is_first()
-    ensures { (p : ProgramTree) → Printable p → first_program p ≡ true }
-{}

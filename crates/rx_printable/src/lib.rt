@@ -3,4 +3,4 @@
 
 mod laws;
 
-pub use laws::{parses_printable, print_parses, printable_is_first, printable_same, reads_back};
+pub use laws::{parses_printable, print_parses, printable_same, reads_back};
