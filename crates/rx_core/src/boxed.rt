@@ -2,11 +2,12 @@
 
 ghost use Rattle.std.specs.Prelude.{◌≡◌, IfOk};
 
+use crate::held::LetGo;
 use std::alloc::{AllocError, Global};
 use std::marker::Model;
 
 /// A `Box` that contracts see as its value. A tree may hold itself through it.
-#[derive(Debug, Drop)]
+#[derive(Drop)]
 pub struct Boxed<T> {
     inner: Box<T>,
 }
@@ -34,12 +35,17 @@ impl<T> Boxed<T> {
     }
 }
 
-impl<T: Drop> Boxed<T> {
+impl<T: LetGo> Boxed<T> {
+    /// A value on the heap. Where memory runs out it is let go.
     pub fn new(alloc: Global, value: T) -> Result<Boxed<T>, AllocError>
         ensures { IfOk result (λ b. b ≡ value) }
     {
-        Ok(Boxed {
-            inner: Box::new(alloc, value)?,
-        })
+        match Box::new(alloc, value) {
+            Ok(inner) => Ok(Boxed { inner }),
+            Err(failed) => {
+                failed.value.let_go();
+                Err(AllocError)
+            }
+        }
     }
 }

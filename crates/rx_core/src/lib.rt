@@ -2,19 +2,20 @@
 #![tactic(auto)]
 
 mod boxed;
+mod held;
 mod list;
 mod never;
 mod read;
 mod sink;
 mod source;
 mod std_streams;
-#[cfg(test)]
-mod tests;
 mod text;
 mod types;
+mod words;
 mod write;
 
 pub use boxed::Boxed;
+pub use held::{LetGo, keep, pushed};
 pub use list::List;
 pub use never::{NeverSink, NeverSource};
 pub use read::{ReadFail, read_all};
@@ -23,4 +24,5 @@ pub use source::{Failed, Source};
 pub use std_streams::{StdSink, StdSource};
 pub use text::{Name, Text};
 pub use types::{Bound, Edit, Edits, Kind, Place, Position, Span, Step, Ty, Which};
+pub use words::{is_among, is_among_names, is_among_texts, is_same, is_same_name, is_same_text};
 pub use write::{WriteFail, write_all_of};

@@ -3,11 +3,12 @@
 ghost use Rattle.std.specs.Prelude.{◌≡◌, [], ◌∷◌, ◌++◌, ◌<◌, ◌≤◌, length, take, drop, slice_get, ◌↔◌, IsTrue, IfOk, MatchOption, OnOk, OnErr, OnSome};
 ghost use Rattle.std.specs.Option.{option_copied};
 
+use crate::held::LetGo;
 use std::alloc::{AllocError, Global};
 use std::marker::Model;
 
 /// A `Vec` that contracts see as the list of its items. A tree may hold itself through it.
-#[derive(Debug, Drop)]
+#[derive(Drop)]
 pub struct List<T> {
     items: Vec<T>,
 }
@@ -91,13 +92,18 @@ impl<T: Copy> List<T> {
     }
 }
 
-impl<T: Drop> List<T> {
-    /// Adds an item at the end. An `Err` changes nothing.
+impl<T: LetGo> List<T> {
+    /// Adds an item at the end. An `Err` changes nothing, and the item is let go.
     pub fn push(&mut self, item: T) -> Result<(), AllocError>
         ensures ok { OnOk result (self.new ≡ self.old ++ item ∷ []) }
         ensures err { OnErr result (self.new ≡ self.old) }
     {
-        self.items.push(item)?;
-        Ok(())
+        match self.items.push(item) {
+            Ok(()) => Ok(()),
+            Err(failed) => {
+                failed.value.let_go();
+                Err(AllocError)
+            }
+        }
     }
 }

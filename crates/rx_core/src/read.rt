@@ -1,6 +1,6 @@
 //! Reads all that a source has.
 
-ghost use Rattle.std.specs.Prelude.{◌≡◌, ◌+◌, ◌≤◌, ℕ, List as ListOf, Some, [], length, IfOk, OnErr, IsErrOf, ◌++◌};
+ghost use Rattle.std.specs.Prelude.{◌≡◌, ◌+◌, ◌<◌, ◌≤◌, ◌↔◌, ℕ, List as ListOf, Some, [], length, IfOk, OnErr, IsErrOf, ◌++◌};
 ghost use Rattle.rx_core.specs.Streams.{Rose, Told, Gone};
 
 use crate::list::List;
@@ -22,19 +22,23 @@ pub enum ReadFail {
 /// The bytes that one call takes at most.
 const PIECE: usize = 4096;
 
-/// Takes one piece of at most `room` bytes, and adds it to `bytes`. Gives how many came.
+/// Takes one piece of at most `room` bytes, and adds it to `bytes`, of which there are at most `limit` then. Gives how
+/// many came.
 fn read_piece<S: Source>(
     source: &mut S,
     room: usize,
+    limit: usize,
     bytes: &mut Vec<u8>,
 ) -> Result<usize, ReadFail>
-    requires { 1 ≤ room }
-    ensures gives { IfOk result (λ n. (piece : ListOf ℕ) × (length piece ≡ n) × (n ≤ room)
+    requires some { 1 ≤ room }
+    requires room { length bytes.old.items + room ≡ limit + 1 }
+    requires small { limit ≤ 16777216 }
+    ensures gives { IfOk result (λ n. (piece : ListOf ℕ) × (length piece ≡ n) × (length bytes.new.items ≤ limit)
         × (bytes.new.items ≡ bytes.old.items ++ piece) × Gone (S.remaining source.old) (S.remaining source.new) piece) }
     ensures end { IfOk result (λ n. Told (S.remaining source.old) (λ left. n ≡ 0 → left ≡ [])) }
-    ensures lost { OnErr result ((piece : ListOf ℕ) × (length piece ≤ room) × Gone (S.remaining source.old) (S.remaining source.new) piece) }
+    ensures lost { OnErr result ((piece : ListOf ℕ) × (length piece ≤ room) × (IsErrOf result ReadFail.TooLong ↔ (length piece ≡ room))
+        × Gone (S.remaining source.old) (S.remaining source.new) piece) }
     ensures fault { IsErrOf result ReadFail.ReadFault → Rose (S.faults source.old) (S.faults source.new) }
-    ensures fit { ¬ IsErrOf result ReadFail.TooLong }
     ensures faults { S.faults source.old ≤ S.faults source.new }
 {
     let mut buf = [0u8; PIECE];
@@ -43,6 +47,9 @@ fn read_piece<S: Source>(
         Ok(n) => n,
         Err(Failed) => return Err(ReadFail::ReadFault),
     };
+    if n == room {
+        return Err(ReadFail::TooLong);
+    }
     match bytes.extend_from_slice(&buf[..n]) {
         Ok(()) => Ok(n),
         Err(AllocError) => Err(ReadFail::OutOfMemory),
@@ -50,7 +57,7 @@ fn read_piece<S: Source>(
 }
 
 /// Reads a source to its end, which is where a piece with room gets no byte. It reads at most one byte more than
-/// `limit`, and fails with `TooLong` where it got that byte.
+/// `limit`, and fails with `TooLong` exactly where it got that byte.
 pub fn read_all<S: Source>(
     alloc: Global,
     source: &mut S,
@@ -59,20 +66,16 @@ pub fn read_all<S: Source>(
     requires { limit ≤ 16777216 }
     ensures all { IfOk result (λ bytes. Told (S.remaining source.old) (λ left. (bytes ≡ left) × (S.remaining source.new ≡ Some []))) }
     ensures within { IfOk result (λ bytes. length bytes ≤ limit) }
-    ensures too_long { IsErrOf result ReadFail.TooLong → (bytes : ListOf ℕ) × (length bytes ≡ limit + 1)
-        × Gone (S.remaining source.old) (S.remaining source.new) bytes }
     ensures fault { IsErrOf result ReadFail.ReadFault → Rose (S.faults source.old) (S.faults source.new) }
-    ensures gone { (bytes : ListOf ℕ) × (length bytes ≤ limit + 1) × Gone (S.remaining source.old) (S.remaining source.new) bytes }
+    ensures gone { (bytes : ListOf ℕ) × (length bytes ≤ limit + 1) × (IsErrOf result ReadFail.TooLong ↔ (limit < length bytes))
+        × Gone (S.remaining source.old) (S.remaining source.new) bytes }
     ensures faults { S.faults source.old ≤ S.faults source.new }
 {
     let mut bytes = Vec::new(alloc);
     for _turn in 0..limit + 1 {
         let room = limit + 1 - bytes.len();
-        if read_piece(source, room, &mut bytes)? == 0 {
+        if read_piece(source, room, limit, &mut bytes)? == 0 {
             return Ok(List::from_vec(bytes));
-        }
-        if bytes.len() > limit {
-            return Err(ReadFail::TooLong);
         }
     }
     unreachable!()

@@ -12,7 +12,7 @@ pub struct Span {
 }
 
 /// A node of a program: an item, and the way from it by numbers of children, from 0.
-#[derive(Debug, Drop)]
+#[derive(Drop)]
 pub struct Position {
     pub item: u32,
     pub path: List<u32>,
@@ -29,7 +29,7 @@ pub enum Kind {
 }
 
 /// A type. The unit is the empty tuple. A `u32` is a lifetime's number, or in `Adt` an item's.
-#[derive(Debug, Drop)]
+#[derive(Drop)]
 pub enum Ty {
     Int(Kind),
     Bool,
@@ -48,7 +48,7 @@ pub enum Step {
 }
 
 /// A variable or temporary, and the steps from it.
-#[derive(Debug, Drop)]
+#[derive(Drop)]
 pub struct Place {
     pub var: u32,
     pub steps: List<Step>,
@@ -62,13 +62,13 @@ pub struct Bound {
 }
 
 /// A text that stands in place of a span.
-#[derive(Debug, Drop)]
+#[derive(Drop)]
 pub struct Edit {
     pub span: Span,
     pub text: Text,
 }
 
-#[derive(Debug, Drop)]
+#[derive(Drop)]
 pub struct Edits {
     pub list: List<Edit>,
 }

@@ -12,15 +12,15 @@ use Rattle.rx_tree.specs.PlainOf.{statements_of}
 use Rattle.rx_tree.specs.Lists.{statements, tail, Every}
 use Rattle.rx_tree.specs.Erase.{nowhere}
 use Rattle.rx_tree.proofs.ListsLemmas.{listed-statements_of}
-use Rattle.rx_check.specs.Names.{uses, uses_given, names, free}
-use Rattle.rx_hoist.specs.Plan.{params, declared_in, outs}
+use Rattle.rx_first_check.specs.Names.{uses, uses_given, names, free}
+use Rattle.rx_first_hoist.specs.Plan.{params, declared_in, outs}
 use Rattle.rx_engine.specs.Promise.{HasIntegers}
 use Rattle.rx_engine.specs.Avoids.{AvoidsStatement, AvoidsParameter, AvoidsFunction, AvoidsItem, Avoids}
-use Rattle.rx_check.specs.Accepted as accepted
-use Rattle.rx_check.specs.Accepted.{ValueType, integer, unit, Scope, type_in, Signature, signature, signatures, signature_of, functions, given_by, HasType, AreIntegers, AreTyped, Gives, IsI64, IsParameter, parameter_names, AreDistinct, scope_from, IsTyped, HasMain, Accepted}
+use Rattle.rx_first_check.specs.Accepted as accepted
+use Rattle.rx_first_check.specs.Accepted.{ValueType, integer, unit, Scope, type_in, Signature, signature, signatures, signature_of, functions, given_by, HasType, AreIntegers, AreTyped, Gives, IsI64, IsParameter, parameter_names, AreDistinct, scope_from, IsTyped, HasMain, Accepted}
 use Rattle.rx_select.specs.Run.{Run}
-use Rattle.rx_hoist.specs.Extracted.{arguments, call_of, call_statement, by_value, result_of, tail_of, new_function, with_call, handed_out, Parts, extraction}
-use Rattle.rx_hoist.proofs.Membership.{false_true, unequal, unequal-sym, or_true, or_false, or_left, one_of-distinct, are_distinct}
+use Rattle.rx_first_hoist.specs.Extracted.{arguments, call_of, call_statement, by_value, result_of, tail_of, new_function, with_call, handed_out, Parts, extraction}
+use Rattle.rx_first_hoist.proofs.Membership.{false_true, unequal, unequal-sym, or_true, or_false, or_left, one_of-distinct, are_distinct}
 use Rattle.rx_engine.proofs.Scopes.{Serves, Grown, typed_serves, statements_serve, gives_serve, typed_split, typed_joined, typed_keeps, typed_lacks}
 use Rattle.rx_engine.proofs.Handed.{outs_has, outs_only, free_with}
 
@@ -47,7 +47,7 @@ every-map P Q (x ∷ l) f h = (f x h.0, every-map P Q l f h.1)
 pub functions-append : (a b : ProgramTree) → functions (a ++ b) ≡ functions a ++ functions b
 functions-append [] b = refl
 functions-append (plain.function_item s f ∷ a) b = ap (λ l. f ∷ l) (functions-append a b)
-functions-append (plain.rt_item s ∷ a) b = functions-append a b
+functions-append (plain.rt_item s rt ∷ a) b = functions-append a b
 functions-append (plain.struct_item s x ∷ a) b = functions-append a b
 functions-append (plain.enum_item s x ∷ a) b = functions-append a b
 
@@ -341,7 +341,7 @@ names_avoid : (name : List ℕ) (p : ProgramTree) → Avoids name p → is_one_o
 names_avoid name [] h = refl
 names_avoid name (plain.function_item s f ∷ p) h =
     ap (λ b. b || is_one_of name (map (λ (g : Signature). g.name) (signatures p))) (unequal name f.name.name (λ same. h.0.own (sym same))) ∙ names_avoid name p h.1
-names_avoid name (plain.rt_item s ∷ p) h = names_avoid name p h.1
+names_avoid name (plain.rt_item s rt ∷ p) h = names_avoid name p h.1
 names_avoid name (plain.struct_item s x ∷ p) h = names_avoid name p h.1
 names_avoid name (plain.enum_item s x ∷ p) h = names_avoid name p h.1
 

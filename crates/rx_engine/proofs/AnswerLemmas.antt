@@ -9,18 +9,18 @@ use Rattle.rx_lex.specs.Words.{is_identifier}
 use Rattle.rx_lex.proofs.TokenLaws.{lexes_one}
 use Rattle.rx_grammar.specs.grammar.Items.{Parses}
 use Rattle.rx_spelling.specs.Items.{print_program}
-use Rattle.rx_printable.proofs.PrintParses.{print_parses}
+use Rattle.rx_engine.proofs.PrintParses.{print_parses}
 use Rattle.rx_spelling.proofs.SameText.{print_same}
-use Rattle.rx_printable.proofs.SamePrintable.{printable_same}
-use Rattle.rx_printable.proofs.Measured.{parses_printable}
-use Rattle.rx_check.specs.Names.{free}
-use Rattle.rx_check.specs.Accepted.{unit, integer}
+use Rattle.rx_engine.proofs.SamePrintable.{printable_same}
+use Rattle.rx_engine.proofs.Measured.{parses_printable}
+use Rattle.rx_first_check.specs.Names.{free}
+use Rattle.rx_first_check.specs.Accepted.{unit, integer}
 use Rattle.rx_select.specs.Run.{Run, RunOf}
 use Rattle.rx_select.proofs.RunLemmas.{one_run}
 use Rattle.rx_select.proofs.Places.{parses_placed}
-use Rattle.rx_hoist.specs.Plan.{outs}
-use Rattle.rx_hoist.specs.Extracted.{handed_out}
-use Rattle.rx_hoist.proofs.Membership.{false_true}
+use Rattle.rx_first_hoist.specs.Plan.{outs}
+use Rattle.rx_first_hoist.specs.Extracted.{handed_out}
+use Rattle.rx_first_hoist.proofs.Membership.{false_true}
 use Rattle.rx_engine.specs.Conditions.{most_bytes, is_taken}
 use Rattle.rx_engine.specs.Promise.{Accepts, Selects, Names, Moves, IsExtraction, Keeps}
 use Rattle.rx_engine.specs.Verdict.{IsNotBuilt, with_tail, hands_out_more, unit_given, unit_made, HasTooManyParams, IsTooLong}
@@ -124,7 +124,7 @@ at_most_one : (o : Option (List ℕ)) → length (handed_out o) ≤ 1
 at_most_one None = omega arith
 at_most_one (Some x) = omega arith
 
-not_built : (p : ProgramTree) (r : Run) (name : List ℕ) (q : ProgramTree) → IsNotBuilt p r → Moves p r name q → ⊥
+pub not_built : (p : ProgramTree) (r : Run) (name : List ℕ) (q : ProgramTree) → IsNotBuilt p r → Moves p r name q → ⊥
 not_built p r name q (with_tail l) m = let k = parts_within m.extracted.parts in omega arith
 not_built p r name q (hands_out_more c n) m =
     let e : outs c.run (free c.rest c.tail) ≡ handed_out m.extracted.out = outs_same c m.extracted.parts ∙ m.extracted.outs in

@@ -8,15 +8,15 @@ use Rattle.rx_tree.specs.Plain as plain
 use Rattle.rx_tree.specs.Plain.{OptionalExpression, Statement, Function, ProgramTree}
 use Rattle.rx_tree.specs.Lists.{statements, Every}
 use Rattle.rx_tree.proofs.ListsLemmas.{listed-statements_of}
-use Rattle.rx_check.specs.Names.{declares, free}
-use Rattle.rx_check.specs.Accepted as accepted
-use Rattle.rx_check.specs.Accepted.{ValueType, integer, unit, Scope, type_in, Signature, signatures, functions, AreTyped, scope_from, IsTyped, Accepted}
-use Rattle.rx_check.specs.Types.{scope_after}
-use Rattle.rx_check.proofs.Exact.{typed_scope}
+use Rattle.rx_first_check.specs.Names.{declares, free}
+use Rattle.rx_first_check.specs.Accepted as accepted
+use Rattle.rx_first_check.specs.Accepted.{ValueType, integer, unit, Scope, type_in, Signature, signatures, functions, AreTyped, scope_from, IsTyped, Accepted}
+use Rattle.rx_first_check.specs.Types.{scope_after}
+use Rattle.rx_first_check.proofs.Exact.{typed_scope}
 use Rattle.rx_select.specs.Run.{Run}
-use Rattle.rx_hoist.specs.Plan.{params, is_declared, declared_in, outs}
-use Rattle.rx_hoist.specs.Extracted.{Parts}
-use Rattle.rx_hoist.proofs.Membership.{false_true, or_false, or_left, or_right, distinct_one_of}
+use Rattle.rx_first_hoist.specs.Plan.{params, is_declared, declared_in, outs}
+use Rattle.rx_first_hoist.specs.Extracted.{Parts}
+use Rattle.rx_first_hoist.proofs.Membership.{false_true, or_false, or_left, or_right, distinct_one_of}
 use Rattle.rx_engine.specs.Promise.{HasIntegers}
 use Rattle.rx_engine.specs.Built.{is_unit, any_unit}
 use Rattle.rx_engine.proofs.Handed.{outs_only}

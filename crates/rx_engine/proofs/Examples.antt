@@ -7,11 +7,11 @@ use Rattle.rx_tree.specs.declared.tree.BinaryOp.TheVariants.{Add, Sub, Div}
 use Rattle.rx_tree.specs.Erase.{nowhere}
 use Rattle.rx_tree.specs.Plain.{Expression, OptionalExpression, Statement, Function, ProgramTree}
 use Rattle.rx_tree.specs.Plain as plain
-use Rattle.rx_meaning.specs.Meaning.{run, running, trapped, divide_by_zero, expression, below_level}
+use Rattle.rx_first_meaning.specs.Meaning.{run, running, trapped, divide_by_zero, expression, below_level}
 use Rattle.rx_tree.specs.PlainOf.{statements_of}
-use Rattle.rx_check.specs.Names.{free}
-use Rattle.rx_hoist.specs.Plan.{params, outs}
-use Rattle.rx_hoist.specs.Extracted.{written, arguments, i64_type, by_value, Parts, extraction}
+use Rattle.rx_first_check.specs.Names.{free}
+use Rattle.rx_first_hoist.specs.Plan.{params, outs}
+use Rattle.rx_first_hoist.specs.Extracted.{written, arguments, i64_type, by_value, Parts, extraction}
 
 abbrev literal : ℕ → Expression
 literal n = plain.int nowhere n (Some I64)

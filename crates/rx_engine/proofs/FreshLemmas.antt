@@ -35,15 +35,18 @@ pattern_avoids name (pattern.variant_with e p v o c us y ys h se sp sv so sc d i
 pattern_avoids name (pattern.structure n o c us fs h sn so sc d is) a = tt
 
 if_avoids : {ts : List Tok} {x : Expression} {h : ℕ} (name : List ℕ) → IsIf ts x h → AvoidsExpression name x
-if_avoids name (g.if_alone t us vs x b m n st c d is) = tt
-if_avoids name (g.if_else t e us vs ws x y b m n k st se c d w is) = tt
+if_avoids name (g.if_alone t us vs (g.condition x) b m n st c d is) = tt
+if_avoids name (g.if_alone t us vs (g.fitting p x) b m n st c d is) = tt
+if_avoids name (g.if_else t e us vs ws (g.condition x) y b m n k st se c d w is) = tt
+if_avoids name (g.if_else t e us vs ws (g.fitting p x) y b m n k st se c d w is) = tt
 
 like_avoids : {ts : List Tok} {x : Expression} {h : ℕ} (name : List ℕ) → IsLike ts x h → AvoidsExpression name x
 like_avoids name (g.block b h d) = tt
 like_avoids name (g.conditional d) = if_avoids name d
 like_avoids name (g.match t o c us vs x b more m n st so sc d ds is) = tt
 like_avoids name (g.loop ls us t l b h sl st d is) = tt
-like_avoids name (g.while ls us vs t l x b m n sl st c d is) = tt
+like_avoids name (g.while ls us vs t l (g.condition x) b m n sl st c d is) = tt
+like_avoids name (g.while ls us vs t l (g.fitting p x) b m n sl st c d is) = tt
 
 mutual
   expression_avoids : {ts : List Tok} {x : Expression} {h : ℕ} (name : List ℕ) → IsExpression ts x h → Others name ts → AvoidsExpression name x

@@ -1,20 +1,13 @@
 -- Which names are handed out, and which are free with a tail: by recursion on the statements.
 use Rattle.std.proofs.Common.{◌≡◌, ℕ, Bool, true, false, not, ◌&&◌, ◌||◌, List, [], ◌∷◌, ◌++◌, Option, Some, None, ◌⊎◌, inl, inr, refl, sym, ap, ◌∙◌, subst, cond}
+use Rattle.std.proofs.lemmas.Bool.{and_from, and_parts}
 use Rattle.rx_core.specs.Bytes.{same_bytes, is_one_of}
 use Rattle.rx_core.proofs.BytesLemmas.{same_bytes-true}
 use Rattle.rx_tree.specs.Plain as plain
 use Rattle.rx_tree.specs.Plain.{OptionalExpression, Statement}
-use Rattle.rx_check.specs.Names.{uses_given, uses_in, declares, names, remove, without, free}
-use Rattle.rx_hoist.specs.Plan.{is_declared, declared_in, handed, outs}
-use Rattle.rx_hoist.proofs.Membership.{false_true, or_true, or_left, or_right, one_of-left, one_of-right, one_of-either, one_of-remove, one_of-removed}
-
-both : (a b : Bool) → a ≡ true → b ≡ true → (a && b) ≡ true
-both true b e f = f
-both false b e f = absurd (cc)
-
-both_true : (a b : Bool) → (a && b) ≡ true → (a ≡ true) × (b ≡ true)
-both_true true b e = (refl, e)
-both_true false b e = absurd (cc)
+use Rattle.rx_first_check.specs.Names.{uses_given, uses_in, declares, names, remove, without, free}
+use Rattle.rx_first_hoist.specs.Plan.{is_declared, declared_in, handed, outs}
+use Rattle.rx_first_hoist.proofs.Membership.{false_true, or_true, or_left, or_right, one_of-left, one_of-right, one_of-either, one_of-remove, one_of-removed}
 
 -- a declaration that no later one covers is handed out where its name is needed
 handed_has : (y : List ℕ) (d : Option (List ℕ)) (ss : List Statement) (needed : List (List ℕ)) → is_declared y d ≡ true → is_one_of y needed ≡ true
@@ -23,7 +16,7 @@ handed_has y None ss needed e f g = absurd (cc)
 handed_has y (Some x) ss needed e f g =
     let h = same_bytes-true y x e in
     let k : (is_one_of x needed && not (declared_in x ss)) ≡ true =
-    both (is_one_of x needed) (not (declared_in x ss)) (subst (λ (w : List ℕ). is_one_of w needed ≡ true) h f)
+    and_from (is_one_of x needed) (not (declared_in x ss)) (subst (λ (w : List ℕ). is_one_of w needed ≡ true) h f)
     (ap not (subst (λ (w : List ℕ). declared_in w ss ≡ false) h g)) in
     ap (λ b. is_one_of y (cond b (x ∷ []) [])) k ∙ or_left (same_bytes y x) false e
 
@@ -38,7 +31,7 @@ handed_only y (Some x) ss needed e = by_test (is_one_of x needed && not (declare
 
     by_test : (b : Bool) → (is_one_of x needed && not (declared_in x ss)) ≡ b → is_one_of y (cond b (x ∷ []) []) ≡ true
         → (same_bytes y x ≡ true) × (is_one_of y needed ≡ true)
-    by_test true k h = member (both_true (is_one_of x needed) (not (declared_in x ss)) k).0 (or_true (same_bytes y x) false h)
+    by_test true k h = member (and_parts (is_one_of x needed) (not (declared_in x ss)) k).0 (or_true (same_bytes y x) false h)
     by_test false k h = absurd (cc)
 
 pub outs_has : (y : List ℕ) (ss : List Statement) (needed : List (List ℕ)) → declared_in y ss ≡ true → is_one_of y needed ≡ true

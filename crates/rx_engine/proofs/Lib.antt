@@ -5,6 +5,9 @@ pub mod AcceptedLemmas
 pub mod OtherNames
 pub mod FreshLemmas
 pub mod BuiltLemmas
+pub mod PrintParses
+pub mod SamePrintable
+pub mod Measured
 pub mod PrintableLemmas
 pub mod OneExtraction
 pub mod SameAccepted
@@ -12,5 +15,6 @@ pub mod AnswerLemmas
 pub mod TextLemmas
 pub mod RefusalLemmas
 pub mod CheckLemmas
+pub mod OneFault
 pub mod PlanLemmas
 pub mod Examples

@@ -8,14 +8,14 @@ use Rattle.rx_tree.specs.PlainOf.{statements_of}
 use Rattle.rx_tree.specs.Lists.{statements, tail}
 use Rattle.rx_tree.specs.Erase.{nowhere, erase_program, SameProgram}
 use Rattle.rx_tree.proofs.ListsLemmas.{listed-statements_of}
-use Rattle.rx_check.specs.Names.{free}
-use Rattle.rx_check.specs.Accepted.{signatures, AreTyped, scope_from}
-use Rattle.rx_hoist.specs.Plan.{params, outs}
+use Rattle.rx_first_check.specs.Names.{free}
+use Rattle.rx_first_check.specs.Accepted.{signatures, AreTyped, scope_from}
+use Rattle.rx_first_hoist.specs.Plan.{params, outs}
 use Rattle.rx_select.specs.Run.{Run}
-use Rattle.rx_hoist.specs.Chosen.{statements_at}
-use Rattle.rx_hoist.proofs.HoistForms.{statements_here}
+use Rattle.rx_first_hoist.specs.Chosen.{statements_at}
+use Rattle.rx_first_hoist.proofs.HoistForms.{statements_here}
 use Rattle.rx_engine.specs.Promise.{HasIntegers}
-use Rattle.rx_hoist.specs.Extracted.{call_statement, new_function, with_call, handed_out, Parts, Extracted, extraction}
+use Rattle.rx_first_hoist.specs.Extracted.{call_statement, new_function, with_call, handed_out, Parts, Extracted, extraction}
 
 -- equal lists have equal parts behind equal lengths
 record SameParts {A : Type 0} (a b c d : List A) : Type 0 where

@@ -10,7 +10,7 @@ use Rattle.rx_lex.specs.declared.token.Class.TheVariants.{Identifier}
 use Rattle.rx_lex.specs.Tok.{Tok}
 use Rattle.rx_engine.specs.Conditions.{reserved, exit_name, begins_as_made, is_identifier_of, is_taken}
 use Rattle.rx_engine.specs.Avoids.{IsOther}
-use Rattle.rx_hoist.proofs.Membership.{false_true, or_false}
+use Rattle.rx_first_hoist.proofs.Membership.{false_true, or_false}
 use Rattle.rx_engine.proofs.AcceptedLemmas.{every-front, every-back}
 
 -- ---- tokens that are no identifier of a name

@@ -11,13 +11,13 @@ use Rattle.rx_tree.specs.Plain as plain
 use Rattle.rx_tree.specs.Plain.{OptionalExpression, Statement, Function, ItemTree, ProgramTree}
 use Rattle.rx_tree.specs.PlainOf.{plain-Item, plain-ItemNode, plain-Func, plain-Stmt}
 use Rattle.rx_tree.specs.Lists.{statements, tail, nth}
-use Rattle.rx_check.specs.Names.{free}
-use Rattle.rx_check.specs.Accepted.{Scope, Signature, signatures, scope_from, Accepted}
-use Rattle.rx_check.specs.Types.{scope_after}
+use Rattle.rx_first_check.specs.Names.{free}
+use Rattle.rx_first_check.specs.Accepted.{Scope, Signature, signatures, scope_from, Accepted}
+use Rattle.rx_first_check.specs.Types.{scope_after}
 use Rattle.rx_select.specs.Run.{Run}
-use Rattle.rx_hoist.specs.Plan.{params, outs}
-use Rattle.rx_hoist.specs.Chosen.{chosen, behind, statements_in, tail_in, statements_at, tail_at, is_function, is_function_at}
-use Rattle.rx_hoist.proofs.HoistForms.{PartsOf, parts_of, take_parts}
+use Rattle.rx_first_hoist.specs.Plan.{params, outs}
+use Rattle.rx_first_hoist.specs.Chosen.{chosen, behind, statements_in, tail_in, statements_at, tail_at, is_function, is_function_at}
+use Rattle.rx_first_hoist.proofs.HoistForms.{PartsOf, parts_of, take_parts}
 use Rattle.rx_engine.specs.Conditions.{most_parameters}
 use Rattle.rx_engine.specs.Promise.{HasIntegers}
 use Rattle.rx_engine.specs.Built.{any_unit, IsBuilt}
@@ -71,7 +71,7 @@ function_item x f e = ap (λ (n : ItemNode). plain-ItemNode n x.span) e
 
 no_function : (n : ItemNode) (s : Span) → ((f : Func) → n ≡ item_node.Func f → ⊥) → is_function (plain-ItemNode n s) ≡ true → ⊥
 no_function (item_node.Func f) s h e = h f refl
-no_function item_node.Rt s h e = absurd (cc)
+no_function (item_node.Rt rt) s h e = absurd (cc)
 no_function (item_node.Struct x) s h e = absurd (cc)
 no_function (item_node.Enum x) s h e = absurd (cc)
 

@@ -1,7 +1,7 @@
 -- The extraction of a printable program is printable: the names that it writes are words of the program, and what it adds needs three levels.
 use Rattle.std.proofs.Common.{◌≡◌, ℕ, ◌≤◌, Bool, true, false, not, ◌&&◌, ◌||◌, List, [], ◌∷◌, ◌++◌, map, Option, Some, None, refl, sym, subst, cond, arith}
 use Rattle.std.specs.List.{list_all}
-use Rattle.std.proofs.lemmas.Bool.{and_parts}
+use Rattle.std.proofs.lemmas.Bool.{and_from, and_parts}
 use Rattle.rx_core.specs.declared.types.Span.{Span}
 use Rattle.rx_core.specs.Bytes.{same_bytes, is_one_of}
 use Rattle.rx_tree.specs.declared.tree.Ident.{Ident}
@@ -14,14 +14,14 @@ use Rattle.rx_lex.specs.Words.{is_identifier}
 use Rattle.rx_grammar.specs.grammar.Items.{levels}
 use Rattle.rx_spelling.specs.Levels.{deepest, written_levels, list_levels, statement_levels, statements_levels, tail_levels, parameter_levels, item_levels}
 use Rattle.rx_spelling.specs.Formed.{Formed, FormedList, FormedOptional, FormedStatement, FormedStatements, FormedParameter, FormedItem, WrittenType, MoreFollows, has_semicolon}
-use Rattle.rx_printable.specs.Printable.{Printable}
-use Rattle.rx_printable.proofs.SamePrintable.{printable_same}
-use Rattle.rx_check.specs.FirstGrammar.{is_empty, is_first_statement, is_first_tail, is_first_parameter, is_first_result, is_first_call, is_first_print, are_variables, is_first_item}
-use Rattle.rx_check.specs.Names.{uses, uses_all, uses_given, uses_in, declares, names, remove, without, distinct, free}
-use Rattle.rx_hoist.specs.Plan.{params, declared_in, handed, outs}
+use Rattle.rx_engine.specs.Printable.{Printable}
+use Rattle.rx_engine.proofs.SamePrintable.{printable_same}
+use Rattle.rx_first_check.specs.FirstGrammar.{is_empty, is_first_statement, is_first_tail, is_first_parameter, is_first_result, is_first_call, is_first_print, are_variables, is_first_item}
+use Rattle.rx_first_check.specs.Names.{uses, uses_all, uses_given, uses_in, declares, names, remove, without, distinct, free}
+use Rattle.rx_first_hoist.specs.Plan.{params, declared_in, handed, outs}
 use Rattle.rx_select.specs.Run.{Run}
-use Rattle.rx_hoist.specs.Extracted.{arguments, call_statement, by_value, result_of, tail_of, new_function, with_call, handed_out, Parts, Extracted, extraction}
-use Rattle.rx_hoist.proofs.Membership.{names-append}
+use Rattle.rx_first_hoist.specs.Extracted.{arguments, call_statement, by_value, result_of, tail_of, new_function, with_call, handed_out, Parts, Extracted, extraction}
+use Rattle.rx_first_hoist.proofs.Membership.{names-append}
 use Rattle.rx_engine.proofs.AcceptedLemmas.{every-append, every-front, every-back}
 
 -- ---- the names of a formed run are words
@@ -95,9 +95,6 @@ outs_words (a ∷ ss) needed h =
 
 -- ---- statements as a list
 
-both : {a b : Bool} → a ≡ true → b ≡ true → (a && b) ≡ true
-both {b = b} e f = subst (λ z. (z && b) ≡ true) (sym e) f
-
 -- a statement that may stand in a printable body, within so many levels
 record Good (n : ℕ) (a : Statement) : Type 0 where
   first : is_first_statement a ≡ true
@@ -135,7 +132,7 @@ good_body n (a ∷ l) y h =
     let r = good_body n l y h.1 in
     let x = h.0.low in
     let z = r.low in
-    record { first = both h.0.first r.first; formed = (h.0.formed, more (has_semicolon a) (statements_of l) y (ends a h.0.first), r.formed); low = omega arith }
+    record { first = and_from _ _ h.0.first r.first; formed = (h.0.formed, more (has_semicolon a) (statements_of l) y (ends a h.0.first), r.formed); low = omega arith }
 
 -- ---- what the extraction writes
 
@@ -216,7 +213,7 @@ fits_all (i ∷ p) h =
     let r = fits_all p h.1 in
     let x = h.0.low in
     let z = r.low in
-    record { first = both h.0.first r.first; formed = (h.0.formed, r.formed); low = omega arith }
+    record { first = and_from _ _ h.0.first r.first; formed = (h.0.formed, r.formed); low = omega arith }
 
 new_fits : (name : List ℕ) (run : List Statement) (out : Option (List ℕ)) → Word name → Every (Good 127) run → Words (handed_out out)
     → Fits (plain.function_item nowhere (new_function name run out))
@@ -227,7 +224,7 @@ new_fits name run out n h o =
     let r = good_body 127 run (tail_of out) h in
     let low = r.low in
     record {
-      first = both (both (parameters_first (params run)) (result_first out)) (both r.first (tail_first out));
+      first = and_from _ _ (and_from _ _ (parameters_first (params run)) (result_first out)) (and_from _ _ r.first (tail_first out));
       formed =
           (n, tt, parameters_formed (params run) (words_distinct (free run plain.absent) (free_words run (formed_each 127 run h))), result_formed out, (r.formed, tail_formed out o));
       low = omega arith;
@@ -243,7 +240,7 @@ with_call_fits s f braces all front call rest tail h k c r =
     let within = g.low in
     let u = and_parts (is_empty f.lifetimes && list_all is_first_parameter f.params && is_first_result f.result) (list_all is_first_statement (listed (statements_of all)) && is_first_tail tail) h.first in
     record {
-      first = both u.0 (both g.first (and_parts (list_all is_first_statement (listed (statements_of all))) (is_first_tail tail) u.1).1);
+      first = and_from _ _ u.0 (and_from _ _ g.first (and_parts (list_all is_first_statement (listed (statements_of all))) (is_first_tail tail) u.1).1);
       formed = (h.formed.0, h.formed.1, h.formed.2, h.formed.3, (g.formed, h.formed.4.1));
       low = omega arith;
     }

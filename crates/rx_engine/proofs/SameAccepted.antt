@@ -9,11 +9,11 @@ use Rattle.rx_tree.specs.Plain.{TypeTree, Expression, Expressions, OptionalExpre
 use Rattle.rx_tree.specs.Lists.{listed, statements, tail, Every}
 use Rattle.rx_tree.specs.Erase.{erase, erase_all, erase_ident, erase_optional, erase_statement, erase_statements, erase_body, erase_type, erase_lifetime, erase_parameter, erase_function, erase_program, SameProgram}
 use Rattle.rx_select.specs.Run.{Run}
-use Rattle.rx_hoist.specs.Extracted.{Extracted, extraction}
+use Rattle.rx_first_hoist.specs.Extracted.{Extracted, extraction}
 use Rattle.rx_engine.specs.Avoids.{Avoids}
 use Rattle.rx_engine.specs.Promise.{HasIntegers}
-use Rattle.rx_check.specs.Accepted as accepted
-use Rattle.rx_check.specs.Accepted.{ValueType, integer, Scope, type_in, Signature, signature, signatures, signature_of, functions, given_by, HasType, AreIntegers, AreTyped, Gives, IsI64, IsParameter, parameter_names, AreDistinct, scope_from, IsTyped, HasMain, Accepted}
+use Rattle.rx_first_check.specs.Accepted as accepted
+use Rattle.rx_first_check.specs.Accepted.{ValueType, integer, Scope, type_in, Signature, signature, signatures, signature_of, functions, given_by, HasType, AreIntegers, AreTyped, Gives, IsI64, IsParameter, parameter_names, AreDistinct, scope_from, IsTyped, HasMain, Accepted}
 use Rattle.rx_engine.proofs.AcceptedLemmas.{extraction_accepted}
 
 -- ---- expressions
@@ -155,7 +155,7 @@ functions_same F (f ∷ fs) (g ∷ gs) e h =
 functions_erased : (p : ProgramTree) → functions (erase_program p) ≡ map erase_function (functions p)
 functions_erased [] = refl
 functions_erased (plain.function_item s f ∷ p) = ap (λ l. erase_function f ∷ l) (functions_erased p)
-functions_erased (plain.rt_item s ∷ p) = functions_erased p
+functions_erased (plain.rt_item s rt ∷ p) = functions_erased p
 functions_erased (plain.struct_item s x ∷ p) = functions_erased p
 functions_erased (plain.enum_item s x ∷ p) = functions_erased p
 

@@ -5,11 +5,11 @@ use Rattle.rx_core.proofs.BytesLemmas.{same_bytes-true, same_bytes-self}
 use Rattle.rx_tree.specs.declared.tree.Ident.{Ident}
 use Rattle.rx_tree.specs.Plain as plain
 use Rattle.rx_tree.specs.Plain.{Expression, Expressions, OptionalExpression, Statement}
-use Rattle.rx_check.specs.Names.{uses, uses_all, uses_given, names, remove, free}
-use Rattle.rx_hoist.specs.Plan.{declared_in}
-use Rattle.rx_check.specs.Accepted as accepted
-use Rattle.rx_check.specs.Accepted.{ValueType, integer, unit, Scope, type_in, Signature, signature_of, HasType, AreIntegers, AreTyped, Gives}
-use Rattle.rx_hoist.proofs.Membership.{or_true, or_false, or_left, one_of-left, one_of-right, one_of-either, one_of-remove, one_of-removed, names-append}
+use Rattle.rx_first_check.specs.Names.{uses, uses_all, uses_given, names, remove, free}
+use Rattle.rx_first_hoist.specs.Plan.{declared_in}
+use Rattle.rx_first_check.specs.Accepted as accepted
+use Rattle.rx_first_check.specs.Accepted.{ValueType, integer, unit, Scope, type_in, Signature, signature_of, HasType, AreIntegers, AreTyped, Gives}
+use Rattle.rx_first_hoist.proofs.Membership.{or_true, or_false, or_left, one_of-left, one_of-right, one_of-either, one_of-remove, one_of-removed, names-append}
 
 -- the second scope serves the names N as the first does, and declares no other name
 pub record Serves (N : List (List ℕ)) (V W : Scope) : Type 0 where

@@ -1,12 +1,12 @@
 -- The runs of a form that is built: statements whose variables are integers, by the scopes in front of the run and behind it.
 use Rattle.std.specs.Prelude.{◌≡◌, ℕ, ◌≤◌, ◌<◌, Bool, true, false, ◌||◌, List, [], ◌∷◌, length, Option, Some, None}
 use Rattle.rx_tree.specs.Plain.{ProgramTree}
-use Rattle.rx_check.specs.Names.{free}
-use Rattle.rx_check.specs.Accepted.{ValueType, integer, unit, Scope, type_in}
+use Rattle.rx_first_check.specs.Names.{free}
+use Rattle.rx_first_check.specs.Accepted.{ValueType, integer, unit, Scope, type_in}
 use Rattle.rx_select.specs.Run.{Run}
-use Rattle.rx_hoist.specs.Plan.{params, outs}
-use Rattle.rx_hoist.specs.Chosen.{chosen, behind, statements_at, tail_at}
-use Rattle.rx_hoist.specs.Extracted.{Parts}
+use Rattle.rx_first_hoist.specs.Plan.{params, outs}
+use Rattle.rx_first_hoist.specs.Chosen.{chosen, behind, statements_at, tail_at}
+use Rattle.rx_first_hoist.specs.Extracted.{Parts}
 use Rattle.rx_engine.specs.Conditions.{most_parameters}
 use Rattle.rx_engine.specs.Promise.{HasIntegers}
 

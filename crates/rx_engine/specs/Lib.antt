@@ -1,5 +1,6 @@
 pub mod Conditions
 pub mod Avoids
+pub mod Printable
 pub mod Promise
 pub mod Built
 pub mod Verdict

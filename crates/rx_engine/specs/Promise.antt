@@ -5,13 +5,13 @@ use Rattle.rx_tree.specs.Plain.{ProgramTree}
 use Rattle.rx_lex.specs.Words.{is_identifier}
 use Rattle.rx_grammar.specs.grammar.Items.{Parses}
 use Rattle.rx_spelling.specs.Items.{print_program}
-use Rattle.rx_meaning.specs.Meaning.{run, UpTo}
-use Rattle.rx_check.specs.FirstGrammar.{is_first_program}
-use Rattle.rx_check.specs.Names.{free}
-use Rattle.rx_check.specs.Accepted.{integer, Scope, type_in, signatures, AreTyped, scope_from, Accepted}
+use Rattle.rx_first_meaning.specs.Meaning.{run, UpTo}
+use Rattle.rx_first_check.specs.FirstGrammar.{is_first_program}
+use Rattle.rx_first_check.specs.Names.{free}
+use Rattle.rx_first_check.specs.Accepted.{integer, Scope, type_in, signatures, AreTyped, scope_from, Accepted}
 use Rattle.rx_select.specs.Run.{Run, RunOf}
-use Rattle.rx_hoist.specs.Plan.{params, outs}
-use Rattle.rx_hoist.specs.Extracted.{Parts, Extracted}
+use Rattle.rx_first_hoist.specs.Plan.{params, outs}
+use Rattle.rx_first_hoist.specs.Extracted.{Parts, Extracted}
 use Rattle.rx_engine.specs.Conditions.{most_parameters, most_bytes, is_taken}
 
 -- the bytes are an accepted text with this tree: it is a program of the first grammar's form that breaks no rule

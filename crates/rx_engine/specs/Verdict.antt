@@ -1,5 +1,5 @@
 -- What `extract` answers: an extraction that keeps its promise, or the first cause why there is none. And what `check` answers.
-use Rattle.std.specs.Prelude.{◌≡◌, ◌≢◌, ℕ, ◌≤◌, ◌<◌, true, false, List, [], ◌++◌, length, Some, Result, Ok, Err}
+use Rattle.std.specs.Prelude.{◌≡◌, ◌≢◌, ℕ, ◌≤◌, ◌<◌, Bool, true, false, ◌&&◌, ◌||◌, ◌⊎◌, List, [], ◌++◌, length, Some, Result, Ok, Err}
 use Rattle.rx_core.specs.declared.types.Which.{Which}
 use Rattle.rx_core.specs.declared.types.Which.TheVariants as which
 use Rattle.rx_core.specs.Bytes.{is_one_of}
@@ -7,19 +7,22 @@ use Rattle.rx_tree.specs.Plain.{ProgramTree}
 use Rattle.rx_lex.specs.Words.{is_identifier}
 use Rattle.rx_lex.specs.Tok.{Tok}
 use Rattle.rx_grammar.specs.grammar.Items.{Parses}
+use Rattle.rx_lex.specs.declared.lexer.LexFault.TheVariants as lex_fault
 use Rattle.rx_parse.specs.Answer.{IsCause}
 use Rattle.rx_parse.specs.declared.fault.SyntaxFault.{SyntaxFault}
 use Rattle.rx_parse.specs.declared.fault.SyntaxFault.TheVariants as syntax_fault
 use Rattle.rx_spelling.specs.Items.{print_program}
-use Rattle.rx_check.specs.Names.{free}
-use Rattle.rx_check.specs.Accepted.{unit, Scope, type_in, signatures, AreTyped, scope_from}
-use Rattle.rx_check.specs.Faults.{Breaks, first, faults}
-use Rattle.rx_check.specs.declared.fault.CheckFault.{CheckFault}
-use Rattle.rx_check.specs.declared.fault.CheckFault.TheVariants as check_fault
+use Rattle.rx_first_check.specs.Names.{free}
+use Rattle.rx_first_check.specs.Accepted.{unit, Scope, type_in, signatures, AreTyped, scope_from}
+use Rattle.rx_first_check.specs.Faults.{Breaks, first, faults}
+use Rattle.rx_first_check.specs.declared.fault.NameFault.TheVariants as name_fault
+use Rattle.rx_first_check.specs.declared.fault.TypeFault.TheVariants as type_fault
+use Rattle.rx_first_check.specs.declared.fault.CheckFault.{CheckFault}
+use Rattle.rx_first_check.specs.declared.fault.CheckFault.TheVariants as check_fault
 use Rattle.rx_select.specs.Run.{Run, RunOf}
-use Rattle.rx_hoist.specs.Plan.{params, outs}
-use Rattle.rx_hoist.specs.Chosen.{statements_at}
-use Rattle.rx_hoist.specs.Extracted.{Parts}
+use Rattle.rx_first_hoist.specs.Plan.{params, outs}
+use Rattle.rx_first_hoist.specs.Chosen.{statements_at}
+use Rattle.rx_first_hoist.specs.Extracted.{Parts}
 use Rattle.rx_engine.specs.declared.extraction.Answer.{Answer}
 use Rattle.rx_engine.specs.declared.extraction.Fault.{Fault}
 use Rattle.rx_engine.specs.declared.extraction.Fault.TheVariants as fault
@@ -85,22 +88,57 @@ abbrev pub not_accepted : CheckFault → Fault
 not_accepted check_fault.OutOfMemory = fault.OutOfMemory
 not_accepted f = fault.NotAccepted f
 
+-- the bytes are no program, and this is why; want of memory is no reason
+pub record IsUnread (bytes : List ℕ) (f : SyntaxFault) : Type 0 where
+  pub told : f ≢ syntax_fault.OutOfMemory
+  pub cause : IsCause f bytes
+
+-- the bytes are a program that is not accepted, and this is the first of its faults; want of memory is none
+pub record IsUnaccepted (bytes : List ℕ) (f : CheckFault) : Type 0 where
+  pub told : f ≢ check_fault.OutOfMemory
+  pub p : ProgramTree
+  pub parses : Parses bytes p
+  pub breaks : Breaks p f
+  pub earliest : first (faults p) ≡ Some f
+
 -- what may be answered for a text, a range and a name
 abbrev pub Extracts : List ℕ → ℕ → ℕ → List ℕ → Result Answer Fault → Type 0
 Extracts bytes start end name (Ok a) = Keeps bytes start end name a.text × (a.bounds ≡ [])
-Extracts bytes start end name (Err (fault.Syntax f)) = IsCause f bytes
-Extracts bytes start end name (Err (fault.NotAccepted f)) = (p : ProgramTree) × Parses bytes p × Breaks p f × (first (faults p) ≡ Some f)
+Extracts bytes start end name (Err (fault.Syntax f)) = IsUnread bytes f
+Extracts bytes start end name (Err (fault.NotAccepted f)) = IsUnaccepted bytes f
 Extracts bytes start end name (Err (fault.Refused r)) = (p : ProgramTree) × RefusedBy bytes start end name p r
 Extracts bytes start end name (Err fault.OutOfMemory) = Unit {0}
 
 -- what may be answered to whether a text is accepted: that it is, or why it is not
 abbrev pub Checks : List ℕ → Result Unit Fault → Type 0
 Checks bytes (Ok done) = IsAccepted bytes
-Checks bytes (Err (fault.Syntax f)) = (f ≢ syntax_fault.OutOfMemory) × IsCause f bytes
-Checks bytes (Err (fault.NotAccepted f)) =
-    (f ≢ check_fault.OutOfMemory) × (p : ProgramTree) × Parses bytes p × Breaks p f × (first (faults p) ≡ Some f)
+Checks bytes (Err (fault.Syntax f)) = IsUnread bytes f
+Checks bytes (Err (fault.NotAccepted f)) = IsUnaccepted bytes f
 Checks bytes (Err (fault.Refused r)) = ⊥
 Checks bytes (Err fault.OutOfMemory) = Unit {0}
+
+-- whether a fault that stands inside this one is a want of memory
+abbrev pub holds_memory : Fault → Bool
+holds_memory (fault.Syntax (syntax_fault.Lex lex_fault.OutOfMemory)) = true
+holds_memory (fault.Syntax syntax_fault.OutOfMemory) = true
+holds_memory (fault.NotAccepted (check_fault.Name name_fault.OutOfMemory)) = true
+holds_memory (fault.NotAccepted (check_fault.Types type_fault.OutOfMemory)) = true
+holds_memory (fault.NotAccepted check_fault.OutOfMemory) = true
+holds_memory _ = false
+
+-- the fault is the place where the tokens of a text stop being a program, or being one within the levels
+abbrev pub is_stop : Fault → Bool
+is_stop (fault.Syntax (syntax_fault.Syntax at)) = true
+is_stop (fault.Syntax (syntax_fault.TooDeep at)) = true
+is_stop _ = false
+
+abbrev pub is_too_deep : Fault → Bool
+is_too_deep (fault.Syntax (syntax_fault.TooDeep at)) = true
+is_too_deep _ = false
+
+-- two faults are one, or both are places where the same tokens stop, one of them by its depth
+abbrev pub AreOne : Fault → Fault → Type 0
+AreOne f g = (f ≡ g) ⊎ ((is_stop f && is_stop g && (is_too_deep f || is_too_deep g)) ≡ true)
 
 -- this text is answered, unless memory runs out
 abbrev pub AnswersText : Result Answer Fault → List ℕ → Type 0
@@ -127,3 +165,15 @@ IsMoveFault p r (fault.Refused refusal.NotBuilt) = IsNotBuilt p r
 IsMoveFault p r (fault.Refused (refusal.Limit w count)) = PassesLimit p r w count
 IsMoveFault p r fault.OutOfMemory = Unit {0}
 IsMoveFault p r _ = ⊥
+
+-- the answer is the tree's canonical text, which is not too long
+pub record IsPrinted (q : ProgramTree) (a : Answer) : Type 0 where
+  pub text : a.text ≡ print_program q
+  pub bounds : a.bounds ≡ []
+  pub short : length a.text ≤ most_bytes
+
+-- the canonical text is too long, or memory ran out
+abbrev pub IsPrintFault : ProgramTree → Fault → Type 0
+IsPrintFault q (fault.Refused (refusal.Limit which.Bytes count)) = (count ≡ length (print_program q)) × (most_bytes < count)
+IsPrintFault q fault.OutOfMemory = Unit {0}
+IsPrintFault q _ = ⊥

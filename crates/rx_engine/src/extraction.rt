@@ -11,21 +11,21 @@ ghost use Rattle.rx_lex.specs.Words.{is_identifier as is_word};
 ghost use Rattle.rx_lex.specs.Tokens.{Lexes};
 ghost use Rattle.rx_grammar.specs.grammar.Items.{Parses};
 ghost use Rattle.rx_spelling.specs.Items.{print_program};
-ghost use Rattle.rx_check.specs.Accepted.{Accepted, type_in, signatures, scope_from};
-ghost use Rattle.rx_check.specs.Types.{scope_after};
+ghost use Rattle.rx_first_check.specs.Accepted.{Accepted, type_in, signatures, scope_from};
+ghost use Rattle.rx_first_check.specs.Types.{scope_after};
 ghost use Rattle.rx_select.specs.Placed.{PlacedIn};
 ghost use Rattle.rx_select.specs.Selecting.{run as run_is};
 ghost use Rattle.rx_select.specs.Run.{RunOf};
-ghost use Rattle.rx_hoist.specs.Chosen.{is_function_at};
+ghost use Rattle.rx_first_hoist.specs.Chosen.{is_function_at};
 ghost use Rattle.rx_engine.specs.Conditions.{is_taken as taken};
-ghost use Rattle.rx_engine.specs.Promise.{Accepts, IsAccepted, Moves, IsExtraction};
+ghost use Rattle.rx_engine.specs.Promise.{Accepts, IsAccepted, Names, Moves, IsExtraction};
 ghost use Rattle.rx_engine.specs.Built.{any_unit, IsBuilt};
-ghost use Rattle.rx_engine.specs.Verdict.{Extracts, Checks, AnswersText, Refuses, IsChoiceFault, IsMoveFault, syntax_of, not_accepted};
+ghost use Rattle.rx_engine.specs.Verdict.{Extracts, Checks, AnswersText, Refuses, IsChoiceFault, IsMoveFault, IsPrinted, IsPrintFault, syntax_of, not_accepted};
 
 use crate::names::is_taken;
-use rx_check::{CheckFault, Scope, accepted, scope_behind};
-use rx_core::{Bound, List, Name, Text, Which};
-use rx_hoist::{Plan, hoist, plan_run};
+use rx_core::{Bound, LetGo, List, Name, Text, Which};
+use rx_first_check::{CheckFault, Scope, accepted, scope_behind};
+use rx_first_hoist::{Plan, hoist, plan_run};
 use rx_lex::{Tokens, is_identifier, lex};
 use rx_parse::{SyntaxFault, parse};
 use rx_print::print;
@@ -47,7 +47,7 @@ pub struct Selection {
 }
 
 /// The text of the extraction, and the bounds of the new function's lifetimes.
-#[derive(Debug, Drop)]
+#[derive(Drop)]
 pub struct Answer {
     pub text: Text,
     pub bounds: List<Bound>,
@@ -99,10 +99,8 @@ fn check_fault(fault: CheckFault) -> Fault
 /// The tree of a text that is accepted.
 fn accepted_program(alloc: Global, text: &[u8]) -> Result<Program, Fault>
     ensures found { IfOk result (λ p. Accepts text.now (plain-Program p)) }
-    ensures only { IfOk result (λ p. (q : ProgramTree) → Parses text.now q → plain-Program p ≡ q) }
     ensures cause { IfErr result (λ f. Checks text.now (Err f)) }
     ensures memory { IfErr result (λ f. (q : ProgramTree) → Accepts text.now q → f ≡ Fault.OutOfMemory) }
-    ensures fault { IfErr result (λ f. (start end : ℕ) (name : ListOf ℕ) → Refuses text.now start end name f) }
 {
     let program = match parse(alloc, text) {
         Ok(program) => program,
@@ -110,7 +108,10 @@ fn accepted_program(alloc: Global, text: &[u8]) -> Result<Program, Fault>
     };
     match accepted(alloc, &program) {
         Ok(()) => Ok(program),
-        Err(fault) => Err(check_fault(fault)),
+        Err(fault) => {
+            program.let_go();
+            Err(check_fault(fault))
+        }
     }
 }
 
@@ -125,7 +126,10 @@ pub fn check(alloc: Global, text: &[u8]) -> Result<(), Fault>
     ensures complete { IsAccepted text.now → IfErr result (λ f. f ≡ Fault.OutOfMemory) }
 {
     match accepted_program(alloc, text) {
-        Ok(_program) => Ok(()),
+        Ok(program) => {
+            program.let_go();
+            Ok(())
+        }
         Err(fault) => Err(fault),
     }
 }
@@ -233,13 +237,15 @@ fn moved(alloc: Global, program: Program, run: Run, name: &str) -> Result<Progra
     ensures found { IfOk result (λ q. Moves (plain-Program program) (run_is run) name.now (plain-Program q)) }
     ensures fault { IfErr result (λ f. IsMoveFault (plain-Program program) (run_is run) f) }
 {
-    let plan = match built_plan(alloc, &program, run) {
-        Ok(plan) => plan,
-        Err(fault) => return Err(fault),
-    };
-    match hoist(alloc, program, run, &plan, name) {
-        Ok(program) => Ok(program),
-        Err(_) => Err(Fault::OutOfMemory),
+    match built_plan(alloc, &program, run) {
+        Ok(plan) => match hoist(alloc, program, run, &plan, name) {
+            Ok(program) => Ok(program),
+            Err(AllocError) => Err(Fault::OutOfMemory),
+        },
+        Err(fault) => {
+            program.let_go();
+            Err(fault)
+        }
     }
 }
 
@@ -279,6 +285,45 @@ fn chosen_run(
     }
 }
 
+/// The run that a range of bytes of an accepted text selects, where a function may have the name.
+fn selected_run(
+    alloc: Global,
+    text: &[u8],
+    program: &Program,
+    selection: Selection,
+    name: &str,
+) -> Result<Run, Fault>
+    requires { Accepts text.now (plain-Program program.now) }
+    ensures found { IfOk result (λ r. Names text.now selection.start selection.end name.now (plain-Program program.now) (run_is r)) }
+    ensures fault { IfErr result (λ f. Refuses text.now selection.start selection.end name.now f) }
+{
+    match tokens_of(alloc, text) {
+        Ok(tokens) => chosen_run(alloc, &tokens, program, selection, name),
+        Err(fault) => Err(fault),
+    }
+}
+
+/// The canonical text of an extraction, where it is not too long.
+fn printed(alloc: Global, program: Program) -> Result<Answer, Fault>
+    ensures found { IfOk result (λ a. IsPrinted (plain-Program program) a) }
+    ensures fault { IfErr result (λ f. IsPrintFault (plain-Program program) f) }
+{
+    let text = print(alloc, &program);
+    program.let_go();
+    let Ok(text) = text else {
+        return Err(Fault::OutOfMemory);
+    };
+    if text.as_str().len() > MOST_BYTES {
+        let which = Which::Bytes;
+        let count = text.as_str().len() as u64;
+        return Err(Fault::Refused(Refusal::Limit { which, count }));
+    }
+    Ok(Answer {
+        text,
+        bounds: List::new(alloc),
+    })
+}
+
 /// Moves the statements that a range of bytes selects into a new function of this name, directly behind the enclosing
 /// one, and puts a call in their place.
 ///
@@ -300,28 +345,15 @@ pub fn extract(
         Ok(program) => program,
         Err(fault) => return Err(fault),
     };
-    let tokens = match tokens_of(alloc, text) {
-        Ok(tokens) => tokens,
-        Err(fault) => return Err(fault),
-    };
-    let run = match chosen_run(alloc, &tokens, &program, selection, name) {
+    let run = match selected_run(alloc, text, &program, selection, name) {
         Ok(run) => run,
-        Err(fault) => return Err(fault),
+        Err(fault) => {
+            program.let_go();
+            return Err(fault);
+        }
     };
-    let program = match moved(alloc, program, run, name) {
-        Ok(program) => program,
-        Err(fault) => return Err(fault),
-    };
-    let Ok(text) = print(alloc, &program) else {
-        return Err(Fault::OutOfMemory);
-    };
-    if text.as_str().len() > MOST_BYTES {
-        let which = Which::Bytes;
-        let count = text.as_str().len() as u64;
-        return Err(Fault::Refused(Refusal::Limit { which, count }));
+    match moved(alloc, program, run, name) {
+        Ok(program) => printed(alloc, program),
+        Err(fault) => Err(fault),
     }
-    Ok(Answer {
-        text,
-        bounds: List::new(alloc),
-    })
 }

@@ -1,27 +1,21 @@
 //! Whether a function may have a name.
 
-ghost use Rattle.std.specs.Prelude.{◌≡◌, IfOk, map, ◌||◌};
+ghost use Rattle.std.specs.Prelude.{◌≡◌, IfOk, ◌||◌};
 ghost use Rattle.std.specs.List.{list_any};
-ghost use Rattle.rx_core.specs.Bytes.{same_bytes, is_one_of};
+ghost use Rattle.rx_core.specs.Bytes.{is_one_of};
 ghost use Rattle.rx_lex.specs.Tok.{tok, toks};
 ghost use Rattle.rx_engine.specs.Conditions.{is_identifier_of, exit_name as exit_name_of, reserved, begins_as_made as made, is_taken as taken};
 
-use rx_core::Text;
+use rx_core::{Text, is_among_texts, is_same_text};
 use rx_lex::{Class, Token};
 use std::alloc::{AllocError, Global};
-
-fn is_same(a: &str, b: &str) -> bool
-    ensures { result ≡ same_bytes a.now b.now }
-{
-    a == b
-}
 
 /// Whether the token is this identifier.
 fn is_identifier_token(token: &Token<'_>, name: &str) -> bool
     ensures { result ≡ is_identifier_of name.now (tok token.now) }
 {
     match token.class {
-        Class::Identifier => is_same(token.text, name),
+        Class::Identifier => is_same_text(token.text, name),
         _ => false,
     }
 }
@@ -42,22 +36,11 @@ static RESERVED: [&str; 9] = [
     "main", "rt", "next", "println", "derive", "Clone", "Copy", "Next", "Return",
 ];
 
-fn stands_among(name: &str, words: &[&str]) -> bool
-    ensures { result ≡ is_one_of name.now (map (λ w. w.now) words.now) }
-{
-    for word in words {
-        if is_same(name, word) {
-            return true;
-        }
-    }
-    false
-}
-
 /// Whether the name is one that the extraction or the language needs itself.
 fn is_reserved(name: &str) -> bool
     ensures { result ≡ is_one_of name.now reserved }
 {
-    stands_among(name, &RESERVED)
+    is_among_texts(name, &RESERVED)
 }
 
 /// Whether the name begins as those do that the extraction makes.

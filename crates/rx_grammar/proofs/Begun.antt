@@ -1,7 +1,9 @@
 -- What the tokens begin that a parser passed before it stopped: step by step. Where it reads, they are such a part; where it
 -- refuses the next token, some further tokens complete them to one; where it is too deep, so they do with that token.
-use Rattle.std.proofs.Common.{◌≡◌, ℕ, zero, Bool, true, false, cond, List, [], ◌∷◌, ◌++◌, length, Ok, Err, codes, refl, sym, ap, subst, ◌∙◌, append_assoc, append-nil}
+use Rattle.std.proofs.Common.{◌≡◌, ℕ, None, arith, zero, Bool, true, false, cond, List, [], ◌∷◌, ◌++◌, length, Ok, Err, codes, refl, sym, ap, subst, ◌∙◌, append_assoc, append-nil}
 use Rattle.std.specs.Prelude.{nat_lt}
+use Rattle.std.specs.List.{list_all}
+use Rattle.std.proofs.lemmas.Bool.{and_parts}
 use Rattle.std.proofs.lemmas.Slice.Eq.{bytes_eq-Decides}
 use Rattle.rx_lex.specs.declared.token.Class.{Class}
 use Rattle.rx_lex.specs.declared.token.Class.TheVariants as class
@@ -12,6 +14,9 @@ use Rattle.rx_grammar.specs.declared.stop.Stop.TheVariants.{Syntax, TooDeep}
 use Rattle.rx_grammar.specs.declared.symbol.Symbol.{Symbol}
 use Rattle.rx_grammar.specs.declared.symbol.Symbol.TheVariants as symbol
 use Rattle.rx_lex.specs.Words.{IsWord}
+use Rattle.rx_lex.specs.Words as words
+use Rattle.rx_lex.specs.Numerals.{decimal}
+use Rattle.rx_lex.specs.Tokens.{AreWords}
 use Rattle.rx_grammar.specs.parser.Symbols.{symbol_of, head, tail, peek}
 use Rattle.rx_grammar.specs.parser.Steps.{Parser, Outcome, and_then, ◌>>=◌, pure, refuse, too_deep, next, expect, sees, when_next, within}
 use Rattle.rx_grammar.proofs.SymbolLemmas.{Stands, is_word, stands_as, sees_is}
@@ -157,11 +162,96 @@ stand_in_stands symbol.Underscore w = (refl, refl)
 stand_in_stands symbol.Other w = absurd (cc)
 stand_in_stands symbol.End w = absurd (cc)
 
+-- it is a word of its class
+pub stand_in_word : (q : Symbol) → is_word q ≡ true → IsWord (stand_in q).class (stand_in q).text
+unfolding stand_in
+stand_in_word symbol.Name w = words.identifier refl
+stand_in_word symbol.Lifetime w = words.lifetime {name = codes "a"} refl refl
+stand_in_word symbol.Anonymous w = words.lifetime {name = codes "_"} refl refl
+stand_in_word symbol.Number w = words.number (decimal 48 [] None refl refl refl) (omega arith)
+stand_in_word symbol.Format w = words.format refl
+stand_in_word symbol.Mod w = words.keyword refl
+stand_in_word symbol.Struct w = words.keyword refl
+stand_in_word symbol.Enum w = words.keyword refl
+stand_in_word symbol.Fn w = words.keyword refl
+stand_in_word symbol.Let w = words.keyword refl
+stand_in_word symbol.Mut w = words.keyword refl
+stand_in_word symbol.If w = words.keyword refl
+stand_in_word symbol.Else w = words.keyword refl
+stand_in_word symbol.Match w = words.keyword refl
+stand_in_word symbol.Loop w = words.keyword refl
+stand_in_word symbol.While w = words.keyword refl
+stand_in_word symbol.Break w = words.keyword refl
+stand_in_word symbol.Continue w = words.keyword refl
+stand_in_word symbol.Return w = words.keyword refl
+stand_in_word symbol.True w = words.keyword refl
+stand_in_word symbol.False w = words.keyword refl
+stand_in_word symbol.Bool w = words.keyword refl
+stand_in_word symbol.U8 w = words.keyword refl
+stand_in_word symbol.U32 w = words.keyword refl
+stand_in_word symbol.U64 w = words.keyword refl
+stand_in_word symbol.I32 w = words.keyword refl
+stand_in_word symbol.I64 w = words.keyword refl
+stand_in_word symbol.Arrow w = words.mark refl
+stand_in_word symbol.FatArrow w = words.mark refl
+stand_in_word symbol.ColonColon w = words.mark refl
+stand_in_word symbol.EqualEqual w = words.mark refl
+stand_in_word symbol.NotEqual w = words.mark refl
+stand_in_word symbol.LessEqual w = words.mark refl
+stand_in_word symbol.GreaterEqual w = words.mark refl
+stand_in_word symbol.AndAnd w = words.mark refl
+stand_in_word symbol.OrOr w = words.mark refl
+stand_in_word symbol.PlusEqual w = words.mark refl
+stand_in_word symbol.MinusEqual w = words.mark refl
+stand_in_word symbol.StarEqual w = words.mark refl
+stand_in_word symbol.SlashEqual w = words.mark refl
+stand_in_word symbol.PercentEqual w = words.mark refl
+stand_in_word symbol.OpenParen w = words.mark refl
+stand_in_word symbol.CloseParen w = words.mark refl
+stand_in_word symbol.OpenBrace w = words.mark refl
+stand_in_word symbol.CloseBrace w = words.mark refl
+stand_in_word symbol.OpenBracket w = words.mark refl
+stand_in_word symbol.CloseBracket w = words.mark refl
+stand_in_word symbol.Less w = words.mark refl
+stand_in_word symbol.Greater w = words.mark refl
+stand_in_word symbol.Comma w = words.mark refl
+stand_in_word symbol.Semicolon w = words.mark refl
+stand_in_word symbol.Colon w = words.mark refl
+stand_in_word symbol.Dot w = words.mark refl
+stand_in_word symbol.Equal w = words.mark refl
+stand_in_word symbol.Plus w = words.mark refl
+stand_in_word symbol.Minus w = words.mark refl
+stand_in_word symbol.Star w = words.mark refl
+stand_in_word symbol.Slash w = words.mark refl
+stand_in_word symbol.Percent w = words.mark refl
+stand_in_word symbol.Bang w = words.mark refl
+stand_in_word symbol.Ampersand w = words.mark refl
+stand_in_word symbol.Hash w = words.mark refl
+stand_in_word symbol.Underscore w = words.mark refl
+stand_in_word symbol.Other w = absurd (cc)
+stand_in_word symbol.End w = absurd (cc)
+
+-- ---- words
+
+-- a token for each of these symbols
+abbrev pub spell : List Symbol → List Tok
+spell [] = []
+spell (q ∷ qs) = stand_in q ∷ spell qs
+
+pub words_of : (qs : List Symbol) → list_all is_word qs ≡ true → AreWords (spell qs)
+words_of [] e = tt
+words_of (q ∷ qs) e = let p = and_parts (is_word q) (list_all is_word qs) e in (stand_in_word q p.0, words_of qs p.1)
+
+pub words_and : (ts us : List Tok) → AreWords ts → AreWords us → AreWords (ts ++ us)
+words_and [] us a b = b
+words_and (t ∷ ts) us a b = (a.0, words_and ts us a.1 b)
+
 -- ---- what a parser says
 
--- some further tokens complete these to such a part
+-- some further words complete these to such a part
 pub record Completes {A : Type 0} (E : List Tok → A → Type 0) (us : List Tok) : Type 0 where
   pub further : List Tok
+  pub words : AreWords further
   pub made : A
   pub part : E (us ++ further) made
 
@@ -186,12 +276,12 @@ pub record Begun (K : Known) {A : Type 0} (p : Parser A) (E : List Tok → A →
 -- ---- one after another
 
 under : {A : Type 0} {E : List Tok → A → Type 0} (us vs : List Tok) → Completes (λ vs x. E (us ++ vs) x) vs → Completes E (us ++ vs)
-under {E = E} us vs c = record { further = c.further; made = c.made; part = subst (λ z. E z c.made) (sym (append_assoc us vs c.further)) c.part }
+under {E = E} us vs c = record { further = c.further; words = c.words; made = c.made; part = subst (λ z. E z c.made) (sym (append_assoc us vs c.further)) c.part }
 
 pub onto : {A B : Type 0} {D : List Tok → A → Type 0} {E : List Tok → B → Type 0} (us : List Tok) → Completes D us → ((us : List Tok) (a : A) → D us a → Completes (λ vs x. E (us ++ vs) x) []) → Completes E us
 onto {E = E} us c g =
     let n = g (us ++ c.further) c.made c.part in
-    record { further = c.further ++ n.further; made = n.made; part = subst (λ z. E z n.made) (append_assoc us c.further n.further) n.part }
+    record { further = c.further ++ n.further; words = words_and c.further n.further c.words n.words; made = n.made; part = subst (λ z. E z n.made) (append_assoc us c.further n.further) n.part }
 
 behind : {A B : Type 0} {E : List Tok → B → Type 0} (f : A → Parser B) {i : List Tok} {o : Outcome A} (us r : List Tok) (a : A) → i ≡ us ++ r → o ≡ Ok (a, r) → Goes (λ vs x. E (us ++ vs) x) r (f a r) → Goes E i (and_then o f)
 behind f us r a is oe (reads vs x b it oi h) = reads (us ++ vs) x b (is ∙ ap (λ z. us ++ z) it ∙ sym (append_assoc us vs x)) (ap (λ z. and_then z f) oe ∙ oi) h
@@ -237,14 +327,14 @@ unfolding expect
 expect_begun q w = single
     (record { derive = λ i r c e. let m = expected q i c r w e in record { ts = c ∷ []; is = m.1; part = record { is = refl; stands = m.0 } } })
     (λ i e h. cut (sees q i) (head i, tail i) (length i) e h)
-    (record { further = stand_in q ∷ []; made = stand_in q; part = record { is = refl; stands = stand_in_stands q w } })
+    (record { further = stand_in q ∷ []; words = (stand_in_word q w, tt); made = stand_in q; part = record { is = refl; stands = stand_in_stands q w } })
 
 pub took : {A : Type 0} {K : Known} {f : Tok → Parser A} {E : List Tok → A → Type 0} (q : Symbol) → is_word q ≡ true → ((c : Tok) → Stands q c → Begun any (f c) (λ vs x. E (c ∷ vs) x))
     → Begun K (expect q >>= f) E
 took {f = f} {E = E} q w g = passed (expect_begun q w) (λ us c m. subst (λ z. Begun any (f c) (λ vs x. E (z ++ vs) x)) (sym m.is) (g c m.stands))
 
 pub gave : {A : Type 0} {K : Known} {x : A} {E : List Tok → A → Type 0} → E [] x → Begun K (pure x) E
-gave {x = x} h = record { goes = λ i k. reads [] i x refl refl h; some = record { further = []; made = x; part = h } }
+gave {x = x} h = record { goes = λ i k. reads [] i x refl refl h; some = record { further = []; words = tt; made = x; part = h } }
 
 pub passed_last : {A B : Type 0} {K : Known} {p : Parser A} (g : A → B) {D : List Tok → A → Type 0} {E : List Tok → B → Type 0} → Begun any p D
     → ((us : List Tok) (a : A) → D us a → E us (g a)) → Begun K (p >>= (λ a. pure (g a))) E
@@ -264,9 +354,9 @@ chose_knowing {A = A} {E = E} c f g = record { goes = λ i k. known i (f (peek i
     known i o (reads [] r a is oe h) = reads [] r a is oe (h (λ n. absurd (n refl)))
     known i o (reads (u ∷ us) r a is oe h) = reads (u ∷ us) r a is oe (h (λ n. sym (ap peek is)))
     known i o (stops [] r is oe h) = stops [] r is oe c
-    known i o (stops (u ∷ us) r is oe h) = stops (u ∷ us) r is oe (record { further = h.further; made = h.made; part = h.part (λ n. sym (ap peek is)) })
-    known i o (deep [] r t is oe h) = deep [] r t is oe (λ w. let z = h w in record { further = z.further; made = z.made; part = z.part (λ n. sym (ap peek is)) })
-    known i o (deep (u ∷ us) r t is oe h) = deep (u ∷ us) r t is oe (λ w. let z = h w in record { further = z.further; made = z.made; part = z.part (λ n. sym (ap peek is)) })
+    known i o (stops (u ∷ us) r is oe h) = stops (u ∷ us) r is oe (record { further = h.further; words = h.words; made = h.made; part = h.part (λ n. sym (ap peek is)) })
+    known i o (deep [] r t is oe h) = deep [] r t is oe (λ w. let z = h w in record { further = z.further; words = z.words; made = z.made; part = z.part (λ n. sym (ap peek is)) })
+    known i o (deep (u ∷ us) r t is oe h) = deep (u ∷ us) r t is oe (λ w. let z = h w in record { further = z.further; words = z.words; made = z.made; part = z.part (λ n. sym (ap peek is)) })
 
 pub either : {A : Type 0} {K : Known} {p q : Parser A} (k : Symbol) {E : List Tok → A → Type 0} → Begun (at k) p E → Begun any q E → Begun K (when_next k p q) E
 either {A = A} {p = p} {q = q} k {E = E} a b = record { goes = λ i w. decided i (sees k i) refl; some = b.some }
@@ -279,7 +369,7 @@ pub as_also : {A : Type 0} {K : Known} {p : Parser A} {D E : List Tok → A → 
 as_also {A = A} {D = D} {E = E} f d = record { goes = λ i k. turned i _ (d.goes i k); some = also [] d.some }
   where
     also : (us : List Tok) → Completes D us → Completes E us
-    also us c = record { further = c.further; made = c.made; part = f (us ++ c.further) c.made c.part }
+    also us c = record { further = c.further; words = c.words; made = c.made; part = f (us ++ c.further) c.made c.part }
 
     turned : (i : List Tok) (o : Outcome A) → Goes D i o → Goes E i o
     turned i o (reads us r a is oe h) = reads us r a is oe (f us a h)
@@ -302,7 +392,7 @@ roomy {A = A} {p = p} n d q {E = E} w first b = record { goes = λ i k. decided 
 -- where the part begins with this token
 pub roomed : {A : Type 0} {f : Tok → Parser A} (n d : ℕ) {E : List Tok → A → Type 0} (q : Symbol) → is_word q ≡ true → ((c : Tok) → Stands q c → Begun any (f c) (λ vs x. E (c ∷ vs) x))
     → Begun (at q) (within n d (expect q >>= f)) E
-roomed n d {E = E} q w g = roomy n d q w (λ t s. let c = (g t s).some in record { further = c.further; made = c.made; part = c.part }) (took q w g)
+roomed n d {E = E} q w g = roomy n d q w (λ t s. let c = (g t s).some in record { further = c.further; words = c.words; made = c.made; part = c.part }) (took q w g)
 
 -- what reads nothing
 pub stopped : {A : Type 0} {E : List Tok → A → Type 0} (b : Symbol → Bool) → b symbol.End ≡ false → Completes E [] → ((t : Tok) → b (symbol_of t) ≡ true → IsWord t.class t.text → Completes E (t ∷ []))

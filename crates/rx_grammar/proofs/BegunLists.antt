@@ -6,6 +6,7 @@ use Rattle.rx_lex.specs.Tok.{Tok}
 use Rattle.rx_grammar.specs.declared.symbol.Symbol.{Symbol}
 use Rattle.rx_grammar.specs.declared.symbol.Symbol.TheVariants as symbol
 use Rattle.rx_grammar.specs.grammar.Words.{span_of, second_ampersand, IsListOf, no_element, last_element, element}
+use Rattle.rx_lex.specs.Tokens.{AreWords}
 use Rattle.rx_grammar.specs.declared.stop.Stop.TheVariants.{Syntax, TooDeep}
 use Rattle.rx_grammar.specs.parser.Symbols.{head, tail, peek}
 use Rattle.rx_grammar.specs.parser.Steps.{Parser, Outcome, Got, and_then, pure, expect, sees, within, ◌>>=◌, leaf, node}
@@ -13,7 +14,7 @@ use Rattle.rx_grammar.specs.parser.Lists.{Items, elements_from, elements, some_e
 use Rattle.rx_grammar.proofs.SymbolLemmas.{Stands, is_word, seen, stands_as}
 use Rattle.rx_grammar.proofs.Deriving.{okay}
 use Rattle.rx_grammar.proofs.Reading.{items, span_between}
-use Rattle.rx_grammar.proofs.Begun.{stand_in, stand_in_stands, Completes, Goes, reads, stops, deep, Known, any, at, Begun, took, passed, gave, either, refused, as_also}
+use Rattle.rx_grammar.proofs.Begun.{stand_in, stand_in_stands, stand_in_word, Completes, Goes, reads, stops, deep, Known, any, at, Begun, took, passed, gave, either, refused, as_also}
 
 -- ---- what is made
 
@@ -31,8 +32,8 @@ fits_node {J = J} {ts = ts} {s = s} f e h j =
     record { span = e; holds = subst (λ n. J ts (f s) n) (sym (add-one h)) (subst (λ z. J ts (f z) (suc h)) (sym e) j) }
 
 -- what further tokens complete
-pub whole_part : {A : Type 0} {J : List Tok → A → ℕ → Type 0} (us vs : List Tok) (x : A) (h : ℕ) → J (us ++ vs) x h → Completes (Fits J) us
-whole_part us vs x h r = record { further = vs; made = record { tree = x; height = h; span = span_of (us ++ vs) }; part = record { span = refl; holds = r } }
+pub whole_part : {A : Type 0} {J : List Tok → A → ℕ → Type 0} (us vs : List Tok) (x : A) (h : ℕ) → AreWords vs → J (us ++ vs) x h → Completes (Fits J) us
+whole_part us vs x h w r = record { further = vs; words = w; made = record { tree = x; height = h; span = span_of (us ++ vs) }; part = record { span = refl; holds = r } }
 
 -- ---- lists in brackets
 
@@ -182,11 +183,14 @@ pub halved_last : {A B : Type 0} {J : List Tok → A → ℕ → Type 0} {E : Li
 unfolding expect
 halved_last {A = A} {B = B} {J = J} {E = E} n d p g ok full start h = record {
   goes = λ i k. each i k (nat_lt d n);
-  some = let c = first (stand_in symbol.AndAnd) (stand_in_stands symbol.AndAnd refl) in record { further = stand_in symbol.AndAnd ∷ c.further; made = c.made; part = c.part };
+  some = nothing;
 }
   where
     first : (t : Tok) → Stands symbol.AndAnd t → Completes E (t ∷ [])
-    first t s = let c = start t s in record { further = c.further; made = g t c.made; part = h t s c.further c.made c.part }
+    first t s = let c = start t s in record { further = c.further; words = c.words; made = g t c.made; part = h t s c.further c.made c.part }
+
+    nothing : Completes E []
+    nothing = let c = first (stand_in symbol.AndAnd) (stand_in_stands symbol.AndAnd refl) in record { further = stand_in symbol.AndAnd ∷ c.further; words = (stand_in_word symbol.AndAnd refl, c.words); made = c.made; part = c.part }
 
     from : (t : Tok) → Stands symbol.AndAnd t → (u : Tok) (us : List Tok) (y : Got A) → second_ampersand t ≡ u → Fits J (u ∷ us) y → E (t ∷ us) (g t y)
     from t s u us y e f = h t s us y (subst (λ z. Fits J (z ∷ us) y) (sym e) f)
@@ -194,12 +198,12 @@ halved_last {A = A} {B = B} {J = J} {E = E} n d p g ok full start h = record {
     halved : (t : Tok) (i : List Tok) (o : Outcome (Got A)) → Stands symbol.AndAnd t → Goes (Fits J) (second_ampersand t ∷ i) o → Goes E (t ∷ i) (and_then o (λ y. pure (g t y)))
     halved t i o s (reads [] r a is oe f) = absurd (full [] a.tree a.height f.holds refl)
     halved t i o s (reads (u ∷ us) r a is oe f) = reads (t ∷ us) r (g t a) (ap (λ z. t ∷ tail z) is) (ap (λ z. and_then z (λ y. pure (g t y))) oe) (from t s u us a (ap head is) f)
-    halved t i o s (stops [] r is oe c) = stops [] (t ∷ i) refl (ap (λ z. and_then z (λ y. pure (g t y))) (oe ∙ ap (λ z. Err (Syntax (length z))) (sym is))) (let c = first t s in record { further = t ∷ c.further; made = c.made; part = c.part })
+    halved t i o s (stops [] r is oe c) = stops [] (t ∷ i) refl (ap (λ z. and_then z (λ y. pure (g t y))) (oe ∙ ap (λ z. Err (Syntax (length z))) (sym is))) nothing
     halved t i o s (stops (u ∷ us) r is oe c) = stops (t ∷ us) r (ap (λ z. t ∷ tail z) is) (ap (λ z. and_then z (λ y. pure (g t y))) oe)
-        (record { further = c.further; made = g t c.made; part = from t s u (us ++ c.further) c.made (ap head is) c.part })
+        (record { further = c.further; words = c.words; made = g t c.made; part = from t s u (us ++ c.further) c.made (ap head is) c.part })
     halved t i o s (deep [] r v is oe c) = deep [] i t refl (ap (λ z. and_then z (λ y. pure (g t y))) (oe ∙ ap (λ z. Err (TooDeep (length z))) (sym is))) (λ w. first t s)
     halved t i o s (deep (u ∷ us) r v is oe c) = deep (t ∷ us) r v (ap (λ z. t ∷ tail z) is) (ap (λ z. and_then z (λ y. pure (g t y))) oe)
-        (λ w. let x = c w in record { further = x.further; made = g t x.made; part = from t s u ((us ++ (v ∷ [])) ++ x.further) x.made (ap head is) x.part })
+        (λ w. let x = c w in record { further = x.further; words = x.words; made = g t x.made; part = from t s u ((us ++ (v ∷ [])) ++ x.further) x.made (ap head is) x.part })
 
     behind : (t : Tok) (i : List Tok) (b : Bool) → sees symbol.AndAnd (t ∷ i) ≡ b → peek (t ∷ i) ≡ symbol.AndAnd
         → Goes E (t ∷ i) (and_then (cond b (okay (t, i)) (Err (Syntax (length (t ∷ i))))) (λ t. (λ i. p (second_ampersand t ∷ i)) >>= (λ y. pure (g t y))))

@@ -6,11 +6,12 @@ use Rattle.rx_lex.specs.declared.token.Class.{Class}
 use Rattle.rx_lex.specs.declared.token.Class.TheVariants as class
 use Rattle.rx_lex.specs.Tok.{Tok}
 use Rattle.rx_lex.specs.Numerals.{IsNumeral, decimal, greatest}
-use Rattle.rx_lex.specs.Words.{IsWord}
+use Rattle.rx_lex.specs.Words.{IsWord, is_identifier}
 use Rattle.rx_lex.specs.Words as words
 use Rattle.rx_grammar.specs.declared.stop.Stop.{Stop}
 use Rattle.rx_grammar.specs.declared.stop.Stop.TheVariants.{Syntax}
 use Rattle.rx_grammar.specs.declared.symbol.Symbol.TheVariants as symbol
+use Rattle.rx_lex.specs.Tokens.{AreWords}
 use Rattle.rx_grammar.specs.grammar.Words.{IsNumber, IsIndex, IsNamed}
 use Rattle.rx_grammar.specs.parser.Symbols.{head, tail}
 use Rattle.rx_grammar.specs.parser.Steps.{Parser, and_then, ◌>>=◌, pure, expect, sees, expect_word, sees_word, when_word}
@@ -33,6 +34,9 @@ is_number t w e = let n = numeral_of w e in (n.0, n.1, record { class = e; numer
 pub zero_is : IsNumber (spelled class.Number (codes "0")) 0 None
 zero_is = record { class = refl; numeral = decimal 48 [] None refl refl refl; fits = omega arith }
 
+pub zero_words : AreWords (spelled class.Number (codes "0") ∷ [])
+zero_words = (words.number zero_is.numeral zero_is.fits, tt)
+
 expect_cut : {A : Type 0} (f : Tok → A) (b : Bool) (x : Tok × List Tok) (n : ℕ) (e : Stop) → and_then (cond b (okay x) (Err (Syntax n))) (λ t. pure (f t)) ≡ Err e → e ≡ Syntax n
 expect_cut f true x n e h = absurd (cc)
 expect_cut f false x n e h = cc
@@ -48,7 +52,7 @@ IsNumbered ts x = (t : Tok) × (ts ≡ t ∷ []) × (x ≡ numbered t x.value x.
 number_begun : {K : Known} → Begun K number IsNumbered
 unfolding number
 number_begun = single (record { derive = λ i r x q. number_at i (numeral (head i).text) refl r x q }) (λ i e h. number_cut (numeral (head i).text) i e h)
-    (record { further = spelled class.Number (codes "0") ∷ []; made = numbered (spelled class.Number (codes "0")) 0 None; part = (spelled class.Number (codes "0"), refl, refl, zero_is) })
+    (record { further = spelled class.Number (codes "0") ∷ []; words = zero_words; made = numbered (spelled class.Number (codes "0")) 0 None; part = (spelled class.Number (codes "0"), refl, refl, zero_is) })
 
 pub number_took : {K : Known} {A : Type 0} (f : Numbered → Parser A) {E : List Tok → A → Type 0} → ((t : Tok) (v : ℕ) (k : Option Kind) → IsNumber t v k → Begun any (f (numbered t v k)) (λ vs x. E (t ∷ vs) x))
     → Begun K (number >>= f) E
@@ -70,7 +74,7 @@ zero_index = record { class = refl; digits = refl; value = refl; fits = omega ar
 index_begun : {K : Known} → Begun K index IsIndexed
 unfolding index
 index_begun = single (record { derive = λ i r x q. index_at i (index_value (head i).text) refl r x q }) (λ i e h. index_cut (index_value (head i).text) i e h)
-    (record { further = spelled class.Number (codes "0") ∷ []; made = (0, (spelled class.Number (codes "0")).span); part = (spelled class.Number (codes "0"), refl, refl, zero_index) })
+    (record { further = spelled class.Number (codes "0") ∷ []; words = zero_words; made = (0, (spelled class.Number (codes "0")).span); part = (spelled class.Number (codes "0"), refl, refl, zero_index) })
 
 pub index_took : {K : Known} {A : Type 0} (f : ℕ × Span → Parser A) {E : List Tok → A → Type 0} → ((t : Tok) (v : ℕ) → IsIndex t v → Begun any (f (v, t.span)) (λ vs x. E (t ∷ vs) x)) → Begun K (index >>= f) E
 index_took f {E = E} g = passed index_begun (λ us n w.
@@ -82,15 +86,15 @@ record Word (w : List ℕ) (us : List Tok) (c : Tok) : Type 0 where
   is : us ≡ c ∷ []
   named : IsNamed w c
 
-word_begun : {K : Known} (w : List ℕ) → Begun K (expect_word w) (Word w)
+word_begun : {K : Known} (w : List ℕ) → is_identifier w ≡ true → Begun K (expect_word w) (Word w)
 unfolding expect_word
-word_begun w = single
+word_begun w i = single
     (record { derive = λ i r c e. let m = word_at w i c r (sees_word w i) refl e in record { ts = c ∷ []; is = m.1; part = record { is = refl; named = m.0 } } })
     (λ i e h. cut (sees_word w i) (head i, tail i) (length i) e h)
-    (record { further = spelled class.Identifier w ∷ []; made = spelled class.Identifier w; part = record { is = refl; named = (refl, refl) } })
+    (record { further = spelled class.Identifier w ∷ []; words = (words.identifier i, tt); made = spelled class.Identifier w; part = record { is = refl; named = (refl, refl) } })
 
-pub took_word : {K : Known} {A : Type 0} {f : Tok → Parser A} {E : List Tok → A → Type 0} (w : List ℕ) → ((c : Tok) → IsNamed w c → Begun any (f c) (λ vs x. E (c ∷ vs) x)) → Begun K (expect_word w >>= f) E
-took_word {f = f} {E = E} w g = passed (word_begun w) (λ us c m. subst (λ z. Begun any (f c) (λ vs x. E (z ++ vs) x)) (sym m.is) (g c m.named))
+pub took_word : {K : Known} {A : Type 0} {f : Tok → Parser A} {E : List Tok → A → Type 0} (w : List ℕ) → is_identifier w ≡ true → ((c : Tok) → IsNamed w c → Begun any (f c) (λ vs x. E (c ∷ vs) x)) → Begun K (expect_word w >>= f) E
+took_word {f = f} {E = E} w i g = passed (word_begun w i) (λ us c m. subst (λ z. Begun any (f c) (λ vs x. E (z ++ vs) x)) (sym m.is) (g c m.named))
 
 pub either_word : {K : Known} {A : Type 0} {p q : Parser A} (w : List ℕ) {E : List Tok → A → Type 0} → Begun any p E → Begun any q E → Begun K (when_word w p q) E
 either_word {A = A} {p = p} {q = q} w {E = E} a b = record { goes = λ i k. decided i (sees_word w i); some = b.some }

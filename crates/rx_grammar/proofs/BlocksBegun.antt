@@ -20,9 +20,9 @@ use Rattle.rx_grammar.proofs.SymbolLemmas.{Stands}
 use Rattle.rx_grammar.proofs.Reading.{span_between}
 use Rattle.rx_grammar.specs.parser.Symbols.{symbol_of}
 use Rattle.rx_grammar.proofs.SymbolLemmas.{stands}
-use Rattle.rx_grammar.proofs.Firsts.{a_name, an_end, a_block, some_operand, some_expression, some_block, first_operand, first_expression, first_like, first_block, like_completes}
+use Rattle.rx_grammar.proofs.Firsts.{a_name, an_end, a_block, block_words, some_operand, some_expression, some_block, first_operand, first_expression, first_like, first_block, like_completes}
 use Rattle.rx_grammar.proofs.Deriving.{Front, front_of_part}
-use Rattle.rx_grammar.proofs.Begun.{took, passed, passed_last, gave, chose, chose_knowing, either, refused, as_also, Known, any, at, Begun, Completes, roomed, stopped, still, passed_at, stand_in_stands}
+use Rattle.rx_grammar.proofs.Begun.{took, passed, passed_last, gave, chose, chose_knowing, either, refused, as_also, Known, any, at, Begun, Completes, roomed, stopped, still, passed_at, stand_in_stands, words_of}
 use Rattle.rx_grammar.proofs.BegunLists.{Fits, fits_node, whole_part}
 use Rattle.rx_grammar.proofs.TypesBegun.{type_begun}
 use Rattle.rx_grammar.proofs.PatternsBegun.{pattern_begun}
@@ -136,7 +136,7 @@ closing o found i c sc = record {
 }
 
 listing_completes : (o : Span) (found : List Statement) (i : ℕ) → Completes (Listing o found i) []
-listing_completes o found i = record { further = an_end ∷ []; made = body_at (join o an_end.span) found plain.absent i; part = closing o found i an_end (stand_in_stands symbol.CloseBrace refl) }
+listing_completes o found i = record { further = an_end ∷ []; words = words_of (symbol.CloseBrace ∷ []) refl; made = body_at (join o an_end.span) found plain.absent i; part = closing o found i an_end (stand_in_stands symbol.CloseBrace refl) }
 
 module _ (d : ℕ) (n : Deeper d) (o : Span) (again : List Statement → ℕ → Parser (Got Body)) (ok : (found : List Statement) (i : ℕ) → Begun any (again found i) (Listing o found i)) where
   after_like_begun : (found : List Statement) (i : ℕ) (us : List Tok) (x : Got Expression) → Fits IsLike us x → (q : Symbol)
@@ -155,7 +155,7 @@ module _ (d : ℕ) (n : Deeper d) (o : Span) (again : List Statement → ℕ →
 
   expression_by_begun : (found : List Statement) (i : ℕ) (q : Symbol) (b : Bool) → begins_like q ≡ b → Begun (at q) (expression_by (whole d) (like d) d again o found i b) (λ ts x. Front q ts → Listing o found i ts x)
   expression_by_begun found i q true e = passed n.likes (λ us x m. as_also (λ vs b w f. w)
-      (chose_knowing (record { further = an_end ∷ []; made = body_at (join o an_end.span) found (plain.present x.tree) (max i x.height); part = ended us an_end x.tree x.height (stand_in_stands symbol.CloseBrace refl) (g.tail_like m.holds) }) (after_like_by (whole d) (like d) d again o found i x) (after_like_begun found i us x m)))
+      (chose_knowing (record { further = an_end ∷ []; words = words_of (symbol.CloseBrace ∷ []) refl; made = body_at (join o an_end.span) found (plain.present x.tree) (max i x.height); part = ended us an_end x.tree x.height (stand_in_stands symbol.CloseBrace refl) (g.tail_like m.holds) }) (after_like_by (whole d) (like d) d again o found i x) (after_like_begun found i us x m)))
   expression_by_begun found i q false e = passed n.wholes (λ us x m.
       let some = expression_some m.holds in
       either symbol.Semicolon
@@ -194,10 +194,10 @@ block_of_begun d n = took symbol.OpenBrace refl (λ o so. as_also (λ vs b w.
 pub deeper_begun : (d : ℕ) → Deeper d
 unfolding operand whole like block
 deeper_begun zero = record {
-  operands = λ f j. stopped begins_operand refl (whole_part [] (a_name ∷ []) _ _ (some_operand f j)) (λ t e w. first_operand f j (symbol_of t) e t (stands t) w);
-  wholes = stopped begins_expression refl (whole_part [] (a_name ∷ []) _ _ some_expression) (λ t e w. first_expression (symbol_of t) e t (stands t) w);
+  operands = λ f j. stopped begins_operand refl (whole_part [] (a_name ∷ []) _ _ (words_of (symbol.Name ∷ []) refl) (some_operand f j)) (λ t e w. first_operand f j (symbol_of t) e t (stands t) w);
+  wholes = stopped begins_expression refl (whole_part [] (a_name ∷ []) _ _ (words_of (symbol.Name ∷ []) refl) some_expression) (λ t e w. first_expression (symbol_of t) e t (stands t) w);
   likes = stopped begins_like refl like_completes (λ t e w. first_like (symbol_of t) e t (stands t));
-  blocks = stopped opens refl (whole_part [] a_block _ _ some_block) (λ t e w. first_block (symbol_of t) e t (stands t));
+  blocks = stopped opens refl (whole_part [] a_block _ _ block_words some_block) (λ t e w. first_block (symbol_of t) e t (stands t));
 }
 deeper_begun (suc d) =
     let n = deeper_begun d in

@@ -6,7 +6,7 @@ use Rattle.rx_tree.specs.Plain.{Expression, Body}
 use Rattle.rx_lex.specs.Tok.{Tok}
 use Rattle.rx_grammar.specs.declared.symbol.Symbol.{Symbol}
 use Rattle.rx_grammar.specs.declared.symbol.Symbol.TheVariants as symbol
-use Rattle.rx_grammar.specs.grammar.Expressions.{IsExpression, IsOperand, IsUnary, IsPostfix, IsPrimary, IsLike, IsIf, IsElse, IsBlock, IsLabel, no_label, label, AreArguments}
+use Rattle.rx_grammar.specs.grammar.Expressions.{IsExpression, IsOperand, IsUnary, IsPostfix, IsPrimary, IsLike, IsIf, IsElse, IsBlock, IsLabel, no_label, label, AreArguments, Test, IsTest}
 use Rattle.rx_grammar.specs.grammar.Expressions as g
 use Rattle.rx_grammar.specs.parser.Symbols.{symbol_of, peek}
 use Rattle.rx_grammar.specs.parser.Operators.{begins_like, begins_operand, begins_expression}
@@ -200,3 +200,7 @@ operand_positive (g.compare us vs t o l r m n c op left right is) = omega arith
 pub expression_positive : {ts : List Tok} {x : Expression} {h : ℕ} → IsExpression ts x h → 1 ≤ h
 expression_positive (g.operand r) = operand_positive r
 expression_positive _ = omega arith
+
+pub test_positive : {ts : List Tok} {x : Test} {h : ℕ} → IsTest ts x h → 1 ≤ h
+test_positive (g.test r) = operand_positive r
+test_positive (g.test_pattern t q ps us p x m n st sq sp r is) = let z = operand_positive r in omega arith

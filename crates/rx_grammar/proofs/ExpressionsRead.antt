@@ -11,16 +11,16 @@ use Rattle.rx_lex.specs.Tok.{Tok}
 use Rattle.rx_grammar.specs.declared.symbol.Symbol.{Symbol}
 use Rattle.rx_grammar.specs.declared.symbol.Symbol.TheVariants as symbol
 use Rattle.rx_grammar.specs.grammar.Words.{IsListOf, no_element, last_element, element, join, span_of, ident, second_ampersand}
-use Rattle.rx_grammar.specs.grammar.Expressions.{IsExpression, IsOperand, IsUnary, IsPostfix, IsPrimary, AreArguments, IsField, AreFields, IsLike, IsIf, IsElse, AreArms, IsBlock, IsStatement, AreStatements}
+use Rattle.rx_grammar.specs.grammar.Expressions.{IsExpression, IsOperand, IsUnary, IsPostfix, IsPrimary, AreArguments, IsField, AreFields, IsLike, IsIf, IsElse, AreArms, IsBlock, IsStatement, AreStatements, Test, IsTest, fitting, if_of, while_of}
 use Rattle.rx_grammar.specs.grammar.Expressions as g
 use Rattle.rx_grammar.specs.parser.Symbols.{symbol_of, peek}
 use Rattle.rx_grammar.specs.parser.Steps.{Got}
 use Rattle.rx_grammar.specs.parser.Operators.{assigns, updates, begins_expression}
-use Rattle.rx_grammar.specs.parser.Expressions.{field, else_value, arms_from}
+use Rattle.rx_grammar.specs.parser.Expressions.{field, test, else_value, arms_from}
 use Rattle.rx_grammar.specs.parser.Blocks.{operand, whole, like, block}
 use Rattle.rx_grammar.proofs.SymbolLemmas.{Stands}
 use Rattle.rx_grammar.proofs.Reading.{Reads, along, first_is, got, items, placed, differs, deeper, some_length, Element, unit_reads, parentheses_read, tuple_reads}
-use Rattle.rx_grammar.proofs.PatternsRead.{pattern_positive}
+use Rattle.rx_grammar.proofs.PatternsRead.{pattern_positive, pattern_complete, ends_pattern}
 use Rattle.rx_grammar.proofs.OperatorLaws.{operator_of}
 use Rattle.rx_grammar.proofs.ExpressionsFront.{like_front, if_front, postfix_front, unary_front, operand_front, expression_front, block_some, like_some, postfix_some, unary_some, operand_some, expression_some, block_positive, if_positive, else_deep, like_positive, unary_positive, operand_positive, expression_positive}
 use Rattle.rx_grammar.proofs.ChainsRead.{reach, ends_expression, EndsExpression, ends_reach, not_next, operator_follows, Goes}
@@ -209,24 +209,34 @@ mutual
       (parts.loop_any d rest us t b h (omega arith) (block_some r) st (deeper (λ d. Reads (block d) us (got us b h) rest) h d p (omega arith) (λ c k. block_reads r c k rest)) sl)
   like_reads (g.while ls us vs t lb x b m n sl st c r is) d l rest e =
       let p = block_positive r in
-      placed (λ s. plain.while s lb x b) (ls ++ (t ∷ (us ++ vs))) is
+      placed (λ s. while_of s lb x b) (ls ++ (t ∷ (us ++ vs))) is
       (parts.while_any d rest us vs t x b m n (omega arith) (block_some r) st
-      (deeper (λ d. Reads (operand d false 5) us (got us x m) (vs ++ rest)) m d (operand_positive c) (omega arith) (λ i k. (operand_reads c i k).read (vs ++ rest) (parts.brace_ends (peek (vs ++ rest)) (parts.block_next r rest))))
+      (test_reads c d (omega arith) (vs ++ rest) (parts.block_next r rest))
       (deeper (λ d. Reads (block d) vs (got vs b n) rest) n d p (omega arith) (λ c k. block_reads r c k rest)) sl)
+
+  test_reads : {ts : List Tok} {x : Test} {h : ℕ} → IsTest ts x h → (d : ℕ) → h ≤ d → (rest : List Tok) → peek rest ≡ symbol.OpenBrace → Reads (test (operand d) (whole d) (like d) (block d) d) ts (got ts x h) rest
+  test_reads {ts = us} {h = m} (g.test {x = x} c) d l rest e =
+      like_case.condition_case d rest us x m (operand_front c rest)
+      (deeper (λ d. Reads (operand d false 5) us (got us x m) rest) m d (operand_positive c) l (λ i k. (operand_reads c i k).read rest (parts.brace_ends (peek rest) e)))
+  test_reads (g.test_pattern t q ps us p x m n st sq sp c is) d l rest e =
+      placed (λ s. fitting p x) (t ∷ (ps ++ (q ∷ us))) is
+      (like_case.fitting_case d rest ps us t q p x m n st sq (operand_some c)
+      (pattern_complete sp d (omega arith) (q ∷ (us ++ rest)) (ap ends_pattern (first_is symbol.Equal q refl sq)))
+      (deeper (λ d. Reads (operand d false 3) us (got us x n) rest) n d (operand_positive c) (omega arith) (λ i k. (operand_reads c i k).read rest (let z = parts.brace_ends (peek rest) e in omega arith))))
 
   if_reads : {ts : List Tok} {x : Expression} {h : ℕ} → IsIf ts x h → (d : ℕ) → h ≤ suc d → (rest : List Tok) → peek rest ≢ symbol.Else → Reads (like (suc d)) ts (got ts x h) rest
   if_reads (g.if_alone t us vs x b m n st c r is) d l rest e =
       let p = block_positive r in
-      placed (λ s. plain.if s x b plain.absent) (t ∷ (us ++ vs)) is
+      placed (λ s. if_of s x b plain.absent) (t ∷ (us ++ vs)) is
       (like_case.if_alone_case d rest us vs t x b m n (omega arith) st (block_some r) e
-      (deeper (λ d. Reads (operand d false 5) us (got us x m) (vs ++ rest)) m d (operand_positive c) (omega arith) (λ i k. (operand_reads c i k).read (vs ++ rest) (parts.brace_ends (peek (vs ++ rest)) (parts.block_next r rest))))
+      (test_reads c d (omega arith) (vs ++ rest) (parts.block_next r rest))
       (deeper (λ d. Reads (block d) vs (got vs b n) rest) n d p (omega arith) (λ c k. block_reads r c k rest)))
   if_reads (g.if_else t q us vs ws x y b m n k st se c r w is) d l rest e =
       let p = else_deep w in
       let front : peek ((vs ++ (q ∷ ws)) ++ rest) ≡ symbol.OpenBrace = ap peek (append_assoc vs (q ∷ ws) rest) ∙ parts.block_next r (q ∷ (ws ++ rest)) in
-      placed (λ s. plain.if s x b (plain.present y)) (t ∷ (us ++ (vs ++ (q ∷ ws)))) is
+      placed (λ s. if_of s x b (plain.present y)) (t ∷ (us ++ (vs ++ (q ∷ ws)))) is
       (like_case.if_else_case d rest us vs ws t q x y b m n k (omega arith) st se (parts.else_some w)
-      (deeper (λ d. Reads (operand d false 5) us (got us x m) ((vs ++ (q ∷ ws)) ++ rest)) m d (operand_positive c) (omega arith) (λ i j. (operand_reads c i j).read ((vs ++ (q ∷ ws)) ++ rest) (parts.brace_ends (peek ((vs ++ (q ∷ ws)) ++ rest)) front)))
+      (test_reads c d (omega arith) ((vs ++ (q ∷ ws)) ++ rest) front)
       (deeper (λ d. Reads (block d) vs (got vs b n) (q ∷ (ws ++ rest))) n d (block_positive r) (omega arith) (λ c j. block_reads r c j (q ∷ (ws ++ rest))))
       (else_reads w d (omega arith) rest e))
 

@@ -17,7 +17,7 @@ use Rattle.rx_grammar.proofs.SymbolLemmas.{Stands}
 use Rattle.rx_grammar.proofs.Reading.{span_between, span_past}
 use Rattle.rx_tree.specs.declared.tree.BoundLifetime.{BoundLifetime}
 use Rattle.rx_grammar.specs.grammar.Words.{no_element, last_element, element}
-use Rattle.rx_grammar.proofs.Begun.{took, passed, passed_last, gave, chose, either, refused, as_also, Known, any, at, Begun, stand_in, stand_in_stands}
+use Rattle.rx_grammar.proofs.Begun.{took, passed, passed_last, gave, chose, either, refused, as_also, Known, any, at, Begun, stand_in, stand_in_stands, stand_in_word}
 use Rattle.rx_grammar.proofs.BegunLists.{Fits, listed_found, some_listed_found}
 use Rattle.rx_grammar.proofs.BegunWords.{took_word, either_word}
 use Rattle.rx_grammar.proofs.TypesRead.{type_some}
@@ -48,12 +48,12 @@ bound_level us x h (g.bounded t c vs ls st sc r) = refl
 derived_name_begun : {K : Known} → Begun K parser.derived_name (Fits IsDerivedName)
 unfolding parser.derived_name
 derived_name_begun = either_word (codes "Clone")
-    (took_word (codes "Clone") (λ t s. gave (record { span = refl; holds = g.clone t s })))
-    (took_word (codes "Copy") (λ t s. gave (record { span = refl; holds = g.copy t s })))
+    (took_word (codes "Clone") refl (λ t s. gave (record { span = refl; holds = g.clone t s })))
+    (took_word (codes "Copy") refl (λ t s. gave (record { span = refl; holds = g.copy t s })))
 
 derives_begun : {K : Known} (m : Tok) → Stands symbol.Hash m → Begun K parser.derives (λ ts xs. AreDerives (m ∷ ts) xs)
 unfolding parser.derives
-derives_begun m sm = took symbol.OpenBracket refl (λ b sb. took_word (codes "derive") (λ n sn. took symbol.OpenParen refl (λ o so.
+derives_begun m sm = took symbol.OpenBracket refl (λ b sb. took_word (codes "derive") refl (λ n sn. took symbol.OpenParen refl (λ o so.
     some_listed_found symbol.CloseParen _ refl derived_name_begun (λ us c x xs h sc l. took symbol.CloseBracket refl (λ e se.
     gave (g.derive m b n o c e us x xs sm sb sn so sc se (subst (λ k. IsListOf IsDerivedName us (x ∷ xs) k) (no_level derived_level l) l) refl))))))
 
@@ -74,6 +74,7 @@ bounds_from_begun : {K : Known} (n : ℕ) (found : List Ident) → Begun K (pars
 unfolding parser.bounds_from
 bounds_from_begun zero found = refused (record {
   further = stand_in symbol.Lifetime ∷ [];
+  words = (stand_in_word symbol.Lifetime refl, tt);
   made = (found ++ (ident (stand_in symbol.Lifetime) ∷ []), (stand_in symbol.Lifetime).span);
   part = record { ls = ident (stand_in symbol.Lifetime) ∷ []; holds = g.last_bound (stand_in symbol.Lifetime) (stand_in_stands symbol.Lifetime refl); made = refl; ends = λ z. refl };
 })
@@ -207,7 +208,7 @@ module _ (d : ℕ) where
 
   rt_begun : {K : Known} → Begun K (parser.rt d) (Fits IsItem)
   unfolding parser.rt
-  rt_begun = took symbol.Mod refl (λ m sm. took_word (codes "rt") (λ r sr. took symbol.Semicolon refl (λ z sz. gave (record { span = refl; holds = g.rt m r z sm sr sz refl }))))
+  rt_begun = took symbol.Mod refl (λ m sm. took_word (codes "rt") refl (λ r sr. took symbol.Semicolon refl (λ z sz. gave (record { span = refl; holds = g.rt m r z sm sr sz refl }))))
 
   item_by_begun : (q : Symbol) → Begun (at q) (item_by d q) (Fits IsItem)
   item_by_begun symbol.Mod = rt_begun
@@ -237,7 +238,7 @@ ended {found} {i} =
 
 items_begun : {K : Known} (d : ℕ) (n : ℕ) (found : List ItemTree) (i : ℕ) → Begun K (items_from d n found i) (Filed found i)
 unfolding items_from
-items_begun d zero found i = either symbol.End (gave ended) (refused (record { further = []; made = (found, i); part = ended }))
+items_begun d zero found i = either symbol.End (gave ended) (refused (record { further = []; words = tt; made = (found, i); part = ended }))
 items_begun d (suc n) found i = either symbol.End (gave ended) (passed (item_begun d) (λ us a m. as_also (λ vs p w.
     let z : max (max i a.height) w.k ≡ max i (max a.height w.k) = omega arith in
     record {

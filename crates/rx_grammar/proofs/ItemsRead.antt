@@ -237,7 +237,7 @@ module _ (d : ℕ) (rest : List Tok) where
   unfolding parser.item
   plain_reads ts y q e r = by (item_by d) q e r
 
-  rt_reads : (m r z : Tok) → Stands symbol.Mod m → IsNamed (codes "rt") r → Stands symbol.Semicolon z → Reads (parser.rt d) (m ∷ r ∷ z ∷ []) (got (m ∷ r ∷ z ∷ []) (plain.rt_item (span_of (m ∷ r ∷ z ∷ []))) 0) rest
+  rt_reads : (m r z : Tok) → Stands symbol.Mod m → IsNamed (codes "rt") r → Stands symbol.Semicolon z → Reads (parser.rt d) (m ∷ r ∷ z ∷ []) (got (m ∷ r ∷ z ∷ []) (plain.rt_item (span_of (m ∷ r ∷ z ∷ [])) r.span) 0) rest
   unfolding parser.rt
   rt_reads m r z sm sr sz = take _ symbol.Mod m refl sm (take_word _ (codes "rt") r sr (take _ symbol.Semicolon z refl sz (done refl)))
 
@@ -295,7 +295,7 @@ enumeration_case d rest {ds = ts} (g.derive m e v p q k ws x xs sm se sv sp sq s
     (derived_span m c (e ∷ v ∷ p ∷ (ws ++ (q ∷ k ∷ []))) (o ∷ us) (n ∷ ls) t) st sn so sc sl r b))
 
 item_reads : {ts : List Tok} {x : ItemTree} {h : ℕ} → IsItem ts x h → (d : ℕ) → h ≤ d → (rest : List Tok) → Reads (parser.item d) ts (got ts x h) rest
-item_reads (g.rt m r z sm sr sz is) d b rest = placed plain.rt_item (m ∷ r ∷ z ∷ []) is (plain_reads d rest _ _ symbol.Mod (first_is symbol.Mod m refl sm) (rt_reads d rest m r z sm sr sz))
+item_reads (g.rt m r z sm sr sz is) d b rest = placed (λ s. plain.rt_item s r.span) (m ∷ r ∷ z ∷ []) is (plain_reads d rest _ _ symbol.Mod (first_is symbol.Mod m refl sm) (rt_reads d rest m r z sm sr sz))
 item_reads (g.structure t n o c ds ls us xs l fs h st sn so sc sd sl r is) d b rest =
     placed (λ s. plain.struct_item s (record { name = ident n; derives = xs; lifetimes = l; fields = fs })) (ds ++ (t ∷ n ∷ (ls ++ (o ∷ (us ++ (c ∷ [])))))) is (structure_case d rest sd t n o c ls us l fs h st sn so sc sl r b)
 item_reads (g.enumeration t n o c ds ls us xs l v vs h st sn so sc sd sl r is) d b rest =

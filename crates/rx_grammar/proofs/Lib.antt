@@ -44,3 +44,6 @@ pub mod BlocksBegun
 pub mod ItemsBegun
 pub mod Places
 pub mod PlaceExamples
+pub mod NumberedParts
+pub mod NumberedExpressions
+pub mod Numbered

@@ -12,13 +12,13 @@ use Rattle.rx_grammar.specs.declared.symbol.Symbol.TheVariants as symbol
 use Rattle.rx_grammar.specs.grammar.Words.{IsMutability, immutable, mutable, join, span_of, ident}
 use Rattle.rx_grammar.specs.grammar.Patterns.{IsPattern}
 use Rattle.rx_grammar.specs.grammar.Patterns as pat
-use Rattle.rx_grammar.specs.grammar.Expressions.{IsAnnotation, no_type, with_type}
+use Rattle.rx_grammar.specs.grammar.Expressions.{IsAnnotation, no_type, with_type, Test, condition, fitting, if_of, while_of}
 use Rattle.rx_grammar.specs.parser.Symbols.{symbol_of, peek}
-use Rattle.rx_grammar.specs.parser.Steps.{Parser, Got, pure}
+use Rattle.rx_grammar.specs.parser.Steps.{Parser, Got, ◌>>=◌, pure}
 use Rattle.rx_grammar.specs.parser.Lists.{Items}
 use Rattle.rx_grammar.specs.parser.Patterns.{pattern, begins_pattern}
 use Rattle.rx_grammar.specs.parser.Operators.{Setting, setting, begins_like, begins_operand, begins_expression}
-use Rattle.rx_grammar.specs.parser.Expressions.{label_of, start_of, block_value, else_by, else_value, conditional, after_arm, arm_by, arms_from, arms, match_value, loop_value, while_value, labelled_by, labelled, like_by, set_as, set_by, returned_by, return_value, jump, set_or_operand, whole_by}
+use Rattle.rx_grammar.specs.parser.Expressions.{label_of, start_of, block_value, let_test, test_by, test, else_by, else_value, conditional, after_arm, arm_by, arms_from, arms, match_value, loop_value, while_value, labelled_by, labelled, like_by, set_as, set_by, returned_by, return_value, jump, set_or_operand, whole_by}
 use Rattle.rx_grammar.specs.parser.Blocks.{annotation, let_statement, opens, operand, whole, like, block}
 use Rattle.rx_grammar.proofs.SymbolLemmas.{Stands, is_word}
 use Rattle.rx_grammar.proofs.Reading.{Reads, take, part, last, done, by, turned, here, there, was_there, room, along, first_is, got, items, node_is, span_between, span_from, span_past, span_over, differs}
@@ -93,20 +93,44 @@ pub block_case : (d : ℕ) (rest ts : List Tok) (b : Body) (h : ℕ) → 1 ≤ d
 unfolding like block_value
 block_case d rest ts b h low e r = by (like_by (operand d) (whole d) (like d) (block d) d) symbol.OpenBrace e (room low (last _ r (done (node_is (λ s. plain.block s b) (span_of ts) h ts refl))))
 
-pub if_alone_case : (d : ℕ) (rest us vs : List Tok) (t : Tok) (x : Expression) (b : Body) (m n : ℕ) → 1 ≤ d → Stands symbol.If t → vs ≢ [] → peek rest ≢ symbol.Else
-    → Reads (operand d false 5) us (got us x m) (vs ++ rest) → Reads (block d) vs (got vs b n) rest
-    → Reads (like (suc d)) (t ∷ (us ++ vs)) (got (t ∷ (us ++ vs)) (plain.if (span_of (t ∷ (us ++ vs))) x b plain.absent) (suc (max m n))) rest
+-- ---- what is tested
+
+test_other : (d : ℕ) (q : Symbol) → begins_operand q ≡ true
+    → test_by (operand d) (whole d) (like d) (block d) d q ≡ operand d false 5 >>= (λ x. pure (record { tree = condition x.tree; height = x.height; span = x.span }))
+test_other d symbol.Let e = absurd (cc)
+test_other d _ e = refl
+
+pub condition_case : (d : ℕ) (rest us : List Tok) (x : Expression) (m : ℕ) → begins_operand (peek (us ++ rest)) ≡ true → Reads (operand d false 5) us (got us x m) rest
+    → Reads (test (operand d) (whole d) (like d) (block d) d) us (got us (condition x) m) rest
+unfolding test
+condition_case d rest us x m e r = turned (test_by (operand d) (whole d) (like d) (block d) d) (operand d false 5 >>= (λ x. pure (record { tree = condition x.tree; height = x.height; span = x.span })))
+    (test_other d (peek (us ++ rest)) e) (last _ r (done refl))
+
+pub fitting_case : (d : ℕ) (rest ps us : List Tok) (t q : Tok) (p : PatternTree) (x : Expression) (m n : ℕ) → Stands symbol.Let t → Stands symbol.Equal q → us ≢ []
+    → Reads (pattern d) ps (got ps p m) (q ∷ (us ++ rest)) → Reads (operand d false 3) us (got us x n) rest
+    → Reads (test (operand d) (whole d) (like d) (block d) d) (t ∷ (ps ++ (q ∷ us))) (got (t ∷ (ps ++ (q ∷ us))) (fitting p x) (max m n)) rest
+unfolding test let_test
+fitting_case d rest ps us t q p x m n st sq some r k = by (test_by (operand d) (whole d) (like d) (block d) d) symbol.Let (first_is symbol.Let t refl st) (take _ symbol.Let t refl st
+    (part _ r (take _ symbol.Equal q refl sq (last _ k (done (ap (λ (s : Span). at_span s)
+    (span_past t (ps ++ (q ∷ [])) us some ∙ ap (λ z. span_of (t ∷ z)) (append_assoc ps (q ∷ []) us))))))))
+  where
+    at_span : Span → Got Test
+    at_span s = record { tree = fitting p x; height = max m n; span = s }
+
+pub if_alone_case : (d : ℕ) (rest us vs : List Tok) (t : Tok) (x : Test) (b : Body) (m n : ℕ) → 1 ≤ d → Stands symbol.If t → vs ≢ [] → peek rest ≢ symbol.Else
+    → Reads (test (operand d) (whole d) (like d) (block d) d) us (got us x m) (vs ++ rest) → Reads (block d) vs (got vs b n) rest
+    → Reads (like (suc d)) (t ∷ (us ++ vs)) (got (t ∷ (us ++ vs)) (if_of (span_of (t ∷ (us ++ vs))) x b plain.absent) (suc (max m n))) rest
 unfolding like conditional
 if_alone_case d rest us vs t x b m n low s some e r k = by (like_by (operand d) (whole d) (like d) (block d) d) symbol.If (first_is symbol.If t refl s) (room low (take _ symbol.If t refl s
-    (part _ r (last _ k (there _ e (done (node_is (λ s. plain.if s x b plain.absent) (join t.span (span_of vs)) (max m n) (t ∷ (us ++ vs)) (span_past t us vs some))))))))
+    (part _ r (last _ k (there _ e (done (node_is (λ s. if_of s x b plain.absent) (join t.span (span_of vs)) (max m n) (t ∷ (us ++ vs)) (span_past t us vs some))))))))
 
-pub if_else_case : (d : ℕ) (rest us vs ws : List Tok) (t e : Tok) (x y : Expression) (b : Body) (m n k : ℕ) → 2 ≤ d → Stands symbol.If t → Stands symbol.Else e → ws ≢ []
-    → Reads (operand d false 5) us (got us x m) ((vs ++ (e ∷ ws)) ++ rest) → Reads (block d) vs (got vs b n) (e ∷ (ws ++ rest)) → Reads (else_value (operand d) (whole d) (like d) (block d) d) ws (got ws y k) rest
-    → Reads (like (suc d)) (t ∷ (us ++ (vs ++ (e ∷ ws)))) (got (t ∷ (us ++ (vs ++ (e ∷ ws)))) (plain.if (span_of (t ∷ (us ++ (vs ++ (e ∷ ws))))) x b (plain.present y)) (suc (max m (max n k)))) rest
+pub if_else_case : (d : ℕ) (rest us vs ws : List Tok) (t e : Tok) (x : Test) (y : Expression) (b : Body) (m n k : ℕ) → 2 ≤ d → Stands symbol.If t → Stands symbol.Else e → ws ≢ []
+    → Reads (test (operand d) (whole d) (like d) (block d) d) us (got us x m) ((vs ++ (e ∷ ws)) ++ rest) → Reads (block d) vs (got vs b n) (e ∷ (ws ++ rest)) → Reads (else_value (operand d) (whole d) (like d) (block d) d) ws (got ws y k) rest
+    → Reads (like (suc d)) (t ∷ (us ++ (vs ++ (e ∷ ws)))) (got (t ∷ (us ++ (vs ++ (e ∷ ws)))) (if_of (span_of (t ∷ (us ++ (vs ++ (e ∷ ws))))) x b (plain.present y)) (suc (max m (max n k)))) rest
 unfolding like conditional
 if_else_case d rest us vs ws t e x y b m n k low s se some p q r = by (like_by (operand d) (whole d) (like d) (block d) d) symbol.If (first_is symbol.If t refl s) (room (omega arith) (take _ symbol.If t refl s
     (part _ p (part _ q (here _ (first_is symbol.Else e refl se) (room low (take _ symbol.Else e refl se (last _ r
-    (done (node_is (λ s. plain.if s x b (plain.present y)) (join t.span (span_of ws)) (max m (max n k)) (t ∷ (us ++ (vs ++ (e ∷ ws))))
+    (done (node_is (λ s. if_of s x b (plain.present y)) (join t.span (span_of ws)) (max m (max n k)) (t ∷ (us ++ (vs ++ (e ∷ ws))))
     (span_past t (us ++ (vs ++ (e ∷ []))) ws some ∙ ap (λ z. span_of (t ∷ z)) (append_assoc us (vs ++ (e ∷ [])) ws ∙ ap (λ z. us ++ z) (append_assoc vs (e ∷ []) ws)))))))))))))
 
 pub else_case : (d : ℕ) (rest ws : List Tok) (y : Got Expression) (q : Symbol) → peek (ws ++ rest) ≡ q → else_by (operand d) (whole d) (like d) (block d) d q ≡ like d → Reads (like d) ws y rest
@@ -127,11 +151,11 @@ loop_reads : (d : ℕ) (rest us ls : List Tok) (l : Option Tok) (t : Tok) (b : B
 unfolding loop_value
 loop_reads d rest us ls l t b h s e r = take _ symbol.Loop t refl s (last _ r (done (node_is (λ s. plain.loop s (label_of l) b) (join (start_of l t) (span_of us)) h (ls ++ (t ∷ us)) e)))
 
-while_reads : (d : ℕ) (rest us vs ls : List Tok) (l : Option Tok) (t : Tok) (x : Expression) (b : Body) (m n : ℕ) → Stands symbol.While t → join (start_of l t) (span_of vs) ≡ span_of (ls ++ (t ∷ (us ++ vs)))
-    → Reads (operand d false 5) us (got us x m) (vs ++ rest) → Reads (block d) vs (got vs b n) rest
-    → Reads (while_value (operand d) (whole d) (like d) (block d) d l) (t ∷ (us ++ vs)) (got (ls ++ (t ∷ (us ++ vs))) (plain.while (span_of (ls ++ (t ∷ (us ++ vs)))) (label_of l) x b) (suc (max m n))) rest
+while_reads : (d : ℕ) (rest us vs ls : List Tok) (l : Option Tok) (t : Tok) (x : Test) (b : Body) (m n : ℕ) → Stands symbol.While t → join (start_of l t) (span_of vs) ≡ span_of (ls ++ (t ∷ (us ++ vs)))
+    → Reads (test (operand d) (whole d) (like d) (block d) d) us (got us x m) (vs ++ rest) → Reads (block d) vs (got vs b n) rest
+    → Reads (while_value (operand d) (whole d) (like d) (block d) d l) (t ∷ (us ++ vs)) (got (ls ++ (t ∷ (us ++ vs))) (while_of (span_of (ls ++ (t ∷ (us ++ vs)))) (label_of l) x b) (suc (max m n))) rest
 unfolding while_value
-while_reads d rest us vs ls l t x b m n s e p r = take _ symbol.While t refl s (part _ p (last _ r (done (node_is (λ s. plain.while s (label_of l) x b) (join (start_of l t) (span_of vs)) (max m n) (ls ++ (t ∷ (us ++ vs))) e))))
+while_reads d rest us vs ls l t x b m n s e p r = take _ symbol.While t refl s (part _ p (last _ r (done (node_is (λ s. while_of s (label_of l) x b) (join (start_of l t) (span_of vs)) (max m n) (ls ++ (t ∷ (us ++ vs))) e))))
 
 labelled_case : (d : ℕ) (rest ts : List Tok) (l c : Tok) (x : Got Expression) (q : Symbol) → 1 ≤ d → Stands symbol.Lifetime l → Stands symbol.Colon c → peek (ts ++ rest) ≡ q
     → Reads (labelled_by (operand d) (whole d) (like d) (block d) d l q) ts x rest → Reads (like (suc d)) (l ∷ c ∷ ts) x rest
@@ -149,15 +173,15 @@ pub labelled_loop_case : (d : ℕ) (rest us : List Tok) (l c t : Tok) (b : Body)
 labelled_loop_case d rest us l c t b h low some sl sc s r = labelled_case d rest (t ∷ us) l c _ symbol.Loop low sl sc (first_is symbol.Loop t refl s)
     (loop_reads d rest us (l ∷ c ∷ []) (Some l) t b h s (span_past l (c ∷ t ∷ []) us some) r)
 
-pub while_case : (d : ℕ) (rest us vs : List Tok) (t : Tok) (x : Expression) (b : Body) (m n : ℕ) → 1 ≤ d → vs ≢ [] → Stands symbol.While t → Reads (operand d false 5) us (got us x m) (vs ++ rest) → Reads (block d) vs (got vs b n) rest
-    → Reads (like (suc d)) (t ∷ (us ++ vs)) (got (t ∷ (us ++ vs)) (plain.while (span_of (t ∷ (us ++ vs))) None x b) (suc (max m n))) rest
+pub while_case : (d : ℕ) (rest us vs : List Tok) (t : Tok) (x : Test) (b : Body) (m n : ℕ) → 1 ≤ d → vs ≢ [] → Stands symbol.While t → Reads (test (operand d) (whole d) (like d) (block d) d) us (got us x m) (vs ++ rest) → Reads (block d) vs (got vs b n) rest
+    → Reads (like (suc d)) (t ∷ (us ++ vs)) (got (t ∷ (us ++ vs)) (while_of (span_of (t ∷ (us ++ vs))) None x b) (suc (max m n))) rest
 unfolding like
 while_case d rest us vs t x b m n low some s p r = by (like_by (operand d) (whole d) (like d) (block d) d) symbol.While (first_is symbol.While t refl s)
     (room low (while_reads d rest us vs [] None t x b m n s (span_past t us vs some) p r))
 
-pub labelled_while_case : (d : ℕ) (rest us vs : List Tok) (l c t : Tok) (x : Expression) (b : Body) (m n : ℕ) → 1 ≤ d → vs ≢ [] → Stands symbol.Lifetime l → Stands symbol.Colon c → Stands symbol.While t
-    → Reads (operand d false 5) us (got us x m) (vs ++ rest) → Reads (block d) vs (got vs b n) rest
-    → Reads (like (suc d)) (l ∷ c ∷ t ∷ (us ++ vs)) (got (l ∷ c ∷ t ∷ (us ++ vs)) (plain.while (span_of (l ∷ c ∷ t ∷ (us ++ vs))) (Some (ident l)) x b) (suc (max m n))) rest
+pub labelled_while_case : (d : ℕ) (rest us vs : List Tok) (l c t : Tok) (x : Test) (b : Body) (m n : ℕ) → 1 ≤ d → vs ≢ [] → Stands symbol.Lifetime l → Stands symbol.Colon c → Stands symbol.While t
+    → Reads (test (operand d) (whole d) (like d) (block d) d) us (got us x m) (vs ++ rest) → Reads (block d) vs (got vs b n) rest
+    → Reads (like (suc d)) (l ∷ c ∷ t ∷ (us ++ vs)) (got (l ∷ c ∷ t ∷ (us ++ vs)) (while_of (span_of (l ∷ c ∷ t ∷ (us ++ vs))) (Some (ident l)) x b) (suc (max m n))) rest
 labelled_while_case d rest us vs l c t x b m n low some sl sc s p r = labelled_case d rest (t ∷ (us ++ vs)) l c _ symbol.While low sl sc (first_is symbol.While t refl s)
     (while_reads d rest us vs (l ∷ c ∷ []) (Some l) t x b m n s (span_past l (c ∷ t ∷ us) vs some) p r)
 

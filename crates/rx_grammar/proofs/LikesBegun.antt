@@ -14,18 +14,18 @@ use Rattle.rx_grammar.specs.declared.symbol.Symbol.{Symbol}
 use Rattle.rx_grammar.specs.declared.symbol.Symbol.TheVariants as symbol
 use Rattle.rx_grammar.specs.grammar.Words.{join, span_of, ident}
 use Rattle.rx_grammar.specs.grammar.Patterns.{IsPattern}
-use Rattle.rx_grammar.specs.grammar.Expressions.{IsExpression, IsOperand, IsLike, IsIf, IsElse, IsBlock, IsLabel, no_label, label, AreArms, BeginsLike}
+use Rattle.rx_grammar.specs.grammar.Expressions.{IsExpression, IsOperand, IsLike, IsIf, IsElse, IsBlock, IsLabel, no_label, label, AreArms, BeginsLike, IsTest, fitting, if_of, while_of}
 use Rattle.rx_grammar.specs.grammar.Expressions as g
 use Rattle.rx_grammar.specs.parser.Steps.{Parser, Got, node}
 use Rattle.rx_grammar.specs.parser.Lists.{Items}
 use Rattle.rx_grammar.specs.parser.Operators.{Setting, assigns, updates, setting, begins_like, begins_expression}
-use Rattle.rx_grammar.specs.parser.Expressions.{label_of, start_of, block_value, else_by, else_value, conditional, arms_closed, after_arm, arm_by, arms_from, arms, match_value, loop_value, while_value, labelled_by, labelled, set_as, set_by, returned_by, return_value, jump, set_or_operand, whole_by}
+use Rattle.rx_grammar.specs.parser.Expressions.{label_of, start_of, block_value, let_test, test_by, test, else_by, else_value, conditional, arms_closed, after_arm, arm_by, arms_from, arms, match_value, loop_value, while_value, labelled_by, labelled, set_as, set_by, returned_by, return_value, jump, set_or_operand, whole_by}
 use Rattle.rx_grammar.specs.parser.Blocks.{operand, whole, like, block}
 use Rattle.rx_grammar.proofs.SymbolLemmas.{Stands, is_word}
 use Rattle.rx_grammar.proofs.Reading.{items, span_between, span_from, span_past, span_over}
 use Rattle.rx_grammar.proofs.Firsts.{a_name, an_end, a_block, some_expression, some_pattern, some_block, name_not_like, first_like, like_completes, else_completes}
 use Rattle.rx_grammar.proofs.Deriving.{Front, front_of_part}
-use Rattle.rx_grammar.proofs.Begun.{took, passed, passed_last, gave, chose, chose_knowing, either, refused, as_also, Known, any, at, Begun, Completes, roomed, roomy, still, stand_in, stand_in_stands}
+use Rattle.rx_grammar.proofs.Begun.{took, passed, passed_last, gave, chose, chose_knowing, either, refused, as_also, Known, any, at, Begun, Completes, roomed, roomy, still, stand_in, stand_in_stands, words_of, stand_in_word}
 use Rattle.rx_grammar.proofs.BegunLists.{Fits, fits_leaf, fits_node, whole_part}
 use Rattle.rx_grammar.proofs.PatternsBegun.{pattern_begun}
 use Rattle.rx_grammar.proofs.OperatorLaws.{not_like}
@@ -83,6 +83,7 @@ extended {found = found} {i = i} before apart a m ts l join w =
 arm_completes : (found : List Arm) (i : ℕ) (ps : List Tok) (p : Got PatternTree) (a : Tok) → Fits IsPattern ps p → Stands symbol.FatArrow a → Completes (λ vs l. SomeArms found i (ps ++ (a ∷ vs)) l) []
 arm_completes found i ps p a mp sa = record {
   further = a_name ∷ an_end ∷ [];
+  words = words_of (symbol.Name ∷ symbol.CloseBrace ∷ []) refl;
   made = items (found ++ ((p.tree, plain.var (span_of (a_name ∷ [])) a_name.text) ∷ [])) (max i (max p.height 1)) an_end.span;
   part = record {
     us = ps ++ (a ∷ a_name ∷ []);
@@ -101,13 +102,13 @@ arms_complete : (found : List Arm) (i : ℕ) → Completes (SomeArms found i) []
 arms_complete found i =
     let w = arm_completes found i (a_name ∷ []) (record { tree = plain.bind (span_of (a_name ∷ [])) (ident a_name) false; height = 1; span = span_of (a_name ∷ []) }) (stand_in symbol.FatArrow)
     (record { span = refl; holds = some_pattern }) (stand_in_stands symbol.FatArrow refl) in
-    record { further = a_name ∷ stand_in symbol.FatArrow ∷ w.further; made = w.made; part = w.part }
+    record { further = a_name ∷ stand_in symbol.FatArrow ∷ w.further; words = (stand_in_word symbol.Name refl, (stand_in_word symbol.FatArrow refl, w.words)); made = w.made; part = w.part }
 
 labelled_completes : (l c : Tok) → Stands symbol.Lifetime l → Stands symbol.Colon c → Completes (λ ts x. Fits IsLike (l ∷ c ∷ ts) x) []
 labelled_completes l c sl sc =
     let loop : Tok = stand_in symbol.Loop in
-    let w = whole_part {J = IsLike} (l ∷ c ∷ []) (loop ∷ a_block) _ _ (g.loop (l ∷ c ∷ []) a_block loop (Some (ident l)) _ _ (label l c sl sc) (stand_in_stands symbol.Loop refl) some_block refl) in
-    record { further = w.further; made = w.made; part = w.part }
+    let w = whole_part {J = IsLike} (l ∷ c ∷ []) (loop ∷ a_block) _ _ (words_of (symbol.Loop ∷ symbol.OpenBrace ∷ symbol.CloseBrace ∷ []) refl) (g.loop (l ∷ c ∷ []) a_block loop (Some (ident l)) _ _ (label l c sl sc) (stand_in_stands symbol.Loop refl) some_block refl) in
+    record { further = w.further; words = w.words; made = w.made; part = w.part }
 
 module _ (d : ℕ) (n : Deeper d) where
   closed_begun : {K : Known} (found : List Arm) (i : ℕ) → Begun K (arms_closed (operand d) (whole d) (like d) (block d) d found i) (ArmsListing found i)
@@ -175,10 +176,25 @@ module _ (d : ℕ) (n : Deeper d) where
   unfolding block_value
   block_value_begun = roomy 1 d symbol.OpenBrace refl (λ t s. first_like symbol.OpenBrace refl t s) (passed_last _ n.blocks (λ us b m. fits_node (λ s. plain.block s b.tree) m.span _ (g.block b.tree b.height m.holds)))
 
+  let_test_begun : {K : Known} → Begun K (let_test (operand d) (whole d) (like d) (block d) d) (Fits IsTest)
+  unfolding let_test
+  let_test_begun = took symbol.Let refl (λ t st. passed (pattern_begun d) (λ ps p mp. took symbol.Equal refl (λ q sq. passed_last _ (n.operands false 3) (λ us x m. record {
+    span = ap (λ z. join t.span z) m.span ∙ span_past t (ps ++ (q ∷ [])) us (operand_some m.holds) ∙ ap (λ z. span_of (t ∷ z)) (append_assoc ps (q ∷ []) us);
+    holds = g.test_pattern t q ps us p.tree x.tree p.height x.height st sq mp.holds m.holds refl;
+  }))))
+
+  test_by_begun : (q : Symbol) → Begun (at q) (test_by (operand d) (whole d) (like d) (block d) d q) (Fits IsTest)
+  test_by_begun symbol.Let = let_test_begun
+  test_by_begun _ = passed_last _ (n.operands false 5) (λ us x m. record { span = m.span; holds = g.test m.holds })
+
+  test_begun : {K : Known} → Begun K (test (operand d) (whole d) (like d) (block d) d) (Fits IsTest)
+  unfolding test
+  test_begun = chose (test_by (operand d) (whole d) (like d) (block d) d) test_by_begun
+
   else_by_begun : (q : Symbol) → Begun (at q) (else_by (operand d) (whole d) (like d) (block d) d q) (λ ts x. Front q ts → Fits IsElse ts x)
   else_by_begun symbol.OpenBrace = as_also (λ ts x m f. record { span = m.span; holds = else_of m.holds (ap begins_else (f (like_some m.holds))) }) (still n.likes)
   else_by_begun symbol.If = as_also (λ ts x m f. record { span = m.span; holds = else_of m.holds (ap begins_else (f (like_some m.holds))) }) (still n.likes)
-  else_by_begun _ = refused (record { further = else_completes.further; made = else_completes.made; part = λ f. else_completes.part })
+  else_by_begun _ = refused (record { further = else_completes.further; words = else_completes.words; made = else_completes.made; part = λ f. else_completes.part })
 
   else_begun : {K : Known} → Begun K (else_value (operand d) (whole d) (like d) (block d) d) (Fits IsElse)
   unfolding else_value
@@ -186,13 +202,13 @@ module _ (d : ℕ) (n : Deeper d) where
 
   conditional_begun : Begun (at symbol.If) (conditional (operand d) (whole d) (like d) (block d) d) (Fits IsLike)
   unfolding conditional
-  conditional_begun = roomed 1 d symbol.If refl (λ t st. passed (n.operands false 5) (λ us x mx. passed n.blocks (λ vs b mb.
+  conditional_begun = roomed 1 d symbol.If refl (λ t st. passed test_begun (λ us x mx. passed n.blocks (λ vs b mb.
       either symbol.Else
       (roomed 2 d symbol.Else refl (λ e se. passed_last _ else_begun (λ ws y my.
-      fits_node (λ s. plain.if s x.tree b.tree (plain.present y.tree))
+      fits_node (λ s. if_of s x.tree b.tree (plain.present y.tree))
       (ap (λ z. join t.span z) my.span ∙ span_past t (us ++ (vs ++ (e ∷ []))) ws (else_some my.holds) ∙ ap (λ z. span_of (t ∷ z)) (behind us vs e ws)) _
       (g.conditional (g.if_else t e us vs ws x.tree y.tree b.tree x.height b.height y.height st se mx.holds mb.holds my.holds refl)))))
-      (gave (fits_node (λ s. plain.if s x.tree b.tree plain.absent)
+      (gave (fits_node (λ s. if_of s x.tree b.tree plain.absent)
       (ap (λ z. join t.span z) mb.span ∙ span_past t us vs (block_some mb.holds) ∙ ap (λ z. span_of (t ∷ (us ++ z))) (sym (append-nil vs))) _
       (g.conditional (g.if_alone t us (vs ++ []) x.tree b.tree x.height b.height st mx.holds (subst (λ z. IsBlock z b.tree b.height) (sym (append-nil vs)) mb.holds) refl)))))))
     where
@@ -224,8 +240,8 @@ module _ (d : ℕ) (n : Deeper d) where
   while_begun : {K : Known} (ls : List Tok) (l : Option Tok) → IsLabel ls (label_of l) → ((t : Tok) (us vs : List Tok) → vs ≢ [] → join (start_of l t) (span_of vs) ≡ span_of (ls ++ (t ∷ (us ++ vs))))
       → Begun K (while_value (operand d) (whole d) (like d) (block d) d l) (λ ts x. Fits IsLike (ls ++ ts) x)
   unfolding while_value
-  while_begun ls l sl span = took symbol.While refl (λ t st. passed (n.operands false 5) (λ us x mx. passed_last _ n.blocks (λ vs b m.
-      fits_node (λ s. plain.while s (label_of l) x.tree b.tree) (ap (λ z. join (start_of l t) z) m.span ∙ span t us vs (block_some m.holds)) _
+  while_begun ls l sl span = took symbol.While refl (λ t st. passed test_begun (λ us x mx. passed_last _ n.blocks (λ vs b m.
+      fits_node (λ s. while_of s (label_of l) x.tree b.tree) (ap (λ z. join (start_of l t) z) m.span ∙ span t us vs (block_some m.holds)) _
       (g.while ls us vs t (label_of l) x.tree b.tree x.height b.height sl st mx.holds m.holds refl))))
 
   labelled_by_begun : (l c : Tok) → Stands symbol.Lifetime l → Stands symbol.Colon c → (q : Symbol)

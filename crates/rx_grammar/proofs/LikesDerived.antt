@@ -12,13 +12,13 @@ use Rattle.rx_grammar.specs.declared.symbol.Symbol.{Symbol}
 use Rattle.rx_grammar.specs.declared.symbol.Symbol.TheVariants as symbol
 use Rattle.rx_grammar.specs.grammar.Words.{join, span_of, ident}
 use Rattle.rx_grammar.specs.grammar.Patterns.{IsPattern}
-use Rattle.rx_grammar.specs.grammar.Expressions.{IsExpression, IsOperand, IsLike, IsIf, IsElse, IsBlock, IsLabel, no_label, label, AreArms, BeginsLike}
+use Rattle.rx_grammar.specs.grammar.Expressions.{IsExpression, IsOperand, IsLike, IsIf, IsElse, IsBlock, IsLabel, no_label, label, AreArms, BeginsLike, IsTest, fitting, if_of, while_of}
 use Rattle.rx_grammar.specs.grammar.Expressions as g
 use Rattle.rx_grammar.specs.parser.Symbols.{symbol_of, peek}
 use Rattle.rx_grammar.specs.parser.Steps.{Parser, Got, node}
 use Rattle.rx_grammar.specs.parser.Lists.{Items}
 use Rattle.rx_grammar.specs.parser.Operators.{Setting, assigns, updates, setting, begins_like, begins_expression}
-use Rattle.rx_grammar.specs.parser.Expressions.{label_of, start_of, block_value, else_by, else_value, conditional, arms_closed, after_arm, arm_by, arms_from, arms, match_value, loop_value, while_value, labelled_by, labelled, set_as, set_by, returned_by, return_value, jump, set_or_operand, whole_by}
+use Rattle.rx_grammar.specs.parser.Expressions.{label_of, start_of, block_value, let_test, test_by, test, else_by, else_value, conditional, arms_closed, after_arm, arm_by, arms_from, arms, match_value, loop_value, while_value, labelled_by, labelled, set_as, set_by, returned_by, return_value, jump, set_or_operand, whole_by}
 use Rattle.rx_grammar.specs.parser.Blocks.{operand, whole, like, block}
 use Rattle.rx_grammar.proofs.SymbolLemmas.{Stands, is_word}
 use Rattle.rx_grammar.proofs.Reading.{first_is, items, span_between, span_from, span_past, span_over}
@@ -179,6 +179,25 @@ module _ (d : ℕ) (n : Deeper d) where
   unfolding block_value
   block_value_derived = roomy 1 d (λ low. passed_last _ n.blocks (λ us b m. fits_node (λ s. plain.block s b.tree) m.span m.low (g.block b.tree b.height m.holds)))
 
+  let_test_derived : Derives (let_test (operand d) (whole d) (like d) (block d) d) (Fits IsTest d)
+  unfolding let_test
+  let_test_derived = took symbol.Let refl (λ t st. passed (pattern_sound d) (λ ps p mp. took symbol.Equal refl (λ q sq. passed_last _ (n.operands false 3) (λ us x m.
+      let lp = mp.low in
+      let lx = m.low in
+      record {
+        low = omega arith;
+        span = ap (λ z. join t.span z) m.span ∙ span_past t (ps ++ (q ∷ [])) us (operand_some m.holds) ∙ ap (λ z. span_of (t ∷ z)) (append_assoc ps (q ∷ []) us);
+        holds = g.test_pattern t q ps us p.tree x.tree p.height x.height st sq mp.holds m.holds refl;
+      }))))
+
+  test_by_derived : (q : Symbol) → Derives (test_by (operand d) (whole d) (like d) (block d) d q) (Fits IsTest d)
+  test_by_derived symbol.Let = let_test_derived
+  test_by_derived _ = passed_last _ (n.operands false 5) (λ us x m. record { low = m.low; span = m.span; holds = g.test m.holds })
+
+  test_derived : Derives (test (operand d) (whole d) (like d) (block d) d) (Fits IsTest d)
+  unfolding test
+  test_derived = chose (test_by (operand d) (whole d) (like d) (block d) d) test_by_derived
+
   else_by_derived : (q : Symbol) → Derives (else_by (operand d) (whole d) (like d) (block d) d q) (λ ts x. Front q ts → Fits IsElse d ts x)
   else_by_derived symbol.OpenBrace = as_also (λ ts x m f. record { low = m.low; span = m.span; holds = else_of m.holds (ap begins_else (f (like_some m.holds))) }) n.likes
   else_by_derived symbol.If = as_also (λ ts x m f. record { low = m.low; span = m.span; holds = else_of m.holds (ap begins_else (f (like_some m.holds))) }) n.likes
@@ -190,16 +209,16 @@ module _ (d : ℕ) (n : Deeper d) where
 
   conditional_derived : Derives (conditional (operand d) (whole d) (like d) (block d) d) (Fits IsLike (suc d))
   unfolding conditional
-  conditional_derived = roomy 1 d (λ low. took symbol.If refl (λ t st. passed (n.operands false 5) (λ us x mx. passed n.blocks (λ vs b mb.
+  conditional_derived = roomy 1 d (λ low. took symbol.If refl (λ t st. passed test_derived (λ us x mx. passed n.blocks (λ vs b mb.
       let lx = mx.low in
       let lb = mb.low in
       either symbol.Else
       (roomy 2 d (λ deep. took symbol.Else refl (λ e se. passed_last _ else_derived (λ ws y my.
       let ly = my.low in
-      fits_node (λ s. plain.if s x.tree b.tree (plain.present y.tree))
+      fits_node (λ s. if_of s x.tree b.tree (plain.present y.tree))
       (ap (λ z. join t.span z) my.span ∙ span_past t (us ++ (vs ++ (e ∷ []))) ws (else_some my.holds) ∙ ap (λ z. span_of (t ∷ z)) (behind us vs e ws)) (omega arith)
       (g.conditional (g.if_else t e us vs ws x.tree y.tree b.tree x.height b.height y.height st se mx.holds mb.holds my.holds refl))))))
-      (gave (fits_node (λ s. plain.if s x.tree b.tree plain.absent)
+      (gave (fits_node (λ s. if_of s x.tree b.tree plain.absent)
       (ap (λ z. join t.span z) mb.span ∙ span_past t us vs (block_some mb.holds) ∙ ap (λ z. span_of (t ∷ (us ++ z))) (sym (append-nil vs))) (omega arith)
       (g.conditional (g.if_alone t us (vs ++ []) x.tree b.tree x.height b.height st mx.holds (subst (λ z. IsBlock z b.tree b.height) (sym (append-nil vs)) mb.holds) refl))))))))
     where
@@ -233,10 +252,10 @@ module _ (d : ℕ) (n : Deeper d) where
   while_derived : (ls : List Tok) (l : Option Tok) → IsLabel ls (label_of l) → ((t : Tok) (us vs : List Tok) → vs ≢ [] → join (start_of l t) (span_of vs) ≡ span_of (ls ++ (t ∷ (us ++ vs))))
       → Derives (while_value (operand d) (whole d) (like d) (block d) d l) (λ ts x. Fits IsLike (suc d) (ls ++ ts) x)
   unfolding while_value
-  while_derived ls l sl span = took symbol.While refl (λ t st. passed (n.operands false 5) (λ us x mx. passed_last _ n.blocks (λ vs b m.
+  while_derived ls l sl span = took symbol.While refl (λ t st. passed test_derived (λ us x mx. passed_last _ n.blocks (λ vs b m.
       let lx = mx.low in
       let lb = m.low in
-      fits_node (λ s. plain.while s (label_of l) x.tree b.tree) (ap (λ z. join (start_of l t) z) m.span ∙ span t us vs (block_some m.holds)) (omega arith)
+      fits_node (λ s. while_of s (label_of l) x.tree b.tree) (ap (λ z. join (start_of l t) z) m.span ∙ span t us vs (block_some m.holds)) (omega arith)
       (g.while ls us vs t (label_of l) x.tree b.tree x.height b.height sl st mx.holds m.holds refl))))
 
   labelled_by_derived : (l c : Tok) → Stands symbol.Lifetime l → Stands symbol.Colon c → (q : Symbol)

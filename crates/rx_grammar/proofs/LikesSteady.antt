@@ -12,7 +12,7 @@ use Rattle.rx_grammar.specs.declared.symbol.Symbol.TheVariants as symbol
 use Rattle.rx_grammar.specs.parser.Steps.{Parser, Got}
 use Rattle.rx_grammar.specs.parser.Lists.{Items}
 use Rattle.rx_grammar.specs.parser.Operators.{Setting, setting, begins_like, begins_expression}
-use Rattle.rx_grammar.specs.parser.Expressions.{block_value, else_by, else_value, conditional, arms_closed, after_arm, arm_by, arms_from, arms, match_value, loop_value, while_value, labelled_by, labelled, like_by, set_by, returned_by, return_value, jump, set_or_operand, whole_by}
+use Rattle.rx_grammar.specs.parser.Expressions.{block_value, let_test, test_by, test, else_by, else_value, conditional, arms_closed, after_arm, arm_by, arms_from, arms, match_value, loop_value, while_value, labelled_by, labelled, like_by, set_by, returned_by, return_value, jump, set_or_operand, whole_by}
 use Rattle.rx_grammar.specs.parser.Blocks.{operand, whole, like, block}
 use Rattle.rx_grammar.proofs.Steady.{Alike, then, eaten, pures, refuses, takes, by, either, room}
 use Rattle.rx_grammar.proofs.SteadyLists.{looped, end_refused, fueled, takes_eats}
@@ -32,6 +32,18 @@ module _ {k : Bool} {d e : ℕ} (b : Below k d e) where
   unfolding block_value
   block_value_alike = room 1 b.depths (then (b.blocks _ _) (λ x. pures))
 
+  let_test_alike : {n m : ℕ} → Alike k n m (let_test (operand d) (whole d) (like d) (block d) d) (let_test (operand e) (whole e) (like e) (block e) e)
+  unfolding let_test
+  let_test_alike = then (takes symbol.Let) (λ t. then (pattern_alike d e b.depths _ _) (λ p. then (takes symbol.Equal) (λ q. then (b.operands false 3 _ _) (λ x. pures))))
+
+  test_by_alike : {n m : ℕ} (q : Symbol) → Alike k n m (test_by (operand d) (whole d) (like d) (block d) d q) (test_by (operand e) (whole e) (like e) (block e) e q)
+  test_by_alike symbol.Let = let_test_alike
+  test_by_alike _ = then (b.operands false 5 _ _) (λ x. pures)
+
+  test_alike : {n m : ℕ} → Alike k n m (test (operand d) (whole d) (like d) (block d) d) (test (operand e) (whole e) (like e) (block e) e)
+  unfolding test
+  test_alike = by test_by_alike
+
   else_by_alike : {n m : ℕ} (q : Symbol) → Alike k n m (else_by (operand d) (whole d) (like d) (block d) d q) (else_by (operand e) (whole e) (like e) (block e) e q)
   else_by_alike symbol.OpenBrace = b.likes _ _
   else_by_alike symbol.If = b.likes _ _
@@ -43,7 +55,7 @@ module _ {k : Bool} {d e : ℕ} (b : Below k d e) where
 
   conditional_alike : {n m : ℕ} → Alike k n m (conditional (operand d) (whole d) (like d) (block d) d) (conditional (operand e) (whole e) (like e) (block e) e)
   unfolding conditional
-  conditional_alike = room 1 b.depths (then (takes symbol.If) (λ t. then (b.operands false 5 _ _) (λ x. then (b.blocks _ _) (λ y.
+  conditional_alike = room 1 b.depths (then (takes symbol.If) (λ t. then test_alike (λ x. then (b.blocks _ _) (λ y.
       either symbol.Else (room 2 b.depths (then (takes symbol.Else) (λ l. then else_alike (λ z. pures)))) pures))))
 
   closed_alike : {n m : ℕ} (found : List Arm) (h : ℕ) → Alike k n m (arms_closed (operand d) (whole d) (like d) (block d) d found h) (arms_closed (operand e) (whole e) (like e) (block e) e found h)
@@ -80,7 +92,7 @@ module _ {k : Bool} {d e : ℕ} (b : Below k d e) where
 
   while_alike : {n m : ℕ} (l : Option Tok) → Alike k n m (while_value (operand d) (whole d) (like d) (block d) d l) (while_value (operand e) (whole e) (like e) (block e) e l)
   unfolding while_value
-  while_alike l = then (takes symbol.While) (λ t. then (b.operands false 5 _ _) (λ x. then (b.blocks _ _) (λ y. pures)))
+  while_alike l = then (takes symbol.While) (λ t. then test_alike (λ x. then (b.blocks _ _) (λ y. pures)))
 
   labelled_by_alike : {n m : ℕ} (l : Tok) (q : Symbol) → Alike k n m (labelled_by (operand d) (whole d) (like d) (block d) d l q) (labelled_by (operand e) (whole e) (like e) (block e) e l q)
   labelled_by_alike l symbol.Loop = loop_alike (Some l)

@@ -25,7 +25,7 @@ use Rattle.rx_grammar.specs.grammar.Words.{immutable}
 use Rattle.rx_grammar.specs.parser.Steps.{node}
 use Rattle.rx_grammar.proofs.SymbolLemmas.{Stands, is_word}
 use Rattle.rx_grammar.proofs.Reading.{span_between, span_from, span_past, span_over}
-use Rattle.rx_grammar.proofs.Begun.{took, passed, passed_last, gave, chose, either, refused, as_also, Known, any, at, Begun, roomed, roomy, stand_in, stand_in_stands}
+use Rattle.rx_grammar.proofs.Begun.{took, passed, passed_last, gave, chose, either, refused, as_also, Known, any, at, Begun, roomed, roomy, stand_in, stand_in_stands, words_of}
 use Rattle.rx_grammar.proofs.BegunLists.{Fits, fits_leaf, fits_node, listed_found, some_listed_found, group_found, halved_last, whole_part}
 use Rattle.rx_grammar.proofs.BegunWords.{number_took, index_took}
 use Rattle.rx_grammar.proofs.TypesBegun.{mutability_begun}
@@ -90,8 +90,8 @@ module _ (d : ℕ) (ok : Begun any (whole d) (Fits IsExpression)) (f : Bool) whe
       (gave (record { span = refl; holds = g.short_field n sn refl })))
 
   field_by_begun : (q : Symbol) → Begun (at q) (field_by (whole d) d q) (Fits IsField)
-  field_by_begun symbol.Name = roomy 1 d symbol.Name refl (λ t s. whole_part (t ∷ []) [] _ _ (g.short_field t s refl)) field_value_begun
-  field_by_begun _ = refused (whole_part [] (stand_in symbol.Name ∷ []) _ _ (g.short_field (stand_in symbol.Name) (stand_in_stands symbol.Name refl) refl))
+  field_by_begun symbol.Name = roomy 1 d symbol.Name refl (λ t s. whole_part (t ∷ []) [] _ _ tt (g.short_field t s refl)) field_value_begun
+  field_by_begun _ = refused (whole_part [] (stand_in symbol.Name ∷ []) _ _ (words_of (symbol.Name ∷ []) refl) (g.short_field (stand_in symbol.Name) (stand_in_stands symbol.Name refl) refl))
 
   field_begun : {K : Known} → Begun K (field (whole d) d) (Fits IsField)
   unfolding field
@@ -167,7 +167,7 @@ member_by_begun : (d : ℕ) (f : Bool) (us : List Tok) (p : Tok) (l : Got Expres
 member_by_begun d f us p l e sp symbol.Name = took symbol.Name refl (λ n sn. gave (field_fits f us p l e sp n sn))
 member_by_begun d f us p l e sp symbol.Number = index_took _ (λ t v st. gave (fits_node (λ s. plain.part s l.tree v)
     (ap (λ z. join z t.span) e.span ∙ span_over us p (t ∷ []) (postfix_some e.holds) (λ a. cc)) _ (g.part us p t v l.tree l.height sp st e.holds refl)))
-member_by_begun d f us p l e sp _ = refused (record { further = stand_in symbol.Name ∷ []; made = _; part = field_fits f us p l e sp (stand_in symbol.Name) (stand_in_stands symbol.Name refl) })
+member_by_begun d f us p l e sp _ = refused (record { further = stand_in symbol.Name ∷ []; words = words_of (symbol.Name ∷ []) refl; made = _; part = field_fits f us p l e sp (stand_in symbol.Name) (stand_in_stands symbol.Name refl) })
 
 member_begun : (d : ℕ) (f : Bool) (us : List Tok) (l : Got Expression) → Fits (IsPostfix f) us l
     → Begun (at symbol.Dot) (member (operand d) (whole d) (like d) (block d) d l) (λ vs x. Fits (IsPostfix f) (us ++ vs) x)
@@ -215,7 +215,7 @@ module _ (d : ℕ) (n : Deeper d) (f : Bool) where
   borrow_twice_begun : Begun (at symbol.AndAnd) (borrow_twice (operand d) (whole d) (like d) (block d) d f) (Fits (IsUnary f))
   unfolding borrow_twice
   borrow_twice_begun = halved_last 1 d (operand d f 0) (λ t x. node (λ s. plain.borrow s false x.tree) (join t.span x.span) x.height) unaries (λ ts x h r. unary_some r)
-      (λ t s. whole_part (second_ampersand t ∷ []) (stand_in symbol.Name ∷ []) _ _ (g.borrow (second_ampersand t) [] (stand_in symbol.Name ∷ []) false _ _ (refl, refl) immutable
+      (λ t s. whole_part (second_ampersand t ∷ []) (stand_in symbol.Name ∷ []) _ _ (words_of (symbol.Name ∷ []) refl) (g.borrow (second_ampersand t) [] (stand_in symbol.Name ∷ []) false _ _ (refl, refl) immutable
       (g.postfix (g.primary (g.variable (stand_in symbol.Name) (stand_in_stands symbol.Name refl) refl))) refl))
       (λ t s us x e. fits_node (λ s. plain.borrow s false x.tree) (ap (λ z. join t.span z) e.span ∙ second_span t us) _ (g.borrow_twice t us x.tree x.height s e.holds refl))
 

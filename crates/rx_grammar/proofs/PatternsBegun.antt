@@ -16,9 +16,9 @@ use Rattle.rx_lex.specs.Words.{IsWord}
 use Rattle.rx_grammar.specs.parser.Symbols.{symbol_of}
 use Rattle.rx_grammar.proofs.SymbolLemmas.{Stands, stands}
 use Rattle.rx_grammar.proofs.Reading.{span_between, span_past}
-use Rattle.rx_grammar.proofs.Begun.{spelled, took, passed_last, gave, chose, either, refused, Known, any, at, Begun, Completes, roomed, roomy, stopped, stand_in, stand_in_stands}
+use Rattle.rx_grammar.proofs.Begun.{spelled, took, passed_last, gave, chose, either, refused, Known, any, at, Begun, Completes, roomed, roomy, stopped, stand_in, stand_in_stands, words_of}
 use Rattle.rx_grammar.proofs.BegunLists.{Fits, fits_leaf, fits_node, listed_found, some_listed_found, group_found, whole_part}
-use Rattle.rx_grammar.proofs.BegunWords.{is_number, number_took, zero_is}
+use Rattle.rx_grammar.proofs.BegunWords.{is_number, number_took, zero_is, zero_words}
 use Rattle.rx_grammar.proofs.PatternsRead.{pattern_some}
 
 mutable_begun : {K : Known} → Begun K mutable_binding (Fits IsPattern)
@@ -36,17 +36,17 @@ negative_begun = took symbol.Minus refl (λ m sm. number_took _ (λ t v k s. gav
 -- ---- what a pattern begins with
 
 pub pattern_completes : Completes (Fits IsPattern) []
-pattern_completes = whole_part [] (stand_in symbol.Name ∷ []) _ _ (g.binding (stand_in symbol.Name) (stand_in_stands symbol.Name refl) refl)
+pattern_completes = whole_part [] (stand_in symbol.Name ∷ []) _ _ (words_of (symbol.Name ∷ []) refl) (g.binding (stand_in symbol.Name) (stand_in_stands symbol.Name refl) refl)
 
 first_pattern : (q : Symbol) → begins_pattern q ≡ true → (t : Tok) → Stands q t → IsWord t.class t.text → Completes (Fits IsPattern) (t ∷ [])
-first_pattern symbol.Name e t s w = whole_part (t ∷ []) [] _ _ (g.binding t s refl)
-first_pattern symbol.Number e t s w = let n = is_number t w s in whole_part (t ∷ []) [] _ _ (g.number t n.0 n.1 n.2 refl)
-first_pattern symbol.Mut e t s w = whole_part (t ∷ []) (stand_in symbol.Name ∷ []) _ _ (g.mutable_binding t (stand_in symbol.Name) s (stand_in_stands symbol.Name refl) refl)
-first_pattern symbol.True e t s w = whole_part (t ∷ []) [] _ _ (g.true_is t s refl)
-first_pattern symbol.False e t s w = whole_part (t ∷ []) [] _ _ (g.false_is t s refl)
-first_pattern symbol.Underscore e t s w = whole_part (t ∷ []) [] _ _ (g.wild t s refl)
-first_pattern symbol.Minus e t s w = whole_part (t ∷ []) (spelled class.Number (codes "0") ∷ []) _ _ (g.negative t (spelled class.Number (codes "0")) 0 None s zero_is refl)
-first_pattern symbol.OpenParen e t s w = whole_part (t ∷ []) (stand_in symbol.CloseParen ∷ []) _ _ (g.unit t (stand_in symbol.CloseParen) s (stand_in_stands symbol.CloseParen refl) refl)
+first_pattern symbol.Name e t s w = whole_part (t ∷ []) [] _ _ tt (g.binding t s refl)
+first_pattern symbol.Number e t s w = let n = is_number t w s in whole_part (t ∷ []) [] _ _ tt (g.number t n.0 n.1 n.2 refl)
+first_pattern symbol.Mut e t s w = whole_part (t ∷ []) (stand_in symbol.Name ∷ []) _ _ (words_of (symbol.Name ∷ []) refl) (g.mutable_binding t (stand_in symbol.Name) s (stand_in_stands symbol.Name refl) refl)
+first_pattern symbol.True e t s w = whole_part (t ∷ []) [] _ _ tt (g.true_is t s refl)
+first_pattern symbol.False e t s w = whole_part (t ∷ []) [] _ _ tt (g.false_is t s refl)
+first_pattern symbol.Underscore e t s w = whole_part (t ∷ []) [] _ _ tt (g.wild t s refl)
+first_pattern symbol.Minus e t s w = whole_part (t ∷ []) (spelled class.Number (codes "0") ∷ []) _ _ zero_words (g.negative t (spelled class.Number (codes "0")) 0 None s zero_is refl)
+first_pattern symbol.OpenParen e t s w = whole_part (t ∷ []) (stand_in symbol.CloseParen ∷ []) _ _ (words_of (symbol.CloseParen ∷ []) refl) (g.unit t (stand_in symbol.CloseParen) s (stand_in_stands symbol.CloseParen refl) refl)
 first_pattern _ e t s w = absurd (cc)
 
 module _ (d : ℕ) (ok : Begun any (pattern d) (Fits IsPattern)) where
@@ -70,9 +70,9 @@ module _ (d : ℕ) (ok : Begun any (pattern d) (Fits IsPattern)) where
   short_begun = took symbol.Mut refl (λ m sm. took symbol.Name refl (λ n sn. gave (record { span = refl; holds = g.short_mutable m n sm sn refl })))
 
   field_by_begun : (q : Symbol) → Begun (at q) (field_pattern_by (pattern d) d q) (Fits IsFieldPattern)
-  field_by_begun symbol.Name = roomy 1 d symbol.Name refl (λ t s. whole_part (t ∷ []) [] _ _ (g.short_field t s refl)) long_begun
-  field_by_begun symbol.Mut = roomy 1 d symbol.Mut refl (λ t s. whole_part (t ∷ []) (stand_in symbol.Name ∷ []) _ _ (g.short_mutable t (stand_in symbol.Name) s (stand_in_stands symbol.Name refl) refl)) short_begun
-  field_by_begun _ = refused (whole_part [] (stand_in symbol.Name ∷ []) _ _ (g.short_field (stand_in symbol.Name) (stand_in_stands symbol.Name refl) refl))
+  field_by_begun symbol.Name = roomy 1 d symbol.Name refl (λ t s. whole_part (t ∷ []) [] _ _ tt (g.short_field t s refl)) long_begun
+  field_by_begun symbol.Mut = roomy 1 d symbol.Mut refl (λ t s. whole_part (t ∷ []) (stand_in symbol.Name ∷ []) _ _ (words_of (symbol.Name ∷ []) refl) (g.short_mutable t (stand_in symbol.Name) s (stand_in_stands symbol.Name refl) refl)) short_begun
+  field_by_begun _ = refused (whole_part [] (stand_in symbol.Name ∷ []) _ _ (words_of (symbol.Name ∷ []) refl) (g.short_field (stand_in symbol.Name) (stand_in_stands symbol.Name refl) refl))
 
   field_begun : {K : Known} → Begun K (field_pattern (pattern d) d) (Fits IsFieldPattern)
   unfolding field_pattern

@@ -8,7 +8,7 @@ use Rattle.rx_grammar.specs.grammar.Items.{IsFile}
 use Rattle.rx_lex.specs.Words.{IsWord}
 use Rattle.rx_lex.specs.Tokens.{Tokens, Lexes, token_at}
 use Rattle.rx_lex.specs.Tokens as lexed
-use Rattle.rx_grammar.specs.grammar.Begins.{Begins, BeginsWithin}
+use Rattle.rx_grammar.specs.grammar.Begins.{Begins, BeginsNone, BeginsNoneWithin}
 use Rattle.rx_grammar.specs.parser.Symbols.{head, tail}
 use Rattle.rx_grammar.specs.parser.Places.{Says, program, syntax_at, syntax_at_end, too_deep_at}
 use Rattle.rx_grammar.specs.parser.Steps.{Outcome}
@@ -40,19 +40,19 @@ too_deep_again d us r s t f = again_deep us (t ∷ r) refl f
     ((file_alike d d (as_many true d) (length (us ++ (t ∷ r))) (length (us ++ (t ∷ s)))).at (us ++ (t ∷ r)) (omega arith)) refl (t ∷ s) (token t r s) (omega arith)
 
 -- with the token at which it is no program goes on, they begin none
-pub syntax_begins_none : (d : ℕ) (us r : List Tok) (t : Tok) → file d (us ++ (t ∷ r)) ≡ Err (Syntax (length (t ∷ r))) → Begins (us ++ (t ∷ [])) → ⊥
-syntax_begins_none d us r t f b =
-    let e : ℕ = max d b.height in
-    let s = syntax_again d e us r b.further t (omega arith) f in
-    let c = program_read e ((us ++ (t ∷ [])) ++ b.further) b.program b.height (omega arith) b.derived in
-    no_outcome _ _ _ c (ap (file e) (append_assoc us (t ∷ []) b.further) ∙ s)
+pub syntax_begins_none : (d : ℕ) (us r : List Tok) (t : Tok) → file d (us ++ (t ∷ r)) ≡ Err (Syntax (length (t ∷ r))) → BeginsNone (us ++ (t ∷ []))
+syntax_begins_none d us r t f further p h b =
+    let e : ℕ = max d h in
+    let s = syntax_again d e us r further t (omega arith) f in
+    let c = program_read e ((us ++ (t ∷ [])) ++ further) p h (omega arith) b in
+    no_outcome _ _ _ c (ap (file e) (append_assoc us (t ∷ []) further) ∙ s)
 
 -- with the token at which it is too deep, they begin none of so many levels
-pub too_deep_begins_none : (d : ℕ) (us r : List Tok) (t : Tok) → file d (us ++ (t ∷ r)) ≡ Err (TooDeep (length (t ∷ r))) → BeginsWithin d (us ++ (t ∷ [])) → ⊥
-too_deep_begins_none d us r t f b =
-    let s = too_deep_again d us r b.further t f in
-    let c = program_read d ((us ++ (t ∷ [])) ++ b.further) b.program b.height b.low b.derived in
-    no_outcome _ _ _ c (ap (file d) (append_assoc us (t ∷ []) b.further) ∙ s)
+pub too_deep_begins_none : (d : ℕ) (us r : List Tok) (t : Tok) → file d (us ++ (t ∷ r)) ≡ Err (TooDeep (length (t ∷ r))) → BeginsNoneWithin d (us ++ (t ∷ []))
+too_deep_begins_none d us r t f further p h low b =
+    let s = too_deep_again d us r further t f in
+    let c = program_read d ((us ++ (t ∷ [])) ++ further) p h low b in
+    no_outcome _ _ _ c (ap (file d) (append_assoc us (t ∷ []) further) ∙ s)
 
 -- where the end is the place, the tokens are no program
 pub syntax_at_end_none : (d : ℕ) (ts : List Tok) → file d ts ≡ Err (Syntax 0) → (p : ProgramTree) (h : ℕ) → IsFile ts p h → ⊥
@@ -65,7 +65,7 @@ syntax_at_end_none d ts f p h r =
 -- ---- what the tokens before begin
 
 begins_by : (us : List Tok) → Completes IsRead us → Begins us
-begins_by us c = record { further = c.further; program = c.made.0; height = c.made.1; derived = c.part.holds }
+begins_by us c = record { further = c.further; words = c.words; program = c.made.0; height = c.made.1; derived = c.part.holds }
 
 before_syntax : (us r : List Tok) (o : Outcome (List ItemTree × ℕ)) → o ≡ Err (Syntax (length r)) → Goes IsRead (us ++ r) o → Begins us
 before_syntax us r o e (reads vs x a is oe h) = absurd (cc)
@@ -85,14 +85,14 @@ with_too_deep us r t o e (deep vs x v is oe c) w =
     subst (λ z. Begins (z ++ (t ∷ []))) (sym y.0) (subst (λ z. Begins (vs ++ (z ∷ []))) (sym h) (begins_by (vs ++ (v ∷ [])) (c (subst (λ z. IsWord z.class z.text) h w))))
 
 -- at a token
-pub syntax_place : (d : ℕ) (us r : List Tok) (t : Tok) → file d (us ++ (t ∷ r)) ≡ Err (Syntax (length (t ∷ r))) → Begins us × (Begins (us ++ (t ∷ [])) → ⊥)
+pub syntax_place : (d : ℕ) (us r : List Tok) (t : Tok) → file d (us ++ (t ∷ r)) ≡ Err (Syntax (length (t ∷ r))) → Begins us × BeginsNone (us ++ (t ∷ []))
 syntax_place d us r t f = (before_syntax us (t ∷ r) (file d (us ++ (t ∷ r))) f ((file_begun d).goes (us ++ (t ∷ r)) refl), syntax_begins_none d us r t f)
 
 -- at the end
 pub end_place : (d : ℕ) (ts : List Tok) → file d ts ≡ Err (Syntax 0) → Begins ts × ((p : ProgramTree) (h : ℕ) → IsFile ts p h → ⊥)
 end_place d ts f = (before_syntax ts [] (file d ts) f (subst (λ z. Goes IsRead z (file d ts)) (sym (append-nil ts)) ((file_begun d).goes ts refl)), syntax_at_end_none d ts f)
 
-pub too_deep_place : (d : ℕ) (us r : List Tok) (t : Tok) → file d (us ++ (t ∷ r)) ≡ Err (TooDeep (length (t ∷ r))) → (IsWord t.class t.text → Begins (us ++ (t ∷ []))) × (BeginsWithin d (us ++ (t ∷ [])) → ⊥)
+pub too_deep_place : (d : ℕ) (us r : List Tok) (t : Tok) → file d (us ++ (t ∷ r)) ≡ Err (TooDeep (length (t ∷ r))) → (IsWord t.class t.text → Begins (us ++ (t ∷ []))) × BeginsNoneWithin d (us ++ (t ∷ []))
 too_deep_place d us r t f = (with_too_deep us r t (file d (us ++ (t ∷ r))) f ((file_begun d).goes (us ++ (t ∷ r)) refl), too_deep_begins_none d us r t f)
 
 -- whatever is answered

@@ -12,14 +12,14 @@ use Rattle.rx_grammar.specs.declared.symbol.Symbol.{Symbol}
 use Rattle.rx_grammar.specs.declared.symbol.Symbol.TheVariants as symbol
 use Rattle.rx_grammar.specs.grammar.Words.{join, span_of}
 use Rattle.rx_grammar.specs.grammar.Patterns.{IsPattern}
-use Rattle.rx_grammar.specs.grammar.Expressions.{IsExpression, IsOperand, IsUnary, IsPostfix, IsPrimary, AreArguments, IsField, AreFields, IsLike, IsIf, IsElse, AreArms, IsBlock, IsStatement, AreStatements, IsLabel, no_label, label, IsUpdate, BeginsLike}
+use Rattle.rx_grammar.specs.grammar.Expressions.{IsExpression, IsOperand, IsUnary, IsPostfix, IsPrimary, AreArguments, IsField, AreFields, IsLike, IsIf, IsElse, AreArms, IsBlock, IsStatement, AreStatements, IsLabel, no_label, label, IsUpdate, BeginsLike, Test, while_of}
 use Rattle.rx_grammar.specs.grammar.Expressions as g
 use Rattle.rx_grammar.specs.parser.Symbols.{symbol_of, peek}
 use Rattle.rx_grammar.specs.parser.Steps.{Parser, Got, node}
 use Rattle.rx_grammar.specs.parser.Lists.{Items}
 use Rattle.rx_grammar.specs.parser.Patterns.{begins_pattern}
 use Rattle.rx_grammar.specs.parser.Operators.{updates, setting, begins_like, begins_expression}
-use Rattle.rx_grammar.specs.parser.Expressions.{field, arms_from, arm_by, after_arm}
+use Rattle.rx_grammar.specs.parser.Expressions.{field, test, arms_from, arm_by, after_arm}
 use Rattle.rx_grammar.specs.parser.Blocks.{let_statement, closed, after_expression, after_like_by, expression_by, statement_by, statements_from, statements, block_of, operand, whole, like, block}
 use Rattle.rx_grammar.proofs.SymbolLemmas.{Stands, is_word}
 use Rattle.rx_grammar.proofs.Reading.{Reads, take, part, done, by, turned, here, there, along, first_is, got, items, node_is, span_between, span_to, differs, deeper, some_length, Element}
@@ -286,9 +286,9 @@ pub loop_any : (d : ℕ) (rest us : List Tok) (t : Tok) (b : Body) (h : ℕ) →
 loop_any d rest us t b h low some s r no_label = like_case.loop_case d rest us t b h low some s r
 loop_any d rest us t b h low some s r (label l c sl sc) = like_case.labelled_loop_case d rest us l c t b h low some sl sc s r
 
-pub while_any : (d : ℕ) (rest us vs : List Tok) (t : Tok) (x : Expression) (b : Body) (m n : ℕ) → 1 ≤ d → vs ≢ [] → Stands symbol.While t → Reads (operand d false 5) us (got us x m) (vs ++ rest) → Reads (block d) vs (got vs b n) rest
+pub while_any : (d : ℕ) (rest us vs : List Tok) (t : Tok) (x : Test) (b : Body) (m n : ℕ) → 1 ≤ d → vs ≢ [] → Stands symbol.While t → Reads (test (operand d) (whole d) (like d) (block d) d) us (got us x m) (vs ++ rest) → Reads (block d) vs (got vs b n) rest
     → {ls : List Tok} {l : Option Ident} → IsLabel ls l
-    → Reads (like (suc d)) (ls ++ (t ∷ (us ++ vs))) (got (ls ++ (t ∷ (us ++ vs))) (plain.while (span_of (ls ++ (t ∷ (us ++ vs)))) l x b) (suc (max m n))) rest
+    → Reads (like (suc d)) (ls ++ (t ∷ (us ++ vs))) (got (ls ++ (t ∷ (us ++ vs))) (while_of (span_of (ls ++ (t ∷ (us ++ vs)))) l x b) (suc (max m n))) rest
 while_any d rest us vs t x b m n low some s p r no_label = like_case.while_case d rest us vs t x b m n low some s p r
 while_any d rest us vs t x b m n low some s p r (label l c sl sc) = like_case.labelled_while_case d rest us vs l c t x b m n low some sl sc s p r
 

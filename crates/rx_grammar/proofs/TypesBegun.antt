@@ -13,7 +13,7 @@ use Rattle.rx_grammar.specs.grammar.Types as g
 use Rattle.rx_grammar.specs.parser.Types.{begins_type, mutability, reference_lifetime, lifetime_argument_by, kind_by, named_type, reference, two_references, type_by, typ}
 use Rattle.rx_grammar.specs.parser.Types as parser
 use Rattle.rx_grammar.proofs.Reading.{span_between, span_past}
-use Rattle.rx_grammar.proofs.Begun.{took, passed, passed_last, gave, chose, either, refused, Known, any, at, Begun, Completes, roomed, stopped, stand_in, stand_in_stands}
+use Rattle.rx_grammar.proofs.Begun.{took, passed, passed_last, gave, chose, either, refused, Known, any, at, Begun, Completes, roomed, stopped, stand_in, stand_in_stands, words_of}
 use Rattle.rx_grammar.proofs.BegunLists.{Fits, fits_leaf, fits_node, some_listed_found, group_found, halved_last, whole_part}
 use Rattle.rx_grammar.specs.parser.Symbols.{symbol_of}
 use Rattle.rx_grammar.specs.parser.Steps.{node}
@@ -32,7 +32,7 @@ lifetime_begun = either symbol.Lifetime (took symbol.Lifetime refl (λ t s. gave
 argument_by_begun : (q : Symbol) → Begun (at q) (lifetime_argument_by q) (Fits IsLifetimeArgument)
 argument_by_begun symbol.Lifetime = took symbol.Lifetime refl (λ t s. gave (record { span = refl; holds = lifetime_argument t s }))
 argument_by_begun symbol.Anonymous = took symbol.Anonymous refl (λ t s. gave (record { span = refl; holds = anonymous_argument t s }))
-argument_by_begun _ = refused (whole_part [] (stand_in symbol.Lifetime ∷ []) _ _ (lifetime_argument (stand_in symbol.Lifetime) (stand_in_stands symbol.Lifetime refl)))
+argument_by_begun _ = refused (whole_part [] (stand_in symbol.Lifetime ∷ []) _ _ (words_of (symbol.Lifetime ∷ []) refl) (lifetime_argument (stand_in symbol.Lifetime) (stand_in_stands symbol.Lifetime refl)))
 
 argument_begun : {K : Known} → Begun K parser.lifetime_argument (Fits IsLifetimeArgument)
 unfolding parser.lifetime_argument
@@ -55,19 +55,19 @@ referred : (t : Tok) → Stands symbol.Ampersand t → IsType (t ∷ stand_in sy
 referred t s = g.reference t [] [] (stand_in symbol.Bool ∷ []) None false _ _ s no_lifetime immutable some_type refl
 
 pub type_completes : Completes (Fits IsType) []
-type_completes = whole_part [] (stand_in symbol.Bool ∷ []) _ _ some_type
+type_completes = whole_part [] (stand_in symbol.Bool ∷ []) _ _ (words_of (symbol.Bool ∷ []) refl) some_type
 
 first_type : (q : Symbol) → begins_type q ≡ true → (t : Tok) → Stands q t → Completes (Fits IsType) (t ∷ [])
-first_type symbol.Name e t s = whole_part (t ∷ []) [] _ _ (g.named t s refl)
-first_type symbol.Bool e t s = whole_part (t ∷ []) [] _ _ (g.bool t s refl)
-first_type symbol.U8 e t s = whole_part (t ∷ []) [] _ _ (g.kind t U8 s refl)
-first_type symbol.U32 e t s = whole_part (t ∷ []) [] _ _ (g.kind t U32 s refl)
-first_type symbol.U64 e t s = whole_part (t ∷ []) [] _ _ (g.kind t U64 s refl)
-first_type symbol.I32 e t s = whole_part (t ∷ []) [] _ _ (g.kind t I32 s refl)
-first_type symbol.I64 e t s = whole_part (t ∷ []) [] _ _ (g.kind t I64 s refl)
-first_type symbol.Ampersand e t s = whole_part (t ∷ []) (stand_in symbol.Bool ∷ []) _ _ (referred t s)
-first_type symbol.AndAnd e t s = whole_part (t ∷ []) (stand_in symbol.Bool ∷ []) _ _ (g.two_references t (stand_in symbol.Bool ∷ []) _ _ s (referred (second_ampersand t) (refl, refl)) refl)
-first_type symbol.OpenParen e t s = whole_part (t ∷ []) (stand_in symbol.CloseParen ∷ []) _ _ (g.unit t (stand_in symbol.CloseParen) s (stand_in_stands symbol.CloseParen refl) refl)
+first_type symbol.Name e t s = whole_part (t ∷ []) [] _ _ tt (g.named t s refl)
+first_type symbol.Bool e t s = whole_part (t ∷ []) [] _ _ tt (g.bool t s refl)
+first_type symbol.U8 e t s = whole_part (t ∷ []) [] _ _ tt (g.kind t U8 s refl)
+first_type symbol.U32 e t s = whole_part (t ∷ []) [] _ _ tt (g.kind t U32 s refl)
+first_type symbol.U64 e t s = whole_part (t ∷ []) [] _ _ tt (g.kind t U64 s refl)
+first_type symbol.I32 e t s = whole_part (t ∷ []) [] _ _ tt (g.kind t I32 s refl)
+first_type symbol.I64 e t s = whole_part (t ∷ []) [] _ _ tt (g.kind t I64 s refl)
+first_type symbol.Ampersand e t s = whole_part (t ∷ []) (stand_in symbol.Bool ∷ []) _ _ (words_of (symbol.Bool ∷ []) refl) (referred t s)
+first_type symbol.AndAnd e t s = whole_part (t ∷ []) (stand_in symbol.Bool ∷ []) _ _ (words_of (symbol.Bool ∷ []) refl) (g.two_references t (stand_in symbol.Bool ∷ []) _ _ s (referred (second_ampersand t) (refl, refl)) refl)
+first_type symbol.OpenParen e t s = whole_part (t ∷ []) (stand_in symbol.CloseParen ∷ []) _ _ (words_of (symbol.CloseParen ∷ []) refl) (g.unit t (stand_in symbol.CloseParen) s (stand_in_stands symbol.CloseParen refl) refl)
 first_type _ e t s = absurd (cc)
 
 module _ (d : ℕ) (ok : Begun any (typ d) (Fits IsType)) where

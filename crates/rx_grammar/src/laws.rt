@@ -1,8 +1,9 @@
 //! Laws of the grammar, each as the contract of a function that does nothing.
 
-ghost use Rattle.std.specs.Prelude.{◌≡◌, ℕ, ◌≤◌, List, [], ◌∷◌, ◌++◌, length};
+ghost use Rattle.std.specs.Prelude.{◌≡◌, ℕ, ◌≤◌, ◌<◌, ◌^◌, List, [], ◌∷◌, ◌++◌, length};
 ghost use Rattle.std.specs.Prelude.{Ok as Read, Err as Stopped};
 ghost use Rattle.rx_tree.specs.Plain.{TypeTree, PatternTree, Expression, ProgramTree};
+ghost use Rattle.rx_tree.specs.Size.{IsNumbered};
 ghost use Rattle.rx_lex.specs.Tok.{Tok};
 ghost use Rattle.rx_grammar.specs.grammar.Words.{span_of};
 ghost use Rattle.rx_grammar.specs.grammar.Types.{IsType};
@@ -11,7 +12,7 @@ ghost use Rattle.rx_grammar.specs.grammar.Expressions.{IsExpression};
 ghost use Rattle.rx_grammar.specs.grammar.Items.{IsFile, Parses};
 ghost use Rattle.rx_lex.specs.Words.{IsWord};
 ghost use Rattle.rx_lex.specs.Tokens.{Lexes};
-ghost use Rattle.rx_grammar.specs.grammar.Begins.{Begins, BeginsWithin};
+ghost use Rattle.rx_grammar.specs.grammar.Begins.{Begins, BeginsNone, BeginsNoneWithin};
 ghost use Rattle.rx_grammar.specs.declared.stop.Stop.TheVariants.{Syntax, TooDeep};
 ghost use Rattle.rx_grammar.specs.parser.Steps.{Got};
 ghost use Rattle.rx_grammar.specs.parser.Types.{typ};
@@ -74,10 +75,16 @@ pub fn programs_are_read()
 /// The numbers are how many tokens are left, the one in question included.
 pub fn places_are_exact()
     ensures says { (d : ℕ) (ts : List Tok) → Says d ts (file d ts) }
-    ensures syntax { (d : ℕ) (us rest : List Tok) (t : Tok) → file d (us ++ (t ∷ rest)) ≡ Stopped (Syntax (length (t ∷ rest))) → Begins us × (Begins (us ++ (t ∷ [])) → ⊥) }
+    ensures syntax { (d : ℕ) (us rest : List Tok) (t : Tok) → file d (us ++ (t ∷ rest)) ≡ Stopped (Syntax (length (t ∷ rest))) → Begins us × BeginsNone (us ++ (t ∷ [])) }
     ensures end { (d : ℕ) (ts : List Tok) → file d ts ≡ Stopped (Syntax 0) → Begins ts × ((p : ProgramTree) (h : ℕ) → IsFile ts p h → ⊥) }
-    ensures too_deep { (d : ℕ) (us rest : List Tok) (t : Tok) → file d (us ++ (t ∷ rest)) ≡ Stopped (TooDeep (length (t ∷ rest))) → (IsWord t.class t.text → Begins (us ++ (t ∷ []))) × (BeginsWithin d (us ++ (t ∷ [])) → ⊥) }
+    ensures too_deep { (d : ℕ) (us rest : List Tok) (t : Tok) → file d (us ++ (t ∷ rest)) ≡ Stopped (TooDeep (length (t ∷ rest))) → (IsWord t.class t.text → Begins (us ++ (t ∷ []))) × BeginsNoneWithin d (us ++ (t ∷ [])) }
     ensures text { (bytes : List ℕ) (us rest : List Tok) (t : Tok) → Lexes bytes (us ++ (t ∷ rest)) → IsWord t.class t.text }
+{}
+
+/// The program of fewer than 2^32 tokens, or of a text of fewer bytes, meets the premise on a program's size.
+pub fn programs_are_numbered()
+    ensures tokens { (ts : List Tok) (p : ProgramTree) (h : ℕ) → IsFile ts p h → length ts < 2 ^ 32 → IsNumbered p }
+    ensures text { (bytes : List ℕ) (p : ProgramTree) → Parses bytes p → length bytes < 2 ^ 32 → IsNumbered p }
 {}
 
 /// A text has at most one tree.

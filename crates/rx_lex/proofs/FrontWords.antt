@@ -158,7 +158,7 @@ class_none w v o e f h c i = (subst (ClassIs w) f h) c (subst (IsWord c) (sym e)
 
 -- ---- marks
 
-abbrev has : ℕ → List ℕ → Bool
+abbrev pub has : ℕ → List ℕ → Bool
 has n t = nat_le n (length t) && is_one_of (take n t) marks
 
 three_no_mark : (a b d : ℕ) → is_one_of (a ∷ b ∷ d ∷ []) marks ≡ false
@@ -259,7 +259,7 @@ one_word (a ∷ t) h b k n =
 
 -- ---- formats, and no word at all
 
-abbrev formats : List ℕ → Bool
+abbrev pub formats : List ℕ → Bool
 formats t = nat_le 4 (length t) && same_bytes (take 4 t) format_text
 
 pub format_word : (t : List ℕ) → formats t ≡ true → WordOf Format 4 t

@@ -4,11 +4,11 @@ pub mod NameTests
 pub mod Classes
 pub mod LongestWord
 pub mod Standing
-pub mod Seek
 pub mod Gaps
 pub mod TokenLaws
 pub mod NumeralLaws
 pub mod BlockSteps
 pub mod FrontWords
 pub mod Reading
+pub mod Told
 pub mod OfItsClass

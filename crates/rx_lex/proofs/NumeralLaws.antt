@@ -171,13 +171,13 @@ body_from w o e a v h = subst (IsBody w) (sym h) (body_by w o e a)
 -- ---- one way
 
 -- the type that a suffix names
-abbrev named : List ℕ → Option Kind
+abbrev pub named : List ℕ → Option Kind
 named [] = None
 named (c ∷ cs) =
     cond (same_bytes (c ∷ cs) (codes "u8")) (Some U8) (cond (same_bytes (c ∷ cs) (codes "u32")) (Some U32) (cond (same_bytes (c ∷ cs) (codes "u64")) (Some U64)
     (cond (same_bytes (c ∷ cs) (codes "i32")) (Some I32) (Some I64))))
 
-named_suffix : (k : Option Kind) → named (suffix_text k) ≡ k
+pub named_suffix : (k : Option Kind) → named (suffix_text k) ≡ k
 named_suffix None = refl
 named_suffix (Some U8) = refl
 named_suffix (Some U32) = refl

@@ -8,7 +8,7 @@ use Rattle.rx_lex.specs.declared.token.Class.TheVariants.{Identifier, Keyword, L
 use Rattle.rx_lex.specs.Numerals.{is_digit}
 use Rattle.rx_lex.specs.Words.{IsWord, identifier, keyword, lifetime, number, format, mark, is_name, keywords, marks}
 use Rattle.rx_lex.specs.Tok.{Tok}
-use Rattle.rx_lex.specs.Tokens.{Front, Longest, Gap, Tokens, none, gap, token, token_at, Stuck, here, after_gap, after_token, Lexes}
+use Rattle.rx_lex.specs.Tokens.{Front, Longest, Gap, Tokens, none, gap, token, token_at, Stuck, here, after_gap, after_token, Lexes, AreWords}
 use Rattle.rx_lex.proofs.FirstBytes.{first, one_of_all, numeral_digit}
 use Rattle.rx_lex.proofs.Names.{name_no_digit, name_run}
 use Rattle.rx_lex.proofs.LongestWord.{gap_begins, word_not_empty, run_no_quote}
@@ -184,16 +184,12 @@ tokens_in_order at t ts d = in_order (at + length t) refl d
 
 -- ---- each token is a word
 
-abbrev pub EachIsWord : List Tok → Type 0
-EachIsWord [] = Unit {0}
-EachIsWord (t ∷ ts) = IsWord t.class t.text × EachIsWord ts
-
-each_word : {at : ℕ} {t : List ℕ} {ts : List Tok} → Tokens at t ts → EachIsWord ts
+each_word : {at : ℕ} {t : List ℕ} {ts : List Tok} → Tokens at t ts → AreWords ts
 each_word none = tt
 each_word (gap n g l d) = each_word d
 each_word (token c w r n l d) = (l.front.word, each_word d)
 
-pub tokens_are_words : (at : ℕ) (t : List ℕ) (ts : List Tok) → Tokens at t ts → EachIsWord ts
+pub tokens_are_words : (at : ℕ) (t : List ℕ) (ts : List Tok) → Tokens at t ts → AreWords ts
 tokens_are_words at t ts d = each_word d
 
 -- ---- each token stands where its span says

@@ -73,3 +73,8 @@ pub data Stuck : ℕ → List ℕ → ℕ → Type 0 where
 pub record Lexes (bytes : List ℕ) (ts : List Tok) : Type 0 where
   pub text : IsUtf8 bytes
   pub tokens : Tokens 0 bytes ts
+
+-- each is a word of its class, as the tokens of a text are
+abbrev pub AreWords : List Tok → Type 0
+AreWords [] = Unit {0}
+AreWords (t ∷ ts) = IsWord t.class t.text × AreWords ts

@@ -13,11 +13,12 @@ ghost use Rattle.rx_lex.specs.FrontWord.{WordOf, NoWord, begins_comment as begin
 use crate::identifier::{is_lifetime_name, is_name, run_length};
 use crate::numeral::{is_digit_byte, numeral_in};
 use crate::token::Class;
-use crate::words::{is_keyword, is_mark, is_same};
+use crate::words::{is_keyword, is_mark};
+use rx_core::is_same;
 use std::alloc::{AllocError, Global};
 
 /// A word, by its class and how many bytes it has.
-#[derive(Clone, Copy, Debug)]
+#[derive(Clone, Copy)]
 pub(crate) struct Word {
     pub class: Class,
     pub length: usize,

@@ -5,7 +5,8 @@ ghost use Rattle.std.specs.List.{list_all};
 ghost use Rattle.rx_lex.specs.Words.{is_ascii_start as is_ascii_start_of, is_start as is_start_of, is_continue as is_continue_of, goes_on, is_name as is_name_of, is_identifier as is_identifier_of, is_lifetime_name as is_lifetime_name_of};
 ghost use Rattle.rx_lex.specs.FrontWord.{Continues, begins_start};
 
-use crate::words::{is_keyword, is_same};
+use crate::words::is_keyword;
+use rx_core::is_same;
 use std::alloc::{AllocError, Global};
 use unicode_normalization::is_nfc;
 

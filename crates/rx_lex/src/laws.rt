@@ -1,6 +1,6 @@
 //! Laws of tokens, each as the contract of a function that does nothing.
 
-ghost use Rattle.std.specs.Prelude.{◌≡◌, ℕ, List, Option};
+ghost use Rattle.std.specs.Prelude.{◌≡◌, ℕ, ◌⊎◌, List, Option, IsUtf8};
 ghost use Rattle.rx_core.specs.declared.types.Kind.{Kind};
 ghost use Rattle.rx_lex.specs.Numerals.{IsNumeral};
 ghost use Rattle.rx_lex.specs.Tok.{Tok};
@@ -11,9 +11,10 @@ pub fn one_token_list()
     ensures { (bytes : List ℕ) (ts us : List Tok) → Lexes bytes ts → Lexes bytes us → ts ≡ us }
 {}
 
-/// A text that has tokens gets stuck nowhere.
+/// A text has tokens or gets stuck, and not both.
 pub fn tokens_or_stuck()
-    ensures { (bytes : List ℕ) (ts : List Tok) (at : ℕ) → Lexes bytes ts → Stuck 0 bytes at → ⊥ }
+    ensures one { (bytes : List ℕ) → IsUtf8 bytes → ((ts : List Tok) × Lexes bytes ts) ⊎ ((at : ℕ) × Stuck 0 bytes at) }
+    ensures not_both { (bytes : List ℕ) (ts : List Tok) (at : ℕ) → Lexes bytes ts → Stuck 0 bytes at → ⊥ }
 {}
 
 /// A text gets stuck at one place at most.

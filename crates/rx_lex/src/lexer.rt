@@ -15,7 +15,7 @@ use std::alloc::Global;
 use thiserror::Error;
 
 /// The tokens of a text, and how many bytes the text has.
-#[derive(Debug, Drop)]
+#[derive(Drop)]
 pub struct Tokens<'t> {
     pub list: List<Token<'t>>,
     pub length: u64,

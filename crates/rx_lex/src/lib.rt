@@ -15,6 +15,3 @@ pub use laws::{one_number, one_stuck_place, one_token_list, tokens_or_stuck};
 pub use lexer::{LexFault, Tokens, lex};
 pub use numeral::{Numeral, numeral_of};
 pub use token::{Class, Token};
-
-#[cfg(test)]
-mod tests;

@@ -8,11 +8,10 @@ ghost use Rattle.rx_lex.specs.Numerals.{IsNumeral, greatest, is_digit, is_digit_
 ghost use Rattle.rx_lex.specs.Numerals.{radix as radix_of};
 ghost use Rattle.rx_lex.specs.Digits.{IsBody, body_length as body_length_of, base_of as base_in, is_decimal as is_decimal_body};
 
-use crate::words::is_same;
-use rx_core::Kind;
+use rx_core::{Kind, is_same};
 
 /// A base that a prefix names.
-#[derive(Clone, Copy, Debug)]
+#[derive(Clone, Copy)]
 pub enum Base {
     Hexadecimal,
     Octal,
@@ -20,7 +19,7 @@ pub enum Base {
 }
 
 /// A number: its value, and the type that its suffix names.
-#[derive(Clone, Copy, Debug)]
+#[derive(Clone, Copy)]
 pub struct Numeral {
     pub value: u64,
     pub suffix: Option<Kind>,

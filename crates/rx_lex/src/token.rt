@@ -1,9 +1,9 @@
 //! Tokens, which borrow their text from the source.
 
-use rx_core::Span;
+use rx_core::{LetGo, Span};
 
 /// What kind of word a token is.
-#[derive(Clone, Copy, Debug, PartialEq, Eq)]
+#[derive(Clone, Copy, PartialEq, Eq)]
 pub enum Class {
     Identifier,
     Keyword,
@@ -14,9 +14,13 @@ pub enum Class {
 }
 
 /// A token: its class, where it stands, and its bytes there.
-#[derive(Clone, Copy, Debug)]
+#[derive(Clone, Copy)]
 pub struct Token<'t> {
     pub class: Class,
     pub span: Span,
     pub text: &'t str,
+}
+
+impl<'t> LetGo for Token<'t> {
+    fn let_go(self) {}
 }

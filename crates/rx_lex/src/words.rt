@@ -1,8 +1,10 @@
 //! Keywords and marks.
 
-ghost use Rattle.std.specs.Prelude.{◌≡◌, map};
-ghost use Rattle.rx_core.specs.Bytes.{is_one_of, same_bytes};
+ghost use Rattle.std.specs.Prelude.{◌≡◌};
+ghost use Rattle.rx_core.specs.Bytes.{is_one_of};
 ghost use Rattle.rx_lex.specs.Words.{keywords, marks};
+
+use rx_core::is_among;
 
 static KEYWORDS: [&[u8]; 58] = [
     b"as",
@@ -65,28 +67,10 @@ static KEYWORDS: [&[u8]; 58] = [
     b"bool",
 ];
 
-/// Whether the word is one of these.
-fn stands_among(word: &[u8], words: &[&[u8]]) -> bool
-    ensures { result ≡ is_one_of word.now (map (λ w. w.now) words.now) }
-{
-    for other in words {
-        if is_same(word, *other) {
-            return true;
-        }
-    }
-    false
-}
-
 pub(crate) fn is_keyword(word: &[u8]) -> bool
     ensures { result ≡ is_one_of word.now keywords }
 {
-    stands_among(word, &KEYWORDS)
-}
-
-pub(crate) fn is_same(a: &[u8], b: &[u8]) -> bool
-    ensures { result ≡ same_bytes a.now b.now }
-{
-    a == b
+    is_among(word, &KEYWORDS)
 }
 
 static MARKS: [&[u8]; 36] = [
@@ -98,5 +82,5 @@ static MARKS: [&[u8]; 36] = [
 pub(crate) fn is_mark(word: &[u8]) -> bool
     ensures { result ≡ is_one_of word.now marks }
 {
-    stands_among(word, &MARKS)
+    is_among(word, &MARKS)
 }

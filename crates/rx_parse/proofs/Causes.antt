@@ -1,14 +1,13 @@
 -- Each cause excludes a tree: the tokens of a program are begun by each token list in front of one of them, so where such a list begins none,
 -- or none within the levels, there is no program.
-use Rattle.std.proofs.Common.{◌≡◌, ℕ, ◌≤◌, List, [], ◌∷◌, ◌++◌, ◌⊎◌, inl, inr, refl, sym, subst, ◌∙◌, append_assoc}
+use Rattle.std.proofs.Common.{◌≡◌, ℕ, List, [], ◌∷◌, ◌++◌, ◌⊎◌, inl, inr, refl, sym, subst, ◌∙◌, append_assoc}
 use Rattle.std.specs.Prelude.{◌≢◌}
 use Rattle.rx_tree.specs.Plain.{ProgramTree}
 use Rattle.rx_lex.specs.Tok.{Tok}
 use Rattle.rx_lex.specs.Tokens.{Lexes}
 use Rattle.rx_lex.proofs.Reading.{only_memory}
 use Rattle.rx_lex.proofs.TokenLaws.{lexes_one}
-use Rattle.rx_grammar.specs.grammar.Items.{IsFile, Parses, levels}
-use Rattle.rx_grammar.specs.grammar.Begins.{Begins, BeginsWithin}
+use Rattle.rx_grammar.specs.grammar.Items.{IsFile, Parses}
 use Rattle.rx_parse.specs.declared.fault.SyntaxFault.{SyntaxFault}
 use Rattle.rx_parse.specs.declared.fault.SyntaxFault.TheVariants as fault
 use Rattle.rx_parse.specs.Answer.{TokenAt, through, StopsAt, StopsAtEnd, TooDeepAt, HasNoTree, IsCause}
@@ -17,25 +16,16 @@ use Rattle.rx_parse.specs.Answer.{TokenAt, through, StopsAt, StopsAtEnd, TooDeep
 whole_again : {at : ℕ} (ts : List Tok) (t : TokenAt at ts) → through t ++ t.behind ≡ ts
 whole_again ts t = append_assoc t.before (t.token ∷ []) t.behind ∙ sym t.tokens
 
--- a program of tokens is begun by those up to each of them
-pub begun_through : {at : ℕ} (ts : List Tok) (t : TokenAt at ts) (p : ProgramTree) (h : ℕ) → IsFile ts p h → Begins (through t)
-begun_through ts t p h d = record { further = t.behind; program = p; height = h; derived = subst (λ (us : List Tok). IsFile us p h) (sym (whole_again ts t)) d }
-
-pub begun_within : {at : ℕ} (ts : List Tok) (t : TokenAt at ts) (p : ProgramTree) (h : ℕ) → h ≤ levels → IsFile ts p h → BeginsWithin levels (through t)
-begun_within ts t p h low d = record {
-  further = t.behind;
-  program = p;
-  height = h;
-  derived = subst (λ (us : List Tok). IsFile us p h) (sym (whole_again ts t)) d;
-  low = low;
-}
+-- a program of tokens goes on behind those up to each of them
+gone_on : {at : ℕ} (ts : List Tok) (t : TokenAt at ts) (p : ProgramTree) (h : ℕ) → IsFile ts p h → IsFile (through t ++ t.behind) p h
+gone_on ts t p h d = subst (λ (us : List Tok). IsFile us p h) (sym (whole_again ts t)) d
 
 pub no_tree_of_syntax : {at size : ℕ} (ts : List Tok) → StopsAt at ts ⊎ StopsAtEnd at size ts → HasNoTree ts
-no_tree_of_syntax ts (inl s) p h low d = s.stops (begun_through ts s.here p h d)
+no_tree_of_syntax ts (inl s) p h low d = s.stops s.here.behind p h (gone_on ts s.here p h d)
 no_tree_of_syntax ts (inr s) p h low d = s.none p h d
 
 pub no_tree_of_too_deep : {at : ℕ} (ts : List Tok) → TooDeepAt at ts → HasNoTree ts
-no_tree_of_too_deep ts s p h low d = s.stops (begun_within ts s.here p h low d)
+no_tree_of_too_deep ts s p h low d = s.stops s.here.behind p h low (gone_on ts s.here p h d)
 
 -- a text whose tokens have no tree has none
 pub no_program : (bytes : List ℕ) (ts : List Tok) → Lexes bytes ts → HasNoTree ts → (p : ProgramTree) → Parses bytes p → ⊥

@@ -1,5 +1,3 @@
-pub mod Rules
-pub mod ItemSteps
 pub mod Places
 pub mod Whole
 pub mod Causes

@@ -4,20 +4,16 @@ use Rattle.std.proofs.lemmas.Bool.{cases_lt}
 use Rattle.std.proofs.lemmas.List.{length-append}
 use Rattle.rx_lex.specs.Tok.{Tok}
 use Rattle.rx_lex.proofs.TokenLaws.{lexes_one}
-use Rattle.rx_grammar.specs.grammar.Begins.{Begins}
+use Rattle.rx_grammar.specs.grammar.Begins.{Begins, BeginsNone}
 use Rattle.rx_grammar.specs.grammar.Items.{IsFile}
 use Rattle.rx_grammar.specs.parser.Symbols.{head, tail}
 use Rattle.rx_parse.specs.declared.fault.SyntaxFault.TheVariants.{Syntax}
 use Rattle.rx_parse.specs.Answer.{through, StopsAt, StopsAtEnd, IsCause}
 
--- what begins a program begins with what begins one
-front : (us vs : List Tok) → Begins (us ++ vs) → Begins us
-front us vs b = record {
-  further = vs ++ b.further;
-  program = b.program;
-  height = b.height;
-  derived = subst (λ (ts : List Tok). IsFile ts b.program b.height) (append_assoc us vs b.further) b.derived;
-}
+-- what begins a program has no front that begins none
+front : (us vs : List Tok) → BeginsNone us → Begins (us ++ vs) → ⊥
+front us vs n b =
+    n (vs ++ b.further) b.program b.height (subst (λ (ts : List Tok). IsFile ts b.program b.height) (append_assoc us vs b.further) b.derived)
 
 -- of two ways to part a list, where the first part is the shorter
 record Longer (us vs : List Tok) : Type 0 where
@@ -40,12 +36,12 @@ not_before ts a b l =
     let e : through a.here ++ a.here.behind ≡ vs ++ (b.here.token ∷ b.here.behind) = append_assoc us (a.here.token ∷ []) a.here.behind ∙ sym a.here.tokens ∙ b.here.tokens in
     let n : length (through a.here) ≤ length vs = omega (arith, l, length-append us (a.here.token ∷ [])) in
     let w = longer (through a.here) vs a.here.behind (b.here.token ∷ b.here.behind) e n in
-    a.stops (front (through a.here) w.between (subst Begins w.is b.begins))
+    front (through a.here) w.between a.stops (subst Begins w.is b.begins)
 
 not_with_end : {at other size : ℕ} (ts : List Tok) → StopsAt at ts → StopsAtEnd other size ts → ⊥
 not_with_end ts a b =
     let t = a.here in
-    a.stops (front (through t) t.behind (subst Begins (t.tokens ∙ sym (append_assoc t.before (t.token ∷ []) t.behind)) b.begins))
+    front (through t) t.behind a.stops (subst Begins (t.tokens ∙ sym (append_assoc t.before (t.token ∷ []) t.behind)) b.begins)
 
 token_in : (us vs r s : List Tok) (t u : Tok) → us ++ (t ∷ r) ≡ vs ++ (u ∷ s) → length us ≡ length vs → t ≡ u
 token_in [] [] r s t u e n = ap head e

@@ -17,9 +17,9 @@ use Rattle.rx_grammar.specs.parser.Places.{Says, program, syntax_at, syntax_at_e
 use Rattle.rx_grammar.proofs.Deriving.{same_pair}
 use Rattle.rx_grammar.proofs.Whole.{program_read, program_derived}
 use Rattle.rx_grammar.proofs.Places.{says, text_word}
-use Rattle.rx_descent.specs.declared.got.Found.{Found}
+use Rattle.rx_parse_cursor.specs.declared.got.Found.{Found}
 use Rattle.rx_parse.specs.declared.fault.SyntaxFault.TheVariants as fault
-use Rattle.rx_parse.specs.ItemsOf.{file_of}
+use Rattle.rx_parse_items.specs.ItemsOf.{file_of}
 use Rattle.rx_parse.specs.Place.{place_of, fault_of}
 use Rattle.rx_parse.specs.Answer.{IsCause}
 use Rattle.rx_parse.proofs.Places.{place_at, place_at_end}

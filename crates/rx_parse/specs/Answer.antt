@@ -8,7 +8,7 @@ use Rattle.rx_lex.specs.Tok.{Tok}
 use Rattle.rx_lex.specs.Tokens.{Lexes}
 use Rattle.rx_lex.specs.Lexing.{FaultOf}
 use Rattle.rx_grammar.specs.grammar.Items.{IsFile, levels}
-use Rattle.rx_grammar.specs.grammar.Begins.{Begins, BeginsWithin}
+use Rattle.rx_grammar.specs.grammar.Begins.{Begins, BeginsNone, BeginsNoneWithin}
 use Rattle.rx_parse.specs.declared.fault.SyntaxFault.{SyntaxFault}
 use Rattle.rx_parse.specs.declared.fault.SyntaxFault.TheVariants.{Lex, Syntax, TooDeep, OutOfMemory}
 
@@ -33,7 +33,7 @@ through t = t.before ++ (t.token ∷ [])
 pub record StopsAt (at : ℕ) (ts : List Tok) : Type 0 where
   pub here : TokenAt at ts
   pub begins : Begins here.before
-  pub stops : Begins (through here) → ⊥
+  pub stops : BeginsNone (through here)
 
 -- the place is the text's end: all tokens begin a program, and they are none of any depth
 pub record StopsAtEnd (at size : ℕ) (ts : List Tok) : Type 0 where
@@ -45,7 +45,7 @@ pub record StopsAtEnd (at size : ℕ) (ts : List Tok) : Type 0 where
 pub record TooDeepAt (at : ℕ) (ts : List Tok) : Type 0 where
   pub here : TokenAt at ts
   pub begins : Begins (through here)
-  pub stops : BeginsWithin levels (through here) → ⊥
+  pub stops : BeginsNoneWithin levels (through here)
 
 -- no tree within the levels has these tokens
 abbrev pub HasNoTree : List Tok → Type 0

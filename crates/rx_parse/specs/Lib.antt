@@ -1,3 +1,2 @@
-pub mod ItemsOf
 pub mod Place
 pub mod Answer

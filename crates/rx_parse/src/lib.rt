@@ -1,24 +1,10 @@
 //! The parser of the whole language: the program of a text, or why and where it is none.
 #![tactic(auto)]
 
-mod derives;
 mod fault;
-mod fields;
-mod items;
 mod laws;
-mod lifetimes;
-mod lists;
 mod program;
 
 pub use fault::SyntaxFault;
-pub use laws::one_place;
+pub use laws::{one_place, parsed_programs_are_numbered};
 pub use program::parse;
-
-#[cfg(test)]
-mod bank;
-#[cfg(test)]
-mod nested;
-#[cfg(test)]
-mod stops;
-#[cfg(test)]
-mod tests;

@@ -12,10 +12,10 @@ ghost use Rattle.rx_parse.specs.Place.{place_of, fault_of};
 ghost use Rattle.rx_parse.specs.Answer.{Answers, IsCause};
 
 use crate::fault::SyntaxFault;
-use crate::items::file;
-use rx_descent::Cursor;
 use rx_grammar::Stop;
 use rx_lex::{LexFault, Token, lex};
+use rx_parse_cursor::Cursor;
+use rx_parse_items::file;
 use rx_tree::Program;
 use std::alloc::Global;
 

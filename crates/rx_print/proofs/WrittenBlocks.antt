@@ -8,12 +8,13 @@ use Rattle.rx_tree.specs.Plain.{PatternTree, Expression, Arms, Statements}
 use Rattle.rx_tree.specs.PlainOf.{plain-Arm, arms_of, plain-Stmt, statements_of}
 use Rattle.rx_spelling.specs.Pieces.{bytes_of, flat, mark, space, line, enclosed}
 use Rattle.rx_spelling.specs.Patterns.{pattern_pieces}
+use Rattle.rx_spelling.specs.Strengths as at
 use Rattle.rx_spelling.specs.Places.{is_block, stated, tested, unfit}
 use Rattle.rx_spelling.specs.Expressions.{between, arm_comma, is_empty, closing, pieces, arms, statements}
 use Rattle.rx_print.specs.ExpressionParts.{arm_pieces, line_pieces, value_pieces, bare_pieces, valued_pieces, match_pieces}
-use Rattle.rx_print.proofs.Flat.{flat-append}
-use Rattle.rx_print.proofs.Written.{written_two, written_three}
-use Rattle.rx_print.proofs.WrittenLists.{all_step}
+use Rattle.rx_print_parts.proofs.Flat.{flat-append}
+use Rattle.rx_print_parts.proofs.Written.{written_two, written_three}
+use Rattle.rx_print_parts.proofs.WrittenLists.{all_step}
 
 arms_next : (depth : ℕ) (a : PatternTree × Expression) (rest : Arms) → arms depth (plain.arm_and a.0 a.1 rest) ≡ arm_pieces depth a ++ arms depth rest
 arms_next depth a rest =
@@ -59,11 +60,11 @@ valued_written depth inner ss e o p q r s t n w v u z y =
     (written_two q r t (flat B) (flat C) (u ∙ ap (λ m. q ++ flat (value_pieces m e)) n) (closed depth r s t z y) ∙ ap (λ m. q ++ m) (sym (flat-append B C)))
     ∙ ap (λ m. o ++ (123 ∷ m)) (sym (flat-append A (B ++ C)))
 
-pub match_written : (depth inner : ℕ) (e : Expression) (as' : Arms) (within : Bool) (o p q r s : List ℕ) → inner ≡ suc depth → within ≡ unfit e
+pub match_written : (depth inner : ℕ) (e : Expression) (as' : Arms) (within : Bool) (o p q r s : List ℕ) → inner ≡ suc depth → within ≡ unfit at.disjunction e
     → p ≡ o ++ (109 ∷ 97 ∷ 116 ∷ 99 ∷ 104 ∷ 32 ∷ (flat (enclosed within (pieces false depth e)) ++ (32 ∷ 123 ∷ []))) → q ≡ p ++ flat (arms inner as')
     → r ≡ q ++ bytes_of (line depth) → s ≡ r ++ (125 ∷ []) → s ≡ o ++ flat (match_pieces depth e as')
 match_written depth inner e as' within o p q r s n i w v u z =
-    let H = tested e (pieces false depth e) in
+    let H = tested at.disjunction e (pieces false depth e) in
     let A = arms (suc depth) as' in
     let C = closing depth false in
     written_three o p q s (109 ∷ 97 ∷ 116 ∷ 99 ∷ 104 ∷ 32 ∷ (flat H ++ (32 ∷ 123 ∷ []))) (flat A) (flat C)

@@ -10,14 +10,14 @@ use Rattle.rx_tree.specs.PlainOf.{plain-Expr, plain-ExprNode, plain-Block, expre
 use Rattle.rx_spelling.specs.Pieces.{flat, mark}
 use Rattle.rx_spelling.specs.Expressions.{pieces}
 use Rattle.rx_print.specs.ExpressionParts.{if_else_pieces, print_pieces}
-use Rattle.rx_print.proofs.Rules.{expression_node}
-use Rattle.rx_print.proofs.Flat.{flat-append}
+use Rattle.rx_tree.proofs.Rules.{expression_by_node}
+use Rattle.rx_print_parts.proofs.Flat.{flat-append}
 
 pub if_else_is : (second : Bool) (depth : ℕ) (e c a x z : Expr) (b y : Block) (other : Option Expr) → e.node ≡ node.If c b other → other ≡ Some a → x ≡ c → y ≡ b → z ≡ a
     → if_else_pieces depth (plain-Expr x) (plain-Block y) (plain-Expr z) ≡ pieces second depth (plain-Expr e)
 if_else_is second depth e c a x z b y other is some ex ey ez =
     let tree : plain-Expr e ≡ plain.if e.span (plain-Expr c) (plain-Block b) (plain.present (plain-Expr a)) =
-    expression_node e ∙ ap (λ n. plain-ExprNode n e.span) (is ∙ ap (λ o. node.If c b o) some) ∙ expression_if e.span c b (Some a) in
+    expression_by_node e ∙ ap (λ n. plain-ExprNode n e.span) (is ∙ ap (λ o. node.If c b o) some) ∙ expression_if e.span c b (Some a) in
     ap (λ v. if_else_pieces depth (plain-Expr v) (plain-Block y) (plain-Expr z)) ex ∙ ap (λ v. if_else_pieces depth (plain-Expr c) (plain-Block v) (plain-Expr z)) ey
     ∙ ap (λ v. if_else_pieces depth (plain-Expr c) (plain-Block b) (plain-Expr v)) ez ∙ ap (λ v. pieces second depth v) (sym tree)
 

@@ -7,11 +7,9 @@ ghost use Rattle.rx_spelling.specs.Expressions.{semicolon, arm_comma, arms, bloc
 ghost use Rattle.rx_print.specs.ExpressionParts.{arm_pieces, match_pieces, value_pieces, bare_pieces, valued_pieces, declared_pieces, line_pieces};
 
 use crate::expressions::push_between;
-use crate::margin::Margin;
-use crate::patterns::push_pattern;
-use crate::places::{goes_on, is_block, unfit};
-use crate::types::push_annotation;
 use rx_core::Text;
+use rx_print_parts::{Margin, push_annotation, push_pattern};
+use rx_print_places::{DISJUNCTION, goes_on, is_block, unfit};
 use rx_tree::{Arm, Block, Expr, Pattern, Stmt, StmtNode, TypeText};
 use std::alloc::{AllocError, Global};
 
@@ -37,7 +35,7 @@ fn arm_comma_text(block: bool) -> &'static str
 
 /// Adds an arm on a line of its own.
 #[cycle(expressions)]
-#[tactic(auto, using(crate::proofs::Rules::arm_rules))]
+#[tactic(auto, using(rx_tree::proofs::Rules::arm_by_parts, rx_print_parts::proofs::Rules::text_rules))]
 fn push_arm(alloc: Global, out: &mut Text, margin: &Margin, arm: &Arm) -> Result<(), AllocError>
     ensures { OnOk result (out.new ≡ out.old ++ flat (arm_pieces margin.now (plain-Arm arm.now))) }
 {
@@ -78,14 +76,14 @@ pub fn push_match(
     ensures { OnOk result (out.new ≡ out.old ++ flat (match_pieces margin.now (plain-Expr e.now) (arms_of (map plain-Arm list.now)))) }
 {
     let inner = margin.deeper(alloc)?;
-    push_between(alloc, out, margin, "match ", unfit(e), e, " {")?;
+    push_between(alloc, out, margin, "match ", unfit(DISJUNCTION, e), e, " {")?;
     push_arms(alloc, out, &inner, list)?;
     margin.push_line(out)?;
     out.push("}")
 }
 
 /// Adds a `let` as far as its initialiser.
-#[tactic(auto, using(crate::proofs::Rules::text_rules))]
+#[tactic(auto, using(rx_print_parts::proofs::Rules::text_rules))]
 fn push_declared(
     alloc: Global,
     out: &mut Text,
@@ -101,7 +99,7 @@ fn push_declared(
 
 /// Adds a statement.
 #[cycle(expressions)]
-#[tactic(auto, using(crate::proofs::Rules::statement_rules))]
+#[tactic(auto, using(rx_tree::proofs::Rules::statement_rules, rx_print_parts::proofs::Rules::text_rules))]
 fn push_statement(
     alloc: Global,
     out: &mut Text,
@@ -129,7 +127,7 @@ fn push_statement(
 
 /// Adds a statement on a line of its own.
 #[cycle(expressions)]
-#[tactic(auto, using(crate::proofs::Rules::text_rules))]
+#[tactic(auto, using(rx_print_parts::proofs::Rules::text_rules))]
 fn push_next_statement(
     alloc: Global,
     out: &mut Text,
@@ -180,7 +178,7 @@ fn push_bare(
 
 /// Adds the value of a block on a line of its own.
 #[cycle(expressions)]
-#[tactic(auto, using(crate::proofs::Rules::text_rules))]
+#[tactic(auto, using(rx_print_parts::proofs::Rules::text_rules))]
 fn push_value(alloc: Global, out: &mut Text, margin: &Margin, e: &Expr) -> Result<(), AllocError>
     ensures { OnOk result (out.new ≡ out.old ++ flat (value_pieces margin.now (plain-Expr e.now))) }
 {
@@ -209,7 +207,7 @@ fn push_valued(
 
 /// Adds a block, whose first brace stands on a line at this margin.
 #[cycle(expressions)]
-#[tactic(auto, using(crate::proofs::Rules::block_rules))]
+#[tactic(auto, using(rx_tree::proofs::Rules::block_rules, rx_print_parts::proofs::Rules::end_rules))]
 pub fn push_block(
     alloc: Global,
     out: &mut Text,

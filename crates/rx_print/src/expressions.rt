@@ -1,25 +1,27 @@
 //! The canonical text of expressions.
 
 ghost use Rattle.std.specs.Prelude.{◌≡◌, ◌++◌, [], ◌∷◌, not, ◌&&◌, true, false, OnOk, map};
-ghost use Rattle.rx_tree.specs.PlainOf.{plain-Expr, plain-FieldExpr, plain-Block, expressions_of, field_expressions_of};
+ghost use Rattle.rx_tree.specs.PlainOf.{plain-Pattern, plain-Expr, plain-FieldExpr, plain-Block, expressions_of, field_expressions_of};
 ghost use Rattle.rx_spelling.specs.Pieces.{flat, enclosed, separated, tuple_of, arguments_of, fields_of};
 ghost use Rattle.rx_spelling.specs.Expressions.{label_pieces, is_borrow, pieces, each, each_field};
-ghost use Rattle.rx_print.specs.Parts.{next_of};
-ghost use Rattle.rx_print.specs.ExpressionParts.{jump_pieces, path_pieces, member_pieces, part_pieces, borrowed_pieces, pointer_pieces, binary_pieces, assigned_pieces, call_pieces, variant_pieces, make_pieces, field_pieces, print_pieces, if_pieces, if_else_pieces, loop_pieces, while_pieces};
+ghost use Rattle.rx_print_parts.specs.Parts.{next_of};
+ghost use Rattle.rx_print.specs.ExpressionParts.{jump_pieces, path_pieces, member_pieces, part_pieces, unary_pieces, borrowed_pieces, pointer_pieces, binary_pieces, assigned_pieces, call_pieces, variant_pieces, make_pieces, field_pieces, print_pieces, if_pieces, if_else_pieces, fitted_pieces, if_let_pieces, if_let_else_pieces, loop_pieces, while_pieces, while_let_pieces};
 
 use crate::blocks::{push_block, push_match};
-use crate::margin::Margin;
-use crate::places::{too_weak, unfit};
-use crate::words::{
-    comma, left_strength, operator_text, push_decimal, push_mutable, push_number, right_strength,
+use rx_core::Text;
+use rx_print_parts::{
+    Margin, comma, operator_text, push_decimal, push_mutable, push_number, push_pattern,
     truth_text, tuple_end, update_text,
 };
-use rx_core::Text;
-use rx_tree::{BinaryOp, Block, Expr, ExprNode, FieldExpr, Ident};
+use rx_print_places::{
+    COMPARISON, DISJUNCTION, POSTFIX, UNARY, is_borrow, left_strength, right_strength, too_weak,
+    unfit,
+};
+use rx_tree::{BinaryOp, Block, Expr, ExprNode, FieldExpr, Ident, Pattern};
 use std::alloc::{AllocError, Global};
 
 /// Adds the label before a loop, where one is written.
-#[tactic(auto, using(crate::proofs::Rules::text_rules))]
+#[tactic(auto, using(rx_print_parts::proofs::Rules::text_rules))]
 fn push_label(out: &mut Text, label: &Option<Ident>) -> Result<(), AllocError>
     ensures { OnOk result (out.new ≡ out.old ++ flat (label_pieces label.now)) }
 {
@@ -33,7 +35,7 @@ fn push_label(out: &mut Text, label: &Option<Ident>) -> Result<(), AllocError>
 }
 
 /// Adds a `break` or a `continue`, and the label behind it.
-#[tactic(auto, using(crate::proofs::Rules::text_rules))]
+#[tactic(auto, using(rx_print_parts::proofs::Rules::text_rules))]
 fn push_jump(out: &mut Text, jump: &str, label: &Option<Ident>) -> Result<(), AllocError>
     ensures { OnOk result (out.new ≡ out.old ++ flat (jump_pieces jump.now label.now)) }
 {
@@ -48,31 +50,13 @@ fn push_jump(out: &mut Text, jump: &str, label: &Option<Ident>) -> Result<(), Al
 }
 
 /// Adds the name of a variant.
-#[tactic(auto, using(crate::proofs::Rules::text_rules))]
+#[tactic(auto, using(rx_print_parts::proofs::Rules::text_rules))]
 fn push_path(out: &mut Text, name: &Ident, variant: &Ident) -> Result<(), AllocError>
     ensures { OnOk result (out.new ≡ out.old ++ flat (path_pieces name.now variant.now)) }
 {
     out.push(name.name.as_str())?;
     out.push("::")?;
     out.push(variant.name.as_str())
-}
-
-/// Whether an expression is a borrow.
-#[tactic(auto, using(crate::proofs::Rules::expression_rules))]
-fn is_borrow(e: &Expr) -> bool
-    ensures { result ≡ is_borrow (plain-Expr e.now) }
-{
-    match &e.node {
-        ExprNode::Borrow(..) => true,
-        ExprNode::Int(..) | ExprNode::Bool(_) | ExprNode::Tuple(_) | ExprNode::Var(_) => false,
-        ExprNode::Field(..) | ExprNode::Part(..) | ExprNode::Deref(_) | ExprNode::Neg(_) => false,
-        ExprNode::Not(_) | ExprNode::Binary(..) | ExprNode::Assign(..) => false,
-        ExprNode::Update(..) | ExprNode::Call(..) | ExprNode::NextInput => false,
-        ExprNode::Variant(..) | ExprNode::Make(..) | ExprNode::Print(_) => false,
-        ExprNode::Block(_) | ExprNode::If(..) | ExprNode::Match(..) | ExprNode::Loop(..) => false,
-        ExprNode::While(..) | ExprNode::Break(_) | ExprNode::Continue(_) => false,
-        ExprNode::Return(_) => false,
-    }
 }
 
 /// Whether the `&` of a borrow and that of what it borrows are one mark.
@@ -84,7 +68,7 @@ fn joins(mutable: bool, e: &Expr) -> bool
 
 /// Adds an expression between two texts, in parentheses or not.
 #[cycle(expressions)]
-#[tactic(auto, using(crate::proofs::Rules::text_rules))]
+#[tactic(auto, using(rx_print_parts::proofs::Rules::text_rules))]
 pub fn push_between(
     alloc: Global,
     out: &mut Text,
@@ -109,7 +93,7 @@ pub fn push_between(
 
 /// Adds a field of an expression.
 #[cycle(expressions)]
-#[tactic(auto, using(crate::proofs::Rules::text_rules))]
+#[tactic(auto, using(rx_print_parts::proofs::Rules::text_rules))]
 fn push_member(
     alloc: Global,
     out: &mut Text,
@@ -119,13 +103,13 @@ fn push_member(
 ) -> Result<(), AllocError>
     ensures { OnOk result (out.new ≡ out.old ++ flat (member_pieces margin.now (plain-Expr e.now) name.now)) }
 {
-    push_between(alloc, out, margin, "", too_weak(0, e), e, ".")?;
+    push_between(alloc, out, margin, "", too_weak(POSTFIX, e), e, ".")?;
     out.push(name.name.as_str())
 }
 
 /// Adds a part of a tuple.
 #[cycle(expressions)]
-#[tactic(auto, using(crate::proofs::Rules::text_rules))]
+#[tactic(auto, using(rx_print_parts::proofs::Rules::text_rules))]
 fn push_part(
     alloc: Global,
     out: &mut Text,
@@ -135,13 +119,28 @@ fn push_part(
 ) -> Result<(), AllocError>
     ensures { OnOk result (out.new ≡ out.old ++ flat (part_pieces margin.now (plain-Expr tuple.now) index)) }
 {
-    push_between(alloc, out, margin, "", too_weak(0, tuple), tuple, ".")?;
+    push_between(alloc, out, margin, "", too_weak(POSTFIX, tuple), tuple, ".")?;
     push_decimal(alloc, out, index)
+}
+
+/// Adds an operator and its operand.
+#[cycle(expressions)]
+#[tactic(auto, using(rx_print_parts::proofs::Rules::text_rules))]
+fn push_unary(
+    alloc: Global,
+    out: &mut Text,
+    margin: &Margin,
+    operator: &str,
+    e: &Expr,
+) -> Result<(), AllocError>
+    ensures { OnOk result (out.new ≡ out.old ++ flat (unary_pieces margin.now operator.now (plain-Expr e.now))) }
+{
+    push_between(alloc, out, margin, operator, too_weak(UNARY, e), e, "")
 }
 
 /// Adds what stands behind the `&` of a borrow.
 #[cycle(expressions)]
-#[tactic(auto, using(crate::proofs::Rules::text_rules))]
+#[tactic(auto, using(rx_print_parts::proofs::Rules::text_rules))]
 fn push_borrowed(
     alloc: Global,
     out: &mut Text,
@@ -152,12 +151,12 @@ fn push_borrowed(
     ensures { OnOk result (out.new ≡ out.old ++ flat (borrowed_pieces margin.now mutable (plain-Expr e.now))) }
 {
     push_mutable(out, mutable)?;
-    push_between(alloc, out, margin, "", too_weak(1, e), e, "")
+    push_between(alloc, out, margin, "", too_weak(UNARY, e), e, "")
 }
 
 /// Adds a borrow, or two whose `&` are one mark.
 #[cycle(expressions)]
-#[tactic(auto, using(crate::proofs::Rules::text_rules))]
+#[tactic(auto, using(rx_print_parts::proofs::Rules::text_rules))]
 fn push_pointer(
     alloc: Global,
     out: &mut Text,
@@ -178,7 +177,7 @@ fn push_pointer(
 
 /// Adds an operator and its two operands.
 #[cycle(expressions)]
-#[tactic(auto, using(crate::proofs::Rules::text_rules))]
+#[tactic(auto, using(rx_print_parts::proofs::Rules::text_rules))]
 fn push_binary(
     alloc: Global,
     out: &mut Text,
@@ -198,7 +197,7 @@ fn push_binary(
 
 /// Adds an assignment with this mark.
 #[cycle(expressions)]
-#[tactic(auto, using(crate::proofs::Rules::text_rules))]
+#[tactic(auto, using(rx_print_parts::proofs::Rules::text_rules))]
 fn push_assigned(
     alloc: Global,
     out: &mut Text,
@@ -209,14 +208,14 @@ fn push_assigned(
 ) -> Result<(), AllocError>
     ensures { OnOk result (out.new ≡ out.old ++ flat (assigned_pieces margin.now mark.now (plain-Expr a.now) (plain-Expr b.now))) }
 {
-    push_between(alloc, out, margin, "", too_weak(6, a), a, " ")?;
+    push_between(alloc, out, margin, "", too_weak(DISJUNCTION, a), a, " ")?;
     out.push(mark)?;
     push_between(alloc, out, margin, " ", false, b, "")
 }
 
 /// Adds an expression, behind a comma where it follows another.
 #[cycle(expressions)]
-#[tactic(auto, using(crate::proofs::Rules::text_rules))]
+#[tactic(auto, using(rx_print_parts::proofs::Rules::text_rules))]
 fn push_next(
     alloc: Global,
     out: &mut Text,
@@ -265,7 +264,7 @@ fn push_tuple(
 
 /// Adds expressions in parentheses.
 #[cycle(expressions)]
-#[tactic(auto, using(crate::proofs::Rules::text_rules))]
+#[tactic(auto, using(rx_print_parts::proofs::Rules::text_rules))]
 fn push_arguments(
     alloc: Global,
     out: &mut Text,
@@ -281,7 +280,7 @@ fn push_arguments(
 
 /// Adds a call of a function.
 #[cycle(expressions)]
-#[tactic(auto, using(crate::proofs::Rules::text_rules))]
+#[tactic(auto, using(rx_print_parts::proofs::Rules::text_rules))]
 fn push_call(
     alloc: Global,
     out: &mut Text,
@@ -297,7 +296,7 @@ fn push_call(
 
 /// Adds a variant with arguments.
 #[cycle(expressions)]
-#[tactic(auto, using(crate::proofs::Rules::text_rules))]
+#[tactic(auto, using(rx_print_parts::proofs::Rules::text_rules))]
 fn push_variant(
     alloc: Global,
     out: &mut Text,
@@ -314,7 +313,7 @@ fn push_variant(
 
 /// Adds a field of a struct literal, behind a comma where it follows another.
 #[cycle(expressions)]
-#[tactic(auto, using(crate::proofs::Rules::field_rules))]
+#[tactic(auto, using(rx_tree::proofs::Rules::field_expression_by_parts, rx_print_parts::proofs::Rules::text_rules))]
 fn push_field(
     alloc: Global,
     out: &mut Text,
@@ -368,7 +367,7 @@ fn push_braces(
 
 /// Adds a struct literal.
 #[cycle(expressions)]
-#[tactic(auto, using(crate::proofs::Rules::text_rules))]
+#[tactic(auto, using(rx_print_parts::proofs::Rules::text_rules))]
 fn push_make(
     alloc: Global,
     out: &mut Text,
@@ -393,7 +392,7 @@ fn push_print(alloc: Global, out: &mut Text, margin: &Margin, e: &Expr) -> Resul
 
 /// Adds an `if` without what follows `else`.
 #[cycle(expressions)]
-#[tactic(auto, using(crate::proofs::Rules::text_rules))]
+#[tactic(auto, using(rx_print_parts::proofs::Rules::text_rules))]
 fn push_if(
     alloc: Global,
     out: &mut Text,
@@ -403,13 +402,21 @@ fn push_if(
 ) -> Result<(), AllocError>
     ensures { OnOk result (out.new ≡ out.old ++ flat (if_pieces margin.now (plain-Expr condition.now) (plain-Block body.now))) }
 {
-    push_between(alloc, out, margin, "if ", unfit(condition), condition, " ")?;
+    push_between(
+        alloc,
+        out,
+        margin,
+        "if ",
+        unfit(DISJUNCTION, condition),
+        condition,
+        " ",
+    )?;
     push_block(alloc, out, margin, body)
 }
 
 /// Adds an `if` with what follows `else`.
 #[cycle(expressions)]
-#[tactic(auto, using(crate::proofs::Rules::text_rules))]
+#[tactic(auto, using(rx_print_parts::proofs::Rules::text_rules))]
 fn push_if_else(
     alloc: Global,
     out: &mut Text,
@@ -424,9 +431,63 @@ fn push_if_else(
     push_between(alloc, out, margin, " else ", false, e, "")
 }
 
+/// Adds a pattern, and the expression that is to fit it.
+#[cycle(expressions)]
+#[tactic(auto, using(rx_print_parts::proofs::Rules::text_rules))]
+fn push_fitted(
+    alloc: Global,
+    out: &mut Text,
+    margin: &Margin,
+    pattern: &Pattern,
+    e: &Expr,
+) -> Result<(), AllocError>
+    ensures { OnOk result (out.new ≡ out.old ++ flat (fitted_pieces margin.now (plain-Pattern pattern.now) (plain-Expr e.now))) }
+{
+    out.push("let ")?;
+    push_pattern(alloc, out, pattern)?;
+    push_between(alloc, out, margin, " = ", unfit(COMPARISON, e), e, "")
+}
+
+/// Adds an `if let` without what follows `else`.
+#[cycle(expressions)]
+#[tactic(auto, using(rx_print_parts::proofs::Rules::text_rules))]
+fn push_if_let(
+    alloc: Global,
+    out: &mut Text,
+    margin: &Margin,
+    pattern: &Pattern,
+    e: &Expr,
+    body: &Block,
+) -> Result<(), AllocError>
+    ensures { OnOk result (out.new ≡ out.old ++ flat (if_let_pieces margin.now (plain-Pattern pattern.now) (plain-Expr e.now) (plain-Block body.now))) }
+{
+    out.push("if ")?;
+    push_fitted(alloc, out, margin, pattern, e)?;
+    out.push(" ")?;
+    push_block(alloc, out, margin, body)
+}
+
+/// Adds an `if let` with what follows `else`.
+#[cycle(expressions)]
+#[tactic(auto, using(rx_print_parts::proofs::Rules::text_rules))]
+fn push_if_let_else(
+    alloc: Global,
+    out: &mut Text,
+    margin: &Margin,
+    pattern: &Pattern,
+    e: &Expr,
+    body: &Block,
+    other: &Expr,
+) -> Result<(), AllocError>
+    ensures { OnOk result (out.new ≡ out.old ++ flat (if_let_else_pieces margin.now (plain-Pattern pattern.now) (plain-Expr e.now) (plain-Block body.now) (plain-Expr other.now))) }
+{
+    push_if_let(alloc, out, margin, pattern, e, body)?;
+    push_between(alloc, out, margin, " else ", false, other, "")
+}
+
 /// Adds a `loop`.
 #[cycle(expressions)]
-#[tactic(auto, using(crate::proofs::Rules::text_rules))]
+#[tactic(auto, using(rx_print_parts::proofs::Rules::text_rules))]
 fn push_loop(
     alloc: Global,
     out: &mut Text,
@@ -443,7 +504,7 @@ fn push_loop(
 
 /// Adds a `while`.
 #[cycle(expressions)]
-#[tactic(auto, using(crate::proofs::Rules::text_rules))]
+#[tactic(auto, using(rx_print_parts::proofs::Rules::text_rules))]
 fn push_while(
     alloc: Global,
     out: &mut Text,
@@ -460,17 +521,38 @@ fn push_while(
         out,
         margin,
         "while ",
-        unfit(condition),
+        unfit(DISJUNCTION, condition),
         condition,
         " ",
     )?;
     push_block(alloc, out, margin, body)
 }
 
+/// Adds a `while let`.
+#[cycle(expressions)]
+#[tactic(auto, using(rx_print_parts::proofs::Rules::text_rules))]
+fn push_while_let(
+    alloc: Global,
+    out: &mut Text,
+    margin: &Margin,
+    label: &Option<Ident>,
+    pattern: &Pattern,
+    e: &Expr,
+    body: &Block,
+) -> Result<(), AllocError>
+    ensures { OnOk result (out.new ≡ out.old ++ flat (while_let_pieces margin.now label.now (plain-Pattern pattern.now) (plain-Expr e.now) (plain-Block body.now))) }
+{
+    push_label(out, label)?;
+    out.push("while ")?;
+    push_fitted(alloc, out, margin, pattern, e)?;
+    out.push(" ")?;
+    push_block(alloc, out, margin, body)
+}
+
 /// Adds an expression, whose first line stands at this margin. The `&` of a borrow may be written already, as the
 /// second half of a mark `&&`.
 #[cycle(expressions)]
-#[tactic(auto, using(crate::proofs::Rules::expression_rules))]
+#[tactic(auto, using(rx_tree::proofs::Rules::expression_rules, rx_print_parts::proofs::Rules::end_rules))]
 pub fn push_expression(
     alloc: Global,
     out: &mut Text,
@@ -487,27 +569,9 @@ pub fn push_expression(
         ExprNode::Var(name) => out.push(name.as_str()),
         ExprNode::Field(a, name) => push_member(alloc, out, margin, a.get(), name),
         ExprNode::Part(a, index) => push_part(alloc, out, margin, a.get(), *index),
-        ExprNode::Deref(a) => {
-            push_between(alloc, out, margin, "*", too_weak(1, a.get()), a.get(), "")
-        }
-        ExprNode::Neg(a) => push_between(
-            alloc,
-            out,
-            margin,
-            "-",
-            too_weak(1, a.get()),
-            a.get(),
-            "",
-        ),
-        ExprNode::Not(a) => push_between(
-            alloc,
-            out,
-            margin,
-            "!",
-            too_weak(1, a.get()),
-            a.get(),
-            "",
-        ),
+        ExprNode::Deref(a) => push_unary(alloc, out, margin, "*", a.get()),
+        ExprNode::Neg(a) => push_unary(alloc, out, margin, "-", a.get()),
+        ExprNode::Not(a) => push_unary(alloc, out, margin, "!", a.get()),
         ExprNode::Borrow(mutable, a) => {
             if second {
                 return push_borrowed(alloc, out, margin, *mutable, a.get());
@@ -533,6 +597,10 @@ pub fn push_expression(
             None => push_if(alloc, out, margin, condition.get(), body.get()),
             Some(a) => push_if_else(alloc, out, margin, condition.get(), body.get(), a.get()),
         },
+        ExprNode::IfLet(pattern, a, body, other) => match other {
+            None => push_if_let(alloc, out, margin, pattern, a.get(), body.get()),
+            Some(b) => push_if_let_else(alloc, out, margin, pattern, a.get(), body.get(), b.get()),
+        },
         ExprNode::Match(a, list) => push_match(alloc, out, margin, a.get(), list.as_slice()),
         ExprNode::Loop(label, body) => push_loop(alloc, out, margin, label, body.get()),
         ExprNode::While(label, condition, body) => push_while(
@@ -541,6 +609,15 @@ pub fn push_expression(
             margin,
             label,
             condition.get(),
+            body.get(),
+        ),
+        ExprNode::WhileLet(label, pattern, a, body) => push_while_let(
+            alloc,
+            out,
+            margin,
+            label,
+            pattern,
+            a.get(),
             body.get(),
         ),
         ExprNode::Break(label) => push_jump(out, "break", label),

@@ -1,25 +1,8 @@
 //! Extracts a run of statements of a Rust file into a function of its own, or checks the file.
 #![tactic(auto)]
 
-#[cfg(test)]
-mod checks;
-mod laws;
-mod line;
-#[cfg(test)]
-mod prints;
-mod reply;
-#[cfg(test)]
-mod rows;
-mod status;
-#[cfg(test)]
-mod tests;
-mod tool;
-mod words;
-
-use crate::reply::report_name;
-use crate::status::Status;
-use crate::tool::rem;
 use rx_core::{List, StdSink, StdSource, Text};
+use rx_tool::{Status, rem, report_name};
 use std::env;
 use std::io::ErrorKind;
 use std::process::ExitCode;

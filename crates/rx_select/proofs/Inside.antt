@@ -10,7 +10,8 @@ use Rattle.rx_lex.specs.Tok.{Tok}
 use Rattle.rx_lex.specs.Tokens as lexing
 use Rattle.rx_lex.specs.Tokens.{Tokens}
 use Rattle.rx_lex.proofs.TokenLaws.{Ordered}
-use Rattle.rx_select.specs.Run.{Cut, body_span, end_of, tail_place}
+use Rattle.rx_tree.specs.Spans.{body_span}
+use Rattle.rx_select.specs.Run.{Cut, end_of, tail_place}
 use Rattle.rx_select.specs.Placed.{IsToken, Covers, Holds, InOrder, Placed, PlacedFrom}
 use Rattle.rx_select.proofs.PickLemmas.{every_token}
 
@@ -217,7 +218,7 @@ one_long all t c l i e = every_token (λ u. u.span.end ≡ u.span.start + length
 
 pub placed_near : (from near : ℕ) (ts : List Tok) (p : ProgramTree) → near ≤ from → PlacedFrom from ts p → PlacedFrom near ts p
 placed_near from near ts [] h x = tt
-placed_near from near ts (plain.rt_item s ∷ is) h x = placed_near from near ts is h x
+placed_near from near ts (plain.rt_item s rt ∷ is) h x = placed_near from near ts is h x
 placed_near from near ts (plain.struct_item s y ∷ is) h x = placed_near from near ts is h x
 placed_near from near ts (plain.enum_item s y ∷ is) h x = placed_near from near ts is h x
 placed_near from near ts (plain.function_item s f ∷ is) h x = (omega (arith, h, x.0), x.1, x.2)

@@ -18,7 +18,7 @@ use Rattle.rx_grammar.specs.grammar.Expressions.{IsStatement, AreStatements, IsB
 use Rattle.rx_grammar.specs.grammar.Items as items
 use Rattle.rx_grammar.specs.grammar.Items.{IsItem, IsFile, Parses}
 use Rattle.rx_grammar.proofs.ExpressionsFront.{expression_some, like_some}
-use Rattle.rx_select.specs.Run.{body_span}
+use Rattle.rx_tree.specs.Spans.{body_span}
 use Rattle.rx_select.specs.Placed.{IsToken, PlacedFrom, PlacedIn}
 use Rattle.rx_select.proofs.Inside.{Inside, inside_front, inside_back, inside_before, inside_is, token_right, last_end, last, Spans, Begins, Stand, holds, stand_more, stand_is, PlacedBody, one_long, placed_near, ordered_above, ordered_at, ordered_long, EachLong, each_long}
 

@@ -9,7 +9,8 @@ use Rattle.rx_tree.specs.Plain.{OptionalExpression, Body, Statement, Function, I
 use Rattle.rx_tree.specs.Lists.{listed, statement_span, nth, Every}
 use Rattle.rx_lex.specs.Tok.{Tok}
 use Rattle.rx_select.specs.declared.select.Run.{Run as Found}
-use Rattle.rx_select.specs.Run.{Run, Within, Cut, RunOf, body_span, end_of, tail_place, parts_of}
+use Rattle.rx_tree.specs.Spans.{body_span}
+use Rattle.rx_select.specs.Run.{Run, Within, Cut, RunOf, end_of, tail_place, parts_of}
 use Rattle.rx_select.specs.Placed.{Covers, Holds, InOrder, Placed, PlacedFrom, PlacedIn}
 use Rattle.rx_select.specs.Selecting.{picked, tail_tokens, if_any, tight_parts, beginning, ending, run_between, run_of_parts, encloses, run_of_item, or_else, run_among, run_at, run}
 use Rattle.rx_select.proofs.PickLemmas.{and_true, within_is, le_or_lt, picked_says, picked_is, picked_covers, picked_long, held_picked, covers_long, every_token}
@@ -259,7 +260,7 @@ parts_sound S E n ts ps w r e q = by_first (beginning w.start 0 ps) refl q
 
 item_sound : (S E n at : ℕ) (ts : List Tok) (i : ItemTree) (w : Span) (r : Found) → Every (λ t. t.span.start < t.span.end) ts → picked S E None ts ≡ Some w → PlacedFrom at ts (i ∷ [])
     → run_of_item ts w n i ≡ Some r → OfItem ts S E n i r
-item_sound S E n at ts (plain.rt_item s) w r l e p q = absurd (cc)
+item_sound S E n at ts (plain.rt_item s rt) w r l e p q = absurd (cc)
 item_sound S E n at ts (plain.struct_item s x) w r l e p q = absurd (cc)
 item_sound S E n at ts (plain.enum_item s x) w r l e p q = absurd (cc)
 item_sound S E n at ts (plain.function_item s f) w r l e p q = by (encloses (body_span f.body) w) q
@@ -273,14 +274,14 @@ item_sound S E n at ts (plain.function_item s f) w r l e p q = by (encloses (bod
 
 -- an item alone is placed where it is placed with others behind it
 alone : (at : ℕ) (ts : List Tok) (i : ItemTree) (is : ProgramTree) → PlacedFrom at ts (i ∷ is) → PlacedFrom at ts (i ∷ [])
-alone at ts (plain.rt_item s) is p = tt
+alone at ts (plain.rt_item s rt) is p = tt
 alone at ts (plain.struct_item s x) is p = tt
 alone at ts (plain.enum_item s x) is p = tt
 alone at ts (plain.function_item s f) is p = (p.0, p.1, tt)
 
 -- what stands behind an item is placed behind some place
 others : (at : ℕ) (ts : List Tok) (i : ItemTree) (is : ProgramTree) → PlacedFrom at ts (i ∷ is) → (from : ℕ) × PlacedFrom from ts is
-others at ts (plain.rt_item s) is p = (at, p)
+others at ts (plain.rt_item s rt) is p = (at, p)
 others at ts (plain.struct_item s x) is p = (at, p)
 others at ts (plain.enum_item s x) is p = (at, p)
 others at ts (plain.function_item s f) is p = ((body_span f.body).end, p.2)
@@ -344,13 +345,13 @@ body_long ts b p = order_bounds ((body_span b).start + 1) ((body_span b).end - 1
 
 bodies_behind : (at : ℕ) (ts : List Tok) (p : ProgramTree) (k : ℕ) (s : Span) (f : Function) → PlacedFrom at ts p → nth p k ≡ Some (plain.function_item s f) → (at ≤ (body_span f.body).start) × Placed ts f.body
 bodies_behind at ts [] k s f h e = absurd (cc)
-bodies_behind at ts (plain.rt_item u ∷ is) zero s f h e = absurd (cc)
+bodies_behind at ts (plain.rt_item u rt ∷ is) zero s f h e = absurd (cc)
 bodies_behind at ts (plain.struct_item u x ∷ is) zero s f h e = absurd (cc)
 bodies_behind at ts (plain.enum_item u x ∷ is) zero s f h e = absurd (cc)
 bodies_behind at ts (plain.function_item u g ∷ is) zero s f h e =
     let q : g ≡ f = cc in
     subst (λ (v : Function). (at ≤ (body_span v.body).start) × Placed ts v.body) q (h.0, h.1)
-bodies_behind at ts (plain.rt_item u ∷ is) (suc k) s f h e = bodies_behind at ts is k s f h e
+bodies_behind at ts (plain.rt_item u rt ∷ is) (suc k) s f h e = bodies_behind at ts is k s f h e
 bodies_behind at ts (plain.struct_item u x ∷ is) (suc k) s f h e = bodies_behind at ts is k s f h e
 bodies_behind at ts (plain.enum_item u x ∷ is) (suc k) s f h e = bodies_behind at ts is k s f h e
 bodies_behind at ts (plain.function_item u g ∷ is) (suc k) s f h e =
@@ -371,7 +372,7 @@ encloses_not s w h = by (encloses s w) refl
 -- an item whose body ends before the span has no run there
 item_none : (at n : ℕ) (ts : List Tok) (i : ItemTree) (is : ProgramTree) (k : ℕ) (s : Span) (f : Function) (w : Span) → PlacedFrom at ts (i ∷ is) → nth is k ≡ Some (plain.function_item s f)
     → (body_span f.body).start < w.start → w.start < w.end → run_of_item ts w n i ≡ None
-item_none at n ts (plain.rt_item u) is k s f w h e b l = refl
+item_none at n ts (plain.rt_item u rt) is k s f w h e b l = refl
 item_none at n ts (plain.struct_item u x) is k s f w h e b l = refl
 item_none at n ts (plain.enum_item u x) is k s f w h e b l = refl
 item_none at n ts (plain.function_item u g) is k s f w h e b l =

@@ -20,8 +20,10 @@ use Rattle.rx_tree.specs.Plain.{PatternTree, Expression, OptionalExpression, Bod
 use Rattle.rx_tree.specs.PlainOf.{plain-Expr, plain-ExprNode, plain-StmtNode, plain-Arm, plain-Block, plain-FieldExpr, plain-Stmt, expression_node_step, statement_node_step, arm_step, block_step, expression_step, field_expression_step, statement_step, plain-Item, plain-ItemNode, statement_is, block_is, statements_of, optional_of}
 use Rattle.rx_tree.specs.Lists.{statement_span}
 use Rattle.rx_tree.proofs.ListsLemmas.{listed-statements_of}
+use Rattle.rx_tree.proofs.Rules.{block_by_parts}
 use Rattle.rx_lex.specs.Tok.{Tok}
-use Rattle.rx_select.specs.Run.{body_span, end_of}
+use Rattle.rx_tree.specs.Spans.{body_span}
+use Rattle.rx_select.specs.Run.{end_of}
 use Rattle.rx_select.specs.Selecting.{picked, tail_tokens, tail_of, if_any, tight_parts, beginning, ending, run_between, run_of_parts, encloses, run_of_item}
 
 -- ---- statements
@@ -60,16 +62,13 @@ ends_at_last at (x ∷ ss) a e = ends_last at (length (x ∷ ss) - 1) (x ∷ ss)
 
 -- ---- bodies
 
-block_node : (b : Block) → plain-Block b ≡ plain.body (out-Block b).span (statements_of (map plain-Stmt (out-Block b).stmts)) (optional_of (option_map plain-Expr (out-Block b).tail))
-block_node b = ap plain-Block (sym (roll-out-Block b)) ∙ block_is (out-Block b).span (out-Block b).stmts (out-Block b).tail
-
 pub block_span : (b : Block) → body_span (plain-Block b) ≡ (out-Block b).span
-block_span b = ap body_span (block_node b)
+block_span b = ap body_span (block_by_parts b)
 
 pub block_tail : (ts : List Tok) (b : Block) → tail_of ts (plain-Block b)
     ≡ tail_tokens ts (end_of ((out-Block b).span.start + 1) (map plain-Stmt (out-Block b).stmts)) (optional_of (option_map plain-Expr (out-Block b).tail)) ((out-Block b).span.end - 1)
 block_tail ts b =
-    ap (tail_of ts) (block_node b)
+    ap (tail_of ts) (block_by_parts b)
     ∙ ap (λ l. tail_tokens ts (end_of ((out-Block b).span.start + 1) l) (optional_of (option_map plain-Expr (out-Block b).tail)) ((out-Block b).span.end - 1))
     (listed-statements_of (map plain-Stmt (out-Block b).stmts))
 
@@ -80,7 +79,7 @@ pub block_parts : (ts : List Tok) (b : Block) → tight_parts ts (plain-Block b)
 block_parts ts b =
     let o = optional_of (option_map plain-Expr (out-Block b).tail) in
     let l = map plain-Stmt (out-Block b).stmts in
-    ap (tight_parts ts) (block_node b) ∙ parts_split ts (out-Block b).span l o ∙ ap (λ (c : Body). map statement_span l ++ if_any (tail_of ts c)) (sym (block_node b))
+    ap (tight_parts ts) (block_by_parts b) ∙ parts_split ts (out-Block b).span l o ∙ ap (λ (c : Body). map statement_span l ++ if_any (tail_of ts c)) (sym (block_by_parts b))
 
 -- ---- the statements of the code, and a tail behind them
 

@@ -5,7 +5,8 @@ use Rattle.rx_tree.specs.Plain as plain
 use Rattle.rx_tree.specs.Plain.{Body, ProgramTree}
 use Rattle.rx_tree.specs.Lists.{listed, statements, statement_span, Every}
 use Rattle.rx_lex.specs.Tok.{Tok}
-use Rattle.rx_select.specs.Run.{Within, Cut, body_span, end_of, tail_place, parts_of}
+use Rattle.rx_tree.specs.Spans.{body_span}
+use Rattle.rx_select.specs.Run.{Within, Cut, end_of, tail_place, parts_of}
 
 abbrev pub IsToken : Tok → List Tok → Type 0
 IsToken t [] = ⊥
@@ -46,7 +47,7 @@ pub record Placed (ts : List Tok) (b : Body) : Type 0 where
 -- the bodies of a program's functions stand behind a place, one behind the other
 abbrev pub PlacedFrom : ℕ → List Tok → ProgramTree → Type 0
 PlacedFrom at ts [] = Unit {0}
-PlacedFrom at ts (plain.rt_item s ∷ is) = PlacedFrom at ts is
+PlacedFrom at ts (plain.rt_item s rt ∷ is) = PlacedFrom at ts is
 PlacedFrom at ts (plain.struct_item s x ∷ is) = PlacedFrom at ts is
 PlacedFrom at ts (plain.enum_item s x ∷ is) = PlacedFrom at ts is
 PlacedFrom at ts (plain.function_item s f ∷ is) = (at ≤ (body_span f.body).start) × Placed ts f.body × PlacedFrom (body_span f.body).end ts is

@@ -20,9 +20,6 @@ Within start end t = (start ≤ t.span.start) × (t.span.end ≤ end)
 abbrev pub Cut : ℕ → ℕ → Tok → Type 0
 Cut start end t = (t.span.start < end) × (start < t.span.end) × ¬ (Within start end t)
 
-abbrev pub body_span : Body → Span
-body_span (plain.body s ss t) = s
-
 -- where the last of some statements ends, or else the place in front of them
 abbrev pub end_of : ℕ → List Statement → ℕ
 end_of at [] = at

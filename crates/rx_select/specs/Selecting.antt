@@ -6,7 +6,8 @@ use Rattle.rx_tree.specs.Plain.{OptionalExpression, Body, ItemTree, ProgramTree}
 use Rattle.rx_tree.specs.Lists.{listed, statement_span}
 use Rattle.rx_lex.specs.Tok.{Tok}
 use Rattle.rx_select.specs.declared.select.Run.{Run as Found}
-use Rattle.rx_select.specs.Run.{Run, body_span, end_of}
+use Rattle.rx_tree.specs.Spans.{body_span}
+use Rattle.rx_select.specs.Run.{Run, end_of}
 
 abbrev pub is_within : ℕ → ℕ → Span → Bool
 is_within start end s = nat_le start s.start && nat_le s.end end
@@ -65,7 +66,7 @@ abbrev pub encloses : Span → Span → Bool
 encloses s w = nat_lt s.start w.start && nat_lt w.end s.end
 
 abbrev pub run_of_item : List Tok → Span → ℕ → ItemTree → Option Found
-run_of_item ts w n (plain.rt_item s) = None
+run_of_item ts w n (plain.rt_item s rt) = None
 run_of_item ts w n (plain.struct_item s x) = None
 run_of_item ts w n (plain.enum_item s x) = None
 run_of_item ts w n (plain.function_item s f) = if encloses (body_span f.body) w then run_of_parts n w (tight_parts ts f.body) else None

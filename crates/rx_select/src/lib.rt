@@ -6,6 +6,3 @@ mod select;
 
 pub use laws::{one_run, parsed_is_placed};
 pub use select::{Run, select_run};
-
-#[cfg(test)]
-mod tests;

@@ -159,7 +159,7 @@ fn run_in_item(tokens: &[Token<'_>], item: &Item, number: usize, span: Span) -> 
                 None
             }
         }
-        ItemNode::Rt | ItemNode::Struct(_) | ItemNode::Enum(_) => None,
+        ItemNode::Rt(_) | ItemNode::Struct(_) | ItemNode::Enum(_) => None,
     }
 }
 

@@ -173,13 +173,13 @@ placed_reads depth x r p m f o at = by (too_weak p x) refl o
     by true e o = operand_enclosed depth x r f p at
     by false e o = operand_lifted depth x r f o p (not_weaker p x e) m at
 
-pub tested_reads : (depth : ℕ) (x : Expression) → Reads depth x → (at : ℕ)
-    → AsOperand false 6 (places at (tested x (pieces false depth x))) x (tested_levels x (expression_levels x))
-tested_reads depth x r at = by (unfit x) refl
+pub tested_reads : (depth place : ℕ) (x : Expression) → place ≤ 6 → Reads depth x → (at : ℕ)
+    → AsOperand false place (places at (tested place x (pieces false depth x))) x (tested_levels place x (expression_levels x))
+tested_reads depth place x m r at = by (unfit place x) refl
   where
-    by : (b : Bool) → unfit x ≡ b → AsOperand false 6 (places at (enclosed b (pieces false depth x))) x (enclosed_levels b (expression_levels x))
-    by true e = operand_enclosed depth x r false 6 at
-    by false e = let p = or_parts (too_weak 6 x) (is_open x) e in operand_lifted depth x r false p.1 6 (not_weaker 6 x p.0) (omega arith) at
+    by : (b : Bool) → unfit place x ≡ b → AsOperand false place (places at (enclosed b (pieces false depth x))) x (enclosed_levels b (expression_levels x))
+    by true e = operand_enclosed depth x r false place at
+    by false e = let p = or_parts (too_weak place x) (is_open x) e in operand_lifted depth x r false p.1 place (not_weaker place x p.0) m at
 
 -- as a statement, a tail or the body of an arm
 pub data AsStated (ts : List Tok) (x : Expression) (h : ℕ) : Type 0 where

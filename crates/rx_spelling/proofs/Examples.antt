@@ -148,6 +148,57 @@ loops : (text (plain.loop nowhere (Some (named (codes "'a"))) empty) ≡ codes "
 unfolding digits
 loops = (refl, refl)
 
+-- ---- what a pattern is to fit: in parentheses as a whole where it is weaker than a comparison, or has an open struct literal
+
+abbrev fits : Expression → Expression
+fits e = plain.if_let nowhere wild e empty plain.absent
+
+abbrev fits_while : Expression → Expression
+fits_while e = plain.while_let nowhere None (plain.bind nowhere (named (codes "x")) false) e (with_tail a)
+
+joined_scrutinees :
+    (text (fits (two op.And a b)) ≡ codes "if let _ = (a && b) {}") × (text (fits (two op.Or a b)) ≡ codes "if let _ = (a || b) {}")
+    × (text (fits (two op.And (two op.And a b) c)) ≡ codes "if let _ = (a && b && c) {}")
+    × (text (fits_while (two op.Or (two op.Eq a b) c)) ≡ codes "while let x = (a == b || c) {\n    a\n}")
+joined_scrutinees = (refl, refl, refl, refl)
+
+loose_scrutinees :
+    (text (fits (assign a b)) ≡ codes "if let _ = (a = b) {}") × (text (fits (plain.update nowhere update_op.Add a b)) ≡ codes "if let _ = (a += b) {}")
+    × (text (fits jump) ≡ codes "if let _ = (return) {}") × (text (fits (plain.return nowhere (plain.present a))) ≡ codes "if let _ = (return a) {}")
+    × (text (fits_while (plain.break nowhere None)) ≡ codes "while let x = (break) {\n    a\n}")
+    × (text (fits_while (plain.continue nowhere (Some (named (codes "'a"))))) ≡ codes "while let x = (continue 'a) {\n    a\n}")
+loose_scrutinees = (refl, refl, refl, refl, refl, refl)
+
+open_scrutinees :
+    (text (fits literal) ≡ codes "if let _ = (S { x: 1 }) {}") × (text (fits (field literal)) ≡ codes "if let _ = (S { x: 1 }.f) {}")
+    × (text (fits (two op.Eq (field literal) one)) ≡ codes "if let _ = (S { x: 1 }.f == 1) {}") × (text (fits (borrow literal)) ≡ codes "if let _ = (&S { x: 1 }) {}")
+    × (text (fits_while (two op.Add a literal)) ≡ codes "while let x = (a + S { x: 1 }) {\n    a\n}")
+unfolding digits
+open_scrutinees = (refl, refl, refl, refl, refl)
+
+bare_scrutinees :
+    (text (fits (two op.Eq a b)) ≡ codes "if let _ = a == b {}") × (text (fits (two op.Eq (two op.Lt a b) c)) ≡ codes "if let _ = (a < b) == c {}")
+    × (text (fits (call literal)) ≡ codes "if let _ = g(S { x: 1 }) {}") × (text (fits (negate (two op.And a b))) ≡ codes "if let _ = -(a && b) {}")
+    × (text (fits (of_block (with_tail literal))) ≡ codes "if let _ = {\n    S { x: 1 }\n} {}") × (text (fits (fits a)) ≡ codes "if let _ = if let _ = a {} {}")
+unfolding digits
+bare_scrutinees = (refl, refl, refl, refl, refl, refl)
+
+fitting_chains :
+    (text (plain.if_let nowhere (plain.bind nowhere (named (codes "x")) true) a empty (plain.present (plain.if_let nowhere wild b (with_tail c) (plain.present (of_block empty)))))
+    ≡ codes "if let mut x = a {} else if let _ = b {\n    c\n} else {}")
+    × (text (plain.if nowhere a empty (plain.present (fits b))) ≡ codes "if a {} else if let _ = b {}")
+    × (text (plain.while_let nowhere (Some (named (codes "'a"))) (plain.tuple_pattern nowhere (plain.pattern_and wild plain.no_pattern)) a empty) ≡ codes "'a: while let (_,) = a {}")
+fitting_chains = (refl, refl, refl)
+
+-- a statement that begins with one and is more than it
+fitting_statements : (done (fits a) ≡ codes "if let _ = a {};") × (done (field (fits a)) ≡ codes "(if let _ = a {}.f);") × (done (two op.Sub (fits_while a) b) ≡ codes "(while let x = a {\n    a\n} - b);")
+fitting_statements = (refl, refl, refl)
+
+fitting_levels :
+    (expression_levels (fits a) ≡ 2) × (expression_levels (fits (two op.And a b)) ≡ 4) × (expression_levels (fits literal) ≡ 4) × (expression_levels (fits (two op.Eq a b)) ≡ 3)
+    × (expression_levels (fits_while a) ≡ 3) × (expression_levels (plain.if_let nowhere wild a empty (plain.present (of_block empty))) ≡ 3)
+fitting_levels = (refl, refl, refl, refl, refl, refl)
+
 -- ---- what begins with a block and is more than it
 
 statements_of_blocks : (done (two op.Sub (of_block (with_tail a)) b) ≡ codes "({\n    a\n} - b);") × (done (field (of_block (with_tail a))) ≡ codes "({\n    a\n}.f);") × (done (of_block empty) ≡ codes "{};") × (done (negate (of_block empty)) ≡ codes "-{};") × (done (call (two op.Sub (of_block empty) b)) ≡ codes "g({} - b);") × (done (two op.Mul (two op.Add (of_block empty) b) c) ≡ codes "({} + b) * c;")
@@ -221,5 +272,5 @@ function = plain.function_item nowhere (record {
       (plain.present (plain.next_input nowhere));
 })
 
-program : print_program (plain.rt_item nowhere ∷ pair ∷ nothing ∷ choice ∷ function ∷ []) ≡ codes "mod rt;\n\n#[derive(Clone, Copy)]\nstruct Pair<'a> {\n    x: &'a u8,\n    y: u8,\n}\n\nstruct N {}\n\n#[derive(Clone)]\nenum E {\n    V(u8, u8),\n    W,\n}\n\nfn f<'a, 'b: 'a + 'c>(mut x: u8, y: u8) -> u8 {\n    let z: u8;\n    if a {}\n    println!(\"{}\", b);\n    rt::next()\n}\n"
+program : print_program (plain.rt_item nowhere nowhere ∷ pair ∷ nothing ∷ choice ∷ function ∷ []) ≡ codes "mod rt;\n\n#[derive(Clone, Copy)]\nstruct Pair<'a> {\n    x: &'a u8,\n    y: u8,\n}\n\nstruct N {}\n\n#[derive(Clone)]\nenum E {\n    V(u8, u8),\n    W,\n}\n\nfn f<'a, 'b: 'a + 'c>(mut x: u8, y: u8) -> u8 {\n    let z: u8;\n    if a {}\n    println!(\"{}\", b);\n    rt::next()\n}\n"
 program = refl

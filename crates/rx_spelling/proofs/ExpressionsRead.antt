@@ -57,11 +57,15 @@ mutual
   expression_reads (plain.if s c b plain.absent) depth f = likes.if_reads depth s c b (expression_reads c depth f.0) (block_reads b depth f.1)
   expression_reads (plain.if s c b (plain.present e)) depth f =
       likes.else_reads depth s c b e f.2.0 (expression_reads c depth f.0) (block_reads b depth f.1) (expression_reads e depth f.2.1)
+  expression_reads (plain.if_let s p e b plain.absent) depth f = likes.if_let_reads depth s p e b (pattern_reads p f.0) (expression_reads e depth f.1) (block_reads b depth f.2)
+  expression_reads (plain.if_let s p e b (plain.present o)) depth f =
+      likes.let_else_reads depth s p e b o f.3.0 (pattern_reads p f.0) (expression_reads e depth f.1) (block_reads b depth f.2) (expression_reads o depth f.3.1)
   expression_reads (plain.match s e plain.no_arm) depth f = absurd f.1
   expression_reads (plain.match s e (plain.arm_and p x more)) depth f =
       likes.match_reads depth s e p x more (expression_reads e depth f.0) (arms_read (plain.arm_and p x more) (suc depth) f.2)
   expression_reads (plain.loop s l b) depth f = likes.loop_reads depth s l b f.0 (block_reads b depth f.1)
   expression_reads (plain.while s l c b) depth f = likes.while_reads depth s l c b f.0 (expression_reads c depth f.1) (block_reads b depth f.2)
+  expression_reads (plain.while_let s l p e b) depth f = likes.while_let_reads depth s l p e b f.0 (pattern_reads p f.1) (expression_reads e depth f.2) (block_reads b depth f.3)
   expression_reads (plain.break s l) depth f = operands.break_reads depth s l f
   expression_reads (plain.continue s l) depth f = operands.continue_reads depth s l f
   expression_reads (plain.return s plain.absent) depth f = operands.return_reads depth s

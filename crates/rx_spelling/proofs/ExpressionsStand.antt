@@ -11,7 +11,7 @@ use Rattle.rx_tree.specs.declared.tree.BinaryOp.TheVariants as op
 use Rattle.rx_tree.specs.declared.tree.UpdateOp.{UpdateOp}
 use Rattle.rx_tree.specs.declared.tree.UpdateOp.TheVariants as update_op
 use Rattle.rx_tree.specs.Plain as plain
-use Rattle.rx_tree.specs.Plain.{TypeTree, Expression, Expressions, OptionalExpression, OptionalExpressions, FieldExpressions, Arms, Body, Statement, Statements}
+use Rattle.rx_tree.specs.Plain.{TypeTree, PatternTree, Expression, Expressions, OptionalExpression, OptionalExpressions, FieldExpressions, Arms, Body, Statement, Statements}
 use Rattle.rx_lex.specs.declared.token.Class.TheVariants.{Format}
 use Rattle.rx_lex.specs.Words as words
 use Rattle.rx_lex.specs.Words.{IsWord, goes_on, keywords}
@@ -21,7 +21,7 @@ use Rattle.rx_spelling.specs.Pieces.{Piece, word, space, flat, mark, keyword, na
 use Rattle.rx_spelling.specs.Types.{annotation_pieces}
 use Rattle.rx_spelling.specs.Patterns.{pattern_pieces}
 use Rattle.rx_spelling.specs.Places.{weakness, too_weak, strength, left_strength, right_strength, operator_text, update_text, placed, tested, stated, unfit, goes_on as is_more, is_block}
-use Rattle.rx_spelling.specs.Expressions.{pieces, each, each_field, optional_list, arms, block, statement, statements, tail, initial, otherwise, returned, between, label_pieces, target_pieces, semicolon, arm_comma, closing, is_empty, is_borrow}
+use Rattle.rx_spelling.specs.Expressions.{pieces, fitted, each, each_field, optional_list, arms, block, statement, statements, tail, initial, otherwise, returned, between, label_pieces, target_pieces, semicolon, arm_comma, closing, is_empty, is_borrow}
 use Rattle.rx_spelling.specs.Formed.{MaybeLasting, Formed, FormedList, FormedOptionalList, FormedFields, FormedOptional, FormedElse, FormedArms, FormedBody, FormedStatement, FormedStatements, WrittenType}
 use Rattle.rx_spelling.proofs.DecimalDigits.{decimal_numeral, plain_numeral}
 use Rattle.rx_spelling.proofs.Pieces.{flat_then}
@@ -95,9 +95,11 @@ expression_front (plain.make s n fs) depth f w rest = identifier_front false n (
 expression_front (plain.print s e) depth f w rest = refl
 expression_front (plain.block s (plain.body r ss y)) depth f w rest = refl
 expression_front (plain.if s c b y) depth f w rest = refl
+expression_front (plain.if_let s p e b y) depth f w rest = refl
 expression_front (plain.match s e as') depth f w rest = refl
 expression_front (plain.loop s l b) depth f w rest = label_front l (codes "loop") _ rest f.0 refl
 expression_front (plain.while s l c b) depth f w rest = label_front l (codes "while") _ rest f.0 refl
+expression_front (plain.while_let s l p e b) depth f w rest = label_front l (codes "while") _ rest f.0 refl
 expression_front (plain.break s l) depth f w rest = absurd (false≢true (sym w))
 expression_front (plain.continue s l) depth f w rest = absurd (false≢true (sym w))
 expression_front (plain.return s y) depth f w rest = absurd (false≢true (sym w))
@@ -128,8 +130,8 @@ of_alone depth e n f = record { alone = f; second = λ k. absurd (cc) }
 at_place : (depth place : ℕ) (e : Expression) → StandsExpression depth e → Ends (placed place e (pieces false depth e))
 at_place depth place e r = ends_enclosed (too_weak place e) (pieces false depth e) r.alone
 
-at_test : (depth : ℕ) (e : Expression) → StandsExpression depth e → Ends (tested e (pieces false depth e))
-at_test depth e r = ends_enclosed (unfit e) (pieces false depth e) r.alone
+at_test : (depth place : ℕ) (e : Expression) → StandsExpression depth e → Ends (tested place e (pieces false depth e))
+at_test depth place e r = ends_enclosed (unfit place e) (pieces false depth e) r.alone
 
 at_statement : (depth : ℕ) (e : Expression) → StandsExpression depth e → Ends (stated e (pieces false depth e))
 at_statement depth e r = ends_enclosed (is_more e) (pieces false depth e) r.alone
@@ -197,6 +199,9 @@ while_ends : (l : Option Ident) (cs bs : List Piece) → MaybeLasting l → Ends
     → Ends (label_pieces l ++ (keyword (codes "while") ∷ space ∷ (cs ++ (space ∷ bs))))
 while_ends l cs bs f g h = ends (λ rest q.
     appended (label_pieces l) (label_stands l f _) (keyword_then refl refl (space_then (joined cs g (refl, refl) (space_then (ended h rest q))))))
+
+fitted_ends : (p : PatternTree) (es : List Piece) → Ends (pattern_pieces p) → Ends es → Ends (fitted p es)
+fitted_ends p es f g = ends (λ rest q. keyword_then refl refl (space_then (ended (two_ends (codes "=") (pattern_pieces p) es refl f g) rest q)))
 
 -- ---- what follows is quiet
 
@@ -335,12 +340,18 @@ mutual
   expression_stands (plain.print s e) depth f = of_alone depth (plain.print s e) refl (print_ends _ (expression_stands e depth f).alone)
   expression_stands (plain.block s b) depth f = of_alone depth (plain.block s b) refl (body_ends b depth f)
   expression_stands (plain.if s c b y) depth f =
-      of_alone depth (plain.if s c b y) refl (if_ends depth _ _ y (at_test depth c (expression_stands c depth f.0)) (body_ends b depth f.1) (otherwise_ends y depth f.2))
+      of_alone depth (plain.if s c b y) refl (if_ends depth _ _ y (at_test depth 6 c (expression_stands c depth f.0)) (body_ends b depth f.1) (otherwise_ends y depth f.2))
+  expression_stands (plain.if_let s p e b y) depth f =
+      of_alone depth (plain.if_let s p e b y) refl
+      (if_ends depth _ _ y (fitted_ends p _ (pattern_ends p f.0) (at_test depth 4 e (expression_stands e depth f.1))) (body_ends b depth f.2) (otherwise_ends y depth f.3))
   expression_stands (plain.match s e as') depth f =
-      of_alone depth (plain.match s e as') refl (match_ends depth _ _ (at_test depth e (expression_stands e depth f.0)) (arms_end as' (suc depth) f.2))
+      of_alone depth (plain.match s e as') refl (match_ends depth _ _ (at_test depth 6 e (expression_stands e depth f.0)) (arms_end as' (suc depth) f.2))
   expression_stands (plain.loop s l b) depth f = of_alone depth (plain.loop s l b) refl (loop_ends l _ f.0 (body_ends b depth f.1))
   expression_stands (plain.while s l c b) depth f =
-      of_alone depth (plain.while s l c b) refl (while_ends l _ _ f.0 (at_test depth c (expression_stands c depth f.1)) (body_ends b depth f.2))
+      of_alone depth (plain.while s l c b) refl (while_ends l _ _ f.0 (at_test depth 6 c (expression_stands c depth f.1)) (body_ends b depth f.2))
+  expression_stands (plain.while_let s l p e b) depth f =
+      of_alone depth (plain.while_let s l p e b) refl
+      (while_ends l _ _ f.0 (fitted_ends p _ (pattern_ends p f.1) (at_test depth 4 e (expression_stands e depth f.2))) (body_ends b depth f.3))
   expression_stands (plain.break s l) depth f = of_alone depth (plain.break s l) refl (target_ends (codes "break") l refl f)
   expression_stands (plain.continue s l) depth f = of_alone depth (plain.continue s l) refl (target_ends (codes "continue") l refl f)
   expression_stands (plain.return s y) depth f =

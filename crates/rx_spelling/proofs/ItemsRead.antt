@@ -224,8 +224,8 @@ result_reads (Some t) f at =
 abbrev AsItem : List Tok → ItemTree → ℕ → Type 0
 AsItem ts i h = Derives (λ us y. IsItem us y h) erase_item ts (erase_item i)
 
-rt_reads : (s : Span) (at : ℕ) → AsItem (places at (item_pieces (plain.rt_item s))) (plain.rt_item s) 0
-rt_reads s at =
+rt_reads : (s r : Span) (at : ℕ) → AsItem (places at (item_pieces (plain.rt_item s r))) (plain.rt_item s r) 0
+rt_reads s r at =
     record {
       tree = _;
       derived = g.rt (token_at at Keyword (codes "mod")) (token_at (at + 3 + 1) Identifier (codes "rt")) (mark_at (at + 3 + 1 + 2) (codes ";")) (refl, refl) (refl, refl) (refl, refl) refl;
@@ -341,7 +341,7 @@ function_reads s x f at =
     }
 
 item_reads : (i : ItemTree) → FormedItem i → (at : ℕ) → AsItem (places at (item_pieces i)) i (item_levels i)
-item_reads (plain.rt_item s) f = rt_reads s
+item_reads (plain.rt_item s r) f = rt_reads s r
 item_reads (plain.struct_item s x) f = structure_reads s x f
 item_reads (plain.enum_item s x) f = enumeration_reads s x f
 item_reads (plain.function_item s x) f = function_reads s x f

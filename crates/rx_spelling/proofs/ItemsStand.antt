@@ -138,7 +138,7 @@ function_ends x s f = ends (λ rest q.
     (whole refl refl (joined (result_pieces x.result) (result_ends x.result f.3) (refl, refl) (space_then (ended (body_ends x.body 0 f.4) rest q))))))))))
 
 item_ends : (i : ItemTree) → FormedItem i → Ends (item_pieces i)
-item_ends (plain.rt_item s) f = ends (λ rest q. keyword_then refl refl (space_then (identifier_then refl refl (close refl refl))))
+item_ends (plain.rt_item s r) f = ends (λ rest q. keyword_then refl refl (space_then (identifier_then refl refl (close refl refl))))
 item_ends (plain.struct_item s x) f = ends (λ rest q. structure_stands x rest f.0 f.1 f.2)
 item_ends (plain.enum_item s x) f = ends (λ rest q. enumeration_stands x rest f.0 f.1 f.3)
 item_ends (plain.function_item s x) f = function_ends x s f

@@ -94,6 +94,7 @@ same_follows false (plain.statement_and a ss) y = refl
 same_branch : (e : Expression) → is_branch (erase e) ≡ is_branch e
 same_branch (plain.block s b) = refl
 same_branch (plain.if s c b y) = refl
+same_branch (plain.if_let s p e b y) = refl
 same_branch _ = refl
 
 same_arm : (as' : Arms) → SomeArm (erase_arms as') ≡ SomeArm as'
@@ -126,9 +127,11 @@ mutual
   same_formed (plain.print s e) = same_formed e
   same_formed (plain.block s b) = same_body b
   same_formed (plain.if s c b y) = rw (same_formed c, same_body b, same_else y) refl
+  same_formed (plain.if_let s p e b y) = rw (same_pattern p, same_formed e, same_body b, same_else y) refl
   same_formed (plain.match s e as') = rw (same_formed e, same_arm as', same_arms as') refl
   same_formed (plain.loop s l b) = rw (same_lasting l, same_body b) refl
   same_formed (plain.while s l c b) = rw (same_lasting l, same_formed c, same_body b) refl
+  same_formed (plain.while_let s l p e b) = rw (same_lasting l, same_pattern p, same_formed e, same_body b) refl
   same_formed (plain.break s l) = same_lasting l
   same_formed (plain.continue s l) = same_lasting l
   same_formed (plain.return s y) = same_optional y
@@ -172,7 +175,7 @@ same_bound : (l : BoundLifetime) → FormedBound (erase_lifetime l) ≡ FormedBo
 same_bound l = rw (same_every Lasting erase_ident (λ k. refl) l.bounds) refl
 
 same_item : (i : ItemTree) → FormedItem (erase_item i) ≡ FormedItem i
-same_item (plain.rt_item s) = refl
+same_item (plain.rt_item s r) = refl
 same_item (plain.struct_item s x) =
     rw (same_every Lasting erase_ident (λ k. refl) x.lifetimes, same_every FormedField erase_field (λ f. rw (same_type f.typ) refl) x.fields) refl
 same_item (plain.enum_item s x) =

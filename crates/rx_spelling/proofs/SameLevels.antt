@@ -66,10 +66,12 @@ mutual
   same_expression (plain.make s n fs) = rw (same_fields fs) refl
   same_expression (plain.print s e) = rw (same_expression e) refl
   same_expression (plain.block s k) = rw (same_block k) refl
-  same_expression (plain.if s c k y) = rw (same_unfit c, same_expression c, same_block k, same_optional y) refl
-  same_expression (plain.match s e as') = rw (same_unfit e, same_expression e, same_arms as') refl
+  same_expression (plain.if s c k y) = rw (same_unfit 6 c, same_expression c, same_block k, same_optional y) refl
+  same_expression (plain.if_let s p e k y) = rw (same_pattern p, same_unfit 4 e, same_expression e, same_block k, same_optional y) refl
+  same_expression (plain.match s e as') = rw (same_unfit 6 e, same_expression e, same_arms as') refl
   same_expression (plain.loop s l k) = rw (same_block k) refl
-  same_expression (plain.while s l c k) = rw (same_unfit c, same_expression c, same_block k) refl
+  same_expression (plain.while s l c k) = rw (same_unfit 6 c, same_expression c, same_block k) refl
+  same_expression (plain.while_let s l p e k) = rw (same_pattern p, same_unfit 4 e, same_expression e, same_block k) refl
   same_expression (plain.break s l) = refl
   same_expression (plain.continue s l) = refl
   same_expression (plain.return s y) = rw (same_optional y) refl
@@ -110,7 +112,7 @@ mutual
   same_statements (plain.statement_and a ss) = rw (same_statement a, same_statements ss) refl
 
 same_item : (i : ItemTree) → item_levels (erase_item i) ≡ item_levels i
-same_item (plain.rt_item s) = refl
+same_item (plain.rt_item s r) = refl
 same_item (plain.struct_item s x) = ap deepest (same_map field_levels erase_field (λ f. same_type f.typ) x.fields)
 same_item (plain.enum_item s x) = ap deepest (same_map variant_levels erase_variant (λ v. same_types v.types) x.variants)
 same_item (plain.function_item s f) =

@@ -105,9 +105,11 @@ alike (plain.make s n fs) = record { weakness_is = refl; like_is = refl; block_i
 alike (plain.print s e) = record { weakness_is = refl; like_is = refl; block_is = refl; borrow_is = refl }
 alike (plain.block s b) = record { weakness_is = refl; like_is = refl; block_is = refl; borrow_is = refl }
 alike (plain.if s c b y) = record { weakness_is = refl; like_is = refl; block_is = refl; borrow_is = refl }
+alike (plain.if_let s p e b y) = record { weakness_is = refl; like_is = refl; block_is = refl; borrow_is = refl }
 alike (plain.match s e as') = record { weakness_is = refl; like_is = refl; block_is = refl; borrow_is = refl }
 alike (plain.loop s l b) = record { weakness_is = refl; like_is = refl; block_is = refl; borrow_is = refl }
 alike (plain.while s l c b) = record { weakness_is = refl; like_is = refl; block_is = refl; borrow_is = refl }
+alike (plain.while_let s l p e b) = record { weakness_is = refl; like_is = refl; block_is = refl; borrow_is = refl }
 alike (plain.break s l) = record { weakness_is = refl; like_is = refl; block_is = refl; borrow_is = refl }
 alike (plain.continue s l) = record { weakness_is = refl; like_is = refl; block_is = refl; borrow_is = refl }
 alike (plain.return s y) = record { weakness_is = refl; like_is = refl; block_is = refl; borrow_is = refl }
@@ -133,8 +135,8 @@ same_begins (plain.assign s a b) = rw (same_weakness a, same_begins a) refl
 same_begins (plain.update s o a b) = rw (same_weakness a, same_begins a) refl
 same_begins _ = refl
 
-pub same_unfit : (e : Expression) → unfit (erase e) ≡ unfit e
-same_unfit e = rw (same_weakness e, same_open e) refl
+pub same_unfit : (place : ℕ) (e : Expression) → unfit place (erase e) ≡ unfit place e
+same_unfit place e = rw (same_weakness e, same_open e) refl
 
 pub same_more : (e : Expression) → goes_on (erase e) ≡ goes_on e
 same_more e = rw ((alike e).like_is, same_begins e) refl
@@ -175,10 +177,12 @@ mutual
   same_pieces (plain.make s n fs) b depth = rw (same_fields fs depth) refl
   same_pieces (plain.print s e) b depth = rw (same_pieces e false depth) refl
   same_pieces (plain.block s k) b depth = same_block k depth
-  same_pieces (plain.if s c k y) b depth = rw (same_unfit c, same_pieces c false depth, same_block k depth, same_otherwise y depth) refl
-  same_pieces (plain.match s e as') b depth = rw (same_unfit e, same_pieces e false depth, same_arms as' (suc depth)) refl
+  same_pieces (plain.if s c k y) b depth = rw (same_unfit 6 c, same_pieces c false depth, same_block k depth, same_otherwise y depth) refl
+  same_pieces (plain.if_let s p e k y) b depth = rw (same_pattern p, same_unfit 4 e, same_pieces e false depth, same_block k depth, same_otherwise y depth) refl
+  same_pieces (plain.match s e as') b depth = rw (same_unfit 6 e, same_pieces e false depth, same_arms as' (suc depth)) refl
   same_pieces (plain.loop s l k) b depth = rw (same_label l, same_block k depth) refl
-  same_pieces (plain.while s l c k) b depth = rw (same_label l, same_unfit c, same_pieces c false depth, same_block k depth) refl
+  same_pieces (plain.while s l c k) b depth = rw (same_label l, same_unfit 6 c, same_pieces c false depth, same_block k depth) refl
+  same_pieces (plain.while_let s l p e k) b depth = rw (same_label l, same_pattern p, same_unfit 4 e, same_pieces e false depth, same_block k depth) refl
   same_pieces (plain.break s l) b depth = rw (same_target l) refl
   same_pieces (plain.continue s l) b depth = rw (same_target l) refl
   same_pieces (plain.return s y) b depth = rw (same_returned y depth) refl
@@ -273,7 +277,7 @@ same_function f =
     rw (same_map bound_pieces erase_lifetime same_bound f.lifetimes, same_map parameter_pieces erase_parameter same_parameter f.params, same_result f.result, same_block f.body 0) refl
 
 same_item : (i : ItemTree) → item_pieces (erase_item i) ≡ item_pieces i
-same_item (plain.rt_item s) = refl
+same_item (plain.rt_item s r) = refl
 same_item (plain.struct_item s x) = same_structure x
 same_item (plain.enum_item s x) = same_enumeration x
 same_item (plain.function_item s f) = same_function f

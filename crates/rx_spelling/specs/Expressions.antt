@@ -3,9 +3,10 @@
 use Rattle.std.specs.Prelude.{ℕ, suc, Bool, true, false, not, ◌&&◌, List, [], ◌∷◌, ◌++◌, Option, Some, None, codes}
 use Rattle.rx_tree.specs.declared.tree.Ident.{Ident}
 use Rattle.rx_tree.specs.Plain as plain
-use Rattle.rx_tree.specs.Plain.{Expression, Expressions, OptionalExpression, OptionalExpressions, FieldExpressions, Arms, Body, Statement, Statements}
+use Rattle.rx_tree.specs.Plain.{PatternTree, Expression, Expressions, OptionalExpression, OptionalExpressions, FieldExpressions, Arms, Body, Statement, Statements}
 use Rattle.rx_lex.specs.declared.token.Class.TheVariants.{Format}
 use Rattle.rx_lex.specs.Words.{format_text}
+use Rattle.rx_spelling.specs.Strengths as at
 use Rattle.rx_spelling.specs.Pieces.{Piece, word, mark, keyword, identifier, name, lifetime, number, index, truth, space, line, tuple_of, arguments_of, fields_of, mutable_pieces}
 use Rattle.rx_spelling.specs.Types.{annotation_pieces, reference_pieces}
 use Rattle.rx_spelling.specs.Patterns.{pattern_pieces}
@@ -14,6 +15,10 @@ use Rattle.rx_spelling.specs.Places.{operator_text, update_text, left_strength, 
 -- a mark with a space on each side
 abbrev pub between : List ℕ → List Piece → List Piece
 between w ps = space ∷ mark w ∷ space ∷ ps
+
+-- a pattern, and what it is to fit
+abbrev pub fitted : PatternTree → List Piece → List Piece
+fitted p ps = keyword (codes "let") ∷ space ∷ (pattern_pieces p ++ between (codes "=") ps)
 
 -- before a loop
 abbrev pub label_pieces : Option Ident → List Piece
@@ -54,17 +59,17 @@ abbrev mutual
   pieces second depth (plain.bool s b) = truth b ∷ []
   pieces second depth (plain.tuple s es) = tuple_of (each depth es)
   pieces second depth (plain.var s x) = identifier x ∷ []
-  pieces second depth (plain.field s e n) = placed 0 e (pieces false depth e) ++ (mark (codes ".") ∷ name n ∷ [])
-  pieces second depth (plain.part s e i) = placed 0 e (pieces false depth e) ++ (mark (codes ".") ∷ index i ∷ [])
-  pieces second depth (plain.deref s e) = mark (codes "*") ∷ placed 1 e (pieces false depth e)
-  pieces second depth (plain.negate s e) = mark (codes "-") ∷ placed 1 e (pieces false depth e)
-  pieces second depth (plain.invert s e) = mark (codes "!") ∷ placed 1 e (pieces false depth e)
+  pieces second depth (plain.field s e n) = placed at.postfix e (pieces false depth e) ++ (mark (codes ".") ∷ name n ∷ [])
+  pieces second depth (plain.part s e i) = placed at.postfix e (pieces false depth e) ++ (mark (codes ".") ∷ index i ∷ [])
+  pieces second depth (plain.deref s e) = mark (codes "*") ∷ placed at.unary e (pieces false depth e)
+  pieces second depth (plain.negate s e) = mark (codes "-") ∷ placed at.unary e (pieces false depth e)
+  pieces second depth (plain.invert s e) = mark (codes "!") ∷ placed at.unary e (pieces false depth e)
   pieces second depth (plain.borrow s m e) =
-      reference_pieces second (not m && is_borrow e) (mutable_pieces m ++ placed 1 e (pieces false depth e)) (pieces true depth e)
+      reference_pieces second (not m && is_borrow e) (mutable_pieces m ++ placed at.unary e (pieces false depth e)) (pieces true depth e)
   pieces second depth (plain.binary s o a b) =
       placed (left_strength o) a (pieces false depth a) ++ between (operator_text o) (placed (right_strength o) b (pieces false depth b))
-  pieces second depth (plain.assign s a b) = placed 6 a (pieces false depth a) ++ between (codes "=") (pieces false depth b)
-  pieces second depth (plain.update s o a b) = placed 6 a (pieces false depth a) ++ between (update_text o) (pieces false depth b)
+  pieces second depth (plain.assign s a b) = placed at.disjunction a (pieces false depth a) ++ between (codes "=") (pieces false depth b)
+  pieces second depth (plain.update s o a b) = placed at.disjunction a (pieces false depth a) ++ between (update_text o) (pieces false depth b)
   pieces second depth (plain.call s f es) = name f ∷ arguments_of (each depth es)
   pieces second depth (plain.next_input s) =
       identifier (codes "rt") ∷ mark (codes "::") ∷ identifier (codes "next") ∷ mark (codes "(") ∷ mark (codes ")") ∷ []
@@ -75,13 +80,17 @@ abbrev mutual
       ∷ (pieces false depth e ++ mark (codes ")") ∷ [])
   pieces second depth (plain.block s b) = block depth b
   pieces second depth (plain.if s c b y) =
-      keyword (codes "if") ∷ space ∷ (tested c (pieces false depth c) ++ (space ∷ (block depth b ++ otherwise depth y)))
+      keyword (codes "if") ∷ space ∷ (tested at.disjunction c (pieces false depth c) ++ (space ∷ (block depth b ++ otherwise depth y)))
+  pieces second depth (plain.if_let s p e b y) =
+      keyword (codes "if") ∷ space ∷ (fitted p (tested at.comparison e (pieces false depth e)) ++ (space ∷ (block depth b ++ otherwise depth y)))
   pieces second depth (plain.match s e as') =
       keyword (codes "match") ∷ space
-      ∷ (tested e (pieces false depth e) ++ (space ∷ mark (codes "{") ∷ (arms (suc depth) as' ++ (line depth ∷ mark (codes "}") ∷ []))))
+      ∷ (tested at.disjunction e (pieces false depth e) ++ (space ∷ mark (codes "{") ∷ (arms (suc depth) as' ++ (line depth ∷ mark (codes "}") ∷ []))))
   pieces second depth (plain.loop s l b) = label_pieces l ++ (keyword (codes "loop") ∷ space ∷ block depth b)
   pieces second depth (plain.while s l c b) =
-      label_pieces l ++ (keyword (codes "while") ∷ space ∷ (tested c (pieces false depth c) ++ (space ∷ block depth b)))
+      label_pieces l ++ (keyword (codes "while") ∷ space ∷ (tested at.disjunction c (pieces false depth c) ++ (space ∷ block depth b)))
+  pieces second depth (plain.while_let s l p e b) =
+      label_pieces l ++ (keyword (codes "while") ∷ space ∷ (fitted p (tested at.comparison e (pieces false depth e)) ++ (space ∷ block depth b)))
   pieces second depth (plain.break s l) = keyword (codes "break") ∷ target_pieces l
   pieces second depth (plain.continue s l) = keyword (codes "continue") ∷ target_pieces l
   pieces second depth (plain.return s e) = keyword (codes "return") ∷ returned depth e

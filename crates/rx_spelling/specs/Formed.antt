@@ -122,9 +122,11 @@ abbrev mutual
   Formed (plain.print s e) = Formed e
   Formed (plain.block s b) = FormedBody b
   Formed (plain.if s c b y) = Formed c × FormedBody b × FormedElse y
+  Formed (plain.if_let s p e b y) = FormedPattern p × Formed e × FormedBody b × FormedElse y
   Formed (plain.match s e as') = Formed e × SomeArm as' × FormedArms as'
   Formed (plain.loop s l b) = MaybeLasting l × FormedBody b
   Formed (plain.while s l c b) = MaybeLasting l × Formed c × FormedBody b
+  Formed (plain.while_let s l p e b) = MaybeLasting l × FormedPattern p × Formed e × FormedBody b
   Formed (plain.break s l) = MaybeLasting l
   Formed (plain.continue s l) = MaybeLasting l
   Formed (plain.return s y) = FormedOptional y
@@ -180,7 +182,7 @@ abbrev pub FormedParameter : Parameter → Type 0
 FormedParameter x = Named x.name × FormedType x.typ
 
 abbrev pub FormedItem : ItemTree → Type 0
-FormedItem (plain.rt_item s) = ⊤
+FormedItem (plain.rt_item s r) = ⊤
 FormedItem (plain.struct_item s x) = Named x.name × Every Lasting x.lifetimes × Every FormedField x.fields
 FormedItem (plain.enum_item s x) = Named x.name × Every Lasting x.lifetimes × IsSome x.variants × Every FormedVariant x.variants
 FormedItem (plain.function_item s f) =

@@ -72,7 +72,7 @@ function_pieces f =
     ++ (mark (codes "(") ∷ (separated (map parameter_pieces f.params) ++ (mark (codes ")") ∷ (result_pieces f.result ++ (space ∷ block 0 f.body))))))
 
 abbrev pub item_pieces : ItemTree → List Piece
-item_pieces (plain.rt_item s) = keyword (codes "mod") ∷ space ∷ identifier (codes "rt") ∷ mark (codes ";") ∷ []
+item_pieces (plain.rt_item s r) = keyword (codes "mod") ∷ space ∷ identifier (codes "rt") ∷ mark (codes ";") ∷ []
 item_pieces (plain.struct_item s x) = structure_pieces x
 item_pieces (plain.enum_item s x) = enumeration_pieces x
 item_pieces (plain.function_item s f) = function_pieces f

@@ -2,6 +2,7 @@
 use Rattle.std.specs.Prelude.{ℕ, suc, max, Bool, true, false, List, [], ◌∷◌, Option, Some, None, map}
 use Rattle.rx_tree.specs.Plain as plain
 use Rattle.rx_tree.specs.Plain.{TypeTree, TypeTrees, PatternTree, PatternTrees, FieldPatterns, Expression, Expressions, OptionalExpression, OptionalExpressions, FieldExpressions, Arms, Body, Statement, Statements, Parameter, Function, FieldOf, Structure, VariantOf, Enumeration, ItemTree, ProgramTree}
+use Rattle.rx_spelling.specs.Strengths as at
 use Rattle.rx_spelling.specs.Places.{left_strength, right_strength, too_weak, unfit, goes_on}
 
 abbrev pub enclosed_levels : Bool → ℕ → ℕ
@@ -50,8 +51,8 @@ abbrev mutual
 abbrev pub placed_levels : ℕ → Expression → ℕ → ℕ
 placed_levels place e h = enclosed_levels (too_weak place e) h
 
-abbrev pub tested_levels : Expression → ℕ → ℕ
-tested_levels e h = enclosed_levels (unfit e) h
+abbrev pub tested_levels : ℕ → Expression → ℕ → ℕ
+tested_levels place e h = enclosed_levels (unfit place e) h
 
 abbrev pub stated_levels : Expression → ℕ → ℕ
 stated_levels e h = enclosed_levels (goes_on e) h
@@ -59,25 +60,28 @@ stated_levels e h = enclosed_levels (goes_on e) h
 abbrev mutual
   pub expression_levels : Expression → ℕ
   expression_levels (plain.tuple s es) = suc (list_levels es)
-  expression_levels (plain.field s e n) = suc (placed_levels 0 e (expression_levels e))
-  expression_levels (plain.part s e i) = suc (placed_levels 0 e (expression_levels e))
-  expression_levels (plain.deref s e) = suc (placed_levels 1 e (expression_levels e))
-  expression_levels (plain.negate s e) = suc (placed_levels 1 e (expression_levels e))
-  expression_levels (plain.invert s e) = suc (placed_levels 1 e (expression_levels e))
-  expression_levels (plain.borrow s m e) = suc (placed_levels 1 e (expression_levels e))
+  expression_levels (plain.field s e n) = suc (placed_levels at.postfix e (expression_levels e))
+  expression_levels (plain.part s e i) = suc (placed_levels at.postfix e (expression_levels e))
+  expression_levels (plain.deref s e) = suc (placed_levels at.unary e (expression_levels e))
+  expression_levels (plain.negate s e) = suc (placed_levels at.unary e (expression_levels e))
+  expression_levels (plain.invert s e) = suc (placed_levels at.unary e (expression_levels e))
+  expression_levels (plain.borrow s m e) = suc (placed_levels at.unary e (expression_levels e))
   expression_levels (plain.binary s o a b) =
       suc (max (placed_levels (left_strength o) a (expression_levels a)) (placed_levels (right_strength o) b (expression_levels b)))
-  expression_levels (plain.assign s a b) = suc (max (placed_levels 6 a (expression_levels a)) (expression_levels b))
-  expression_levels (plain.update s o a b) = suc (max (placed_levels 6 a (expression_levels a)) (expression_levels b))
+  expression_levels (plain.assign s a b) = suc (max (placed_levels at.disjunction a (expression_levels a)) (expression_levels b))
+  expression_levels (plain.update s o a b) = suc (max (placed_levels at.disjunction a (expression_levels a)) (expression_levels b))
   expression_levels (plain.call s f es) = suc (list_levels es)
   expression_levels (plain.variant s a v es) = suc (optional_list_levels es)
   expression_levels (plain.make s n fs) = suc (fields_levels fs)
   expression_levels (plain.print s e) = suc (expression_levels e)
   expression_levels (plain.block s b) = suc (block_levels b)
-  expression_levels (plain.if s c b y) = suc (max (tested_levels c (expression_levels c)) (max (block_levels b) (optional_levels y)))
-  expression_levels (plain.match s e as') = suc (max (tested_levels e (expression_levels e)) (arms_levels as'))
+  expression_levels (plain.if s c b y) = suc (max (tested_levels at.disjunction c (expression_levels c)) (max (block_levels b) (optional_levels y)))
+  expression_levels (plain.if_let s p e b y) =
+      suc (max (max (pattern_levels p) (tested_levels at.comparison e (expression_levels e))) (max (block_levels b) (optional_levels y)))
+  expression_levels (plain.match s e as') = suc (max (tested_levels at.disjunction e (expression_levels e)) (arms_levels as'))
   expression_levels (plain.loop s l b) = suc (block_levels b)
-  expression_levels (plain.while s l c b) = suc (max (tested_levels c (expression_levels c)) (block_levels b))
+  expression_levels (plain.while s l c b) = suc (max (tested_levels at.disjunction c (expression_levels c)) (block_levels b))
+  expression_levels (plain.while_let s l p e b) = suc (max (max (pattern_levels p) (tested_levels at.comparison e (expression_levels e))) (block_levels b))
   expression_levels (plain.return s y) = suc (optional_levels y)
   expression_levels _ = 1
 
@@ -129,7 +133,7 @@ abbrev pub parameter_levels : Parameter → ℕ
 parameter_levels x = type_levels x.typ
 
 abbrev pub item_levels : ItemTree → ℕ
-item_levels (plain.rt_item s) = 0
+item_levels (plain.rt_item s r) = 0
 item_levels (plain.struct_item s x) = deepest (map field_levels x.fields)
 item_levels (plain.enum_item s x) = deepest (map variant_levels x.variants)
 item_levels (plain.function_item s f) = max (deepest (map parameter_levels f.params)) (max (written_levels f.result) (block_levels f.body))

@@ -1,4 +1,5 @@
 pub mod Pieces
+pub mod Strengths
 pub mod Places
 pub mod Types
 pub mod Patterns

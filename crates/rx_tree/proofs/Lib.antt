@@ -1,6 +1,5 @@
-pub mod Apart
-pub mod ApartExpressions
-pub mod Lengths
 pub mod ListsLemmas
-pub mod PositionsLemmas
 pub mod Rules
+pub mod Layers
+pub mod Inverses
+pub mod NodesLaws

@@ -13,7 +13,9 @@ use Rattle.rx_tree.specs.declared.tree.Stmt.{Stmt}
 use Rattle.rx_tree.specs.declared.tree.Arm.{Arm}
 use Rattle.rx_tree.specs.declared.tree.FieldExpr.{FieldExpr}
 use Rattle.rx_tree.specs.Plain as plain
-use Rattle.rx_tree.specs.PlainOf.{plain-TypeText, plain-TypeNode, plain-Pattern, plain-PatternNode, plain-FieldPattern, plain-Expr, plain-ExprNode, plain-Stmt, plain-StmtNode, plain-Arm, plain-FieldExpr, plain-Block, expressions_of, statements_of, optional_of, type_is, pattern_is, field_pattern_is, expression_is, statement_is, arm_is, field_expression_is, block_is, type_kind, type_bool, type_tuple, type_ref, type_named, pattern_wild, pattern_bind, pattern_int, pattern_bool, pattern_tuple, pattern_variant, pattern_make, expression_int, expression_bool, expression_tuple, expression_var, expression_field, expression_part, expression_deref, expression_neg, expression_not, expression_borrow, expression_binary, expression_assign, expression_update, expression_call, expression_nextinput, expression_variant, expression_make, expression_print, expression_block, expression_if, expression_match, expression_loop, expression_while, expression_break, expression_continue, expression_return, statement_let, statement_eval}
+use Rattle.rx_tree.specs.Lists.{statements, tail}
+use Rattle.rx_tree.proofs.ListsLemmas.{listed-statements_of}
+use Rattle.rx_tree.specs.PlainOf.{plain-TypeText, plain-TypeNode, plain-Pattern, plain-PatternNode, plain-FieldPattern, plain-Expr, plain-ExprNode, plain-Stmt, plain-StmtNode, plain-Arm, plain-FieldExpr, plain-Block, expressions_of, statements_of, optional_of, type_is, pattern_is, field_pattern_is, expression_is, statement_is, arm_is, field_expression_is, block_is, type_kind, type_bool, type_tuple, type_ref, type_named, pattern_wild, pattern_bind, pattern_int, pattern_bool, pattern_tuple, pattern_variant, pattern_make, expression_int, expression_bool, expression_tuple, expression_var, expression_field, expression_part, expression_deref, expression_neg, expression_not, expression_borrow, expression_binary, expression_assign, expression_update, expression_call, expression_nextinput, expression_variant, expression_make, expression_print, expression_block, expression_if, expression_if_let, expression_match, expression_loop, expression_while, expression_while_let, expression_break, expression_continue, expression_return, statement_let, statement_eval}
 
 pub type_by_node : (t : TypeText) → plain-TypeText t ≡ plain-TypeNode t.node t.span
 type_by_node t = type_is t.span t.node
@@ -39,6 +41,12 @@ field_expression_by_parts f = field_expression_is f.field f.value
 pub block_by_parts : (b : Block) → plain-Block b ≡ plain.body (out-Block b).span (statements_of (map plain-Stmt (out-Block b).stmts)) (optional_of (option_map plain-Expr (out-Block b).tail))
 block_by_parts b = ap plain-Block (sym (roll-out-Block b)) ∙ block_is (out-Block b).span (out-Block b).stmts (out-Block b).tail
 
+pub block_statements : (b : Block) → statements (plain-Block b) ≡ map plain-Stmt (out-Block b).stmts
+block_statements b = ap statements (block_by_parts b) ∙ listed-statements_of (map plain-Stmt (out-Block b).stmts)
+
+pub block_tail : (b : Block) → tail (plain-Block b) ≡ optional_of (option_map plain-Expr (out-Block b).tail)
+block_tail b = ap tail (block_by_parts b)
+
 -- a form with an optional part, by whether it is there
 
 pub variant_without : (s : Span) (a v : Ident) → plain-ExprNode (node.Variant a v None) s ≡ plain.variant s a v plain.no_list
@@ -52,6 +60,12 @@ if_without s c b = expression_if s c b None
 
 pub if_with : (s : Span) (c : Expr) (b : Block) (e : Expr) → plain-ExprNode (node.If c b (Some e)) s ≡ plain.if s (plain-Expr c) (plain-Block b) (plain.present (plain-Expr e))
 if_with s c b e = expression_if s c b (Some e)
+
+pub if_let_without : (s : Span) (p : Pattern) (e : Expr) (b : Block) → plain-ExprNode (node.IfLet p e b None) s ≡ plain.if_let s (plain-Pattern p) (plain-Expr e) (plain-Block b) plain.absent
+if_let_without s p e b = expression_if_let s p e b None
+
+pub if_let_with : (s : Span) (p : Pattern) (e : Expr) (b : Block) (o : Expr) → plain-ExprNode (node.IfLet p e b (Some o)) s ≡ plain.if_let s (plain-Pattern p) (plain-Expr e) (plain-Block b) (plain.present (plain-Expr o))
+if_let_with s p e b o = expression_if_let s p e b (Some o)
 
 pub return_without : (s : Span) → plain-ExprNode (node.Return None) s ≡ plain.return s plain.absent
 return_without s = expression_return s None
@@ -81,9 +95,12 @@ pub ruleset type_rules = (type_by_node, type_kind, type_bool, type_tuple, type_r
 
 pub ruleset pattern_rules = (pattern_by_node, field_pattern_by_parts, pattern_wild, pattern_bind, pattern_int, pattern_bool, pattern_tuple, pattern_variant, pattern_make)
 
-pub ruleset expression_rules = (expression_by_node, arm_by_parts, field_expression_by_parts, expression_int, expression_bool, expression_tuple, expression_var, expression_field, expression_part, expression_deref, expression_neg, expression_not, expression_borrow, expression_binary, expression_assign, expression_update, expression_call, expression_nextinput, expression_variant, expression_make, expression_print, expression_block, expression_if, expression_match, expression_loop, expression_while, expression_break, expression_continue, expression_return, variant_without, variant_with, if_without, if_with, return_without, return_with)
+pub ruleset expression_rules = (expression_by_node, arm_by_parts, field_expression_by_parts, expression_int, expression_bool, expression_tuple, expression_var, expression_field, expression_part, expression_deref, expression_neg, expression_not, expression_borrow, expression_binary, expression_assign, expression_update, expression_call, expression_nextinput, expression_variant, expression_make, expression_print, expression_block, expression_if, expression_if_let, expression_match, expression_loop, expression_while, expression_while_let, expression_break, expression_continue, expression_return, variant_without, variant_with, if_without, if_with, if_let_without, if_let_with, return_without, return_with)
 
 pub ruleset block_rules = (block_by_parts)
+
+-- what stands in a body, as a list and a tail
+pub ruleset body_rules = (block_statements, block_tail)
 
 pub ruleset statement_rules = (statement_by_node, statement_let, statement_eval, let_without, let_with)
 

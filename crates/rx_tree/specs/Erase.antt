@@ -1,5 +1,5 @@
 -- Plain trees without their spans: two trees are equal apart from spans where these are equal.
-use Rattle.std.specs.Prelude.{◌≡◌, ℕ, List, [], ◌∷◌, Option, Some, None, map, option_map}
+use Rattle.std.specs.Prelude.{◌≡◌, Option, map, option_map}
 use Rattle.rx_core.specs.declared.types.Span.{Span}
 use Rattle.rx_tree.specs.declared.tree.Ident.{Ident}
 use Rattle.rx_tree.specs.declared.tree.BoundLifetime.{BoundLifetime}
@@ -67,9 +67,11 @@ abbrev mutual
   erase (plain.print s e) = plain.print nowhere (erase e)
   erase (plain.block s b) = plain.block nowhere (erase_body b)
   erase (plain.if s c b o) = plain.if nowhere (erase c) (erase_body b) (erase_optional o)
+  erase (plain.if_let s p e b o) = plain.if_let nowhere (erase_pattern p) (erase e) (erase_body b) (erase_optional o)
   erase (plain.match s e as') = plain.match nowhere (erase e) (erase_arms as')
   erase (plain.loop s l b) = plain.loop nowhere (erase_label l) (erase_body b)
   erase (plain.while s l c b) = plain.while nowhere (erase_label l) (erase c) (erase_body b)
+  erase (plain.while_let s l p e b) = plain.while_let nowhere (erase_label l) (erase_pattern p) (erase e) (erase_body b)
   erase (plain.break s l) = plain.break nowhere (erase_label l)
   erase (plain.continue s l) = plain.continue nowhere (erase_label l)
   erase (plain.return s o) = plain.return nowhere (erase_optional o)
@@ -133,7 +135,7 @@ abbrev pub erase_enumeration : Enumeration → Enumeration
 erase_enumeration x = record { name = erase_ident x.name; derives = x.derives; lifetimes = map erase_ident x.lifetimes; variants = map erase_variant x.variants }
 
 abbrev pub erase_item : ItemTree → ItemTree
-erase_item (plain.rt_item s) = plain.rt_item nowhere
+erase_item (plain.rt_item s r) = plain.rt_item nowhere nowhere
 erase_item (plain.struct_item s x) = plain.struct_item nowhere (erase_structure x)
 erase_item (plain.enum_item s x) = plain.enum_item nowhere (erase_enumeration x)
 erase_item (plain.function_item s f) = plain.function_item nowhere (erase_function f)

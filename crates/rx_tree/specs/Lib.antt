@@ -3,4 +3,6 @@ pub mod PlainOf
 pub mod Erase
 pub mod Lists
 pub mod Positions
-pub mod NodeOf
+pub mod Spans
+pub mod Nodes
+pub mod Size

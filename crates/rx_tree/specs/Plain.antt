@@ -63,9 +63,12 @@ mutual
     print : Span → Expression → Expression
     block : Span → Body → Expression
     if : Span → Expression → Body → OptionalExpression → Expression
+    -- the pattern, the scrutinee, the body, what follows `else`
+    if_let : Span → PatternTree → Expression → Body → OptionalExpression → Expression
     match : Span → Expression → Arms → Expression
     loop : Span → Option Ident → Body → Expression
     while : Span → Option Ident → Expression → Body → Expression
+    while_let : Span → Option Ident → PatternTree → Expression → Body → Expression
     break : Span → Option Ident → Expression
     continue : Span → Option Ident → Expression
     return : Span → OptionalExpression → Expression
@@ -137,7 +140,8 @@ pub record Enumeration : Type 0 where
   pub variants : List VariantOf
 
 pub data ItemTree : Type 0 where
-  rt_item : Span → ItemTree
+  -- its span, and that of its `rt`
+  rt_item : Span → Span → ItemTree
   struct_item : Span → Structure → ItemTree
   enum_item : Span → Enumeration → ItemTree
   function_item : Span → Function → ItemTree

@@ -1,5 +1,5 @@
 -- The plain tree of a tree: a fold with one step a type, and an equation for each form.
-use Rattle.std.specs.Prelude.{◌≡◌, ℕ, Bool, List, [], ◌∷◌, Option, Some, None, map, option_map, refl}
+use Rattle.std.specs.Prelude.{◌≡◌, ℕ, Bool, List, [], ◌∷◌, Option, Some, None, map, option_map}
 use Rattle.std.proofs.Common.{ap, sym, ◌∙◌}
 use Rattle.rx_core.specs.declared.types.Span.{Span}
 use Rattle.rx_core.specs.declared.types.Kind.{Kind}
@@ -225,9 +225,11 @@ expression_node_step (form.Make n l) s = plain.make s n (field_expressions_of l)
 expression_node_step (form.Print e) s = plain.print s e
 expression_node_step (form.Block b) s = plain.block s b
 expression_node_step (form.If c b o) s = plain.if s c b (optional_of o)
+expression_node_step (form.IfLet p e b o) s = plain.if_let s (plain-Pattern p) e b (optional_of o)
 expression_node_step (form.Match e l) s = plain.match s e (arms_of l)
 expression_node_step (form.Loop l b) s = plain.loop s l b
 expression_node_step (form.While l c b) s = plain.while s l c b
+expression_node_step (form.WhileLet l p e b) s = plain.while_let s l (plain-Pattern p) e b
 expression_node_step (form.Break l) s = plain.break s l
 expression_node_step (form.Continue l) s = plain.continue s l
 expression_node_step (form.Return o) s = plain.return s (optional_of o)
@@ -419,6 +421,15 @@ expression_if s c b (Some held) =
     ap (λ (x : ExprNode). fold-ExprNode (Span → Expression) (Span → Statement) (PatternTree × Expression) Body Expression (Ident × Expression) Statement expression_node_step statement_node_step arm_step block_step expression_step field_expression_step statement_step x s) (sym (node.rolls-If c b (Some held)))
     ∙ ap (λ (f : Span → Expression). f s) (fold-roll-ExprNode (Span → Expression) (Span → Statement) (PatternTree × Expression) Body Expression (Ident × Expression) Statement expression_node_step statement_node_step arm_step block_step expression_step field_expression_step statement_step (form.If c b (Some held)))
 
+pub expression_if_let : (s : Span) (p : Pattern) (e : Expr) (b : Block) (o : Option Expr) → plain-ExprNode (node.IfLet p e b o) s ≡ plain.if_let s (plain-Pattern p) (plain-Expr e) (plain-Block b) (optional_of (option_map plain-Expr o))
+unfolding plain-ExprNode plain-StmtNode plain-Arm plain-Block plain-Expr plain-FieldExpr plain-Stmt
+expression_if_let s p e b None =
+    ap (λ (x : ExprNode). fold-ExprNode (Span → Expression) (Span → Statement) (PatternTree × Expression) Body Expression (Ident × Expression) Statement expression_node_step statement_node_step arm_step block_step expression_step field_expression_step statement_step x s) (sym (node.rolls-IfLet p e b None))
+    ∙ ap (λ (f : Span → Expression). f s) (fold-roll-ExprNode (Span → Expression) (Span → Statement) (PatternTree × Expression) Body Expression (Ident × Expression) Statement expression_node_step statement_node_step arm_step block_step expression_step field_expression_step statement_step (form.IfLet p e b None))
+expression_if_let s p e b (Some held) =
+    ap (λ (x : ExprNode). fold-ExprNode (Span → Expression) (Span → Statement) (PatternTree × Expression) Body Expression (Ident × Expression) Statement expression_node_step statement_node_step arm_step block_step expression_step field_expression_step statement_step x s) (sym (node.rolls-IfLet p e b (Some held)))
+    ∙ ap (λ (f : Span → Expression). f s) (fold-roll-ExprNode (Span → Expression) (Span → Statement) (PatternTree × Expression) Body Expression (Ident × Expression) Statement expression_node_step statement_node_step arm_step block_step expression_step field_expression_step statement_step (form.IfLet p e b (Some held)))
+
 pub expression_match : (s : Span) (e : Expr) (l : List Arm) → plain-ExprNode (node.Match e l) s ≡ plain.match s (plain-Expr e) (arms_of (map plain-Arm l))
 unfolding plain-ExprNode plain-StmtNode plain-Arm plain-Block plain-Expr plain-FieldExpr plain-Stmt
 expression_match s e l =
@@ -436,6 +447,12 @@ unfolding plain-ExprNode plain-StmtNode plain-Arm plain-Block plain-Expr plain-F
 expression_while s l c b =
     ap (λ (x : ExprNode). fold-ExprNode (Span → Expression) (Span → Statement) (PatternTree × Expression) Body Expression (Ident × Expression) Statement expression_node_step statement_node_step arm_step block_step expression_step field_expression_step statement_step x s) (sym (node.rolls-While l c b))
     ∙ ap (λ (f : Span → Expression). f s) (fold-roll-ExprNode (Span → Expression) (Span → Statement) (PatternTree × Expression) Body Expression (Ident × Expression) Statement expression_node_step statement_node_step arm_step block_step expression_step field_expression_step statement_step (form.While l c b))
+
+pub expression_while_let : (s : Span) (l : Option Ident) (p : Pattern) (e : Expr) (b : Block) → plain-ExprNode (node.WhileLet l p e b) s ≡ plain.while_let s l (plain-Pattern p) (plain-Expr e) (plain-Block b)
+unfolding plain-ExprNode plain-StmtNode plain-Arm plain-Block plain-Expr plain-FieldExpr plain-Stmt
+expression_while_let s l p e b =
+    ap (λ (x : ExprNode). fold-ExprNode (Span → Expression) (Span → Statement) (PatternTree × Expression) Body Expression (Ident × Expression) Statement expression_node_step statement_node_step arm_step block_step expression_step field_expression_step statement_step x s) (sym (node.rolls-WhileLet l p e b))
+    ∙ ap (λ (f : Span → Expression). f s) (fold-roll-ExprNode (Span → Expression) (Span → Statement) (PatternTree × Expression) Body Expression (Ident × Expression) Statement expression_node_step statement_node_step arm_step block_step expression_step field_expression_step statement_step (form.WhileLet l p e b))
 
 pub expression_break : (s : Span) (l : Option Ident) → plain-ExprNode (node.Break l) s ≡ plain.break s l
 unfolding plain-ExprNode plain-StmtNode plain-Arm plain-Block plain-Expr plain-FieldExpr plain-Stmt
@@ -500,7 +517,7 @@ abbrev pub plain-Enum : Enum → Enumeration
 plain-Enum x = record { name = x.name; derives = x.derives; lifetimes = x.lifetimes; variants = map plain-EnumVariant x.variants }
 
 abbrev pub plain-ItemNode : ItemNode → Span → ItemTree
-plain-ItemNode item_node.Rt s = plain.rt_item s
+plain-ItemNode (item_node.Rt r) s = plain.rt_item s r
 plain-ItemNode (item_node.Struct x) s = plain.struct_item s (plain-Struct x)
 plain-ItemNode (item_node.Enum x) s = plain.enum_item s (plain-Enum x)
 plain-ItemNode (item_node.Func f) s = plain.function_item s (plain-Func f)

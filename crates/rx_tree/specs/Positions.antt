@@ -108,9 +108,11 @@ expression_children (plain.make s n fs) = field_nodes fs
 expression_children (plain.print s e) = an_expression e ∷ []
 expression_children (plain.block s b) = a_block b ∷ []
 expression_children (plain.if s c b o) = an_expression c ∷ a_block b ∷ optional_nodes o
+expression_children (plain.if_let s p e b o) = a_pattern p ∷ an_expression e ∷ a_block b ∷ optional_nodes o
 expression_children (plain.match s e l) = an_expression e ∷ arm_nodes l
 expression_children (plain.loop s l b) = a_block b ∷ []
 expression_children (plain.while s l c b) = an_expression c ∷ a_block b ∷ []
+expression_children (plain.while_let s l p e b) = a_pattern p ∷ an_expression e ∷ a_block b ∷ []
 expression_children (plain.break s l) = []
 expression_children (plain.continue s l) = []
 expression_children (plain.return s o) = optional_nodes o
@@ -129,7 +131,7 @@ abbrev pub function_children : Function → List NodeTree
 function_children f = parameter_nodes f.params ++ (optional_type_nodes f.result ++ (a_block f.body ∷ []))
 
 abbrev pub item_children : ItemTree → List NodeTree
-item_children (plain.rt_item s) = []
+item_children (plain.rt_item s r) = []
 item_children (plain.struct_item s x) = declared_nodes x.fields
 item_children (plain.enum_item s x) = variant_nodes x.variants
 item_children (plain.function_item s f) = function_children f

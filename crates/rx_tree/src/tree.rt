@@ -1,17 +1,32 @@
 //! The types of the trees (Rust Reference, "Items", "Statements and expressions", "Patterns", "Types").
 //! A span goes from the first to the last token of the node's production; parentheses leave no node.
 
+ghost use Rattle.std.specs.Prelude.{◌≡◌, IfOk};
+
 use rx_core::{Boxed, Kind, List, Name, Span};
+use std::alloc::{AllocError, Global};
 
 /// A name, label or lifetime where it stands.
-#[derive(Debug, Drop)]
+#[derive(Drop)]
 pub struct Ident {
     pub span: Span,
     pub name: Name,
 }
 
+impl Ident {
+    /// The same name, with its span.
+    pub fn copy(&self, alloc: Global) -> Result<Ident, AllocError>
+        ensures { IfOk result (λ it. it ≡ self.now) }
+    {
+        Ok(Ident {
+            span: self.span,
+            name: self.name.copy(alloc)?,
+        })
+    }
+}
+
 #[cycle(types)]
-#[derive(Debug, Drop)]
+#[derive(Drop)]
 pub struct TypeText {
     pub span: Span,
     pub node: TypeNode,
@@ -19,7 +34,7 @@ pub struct TypeText {
 
 /// A type as it is written.
 #[cycle(types)]
-#[derive(Debug, Drop)]
+#[derive(Drop)]
 pub enum TypeNode {
     Kind(Kind),
     Bool,
@@ -31,14 +46,14 @@ pub enum TypeNode {
 }
 
 #[cycle(patterns)]
-#[derive(Debug, Drop)]
+#[derive(Drop)]
 pub struct Pattern {
     pub span: Span,
     pub node: PatternNode,
 }
 
 #[cycle(patterns)]
-#[derive(Debug, Drop)]
+#[derive(Drop)]
 pub enum PatternNode {
     Wild,
     /// The name, and whether it is mutable.
@@ -53,7 +68,7 @@ pub enum PatternNode {
 }
 
 #[cycle(patterns)]
-#[derive(Debug, Drop)]
+#[derive(Drop)]
 pub struct FieldPattern {
     pub field: Ident,
     pub pattern: Pattern,
@@ -88,7 +103,7 @@ pub enum UpdateOp {
 }
 
 #[cycle(tree)]
-#[derive(Debug, Drop)]
+#[derive(Drop)]
 pub struct Block {
     pub span: Span,
     pub stmts: List<Stmt>,
@@ -96,14 +111,14 @@ pub struct Block {
 }
 
 #[cycle(tree)]
-#[derive(Debug, Drop)]
+#[derive(Drop)]
 pub struct Stmt {
     pub span: Span,
     pub node: StmtNode,
 }
 
 #[cycle(tree)]
-#[derive(Debug, Drop)]
+#[derive(Drop)]
 pub enum StmtNode {
     /// The pattern, its type and its initialiser, where they are written.
     Let(Pattern, Option<TypeText>, Option<Expr>),
@@ -112,28 +127,28 @@ pub enum StmtNode {
 }
 
 #[cycle(tree)]
-#[derive(Debug, Drop)]
+#[derive(Drop)]
 pub struct Expr {
     pub span: Span,
     pub node: ExprNode,
 }
 
 #[cycle(tree)]
-#[derive(Debug, Drop)]
+#[derive(Drop)]
 pub struct FieldExpr {
     pub field: Ident,
     pub value: Expr,
 }
 
 #[cycle(tree)]
-#[derive(Debug, Drop)]
+#[derive(Drop)]
 pub struct Arm {
     pub pattern: Pattern,
     pub body: Expr,
 }
 
 #[cycle(tree)]
-#[derive(Debug, Drop)]
+#[derive(Drop)]
 pub enum ExprNode {
     Int(u64, Option<Kind>),
     Bool(bool),
@@ -159,20 +174,24 @@ pub enum ExprNode {
     Block(Boxed<Block>),
     /// The condition, the body, and what follows `else`.
     If(Boxed<Expr>, Boxed<Block>, Option<Boxed<Expr>>),
+    /// The pattern, the scrutinee, the body, and what follows `else`.
+    IfLet(Pattern, Boxed<Expr>, Boxed<Block>, Option<Boxed<Expr>>),
     Match(Boxed<Expr>, List<Arm>),
     Loop(Option<Ident>, Boxed<Block>),
     While(Option<Ident>, Boxed<Expr>, Boxed<Block>),
+    /// The label, the pattern, the scrutinee and the body.
+    WhileLet(Option<Ident>, Pattern, Boxed<Expr>, Boxed<Block>),
     Break(Option<Ident>),
     Continue(Option<Ident>),
     Return(Option<Boxed<Expr>>),
 }
 
-#[derive(Debug, Drop)]
+#[derive(Drop)]
 pub struct Program {
     pub items: List<Item>,
 }
 
-#[derive(Debug, Drop)]
+#[derive(Drop)]
 pub struct Item {
     pub span: Span,
     pub node: ItemNode,
@@ -184,13 +203,13 @@ pub enum Derive {
     Copy,
 }
 
-#[derive(Debug, Drop)]
+#[derive(Drop)]
 pub struct Field {
     pub name: Ident,
     pub typ: TypeText,
 }
 
-#[derive(Debug, Drop)]
+#[derive(Drop)]
 pub struct Struct {
     pub name: Ident,
     pub derives: List<Derive>,
@@ -198,13 +217,13 @@ pub struct Struct {
     pub fields: List<Field>,
 }
 
-#[derive(Debug, Drop)]
+#[derive(Drop)]
 pub struct EnumVariant {
     pub name: Ident,
     pub types: List<TypeText>,
 }
 
-#[derive(Debug, Drop)]
+#[derive(Drop)]
 pub struct Enum {
     pub name: Ident,
     pub derives: List<Derive>,
@@ -213,20 +232,20 @@ pub struct Enum {
 }
 
 /// A lifetime parameter, and the lifetimes that it is declared to outlive.
-#[derive(Debug, Drop)]
+#[derive(Drop)]
 pub struct BoundLifetime {
     pub name: Ident,
     pub bounds: List<Ident>,
 }
 
-#[derive(Debug, Drop)]
+#[derive(Drop)]
 pub struct Param {
     pub name: Ident,
     pub mutable: bool,
     pub typ: TypeText,
 }
 
-#[derive(Debug, Drop)]
+#[derive(Drop)]
 pub struct Func {
     pub name: Ident,
     pub lifetimes: List<BoundLifetime>,
@@ -235,10 +254,10 @@ pub struct Func {
     pub body: Block,
 }
 
-#[derive(Debug, Drop)]
+#[derive(Drop)]
 pub enum ItemNode {
-    /// `mod rt;`
-    Rt,
+    /// `mod rt;`, with the span of its `rt`.
+    Rt(Span),
     Struct(Struct),
     Enum(Enum),
     Func(Func),

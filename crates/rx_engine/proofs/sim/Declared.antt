@@ -3,11 +3,11 @@ use Rattle.std.proofs.Common.{◌≡◌, ℕ, List, ◌∷◌, Option, Some, ref
 use Rattle.rx_core.specs.Bytes.{same_bytes}
 use Rattle.rx_tree.specs.Plain.{Expression, Statement, Statements, ProgramTree}
 use Rattle.rx_tree.specs.Plain as plain
-use Rattle.rx_meaning.specs.Meaning.{State, bind, Env, slot_of, some_if, Meaning, expression, statement, statements}
-use Rattle.rx_meaning.proofs.Results.{after_nil, bind_bind, bind_ext}
-use Rattle.rx_check.specs.Names.{declares}
-use Rattle.rx_hoist.specs.Plan.{is_declared}
-use Rattle.rx_hoist.proofs.Membership.{or_false}
+use Rattle.rx_first_meaning.specs.Meaning.{State, bind, Env, slot_of, some_if, Meaning, expression, statement, statements}
+use Rattle.rx_first_meaning.proofs.Results.{after_nil, bind_bind, bind_ext}
+use Rattle.rx_first_check.specs.Names.{declares}
+use Rattle.rx_first_hoist.specs.Plan.{is_declared}
+use Rattle.rx_first_hoist.proofs.Membership.{or_false}
 use Rattle.rx_engine.proofs.sim.World.{Pair, Names, Binds}
 use Rattle.rx_engine.proofs.sim.Like.{append, declared_by}
 

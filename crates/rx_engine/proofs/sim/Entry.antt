@@ -5,10 +5,10 @@ use Rattle.rx_core.specs.Bytes.{same_bytes, is_one_of}
 use Rattle.rx_core.proofs.BytesLemmas.{same_bytes-true, same_bytes-equal}
 use Rattle.rx_tree.specs.Lists.{Every}
 use Rattle.rx_tree.specs.Plain.{ProgramTree}
-use Rattle.rx_meaning.specs.Meaning.{Value, Values, no_value, value_and, unit, State, Result, on, stops, Ending, running, Jump, breaks, continues, returns, after, bind, at, Env, slot_of, some_if, read, introduce, introduce_all, returned, Meaning, expression, expressions, IsPrefix}
-use Rattle.rx_meaning.proofs.Memory.{at_end, at_before, at_below, length_more, grow, introduce_is, read_is, IsHeld}
-use Rattle.rx_meaning.proofs.Results.{printed_of, prefix_bind, prefix_returned, after_nil}
-use Rattle.rx_hoist.specs.Extracted.{arguments, by_value}
+use Rattle.rx_first_meaning.specs.Meaning.{Value, Values, no_value, value_and, unit, State, Result, on, stops, Ending, running, Jump, breaks, continues, returns, after, bind, at, Env, slot_of, some_if, read, introduce, introduce_all, returned, Meaning, expression, expressions, IsPrefix}
+use Rattle.rx_first_meaning.proofs.Memory.{at_end, at_before, at_below, length_more, grow, introduce_is, read_is, IsHeld}
+use Rattle.rx_first_meaning.proofs.Results.{printed_of, prefix_bind, prefix_returned, after_nil}
+use Rattle.rx_first_hoist.specs.Extracted.{arguments, by_value}
 use Rattle.rx_engine.proofs.sim.World.{Direction, Pair, In, Holds, Related, Grown, Names, Knows, Bound, Binds, World, Permits, Allowed, Sim, both_on, both_jump, both_stop, text_cut, answer_cut}
 use Rattle.rx_engine.proofs.sim.Steps.{with_turns, onto, no_jumps}
 use Rattle.rx_engine.proofs.sim.Like.{OutKnown, OutFits}

@@ -10,19 +10,19 @@ use Rattle.rx_tree.specs.PlainOf.{statements_of}
 use Rattle.rx_tree.specs.Erase.{nowhere}
 use Rattle.rx_tree.specs.Lists.{listed, statements, tail, Every}
 use Rattle.rx_tree.proofs.ListsLemmas.{statements_of-listed, listed-statements_of}
-use Rattle.rx_meaning.specs.Meaning.{some_if, function_named, Outcome, run, UpTo}
-use Rattle.rx_meaning.proofs.Spans.{same_runs}
-use Rattle.rx_check.specs.Names.{free}
-use Rattle.rx_hoist.specs.Plan.{params, outs, declared_in}
-use Rattle.rx_check.specs.Accepted.{ValueType, unit, Scope, Signature, signature, functions, signatures, signature_of, AreTyped, Gives, nothing, given_by, scope_from, parameter_names, IsTyped, Accepted}
+use Rattle.rx_first_meaning.specs.Meaning.{some_if, function_named, Outcome, run, UpTo}
+use Rattle.rx_first_meaning.proofs.Spans.{same_runs}
+use Rattle.rx_first_check.specs.Names.{free}
+use Rattle.rx_first_hoist.specs.Plan.{params, outs, declared_in}
+use Rattle.rx_first_check.specs.Accepted.{ValueType, unit, Scope, Signature, signature, functions, signatures, signature_of, AreTyped, Gives, nothing, given_by, scope_from, parameter_names, IsTyped, Accepted}
 use Rattle.rx_select.specs.Run.{Run}
-use Rattle.rx_hoist.specs.Extracted.{call_statement, new_function, with_call, handed_out, Parts, extraction, Extracted}
+use Rattle.rx_first_hoist.specs.Extracted.{call_statement, new_function, with_call, handed_out, Parts, extraction, Extracted}
 use Rattle.rx_engine.specs.Avoids.{Avoids}
 use Rattle.rx_engine.proofs.sim.World.{Names, Knows, Permits}
 use Rattle.rx_engine.proofs.sim.Steps.{no_jumps, call_jumps, onto}
 use Rattle.rx_engine.proofs.sim.Like.{New, declared_by, OutKnown, OutFits, LikeOptional, LikeBody, LikeStatements, like_body, like_here, LikeFunction, Moved}
 use Rattle.rx_engine.proofs.sim.Sim.{answer_upto, text_upto}
-use Rattle.rx_hoist.proofs.Membership.{or_true, one_of-distinct, distinct_one_of}
+use Rattle.rx_first_hoist.proofs.Membership.{or_true, one_of-distinct, distinct_one_of}
 use Rattle.rx_engine.proofs.Handed.{outs_has, outs_only}
 use Rattle.rx_engine.proofs.Scopes.{Split, typed_split}
 use Rattle.rx_engine.proofs.sim.Members.{knows_none, knows_first, knows_older, free_front, free_behind}
@@ -36,7 +36,7 @@ none_some a e = cc
 -- a declared function is found
 found : (P : ProgramTree) (f : List ℕ) (g : Signature) → signature_of (signatures P) f ≡ Some g → (d : Function) × (function_named P f ≡ Some d)
 found [] f g e = absurd (none_some g e)
-found (plain.rt_item s ∷ is) f g e = found is f g e
+found (plain.rt_item s rt ∷ is) f g e = found is f g e
 found (plain.struct_item s x ∷ is) f g e = found is f g e
 found (plain.enum_item s x ∷ is) f g e = found is f g e
 found (plain.function_item s d ∷ is) f g e = cases (found is f g) (same_bytes f d.name.name) e
@@ -48,7 +48,7 @@ found (plain.function_item s d ∷ is) f g e = cases (found is f g) (same_bytes 
 -- a name that the program avoids finds nothing
 pub avoided : (P : ProgramTree) (name : List ℕ) → Avoids name P → function_named P name ≡ None
 avoided [] name h = refl
-avoided (plain.rt_item s ∷ is) name h = avoided is name h.1
+avoided (plain.rt_item s rt ∷ is) name h = avoided is name h.1
 avoided (plain.struct_item s x ∷ is) name h = avoided is name h.1
 avoided (plain.enum_item s x ∷ is) name h = avoided is name h.1
 avoided (plain.function_item s d ∷ is) name h = cases (avoided is name h.1) (same_bytes name d.name.name) refl
@@ -60,7 +60,7 @@ avoided (plain.function_item s d ∷ is) name h = cases (avoided is name h.1) (s
 -- a function that is found is a typed one
 typed_found : (F : List Signature) (P : ProgramTree) (f : List ℕ) (d : Function) → Every (IsTyped F) (functions P) → function_named P f ≡ Some d → IsTyped F d
 typed_found F [] f d t e = absurd (none_some d e)
-typed_found F (plain.rt_item s ∷ is) f d t e = typed_found F is f d t e
+typed_found F (plain.rt_item s rt ∷ is) f d t e = typed_found F is f d t e
 typed_found F (plain.struct_item s x ∷ is) f d t e = typed_found F is f d t e
 typed_found F (plain.enum_item s x ∷ is) f d t e = typed_found F is f d t e
 typed_found F (plain.function_item s h ∷ is) f d t e = cases (typed_found F is f d t.1) (same_bytes f h.name.name) e
@@ -197,7 +197,7 @@ module _ (P : ProgramTree) (new : New) (F : List Signature) (callee : (f : List 
       let passed : some_if (same_bytes h f'.name.name) f' (some_if (same_bytes h g.name.name) g o) ≡ some_if (same_bytes h f.name.name) f' o =
       ap (λ x. some_if (same_bytes h x) f' (some_if (same_bytes h g.name.name) g o)) same_name ∙ ap (λ b. some_if (same_bytes h f.name.name) f' (some_if b g o)) (ap (λ x. same_bytes h x) new_name ∙ n) in
       subst (λ (z : Option Function). Found (some_if (same_bytes h f.name.name) f o) z) (sym passed) (either (same_bytes h f.name.name) f f' o o like (itself behind h t.1))
-  items_found (plain.rt_item s ∷ before) h n t = items_found before h n t
+  items_found (plain.rt_item s rt ∷ before) h n t = items_found before h n t
   items_found (plain.struct_item s x ∷ before) h n t = items_found before h n t
   items_found (plain.enum_item s x ∷ before) h n t = items_found before h n t
   items_found (plain.function_item s d ∷ before) h n t = either (same_bytes h d.name.name) d d _ _ (like_itself P new F callee d t.0) (items_found before h n t.1)
@@ -211,7 +211,7 @@ module _ (P : ProgramTree) (new : New) (F : List Signature) (callee : (f : List 
       cases false k h =
           let o = function_named behind new.name in
           ap (λ b. some_if b f' (some_if (same_bytes new.name g.name.name) g o)) (ap (λ x. same_bytes new.name x) same_name ∙ k) ∙ ap (λ b. some_if b g o) (ap (λ x. same_bytes new.name x) new_name ∙ same_bytes-self new.name)
-  new_found (plain.rt_item s ∷ before) e = new_found before e
+  new_found (plain.rt_item s rt ∷ before) e = new_found before e
   new_found (plain.struct_item s x ∷ before) e = new_found before e
   new_found (plain.enum_item s x ∷ before) e = new_found before e
   new_found (plain.function_item s d ∷ before) e = cases (new_found before) (same_bytes new.name d.name.name) e
@@ -224,7 +224,7 @@ module _ (P : ProgramTree) (new : New) (F : List Signature) (callee : (f : List 
 
 middle_typed : (F : List Signature) (at_span : Span) (f : Function) (behind before : ProgramTree) → Every (IsTyped F) (functions (before ++ (plain.function_item at_span f ∷ behind))) → IsTyped F f
 middle_typed F at_span f behind [] t = t.0
-middle_typed F at_span f behind (plain.rt_item s ∷ is) t = middle_typed F at_span f behind is t
+middle_typed F at_span f behind (plain.rt_item s rt ∷ is) t = middle_typed F at_span f behind is t
 middle_typed F at_span f behind (plain.struct_item s x ∷ is) t = middle_typed F at_span f behind is t
 middle_typed F at_span f behind (plain.enum_item s x ∷ is) t = middle_typed F at_span f behind is t
 middle_typed F at_span f behind (plain.function_item s d ∷ is) t = middle_typed F at_span f behind is t.1

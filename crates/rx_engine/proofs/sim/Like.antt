@@ -10,11 +10,11 @@ use Rattle.rx_tree.specs.Erase.{nowhere}
 use Rattle.rx_tree.specs.Lists.{Every}
 use Rattle.rx_tree.specs.Plain.{TypeTree, Expression, Expressions, OptionalExpression, Body, Statement, Statements, Function, ProgramTree}
 use Rattle.rx_tree.specs.Plain as plain
-use Rattle.rx_meaning.specs.Meaning.{function_named}
-use Rattle.rx_check.specs.Accepted.{parameter_names}
-use Rattle.rx_check.specs.Names.{declares}
-use Rattle.rx_hoist.specs.Plan.{is_declared}
-use Rattle.rx_hoist.specs.Extracted.{written, by_value, result_of, tail_of, call_statement}
+use Rattle.rx_first_meaning.specs.Meaning.{function_named}
+use Rattle.rx_first_check.specs.Accepted.{parameter_names}
+use Rattle.rx_first_check.specs.Names.{declares}
+use Rattle.rx_first_hoist.specs.Plan.{is_declared}
+use Rattle.rx_first_hoist.specs.Extracted.{written, by_value, result_of, tail_of, call_statement}
 use Rattle.rx_engine.proofs.sim.World.{Names, Knows, Permits}
 use Rattle.rx_engine.proofs.sim.Steps.{no_jumps, call_jumps, onto}
 

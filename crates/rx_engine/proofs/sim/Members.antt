@@ -3,9 +3,9 @@ use Rattle.std.proofs.Common.{◌≡◌, ℕ, List, [], ◌∷◌, ◌++◌, Opt
 use Rattle.rx_core.specs.Bytes.{same_bytes, is_one_of}
 use Rattle.rx_tree.specs.Plain as plain
 use Rattle.rx_tree.specs.Plain.{Statement, OptionalExpression}
-use Rattle.rx_check.specs.Names.{names, without, uses_in, declares, free}
-use Rattle.rx_hoist.specs.Plan.{is_declared, declared_in}
-use Rattle.rx_hoist.proofs.Membership.{or_left, or_right, or_false, one_of-left, one_of-right, one_of-either, one_of-remove, one_of-removed}
+use Rattle.rx_first_check.specs.Names.{names, without, uses_in, declares, free}
+use Rattle.rx_first_hoist.specs.Plan.{is_declared, declared_in}
+use Rattle.rx_first_hoist.proofs.Membership.{or_left, or_right, or_false, one_of-left, one_of-right, one_of-either, one_of-remove, one_of-removed}
 use Rattle.rx_engine.proofs.sim.World.{Names, Knows}
 
 pub knows_first : (x : List ℕ) (K : Names) (z : List ℕ) → same_bytes z x ≡ true → Knows (x ∷ K) z

@@ -6,13 +6,13 @@ use Rattle.rx_tree.specs.Erase.{nowhere}
 use Rattle.rx_tree.specs.Lists.{Every}
 use Rattle.rx_tree.specs.Plain.{Expression, Expressions, OptionalExpression, Body, Statement, Statements, Function, ProgramTree}
 use Rattle.rx_tree.specs.Plain as plain
-use Rattle.rx_meaning.specs.Meaning.{Value, Values, no_value, value_and, State, Result, on, running, bind, or_wrong, Env, introduce, introduce_all, turn_at, take_turn, returned, function_named, Meaning, enter, call_named, expression, expressions, optional, body, statement, statements, below_level, outcome_of, begin, run, UpTo}
-use Rattle.rx_meaning.proofs.Memory.{IsHeld, introduce_is}
-use Rattle.rx_meaning.proofs.Results.{printed_outcome, after_nil}
-use Rattle.rx_check.specs.Accepted.{parameter_names}
-use Rattle.rx_check.specs.Names.{declares}
-use Rattle.rx_hoist.specs.Plan.{is_declared}
-use Rattle.rx_hoist.specs.Extracted.{arguments, by_value, tail_of, call_of, call_statement}
+use Rattle.rx_first_meaning.specs.Meaning.{Value, Values, no_value, value_and, State, Result, on, running, bind, or_wrong, Env, introduce, introduce_all, turn_at, take_turn, returned, function_named, Meaning, enter, call_named, expression, expressions, optional, body, statement, statements, below_level, outcome_of, begin, run, UpTo}
+use Rattle.rx_first_meaning.proofs.Memory.{IsHeld, introduce_is}
+use Rattle.rx_first_meaning.proofs.Results.{printed_outcome, after_nil}
+use Rattle.rx_first_check.specs.Accepted.{parameter_names}
+use Rattle.rx_first_check.specs.Names.{declares}
+use Rattle.rx_first_hoist.specs.Plan.{is_declared}
+use Rattle.rx_first_hoist.specs.Extracted.{arguments, by_value, tail_of, call_of, call_statement}
 use Rattle.rx_engine.proofs.sim.World.{Direction, shorter, longer, EntryCase, cut_off, extra, entry_case, Turns, weaken, Pair, Related, Names, Knows, Binds, SameValue, SameValues, AreHeld, Permits, Sim, both_on, both_jump, both_stop, text_cut, answer_cut, sim_bind, sim_map}
 use Rattle.rx_engine.proofs.sim.Steps.{Ready, with_turns, no_jumps, call_jumps, onto, go_in, go_on, less, stay, new_pair, new_binds, new_world, sim_then, read_sim, introduce_all_sim, operate_sim, print_sim, turn_sim, returned_sim}
 use Rattle.rx_engine.proofs.sim.Like.{append, declared_by, New, function_of, OutKnown, OutFits, LikeExpression, LikeExpressions, LikeOptional, LikeBody, LikeStatement, LikeStatements, like_int, like_var, like_binary, like_call, like_print, like_block, like_none, like_more, like_absent, like_present, like_body, like_let, like_evaluated, like_end, like_next, like_here, LikeFunction, Moved}

@@ -5,10 +5,10 @@ use Rattle.rx_core.specs.Bytes.{same_bytes, is_one_of}
 use Rattle.rx_tree.specs.declared.tree.BinaryOp.{BinaryOp}
 use Rattle.rx_tree.specs.declared.tree.BinaryOp.TheVariants as op
 use Rattle.rx_tree.specs.Plain.{Parameter}
-use Rattle.rx_meaning.specs.Meaning.{Value, Values, number, truth, tuple, unset, no_value, value_and, State, Result, breaks, continues, returns, bind, Env, slot_of, some_if, read, introduce, introduce_all, Computed, gives, traps, give, compute, fit, divided, operate, print, turn_at, take_turn, returned}
-use Rattle.rx_meaning.proofs.Memory.{at_end, at_before, at_below, length_more, grow, introduce_is, read_is, IsHeld}
-use Rattle.rx_meaning.proofs.Results.{printed_returned}
-use Rattle.rx_check.specs.Accepted.{parameter_names}
+use Rattle.rx_first_meaning.specs.Meaning.{Value, Values, number, truth, tuple, unset, no_value, value_and, State, Result, breaks, continues, returns, bind, Env, slot_of, some_if, read, introduce, introduce_all, Computed, gives, traps, give, compute, fit, divided, operate, print, turn_at, take_turn, returned}
+use Rattle.rx_first_meaning.proofs.Memory.{at_end, at_before, at_below, length_more, grow, introduce_is, read_is, IsHeld}
+use Rattle.rx_first_meaning.proofs.Results.{printed_returned}
+use Rattle.rx_first_check.specs.Accepted.{parameter_names}
 use Rattle.rx_engine.proofs.sim.World.{Direction, Turns, weaken, TurnCase, text_out, answer_out, both_turn, turn_case, Pair, In, Holds, Related, Grown, grown_refl, Names, Knows, Binds, binds_more, World, SameValue, AreHeld, Permits, Sim, both_on, both_jump, both_stop, text_cut, answer_cut, sim_bind, sim_before}
 
 -- all that a part needs to begin with: at levels m and n, with c calls of the new function to come

@@ -5,14 +5,14 @@ use Rattle.rx_core.proofs.BytesLemmas.{same_bytes-true, same_bytes-self}
 use Rattle.rx_tree.specs.Plain as plain
 use Rattle.rx_tree.specs.Plain.{Expression, Expressions, OptionalExpression, Body, Statement, Statements, Parameter, Function, ProgramTree}
 use Rattle.rx_tree.specs.PlainOf.{statements_of}
-use Rattle.rx_meaning.specs.Meaning.{function_named}
-use Rattle.rx_check.specs.Accepted.{ValueType, integer, Scope, type_in, Signature, signature_of, HasType, AreIntegers, AreTyped, Gives, int, var, binary, call, print, none, one_more, declared, evaluated, nothing, tail_value, parameter_names, scope_from}
-use Rattle.rx_check.specs.Names.{names, uses, uses_all, uses_given, declares, without, free}
-use Rattle.rx_hoist.specs.Plan.{is_declared, declared_in}
+use Rattle.rx_first_meaning.specs.Meaning.{function_named}
+use Rattle.rx_first_check.specs.Accepted.{ValueType, integer, Scope, type_in, Signature, signature_of, HasType, AreIntegers, AreTyped, Gives, int, var, binary, call, print, none, one_more, declared, evaluated, nothing, tail_value, parameter_names, scope_from}
+use Rattle.rx_first_check.specs.Names.{names, uses, uses_all, uses_given, declares, without, free}
+use Rattle.rx_first_hoist.specs.Plan.{is_declared, declared_in}
 use Rattle.rx_engine.proofs.sim.World.{Names, Knows, Permits}
 use Rattle.rx_engine.proofs.sim.Steps.{onto}
 use Rattle.rx_engine.proofs.sim.Like.{New, append, declared_by, LikeExpression, LikeExpressions, LikeOptional, LikeStatements, like_int, like_var, like_binary, like_call, like_print, like_none, like_more, like_absent, like_present, like_let, like_evaluated, like_end, like_next}
-use Rattle.rx_hoist.proofs.Membership.{or_true, one_of-left, one_of-right, one_of-either, one_of-remove, one_of-removed, names-append}
+use Rattle.rx_first_hoist.proofs.Membership.{or_true, one_of-left, one_of-right, one_of-either, one_of-remove, one_of-removed, names-append}
 use Rattle.rx_engine.proofs.sim.Members.{knows_first, knows_older, knows_none, free_behind}
 
 knows_self : (x : List ℕ) → Knows (x ∷ []) x

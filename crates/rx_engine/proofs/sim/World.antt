@@ -1,9 +1,9 @@
 -- Two runs side by side: which slots correspond, how a pair of states grows, and what it means that two parts do alike; parts in sequence do.
 use Rattle.std.proofs.Common.{◌≡◌, ℕ, zero, suc, ◌+◌, ◌*◌, ◌<◌, ◌≤◌, List, [], ◌∷◌, length, Some, refl, ◌∙◌, arith, Bool, true, ◌⊎◌}
 use Rattle.rx_core.specs.Bytes.{is_one_of}
-use Rattle.rx_meaning.specs.Meaning.{Value, Values, no_value, value_and, State, Result, on, jumps, stops, Ending, running, Jump, breaks, continues, returns, after, bind, at, Env, slot_of, IsPrefix}
-use Rattle.rx_meaning.proofs.Memory.{IsHeld}
-use Rattle.rx_meaning.proofs.Results.{printed_of, prefix_after, prefix_bind}
+use Rattle.rx_first_meaning.specs.Meaning.{Value, Values, no_value, value_and, State, Result, on, jumps, stops, Ending, running, Jump, breaks, continues, returns, after, bind, at, Env, slot_of, IsPrefix}
+use Rattle.rx_first_meaning.proofs.Memory.{IsHeld}
+use Rattle.rx_first_meaning.proofs.Results.{printed_of, prefix_after, prefix_bind}
 
 -- Which run may be cut off before the other, and what the turns left then say. The answer's turns are the second.
 pub data Direction : Type 0 where

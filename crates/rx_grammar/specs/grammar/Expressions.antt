@@ -1,9 +1,9 @@
 -- Expressions, statements and blocks (Rust Reference, "Expressions", "Statements", "Block expressions"). Each expression and
 -- each block is one level deeper than the node around it, and a pair of parentheses is a level.
--- The strengths of operands: 0 a unary, 1 a product, 2 a sum, 3 a comparison, 4 and, 5 or.
--- The truth value f says whether a struct literal may stand outside parentheses and braces: it may not in a condition.
+-- The truth value f says whether a struct literal may stand outside parentheses and braces: it may not in a condition or a scrutinee.
 use Rattle.std.specs.Prelude.{◌≡◌, ◌≢◌, ℕ, suc, max, Bool, true, false, List, [], ◌∷◌, ◌++◌, Option, Some, None, codes}
 use Rattle.rx_core.specs.declared.types.Kind.{Kind}
+use Rattle.rx_core.specs.declared.types.Span.{Span}
 use Rattle.rx_tree.specs.declared.tree.Ident.{Ident}
 use Rattle.rx_tree.specs.declared.tree.BinaryOp.{BinaryOp}
 use Rattle.rx_tree.specs.declared.tree.BinaryOp.TheVariants as op
@@ -14,24 +14,25 @@ use Rattle.rx_tree.specs.Plain.{TypeTree, PatternTree, Expression, OptionalExpre
 use Rattle.rx_tree.specs.PlainOf.{expressions_of, field_expressions_of, arms_of, statements_of}
 use Rattle.rx_lex.specs.Tok.{Tok}
 use Rattle.rx_grammar.specs.grammar.Words.{IsMark, IsKeyword, IsName, IsNamed, IsFormat, IsLifetime, IsNumber, IsIndex, IsMutability, span_of, ident, second_ampersand}
+use Rattle.rx_grammar.specs.grammar.Strengths as at
 use Rattle.rx_grammar.specs.grammar.Types.{IsType}
 use Rattle.rx_grammar.specs.grammar.Patterns.{IsPattern}
 
 -- the operator of this strength that a token is
 pub data IsOperator : ℕ → Tok → BinaryOp → Type 0 where
-  times : {t : Tok} → IsMark (codes "*") t → IsOperator 1 t op.Mul
-  divided : {t : Tok} → IsMark (codes "/") t → IsOperator 1 t op.Div
-  modulo : {t : Tok} → IsMark (codes "%") t → IsOperator 1 t op.Rem
-  plus : {t : Tok} → IsMark (codes "+") t → IsOperator 2 t op.Add
-  minus : {t : Tok} → IsMark (codes "-") t → IsOperator 2 t op.Sub
-  equal : {t : Tok} → IsMark (codes "==") t → IsOperator 3 t op.Eq
-  unequal : {t : Tok} → IsMark (codes "!=") t → IsOperator 3 t op.Ne
-  less : {t : Tok} → IsMark (codes "<") t → IsOperator 3 t op.Lt
-  at_most : {t : Tok} → IsMark (codes "<=") t → IsOperator 3 t op.Le
-  greater : {t : Tok} → IsMark (codes ">") t → IsOperator 3 t op.Gt
-  at_least : {t : Tok} → IsMark (codes ">=") t → IsOperator 3 t op.Ge
-  and : {t : Tok} → IsMark (codes "&&") t → IsOperator 4 t op.And
-  or : {t : Tok} → IsMark (codes "||") t → IsOperator 5 t op.Or
+  times : {t : Tok} → IsMark (codes "*") t → IsOperator at.product t op.Mul
+  divided : {t : Tok} → IsMark (codes "/") t → IsOperator at.product t op.Div
+  modulo : {t : Tok} → IsMark (codes "%") t → IsOperator at.product t op.Rem
+  plus : {t : Tok} → IsMark (codes "+") t → IsOperator at.sum t op.Add
+  minus : {t : Tok} → IsMark (codes "-") t → IsOperator at.sum t op.Sub
+  equal : {t : Tok} → IsMark (codes "==") t → IsOperator at.comparison t op.Eq
+  unequal : {t : Tok} → IsMark (codes "!=") t → IsOperator at.comparison t op.Ne
+  less : {t : Tok} → IsMark (codes "<") t → IsOperator at.comparison t op.Lt
+  at_most : {t : Tok} → IsMark (codes "<=") t → IsOperator at.comparison t op.Le
+  greater : {t : Tok} → IsMark (codes ">") t → IsOperator at.comparison t op.Gt
+  at_least : {t : Tok} → IsMark (codes ">=") t → IsOperator at.comparison t op.Ge
+  and : {t : Tok} → IsMark (codes "&&") t → IsOperator at.conjunction t op.And
+  or : {t : Tok} → IsMark (codes "||") t → IsOperator at.disjunction t op.Or
 
 pub data IsUpdate : Tok → UpdateOp → Type 0 where
   plus_equal : {t : Tok} → IsMark (codes "+=") t → IsUpdate t update_op.Add
@@ -59,12 +60,25 @@ pub data IsAnnotation : List Tok → Option TypeTree → ℕ → Type 0 where
   with_type : {ts : List Tok} (c : Tok) (us : List Tok) (y : TypeTree) (h : ℕ) → IsMark (codes ":") c → IsType us y h → ts ≡ c ∷ us
       → IsAnnotation ts (Some y) h
 
+-- what an `if` or a `while` tests: a condition, or whether a pattern fits a scrutinee
+pub data Test : Type 0 where
+  condition : Expression → Test
+  fitting : PatternTree → Expression → Test
+
+abbrev pub if_of : Span → Test → Body → OptionalExpression → Expression
+if_of s (condition x) b y = plain.if s x b y
+if_of s (fitting p x) b y = plain.if_let s p x b y
+
+abbrev pub while_of : Span → Option Ident → Test → Body → Expression
+while_of s l (condition x) b = plain.while s l x b
+while_of s l (fitting p x) b = plain.while_let s l p x b
+
 mutual
   pub data IsExpression : List Tok → Expression → ℕ → Type 0 where
-    operand : {ts : List Tok} {x : Expression} {h : ℕ} → IsOperand true 5 ts x h → IsExpression ts x h
-    assign : {ts : List Tok} (us vs : List Tok) (t : Tok) (l r : Expression) (m n : ℕ) → IsMark (codes "=") t → IsOperand true 5 us l m
+    operand : {ts : List Tok} {x : Expression} {h : ℕ} → IsOperand true at.disjunction ts x h → IsExpression ts x h
+    assign : {ts : List Tok} (us vs : List Tok) (t : Tok) (l r : Expression) (m n : ℕ) → IsMark (codes "=") t → IsOperand true at.disjunction us l m
         → IsExpression vs r n → ts ≡ us ++ (t ∷ vs) → IsExpression ts (plain.assign (span_of ts) l r) (suc (max m n))
-    update : {ts : List Tok} (us vs : List Tok) (t : Tok) (o : UpdateOp) (l r : Expression) (m n : ℕ) → IsUpdate t o → IsOperand true 5 us l m
+    update : {ts : List Tok} (us vs : List Tok) (t : Tok) (o : UpdateOp) (l r : Expression) (m n : ℕ) → IsUpdate t o → IsOperand true at.disjunction us l m
         → IsExpression vs r n → ts ≡ us ++ (t ∷ vs) → IsExpression ts (plain.update (span_of ts) o l r) (suc (max m n))
     return : {ts : List Tok} (t : Tok) → IsKeyword (codes "return") t → ts ≡ t ∷ [] → IsExpression ts (plain.return (span_of ts) plain.absent) 1
     return_with : {ts : List Tok} (t : Tok) (us : List Tok) (x : Expression) (h : ℕ) → IsKeyword (codes "return") t → IsExpression us x h
@@ -77,14 +91,14 @@ mutual
         → IsExpression ts (plain.continue (span_of ts) (Some (ident l))) 1
 
   pub data IsOperand : Bool → ℕ → List Tok → Expression → ℕ → Type 0 where
-    unary : {f : Bool} {ts : List Tok} {x : Expression} {h : ℕ} → IsUnary f ts x h → IsOperand f 0 ts x h
+    unary : {f : Bool} {ts : List Tok} {x : Expression} {h : ℕ} → IsUnary f ts x h → IsOperand f at.unary ts x h
     stronger : {f : Bool} {j : ℕ} {ts : List Tok} {x : Expression} {h : ℕ} → IsOperand f j ts x h → IsOperand f (suc j) ts x h
     -- operators of one strength group to the left
-    chain : {f : Bool} {j : ℕ} {ts : List Tok} (us vs : List Tok) (t : Tok) (o : BinaryOp) (l r : Expression) (m n : ℕ) → j ≢ 2
+    chain : {f : Bool} {j : ℕ} {ts : List Tok} (us vs : List Tok) (t : Tok) (o : BinaryOp) (l r : Expression) (m n : ℕ) → j ≢ at.sum
         → IsOperator (suc j) t o → IsOperand f (suc j) us l m → IsOperand f j vs r n → ts ≡ us ++ (t ∷ vs)
         → IsOperand f (suc j) ts (plain.binary (span_of ts) o l r) (suc (max m n))
-    -- but comparisons don't group
-    compare : {f : Bool} {j : ℕ} {ts : List Tok} (us vs : List Tok) (t : Tok) (o : BinaryOp) (l r : Expression) (m n : ℕ) → j ≡ 2
+    -- but comparisons, whose operands are sums, don't group
+    compare : {f : Bool} {j : ℕ} {ts : List Tok} (us vs : List Tok) (t : Tok) (o : BinaryOp) (l r : Expression) (m n : ℕ) → j ≡ at.sum
         → IsOperator (suc j) t o → IsOperand f j us l m → IsOperand f j vs r n → ts ≡ us ++ (t ∷ vs)
         → IsOperand f (suc j) ts (plain.binary (span_of ts) o l r) (suc (max m n))
 
@@ -163,20 +177,26 @@ mutual
     block : {ts : List Tok} (b : Body) (h : ℕ) → IsBlock ts b h → IsLike ts (plain.block (span_of ts) b) (suc h)
     conditional : {ts : List Tok} {x : Expression} {h : ℕ} → IsIf ts x h → IsLike ts x h
     match : {ts : List Tok} (t o c : Tok) (us vs : List Tok) (x : Expression) (a : PatternTree × Expression) (more : List (PatternTree × Expression))
-        (m n : ℕ) → IsKeyword (codes "match") t → IsMark (codes "{") o → IsMark (codes "}") c → IsOperand false 5 us x m → AreArms vs (a ∷ more) n
+        (m n : ℕ) → IsKeyword (codes "match") t → IsMark (codes "{") o → IsMark (codes "}") c → IsOperand false at.disjunction us x m → AreArms vs (a ∷ more) n
         → ts ≡ t ∷ (us ++ (o ∷ (vs ++ c ∷ []))) → IsLike ts (plain.match (span_of ts) x (arms_of (a ∷ more))) (suc (max m n))
     loop : {ts : List Tok} (ls us : List Tok) (t : Tok) (l : Option Ident) (b : Body) (h : ℕ) → IsLabel ls l → IsKeyword (codes "loop") t
         → IsBlock us b h → ts ≡ ls ++ (t ∷ us) → IsLike ts (plain.loop (span_of ts) l b) (suc h)
-    while : {ts : List Tok} (ls us vs : List Tok) (t : Tok) (l : Option Ident) (x : Expression) (b : Body) (m n : ℕ) → IsLabel ls l
-        → IsKeyword (codes "while") t → IsOperand false 5 us x m → IsBlock vs b n → ts ≡ ls ++ (t ∷ (us ++ vs))
-        → IsLike ts (plain.while (span_of ts) l x b) (suc (max m n))
+    while : {ts : List Tok} (ls us vs : List Tok) (t : Tok) (l : Option Ident) (x : Test) (b : Body) (m n : ℕ) → IsLabel ls l
+        → IsKeyword (codes "while") t → IsTest us x m → IsBlock vs b n → ts ≡ ls ++ (t ∷ (us ++ vs))
+        → IsLike ts (while_of (span_of ts) l x b) (suc (max m n))
+
+  -- no `&&` and no `||` stands beside a `let`
+  pub data IsTest : List Tok → Test → ℕ → Type 0 where
+    test : {ts : List Tok} {x : Expression} {h : ℕ} → IsOperand false at.disjunction ts x h → IsTest ts (condition x) h
+    test_pattern : {ts : List Tok} (t q : Tok) (ps us : List Tok) (p : PatternTree) (x : Expression) (m n : ℕ) → IsKeyword (codes "let") t
+        → IsMark (codes "=") q → IsPattern ps p m → IsOperand false at.comparison us x n → ts ≡ t ∷ (ps ++ (q ∷ us)) → IsTest ts (fitting p x) (max m n)
 
   pub data IsIf : List Tok → Expression → ℕ → Type 0 where
-    if_alone : {ts : List Tok} (t : Tok) (us vs : List Tok) (x : Expression) (b : Body) (m n : ℕ) → IsKeyword (codes "if") t
-        → IsOperand false 5 us x m → IsBlock vs b n → ts ≡ t ∷ (us ++ vs) → IsIf ts (plain.if (span_of ts) x b plain.absent) (suc (max m n))
-    if_else : {ts : List Tok} (t e : Tok) (us vs ws : List Tok) (x y : Expression) (b : Body) (m n k : ℕ) → IsKeyword (codes "if") t
-        → IsKeyword (codes "else") e → IsOperand false 5 us x m → IsBlock vs b n → IsElse ws y k → ts ≡ t ∷ (us ++ (vs ++ (e ∷ ws)))
-        → IsIf ts (plain.if (span_of ts) x b (plain.present y)) (suc (max m (max n k)))
+    if_alone : {ts : List Tok} (t : Tok) (us vs : List Tok) (x : Test) (b : Body) (m n : ℕ) → IsKeyword (codes "if") t
+        → IsTest us x m → IsBlock vs b n → ts ≡ t ∷ (us ++ vs) → IsIf ts (if_of (span_of ts) x b plain.absent) (suc (max m n))
+    if_else : {ts : List Tok} (t e : Tok) (us vs ws : List Tok) (x : Test) (y : Expression) (b : Body) (m n k : ℕ) → IsKeyword (codes "if") t
+        → IsKeyword (codes "else") e → IsTest us x m → IsBlock vs b n → IsElse ws y k → ts ≡ t ∷ (us ++ (vs ++ (e ∷ ws)))
+        → IsIf ts (if_of (span_of ts) x b (plain.present y)) (suc (max m (max n k)))
 
   -- what stands behind `else`: the block is an expression
   pub data IsElse : List Tok → Expression → ℕ → Type 0 where

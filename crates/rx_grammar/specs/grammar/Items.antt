@@ -72,7 +72,7 @@ pub data IsResult : List Tok → Option TypeTree → ℕ → Type 0 where
 
 pub data IsItem : List Tok → ItemTree → ℕ → Type 0 where
   rt : {ts : List Tok} (m r z : Tok) → IsKeyword (codes "mod") m → IsNamed (codes "rt") r → IsMark (codes ";") z → ts ≡ m ∷ r ∷ z ∷ []
-      → IsItem ts (plain.rt_item (span_of ts)) 0
+      → IsItem ts (plain.rt_item (span_of ts) r.span) 0
   structure : {ts : List Tok} (t n o c : Tok) (ds ls us : List Tok) (xs : List Derive) (l : List Ident) (fs : List FieldOf) (h : ℕ)
       → IsKeyword (codes "struct") t → IsName n → IsMark (codes "{") o → IsMark (codes "}") c → AreDerives ds xs → AreLifetimes ls l
       → IsListOf IsStructField us fs h → ts ≡ ds ++ (t ∷ n ∷ (ls ++ (o ∷ (us ++ c ∷ []))))

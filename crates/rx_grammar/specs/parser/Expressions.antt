@@ -11,7 +11,9 @@ use Rattle.rx_tree.specs.PlainOf.{expressions_of, field_expressions_of, arms_of}
 use Rattle.rx_lex.specs.Tok.{Tok}
 use Rattle.rx_grammar.specs.declared.symbol.Symbol.{Symbol}
 use Rattle.rx_grammar.specs.declared.symbol.Symbol.TheVariants as symbol
+use Rattle.rx_grammar.specs.grammar.Strengths as at
 use Rattle.rx_grammar.specs.grammar.Words.{join, ident, second_ampersand}
+use Rattle.rx_grammar.specs.grammar.Expressions.{Test, condition, fitting, if_of, while_of}
 use Rattle.rx_grammar.specs.parser.Steps.{Parser, Got, ◌>>=◌, ◌>>◌, pure, refuse, next, expect, when_next, within, leaf, node}
 use Rattle.rx_grammar.specs.parser.Numbers.{number, index}
 use Rattle.rx_grammar.specs.parser.Lists.{Items, elements, some_elements, group}
@@ -116,6 +118,22 @@ module _ (operand : Bool → ℕ → Parser (Got Expression)) (whole like : Pars
   unfoldable pub block_value : Parser (Got Expression)
   block_value = within 1 d (body >>= (λ b. pure (node (λ s. plain.block s b.tree) b.span b.height)))
 
+  unfoldable pub let_test : Parser (Got Test)
+  let_test = do
+    t ← expect symbol.Let
+    p ← pattern d
+    expect symbol.Equal
+    x ← operand false at.comparison
+    pure (record { tree = fitting p.tree x.tree; height = max p.height x.height; span = join t.span x.span })
+
+  abbrev pub test_by : Symbol → Parser (Got Test)
+  test_by symbol.Let = let_test
+  test_by _ = operand false at.disjunction >>= (λ x. pure (record { tree = condition x.tree; height = x.height; span = x.span }))
+
+  -- what an `if` or a `while` tests
+  unfoldable pub test : Parser (Got Test)
+  test = next >>= test_by
+
   abbrev pub else_by : Symbol → Parser (Got Expression)
   else_by symbol.OpenBrace = like
   else_by symbol.If = like
@@ -127,12 +145,12 @@ module _ (operand : Bool → ℕ → Parser (Got Expression)) (whole like : Pars
   unfoldable pub conditional : Parser (Got Expression)
   conditional = within 1 d (do
     t ← expect symbol.If
-    x ← operand false 5
+    x ← test
     b ← body
     when_next symbol.Else
         (within 2 d (expect symbol.Else >> else_value
-        >>= (λ y. pure (node (λ s. plain.if s x.tree b.tree (plain.present y.tree)) (join t.span y.span) (max x.height (max b.height y.height))))))
-        (pure (node (λ s. plain.if s x.tree b.tree plain.absent) (join t.span b.span) (max x.height b.height))))
+        >>= (λ y. pure (node (λ s. if_of s x.tree b.tree (plain.present y.tree)) (join t.span y.span) (max x.height (max b.height y.height))))))
+        (pure (node (λ s. if_of s x.tree b.tree plain.absent) (join t.span b.span) (max x.height b.height))))
 
   abbrev pub arms_closed : List (PatternTree × Expression) → ℕ → Parser (Items (PatternTree × Expression))
   arms_closed found h = expect symbol.CloseBrace >>= (λ c. pure (record { list = found; height = h; close = c.span }))
@@ -163,7 +181,7 @@ module _ (operand : Bool → ℕ → Parser (Got Expression)) (whole like : Pars
   unfoldable pub match_value : Parser (Got Expression)
   match_value = within 1 d (do
     t ← expect symbol.Match
-    x ← operand false 5
+    x ← operand false at.disjunction
     expect symbol.OpenBrace
     l ← arms
     pure (node (λ s. plain.match s x.tree (arms_of l.list)) (join t.span l.close) (max x.height l.height)))
@@ -177,9 +195,9 @@ module _ (operand : Bool → ℕ → Parser (Got Expression)) (whole like : Pars
   unfoldable pub while_value : Option Tok → Parser (Got Expression)
   while_value l = do
     t ← expect symbol.While
-    x ← operand false 5
+    x ← test
     b ← body
-    pure (node (λ s. plain.while s (label_of l) x.tree b.tree) (join (start_of l t) b.span) (max x.height b.height))
+    pure (node (λ s. while_of s (label_of l) x.tree b.tree) (join (start_of l t) b.span) (max x.height b.height))
 
   abbrev pub labelled_by : Tok → Symbol → Parser (Got Expression)
   labelled_by l symbol.Loop = loop_value (Some l)
@@ -275,7 +293,7 @@ module _ (operand : Bool → ℕ → Parser (Got Expression)) (whole like : Pars
 
   -- comparisons don't group: one step
   abbrev pub turns : ℕ → ℕ → ℕ
-  turns j n = if j == 2 then 1 else n
+  turns j n = if j == at.sum then 1 else n
 
   unfoldable pub at_strength : Bool → ℕ → Parser (Got Expression)
   at_strength f zero = unary f
@@ -308,7 +326,7 @@ module _ (operand : Bool → ℕ → Parser (Got Expression)) (whole like : Pars
       (pure (leaf (λ s. make s None) t.span)))
 
   unfoldable pub set_or_operand : Parser (Got Expression)
-  set_or_operand = at_strength true 5 >>= (λ l. next >>= (λ q. set_by l q (setting q)))
+  set_or_operand = at_strength true at.disjunction >>= (λ l. next >>= (λ q. set_by l q (setting q)))
 
   abbrev pub whole_by : Symbol → Parser (Got Expression)
   whole_by symbol.Return = return_value

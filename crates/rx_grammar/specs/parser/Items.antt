@@ -139,9 +139,9 @@ module _ (d : ℕ) where
   unfoldable pub rt : Parser (Got ItemTree)
   rt = do
     m ← expect symbol.Mod
-    expect_word (codes "rt")
+    r ← expect_word (codes "rt")
     z ← expect symbol.Semicolon
-    pure (piece (plain.rt_item (join m.span z.span)) 0 (join m.span z.span))
+    pure (piece (plain.rt_item (join m.span z.span) r.span) 0 (join m.span z.span))
 
   abbrev pub item_by : Symbol → Parser (Got ItemTree)
   item_by symbol.Mod = rt

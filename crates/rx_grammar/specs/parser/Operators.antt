@@ -4,23 +4,25 @@ use Rattle.rx_tree.specs.declared.tree.BinaryOp.{BinaryOp}
 use Rattle.rx_tree.specs.declared.tree.BinaryOp.TheVariants as op
 use Rattle.rx_tree.specs.declared.tree.UpdateOp.{UpdateOp}
 use Rattle.rx_tree.specs.declared.tree.UpdateOp.TheVariants as update_op
+use Rattle.rx_grammar.specs.grammar.Strengths as at
 use Rattle.rx_grammar.specs.declared.symbol.Symbol.{Symbol}
 use Rattle.rx_grammar.specs.declared.symbol.Symbol.TheVariants as symbol
 
+-- of the operator that a symbol is
 abbrev pub strength : Symbol → ℕ
-strength symbol.Star = 1
-strength symbol.Slash = 1
-strength symbol.Percent = 1
-strength symbol.Plus = 2
-strength symbol.Minus = 2
-strength symbol.EqualEqual = 3
-strength symbol.NotEqual = 3
-strength symbol.Less = 3
-strength symbol.LessEqual = 3
-strength symbol.Greater = 3
-strength symbol.GreaterEqual = 3
-strength symbol.AndAnd = 4
-strength symbol.OrOr = 5
+strength symbol.Star = at.product
+strength symbol.Slash = at.product
+strength symbol.Percent = at.product
+strength symbol.Plus = at.sum
+strength symbol.Minus = at.sum
+strength symbol.EqualEqual = at.comparison
+strength symbol.NotEqual = at.comparison
+strength symbol.Less = at.comparison
+strength symbol.LessEqual = at.comparison
+strength symbol.Greater = at.comparison
+strength symbol.GreaterEqual = at.comparison
+strength symbol.AndAnd = at.conjunction
+strength symbol.OrOr = at.disjunction
 strength _ = 0
 
 abbrev pub operator : Symbol → Option BinaryOp

@@ -5,7 +5,7 @@ use Rattle.rx_lex.specs.Tok.{Tok}
 use Rattle.rx_grammar.specs.declared.stop.Stop.TheVariants.{Syntax, TooDeep}
 use Rattle.rx_grammar.specs.grammar.Items.{IsFile}
 use Rattle.rx_lex.specs.Words.{IsWord}
-use Rattle.rx_grammar.specs.grammar.Begins.{Begins, BeginsWithin}
+use Rattle.rx_grammar.specs.grammar.Begins.{Begins, BeginsNone, BeginsNoneWithin}
 use Rattle.rx_grammar.specs.parser.Steps.{Outcome}
 
 -- of at most d levels
@@ -13,8 +13,8 @@ pub data Says (d : ℕ) (ts : List Tok) : Outcome (List ItemTree × ℕ) → Typ
   -- they are this program
   program : (p : ProgramTree) (h : ℕ) → h ≤ d → IsFile ts p h → Says d ts (Ok ((p, h), []))
   -- those before t begin a program of any depth, and with t they begin none
-  syntax_at : (us rest : List Tok) (t : Tok) → ts ≡ us ++ (t ∷ rest) → Begins us → (Begins (us ++ (t ∷ [])) → ⊥) → Says d ts (Err (Syntax (length (t ∷ rest))))
+  syntax_at : (us rest : List Tok) (t : Tok) → ts ≡ us ++ (t ∷ rest) → Begins us → BeginsNone (us ++ (t ∷ [])) → Says d ts (Err (Syntax (length (t ∷ rest))))
   -- all begin a program of any depth, but are none
   syntax_at_end : Begins ts → ((p : ProgramTree) (h : ℕ) → IsFile ts p h → ⊥) → Says d ts (Err (Syntax 0))
   -- with t they begin a program of any depth, and none of at most d levels
-  too_deep_at : (us rest : List Tok) (t : Tok) → ts ≡ us ++ (t ∷ rest) → (IsWord t.class t.text → Begins (us ++ (t ∷ []))) → (BeginsWithin d (us ++ (t ∷ [])) → ⊥) → Says d ts (Err (TooDeep (length (t ∷ rest))))
+  too_deep_at : (us rest : List Tok) (t : Tok) → ts ≡ us ++ (t ∷ rest) → (IsWord t.class t.text → Begins (us ++ (t ∷ []))) → BeginsNoneWithin d (us ++ (t ∷ [])) → Says d ts (Err (TooDeep (length (t ∷ rest))))

@@ -7,7 +7,7 @@ use Rattle.rx_tree.proofs.tree.Arm.TheLaws as arm
 use Rattle.rx_tree.specs.PlainOf.{plain-Expr, expressions_of, plain-FieldExpr, field_expressions_of, plain-Arm, arms_of, plain-Stmt, statements_of}
 use Rattle.rx_spelling.specs.Pieces.{flat, separated}
 use Rattle.rx_spelling.specs.Expressions.{each, each_field, arms, statements}
-use Rattle.rx_print.proofs.WrittenLists.{left_of}
+use Rattle.rx_print_parts.proofs.WrittenLists.{left_of}
 use Rattle.rx_print.proofs.+expressions.Given as goal
 
 abbrev pub invariant-expressions::push_each-loop-e : goal.invariant-expressions::push_each-loop-e
@@ -39,6 +39,9 @@ decreases-expressions::push_member l = 8 * (goal.size-expressions::push_member l
 
 abbrev pub decreases-expressions::push_part : goal.decreases-expressions::push_part
 decreases-expressions::push_part l = 8 * (goal.size-expressions::push_part l) + 2
+
+abbrev pub decreases-expressions::push_unary : goal.decreases-expressions::push_unary
+decreases-expressions::push_unary l = 8 * (goal.size-expressions::push_unary l) + 2
 
 abbrev pub decreases-expressions::push_borrowed : goal.decreases-expressions::push_borrowed
 decreases-expressions::push_borrowed l = 8 * (goal.size-expressions::push_borrowed l) + 2
@@ -87,6 +90,18 @@ decreases-expressions::push_if l = 8 * max (goal.size-expressions::push_if l) (b
 
 abbrev pub decreases-expressions::push_if_else : goal.decreases-expressions::push_if_else
 decreases-expressions::push_if_else l = 8 * max (goal.size-expressions::push_if_else l) (max (block.the_size l.body.now) (expr.the_size l.e.now)) + 3
+
+abbrev pub decreases-expressions::push_fitted : goal.decreases-expressions::push_fitted
+decreases-expressions::push_fitted l = 8 * (expr.the_size l.e.now) + 2
+
+abbrev pub decreases-expressions::push_if_let : goal.decreases-expressions::push_if_let
+decreases-expressions::push_if_let l = 8 * max (expr.the_size l.e.now) (block.the_size l.body.now) + 3
+
+abbrev pub decreases-expressions::push_if_let_else : goal.decreases-expressions::push_if_let_else
+decreases-expressions::push_if_let_else l = 8 * max (expr.the_size l.e.now) (max (block.the_size l.body.now) (expr.the_size l.other.now)) + 4
+
+abbrev pub decreases-expressions::push_while_let : goal.decreases-expressions::push_while_let
+decreases-expressions::push_while_let l = 8 * max (expr.the_size l.e.now) (block.the_size l.body.now) + 3
 
 abbrev pub decreases-expressions::push_loop : goal.decreases-expressions::push_loop
 decreases-expressions::push_loop l = 8 * (goal.size-expressions::push_loop l) + 1

@@ -5,9 +5,9 @@ use Rattle.rx_lex.specs.Tok.{toks}
 use Rattle.rx_grammar.specs.grammar.Items.{levels}
 use Rattle.rx_grammar.specs.parser.Items as spec
 use Rattle.rx_grammar.specs.parser.Steps.{ReadsAs}
-use Rattle.rx_descent.specs.declared.got.Found.{Found}
-use Rattle.rx_descent.proofs.Placed.{are_placed}
-use Rattle.rx_parse.specs.ItemsOf.{file_of}
+use Rattle.rx_parse_cursor.specs.declared.got.Found.{Found}
+use Rattle.rx_parse_cursor.proofs.Placed.{are_placed}
+use Rattle.rx_parse_items.specs.ItemsOf.{file_of}
 use Rattle.rx_parse.proofs.Whole.{found, same_tree, memory, cause}
 use Rattle.rx_parse.proofs.program.parse_tokens.Goals as goal
 

@@ -1,2 +1,0 @@
-pub mod NodeForms
-pub mod Rules

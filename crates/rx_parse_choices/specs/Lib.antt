@@ -1,0 +1,5 @@
+pub mod SettingOf
+pub mod Rows
+pub mod Members
+pub mod Ends
+pub mod Wants

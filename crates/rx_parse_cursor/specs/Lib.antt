@@ -1,0 +1,4 @@
+pub mod Place
+pub mod GotOf
+pub mod Elements
+pub mod GroupedOf

@@ -1,0 +1,9 @@
+pub mod BlockRules
+pub mod Declares
+pub mod Outcomes
+pub mod MemberSteps
+pub mod ArmSteps
+pub mod StatementSteps
+pub mod LevelSteps
+pub mod OperandSteps
+pub mod TestSteps

@@ -1,0 +1,8 @@
+-- The forms that the match passes over.
+use Rattle.rx_print_places.proofs.Passed.{block_else}
+use Rattle.rx_print_places.proofs.places.is_block.Goals as goal
+
+pub returns-in_default : goal.returns-in_default
+returns-in_default c =
+    block_else c.args.e.now
+    c.in_default.not-Block

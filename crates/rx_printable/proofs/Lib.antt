@@ -1,3 +1,0 @@
-pub mod PrintParses
-pub mod SamePrintable
-pub mod Measured

@@ -1,8 +1,0 @@
--- What a command of the code asks for.
-use Rattle.rx_rem.specs.declared.words.Command.{Command}
-use Rattle.rx_rem.specs.declared.words.Command.TheVariants.{Extract, Check}
-use Rattle.rx_rem.specs.Forms as forms
-
-abbrev pub asked : Command → forms.Command
-asked (Extract name selection) = forms.extracts name.now selection.start selection.end
-asked Check = forms.checks

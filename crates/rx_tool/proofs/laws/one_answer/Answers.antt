@@ -1,0 +1,6 @@
+-- A text has one tree, so two results of its extraction agree.
+use Rattle.rx_tool.proofs.Agreement.{defined_agree}
+use Rattle.rx_tool.proofs.laws.one_answer.Goals as goal
+
+pub returns : goal.returns
+returns c = defined_agree

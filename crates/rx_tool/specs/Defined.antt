@@ -1,0 +1,61 @@
+-- The defined answer of words on a text: a status, the bytes for standard output, and the line for standard error.
+use Rattle.std.specs.Prelude.{ℕ, ◌≡◌, ◌⊎◌, List, [], Option, Some, None, Result, Ok, Err, codes}
+use Rattle.rx_parse.specs.declared.fault.SyntaxFault.{SyntaxFault}
+use Rattle.rx_parse.specs.declared.fault.SyntaxFault.TheVariants as syntax
+use Rattle.rx_first_check.specs.declared.fault.CheckFault.{CheckFault}
+use Rattle.rx_engine.specs.declared.extraction.Answer.{Answer}
+use Rattle.rx_engine.specs.declared.extraction.Fault.{Fault}
+use Rattle.rx_engine.specs.Promise.{IsAccepted}
+use Rattle.rx_engine.specs.Verdict.{IsUnread, IsUnaccepted, Extracts}
+use Rattle.rx_tool.specs.declared.status.Status.{Status}
+use Rattle.rx_tool.specs.declared.status.Status.TheVariants.{Done, Usage, NotAccepted, OutOfMemory}
+use Rattle.rx_tool.specs.Forms.{Command, extracts, checks, command_of}
+use Rattle.rx_tool.specs.Lines.{status_line, fault_status, syntax_line, check_line, fault_line}
+
+abbrev pub result_status : Result Answer Fault → Status
+result_status (Ok a) = Done
+result_status (Err f) = fault_status f
+
+abbrev pub result_bytes : Result Answer Fault → List ℕ
+result_bytes (Ok a) = a.text
+result_bytes (Err f) = []
+
+abbrev pub result_line : Result Answer Fault → List ℕ
+result_line (Ok a) = []
+result_line (Err f) = fault_line f
+
+-- these are of a result of the extraction that is no want of memory
+pub record Obtained (text name : List ℕ) (start end : ℕ) (status : Status) (out err : List ℕ) : Type 0 where
+  pub result : Result Answer Fault
+  pub extracts : Extracts text start end name result
+  pub found : status ≡ OutOfMemory → ⊥
+  pub status_is : status ≡ result_status result
+  pub out_is : out ≡ result_bytes result
+  pub err_is : err ≡ result_line result
+
+-- these are of whether the text is accepted
+pub data Checked (text : List ℕ) : Status → List ℕ → List ℕ → Type 0 where
+  passed : IsAccepted text → Checked text Done (codes "accepted\n") []
+  -- it is no program, and the line says why
+  no_program : (f : SyntaxFault) → IsUnread text f → Checked text NotAccepted [] (syntax_line f)
+  -- it is a program that breaks rules, and the line says the first fault
+  faulty : (f : CheckFault) → IsUnaccepted text f → Checked text NotAccepted [] (check_line f)
+
+abbrev pub AnswersTo : Option Command → List ℕ → Status → List ℕ → List ℕ → Type 0
+AnswersTo None text status out err = (status ≡ Usage) × (out ≡ []) × (err ≡ status_line Usage)
+AnswersTo (Some (extracts name start end)) text status out err = Obtained text name start end status out err
+AnswersTo (Some checks) text status out err = Checked text status out err
+
+abbrev pub Defined : List (List ℕ) → List ℕ → Status → List ℕ → List ℕ → Type 0
+Defined words text status out err = AnswersTo (command_of words) text status out err
+
+-- the line says where the tokens of a text stop, because of their depth or at all
+abbrev pub SaysTooDeep : List ℕ → Type 0
+SaysTooDeep line = (at : ℕ) × (line ≡ syntax_line (syntax.TooDeep at))
+
+abbrev pub SaysStop : List ℕ → Type 0
+SaysStop line = ((at : ℕ) × (line ≡ syntax_line (syntax.Syntax at))) ⊎ SaysTooDeep line
+
+-- two lines are one, or both say where the same tokens stop, one of them because of their depth
+abbrev pub AreOneLine : List ℕ → List ℕ → Type 0
+AreOneLine a b = (a ≡ b) ⊎ (SaysStop a × SaysStop b × (SaysTooDeep a ⊎ SaysTooDeep b))

@@ -1,0 +1,28 @@
+//! Laws of the tool, each as the contract of a function that does nothing.
+
+ghost use Rattle.std.specs.Prelude.{◌≡◌, ℕ, List, [], Some, codes};
+ghost use Rattle.rx_tool.specs.declared.status.Status.{Status};
+ghost use Rattle.rx_spelling.specs.Items.{print_program};
+ghost use Rattle.rx_engine.specs.Promise.{IsAccepted, IsExtraction};
+ghost use Rattle.rx_tool.specs.Forms.{command_of, extracts, checks};
+ghost use Rattle.rx_tool.specs.Defined.{Defined, AreOneLine};
+ghost use Rattle.rx_tree.specs.Plain.{ProgramTree};
+
+/// Two defined answers of the same words on the same text have one status, one output and one line. Only where the tokens
+/// of the text stop because of their depth may the lines name other places.
+pub fn one_answer()
+    ensures { (words : List (List ℕ)) (text : List ℕ) (s t : Status) (a b c d : List ℕ) → Defined words text s a b → Defined words text t c d
+        → (s ≡ t) × (a ≡ c) × AreOneLine b d }
+{}
+
+/// Where no condition of the extraction fails, its canonical text is the defined answer.
+pub fn extraction_is_defined()
+    ensures { (words : List (List ℕ)) (text name : List ℕ) (start end : ℕ) (p q : ProgramTree) → command_of words ≡ Some (extracts name start end)
+        → IsExtraction text start end name p q → Defined words text Status.Done (print_program q) [] }
+{}
+
+/// The defined answer of a check is `accepted` where the text is accepted, and nowhere else.
+pub fn acceptance_is_defined()
+    ensures accepted { (words : List (List ℕ)) (text : List ℕ) → command_of words ≡ Some checks → IsAccepted text → Defined words text Status.Done (codes "accepted\n") [] }
+    ensures only { (words : List (List ℕ)) (text out err : List ℕ) → command_of words ≡ Some checks → Defined words text Status.Done out err → IsAccepted text }
+{}

@@ -1,0 +1,14 @@
+//! The tool over values: the words of the command line and a text in, a status, an answer and a line out.
+#![tactic(auto)]
+
+mod laws;
+mod line;
+mod reply;
+mod status;
+mod tool;
+mod words;
+
+pub use crate::laws::{acceptance_is_defined, extraction_is_defined, one_answer};
+pub use crate::reply::report_name;
+pub use crate::status::Status;
+pub use crate::tool::rem;

@@ -1,6 +1,0 @@
-use Rattle.rx_tree.specs.Erase.{erase_ident}
-use Rattle.rx_tree.proofs.Lengths.{mapped_lengths}
-use Rattle.rx_tree.proofs.equality.same_names.Goals as goal
-
-pub returns-then-a-b : goal.returns-then-a-b
-returns-then-a-b c = mapped_lengths erase_ident c.args.a.now c.args.b.now c.if-a-b.true

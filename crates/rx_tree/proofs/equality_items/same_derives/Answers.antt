@@ -1,5 +1,0 @@
-use Rattle.rx_tree.proofs.Lengths.{lengths}
-use Rattle.rx_tree.proofs.equality_items.same_derives.Goals as goal
-
-pub returns-then-a-b : goal.returns-then-a-b
-returns-then-a-b c = lengths c.args.a.now c.args.b.now c.if-a-b.true

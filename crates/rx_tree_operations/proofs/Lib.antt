@@ -1,0 +1,4 @@
+pub mod Apart
+pub mod ApartExpressions
+pub mod Lengths
+pub mod PositionsLemmas

@@ -1,0 +1,6 @@
+use Rattle.rx_tree.specs.Erase.{erase_label}
+use Rattle.rx_tree_operations.proofs.Lengths.{mapped_lengths}
+use Rattle.rx_tree_operations.proofs.equality.same_labels.Goals as goal
+
+pub returns-then-a-b : goal.returns-then-a-b
+returns-then-a-b c = mapped_lengths erase_label c.args.a.now c.args.b.now c.if-a-b.true
