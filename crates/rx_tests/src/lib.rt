@@ -11,6 +11,8 @@ mod first_check;
 #[cfg(test)]
 mod lex;
 #[cfg(test)]
+mod names;
+#[cfg(test)]
 mod nested;
 #[cfg(test)]
 mod parse;

@@ -1,0 +1,4 @@
+mod Ways
+mod Marking
+mod Searching
+mod Settling
