@@ -9,7 +9,7 @@ ghost use Rattle.std.specs.Prelude.{◌≡◌, [], ◌∷◌, ◌++◌, Ok, Err,
 use crate::boxed::Boxed;
 use crate::list::List;
 use crate::text::Text;
-use crate::types::{Position, Span};
+use crate::types::{Bound, Place, Position, Span, Step, Ty};
 use std::alloc::{AllocError, Global};
 
 /// What can be let go by a call.
@@ -95,6 +95,26 @@ impl LetGo for Position {
     fn let_go(self) {
         self.path.let_go();
     }
+}
+
+impl LetGo for Ty {
+    fn let_go(self) {
+        let _gone = self;
+    }
+}
+
+impl LetGo for Step {
+    fn let_go(self) {}
+}
+
+impl LetGo for Place {
+    fn let_go(self) {
+        self.steps.let_go();
+    }
+}
+
+impl LetGo for Bound {
+    fn let_go(self) {}
 }
 
 impl LetGo for u8 {

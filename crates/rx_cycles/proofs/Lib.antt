@@ -1,4 +1,5 @@
-mod Ways
+pub mod Ways
 mod Marking
 mod Searching
 mod Settling
+pub mod Placing

@@ -33,7 +33,7 @@ mark_again [] n h = refl
 mark_again (m ∷ ms) zero h = ap (λ b. b ∷ ms) (sym h)
 mark_again (m ∷ ms) (suc n) h = ap (λ l. m ∷ l) (mark_again ms n h)
 
-one_less : (ms : List Bool) (n : ℕ) → marked ms n ≡ false → suc (unmarked (mark ms n)) ≡ unmarked ms
+pub one_less : (ms : List Bool) (n : ℕ) → marked ms n ≡ false → suc (unmarked (mark ms n)) ≡ unmarked ms
 one_less [] n h = absurd (true≢false h)
 one_less (true ∷ ms) zero h = absurd (true≢false h)
 one_less (false ∷ ms) zero h = refl

@@ -1,6 +1,8 @@
 -- Tables of marks, one for each node. A number past a table's end counts as marked, since it leads nowhere.
-use Rattle.std.specs.Prelude.{ℕ, suc, Bool, true, false, if◌then◌else◌, List, [], ◌∷◌, ◌++◌, slice_index_or, slice_set}
-use Rattle.rx_cycles.specs.Reaches.{targets}
+use Rattle.std.specs.Prelude.{◌≡◌, ◌<◌, length, ℕ, suc, Bool, true, false, if◌then◌else◌, List, [], ◌∷◌, ◌++◌}
+use Rattle.std.specs.Prelude.{slice_index_or, slice_set}
+use Rattle.rx_cycles.specs.Reaches.{targets, IsIn}
+use Rattle.rx_cycles.specs.Orders.{Behind}
 
 abbrev pub marked : List Bool → ℕ → Bool
 marked ms n = slice_index_or ms n true
@@ -45,3 +47,19 @@ settle edges done n = if all_marked done (targets edges n) then mark done n else
 abbrev pub settle_all : List (List ℕ) → List Bool → List ℕ → List Bool
 settle_all edges done [] = done
 settle_all edges done (n ∷ ns) = settle_all edges (settle edges done n) ns
+
+-- an order, with a node at its end where the node is settled and was not before
+abbrev pub with_settled : List (List ℕ) → List Bool → List ℕ → ℕ → List ℕ
+with_settled edges done order n = if all_marked done (targets edges n) then with_one done order n else order
+
+abbrev pub with_all_settled : List (List ℕ) → List Bool → List ℕ → List ℕ → List ℕ
+with_all_settled edges done order [] = order
+with_all_settled edges done order (n ∷ ns) =
+    with_all_settled edges (settle edges done n) (with_settled edges done order n) ns
+
+-- the nodes of an order are those that are settled, each behind all that it leads to
+pub record Placed (edges : List (List ℕ)) (done : List Bool) (order : List ℕ) : Type 0 where
+  pub whole : length done ≡ length edges
+  pub stands : (n : ℕ) → n < length edges → marked done n ≡ true → IsIn order n
+  pub settled : (n : ℕ) → IsIn order n → marked done n ≡ true
+  pub behind : Behind edges [] order

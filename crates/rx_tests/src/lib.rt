@@ -7,6 +7,8 @@ mod bank;
 #[cfg(test)]
 mod checks;
 #[cfg(test)]
+mod declared;
+#[cfg(test)]
 mod first_check;
 #[cfg(test)]
 mod lex;

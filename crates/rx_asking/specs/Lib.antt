@@ -1,0 +1,6 @@
+pub mod Entries
+pub mod Walks
+pub mod Places
+pub mod Seeing
+pub mod Matching
+pub mod Pieces

@@ -1,0 +1,6 @@
+mod ItemLemmas
+mod ReadingLemmas
+mod LimitLemmas
+mod Examples
+mod MarkLemmas
+mod ProgramLemmas

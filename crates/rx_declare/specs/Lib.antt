@@ -1,0 +1,7 @@
+pub mod Steps
+pub mod Written
+pub mod Readers
+pub mod Items
+pub mod Marks
+pub mod Limits
+pub mod Programs

@@ -1,0 +1,10 @@
+mod ItemLemmas
+mod HeldLemmas
+mod Filling
+mod SizeLemmas
+mod SizeLaws
+mod RegionLemmas
+mod FixingLemmas
+mod VarianceLemmas
+mod RecordLemmas
+mod Examples

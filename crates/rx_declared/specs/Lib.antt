@@ -1,0 +1,4 @@
+pub mod Held
+pub mod Sizes
+pub mod WellFormed
+pub mod Variance

@@ -1,0 +1,7 @@
+pub mod Types
+pub mod PlainTypes
+pub mod Named
+pub mod Naming
+pub mod Tree
+pub mod Elaborated
+pub mod Regions

@@ -1,0 +1,24 @@
+pub mod Natural
+pub mod Base
+pub mod Steps
+pub mod EachFact
+pub mod Order
+pub mod Choice
+pub mod Final
+pub mod Knowing
+pub mod Parenthood
+pub mod ClassSteps
+pub mod Adding
+pub mod Pairing
+pub mod Tabling
+pub mod States
+pub mod ListReads
+pub mod Growth
+pub mod Lookups
+pub mod Making
+pub mod Looking
+pub mod Taking
+pub mod Lasting
+pub mod Ending
+pub mod Viewing
+mod Units

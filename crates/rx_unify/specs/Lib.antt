@@ -1,0 +1,15 @@
+pub mod Facts
+pub mod Valid
+pub mod Solver
+pub mod Ordered
+pub mod Parents
+pub mod Cells
+pub mod Pairs
+pub mod Tabled
+pub mod Reading
+pub mod Growing
+pub mod Looks
+pub mod Stepping
+pub mod Ends
+pub mod Solving
+pub mod Views
