@@ -4,3 +4,4 @@ mod LimitLemmas
 mod Examples
 mod MarkLemmas
 mod ProgramLemmas
+pub mod NamedLemmas

@@ -13,5 +13,5 @@ mod reader;
 mod types;
 
 pub use fault::DeclareFault;
-pub use laws::declared_are_finite;
+pub use laws::{declared_are_finite, declared_are_well_formed, declared_variants_are_few};
 pub use program::declare;

@@ -3,7 +3,7 @@ mod HeldLemmas
 mod Filling
 mod SizeLemmas
 mod SizeLaws
-mod RegionLemmas
+pub mod RegionLemmas
 mod FixingLemmas
 mod VarianceLemmas
 mod RecordLemmas

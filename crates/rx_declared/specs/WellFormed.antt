@@ -39,17 +39,27 @@ abbrev pub bounds_fit : ℕ → List Bound → Bool
 bounds_fit n [] = true
 bounds_fit n (b ∷ bs) = nat_lt b.long n && nat_lt b.short n && bounds_fit n bs
 
+-- what a struct or enum holds names what is declared
 abbrev pub item_fits : Declarations → Decl → Bool
 item_fits D decl.Rt = true
 item_fits D (decl.Struct c n vs fs) = all_fit D n (regions_of (held_regions (decl.Struct c n vs fs)))
 item_fits D (decl.Enum c n vs ds) = all_fit D n (regions_of (held_regions (decl.Enum c n vs ds)))
-item_fits D (decl.Func n ps t bs) =
+item_fits D (decl.Func n ps t bs) = true
+
+-- the signature of a function does
+abbrev pub signature_fits : Declarations → Decl → Bool
+signature_fits D (decl.Func n ps t bs) =
     all_fit D n (regions_of (map region-Ty ps)) && fits D n (region-Ty t) && bounds_fit n bs
+signature_fits D _ = true
 
 pub record WellFormed (items : List Decl) : Type 0 where
   -- each item has a number of 32 bits
   pub numbered : length items < 4294967296
-  -- what types name is declared
+  -- what structs and enums name is declared
   pub named : (i : ℕ) (d : Decl) → slice_get items i ≡ Some d → item_fits (declarations items) d ≡ true
   -- no struct or enum reaches itself
   pub finite : NoCycle (held (declarations items))
+
+-- what signatures name is declared, too
+pub record WellSigned (items : List Decl) : Type 0 where
+  pub signatures : (i : ℕ) (d : Decl) → slice_get items i ≡ Some d → signature_fits (declarations items) d ≡ true

@@ -21,4 +21,5 @@ pub mod Taking
 pub mod Lasting
 pub mod Ending
 pub mod Viewing
+pub mod Exporting
 mod Units

@@ -1,20 +1,18 @@
 -- Entries are looked at as the types that they stand for.
-use Rattle.std.proofs.Common.{◌≡◌, ℕ, ◌<◌, Bool, true, false, IsTrue, List, length, get_or, Option, Some, None, refl, sym, ap, ◌∙◌, subst, arith}
+use Rattle.std.proofs.Common.{◌≡◌, ℕ, Bool, length, get_or, Option, Some, None, refl, sym, ap, ◌∙◌, arith}
 use Rattle.std.specs.Prelude.{option_map}
 use Rattle.rx_core.specs.declared.types.Kind.{Kind}
-use Rattle.rx_typed.specs.Types.{Shape, Shapes, Typ, integer, boolean, tuple_of, reference, named, shapes_map, peeled}
+use Rattle.rx_typed.specs.Types.{Shapes, integer, boolean, tuple_of, reference, named, shapes_map, peeled}
 use Rattle.rx_unify.specs.declared.facts.Kinds.{Kinds}
 use Rattle.rx_unify.specs.declared.facts.Subject.{Subject}
 use Rattle.rx_unify.specs.declared.arena.Form.{Form}
 use Rattle.rx_unify.specs.declared.arena.Form.TheVariants as form
-use Rattle.rx_unify.specs.declared.arena.Entry.{Entry}
 use Rattle.rx_unify.specs.declared.solver.Solved.{Solved}
 use Rattle.rx_unify.specs.Facts.{part_of}
-use Rattle.rx_unify.specs.Solver.{Leaf, Fixed, KindOf, Term, pick, filled_leaf, filled_by, filled_or}
-use Rattle.rx_unify.specs.Parents.{rep_of, set_of}
-use Rattle.rx_unify.specs.Cells.{Cell, one, many, term_in, shapes_in, cell_form, cell, term, IsTerm, Formed, form_at}
-use Rattle.rx_unify.specs.Tabled.{index_of, table_of, Fits}
-use Rattle.rx_unify.specs.Ends.{Flat}
+use Rattle.rx_unify.specs.Solver.{Fixed, pick, filled_leaf, filled_by, filled_or}
+use Rattle.rx_unify.specs.Parents.{set_of}
+use Rattle.rx_unify.specs.Cells.{term_in, shapes_in, cell_form, cell, term, form_at}
+use Rattle.rx_unify.specs.Tabled.{index_of, table_of}
 use Rattle.rx_unify.specs.Growing.{MadeIs}
 use Rattle.rx_unify.specs.Solving.{types_of, HasType, IsSound}
 use Rattle.rx_unify.specs.Views.{kind_found, IsEntry, typ_at, PartIs}

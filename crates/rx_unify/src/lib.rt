@@ -4,6 +4,7 @@
 mod arena;
 mod classes;
 mod demands;
+mod export;
 mod facts;
 mod import;
 mod kinds;
@@ -19,6 +20,7 @@ mod tests;
 mod unify;
 mod views;
 
+pub use export::Found;
 pub use facts::{Broken, Demand, Fact, Kinds, Op, Passing, Rule, Subject, Test};
 pub use solver::{Solved, Unsolved, solve};
 pub use views::Look;
