@@ -1,16 +1,12 @@
--- How many parts there are, and the names of fields, are the same with numbers and without.
-use Rattle.std.proofs.Common.{◌≡◌, ℕ, Bool, false, suc, List, [], ◌∷◌, length, map, refl, ap, ◌∙◌}
+-- How many parts a pattern has, and the names of its fields, are the same with numbers and without.
+use Rattle.std.proofs.Common.{◌≡◌, ℕ, suc, List, [], ◌∷◌, length, map, refl, ap, ◌∙◌}
 use Rattle.rx_tree.specs.declared.tree.Ident.{Ident}
 use Rattle.rx_tree.specs.declared.tree.Pattern.{Pattern}
 use Rattle.rx_tree.specs.declared.tree.FieldPattern.{FieldPattern}
-use Rattle.rx_tree.specs.declared.tree.Expr.{Expr}
-use Rattle.rx_tree.specs.declared.tree.FieldExpr.{FieldExpr}
-use Rattle.rx_tree.specs.PlainOf.{plain-Pattern, plain-FieldPattern, plain-Expr, plain-FieldExpr, patterns_of, field_patterns_of, expressions_of, field_expressions_of}
-use Rattle.rx_tree.proofs.Rules.{field_pattern_by_parts, field_expression_by_parts}
-use Rattle.rx_typed.specs.declared.nodes.Site.{Site}
-use Rattle.rx_typed.specs.Naming.{Cursor, of_pattern, of_patterns, of_field_patterns, of_expression, of_expressions, of_fields}
-use Rattle.rx_rules.specs.Demands.{count, field_names, argument_count, names_given}
-use Rattle.rx_asking.specs.Pieces as pieces
+use Rattle.rx_tree.specs.PlainOf.{plain-Pattern, plain-FieldPattern, patterns_of, field_patterns_of}
+use Rattle.rx_tree.proofs.Rules.{field_pattern_by_parts}
+use Rattle.rx_typed.specs.Naming.{Cursor, of_pattern, of_patterns, of_field_patterns}
+use Rattle.rx_rules.specs.Demands.{count, field_names}
 use Rattle.rx_asking.specs.Matching.{fields_named}
 
 pub patterns_counted : (l : List Pattern) (c : Cursor) → count (of_patterns (patterns_of (map plain-Pattern l)) c).0 ≡ length l
@@ -21,12 +17,3 @@ pub field_patterns_named : (l : List FieldPattern) (c : Cursor) → field_names 
 field_patterns_named [] c = refl
 field_patterns_named (f ∷ l) c =
     (λ i. (ap (λ p. p.0.name) (field_pattern_by_parts f) i) ∷ field_patterns_named l (of_pattern (plain-FieldPattern f).1 c).1 i)
-
-pub arguments_counted : (t : Site) (l : List Expr) (c : Cursor) → argument_count (of_expressions t (expressions_of (map plain-Expr l)) c).0 ≡ length l
-arguments_counted t [] c = refl
-arguments_counted t (e ∷ l) c = ap suc (arguments_counted t l (of_expression false t (plain-Expr e) c).1)
-
-pub field_values_named : (l : List FieldExpr) (c : Cursor) → names_given (of_fields (field_expressions_of (map plain-FieldExpr l)) c).0 ≡ pieces.fields_named l
-field_values_named [] c = refl
-field_values_named (f ∷ l) c =
-    (λ i. (ap (λ p. p.0.name) (field_expression_by_parts f) i) ∷ field_values_named l (of_expression false Site.Expects (plain-FieldExpr f).1 c).1 i)

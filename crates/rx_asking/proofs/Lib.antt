@@ -1,6 +1,4 @@
-pub mod CursorLemmas
-pub mod Numbered
-pub mod Next
+pub mod Dereferences
 pub mod Counts
 pub mod Later
 pub mod Placed

@@ -1,5 +1,5 @@
 -- What an expression asks is what its form asks, and then what it asks as a place.
-use Rattle.std.proofs.Common.{◌≡◌, ℕ, Bool, true, false, ◌||◌, ◌&&◌, List, [], ◌∷◌, refl, ap, sym, ◌∙◌}
+use Rattle.std.proofs.Common.{◌≡◌, ℕ, Bool, List, refl, ap, sym, ◌∙◌}
 use Rattle.rx_tree.specs.declared.tree.Expr.{Expr}
 use Rattle.rx_tree.specs.PlainOf.{plain-Expr}
 use Rattle.rx_typed.specs.declared.nodes.Node.{Node}
@@ -8,13 +8,12 @@ use Rattle.rx_typed.specs.Named as named
 use Rattle.rx_typed.specs.Named.{Exp, node_of}
 use Rattle.rx_typed.specs.Naming.{Cursor, of_expression}
 use Rattle.rx_unify.specs.declared.facts.Demand.{Demand}
-use Rattle.rx_asking.specs.declared.listed.Each as code
-use Rattle.rx_asking.specs.declared.listed.Each.TheVariants as each
-use Rattle.rx_rules.specs.Demands.{through, of_exp, of_form, each_after}
-use Rattle.rx_asking.specs.Pieces.{each_as}
+use Rattle.rx_rules.specs.Demands.{through, of_exp, of_form}
 use Rattle.rx_asking.specs.Places.{through_at}
-use Rattle.rx_asking.specs.Seeing.{seen_of, placed}
-use Rattle.rx_asking.proofs.Numbered.{expression_numbered, through_numbered}
+use Rattle.rx_numbering.specs.Seeing.{seen_of}
+use Rattle.rx_asking.specs.Placing.{placed}
+use Rattle.rx_numbering.proofs.Numbered.{expression_numbered}
+use Rattle.rx_asking.proofs.Dereferences.{through_numbered}
 
 form_placed : (f : ℕ) (e : Exp) (ds : List Demand) → of_exp f e ds ≡ placed (seen_of e) (through e) (of_form f e ds)
 form_placed f (named.int n m v k) ds = refl
@@ -59,25 +58,3 @@ pub expression_placed : (f : ℕ) (m : Bool) (t : Site) (e : Expr) (c : Cursor) 
 expression_placed f m t e c ds =
     let r = (of_expression m t (plain-Expr e) c).0 in
     form_placed f r ds ∙ ap (λ ps. placed (seen_of r) ps (of_form f r ds)) (through_here m t e c)
-
--- nothing is asked behind an element that is no member of a tuple
-pub each_nothing : (w : code.Each) (e : Exp) (ds : List Demand) → each_after (each_as w) e ds ≡ ds
-each_nothing each.Values e ds = refl
-each_nothing (each.Parameters g) e ds = refl
-each_nothing (each.Parts i v) e ds = refl
-
-pub or_assoc : (a b c : Bool) → (a || b) || c ≡ a || (b || c)
-or_assoc true b c = refl
-or_assoc false b c = refl
-
-pub or_false : (a : Bool) → a || false ≡ a
-or_false true = refl
-or_false false = refl
-
-pub and_assoc : (a b c : Bool) → (a && b) && c ≡ a && (b && c)
-and_assoc true b c = refl
-and_assoc false b c = refl
-
-pub and_true : (a : Bool) → a && true ≡ a
-and_true true = refl
-and_true false = refl

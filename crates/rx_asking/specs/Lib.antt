@@ -1,6 +1,4 @@
-pub mod Entries
 pub mod Walks
 pub mod Places
-pub mod Seeing
+pub mod Placing
 pub mod Matching
-pub mod Pieces

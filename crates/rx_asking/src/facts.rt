@@ -11,25 +11,20 @@ use rx_typed::Node;
 use rx_unify::{Fact, Kinds, Op, Passing, Subject, Test};
 use std::alloc::{AllocError, Global};
 
-pub(crate) fn type_of(node: Node) -> Subject
+pub fn type_of(node: Node) -> Subject
     ensures { result ≡ asking.type_of node }
 {
     Subject::Node(node.number)
 }
 
-pub(crate) fn expected(node: Node) -> Subject
+pub fn expected(node: Node) -> Subject
     ensures { result ≡ asking.expected node }
 {
     Subject::Expected(node.number)
 }
 
 /// The first has the type that is made of these.
-pub(crate) fn is(
-    alloc: Global,
-    subject: Subject,
-    made: Op,
-    parts: &[Subject],
-) -> Result<Fact, AllocError>
+pub fn is(alloc: Global, subject: Subject, made: Op, parts: &[Subject]) -> Result<Fact, AllocError>
     ensures { IfOk result (λ f. f ≡ asking.is subject made parts.now) }
 {
     let (parts, made) = keep(made, List::from_slice(alloc, parts))?;
@@ -37,14 +32,14 @@ pub(crate) fn is(
 }
 
 /// Both have one type.
-pub(crate) fn alike(alloc: Global, first: Subject, second: Subject) -> Result<Fact, AllocError>
+pub fn alike(alloc: Global, first: Subject, second: Subject) -> Result<Fact, AllocError>
     ensures { IfOk result (λ f. f ≡ asking.alike first second) }
 {
     is(alloc, first, Op::Same, &[second])
 }
 
 /// The first has the type of the second behind references, where these are gone through.
-pub(crate) fn is_bound(
+pub fn is_bound(
     alloc: Global,
     first: Subject,
     second: Subject,
@@ -58,7 +53,7 @@ pub(crate) fn is_bound(
 }
 
 /// These pass a test.
-pub(crate) fn passes(alloc: Global, test: Test, subjects: &[Subject]) -> Result<Fact, AllocError>
+pub fn passes(alloc: Global, test: Test, subjects: &[Subject]) -> Result<Fact, AllocError>
     ensures { IfOk result (λ f. f ≡ asking.passes test subjects.now) }
 {
     let (subjects, test) = keep(test, List::from_slice(alloc, subjects))?;
@@ -66,7 +61,7 @@ pub(crate) fn passes(alloc: Global, test: Test, subjects: &[Subject]) -> Result<
 }
 
 /// These pass a test, with the dereferences of a pattern, and those of a place.
-pub(crate) fn passes_through(
+pub fn passes_through(
     alloc: Global,
     test: Test,
     subjects: &[Subject],
@@ -82,11 +77,7 @@ pub(crate) fn passes_through(
 }
 
 /// An integer operand, where it has a type.
-pub(crate) fn integer_operand(
-    facts: List<Fact>,
-    node: Node,
-    never: bool,
-) -> Result<List<Fact>, AllocError>
+pub fn integer_operand(facts: List<Fact>, node: Node, never: bool) -> Result<List<Fact>, AllocError>
     ensures { IfOk result (λ fs. fs ≡ facts ++ demands.integer_operand node never) }
 {
     if never {
@@ -97,7 +88,7 @@ pub(crate) fn integer_operand(
 }
 
 /// An operand that is an integer or a truth value, where it has a type.
-pub(crate) fn plain_operand(
+pub fn plain_operand(
     alloc: Global,
     facts: List<Fact>,
     node: Node,
@@ -114,7 +105,7 @@ pub(crate) fn plain_operand(
 }
 
 /// An operand that is a truth value, where it has a type.
-pub(crate) fn truth_operand(
+pub fn truth_operand(
     alloc: Global,
     facts: List<Fact>,
     node: Node,
@@ -131,7 +122,7 @@ pub(crate) fn truth_operand(
 }
 
 /// The list with the fact that two have one type, unless one of them has none.
-pub(crate) fn alike_unless(
+pub fn alike_unless(
     alloc: Global,
     facts: List<Fact>,
     never: bool,
@@ -149,7 +140,7 @@ pub(crate) fn alike_unless(
 }
 
 /// The integer types.
-pub(crate) fn all() -> Kinds
+pub fn all() -> Kinds
     ensures { result ≡ asking.all }
 {
     Kinds {
@@ -162,7 +153,7 @@ pub(crate) fn all() -> Kinds
 }
 
 /// The signed integer types.
-pub(crate) fn signed() -> Kinds
+pub fn signed() -> Kinds
     ensures { result ≡ asking.signed }
 {
     Kinds {
@@ -175,7 +166,7 @@ pub(crate) fn signed() -> Kinds
 }
 
 /// The integer types that hold a literal; whether it stands directly under a minus.
-pub(crate) fn fitting(minus: bool, value: u64) -> Kinds
+pub fn fitting(minus: bool, value: u64) -> Kinds
     ensures { result ≡ asking.fitting minus value }
 {
     Kinds {
@@ -188,7 +179,7 @@ pub(crate) fn fitting(minus: bool, value: u64) -> Kinds
 }
 
 /// The integer types of a literal with this suffix, or with none.
-pub(crate) fn with_suffix(suffix: Option<Kind>) -> Kinds
+pub fn with_suffix(suffix: Option<Kind>) -> Kinds
     ensures { result ≡ asking.with_suffix suffix }
 {
     match suffix {
@@ -210,7 +201,7 @@ fn just(kind: Kind) -> Kinds
 }
 
 /// Whether a literal has no suffix.
-pub(crate) fn is_open(suffix: Option<Kind>) -> bool
+pub fn is_open(suffix: Option<Kind>) -> bool
     ensures { result ≡ asking.is_open suffix }
 {
     match suffix {

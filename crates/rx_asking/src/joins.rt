@@ -8,9 +8,9 @@ ghost use Rattle.rx_asking.specs.Walks as walks;
 use crate::facts::{
     alike_unless, all, expected, integer_operand, plain_operand, signed, truth_operand, type_of,
 };
-use crate::seen::Seen;
 use crate::walk::Walk;
 use rx_core::{List, pushed};
+use rx_numbering::Seen;
 use rx_tree::BinaryOp;
 use rx_typed::{Node, Site};
 use rx_unify::{Fact, Op, Rule, Test};
@@ -18,7 +18,7 @@ use std::alloc::AllocError;
 
 impl<'t> Walk<'t> {
     /// A truth value, where it has a type.
-    pub(crate) fn tested(&mut self, condition: Seen) -> Result<(), AllocError>
+    pub fn tested(&mut self, condition: Seen) -> Result<(), AllocError>
         ensures { OnOk result (self.new ≡ walks.asked (demands.tested condition.node condition.never) self.old) }
     {
         if condition.never {
@@ -30,7 +30,7 @@ impl<'t> Walk<'t> {
     }
 
     /// An integer or a truth value, where it has a type.
-    pub(crate) fn printed(&mut self, inner: Seen) -> Result<(), AllocError>
+    pub fn printed(&mut self, inner: Seen) -> Result<(), AllocError>
         ensures { OnOk result (self.new ≡ walks.asked (demands.printed inner.node inner.never) self.old) }
     {
         if inner.never {
@@ -42,7 +42,7 @@ impl<'t> Walk<'t> {
     }
 
     /// A value of the unit, where it has a type.
-    pub(crate) fn nothing_given(&mut self, node: Node, never: bool) -> Result<(), AllocError>
+    pub fn nothing_given(&mut self, node: Node, never: bool) -> Result<(), AllocError>
         ensures { OnOk result (self.new ≡ walks.asked (demands.nothing_given node never) self.old) }
     {
         if never {
@@ -53,7 +53,7 @@ impl<'t> Walk<'t> {
     }
 
     /// The members of a tuple and what is matched aren't Never.
-    pub(crate) fn not_never(&mut self, seen: Seen) -> Result<(), AllocError>
+    pub fn not_never(&mut self, seen: Seen) -> Result<(), AllocError>
         ensures { OnOk result (self.new ≡ walks.asked (demands.not_never seen.node seen.never) self.old) }
     {
         if seen.never {
@@ -75,7 +75,7 @@ impl<'t> Walk<'t> {
     }
 
     /// What joins values, behind its parts: at a coercion site it has the expected type, else that of each part.
-    pub(crate) fn join(&mut self, node: Node, never: bool) -> Result<(), AllocError>
+    pub fn join(&mut self, node: Node, never: bool) -> Result<(), AllocError>
         ensures { OnOk result (self.new ≡ walks.asked (demands.join node never) self.old) }
     {
         if never {
@@ -100,7 +100,7 @@ impl<'t> Walk<'t> {
     }
 
     /// A part of what joins values, before it is walked: at a coercion site it expects the same.
-    pub(crate) fn part_before(&mut self, node: Node, part: Node) -> Result<(), AllocError>
+    pub fn part_before(&mut self, node: Node, part: Node) -> Result<(), AllocError>
         ensures { OnOk result (self.new ≡ walks.asked (demands.part_before node node.site part) self.old) }
     {
         match node.site {
@@ -110,12 +110,7 @@ impl<'t> Walk<'t> {
     }
 
     /// A part of what joins values, behind it: elsewhere it gives its type.
-    pub(crate) fn part_after(
-        &mut self,
-        node: Node,
-        never: bool,
-        part: Node,
-    ) -> Result<(), AllocError>
+    pub fn part_after(&mut self, node: Node, never: bool, part: Node) -> Result<(), AllocError>
         ensures { OnOk result (self.new ≡ walks.asked (demands.part_after node node.site never part) self.old) }
     {
         match node.site {
@@ -169,7 +164,7 @@ impl<'t> Walk<'t> {
     }
 
     /// Two integers of one kind, the first of which is changed.
-    pub(crate) fn updated(&mut self, node: Node, left: Seen, right: Seen) -> Result<(), AllocError>
+    pub fn updated(&mut self, node: Node, left: Seen, right: Seen) -> Result<(), AllocError>
         ensures { OnOk result (self.new ≡ walks.asked (demands.updated node left.node left.never right.node right.never) self.old) }
     {
         let none = List::new(self.alloc);
@@ -181,7 +176,7 @@ impl<'t> Walk<'t> {
     }
 
     /// An operator of two operands that gives a value.
-    pub(crate) fn operation(
+    pub fn operation(
         &mut self,
         operator: BinaryOp,
         node: Node,
@@ -203,7 +198,7 @@ impl<'t> Walk<'t> {
     }
 
     /// An integer of a signed kind, which is that of the node.
-    pub(crate) fn negated(&mut self, node: Node, inner: Seen) -> Result<(), AllocError>
+    pub fn negated(&mut self, node: Node, inner: Seen) -> Result<(), AllocError>
         ensures { OnOk result (self.new ≡ walks.asked (demands.negated node inner.node inner.never) self.old) }
     {
         let none = List::new(self.alloc);
@@ -214,7 +209,7 @@ impl<'t> Walk<'t> {
     }
 
     /// The opposite of a truth value.
-    pub(crate) fn inverted(&mut self, node: Node, inner: Seen) -> Result<(), AllocError>
+    pub fn inverted(&mut self, node: Node, inner: Seen) -> Result<(), AllocError>
         ensures { OnOk result (self.new ≡ walks.asked (demands.inverted node inner.node inner.never) self.old) }
     {
         let none = List::new(self.alloc);

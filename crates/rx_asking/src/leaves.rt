@@ -8,21 +8,22 @@ ghost use Rattle.rx_typed.specs.Named as named;
 ghost use Rattle.rx_typed.specs.Naming as naming;
 ghost use Rattle.rx_rules.specs.Demands as demands;
 ghost use Rattle.rx_asking.specs.Places.{through_at};
-ghost use Rattle.rx_asking.specs.Seeing as seeing;
+ghost use Rattle.rx_numbering.specs.Seeing as seeing;
+ghost use Rattle.rx_asking.specs.Placing.{placed};
 ghost use Rattle.rx_asking.specs.Walks as walks;
 
 use crate::facts::{alike, fitting, is_open, type_of, with_suffix};
 use crate::places::through;
-use crate::seen::{Seen, value_seen, variable_seen};
 use crate::walk::Walk;
 use rx_core::{Kind, List, Name, Span, keep, pushed};
+use rx_numbering::{Seen, value_seen, variable_seen};
 use rx_tree::{BinaryOp, Expr, Ident};
 use rx_typed::{Node, Site, Use};
 use rx_unify::{Broken, Fact, Op, Rule, Subject};
 use std::alloc::AllocError;
 
 /// Whether an operator always evaluates its right operand.
-pub(crate) fn is_strict(operator: BinaryOp) -> bool
+pub fn is_strict(operator: BinaryOp) -> bool
     ensures { result ≡ named.is_strict operator }
 {
     match operator {
@@ -50,7 +51,7 @@ impl<'t> Walk<'t> {
     }
 
     /// An integer; whether it stands directly under a minus.
-    pub(crate) fn integer(
+    pub fn integer(
         &mut self,
         minus: bool,
         site: Site,
@@ -65,7 +66,7 @@ impl<'t> Walk<'t> {
         Ok(value_seen(node, false, false))
     }
 
-    pub(crate) fn truth(&mut self, site: Site, span: Span, _value: bool) -> Result<Seen, AllocError>
+    pub fn truth(&mut self, site: Site, span: Span, _value: bool) -> Result<Seen, AllocError>
         ensures { walks.Walks (naming.of_expression false site (plain.bool span _value)) (demands.of_form self.old.item) seeing.seen_of self.old result self.new }
     {
         let node = self.node(span, site)?;
@@ -74,7 +75,7 @@ impl<'t> Walk<'t> {
     }
 
     /// A variable's type, where it is known by here.
-    fn named_at(&mut self, node: Node, variable: Use) -> Result<(), AllocError>
+    pub fn named_at(&mut self, node: Node, variable: Use) -> Result<(), AllocError>
         ensures { OnOk result (self.new ≡ walks.asked (demands.named_at node variable variable.known) self.old) }
     {
         if variable.known {
@@ -84,12 +85,7 @@ impl<'t> Walk<'t> {
         }
     }
 
-    pub(crate) fn variable(
-        &mut self,
-        site: Site,
-        span: Span,
-        _name: &Name,
-    ) -> Result<Seen, AllocError>
+    pub fn variable(&mut self, site: Site, span: Span, _name: &Name) -> Result<Seen, AllocError>
         ensures { walks.Walks (naming.of_expression false site (plain.var span _name.now)) (demands.of_form self.old.item) seeing.seen_of self.old result self.new }
     {
         let node = self.node(span, site)?;
@@ -99,7 +95,7 @@ impl<'t> Walk<'t> {
         Ok(variable_seen(node, variable))
     }
 
-    pub(crate) fn next_input(&mut self, site: Site, span: Span) -> Result<Seen, AllocError>
+    pub fn next_input(&mut self, site: Site, span: Span) -> Result<Seen, AllocError>
         ensures { walks.Walks (naming.of_expression false site (plain.next_input span)) (demands.of_form self.old.item) seeing.seen_of self.old result self.new }
     {
         let node = self.node(span, site)?;
@@ -108,7 +104,7 @@ impl<'t> Walk<'t> {
         Ok(value_seen(node, false, false))
     }
 
-    pub(crate) fn break_jump(
+    pub fn break_jump(
         &mut self,
         site: Site,
         span: Span,
@@ -123,7 +119,7 @@ impl<'t> Walk<'t> {
         Ok(value_seen(node, true, true))
     }
 
-    pub(crate) fn continue_jump(
+    pub fn continue_jump(
         &mut self,
         site: Site,
         span: Span,
@@ -138,15 +134,15 @@ impl<'t> Walk<'t> {
     }
 
     /// A step from a place.
-    pub(crate) fn step_at(&mut self, node: Node, made: Op, place: Node) -> Result<(), AllocError>
+    pub fn step_at(&mut self, node: Node, made: Op, place: Node) -> Result<(), AllocError>
         ensures { OnOk result (self.new ≡ walks.asked (demands.step_at node made place) self.old) }
     {
         self.ask_is(node, Rule::NotPlace, type_of(node), made, &[type_of(place)])
     }
 
     /// What a place asks where it stands.
-    pub(crate) fn placed(&mut self, seen: Seen, expr: &Expr) -> Result<(), AllocError>
-        ensures { OnOk result (self.new ≡ walks.asked (seeing.placed seen (through_at (plain-Expr expr.now) seen.node.number)) self.old) }
+    pub fn placed(&mut self, seen: Seen, expr: &Expr) -> Result<(), AllocError>
+        ensures { OnOk result (self.new ≡ walks.asked (placed seen (through_at (plain-Expr expr.now) seen.node.number)) self.old) }
     {
         if seen.place {
             self.place_at(seen.node, seen.root.number, expr)
@@ -156,7 +152,7 @@ impl<'t> Walk<'t> {
     }
 
     /// A borrow of a place, as it is written.
-    pub(crate) fn borrowed(
+    pub fn borrowed(
         &mut self,
         node: Node,
         mutable: bool,
@@ -190,12 +186,7 @@ impl<'t> Walk<'t> {
     }
 
     /// A place that is assigned by a node.
-    pub(crate) fn assignable(
-        &mut self,
-        node: Node,
-        seen: Seen,
-        place: &Expr,
-    ) -> Result<(), AllocError>
+    pub fn assignable(&mut self, node: Node, seen: Seen, place: &Expr) -> Result<(), AllocError>
         ensures { OnOk result (self.new ≡ walks.asked (demands.assignable_at node seen.whole seen.root (through_at (plain-Expr place.now) seen.node.number)) self.old) }
     {
         if seen.whole {
@@ -206,7 +197,7 @@ impl<'t> Walk<'t> {
     }
 
     /// What gives a variable its type: its node, the variable, the node of the pattern that declares it, the value.
-    pub(crate) fn given(
+    pub fn given(
         &mut self,
         node: Node,
         place: Node,

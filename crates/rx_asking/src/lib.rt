@@ -1,15 +1,18 @@
-//! The walk over a function that asks what the rules of types ask: so far its pieces below lists, blocks and statements.
+//! The pieces of the walk over a function that asks what the rules of types ask: all below expressions with parts.
 #![tactic(auto)]
 
-mod cursor;
 mod facts;
 mod joins;
 mod leaves;
-mod listed;
 mod marks;
 mod matched;
 mod patterns;
 mod places;
-mod seen;
 mod types;
 mod walk;
+
+pub use facts::type_of;
+pub use leaves::is_strict;
+pub use matched::{Declares, Matched, as_matched};
+pub use places::through;
+pub use walk::Walk;

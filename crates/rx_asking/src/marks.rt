@@ -6,14 +6,14 @@ ghost use Rattle.rx_tree.specs.PlainOf.{plain-Pattern, plain-FieldPattern, patte
 ghost use Rattle.rx_typed.specs.Naming as naming;
 ghost use Rattle.rx_rules.specs.Asking as asking;
 ghost use Rattle.rx_rules.specs.Demands as demands;
-ghost use Rattle.rx_asking.specs.Entries.{marked};
+ghost use Rattle.rx_numbering.specs.Entries.{marked};
 ghost use Rattle.rx_asking.specs.Matching as matching;
 ghost use Rattle.rx_asking.specs.Walks as walks;
 
-use crate::cursor::{Cursor, Mark};
 use crate::matched::{Declares, Matched};
 use crate::walk::Walk;
 use rx_core::Span;
+use rx_numbering::{Cursor, Mark};
 use rx_tree::{FieldPattern, Pattern, PatternNode};
 use rx_typed::{Declaration, Node, Site, Stage};
 use rx_unify::Subject;
@@ -34,7 +34,7 @@ impl<'t> Walk<'t> {
     /// Numbers a pattern.
     #[cycle(numbering)]
     #[tactic(auto, using(rx_tree::proofs::Rules::pattern_rules))]
-    pub(crate) fn number_pattern(&mut self, pattern: &'t Pattern) -> Result<Declares, AllocError>
+    pub fn number_pattern(&mut self, pattern: &'t Pattern) -> Result<Declares, AllocError>
         ensures { walks.Walks (naming.of_pattern (plain-Pattern pattern.now)) (λ _. asking.nothing) matching.declares_of self.old result self.new }
     {
         let node = self.node(pattern.span, Site::Value)?;
@@ -99,7 +99,7 @@ impl<'t> Walk<'t> {
     }
 
     /// Asks what a whole pattern at a place asks, matched against what has the type of a subject.
-    pub(crate) fn pattern_at(
+    pub fn pattern_at(
         &mut self,
         mark: Mark<'t>,
         matched: Matched<'_>,

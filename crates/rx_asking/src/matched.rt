@@ -1,13 +1,16 @@
 //! What patterns are matched with.
 
 ghost use Rattle.std.specs.Prelude.{◌≡◌};
+ghost use Rattle.rx_rules.specs.Demands as demands;
+ghost use Rattle.rx_asking.specs.Matching as matching;
 
-use rx_typed::Node;
+use rx_numbering::Seen;
+use rx_typed::{Node, Site};
 use rx_unify::Passing;
 
 /// What is matched.
 #[derive(Clone, Copy)]
-pub(crate) enum Matched<'p> {
+pub enum Matched<'p> {
     Value,
     /// A place: its variable, and the dereferences that it goes through.
     Place(u32, &'p [Passing]),
@@ -17,7 +20,21 @@ pub(crate) enum Matched<'p> {
 
 /// What is told of a pattern that was walked: its node, and the variable that it is as a whole.
 #[derive(Clone, Copy)]
-pub(crate) struct Declares {
-    pub(crate) node: Node,
-    pub(crate) variable: Option<u32>,
+pub struct Declares {
+    pub node: Node,
+    pub variable: Option<u32>,
+}
+
+/// What is matched where a pattern is matched with this.
+pub fn as_matched<'p>(seen: Seen, passing: &'p [Passing]) -> Matched<'p>
+    ensures { matching.matched_as result ≡ demands.matched_if seen.place seen.node seen.root.number passing.now }
+{
+    if seen.place {
+        match seen.node.site {
+            Site::Initialises => Matched::Initialiser(seen.node, seen.root.number, passing),
+            _ => Matched::Place(seen.root.number, passing),
+        }
+    } else {
+        Matched::Value
+    }
 }

@@ -11,11 +11,11 @@ ghost use Rattle.rx_rules.specs.Demands as demands;
 ghost use Rattle.rx_asking.specs.Matching as matching;
 ghost use Rattle.rx_asking.specs.Walks as walks;
 
-use crate::cursor::Entry;
 use crate::facts::{fitting, is_bound, is_open, passes_through, signed, type_of, with_suffix};
 use crate::matched::{Declares, Matched};
 use crate::walk::Walk;
 use rx_core::{Kind, List, Name, Span, pushed};
+use rx_numbering::Entry;
 use rx_tree::{FieldPattern, Ident, Pattern, PatternNode};
 use rx_typed::{Declaration, Node, Site, Stage};
 use rx_unify::{Broken, Fact, Op, Passing, Rule, Subject, Test};
@@ -241,7 +241,7 @@ impl<'t> Walk<'t> {
     /// A pattern that is matched with this, below these references.
     #[cycle(pattern)]
     #[tactic(auto, using(rx_tree::proofs::Rules::pattern_rules))]
-    pub(crate) fn pattern(
+    pub fn pattern(
         &mut self,
         matched: Matched<'_>,
         round: &[Passing],
@@ -426,7 +426,7 @@ impl<'t> Walk<'t> {
 
     /// A part that has the type that is made of these.
     #[cycle(pattern)]
-    #[tactic(auto, using(crate::proofs::Next::next_pattern))]
+    #[tactic(auto, using(rx_numbering::proofs::Next::next_pattern))]
     fn part(
         &mut self,
         matched: Matched<'_>,
@@ -476,8 +476,8 @@ impl<'t> Walk<'t> {
     }
 
     /// A whole pattern, matched against what has the type of a subject.
-    #[tactic(auto, using(crate::proofs::Next::next_pattern))]
-    pub(crate) fn whole_pattern(
+    #[tactic(auto, using(rx_numbering::proofs::Next::next_pattern))]
+    pub fn whole_pattern(
         &mut self,
         matched: Matched<'_>,
         subject: Subject,

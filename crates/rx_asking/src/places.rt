@@ -50,11 +50,7 @@ fn push_step(
 }
 
 /// The dereferences that a place goes through, by the number of its node.
-pub(crate) fn through(
-    alloc: Global,
-    place: &Expr,
-    number: usize,
-) -> Result<List<Passing>, AllocError>
+pub fn through(alloc: Global, place: &Expr, number: usize) -> Result<List<Passing>, AllocError>
     ensures { IfOk result (λ ps. ps ≡ through_at (plain-Expr place.now) number) }
 {
     let mut passing = List::new(alloc);
@@ -125,12 +121,7 @@ impl<'t> Walk<'t> {
     }
 
     /// A place where it stands: its node, its variable, and the place as it is written.
-    pub(crate) fn place_at(
-        &mut self,
-        node: Node,
-        variable: u32,
-        place: &Expr,
-    ) -> Result<(), AllocError>
+    pub fn place_at(&mut self, node: Node, variable: u32, place: &Expr) -> Result<(), AllocError>
         ensures { OnOk result (self.new ≡ walks.asked (demands.place_in node variable (through_at (plain-Expr place.now) node.number) node.site) self.old) }
     {
         match node.site {
@@ -143,7 +134,7 @@ impl<'t> Walk<'t> {
     }
 
     /// A value that is no place, where it stands.
-    pub(crate) fn value_at(&mut self, node: Node) -> Result<(), AllocError>
+    pub fn value_at(&mut self, node: Node) -> Result<(), AllocError>
         ensures { OnOk result (self.new ≡ walks.asked (demands.value_at node) self.old) }
     {
         match node.site {
@@ -155,7 +146,7 @@ impl<'t> Walk<'t> {
     }
 
     /// What has no type fits every site but a place.
-    pub(crate) fn never_at(&mut self, node: Node) -> Result<(), AllocError>
+    pub fn never_at(&mut self, node: Node) -> Result<(), AllocError>
         ensures { OnOk result (self.new ≡ walks.asked (demands.never_at node) self.old) }
     {
         match node.site {
@@ -165,7 +156,7 @@ impl<'t> Walk<'t> {
     }
 
     /// A place that is written, or borrowed mutably, by a node: whether its variable's own storage may be.
-    pub(crate) fn writable(
+    pub fn writable(
         &mut self,
         node: Node,
         own: bool,
@@ -179,7 +170,7 @@ impl<'t> Walk<'t> {
     }
 
     /// A node has a type of its own, and fits its place.
-    pub(crate) fn own(&mut self, node: Node, made: Op, parts: &[Subject]) -> Result<(), AllocError>
+    pub fn own(&mut self, node: Node, made: Op, parts: &[Subject]) -> Result<(), AllocError>
         ensures { OnOk result (self.new ≡ walks.asked (demands.own node made parts.now) self.old) }
     {
         self.ask_is(node, Rule::Equal, type_of(node), made, parts)?;

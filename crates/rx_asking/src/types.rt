@@ -90,7 +90,7 @@ impl<'t> Walk<'t> {
 
     #[cycle(typ)]
     #[tactic(auto, using(rx_tree::proofs::Rules::type_rules))]
-    pub(crate) fn typ(&mut self, typ: &'t TypeText) -> Result<Node, AllocError>
+    pub fn typ(&mut self, typ: &'t TypeText) -> Result<Node, AllocError>
         ensures { walks.Walks (naming.of_type (plain-TypeText typ.now)) demands.of_type written_node self.old result self.new }
     {
         match &typ.node {
@@ -148,7 +148,7 @@ impl<'t> Walk<'t> {
     }
 
     /// A whole type.
-    pub(crate) fn whole_type(&mut self, typ: &'t TypeText) -> Result<Node, AllocError>
+    pub fn whole_type(&mut self, typ: &'t TypeText) -> Result<Node, AllocError>
         ensures { walks.Walks (naming.of_type (plain-TypeText typ.now)) demands.whole_type written_node self.old result self.new }
     {
         let node = self.typ(typ)?;

@@ -6,36 +6,36 @@ ghost use Rattle.rx_unify.specs.declared.facts.Fact.TheVariants as fact;
 ghost use Rattle.rx_typed.specs.Naming as naming;
 ghost use Rattle.rx_rules.specs.Asking as asking;
 ghost use Rattle.rx_rules.specs.Demands as demands;
-ghost use Rattle.rx_asking.specs.Entries.{entry_of};
+ghost use Rattle.rx_numbering.specs.Entries.{entry_of};
 ghost use Rattle.rx_asking.specs.Walks as walks;
 
-use crate::cursor::{Cursor, Entry};
 use crate::facts::{alike, expected, is, passes, type_of};
 use rx_core::{List, Span, pushed};
+use rx_numbering::{Cursor, Entry};
 use rx_typed::{Node, Site};
 use rx_unify::{Broken, Demand, Fact, Op, Rule, Subject, Test};
 use std::alloc::{AllocError, Global};
 
 /// A walk over a function.
 #[derive(Drop)]
-pub(crate) struct Walk<'t> {
-    pub(crate) alloc: Global,
+pub struct Walk<'t> {
+    pub alloc: Global,
     /// The function's item.
-    pub(crate) item: u32,
-    pub(crate) cursor: Cursor<'t>,
-    pub(crate) demands: List<Demand>,
+    pub item: u32,
+    pub cursor: Cursor<'t>,
+    pub demands: List<Demand>,
 }
 
 impl<'t> Walk<'t> {
     /// The next node.
-    pub(crate) fn node(&mut self, span: Span, site: Site) -> Result<Node, AllocError>
+    pub fn node(&mut self, span: Span, site: Site) -> Result<Node, AllocError>
         ensures { walks.Walks (naming.a_node span site) (λ _. asking.nothing) (λ n. n) self.old result self.new }
     {
         self.cursor.node(span, site)
     }
 
     /// The node that is next, before it is walked.
-    pub(crate) fn next(&self, span: Span, site: Site) -> Node
+    pub fn next(&self, span: Span, site: Site) -> Node
         ensures { result ≡ record { number = self.now.cursor.number; span = span; site = site } }
     {
         Node {
@@ -46,7 +46,7 @@ impl<'t> Walk<'t> {
     }
 
     /// The next entry of names.
-    pub(crate) fn entry(&mut self) -> Entry
+    pub fn entry(&mut self) -> Entry
         ensures entry { result ≡ entry_of (naming.an_entry self.old.cursor).0 }
         ensures walk { self.new ≡ walks.moved (naming.an_entry self.old.cursor).1 self.old }
     {
@@ -54,7 +54,7 @@ impl<'t> Walk<'t> {
     }
 
     /// Asks facts at a node.
-    pub(crate) fn asks(
+    pub fn asks(
         &mut self,
         node: Node,
         broken: Broken,
@@ -73,19 +73,14 @@ impl<'t> Walk<'t> {
     }
 
     /// Asks facts of a rule at a node.
-    pub(crate) fn ask(
-        &mut self,
-        node: Node,
-        rule: Rule,
-        facts: List<Fact>,
-    ) -> Result<(), AllocError>
+    pub fn ask(&mut self, node: Node, rule: Rule, facts: List<Fact>) -> Result<(), AllocError>
         ensures { OnOk result (self.new ≡ walks.asked (asking.ask node rule facts) self.old) }
     {
         self.asks(node, Broken::Mismatch(rule), false, facts)
     }
 
     /// Asks a fact of a rule at a node.
-    pub(crate) fn ask_one(&mut self, node: Node, rule: Rule, fact: Fact) -> Result<(), AllocError>
+    pub fn ask_one(&mut self, node: Node, rule: Rule, fact: Fact) -> Result<(), AllocError>
         ensures { OnOk result (self.new ≡ walks.asked (asking.ask node rule (fact ∷ [])) self.old) }
     {
         let facts = pushed(List::new(self.alloc), fact)?;
@@ -93,12 +88,7 @@ impl<'t> Walk<'t> {
     }
 
     /// Asks that what is assigned or borrowed mutably at a node, a part of this variable, may be.
-    pub(crate) fn ask_mutable(
-        &mut self,
-        node: Node,
-        variable: u32,
-        fact: Fact,
-    ) -> Result<(), AllocError>
+    pub fn ask_mutable(&mut self, node: Node, variable: u32, fact: Fact) -> Result<(), AllocError>
         ensures { OnOk result (self.new ≡ walks.asked (asking.ask_mutable node variable fact) self.old) }
     {
         let facts = pushed(List::new(self.alloc), fact)?;
@@ -106,14 +96,14 @@ impl<'t> Walk<'t> {
     }
 
     /// Asks what can't be met.
-    pub(crate) fn refuse(&mut self, node: Node, rule: Rule) -> Result<(), AllocError>
+    pub fn refuse(&mut self, node: Node, rule: Rule) -> Result<(), AllocError>
         ensures { OnOk result (self.new ≡ walks.asked (asking.ask node rule (fact.Never ∷ [])) self.old) }
     {
         self.ask_one(node, rule, Fact::Never)
     }
 
     /// Asks that something has the type that is made of these.
-    pub(crate) fn ask_is(
+    pub fn ask_is(
         &mut self,
         node: Node,
         rule: Rule,
@@ -128,7 +118,7 @@ impl<'t> Walk<'t> {
     }
 
     /// Asks that two have one type.
-    pub(crate) fn ask_alike(
+    pub fn ask_alike(
         &mut self,
         node: Node,
         first: Subject,
@@ -141,7 +131,7 @@ impl<'t> Walk<'t> {
     }
 
     /// Asks that these pass a test.
-    pub(crate) fn ask_passes(
+    pub fn ask_passes(
         &mut self,
         node: Node,
         rule: Rule,
@@ -155,19 +145,14 @@ impl<'t> Walk<'t> {
     }
 
     /// Asks that a type keeps the limits.
-    pub(crate) fn limits(&mut self, node: Node) -> Result<(), AllocError>
+    pub fn limits(&mut self, node: Node) -> Result<(), AllocError>
         ensures { OnOk result (self.new ≡ walks.asked (demands.limits node) self.old) }
     {
         self.ask_passes(node, Rule::Parts, Test::Limits, &[type_of(node)])
     }
 
     /// Says what the place of a node expects.
-    pub(crate) fn expects(
-        &mut self,
-        node: Node,
-        made: Op,
-        parts: &[Subject],
-    ) -> Result<(), AllocError>
+    pub fn expects(&mut self, node: Node, made: Op, parts: &[Subject]) -> Result<(), AllocError>
         ensures { OnOk result (self.new ≡ walks.asked (demands.expects node made parts.now) self.old) }
     {
         self.ask_is(node, Rule::Equal, expected(node), made, parts)

@@ -1,6 +1,6 @@
 use Rattle.std.proofs.Common.{◌++◌, ap, sym, ◌∙◌, append-nil}
 use Rattle.rx_asking.proofs.places.+through.Goals as goal
-use Rattle.rx_asking.proofs.Next.{through_nothing}
+use Rattle.rx_asking.proofs.Dereferences.{through_nothing}
 
 pub push_through-returns-in_default : goal.push_through-returns-in_default
 push_through-returns-in_default t c =

@@ -1,6 +1,6 @@
 use Rattle.std.proofs.Common.{◌≡◌, ◌-◌, length}
 use Rattle.rx_typed.specs.Naming.{known_among}
-use Rattle.rx_asking.proofs.cursor.know.Given as goal
+use Rattle.rx_numbering.proofs.cursor.know.Given as goal
 
 abbrev pub invariant-loop-variable : goal.invariant-loop-variable
 invariant-loop-variable l =

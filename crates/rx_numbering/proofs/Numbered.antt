@@ -1,5 +1,5 @@
--- The number of a part's node before the part is walked, and the dereferences of a place by its node's number.
-use Rattle.std.proofs.Common.{◌≡◌, ℕ, suc, Bool, true, false, List, [], ◌∷◌, ◌++◌, Option, Some, None, refl, ap, sym, ◌∙◌, option_map}
+-- The number of a part's node before the part is walked.
+use Rattle.std.proofs.Common.{◌≡◌, ℕ, Bool, true, false, List, Option, Some, None, refl}
 use Rattle.rx_core.specs.declared.types.Span.{Span}
 use Rattle.rx_tree.specs.Plain as plain
 use Rattle.rx_tree.specs.Plain.{TypeTree, PatternTree, Expression, Body}
@@ -8,9 +8,6 @@ use Rattle.rx_typed.specs.declared.nodes.Node.{Node}
 use Rattle.rx_typed.specs.declared.nodes.Site.{Site}
 use Rattle.rx_typed.specs.Named.{Exp, Exps, written_node, pattern_node, node_of, body_node}
 use Rattle.rx_typed.specs.Naming.{Cursor, Numbering, of_type, of_pattern, of_expression, of_body, of_expressions, a_node, an_entry, waits_for, called, assigned}
-use Rattle.rx_unify.specs.declared.facts.Passing.{Passing}
-use Rattle.rx_rules.specs.Demands.{through}
-use Rattle.rx_asking.specs.Places.{through_at}
 
 -- the next node of a cursor
 abbrev pub upcoming : Cursor → Span → Site → Node
@@ -81,58 +78,3 @@ type_numbered (plain.named_type s x ls) c = refl
 
 pub body_numbered : (t : Site) (b : Body) (c : Cursor) → body_node (of_body t b c).0 ≡ upcoming c (body_span b) t
 body_numbered t (plain.body s ss o) c = refl
-
--- ---- the dereferences of a place
-
-called_through : (n : Node) (ns : List ℕ × Bool) (f : Site → Numbering Exps) (c : Cursor) → through (called n ns f c).0 ≡ []
-called_through n (ns, true) f c = refl
-called_through n (ns, false) f c = refl
-
-assigned_through : (n : Node) (p : Exp) (w : Option (ℕ × ℕ)) (f : Site → Numbering Exp) (c : Cursor) → through (assigned n p w f c).0 ≡ []
-assigned_through n p None f c = refl
-assigned_through n p (Some w) f c = refl
-
--- one step deeper, at the next number
-deeper : (s : Span) (t : Site) (e : Expression) (c : Cursor) (all : Bool) → let r = (of_expression false Site.Place e (a_node s t c).1).0 in
-    through r ≡ through_at e (suc c.number)
-    → record { node = (node_of r).number; all = all } ∷ through r ≡ record { node = suc c.number; all = all } ∷ through_at e (suc c.number)
-deeper s t e c all more =
-    let node = expression_numbered false Site.Place e (a_node s t c).1 in
-    (λ i. record { node = ap (λ (n : Node). n.number) node i; all = all } ∷ more i)
-
-pub through_numbered : (m : Bool) (t : Site) (e : Expression) (c : Cursor) → through (of_expression m t e c).0 ≡ through_at e c.number
-through_numbered m t (plain.int s v k) c = refl
-through_numbered m t (plain.bool s b) c = refl
-through_numbered m t (plain.tuple s es) c = refl
-through_numbered m t (plain.var s x) c = refl
-through_numbered m t (plain.field s e x) c = deeper s t e c true (through_numbered false Site.Place e (a_node s t c).1)
-through_numbered m t (plain.part s e i) c = deeper s t e c true (through_numbered false Site.Place e (a_node s t c).1)
-through_numbered m t (plain.deref s e) c = deeper s t e c false (through_numbered false Site.Place e (a_node s t c).1)
-through_numbered m t (plain.negate s e) c = refl
-through_numbered m t (plain.invert s e) c = refl
-through_numbered m t (plain.borrow s w e) c = refl
-through_numbered m t (plain.binary s o a b) c = refl
-through_numbered m t (plain.assign s p e) c =
-    let n = a_node s t c in
-    let q = of_expression false Site.Place p n.1 in
-    let w = waits_for p q.0 q.1 in
-    assigned_through n.0 q.0 w.0 (λ t. of_expression false t e) w.1
-through_numbered m t (plain.update s o p e) c = refl
-through_numbered m t (plain.call s f es) c =
-    let n = a_node s t c in
-    let ns = an_entry n.1 in
-    called_through n.0 ns.0 (λ t. of_expressions t es) ns.1
-through_numbered m t (plain.next_input s) c = refl
-through_numbered m t (plain.variant s a v es) c = refl
-through_numbered m t (plain.make s x fs) c = refl
-through_numbered m t (plain.print s e) c = refl
-through_numbered m t (plain.block s b) c = refl
-through_numbered m t (plain.if s d b o) c = refl
-through_numbered m t (plain.if_let s p e b o) c = refl
-through_numbered m t (plain.match s e l) c = refl
-through_numbered m t (plain.loop s l b) c = refl
-through_numbered m t (plain.while s l d b) c = refl
-through_numbered m t (plain.while_let s l p e b) c = refl
-through_numbered m t (plain.break s l) c = refl
-through_numbered m t (plain.continue s l) c = refl
-through_numbered m t (plain.return s o) c = refl

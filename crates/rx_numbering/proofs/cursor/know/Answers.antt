@@ -1,7 +1,7 @@
 use Rattle.std.proofs.Common.{arith}
 use Rattle.std.proofs.lemmas.List.{length-set}
-use Rattle.rx_asking.proofs.cursor.know.Goals as goal
-use Rattle.rx_asking.proofs.CursorLemmas.{known_step}
+use Rattle.rx_numbering.proofs.cursor.know.Goals as goal
+use Rattle.rx_numbering.proofs.CursorLemmas.{known_step}
 
 pub loop-variable-preserved : goal.loop-variable-preserved
 loop-variable-preserved c = (

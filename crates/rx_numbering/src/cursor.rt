@@ -3,7 +3,7 @@
 ghost use Rattle.std.specs.Prelude.{◌≡◌, ◌-◌, Bool, false, [], ◌∷◌, ◌++◌, length, get_or, slice_set, Ok, Err, OnOk, IfOk};
 ghost use Rattle.rx_tree.specs.PlainOf.{plain-Expr};
 ghost use Rattle.rx_typed.specs.Naming as naming;
-ghost use Rattle.rx_asking.specs.Entries.{entry_of, marked, left_at};
+ghost use Rattle.rx_numbering.specs.Entries.{entry_of, marked, left_at};
 
 use rx_core::{List, Span};
 use rx_resolve::NodeNames;
@@ -14,15 +14,15 @@ use std::marker::Model;
 
 /// What an entry of names says: its first two numbers, or 0, and whether it is of a callee that names a variable.
 #[derive(Clone, Copy)]
-pub(crate) struct Entry {
-    pub(crate) first: u32,
-    pub(crate) second: u32,
-    pub(crate) hidden: bool,
+pub struct Entry {
+    pub first: u32,
+    pub second: u32,
+    pub hidden: bool,
 }
 
 /// A place in the text: the numbers of the next node and variable, and the entries of names that are left.
 #[derive(Clone, Copy)]
-pub(crate) struct Mark<'t> {
+pub struct Mark<'t> {
     number: usize,
     declared: u32,
     names: &'t [NodeNames],
@@ -30,7 +30,7 @@ pub(crate) struct Mark<'t> {
 
 /// Where a walk over a function stands.
 #[derive(Drop)]
-pub(crate) struct Cursor<'t> {
+pub struct Cursor<'t> {
     /// The next node's number.
     number: usize,
     /// The spans of the nodes so far.
@@ -55,7 +55,7 @@ impl<'t> Model for Cursor<'t> {
 
 impl<'t> Cursor<'t> {
     /// Where a function begins, with the entries of names of its item.
-    pub(crate) fn new(alloc: Global, names: &'t [NodeNames]) -> Cursor<'t>
+    pub fn new(alloc: Global, names: &'t [NodeNames]) -> Cursor<'t>
         ensures { result ≡ naming.begins names.now }
     {
         let mark = Mark {
@@ -67,7 +67,7 @@ impl<'t> Cursor<'t> {
     }
 
     /// A cursor that numbers the nodes and variables behind a mark, and knows none before it.
-    pub(crate) fn at(alloc: Global, mark: Mark<'t>) -> Cursor<'t>
+    pub fn at(alloc: Global, mark: Mark<'t>) -> Cursor<'t>
         ensures { result ≡ marked mark.entry }
     {
         Cursor {
@@ -82,7 +82,7 @@ impl<'t> Cursor<'t> {
 
     /// Where the cursor stands.
     #[tactic(auto, unfolding(crate::specs::Entries::left_at))]
-    pub(crate) fn mark(&self) -> Mark<'t>
+    pub fn mark(&self) -> Mark<'t>
         ensures { marked result ≡ left_at self.now }
     {
         Mark {
@@ -93,14 +93,14 @@ impl<'t> Cursor<'t> {
     }
 
     /// The number of the next node.
-    pub(crate) fn number(&self) -> usize
+    pub fn number(&self) -> usize
         ensures { result ≡ self.now.number }
     {
         self.number
     }
 
     /// The next node. Where numbers of 64 bits run out it is as if memory did.
-    pub(crate) fn node(&mut self, span: Span, site: Site) -> Result<Node, AllocError>
+    pub fn node(&mut self, span: Span, site: Site) -> Result<Node, AllocError>
         ensures { IfOk result (λ node. (node ≡ (naming.a_node span site self.old).0) × (self.new ≡ (naming.a_node span site self.old).1)) }
     {
         let number = self.number;
@@ -115,7 +115,7 @@ impl<'t> Cursor<'t> {
     }
 
     /// The next entry of names; where none is left, one without numbers.
-    pub(crate) fn entry(&mut self) -> Entry
+    pub fn entry(&mut self) -> Entry
         ensures entry { result ≡ entry_of (naming.an_entry self.old).0 }
         ensures cursor { self.new ≡ (naming.an_entry self.old).1 }
     {
@@ -133,7 +133,7 @@ impl<'t> Cursor<'t> {
     }
 
     /// A new variable, and its number. Where numbers of 32 bits run out it is as if memory did.
-    pub(crate) fn declare(&mut self, variable: Declaration) -> Result<u32, AllocError>
+    pub fn declare(&mut self, variable: Declaration) -> Result<u32, AllocError>
         ensures { IfOk result (λ x. (x ≡ (naming.declare variable self.old).0) × (self.new ≡ (naming.declare variable self.old).1)) }
     {
         let number = self.declared;
@@ -148,7 +148,7 @@ impl<'t> Cursor<'t> {
     }
 
     /// The variable of this number; one that was not declared is none whose type is known.
-    pub(crate) fn declaration(&self, variable: u32) -> Declaration
+    pub fn declaration(&self, variable: u32) -> Declaration
         ensures { result ≡ naming.declaration self.now variable }
     {
         match self.variables.get(variable as usize) {
@@ -160,8 +160,22 @@ impl<'t> Cursor<'t> {
         }
     }
 
+    /// The variables so far, by number.
+    pub fn variables(&self) -> &[Declaration]
+        ensures { result.now ≡ self.now.variables }
+    {
+        self.variables.as_slice()
+    }
+
+    /// The variable of this number where it waits for its type, and the node of the pattern that declares it.
+    pub fn waits(&self, variable: u32) -> Option<(u32, usize)>
+        ensures { result ≡ naming.waiting variable (naming.declaration self.now variable).stage }
+    {
+        waiting(variable, self.declaration(variable).stage)
+    }
+
     /// A variable where it is named.
-    pub(crate) fn use_of(&self, variable: u32) -> Use
+    pub fn use_of(&self, variable: u32) -> Use
         ensures { result ≡ naming.use_of variable (naming.declaration self.now variable) }
     {
         let declaration = self.declaration(variable);
@@ -175,17 +189,17 @@ impl<'t> Cursor<'t> {
     /// The variable that is the whole left side of an assignment and waits for its type, and the pattern that declares
     /// it; of the left side, and its variable.
     #[tactic(auto, using(rx_tree::proofs::Rules::expression_rules, crate::proofs::Next::nothing_waits))]
-    pub(crate) fn waits_in(&self, place: &Expr, variable: u32) -> Option<(u32, usize)>
+    pub fn waits_in(&self, place: &Expr, variable: u32) -> Option<(u32, usize)>
         ensures { result ≡ naming.waits_in (plain-Expr place.now) variable self.now }
     {
         match &place.node {
-            ExprNode::Var(_) => waiting(variable, self.declaration(variable).stage),
+            ExprNode::Var(_) => self.waits(variable),
             _ => None,
         }
     }
 
     /// Says how a variable's type is known from here on.
-    pub(crate) fn set_stage(&mut self, variable: u32, stage: Stage)
+    pub fn set_stage(&mut self, variable: u32, stage: Stage)
         ensures { self.new ≡ naming.with_stage variable stage self.old }
     {
         let declaration = self.declaration(variable);
@@ -200,21 +214,21 @@ impl<'t> Cursor<'t> {
     }
 
     /// The number of the next variable.
-    pub(crate) fn declared(&self) -> u32
+    pub fn declared(&self) -> u32
         ensures { result ≡ self.now.declared }
     {
         self.declared
     }
 
     /// The variables from a number to another, which is left out, have types from here on.
-    pub(crate) fn know(&mut self, from: u32, to: u32)
+    pub fn know(&mut self, from: u32, to: u32)
         ensures { self.new ≡ (naming.known_between from to self.old).1 }
     {
         know(self.variables.as_mut_slice(), from as usize, to as usize);
     }
 
     /// A new loop, and its number.
-    pub(crate) fn new_loop(&mut self) -> Result<usize, AllocError>
+    pub fn new_loop(&mut self) -> Result<usize, AllocError>
         ensures { IfOk result (λ l. (l ≡ (naming.a_loop self.old).0) × (self.new ≡ (naming.a_loop self.old).1)) }
     {
         let number = self.loops.len();
@@ -223,14 +237,14 @@ impl<'t> Cursor<'t> {
     }
 
     /// Some `break` leads to the loop.
-    pub(crate) fn lead(&mut self, number: u32)
+    pub fn lead(&mut self, number: u32)
         ensures { self.new ≡ naming.led_to number self.old }
     {
         put(self.loops.as_mut_slice(), number as usize, true);
     }
 
     /// Whether some `break` led to the loop so far.
-    pub(crate) fn is_left(&self, number: usize) -> bool
+    pub fn is_left(&self, number: usize) -> bool
         ensures { result ≡ get_or self.now.loops number false }
     {
         match self.loops.get(number) {

@@ -1,7 +1,6 @@
 -- What is known of a part of the code's tree before it is walked: by one pass over the forms of a node's layer.
-use Rattle.std.proofs.Common.{◌≡◌, ℕ, Bool, true, false, List, [], None, refl, ap, sym, ◌∙◌}
+use Rattle.std.proofs.Common.{◌≡◌, ℕ, Bool, List, None, refl, ap, ◌∙◌}
 use Rattle.rx_core.specs.declared.types.Span.{Span}
-use Rattle.rx_core.specs.declared.types.Kind.{Kind}
 use Rattle.rx_tree.specs.declared.tree.Ident.{Ident}
 use Rattle.rx_tree.specs.declared.tree.Expr.{Expr}
 use Rattle.rx_tree.specs.declared.tree.Pattern.{Pattern}
@@ -20,9 +19,7 @@ use Rattle.rx_tree.proofs.Rules.{pattern_by_node, block_by_parts}
 use Rattle.rx_typed.specs.declared.nodes.Site.{Site}
 use Rattle.rx_typed.specs.Named.{node_of, pattern_node, body_node}
 use Rattle.rx_typed.specs.Naming.{Cursor, of_pattern, of_expression, of_body, waits_in}
-use Rattle.rx_unify.specs.declared.facts.Passing.{Passing}
-use Rattle.rx_asking.specs.Places.{through_at}
-use Rattle.rx_asking.proofs.Numbered.{upcoming, expression_numbered, pattern_numbered, body_numbered}
+use Rattle.rx_numbering.proofs.Numbered.{upcoming, expression_numbered, pattern_numbered, body_numbered}
 
 -- ---- spans
 
@@ -94,38 +91,6 @@ next_pattern p c = pattern_numbered (plain-Pattern p) c ∙ ap (λ s. upcoming c
 
 pub next_body : (t : Site) (b : Block) (c : Cursor) → body_node (of_body t (plain-Block b) c).0 ≡ upcoming c (out-Block b).span t
 next_body t b c = body_numbered t (plain-Block b) c ∙ ap (λ s. upcoming c s t) (body_span_is b)
-
--- ---- what is no step from a place goes through nothing
-
-abbrev NoField : ExprNode → Type 0
-NoField n = (e : Expr) (x : Ident) → n ≡ node.Field e x → ⊥
-
-abbrev NoPart : ExprNode → Type 0
-NoPart n = (e : Expr) (i : ℕ) → n ≡ node.Part e i → ⊥
-
-abbrev NoDeref : ExprNode → Type 0
-NoDeref n = (e : Expr) → n ≡ node.Deref e → ⊥
-
-abbrev LayerNoField : Layer → Type 0
-LayerNoField l = (e : Expr) (x : Ident) → l ≡ form.Field e x → ⊥
-
-abbrev LayerNoPart : Layer → Type 0
-LayerNoPart l = (e : Expr) (i : ℕ) → l ≡ form.Part e i → ⊥
-
-abbrev LayerNoDeref : Layer → Type 0
-LayerNoDeref l = (e : Expr) → l ≡ form.Deref e → ⊥
-
-layer_through : (l : Layer) (s : Span) (n : ℕ) → LayerNoField l → LayerNoPart l → LayerNoDeref l → through_at (seen l s) n ≡ []
-layer_through (form.Field e x) s n f p d = absurd (f e x refl)
-layer_through (form.Part e i) s n f p d = absurd (p e i refl)
-layer_through (form.Deref e) s n f p d = absurd (d e refl)
-layer_through _ s n f p d = refl
-
-pub through_nothing : (e : Expr) (n : ℕ) → NoField e.node → NoPart e.node → NoDeref e.node → through_at (plain-Expr e) n ≡ []
-through_nothing e n f p d =
-    ap (λ (a : Expression). through_at a n) (by_layer e)
-    ∙ layer_through (out-ExprNode e.node) e.span n (λ a x q. f a x (back e.node _ q ∙ node.rolls-Field a x)) (λ a i q. p a i (back e.node _ q ∙ node.rolls-Part a i))
-    (λ a q. d a (back e.node _ q ∙ node.rolls-Deref a))
 
 -- ---- what is no variable waits for no type
 

@@ -1,6 +1,6 @@
 //! Lists of values, and what is told of them.
 
-ghost use Rattle.std.specs.Prelude.{◌≡◌};
+ghost use Rattle.std.specs.Prelude.{◌≡◌, ◌||◌};
 
 use rx_core::List;
 use rx_unify::Subject;
@@ -25,4 +25,11 @@ pub(crate) struct Members {
 pub(crate) struct Ways {
     pub(crate) never: bool,
     pub(crate) diverges: bool,
+}
+
+/// Whether one of two diverges.
+pub(crate) fn either(first: bool, second: bool) -> bool
+    ensures { result ≡ (first || second) }
+{
+    first || second
 }

@@ -1,12 +1,9 @@
 -- What is told of an expression that was walked.
-use Rattle.std.specs.Prelude.{Bool, true, false, List}
+use Rattle.std.specs.Prelude.{Bool, true, false}
 use Rattle.rx_typed.specs.declared.nodes.Node.{Node}
 use Rattle.rx_typed.specs.declared.nodes.Use.{Use}
 use Rattle.rx_typed.specs.Named.{Exp, node_of, never, diverges, is_place, is_variable, root, no_variable}
-use Rattle.rx_unify.specs.declared.facts.Passing.{Passing}
-use Rattle.rx_asking.specs.declared.seen.Seen.{Seen}
-use Rattle.rx_rules.specs.Asking.{Asking, when}
-use Rattle.rx_rules.specs.Demands.{place_in}
+use Rattle.rx_numbering.specs.declared.seen.Seen.{Seen}
 
 abbrev pub seen_of : Exp → Seen
 seen_of e = record { node = node_of e; never = never e; diverges = diverges e; place = is_place e; whole = is_variable e; root = root e }
@@ -19,7 +16,3 @@ part_seen n d x = record { node = n; never = false; diverges = d; place = true; 
 
 abbrev pub variable_seen : Node → Use → Seen
 variable_seen n x = record { node = n; never = false; diverges = false; place = true; whole = true; root = x }
-
--- what a place asks where it stands, with the dereferences that it goes through
-abbrev pub placed : Seen → List Passing → Asking
-placed s ps = when s.place (place_in s.node s.root.number ps s.node.site)

@@ -1,0 +1,5 @@
+pub mod Counts
+pub mod Ways
+pub mod Arms
+pub mod Members
+pub mod Depths
