@@ -1,0 +1,4 @@
+pub mod References
+pub mod Tuples
+pub mod Listed
+pub mod Stating
