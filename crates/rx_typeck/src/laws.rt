@@ -1,0 +1,23 @@
+//! A law of typed programs, as the contract of a function that does nothing.
+
+ghost use Rattle.std.specs.Prelude.{ℕ, ◌<◌, List, length, slice_get};
+ghost use Rattle.rx_tree.specs.Plain.{ProgramTree};
+ghost use Rattle.rx_tree.specs.Size.{IsNumbered};
+ghost use Rattle.rx_resolve.specs.declared.resolved.ItemNames.{ItemNames};
+ghost use Rattle.rx_cycles.specs.Reaches.{NoCycle};
+ghost use Rattle.rx_typed.specs.Types.{variants_declared};
+ghost use Rattle.rx_typed.specs.PlainTypes.{declarations};
+ghost use Rattle.rx_declared.specs.Held.{held};
+ghost use Rattle.rx_typeck.specs.Typing.{IsTyped};
+ghost use Rattle.rx_typeck.specs.declared.typed.Typed.{Typed};
+
+use rx_declare::declared_variants_are_few;
+
+/// Of what a typed program declares no struct or enum reaches itself, and each enum has fewer than 2^32 variants.
+pub fn typed_declarations_are_finite()
+    ensures finite { (p : ProgramTree) (names : List ItemNames) (t : Typed) → IsTyped p names t → NoCycle (held (declarations t.decls.items)) }
+    ensures few { (p : ProgramTree) (names : List ItemNames) (t : Typed) → IsNumbered p → IsTyped p names t
+        → (i : ℕ) → length (variants_declared (slice_get (declarations t.decls.items) i)) < 4294967296 }
+{
+    declared_variants_are_few();
+}
