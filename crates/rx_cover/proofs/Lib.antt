@@ -1,0 +1,12 @@
+pub mod HeadLemmas
+pub mod MatrixLemmas
+pub mod WeightLemmas
+pub mod FiniteLemmas
+pub mod KindLemmas
+pub mod CellLemmas
+pub mod LeastLemmas
+pub mod MissingLemmas
+pub mod ChoiceLemmas
+pub mod ArmLemmas
+pub mod WidthLemmas
+pub mod JudgingLemmas

@@ -1,0 +1,145 @@
+-- What the private functions find.
+use Rattle.std.specs.Prelude.{◌≡◌, ℕ, ◌<◌, ◌≤◌, Bool, true, false, List, [], ◌∷◌, ◌++◌, length, Option, Some, None, Result, Ok, slice_get}
+use Rattle.std.specs.declared.alloc.AllocError.{AllocError}
+use Rattle.rx_typed.specs.Types.{Typ, Declared, Declarations, FieldDeclared, VariantDeclared, struct_declared, enum_declared, variants_declared}
+use Rattle.rx_typed.specs.Elaborated.{with_sign}
+use Rattle.rx_cover.specs.Values as plain
+use Rattle.rx_cover.specs.Values.{Values, no_value, value_and, HasType, HaveTypes}
+use Rattle.rx_typed.specs.Tree.{Pattern}
+use Rattle.rx_cover.specs.Matching.{SomeMatches, Covers}
+use Rattle.rx_cover.specs.Causes.{CoversTyp, MissesTyp}
+use Rattle.rx_cover.specs.Heads.{Head, whole, chosen, head_of, has, IsHead, with_head}
+use Rattle.rx_cover.specs.Matrices.{Row, CoversAll, Misses, CoversHeads, kept_values}
+use Rattle.rx_cover.specs.declared.value.Value.{Value}
+use Rattle.rx_cover.specs.PlainValue.{plain-Value, plain_values}
+
+-- the variants of each enum have numbers of 32 bits
+pub record Numbered (D : Declarations) : Type 0 where
+  pub each : (i : ℕ) → length (variants_declared (slice_get D i)) < 4294967296
+
+-- a value of the type whose head is none of these, where there is one
+abbrev pub Apart : Declarations → Typ → List Head → Option plain.Value → Type 0
+Apart D t hs None = (v : plain.Value) → HasType D t v → has hs (head_of v) ≡ true
+Apart D t hs (Some v) = HasType D t v × (has hs (head_of v) ≡ false)
+
+-- the same among the values of a variant
+abbrev pub ApartVariant : Declarations → ℕ → ℕ → List Typ → List Head → Option plain.Value → Type 0
+ApartVariant D i k ts hs None = (vs : Values) → HaveTypes D ts vs → has hs (chosen i k) ≡ true
+ApartVariant D i k ts hs (Some v) = (vs : Values) × HaveTypes D ts vs × (v ≡ plain.variant i k vs) × (has hs (chosen i k) ≡ false)
+
+-- the list, where a step found all
+abbrev pub KeptIf : List Value → Result Bool AllocError → Option (List Value) → Type 0
+KeptIf values o None = o ≡ Ok false
+KeptIf values o (Some vs) = (o ≡ Ok true) × (vs ≡ values)
+
+-- what stands at an item's number
+pub data IsStruct : Option Declared → List FieldDeclared → Type 0 where
+  a_struct : {c : Bool} {l : ℕ} {fs : List FieldDeclared} → IsStruct (Some (struct_declared c l fs)) fs
+
+pub data IsEnum : Option Declared → List VariantDeclared → Type 0 where
+  an_enum : {c : Bool} {l : ℕ} {vs : List VariantDeclared} → IsEnum (Some (enum_declared c l vs)) vs
+
+-- an integer up to this magnitude that is none of these
+abbrev pub Free : List Head → Bool → ℕ → Option ℕ → Type 0
+Free hs g most None = (m : ℕ) → m ≤ most → has hs (whole (with_sign g m)) ≡ true
+Free hs g most (Some m) = (m ≤ most) × (has hs (whole (with_sign g m)) ≡ false)
+
+-- values of these types
+abbrev pub AnyOf : Declarations → List Typ → Option Values → Type 0
+AnyOf D ts None = (vs : Values) → HaveTypes D ts vs → ⊥
+AnyOf D ts (Some vs) = HaveTypes D ts vs
+
+-- a list has values of these types more, or there are none
+pub record Added (D : Declarations) (ts : List Typ) (old new : List Value) : Type 0 where
+  pub more : List Value
+  pub is : new ≡ old ++ more
+  pub typed : HaveTypes D ts (plain_values more)
+
+abbrev pub Adds : Declarations → List Typ → List Value → List Value → Bool → Type 0
+Adds D ts old new true = Added D ts old new
+Adds D ts old new false = (vs : Values) → HaveTypes D ts vs → ⊥
+
+-- the values of a list from its end
+abbrev pub stacked_onto : Values → List Value → Values
+stacked_onto ws [] = ws
+stacked_onto ws (v ∷ vs) = stacked_onto (value_and (plain-Value v) ws) vs
+
+abbrev pub stacked : List Value → Values
+stacked vs = stacked_onto no_value vs
+
+-- values that no row matches, from a list's end, where there are such
+abbrev pub Settles : Declarations → List Typ → List Row → Option (List Value) → Type 0
+Settles D ts rows None = CoversAll D ts rows
+Settles D ts rows (Some vs) = Misses D ts rows (stacked vs)
+
+-- the parts of a first value with this head are filled in
+pub record Rebuilt (D : Declarations) (t : Typ) (h : Head) (mask : List Bool) (us ts : List Typ) (stack all : List Value) : Type 0 where
+  pub parts : Values
+  pub others : Values
+  pub typed : HaveTypes D us parts
+  pub rest : HaveTypes D ts others
+  pub kept : kept_values mask parts others ≡ stacked stack
+  pub is : stacked all ≡ value_and (with_head t h parts) others
+
+abbrev pub Rebuilds : Declarations → Typ → Head → List Bool → List Typ → List Typ → List Value → Option (List Value) → Type 0
+Rebuilds D t h mask us ts stack None = (vs : Values) → HaveTypes D us vs → ⊥
+Rebuilds D t h mask us ts stack (Some all) = Rebuilt D t h mask us ts stack all
+
+-- the same for the values whose first has one of these heads
+abbrev pub SettlesHeads : Declarations → Typ → List Typ → List Head → List Row → Option (List Value) → Type 0
+SettlesHeads D t ts hs rows None = CoversHeads D t ts hs rows
+SettlesHeads D t ts hs rows (Some vs) = Misses D (t ∷ ts) rows (stacked vs)
+
+-- the same for one head more
+abbrev pub SettlesHead : Declarations → Typ → List Typ → Head → List Row → Option (List Value) → Type 0
+SettlesHead D t ts h rows None = (hs : List Head) → CoversHeads D t ts hs rows → CoversHeads D t ts (h ∷ hs) rows
+SettlesHead D t ts h rows (Some vs) = Misses D (t ∷ ts) rows (stacked vs)
+
+-- the marked parts are taken from the end of a list, the others found
+pub record Refilled (D : Declarations) (mask : List Bool) (us ts : List Typ) (stack parts left new : List Value) : Type 0 where
+  pub more : List Value
+  pub is : new ≡ parts ++ more
+  pub typed : HaveTypes D us (plain_values more)
+  pub rest : HaveTypes D ts (stacked left)
+  pub kept : kept_values mask (plain_values more) (stacked left) ≡ stacked stack
+
+abbrev pub Refills : Declarations → List Bool → List Typ → List Typ → List Value → List Value → List Value → List Value → Bool → Type 0
+Refills D mask us ts stack parts left new true = Refilled D mask us ts stack parts left new
+Refills D mask us ts stack parts left new false = (vs : Values) → HaveTypes D us vs → ⊥
+
+-- the last value of a list is moved to the end of another
+pub data Takes : List Value → List Value → List Value → List Value → Bool → Type 0 where
+  takes : {stack parts left new : List Value} (v : Value) → stack ≡ left ++ v ∷ [] → new ≡ parts ++ v ∷ [] → Takes stack parts left new true
+  takes_none : {stack parts left new : List Value} → stack ≡ [] → Takes stack parts left new false
+
+-- a value at the end of a list
+pub data Finished : List Value → plain.Value → List Value → Type 0 where
+  at_end : {stack new : List Value} {w : plain.Value} (v : Value) → new ≡ stack ++ v ∷ [] → plain-Value v ≡ w → Finished stack w new
+
+-- a stack has values of these types, and more
+pub record Stacked (D : Declarations) (ts : List Typ) (stack : List Value) : Type 0 where
+  pub typed : HaveTypes D ts (stacked stack)
+
+-- all are heads of the type
+abbrev pub AllHeads : Declarations → Typ → List Head → Type 0
+AllHeads D t [] = Unit {0}
+AllHeads D t (h ∷ hs) = IsHead D t h × AllHeads D t hs
+
+-- the stack with a value apart from these heads at its end, where there is one
+abbrev pub Besides : Declarations → Typ → List Head → List Value → Option (List Value) → Type 0
+Besides D t hs stack None = (v : plain.Value) → HasType D t v → has hs (head_of v) ≡ true
+Besides D t hs stack (Some all) = (v : plain.Value) × HasType D t v × (has hs (head_of v) ≡ false) × (stacked all ≡ value_and v (stacked stack))
+
+-- a value that no pattern matches, where there is one
+abbrev pub Missed : Declarations → Typ → List Pattern → Option plain.Value → Type 0
+Missed D t ps None = Covers D t ps
+Missed D t ps (Some v) = HasType D t v × (SomeMatches ps v → ⊥)
+
+-- the last of a list
+abbrev pub IsLast : List Value → Option Value → Type 0
+IsLast stack None = stack ≡ []
+IsLast stack (Some v) = (rest : List Value) × (stack ≡ rest ++ v ∷ [])
+
+abbrev pub MissedTyp : Declarations → Option Typ → List Pattern → Option plain.Value → Type 0
+MissedTyp D o ps None = CoversTyp D o ps
+MissedTyp D o ps (Some v) = MissesTyp D o ps v

@@ -1,0 +1,14 @@
+pub mod Values
+pub mod Matching
+pub mod Heads
+pub mod Matrices
+pub mod Finite
+pub mod Choices
+pub mod Width
+pub mod Causes
+pub mod PlainValue
+pub mod PlainCells
+pub mod Finding
+pub mod PlainChoices
+pub mod PlainTested
+pub mod Judging

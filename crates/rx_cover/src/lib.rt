@@ -1,0 +1,18 @@
+//! Whether the patterns of matches cover all values.
+#![tactic(auto)]
+
+mod arms;
+mod choices;
+mod covering;
+mod heads;
+mod judging;
+mod kinds;
+mod least;
+mod matrix;
+mod missing;
+mod rows;
+mod value;
+mod width;
+
+pub use covering::{CoverFault, covers};
+pub use value::Value;
