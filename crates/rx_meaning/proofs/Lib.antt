@@ -1,0 +1,13 @@
+pub mod Following
+pub mod RunsFollow
+pub mod ActingAlike
+pub mod Fronts
+pub mod Turns
+pub mod Blind
+pub mod MoreTurns
+pub mod Examples
+pub mod ExamplesOfSteps
+pub mod spans
+pub mod ExamplesOfTraces
+pub mod Kept
+pub mod Memory

@@ -1,0 +1,9 @@
+pub mod Fronts
+pub mod Held
+pub mod Short
+pub mod Programs
+pub mod ProgramsOfTypes
+pub mod Bank
+pub mod Choices
+pub mod Examples
+pub mod Distinct

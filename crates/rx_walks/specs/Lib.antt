@@ -1,0 +1,4 @@
+pub mod Matching
+pub mod Actions
+pub mod Orders
+pub mod Walks
