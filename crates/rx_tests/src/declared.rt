@@ -11,7 +11,7 @@ use rx_typed::{Decl, Decls, is_copy};
 use rx_unify::Rule;
 use std::alloc::{AllocError, Global};
 
-fn rule_name(rule: Rule) -> &'static str {
+pub fn rule_name(rule: Rule) -> &'static str {
     match rule {
         Rule::Equal => "Equal",
         Rule::KindOf => "KindOf",

@@ -7,6 +7,8 @@ mod bank;
 #[cfg(test)]
 mod checks;
 #[cfg(test)]
+mod cover;
+#[cfg(test)]
 mod declared;
 #[cfg(test)]
 mod first_check;
@@ -34,6 +36,8 @@ mod streams;
 mod table;
 #[cfg(test)]
 mod trees;
+#[cfg(test)]
+mod typed;
 #[cfg(test)]
 mod words;
 
