@@ -27,6 +27,8 @@ mod rem;
 #[cfg(test)]
 mod rows;
 #[cfg(test)]
+mod runs;
+#[cfg(test)]
 mod select;
 #[cfg(test)]
 mod stops;

@@ -16,7 +16,7 @@ use Rattle.rx_typed.specs.declared.declarations.Decl.{Decl}
 use Rattle.rx_typed.specs.declared.declarations.Decl.TheVariants as decl
 use Rattle.rx_typed.specs.declared.declarations.Decls.{Decls}
 use Rattle.rx_typed.specs.Types.{Typ, Shapes, integer, boolean, tuple_of, reference, named, no_shape, shape_and, unit_shape, Declarations}
-use Rattle.rx_typed.specs.PlainTypes.{declarations}
+use Rattle.rx_typed.specs.PlainTypes.{declarations, plain-Decl}
 use Rattle.rx_typed.specs.Regions.{erased, all_erased}
 use Rattle.rx_typed.specs.Named.{Function}
 use Rattle.rx_typed.specs.Elaborated.{elaborated}
