@@ -7,8 +7,6 @@ mod bank;
 #[cfg(test)]
 mod checks;
 #[cfg(test)]
-mod cover;
-#[cfg(test)]
 mod declared;
 #[cfg(test)]
 mod first_check;
