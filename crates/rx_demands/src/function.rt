@@ -27,9 +27,12 @@ pub struct Task {
     pub demands: List<Demand>,
     /// The nodes of the literals without a suffix.
     pub literals: List<usize>,
+    /// The spans of the function's nodes, by their numbers.
+    pub spans: List<Span>,
 }
 
-/// What the rules of types ask of a function: its item's number and span, and the entries of names of the item.
+/// What the rules of types ask of a function, and where its nodes stand: of its item's number and span, and the entries of
+/// names of the item.
 ///
 /// # Errors
 ///
@@ -41,7 +44,7 @@ pub fn asked(
     function: &Func,
     names: &List<NodeNames>,
 ) -> Result<Task, AllocError>
-    ensures { IfOk result (λ task. task ≡ whole.task_of (demands.task (naming.function_named item span (plain-Func function.now) names.now))) }
+    ensures { IfOk result (λ task. task ≡ whole.task_of (demands.task (naming.function_named item span (plain-Func function.now) names.now)) (naming.function_spans span (plain-Func function.now) names.now)) }
 {
     let mut walk = Walk {
         alloc,
@@ -54,6 +57,7 @@ pub fn asked(
     Ok(Task {
         demands: walk.demands,
         literals,
+        spans: walk.cursor.spans(),
     })
 }
 

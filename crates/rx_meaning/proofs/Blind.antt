@@ -3,7 +3,7 @@ use Rattle.std.proofs.Common.{ℕ, ℤ, List, [], ◌∷◌, Option, Some, None,
 use Rattle.rx_walks.specs.Actions.{Act, Declare, Dead, Read, Write, Borrow, Test, Call, Build, Input, Print, Give, Action}
 use Rattle.rx_meaning.specs.Values.{Value, get, State, with_turns}
 use Rattle.rx_meaning.specs.Results.{Done, or_ends}
-use Rattle.rx_meaning.specs.Places.{spot, used, reference_to, after_write}
+use Rattle.rx_meaning.specs.Places.{spot, found, whole_value, reference_to, after_write}
 use Rattle.rx_meaning.specs.Operators as operators
 use Rattle.rx_meaning.specs.Operators.{Computed, make, shown}
 use Rattle.rx_meaning.specs.Acting.{checked, computed, next_input, does_plainly, plainly}
@@ -27,12 +27,12 @@ input_blind (z ∷ zs) s u = gave refl
 does_blind : (a : Act) (vs : List Value) (s : State) (u : ℕ) → SameDone s.turns u (does_plainly a vs s) (does_plainly a vs (with_turns s u))
 does_blind (Declare x) vs s u = gave refl
 does_blind (Dead x) vs s u = gave refl
-does_blind (Read m p d) vs s u = or_blind s.turns u (used p vs s) _ _ (λ f. gave refl)
+does_blind (Read m p d) vs s u = or_blind s.turns u (found p vs s) _ _ (λ f. or_blind s.turns u (whole_value f) _ _ (λ v. gave refl))
 does_blind (Write p t ss) [] s u = ended
 does_blind (Write p t ss) (v ∷ []) s u = or_blind s.turns u (get ss v) _ _ (λ w. or_blind s.turns u (spot p [] s) _ _ (λ at. or_blind s.turns u (after_write w s.memory at) _ _ (λ M. gave refl)))
 does_blind (Write p t ss) (v ∷ w ∷ vs) s u = ended
-does_blind (Borrow k p d) vs s u = or_blind s.turns u (used p vs s) _ _ (λ f. or_blind s.turns u (reference_to k f.0) _ _ (λ v. gave refl))
-does_blind (Test p c) vs s u = or_blind s.turns u (used p vs s) _ _ (λ f. or_blind s.turns u (checked c f.1) _ _ (λ b. gave refl))
+does_blind (Borrow k p d) vs s u = or_blind s.turns u (found p vs s) _ _ (λ f. or_blind s.turns u (reference_to k f.0) _ _ (λ v. gave refl))
+does_blind (Test p c) vs s u = or_blind s.turns u (found p vs s) _ _ (λ f. or_blind s.turns u (checked c f.1) _ _ (λ b. gave refl))
 does_blind (Call f ts d) vs s u = gave refl
 does_blind (Build w js ts d) vs s u = computed_blind (make w js vs) s u
 does_blind (Input d) vs s u = input_blind s.input s u

@@ -4,7 +4,7 @@ use Rattle.rx_typed.specs.Tree.{Function}
 use Rattle.rx_walks.specs.Actions.{Act, Declare, Dead, Read, Write, Borrow, Test, Call, Build, Input, Print, Give}
 use Rattle.rx_meaning.specs.Values.{Value, lacking, unset, get, put, element, with_element, State, and_then}
 use Rattle.rx_meaning.specs.Results.{Done, or_ends, Leaves}
-use Rattle.rx_meaning.specs.Places.{Spot, in_slot, in_value, spot, used, reference_to, after_write}
+use Rattle.rx_meaning.specs.Places.{Spot, in_slot, in_value, spot, found, whole_value, reference_to, after_write}
 use Rattle.rx_meaning.specs.Operators as operators
 use Rattle.rx_meaning.specs.Operators.{Computed, make, shown}
 use Rattle.rx_meaning.specs.Acting.{checked, computed, next_input, does_plainly, plainly}
@@ -53,13 +53,13 @@ module _ (n : ℕ) where
   does_has : (a : Act) (vs : List Value) (s : State) → Has n s → DoneLeaves (Has n) (does_plainly a vs s)
   does_has (Declare x) vs s h = let e = length-append s.memory (lacking unset ∷ []) in omega (arith, e, h)
   does_has (Dead x) vs s h = h
-  does_has (Read m p d) vs s h = or_has (used p vs s) _ (λ f e. h)
+  does_has (Read m p d) vs s h = or_has (found p vs s) _ (λ f e. or_has (whole_value f) _ (λ v e. h))
   does_has (Write p t ss) [] s h = tt
   does_has (Write p t ss) (v ∷ []) s h =
       or_has (get ss v) _ (λ u e. or_has (spot p [] s) _ (λ at e. or_has (after_write u s.memory at) _ (λ M e. subst (λ k. n ≤ k) (sym (written_length u s.memory M at e)) h)))
   does_has (Write p t ss) (v ∷ w ∷ vs) s h = tt
-  does_has (Borrow k p d) vs s h = or_has (used p vs s) _ (λ f e. or_has (reference_to k f.0) _ (λ v e. h))
-  does_has (Test p c) vs s h = or_has (used p vs s) _ (λ f e. or_has (checked c f.1) _ (λ b e. h))
+  does_has (Borrow k p d) vs s h = or_has (found p vs s) _ (λ f e. or_has (reference_to k f.0) _ (λ v e. h))
+  does_has (Test p c) vs s h = or_has (found p vs s) _ (λ f e. or_has (checked c f.1) _ (λ b e. h))
   does_has (Call f ts d) vs s h = h
   does_has (Build w js ts d) vs s h = computed_has (make w js vs) s h
   does_has (Input d) vs s h = input_has s.input s h

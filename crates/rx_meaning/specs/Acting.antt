@@ -8,7 +8,7 @@ use Rattle.rx_walks.specs.Actions.{Act, Declare, Dead, Read, Write, Borrow, Test
 use Rattle.rx_meaning.specs.declared.outcome.End.{End}
 use Rattle.rx_meaning.specs.Values.{Value, number, truth, tagged, unit_value, get, State, with_memory, with_variable}
 use Rattle.rx_meaning.specs.Results.{Done, gives, ends, or_ends, Result, result_of}
-use Rattle.rx_meaning.specs.Places.{spot, used, reference_to, after_write}
+use Rattle.rx_meaning.specs.Places.{spot, found, whole_value, reference_to, after_write}
 use Rattle.rx_meaning.specs.Operators as operators
 use Rattle.rx_meaning.specs.Operators.{Computed, same_number, same_truth, make, shown}
 
@@ -40,15 +40,16 @@ abbrev pub next_input : List ℤ → State → Done ℕ
 next_input [] s = gives [] (number Kind.I64 (pos 0)) s
 next_input (z ∷ zs) s = gives [] (number Kind.I64 z) (record s { input = zs })
 
--- Wrong: a use of what was never written, a path of another variant, a write through a shared reference, operands of other types.
+-- Wrong: reading a part that was never written, following a path of another variant, or into what was never written,
+-- writing through a shared reference; and operands of other types, which no typed program has.
 abbrev pub does_plainly : Act → List Value → State → Done ℕ
 does_plainly (Declare x) vs s = gives [] unit_value (with_variable x s)
 does_plainly (Dead x) vs s = gives [] unit_value s
-does_plainly (Read moves p d) vs s = or_ends (used p vs s) (λ f. gives [] f.1 s)
+does_plainly (Read moves p d) vs s = or_ends (found p vs s) (λ f. or_ends (whole_value f) (λ v. gives [] v s))
 does_plainly (Write p t ss) (v ∷ []) s = or_ends (get ss v) (λ u. or_ends (spot p [] s) (λ at. or_ends (after_write u s.memory at) (λ M.
     gives [] unit_value (with_memory s M))))
-does_plainly (Borrow k p d) vs s = or_ends (used p vs s) (λ f. or_ends (reference_to k f.0) (λ v. gives [] v s))
-does_plainly (Test p c) vs s = or_ends (used p vs s) (λ f. or_ends (checked c f.1) (λ b. gives [] (truth b) s))
+does_plainly (Borrow k p d) vs s = or_ends (found p vs s) (λ f. or_ends (reference_to k f.0) (λ v. gives [] v s))
+does_plainly (Test p c) vs s = or_ends (found p vs s) (λ f. or_ends (checked c f.1) (λ b. gives [] (truth b) s))
 does_plainly (Call f ts d) vs s = gives [] unit_value s
 does_plainly (Build w js ts d) vs s = computed (make w js vs) s
 does_plainly (Input d) vs s = next_input s.input s

@@ -46,9 +46,13 @@ start (temporary t) vs F = first_held vs
 abbrev pub spot : Place → List Value → State → Option Spot
 spot p vs s = and_then (start p.root vs s.frame) (λ at. follow s.memory p.steps at)
 
--- What is read, borrowed or tested has a value in each part.
-abbrev pub used : Place → List Value → State → Option (Spot × Value)
-used p vs s = and_then (spot p vs s) (λ at. and_then (content s.memory at) (λ v. if is_set v then Some (at, v) else None))
+-- what a place leads to, and what stands there
+abbrev pub found : Place → List Value → State → Option (Spot × Value)
+found p vs s = and_then (spot p vs s) (λ at. and_then (content s.memory at) (λ v. Some (at, v)))
+
+-- what is read has a value in each part
+abbrev pub whole_value : Spot × Value → Option Value
+whole_value f = if is_set f.1 then Some f.1 else None
 
 -- a reference to a place; none leads into a temporary
 abbrev pub reference_to : Bool → Spot → Option Value

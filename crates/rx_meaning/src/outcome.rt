@@ -17,8 +17,9 @@ pub enum End {
     Trapped(Trap),
     /// No turn was left.
     Running,
-    /// What has no meaning was done: a part was read that was never written, a path of another variant was followed, or
-    /// something was written through a shared reference.
+    /// What has no meaning was done: a part was read or tested that was never written, a path was followed that leads
+    /// nowhere (to the parts of another variant, or into what was never written), something was written through a shared
+    /// reference, or an operator was given operands of types that it doesn't take.
     Wrong,
 }
 

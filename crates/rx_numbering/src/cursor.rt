@@ -92,6 +92,13 @@ impl<'t> Cursor<'t> {
         }
     }
 
+    /// The spans of the nodes so far, by their numbers.
+    pub fn spans(self) -> List<Span>
+        ensures { result ≡ self.spans }
+    {
+        self.spans
+    }
+
     /// The number of the next node.
     pub fn number(&self) -> usize
         ensures { result ≡ self.now.number }

@@ -351,3 +351,7 @@ of_function i s f = and_then (a_node s Site.Value) (λ _. and_then (entry_if (ha
 -- the function with numbers, of an item with its entries of names
 abbrev pub function_named : ℕ → Span → Function → List NodeNames → named.Function
 function_named i s f ns = (of_function i s f (begins ns)).0
+
+-- and the spans of its nodes, by their numbers
+abbrev pub function_spans : Span → Function → List NodeNames → List Span
+function_spans s f ns = (of_function zero s f (begins ns)).1.spans
