@@ -29,10 +29,12 @@ pub struct Task {
     pub literals: List<usize>,
     /// The spans of the function's nodes, by their numbers.
     pub spans: List<Span>,
+    /// The function's variables, by their numbers.
+    pub variables: List<Declaration>,
 }
 
-/// What the rules of types ask of a function, and where its nodes stand: of its item's number and span, and the entries of
-/// names of the item.
+/// What the rules of types ask of a function, where its nodes stand, and what its variables are: of its item's number and
+/// span, and the entries of names of the item.
 ///
 /// # Errors
 ///
@@ -44,7 +46,7 @@ pub fn asked(
     function: &Func,
     names: &List<NodeNames>,
 ) -> Result<Task, AllocError>
-    ensures { IfOk result (λ task. task ≡ whole.task_of (demands.task (naming.function_named item span (plain-Func function.now) names.now)) (naming.function_spans span (plain-Func function.now) names.now)) }
+    ensures { IfOk result (λ task. task ≡ whole.task_of (demands.task (naming.function_named item span (plain-Func function.now) names.now)) (naming.function_spans span (plain-Func function.now) names.now) (naming.function_variables span (plain-Func function.now) names.now)) }
 {
     let mut walk = Walk {
         alloc,
@@ -54,10 +56,12 @@ pub fn asked(
     };
     all(&mut walk, span, function)?;
     let literals = literals(alloc, walk.demands.as_slice())?;
+    let (spans, variables) = walk.cursor.finished();
     Ok(Task {
         demands: walk.demands,
         literals,
-        spans: walk.cursor.spans(),
+        spans,
+        variables,
     })
 }
 

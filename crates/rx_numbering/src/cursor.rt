@@ -92,11 +92,11 @@ impl<'t> Cursor<'t> {
         }
     }
 
-    /// The spans of the nodes so far, by their numbers.
-    pub fn spans(self) -> List<Span>
-        ensures { result ≡ self.spans }
+    /// The spans of the nodes so far, and the variables, each by their numbers.
+    pub fn finished(self) -> (List<Span>, List<Declaration>)
+        ensures { result ≡ (self.spans, self.variables) }
     {
-        self.spans
+        (self.spans, List::from_vec(self.variables))
     }
 
     /// The number of the next node.

@@ -355,3 +355,7 @@ function_named i s f ns = (of_function i s f (begins ns)).0
 -- and the spans of its nodes, by their numbers
 abbrev pub function_spans : Span → Function → List NodeNames → List Span
 function_spans s f ns = (of_function zero s f (begins ns)).1.spans
+
+-- and what its variables are, by their numbers
+abbrev pub function_variables : Span → Function → List NodeNames → List Declaration
+function_variables s f ns = (of_function zero s f (begins ns)).1.variables
