@@ -1,0 +1,2 @@
+//! Orders of actions as data.
+#![tactic(auto)]
