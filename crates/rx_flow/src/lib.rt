@@ -1,2 +1,11 @@
-//! Orders of actions as data.
+//! Actions, and orders of them, as data.
 #![tactic(auto)]
+
+mod actions;
+mod copying;
+mod flow;
+mod held;
+
+pub use actions::{Act, Action, Check, Made, Place, Root, Temporary};
+pub use copying::action_copied;
+pub use flow::{Exit, Flow, Item};
