@@ -94,7 +94,7 @@ impl<'t> Cursor<'t> {
 
     /// The spans of the nodes so far, and the variables, each by their numbers.
     pub fn finished(self) -> (List<Span>, List<Declaration>)
-        ensures { result ≡ (self.spans, self.variables) }
+        ensures { result ≡ (self.entry.spans, self.entry.variables) }
     {
         (self.spans, List::from_vec(self.variables))
     }
