@@ -1,5 +1,5 @@
 -- Orders of actions as flows: sequences are lists, so that code goes over them by loops.
-use Rattle.std.specs.Prelude.{ℕ}
+use Rattle.std.specs.Prelude.{ℕ, List, [], ◌∷◌}
 use Rattle.rx_walks.specs.Actions.{Action}
 use Rattle.rx_walks.specs.Orders.{Exit, Order}
 use Rattle.rx_walks.specs.Orders as order
@@ -27,6 +27,23 @@ mutual
     may_and : Items → Items
     -- the flow, and what follows comes where a test in it fails
     else_and : Flow → Items → Items
+
+-- what stands in a sequence in front of what follows
+pub data Item : Type 0 where
+  doing : Flow → Item
+  ending : ℕ → ℕ → Item
+  may : Item
+  trying : Flow → Item
+
+abbrev pub item_and : Item → Items → Items
+item_and (doing f) l = do_and f l
+item_and (ending n x) l = ends_and n x l
+item_and may l = may_and l
+item_and (trying f) l = else_and f l
+
+abbrev pub items_of : List Item → Items → Items
+items_of [] l = l
+items_of (i ∷ is) l = item_and i (items_of is l)
 
 -- the order that a flow is
 abbrev mutual

@@ -1,5 +1,5 @@
 -- The plain flow of a flow of the code: a fold with one step a type, and an equation for each form.
-use Rattle.std.specs.Prelude.{◌≡◌, ℕ, List, [], ◌∷◌, map}
+use Rattle.std.specs.Prelude.{◌≡◌, ℕ, List, map}
 use Rattle.std.proofs.Common.{ap, sym, ◌∙◌}
 use Rattle.rx_typed.specs.Tree as tree
 use Rattle.rx_typed_tree.specs.PlainTree.{plain-Constant, plain-Making}
@@ -7,7 +7,6 @@ use Rattle.rx_walks.specs.Matching as matching
 use Rattle.rx_walks.specs.Actions as actions
 use Rattle.rx_walks.specs.Orders as orders
 use Rattle.rx_flow.specs.Flows as flow
-use Rattle.rx_flow.specs.Flows.{Items}
 use Rattle.rx_flow.specs.declared.actions.Temporary.{Temporary}
 use Rattle.rx_flow.specs.declared.actions.Root.{Root}
 use Rattle.rx_flow.specs.declared.actions.Place.{Place}
@@ -65,94 +64,89 @@ plain-Exit (Exit.Returns n) = orders.returns n
 
 -- ---- flows
 
--- the items, each in front of what follows
-abbrev pub items_of : List (Items → Items) → Items → Items
-items_of [] l = l
-items_of (f ∷ fs) l = f (items_of fs l)
-
-abbrev pub flow_step : Flow-F flow.Flow (Items → Items) → flow.Flow
+abbrev pub flow_step : Flow-F flow.Flow flow.Item → flow.Flow
 flow_step open_flow.Nothing = flow.nothing
 flow_step open_flow.Nowhere = flow.nowhere
 flow_step (open_flow.Act a) = flow.act (plain-Action a)
-flow_step (open_flow.Items is f) = flow.items (items_of is (flow.last f))
+flow_step (open_flow.Items is f) = flow.items (flow.items_of is (flow.last f))
 flow_step (open_flow.Or f g) = flow.or f g
 flow_step (open_flow.Leave x) = flow.leave (plain-Exit x)
 flow_step (open_flow.Passes l f) = flow.passes l f
 
-abbrev pub item_step : Item-F flow.Flow (Items → Items) → Items → Items
-item_step (open_flow.Do f) l = flow.do_and f l
-item_step (open_flow.Ends n x) l = flow.ends_and n x l
-item_step open_flow.May l = flow.may_and l
-item_step (open_flow.Else f) l = flow.else_and f l
+abbrev pub item_step : Item-F flow.Flow flow.Item → flow.Item
+item_step (open_flow.Do f) = flow.doing f
+item_step (open_flow.Ends n x) = flow.ending n x
+item_step open_flow.May = flow.may
+item_step (open_flow.Else f) = flow.trying f
 
 unfoldable pub plain-Flow : Flow → flow.Flow
-plain-Flow = fold-Flow flow.Flow (Items → Items) flow_step item_step
+plain-Flow = fold-Flow flow.Flow flow.Item flow_step item_step
 
-unfoldable pub plain-Item : Item → Items → Items
-plain-Item = fold-Item flow.Flow (Items → Items) flow_step item_step
+unfoldable pub plain-Item : Item → flow.Item
+plain-Item = fold-Item flow.Flow flow.Item flow_step item_step
 
 pub flow_nothing : plain-Flow flow_form.Nothing ≡ flow.nothing
 unfolding plain-Flow plain-Item
 flow_nothing =
-    ap (λ (x : Flow). fold-Flow flow.Flow (Items → Items) flow_step item_step x) (sym flow_form.rolls-Nothing)
-    ∙ fold-roll-Flow flow.Flow (Items → Items) flow_step item_step open_flow.Nothing
+    ap (λ (x : Flow). fold-Flow flow.Flow flow.Item flow_step item_step x) (sym flow_form.rolls-Nothing)
+    ∙ fold-roll-Flow flow.Flow flow.Item flow_step item_step open_flow.Nothing
 
 pub flow_nowhere : plain-Flow flow_form.Nowhere ≡ flow.nowhere
 unfolding plain-Flow plain-Item
 flow_nowhere =
-    ap (λ (x : Flow). fold-Flow flow.Flow (Items → Items) flow_step item_step x) (sym flow_form.rolls-Nowhere)
-    ∙ fold-roll-Flow flow.Flow (Items → Items) flow_step item_step open_flow.Nowhere
+    ap (λ (x : Flow). fold-Flow flow.Flow flow.Item flow_step item_step x) (sym flow_form.rolls-Nowhere)
+    ∙ fold-roll-Flow flow.Flow flow.Item flow_step item_step open_flow.Nowhere
 
 pub flow_act : (a : Action) → plain-Flow (flow_form.Act a) ≡ flow.act (plain-Action a)
 unfolding plain-Flow plain-Item
 flow_act a =
-    ap (λ (x : Flow). fold-Flow flow.Flow (Items → Items) flow_step item_step x) (sym (flow_form.rolls-Act a))
-    ∙ fold-roll-Flow flow.Flow (Items → Items) flow_step item_step (open_flow.Act a)
+    ap (λ (x : Flow). fold-Flow flow.Flow flow.Item flow_step item_step x) (sym (flow_form.rolls-Act a))
+    ∙ fold-roll-Flow flow.Flow flow.Item flow_step item_step (open_flow.Act a)
 
-pub flow_items : (is : List Item) (f : Flow) → plain-Flow (flow_form.Items is f) ≡ flow.items (items_of (map plain-Item is) (flow.last (plain-Flow f)))
+pub flow_items : (is : List Item) (f : Flow) → plain-Flow (flow_form.Items is f) ≡ flow.items (flow.items_of (map plain-Item is) (flow.last (plain-Flow f)))
 unfolding plain-Flow plain-Item
 flow_items is f =
-    ap (λ (x : Flow). fold-Flow flow.Flow (Items → Items) flow_step item_step x) (sym (flow_form.rolls-Items is f))
-    ∙ fold-roll-Flow flow.Flow (Items → Items) flow_step item_step (open_flow.Items is f)
+    ap (λ (x : Flow). fold-Flow flow.Flow flow.Item flow_step item_step x) (sym (flow_form.rolls-Items is f))
+    ∙ fold-roll-Flow flow.Flow flow.Item flow_step item_step (open_flow.Items is f)
 
 pub flow_or : (f : Flow) (g : Flow) → plain-Flow (flow_form.Or f g) ≡ flow.or (plain-Flow f) (plain-Flow g)
 unfolding plain-Flow plain-Item
 flow_or f g =
-    ap (λ (x : Flow). fold-Flow flow.Flow (Items → Items) flow_step item_step x) (sym (flow_form.rolls-Or f g))
-    ∙ fold-roll-Flow flow.Flow (Items → Items) flow_step item_step (open_flow.Or f g)
+    ap (λ (x : Flow). fold-Flow flow.Flow flow.Item flow_step item_step x) (sym (flow_form.rolls-Or f g))
+    ∙ fold-roll-Flow flow.Flow flow.Item flow_step item_step (open_flow.Or f g)
 
 pub flow_leave : (x : Exit) → plain-Flow (flow_form.Leave x) ≡ flow.leave (plain-Exit x)
 unfolding plain-Flow plain-Item
 flow_leave x =
-    ap (λ (x : Flow). fold-Flow flow.Flow (Items → Items) flow_step item_step x) (sym (flow_form.rolls-Leave x))
-    ∙ fold-roll-Flow flow.Flow (Items → Items) flow_step item_step (open_flow.Leave x)
+    ap (λ (x : Flow). fold-Flow flow.Flow flow.Item flow_step item_step x) (sym (flow_form.rolls-Leave x))
+    ∙ fold-roll-Flow flow.Flow flow.Item flow_step item_step (open_flow.Leave x)
 
 pub flow_passes : (l : ℕ) (f : Flow) → plain-Flow (flow_form.Passes l f) ≡ flow.passes l (plain-Flow f)
 unfolding plain-Flow plain-Item
 flow_passes l f =
-    ap (λ (x : Flow). fold-Flow flow.Flow (Items → Items) flow_step item_step x) (sym (flow_form.rolls-Passes l f))
-    ∙ fold-roll-Flow flow.Flow (Items → Items) flow_step item_step (open_flow.Passes l f)
+    ap (λ (x : Flow). fold-Flow flow.Flow flow.Item flow_step item_step x) (sym (flow_form.rolls-Passes l f))
+    ∙ fold-roll-Flow flow.Flow flow.Item flow_step item_step (open_flow.Passes l f)
 
-pub item_do : (f : Flow) (l : Items) → plain-Item (item_form.Do f) l ≡ flow.do_and (plain-Flow f) l
+pub item_do : (f : Flow) → plain-Item (item_form.Do f) ≡ flow.doing (plain-Flow f)
 unfolding plain-Flow plain-Item
-item_do f l =
-    ap (λ (x : Item). fold-Item flow.Flow (Items → Items) flow_step item_step x l) (sym (item_form.rolls-Do f))
-    ∙ ap (λ (f : Items → Items). f l) (fold-roll-Item flow.Flow (Items → Items) flow_step item_step (open_flow.Do f))
+item_do f =
+    ap (λ (x : Item). fold-Item flow.Flow flow.Item flow_step item_step x) (sym (item_form.rolls-Do f))
+    ∙ fold-roll-Item flow.Flow flow.Item flow_step item_step (open_flow.Do f)
 
-pub item_ends : (n : ℕ) (x : ℕ) (l : Items) → plain-Item (item_form.Ends n x) l ≡ flow.ends_and n x l
+pub item_ends : (n : ℕ) (x : ℕ) → plain-Item (item_form.Ends n x) ≡ flow.ending n x
 unfolding plain-Flow plain-Item
-item_ends n x l =
-    ap (λ (x : Item). fold-Item flow.Flow (Items → Items) flow_step item_step x l) (sym (item_form.rolls-Ends n x))
-    ∙ ap (λ (f : Items → Items). f l) (fold-roll-Item flow.Flow (Items → Items) flow_step item_step (open_flow.Ends n x))
+item_ends n x =
+    ap (λ (x : Item). fold-Item flow.Flow flow.Item flow_step item_step x) (sym (item_form.rolls-Ends n x))
+    ∙ fold-roll-Item flow.Flow flow.Item flow_step item_step (open_flow.Ends n x)
 
-pub item_may : (l : Items) → plain-Item item_form.May l ≡ flow.may_and l
+pub item_may : plain-Item item_form.May ≡ flow.may
 unfolding plain-Flow plain-Item
-item_may l =
-    ap (λ (x : Item). fold-Item flow.Flow (Items → Items) flow_step item_step x l) (sym item_form.rolls-May)
-    ∙ ap (λ (f : Items → Items). f l) (fold-roll-Item flow.Flow (Items → Items) flow_step item_step open_flow.May)
+item_may =
+    ap (λ (x : Item). fold-Item flow.Flow flow.Item flow_step item_step x) (sym item_form.rolls-May)
+    ∙ fold-roll-Item flow.Flow flow.Item flow_step item_step open_flow.May
 
-pub item_else : (f : Flow) (l : Items) → plain-Item (item_form.Else f) l ≡ flow.else_and (plain-Flow f) l
+pub item_else : (f : Flow) → plain-Item (item_form.Else f) ≡ flow.trying (plain-Flow f)
 unfolding plain-Flow plain-Item
-item_else f l =
-    ap (λ (x : Item). fold-Item flow.Flow (Items → Items) flow_step item_step x l) (sym (item_form.rolls-Else f))
-    ∙ ap (λ (f : Items → Items). f l) (fold-roll-Item flow.Flow (Items → Items) flow_step item_step (open_flow.Else f))
+item_else f =
+    ap (λ (x : Item). fold-Item flow.Flow flow.Item flow_step item_step x) (sym (item_form.rolls-Else f))
+    ∙ fold-roll-Item flow.Flow flow.Item flow_step item_step (open_flow.Else f)
