@@ -89,9 +89,20 @@ first_of ss = under (own 0) ss
 never_written : does_plainly (Read false (own 0) into) [] (having (lacking unset ∷ [])) ≡ ends [] End.Wrong
 never_written = refl
 
-part_not_written : does_plainly (Borrow false (own 0) into) [] (having (half_set ∷ [])) ≡ ends [] End.Wrong
+part_not_written : does_plainly (Read false (own 0) into) [] (having (half_set ∷ [])) ≡ ends [] End.Wrong
 unfolding half_set
 part_not_written = refl
+
+-- a reference to it may be made, and what it leads to may not be read
+borrowed : does_plainly (Borrow false (own 0) into) [] (having (half_set ∷ [])) ≡ gives [] (pointer 0 [] false) (having (half_set ∷ []))
+unfolding half_set
+borrowed = refl
+
+nothing_tested : does_plainly (Test (own 0) (has_tag 0)) [] (having (lacking unset ∷ [])) ≡ ends [] End.Wrong
+nothing_tested = refl
+
+into_nothing : does_plainly (Borrow false (first_of (step.Field 0 ∷ [])) into) [] (having (lacking unset ∷ [])) ≡ ends [] End.Wrong
+into_nothing = refl
 
 other_part_written : does_plainly (Read false (first_of (step.Field 0 ∷ [])) into) [] (having (half_set ∷ [])) ≡ gives [] one (having (half_set ∷ []))
 unfolding half_set
