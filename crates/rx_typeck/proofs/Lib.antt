@@ -1,1 +1,2 @@
 mod TypingLemmas
+mod ExclusionLemmas

@@ -43,10 +43,11 @@ use Rattle.rx_rules.specs.Demands.{demands, task}
 use Rattle.rx_elaborate_parts.specs.declared.assigned.NodeTypes.{NodeTypes}
 use Rattle.rx_elaborate_parts.specs.Assigning as parts
 use Rattle.rx_elaborate_parts.specs.Assigning.{joined, shape_of}
+use Rattle.rx_typeck.specs.declared.check.Described.{Described}
 use Rattle.rx_typeck.specs.declared.typed.TypedFn.{TypedFn}
 use Rattle.rx_typeck.specs.declared.typed.TypeFault.{TypeFault}
 use Rattle.rx_typeck.specs.declared.typed.TypeFault.TheVariants as fault
-use Rattle.rx_typeck.specs.Typing.{entries, variables_at, assigned, type_at, TypeIs, FunctionTyped, fault_of, of_unsolved, FunctionUntyped, FunctionsTyped, FirstUntyped, ItemTyped, ItemUntyped, Behind}
+use Rattle.rx_typeck.specs.Typing.{entries, variables_at, assigned, type_at, TypeIs, FunctionTyped, fault_of, of_unsolved, described, FunctionUntyped, FunctionsTyped, FirstUntyped, ItemTyped, ItemUntyped, Behind}
 
 -- ---- a function without a valid assignment
 
@@ -119,25 +120,29 @@ told_type : (K : Known) (f : Function) (s : Solved) (x : Subject) (o : Option Ty
 told_type K f s x None t h = λ told. h (t.0 told)
 told_type K f s x (Some y) t h = (t.1 h.0, h.1)
 
-pub typed : (d : Decls) (sizes : List ℕ) (i : ℕ) (f : Function) (t : TypedFn) (found : Found) (s : Solved) → IsFound s (declarations d.items) found → IsSolved (known d.items sizes) (task f) s
-    → t.item ≡ i → t.variables ≡ found.variables → t.types.nodes ≡ found.nodes → t.types.expected ≡ found.expected
-    → plain-TypedTree t.tree ≡ elaborated (parts.assigned d t.types) f → FunctionTyped (known d.items sizes) i f t
-typed d sizes i f t found s all solved item vs ns es tree = record {
+pub typed : (d : Decls) (sizes : List ℕ) (i : ℕ) (at : Span) (g : plain.Function) (entries : List NodeNames) (vars : List Span) (t : TypedFn) (before : Described) (found : Found) (s : Solved)
+    → before ≡ described at g entries vars → IsFound s (declarations d.items) found → IsSolved (known d.items sizes) (task (function_named i at g entries)) s
+    → t.item ≡ i → t.names ≡ before.names → t.mutable ≡ before.mutable → t.spans ≡ before.spans → t.variables ≡ found.variables → t.types.nodes ≡ found.nodes → t.types.expected ≡ found.expected
+    → plain-TypedTree t.tree ≡ elaborated (parts.assigned d t.types) (function_named i at g entries) → FunctionTyped (known d.items sizes) i at g entries vars t
+typed d sizes i at g entries vars t before found s is all solved item names mutable spans vs ns es tree = record {
   item = item;
+  names = names ∙ ap (λ (b : Described). b.names) is;
+  mutable = mutable ∙ ap (λ (b : Described). b.mutable) is;
+  spans = spans ∙ ap (λ (b : Described). b.spans) is;
   types = types_of s;
   valid = solved.valid;
   found = each;
-  tree = tree ∙ ap (λ T. elaborated T f) (assigned_same d sizes t.types s
+  tree = tree ∙ ap (λ T. elaborated T (function_named i at g entries)) (assigned_same d sizes t.types s
       (λ n. shape_is s (declarations d.items) (subject.Node n) _ (subst (λ l. views.TypeIs s (declarations d.items) (subject.Node n) (joined (slice_get l n))) (sym ns) (all.each (subject.Node n))))
       (λ n. shape_is s (declarations d.items) (subject.Expected n) _ (subst (λ l. views.TypeIs s (declarations d.items) (subject.Expected n) (joined (slice_get l n))) (sym es) (all.each (subject.Expected n)))));
 }
   where
-    each : (x : Subject) → TypeIs (known d.items sizes) f (types_of s) x (type_at t x)
-    each (subject.Variable x) = told_type (known d.items sizes) f s (subject.Variable x) _ (solved.told (subject.Variable x))
+    each : (x : Subject) → TypeIs (known d.items sizes) (function_named i at g entries) (types_of s) x (type_at t x)
+    each (subject.Variable x) = told_type (known d.items sizes) (function_named i at g entries) s (subject.Variable x) _ (solved.told (subject.Variable x))
         (subst (λ l. views.TypeIs s (declarations d.items) (subject.Variable x) (joined (slice_get l x))) (sym vs) (all.each (subject.Variable x)))
-    each (subject.Node n) = told_type (known d.items sizes) f s (subject.Node n) _ (solved.told (subject.Node n))
+    each (subject.Node n) = told_type (known d.items sizes) (function_named i at g entries) s (subject.Node n) _ (solved.told (subject.Node n))
         (subst (λ l. views.TypeIs s (declarations d.items) (subject.Node n) (joined (slice_get l n))) (sym ns) (all.each (subject.Node n)))
-    each (subject.Expected n) = told_type (known d.items sizes) f s (subject.Expected n) _ (solved.told (subject.Expected n))
+    each (subject.Expected n) = told_type (known d.items sizes) (function_named i at g entries) s (subject.Expected n) _ (solved.told (subject.Expected n))
         (subst (λ l. views.TypeIs s (declarations d.items) (subject.Expected n) (joined (slice_get l n))) (sym es) (all.each (subject.Expected n)))
 
 -- ---- one function after the other
@@ -184,20 +189,11 @@ stops K ns p i (plain.enum_item s d) all e at b h = absurd h
 
 -- ---- an item's function, by its table of names
 
-pub untyped_by : (r : Result TypedFn TypeFault) (K : Known) (i : ℕ) (s : Span) (f : plain.Function) (o : Option ItemNames) (t : ItemNames) (vars : List Span) → o ≡ Some t → vars ≡ t.vars
-    → IfErr r (λ e. e ≢ fault.OutOfMemory → FunctionUntyped K (function_named i s f t.names) vars e)
-    → IfErr r (λ e. e ≢ fault.OutOfMemory → FunctionUntyped K (function_named i s f (entries o)) (variables_at o) e)
-untyped_by r K i s f o t vars eo ev h =
-    subst (λ o. IfErr r (λ e. e ≢ fault.OutOfMemory → FunctionUntyped K (function_named i s f (entries o)) (variables_at o) e)) (sym eo)
-    (subst (λ v. IfErr r (λ e. e ≢ fault.OutOfMemory → FunctionUntyped K (function_named i s f t.names) v e)) ev h)
+pub by_table : (P : List NodeNames → List Span → Type 0) (o : Option ItemNames) (t : ItemNames) (vars : List Span) → o ≡ Some t → vars ≡ t.vars → P t.names vars → P (entries o) (variables_at o)
+by_table P o t vars eo ev h = subst (λ o. P (entries o) (variables_at o)) (sym eo) (subst (P t.names) ev h)
 
-pub untyped_without : (r : Result TypedFn TypeFault) (K : Known) (i : ℕ) (s : Span) (f : plain.Function) (o : Option ItemNames) (ns : List NodeNames) (vars : List Span) → o ≡ None → ns ≡ [] → vars ≡ []
-    → IfErr r (λ e. e ≢ fault.OutOfMemory → FunctionUntyped K (function_named i s f ns) vars e)
-    → IfErr r (λ e. e ≢ fault.OutOfMemory → FunctionUntyped K (function_named i s f (entries o)) (variables_at o) e)
-untyped_without r K i s f o ns vars eo en ev h =
-    subst (λ o. IfErr r (λ e. e ≢ fault.OutOfMemory → FunctionUntyped K (function_named i s f (entries o)) (variables_at o) e)) (sym eo)
-    (subst (λ n. IfErr r (λ e. e ≢ fault.OutOfMemory → FunctionUntyped K (function_named i s f n) [] e)) en
-    (subst (λ v. IfErr r (λ e. e ≢ fault.OutOfMemory → FunctionUntyped K (function_named i s f ns) v e)) ev h))
+pub without_table : (P : List NodeNames → List Span → Type 0) (o : Option ItemNames) (ns : List NodeNames) (vars : List Span) → o ≡ None → ns ≡ [] → vars ≡ [] → P ns vars → P (entries o) (variables_at o)
+without_table P o ns vars eo en ev h = subst (λ o. P (entries o) (variables_at o)) (sym eo) (subst (λ n. P n []) en (subst (P ns) ev h))
 
 pub given : {A E : Type 0} (P : A → Type 0) (r : Result A E) (a : A) → IfOk r P → r ≡ Ok a → P a
 given P r a h e = subst (λ x. IfOk x P) e h
@@ -222,7 +218,7 @@ items_end (x ∷ items) zero h = absurd (omega (arith, h))
 items_end (x ∷ items) (suc i) h = items_end items i (omega (arith, h))
 
 pub function_item : (K : Known) (ns : List ItemNames) (i : ℕ) (item : Item) (f : Func) (all new : List TypedFn) (t : TypedFn) → item.node ≡ node.Func f → new ≡ all ++ t ∷ []
-    → FunctionTyped K i (function_named i item.span (plain-Func f) (entries (slice_get ns i))) t → ItemTyped K ns i (plain-Item item) all new
+    → FunctionTyped K i item.span (plain-Func f) (entries (slice_get ns i)) (variables_at (slice_get ns i)) t → ItemTyped K ns i (plain-Item item) all new
 function_item K ns i item f all new t is more h =
     subst (λ n. ItemTyped K ns i (plain-ItemNode n item.span) all new) (sym is) (t, more, h)
 

@@ -1,7 +1,7 @@
 -- A program is typed: its declarations fit, and each function has a valid assignment of types (Rust Reference, "Type
 -- system"). What is wrong is the first declaration that doesn't fit, else a place in the first function without a valid
 -- assignment.
-use Rattle.std.specs.Prelude.{◌≡◌, ◌⊎◌, ℕ, suc, List, [], ◌∷◌, ◌++◌, map, drop, Option, Some, None, get_or, slice_get}
+use Rattle.std.specs.Prelude.{◌≡◌, ◌⊎◌, ℕ, suc, Bool, List, [], ◌∷◌, ◌++◌, map, drop, Option, Some, None, get_or, slice_get}
 use Rattle.rx_core.specs.declared.types.Span.{Span}
 use Rattle.rx_core.specs.declared.types.Ty.{Ty}
 use Rattle.rx_tree.specs.Plain as plain
@@ -9,16 +9,17 @@ use Rattle.rx_tree.specs.Plain.{ItemTree, ProgramTree}
 use Rattle.rx_resolve.specs.declared.resolved.ItemNames.{ItemNames}
 use Rattle.rx_resolve.specs.declared.resolved.NodeNames.{NodeNames}
 use Rattle.rx_typed.specs.declared.declarations.Decl.{Decl}
+use Rattle.rx_typed.specs.declared.nodes.Declaration.{Declaration}
 use Rattle.rx_typed.specs.PlainTypes.{declarations}
 use Rattle.rx_typed.specs.Regions.{region-Ty}
 use Rattle.rx_typed.specs.Named.{Function}
-use Rattle.rx_typed.specs.Naming.{function_named}
-use Rattle.rx_typed.specs.Elaborated.{Assigned, elaborated}
+use Rattle.rx_typed.specs.Naming.{function_named, function_spans, function_variables}
+use Rattle.rx_typed.specs.Elaborated.{Assigned, Coercion, coercion, elaborated}
 use Rattle.rx_typed_tree.specs.PlainTree.{plain-TypedTree}
 use Rattle.rx_declared.specs.Sizes.{IsSizes}
 use Rattle.rx_declared.specs.WellFormed.{WellFormed}
 use Rattle.rx_declared.specs.Variance.{Recorded, unrecorded}
-use Rattle.rx_elaborate_parts.specs.Assigning.{joined}
+use Rattle.rx_elaborate_parts.specs.Assigning.{joined, shape_of}
 use Rattle.rx_declare.specs.declared.fault.DeclareFault.{DeclareFault}
 use Rattle.rx_declare.specs.declared.fault.DeclareFault.TheVariants as declare_fault
 use Rattle.rx_declare.specs.Programs.{Declares, Wrong}
@@ -35,6 +36,8 @@ use Rattle.rx_unify.specs.Valid.{Valid, Breaks, IsUnclear, Asked, Told}
 use Rattle.rx_unify.specs.Views.{unnumbered}
 use Rattle.rx_rules.specs.Demands.{demands, task}
 use Rattle.rx_typeck.specs.declared.check.Check.{Check}
+use Rattle.rx_typeck.specs.declared.check.Described.{Described}
+use Rattle.rx_typeck.specs.declared.check.Question.{Question}
 use Rattle.rx_typeck.specs.declared.typed.TypedFn.{TypedFn}
 use Rattle.rx_typeck.specs.declared.typed.Typed.{Typed}
 use Rattle.rx_typeck.specs.declared.typed.TypeFault.{TypeFault}
@@ -61,17 +64,28 @@ type_at t (subject.Variable x) = joined (slice_get t.variables x)
 type_at t (subject.Node n) = joined (slice_get t.types.nodes n)
 type_at t (subject.Expected n) = joined (slice_get t.types.expected n)
 
+-- what a coercion site does to the value of a node, by the node's type and the one that its place expects
+abbrev pub coercion_at : TypedFn → ℕ → Coercion
+coercion_at t n = coercion (shape_of (type_at t (subject.Node n))) (shape_of (type_at t (subject.Expected n)))
+
 -- exactly what the rules give a type has one: that of the assignment, in which each lifetime has the number 0
 abbrev pub TypeIs : Known → Function → Types → Subject → Option Ty → Type 0
 TypeIs K f A x None = Told (demands f) x → ⊥
 TypeIs K f A x (Some t) = Told (demands f) x × (region-Ty t ≡ unnumbered K.items (A x))
 
-pub record FunctionTyped (K : Known) (i : ℕ) (f : Function) (t : TypedFn) : Type 0 where
+abbrev pub is_mutable : Declaration → Bool
+is_mutable d = d.mutable
+
+-- of the item's number and span, its function, its entries of names and where its variables are declared
+pub record FunctionTyped (K : Known) (i : ℕ) (s : Span) (f : plain.Function) (ns : List NodeNames) (vars : List Span) (t : TypedFn) : Type 0 where
   pub item : t.item ≡ i
+  pub names : t.names ≡ vars
+  pub mutable : t.mutable ≡ map is_mutable (function_variables s f ns)
+  pub spans : t.spans ≡ function_spans s f ns
   pub types : Types
-  pub valid : Valid K (task f) types
-  pub found : (x : Subject) → TypeIs K f types x (type_at t x)
-  pub tree : plain-TypedTree t.tree ≡ elaborated (assigned K types) f
+  pub valid : Valid K (task (function_named i s f ns)) types
+  pub found : (x : Subject) → TypeIs K (function_named i s f ns) types x (type_at t x)
+  pub tree : plain-TypedTree t.tree ≡ elaborated (assigned K types) (function_named i s f ns)
 
 -- the fault of a node that breaks a rule, by the span at which it is asked and the places where variables are declared
 abbrev pub fault_of : Span → Broken → List Span → TypeFault
@@ -99,7 +113,7 @@ abbrev pub FunctionsTyped : Known → List ItemNames → ℕ → ProgramTree →
 FunctionsTyped K ns i [] ts = ts ≡ []
 FunctionsTyped K ns i (plain.function_item s f ∷ is) [] = ⊥
 FunctionsTyped K ns i (plain.function_item s f ∷ is) (t ∷ ts) =
-    FunctionTyped K i (function_named i s f (entries (slice_get ns i))) t × FunctionsTyped K ns (suc i) is ts
+    FunctionTyped K i s f (entries (slice_get ns i)) (variables_at (slice_get ns i)) t × FunctionsTyped K ns (suc i) is ts
 FunctionsTyped K ns i (_ ∷ is) ts = FunctionsTyped K ns (suc i) is ts
 
 -- the first function without a valid assignment
@@ -139,6 +153,17 @@ pub data Causes (p : ProgramTree) (ns : List ItemNames) (e : TypeFault) : Type 0
 abbrev pub known_of : Check → Known
 known_of c = known c.decls.now.items c.sizes.now
 
+-- what is known of a function's variables and nodes before their types
+abbrev pub described_by : List Span → List Declaration → List Span → Described
+described_by names vars spans = record { names = names; mutable = map is_mutable vars; spans = spans }
+
+abbrev pub described : Span → plain.Function → List NodeNames → List Span → Described
+described s f ns vars = described_by vars (function_variables s f ns) (function_spans s f ns)
+
+-- and what the rules ask of it, by its item's number
+abbrev pub question : ℕ → Span → plain.Function → List NodeNames → List Span → Question
+question i s f ns vars = let t = task (function_named i s f ns) in record { demands = t.demands; literals = t.literals; described = described s f ns vars }
+
 -- the functions of declarations, by some sizes
 pub record TypedBy (p : ProgramTree) (ns : List ItemNames) (ds : List Decl) (ts : List TypedFn) : Type 0 where
   pub sizes : List ℕ
@@ -153,7 +178,7 @@ pub record UntypedBy (p : ProgramTree) (ns : List ItemNames) (ds : List Decl) (e
 -- an item behind others whose functions are typed
 abbrev pub ItemTyped : Known → List ItemNames → ℕ → ItemTree → List TypedFn → List TypedFn → Type 0
 ItemTyped K ns i (plain.function_item s f) all new =
-    (t : TypedFn) × (new ≡ all ++ t ∷ []) × FunctionTyped K i (function_named i s f (entries (slice_get ns i))) t
+    (t : TypedFn) × (new ≡ all ++ t ∷ []) × FunctionTyped K i s f (entries (slice_get ns i)) (variables_at (slice_get ns i)) t
 ItemTyped K ns i _ all new = new ≡ all
 
 abbrev pub ItemUntyped : Known → List ItemNames → ℕ → ItemTree → TypeFault → Type 0

@@ -1,13 +1,14 @@
 //! The types of a program: what it declares, then each function's.
 
-ghost use Rattle.std.specs.Prelude.{◌≡◌, ◌≢◌, ◌<◌, length, map, get_or, slice_get, IfOk, IfErr};
+ghost use Rattle.std.specs.Prelude.{List, ◌≡◌, ◌≢◌, ◌<◌, length, map, get_or, slice_get, IfOk, IfErr};
+ghost use Rattle.rx_core.specs.declared.types.Span.{Span};
 ghost use Rattle.rx_tree.specs.PlainOf.{plain-Program, plain-Func, plain-Item};
 ghost use Rattle.rx_tree.specs.Size.{IsNumbered};
 ghost use Rattle.rx_resolve.specs.Causes.{Meant};
 ghost use Rattle.rx_typed.specs.Naming.{function_named};
 ghost use Rattle.rx_typed.specs.PlainTypes.{declarations};
 ghost use Rattle.rx_unify.specs.declared.solver.Solved as solver;
-ghost use Rattle.rx_unify.specs.Solving.{IsSolved, IsUnsolved};
+ghost use Rattle.rx_unify.specs.Solving.{IsSolved};
 ghost use Rattle.rx_unify.specs.Views.{IsFound};
 ghost use Rattle.rx_rules.specs.Demands.{task};
 ghost use Rattle.rx_declare.specs.Programs.{Declares};
@@ -24,8 +25,8 @@ use rx_elaborate_parts::NodeTypes;
 use rx_resolve::{NodeNames, Resolved};
 use rx_rules::demands_are_orderly;
 use rx_tree::{Func, Item, ItemNode, Program};
-use rx_typed::Decls;
-use rx_unify::{Broken, Found, Solved, Unsolved, solve};
+use rx_typed::{Declaration, Decls};
+use rx_unify::{Broken, Demand, Found, Unsolved, solve};
 use std::alloc::{AllocError, Global};
 
 /// What is known before functions are looked into: what is declared, how many parts each struct and enum has, and the
@@ -36,6 +37,74 @@ struct Check<'t> {
     decls: &'t Decls,
     sizes: &'t List<u64>,
     names: &'t Resolved,
+}
+
+/// What is known of a function's variables and nodes before their types: where the variables' names are declared,
+/// whether each is declared `mut`, and where the nodes stand.
+#[derive(Drop)]
+struct Described {
+    names: List<Span>,
+    mutable: List<bool>,
+    spans: List<Span>,
+}
+
+/// Whether each variable is declared `mut`.
+fn mutability(alloc: Global, variables: &[Declaration]) -> Result<List<bool>, AllocError>
+    ensures { IfOk result (λ it. it ≡ map typing.is_mutable variables.now) }
+{
+    let mut all = Vec::new(alloc);
+    for variable in variables {
+        all.push(variable.mutable)?;
+    }
+    Ok(List::from_vec(all))
+}
+
+/// A function's variables, by where their names are declared and what they are, and where its nodes stand.
+fn described_by(
+    alloc: Global,
+    names: &[Span],
+    variables: &[Declaration],
+    spans: List<Span>,
+) -> Result<Described, AllocError>
+    ensures { IfOk result (λ it. it ≡ typing.described_by names.now variables.now spans) }
+{
+    let names = List::from_slice(alloc, names)?;
+    let mutable = mutability(alloc, variables)?;
+    Ok(Described {
+        names,
+        mutable,
+        spans,
+    })
+}
+
+/// What the rules ask of a function, and what its variables and nodes are.
+#[derive(Drop)]
+struct Question {
+    demands: List<Demand>,
+    literals: List<usize>,
+    described: Described,
+}
+
+/// What the rules ask of a function, and what its variables and nodes are: of its item's number and span, the entries of
+/// names of the item, and where its variables are declared.
+fn question_of(
+    alloc: Global,
+    item: u32,
+    span: Span,
+    function: &Func,
+    names: &List<NodeNames>,
+    variables: &[Span],
+) -> Result<Question, AllocError>
+    ensures { IfOk result (λ it. it ≡ typing.question item span (plain-Func function.now) names.now variables.now) }
+{
+    let task = asked(alloc, item, span, function, names)?;
+    let spans = task.spans;
+    let described = described_by(alloc, variables, task.variables.as_slice(), spans)?;
+    Ok(Question {
+        demands: task.demands,
+        literals: task.literals,
+        described,
+    })
 }
 
 /// The span of a variable's name, or another.
@@ -84,30 +153,6 @@ fn of_declaration(fault: DeclareFault) -> TypeFault
 }
 
 impl<'t> Check<'t> {
-    /// The types of a function's variables and nodes.
-    fn solved(
-        &self,
-        item: u32,
-        span: Span,
-        function: &Func,
-        names: &List<NodeNames>,
-    ) -> Result<Solved, Unsolved>
-        ensures solved { IfOk result (λ s. IsSolved (typing.known_of self.now) (task (function_named item span (plain-Func function.now) names.now)) s) }
-        ensures unsolved { IfErr result (λ e. IsUnsolved (typing.known_of self.now) (task (function_named item span (plain-Func function.now) names.now)) e) }
-    {
-        demands_are_orderly();
-        match asked(self.alloc, item, span, function, names) {
-            Ok(task) => solve(
-                self.alloc,
-                self.decls,
-                self.sizes,
-                &task.demands,
-                &task.literals,
-            ),
-            Err(AllocError) => Err(Unsolved::OutOfMemory),
-        }
-    }
-
     /// The typed tree of a function whose types are known.
     fn elaborated(
         &self,
@@ -115,10 +160,12 @@ impl<'t> Check<'t> {
         span: Span,
         function: &Func,
         names: &List<NodeNames>,
+        described: Described,
         found: Found,
     ) -> Result<TypedFn, AllocError>
-        ensures { (solved : solver.Solved) → IsFound solved (declarations self.now.decls.now.items) found → IsSolved (typing.known_of self.now) (task (function_named item span (plain-Func function.now) names.now)) solved
-            → IfOk result (λ t. typing.FunctionTyped (typing.known_of self.now) item (function_named item span (plain-Func function.now) names.now) t) }
+        ensures { (solved : solver.Solved) (variables : List Span) → IsFound solved (declarations self.now.decls.now.items) found → IsSolved (typing.known_of self.now) (task (function_named item span (plain-Func function.now) names.now)) solved
+            → described ≡ typing.described span (plain-Func function.now) names.now variables
+            → IfOk result (λ t. typing.FunctionTyped (typing.known_of self.now) item span (plain-Func function.now) names.now variables t) }
     {
         let types = NodeTypes {
             nodes: found.nodes,
@@ -127,11 +174,50 @@ impl<'t> Check<'t> {
         match elaborate(self.alloc, self.decls, &types, span, function, names) {
             Ok(tree) => Ok(TypedFn {
                 item,
+                names: described.names,
+                mutable: described.mutable,
                 variables: found.variables,
+                spans: described.spans,
                 types,
                 tree,
             }),
             Err(AllocError) => Err(AllocError),
+        }
+    }
+
+    /// A function with its types, by what the rules ask of it and what its variables and nodes are.
+    fn answered(
+        &self,
+        item: u32,
+        span: Span,
+        function: &Func,
+        names: &List<NodeNames>,
+        variables: &[Span],
+        question: Question,
+    ) -> Result<TypedFn, TypeFault>
+        requires { question ≡ typing.question item span (plain-Func function.now) names.now variables.now }
+        ensures typed { IfOk result (λ t. typing.FunctionTyped (typing.known_of self.now) item span (plain-Func function.now) names.now variables.now t) }
+        ensures untyped { IfErr result (λ e. e ≢ fault.OutOfMemory → typing.FunctionUntyped (typing.known_of self.now) (function_named item span (plain-Func function.now) names.now) variables.now e) }
+    {
+        demands_are_orderly();
+        match solve(
+            self.alloc,
+            self.decls,
+            self.sizes,
+            &question.demands,
+            &question.literals,
+        ) {
+            Ok(solved) => match solved.found(self.alloc, &self.decls.items) {
+                Ok(found) => {
+                    let described = question.described;
+                    match self.elaborated(item, span, function, names, described, found) {
+                        Ok(typed) => Ok(typed),
+                        Err(AllocError) => Err(TypeFault::OutOfMemory),
+                    }
+                }
+                Err(AllocError) => Err(TypeFault::OutOfMemory),
+            },
+            Err(unsolved) => Err(of_unsolved(unsolved, variables)),
         }
     }
 
@@ -144,25 +230,19 @@ impl<'t> Check<'t> {
         names: &List<NodeNames>,
         variables: &[Span],
     ) -> Result<TypedFn, TypeFault>
-        ensures typed { IfOk result (λ t. typing.FunctionTyped (typing.known_of self.now) item (function_named item span (plain-Func function.now) names.now) t) }
+        ensures typed { IfOk result (λ t. typing.FunctionTyped (typing.known_of self.now) item span (plain-Func function.now) names.now variables.now t) }
         ensures untyped { IfErr result (λ e. e ≢ fault.OutOfMemory → typing.FunctionUntyped (typing.known_of self.now) (function_named item span (plain-Func function.now) names.now) variables.now e) }
     {
-        match self.solved(item, span, function, names) {
-            Ok(solved) => match solved.found(self.alloc, &self.decls.items) {
-                Ok(found) => match self.elaborated(item, span, function, names, found) {
-                    Ok(typed) => Ok(typed),
-                    Err(AllocError) => Err(TypeFault::OutOfMemory),
-                },
-                Err(AllocError) => Err(TypeFault::OutOfMemory),
-            },
-            Err(unsolved) => Err(of_unsolved(unsolved, variables)),
+        match question_of(self.alloc, item, span, function, names, variables) {
+            Ok(question) => self.answered(item, span, function, names, variables, question),
+            Err(AllocError) => Err(TypeFault::OutOfMemory),
         }
     }
 
     /// A function with its types, by its item's number.
     fn function_at(&self, item: usize, span: Span, function: &Func) -> Result<TypedFn, TypeFault>
         requires { item < 4294967296 }
-        ensures typed { IfOk result (λ t. typing.FunctionTyped (typing.known_of self.now) item (function_named item span (plain-Func function.now) (typing.entries (slice_get self.now.names.now.items item))) t) }
+        ensures typed { IfOk result (λ t. typing.FunctionTyped (typing.known_of self.now) item span (plain-Func function.now) (typing.entries (slice_get self.now.names.now.items item)) (typing.variables_at (slice_get self.now.names.now.items item)) t) }
         ensures untyped { IfErr result (λ e. e ≢ fault.OutOfMemory → typing.FunctionUntyped (typing.known_of self.now) (function_named item span (plain-Func function.now) (typing.entries (slice_get self.now.names.now.items item))) (typing.variables_at (slice_get self.now.names.now.items item)) e) }
     {
         match self.names.items.get(item) {

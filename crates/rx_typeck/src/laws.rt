@@ -1,4 +1,4 @@
-//! A law of typed programs, as the contract of a function that does nothing.
+//! Laws of typed programs, each as the contract of a function that does nothing.
 
 ghost use Rattle.std.specs.Prelude.{ℕ, ◌<◌, List, length, slice_get};
 ghost use Rattle.rx_tree.specs.Plain.{ProgramTree};
@@ -8,10 +8,12 @@ ghost use Rattle.rx_cycles.specs.Reaches.{NoCycle};
 ghost use Rattle.rx_typed.specs.Types.{variants_declared};
 ghost use Rattle.rx_typed.specs.PlainTypes.{declarations};
 ghost use Rattle.rx_declared.specs.Held.{held};
-ghost use Rattle.rx_typeck.specs.Typing.{IsTyped};
+ghost use Rattle.rx_typeck.specs.Typing.{IsTyped, Causes};
 ghost use Rattle.rx_typeck.specs.declared.typed.Typed.{Typed};
+ghost use Rattle.rx_typeck.specs.declared.typed.TypeFault.{TypeFault};
 
-use rx_declare::declared_variants_are_few;
+use rx_declare::{declared_are_finite, declared_variants_are_few};
+use rx_declared::one_size_each;
 
 /// Of what a typed program declares no struct or enum reaches itself, and each enum has fewer than 2^32 variants.
 pub fn typed_declarations_are_finite()
@@ -20,4 +22,12 @@ pub fn typed_declarations_are_finite()
         → (i : ℕ) → length (variants_declared (slice_get (declarations t.decls.items) i)) < 4294967296 }
 {
     declared_variants_are_few();
+}
+
+/// A typed program has no fault, so `typecheck` answers one or the other by the program alone.
+pub fn typed_or_wrong()
+    ensures { (p : ProgramTree) (names : List ItemNames) (t : Typed) (e : TypeFault) → IsTyped p names t → Causes p names e → ⊥ }
+{
+    declared_are_finite();
+    one_size_each();
 }

@@ -3,8 +3,10 @@
 
 mod check;
 mod laws;
+mod readers;
 mod typed;
 
 pub use check::typecheck;
-pub use laws::typed_declarations_are_finite;
+pub use laws::{typed_declarations_are_finite, typed_or_wrong};
+pub use rx_elaborate_parts::Coercion;
 pub use typed::{TypeFault, Typed, TypedFn};

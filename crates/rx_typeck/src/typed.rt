@@ -20,10 +20,16 @@ pub struct Typed {
 pub struct TypedFn {
     /// The number of the function's item.
     pub item: u32,
+    /// Where the names of the variables are declared, by the variables' numbers.
+    pub names: List<Span>,
+    /// Whether each variable is declared `mut`, by their numbers.
+    pub mutable: List<bool>,
     /// The types of the variables, by their numbers.
     pub variables: List<Option<Ty>>,
-    /// The types of the nodes, and those that the places of nodes expect, by the nodes' numbers: those of the text from
-    /// the item on, which is 0. A node that is Never has none.
+    /// Where the nodes stand, by their numbers: those of the text from the item on, which is 0.
+    pub spans: List<Span>,
+    /// The types of the nodes, and those that the places of nodes expect, by the nodes' numbers. A node that is Never
+    /// has none.
     pub types: NodeTypes,
     /// The tree in which places, coercions, kinds, binding modes and loops are written out.
     pub tree: TypedTree,
