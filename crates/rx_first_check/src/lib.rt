@@ -11,5 +11,6 @@ mod types;
 
 pub use check::accepted;
 pub use fault::{CheckFault, NameFault, Rule, TypeFault};
+pub use grammar::other_item;
 pub use laws::{accepted_exactly, one_scope, one_type};
 pub use scope::{Scope, ValueType, scope_behind};

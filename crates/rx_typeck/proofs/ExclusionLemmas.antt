@@ -59,7 +59,7 @@ module _ (finite : (p : ProgramTree) (D : Declarations) → Fits p D → NoCycle
   declared_or_wrong p ns ds e d (unfit es h u) =
       fits_or_not p (declarations es) e (subst (λ x. Fits p (declarations x)) (ok_is ds es (sym d.items ∙ h)) d.fits) u
 
-  one_table : (D : Declarations) (xs ys : List ℕ) → NoCycle (held D) → IsSizes D xs → IsSizes D ys → xs ≡ ys
+  pub one_table : (D : Declarations) (xs ys : List ℕ) → NoCycle (held D) → IsSizes D xs → IsSizes D ys → xs ≡ ys
   one_table D xs ys none x y = let s = some D none in
       same_list xs ys (x.whole ∙ sym y.whole) (λ i less. let within : i < length D = omega (arith, less, x.whole) in
       x.each s.0 s.1 i within ∙ sym (y.each s.0 s.1 i within))

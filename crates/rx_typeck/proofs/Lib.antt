@@ -1,2 +1,3 @@
 mod TypingLemmas
 mod ExclusionLemmas
+mod AlikeLemmas

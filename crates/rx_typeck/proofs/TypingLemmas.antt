@@ -131,6 +131,7 @@ typed d sizes i at g entries vars t before found s is all solved item names muta
   spans = spans ∙ ap (λ (b : Described). b.spans) is;
   types = types_of s;
   valid = solved.valid;
+  untold = λ x n. sym (no_type s x (table_of s.arena.entries.items s.tables x) refl (λ h. n ((solved.told x).1 h)));
   found = each;
   tree = tree ∙ ap (λ T. elaborated T (function_named i at g entries)) (assigned_same d sizes t.types s
       (λ n. shape_is s (declarations d.items) (subject.Node n) _ (subst (λ l. views.TypeIs s (declarations d.items) (subject.Node n) (joined (slice_get l n))) (sym ns) (all.each (subject.Node n))))

@@ -10,6 +10,7 @@ use Rattle.rx_resolve.specs.declared.resolved.ItemNames.{ItemNames}
 use Rattle.rx_resolve.specs.declared.resolved.NodeNames.{NodeNames}
 use Rattle.rx_typed.specs.declared.declarations.Decl.{Decl}
 use Rattle.rx_typed.specs.declared.nodes.Declaration.{Declaration}
+use Rattle.rx_typed.specs.Types.{unit_shape}
 use Rattle.rx_typed.specs.PlainTypes.{declarations}
 use Rattle.rx_typed.specs.Regions.{region-Ty}
 use Rattle.rx_typed.specs.Named.{Function}
@@ -84,6 +85,8 @@ pub record FunctionTyped (K : Known) (i : ℕ) (s : Span) (f : plain.Function) (
   pub spans : t.spans ≡ function_spans s f ns
   pub types : Types
   pub valid : Valid K (task (function_named i s f ns)) types
+  -- the unit, where the rules give no type
+  pub untold : (x : Subject) → (Told (demands (function_named i s f ns)) x → ⊥) → types x ≡ unit_shape
   pub found : (x : Subject) → TypeIs K (function_named i s f ns) types x (type_at t x)
   pub tree : plain-TypedTree t.tree ≡ elaborated (assigned K types) (function_named i s f ns)
 

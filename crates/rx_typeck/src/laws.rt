@@ -8,6 +8,7 @@ ghost use Rattle.rx_cycles.specs.Reaches.{NoCycle};
 ghost use Rattle.rx_typed.specs.Types.{variants_declared};
 ghost use Rattle.rx_typed.specs.PlainTypes.{declarations};
 ghost use Rattle.rx_declared.specs.Held.{held};
+ghost use Rattle.rx_typeck.specs.Alike.{AreAlike};
 ghost use Rattle.rx_typeck.specs.Typing.{IsTyped, Causes};
 ghost use Rattle.rx_typeck.specs.declared.typed.Typed.{Typed};
 ghost use Rattle.rx_typeck.specs.declared.typed.TypeFault.{TypeFault};
@@ -27,6 +28,14 @@ pub fn typed_declarations_are_finite()
 /// A typed program has no fault, so `typecheck` answers one or the other by the program alone.
 pub fn typed_or_wrong()
     ensures { (p : ProgramTree) (names : List ItemNames) (t : Typed) (e : TypeFault) → IsTyped p names t → Causes p names e → ⊥ }
+{
+    declared_are_finite();
+    one_size_each();
+}
+
+/// Two typed programs of one text are alike: in their declarations, and in the places and typed trees of their functions.
+pub fn one_typed_program()
+    ensures { (p : ProgramTree) (names : List ItemNames) (t u : Typed) → IsTyped p names t → IsTyped p names u → AreAlike t u }
 {
     declared_are_finite();
     one_size_each();

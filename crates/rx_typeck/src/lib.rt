@@ -7,6 +7,6 @@ mod readers;
 mod typed;
 
 pub use check::typecheck;
-pub use laws::{typed_declarations_are_finite, typed_or_wrong};
+pub use laws::{one_typed_program, typed_declarations_are_finite, typed_or_wrong};
 pub use rx_elaborate_parts::Coercion;
 pub use typed::{TypeFault, Typed, TypedFn};

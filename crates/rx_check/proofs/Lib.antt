@@ -1,0 +1,4 @@
+mod CoverLemmas
+mod PassLemmas
+mod NameLemmas
+mod ExclusionLemmas

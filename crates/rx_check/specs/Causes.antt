@@ -1,0 +1,91 @@
+-- Why the check refuses a program: one case a pass, in their order, each with what the passes before it say.
+use Rattle.std.specs.Prelude.{◌≡◌, ◌≢◌, ◌⊎◌, List, [], ◌∷◌, Some, Result, Ok, Err}
+use Rattle.rx_core.specs.declared.types.Span.{Span}
+use Rattle.rx_tree.specs.Plain.{ProgramTree}
+use Rattle.rx_resolve.specs.declared.resolved.ItemNames.{ItemNames}
+use Rattle.rx_resolve.specs.declared.resolved.NameFault.{NameFault}
+use Rattle.rx_resolve.specs.declared.resolved.NameFault.TheVariants as name_fault
+use Rattle.rx_resolve.specs.Causes as naming
+use Rattle.rx_resolve.specs.Causes.{Meant}
+use Rattle.rx_typed.specs.Types.{Declarations}
+use Rattle.rx_typed.specs.PlainTypes.{declarations}
+use Rattle.rx_typeck.specs.declared.typed.Typed.{Typed}
+use Rattle.rx_typeck.specs.declared.typed.TypedFn.{TypedFn}
+use Rattle.rx_typeck.specs.declared.typed.TypeFault.{TypeFault}
+use Rattle.rx_typeck.specs.declared.typed.TypeFault.TheVariants as type_fault
+use Rattle.rx_typeck.specs.Typing as typing
+use Rattle.rx_typeck.specs.Typing.{IsTyped}
+use Rattle.rx_cover.specs.declared.covering.CoverFault.{CoverFault}
+use Rattle.rx_cover.specs.declared.covering.CoverFault.TheVariants as cover_fault
+use Rattle.rx_cover.specs.Causes.{AllCovered}
+use Rattle.rx_cover.specs.Judging.{ToldAt}
+use Rattle.rx_first_check.specs.Faults.{first, other_spans}
+use Rattle.rx_check.specs.declared.fault.CheckFault.{CheckFault}
+use Rattle.rx_check.specs.declared.fault.CheckFault.TheVariants as check_fault
+use Rattle.rx_check.specs.Passes.{matches_of, FunctionsCovered, Accepted}
+
+-- of the first function, in order, whose matches are not all covered, this is said of the first that is not
+abbrev pub FirstUncovered : Declarations → List TypedFn → CoverFault → Type 0
+FirstUncovered D [] e = ⊥
+FirstUncovered D (f ∷ fs) e = ToldAt D f.spans (matches_of f) e ⊎ (AllCovered D (matches_of f) × FirstUncovered D fs e)
+
+-- the names are wrong
+pub record IsMisnamed (p : ProgramTree) (e : NameFault) : Type 0 where
+  pub told : e ≢ name_fault.OutOfMemory
+  pub cause : naming.Causes e p
+
+-- the names have a meaning, and the types are wrong
+pub record IsMistyped (p : ProgramTree) (e : TypeFault) : Type 0 where
+  pub told : e ≢ type_fault.OutOfMemory
+  pub names : List ItemNames
+  pub meant : Meant p names
+  pub cause : typing.Causes p names e
+
+-- the program is typed, and a match is not covered
+pub record IsUncovered (p : ProgramTree) (e : CoverFault) : Type 0 where
+  pub told : e ≢ cover_fault.OutOfMemory
+  pub names : List ItemNames
+  pub meant : Meant p names
+  pub types : Typed
+  pub typed : IsTyped p names types
+  pub first : FirstUncovered (declarations types.decls.items) types.functions e
+
+-- the passes accept the program, and this is the first of its items that is beyond the first grammar
+pub record IsNotBuilt (p : ProgramTree) (at : Span) : Type 0 where
+  pub accepted : Accepted p
+  pub item : first (other_spans p) ≡ Some at
+
+-- why a program is refused
+abbrev pub Causes : CheckFault → ProgramTree → Type 0
+Causes (check_fault.Name e) p = IsMisnamed p e
+Causes (check_fault.Types e) p = IsMistyped p e
+Causes (check_fault.Cover e) p = IsUncovered p e
+Causes (check_fault.NotBuilt at) p = IsNotBuilt p at
+Causes check_fault.OutOfMemory p = Unit {0}
+
+-- why a pass refuses it: nothing is said of the first grammar
+abbrev pub PassCauses : CheckFault → ProgramTree → Type 0
+PassCauses (check_fault.NotBuilt at) p = ⊥
+PassCauses e p = Causes e p
+
+-- two faults are of one pass; those of names and of the first grammar are one, and so are the places of those of coverage,
+-- and the products
+abbrev pub AreOneCover : CoverFault → CoverFault → Type 0
+AreOneCover (cover_fault.Missing a v) (cover_fault.Missing b w) = a ≡ b
+AreOneCover (cover_fault.TooWide a m) (cover_fault.TooWide b n) = (a ≡ b) × (m ≡ n)
+AreOneCover _ _ = ⊥
+
+abbrev pub AreOne : CheckFault → CheckFault → Type 0
+AreOne (check_fault.Name e) (check_fault.Name f) = e ≡ f
+AreOne (check_fault.Types e) (check_fault.Types f) = Unit {0}
+AreOne (check_fault.Cover e) (check_fault.Cover f) = AreOneCover e f
+AreOne (check_fault.NotBuilt a) (check_fault.NotBuilt b) = a ≡ b
+AreOne _ _ = ⊥
+
+-- ---- what a private function does
+
+-- what is answered of functions, one after the other
+abbrev pub FunctionsAnswer : Declarations → List TypedFn → Result (Unit {0}) CoverFault → Type 0
+FunctionsAnswer D fs (Ok u) = FunctionsCovered D fs
+FunctionsAnswer D fs (Err cover_fault.OutOfMemory) = Unit {0}
+FunctionsAnswer D fs (Err e) = FirstUncovered D fs e

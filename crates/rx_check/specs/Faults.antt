@@ -1,0 +1,21 @@
+-- Faults of the passes as faults of the check: want of memory in a pass is that of the check.
+use Rattle.rx_resolve.specs.declared.resolved.NameFault.{NameFault}
+use Rattle.rx_resolve.specs.declared.resolved.NameFault.TheVariants as name_fault
+use Rattle.rx_typeck.specs.declared.typed.TypeFault.{TypeFault}
+use Rattle.rx_typeck.specs.declared.typed.TypeFault.TheVariants as type_fault
+use Rattle.rx_cover.specs.declared.covering.CoverFault.{CoverFault}
+use Rattle.rx_cover.specs.declared.covering.CoverFault.TheVariants as cover_fault
+use Rattle.rx_check.specs.declared.fault.CheckFault.{CheckFault}
+use Rattle.rx_check.specs.declared.fault.CheckFault.TheVariants as check_fault
+
+abbrev pub of_names : NameFault → CheckFault
+of_names name_fault.OutOfMemory = check_fault.OutOfMemory
+of_names f = check_fault.Name f
+
+abbrev pub of_types : TypeFault → CheckFault
+of_types type_fault.OutOfMemory = check_fault.OutOfMemory
+of_types f = check_fault.Types f
+
+abbrev pub of_cover : CoverFault → CheckFault
+of_cover cover_fault.OutOfMemory = check_fault.OutOfMemory
+of_cover f = check_fault.Cover f

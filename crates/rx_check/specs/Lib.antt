@@ -1,0 +1,4 @@
+pub mod Passes
+pub mod Faults
+pub mod Causes
+pub mod Kept

@@ -1,0 +1,46 @@
+-- What a program has where the passes accept it: its names have a meaning, its types a valid assignment, and the matches of
+-- each function are covered.
+use Rattle.std.specs.Prelude.{◌≡◌, true, List, [], ◌∷◌}
+use Rattle.rx_tree.specs.Plain.{ProgramTree}
+use Rattle.rx_resolve.specs.declared.resolved.ItemNames.{ItemNames}
+use Rattle.rx_resolve.specs.Causes.{Meant}
+use Rattle.rx_typed.specs.Types.{Declarations}
+use Rattle.rx_typed.specs.PlainTypes.{declarations}
+use Rattle.rx_typed_tree.specs.PlainTree.{plain-Expr}
+use Rattle.rx_typeck.specs.declared.typed.Typed.{Typed}
+use Rattle.rx_typeck.specs.declared.typed.TypedFn.{TypedFn}
+use Rattle.rx_typeck.specs.Typing.{IsTyped}
+use Rattle.rx_cover.specs.Choices.{Choice, choices_of}
+use Rattle.rx_cover.specs.Causes.{AllCovered}
+use Rattle.rx_first_check.specs.FirstGrammar.{is_first_program}
+
+-- the matches of a function, in the order of the text
+abbrev pub matches_of : TypedFn → List Choice
+matches_of f = choices_of (plain-Expr f.tree.body)
+
+-- the matches of each function are covered
+abbrev pub FunctionsCovered : Declarations → List TypedFn → Type 0
+FunctionsCovered D [] = Unit {0}
+FunctionsCovered D (f ∷ fs) = AllCovered D (matches_of f) × FunctionsCovered D fs
+
+-- all passes accept the program, and this is it with its types
+pub record IsFront (p : ProgramTree) (t : Typed) : Type 0 where
+  pub names : List ItemNames
+  pub meant : Meant p names
+  pub typed : IsTyped p names t
+  pub covered : FunctionsCovered (declarations t.decls.items) t.functions
+
+-- all passes accept the program
+abbrev pub Accepted : ProgramTree → Type 0
+Accepted p = (t : Typed) × IsFront p t
+
+-- and it is within the first grammar
+abbrev pub Passes : ProgramTree → Type 0
+Passes p = Accepted p × (is_first_program p ≡ true)
+
+-- what is kept of them: they accept a program that has these types
+abbrev pub IsFronted : Typed → Type 0
+IsFronted t = (p : ProgramTree) × IsFront p t
+
+abbrev pub IsChecked : Typed → Type 0
+IsChecked t = (p : ProgramTree) × IsFront p t × (is_first_program p ≡ true)

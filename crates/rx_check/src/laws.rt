@@ -1,0 +1,27 @@
+//! Laws of the check, each as the contract of a function that does nothing.
+
+ghost use Rattle.std.specs.Prelude.{◌≡◌, ◌≢◌};
+ghost use Rattle.rx_tree.specs.Plain.{ProgramTree};
+ghost use Rattle.rx_check.specs.declared.fault.CheckFault.{CheckFault as Fault};
+ghost use Rattle.rx_check.specs.declared.fault.CheckFault.TheVariants as fault;
+ghost use Rattle.rx_check.specs.Causes.{Causes, PassCauses, AreOne};
+ghost use Rattle.rx_check.specs.Passes.{Accepted, Passes};
+
+use rx_typeck::{one_typed_program, typed_or_wrong};
+
+/// A program that all passes accept has no fault of a pass, and one that is within the first grammar too has none at all.
+pub fn passed_or_faulty()
+    ensures accepted { (p : ProgramTree) (e : Fault) → Accepted p → PassCauses e p → e ≡ fault.OutOfMemory }
+    ensures passed { (p : ProgramTree) (e : Fault) → Passes p → Causes e p → e ≡ fault.OutOfMemory }
+{
+    one_typed_program();
+    typed_or_wrong();
+}
+
+/// Two faults of a program are of one pass.
+pub fn causes_are_one()
+    ensures { (p : ProgramTree) (e f : Fault) → e ≢ fault.OutOfMemory → f ≢ fault.OutOfMemory → Causes e p → Causes f p → AreOne e f }
+{
+    one_typed_program();
+    typed_or_wrong();
+}
