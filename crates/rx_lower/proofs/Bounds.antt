@@ -156,6 +156,10 @@ part_bounded scope (order.ending n x s) =
     (then_bounded failing _ _ _ _ (part_fits (Variable x ∷ scope) s) nowhere_fits (part_bounded (Variable x ∷ scope) s) nowhere_bounded) (act_bounded (does n (Dead x)))
 part_bounded scope (order.passes l s) = loop_bounded l _ _ (part_fits (Looped l ∷ scope) s) (part_bounded (Looped l ∷ scope) s)
 
+-- a part begins with sites of its own
+pub starts_within : (scope : Scope) (s : Order) (i : ℕ) → Among (starts i) (part scope s).begins → i < (part scope s).size
+starts_within scope s i m = (part_bounded scope s).starts_in i m
+
 of_all : (N : ℕ) (g : List Site) (i : ℕ) (s : Site) → AllBelow N g → site_at g i ≡ Some s → Below N s.next
 of_all N [] i s h e = absurd (cc)
 of_all N (t ∷ g) zero s h e = let d : t ≡ s = cc in subst (λ (s : Site). Below N s.next) d h.0

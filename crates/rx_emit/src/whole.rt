@@ -1,0 +1,73 @@
+//! The graph of a flow.
+
+ghost use Rattle.std.specs.Prelude.{◌≡◌, ◌≤◌, [], length, map, IfOk, MatchResult};
+ghost use Rattle.rx_flow.specs.Flows.{order_of};
+ghost use Rattle.rx_flow.specs.PlainFlow.{plain-Flow};
+ghost use Rattle.rx_lower.specs.Pieces.{part, graph_of};
+ghost use Rattle.rx_emit.specs.PlainSite.{plain-Site};
+ghost use Rattle.rx_emit.specs.Around.{nothing_around};
+ghost use Rattle.rx_emit.specs.Sums.{cap};
+ghost use Rattle.rx_emit.specs.Emitted.{emitted};
+ghost use Rattle.rx_emit.specs.Refusal.{Refuses};
+
+use crate::around::Around;
+use crate::emit::emit;
+use crate::measure::measure;
+use crate::site::Site;
+use rx_core::List;
+use rx_flow::Flow;
+use std::alloc::{AllocError, Global};
+
+/// Why a flow has no graph in code.
+#[derive(Drop)]
+pub enum GraphFault {
+    /// It has so many sites, or 2^64 - 1 where there are more.
+    TooLarge(u64),
+    OutOfMemory,
+}
+
+/// How many sites it has.
+#[tactic(auto, using(crate::proofs::Graphs::size_summed))]
+fn size_of(alloc: Global, flow: &Flow) -> Result<u64, AllocError>
+    ensures { IfOk result (λ n. n ≡ cap (part [] (order_of (plain-Flow flow.now))).size) }
+{
+    let mut around = Around::nothing(alloc);
+    Ok(measure(alloc, flow, &mut around)?.size)
+}
+
+fn whole(alloc: Global, flow: &Flow) -> Result<List<Site>, AllocError>
+    ensures { IfOk result (λ g. map plain-Site g ≡ emitted nothing_around (plain-Flow flow.now) 0 [] []) }
+{
+    let mut around = Around::nothing(alloc);
+    let mut out = List::new(alloc);
+    let nothing = List::new(alloc);
+    emit(
+        alloc,
+        flow,
+        0,
+        nothing.as_slice(),
+        nothing.as_slice(),
+        &mut around,
+        &mut out,
+    )?;
+    Ok(out)
+}
+
+/// The sites of a flow that has at most 16,384. Of one that has more no site is made.
+pub fn graph(alloc: Global, flow: &Flow) -> Result<List<Site>, GraphFault>
+    ensures { MatchResult result (λ g. (map plain-Site g ≡ graph_of (order_of (plain-Flow flow.now))) × (length g ≤ 16384))
+        (λ fault. Refuses fault (part [] (order_of (plain-Flow flow.now))).size) }
+{
+    match size_of(alloc, flow) {
+        Err(_) => Err(GraphFault::OutOfMemory),
+        Ok(size) => {
+            if size > 16384 {
+                return Err(GraphFault::TooLarge(size));
+            }
+            match whole(alloc, flow) {
+                Ok(sites) => Ok(sites),
+                Err(_) => Err(GraphFault::OutOfMemory),
+            }
+        }
+    }
+}
