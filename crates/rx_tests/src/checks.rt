@@ -29,6 +29,9 @@ check:  | 3 error: NotAccepted Mismatch 0 0 Main
 check:  // nothing | 3 error: NotAccepted Mismatch 0 0 Main
 check: fn main() { let x = ; } | 3 error: NotAccepted Syntax 20
 check: fn main() { let x = y; } | 3 error: NotAccepted Unknown 20 21
+check: fn main() { x; } enum E { A } | 3 error: NotAccepted Unknown 12 13
+check: fn main() { f(1i64); } | 3 error: NotAccepted Unknown 12 13
+check: fn a() {} fn a() {} struct S {} | 3 error: NotAccepted Twice 3 4 13 14
 check: fn main() {} fn a() {} fn a() {} | 3 error: NotAccepted Twice 16 17 26 27
 check: fn main(a: i64) {} | 3 error: NotAccepted Mismatch 3 7 Main
 check: fn main() { let a = 9223372036854775808i64; } | 3 error: NotAccepted Literal 20 42
@@ -53,10 +56,7 @@ check: mod rt; fn main() {} | 3 error: NotAccepted NotBuilt 0 7
 check: fn main() {} struct S {} | 3 error: NotAccepted NotBuilt 13 24
 check: fn main() {} #[derive(Clone)] enum E { A } | 3 error: NotAccepted NotBuilt 13 42
 check: fn f(a: u8) {} fn main() {} | 3 error: NotAccepted NotBuilt 0 14
-check: fn main() { x; } enum E { A } | 3 error: NotAccepted NotBuilt 0 16
-check: fn main() { f(1i64); } | 3 error: NotAccepted NotBuilt 0 22
-check: fn main() { let a = -1i64; } | 3 error: NotAccepted NotBuilt 0 28
-check: fn a() {} fn a() {} struct S {} | 3 error: NotAccepted NotBuilt 20 31";
+check: fn main() { let a = -1i64; } | 3 error: NotAccepted NotBuilt 0 28";
 
 #[test]
 fn programs_of_other_forms_are_not_built(rt: HostRuntime) {

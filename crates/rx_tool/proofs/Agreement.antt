@@ -5,21 +5,26 @@ use Rattle.std.proofs.lemmas.Bool.{and_parts}
 use Rattle.rx_tree.specs.Plain.{ProgramTree}
 use Rattle.rx_parse.specs.declared.fault.SyntaxFault.{SyntaxFault}
 use Rattle.rx_parse.specs.declared.fault.SyntaxFault.TheVariants as syntax
-use Rattle.rx_first_check.specs.declared.fault.CheckFault.{CheckFault}
+use Rattle.rx_grammar.specs.grammar.Items.{Parses}
+use Rattle.rx_grammar.proofs.Whole.{one_text}
+use Rattle.rx_check.specs.declared.fault.CheckFault.{CheckFault}
+use Rattle.rx_check.specs.declared.fault.CheckFault.TheVariants as check
+use Rattle.rx_check.specs.Passes.{Passes}
+use Rattle.rx_check.specs.Causes.{Causes, AreOne as AreOneFault}
 use Rattle.rx_spelling.specs.Items.{print_program}
 use Rattle.rx_engine.specs.declared.extraction.Answer.{Answer}
 use Rattle.rx_engine.specs.declared.extraction.Fault.{Fault}
 use Rattle.rx_engine.specs.declared.extraction.Fault.TheVariants as fault
-use Rattle.rx_engine.specs.Promise.{IsAccepted, IsExtraction}
-use Rattle.rx_engine.specs.Verdict.{IsUnread, IsUnaccepted, Extracts, is_stop, is_too_deep, AreOne}
+use Rattle.rx_engine.specs.Promise.{IsExtraction}
+use Rattle.rx_engine.specs.Verdict.{IsUnread, Extracts, is_stop, is_too_deep, AreOne}
 use Rattle.rx_engine.proofs.AnswerLemmas.{keeps, whole}
 use Rattle.rx_engine.proofs.RefusalLemmas.{one_tree}
-use Rattle.rx_engine.proofs.OneFault.{one_fault, answer_excludes, read_one, check_one, unread_none, unaccepted_none}
+use Rattle.rx_engine.proofs.OneFault.{one_fault, answer_excludes, read_one, unread_none}
 use Rattle.rx_tool.specs.declared.status.Status.{Status}
 use Rattle.rx_tool.specs.declared.status.Status.TheVariants.{Done, NotAccepted, OutOfMemory}
 use Rattle.rx_tool.specs.Forms.{Command, extracts, checks, command_of}
 use Rattle.rx_tool.specs.Lines.{fault_status, fault_line}
-use Rattle.rx_tool.specs.Defined.{Defined, AnswersTo, Checked, passed, no_program, faulty, result_status, result_bytes, result_line, SaysTooDeep, SaysStop, AreOneLine}
+use Rattle.rx_tool.specs.Defined.{Defined, AnswersTo, IsAccepted, Judged, passed, faulty, Checked, no_program, program, result_status, result_bytes, result_line, SaysTooDeep, SaysStop, AreOneLine, AreFaultLines, AreLines}
 
 -- ---- lines
 
@@ -95,47 +100,60 @@ results_agree bytes start end name (Err f) (Err g) x y n m =
     let o = one_fault bytes start end name f g (known f n) (known g m) x y in
     (statuses_one f g o (stop_status f) (stop_status g), refl, lines_one f g o)
 
--- ---- two checks
+-- ---- two checks, by what is known of faults
 
-accepted_read : (text : List ℕ) (f : SyntaxFault) → IsAccepted text → IsUnread text f → ⊥
-accepted_read text f a c = unread_none text f c a.p a.accepts.parses
+module _ (excluded : (p : ProgramTree) (e : CheckFault) → Passes p → Causes e p → e ≡ check.OutOfMemory)
+    (one : (p : ProgramTree) (e f : CheckFault) → e ≢ check.OutOfMemory → f ≢ check.OutOfMemory → Causes e p → Causes f p → AreOneFault e f) where
+  judged_agree : (text : List ℕ) (p : ProgramTree) → Parses text p → (s t : Status) (a b c d : List ℕ) → Judged p s a b → Judged p t c d
+      → (s ≡ t) × (a ≡ c) × (AreOneLine b d ⊎ AreFaultLines text b d)
+  judged_agree text p x _ _ _ _ _ _ (passed h) (passed k) = (refl, refl, inl (inl refl))
+  judged_agree text p x _ _ _ _ _ _ (passed h) (faulty f told k) = absurd (told (excluded p f h k))
+  judged_agree text p x _ _ _ _ _ _ (faulty e told h) (passed k) = absurd (told (excluded p e k h))
+  judged_agree text p x _ _ _ _ _ _ (faulty e n h) (faulty f m k) = (
+    refl,
+    refl,
+    inr (record {
+      program = p;
+      parses = x;
+      one = e;
+      other = f;
+      cause_one = h;
+      cause_other = k;
+      alike = one p e f n m h k;
+      line_one = refl;
+      line_other = refl;
+    }),
+  )
 
-accepted_faulty : (text : List ℕ) (f : CheckFault) → IsAccepted text → IsUnaccepted text f → ⊥
-accepted_faulty text f a c = unaccepted_none text f c a.p a.accepts
+  judged_read : (text : List ℕ) (f : SyntaxFault) (p : ProgramTree) → IsUnread text f → Parses text p → ⊥
+  judged_read text f p c x = unread_none text f c p x
 
-checks_agree : (text : List ℕ) (s t : Status) (a b c d : List ℕ) → Checked text s a b → Checked text t c d
-    → Agree s t a c b d
-checks_agree text _ _ _ _ _ _ (passed x) (passed y) = (refl, refl, inl refl)
-checks_agree text _ _ _ _ _ _ (passed x) (no_program f c) = absurd (accepted_read text f x c)
-checks_agree text _ _ _ _ _ _ (passed x) (faulty f c) = absurd (accepted_faulty text f x c)
-checks_agree text _ _ _ _ _ _ (no_program f c) (passed y) = absurd (accepted_read text f y c)
-checks_agree text _ _ _ _ _ _ (no_program f c) (no_program g k) =
-    (refl, refl, lines_one (fault.Syntax f) (fault.Syntax g) (read_one text f g c k))
-checks_agree text _ _ _ _ _ _ (no_program f c) (faulty g k) = absurd (unread_none text f c k.p k.parses)
-checks_agree text _ _ _ _ _ _ (faulty f c) (passed y) = absurd (accepted_faulty text f y c)
-checks_agree text _ _ _ _ _ _ (faulty f c) (no_program g k) = absurd (unread_none text g k c.p c.parses)
-checks_agree text _ _ _ _ _ _ (faulty f c) (faulty g k) =
-    (refl, refl, inl (ap (λ (h : CheckFault). fault_line (fault.NotAccepted h)) (check_one text f g c k)))
+  checks_agree : (text : List ℕ) (s t : Status) (a b c d : List ℕ) → Checked text s a b → Checked text t c d
+      → (s ≡ t) × (a ≡ c) × (AreOneLine b d ⊎ AreFaultLines text b d)
+  checks_agree text _ _ _ _ _ _ (no_program f c) (no_program g k) =
+      (refl, refl, inl (lines_one (fault.Syntax f) (fault.Syntax g) (read_one text f g c k)))
+  checks_agree text _ t _ _ c d (no_program f x) (program p y j) = absurd (judged_read text f p x y)
+  checks_agree text s _ a b _ _ (program p y j) (no_program f x) = absurd (judged_read text f p x y)
+  checks_agree text s t a b c d (program p x j) (program q y k) =
+      judged_agree text p x s t a b c d j (subst (λ r. Judged r t c d) (one_text text q p y x) k)
 
--- ---- two defined answers
+  answers_agree : (q : Option Command) (text : List ℕ) (s t : Status) (a b c d : List ℕ) → AnswersTo q text s a b
+      → AnswersTo q text t c d → (s ≡ t) × (a ≡ c) × AreLines q text b d
+  answers_agree None text s t a b c d x y = (x.0 ∙ sym y.0, x.1 ∙ sym y.1, inl (x.2 ∙ sym y.2))
+  answers_agree (Some (extracts name start end)) text s t a b c d x y =
+      let p = results_agree text start end name x.result y.result x.extracts y.extracts (λ e. x.found (x.status_is ∙ e))
+      (λ e. y.found (y.status_is ∙ e)) in (
+        x.status_is ∙ (p.0 ∙ sym y.status_is),
+        x.out_is ∙ (p.1 ∙ sym y.out_is),
+        subst (λ (l : List ℕ). AreOneLine l d) (sym x.err_is)
+            (subst (AreOneLine (result_line x.result)) (sym y.err_is) p.2),
+      )
+  answers_agree (Some checks) text s t a b c d x y = checks_agree text s t a b c d x y
 
-answers_agree : (q : Option Command) (text : List ℕ) (s t : Status) (a b c d : List ℕ) → AnswersTo q text s a b
-    → AnswersTo q text t c d → Agree s t a c b d
-answers_agree None text s t a b c d x y = (x.0 ∙ sym y.0, x.1 ∙ sym y.1, inl (x.2 ∙ sym y.2))
-answers_agree (Some (extracts name start end)) text s t a b c d x y =
-    let p = results_agree text start end name x.result y.result x.extracts y.extracts (λ e. x.found (x.status_is ∙ e))
-    (λ e. y.found (y.status_is ∙ e)) in (
-      x.status_is ∙ (p.0 ∙ sym y.status_is),
-      x.out_is ∙ (p.1 ∙ sym y.out_is),
-      subst (λ (l : List ℕ). AreOneLine l d) (sym x.err_is)
-          (subst (AreOneLine (result_line x.result)) (sym y.err_is) p.2),
-    )
-answers_agree (Some checks) text s t a b c d x y = checks_agree text s t a b c d x y
-
-pub defined_agree : (words : List (List ℕ)) (text : List ℕ) (s t : Status) (a b c d : List ℕ)
-    → Defined words text s a b → Defined words text t c d
-    → (s ≡ t) × (a ≡ c) × AreOneLine b d
-defined_agree words text s t a b c d x y = answers_agree (command_of words) text s t a b c d x y
+  pub defined_agree : (words : List (List ℕ)) (text : List ℕ) (s t : Status) (a b c d : List ℕ)
+      → Defined words text s a b → Defined words text t c d
+      → (s ≡ t) × (a ≡ c) × AreLines (command_of words) text b d
+  defined_agree words text s t a b c d x y = answers_agree (command_of words) text s t a b c d x y
 
 -- where no condition fails, the extraction is the defined answer
 pub extraction_defined : (words : List (List ℕ)) (text name : List ℕ) (start end : ℕ) (p q : ProgramTree)
@@ -151,12 +169,15 @@ extraction_defined words text name start end p q e x =
 pub acceptance_defined : (words : List (List ℕ)) (text : List ℕ) → command_of words ≡ Some checks → IsAccepted text
     → Defined words text Done (codes "accepted\n") []
 acceptance_defined words text e a = subst (λ (c : Option Command). AnswersTo c text Done (codes "accepted\n") [])
-    (sym e) (passed a)
+    (sym e) (program a.program a.parses (passed a.passes))
+
+judged_passes : (p : ProgramTree) (s : Status) (out err : List ℕ) → s ≡ Done → Judged p s out err → Passes p
+judged_passes p _ _ _ e (passed a) = a
+judged_passes p _ _ _ e (faulty f told c) = absurd (cc)
 
 checked_accepted : (text : List ℕ) (s : Status) (out err : List ℕ) → s ≡ Done → Checked text s out err → IsAccepted text
-checked_accepted text _ _ _ e (passed a) = a
 checked_accepted text _ _ _ e (no_program f c) = absurd (cc)
-checked_accepted text _ _ _ e (faulty f c) = absurd (cc)
+checked_accepted text s out err e (program p x j) = record { program = p; parses = x; passes = judged_passes p s out err e j }
 
 pub done_accepted : (words : List (List ℕ)) (text out err : List ℕ) → command_of words ≡ Some checks
     → Defined words text Done out err → IsAccepted text

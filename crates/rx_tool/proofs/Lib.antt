@@ -1,4 +1,4 @@
 pub mod Digits
 pub mod Replies
-pub mod Checking
+pub mod CheckLemmas
 pub mod Agreement

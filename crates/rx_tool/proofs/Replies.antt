@@ -17,10 +17,11 @@ use Rattle.rx_first_check.specs.declared.fault.CheckFault.TheVariants as check
 use Rattle.rx_engine.specs.declared.extraction.Fault.TheVariants as fault
 use Rattle.rx_tool.specs.declared.status.Status.{Status}
 use Rattle.rx_tool.specs.declared.status.Status.TheVariants.{Done, Usage, NotAccepted, Refused, ReadFault, WriteFault, OutOfMemory, TooLong, StillRunning, Wrong, Trapped}
+use Rattle.rx_tree.specs.Plain.{ProgramTree}
 use Rattle.rx_engine.specs.Verdict.{Extracts}
 use Rattle.rx_tool.specs.Forms.{Command, extracts, checks, command_of}
 use Rattle.rx_tool.specs.Lines.{status_line, fault_line, lex_line, syntax_line, name_line, type_line, check_line, fault_status, lex_status, syntax_status, name_status, type_status, check_status}
-use Rattle.rx_tool.specs.Defined.{Defined, AnswersTo, Checked, passed, no_program, faulty, result_status, result_bytes, result_line}
+use Rattle.rx_tool.specs.Defined.{Defined, AnswersTo, Judged, passed, faulty, Checked, no_program, program, result_status, result_bytes, result_line}
 use Rattle.rx_tool.specs.Replies.{Stream, IsForm, HasFailed, HasAll, IsRead, TakesAtMost, TakesOneMore, Due, answered, not_read, too_long, no_memory, Ending, whole, out_cut, both_cut, err_cut, IsComplete, Replies, Reports, Delivers, Found, defined, no_room}
 
 -- the statuses that a text's answer has
@@ -69,11 +70,14 @@ result_answers : (r : Result Answer Fault) → IsAnswer (result_status r)
 result_answers (Ok a) = tt
 result_answers (Err f) = fault_answers f
 
+judged_answers : (p : ProgramTree) (status : Status) (outs errs : List ℕ) → Judged p status outs errs → IsAnswer status
+judged_answers p _ _ _ (passed a) = tt
+judged_answers p _ _ _ (faulty f n c) = tt
+
 checked_answers : (text : List ℕ) (status : Status) (outs errs : List ℕ) → Checked text status outs errs
     → IsAnswer status
-checked_answers text _ _ _ (passed a) = tt
 checked_answers text _ _ _ (no_program f c) = tt
-checked_answers text _ _ _ (faulty f c) = tt
+checked_answers text status outs errs (program p x j) = judged_answers p status outs errs j
 
 asked_answers : (q : Option Command) (text : List ℕ) (status : Status) (outs errs : List ℕ)
     → AnswersTo q text status outs errs → IsAnswer status

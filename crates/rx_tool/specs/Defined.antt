@@ -1,16 +1,21 @@
 -- The defined answer of words on a text: a status, the bytes for standard output, and the line for standard error.
-use Rattle.std.specs.Prelude.{ℕ, ◌≡◌, ◌⊎◌, List, [], Option, Some, None, Result, Ok, Err, codes}
+use Rattle.std.specs.Prelude.{ℕ, ◌≡◌, ◌≢◌, ◌⊎◌, List, [], Option, Some, None, Result, Ok, Err, codes}
 use Rattle.rx_parse.specs.declared.fault.SyntaxFault.{SyntaxFault}
 use Rattle.rx_parse.specs.declared.fault.SyntaxFault.TheVariants as syntax
-use Rattle.rx_first_check.specs.declared.fault.CheckFault.{CheckFault}
+use Rattle.rx_tree.specs.Plain.{ProgramTree}
+use Rattle.rx_grammar.specs.grammar.Items.{Parses}
+use Rattle.rx_check.specs.declared.fault.CheckFault.{CheckFault}
+use Rattle.rx_check.specs.declared.fault.CheckFault.TheVariants as check
+use Rattle.rx_check.specs.Passes.{Passes}
+use Rattle.rx_check.specs.Causes.{Causes, AreOne}
 use Rattle.rx_engine.specs.declared.extraction.Answer.{Answer}
 use Rattle.rx_engine.specs.declared.extraction.Fault.{Fault}
-use Rattle.rx_engine.specs.Promise.{IsAccepted}
-use Rattle.rx_engine.specs.Verdict.{IsUnread, IsUnaccepted, Extracts}
+use Rattle.rx_engine.specs.Verdict.{IsUnread, Extracts}
 use Rattle.rx_tool.specs.declared.status.Status.{Status}
 use Rattle.rx_tool.specs.declared.status.Status.TheVariants.{Done, Usage, NotAccepted, OutOfMemory}
 use Rattle.rx_tool.specs.Forms.{Command, extracts, checks, command_of}
-use Rattle.rx_tool.specs.Lines.{status_line, fault_status, syntax_line, check_line, fault_line}
+use Rattle.rx_tool.specs.Lines.{status_line, fault_status, syntax_line, fault_line}
+use Rattle.rx_tool.specs.CheckLines.{line_of_check}
 
 abbrev pub result_status : Result Answer Fault → Status
 result_status (Ok a) = Done
@@ -33,13 +38,21 @@ pub record Obtained (text name : List ℕ) (start end : ℕ) (status : Status) (
   pub out_is : out ≡ result_bytes result
   pub err_is : err ≡ result_line result
 
--- these are of whether the text is accepted
+-- the text is a program that is accepted
+pub record IsAccepted (text : List ℕ) : Type 0 where
+  pub program : ProgramTree
+  pub parses : Parses text program
+  pub passes : Passes program
+
+-- these are of a program, which is accepted or has this fault
+pub data Judged (p : ProgramTree) : Status → List ℕ → List ℕ → Type 0 where
+  passed : Passes p → Judged p Done (codes "accepted\n") []
+  faulty : (f : CheckFault) → f ≢ check.OutOfMemory → Causes f p → Judged p NotAccepted [] (line_of_check p f)
+
+-- these are of a text, which is no program, for this reason, or is one
 pub data Checked (text : List ℕ) : Status → List ℕ → List ℕ → Type 0 where
-  passed : IsAccepted text → Checked text Done (codes "accepted\n") []
-  -- it is no program, and the line says why
   no_program : (f : SyntaxFault) → IsUnread text f → Checked text NotAccepted [] (syntax_line f)
-  -- it is a program that breaks rules, and the line says the first fault
-  faulty : (f : CheckFault) → IsUnaccepted text f → Checked text NotAccepted [] (check_line f)
+  program : {status : Status} {out err : List ℕ} (p : ProgramTree) → Parses text p → Judged p status out err → Checked text status out err
 
 abbrev pub AnswersTo : Option Command → List ℕ → Status → List ℕ → List ℕ → Type 0
 AnswersTo None text status out err = (status ≡ Usage) × (out ≡ []) × (err ≡ status_line Usage)
@@ -59,3 +72,21 @@ SaysStop line = ((at : ℕ) × (line ≡ syntax_line (syntax.Syntax at))) ⊎ Sa
 -- two lines are one, or both say where the same tokens stop, one of them because of their depth
 abbrev pub AreOneLine : List ℕ → List ℕ → Type 0
 AreOneLine a b = (a ≡ b) ⊎ (SaysStop a × SaysStop b × (SaysTooDeep a ⊎ SaysTooDeep b))
+
+-- two lines say faults of one program, which are of one pass: those of types need not be one, nor the values that a match
+-- misses
+pub record AreFaultLines (text a b : List ℕ) : Type 0 where
+  pub program : ProgramTree
+  pub parses : Parses text program
+  pub one : CheckFault
+  pub other : CheckFault
+  pub cause_one : Causes one program
+  pub cause_other : Causes other program
+  pub alike : AreOne one other
+  pub line_one : a ≡ line_of_check program one
+  pub line_other : b ≡ line_of_check program other
+
+-- the lines of two defined answers
+abbrev pub AreLines : Option Command → List ℕ → List ℕ → List ℕ → Type 0
+AreLines (Some checks) text a b = AreOneLine a b ⊎ AreFaultLines text a b
+AreLines _ text a b = AreOneLine a b

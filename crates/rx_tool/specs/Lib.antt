@@ -1,4 +1,5 @@
 pub mod Asked
+pub mod CheckLines
 pub mod Defined
 pub mod Forms
 pub mod Lines

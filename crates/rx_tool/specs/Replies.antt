@@ -1,11 +1,12 @@
 -- What a call of the tool does: what is due, and how far it was written.
 use Rattle.std.specs.Prelude.{ℕ, ◌≡◌, ◌≤◌, ◌⊎◌, List, [], length, take, Option, Some, None}
 use Rattle.rx_core.specs.Streams.{Rose, Told, Gone, Grown}
+use Rattle.rx_tree.specs.Plain.{ProgramTree}
 use Rattle.rx_tool.specs.declared.status.Status.{Status}
 use Rattle.rx_tool.specs.declared.status.Status.TheVariants.{ReadFault, WriteFault, OutOfMemory, TooLong}
 use Rattle.rx_tool.specs.Forms.{Command, command_of}
 use Rattle.rx_tool.specs.Lines.{status_line}
-use Rattle.rx_tool.specs.Defined.{AnswersTo, Defined}
+use Rattle.rx_tool.specs.Defined.{AnswersTo, Judged, Defined}
 
 -- the bytes of a source or a sink, where it tells them, and its counts
 pub record Stream : Type 0 where
@@ -87,6 +88,11 @@ pub record Replies (words : List (List ℕ)) (source source' out out' err err' :
 pub data Found (command : Command) (text : List ℕ) : Status → List ℕ → List ℕ → Type 0 where
   defined : {status : Status} {outs errs : List ℕ} → AnswersTo (Some command) text status outs errs → Found command text status outs errs
   no_room : Found command text OutOfMemory [] (status_line OutOfMemory)
+
+-- what is found for a program that is checked
+pub data FoundOf (p : ProgramTree) : Status → List ℕ → List ℕ → Type 0 where
+  judged : {status : Status} {outs errs : List ℕ} → Judged p status outs errs → FoundOf p status outs errs
+  no_space : FoundOf p OutOfMemory [] (status_line OutOfMemory)
 
 -- one line was written, or cut
 abbrev pub Reports : Stream → Stream → Status → List ℕ → Status → Type 0

@@ -3,17 +3,23 @@
 ghost use Rattle.std.specs.Prelude.{◌≡◌, ℕ, List, [], Some, codes};
 ghost use Rattle.rx_tool.specs.declared.status.Status.{Status};
 ghost use Rattle.rx_spelling.specs.Items.{print_program};
-ghost use Rattle.rx_engine.specs.Promise.{IsAccepted, IsExtraction};
+ghost use Rattle.rx_engine.specs.Promise.{IsExtraction};
 ghost use Rattle.rx_tool.specs.Forms.{command_of, extracts, checks};
-ghost use Rattle.rx_tool.specs.Defined.{Defined, AreOneLine};
+ghost use Rattle.rx_tool.specs.Defined.{Defined, IsAccepted, AreLines};
 ghost use Rattle.rx_tree.specs.Plain.{ProgramTree};
 
-/// Two defined answers of the same words on the same text have one status, one output and one line. Only where the tokens
-/// of the text stop because of their depth may the lines name other places.
+use rx_check::{causes_are_one, passed_or_faulty};
+
+/// Two defined answers of the same words on the same text have one status and one output. Of an extraction they have one
+/// line, but for the places where the tokens of the text stop because of their depth; of a check each line says a fault of
+/// the program, and both are of one pass.
 pub fn one_answer()
     ensures { (words : List (List ℕ)) (text : List ℕ) (s t : Status) (a b c d : List ℕ) → Defined words text s a b → Defined words text t c d
-        → (s ≡ t) × (a ≡ c) × AreOneLine b d }
-{}
+        → (s ≡ t) × (a ≡ c) × AreLines (command_of words) text b d }
+{
+    passed_or_faulty();
+    causes_are_one();
+}
 
 /// Where no condition of the extraction fails, its canonical text is the defined answer.
 pub fn extraction_is_defined()

@@ -1,6 +1,8 @@
 //! The tool over values: the words of the command line and a text in, a status, an answer and a line out.
 #![tactic(auto)]
 
+mod check_line;
+mod checking;
 mod laws;
 mod line;
 mod reply;

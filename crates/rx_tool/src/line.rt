@@ -11,7 +11,7 @@ use rx_parse::SyntaxFault;
 use std::alloc::{AllocError, Global};
 
 /// The line of the words, the numbers and the rest.
-fn line(alloc: Global, words: &str, numbers: &[u64], rest: &str) -> Result<Text, AllocError>
+pub fn line(alloc: Global, words: &str, numbers: &[u64], rest: &str) -> Result<Text, AllocError>
     ensures { IfOk result (λ l. l ≡ line_of (with_numbers words.now numbers.now ++ rest.now)) }
 {
     let mut line = Text::new(alloc, "error: ")?;
@@ -61,7 +61,8 @@ fn lex_fault(alloc: Global, fault: &LexFault) -> Result<Text, AllocError>
     }
 }
 
-fn syntax_fault(alloc: Global, fault: &SyntaxFault) -> Result<Text, AllocError>
+/// The line of a fault of reading.
+pub fn syntax_fault(alloc: Global, fault: &SyntaxFault) -> Result<Text, AllocError>
     ensures { IfOk result (λ l. l ≡ syntax_line fault.now) }
 {
     match fault {
@@ -135,7 +136,8 @@ pub fn line_of_fault(alloc: Global, fault: &Fault) -> Result<Text, AllocError>
     }
 }
 
-fn status_of_syntax(fault: &SyntaxFault) -> Status
+/// The status of a fault of reading.
+pub fn status_of_syntax(fault: &SyntaxFault) -> Status
     ensures { result ≡ syntax_status fault.now }
 {
     match fault {

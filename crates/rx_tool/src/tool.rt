@@ -3,15 +3,16 @@
 ghost use Rattle.std.specs.Prelude.{◌≡◌, ◌≤◌, ◌⊎◌, List as ListOf, ℕ, None, length};
 ghost use Rattle.rx_tool.specs.Lines.{fault_line, fault_status, status_line};
 ghost use Rattle.rx_tool.specs.Asked.{asked};
-ghost use Rattle.rx_tool.specs.Forms.{checks, command_of, extracts};
+ghost use Rattle.rx_tool.specs.Forms.{command_of, extracts};
 ghost use Rattle.rx_tool.specs.Replies.{Ending, Found, Replies, Reports, sink_state, source_state};
 
+use crate::checking::check_text;
 use crate::line::{line_of_fault, status_of_fault};
 use crate::reply::{deliver, report, report_name};
 use crate::status::Status;
 use crate::words::{Command, read_words};
 use rx_core::{List, ReadFail, Sink, Source, Text, read_all};
-use rx_engine::{Fault, Selection, check, extract};
+use rx_engine::{Fault, Selection, extract};
 use std::alloc::{AllocError, Global};
 
 /// The bytes of a text at most.
@@ -44,18 +45,6 @@ fn extract_run<O: Sink, E: Sink>(
 {
     match extract(alloc, text, selection, name) {
         Ok(answer) => deliver(out, err, answer.text.as_str()),
-        Err(fault) => refuse(alloc, err, &fault),
-    }
-}
-
-/// Checks a text, and writes `accepted` or why it is not.
-fn check_text<O: Sink, E: Sink>(alloc: Global, out: &mut O, err: &mut E, text: &[u8]) -> Status
-    ensures { (status : Status) × (outs : ListOf ℕ) × (errs : ListOf ℕ) × Found checks text.now status outs errs
-        × Ending (sink_state O.contents O.faults O.standstills out.old) (sink_state O.contents O.faults O.standstills out.new)
-        (sink_state E.contents E.faults E.standstills err.old) (sink_state E.contents E.faults E.standstills err.new) status outs errs result }
-{
-    match check(alloc, text) {
-        Ok(()) => deliver(out, err, "accepted\n"),
         Err(fault) => refuse(alloc, err, &fault),
     }
 }

@@ -1,0 +1,35 @@
+-- What is found is that the program passes, or its fault, and the reply writes it.
+use Rattle.std.proofs.Common.{[], inl, inr}
+use Rattle.std.specs.Prelude.{codes}
+use Rattle.rx_tree.specs.PlainOf.{plain-Program}
+use Rattle.rx_check.specs.Kept.{typed_of, front_of}
+use Rattle.rx_tool.specs.declared.status.Status.TheVariants.{Done, OutOfMemory}
+use Rattle.rx_tool.specs.Lines.{status_line}
+use Rattle.rx_tool.specs.CheckLines.{line_of_check, status_of_check}
+use Rattle.rx_tool.specs.Defined.{passed}
+use Rattle.rx_tool.specs.Replies.{judged, no_space}
+use Rattle.rx_tool.proofs.Replies.{delivered, reported}
+use Rattle.rx_tool.proofs.CheckLemmas.{found_faulty}
+use Rattle.rx_tool.proofs.checking.check_program.Goals as goal
+
+pub returns-in-Ok : goal.returns-in-Ok
+returns-in-Ok g c = (
+  Done,
+  codes "accepted\n",
+  [],
+  judged (passed ((typed_of (front_of c.in-Ok.checked), c.in-Ok.ensures.checked.0), c.in-Ok.ensures.checked.1)),
+  delivered _ _ _ _ Done c.deliver.result (codes "accepted\n") c.deliver.ensures,
+)
+
+pub returns-in-Err : goal.returns-in-Err
+returns-in-Err g c = let p = plain-Program c.args.program.now in
+    elim c.refuse_program.ensures [
+      | inl r ↦ (
+        status_of_check c.in-Err.fault,
+        [],
+        line_of_check p c.in-Err.fault,
+        found_faulty p c.in-Err.fault c.in-Err.ensures.fault,
+        reported _ _ _ _ c.refuse_program.result _ r,
+      )
+      | inr r ↦ (OutOfMemory, [], status_line OutOfMemory, no_space, reported _ _ _ OutOfMemory c.refuse_program.result _ r)
+    ]
