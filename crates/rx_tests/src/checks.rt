@@ -1,7 +1,7 @@
 //! The command `check` on texts, each with its status and what it writes.
 
 use crate::rem::{replies, replies_to};
-use crate::table::{LINES, all_hold, hold};
+use rx_tables::{LINES, all_hold, hold};
 
 const ACCEPTED: &str = "\
 check: TIMES | 0 accepted

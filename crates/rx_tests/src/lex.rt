@@ -1,8 +1,8 @@
 //! Tokens and numbers of texts.
 
-use crate::table::{LINES, Nesting, Outcome, all_hold, hold};
 use rx_core::Kind;
 use rx_lex::{Class, Token, lex, numeral_of};
+use rx_tables::{LINES, Nesting, Outcome, all_hold, hold};
 use std::alloc::{AllocError, Global};
 use std::fmt::Write;
 

@@ -1,5 +1,5 @@
-//! The tests of all crates. Each public call stands in them once with memory enough; tables have worked examples,
-//! places, depths and texts, each with its answer.
+//! The tests of the parser, the printer, the first grammar and the commands. Each public call stands in them once with
+//! memory enough; tables have worked examples, places, depths and texts, each with its answer.
 #![tactic(auto)]
 
 #[cfg(test)]
@@ -7,13 +7,9 @@ mod bank;
 #[cfg(test)]
 mod checks;
 #[cfg(test)]
-mod declared;
-#[cfg(test)]
 mod first_check;
 #[cfg(test)]
 mod lex;
-#[cfg(test)]
-mod names;
 #[cfg(test)]
 mod nested;
 #[cfg(test)]
@@ -25,19 +21,13 @@ mod rem;
 #[cfg(test)]
 mod rows;
 #[cfg(test)]
-mod runs;
-#[cfg(test)]
 mod select;
 #[cfg(test)]
 mod stops;
 #[cfg(test)]
 mod streams;
 #[cfg(test)]
-mod table;
-#[cfg(test)]
 mod trees;
-#[cfg(test)]
-mod typed;
 #[cfg(test)]
 mod words;
 

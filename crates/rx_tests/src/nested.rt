@@ -2,7 +2,7 @@
 //! `‸` stands before the token that is too deep. Behind a row stands how many of the construct have 128 levels.
 
 use crate::parse::is_answered;
-use crate::table::{LINES, Nesting, Outcome, all_hold, joined};
+use rx_tables::{LINES, Nesting, Outcome, all_hold, joined};
 use std::alloc::Global;
 
 /// Whether so many constructs are answered as they should be: those that are too many have their place at the first of

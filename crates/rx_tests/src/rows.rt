@@ -1,7 +1,7 @@
 //! The tool on files of several functions: answers, refusals and faults, each with what it writes.
 
 use crate::rem::{is_done, replies, replies_to, writes};
-use crate::table::{BLOCKS, LINES, Nesting, Outcome, all_hold, hold};
+use rx_tables::{BLOCKS, LINES, Nesting, Outcome, all_hold, hold};
 use std::alloc::{AllocError, Global};
 
 /// Three functions, one with a result.

@@ -1,4 +1,5 @@
-//! Tables as texts, and texts that repeat a part. A row has what is given beside what is expected.
+//! Tables as texts, and texts that repeat a part, for tests. A row has what is given beside what is expected.
+#![tactic(auto)]
 
 use std::alloc::{AllocError, Global};
 use std::process::Abort;

@@ -1,0 +1,11 @@
+//! The tests of names, declarations, types and outcomes over the whole language: tables of texts, each with its answer.
+#![tactic(auto)]
+
+#[cfg(test)]
+mod declared;
+#[cfg(test)]
+mod names;
+#[cfg(test)]
+mod runs;
+#[cfg(test)]
+mod typed;
