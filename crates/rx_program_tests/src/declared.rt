@@ -1,11 +1,12 @@
 //! What programs declare, or the first declaration that is wrong, with its place.
 
+use crate::holding::all_hold;
 use rx_core::{LetGo, List, Ty};
 use rx_declare::{DeclareFault, declare, declared_are_finite};
 use rx_declared::sizes;
 use rx_parse::{parse, parsed_programs_are_numbered};
 use rx_resolve::{Resolved, resolve};
-use rx_tables::{LINES, Outcome, all_hold};
+use rx_tables::{LINES, Outcome};
 use rx_tree::Program;
 use rx_typed::{Decl, Decls, is_copy};
 use rx_unify::Rule;

@@ -4,6 +4,8 @@
 #[cfg(test)]
 mod declared;
 #[cfg(test)]
+mod holding;
+#[cfg(test)]
 mod names;
 #[cfg(test)]
 mod runs;

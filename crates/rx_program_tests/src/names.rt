@@ -1,9 +1,10 @@
 //! Names of programs: what each means, or the first that is wrong, with its place.
 
+use crate::holding::all_hold;
 use rx_core::{LetGo, List, Position, Span};
 use rx_parse::{parse, parsed_programs_are_numbered};
 use rx_resolve::{ItemNames, NameFault, NodeNames, Resolved, resolve};
-use rx_tables::{LINES, Outcome, all_hold};
+use rx_tables::{LINES, Outcome};
 use std::alloc::{AllocError, Global};
 
 /// A fault as in `Unknown 20 21`.

@@ -1,8 +1,9 @@
 //! Outcomes of runs, compared.
 
+use crate::holding::hold;
 use rx_core::Text;
 use rx_meaning::{End, Outcome, Trap, compare_runs};
-use rx_tables::{Outcome as Row, hold};
+use rx_tables::Outcome as Row;
 use std::alloc::Global;
 
 /// Whether an outcome is up to another, by what is printed and how it ends.

@@ -5,10 +5,11 @@ ghost use Rattle.rx_tree.specs.Size.{IsNumbered};
 ghost use Rattle.rx_resolve.specs.Causes.{Meant};
 
 use crate::declared::rule_name;
+use crate::holding::{all_hold, hold};
 use rx_core::{Kind, LetGo, List, Ty};
 use rx_parse::{parse, parsed_programs_are_numbered};
 use rx_resolve::{Resolved, resolve};
-use rx_tables::{LINES, Outcome, all_hold, hold, push_times};
+use rx_tables::{LINES, Outcome, push_times};
 use rx_tree::Program;
 use rx_typeck::{TypeFault, Typed, typecheck};
 use std::alloc::{AllocError, Global};

@@ -2,15 +2,9 @@
 #![tactic(auto)]
 
 use std::alloc::{AllocError, Global};
-use std::process::Abort;
 
 /// Whether a row holds. Where no memory was found it does not.
 pub type Outcome = Result<bool, AllocError>;
-
-/// Ends the test, naming the row, unless it holds.
-pub fn hold(rt: &impl Abort, outcome: Outcome, row: &str) {
-    assert!(rt; outcome == Ok(true), "{row}");
-}
 
 /// How a table is laid out: what stands between two rows, and between what is given and what is expected.
 #[derive(Clone, Copy)]
@@ -37,22 +31,25 @@ pub const BLOCKS: Layout = Layout {
     mark: "\n",
 };
 
-/// Ends the test at the first row that doesn't hold.
-pub fn all_hold<F: Fn(Global, &str, &str) -> Outcome>(
-    rt: &impl Abort,
+/// The first row that doesn't hold.
+pub fn first_wrong<'t, F: Fn(Global, &str, &str) -> Outcome>(
     alloc: Global,
-    table: &str,
+    table: &'t str,
     layout: Layout,
     holds: F,
-)
+) -> Option<&'t str>
     requires { F.IsAlwaysCallable holds }
 {
     for row in table.split(layout.between) {
-        match row.split_once(layout.mark) {
-            Some((given, want)) => hold(rt, holds(alloc, given, want), row),
-            None => hold(rt, Ok(false), row),
+        let outcome = match row.split_once(layout.mark) {
+            Some((given, want)) => holds(alloc, given, want),
+            None => Ok(false),
+        };
+        if outcome != Ok(true) {
+            return Some(row);
         }
     }
+    None
 }
 
 /// Two texts in one.

@@ -1,7 +1,7 @@
 //! A program of many forms of the language.
 
+use crate::holding::hold;
 use crate::parse::answers;
-use rx_tables::hold;
 
 /// The text of `examples/bank.rs`.
 pub const BANK: &str = "// A small bank: commands come from the input.

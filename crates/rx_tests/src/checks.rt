@@ -1,7 +1,8 @@
 //! The command `check` on texts, each with its status and what it writes.
 
+use crate::holding::{all_hold, hold};
 use crate::rem::{replies, replies_to};
-use rx_tables::{LINES, all_hold, hold};
+use rx_tables::LINES;
 
 const ACCEPTED: &str = "\
 check: TIMES | 0 accepted

@@ -1,9 +1,10 @@
 //! One program that is accepted, and the variables in scope in it.
 
+use crate::holding::{all_hold, hold};
 use rx_core::{LetGo, Name};
 use rx_first_check::{accepted, scope_behind};
 use rx_parse::parse;
-use rx_tables::{LINES, Outcome, all_hold, hold};
+use rx_tables::{LINES, Outcome};
 use rx_tree::{Func, ItemNode, Program};
 use std::alloc::{AllocError, Global};
 

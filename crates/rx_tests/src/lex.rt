@@ -1,8 +1,9 @@
 //! Tokens and numbers of texts.
 
+use crate::holding::{all_hold, hold};
 use rx_core::Kind;
 use rx_lex::{Class, Token, lex, numeral_of};
-use rx_tables::{LINES, Nesting, Outcome, all_hold, hold};
+use rx_tables::{LINES, Nesting, Outcome};
 use std::alloc::{AllocError, Global};
 use std::fmt::Write;
 

@@ -9,6 +9,8 @@ mod checks;
 #[cfg(test)]
 mod first_check;
 #[cfg(test)]
+mod holding;
+#[cfg(test)]
 mod lex;
 #[cfg(test)]
 mod nested;

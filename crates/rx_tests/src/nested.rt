@@ -1,8 +1,9 @@
 //! Each construct that adds levels, inside itself. `«` and `»` enclose the construct, `‹` and `›` what is innermost, and
 //! `‸` stands before the token that is too deep. Behind a row stands how many of the construct have 128 levels.
 
+use crate::holding::all_hold;
 use crate::parse::is_answered;
-use rx_tables::{LINES, Nesting, Outcome, all_hold, joined};
+use rx_tables::{LINES, Nesting, Outcome, joined};
 use std::alloc::Global;
 
 /// Whether so many constructs are answered as they should be: those that are too many have their place at the first of

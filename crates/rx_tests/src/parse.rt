@@ -1,9 +1,10 @@
 //! What texts are answered with by the parser.
 
+use crate::holding::{all_hold, hold};
 use rx_core::LetGo;
 use rx_lex::LexFault;
 use rx_parse::{SyntaxFault, parse};
-use rx_tables::{LINES, Nesting, Outcome, all_hold, hold};
+use rx_tables::{LINES, Nesting, Outcome};
 use std::alloc::Global;
 
 /// What a text is answered with: a word for the kind, and the number of its items or the place of the fault.

@@ -1,8 +1,9 @@
 //! The tool on worked examples, each with its status and what it writes.
 
+use crate::holding::{all_hold, hold};
 use crate::rows::{AREA, UNITS};
 use rx_core::{List, NeverSink, NeverSource, Source, StdSource, Text};
-use rx_tables::{LINES, Nesting, Outcome, all_hold, hold};
+use rx_tables::{LINES, Nesting, Outcome};
 use rx_tool::rem;
 use std::alloc::{AllocError, Global};
 use std::io;

@@ -1,7 +1,8 @@
 //! The tool on files of several functions: answers, refusals and faults, each with what it writes.
 
+use crate::holding::{all_hold, hold};
 use crate::rem::{is_done, replies, replies_to, writes};
-use rx_tables::{BLOCKS, LINES, Nesting, Outcome, all_hold, hold};
+use rx_tables::{BLOCKS, LINES, Nesting, Outcome};
 use std::alloc::{AllocError, Global};
 
 /// Three functions, one with a result.

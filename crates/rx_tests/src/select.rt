@@ -1,10 +1,11 @@
 //! Ranges of bytes, and the runs that they select.
 
+use crate::holding::all_hold;
 use rx_core::LetGo;
 use rx_lex::{LexFault, lex};
 use rx_parse::{SyntaxFault, parse};
 use rx_select::select_run;
-use rx_tables::{LINES, Outcome, all_hold};
+use rx_tables::{LINES, Outcome};
 use std::alloc::Global;
 
 /// A function with a tail, and one with a comment between its statements.

@@ -1,7 +1,8 @@
 //! Where texts stop being a program. `‸` stands before the token in question, or at the end; it is no part of the text.
 
+use crate::holding::all_hold;
 use crate::parse::{answer, is_answered};
-use rx_tables::{LINES, MARKED, Nesting, Outcome, all_hold, joined};
+use rx_tables::{LINES, MARKED, Nesting, Outcome, joined};
 use std::alloc::Global;
 
 /// Whether no program goes on at the mark.

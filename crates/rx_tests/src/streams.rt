@@ -1,9 +1,10 @@
 //! Each public call on streams once, and what the standard streams' adapters do at an error.
 
+use crate::holding::hold;
 use rx_core::{
     List, NeverSink, NeverSource, ReadFail, StdSink, StdSource, WriteFail, read_all, write_all_of,
 };
-use rx_tables::{Outcome, hold};
+use rx_tables::Outcome;
 use std::alloc::Global;
 use std::io;
 use std::io::{ErrorKind, Read, Write};

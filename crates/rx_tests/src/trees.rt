@@ -1,9 +1,10 @@
 //! Trees that are read, copied, compared and walked.
 
+use crate::holding::all_hold;
 use crate::prints::are_same;
 use rx_core::{LetGo, List, Position};
 use rx_parse::parse;
-use rx_tables::{LINES, Outcome, all_hold};
+use rx_tables::{LINES, Outcome};
 use rx_tree::Program;
 use rx_tree_operations::{CopyTree, Node, at, same};
 use std::alloc::{AllocError, Global};

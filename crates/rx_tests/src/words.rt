@@ -1,11 +1,12 @@
 //! Words that are compared and copied, identifiers, and lists that are held while a step may fail.
 
+use crate::holding::{all_hold, hold};
 use rx_core::{
     LetGo, List, Text, is_among, is_among_names, is_among_texts, is_same, is_same_name,
     is_same_text, keep, pushed,
 };
 use rx_lex::is_identifier;
-use rx_tables::{LINES, Outcome, all_hold, hold};
+use rx_tables::{LINES, Outcome};
 use std::alloc::{AllocError, Global};
 
 fn words_are_compared() -> bool {
