@@ -2,7 +2,8 @@ pub mod HeadLemmas
 pub mod MatrixLemmas
 pub mod WeightLemmas
 pub mod FiniteLemmas
-pub mod KindLemmas
+pub mod SetLemmas
+pub mod RangeLemmas
 pub mod CellLemmas
 pub mod LeastLemmas
 pub mod MissingLemmas

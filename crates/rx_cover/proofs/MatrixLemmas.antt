@@ -5,8 +5,8 @@ use Rattle.rx_typed.specs.Tree.{Pattern, any, bind, exactly, parts, variant, beh
 use Rattle.rx_cover.specs.Values.{Value, Values, no_value, value_and, HasType, HaveTypes}
 use Rattle.rx_cover.specs.Matching.{part_of, Matches, MatchParts}
 use Rattle.rx_cover.specs.Heads.{Head, head_in, parts_in, head_of, parts_of, IsHead, types_under, with_head, same_head, has}
-use Rattle.rx_cover.specs.Matrices.{Row, MatchRow, SomeRow, CoversAll, Misses, CoversHeads, asks, is_it, admits, mark_parts, mark_row, mark_rows, kept_parts, row_under, rows_under, row_beside, rows_beside, kept_types, kept_values, add_head_in, column_heads, is_open, some_open, AreHeads}
-use Rattle.rx_cover.proofs.HeadLemmas.{both_true, same_head_is, taken, built, meets, matched, open_matches}
+use Rattle.rx_cover.specs.Matrices.{Row, MatchRow, SomeRow, CoversAll, Misses, CoversHead, MissesHead, CoversHeads, asks, is_it, admits, mark_parts, mark_row, mark_rows, kept_parts, row_under, rows_under, row_beside, rows_beside, kept_types, kept_values, add_head_in, column_heads, is_open, some_open, AreHeads}
+use Rattle.rx_cover.proofs.HeadLemmas.{both_true, taken, built, meets, matched, open_matches}
 
 -- ---- masks
 
@@ -261,7 +261,7 @@ row_beside_to (p ∷ ps) v ws n m = let q = meets p v m.0 in by (asks p) refl (b
     by_head None e n a = headless p e
     by_head (Some g) e n a = absurd (no_other (same_head g (head_of v)) n a)
 
-neither : (a b : Bool) → (a || b) ≡ false → (a ≡ false) × (b ≡ false)
+pub neither : (a b : Bool) → (a || b) ≡ false → (a ≡ false) × (b ≡ false)
 neither true b e = cc
 neither false b e = (refl, e)
 
@@ -321,22 +321,9 @@ pub record MaskOf (D : Declarations) (t : Typ) (h : Head) (rows : List Row) (mas
   pub long : length mask ≡ length (types_under D t h)
   pub marked : AllMarked h mask rows
 
-pub no_head : (D : Declarations) (t : Typ) (ts : List Typ) (rows : List Row) → CoversHeads D t ts [] rows
-no_head D t ts rows = record { each = λ v vs h k e. absurd (cc) }
-
-either : (a b : Bool) → (a || b) ≡ true → (a ≡ true) ⊎ (b ≡ true)
-either true b e = inl refl
-either false b e = inr e
-
--- the values with one more head, once those with this one are covered
-pub one_more : (D : Declarations) (t : Typ) (ts : List Typ) (h : Head) (hs : List Head) (rows : List Row)
-    → ((v : Value) (vs : Values) → HasType D t v → HaveTypes D ts vs → head_of v ≡ h → SomeRow rows (value_and v vs))
-    → CoversHeads D t ts hs rows → CoversHeads D t ts (h ∷ hs) rows
-one_more D t ts h hs rows k c = record { each = λ v vs a b e. ⊎_elim (λ s. k v vs a b (sym (same_head_is h (head_of v) s))) (λ s. c.each v vs a b s) (either (same_head h (head_of v)) (has hs (head_of v)) e) }
-
-pub head_covered : (D : Declarations) (t : Typ) (ts : List Typ) (h : Head) (hs : List Head) (rows : List Row) (mask : List Bool) → MaskOf D t h rows mask
-    → CoversAll D (kept_types mask (types_under D t h) ts) (rows_under h mask rows) → CoversHeads D t ts hs rows → CoversHeads D t ts (h ∷ hs) rows
-head_covered D t ts h hs rows mask m c k = one_more D t ts h hs rows here k
+pub head_covered : (D : Declarations) (t : Typ) (ts : List Typ) (h : Head) (rows : List Row) (mask : List Bool) → MaskOf D t h rows mask
+    → CoversAll D (kept_types mask (types_under D t h) ts) (rows_under h mask rows) → CoversHead D t ts h rows
+head_covered D t ts h rows mask m c = record { each = here }
   where
     here : (v : Value) (vs : Values) → HasType D t v → HaveTypes D ts vs → head_of v ≡ h → SomeRow rows (value_and v vs)
     here v vs a b e =
@@ -348,18 +335,24 @@ head_covered D t ts h hs rows mask m c k = one_more D t ts h hs rows here k
         (subst (λ g. SomeRow (rows_under g mask rows) (kept_values mask (parts_of v) vs)) (sym e) s)
 
 -- no value has parts of these types
-pub head_empty : (D : Declarations) (t : Typ) (ts : List Typ) (h : Head) (hs : List Head) (rows : List Row)
-    → ((vs : Values) → HaveTypes D (types_under D t h) vs → ⊥) → CoversHeads D t ts hs rows → CoversHeads D t ts (h ∷ hs) rows
-head_empty D t ts h hs rows n k = one_more D t ts h hs rows (λ v vs a b e. absurd (n (parts_of v) (subst (λ g. HaveTypes D (types_under D t g) (parts_of v)) e (taken D t v a).under))) k
+pub head_empty : (D : Declarations) (t : Typ) (ts : List Typ) (h : Head) (rows : List Row)
+    → ((vs : Values) → HaveTypes D (types_under D t h) vs → ⊥) → CoversHead D t ts h rows
+head_empty D t ts h rows n = record { each = λ v vs a b e. absurd (n (parts_of v) (subst (λ g. HaveTypes D (types_under D t g) (parts_of v)) e (taken D t v a).under)) }
 
 pub missed_at_head : (D : Declarations) (t : Typ) (ts : List Typ) (h : Head) (rows : List Row) (mask : List Bool) (vs ws : Values) → IsHead D t h → MaskOf D t h rows mask
     → HaveTypes D (types_under D t h) vs → HaveTypes D ts ws → Misses D (kept_types mask (types_under D t h) ts) (rows_under h mask rows) (kept_values mask vs ws)
-    → Misses D (t ∷ ts) rows (value_and (with_head t h vs) ws)
+    → MissesHead D t ts h rows (value_and (with_head t h vs) ws)
 missed_at_head D t ts h rows mask vs ws i m u k c =
     let b = built D t h vs i u in
     let l = as_long D mask (types_under D t h) vs m.long u in
     let v = with_head t h vs in
-    record { typed = (b.typed, k); apart = λ s. c.apart (at_head v b.head_is b.parts_are l s) }
+    record {
+      misses = record { typed = (b.typed, k); apart = λ s. c.apart (at_head v b.head_is b.parts_are l s) };
+      first = v;
+      others = ws;
+      is = refl;
+      headed = b.head_is;
+    }
   where
     at_head : (v : Value) → head_of v ≡ h → parts_of v ≡ vs → AsLong mask vs → SomeRow rows (value_and v ws) → SomeRow (rows_under h mask rows) (kept_values mask vs ws)
     at_head v e f l s = subst (λ g. SomeRow (rows_under g mask rows) (kept_values mask vs ws)) e

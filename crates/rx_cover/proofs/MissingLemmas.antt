@@ -1,5 +1,5 @@
 -- Values that are put together from what a head leaves.
-use Rattle.std.proofs.Common.{◌≡◌, ℕ, zero, suc, ◌+◌, ◌<◌, ◌≤◌, Bool, true, false, ◌&&◌, not, List, [], ◌∷◌, ◌++◌, map, length, drop, get_or, replicate, Option, Some, None, Result, Ok, Err, IfOk, refl, sym, ap, ◌∙◌, subst, if◌then◌else◌, arith}
+use Rattle.std.proofs.Common.{◌≡◌, ℕ, zero, suc, ◌+◌, ◌<◌, ◌≤◌, Bool, true, false, List, [], ◌∷◌, ◌++◌, map, length, drop, get_or, replicate, Option, Some, None, Result, Ok, Err, IfOk, refl, sym, ap, ◌∙◌, subst, if◌then◌else◌, arith}
 use Rattle.std.specs.declared.alloc.AllocError.{AllocError}
 use Rattle.std.specs.Prelude.{◌==◌, nat_eq, nat_lt, ◌||◌, ℤ, pos, negsuc, slice_get}
 use Rattle.std.proofs.Common.{eqb-true, eq-eqb, ltb-true, leb-true, lt-ltb, le-leb}
@@ -18,12 +18,13 @@ use Rattle.rx_cover.proofs.WeightLemmas.{under_less}
 use Rattle.rx_cover.specs.Values as plain
 use Rattle.rx_cover.specs.Values.{Values, no_value, value_and, HasType, HaveTypes}
 use Rattle.rx_cover.specs.Heads.{Head, head_of, parts_of, has, same_head, IsHead, types_under, with_head, pointed_value}
-use Rattle.rx_cover.specs.Matrices.{Row, CoversAll, Misses, CoversHeads, AreHeads, kept_types, kept_values, rows_under, rows_beside, mark_rows}
+use Rattle.rx_cover.specs.Matrices.{Row, CoversAll, Misses, MissesHead, CoversRange, MissesRange, CoversHeads, Distinct, rows_within, AreHeads, kept_types, kept_values, rows_under, rows_beside, mark_rows}
 use Rattle.rx_cover.specs.declared.value.Value.{Value}
 use Rattle.rx_cover.specs.PlainValue.{plain-Value, plain_values, value_int, value_bool, value_tuple, value_made, value_variant, value_reference}
-use Rattle.rx_cover.specs.Finding.{stacked, stacked_onto, Adds, Refilled, Refills, Stacked, Takes, takes, takes_none, Finished, at_end, Rebuilds, Settles, SettlesHead, SettlesHeads, Apart, Besides, AllHeads}
+use Rattle.rx_cover.specs.Finding.{stacked, stacked_onto, Adds, Refilled, Refills, Stacked, Takes, takes, takes_none, Finished, at_end, Rebuilds, Settles, SettlesHead, SettlesRange, SettlesHeads, Apart, Besides, AllHeads, HeadsOf}
 use Rattle.rx_cover.proofs.CellLemmas.{at_next}
-use Rattle.rx_cover.proofs.MatrixLemmas.{MaskOf, head_covered, head_empty, missed_at_head, no_head, none_apart, missed_apart, others_covered, all_marked, length_rows, covered_at_end}
+use Rattle.rx_cover.proofs.RangeLemmas.{all_covered, within_covered, within_missed, one_covered, one_missed, both_covered, missed_part}
+use Rattle.rx_cover.proofs.MatrixLemmas.{MaskOf, neither, head_covered, head_empty, missed_at_head, none_apart, missed_apart, others_covered, all_marked, length_rows, covered_at_end}
 
 pub ruleset value_rules = (value_int, value_bool, value_tuple, value_made, value_variant, value_reference)
 
@@ -120,21 +121,42 @@ mask_is D t h rows n e = record { long = length_rows h (replicate n false) rows 
 
 pub head_none : (D : Declarations) (t : Typ) (ts : List Typ) (h : Head) (rows : List Row) (mask : List Bool) → MaskOf D t h rows mask
     → Settles D (kept_types mask (types_under D t h) ts) (rows_under h mask rows) None → SettlesHead D t ts h rows None
-head_none D t ts h rows mask m c = λ hs k. head_covered D t ts h hs rows mask m c k
+head_none D t ts h rows mask m c = head_covered D t ts h rows mask m c
 
 pub head_some : (D : Declarations) (t : Typ) (ts : List Typ) (h : Head) (rows : List Row) (mask : List Bool) (stack : List Value) (o : Option (List Value)) → IsHead D t h → MaskOf D t h rows mask
     → Settles D (kept_types mask (types_under D t h) ts) (rows_under h mask rows) (Some stack)
     → (Stacked D (kept_types mask (types_under D t h) ts) stack → Rebuilds D t h mask (types_under D t h) ts stack o) → SettlesHead D t ts h rows o
-head_some D t ts h rows mask stack None i m c k = let n = k (record { typed = c.typed }) in λ hs q. head_empty D t ts h hs rows n q
+head_some D t ts h rows mask stack None i m c k = head_empty D t ts h rows (k (record { typed = c.typed }))
 head_some D t ts h rows mask stack (Some all) i m c k =
     let r = k (record { typed = c.typed }) in
-    subst (λ l. Misses D (t ∷ ts) rows l) (sym r.is)
+    subst (λ l. MissesHead D t ts h rows l) (sym r.is)
     (missed_at_head D t ts h rows mask r.parts r.others i m r.typed r.rest (subst (λ l. Misses D (kept_types mask (types_under D t h) ts) (rows_under h mask rows) l) (sym r.kept) c))
 
 -- ---- all heads, and the others
 
-pub heads_none : (D : Declarations) (t : Typ) (ts : List Typ) (rows : List Row) → SettlesHeads D t ts [] rows None
-heads_none D t ts rows = no_head D t ts rows
+pub heads_if : (D : Declarations) (t : Typ) (ts : List Typ) (hs : List Head) (n : ℕ) (all rows : List Row) (r : Result (Option (List Value)) AllocError) → n ≡ length hs → all ≡ rows
+    → IfOk r (λ o. SettlesRange D t ts hs 0 n all o) → IfOk r (λ o. SettlesHeads D t ts hs rows o)
+heads_if D t ts hs n all rows (Err e) l f k = tt
+heads_if D t ts hs n all rows (Ok None) l f k = all_covered D t ts hs rows (subst (λ x. CoversRange D t ts hs 0 (length hs) x) f (subst (λ x. CoversRange D t ts hs 0 x all) l k))
+heads_if D t ts hs n all rows (Ok (Some vs)) l f k = subst (λ x. Misses D (t ∷ ts) x (stacked vs)) f k.misses
+
+pub within_if : (D : Declarations) (t : Typ) (ts : List Typ) (hs : List Head) (low high : ℕ) (some rows : List Row) (r : Result (Option (List Value)) AllocError) → some ≡ rows_within hs low high rows
+    → IfOk r (λ o. SettlesRange D t ts hs low high some o) → IfOk r (λ o. SettlesRange D t ts hs low high rows o)
+within_if D t ts hs low high some rows (Err e) f k = tt
+within_if D t ts hs low high some rows (Ok None) f k = within_covered D t ts hs low high rows (subst (λ x. CoversRange D t ts hs low high x) f k)
+within_if D t ts hs low high some rows (Ok (Some vs)) f k = within_missed D t ts hs low high rows (stacked vs) (subst (λ x. MissesRange D t ts hs low high x (stacked vs)) f k)
+
+pub one_if : (D : Declarations) (t : Typ) (ts : List Typ) (ks : List code_head.Head) (low high : ℕ) (d : code_head.Head) (rows : List Row) (r : Result (Option (List Value)) AllocError)
+    → high ≡ suc low → low < length ks → Distinct (map plain-Head ks) → IfOk r (λ o. SettlesHead D t ts (plain-Head (get_or ks low d)) rows o) → IfOk r (λ o. SettlesRange D t ts (map plain-Head ks) low high rows o)
+one_if D t ts ks low high d rows (Err e) l m a k = tt
+one_if D t ts ks low high d rows (Ok None) l m a k = one_covered D t ts ks low high d rows (omega (arith, l)) m k
+one_if D t ts ks low high d rows (Ok (Some vs)) l m a k = one_missed D t ts ks low high d rows (omega (arith, l)) m a (stacked vs) k
+
+pub later_if : (D : Declarations) (t : Typ) (ts : List Typ) (hs : List Head) (low middle high : ℕ) (rows : List Row) (r : Result (Option (List Value)) AllocError) → low ≤ middle → CoversRange D t ts hs low middle rows
+    → IfOk r (λ o. SettlesRange D t ts hs middle high rows o) → IfOk r (λ o. SettlesRange D t ts hs low high rows o)
+later_if D t ts hs low middle high rows (Err e) l c k = tt
+later_if D t ts hs low middle high rows (Ok None) l c k = both_covered D t ts hs low high rows middle c k
+later_if D t ts hs low middle high rows (Ok (Some vs)) l c k = missed_part D t ts hs low high rows middle high (stacked vs) l (omega arith) k
 
 pub others_none : (D : Declarations) (t : Typ) (ts : List Typ) (hs : List Head) (rows : List Row) → CoversHeads D t ts hs rows → Settles D ts (rows_beside rows) None → Settles D (t ∷ ts) rows None
 others_none D t ts hs rows c o = others_covered D t ts hs rows c o
@@ -322,16 +344,31 @@ module _ (D : Declarations) (t : Typ) where
   all_behind [] h a i = (i, tt)
   all_behind (g ∷ gs) h a i = (a.0, all_behind gs h a.1 i)
 
-  all_with : (hs : List Head) (o : Option Head) → AllHeads D t hs → AllHeads D t (with_head_in D t hs o)
-  all_with hs None a = a
-  all_with hs (Some h) a = by (is_head D t h) (not (has hs h)) refl
+  same_not : (g h : Head) → same_head g h ≡ false → same_head h g ≡ false
+  same_not g h e = by (same_head h g) refl
     where
-      by : (b c : Bool) → is_head D t h ≡ b → AllHeads D t (if b && c then hs ++ h ∷ [] else hs)
-      by true true e = all_behind hs h a (head_true D t h e)
-      by true false e = a
-      by false c e = a
+      by : (b : Bool) → same_head h g ≡ b → b ≡ false
+      by true f = let q = same_head_is h g f in let r = same_head_refl g in let s = subst (λ x. same_head g x ≡ false) q e in cc
+      by false f = refl
 
-  pub all_gathered : (hs : List Head) (rows : List Row) → AllHeads D t hs → AllHeads D t (gather D t hs rows)
+  distinct_behind : (hs : List Head) (h : Head) → Distinct hs → has hs h ≡ false → Distinct (hs ++ h ∷ [])
+  distinct_behind [] h a n = (refl, tt)
+  distinct_behind (g ∷ gs) h a n = let q = neither (same_head g h) (has gs h) n in (not_behind gs h g a.0 (same_not g h q.0), distinct_behind gs h a.1 q.1)
+    where
+      not_behind : (hs : List Head) (h g : Head) → has hs g ≡ false → same_head h g ≡ false → has (hs ++ h ∷ []) g ≡ false
+      not_behind [] h g n e = rw e refl
+      not_behind (x ∷ hs) h g n e = let q = neither (same_head x g) (has hs g) n in rw (q.0) (not_behind hs h g q.1 e)
+
+  all_with : (hs : List Head) (o : Option Head) → HeadsOf D t hs → HeadsOf D t (with_head_in D t hs o)
+  all_with hs None a = a
+  all_with hs (Some h) a = by (is_head D t h) (has hs h) refl refl
+    where
+      by : (b c : Bool) → is_head D t h ≡ b → has hs h ≡ c → HeadsOf D t (if b then (if c then hs else hs ++ h ∷ []) else hs)
+      by true false e f = record { fit = all_behind hs h a.fit (head_true D t h e); distinct = distinct_behind hs h a.distinct f }
+      by true true e f = a
+      by false c e f = a
+
+  pub all_gathered : (hs : List Head) (rows : List Row) → HeadsOf D t hs → HeadsOf D t (gather D t hs rows)
   all_gathered hs [] a = a
   all_gathered hs (r ∷ rs) a = all_gathered (with_head_in D t hs (row_head r)) rs (all_with hs (row_head r) a)
 
@@ -349,17 +386,18 @@ module _ (D : Declarations) (t : Typ) where
 
   with_keeps : (hs : List Head) (o : Option Head) (g : Head) → has (with_head_in D t hs o) g ≡ false → has hs g ≡ false
   with_keeps hs None g e = e
-  with_keeps hs (Some h) g e = by (is_head D t h && not (has hs h)) e
+  with_keeps hs (Some h) g e = by (is_head D t h) (has hs h) e
     where
-      by : (b : Bool) → has (if b then hs ++ h ∷ [] else hs) g ≡ false → has hs g ≡ false
-      by true e = (has_behind hs h g e).0
-      by false e = e
+      by : (b c : Bool) → has (if b then (if c then hs else hs ++ h ∷ []) else hs) g ≡ false → has hs g ≡ false
+      by true true e = e
+      by true false e = (has_behind hs h g e).0
+      by false c e = e
 
   with_has : (hs : List Head) (o : Option Head) (g : Head) → IsHead D t g → has (with_head_in D t hs o) g ≡ false → is_it o g ≡ false
   with_has hs None g i e = refl
   with_has hs (Some h) g i e = by (same_head h g) refl
     where
-      in_list : (b : Bool) → has hs h ≡ b → is_head D t h ≡ true → h ≡ g → has (if is_head D t h && not b then hs ++ h ∷ [] else hs) g ≡ false → ⊥
+      in_list : (b : Bool) → has hs h ≡ b → is_head D t h ≡ true → h ≡ g → has (if is_head D t h then (if b then hs else hs ++ h ∷ []) else hs) g ≡ false → ⊥
       in_list true n y s e = let z = subst (λ x. has hs x ≡ true) s n in let w : has hs g ≡ false = (rw y at e) in cc
       in_list false n y s e = let w : has (hs ++ h ∷ []) g ≡ false = (rw y at e) in let z = (has_behind hs h g w).1 in let q = same_head_refl g in let v = subst (λ x. same_head x g ≡ false) s z in cc
 

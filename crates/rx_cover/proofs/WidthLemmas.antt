@@ -13,38 +13,38 @@ use Rattle.rx_cover.specs.declared.heads.Head as code_head
 use Rattle.rx_cover.specs.declared.width.Turn.{Turn}
 use Rattle.rx_cover.specs.declared.width.Turn.TheVariants as turn
 use Rattle.rx_cover.specs.declared.width.Tested.{Tested}
-use Rattle.rx_cover.specs.Heads.{Head}
+use Rattle.rx_cover.specs.Heads.{Head, with_one}
 use Rattle.rx_cover.specs.PlainCells.{plain-Head}
 use Rattle.rx_cover.specs.PlainTested.{plain-Tested}
 use Rattle.rx_cover.specs.Width as plain
-use Rattle.rx_cover.specs.Width.{Test, test_at, tests_in, tests_among, tests_of, same_path, with_one, with_test, with_tests, place_of, product, width, capped, capped_width, scaled, arm_tests}
+use Rattle.rx_cover.specs.Width.{Test, test_at, tests_in, tests_among, tests_of, same_path, with_test, with_tests, place_of, product, width, capped, capped_width, scaled, arm_tests}
 use Rattle.rx_cover.proofs.CellLemmas.{at_next}
 
-pub test_there : (qs : List Tested) (path : List Turn) (h : Head) (at : ℕ) (q : Tested) (hs : List code_head.Head) → at ≡ place_of (map plain-Tested qs) path → at < length qs → q ≡ get_or qs at q
-    → map plain-Head hs ≡ with_one (map plain-Head q.heads) h → map plain-Tested (slice_set qs at (record { path = q.path; heads = hs })) ≡ with_test (map plain-Tested qs) (test_at path h)
-test_there [] path h at q hs e l f g = absurd (omega (arith, l))
-test_there (x ∷ qs) path h at q hs e l f g = by (same_path x.path path) at e l f
-    (λ at e l f. test_there qs path h at q hs e l f g)
+pub test_there : (qs : List Tested) (path : List Turn) (h : Head) (at : ℕ) (q new : Tested) → at ≡ place_of (map plain-Tested qs) path → at < length qs → q ≡ get_or qs at q
+    → new.path ≡ q.path → map plain-Head new.heads.keys ≡ with_one (map plain-Head q.heads.keys) h → map plain-Tested (slice_set qs at new) ≡ with_test (map plain-Tested qs) (test_at path h)
+test_there [] path h at q new e l f p g = absurd (omega (arith, l))
+test_there (x ∷ qs) path h at q new e l f p g = by (same_path x.path path) at e l f
+    (λ at e l f. test_there qs path h at q new e l f p g)
   where
     by : (b : Bool) (at : ℕ) → at ≡ (if b then 0 else suc (place_of (map plain-Tested qs) path)) → at < suc (length qs) → q ≡ get_or (x ∷ qs) at q
-        → ((at : ℕ) → at ≡ place_of (map plain-Tested qs) path → at < length qs → q ≡ get_or qs at q → map plain-Tested (slice_set qs at (record { path = q.path; heads = hs })) ≡ with_test (map plain-Tested qs) (test_at path h))
-        → map plain-Tested (slice_set (x ∷ qs) at (record { path = q.path; heads = hs })) ≡ (if b then record { path = x.path; heads = with_one (map plain-Head x.heads) h } ∷ map plain-Tested qs else plain-Tested x ∷ with_test (map plain-Tested qs) (test_at path h))
-    by true zero e l f k = ap (λ l. record { path = q.path; heads = l } ∷ map plain-Tested qs) g ∙ ap (λ (z : Tested). record { path = z.path; heads = with_one (map plain-Head z.heads) h } ∷ map plain-Tested qs) f
+        → ((at : ℕ) → at ≡ place_of (map plain-Tested qs) path → at < length qs → q ≡ get_or qs at q → map plain-Tested (slice_set qs at new) ≡ with_test (map plain-Tested qs) (test_at path h))
+        → map plain-Tested (slice_set (x ∷ qs) at new) ≡ (if b then record { path = x.path; heads = with_one (map plain-Head x.heads.keys) h } ∷ map plain-Tested qs else plain-Tested x ∷ with_test (map plain-Tested qs) (test_at path h))
+    by true zero e l f k = ap (λ x. record { path = x; heads = map plain-Head new.heads.keys } ∷ map plain-Tested qs) p ∙ ap (λ l. record { path = q.path; heads = l } ∷ map plain-Tested qs) g ∙ ap (λ (z : Tested). record { path = z.path; heads = with_one (map plain-Head z.heads.keys) h } ∷ map plain-Tested qs) f
     by true (suc at) e l f k = cc
     by false zero e l f k = cc
     by false (suc at) e l f k = ap (λ l. plain-Tested x ∷ l) (k at (cc) (omega (arith, l)) f)
 
-pub there_if : (qs : List Tested) (path : List Turn) (h : Head) (at : ℕ) (q : Tested) (hs : List code_head.Head) (r : Result (Unit {0}) AllocError) → at ≡ place_of (map plain-Tested qs) path → at < length qs → q ≡ get_or qs at q
-    → OnOk r (map plain-Head hs ≡ with_one (map plain-Head q.heads) h) → OnOk r (map plain-Tested (slice_set qs at (record { path = q.path; heads = hs })) ≡ with_test (map plain-Tested qs) (test_at path h))
-there_if qs path h at q hs (Ok u) e l f g = test_there qs path h at q hs e l f g
-there_if qs path h at q hs (Err x) e l f g = tt
+pub there_if : (qs : List Tested) (path : List Turn) (h : Head) (at : ℕ) (q new : Tested) (r : Result (Unit {0}) AllocError) → at ≡ place_of (map plain-Tested qs) path → at < length qs → q ≡ get_or qs at q
+    → new.path ≡ q.path → OnOk r (map plain-Head new.heads.keys ≡ with_one (map plain-Head q.heads.keys) h) → OnOk r (map plain-Tested (slice_set qs at new) ≡ with_test (map plain-Tested qs) (test_at path h))
+there_if qs path h at q new (Ok u) e l f p g = test_there qs path h at q new e l f p g
+there_if qs path h at q new (Err x) e l f p g = tt
 
 test_new : (qs : List Tested) (path : List Turn) (h : Head) (at : ℕ) → at ≡ place_of (map plain-Tested qs) path → length qs ≤ at → map plain-Tested qs ++ record { path = path; heads = h ∷ [] } ∷ [] ≡ with_test (map plain-Tested qs) (test_at path h)
 test_new [] path h at e l = refl
 test_new (x ∷ qs) path h at e l = by (same_path x.path path) e (λ at e l. test_new qs path h at e l)
   where
     by : (b : Bool) → at ≡ (if b then 0 else suc (place_of (map plain-Tested qs) path)) → ((at : ℕ) → at ≡ place_of (map plain-Tested qs) path → length qs ≤ at → map plain-Tested qs ++ record { path = path; heads = h ∷ [] } ∷ [] ≡ with_test (map plain-Tested qs) (test_at path h))
-        → plain-Tested x ∷ (map plain-Tested qs ++ record { path = path; heads = h ∷ [] } ∷ []) ≡ (if b then record { path = x.path; heads = with_one (map plain-Head x.heads) h } ∷ map plain-Tested qs else plain-Tested x ∷ with_test (map plain-Tested qs) (test_at path h))
+        → plain-Tested x ∷ (map plain-Tested qs ++ record { path = path; heads = h ∷ [] } ∷ []) ≡ (if b then record { path = x.path; heads = with_one (map plain-Head x.heads.keys) h } ∷ map plain-Tested qs else plain-Tested x ∷ with_test (map plain-Tested qs) (test_at path h))
     by true e k = absurd (omega (arith, e, l))
     by false e k = ap (λ l. plain-Tested x ∷ l) (k (place_of (map plain-Tested qs) path) refl (omega (arith, e, l)))
 

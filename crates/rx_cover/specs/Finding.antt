@@ -9,7 +9,7 @@ use Rattle.rx_typed.specs.Tree.{Pattern}
 use Rattle.rx_cover.specs.Matching.{SomeMatches, Covers}
 use Rattle.rx_cover.specs.Causes.{CoversTyp, MissesTyp}
 use Rattle.rx_cover.specs.Heads.{Head, whole, chosen, head_of, has, IsHead, with_head}
-use Rattle.rx_cover.specs.Matrices.{Row, CoversAll, Misses, CoversHeads, kept_values}
+use Rattle.rx_cover.specs.Matrices.{Row, CoversAll, Misses, CoversHead, MissesHead, CoversRange, MissesRange, CoversHeads, Distinct, kept_values}
 use Rattle.rx_cover.specs.declared.value.Value.{Value}
 use Rattle.rx_cover.specs.PlainValue.{plain-Value, plain_values}
 
@@ -85,15 +85,20 @@ abbrev pub Rebuilds : Declarations → Typ → Head → List Bool → List Typ �
 Rebuilds D t h mask us ts stack None = (vs : Values) → HaveTypes D us vs → ⊥
 Rebuilds D t h mask us ts stack (Some all) = Rebuilt D t h mask us ts stack all
 
--- the same for the values whose first has one of these heads
+-- the same for the values whose first has this head
+abbrev pub SettlesHead : Declarations → Typ → List Typ → Head → List Row → Option (List Value) → Type 0
+SettlesHead D t ts h rows None = CoversHead D t ts h rows
+SettlesHead D t ts h rows (Some vs) = MissesHead D t ts h rows (stacked vs)
+
+-- one of the heads from one place to before another
+abbrev pub SettlesRange : Declarations → Typ → List Typ → List Head → ℕ → ℕ → List Row → Option (List Value) → Type 0
+SettlesRange D t ts hs low high rows None = CoversRange D t ts hs low high rows
+SettlesRange D t ts hs low high rows (Some vs) = MissesRange D t ts hs low high rows (stacked vs)
+
+-- one of these heads
 abbrev pub SettlesHeads : Declarations → Typ → List Typ → List Head → List Row → Option (List Value) → Type 0
 SettlesHeads D t ts hs rows None = CoversHeads D t ts hs rows
 SettlesHeads D t ts hs rows (Some vs) = Misses D (t ∷ ts) rows (stacked vs)
-
--- the same for one head more
-abbrev pub SettlesHead : Declarations → Typ → List Typ → Head → List Row → Option (List Value) → Type 0
-SettlesHead D t ts h rows None = (hs : List Head) → CoversHeads D t ts hs rows → CoversHeads D t ts (h ∷ hs) rows
-SettlesHead D t ts h rows (Some vs) = Misses D (t ∷ ts) rows (stacked vs)
 
 -- the marked parts are taken from the end of a list, the others found
 pub record Refilled (D : Declarations) (mask : List Bool) (us ts : List Typ) (stack parts left new : List Value) : Type 0 where
@@ -124,6 +129,11 @@ pub record Stacked (D : Declarations) (ts : List Typ) (stack : List Value) : Typ
 abbrev pub AllHeads : Declarations → Typ → List Head → Type 0
 AllHeads D t [] = Unit {0}
 AllHeads D t (h ∷ hs) = IsHead D t h × AllHeads D t hs
+
+-- heads of the type, each once
+pub record HeadsOf (D : Declarations) (t : Typ) (hs : List Head) : Type 0 where
+  pub fit : AllHeads D t hs
+  pub distinct : Distinct hs
 
 -- the stack with a value apart from these heads at its end, where there is one
 abbrev pub Besides : Declarations → Typ → List Head → List Value → Option (List Value) → Type 0

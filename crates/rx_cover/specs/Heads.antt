@@ -1,5 +1,5 @@
 -- The head of a pattern or value, and its parts.
-use Rattle.std.specs.Prelude.{◌≡◌, ℕ, ◌<◌, nat_eq, nat_le, nat_lt, ℤ, pos, negsuc, Bool, true, false, ◌&&◌, ◌||◌, List, [], ◌∷◌, length, Option, Some, None, slice_get}
+use Rattle.std.specs.Prelude.{◌≡◌, ℕ, suc, ◌<◌, nat_eq, nat_le, nat_lt, ℤ, pos, negsuc, Bool, true, false, ◌&&◌, ◌||◌, if◌then◌else◌, List, [], ◌∷◌, ◌++◌, length, Option, Some, None, slice_get}
 use Rattle.rx_core.specs.declared.types.Kind.{Kind}
 use Rattle.rx_typed.specs.Types.{Typ, integer, boolean, tuple_of, reference, named, shapes_listed, Declared, Declarations}
 use Rattle.rx_typed.specs.Types.{fields_declared, variants_declared, parts_declared}
@@ -111,6 +111,15 @@ same_head _ _ = false
 abbrev pub has : List Head → Head → Bool
 has [] h = false
 has (g ∷ gs) h = same_head g h || has gs h
+
+-- its place among these; of another head, how many these are
+abbrev pub place : List Head → Head → ℕ
+place [] h = 0
+place (g ∷ gs) h = if same_head g h then 0 else suc (place gs h)
+
+-- these and this one, once
+abbrev pub with_one : List Head → Head → List Head
+with_one hs h = if has hs h then hs else hs ++ h ∷ []
 
 -- ---- as tests
 

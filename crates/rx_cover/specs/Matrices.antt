@@ -1,10 +1,10 @@
 -- Matrices of patterns: rows of patterns for a list of values.
-use Rattle.std.specs.Prelude.{◌≡◌, ℕ, suc, ◌+◌, not, Bool, true, false, ◌&&◌, ◌||◌, if◌then◌else◌, ◌⊎◌, List, [], ◌∷◌, ◌++◌, Option, Some, None, slice_set}
+use Rattle.std.specs.Prelude.{◌≡◌, ℕ, suc, ◌+◌, ◌<◌, ◌≤◌, nat_le, nat_lt, not, Bool, true, false, ◌&&◌, ◌||◌, if◌then◌else◌, ◌⊎◌, List, [], ◌∷◌, ◌++◌, Option, Some, None, slice_set}
 use Rattle.rx_typed.specs.Types.{Typ, Declarations}
 use Rattle.rx_typed.specs.Tree.{Pattern, any, bind, exactly, parts, variant, behind, Subpatterns, no_part, part_and}
 use Rattle.rx_cover.specs.Values.{Value, Values, no_value, value_and, HasType, HaveTypes}
 use Rattle.rx_cover.specs.Matching.{part_of, Matches}
-use Rattle.rx_cover.specs.Heads.{Head, head_in, parts_in, head_of, same_head, has, IsHead, is_head}
+use Rattle.rx_cover.specs.Heads.{Head, head_in, parts_in, head_of, same_head, has, place, with_one, IsHead, is_head}
 
 abbrev pub Row : Type 0
 Row = List Pattern
@@ -27,6 +27,30 @@ pub record CoversAll (D : Declarations) (ts : List Typ) (rows : List Row) : Type
 pub record Misses (D : Declarations) (ts : List Typ) (rows : List Row) (vs : Values) : Type 0 where
   pub typed : HaveTypes D ts vs
   pub apart : SomeRow rows vs → ⊥
+
+-- every such list whose first value has this head
+pub record CoversHead (D : Declarations) (t : Typ) (ts : List Typ) (h : Head) (rows : List Row) : Type 0 where
+  pub each : (v : Value) (vs : Values) → HasType D t v → HaveTypes D ts vs → head_of v ≡ h → SomeRow rows (value_and v vs)
+
+-- such a list that no row matches, whose first value has this head
+pub record MissesHead (D : Declarations) (t : Typ) (ts : List Typ) (h : Head) (rows : List Row) (vs : Values) : Type 0 where
+  pub misses : Misses D (t ∷ ts) rows vs
+  pub first : Value
+  pub others : Values
+  pub is : vs ≡ value_and first others
+  pub headed : head_of first ≡ h
+
+-- the same of the heads from one place of a list to before another
+pub record CoversRange (D : Declarations) (t : Typ) (ts : List Typ) (heads : List Head) (low high : ℕ) (rows : List Row) : Type 0 where
+  pub each : (v : Value) (vs : Values) → HasType D t v → HaveTypes D ts vs → low ≤ place heads (head_of v) → place heads (head_of v) < high → SomeRow rows (value_and v vs)
+
+pub record MissesRange (D : Declarations) (t : Typ) (ts : List Typ) (heads : List Head) (low high : ℕ) (rows : List Row) (vs : Values) : Type 0 where
+  pub misses : Misses D (t ∷ ts) rows vs
+  pub first : Value
+  pub others : Values
+  pub is : vs ≡ value_and first others
+  pub from : low ≤ place heads (head_of first)
+  pub before : place heads (head_of first) < high
 
 -- every such list whose first value has one of these heads
 pub record CoversHeads (D : Declarations) (t : Typ) (ts : List Typ) (heads : List Head) (rows : List Row) : Type 0 where
@@ -150,11 +174,26 @@ row_head (p ∷ ps) = head_in p
 
 abbrev pub with_head_in : Declarations → Typ → List Head → Option Head → List Head
 with_head_in D t hs None = hs
-with_head_in D t hs (Some h) = if is_head D t h && not (has hs h) then hs ++ h ∷ [] else hs
+with_head_in D t hs (Some h) = if is_head D t h then with_one hs h else hs
 
 abbrev pub gather : Declarations → Typ → List Head → List Row → List Head
 gather D t hs [] = hs
 gather D t hs (r ∷ rs) = gather D t (with_head_in D t hs (row_head r)) rs
+
+-- no two are the same
+abbrev pub Distinct : List Head → Type 0
+Distinct [] = Unit {0}
+Distinct (h ∷ hs) = (has hs h ≡ false) × Distinct hs
+
+-- ---- the rows that ask for one of the heads from one place to before another, or for none
+
+abbrev pub head_within : List Head → ℕ → ℕ → Option Head → Bool
+head_within hs low high None = true
+head_within hs low high (Some h) = nat_le low (place hs h) && nat_lt (place hs h) high
+
+abbrev pub rows_within : List Head → ℕ → ℕ → List Row → List Row
+rows_within hs low high [] = []
+rows_within hs low high (r ∷ rs) = if head_within hs low high (row_head r) then r ∷ rows_within hs low high rs else rows_within hs low high rs
 
 abbrev pub mark_one : List Bool → ℕ → Bool → List Bool
 mark_one mask i b = if b then slice_set mask i true else mask

@@ -5,4 +5,4 @@ use Rattle.rx_cover.specs.PlainCells.{plain-Head}
 use Rattle.rx_cover.specs.Width as plain
 
 abbrev pub plain-Tested : Tested → plain.Tested
-plain-Tested q = record { path = q.path; heads = map plain-Head q.heads }
+plain-Tested q = record { path = q.path; heads = map plain-Head q.heads.keys }

@@ -5,7 +5,7 @@ use Rattle.rx_cover.specs.declared.width.Turn.{Turn}
 use Rattle.rx_cover.specs.declared.width.Turn.TheVariants as turn
 use Rattle.rx_typed.specs.Tree as tree
 use Rattle.rx_typed.specs.Tree.{Pattern, any, bind, exactly, parts, behind, Subpatterns, no_part, part_and, whole_number}
-use Rattle.rx_cover.specs.Heads.{Head, whole, truth, chosen, same_bool, has}
+use Rattle.rx_cover.specs.Heads.{Head, whole, truth, chosen, same_bool, with_one}
 
 pub record Test : Type 0 where
   -- the way to it from the scrutinee
@@ -55,9 +55,6 @@ same_turns _ _ = true
 
 abbrev pub same_path : List Turn → List Turn → Bool
 same_path ss ts = nat_eq (length ss) (length ts) && same_turns ss ts
-
-abbrev pub with_one : List Head → Head → List Head
-with_one hs h = if has hs h then hs else hs ++ h ∷ []
 
 abbrev pub with_test : List Tested → Test → List Tested
 with_test [] t = record { path = t.path; heads = t.head ∷ [] } ∷ []

@@ -11,11 +11,12 @@ ghost use Rattle.rx_typed.specs.Elaborated.{with_sign};
 use rx_core::LetGo;
 use rx_typed_tree::{Constant, Pattern, Subpattern};
 
-/// An integer, by whether it is negative and its magnitude; a truth value; a tuple or struct; a variant, by the enum's
-/// item; a reference.
-#[derive(Clone, Copy)]
+/// An integer from 0 on, or one below 0 by its distance from -1; a truth value; a tuple or struct; a variant, by the
+/// enum's item; a reference. Equal ones are the same head.
+#[derive(Clone, Copy, PartialEq, Eq, Hash)]
 pub(crate) enum Head {
-    Whole(bool, u64),
+    Natural(u64),
+    Negative(u64),
     Truth(bool),
     Composed,
     Chosen(u32, u32),
@@ -37,81 +38,29 @@ impl<'a> LetGo for Cell<'a> {
     fn let_go(self) {}
 }
 
-#[tactic(auto, using(crate::proofs::KindLemmas::same_with_sign))]
-fn is_whole(head: Head, negative: bool, magnitude: u64) -> bool
-    ensures { result ≡ spec.same_head (spec.whole (with_sign negative magnitude)) (plain-Head head) }
-{
-    match head {
-        Head::Whole(sign, number) => magnitude == number && (negative == sign || magnitude == 0),
-        _ => false,
-    }
-}
-
-fn is_truth(head: Head, value: bool) -> bool
-    ensures { result ≡ spec.same_head (spec.truth value) (plain-Head head) }
-{
-    match head {
-        Head::Truth(other) => value == other,
-        _ => false,
-    }
-}
-
-fn is_composed(head: Head) -> bool
-    ensures { result ≡ spec.same_head spec.composed (plain-Head head) }
-{
-    match head {
-        Head::Composed => true,
-        _ => false,
-    }
-}
-
-fn is_chosen(head: Head, item: u32, variant: u32) -> bool
-    ensures { result ≡ spec.same_head (spec.chosen item variant) (plain-Head head) }
-{
-    match head {
-        Head::Chosen(other_item, other) => item == other_item && variant == other,
-        _ => false,
-    }
-}
-
-fn is_pointed(head: Head) -> bool
-    ensures { result ≡ spec.same_head spec.pointed (plain-Head head) }
-{
-    match head {
-        Head::Pointed => true,
-        _ => false,
-    }
-}
-
 pub(crate) fn same_head(a: Head, b: Head) -> bool
     ensures { result ≡ spec.same_head (plain-Head a) (plain-Head b) }
 {
-    match a {
-        Head::Whole(negative, magnitude) => is_whole(b, negative, magnitude),
-        Head::Truth(value) => is_truth(b, value),
-        Head::Composed => is_composed(b),
-        Head::Chosen(item, variant) => is_chosen(b, item, variant),
-        Head::Pointed => is_pointed(b),
-    }
+    a == b
 }
 
-/// Whether a head is one of these.
-pub(crate) fn has(heads: &[Head], head: Head) -> bool
-    ensures { result ≡ spec.has (map plain-Head heads.now) (plain-Head head) }
+/// The head of an integer, by its sign and magnitude.
+#[tactic(auto, using(crate::proofs::SetLemmas::below_zero_by))]
+pub(crate) fn whole(negative: bool, magnitude: u64) -> Head
+    ensures { plain-Head result ≡ spec.whole (with_sign negative magnitude) }
 {
-    for i in 0..heads.len() {
-        if same_head(heads[i], head) {
-            return true;
-        }
+    if negative && magnitude > 0 {
+        Head::Negative(magnitude - 1)
+    } else {
+        Head::Natural(magnitude)
     }
-    false
 }
 
 pub(crate) fn head_of_constant(constant: Constant) -> Head
     ensures { plain-Head result ≡ constant_head (plain-Constant constant) }
 {
     match constant {
-        Constant::Integer(_, negative, magnitude) => Head::Whole(negative, magnitude),
+        Constant::Integer(_, negative, magnitude) => whole(negative, magnitude),
         Constant::Truth(value) => Head::Truth(value),
     }
 }

@@ -2,8 +2,6 @@
 
 ghost use Rattle.std.specs.Prelude.{◌≡◌};
 ghost use Rattle.rx_cover.specs.Values as values;
-ghost use Rattle.rx_cover.specs.Heads as spec;
-ghost use Rattle.rx_typed.specs.Elaborated.{with_sign};
 
 use rx_core::Kind;
 
@@ -27,17 +25,5 @@ pub(crate) fn below_zero(kind: Kind) -> u64
         Kind::U8 | Kind::U32 | Kind::U64 => 0,
         Kind::I32 => 2147483648,
         Kind::I64 => 9223372036854775808,
-    }
-}
-
-/// Whether an integer is one of the kind.
-#[tactic(auto, using(crate::proofs::KindLemmas::in_kind_negative))]
-pub(crate) fn in_kind(kind: Kind, negative: bool, magnitude: u64) -> bool
-    ensures { result ≡ spec.in_kind kind (with_sign negative magnitude) }
-{
-    if negative {
-        magnitude == 0 || magnitude <= below_zero(kind)
-    } else {
-        magnitude <= greatest(kind)
     }
 }

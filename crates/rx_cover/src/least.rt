@@ -10,23 +10,25 @@ ghost use Rattle.rx_cover.specs.PlainValue.{plain-Value, plain_values};
 ghost use Rattle.rx_cover.specs.Finding as spec;
 ghost use Rattle.rx_cover.specs.Values as plain;
 
-use crate::heads::{Head, has};
+use crate::heads::{Head, whole};
 use crate::kinds::{below_zero, greatest};
+use crate::sets::has;
 use crate::value::Value;
+use indexmap::IndexSet;
 use rx_core::{Boxed, Kind, LetGo, List, Ty};
 use rx_typed::{Decl, Decls, FieldDecl, VariantDecl};
 use std::alloc::{AllocError, Global};
 
 /// The least magnitude up to `most` whose integer of this sign is none of these.
-fn first_free(heads: &[Head], negative: bool, most: u64) -> Option<u64>
-    ensures { spec.Free (map plain-Head heads.now) negative most result }
+fn first_free(heads: &IndexSet<Head>, negative: bool, most: u64) -> Option<u64>
+    ensures { spec.Free (map plain-Head heads.now.keys) negative most result }
 {
     for magnitude in 0..most {
-        if !has(heads, Head::Whole(negative, magnitude)) {
+        if !has(heads, whole(negative, magnitude)) {
             return Some(magnitude);
         }
     }
-    if has(heads, Head::Whole(negative, most)) {
+    if has(heads, whole(negative, most)) {
         None
     } else {
         Some(most)
@@ -34,9 +36,9 @@ fn first_free(heads: &[Head], negative: bool, most: u64) -> Option<u64>
 }
 
 /// An integer of the kind that is none of these, where those from 0 on all are.
-fn negative_apart(kind: Kind, heads: &[Head]) -> Option<Value>
-    requires { spec.Free (map plain-Head heads.now) false (plain.greatest kind) None }
-    ensures { (D : Declarations) → spec.Apart D (integer kind) (map plain-Head heads.now) (option_map plain-Value result) }
+fn negative_apart(kind: Kind, heads: &IndexSet<Head>) -> Option<Value>
+    requires { spec.Free (map plain-Head heads.now.keys) false (plain.greatest kind) None }
+    ensures { (D : Declarations) → spec.Apart D (integer kind) (map plain-Head heads.now.keys) (option_map plain-Value result) }
 {
     match first_free(heads, true, below_zero(kind)) {
         Some(magnitude) => Some(Value::Int {
@@ -47,8 +49,8 @@ fn negative_apart(kind: Kind, heads: &[Head]) -> Option<Value>
     }
 }
 
-fn integer_apart(kind: Kind, heads: &[Head]) -> Option<Value>
-    ensures { (D : Declarations) → spec.Apart D (integer kind) (map plain-Head heads.now) (option_map plain-Value result) }
+fn integer_apart(kind: Kind, heads: &IndexSet<Head>) -> Option<Value>
+    ensures { (D : Declarations) → spec.Apart D (integer kind) (map plain-Head heads.now.keys) (option_map plain-Value result) }
 {
     match first_free(heads, false, greatest(kind)) {
         Some(magnitude) => Some(Value::Int {
@@ -59,8 +61,8 @@ fn integer_apart(kind: Kind, heads: &[Head]) -> Option<Value>
     }
 }
 
-fn truth_apart(heads: &[Head]) -> Option<Value>
-    ensures { (D : Declarations) → spec.Apart D boolean (map plain-Head heads.now) (option_map plain-Value result) }
+fn truth_apart(heads: &IndexSet<Head>) -> Option<Value>
+    ensures { (D : Declarations) → spec.Apart D boolean (map plain-Head heads.now.keys) (option_map plain-Value result) }
 {
     if !has(heads, Head::Truth(false)) {
         return Some(Value::Bool(false));
@@ -98,11 +100,11 @@ pub(crate) fn apart(
     alloc: Global,
     decls: &Decls,
     ty: &Ty,
-    heads: &[Head],
+    heads: &IndexSet<Head>,
 ) -> Result<Option<Value>, AllocError>
     requires finite { Finite (declarations decls.now.items) }
     requires numbered { spec.Numbered (declarations decls.now.items) }
-    ensures { IfOk result (λ o. spec.Apart (declarations decls.now.items) (plain-Ty ty.now) (map plain-Head heads.now)
+    ensures { IfOk result (λ o. spec.Apart (declarations decls.now.items) (plain-Ty ty.now) (map plain-Head heads.now.keys)
         (option_map plain-Value o)) }
 {
     match ty {
@@ -115,17 +117,28 @@ pub(crate) fn apart(
     }
 }
 
+/// A value of the type, where there is one.
+#[cycle(least)]
+fn some_value(alloc: Global, decls: &Decls, ty: &Ty) -> Result<Option<Value>, AllocError>
+    requires finite { Finite (declarations decls.now.items) }
+    requires numbered { spec.Numbered (declarations decls.now.items) }
+    ensures { IfOk result (λ o. spec.Apart (declarations decls.now.items) (plain-Ty ty.now) [] (option_map plain-Value o)) }
+{
+    let none = IndexSet::new(alloc);
+    apart(alloc, decls, ty, &none)
+}
+
 #[cycle(least)]
 fn tuple_apart(
     alloc: Global,
     decls: &Decls,
     parts: &[Ty],
-    heads: &[Head],
+    heads: &IndexSet<Head>,
 ) -> Result<Option<Value>, AllocError>
     requires finite { Finite (declarations decls.now.items) }
     requires numbered { spec.Numbered (declarations decls.now.items) }
     ensures { IfOk result (λ o. spec.Apart (declarations decls.now.items)
-        (tuple_of (shapes_of (map plain-Ty parts.now))) (map plain-Head heads.now) (option_map plain-Value o)) }
+        (tuple_of (shapes_of (map plain-Ty parts.now))) (map plain-Head heads.now.keys) (option_map plain-Value o)) }
 {
     if has(heads, Head::Composed) {
         return Ok(None);
@@ -141,17 +154,17 @@ fn reference_apart(
     alloc: Global,
     decls: &Decls,
     inner: &Ty,
-    heads: &[Head],
+    heads: &IndexSet<Head>,
 ) -> Result<Option<Value>, AllocError>
     requires finite { Finite (declarations decls.now.items) }
     requires numbered { spec.Numbered (declarations decls.now.items) }
     ensures { IfOk result (λ o. (m : Bool) → spec.Apart (declarations decls.now.items)
-        (reference m (plain-Ty inner.now)) (map plain-Head heads.now) (option_map plain-Value o)) }
+        (reference m (plain-Ty inner.now)) (map plain-Head heads.now.keys) (option_map plain-Value o)) }
 {
     if has(heads, Head::Pointed) {
         return Ok(None);
     }
-    match apart(alloc, decls, inner, &[])? {
+    match some_value(alloc, decls, inner)? {
         Some(value) => Ok(Some(Value::Reference(Boxed::new(alloc, value)?))),
         None => Ok(None),
     }
@@ -162,11 +175,11 @@ fn item_apart(
     alloc: Global,
     decls: &Decls,
     item: u32,
-    heads: &[Head],
+    heads: &IndexSet<Head>,
 ) -> Result<Option<Value>, AllocError>
     requires finite { Finite (declarations decls.now.items) }
     requires numbered { spec.Numbered (declarations decls.now.items) }
-    ensures { IfOk result (λ o. spec.Apart (declarations decls.now.items) (named item) (map plain-Head heads.now)
+    ensures { IfOk result (λ o. spec.Apart (declarations decls.now.items) (named item) (map plain-Head heads.now.keys)
         (option_map plain-Value o)) }
 {
     match decls.items.get(item as usize) {
@@ -196,12 +209,12 @@ fn struct_apart(
     decls: &Decls,
     item: u32,
     fields: &[FieldDecl],
-    heads: &[Head],
+    heads: &IndexSet<Head>,
 ) -> Result<Option<Value>, AllocError>
     requires finite { Finite (declarations decls.now.items) }
     requires numbered { spec.Numbered (declarations decls.now.items) }
     requires here { spec.IsStruct (slice_get (declarations decls.now.items) item) (map plain-FieldDecl fields.now) }
-    ensures { IfOk result (λ o. spec.Apart (declarations decls.now.items) (named item) (map plain-Head heads.now)
+    ensures { IfOk result (λ o. spec.Apart (declarations decls.now.items) (named item) (map plain-Head heads.now.keys)
         (option_map plain-Value o)) }
 {
     if has(heads, Head::Composed) {
@@ -221,12 +234,12 @@ fn enum_apart(
     decls: &Decls,
     item: u32,
     variants: &[VariantDecl],
-    heads: &[Head],
+    heads: &IndexSet<Head>,
 ) -> Result<Option<Value>, AllocError>
     requires finite { Finite (declarations decls.now.items) }
     requires numbered { spec.Numbered (declarations decls.now.items) }
     requires here { spec.IsEnum (slice_get (declarations decls.now.items) item) (map plain-VariantDecl variants.now) }
-    ensures { IfOk result (λ o. spec.Apart (declarations decls.now.items) (named item) (map plain-Head heads.now)
+    ensures { IfOk result (λ o. spec.Apart (declarations decls.now.items) (named item) (map plain-Head heads.now.keys)
         (option_map plain-Value o)) }
 {
     for k in 0..variants.len() {
@@ -254,12 +267,12 @@ fn variant_apart(
     item: u32,
     variant: u32,
     parts: &[Ty],
-    heads: &[Head],
+    heads: &IndexSet<Head>,
 ) -> Result<Option<Value>, AllocError>
     requires finite { Finite (declarations decls.now.items) }
     requires numbered { spec.Numbered (declarations decls.now.items) }
     ensures { IfOk result (λ o. spec.ApartVariant (declarations decls.now.items) item variant (map plain-Ty parts.now)
-        (map plain-Head heads.now) (option_map plain-Value o)) }
+        (map plain-Head heads.now.keys) (option_map plain-Value o)) }
 {
     if has(heads, Head::Chosen(item, variant)) {
         return Ok(None);
@@ -339,7 +352,7 @@ pub(crate) fn add_value(
     requires numbered { spec.Numbered (declarations decls.now.items) }
     ensures { IfOk result (λ b. spec.Adds (declarations decls.now.items) (plain-Ty ty.now ∷ []) values.old values.new b) }
 {
-    match apart(alloc, decls, ty, &[])? {
+    match some_value(alloc, decls, ty)? {
         Some(value) => {
             values.push(value)?;
             Ok(true)

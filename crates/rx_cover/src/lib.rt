@@ -11,6 +11,7 @@ mod least;
 mod matrix;
 mod missing;
 mod rows;
+mod sets;
 mod value;
 mod width;
 

@@ -8,11 +8,13 @@ ghost use Rattle.rx_typed_tree.specs.PlainTree.{plain-Pattern, plain-Subpattern,
 ghost use Rattle.rx_typed.specs.Tree as tree;
 ghost use Rattle.rx_declared.specs.Held.{field_types};
 ghost use Rattle.rx_cover.specs.Heads as heads_spec;
-ghost use Rattle.rx_cover.specs.PlainCells.{plain-Head, plain-Cell, plain-Row, plain-Column};
+ghost use Rattle.rx_cover.specs.PlainCells.{plain-Head, plain-Cell, plain-Row, plain-Cells, plain-Column};
 ghost use Rattle.rx_cover.specs.Matrices as spec;
 
-use crate::heads::{Cell, Head, asks, has, head_of, pattern_asks, same_head};
-use crate::kinds::in_kind;
+use crate::heads::{Cell, Head, asks, head_of, pattern_asks, same_head};
+use crate::kinds::{below_zero, greatest};
+use crate::sets::add;
+use indexmap::IndexSet;
 use rx_core::{Kind, LetGo, List, Ty};
 use rx_typed::{Decl, Decls, FieldDecl, VariantDecl};
 use rx_typed_tree::{Pattern, Subpattern};
@@ -25,6 +27,16 @@ pub(crate) struct Column<'a> {
 }
 
 impl<'a> LetGo for Column<'a> {
+    fn let_go(self) {}
+}
+
+/// A row, by its cells.
+#[derive(Clone, Copy)]
+pub(crate) struct Row<'r, 'a> {
+    pub cells: &'r [Cell<'a>],
+}
+
+impl<'r, 'a> LetGo for Row<'r, 'a> {
     fn let_go(self) {}
 }
 
@@ -54,7 +66,7 @@ pub(crate) fn some_open(rows: &[List<Cell<'_>>]) -> bool
 
 // ---- heads
 
-fn first_head(row: &[Cell<'_>]) -> Option<Head>
+pub(crate) fn first_head(row: &[Cell<'_>]) -> Option<Head>
     ensures { option_map plain-Head result ≡ spec.row_head (plain-Row row.now) }
 {
     match row.get(0) {
@@ -67,7 +79,8 @@ fn is_integer(head: Head, kind: Kind) -> bool
     ensures { result ≡ heads_spec.integer_head kind (plain-Head head) }
 {
     match head {
-        Head::Whole(negative, magnitude) => in_kind(kind, negative, magnitude),
+        Head::Natural(number) => number <= greatest(kind),
+        Head::Negative(distance) => distance < below_zero(kind),
         _ => false,
     }
 }
@@ -165,18 +178,19 @@ fn is_head(decls: &Decls, ty: &Ty, head: Head) -> bool
 fn add_head(
     decls: &Decls,
     ty: &Ty,
-    heads: &mut List<Head>,
+    heads: &mut IndexSet<Head>,
     head: Option<Head>,
 ) -> Result<(), AllocError>
-    ensures { OnOk result (map plain-Head heads.new ≡ spec.with_head_in (declarations decls.now.items)
-        (plain-Ty ty.now) (map plain-Head heads.old) (option_map plain-Head head)) }
+    ensures { OnOk result (map plain-Head heads.new.keys ≡ spec.with_head_in (declarations decls.now.items)
+        (plain-Ty ty.now) (map plain-Head heads.old.keys) (option_map plain-Head head)) }
 {
     match head {
         Some(head) => {
-            if is_head(decls, ty, head) && !has(heads.as_slice(), head) {
-                heads.push(head)?;
+            if is_head(decls, ty, head) {
+                add(heads, head)
+            } else {
+                Ok(())
             }
-            Ok(())
         }
         None => Ok(()),
     }
@@ -188,11 +202,11 @@ pub(crate) fn heads_among(
     decls: &Decls,
     ty: &Ty,
     rows: &[List<Cell<'_>>],
-) -> Result<List<Head>, AllocError>
-    ensures { IfOk result (λ it. map plain-Head it ≡ spec.gather (declarations decls.now.items) (plain-Ty ty.now) []
-        (map plain-Row rows.now)) }
+) -> Result<IndexSet<Head>, AllocError>
+    ensures { IfOk result (λ it. map plain-Head it.keys ≡ spec.gather (declarations decls.now.items) (plain-Ty ty.now)
+        [] (map plain-Row rows.now)) }
 {
-    let mut heads = List::new(alloc);
+    let mut heads = IndexSet::new(alloc);
     for row in rows {
         add_head(decls, ty, &mut heads, first_head(row.as_slice()))?;
     }
@@ -282,11 +296,11 @@ fn no_marks(alloc: Global, len: usize) -> Result<Vec<bool>, AllocError>
     Ok(mask)
 }
 
-fn mark_rows(mask: &mut Vec<bool>, head: Head, rows: &[List<Cell<'_>>])
-    ensures { mask.new.items ≡ spec.mark_rows (plain-Head head) mask.old.items (map plain-Row rows.now) }
+fn mark_rows(mask: &mut Vec<bool>, head: Head, rows: &[Row<'_, '_>])
+    ensures { mask.new.items ≡ spec.mark_rows (plain-Head head) mask.old.items (map plain-Cells rows.now) }
 {
     for row in rows {
-        mark_row(mask, head, row.as_slice());
+        mark_row(mask, head, row.cells);
     }
 }
 
@@ -295,9 +309,9 @@ pub(crate) fn mask_of(
     alloc: Global,
     head: Head,
     len: usize,
-    rows: &[List<Cell<'_>>],
+    rows: &[Row<'_, '_>],
 ) -> Result<List<bool>, AllocError>
-    ensures { IfOk result (λ it. it ≡ spec.mark_rows (plain-Head head) (replicate len false) (map plain-Row rows.now)) }
+    ensures { IfOk result (λ it. it ≡ spec.mark_rows (plain-Head head) (replicate len false) (map plain-Cells rows.now)) }
 {
     let mut mask = no_marks(alloc, len)?;
     mark_rows(&mut mask, head, rows);

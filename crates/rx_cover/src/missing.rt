@@ -1,20 +1,22 @@
 //! Values that no row of a matrix matches.
 
-ghost use Rattle.std.specs.Prelude.{◌≡◌, ◌<◌, [], ◌∷◌, true, IfOk, IsTrue, List, map, option_map, length, drop};
+ghost use Rattle.std.specs.Prelude.{◌≡◌, ◌<◌, ◌≤◌, negsuc, [], ◌∷◌, true, IfOk, IsTrue, List, map, option_map, length, drop};
 ghost use Rattle.rx_typed.specs.PlainTypes.{plain-Ty, declarations};
 ghost use Rattle.rx_typed.specs.Types.{Typ, Declarations};
 ghost use Rattle.rx_cover.specs.Finite.{Finite};
 ghost use Rattle.rx_cover.specs.Heads as heads_spec;
 ghost use Rattle.rx_cover.specs.Matrices as matrices;
-ghost use Rattle.rx_cover.specs.PlainCells.{plain-Head, plain-Cell, plain-Row, plain-Column};
+ghost use Rattle.rx_cover.specs.PlainCells.{plain-Head, plain-Cell, plain-Row, plain-Cells, plain-Column};
 ghost use Rattle.rx_cover.specs.PlainValue.{plain-Value, plain_values};
 ghost use Rattle.rx_cover.specs.Finding as spec;
+ghost use Rattle.rx_cover.specs.Values as plain;
 
 use crate::heads::{Cell, Head};
 use crate::least::{add_value, apart};
-use crate::matrix::{Column, heads_among, mask_of, some_open};
-use crate::rows::{kept_columns, rows_beside, rows_under, types_under};
+use crate::matrix::{Column, Row, heads_among, mask_of, some_open};
+use crate::rows::{all_rows, kept_columns, rows_beside, rows_under, rows_within, types_under};
 use crate::value::Value;
+use indexmap::IndexSet;
 use rx_core::{Boxed, LetGo, List, Ty, keep, pushed};
 use rx_typed::Decls;
 use std::alloc::{AllocError, Global};
@@ -49,6 +51,19 @@ fn pointing(alloc: Global, parts: List<Value>) -> Result<Value, AllocError>
     }
 }
 
+/// The integer below 0 at this distance from -1. No kind of integers goes so far that its magnitude has no 64 bits.
+fn below_zero(distance: u64) -> Result<Value, AllocError>
+    ensures { IfOk result (λ v. plain-Value v ≡ plain.number (negsuc distance)) }
+{
+    match distance.checked_add(1) {
+        Some(magnitude) => Ok(Value::Int {
+            negative: true,
+            magnitude,
+        }),
+        None => Err(AllocError),
+    }
+}
+
 /// The value of a type with this head and these parts.
 #[tactic(auto, using(crate::proofs::MissingLemmas::value_rules))]
 fn with_head(alloc: Global, ty: &Ty, head: Head, parts: List<Value>) -> Result<Value, AllocError>
@@ -56,12 +71,16 @@ fn with_head(alloc: Global, ty: &Ty, head: Head, parts: List<Value>) -> Result<V
         ≡ heads_spec.with_head (plain-Ty ty.now) (plain-Head head) (plain_values parts)) }
 {
     match head {
-        Head::Whole(negative, magnitude) => {
+        Head::Natural(magnitude) => {
             parts.let_go();
             Ok(Value::Int {
-                negative,
+                negative: false,
                 magnitude,
             })
+        }
+        Head::Negative(distance) => {
+            parts.let_go();
+            below_zero(distance)
         }
         Head::Truth(value) => {
             parts.let_go();
@@ -193,13 +212,13 @@ fn beside(
     alloc: Global,
     decls: &Decls,
     ty: &Ty,
-    heads: &[Head],
+    heads: &IndexSet<Head>,
     stack: List<Value>,
 ) -> Result<Option<List<Value>>, AllocError>
     requires finite { Finite (declarations decls.now.items) }
     requires numbered { spec.Numbered (declarations decls.now.items) }
     ensures { IfOk result (λ o. spec.Besides (declarations decls.now.items) (plain-Ty ty.now)
-        (map plain-Head heads.now) stack o) }
+        (map plain-Head heads.now.keys) stack o) }
 {
     let (value, stack) = keep(stack, apart(alloc, decls, ty, heads))?;
     match value {
@@ -268,9 +287,9 @@ fn split<'a>(
         (plain-Ty ty.now ∷ map plain-Column rest.now) (map plain-Row rows.now) o) }
 {
     let heads = heads_among(alloc, decls, ty, rows)?;
-    match by_heads(alloc, decls, ty, rest, rows, heads.as_slice())? {
+    match by_heads(alloc, decls, ty, rest, rows, &heads)? {
         Some(stack) => Ok(Some(stack)),
-        None => by_others(alloc, decls, ty, rest, rows, heads.as_slice()),
+        None => by_others(alloc, decls, ty, rest, rows, &heads),
     }
 }
 
@@ -282,21 +301,81 @@ fn by_heads<'a>(
     ty: &'a Ty,
     rest: &[Column<'a>],
     rows: &[List<Cell<'a>>],
-    heads: &[Head],
+    heads: &IndexSet<Head>,
 ) -> Result<Option<List<Value>>, AllocError>
     requires finite { Finite (declarations decls.now.items) }
     requires numbered { spec.Numbered (declarations decls.now.items) }
-    requires fit { spec.AllHeads (declarations decls.now.items) (plain-Ty ty.now) (map plain-Head heads.now) }
+    requires fit { spec.HeadsOf (declarations decls.now.items) (plain-Ty ty.now) (map plain-Head heads.now.keys) }
     ensures { IfOk result (λ o. spec.SettlesHeads (declarations decls.now.items) (plain-Ty ty.now)
-        (map plain-Column rest.now) (map plain-Head heads.now) (map plain-Row rows.now) o) }
+        (map plain-Column rest.now) (map plain-Head heads.now.keys) (map plain-Row rows.now) o) }
 {
-    for i in 0..heads.len() {
-        match at_head(alloc, decls, ty, rest, rows, heads[i])? {
-            Some(stack) => return Ok(Some(stack)),
-            None => (),
-        }
+    let all = all_rows(alloc, rows)?;
+    in_range(
+        alloc,
+        decls,
+        ty,
+        rest,
+        all.as_slice(),
+        heads,
+        0,
+        heads.len(),
+    )
+}
+
+/// The values whose first has one of the heads from one place to before another, by the rows that may match them.
+#[cycle(missing)]
+fn in_range<'a>(
+    alloc: Global,
+    decls: &'a Decls,
+    ty: &'a Ty,
+    rest: &[Column<'a>],
+    rows: &[Row<'_, 'a>],
+    heads: &IndexSet<Head>,
+    low: usize,
+    high: usize,
+) -> Result<Option<List<Value>>, AllocError>
+    requires finite { Finite (declarations decls.now.items) }
+    requires numbered { spec.Numbered (declarations decls.now.items) }
+    requires fit { spec.HeadsOf (declarations decls.now.items) (plain-Ty ty.now) (map plain-Head heads.now.keys) }
+    requires ends { high ≤ length heads.now.keys }
+    ensures { IfOk result (λ o. spec.SettlesRange (declarations decls.now.items) (plain-Ty ty.now)
+        (map plain-Column rest.now) (map plain-Head heads.now.keys) low high (map plain-Cells rows.now) o) }
+{
+    let within = rows_within(alloc, heads, low, high, rows)?;
+    by_range(alloc, decls, ty, rest, within.as_slice(), heads, low, high)
+}
+
+/// The values whose first has one of the heads from one place to before another. Halving the heads keeps the rows that
+/// are gone through few.
+#[cycle(missing)]
+fn by_range<'a>(
+    alloc: Global,
+    decls: &'a Decls,
+    ty: &'a Ty,
+    rest: &[Column<'a>],
+    rows: &[Row<'_, 'a>],
+    heads: &IndexSet<Head>,
+    low: usize,
+    high: usize,
+) -> Result<Option<List<Value>>, AllocError>
+    requires finite { Finite (declarations decls.now.items) }
+    requires numbered { spec.Numbered (declarations decls.now.items) }
+    requires fit { spec.HeadsOf (declarations decls.now.items) (plain-Ty ty.now) (map plain-Head heads.now.keys) }
+    requires ends { high ≤ length heads.now.keys }
+    ensures { IfOk result (λ o. spec.SettlesRange (declarations decls.now.items) (plain-Ty ty.now)
+        (map plain-Column rest.now) (map plain-Head heads.now.keys) low high (map plain-Cells rows.now) o) }
+{
+    if high <= low {
+        return Ok(None);
     }
-    Ok(None)
+    if high - low == 1 {
+        return at_head(alloc, decls, ty, rest, rows, heads.as_slice()[low]);
+    }
+    let middle = low + (high - low) / 2;
+    match in_range(alloc, decls, ty, rest, rows, heads, low, middle)? {
+        Some(stack) => Ok(Some(stack)),
+        None => in_range(alloc, decls, ty, rest, rows, heads, middle, high),
+    }
 }
 
 /// The values whose first has this head.
@@ -306,14 +385,14 @@ fn at_head<'a>(
     decls: &'a Decls,
     ty: &'a Ty,
     rest: &[Column<'a>],
-    rows: &[List<Cell<'a>>],
+    rows: &[Row<'_, 'a>],
     head: Head,
 ) -> Result<Option<List<Value>>, AllocError>
     requires finite { Finite (declarations decls.now.items) }
     requires numbered { spec.Numbered (declarations decls.now.items) }
     requires fits { heads_spec.IsHead (declarations decls.now.items) (plain-Ty ty.now) (plain-Head head) }
     ensures { IfOk result (λ o. spec.SettlesHead (declarations decls.now.items) (plain-Ty ty.now)
-        (map plain-Column rest.now) (plain-Head head) (map plain-Row rows.now) o) }
+        (map plain-Column rest.now) (plain-Head head) (map plain-Cells rows.now) o) }
 {
     let columns = types_under(alloc, decls, ty, head)?;
     let mask = mask_of(alloc, head, columns.len(), rows)?;
@@ -335,14 +414,14 @@ fn by_others<'a>(
     ty: &'a Ty,
     rest: &[Column<'a>],
     rows: &[List<Cell<'a>>],
-    heads: &[Head],
+    heads: &IndexSet<Head>,
 ) -> Result<Option<List<Value>>, AllocError>
     requires finite { Finite (declarations decls.now.items) }
     requires numbered { spec.Numbered (declarations decls.now.items) }
     requires all { matrices.AreHeads (declarations decls.now.items) (plain-Ty ty.now) (map plain-Row rows.now)
-        (map plain-Head heads.now) }
+        (map plain-Head heads.now.keys) }
     requires covered { matrices.CoversHeads (declarations decls.now.items) (plain-Ty ty.now) (map plain-Column rest.now)
-        (map plain-Head heads.now) (map plain-Row rows.now) }
+        (map plain-Head heads.now.keys) (map plain-Row rows.now) }
     ensures { IfOk result (λ o. spec.Settles (declarations decls.now.items)
         (plain-Ty ty.now ∷ map plain-Column rest.now) (map plain-Row rows.now) o) }
 {

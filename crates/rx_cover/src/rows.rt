@@ -4,12 +4,14 @@ ghost use Rattle.std.specs.Prelude.{◌≡◌, [], ◌∷◌, ◌++◌, IfOk, On
 ghost use Rattle.rx_typed.specs.PlainTypes.{plain-Ty, plain-FieldDecl, declarations};
 ghost use Rattle.rx_declared.specs.Held.{field_types};
 ghost use Rattle.rx_cover.specs.Heads as heads_spec;
-ghost use Rattle.rx_cover.specs.PlainCells.{plain-Head, plain-Cell, plain-Row, plain-Column};
+ghost use Rattle.rx_cover.specs.PlainCells.{plain-Head, plain-Cell, plain-Row, plain-Cells, plain-Column};
 ghost use Rattle.rx_cover.specs.Matrices as spec;
 ghost use Rattle.rx_typed.specs.Types.{parts_declared, variants_declared};
 
 use crate::heads::{Cell, Head, asks, part};
-use crate::matrix::{Column, admits, fields_of, variants_of};
+use crate::matrix::{Column, Row, admits, fields_of, first_head, variants_of};
+use crate::sets::place;
+use indexmap::IndexSet;
 use rx_core::{List, Ty};
 use rx_typed::{Decls, FieldDecl};
 use std::alloc::{AllocError, Global};
@@ -94,15 +96,64 @@ pub(crate) fn rows_under<'a>(
     alloc: Global,
     head: Head,
     mask: &[bool],
-    rows: &[List<Cell<'a>>],
+    rows: &[Row<'_, 'a>],
 ) -> Result<List<List<Cell<'a>>>, AllocError>
-    ensures { IfOk result (λ it. map plain-Row it ≡ spec.rows_under (plain-Head head) mask.now (map plain-Row rows.now)) }
+    ensures { IfOk result (λ it. map plain-Row it ≡ spec.rows_under (plain-Head head) mask.now (map plain-Cells rows.now)) }
 {
     let mut under = List::new(alloc);
     for row in rows {
-        add_row_under(alloc, &mut under, head, mask, row.as_slice())?;
+        add_row_under(alloc, &mut under, head, mask, row.cells)?;
     }
     Ok(under)
+}
+
+/// All rows.
+pub(crate) fn all_rows<'r, 'a>(
+    alloc: Global,
+    rows: &'r [List<Cell<'a>>],
+) -> Result<List<Row<'r, 'a>>, AllocError>
+    ensures { IfOk result (λ it. map plain-Cells it ≡ map plain-Row rows.now) }
+{
+    let mut all = List::new(alloc);
+    for row in rows {
+        all.push(Row {
+            cells: row.as_slice(),
+        })?;
+    }
+    Ok(all)
+}
+
+/// Whether a row asks for a head from one place to before another, or for none.
+fn is_within(heads: &IndexSet<Head>, low: usize, high: usize, row: Row<'_, '_>) -> bool
+    ensures { result ≡ spec.head_within (map plain-Head heads.now.keys) low high (spec.row_head (plain-Cells row.entry)) }
+{
+    match first_head(row.cells) {
+        Some(head) => {
+            let at = place(heads, head);
+            low <= at && at < high
+        }
+        None => true,
+    }
+}
+
+/// The rows that ask for a head from one place to before another, or for none.
+pub(crate) fn rows_within<'r, 'a>(
+    alloc: Global,
+    heads: &IndexSet<Head>,
+    low: usize,
+    high: usize,
+    rows: &[Row<'r, 'a>],
+) -> Result<List<Row<'r, 'a>>, AllocError>
+    ensures { IfOk result (λ it. map plain-Cells it
+        ≡ spec.rows_within (map plain-Head heads.now.keys) low high (map plain-Cells rows.now)) }
+{
+    let mut within = List::new(alloc);
+    for i in 0..rows.len() {
+        if is_within(heads, low, high, rows[i]) {
+            within.push(rows[i])?;
+        }
+    }
+    Ok(within)
 }
 
 fn add_row_beside<'a>(

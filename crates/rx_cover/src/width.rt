@@ -11,7 +11,9 @@ ghost use Rattle.rx_cover.specs.Choices.{patterns_of};
 ghost use Rattle.rx_cover.specs.Width as spec;
 
 use crate::choices::Arms;
-use crate::heads::{Head, has, head_of_constant};
+use crate::heads::{Head, head_of_constant};
+use crate::sets::add;
+use indexmap::IndexSet;
 use rx_core::{LetGo, List, keep};
 use rx_typed_tree::{Arm, Pattern, Subpattern};
 use std::alloc::{AllocError, Global};
@@ -28,7 +30,7 @@ pub(crate) enum Turn {
 #[derive(Drop)]
 pub(crate) struct Tested {
     pub path: List<Turn>,
-    pub heads: List<Head>,
+    pub heads: IndexSet<Head>,
 }
 
 impl LetGo for Turn {
@@ -38,7 +40,7 @@ impl LetGo for Turn {
 impl LetGo for Tested {
     fn let_go(self) {
         self.path.let_go();
-        self.heads.let_go();
+        let _gone = self.heads;
     }
 }
 
@@ -109,21 +111,11 @@ fn place_of(table: &[Tested], path: &[Turn]) -> usize
     table.len()
 }
 
-fn add_one(heads: &mut List<Head>, head: Head) -> Result<(), AllocError>
-    ensures { OnOk result (map plain-Head heads.new ≡ spec.with_one (map plain-Head heads.old) (plain-Head head)) }
+fn one_head(alloc: Global, head: Head) -> Result<IndexSet<Head>, AllocError>
+    ensures { IfOk result (λ it. map plain-Head it.keys ≡ plain-Head head ∷ []) }
 {
-    if has(heads.as_slice(), head) {
-        Ok(())
-    } else {
-        heads.push(head)
-    }
-}
-
-fn one_head(alloc: Global, head: Head) -> Result<List<Head>, AllocError>
-    ensures { IfOk result (λ it. it ≡ head ∷ []) }
-{
-    let mut heads = List::new(alloc);
-    heads.push(head)?;
+    let mut heads = IndexSet::new(alloc);
+    add(&mut heads, head)?;
     Ok(heads)
 }
 
@@ -165,7 +157,7 @@ fn add_test(
 {
     let at = place_of(table, path);
     if at < table.len() {
-        add_one(&mut table[at].heads, head)
+        add(&mut table[at].heads, head)
     } else {
         add_position(alloc, table, path, head)
     }
@@ -285,7 +277,7 @@ fn capped_product(a: u64, b: u64) -> u64
 
 /// A number for this position more, at most `u64::MAX`: the number times its heads and one.
 fn scaled_by(number: u64, tested: &Tested) -> u64
-    ensures { result ≡ spec.capped (spec.capped (number * length tested.now.heads) + number) }
+    ensures { result ≡ spec.capped (spec.capped (number * length tested.now.heads.keys) + number) }
 {
     capped_sum(capped_product(number, tested.heads.len() as u64), number)
 }

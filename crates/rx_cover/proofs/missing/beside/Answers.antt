@@ -10,7 +10,7 @@ pub returns-in_ok-pushed-in-Some : goal.returns-in_ok-pushed-in-Some
 returns-in_ok-pushed-in-Some c =
     let D = declarations c.args.decls.now.items in
     let t = plain-Ty c.args.ty.now in
-    let hs = map plain-Head c.args.heads.now in
+    let hs = map plain-Head c.args.heads.now.keys in
     lemma.besides_some D t hs c.args.stack c.in_ok-pushed-in-Some.field-0 c.in-Some.value
     (subst (λ o. Apart D t hs (option_map plain-Value o)) c.in-Some.is
     (subst (λ q. IfOk q (λ o. Apart D t hs (option_map plain-Value o))) c.in_ok-value.ensures.0 c.apart.ensures))
