@@ -1,0 +1,5 @@
+use Rattle.rx_along.proofs.Turns.{TurnedTo}
+use Rattle.rx_along.proofs.turning.turned.Given as goal
+
+abbrev pub invariant-loop-p : goal.invariant-loop-p
+invariant-loop-p l = TurnedTo l.edges l.back.items l.p

@@ -1,0 +1,14 @@
+use Rattle.std.proofs.Common.{List, subst, sym, map, refl}
+use Rattle.rx_core.specs.declared.types.Place.{Place}
+use Rattle.rx_emit.specs.PlainSite.{plain-Site}
+use Rattle.rx_init.specs.Tables.{KeepsForAll}
+use Rattle.rx_init.proofs.Deciding.{answers_ok, answers_err}
+use Rattle.rx_init.proofs.whole.judged.Goals as goal
+
+pub returns-in-Ok-judge_all : goal.returns-in-Ok-judge_all
+returns-in-Ok-judge_all c = answers_ok _ c.args.mutable.now c.in-Ok.facts (map plain-Site c.args.sites.now) c.in-Ok.ensures c.requires.sized c.requires.layout
+    (subst (λ (l : List Place). KeepsForAll l (map plain-Site c.args.sites.now)) (sym c.as_slice.ensures) c.requires.kept) c.in-Ok-judge_all.ensures.well _ refl refl refl
+
+pub returns-in-Err-judge_all : goal.returns-in-Err-judge_all
+returns-in-Err-judge_all c = answers_err _ c.args.mutable.now c.in-Ok.facts (map plain-Site c.args.sites.now) c.in-Ok.ensures c.requires.sized c.requires.layout
+    c.in-Err-judge_all.fault c.in-Err-judge_all.ensures.ill

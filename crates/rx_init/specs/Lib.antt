@@ -1,0 +1,6 @@
+pub mod Setting
+pub mod Wholes
+pub mod Initialised
+pub mod Tables
+pub mod Judged
+pub mod Answer
