@@ -1,10 +1,10 @@
-mod ItemLemmas
+pub mod ItemLemmas
 mod HeldLemmas
-mod Filling
+pub mod Filling
 mod SizeLemmas
 mod SizeLaws
 pub mod RegionLemmas
 mod FixingLemmas
-mod VarianceLemmas
+pub mod VarianceLemmas
 mod RecordLemmas
 mod Examples

@@ -168,7 +168,7 @@ module _ (u : Bool) (vs : List Polarity) where
 
 -- ---- types
 
-get_is_in : (ls : List ℕ) (n k : ℕ) → slice_get ls n ≡ Some k → IsIn ls k
+pub get_is_in : (ls : List ℕ) (n k : ℕ) → slice_get ls n ≡ Some k → IsIn ls k
 get_is_in [] n k h = absurd (cc)
 get_is_in (l ∷ ls) zero k h = inl (cc)
 get_is_in (l ∷ ls) (suc n) k h = inr (get_is_in ls n k h)

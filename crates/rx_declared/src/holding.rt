@@ -73,8 +73,9 @@ fn held_by(alloc: Global, item: &Decl) -> Result<List<u32>, AllocError>
     Ok(held)
 }
 
-/// The numbers of the structs and enums that each of these items holds.
-pub(crate) fn held(alloc: Global, items: &[Decl]) -> Result<List<List<u32>>, AllocError>
+/// The structs and enums that each of these items holds, through references too: by item, their numbers, each as often as
+/// it is named.
+pub fn held(alloc: Global, items: &[Decl]) -> Result<List<List<u32>>, AllocError>
     ensures { IfOk result (λ it. it ≡ spec.held (declarations items.now)) }
 {
     let mut all = List::new(alloc);

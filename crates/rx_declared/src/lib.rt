@@ -7,7 +7,7 @@ mod laws;
 mod recording;
 mod sizing;
 
-pub use holding::first_endless;
+pub use holding::{first_endless, held};
 pub use laws::one_size_each;
 pub use recording::{recorded, variance};
 pub use sizing::sizes;
