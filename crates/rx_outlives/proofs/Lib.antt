@@ -1,0 +1,4 @@
+mod Appending
+mod Steps
+pub mod ImpliedLemmas
+mod TableLemmas
