@@ -1,0 +1,5 @@
+pub mod Numbers
+pub mod Renaming
+pub mod PlainSignature
+pub mod Places
+pub mod Standing
