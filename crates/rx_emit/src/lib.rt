@@ -15,4 +15,4 @@ mod whole;
 pub use around::{Around, Loop};
 pub use site::{Open, Site, Stand};
 pub use sums::{Begin, Row, Suffix, Sum, Way};
-pub use whole::{GraphFault, graph};
+pub use whole::{GraphFault, graph, summed};

@@ -6,7 +6,7 @@ ghost use Rattle.rx_flow.specs.PlainFlow.{plain-Flow};
 ghost use Rattle.rx_lower.specs.Pieces.{part, graph_of};
 ghost use Rattle.rx_emit.specs.PlainSite.{plain-Site};
 ghost use Rattle.rx_emit.specs.Around.{nothing_around};
-ghost use Rattle.rx_emit.specs.Sums.{cap};
+ghost use Rattle.rx_emit.specs.Sums.{cap, sum};
 ghost use Rattle.rx_emit.specs.Emitted.{emitted};
 ghost use Rattle.rx_emit.specs.Refusal.{Refuses};
 
@@ -14,6 +14,7 @@ use crate::around::Around;
 use crate::emit::emit;
 use crate::measure::measure;
 use crate::site::Site;
+use crate::sums::Sum;
 use rx_core::List;
 use rx_flow::Flow;
 use std::alloc::{AllocError, Global};
@@ -26,13 +27,20 @@ pub enum GraphFault {
     OutOfMemory,
 }
 
+/// What a flow is where nothing is around it.
+pub fn summed(alloc: Global, flow: &Flow) -> Result<Sum, AllocError>
+    ensures { IfOk result (λ it. it ≡ sum nothing_around (plain-Flow flow.now)) }
+{
+    let mut around = Around::nothing(alloc);
+    measure(alloc, flow, &mut around)
+}
+
 /// How many sites it has.
 #[tactic(auto, using(crate::proofs::Graphs::size_summed))]
 fn size_of(alloc: Global, flow: &Flow) -> Result<u64, AllocError>
     ensures { IfOk result (λ n. n ≡ cap (part [] (order_of (plain-Flow flow.now))).size) }
 {
-    let mut around = Around::nothing(alloc);
-    Ok(measure(alloc, flow, &mut around)?.size)
+    Ok(summed(alloc, flow)?.size)
 }
 
 fn whole(alloc: Global, flow: &Flow) -> Result<List<Site>, AllocError>

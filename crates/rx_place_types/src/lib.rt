@@ -5,6 +5,6 @@ mod numbers;
 mod places;
 mod renaming;
 
-pub use numbers::{count, numbered};
+pub use numbers::{count, numbered, reference};
 pub use places::place_type;
 pub use renaming::{Arguments, Signature, call_signature, renamed};

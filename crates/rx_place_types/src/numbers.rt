@@ -74,8 +74,9 @@ fn numbers(
     Ok(all)
 }
 
+/// A reference to this type.
 #[tactic(auto, using(rx_typed::proofs::Rules::region_rules))]
-fn reference(alloc: Global, mutable: bool, lifetime: u32, inner: Ty) -> Result<Ty, AllocError>
+pub fn reference(alloc: Global, mutable: bool, lifetime: u32, inner: Ty) -> Result<Ty, AllocError>
     ensures { IfOk result (λ it. region-Ty it ≡ region_reference mutable lifetime (region-Ty inner)) }
 {
     let inner = Boxed::new(alloc, inner)?;

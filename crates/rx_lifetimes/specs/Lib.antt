@@ -1,0 +1,10 @@
+pub mod Values
+pub mod Finding
+pub mod Positions
+pub mod Held
+pub mod Numbered
+pub mod PlainOf
+pub mod PlainOwn
+pub mod Variables
+pub mod Lowered
+pub mod Answer

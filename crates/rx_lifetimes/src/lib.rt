@@ -1,0 +1,17 @@
+//! The graph of a function with its lifetimes: the types of its variables and temporaries, the signatures of its calls and
+//! the regions of its borrows.
+#![tactic(auto)]
+
+mod gather;
+mod held;
+mod notes;
+mod numbering;
+mod positions;
+mod values;
+mod variables;
+mod whole;
+
+pub use held::{Held, Open};
+pub use numbering::Own;
+pub use variables::Told;
+pub use whole::{Graph, Lifetimes, LowerFault, lower_function};
