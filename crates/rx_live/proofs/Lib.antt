@@ -1,0 +1,4 @@
+pub mod Roots
+pub mod Numbering
+pub mod Effecting
+pub mod Living

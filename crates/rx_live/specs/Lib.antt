@@ -1,0 +1,3 @@
+pub mod Live
+pub mod Tables
+pub mod Effects

@@ -1,0 +1,154 @@
+//! Tables of liveness.
+
+ghost use Rattle.std.specs.Prelude.{◌≡◌, ◌↔◌, ◌<◌, ◌≤◌, ◌==◌, ℕ, List as ListOf, length, map, true, false, ◌++◌, OnOk, IfOk, option_map, slice_get};
+ghost use Rattle.rx_graph.specs.Facts as facts;
+ghost use Rattle.rx_graph.specs.Tables.{at};
+ghost use Rattle.rx_lower.specs.Graph as graphs;
+ghost use Rattle.rx_emit.specs.PlainSite.{plain-Site};
+ghost use Rattle.rx_flow.specs.PlainFlow.{plain-Act, plain-Action, plain-Root};
+ghost use Rattle.rx_live.specs.Live as spec;
+ghost use Rattle.rx_live.specs.Tables as tables;
+ghost use Rattle.rx_live.specs.Effects.{Numbers, DoesAt, listed};
+ghost use Rattle.rx_along.specs.Tracking.{EachDoes};
+
+use crate::index::Index;
+use crate::uses::{used, written};
+use rx_along::{ahead, edges};
+use rx_core::List;
+use rx_emit::Site;
+use rx_flow::{Action, Root};
+use rx_graph::{Effect, Table};
+use std::alloc::{AllocError, Global};
+
+/// Which variables and temporaries are live at each site.
+#[derive(Drop)]
+pub struct LiveTable {
+    index: Index,
+    effects: Vec<Effect>,
+    ahead: Table,
+}
+
+fn has(numbers: &[u32], number: u32) -> bool
+    ensures { result ≡ facts.has numbers.now number }
+{
+    for one in numbers {
+        if number == *one {
+            return true;
+        }
+    }
+    false
+}
+
+/// Whether a fact holds behind what a site does, where it does or doesn't at it.
+fn behind(effect: &Effect, number: u32, before: bool) -> bool
+    ensures { result ≡ facts.behind effect.now number before }
+{
+    has(effect.gives.as_slice(), number) || (!has(effect.kills.as_slice(), number) && before)
+}
+
+impl LiveTable {
+    /// Whether the root of a number is live at a site.
+    fn told(&self, number: u32, site: usize) -> bool
+        ensures { result ≡ facts.behind (facts.effect_of (slice_get self.now.effects.items site)) number (at self.now.ahead.rows site number) }
+    {
+        let before = self.ahead.holds(site, number as usize);
+        match self.effects.get(site) {
+            Some(effect) => behind(effect, number, before),
+            None => before,
+        }
+    }
+
+    /// Whether a variable or temporary is live at a site: on some walk from there on it is used, and is not written as a
+    /// whole before.
+    pub fn is_live(&self, root: Root, site: usize) -> bool
+        requires { tables.IsIndex self.now.index }
+        ensures { (g : ListOf graphs.Site) → tables.Lives g self.now → site < length g → (result ≡ true) ↔ spec.IsLive g (plain-Root root) site }
+    {
+        match self.index.find(root) {
+            Some(number) => self.told(number, site),
+            None => false,
+        }
+    }
+}
+
+/// Adds a number, where there is one.
+fn push_some(all: &mut List<u32>, number: Option<u32>) -> Result<(), AllocError>
+    ensures { OnOk result (all.new ≡ all.old ++ listed number) }
+{
+    match number {
+        Some(number) => all.push(number),
+        None => Ok(()),
+    }
+}
+
+/// The numbers of roots that have one.
+fn numbers(alloc: Global, index: &Index, roots: &[Root]) -> Result<List<u32>, AllocError>
+    requires { tables.IsIndex index.now }
+    ensures { IfOk result (λ it. Numbers index.now.roots (map plain-Root roots.now) it) }
+{
+    let mut all = List::new(alloc);
+    for root in roots {
+        push_some(&mut all, index.find(*root))?;
+    }
+    Ok(all)
+}
+
+/// The number of a root, where there is one.
+fn number(alloc: Global, index: &Index, root: Option<Root>) -> Result<List<u32>, AllocError>
+    requires { tables.IsIndex index.now }
+    ensures { IfOk result (λ it. Numbers index.now.roots (spec.roots_of (option_map plain-Root root)) it) }
+{
+    match root {
+        Some(root) => numbers(alloc, index, &[root]),
+        None => Ok(List::new(alloc)),
+    }
+}
+
+/// What an action does to facts by these numbers.
+fn effect(alloc: Global, index: &Index, action: &Action) -> Result<Effect, AllocError>
+    requires { tables.IsIndex index.now }
+    ensures { IfOk result (λ e. DoesAt index.now.roots e (plain-Action action.now)) }
+{
+    let roots = used(alloc, &action.act)?;
+    let gives = numbers(alloc, index, roots.as_slice())?;
+    let kills = number(alloc, index, written(&action.act))?;
+    Ok(Effect { kills, gives })
+}
+
+fn effects(alloc: Global, index: &Index, sites: &[Site]) -> Result<Vec<Effect>, AllocError>
+    requires { tables.IsIndex index.now }
+    ensures { IfOk result (λ es. EachDoes (DoesAt index.now.roots) es.items (map plain-Site sites.now)) }
+{
+    let mut all = Vec::new(alloc);
+    for site in sites {
+        let one = effect(alloc, index, &site.action)?;
+        all.push(one)?;
+    }
+    Ok(all)
+}
+
+/// Which variables and temporaries are live at each site of a function.
+///
+/// # Errors
+///
+/// Memory runs out.
+pub fn live(alloc: Global, sites: &[Site]) -> Result<LiveTable, AllocError>
+    requires { length sites.now ≤ 16384 }
+    ensures index { IfOk result (λ t. tables.IsIndex t.index) }
+    ensures lives { IfOk result (λ t. tables.Lives (map plain-Site sites.now) t) }
+{
+    let index = Index::of(alloc, sites)?;
+    let effects = effects(alloc, &index, sites)?;
+    let edges = edges(alloc, sites)?;
+    let ahead = ahead(
+        alloc,
+        edges.as_slice(),
+        effects.as_slice(),
+        index.roots.len(),
+    )?;
+    Ok(LiveTable {
+        index,
+        effects,
+        ahead,
+    })
+}
