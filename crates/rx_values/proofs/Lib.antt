@@ -1,0 +1,5 @@
+pub mod Dividing
+pub mod MemoryLemmas
+pub mod ReachLemmas
+pub mod ValueRules
+pub mod WriteLemmas

@@ -1,0 +1,5 @@
+pub mod PlainMemory
+pub mod PlainNumber
+pub mod PlainValues
+pub mod Reaching
+pub mod Writes

@@ -1,0 +1,16 @@
+//! Values as data, and what is done with them.
+#![tactic(auto)]
+
+mod copying;
+mod memory;
+mod number;
+mod reading;
+mod value;
+mod writing;
+
+pub use copying::copied;
+pub use memory::Memory;
+pub use number::{Calculated, Number, computed, negated};
+pub use reading::{Part, at_path, is_set, step_from};
+pub use value::{Lack, Parts, Pointer, Value};
+pub use writing::put;
