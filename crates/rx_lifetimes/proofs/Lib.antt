@@ -2,3 +2,4 @@ pub mod Finding
 pub mod Noting
 pub mod Gathered
 pub mod Answering
+mod Examples

@@ -9,9 +9,8 @@ use Rattle.rx_typed.specs.Tree as tree
 use Rattle.rx_walks.specs.Actions.{Action}
 use Rattle.rx_lower.specs.Pieces.{graph}
 use Rattle.rx_lower.specs.Text.{actions_of}
-use Rattle.rx_lifetimes.specs.declared.variables.Told.{Told}
 use Rattle.rx_lifetimes.specs.Values.{Open, Known, Held, lifetimes_of, held_by, result_type}
-use Rattle.rx_lifetimes.specs.Variables.{open_types}
+use Rattle.rx_lifetimes.specs.Variables.{Written, open_types}
 use Rattle.rx_lifetimes.specs.Positions.{all_own}
 use Rattle.rx_lifetimes.specs.Numbered.{all_open, all_numbered, opened, Own, all_owned}
 
@@ -75,7 +74,7 @@ abbrev pub lifetimes : Function → Lifetimes
 lifetimes F = lifetimes_by F.items F.item F.body.params F.variables (temporaries F) (actions F)
 
 -- the function, by the types of its variables without lifetimes and those that its `let`s write
-abbrev pub function_of : List Decl → ℕ → tree.Function → List (Option Ty) → List Told → Function
+abbrev pub function_of : List Decl → ℕ → tree.Function → List (Option Ty) → List Written → Function
 function_of D f b raws ws = record {
   items = D;
   item = f;

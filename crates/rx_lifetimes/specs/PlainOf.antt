@@ -6,8 +6,10 @@ use Rattle.rx_flow.specs.PlainFlow.{plain-Temporary}
 use Rattle.rx_lifetimes.specs.declared.held.Open.{Open}
 use Rattle.rx_lifetimes.specs.declared.held.Held.{Held}
 use Rattle.rx_lifetimes.specs.declared.notes.Notes.{Notes}
+use Rattle.rx_lifetimes.specs.declared.variables.Told.{Told}
 use Rattle.rx_lifetimes.specs.Values as values
 use Rattle.rx_lifetimes.specs.Held as acts
+use Rattle.rx_lifetimes.specs.Variables.{Written}
 
 abbrev pub plain-Open : Open → values.Open
 plain-Open o = record { typ = region-Ty o.ty; from = o.from }
@@ -20,3 +22,6 @@ known D vs = record { items = D; variables = map plain-Open vs }
 
 abbrev pub plain-Notes : Notes → acts.Notes
 plain-Notes n = record { held = map plain-Held n.held; own = n.own }
+
+abbrev pub plain-Told : Told → Written
+plain-Told t = record { variable = t.variable; typ = region-Ty t.ty }

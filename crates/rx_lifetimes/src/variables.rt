@@ -1,11 +1,11 @@
 //! The types of a function's variables.
 
-ghost use Rattle.std.specs.Prelude.{◌≡◌, map, IfOk};
+ghost use Rattle.std.specs.Prelude.{◌≡◌, map, option_map, IfOk};
 ghost use Rattle.std.specs.Option.{option_copied};
 ghost use Rattle.rx_typed.specs.Regions.{region-Ty};
 ghost use Rattle.rx_typed_tree.specs.PlainTree.{plain-Param};
 ghost use Rattle.rx_lifetimes.specs.Variables as spec;
-ghost use Rattle.rx_lifetimes.specs.PlainOf.{plain-Open};
+ghost use Rattle.rx_lifetimes.specs.PlainOf.{plain-Open, plain-Told};
 
 use crate::held::{Open, unit};
 use rx_core::{LetGo, List, Ty, keep, pushed};
@@ -44,7 +44,7 @@ fn parameter_type<'a>(params: &[Param], types: &'a [Ty], variable: u32) -> Optio
 
 /// That of what a `let` writes.
 fn written_type<'a>(written: &'a [Told], variable: u32) -> Option<&'a Ty>
-    ensures { option_copied result ≡ spec.written_type written.now variable }
+    ensures { option_map region-Ty (option_copied result) ≡ spec.written_type (map plain-Told written.now) variable }
 {
     for i in 0..written.len() {
         if written[i].variable == variable {
@@ -61,7 +61,7 @@ fn told_type<'a>(
     written: &'a [Told],
     variable: u32,
 ) -> Option<&'a Ty>
-    ensures { option_copied result ≡ spec.or_else (spec.parameter_type (map plain-Param params.now) types.now variable) (spec.written_type written.now variable) }
+    ensures { option_map region-Ty (option_copied result) ≡ spec.told (spec.parameter_type (map plain-Param params.now) types.now variable) (spec.written_type (map plain-Told written.now) variable) }
 {
     match parameter_type(params, types, variable) {
         Some(ty) => Some(ty),
@@ -95,7 +95,7 @@ fn open_type(
     told: Option<&Ty>,
     raw: &Option<Ty>,
 ) -> Result<Open, AllocError>
-    ensures { IfOk result (λ it. plain-Open it ≡ spec.open_type own (option_copied told.entry) raw.now) }
+    ensures { IfOk result (λ it. plain-Open it ≡ spec.open_type own (option_map region-Ty (option_copied told.entry)) raw.now) }
 {
     match told {
         Some(ty) => {
@@ -119,7 +119,7 @@ pub fn open_types(
     written: &[Told],
     raws: &[Option<Ty>],
 ) -> Result<List<Open>, AllocError>
-    ensures { IfOk result (λ it. map plain-Open it ≡ spec.open_types own (map plain-Param params.now) types.now written.now 0 raws.now) }
+    ensures { IfOk result (λ it. map plain-Open it ≡ spec.open_types own (map plain-Param params.now) types.now (map plain-Told written.now) 0 raws.now) }
 {
     let mut all = List::new(alloc);
     let mut variable = 0u32;

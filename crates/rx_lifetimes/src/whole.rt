@@ -16,7 +16,7 @@ ghost use Rattle.rx_lifetimes.specs.declared.whole.LowerFault.TheVariants as Fau
 ghost use Rattle.rx_lifetimes.specs.Lowered as lowered;
 ghost use Rattle.rx_lifetimes.specs.Lowered.{function_of};
 ghost use Rattle.rx_lifetimes.specs.Answer.{plain-Lifetimes, Answers, Walked};
-ghost use Rattle.rx_lifetimes.specs.PlainOf.{plain-Open, plain-Held, plain-Notes, known};
+ghost use Rattle.rx_lifetimes.specs.PlainOf.{plain-Open, plain-Held, plain-Notes, plain-Told, known};
 
 use crate::gather::gather;
 use crate::held::{Held, Open};
@@ -341,8 +341,8 @@ pub fn lower_function(
     raws: &[Option<Ty>],
     written: &[Told],
 ) -> Result<Graph, LowerFault>
-    ensures answers { Answers (function_of decls.now.items item (plain-TypedTree tree.now) raws.now written.now) mutable.now result }
-    ensures walked { IfOk result (λ g. Walked (function_of decls.now.items item (plain-TypedTree tree.now) raws.now written.now) g) }
+    ensures answers { Answers (function_of decls.now.items item (plain-TypedTree tree.now) raws.now (map plain-Told written.now)) mutable.now result }
+    ensures walked { IfOk result (λ g. Walked (function_of decls.now.items item (plain-TypedTree tree.now) raws.now (map plain-Told written.now)) g) }
 {
     let own = lifetimes_of(decls, item);
     let types = parameters(decls, item);
