@@ -122,3 +122,7 @@ same_result t u r r' (cut m h) = absurd m
 -- where as many turns may be nested as there are left, the level says nothing
 pub level_is_free : {E : Type 0} (A : Acting E) → IsBlind A → (P : Functions) (m n : ℕ) (f : ℕ) (vs : List Value) (s : State) → s.turns ≤ m → s.turns ≤ n → called A P m f vs s ≡ called A P n f vs s
 level_is_free A blind P m n f vs s l l' = same_result s.turns s.turns _ _ (later_call A blind P equally m n f vs s s.turns l l' refl)
+
+-- the same of an expression
+pub level_of : {E : Type 0} (A : Acting E) → IsBlind A → (P : Functions) (m n : ℕ) (e : Exp) (t : Temporary) (s : State) → s.turns < m → s.turns < n → below_level A P m e t s ≡ below_level A P n e t s
+level_of A blind P m n e t s l l' = same_result s.turns s.turns _ _ (later_level A blind P equally m n e t s s.turns l l' refl)

@@ -1,5 +1,5 @@
 -- What a run does, told without temporaries, is what it does.
-use Rattle.std.proofs.Common.{◌≡◌, ℕ, zero, suc, ℤ, List, [], refl, ap, ◌∙◌}
+use Rattle.std.proofs.Common.{◌≡◌, ℕ, zero, suc, ◌<◌, ℤ, List, [], refl, sym, ap, ◌∙◌, arith}
 use Rattle.rx_typed.specs.Tree.{Temporary, temporary_of, Exp, read, borrow, share, build, unit, lazily, assign, update, call, input, print, block, choose, loop, jump, give, Operands, no_operand, operand_and, Scrutinee, at_place, of_value, Arms, no_arm, arm_and, Body, ends, runs, declares, lets, Function, mark_of}
 use Rattle.rx_walks.specs.Matching.{tests, bindings}
 use Rattle.rx_walks.specs.Actions.{Subject, subject}
@@ -9,7 +9,9 @@ use Rattle.rx_meaning.specs.Expressions as full
 use Rattle.rx_meaning.specs.Expressions.{Functions, returned}
 use Rattle.rx_meaning.specs.Programs as programs
 use Rattle.rx_meaning.specs.Programs.{Program, outcome_of, begins}
-use Rattle.rx_running.specs.Running.{Meaning, value, values, matched, arms, body, entered, level, run}
+use Rattle.rx_meaning.proofs.MoreTurns.{level_of}
+use Rattle.rx_meaning.proofs.Blind.{plainly_blind}
+use Rattle.rx_running.specs.Running.{Meaning, nowhere, value, values, matched, arms, body, entered, level, run}
 use Rattle.rx_running.proofs.Alike.{bind_same, goes_on, decided_same, tested_same, bound_same, begun_same, arguments_same, turn_same, passed_same, found_same}
 
 abbrev AllAlike : full.Meaning ℕ → Meaning → Type 0
@@ -71,3 +73,9 @@ levels_are P (suc n) = λ e d s. value_is P (full.below_level plainly P n) (leve
 pub run_is : (P : Program) (given : List ℤ) (n : ℕ) → programs.run P given n ≡ run P given n
 run_is P given n = ap outcome_of (found_same (element P.functions P.main) _ _ (λ g. turn_same (begins given n) _ _ (λ s1.
     entered_is (full.below_level plainly P.functions n) (level P.functions n) (levels_are P.functions n) P.main g [] s1)))
+
+-- where fewer turns are left than may be nested, one level more says nothing
+pub at_a_turn : (P : Functions) (n : ℕ) (e : Exp) (s : State) → s.turns < n → level P n e s ≡ value P (level P n) e s
+unfolding level
+at_a_turn P n e s l =
+    sym (levels_are P n e nowhere s) ∙ level_of plainly plainly_blind P n (suc n) e nowhere s l (omega (arith, l)) ∙ levels_are P (suc n) e nowhere s

@@ -1,6 +1,9 @@
 //! Laws of runs, each the contract of a function that does nothing.
 
-ghost use Rattle.std.specs.Prelude.{◌≡◌, ℕ, ℤ, List as ListOf};
+ghost use Rattle.std.specs.Prelude.{◌≡◌, ◌<◌, ℕ, ℤ, List as ListOf};
+ghost use Rattle.rx_typed.specs.Tree.{Exp};
+ghost use Rattle.rx_meaning.specs.Values.{State};
+ghost use Rattle.rx_meaning.specs.Expressions.{Functions};
 ghost use Rattle.rx_meaning.specs.Programs as meaning;
 ghost use Rattle.rx_running.specs.Running as running;
 
@@ -8,4 +11,11 @@ ghost use Rattle.rx_running.specs.Running as running;
 #[tactic(auto, using(crate::proofs::Runs::run_is))]
 pub fn running_is_the_meaning()
     ensures { (P : meaning.Program) (given : ListOf ℤ) (n : ℕ) → meaning.run P given n ≡ running.run P given n }
+{}
+
+/// Where fewer turns are left than may be nested, an expression is what it is by the level itself.
+#[tactic(auto, using(crate::proofs::Runs::at_a_turn))]
+pub fn level_serves_itself()
+    ensures { (P : Functions) (n : ℕ) (e : Exp) (s : State) → s.turns < n
+        → running.level P n e s ≡ running.value P (running.level P n) e s }
 {}

@@ -3,4 +3,4 @@
 
 mod laws;
 
-pub use laws::running_is_the_meaning;
+pub use laws::{level_serves_itself, running_is_the_meaning};

@@ -1,0 +1,58 @@
+//! Laws of steps, each the contract of a function that does nothing.
+
+ghost use Rattle.std.specs.Prelude.{◌≡◌, ◌<◌, [], ◌∷◌, ℕ, List as ListOf};
+ghost use Rattle.rx_typed.specs.Tree.{Exp, Body, Mark, loop};
+ghost use Rattle.rx_meaning.specs.Values.{Value, State};
+ghost use Rattle.rx_walks.specs.Orders.{Exit};
+ghost use Rattle.rx_meaning.specs.Results.{Result, jumps, after};
+ghost use Rattle.rx_meaning.specs.Expressions.{Functions, passed};
+ghost use Rattle.rx_running.specs.Running.{Meaning, value, body, level};
+ghost use Rattle.rx_frames.specs.Frames.{Hole, Around, hole, pass, loops, does_next, opened, opened_body, filled, resume, unwind};
+
+/// What an expression does first, and what is left of it then, is what it does.
+#[tactic(auto, using(crate::proofs::Steps::opened_is))]
+pub fn expressions_open()
+    ensures { (P : Functions) (below : Meaning) (e : Exp) (s : State) → value P below e s ≡ does_next P below (opened e) s }
+{}
+
+/// The same of a block.
+#[tactic(auto, using(crate::proofs::Steps::opened_body_is))]
+pub fn blocks_open()
+    ensures { (P : Functions) (below : Meaning) (b : Body) (s : State) → body P below b s ≡ does_next P below (opened_body b) s }
+{}
+
+/// What comes next once an operand has its value is what is left of the form.
+#[tactic(auto, using(crate::proofs::Steps::filled_is))]
+pub fn holes_fill()
+    ensures { (P : Functions) (below : Meaning) (h : Hole) (v : Value) (s : State)
+        → resume P below h v s ≡ does_next P below (filled h v) s }
+{}
+
+/// What was printed already comes first, whatever frames are around.
+#[tactic(auto, using(crate::proofs::Unwinding::unwind_after))]
+pub fn printed_comes_first()
+    ensures { (P : Functions) (below : Meaning) (K : ListOf Around) (w : ListOf ℕ) (r : Result ℕ Value)
+        → unwind P below K (after w r) ≡ after w (unwind P below K r) }
+{}
+
+/// A jump leaves what was half done.
+#[tactic(auto, using(crate::proofs::Unwinding::jump_leaves))]
+pub fn jumps_leave_holes()
+    ensures { (P : Functions) (below : Meaning) (h : Hole) (K : ListOf Around) (w : ListOf ℕ) (x : Exit) (v : Value)
+        (s : State) → unwind P below (hole h ∷ K) (jumps w x v s) ≡ unwind P below K (jumps w x v s) }
+{}
+
+/// The first pass of a loop behind a turn is its body in a frame, where fewer turns are left than may be nested.
+#[tactic(auto, using(crate::proofs::Unwinding::pass_begins))]
+pub fn passes_begin()
+    ensures { (P : Functions) (n : ℕ) (m : Mark) (l : ℕ) (e : Exp) (s : State) → s.turns < n
+        → passed l (level P n e s) (λ s1. level P n (loop m l e) s1)
+        ≡ unwind P (level P n) (pass m l e ∷ []) (value P (level P n) e s) }
+{}
+
+/// A loop that begins again is what an expression of that loop does first.
+#[tactic(auto, using(crate::proofs::Unwinding::pass_again))]
+pub fn passes_go_on()
+    ensures { (P : Functions) (n : ℕ) (m : Mark) (l : ℕ) (e : Exp) (s : State) → s.turns < n
+        → level P n (loop m l e) s ≡ does_next P (level P n) (loops m l e) s }
+{}

@@ -1,0 +1,9 @@
+//! Runs of programs, step by step.
+#![tactic(auto)]
+
+mod laws;
+
+pub use laws::{
+    blocks_open, expressions_open, holes_fill, jumps_leave_holes, passes_begin, passes_go_on,
+    printed_comes_first,
+};
