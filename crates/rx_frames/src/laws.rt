@@ -1,13 +1,13 @@
 //! Laws of steps, each the contract of a function that does nothing.
 
 ghost use Rattle.std.specs.Prelude.{◌≡◌, ◌<◌, [], ◌∷◌, ℕ, List as ListOf};
-ghost use Rattle.rx_typed.specs.Tree.{Exp, Body, Mark, loop};
-ghost use Rattle.rx_meaning.specs.Values.{Value, State};
+ghost use Rattle.rx_typed.specs.Tree.{Exp, Body, Function, Mark, loop};
+ghost use Rattle.rx_meaning.specs.Values.{Value, State, new_frame};
 ghost use Rattle.rx_walks.specs.Orders.{Exit};
 ghost use Rattle.rx_meaning.specs.Results.{Result, jumps, after};
 ghost use Rattle.rx_meaning.specs.Expressions.{Functions, passed};
-ghost use Rattle.rx_running.specs.Running.{Meaning, value, body, level};
-ghost use Rattle.rx_frames.specs.Frames.{Hole, Around, hole, pass, loops, does_next, opened, opened_body, filled, resume, unwind};
+ghost use Rattle.rx_running.specs.Running.{Meaning, value, body, entered, level, with_arguments};
+ghost use Rattle.rx_frames.specs.Frames.{Hole, Around, hole, pass, call_from, loops, does_next, opened, opened_body, filled, resume, unwind};
 
 /// What an expression does first, and what is left of it then, is what it does.
 #[tactic(auto, using(crate::proofs::Steps::opened_is))]
@@ -55,4 +55,12 @@ pub fn passes_begin()
 pub fn passes_go_on()
     ensures { (P : Functions) (n : ℕ) (m : Mark) (l : ℕ) (e : Exp) (s : State) → s.turns < n
         → level P n (loop m l e) s ≡ does_next P (level P n) (loops m l e) s }
+{}
+
+/// The body of a call behind a turn is in a frame that keeps the caller's, where fewer turns are left than may be nested.
+#[tactic(auto, using(crate::proofs::Calls::call_begins))]
+pub fn calls_begin()
+    ensures { (P : Functions) (n i : ℕ) (f : Function) (vs : ListOf Value) (s : State) → s.turns < n
+        → entered (level P n) i f vs s ≡ unwind P (level P n) (call_from s.frame ∷ [])
+        (with_arguments f.params vs (λ s1. value P (level P n) f.body s1) (record s { frame = new_frame i })) }
 {}

@@ -4,6 +4,6 @@
 mod laws;
 
 pub use laws::{
-    blocks_open, expressions_open, holes_fill, jumps_leave_holes, passes_begin, passes_go_on,
-    printed_comes_first,
+    blocks_open, calls_begin, expressions_open, holes_fill, jumps_leave_holes, passes_begin,
+    passes_go_on, printed_comes_first,
 };
