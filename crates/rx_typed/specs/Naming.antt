@@ -14,6 +14,14 @@ use Rattle.rx_typed.specs.declared.nodes.Declaration.{Declaration}
 use Rattle.rx_typed.specs.Named as named
 use Rattle.rx_typed.specs.Named.{Written, WrittenTypes, Pattern, Patterns, Exp, Exps, Else, Fields, node_of, pattern_node, whole_binding, root, never}
 
+-- a `let` with a type: its pattern, the type, the number of the pattern's first variable, and the entries of names from the
+-- pattern's on
+pub record Annotation : Type 0 where
+  pub pattern : PatternTree
+  pub typ : TypeTree
+  pub variable : ℕ
+  pub names : List NodeNames
+
 -- where the text has come to
 pub record Cursor : Type 0 where
   -- the next node's number, and the spans of the nodes so far
@@ -26,6 +34,8 @@ pub record Cursor : Type 0 where
   pub variables : List Declaration
   -- the entries of names that are left
   pub names : List NodeNames
+  -- those `let`s that had a type so far
+  pub annotations : List Annotation
 
 abbrev pub Numbering : Type 0 → Type 0
 Numbering A = Cursor → A × Cursor
@@ -123,6 +133,11 @@ abbrev mutual
 abbrev pub of_optional_type : Option TypeTree → Numbering (Option Written)
 of_optional_type None = give None
 of_optional_type (Some t) = and_then (of_type t) (λ t. give (Some t))
+
+-- the pattern and the type of a `let`, in front of the pattern
+abbrev pub annotates : PatternTree → Option TypeTree → Numbering (Unit {0})
+annotates p None c = (tt, c)
+annotates p (Some t) c = (tt, record c { annotations = c.annotations ++ record { pattern = p; typ = t; variable = c.declared; names = c.names } ∷ [] })
 
 -- ---- patterns
 
@@ -293,12 +308,12 @@ abbrev mutual
   of_statements (plain.statement_and a ss) = and_then (of_statement a) (λ a. and_then (of_statements ss) (λ ss. give (named.statement_and a ss)))
 
   pub of_statement : Statement → Numbering named.Statement
-  of_statement (plain.let_statement s p y plain.absent) = and_then (a_node s Site.Value) (λ n. and_then counted (λ i. and_then (of_pattern p) (λ p.
-      and_then counted (λ j. and_then (of_optional_type y) (λ y. and_then (known_between i j) (λ _. and_then (waits_if (has_no_type y) p) (λ _.
-      give (named.declares n p y))))))))
-  of_statement (plain.let_statement s p y (plain.present e)) = and_then (a_node s Site.Value) (λ n. and_then counted (λ i. and_then (of_pattern p) (λ p.
-      and_then counted (λ j. and_then (of_optional_type y) (λ y. and_then (of_expression false (initialiser_site y) e) (λ e.
-      and_then (known_between i j) (λ _. and_then (waits_if (has_no_type y && never e) p) (λ _. give (named.lets n p y e)))))))))
+  of_statement (plain.let_statement s p y plain.absent) = and_then (a_node s Site.Value) (λ n. and_then (annotates p y) (λ _. and_then counted (λ i.
+      and_then (of_pattern p) (λ p. and_then counted (λ j. and_then (of_optional_type y) (λ y. and_then (known_between i j) (λ _.
+      and_then (waits_if (has_no_type y) p) (λ _. give (named.declares n p y)))))))))
+  of_statement (plain.let_statement s p y (plain.present e)) = and_then (a_node s Site.Value) (λ n. and_then (annotates p y) (λ _. and_then counted (λ i.
+      and_then (of_pattern p) (λ p. and_then counted (λ j. and_then (of_optional_type y) (λ y. and_then (of_expression false (initialiser_site y) e) (λ e.
+      and_then (known_between i j) (λ _. and_then (waits_if (has_no_type y && never e) p) (λ _. give (named.lets n p y e))))))))))
   of_statement (plain.expression_statement s e b) = and_then (a_node s Site.Value) (λ n. and_then (of_expression false Site.Value e) (λ e. give (named.evaluates n e b)))
 
 -- ---- a function. Its item is node 0; parameters are variables, and no nodes: their types are
@@ -337,7 +352,7 @@ entry_if false = give no_names
 
 -- where a function begins, with the entries of names of its item
 abbrev pub begins : List NodeNames → Cursor
-begins ns = record { number = zero; spans = []; loops = []; declared = zero; variables = []; names = ns }
+begins ns = record { number = zero; spans = []; loops = []; declared = zero; variables = []; names = ns; annotations = [] }
 
 abbrev pub left_waiting : Numbering (List Node)
 left_waiting c = (all_waiting c.variables, c)
@@ -359,3 +374,7 @@ function_spans s f ns = (of_function zero s f (begins ns)).1.spans
 -- and what its variables are, by their numbers
 abbrev pub function_variables : Span → Function → List NodeNames → List Declaration
 function_variables s f ns = (of_function zero s f (begins ns)).1.variables
+
+-- and its `let`s that have a type, in the order of the text
+abbrev pub function_annotations : Span → Function → List NodeNames → List Annotation
+function_annotations s f ns = (of_function zero s f (begins ns)).1.annotations
