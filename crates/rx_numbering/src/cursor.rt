@@ -1,13 +1,13 @@
 //! Where a walk over a function stands: the numbers of its nodes, loops and variables, and the names that are left.
 
-ghost use Rattle.std.specs.Prelude.{◌≡◌, ◌-◌, Bool, false, [], ◌∷◌, ◌++◌, length, get_or, slice_set, Ok, Err, OnOk, IfOk};
-ghost use Rattle.rx_tree.specs.PlainOf.{plain-Expr};
+ghost use Rattle.std.specs.Prelude.{◌≡◌, ◌-◌, Bool, false, [], ◌∷◌, ◌++◌, length, get_or, map, slice_set, Some, Ok, Err, OnOk, IfOk};
+ghost use Rattle.rx_tree.specs.PlainOf.{plain-Expr, plain-Pattern, plain-TypeText};
 ghost use Rattle.rx_typed.specs.Naming as naming;
-ghost use Rattle.rx_numbering.specs.Entries.{entry_of, marked, left_at};
+ghost use Rattle.rx_numbering.specs.Entries.{entry_of, marked, left_at, plain_annotation};
 
 use rx_core::{List, Span};
 use rx_resolve::NodeNames;
-use rx_tree::{Expr, ExprNode};
+use rx_tree::{Expr, ExprNode, Pattern, TypeText};
 use rx_typed::{Declaration, Node, Site, Stage, Use};
 use std::alloc::{AllocError, Global};
 use std::marker::Model;
@@ -28,6 +28,16 @@ pub struct Mark<'t> {
     names: &'t [NodeNames],
 }
 
+/// A `let` with a type: its pattern, the type, the number of the pattern's first variable, and the entries of names
+/// from the pattern's on.
+#[derive(Clone, Copy)]
+pub struct Annotation<'t> {
+    pub pattern: &'t Pattern,
+    pub typ: &'t TypeText,
+    pub variable: u32,
+    pub names: &'t [NodeNames],
+}
+
 /// Where a walk over a function stands.
 #[derive(Drop)]
 pub struct Cursor<'t> {
@@ -43,14 +53,22 @@ pub struct Cursor<'t> {
     variables: Vec<Declaration>,
     /// The entries of names that are left.
     names: &'t [NodeNames],
+    /// Those `let`s that had a type so far.
+    annotations: Vec<Annotation<'t>>,
 }
 
 impl<'t> Model for Cursor<'t> {
+    ghost use Rattle.std.specs.Prelude.{map as each_of};
     ghost use Rattle.rx_typed.specs.Naming as reached;
+    ghost use Rattle.rx_numbering.specs.Entries.{plain_annotation as annotation};
+    ghost use Rattle.std.specs.Coded.{codes};
+    ghost use Rattle.rx_numbering.specs.Coding.{coded_annotation};
 
     ghost Value = { reached.Cursor };
 
-    ghost view = { λ c. record { number = c.number; spans = c.spans; loops = c.loops.items; declared = c.declared; variables = c.variables.items; names = c.names.now } };
+    ghost coded = { Prim.hlevel (codes, coded_annotation) };
+
+    ghost view = { λ c. record { number = c.number; spans = c.spans; loops = c.loops.items; declared = c.declared; variables = c.variables.items; names = c.names.now; annotations = each_of annotation c.annotations.items } };
 }
 
 impl<'t> Cursor<'t> {
@@ -77,6 +95,7 @@ impl<'t> Cursor<'t> {
             declared: mark.declared,
             variables: Vec::new(alloc),
             names: mark.names,
+            annotations: Vec::new(alloc),
         }
     }
 
@@ -92,11 +111,29 @@ impl<'t> Cursor<'t> {
         }
     }
 
-    /// The spans of the nodes so far, and the variables, each by their numbers.
-    pub fn finished(self) -> (List<Span>, List<Declaration>)
-        ensures { result ≡ (self.entry.spans, self.entry.variables) }
+    /// The spans of the nodes so far, and the variables, each by their numbers, and the `let`s that had a type.
+    pub fn finished(self) -> (List<Span>, List<Declaration>, List<Annotation<'t>>)
+        ensures numbered { (result.0 ≡ self.entry.spans) × (result.1 ≡ self.entry.variables) }
+        ensures annotated { map plain_annotation result.2 ≡ self.entry.annotations }
     {
-        (self.spans, List::from_vec(self.variables))
+        (
+            self.spans,
+            List::from_vec(self.variables),
+            List::from_vec(self.annotations),
+        )
+    }
+
+    /// The pattern and the type of a `let`, in front of the pattern.
+    pub fn annotate(&mut self, pattern: &'t Pattern, typ: &'t TypeText) -> Result<(), AllocError>
+        ensures { OnOk result (self.new ≡ (naming.annotates (plain-Pattern pattern.now) (Some (plain-TypeText typ.now)) self.old).1) }
+    {
+        self.annotations.push(Annotation {
+            pattern,
+            typ,
+            variable: self.declared,
+            names: self.names,
+        })?;
+        Ok(())
     }
 
     /// The number of the next node.

@@ -5,5 +5,5 @@
 mod cursor;
 mod seen;
 
-pub use cursor::{Cursor, Entry, Mark};
+pub use cursor::{Annotation, Cursor, Entry, Mark};
 pub use seen::{Seen, part_seen, value_seen, variable_seen};

@@ -700,8 +700,8 @@ mutual
       let P = naming.of_pattern p n.1 in
       waiting_told P.0 n.1 P.1 P.1 ds (pattern_names p n.1) (agrees_names (pattern_names p n.1) a)
   statement_told f (plain.let_statement s p (Some y) plain.absent) c ds a0 =
-      let a = agrees_node s Site.Value c a0 in
-      let n = a_node s Site.Value c in
+      let n = naming.annotates p (Some y) (a_node s Site.Value c).1 in
+      let a = agrees_as n.1 refl refl (agrees_node s Site.Value c a0) in
       let P = naming.of_pattern p n.1 in
       let Y = naming.of_type y P.1 in
       let q = whole_type_told Y.0 ds in
@@ -717,8 +717,8 @@ mutual
       let q = initialised_told (never E.0) E.0 P.0 n.1 P.1 E.1 _ refl (pattern_names p n.1) x.agrees x.told x.passed in
       record { reach = x.reach ⇒ q.reach; agrees = q.agrees }
   statement_told f (plain.let_statement s p (Some y) (plain.present e)) c ds a0 =
-      let a = agrees_node s Site.Value c a0 in
-      let n = a_node s Site.Value c in
+      let n = naming.annotates p (Some y) (a_node s Site.Value c).1 in
+      let a = agrees_as n.1 refl refl (agrees_node s Site.Value c a0) in
       let P = naming.of_pattern p n.1 in
       let Y = naming.of_type y P.1 in
       let E = naming.of_expression false Site.Initialises e Y.1 in

@@ -1,15 +1,16 @@
 -- Cursors that differ in spans alone, and what each step of the numbering makes of two such.
 use Rattle.std.proofs.Common.{◌≡◌, ℕ, suc, true, false, List, [], ◌∷◌, ◌++◌, map, take, drop, ◌-◌, get_or, refl, sym, ap, ◌∙◌, subst}
-use Rattle.std.specs.Prelude.{slice_set, length}
+use Rattle.std.specs.Prelude.{slice_set, length, Some}
 use Rattle.std.proofs.lemmas.List.{map-append, map-set, take-map, drop-map}
 use Rattle.std.proofs.Math.ListN.{get_or-map}
 use Rattle.rx_core.specs.declared.types.Span.{Span}
-use Rattle.rx_tree.specs.Erase.{nowhere}
+use Rattle.rx_tree.specs.Plain.{PatternTree, TypeTree}
+use Rattle.rx_tree.specs.Erase.{nowhere, erase_pattern, erase_type}
 use Rattle.rx_resolve.specs.declared.resolved.NodeNames.{NodeNames}
 use Rattle.rx_typed.specs.declared.nodes.Site.{Site}
 use Rattle.rx_typed.specs.declared.nodes.Stage.{Stage}
 use Rattle.rx_typed.specs.declared.nodes.Declaration.{Declaration}
-use Rattle.rx_typed.specs.Naming.{Cursor, a_node, an_entry, taken, is_known, not_declared, declaration, use_of, declare, as_known, known_among, known_between, set_stage, leads, a_loop, is_left, waiting}
+use Rattle.rx_typed.specs.Naming.{Cursor, a_node, an_entry, taken, is_known, not_declared, declaration, use_of, declare, as_known, known_among, known_between, set_stage, leads, a_loop, is_left, waiting, annotates}
 use Rattle.rx_meaning.proofs.spans.Bare.{bare_node}
 
 abbrev pub bare_stage : Stage → Stage
@@ -46,6 +47,11 @@ taken_like (x ∷ xs) c c' l = (refl, record { number = l.number; loops = l.loop
 
 pub entry_like : (c c' : Cursor) → Like c c' → Both itself (an_entry c) (an_entry c')
 entry_like c c' l = subst (λ ns. Both itself (taken c.names c) (taken ns c')) l.names (taken_like c.names c c' l)
+
+-- ---- `let`s with types
+
+pub annotated_like : (p : PatternTree) (y : TypeTree) (c c' : Cursor) → Like c c' → Like (annotates p (Some y) c).1 (annotates (erase_pattern p) (Some (erase_type y)) c').1
+annotated_like p y c c' l = record { number = l.number; loops = l.loops; declared = l.declared; variables = l.variables; names = l.names }
 
 -- ---- variables
 

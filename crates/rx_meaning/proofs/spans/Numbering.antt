@@ -13,7 +13,7 @@ use Rattle.rx_typed.specs.Named.{Pattern, Exp, Exps, written_node, pattern_node,
 use Rattle.rx_typed.specs.Naming.{Cursor, Numbering, first, second, lifetime_entry, of_type, of_types, of_optional_type, of_pattern, of_patterns, of_field_patterns, passed_on, waits_in, assigned, called, branch_site, waits_at, waits, waits_if, of_expression, of_expressions, of_optional, of_arguments, of_fields, of_arms, of_body, of_statements, of_statement, declaration, use_of, known_between, leads, is_left}
 use Rattle.rx_meaning.proofs.spans.Bare.{bare_node, bare_pattern, bare_patterns, bare_field_patterns, bare, bare_all, bare_else, bare_fields, bare_arms, bare_body, bare_statement, bare_statements}
 use Rattle.rx_meaning.proofs.spans.Elaborating.{never_bare}
-use Rattle.rx_meaning.proofs.spans.Cursors.{Like, Both, itself, node_like, entry_like, declare_like, use_like, waiting_like, stage_like, known_like, loop_like, leads_like, left_like}
+use Rattle.rx_meaning.proofs.spans.Cursors.{Like, Both, itself, node_like, entry_like, declare_like, use_like, waiting_like, stage_like, known_like, loop_like, leads_like, left_like, annotated_like}
 
 pub cong2 : {A B R : Type 0} (f : A → B → R) {a a' : A} {b b' : B} → a ≡ a' → b ≡ b' → f a b ≡ f a' b'
 cong2 f {a' = a'} {b = b} e g = ap (λ x. f x b) e ∙ ap (f a') g
@@ -280,14 +280,14 @@ mutual
       let n = node_like s nowhere Site.Value c c' l in let p = pattern_like p _ _ n.1 in let k = between_like _ _ _ _ l.declared p.1.declared _ _ p.1 in
       let w = waits_like _ _ p.0 _ _ k.1 in (cong2 (λ n p. named.declares n p None) n.0 p.0, w.1)
   statement_like (plain.let_statement s p (Some y) plain.absent) c c' l =
-      let n = node_like s nowhere Site.Value c c' l in let p = pattern_like p _ _ n.1 in let y = type_like y _ _ p.1 in let k = between_like _ _ _ _ l.declared p.1.declared _ _ y.1 in
+      let n = node_like s nowhere Site.Value c c' l in let p = pattern_like p _ _ (annotated_like p y _ _ n.1) in let y = type_like y _ _ p.1 in let k = between_like _ _ _ _ l.declared p.1.declared _ _ y.1 in
       (cong2 (λ n p. named.declares n p None) n.0 p.0, k.1)
   statement_like (plain.let_statement s p None (plain.present e)) c c' l =
       let n = node_like s nowhere Site.Value c c' l in let p = pattern_like p _ _ n.1 in let e = exp_like false Site.Scrutinee e _ _ p.1 in
       let k = between_like _ _ _ _ l.declared p.1.declared _ _ e.1 in let w = waits_if_like _ _ _ _ (never_like _ _ e.0) p.0 _ _ k.1 in
       (cong3 (λ n p e. named.lets n p None e) n.0 p.0 e.0, w.1)
   statement_like (plain.let_statement s p (Some y) (plain.present e)) c c' l =
-      let n = node_like s nowhere Site.Value c c' l in let p = pattern_like p _ _ n.1 in let y = type_like y _ _ p.1 in let e = exp_like false Site.Initialises e _ _ y.1 in
+      let n = node_like s nowhere Site.Value c c' l in let p = pattern_like p _ _ (annotated_like p y _ _ n.1) in let y = type_like y _ _ p.1 in let e = exp_like false Site.Initialises e _ _ y.1 in
       let k = between_like _ _ _ _ l.declared p.1.declared _ _ e.1 in (cong3 (λ n p e. named.lets n p None e) n.0 p.0 e.0, k.1)
   statement_like (plain.expression_statement s e b) c c' l =
       let n = node_like s nowhere Site.Value c c' l in let a = exp_like false Site.Value e _ _ n.1 in (cong2 (λ n e. named.evaluates n e b) n.0 a.0, a.1)
