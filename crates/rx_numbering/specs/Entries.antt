@@ -20,3 +20,7 @@ marked m = record { number = m.number; spans = []; loops = []; declared = m.decl
 
 unfoldable pub left_at : Cursor → Cursor
 left_at c = record { number = c.number; spans = []; loops = []; declared = c.declared; variables = []; names = c.names; annotations = [] }
+
+-- a cursor in front of the pattern of a `let`
+abbrev pub in_front : naming.Annotation → Cursor
+in_front a = record { number = 0; spans = []; loops = []; declared = a.variable; variables = []; names = a.names; annotations = [] }

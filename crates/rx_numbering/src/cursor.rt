@@ -3,7 +3,7 @@
 ghost use Rattle.std.specs.Prelude.{◌≡◌, ◌-◌, Bool, false, [], ◌∷◌, ◌++◌, length, get_or, map, slice_set, Some, Ok, Err, OnOk, IfOk};
 ghost use Rattle.rx_tree.specs.PlainOf.{plain-Expr, plain-Pattern, plain-TypeText};
 ghost use Rattle.rx_typed.specs.Naming as naming;
-ghost use Rattle.rx_numbering.specs.Entries.{entry_of, marked, left_at, plain_annotation};
+ghost use Rattle.rx_numbering.specs.Entries.{entry_of, marked, left_at, plain_annotation, in_front};
 
 use rx_core::{List, Span};
 use rx_resolve::NodeNames;
@@ -36,6 +36,20 @@ pub struct Annotation<'t> {
     pub typ: &'t TypeText,
     pub variable: u32,
     pub names: &'t [NodeNames],
+}
+
+impl<'t> Annotation<'t> {
+    /// A cursor in front of the pattern, which knows nothing before it.
+    pub fn cursor(&self, alloc: Global) -> Cursor<'t>
+        ensures { result ≡ in_front (plain_annotation self.now) }
+    {
+        let mark = Mark {
+            number: 0,
+            declared: self.variable,
+            names: self.names,
+        };
+        Cursor::at(alloc, mark)
+    }
 }
 
 /// Where a walk over a function stands.
@@ -134,6 +148,13 @@ impl<'t> Cursor<'t> {
             names: self.names,
         })?;
         Ok(())
+    }
+
+    /// The entries of names that are left.
+    pub fn names(&self) -> &'t [NodeNames]
+        ensures { result.now ≡ self.now.names }
+    {
+        self.names
     }
 
     /// The number of the next node.
