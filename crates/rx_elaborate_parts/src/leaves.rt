@@ -130,12 +130,13 @@ impl<'t> Walk<'t> {
     pub fn declares(
         &mut self,
         span: Span,
-        pattern: &PatternTree,
-        typ: &Option<TypeText>,
+        pattern: &'t PatternTree,
+        typ: &'t Option<TypeText>,
     ) -> Result<(Stmt, bool), AllocError>
         ensures { walks.Tells plain-Stmt (naming.of_statement (plain.let_statement span (plain-PatternTree pattern.now) (option_map plain-TypeText typ.now) plain.absent)) elaborated.statement named.statement_diverges self.old result self.new }
     {
         let node = self.node(span, Site::Value)?;
+        self.annotate(pattern, typ)?;
         let from = self.cursor.declared();
         let (pattern, declares) = self.pattern(None, pattern)?;
         pattern.let_go();

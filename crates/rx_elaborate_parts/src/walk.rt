@@ -1,6 +1,7 @@
 //! The walk over a function: what is given, and where the walk stands.
 
-ghost use Rattle.std.specs.Prelude.{◌≡◌};
+ghost use Rattle.std.specs.Prelude.{◌≡◌, option_map};
+ghost use Rattle.rx_tree.specs.PlainOf.{plain-Pattern, plain-TypeText};
 ghost use Rattle.rx_typed.specs.Naming as naming;
 ghost use Rattle.rx_numbering.specs.Entries.{entry_of};
 ghost use Rattle.rx_elaborate_parts.specs.Walks as walks;
@@ -8,6 +9,7 @@ ghost use Rattle.rx_elaborate_parts.specs.Walks as walks;
 use crate::marks::Given;
 use rx_core::Span;
 use rx_numbering::{Cursor, Entry};
+use rx_tree::{Pattern, TypeText};
 use rx_typed::{Node, Site};
 use std::alloc::AllocError;
 
@@ -32,5 +34,19 @@ impl<'t> Walk<'t> {
         ensures walk { self.new ≡ walks.moved (naming.an_entry self.old.cursor).1 self.old }
     {
         self.cursor.entry()
+    }
+
+    /// The pattern and the type of a `let`, in front of the pattern, where a type is written.
+    pub fn annotate(
+        &mut self,
+        pattern: &'t Pattern,
+        typ: &'t Option<TypeText>,
+    ) -> Result<(), AllocError>
+        ensures { walks.Goes (naming.annotates (plain-Pattern pattern.now) (option_map plain-TypeText typ.now)) self.old result self.new }
+    {
+        match typ {
+            Some(typ) => self.cursor.annotate(pattern, typ),
+            None => Ok(()),
+        }
     }
 }
