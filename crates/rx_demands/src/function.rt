@@ -5,6 +5,7 @@ ghost use Rattle.rx_unify.specs.Valid.{literals_of};
 ghost use Rattle.rx_tree.specs.PlainOf.{plain-Func, plain-Param, plain-TypeText, plain-Block};
 ghost use Rattle.rx_typed.specs.declared.nodes.Site.TheVariants as site_of;
 ghost use Rattle.rx_typed.specs.Naming as naming;
+ghost use Rattle.rx_numbering.specs.Entries.{plain_annotation};
 ghost use Rattle.rx_rules.specs.Demands as demands;
 ghost use Rattle.rx_asking.specs.Walks as walks;
 ghost use Rattle.rx_demands.specs.Pieces as pieces;
@@ -13,7 +14,7 @@ ghost use Rattle.rx_demands.specs.Whole as whole;
 use crate::blocks::body;
 use rx_asking::{Walk, type_of};
 use rx_core::{List, Span};
-use rx_numbering::Cursor;
+use rx_numbering::{Annotation, Cursor};
 use rx_resolve::NodeNames;
 use rx_tree::{Block, BoundLifetime, Func, Param, TypeText};
 use rx_typed::{Declaration, Node, Site, Stage};
@@ -22,7 +23,7 @@ use std::alloc::{AllocError, Global};
 
 /// What the rules of types ask of a function.
 #[derive(Drop)]
-pub struct Task {
+pub struct Task<'t> {
     /// In the order of the text.
     pub demands: List<Demand>,
     /// The nodes of the literals without a suffix.
@@ -31,22 +32,25 @@ pub struct Task {
     pub spans: List<Span>,
     /// The function's variables, by their numbers.
     pub variables: List<Declaration>,
+    /// Its `let`s that have a type, in the order of the text.
+    pub annotations: List<Annotation<'t>>,
 }
 
-/// What the rules of types ask of a function, where its nodes stand, and what its variables are: of its item's number and
-/// span, and the entries of names of the item.
+/// What the rules of types ask of a function, where its nodes stand, what its variables are, and its `let`s that have a
+/// type: of its item's number and span, and the entries of names of the item.
 ///
 /// # Errors
 ///
 /// Memory runs out, or a number passes its width.
-pub fn asked(
+pub fn asked<'t>(
     alloc: Global,
     item: u32,
     span: Span,
-    function: &Func,
-    names: &List<NodeNames>,
-) -> Result<Task, AllocError>
-    ensures { IfOk result (λ task. task ≡ whole.task_of (demands.task (naming.function_named item span (plain-Func function.now) names.now)) (naming.function_spans span (plain-Func function.now) names.now) (naming.function_variables span (plain-Func function.now) names.now)) }
+    function: &'t Func,
+    names: &'t List<NodeNames>,
+) -> Result<Task<'t>, AllocError>
+    ensures asked { IfOk result (λ task. task ≡ whole.task_of (demands.task (naming.function_named item span (plain-Func function.now) names.now)) (naming.function_spans span (plain-Func function.now) names.now) (naming.function_variables span (plain-Func function.now) names.now) task.annotations) }
+    ensures annotations { IfOk result (λ task. map plain_annotation task.annotations ≡ naming.function_annotations span (plain-Func function.now) names.now) }
 {
     let mut walk = Walk {
         alloc,
@@ -56,12 +60,13 @@ pub fn asked(
     };
     all(&mut walk, span, function)?;
     let literals = literals(alloc, walk.demands.as_slice())?;
-    let (spans, variables) = walk.cursor.finished();
+    let (spans, variables, annotations) = walk.cursor.finished();
     Ok(Task {
         demands: walk.demands,
         literals,
         spans,
         variables,
+        annotations,
     })
 }
 

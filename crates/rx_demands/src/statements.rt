@@ -154,6 +154,7 @@ fn declares_typed<'t>(
     ensures { walks.Walks (naming.of_statement (plain.let_statement span (plain-Pattern pattern.now) (Some (plain-TypeText typ.now)) plain.absent)) (demands.of_statement walk.old.item) named.statement_diverges walk.old result walk.new }
 {
     walk.node(span, Site::Value)?;
+    walk.cursor.annotate(pattern, typ)?;
     let from = walk.cursor.declared();
     let mark = walk.cursor.mark();
     walk.number_pattern(pattern)?;
@@ -220,6 +221,7 @@ fn lets_typed<'t>(
     ensures { walks.Walks (naming.of_statement (plain.let_statement span (plain-Pattern pattern.now) (Some (plain-TypeText typ.now)) (plain.present (plain-Expr value.now)))) (demands.of_statement walk.old.item) named.statement_diverges walk.old result walk.new }
 {
     walk.node(span, Site::Value)?;
+    walk.cursor.annotate(pattern, typ)?;
     let from = walk.cursor.declared();
     let mark = walk.cursor.mark();
     walk.number_pattern(pattern)?;

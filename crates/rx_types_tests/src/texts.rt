@@ -130,11 +130,11 @@ fn same_types(search: &Search<'_>, found: &[usize], function: &TypedFn) -> bool 
 }
 
 /// What is asked of the first function.
-fn asked_of_first(
+fn asked_of_first<'t>(
     alloc: Global,
-    program: &Program,
-    names: &Resolved,
-) -> Result<Option<Task>, AllocError> {
+    program: &'t Program,
+    names: &'t Resolved,
+) -> Result<Option<Task<'t>>, AllocError> {
     match (program.items.get(0), names.items.get(0)) {
         (Some(item), Some(table)) => match &item.node {
             ItemNode::Func(function) => {
