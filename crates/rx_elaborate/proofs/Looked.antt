@@ -8,7 +8,7 @@ use Rattle.rx_tree.specs.PlainOf.{plain-TypeText}
 use Rattle.rx_typed.specs.declared.nodes.Node.{Node}
 use Rattle.rx_typed.specs.declared.nodes.Site.{Site}
 use Rattle.rx_typed.specs.Named.{Exp, diverges, never, statement_diverges}
-use Rattle.rx_typed.specs.Naming.{Cursor, a_node, of_pattern, of_optional_type, of_expression, of_statement, has_no_type}
+use Rattle.rx_typed.specs.Naming.{Cursor, a_node, annotates, of_pattern, of_optional_type, of_expression, of_statement, has_no_type}
 use Rattle.rx_typed.specs.Elaborated as elaborated
 use Rattle.rx_typed.specs.Elaborated.{value, looks, mark_if}
 use Rattle.rx_typed.specs.Tree as tree
@@ -30,14 +30,14 @@ use Rattle.rx_elaborate_parts.proofs.Stating.{lets_is, has_no_type_is, waiting_i
 use Rattle.rx_elaborate.specs.Letting.{a_let, told_of_let}
 
 pub lets_told : (s : Span) (p : PatternTree) (y : Option TypeText) (e : Expression) (old w1 w2 new : Walk) (n : Node) (q : PatternOf) (m : Matched) (sn : Seen) (d : Declares) (b : Bool)
-    → n ≡ (a_node s Site.Value old.cursor).0 → w1 ≡ moved (a_node s Site.Value old.cursor).1 old
+    → n ≡ (a_node s Site.Value old.cursor).0 → w1 ≡ moved (annotates p (option_map plain-TypeText y) (a_node s Site.Value old.cursor).1).1 old
     → (let r = a_let p (option_map plain-TypeText y) e w1.cursor in
     (plain_test (q, m) ≡ test_made (types_of w1.given) r.0) × ((sn, d) ≡ told_of_let r.0) × (w2 ≡ moved r.1 w1))
     → b ≡ (has_no_type_of y && sn.never) → new ≡ moved (waiting_if b d w2.cursor) w2
     → (let r = of_statement (plain.let_statement s p (option_map plain-TypeText y) (plain.present e)) old.cursor in
     (plain-Stmt (stmt.Lets n.number q m) ≡ elaborated.statement (types_of old.given) r.0) × (sn.diverges ≡ statement_diverges r.0) × (new ≡ moved r.1 old))
 lets_told s p y e old w1 w2 new n q m sn d b hn hw h hb hnew =
-    let c1 = (a_node s Site.Value old.cursor).1 in
+    let c1 = (annotates p (option_map plain-TypeText y) (a_node s Site.Value old.cursor).1).1 in
     let r = a_let p (option_map plain-TypeText y) e c1 in
     let E = r.0.1 in
     let P = r.0.0 in

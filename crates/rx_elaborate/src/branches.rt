@@ -45,11 +45,11 @@ pub(crate) fn looked_into(
 /// What follows `else`: where nothing does, the unit of the node.
 #[cycle(expression)]
 #[tactic(auto, using(rx_tree::proofs::Rules::expression_rules, rx_tree::proofs::Rules::block_rules, rx_tree::proofs::Rules::let_rules, rx_typed_tree::proofs::Rules::typed_tree_rules, rx_elaborate_parts::proofs::Listed::listed_rules))]
-pub(crate) fn otherwise(
-    walk: &mut Walk<'_>,
+pub(crate) fn otherwise<'t>(
+    walk: &mut Walk<'t>,
     site: Site,
     node: Node,
-    other: &Option<Boxed<ExprTree>>,
+    other: &'t Option<Boxed<ExprTree>>,
 ) -> Result<(Expr, Branch), AllocError>
     ensures { walks.Tells plain-Expr (naming.of_optional site (optional_of (option_map plain-ExprTree other.now))) (λ t o. elaborated.otherwise t node o) telling.branch_of walk.old result walk.new }
 {
@@ -65,11 +65,11 @@ pub(crate) fn otherwise(
 /// A tail, or the value of a `return`: where there is none, the unit.
 #[cycle(expression)]
 #[tactic(auto, using(rx_tree::proofs::Rules::expression_rules, rx_tree::proofs::Rules::block_rules, rx_tree::proofs::Rules::let_rules, rx_typed_tree::proofs::Rules::typed_tree_rules, rx_elaborate_parts::proofs::Listed::listed_rules))]
-pub(crate) fn last(
-    walk: &mut Walk<'_>,
+pub(crate) fn last<'t>(
+    walk: &mut Walk<'t>,
     site: Site,
     node: Node,
-    other: &Option<Boxed<ExprTree>>,
+    other: &'t Option<Boxed<ExprTree>>,
 ) -> Result<(Expr, Branch), AllocError>
     ensures { walks.Tells plain-Expr (naming.of_optional site (optional_of (option_map plain-ExprTree other.now))) (λ t o. elaborated.tail t node o) telling.branch_of walk.old result walk.new }
 {
@@ -82,10 +82,10 @@ pub(crate) fn last(
 /// A part that is there.
 #[cycle(expression)]
 #[tactic(auto, using(rx_tree::proofs::Rules::expression_rules, rx_tree::proofs::Rules::block_rules, rx_tree::proofs::Rules::let_rules, rx_typed_tree::proofs::Rules::typed_tree_rules, rx_elaborate_parts::proofs::Listed::listed_rules))]
-pub(crate) fn present(
-    walk: &mut Walk<'_>,
+pub(crate) fn present<'t>(
+    walk: &mut Walk<'t>,
     site: Site,
-    expr: &ExprTree,
+    expr: &'t ExprTree,
 ) -> Result<(Expr, Branch), AllocError>
     ensures { walks.Tells plain-Expr (naming.of_expression false site (plain-ExprTree expr.now)) elaborated.value (λ e. telling.branch_of (named.present e)) walk.old result walk.new }
 {
@@ -100,11 +100,11 @@ pub(crate) fn present(
 
 #[cycle(expression)]
 #[tactic(auto, using(rx_tree::proofs::Rules::expression_rules, rx_tree::proofs::Rules::block_rules, rx_tree::proofs::Rules::let_rules, rx_typed_tree::proofs::Rules::typed_tree_rules, rx_elaborate_parts::proofs::Listed::listed_rules))]
-pub(crate) fn block(
-    walk: &mut Walk<'_>,
+pub(crate) fn block<'t>(
+    walk: &mut Walk<'t>,
     span: Span,
     site: Site,
-    body: &Block,
+    body: &'t Block,
 ) -> Result<(Expr, Seen), AllocError>
     ensures { walks.Tells plain-Expr (naming.of_expression false site (plain.block span (plain-Block body.now))) elaborated.value seen_of walk.old result walk.new }
 {
@@ -115,11 +115,11 @@ pub(crate) fn block(
 
 #[cycle(expression)]
 #[tactic(auto, using(rx_tree::proofs::Rules::expression_rules, rx_tree::proofs::Rules::block_rules, rx_tree::proofs::Rules::let_rules, rx_typed_tree::proofs::Rules::typed_tree_rules, rx_elaborate_parts::proofs::Listed::listed_rules, crate::proofs::ToldLemmas::returned_is))]
-pub(crate) fn return_at(
-    walk: &mut Walk<'_>,
+pub(crate) fn return_at<'t>(
+    walk: &mut Walk<'t>,
     span: Span,
     site: Site,
-    other: &Option<Boxed<ExprTree>>,
+    other: &'t Option<Boxed<ExprTree>>,
 ) -> Result<(Expr, Seen), AllocError>
     ensures { walks.Tells plain-Expr (naming.of_expression false site (plain.return span (optional_of (option_map plain-ExprTree other.now)))) elaborated.value seen_of walk.old result walk.new }
 {
@@ -131,13 +131,13 @@ pub(crate) fn return_at(
 
 #[cycle(expression)]
 #[tactic(auto, using(rx_tree::proofs::Rules::expression_rules, rx_tree::proofs::Rules::block_rules, rx_tree::proofs::Rules::let_rules, rx_typed_tree::proofs::Rules::typed_tree_rules, rx_elaborate_parts::proofs::Listed::listed_rules))]
-pub(crate) fn if_at(
-    walk: &mut Walk<'_>,
-    other: &Option<Boxed<ExprTree>>,
+pub(crate) fn if_at<'t>(
+    walk: &mut Walk<'t>,
+    other: &'t Option<Boxed<ExprTree>>,
     span: Span,
     site: Site,
-    condition: &ExprTree,
-    body: &Block,
+    condition: &'t ExprTree,
+    body: &'t Block,
 ) -> Result<(Expr, Seen), AllocError>
     ensures { walks.Tells plain-Expr (naming.of_expression false site (plain.if span (plain-ExprTree condition.now) (plain-Block body.now) (optional_of (option_map plain-ExprTree other.now)))) elaborated.value seen_of walk.old result walk.new }
 {
@@ -153,12 +153,12 @@ pub(crate) fn if_at(
 /// The body of an `if`, and what follows it.
 #[cycle(expression)]
 #[tactic(auto, using(rx_tree::proofs::Rules::expression_rules, rx_tree::proofs::Rules::block_rules, rx_tree::proofs::Rules::let_rules, rx_typed_tree::proofs::Rules::typed_tree_rules, rx_elaborate_parts::proofs::Listed::listed_rules, crate::proofs::ToldLemmas::branch_site_is))]
-pub(crate) fn ways(
-    walk: &mut Walk<'_>,
-    other: &Option<Boxed<ExprTree>>,
+pub(crate) fn ways<'t>(
+    walk: &mut Walk<'t>,
+    other: &'t Option<Boxed<ExprTree>>,
     site: Site,
     node: Node,
-    body: &Block,
+    body: &'t Block,
 ) -> Result<((Expr, Expr), Ways), AllocError>
     ensures { walks.Tells telling.plain_ways (telling.both_ways site (plain-Block body.now) (optional_of (option_map plain-ExprTree other.now))) (λ t w. telling.ways_made t node w) telling.ways_of_both walk.old result walk.new }
 {
@@ -174,10 +174,10 @@ pub(crate) fn ways(
 /// A pattern, and what is matched with it, behind which its variables are known.
 #[cycle(expression)]
 #[tactic(auto, using(rx_tree::proofs::Rules::expression_rules, rx_tree::proofs::Rules::block_rules, rx_tree::proofs::Rules::let_rules, rx_typed_tree::proofs::Rules::typed_tree_rules, rx_elaborate_parts::proofs::Listed::listed_rules))]
-pub(crate) fn tested(
-    walk: &mut Walk<'_>,
-    pattern: &PatternTree,
-    expr: &ExprTree,
+pub(crate) fn tested<'t>(
+    walk: &mut Walk<'t>,
+    pattern: &'t PatternTree,
+    expr: &'t ExprTree,
 ) -> Result<((Pattern, Matched), Seen), AllocError>
     ensures { walks.Tells telling.plain_test (telling.a_test (plain-PatternTree pattern.now) (plain-ExprTree expr.now)) telling.test_made (λ w. seen_of w.1) walk.old result walk.new }
 {
@@ -191,14 +191,14 @@ pub(crate) fn tested(
 
 #[cycle(expression)]
 #[tactic(auto, using(rx_tree::proofs::Rules::expression_rules, rx_tree::proofs::Rules::block_rules, rx_tree::proofs::Rules::let_rules, rx_typed_tree::proofs::Rules::typed_tree_rules, rx_elaborate_parts::proofs::Listed::listed_rules))]
-pub(crate) fn if_let(
-    walk: &mut Walk<'_>,
-    other: &Option<Boxed<ExprTree>>,
+pub(crate) fn if_let<'t>(
+    walk: &mut Walk<'t>,
+    other: &'t Option<Boxed<ExprTree>>,
     span: Span,
     site: Site,
-    pattern: &PatternTree,
-    expr: &ExprTree,
-    body: &Block,
+    pattern: &'t PatternTree,
+    expr: &'t ExprTree,
+    body: &'t Block,
 ) -> Result<(Expr, Seen), AllocError>
     ensures { walks.Tells plain-Expr (naming.of_expression false site (plain.if_let span (plain-PatternTree pattern.now) (plain-ExprTree expr.now) (plain-Block body.now) (optional_of (option_map plain-ExprTree other.now)))) elaborated.value seen_of walk.old result walk.new }
 {
@@ -212,12 +212,12 @@ pub(crate) fn if_let(
 
 #[cycle(expression)]
 #[tactic(auto, using(rx_tree::proofs::Rules::expression_rules, rx_tree::proofs::Rules::block_rules, rx_tree::proofs::Rules::let_rules, rx_typed_tree::proofs::Rules::typed_tree_rules, rx_elaborate_parts::proofs::Listed::listed_rules))]
-pub(crate) fn match_at(
-    walk: &mut Walk<'_>,
+pub(crate) fn match_at<'t>(
+    walk: &mut Walk<'t>,
     span: Span,
     site: Site,
-    expr: &ExprTree,
-    arms: &[ArmTree],
+    expr: &'t ExprTree,
+    arms: &'t [ArmTree],
 ) -> Result<(Expr, Seen), AllocError>
     ensures { walks.Tells plain-Expr (naming.of_expression false site (plain.match span (plain-ExprTree expr.now) (arms_of (map plain-ArmTree arms.now)))) elaborated.value seen_of walk.old result walk.new }
 {
@@ -231,10 +231,10 @@ pub(crate) fn match_at(
 
 #[cycle(expression)]
 #[tactic(auto, using(rx_tree::proofs::Rules::expression_rules, rx_tree::proofs::Rules::block_rules, rx_tree::proofs::Rules::let_rules, rx_typed_tree::proofs::Rules::typed_tree_rules, rx_elaborate_parts::proofs::Listed::listed_rules))]
-pub(crate) fn arm_trees(
-    walk: &mut Walk<'_>,
+pub(crate) fn arm_trees<'t>(
+    walk: &mut Walk<'t>,
     site: Site,
-    arms: &[ArmTree],
+    arms: &'t [ArmTree],
 ) -> Result<(List<Arm>, Ways), AllocError>
     ensures { walks.Tells (map plain-Arm) (naming.of_arms site (arms_of (map plain-ArmTree arms.now))) (λ t l. arms_listed (elaborated.arms t l)) telling.ways_of walk.old result walk.new }
 {
@@ -253,10 +253,10 @@ pub(crate) fn arm_trees(
 
 #[cycle(expression)]
 #[tactic(auto, using(rx_tree::proofs::Rules::expression_rules, rx_tree::proofs::Rules::block_rules, rx_tree::proofs::Rules::let_rules, rx_typed_tree::proofs::Rules::typed_tree_rules, rx_elaborate_parts::proofs::Listed::listed_rules))]
-pub(crate) fn arm_tree(
-    walk: &mut Walk<'_>,
+pub(crate) fn arm_tree<'t>(
+    walk: &mut Walk<'t>,
     site: Site,
-    arm: &ArmTree,
+    arm: &'t ArmTree,
 ) -> Result<(Arm, Seen), AllocError>
     ensures { walks.Tells plain-Arm (telling.an_arm site (plain-ArmTree arm.now).0 (plain-ArmTree arm.now).1) (λ t w. (elaborated.pattern t None w.0, elaborated.value t w.1)) (λ w. seen_of w.1) walk.old result walk.new }
 {

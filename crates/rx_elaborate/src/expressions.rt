@@ -25,11 +25,11 @@ use std::alloc::AllocError;
 
 #[cycle(expression)]
 #[tactic(auto, using(rx_tree::proofs::Rules::expression_rules, rx_tree::proofs::Rules::block_rules, rx_tree::proofs::Rules::let_rules, rx_typed_tree::proofs::Rules::typed_tree_rules, rx_elaborate_parts::proofs::Listed::listed_rules))]
-pub(crate) fn negate(
-    walk: &mut Walk<'_>,
+pub(crate) fn negate<'t>(
+    walk: &mut Walk<'t>,
     span: Span,
     site: Site,
-    inner: &ExprTree,
+    inner: &'t ExprTree,
 ) -> Result<(Expr, Seen), AllocError>
     ensures { walks.Tells plain-Expr (naming.of_expression false site (plain.negate span (plain-ExprTree inner.now))) elaborated.value seen_of walk.old result walk.new }
 {
@@ -41,11 +41,11 @@ pub(crate) fn negate(
 
 #[cycle(expression)]
 #[tactic(auto, using(rx_tree::proofs::Rules::expression_rules, rx_tree::proofs::Rules::block_rules, rx_tree::proofs::Rules::let_rules, rx_typed_tree::proofs::Rules::typed_tree_rules, rx_elaborate_parts::proofs::Listed::listed_rules))]
-pub(crate) fn invert(
-    walk: &mut Walk<'_>,
+pub(crate) fn invert<'t>(
+    walk: &mut Walk<'t>,
     span: Span,
     site: Site,
-    inner: &ExprTree,
+    inner: &'t ExprTree,
 ) -> Result<(Expr, Seen), AllocError>
     ensures { walks.Tells plain-Expr (naming.of_expression false site (plain.invert span (plain-ExprTree inner.now))) elaborated.value seen_of walk.old result walk.new }
 {
@@ -57,11 +57,11 @@ pub(crate) fn invert(
 
 #[cycle(expression)]
 #[tactic(auto, using(rx_tree::proofs::Rules::expression_rules, rx_tree::proofs::Rules::block_rules, rx_tree::proofs::Rules::let_rules, rx_typed_tree::proofs::Rules::typed_tree_rules, rx_elaborate_parts::proofs::Listed::listed_rules))]
-pub(crate) fn print(
-    walk: &mut Walk<'_>,
+pub(crate) fn print<'t>(
+    walk: &mut Walk<'t>,
     span: Span,
     site: Site,
-    inner: &ExprTree,
+    inner: &'t ExprTree,
 ) -> Result<(Expr, Seen), AllocError>
     ensures { walks.Tells plain-Expr (naming.of_expression false site (plain.print span (plain-ExprTree inner.now))) elaborated.value seen_of walk.old result walk.new }
 {
@@ -73,12 +73,12 @@ pub(crate) fn print(
 
 #[cycle(expression)]
 #[tactic(auto, using(rx_tree::proofs::Rules::expression_rules, rx_tree::proofs::Rules::block_rules, rx_tree::proofs::Rules::let_rules, rx_typed_tree::proofs::Rules::typed_tree_rules, rx_elaborate_parts::proofs::Listed::listed_rules))]
-pub(crate) fn borrow(
-    walk: &mut Walk<'_>,
+pub(crate) fn borrow<'t>(
+    walk: &mut Walk<'t>,
     span: Span,
     site: Site,
     mutable: bool,
-    inner: &ExprTree,
+    inner: &'t ExprTree,
 ) -> Result<(Expr, Seen), AllocError>
     ensures { walks.Tells plain-Expr (naming.of_expression false site (plain.borrow span mutable (plain-ExprTree inner.now))) elaborated.value seen_of walk.old result walk.new }
 {
@@ -91,13 +91,13 @@ pub(crate) fn borrow(
 
 #[cycle(expression)]
 #[tactic(auto, using(rx_tree::proofs::Rules::expression_rules, rx_tree::proofs::Rules::block_rules, rx_tree::proofs::Rules::let_rules, rx_typed_tree::proofs::Rules::typed_tree_rules, rx_elaborate_parts::proofs::Listed::listed_rules))]
-pub(crate) fn binary(
-    walk: &mut Walk<'_>,
+pub(crate) fn binary<'t>(
+    walk: &mut Walk<'t>,
     span: Span,
     site: Site,
     op: BinaryOp,
-    left: &ExprTree,
-    right: &ExprTree,
+    left: &'t ExprTree,
+    right: &'t ExprTree,
 ) -> Result<(Expr, Seen), AllocError>
     ensures { walks.Tells plain-Expr (naming.of_expression false site (plain.binary span op (plain-ExprTree left.now) (plain-ExprTree right.now))) elaborated.value seen_of walk.old result walk.new }
 {
@@ -111,13 +111,13 @@ pub(crate) fn binary(
 
 #[cycle(expression)]
 #[tactic(auto, using(rx_tree::proofs::Rules::expression_rules, rx_tree::proofs::Rules::block_rules, rx_tree::proofs::Rules::let_rules, rx_typed_tree::proofs::Rules::typed_tree_rules, rx_elaborate_parts::proofs::Listed::listed_rules))]
-pub(crate) fn update(
-    walk: &mut Walk<'_>,
+pub(crate) fn update<'t>(
+    walk: &mut Walk<'t>,
     span: Span,
     site: Site,
     op: UpdateOp,
-    left: &ExprTree,
-    right: &ExprTree,
+    left: &'t ExprTree,
+    right: &'t ExprTree,
 ) -> Result<(Expr, Seen), AllocError>
     ensures { walks.Tells plain-Expr (naming.of_expression false site (plain.update span op (plain-ExprTree left.now) (plain-ExprTree right.now))) elaborated.value seen_of walk.old result walk.new }
 {
@@ -133,12 +133,12 @@ pub(crate) fn update(
 
 #[cycle(expression)]
 #[tactic(auto, using(rx_tree::proofs::Rules::expression_rules, rx_tree::proofs::Rules::block_rules, rx_tree::proofs::Rules::let_rules, rx_typed_tree::proofs::Rules::typed_tree_rules, rx_elaborate_parts::proofs::Listed::listed_rules))]
-pub(crate) fn assign(
-    walk: &mut Walk<'_>,
+pub(crate) fn assign<'t>(
+    walk: &mut Walk<'t>,
     span: Span,
     site: Site,
-    left: &ExprTree,
-    right: &ExprTree,
+    left: &'t ExprTree,
+    right: &'t ExprTree,
 ) -> Result<(Expr, Seen), AllocError>
     ensures { walks.Tells plain-Expr (naming.of_expression false site (plain.assign span (plain-ExprTree left.now) (plain-ExprTree right.now))) elaborated.value seen_of walk.old result walk.new }
 {
@@ -156,11 +156,11 @@ pub(crate) fn assign(
 /// An assignment that gives a variable its type; in its right side the variable may not be named.
 #[cycle(expression)]
 #[tactic(auto, using(rx_tree::proofs::Rules::expression_rules, rx_tree::proofs::Rules::block_rules, rx_tree::proofs::Rules::let_rules, rx_typed_tree::proofs::Rules::typed_tree_rules, rx_elaborate_parts::proofs::Listed::listed_rules))]
-pub(crate) fn gives(
-    walk: &mut Walk<'_>,
+pub(crate) fn gives<'t>(
+    walk: &mut Walk<'t>,
     node: Node,
     variable: u32,
-    right: &ExprTree,
+    right: &'t ExprTree,
 ) -> Result<(Expr, Seen), AllocError>
     ensures { walks.Tells plain-Expr (telling.right_side (Some (variable, 0)) (λ t. naming.of_expression false t (plain-ExprTree right.now))) (λ t e. tree.assign (elaborated.mark t node) (tree.own variable) (elaborated.value t e)) (λ e. value_seen node false (named.diverges e)) walk.old result walk.new }
 {
@@ -176,12 +176,12 @@ pub(crate) fn gives(
 /// An assignment to a place; whether evaluating the place diverges.
 #[cycle(expression)]
 #[tactic(auto, using(rx_tree::proofs::Rules::expression_rules, rx_tree::proofs::Rules::block_rules, rx_tree::proofs::Rules::let_rules, rx_typed_tree::proofs::Rules::typed_tree_rules, rx_elaborate_parts::proofs::Listed::listed_rules))]
-pub(crate) fn assigned(
-    walk: &mut Walk<'_>,
+pub(crate) fn assigned<'t>(
+    walk: &mut Walk<'t>,
     node: Node,
     place: Place,
     diverges: bool,
-    right: &ExprTree,
+    right: &'t ExprTree,
 ) -> Result<(Expr, Seen), AllocError>
     ensures { walks.Tells plain-Expr (naming.of_expression false SiteOf.Expects (plain-ExprTree right.now)) (λ t e. tree.assign (elaborated.mark t node) (plain-Place place) (elaborated.value t e)) (λ e. value_seen node false (diverges || named.diverges e)) walk.old result walk.new }
 {

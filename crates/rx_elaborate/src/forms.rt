@@ -22,11 +22,11 @@ use std::alloc::AllocError;
 /// A value: whether it stands directly under a minus, and what its place makes of it.
 #[cycle(expression)]
 #[tactic(auto, using(rx_tree::proofs::Rules::expression_rules, rx_tree::proofs::Rules::block_rules, rx_tree::proofs::Rules::let_rules, rx_typed_tree::proofs::Rules::typed_tree_rules, rx_elaborate_parts::proofs::Listed::listed_rules))]
-pub(crate) fn expression(
-    walk: &mut Walk<'_>,
+pub(crate) fn expression<'t>(
+    walk: &mut Walk<'t>,
     minus: bool,
     site: Site,
-    expr: &ExprTree,
+    expr: &'t ExprTree,
 ) -> Result<(Expr, Seen), AllocError>
     ensures { walks.Tells plain-Expr (naming.of_expression minus site (plain-ExprTree expr.now)) elaborated.value seen_of walk.old result walk.new }
 {

@@ -47,7 +47,7 @@ pub fn elaborate(
 
 /// The body of a function, whose end gives the tail.
 #[tactic(auto, using(crate::proofs::ToldLemmas::function_body_is))]
-fn function_body(walk: &mut Walk<'_>, body: &Block) -> Result<Expr, AllocError>
+fn function_body<'t>(walk: &mut Walk<'t>, body: &'t Block) -> Result<Expr, AllocError>
     ensures { walks.Builds plain-Expr (naming.of_body Site.Expects (plain-Block body.now)) elaborated.function_body walk.old result walk.new }
 {
     let ((statements, last), ends) = body_parts(walk, Site::Expects, body)?;
@@ -56,7 +56,7 @@ fn function_body(walk: &mut Walk<'_>, body: &Block) -> Result<Expr, AllocError>
     walk.given.block(ends.node, ends.never, statements, last)
 }
 
-fn function_tree(walk: &mut Walk<'_>, span: Span, function: &Func) -> Result<TypedTree, AllocError>
+fn function_tree<'t>(walk: &mut Walk<'t>, span: Span, function: &'t Func) -> Result<TypedTree, AllocError>
     ensures { IfOk result (λ it. plain-TypedTree it ≡ elaborated.elaborated (types_of walk.old.given) (naming.of_function 0 span (plain-Func function.now) walk.old.cursor).0) }
 {
     walk.node(span, Site::Value)?;

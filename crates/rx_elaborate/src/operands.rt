@@ -25,10 +25,10 @@ use std::alloc::AllocError;
 /// Operands in order, from field 0 on, and whether some diverges.
 #[cycle(expression)]
 #[tactic(auto, using(rx_tree::proofs::Rules::expression_rules, rx_tree::proofs::Rules::block_rules, rx_tree::proofs::Rules::let_rules, rx_typed_tree::proofs::Rules::typed_tree_rules, rx_elaborate_parts::proofs::Listed::listed_rules))]
-pub(crate) fn operands(
-    walk: &mut Walk<'_>,
+pub(crate) fn operands<'t>(
+    walk: &mut Walk<'t>,
     site: Site,
-    exprs: &[ExprTree],
+    exprs: &'t [ExprTree],
 ) -> Result<(List<Operand>, bool), AllocError>
     ensures { walks.Tells (map plain-Operand) (naming.of_expressions site (expressions_of (map plain-ExprTree exprs.now))) (λ t es. operands_listed (elaborated.operands t 0 es)) named.any_diverges walk.old result walk.new }
 {
@@ -44,11 +44,11 @@ pub(crate) fn operands(
 
 #[cycle(expression)]
 #[tactic(auto, using(rx_tree::proofs::Rules::expression_rules, rx_tree::proofs::Rules::block_rules, rx_tree::proofs::Rules::let_rules, rx_typed_tree::proofs::Rules::typed_tree_rules, rx_elaborate_parts::proofs::Listed::listed_rules))]
-pub(crate) fn operand(
-    walk: &mut Walk<'_>,
+pub(crate) fn operand<'t>(
+    walk: &mut Walk<'t>,
     site: Site,
     field: usize,
-    expr: &ExprTree,
+    expr: &'t ExprTree,
 ) -> Result<(Operand, bool), AllocError>
     ensures { walks.Tells plain-Operand (naming.of_expression false site (plain-ExprTree expr.now)) (λ t e. (field, elaborated.value t e)) named.diverges walk.old result walk.new }
 {
@@ -59,9 +59,9 @@ pub(crate) fn operand(
 /// Arguments of a variant, where parentheses are written.
 #[cycle(expression)]
 #[tactic(auto, using(rx_tree::proofs::Rules::expression_rules, rx_tree::proofs::Rules::block_rules, rx_tree::proofs::Rules::let_rules, rx_typed_tree::proofs::Rules::typed_tree_rules, rx_elaborate_parts::proofs::Listed::listed_rules))]
-pub(crate) fn argument_trees(
-    walk: &mut Walk<'_>,
-    exprs: &Option<List<ExprTree>>,
+pub(crate) fn argument_trees<'t>(
+    walk: &mut Walk<'t>,
+    exprs: &'t Option<List<ExprTree>>,
 ) -> Result<(List<Operand>, bool), AllocError>
     ensures { walks.Tells (map plain-Operand) (naming.of_arguments (optional_list_of (option_map (map plain-ExprTree) exprs.now))) (λ t es. operands_listed (elaborated.operands t 0 es)) named.any_diverges walk.old result walk.new }
 {
@@ -74,10 +74,10 @@ pub(crate) fn argument_trees(
 /// Values of the fields of a struct's item.
 #[cycle(expression)]
 #[tactic(auto, using(rx_tree::proofs::Rules::expression_rules, rx_tree::proofs::Rules::block_rules, rx_tree::proofs::Rules::let_rules, rx_typed_tree::proofs::Rules::typed_tree_rules, rx_elaborate_parts::proofs::Listed::listed_rules))]
-pub(crate) fn field_trees(
-    walk: &mut Walk<'_>,
+pub(crate) fn field_trees<'t>(
+    walk: &mut Walk<'t>,
     item: u32,
-    fields: &[FieldExpr],
+    fields: &'t [FieldExpr],
 ) -> Result<(List<Operand>, bool), AllocError>
     ensures { walks.Tells (map plain-Operand) (naming.of_fields (field_expressions_of (map plain-FieldExpr fields.now))) (λ t fs. operands_listed (elaborated.fields t item fs)) named.any_field_diverges walk.old result walk.new }
 {
@@ -93,10 +93,10 @@ pub(crate) fn field_trees(
 
 #[cycle(expression)]
 #[tactic(auto, using(rx_tree::proofs::Rules::expression_rules, rx_tree::proofs::Rules::block_rules, rx_tree::proofs::Rules::let_rules, rx_typed_tree::proofs::Rules::typed_tree_rules, rx_elaborate_parts::proofs::Listed::listed_rules, rx_elaborate_parts::proofs::References::assigned_rules))]
-pub(crate) fn field_operand(
-    walk: &mut Walk<'_>,
+pub(crate) fn field_operand<'t>(
+    walk: &mut Walk<'t>,
     item: u32,
-    field: &FieldExpr,
+    field: &'t FieldExpr,
 ) -> Result<(Operand, bool), AllocError>
     ensures { walks.Tells plain-Operand (naming.of_expression false SiteOf.Expects (plain-FieldExpr field.now).1) (λ t e. (elaborated.field_in t.items (types.named item) (plain-FieldExpr field.now).0.name, elaborated.value t e)) named.diverges walk.old result walk.new }
 {
@@ -108,11 +108,11 @@ pub(crate) fn field_operand(
 
 #[cycle(expression)]
 #[tactic(auto, using(rx_tree::proofs::Rules::expression_rules, rx_tree::proofs::Rules::block_rules, rx_tree::proofs::Rules::let_rules, rx_typed_tree::proofs::Rules::typed_tree_rules, rx_elaborate_parts::proofs::Listed::listed_rules))]
-pub(crate) fn tuple_tree(
-    walk: &mut Walk<'_>,
+pub(crate) fn tuple_tree<'t>(
+    walk: &mut Walk<'t>,
     span: Span,
     site: Site,
-    parts: &[ExprTree],
+    parts: &'t [ExprTree],
 ) -> Result<(Expr, Seen), AllocError>
     ensures { walks.Tells plain-Expr (naming.of_expression false site (plain.tuple span (expressions_of (map plain-ExprTree parts.now)))) elaborated.value seen_of walk.old result walk.new }
 {
@@ -124,12 +124,12 @@ pub(crate) fn tuple_tree(
 
 #[cycle(expression)]
 #[tactic(auto, using(rx_tree::proofs::Rules::expression_rules, rx_tree::proofs::Rules::block_rules, rx_tree::proofs::Rules::let_rules, rx_typed_tree::proofs::Rules::typed_tree_rules, rx_elaborate_parts::proofs::Listed::listed_rules, crate::proofs::ToldLemmas::call_rules))]
-pub(crate) fn call_tree(
-    walk: &mut Walk<'_>,
+pub(crate) fn call_tree<'t>(
+    walk: &mut Walk<'t>,
     span: Span,
     site: Site,
-    _callee: &Ident,
-    arguments: &[ExprTree],
+    _callee: &'t Ident,
+    arguments: &'t [ExprTree],
 ) -> Result<(Expr, Seen), AllocError>
     ensures { walks.Tells plain-Expr (naming.of_expression false site (plain.call span _callee.now (expressions_of (map plain-ExprTree arguments.now)))) elaborated.value seen_of walk.old result walk.new }
 {
@@ -145,10 +145,10 @@ pub(crate) fn call_tree(
 /// A call of a variable, which the rules of types refuse.
 #[cycle(expression)]
 #[tactic(auto, using(rx_tree::proofs::Rules::expression_rules, rx_tree::proofs::Rules::block_rules, rx_tree::proofs::Rules::let_rules, rx_typed_tree::proofs::Rules::typed_tree_rules, rx_elaborate_parts::proofs::Listed::listed_rules))]
-pub(crate) fn hidden_call(
-    walk: &mut Walk<'_>,
+pub(crate) fn hidden_call<'t>(
+    walk: &mut Walk<'t>,
     node: Node,
-    arguments: &[ExprTree],
+    arguments: &'t [ExprTree],
 ) -> Result<(Expr, Seen), AllocError>
     ensures { walks.Tells plain-Expr (naming.called node ([], true) (λ t. naming.of_expressions t (expressions_of (map plain-ExprTree arguments.now)))) elaborated.value seen_of walk.old result walk.new }
 {
@@ -160,11 +160,11 @@ pub(crate) fn hidden_call(
 /// A call of a function's item.
 #[cycle(expression)]
 #[tactic(auto, using(rx_tree::proofs::Rules::expression_rules, rx_tree::proofs::Rules::block_rules, rx_tree::proofs::Rules::let_rules, rx_typed_tree::proofs::Rules::typed_tree_rules, rx_elaborate_parts::proofs::Listed::listed_rules))]
-pub(crate) fn open_call(
-    walk: &mut Walk<'_>,
+pub(crate) fn open_call<'t>(
+    walk: &mut Walk<'t>,
     node: Node,
     item: u32,
-    arguments: &[ExprTree],
+    arguments: &'t [ExprTree],
 ) -> Result<(Expr, Seen), AllocError>
     ensures { walks.Tells plain-Expr (naming.called node (item ∷ [], false) (λ t. naming.of_expressions t (expressions_of (map plain-ExprTree arguments.now)))) elaborated.value seen_of walk.old result walk.new }
 {
@@ -175,13 +175,13 @@ pub(crate) fn open_call(
 
 #[cycle(expression)]
 #[tactic(auto, using(rx_tree::proofs::Rules::expression_rules, rx_tree::proofs::Rules::block_rules, rx_tree::proofs::Rules::let_rules, rx_typed_tree::proofs::Rules::typed_tree_rules, rx_elaborate_parts::proofs::Listed::listed_rules))]
-pub(crate) fn variant_tree(
-    walk: &mut Walk<'_>,
+pub(crate) fn variant_tree<'t>(
+    walk: &mut Walk<'t>,
     span: Span,
     site: Site,
-    _name: &Ident,
-    _variant: &Ident,
-    arguments: &Option<List<ExprTree>>,
+    _name: &'t Ident,
+    _variant: &'t Ident,
+    arguments: &'t Option<List<ExprTree>>,
 ) -> Result<(Expr, Seen), AllocError>
     ensures { walks.Tells plain-Expr (naming.of_expression false site (plain.variant span _name.now _variant.now (optional_list_of (option_map (map plain-ExprTree) arguments.now)))) elaborated.value seen_of walk.old result walk.new }
 {
@@ -195,12 +195,12 @@ pub(crate) fn variant_tree(
 
 #[cycle(expression)]
 #[tactic(auto, using(rx_tree::proofs::Rules::expression_rules, rx_tree::proofs::Rules::block_rules, rx_tree::proofs::Rules::let_rules, rx_typed_tree::proofs::Rules::typed_tree_rules, rx_elaborate_parts::proofs::Listed::listed_rules))]
-pub(crate) fn make_tree(
-    walk: &mut Walk<'_>,
+pub(crate) fn make_tree<'t>(
+    walk: &mut Walk<'t>,
     span: Span,
     site: Site,
-    _name: &Ident,
-    fields: &[FieldExpr],
+    _name: &'t Ident,
+    fields: &'t [FieldExpr],
 ) -> Result<(Expr, Seen), AllocError>
     ensures { walks.Tells plain-Expr (naming.of_expression false site (plain.make span _name.now (field_expressions_of (map plain-FieldExpr fields.now)))) elaborated.value seen_of walk.old result walk.new }
 {

@@ -29,12 +29,12 @@ use std::alloc::AllocError;
 
 #[cycle(expression)]
 #[tactic(auto, using(rx_tree::proofs::Rules::expression_rules, rx_tree::proofs::Rules::block_rules, rx_tree::proofs::Rules::let_rules, rx_typed_tree::proofs::Rules::typed_tree_rules, rx_elaborate_parts::proofs::Listed::listed_rules))]
-pub(crate) fn loop_at(
-    walk: &mut Walk<'_>,
+pub(crate) fn loop_at<'t>(
+    walk: &mut Walk<'t>,
     span: Span,
     site: Site,
-    _label: &Option<Ident>,
-    body: &Block,
+    _label: &'t Option<Ident>,
+    body: &'t Block,
 ) -> Result<(Expr, Seen), AllocError>
     ensures { walks.Tells plain-Expr (naming.of_expression false site (plain.loop span _label.now (plain-Block body.now))) elaborated.value seen_of walk.old result walk.new }
 {
@@ -48,13 +48,13 @@ pub(crate) fn loop_at(
 
 #[cycle(expression)]
 #[tactic(auto, using(rx_tree::proofs::Rules::expression_rules, rx_tree::proofs::Rules::block_rules, rx_tree::proofs::Rules::let_rules, rx_typed_tree::proofs::Rules::typed_tree_rules, rx_elaborate_parts::proofs::Listed::listed_rules))]
-pub(crate) fn while_at(
-    walk: &mut Walk<'_>,
+pub(crate) fn while_at<'t>(
+    walk: &mut Walk<'t>,
     span: Span,
     site: Site,
-    _label: &Option<Ident>,
-    condition: &ExprTree,
-    body: &Block,
+    _label: &'t Option<Ident>,
+    condition: &'t ExprTree,
+    body: &'t Block,
 ) -> Result<(Expr, Seen), AllocError>
     ensures { walks.Tells plain-Expr (naming.of_expression false site (plain.while span _label.now (plain-ExprTree condition.now) (plain-Block body.now))) elaborated.value seen_of walk.old result walk.new }
 {
@@ -72,14 +72,14 @@ pub(crate) fn while_at(
 
 #[cycle(expression)]
 #[tactic(auto, using(rx_tree::proofs::Rules::expression_rules, rx_tree::proofs::Rules::block_rules, rx_tree::proofs::Rules::let_rules, rx_typed_tree::proofs::Rules::typed_tree_rules, rx_elaborate_parts::proofs::Listed::listed_rules))]
-pub(crate) fn while_let(
-    walk: &mut Walk<'_>,
+pub(crate) fn while_let<'t>(
+    walk: &mut Walk<'t>,
     span: Span,
     site: Site,
-    _label: &Option<Ident>,
-    pattern: &PatternTree,
-    expr: &ExprTree,
-    body: &Block,
+    _label: &'t Option<Ident>,
+    pattern: &'t PatternTree,
+    expr: &'t ExprTree,
+    body: &'t Block,
 ) -> Result<(Expr, Seen), AllocError>
     ensures { walks.Tells plain-Expr (naming.of_expression false site (plain.while_let span _label.now (plain-PatternTree pattern.now) (plain-ExprTree expr.now) (plain-Block body.now))) elaborated.value seen_of walk.old result walk.new }
 {
@@ -96,10 +96,10 @@ pub(crate) fn while_let(
 /// A body, as a block.
 #[cycle(expression)]
 #[tactic(auto, using(rx_tree::proofs::Rules::expression_rules, rx_tree::proofs::Rules::block_rules, rx_tree::proofs::Rules::let_rules, rx_typed_tree::proofs::Rules::typed_tree_rules, rx_elaborate_parts::proofs::Listed::listed_rules, crate::proofs::ToldLemmas::body_is))]
-pub(crate) fn body_tree(
-    walk: &mut Walk<'_>,
+pub(crate) fn body_tree<'t>(
+    walk: &mut Walk<'t>,
     site: Site,
-    body: &Block,
+    body: &'t Block,
 ) -> Result<(Expr, Ends), AllocError>
     ensures { walks.Tells plain-Expr (naming.of_body site (plain-Block body.now)) elaborated.body telling.ends_of walk.old result walk.new }
 {
@@ -111,10 +111,10 @@ pub(crate) fn body_tree(
 /// The statements and the tail of a body.
 #[cycle(expression)]
 #[tactic(auto, using(rx_tree::proofs::Rules::expression_rules, rx_tree::proofs::Rules::block_rules, rx_tree::proofs::Rules::let_rules, rx_typed_tree::proofs::Rules::typed_tree_rules, rx_elaborate_parts::proofs::Listed::listed_rules, crate::proofs::ToldLemmas::body_never_is))]
-pub(crate) fn body_parts(
-    walk: &mut Walk<'_>,
+pub(crate) fn body_parts<'t>(
+    walk: &mut Walk<'t>,
     site: Site,
-    body: &Block,
+    body: &'t Block,
 ) -> Result<((List<Stmt>, Expr), Ends), AllocError>
     ensures { walks.Tells (λ b. (map plain-Stmt b.0, plain-Expr b.1)) (naming.of_body site (plain-Block body.now)) telling.body_parts telling.ends_of walk.old result walk.new }
 {
@@ -132,9 +132,9 @@ pub(crate) fn body_parts(
 /// Statements, and whether some diverges.
 #[cycle(expression)]
 #[tactic(auto, using(rx_tree::proofs::Rules::expression_rules, rx_tree::proofs::Rules::block_rules, rx_tree::proofs::Rules::let_rules, rx_typed_tree::proofs::Rules::typed_tree_rules, rx_elaborate_parts::proofs::Listed::listed_rules))]
-pub(crate) fn statement_trees(
-    walk: &mut Walk<'_>,
-    statements: &[StmtTree],
+pub(crate) fn statement_trees<'t>(
+    walk: &mut Walk<'t>,
+    statements: &'t [StmtTree],
 ) -> Result<(List<Stmt>, bool), AllocError>
     ensures { walks.Tells (map plain-Stmt) (naming.of_statements (statements_of (map plain-StmtTree statements.now))) telling.statements_listed named.some_diverges walk.old result walk.new }
 {
@@ -151,9 +151,9 @@ pub(crate) fn statement_trees(
 /// A statement, and whether it diverges.
 #[cycle(expression)]
 #[tactic(auto, using(rx_tree::proofs::Rules::expression_rules, rx_tree::proofs::Rules::block_rules, rx_tree::proofs::Rules::statement_rules, rx_typed_tree::proofs::Rules::typed_tree_rules, rx_elaborate_parts::proofs::Listed::listed_rules))]
-pub(crate) fn statement_tree(
-    walk: &mut Walk<'_>,
-    statement: &StmtTree,
+pub(crate) fn statement_tree<'t>(
+    walk: &mut Walk<'t>,
+    statement: &'t StmtTree,
 ) -> Result<(Stmt, bool), AllocError>
     ensures { walks.Tells plain-Stmt (naming.of_statement (plain-StmtTree statement.now)) elaborated.statement named.statement_diverges walk.old result walk.new }
 {
@@ -169,10 +169,10 @@ pub(crate) fn statement_tree(
 
 #[cycle(expression)]
 #[tactic(auto, using(rx_tree::proofs::Rules::expression_rules, rx_tree::proofs::Rules::block_rules, rx_tree::proofs::Rules::let_rules, rx_typed_tree::proofs::Rules::typed_tree_rules, rx_elaborate_parts::proofs::Listed::listed_rules, rx_elaborate_parts::proofs::Stating::statement_rules))]
-pub(crate) fn evaluates(
-    walk: &mut Walk<'_>,
+pub(crate) fn evaluates<'t>(
+    walk: &mut Walk<'t>,
     span: Span,
-    expr: &ExprTree,
+    expr: &'t ExprTree,
     _ends: bool,
 ) -> Result<(Stmt, bool), AllocError>
     ensures { walks.Tells plain-Stmt (naming.of_statement (plain.expression_statement span (plain-ExprTree expr.now) _ends)) elaborated.statement named.statement_diverges walk.old result walk.new }
@@ -184,16 +184,17 @@ pub(crate) fn evaluates(
 
 #[cycle(expression)]
 #[tactic(auto, using(rx_tree::proofs::Rules::expression_rules, rx_tree::proofs::Rules::block_rules, rx_tree::proofs::Rules::let_rules, rx_typed_tree::proofs::Rules::typed_tree_rules, rx_elaborate_parts::proofs::Listed::listed_rules, rx_elaborate_parts::proofs::Stating::statement_rules))]
-pub(crate) fn lets(
-    walk: &mut Walk<'_>,
+pub(crate) fn lets<'t>(
+    walk: &mut Walk<'t>,
     span: Span,
-    pattern: &PatternTree,
-    typ: &Option<TypeText>,
-    expr: &ExprTree,
+    pattern: &'t PatternTree,
+    typ: &'t Option<TypeText>,
+    expr: &'t ExprTree,
 ) -> Result<(Stmt, bool), AllocError>
     ensures { walks.Tells plain-Stmt (naming.of_statement (plain.let_statement span (plain-PatternTree pattern.now) (option_map plain-TypeText typ.now) (plain.present (plain-ExprTree expr.now)))) elaborated.statement named.statement_diverges walk.old result walk.new }
 {
     let node = walk.node(span, Site::Value)?;
+    walk.annotate(pattern, typ)?;
     let ((pattern, matched), (seen, declares)) = let_parts(walk, pattern, typ, expr)?;
     walk.wait_if(both(has_no_type(typ), seen.never), declares);
     Ok((Stmt::Lets(node.number, pattern, matched), seen.diverges))
@@ -202,11 +203,11 @@ pub(crate) fn lets(
 /// The pattern of a `let` and its initialiser, behind which the variables of the pattern are known.
 #[cycle(expression)]
 #[tactic(auto, using(rx_tree::proofs::Rules::expression_rules, rx_tree::proofs::Rules::block_rules, rx_tree::proofs::Rules::let_rules, rx_typed_tree::proofs::Rules::typed_tree_rules, rx_elaborate_parts::proofs::Listed::listed_rules, rx_elaborate_parts::proofs::Stating::statement_rules))]
-pub(crate) fn let_parts(
-    walk: &mut Walk<'_>,
-    pattern: &PatternTree,
-    typ: &Option<TypeText>,
-    expr: &ExprTree,
+pub(crate) fn let_parts<'t>(
+    walk: &mut Walk<'t>,
+    pattern: &'t PatternTree,
+    typ: &'t Option<TypeText>,
+    expr: &'t ExprTree,
 ) -> Result<((Pattern, Matched), (Seen, Declares)), AllocError>
     ensures { walks.Tells telling.plain_test (letting.a_let (plain-PatternTree pattern.now) (option_map plain-TypeText typ.now) (plain-ExprTree expr.now)) telling.test_made letting.told_of_let walk.old result walk.new }
 {
@@ -222,10 +223,10 @@ pub(crate) fn let_parts(
 /// The type of a `let`, where it is written, and its initialiser.
 #[cycle(expression)]
 #[tactic(auto, using(rx_tree::proofs::Rules::expression_rules, rx_tree::proofs::Rules::block_rules, rx_tree::proofs::Rules::let_rules, rx_typed_tree::proofs::Rules::typed_tree_rules, rx_elaborate_parts::proofs::Listed::listed_rules, rx_elaborate_parts::proofs::Stating::statement_rules))]
-pub(crate) fn initialised(
-    walk: &mut Walk<'_>,
-    typ: &Option<TypeText>,
-    expr: &ExprTree,
+pub(crate) fn initialised<'t>(
+    walk: &mut Walk<'t>,
+    typ: &'t Option<TypeText>,
+    expr: &'t ExprTree,
 ) -> Result<(Matched, Seen), AllocError>
     ensures { walks.Tells plain-Matched (telling.an_initialiser (option_map plain-TypeText typ.now) (plain-ExprTree expr.now)) (λ t e. elaborated.matched t e (elaborated.value t e)) seen_of walk.old result walk.new }
 {

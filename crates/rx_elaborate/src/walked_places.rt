@@ -24,12 +24,12 @@ use std::alloc::AllocError;
 
 #[cycle(expression)]
 #[tactic(auto, using(rx_tree::proofs::Rules::expression_rules, rx_tree::proofs::Rules::block_rules, rx_tree::proofs::Rules::let_rules, rx_typed_tree::proofs::Rules::typed_tree_rules, rx_elaborate_parts::proofs::Listed::listed_rules))]
-pub(crate) fn field_place(
-    walk: &mut Walk<'_>,
+pub(crate) fn field_place<'t>(
+    walk: &mut Walk<'t>,
     span: Span,
     site: Site,
-    inner: &ExprTree,
-    name: &Ident,
+    inner: &'t ExprTree,
+    name: &'t Ident,
 ) -> Result<(Place, Seen), AllocError>
     ensures { walks.Tells plain-Place (naming.of_expression false site (plain.field span (plain-ExprTree inner.now) name.now)) elaborated.place seen_of walk.old result walk.new }
 {
@@ -41,12 +41,12 @@ pub(crate) fn field_place(
 
 #[cycle(expression)]
 #[tactic(auto, using(rx_tree::proofs::Rules::expression_rules, rx_tree::proofs::Rules::block_rules, rx_tree::proofs::Rules::let_rules, rx_typed_tree::proofs::Rules::typed_tree_rules, rx_elaborate_parts::proofs::Listed::listed_rules))]
-pub(crate) fn field_value(
-    walk: &mut Walk<'_>,
+pub(crate) fn field_value<'t>(
+    walk: &mut Walk<'t>,
     span: Span,
     site: Site,
-    inner: &ExprTree,
-    name: &Ident,
+    inner: &'t ExprTree,
+    name: &'t Ident,
 ) -> Result<(Expr, Seen), AllocError>
     ensures { walks.Tells plain-Expr (naming.of_expression false site (plain.field span (plain-ExprTree inner.now) name.now)) elaborated.value seen_of walk.old result walk.new }
 {
@@ -57,11 +57,11 @@ pub(crate) fn field_value(
 
 #[cycle(expression)]
 #[tactic(auto, using(rx_tree::proofs::Rules::expression_rules, rx_tree::proofs::Rules::block_rules, rx_tree::proofs::Rules::let_rules, rx_typed_tree::proofs::Rules::typed_tree_rules, rx_elaborate_parts::proofs::Listed::listed_rules))]
-pub(crate) fn part_place(
-    walk: &mut Walk<'_>,
+pub(crate) fn part_place<'t>(
+    walk: &mut Walk<'t>,
     span: Span,
     site: Site,
-    inner: &ExprTree,
+    inner: &'t ExprTree,
     number: u64,
 ) -> Result<(Place, Seen), AllocError>
     ensures { walks.Tells plain-Place (naming.of_expression false site (plain.part span (plain-ExprTree inner.now) number)) elaborated.place seen_of walk.old result walk.new }
@@ -74,11 +74,11 @@ pub(crate) fn part_place(
 
 #[cycle(expression)]
 #[tactic(auto, using(rx_tree::proofs::Rules::expression_rules, rx_tree::proofs::Rules::block_rules, rx_tree::proofs::Rules::let_rules, rx_typed_tree::proofs::Rules::typed_tree_rules, rx_elaborate_parts::proofs::Listed::listed_rules))]
-pub(crate) fn part_value(
-    walk: &mut Walk<'_>,
+pub(crate) fn part_value<'t>(
+    walk: &mut Walk<'t>,
     span: Span,
     site: Site,
-    inner: &ExprTree,
+    inner: &'t ExprTree,
     number: u64,
 ) -> Result<(Expr, Seen), AllocError>
     ensures { walks.Tells plain-Expr (naming.of_expression false site (plain.part span (plain-ExprTree inner.now) number)) elaborated.value seen_of walk.old result walk.new }
@@ -90,11 +90,11 @@ pub(crate) fn part_value(
 
 #[cycle(expression)]
 #[tactic(auto, using(rx_tree::proofs::Rules::expression_rules, rx_tree::proofs::Rules::block_rules, rx_tree::proofs::Rules::let_rules, rx_typed_tree::proofs::Rules::typed_tree_rules, rx_elaborate_parts::proofs::Listed::listed_rules))]
-pub(crate) fn deref_place(
-    walk: &mut Walk<'_>,
+pub(crate) fn deref_place<'t>(
+    walk: &mut Walk<'t>,
     span: Span,
     site: Site,
-    inner: &ExprTree,
+    inner: &'t ExprTree,
 ) -> Result<(Place, Seen), AllocError>
     ensures { walks.Tells plain-Place (naming.of_expression false site (plain.deref span (plain-ExprTree inner.now))) elaborated.place seen_of walk.old result walk.new }
 {
@@ -106,11 +106,11 @@ pub(crate) fn deref_place(
 
 #[cycle(expression)]
 #[tactic(auto, using(rx_tree::proofs::Rules::expression_rules, rx_tree::proofs::Rules::block_rules, rx_tree::proofs::Rules::let_rules, rx_typed_tree::proofs::Rules::typed_tree_rules, rx_elaborate_parts::proofs::Listed::listed_rules))]
-pub(crate) fn deref_value(
-    walk: &mut Walk<'_>,
+pub(crate) fn deref_value<'t>(
+    walk: &mut Walk<'t>,
     span: Span,
     site: Site,
-    inner: &ExprTree,
+    inner: &'t ExprTree,
 ) -> Result<(Expr, Seen), AllocError>
     ensures { walks.Tells plain-Expr (naming.of_expression false site (plain.deref span (plain-ExprTree inner.now))) elaborated.value seen_of walk.old result walk.new }
 {
@@ -122,10 +122,10 @@ pub(crate) fn deref_value(
 /// A place where it stands; what is none is gone over.
 #[cycle(expression)]
 #[tactic(auto, using(rx_tree::proofs::Rules::expression_rules, rx_tree::proofs::Rules::block_rules, rx_tree::proofs::Rules::let_rules, rx_typed_tree::proofs::Rules::typed_tree_rules, rx_elaborate_parts::proofs::Listed::listed_rules))]
-pub(crate) fn place(
-    walk: &mut Walk<'_>,
+pub(crate) fn place<'t>(
+    walk: &mut Walk<'t>,
     site: Site,
-    expr: &ExprTree,
+    expr: &'t ExprTree,
 ) -> Result<(Place, Seen), AllocError>
     ensures { walks.Tells plain-Place (naming.of_expression false site (plain-ExprTree expr.now)) elaborated.place seen_of walk.old result walk.new }
 {
@@ -142,10 +142,10 @@ pub(crate) fn place(
 /// What is no place, where one is wanted: the rules of types refuse it.
 #[cycle(expression)]
 #[tactic(auto, using(rx_tree::proofs::Rules::expression_rules, rx_tree::proofs::Rules::block_rules, rx_tree::proofs::Rules::let_rules, rx_typed_tree::proofs::Rules::typed_tree_rules, rx_elaborate_parts::proofs::Listed::listed_rules))]
-pub(crate) fn no_place(
-    walk: &mut Walk<'_>,
+pub(crate) fn no_place<'t>(
+    walk: &mut Walk<'t>,
     site: Site,
-    expr: &ExprTree,
+    expr: &'t ExprTree,
 ) -> Result<(Place, Seen), AllocError>
     ensures { walks.Tells plain-Place (naming.of_expression false site (plain-ExprTree expr.now)) (λ _ _. tree.own 0) seen_of walk.old result walk.new }
 {
@@ -171,10 +171,10 @@ fn is_place(expr: &ExprTree) -> bool
 /// What is matched.
 #[cycle(expression)]
 #[tactic(auto, using(rx_tree::proofs::Rules::expression_rules, rx_tree::proofs::Rules::block_rules, rx_tree::proofs::Rules::let_rules, rx_typed_tree::proofs::Rules::typed_tree_rules, rx_elaborate_parts::proofs::Listed::listed_rules))]
-pub(crate) fn matched(
-    walk: &mut Walk<'_>,
+pub(crate) fn matched<'t>(
+    walk: &mut Walk<'t>,
     site: Site,
-    expr: &ExprTree,
+    expr: &'t ExprTree,
 ) -> Result<(Matched, Seen), AllocError>
     ensures { walks.Tells plain-Matched (naming.of_expression false site (plain-ExprTree expr.now)) (λ t e. elaborated.matched t e (elaborated.value t e)) seen_of walk.old result walk.new }
 {
@@ -187,10 +187,10 @@ pub(crate) fn matched(
 
 #[cycle(expression)]
 #[tactic(auto, using(rx_tree::proofs::Rules::expression_rules, rx_tree::proofs::Rules::block_rules, rx_tree::proofs::Rules::let_rules, rx_typed_tree::proofs::Rules::typed_tree_rules, rx_elaborate_parts::proofs::Listed::listed_rules))]
-pub(crate) fn matched_place(
-    walk: &mut Walk<'_>,
+pub(crate) fn matched_place<'t>(
+    walk: &mut Walk<'t>,
     site: Site,
-    expr: &ExprTree,
+    expr: &'t ExprTree,
 ) -> Result<(Matched, Seen), AllocError>
     ensures { walks.Tells plain-Matched (naming.of_expression false site (plain-ExprTree expr.now)) (λ t e. coercing.place_matched t (named.node_of e) (elaborated.place t e)) seen_of walk.old result walk.new }
 {
@@ -201,10 +201,10 @@ pub(crate) fn matched_place(
 
 #[cycle(expression)]
 #[tactic(auto, using(rx_tree::proofs::Rules::expression_rules, rx_tree::proofs::Rules::block_rules, rx_tree::proofs::Rules::let_rules, rx_typed_tree::proofs::Rules::typed_tree_rules, rx_elaborate_parts::proofs::Listed::listed_rules))]
-pub(crate) fn matched_value(
-    walk: &mut Walk<'_>,
+pub(crate) fn matched_value<'t>(
+    walk: &mut Walk<'t>,
     site: Site,
-    expr: &ExprTree,
+    expr: &'t ExprTree,
 ) -> Result<(Matched, Seen), AllocError>
     ensures { walks.Tells plain-Matched (naming.of_expression false site (plain-ExprTree expr.now)) (λ t e. tree.of_value (elaborated.value t e)) seen_of walk.old result walk.new }
 {

@@ -6,10 +6,10 @@ use Rattle.rx_tree.specs.declared.tree.FieldExpr.{FieldExpr}
 use Rattle.rx_tree.specs.declared.tree.Arm.{Arm}
 use Rattle.rx_tree.specs.Plain as plain
 use Rattle.rx_tree.specs.Plain.{Expression, Statement}
-use Rattle.rx_tree.specs.PlainOf.{plain-Expr, plain-ExprNode, plain-FieldExpr, plain-Arm, plain-Pattern, plain-Block, plain-StmtNode, optional_of, field_expressions_of, arms_of, expression_make, expression_if, expression_if_let, expression_match}
+use Rattle.rx_tree.specs.PlainOf.{plain-Expr, plain-ExprNode, plain-TypeText, plain-FieldExpr, plain-Arm, plain-Pattern, plain-Block, plain-StmtNode, optional_of, field_expressions_of, arms_of, expression_make, expression_if, expression_if_let, expression_match}
 use Rattle.rx_tree.proofs.Rules.{expression_by_node, statement_by_node, let_with}
 use Rattle.rx_typed.specs.Named.{node_of, statement_diverges}
-use Rattle.rx_typed.specs.Naming.{of_expression, of_statement}
+use Rattle.rx_typed.specs.Naming.{annotates, of_expression, of_statement}
 use Rattle.rx_typed.specs.Elaborated.{value, place, matched, statement}
 use Rattle.rx_typed.specs.Tree as tree
 use Rattle.rx_typed_tree.specs.PlainTree.{plain-Expr as plain-ExprOf}
@@ -17,7 +17,8 @@ use Rattle.rx_typed_tree.specs.PlainTree.{plain-Place, plain-Matched, plain-Stmt
 use Rattle.rx_numbering.specs.Seeing.{seen_of}
 use Rattle.rx_elaborate_parts.specs.Coercing.{types_of, place_matched}
 use Rattle.rx_elaborate_parts.specs.Telling.{plain_ways, both_ways, ways_made, ways_of_both}
-use Rattle.rx_elaborate_parts.specs.Walks.{Tells}
+use Rattle.rx_elaborate_parts.specs.declared.walk.Walk.{Walk}
+use Rattle.rx_elaborate_parts.specs.Walks.{Tells, moved}
 use Rattle.rx_elaborate.proofs.ToldLemmas.{told_as, no_place, own_nothing, place_is_matched}
 use Rattle.rx_elaborate.proofs.Looked.{lets_told, if_let_told}
 use Rattle.rx_elaborate.proofs.+expression.Goals as goal
@@ -45,8 +46,9 @@ statements::statement_tree-returns-in-Some t c =
 pub statements::lets-returns : goal.statements::lets-returns
 statements::lets-returns t c =
     let never = c.both.ensures ∙ ap (λ (a : Bool). a && c.in_ok-pattern.seen.never) c.has_no_type.ensures in
-    lets_told c.args.span (plain-Pattern c.args.pattern.now) c.args.typ.now (plain-Expr c.args.expr.now) c.args.walk.now c.node.new.self c.let_parts.new.walk c.wait_if.new.self c.in_ok-node.node
-    c.in_ok-pattern.pattern c.in_ok-pattern.matched c.in_ok-pattern.seen c.in_ok-pattern.declares c.both.result c.in_ok-node.ensures.0 c.in_ok-node.ensures.1 c.in_ok-pattern.ensures never c.wait_if.ensures
+    let noted = c.in_ok-annotate.ensures ∙ ap (λ (w : Walk). moved (annotates (plain-Pattern c.args.pattern.now) (option_map plain-TypeText c.args.typ.now) w.cursor).1 w) c.in_ok-node.ensures.1 in
+    lets_told c.args.span (plain-Pattern c.args.pattern.now) c.args.typ.now (plain-Expr c.args.expr.now) c.args.walk.now c.annotate.new.self c.let_parts.new.walk c.wait_if.new.self c.in_ok-node.node
+    c.in_ok-pattern.pattern c.in_ok-pattern.matched c.in_ok-pattern.seen c.in_ok-pattern.declares c.both.result c.in_ok-node.ensures.0 noted c.in_ok-pattern.ensures never c.wait_if.ensures
 
 pub branches::if_let-returns : goal.branches::if_let-returns
 branches::if_let-returns t c =
