@@ -1,7 +1,6 @@
 -- Steps of reading the types of an item: each takes the entries of names that it needs, in the order of the text, or
 -- says what is wrong; the first fault counts.
 use Rattle.std.specs.Prelude.{◌≡◌, ◌≢◌, ℕ, suc, List, [], ◌∷◌, ◌++◌, get_or, drop, Result, Ok, Err}
-use Rattle.rx_resolve.specs.Meant.{number}
 use Rattle.rx_resolve.specs.declared.resolved.NodeNames.{NodeNames}
 use Rattle.rx_declare.specs.declared.fault.DeclareFault.{DeclareFault}
 use Rattle.rx_declare.specs.declared.fault.DeclareFault.TheVariants as fault
@@ -60,7 +59,7 @@ occurs l r = Ok (l, record r { lifetimes = r.lifetimes ++ l ∷ [] })
 
 -- a lifetime of its own for a type that leaves it out
 abbrev pub another : Step ℕ
-another r = occurs r.next (record r { next = number (suc r.next) })
+another r = occurs r.next (record r { next = suc r.next })
 
 -- what a function that reads ensures: what the definition gives, unless memory fails
 abbrev pub Reads : {A : Type 0} → Outcome (A × Reading) → Result A DeclareFault → Reading → Type 0

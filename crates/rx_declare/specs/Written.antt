@@ -21,12 +21,13 @@ lifetimes_of (Some (plain.enum_item s d)) = d.lifetimes
 lifetimes_of _ = []
 
 -- a lifetime that a type leaves out, by where the type stands: a field leaves out none, in a parameter it is one of
--- its own, in a result it is the only one of the parameters
+-- its own, in a result it is the only one of the parameters, in a `let` it is free and has a number that is given
 abbrev pub elided : Role → Span → Step ℕ
 elided role.Field s r = Err (fault.Elision s)
 elided role.Parameter s r = another r
 elided (role.Answer None) s r = Err (fault.Elision s)
 elided (role.Answer (Some l)) s r = occurs l r
+elided (role.Let l) s r = occurs l r
 
 -- one for each that is declared, all left out
 abbrev pub all_elided : Role → Span → List Ident → Step (List ℕ)
@@ -52,6 +53,7 @@ abbrev pub as_many : Role → Span → List Ident → List (Option Ident) → Ou
 as_many role.Field s ds ls = if nat_eq (length ls) (length ds) then Ok tt else Err (fault.Mismatch s Rule.Lifetimes)
 as_many role.Parameter s ds ls = Ok tt
 as_many (role.Answer l) s ds ls = Ok tt
+as_many (role.Let l) s ds ls = Ok tt
 
 -- the lifetimes of a type that names an item with these, and the numbers of those that are written
 abbrev pub lifetimes_at : Role → Span → List Ident → Option (List (Option Ident)) → List ℕ → Step (List ℕ)

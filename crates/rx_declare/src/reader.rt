@@ -21,6 +21,8 @@ pub(crate) enum Role {
     Parameter,
     /// The result of a function, with the only lifetime of its parameters' types, where there is one.
     Answer(Option<u32>),
+    /// A `let`, in which a lifetime that is left out is free: it has this number.
+    Let(u32),
 }
 
 /// How far the types of an item are read.
@@ -118,13 +120,18 @@ impl<'n> Reader<'n> {
         Ok(lifetime)
     }
 
-    /// A lifetime of its own, for a type that leaves it out.
+    /// A lifetime of its own, for a type that leaves it out. Where numbers of 32 bits run out it is as if memory did.
     pub(crate) fn another(&mut self) -> Result<u32, DeclareFault>
         ensures { steps.Reads (steps.another (reading self.old)) result (reading self.new) }
     {
         let lifetime = self.next;
-        self.next = lifetime.saturating_add(1);
-        self.occurs(lifetime)
+        match lifetime.checked_add(1) {
+            Some(next) => {
+                self.next = next;
+                self.occurs(lifetime)
+            }
+            None => Err(DeclareFault::OutOfMemory),
+        }
     }
 
     /// A lifetime that a type leaves out.
@@ -136,6 +143,7 @@ impl<'n> Reader<'n> {
             Role::Parameter => self.another(),
             Role::Answer(None) => Err(DeclareFault::Elision { at: span }),
             Role::Answer(Some(lifetime)) => self.occurs(lifetime),
+            Role::Let(free) => self.occurs(free),
         }
     }
 

@@ -71,7 +71,7 @@ fn as_many(
                 })
             }
         }
-        Role::Parameter | Role::Answer(_) => Ok(()),
+        Role::Parameter | Role::Answer(_) | Role::Let(_) => Ok(()),
     }
 }
 
