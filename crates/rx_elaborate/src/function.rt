@@ -56,7 +56,11 @@ fn function_body<'t>(walk: &mut Walk<'t>, body: &'t Block) -> Result<Expr, Alloc
     walk.given.block(ends.node, ends.never, statements, last)
 }
 
-fn function_tree<'t>(walk: &mut Walk<'t>, span: Span, function: &'t Func) -> Result<TypedTree, AllocError>
+fn function_tree<'t>(
+    walk: &mut Walk<'t>,
+    span: Span,
+    function: &'t Func,
+) -> Result<TypedTree, AllocError>
     ensures { IfOk result (λ it. plain-TypedTree it ≡ elaborated.elaborated (types_of walk.old.given) (naming.of_function 0 span (plain-Func function.now) walk.old.cursor).0) }
 {
     walk.node(span, Site::Value)?;
