@@ -43,7 +43,7 @@ fn fault_text(alloc: Global, fault: DeclareFault) -> Result<String, AllocError> 
 }
 
 /// A type: references as `&N` or `&mut N` before what they lead to, items as `#N<..>`.
-fn push_type(alloc: Global, text: &mut String, ty: &Ty) -> Result<(), AllocError> {
+pub fn push_type(alloc: Global, text: &mut String, ty: &Ty) -> Result<(), AllocError> {
     match ty {
         Ty::Int(_) => text.push_str("int"),
         Ty::Bool => text.push_str("bool"),

@@ -4,7 +4,7 @@ ghost use Rattle.rx_tree.specs.PlainOf.{plain-Program};
 ghost use Rattle.rx_tree.specs.Size.{IsNumbered};
 ghost use Rattle.rx_resolve.specs.Causes.{Meant};
 
-use crate::declared::rule_name;
+use crate::declared::{push_type as push_written, rule_name};
 use crate::holding::{all_hold, hold};
 use rx_core::{Kind, LetGo, List, Ty};
 use rx_parse::{parse, parsed_programs_are_numbered};
@@ -77,6 +77,27 @@ fn types_text(alloc: Global, typed: &Typed) -> Result<String, AllocError> {
     Ok(text)
 }
 
+/// The variables of each function that `let`s with a type bind, each by its number, with its type as written.
+fn annotations_text(alloc: Global, typed: &Typed) -> Result<String, AllocError> {
+    let mut text = String::from_str(alloc, "Ok")?;
+    for function in typed.functions.as_slice() {
+        text.push_str(" /")?;
+        for annotated in function.annotations.as_slice() {
+            let variable = format!(in alloc; " {}:", annotated.variable)?;
+            text.push_str(variable.as_str())?;
+            push_written(alloc, &mut text, &annotated.ty)?;
+        }
+    }
+    Ok(text)
+}
+
+/// What is told of a typed program.
+#[derive(Clone, Copy)]
+enum Told {
+    Types,
+    Annotations,
+}
+
 /// A fault as in `Mismatch 20 21 Parts`.
 fn fault_text(alloc: Global, fault: TypeFault) -> Result<String, AllocError> {
     match fault {
@@ -95,18 +116,30 @@ fn fault_text(alloc: Global, fault: TypeFault) -> Result<String, AllocError> {
     }
 }
 
-fn answer_of(alloc: Global, program: &Program, names: &Resolved) -> Result<String, AllocError>
+fn answer_of(
+    alloc: Global,
+    program: &Program,
+    names: &Resolved,
+    what: Told,
+) -> Result<String, AllocError>
     requires numbered { IsNumbered (plain-Program program.now) }
     requires named { Meant (plain-Program program.now) names.now.items }
 {
     match typecheck(alloc, program, names) {
-        Ok(typed) => types_text(alloc, &typed),
+        Ok(typed) => match what {
+            Told::Types => types_text(alloc, &typed),
+            Told::Annotations => annotations_text(alloc, &typed),
+        },
         Err(fault) => fault_text(alloc, fault),
     }
 }
 
 /// What is told of the types of a text.
 fn told(alloc: Global, text: &str) -> Result<String, AllocError> {
+    told_of(alloc, text, Told::Types)
+}
+
+fn told_of(alloc: Global, text: &str, what: Told) -> Result<String, AllocError> {
     if text.len() > 1_048_576 {
         return String::from_str(alloc, "TooLong");
     }
@@ -114,7 +147,7 @@ fn told(alloc: Global, text: &str) -> Result<String, AllocError> {
         Ok(program) => {
             parsed_programs_are_numbered();
             let outcome = match resolve(alloc, &program) {
-                Ok(names) => answer_of(alloc, &program, &names),
+                Ok(names) => answer_of(alloc, &program, &names, what),
                 Err(_) => String::from_str(alloc, "names"),
             };
             program.let_go();
@@ -311,6 +344,25 @@ mod rt; fn f(x: i64) {} fn main() { f(rt::next()); let y: i32 = rt::next(); } | 
 #[test]
 fn programs_are_typed(rt: HostRuntime) {
     all_hold(&rt, rt.alloc(), TYPED, LINES, types);
+}
+
+fn annotations(alloc: Global, text: &str, want: &str) -> Outcome {
+    Ok(told_of(alloc, text, Told::Annotations)?.as_str() == want)
+}
+
+/// The variables of each function that `let`s with a type bind, with their lifetimes by number.
+const ANNOTATED: &str = "\
+fn f<'a>(x: &'a i32, z: &i32) { let y: &'a i32 = x; let w: &i32 = z; } fn main() {} | Ok / 2:&0 int 3:&2 int /
+fn f(x: &mut i64) { let y: &mut i64; y = x; } fn main() {} | Ok / 1:&mut 1 int /
+fn f<'a>(t: &'a (i32, bool)) { let (a, b): &'a (i32, bool) = t; } fn main() {} | Ok / 1:&1 int 2:&1 bool /
+fn f<'a>(t: &'a mut (i32, &'a bool)) { let (a, _): &mut (i32, &'a bool) = t; } fn main() {} | Ok / 1:&mut 1 int /
+struct S<'a> { r: &'a u8, n: u8 } fn f<'b, 'c>(s: S<'c>, q: &'b u8) { let S { n: m, r: p }: S<'c> = s; } fn main() {} | Ok / 2:int 3:&1 int /
+struct S<'a> { r: &'a u8 } struct T<'a, 'b> { s: S<'b>, n: &'a u8 } fn f<'c>(t: T<'c, 'c>) { let T { s: S { r: p }, n: q }: T<'_, 'c> = t; } fn main() {} | Ok / 1:&0 int 2:&1 int /
+fn f() { let x = 1; { let y: u8 = 2; } let z: ((), u8) = ((), 3); } fn main() { let q: bool = true; } | Ok / 1:int 2:((),int,) / 0:bool";
+
+#[test]
+fn written_types_keep_their_lifetimes(rt: HostRuntime) {
+    all_hold(&rt, rt.alloc(), ANNOTATED, LINES, annotations);
 }
 
 /// A text in which a part is repeated.

@@ -1,6 +1,6 @@
 -- A typed program has no fault: what it declares is one, and so are the parts of its structs and enums; and a function
 -- has a valid assignment of types, or none.
-use Rattle.std.proofs.Common.{◌≡◌, ℕ, zero, suc, ◌<◌, true, false, true≢false, List, [], ◌∷◌, length, Ok, Err, slice_get, unwrap_or, inl, inr, arith, sym, ap, subst, ◌∙◌, refl}
+use Rattle.std.proofs.Common.{◌≡◌, ℕ, suc, ◌<◌, true≢false, List, [], ◌∷◌, length, Ok, Err, slice_get, unwrap_or, inl, inr, arith, sym, ap, subst, ◌∙◌, refl}
 use Rattle.std.specs.Result.{is_ok}
 use Rattle.rx_tree.specs.Plain as plain
 use Rattle.rx_tree.specs.Plain.{ProgramTree}
@@ -11,27 +11,26 @@ use Rattle.rx_typed.specs.declared.declarations.Decl.{Decl}
 use Rattle.rx_typed.specs.Types.{Declarations}
 use Rattle.rx_typed.specs.PlainTypes.{declarations}
 use Rattle.rx_declared.specs.Held.{held}
-use Rattle.rx_declared.specs.Sizes.{Sized, IsSizes, capped}
+use Rattle.rx_declared.specs.Sizes.{Sized, IsSizes}
 use Rattle.rx_declare.specs.declared.fault.DeclareFault.{DeclareFault}
 use Rattle.rx_declare.specs.Steps.{Outcome}
 use Rattle.rx_declare.specs.Programs.{Fits, Unfit, derived_wrong, past_limit, main_wrong, Declares, Wrong, in_types, unfit}
-use Rattle.rx_unify.specs.Facts.{Known}
 use Rattle.rx_unify.specs.Stepping.{known}
 use Rattle.rx_typeck.specs.declared.typed.TypedFn.{TypedFn}
 use Rattle.rx_typeck.specs.declared.typed.Typed.{Typed}
 use Rattle.rx_typeck.specs.declared.typed.TypeFault.{TypeFault}
-use Rattle.rx_typeck.specs.Typing.{FunctionsTyped, FirstUntyped, IsTyped, Causes, in_declaration, in_function}
+use Rattle.rx_typeck.specs.Typing.{Given, known_in, FunctionsTyped, FirstUntyped, IsTyped, Causes, in_declaration, in_function}
 
 -- ---- functions
 
-no_first : (K : Known) (ns : List ItemNames) (i : ℕ) (p : ProgramTree) (ts : List TypedFn) (e : TypeFault) → FunctionsTyped K ns i p ts → FirstUntyped K ns i p e → ⊥
-no_first K ns i [] ts e t u = u
-no_first K ns i (plain.function_item s f ∷ p) [] e t u = t
-no_first K ns i (plain.function_item s f ∷ p) (x ∷ ts) e t (inl u) = u.none t.0.types t.0.valid
-no_first K ns i (plain.function_item s f ∷ p) (x ∷ ts) e t (inr more) = no_first K ns (suc i) p ts e t.1 more.1
-no_first K ns i (plain.rt_item s r ∷ p) ts e t u = no_first K ns (suc i) p ts e t u
-no_first K ns i (plain.struct_item s d ∷ p) ts e t u = no_first K ns (suc i) p ts e t u
-no_first K ns i (plain.enum_item s d ∷ p) ts e t u = no_first K ns (suc i) p ts e t u
+no_first : (G : Given) (ns : List ItemNames) (i : ℕ) (p : ProgramTree) (ts : List TypedFn) (e : TypeFault) → FunctionsTyped G ns i p ts → FirstUntyped (known_in G) ns i p e → ⊥
+no_first G ns i [] ts e t u = u
+no_first G ns i (plain.function_item s f ∷ p) [] e t u = t
+no_first G ns i (plain.function_item s f ∷ p) (x ∷ ts) e t (inl u) = u.none t.0.types t.0.valid
+no_first G ns i (plain.function_item s f ∷ p) (x ∷ ts) e t (inr more) = no_first G ns (suc i) p ts e t.1 more.1
+no_first G ns i (plain.rt_item s r ∷ p) ts e t u = no_first G ns (suc i) p ts e t u
+no_first G ns i (plain.struct_item s d ∷ p) ts e t u = no_first G ns (suc i) p ts e t u
+no_first G ns i (plain.enum_item s d ∷ p) ts e t u = no_first G ns (suc i) p ts e t u
 
 -- ---- declarations
 
@@ -70,5 +69,5 @@ module _ (finite : (p : ProgramTree) (D : Declarations) → Fits p D → NoCycle
       let same : ds ≡ typed.declared = ok_is ds typed.declared (sym declares.items ∙ typed.declares.items) in
       let table : sizes ≡ typed.sizes = one_table (declarations typed.declared) sizes typed.sizes
       (finite p (declarations typed.declared) typed.declares.fits) (subst (λ x. IsSizes (declarations x) sizes) same is_sizes) typed.is_sizes in
-      no_first (known typed.declared typed.sizes) ns 0 p t.functions e typed.functions
+      no_first (record { program = p; declared = typed.declared; sizes = typed.sizes }) ns 0 p t.functions e typed.functions
       (subst (λ l. FirstUntyped (known typed.declared l) ns 0 p e) table (subst (λ x. FirstUntyped (known x sizes) ns 0 p e) same first))

@@ -47,7 +47,7 @@ use Rattle.rx_typeck.specs.declared.check.Described.{Described}
 use Rattle.rx_typeck.specs.declared.typed.TypedFn.{TypedFn}
 use Rattle.rx_typeck.specs.declared.typed.TypeFault.{TypeFault}
 use Rattle.rx_typeck.specs.declared.typed.TypeFault.TheVariants as fault
-use Rattle.rx_typeck.specs.Typing.{entries, variables_at, assigned, type_at, TypeIs, FunctionTyped, fault_of, of_unsolved, described, FunctionUntyped, FunctionsTyped, FirstUntyped, ItemTyped, ItemUntyped, Behind}
+use Rattle.rx_typeck.specs.Typing.{Given, known_in, IsAnnotated, entries, variables_at, assigned, type_at, TypeIs, FunctionTyped, fault_of, of_unsolved, described, FunctionUntyped, FunctionsTyped, FirstUntyped, ItemTyped, ItemUntyped, Behind}
 
 -- ---- a function without a valid assignment
 
@@ -120,11 +120,12 @@ told_type : (K : Known) (f : Function) (s : Solved) (x : Subject) (o : Option Ty
 told_type K f s x None t h = λ told. h (t.0 told)
 told_type K f s x (Some y) t h = (t.1 h.0, h.1)
 
-pub typed : (d : Decls) (sizes : List ℕ) (i : ℕ) (at : Span) (g : plain.Function) (entries : List NodeNames) (vars : List Span) (t : TypedFn) (before : Described) (found : Found) (s : Solved)
+pub typed : (p : ProgramTree) (d : Decls) (sizes : List ℕ) (i : ℕ) (at : Span) (g : plain.Function) (entries : List NodeNames) (vars : List Span) (t : TypedFn) (before : Described) (found : Found) (s : Solved)
     → before ≡ described at g entries vars → IsFound s (declarations d.items) found → IsSolved (known d.items sizes) (task (function_named i at g entries)) s
     → t.item ≡ i → t.names ≡ before.names → t.mutable ≡ before.mutable → t.spans ≡ before.spans → t.variables ≡ found.variables → t.types.nodes ≡ found.nodes → t.types.expected ≡ found.expected
-    → plain-TypedTree t.tree ≡ elaborated (parts.assigned d t.types) (function_named i at g entries) → FunctionTyped (known d.items sizes) i at g entries vars t
-typed d sizes i at g entries vars t before found s is all solved item names mutable spans vs ns es tree = record {
+    → plain-TypedTree t.tree ≡ elaborated (parts.assigned d t.types) (function_named i at g entries) → IsAnnotated (record { program = p; declared = d.items; sizes = sizes }) i at g entries t.annotations
+    → FunctionTyped (record { program = p; declared = d.items; sizes = sizes }) i at g entries vars t
+typed p d sizes i at g entries vars t before found s is all solved item names mutable spans vs ns es tree annotated = record {
   item = item;
   names = names ∙ ap (λ (b : Described). b.names) is;
   mutable = mutable ∙ ap (λ (b : Described). b.mutable) is;
@@ -136,6 +137,7 @@ typed d sizes i at g entries vars t before found s is all solved item names muta
   tree = tree ∙ ap (λ T. elaborated T (function_named i at g entries)) (assigned_same d sizes t.types s
       (λ n. shape_is s (declarations d.items) (subject.Node n) _ (subst (λ l. views.TypeIs s (declarations d.items) (subject.Node n) (joined (slice_get l n))) (sym ns) (all.each (subject.Node n))))
       (λ n. shape_is s (declarations d.items) (subject.Expected n) _ (subst (λ l. views.TypeIs s (declarations d.items) (subject.Expected n) (joined (slice_get l n))) (sym es) (all.each (subject.Expected n)))));
+  annotated = annotated;
 }
   where
     each : (x : Subject) → TypeIs (known d.items sizes) (function_named i at g entries) (types_of s) x (type_at t x)
@@ -152,41 +154,41 @@ drop_none : (p : ProgramTree) → drop 0 p ≡ p
 drop_none [] = refl
 drop_none (i ∷ p) = refl
 
-pub begins : (K : Known) (ns : List ItemNames) (p : ProgramTree) → Behind K ns p 0 []
-begins K ns p = record {
-  typed = λ more h. subst (λ l. FunctionsTyped K ns 0 l more) (drop_none p) h;
-  untyped = λ e h. subst (λ l. FirstUntyped K ns 0 l e) (drop_none p) h;
+pub begins : (G : Given) (ns : List ItemNames) (p : ProgramTree) → Behind G ns p 0 []
+begins G ns p = record {
+  typed = λ more h. subst (λ l. FunctionsTyped G ns 0 l more) (drop_none p) h;
+  untyped = λ e h. subst (λ l. FirstUntyped (known_in G) ns 0 l e) (drop_none p) h;
 }
 
-pub goes_on : (K : Known) (ns : List ItemNames) (p : ProgramTree) (i : ℕ) (it : ItemTree) (all new : List TypedFn) → drop i p ≡ it ∷ drop (suc i) p → Behind K ns p i all
-    → ItemTyped K ns i it all new → Behind K ns p (suc i) new
-goes_on K ns p i (plain.function_item s f) all new at b t = record {
-  typed = λ more h. subst (λ l. FunctionsTyped K ns 0 p (l ++ more)) (sym t.1) (subst (FunctionsTyped K ns 0 p) (sym (append_assoc all (t.0 ∷ []) more))
-      (b.typed (t.0 ∷ more) (subst (λ l. FunctionsTyped K ns i l (t.0 ∷ more)) (sym at) (t.2, h))));
-  untyped = λ e h. b.untyped e (subst (λ l. FirstUntyped K ns i l e) (sym at) (inr ((t.2.types, t.2.valid), h)));
+pub goes_on : (G : Given) (ns : List ItemNames) (p : ProgramTree) (i : ℕ) (it : ItemTree) (all new : List TypedFn) → drop i p ≡ it ∷ drop (suc i) p → Behind G ns p i all
+    → ItemTyped G ns i it all new → Behind G ns p (suc i) new
+goes_on G ns p i (plain.function_item s f) all new at b t = record {
+  typed = λ more h. subst (λ l. FunctionsTyped G ns 0 p (l ++ more)) (sym t.1) (subst (FunctionsTyped G ns 0 p) (sym (append_assoc all (t.0 ∷ []) more))
+      (b.typed (t.0 ∷ more) (subst (λ l. FunctionsTyped G ns i l (t.0 ∷ more)) (sym at) (t.2, h))));
+  untyped = λ e h. b.untyped e (subst (λ l. FirstUntyped (known_in G) ns i l e) (sym at) (inr ((t.2.types, t.2.valid), h)));
 }
-goes_on K ns p i (plain.rt_item s r) all new at b t = record {
-  typed = λ more h. subst (λ l. FunctionsTyped K ns 0 p (l ++ more)) (sym t) (b.typed more (subst (λ l. FunctionsTyped K ns i l more) (sym at) h));
-  untyped = λ e h. b.untyped e (subst (λ l. FirstUntyped K ns i l e) (sym at) h);
+goes_on G ns p i (plain.rt_item s r) all new at b t = record {
+  typed = λ more h. subst (λ l. FunctionsTyped G ns 0 p (l ++ more)) (sym t) (b.typed more (subst (λ l. FunctionsTyped G ns i l more) (sym at) h));
+  untyped = λ e h. b.untyped e (subst (λ l. FirstUntyped (known_in G) ns i l e) (sym at) h);
 }
-goes_on K ns p i (plain.struct_item s d) all new at b t = record {
-  typed = λ more h. subst (λ l. FunctionsTyped K ns 0 p (l ++ more)) (sym t) (b.typed more (subst (λ l. FunctionsTyped K ns i l more) (sym at) h));
-  untyped = λ e h. b.untyped e (subst (λ l. FirstUntyped K ns i l e) (sym at) h);
+goes_on G ns p i (plain.struct_item s d) all new at b t = record {
+  typed = λ more h. subst (λ l. FunctionsTyped G ns 0 p (l ++ more)) (sym t) (b.typed more (subst (λ l. FunctionsTyped G ns i l more) (sym at) h));
+  untyped = λ e h. b.untyped e (subst (λ l. FirstUntyped (known_in G) ns i l e) (sym at) h);
 }
-goes_on K ns p i (plain.enum_item s d) all new at b t = record {
-  typed = λ more h. subst (λ l. FunctionsTyped K ns 0 p (l ++ more)) (sym t) (b.typed more (subst (λ l. FunctionsTyped K ns i l more) (sym at) h));
-  untyped = λ e h. b.untyped e (subst (λ l. FirstUntyped K ns i l e) (sym at) h);
+goes_on G ns p i (plain.enum_item s d) all new at b t = record {
+  typed = λ more h. subst (λ l. FunctionsTyped G ns 0 p (l ++ more)) (sym t) (b.typed more (subst (λ l. FunctionsTyped G ns i l more) (sym at) h));
+  untyped = λ e h. b.untyped e (subst (λ l. FirstUntyped (known_in G) ns i l e) (sym at) h);
 }
 
-pub ends : (K : Known) (ns : List ItemNames) (p : ProgramTree) (i : ℕ) (all : List TypedFn) → drop i p ≡ [] → Behind K ns p i all → FunctionsTyped K ns 0 p all
-ends K ns p i all at b = subst (FunctionsTyped K ns 0 p) (append-nil all) (b.typed [] (subst (λ l. FunctionsTyped K ns i l []) (sym at) refl))
+pub ends : (G : Given) (ns : List ItemNames) (p : ProgramTree) (i : ℕ) (all : List TypedFn) → drop i p ≡ [] → Behind G ns p i all → FunctionsTyped G ns 0 p all
+ends G ns p i all at b = subst (FunctionsTyped G ns 0 p) (append-nil all) (b.typed [] (subst (λ l. FunctionsTyped G ns i l []) (sym at) refl))
 
-pub stops : (K : Known) (ns : List ItemNames) (p : ProgramTree) (i : ℕ) (it : ItemTree) (all : List TypedFn) (e : TypeFault) → drop i p ≡ it ∷ drop (suc i) p → Behind K ns p i all
-    → ItemUntyped K ns i it e → FirstUntyped K ns 0 p e
-stops K ns p i (plain.function_item s f) all e at b h = b.untyped e (subst (λ l. FirstUntyped K ns i l e) (sym at) (inl h))
-stops K ns p i (plain.rt_item s r) all e at b h = absurd h
-stops K ns p i (plain.struct_item s d) all e at b h = absurd h
-stops K ns p i (plain.enum_item s d) all e at b h = absurd h
+pub stops : (G : Given) (ns : List ItemNames) (p : ProgramTree) (i : ℕ) (it : ItemTree) (all : List TypedFn) (e : TypeFault) → drop i p ≡ it ∷ drop (suc i) p → Behind G ns p i all
+    → ItemUntyped (known_in G) ns i it e → FirstUntyped (known_in G) ns 0 p e
+stops G ns p i (plain.function_item s f) all e at b h = b.untyped e (subst (λ l. FirstUntyped (known_in G) ns i l e) (sym at) (inl h))
+stops G ns p i (plain.rt_item s r) all e at b h = absurd h
+stops G ns p i (plain.struct_item s d) all e at b h = absurd h
+stops G ns p i (plain.enum_item s d) all e at b h = absurd h
 
 -- ---- an item's function, by its table of names
 
@@ -218,10 +220,10 @@ items_end [] (suc i) h = refl
 items_end (x ∷ items) zero h = absurd (omega (arith, h))
 items_end (x ∷ items) (suc i) h = items_end items i (omega (arith, h))
 
-pub function_item : (K : Known) (ns : List ItemNames) (i : ℕ) (item : Item) (f : Func) (all new : List TypedFn) (t : TypedFn) → item.node ≡ node.Func f → new ≡ all ++ t ∷ []
-    → FunctionTyped K i item.span (plain-Func f) (entries (slice_get ns i)) (variables_at (slice_get ns i)) t → ItemTyped K ns i (plain-Item item) all new
-function_item K ns i item f all new t is more h =
-    subst (λ n. ItemTyped K ns i (plain-ItemNode n item.span) all new) (sym is) (t, more, h)
+pub function_item : (G : Given) (ns : List ItemNames) (i : ℕ) (item : Item) (f : Func) (all new : List TypedFn) (t : TypedFn) → item.node ≡ node.Func f → new ≡ all ++ t ∷ []
+    → FunctionTyped G i item.span (plain-Func f) (entries (slice_get ns i)) (variables_at (slice_get ns i)) t → ItemTyped G ns i (plain-Item item) all new
+function_item G ns i item f all new t is more h =
+    subst (λ n. ItemTyped G ns i (plain-ItemNode n item.span) all new) (sym is) (t, more, h)
 
 -- ---- declarations are plainly the same, whatever polarities are recorded
 

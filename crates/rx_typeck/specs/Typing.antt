@@ -6,6 +6,7 @@ use Rattle.rx_core.specs.declared.types.Span.{Span}
 use Rattle.rx_core.specs.declared.types.Ty.{Ty}
 use Rattle.rx_tree.specs.Plain as plain
 use Rattle.rx_tree.specs.Plain.{ItemTree, ProgramTree}
+use Rattle.rx_tree.specs.PlainOf.{plain-Item}
 use Rattle.rx_resolve.specs.declared.resolved.ItemNames.{ItemNames}
 use Rattle.rx_resolve.specs.declared.resolved.NodeNames.{NodeNames}
 use Rattle.rx_typed.specs.declared.declarations.Decl.{Decl}
@@ -14,7 +15,7 @@ use Rattle.rx_typed.specs.Types.{unit_shape}
 use Rattle.rx_typed.specs.PlainTypes.{declarations}
 use Rattle.rx_typed.specs.Regions.{region-Ty}
 use Rattle.rx_typed.specs.Named.{Function}
-use Rattle.rx_typed.specs.Naming.{function_named, function_spans, function_variables}
+use Rattle.rx_typed.specs.Naming.{function_named, function_spans, function_variables, function_annotations}
 use Rattle.rx_typed.specs.Elaborated.{Assigned, Coercion, coercion, elaborated}
 use Rattle.rx_typed_tree.specs.PlainTree.{plain-TypedTree}
 use Rattle.rx_declared.specs.Sizes.{IsSizes}
@@ -24,6 +25,9 @@ use Rattle.rx_elaborate_parts.specs.Assigning.{joined, shape_of}
 use Rattle.rx_declare.specs.declared.fault.DeclareFault.{DeclareFault}
 use Rattle.rx_declare.specs.declared.fault.DeclareFault.TheVariants as declare_fault
 use Rattle.rx_declare.specs.Programs.{Declares, Wrong}
+use Rattle.rx_let_types.specs.declared.variables.AnnotatedVariable.{AnnotatedVariable}
+use Rattle.rx_let_types.specs.Bindings.{annotated}
+use Rattle.rx_let_types.specs.Walks.{plain-Variable}
 use Rattle.rx_unify.specs.declared.facts.Rule.{Rule}
 use Rattle.rx_unify.specs.declared.facts.Subject.{Subject}
 use Rattle.rx_unify.specs.declared.facts.Subject.TheVariants as subject
@@ -55,6 +59,15 @@ variables_at (Some n) = n.vars
 
 -- ---- a function
 
+-- a program, what it declares, and how many parts each struct and enum has
+pub record Given : Type 0 where
+  pub program : ProgramTree
+  pub declared : List Decl
+  pub sizes : List ℕ
+
+abbrev pub known_in : Given → Known
+known_in G = known G.declared G.sizes
+
 -- the assignment as the typed tree takes it
 abbrev pub assigned : Known → Types → Assigned
 assigned K A = record { items = K.items; typ = λ n. A (subject.Node n); expected = λ n. A (subject.Expected n) }
@@ -77,18 +90,24 @@ TypeIs K f A x (Some t) = Told (demands f) x × (region-Ty t ≡ unnumbered K.it
 abbrev pub is_mutable : Declaration → Bool
 is_mutable d = d.mutable
 
+-- these are the variables that `let`s with a type bind, with the types that they write: of the item's number and span, its
+-- function and its entries of names
+abbrev pub IsAnnotated : Given → ℕ → Span → plain.Function → List NodeNames → List AnnotatedVariable → Type 0
+IsAnnotated G i s f ns xs = map plain-Variable xs ≡ annotated G.program G.declared i (function_annotations s f ns)
+
 -- of the item's number and span, its function, its entries of names and where its variables are declared
-pub record FunctionTyped (K : Known) (i : ℕ) (s : Span) (f : plain.Function) (ns : List NodeNames) (vars : List Span) (t : TypedFn) : Type 0 where
+pub record FunctionTyped (G : Given) (i : ℕ) (s : Span) (f : plain.Function) (ns : List NodeNames) (vars : List Span) (t : TypedFn) : Type 0 where
   pub item : t.item ≡ i
   pub names : t.names ≡ vars
   pub mutable : t.mutable ≡ map is_mutable (function_variables s f ns)
   pub spans : t.spans ≡ function_spans s f ns
   pub types : Types
-  pub valid : Valid K (task (function_named i s f ns)) types
+  pub valid : Valid (known_in G) (task (function_named i s f ns)) types
   -- the unit, where the rules give no type
   pub untold : (x : Subject) → (Told (demands (function_named i s f ns)) x → ⊥) → types x ≡ unit_shape
-  pub found : (x : Subject) → TypeIs K (function_named i s f ns) types x (type_at t x)
-  pub tree : plain-TypedTree t.tree ≡ elaborated (assigned K types) (function_named i s f ns)
+  pub found : (x : Subject) → TypeIs (known_in G) (function_named i s f ns) types x (type_at t x)
+  pub tree : plain-TypedTree t.tree ≡ elaborated (assigned (known_in G) types) (function_named i s f ns)
+  pub annotated : IsAnnotated G i s f ns t.annotations
 
 -- the fault of a node that breaks a rule, by the span at which it is asked and the places where variables are declared
 abbrev pub fault_of : Span → Broken → List Span → TypeFault
@@ -112,12 +131,12 @@ pub record FunctionUntyped (K : Known) (f : Function) (vars : List Span) (e : Ty
 
 -- ---- the functions of a program, the first item of which has this number
 
-abbrev pub FunctionsTyped : Known → List ItemNames → ℕ → ProgramTree → List TypedFn → Type 0
-FunctionsTyped K ns i [] ts = ts ≡ []
-FunctionsTyped K ns i (plain.function_item s f ∷ is) [] = ⊥
-FunctionsTyped K ns i (plain.function_item s f ∷ is) (t ∷ ts) =
-    FunctionTyped K i s f (entries (slice_get ns i)) (variables_at (slice_get ns i)) t × FunctionsTyped K ns (suc i) is ts
-FunctionsTyped K ns i (_ ∷ is) ts = FunctionsTyped K ns (suc i) is ts
+abbrev pub FunctionsTyped : Given → List ItemNames → ℕ → ProgramTree → List TypedFn → Type 0
+FunctionsTyped G ns i [] ts = ts ≡ []
+FunctionsTyped G ns i (plain.function_item s f ∷ is) [] = ⊥
+FunctionsTyped G ns i (plain.function_item s f ∷ is) (t ∷ ts) =
+    FunctionTyped G i s f (entries (slice_get ns i)) (variables_at (slice_get ns i)) t × FunctionsTyped G ns (suc i) is ts
+FunctionsTyped G ns i (_ ∷ is) ts = FunctionsTyped G ns (suc i) is ts
 
 -- the first function without a valid assignment
 abbrev pub FirstUntyped : Known → List ItemNames → ℕ → ProgramTree → TypeFault → Type 0
@@ -137,7 +156,7 @@ pub record IsTyped (p : ProgramTree) (ns : List ItemNames) (t : Typed) : Type 0 
   pub well_formed : WellFormed t.decls.items
   pub sizes : List ℕ
   pub is_sizes : IsSizes (declarations declared) sizes
-  pub functions : FunctionsTyped (known declared sizes) ns 0 p t.functions
+  pub functions : FunctionsTyped (record { program = p; declared = declared; sizes = sizes }) ns 0 p t.functions
 
 -- the fault of a declaration as one of types
 abbrev pub of_declaration : DeclareFault → TypeFault
@@ -153,8 +172,11 @@ pub data Causes (p : ProgramTree) (ns : List ItemNames) (e : TypeFault) : Type 0
 
 -- ---- what the private functions do
 
+abbrev pub given_of : Check → Given
+given_of c = record { program = map plain-Item c.items.now; declared = c.decls.now.items; sizes = c.sizes.now }
+
 abbrev pub known_of : Check → Known
-known_of c = known c.decls.now.items c.sizes.now
+known_of c = known_in (given_of c)
 
 -- what is known of a function's variables and nodes before their types
 abbrev pub described_by : List Span → List Declaration → List Span → Described
@@ -163,15 +185,19 @@ described_by names vars spans = record { names = names; mutable = map is_mutable
 abbrev pub described : Span → plain.Function → List NodeNames → List Span → Described
 described s f ns vars = described_by vars (function_variables s f ns) (function_spans s f ns)
 
--- and what the rules ask of it, by its item's number
-abbrev pub question : ℕ → Span → plain.Function → List NodeNames → List Span → Question
-question i s f ns vars = let t = task (function_named i s f ns) in record { demands = t.demands; literals = t.literals; described = described s f ns vars }
+-- and what the rules ask of it, by its item's number, beside what its `let`s write
+abbrev pub question : ℕ → Span → plain.Function → List NodeNames → List Span → List AnnotatedVariable → Question
+question i s f ns vars xs =
+    let t = task (function_named i s f ns) in record { demands = t.demands; literals = t.literals; described = described s f ns vars; annotations = xs }
+
+abbrev pub IsQuestion : Given → ℕ → Span → plain.Function → List NodeNames → List Span → Question → Type 0
+IsQuestion G i s f ns vars q = (q ≡ question i s f ns vars q.annotations) × IsAnnotated G i s f ns q.annotations
 
 -- the functions of declarations, by some sizes
 pub record TypedBy (p : ProgramTree) (ns : List ItemNames) (ds : List Decl) (ts : List TypedFn) : Type 0 where
   pub sizes : List ℕ
   pub is_sizes : IsSizes (declarations ds) sizes
-  pub functions : FunctionsTyped (known ds sizes) ns 0 p ts
+  pub functions : FunctionsTyped (record { program = p; declared = ds; sizes = sizes }) ns 0 p ts
 
 pub record UntypedBy (p : ProgramTree) (ns : List ItemNames) (ds : List Decl) (e : TypeFault) : Type 0 where
   pub sizes : List ℕ
@@ -179,16 +205,16 @@ pub record UntypedBy (p : ProgramTree) (ns : List ItemNames) (ds : List Decl) (e
   pub first : FirstUntyped (known ds sizes) ns 0 p e
 
 -- an item behind others whose functions are typed
-abbrev pub ItemTyped : Known → List ItemNames → ℕ → ItemTree → List TypedFn → List TypedFn → Type 0
-ItemTyped K ns i (plain.function_item s f) all new =
-    (t : TypedFn) × (new ≡ all ++ t ∷ []) × FunctionTyped K i s f (entries (slice_get ns i)) (variables_at (slice_get ns i)) t
-ItemTyped K ns i _ all new = new ≡ all
+abbrev pub ItemTyped : Given → List ItemNames → ℕ → ItemTree → List TypedFn → List TypedFn → Type 0
+ItemTyped G ns i (plain.function_item s f) all new =
+    (t : TypedFn) × (new ≡ all ++ t ∷ []) × FunctionTyped G i s f (entries (slice_get ns i)) (variables_at (slice_get ns i)) t
+ItemTyped G ns i _ all new = new ≡ all
 
 abbrev pub ItemUntyped : Known → List ItemNames → ℕ → ItemTree → TypeFault → Type 0
 ItemUntyped K ns i (plain.function_item s f) e = FunctionUntyped K (function_named i s f (entries (slice_get ns i))) (variables_at (slice_get ns i)) e
 ItemUntyped K ns i _ e = ⊥
 
 -- what is left to type
-pub record Behind (K : Known) (ns : List ItemNames) (p : ProgramTree) (i : ℕ) (all : List TypedFn) : Type 0 where
-  pub typed : (more : List TypedFn) → FunctionsTyped K ns i (drop i p) more → FunctionsTyped K ns 0 p (all ++ more)
-  pub untyped : (e : TypeFault) → FirstUntyped K ns i (drop i p) e → FirstUntyped K ns 0 p e
+pub record Behind (G : Given) (ns : List ItemNames) (p : ProgramTree) (i : ℕ) (all : List TypedFn) : Type 0 where
+  pub typed : (more : List TypedFn) → FunctionsTyped G ns i (drop i p) more → FunctionsTyped G ns 0 p (all ++ more)
+  pub untyped : (e : TypeFault) → FirstUntyped (known_in G) ns i (drop i p) e → FirstUntyped (known_in G) ns 0 p e

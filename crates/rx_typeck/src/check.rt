@@ -22,6 +22,7 @@ use rx_declared::{recorded, sizes};
 use rx_demands::asked;
 use rx_elaborate::elaborate;
 use rx_elaborate_parts::NodeTypes;
+use rx_let_types::{AnnotatedVariable, annotated};
 use rx_resolve::{NodeNames, Resolved};
 use rx_rules::demands_are_orderly;
 use rx_tree::{Func, Item, ItemNode, Program};
@@ -29,11 +30,12 @@ use rx_typed::{Declaration, Decls};
 use rx_unify::{Broken, Demand, Found, Unsolved, solve};
 use std::alloc::{AllocError, Global};
 
-/// What is known before functions are looked into: what is declared, how many parts each struct and enum has, and the
+/// What is known before functions are looked into: the items of the program, what is declared, how many parts each struct and enum has, and the
 /// numbers of names.
 #[derive(Drop)]
 struct Check<'t> {
     alloc: Global,
+    items: &'t [Item],
     decls: &'t Decls,
     sizes: &'t List<u64>,
     names: &'t Resolved,
@@ -77,34 +79,13 @@ fn described_by(
     })
 }
 
-/// What the rules ask of a function, and what its variables and nodes are.
+/// What the rules ask of a function, what its variables and nodes are, and the types that its `let`s write.
 #[derive(Drop)]
 struct Question {
     demands: List<Demand>,
     literals: List<usize>,
     described: Described,
-}
-
-/// What the rules ask of a function, and what its variables and nodes are: of its item's number and span, the entries of
-/// names of the item, and where its variables are declared.
-fn question_of(
-    alloc: Global,
-    item: u32,
-    span: Span,
-    function: &Func,
-    names: &List<NodeNames>,
-    variables: &[Span],
-) -> Result<Question, AllocError>
-    ensures { IfOk result (λ it. it ≡ typing.question item span (plain-Func function.now) names.now variables.now) }
-{
-    let task = asked(alloc, item, span, function, names)?;
-    let spans = task.spans;
-    let described = described_by(alloc, variables, task.variables.as_slice(), spans)?;
-    Ok(Question {
-        demands: task.demands,
-        literals: task.literals,
-        described,
-    })
+    annotations: List<AnnotatedVariable>,
 }
 
 /// The span of a variable's name, or another.
@@ -153,6 +134,32 @@ fn of_declaration(fault: DeclareFault) -> TypeFault
 }
 
 impl<'t> Check<'t> {
+    /// What the rules ask of a function, what its variables and nodes are, and the types that its `let`s write: of its
+    /// item's number and span, the entries of names of the item, and where its variables are declared.
+    fn question(
+        &self,
+        item: u32,
+        span: Span,
+        function: &Func,
+        names: &List<NodeNames>,
+        variables: &[Span],
+    ) -> Result<Question, AllocError>
+        ensures { IfOk result (λ it. typing.IsQuestion (typing.given_of self.now) item span (plain-Func function.now) names.now variables.now it) }
+    {
+        let task = asked(self.alloc, item, span, function, names)?;
+        let written = task.annotations.as_slice();
+        let annotations = annotated(self.alloc, self.items, self.decls, item, written)?;
+        let spans = task.spans;
+        let described = described_by(self.alloc, variables, task.variables.as_slice(), spans);
+        let (described, annotations) = keep(annotations, described)?;
+        Ok(Question {
+            demands: task.demands,
+            literals: task.literals,
+            described,
+            annotations,
+        })
+    }
+
     /// The typed tree of a function whose types are known.
     fn elaborated(
         &self,
@@ -161,11 +168,13 @@ impl<'t> Check<'t> {
         function: &Func,
         names: &List<NodeNames>,
         described: Described,
+        annotations: List<AnnotatedVariable>,
         found: Found,
     ) -> Result<TypedFn, AllocError>
         ensures { (solved : solver.Solved) (variables : List Span) → IsFound solved (declarations self.now.decls.now.items) found → IsSolved (typing.known_of self.now) (task (function_named item span (plain-Func function.now) names.now)) solved
             → described ≡ typing.described span (plain-Func function.now) names.now variables
-            → IfOk result (λ t. typing.FunctionTyped (typing.known_of self.now) item span (plain-Func function.now) names.now variables t) }
+            → typing.IsAnnotated (typing.given_of self.now) item span (plain-Func function.now) names.now annotations
+            → IfOk result (λ t. typing.FunctionTyped (typing.given_of self.now) item span (plain-Func function.now) names.now variables t) }
     {
         let types = NodeTypes {
             nodes: found.nodes,
@@ -177,6 +186,7 @@ impl<'t> Check<'t> {
                 names: described.names,
                 mutable: described.mutable,
                 variables: found.variables,
+                annotations,
                 spans: described.spans,
                 types,
                 tree,
@@ -195,8 +205,8 @@ impl<'t> Check<'t> {
         variables: &[Span],
         question: Question,
     ) -> Result<TypedFn, TypeFault>
-        requires { question ≡ typing.question item span (plain-Func function.now) names.now variables.now }
-        ensures typed { IfOk result (λ t. typing.FunctionTyped (typing.known_of self.now) item span (plain-Func function.now) names.now variables.now t) }
+        requires { typing.IsQuestion (typing.given_of self.now) item span (plain-Func function.now) names.now variables.now question }
+        ensures typed { IfOk result (λ t. typing.FunctionTyped (typing.given_of self.now) item span (plain-Func function.now) names.now variables.now t) }
         ensures untyped { IfErr result (λ e. e ≢ fault.OutOfMemory → typing.FunctionUntyped (typing.known_of self.now) (function_named item span (plain-Func function.now) names.now) variables.now e) }
     {
         demands_are_orderly();
@@ -210,7 +220,8 @@ impl<'t> Check<'t> {
             Ok(solved) => match solved.found(self.alloc, &self.decls.items) {
                 Ok(found) => {
                     let described = question.described;
-                    match self.elaborated(item, span, function, names, described, found) {
+                    let written = question.annotations;
+                    match self.elaborated(item, span, function, names, described, written, found) {
                         Ok(typed) => Ok(typed),
                         Err(AllocError) => Err(TypeFault::OutOfMemory),
                     }
@@ -230,10 +241,10 @@ impl<'t> Check<'t> {
         names: &List<NodeNames>,
         variables: &[Span],
     ) -> Result<TypedFn, TypeFault>
-        ensures typed { IfOk result (λ t. typing.FunctionTyped (typing.known_of self.now) item span (plain-Func function.now) names.now variables.now t) }
+        ensures typed { IfOk result (λ t. typing.FunctionTyped (typing.given_of self.now) item span (plain-Func function.now) names.now variables.now t) }
         ensures untyped { IfErr result (λ e. e ≢ fault.OutOfMemory → typing.FunctionUntyped (typing.known_of self.now) (function_named item span (plain-Func function.now) names.now) variables.now e) }
     {
-        match question_of(self.alloc, item, span, function, names, variables) {
+        match self.question(item, span, function, names, variables) {
             Ok(question) => self.answered(item, span, function, names, variables, question),
             Err(AllocError) => Err(TypeFault::OutOfMemory),
         }
@@ -242,7 +253,7 @@ impl<'t> Check<'t> {
     /// A function with its types, by its item's number.
     fn function_at(&self, item: usize, span: Span, function: &Func) -> Result<TypedFn, TypeFault>
         requires { item < 4294967296 }
-        ensures typed { IfOk result (λ t. typing.FunctionTyped (typing.known_of self.now) item span (plain-Func function.now) (typing.entries (slice_get self.now.names.now.items item)) (typing.variables_at (slice_get self.now.names.now.items item)) t) }
+        ensures typed { IfOk result (λ t. typing.FunctionTyped (typing.given_of self.now) item span (plain-Func function.now) (typing.entries (slice_get self.now.names.now.items item)) (typing.variables_at (slice_get self.now.names.now.items item)) t) }
         ensures untyped { IfErr result (λ e. e ≢ fault.OutOfMemory → typing.FunctionUntyped (typing.known_of self.now) (function_named item span (plain-Func function.now) (typing.entries (slice_get self.now.names.now.items item))) (typing.variables_at (slice_get self.now.names.now.items item)) e) }
     {
         match self.names.items.get(item) {
@@ -265,7 +276,7 @@ impl<'t> Check<'t> {
         all: List<TypedFn>,
     ) -> Result<List<TypedFn>, TypeFault>
         requires { number < 4294967296 }
-        ensures typed { IfOk result (λ new. typing.ItemTyped (typing.known_of self.now) self.now.names.now.items number (plain-Item item.now) all new) }
+        ensures typed { IfOk result (λ new. typing.ItemTyped (typing.given_of self.now) self.now.names.now.items number (plain-Item item.now) all new) }
         ensures untyped { IfErr result (λ e. e ≢ fault.OutOfMemory → typing.ItemUntyped (typing.known_of self.now) self.now.names.now.items number (plain-Item item.now) e) }
     {
         match &item.node {
@@ -285,7 +296,7 @@ impl<'t> Check<'t> {
     /// The functions with their types, in the order of the text.
     fn functions(&self, items: &[Item]) -> Result<List<TypedFn>, TypeFault>
         requires { length items.now < 4294967296 }
-        ensures typed { IfOk result (λ ts. typing.FunctionsTyped (typing.known_of self.now) self.now.names.now.items 0 (map plain-Item items.now) ts) }
+        ensures typed { IfOk result (λ ts. typing.FunctionsTyped (typing.given_of self.now) self.now.names.now.items 0 (map plain-Item items.now) ts) }
         ensures untyped { IfErr result (λ e. e ≢ fault.OutOfMemory → typing.FirstUntyped (typing.known_of self.now) self.now.names.now.items 0 (map plain-Item items.now) e) }
     {
         let mut all = List::new(self.alloc);
@@ -316,6 +327,7 @@ fn typed_functions(
         Ok(sizes) => {
             let check = Check {
                 alloc,
+                items: program.items.as_slice(),
                 decls,
                 sizes: &sizes,
                 names,

@@ -2,6 +2,7 @@
 
 use rx_core::{LetGo, List, Span, Ty};
 use rx_elaborate_parts::NodeTypes;
+use rx_let_types::AnnotatedVariable;
 use rx_typed::Decls;
 use rx_typed_tree::TypedTree;
 use rx_unify::Rule;
@@ -15,7 +16,7 @@ pub struct Typed {
     pub decls: Decls,
 }
 
-/// A function with its types. In them each lifetime has the number 0.
+/// A function with its types. In them each lifetime has the number 0, but in those that are written.
 #[derive(Drop)]
 pub struct TypedFn {
     /// The number of the function's item.
@@ -26,6 +27,9 @@ pub struct TypedFn {
     pub mutable: List<bool>,
     /// The types of the variables, by their numbers.
     pub variables: List<Option<Ty>>,
+    /// The variables that `let`s with a type bind, in the order of the text, with their types as written: in these a
+    /// lifetime is meant by its number in the function, and one that is left out has the number of the function's lifetimes.
+    pub annotations: List<AnnotatedVariable>,
     /// Where the nodes stand, by their numbers: those of the text from the item on, which is 0.
     pub spans: List<Span>,
     /// The types of the nodes, and those that the places of nodes expect, by the nodes' numbers. A node that is Never
