@@ -2,4 +2,5 @@ pub mod Finding
 pub mod Noting
 pub mod Gathered
 pub mod Answering
+pub mod Typed
 mod Examples

@@ -4,6 +4,7 @@
 
 mod gather;
 mod held;
+mod laws;
 mod notes;
 mod numbering;
 mod positions;
@@ -12,6 +13,7 @@ mod variables;
 mod whole;
 
 pub use held::{Held, Open};
+pub use laws::filled_temporaries_have_types;
 pub use numbering::Own;
 pub use variables::Told;
 pub use whole::{Graph, Lifetimes, LowerFault, lower_function};
