@@ -1,0 +1,20 @@
+-- The functions of a typed program, as they are lowered.
+use Rattle.std.specs.Prelude.{ℕ, ◌==◌, if◌then◌else◌, List, [], ◌∷◌, map, Option, Some, None}
+use Rattle.rx_typed.specs.declared.declarations.Decl.{Decl}
+use Rattle.rx_typed.specs.Regions.{region-Ty}
+use Rattle.rx_typed_tree.specs.PlainTree.{plain-TypedTree}
+use Rattle.rx_let_types.specs.declared.variables.AnnotatedVariable.{AnnotatedVariable}
+use Rattle.rx_typeck.specs.declared.typed.TypedFn.{TypedFn}
+use Rattle.rx_lifetimes.specs.Variables.{Written}
+use Rattle.rx_lifetimes.specs.Lowered.{Function, function_of}
+
+-- the function of an item
+abbrev pub function_at : List TypedFn → ℕ → Option TypedFn
+function_at [] n = None
+function_at (f ∷ fs) n = if f.item == n then Some f else function_at fs n
+
+abbrev pub written : AnnotatedVariable → Written
+written a = record { variable = a.variable; typ = region-Ty a.ty }
+
+abbrev pub function : List Decl → TypedFn → Function
+function D f = function_of D f.item (plain-TypedTree f.tree) f.variables (map written f.annotations)
