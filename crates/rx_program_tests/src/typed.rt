@@ -135,11 +135,11 @@ fn answer_of(
 }
 
 /// What is told of the types of a text.
-fn told(alloc: Global, text: &str) -> Result<String, AllocError> {
-    told_of(alloc, text, Told::Types)
+fn types_told(alloc: Global, text: &str) -> Result<String, AllocError> {
+    text_of(alloc, text, Told::Types)
 }
 
-fn told_of(alloc: Global, text: &str, what: Told) -> Result<String, AllocError> {
+fn text_of(alloc: Global, text: &str, what: Told) -> Result<String, AllocError> {
     if text.len() > 1_048_576 {
         return String::from_str(alloc, "TooLong");
     }
@@ -158,7 +158,7 @@ fn told_of(alloc: Global, text: &str, what: Told) -> Result<String, AllocError> 
 }
 
 fn types(alloc: Global, text: &str, want: &str) -> Outcome {
-    Ok(told(alloc, text)?.as_str() == want)
+    Ok(types_told(alloc, text)?.as_str() == want)
 }
 
 /// The types of the variables of each function, in the order of the text; or the fault.
@@ -347,7 +347,7 @@ fn programs_are_typed(rt: HostRuntime) {
 }
 
 fn annotations(alloc: Global, text: &str, want: &str) -> Outcome {
-    Ok(told_of(alloc, text, Told::Annotations)?.as_str() == want)
+    Ok(text_of(alloc, text, Told::Annotations)?.as_str() == want)
 }
 
 /// The variables of each function that `let`s with a type bind, with their lifetimes by number.
@@ -383,16 +383,16 @@ fn repeated(
 fn wide(alloc: Global, count: usize) -> Outcome {
     let written = repeated(alloc, "fn f(t: (", "u8, ", count, ")) {} fn main() {}")?;
     let inferred = repeated(alloc, "fn main() { let t = (", "1, ", count, "); }")?;
-    let written = told(alloc, written.as_str())?;
-    let inferred = told(alloc, inferred.as_str())?;
+    let written = types_told(alloc, written.as_str())?;
+    let inferred = types_told(alloc, inferred.as_str())?;
     Ok(written.as_str().starts_with("Ok") && inferred.as_str().starts_with("Ok"))
 }
 
 fn too_wide(alloc: Global, count: usize) -> Outcome {
     let written = repeated(alloc, "fn f(t: (", "u8, ", count, ")) {} fn main() {}")?;
     let inferred = repeated(alloc, "fn main() { let t = (", "1, ", count, "); }")?;
-    let written = told(alloc, written.as_str())?;
-    let inferred = told(alloc, inferred.as_str())?;
+    let written = types_told(alloc, written.as_str())?;
+    let inferred = types_told(alloc, inferred.as_str())?;
     Ok(written.as_str().ends_with(" Parts") && inferred.as_str().ends_with(" Parts"))
 }
 
@@ -405,7 +405,7 @@ fn types_keep_their_parts(rt: HostRuntime) {
 /// What is told where a variable is borrowed, and then the reference, and so on so many times.
 fn borrowed(alloc: Global, count: usize) -> Result<String, AllocError> {
     let text = repeated(alloc, "fn main() { let a = 1; ", "let a = &a; ", count, "}")?;
-    told(alloc, text.as_str())
+    types_told(alloc, text.as_str())
 }
 
 #[test]

@@ -7,6 +7,8 @@ ghost use Rattle.rx_typed.specs.declared.declarations.Decl.{Decl};
 ghost use Rattle.rx_typed.specs.PlainTypes.{declarations};
 ghost use Rattle.rx_declared.specs.Sizes.{Sized, IsSizes, told};
 ghost use Rattle.rx_declare.specs.Programs.{Declares};
+ghost use Rattle.rx_typeck.specs.Typing.{IsTyped};
+ghost use Rattle.rx_typeck.specs.declared.typed.Typed.{Typed};
 
 use rx_declare::declared_are_finite;
 use rx_declared::one_size_each;
@@ -19,4 +21,12 @@ pub fn sizes_are_sized()
 {
     declared_are_finite();
     one_size_each();
+}
+
+/// The same of what a typed program declares.
+pub fn typed_sizes_are_sized()
+    ensures { (p : ProgramTree) (names : List ItemNames) (t : Typed) (sizes : List ℕ) → IsTyped p names t → IsSizes (declarations t.decls.items) sizes
+        → Sized (declarations t.decls.items) (told sizes) }
+{
+    sizes_are_sized();
 }

@@ -3,4 +3,4 @@
 
 mod laws;
 
-pub use laws::sizes_are_sized;
+pub use laws::{sizes_are_sized, typed_sizes_are_sized};
