@@ -1,3 +1,5 @@
 pub mod Steps
 pub mod Unwinding
 pub mod Calls
+pub mod ChoosingLemmas
+pub mod StepLemmas

@@ -17,7 +17,7 @@ after_after u w (on x a s) = ap (λ l. on l a s) (sym (append_assoc u w x))
 after_after u w (jumps x j v s) = ap (λ l. jumps l j v s) (sym (append_assoc u w x))
 after_after u w (stops x e) = ap (λ l. stops l e) (sym (append_assoc u w x))
 
-after_nothing : {A : Type 0} (r : Result ℕ A) → after [] r ≡ r
+pub after_nothing : {A : Type 0} (r : Result ℕ A) → after [] r ≡ r
 unfolding after
 after_nothing (on x a s) = refl
 after_nothing (jumps x j v s) = refl
@@ -35,7 +35,7 @@ bind_bind (on w a s) f g = bind_after w (f a s) g
 bind_bind (jumps w j v s) f g = refl
 bind_bind (stops w e) f g = refl
 
-bind_on : {A B : Type 0} (a : A) (s : State) (f : A → State → Result ℕ B) → bind (on [] a s) f ≡ f a s
+pub bind_on : {A B : Type 0} (a : A) (s : State) (f : A → State → Result ℕ B) → bind (on [] a s) f ≡ f a s
 unfolding bind
 bind_on a s f = after_nothing (f a s)
 

@@ -1,1 +1,5 @@
 pub mod Frames
+pub mod Choosing
+pub mod Stepping
+pub mod Sizes
+pub mod Laws

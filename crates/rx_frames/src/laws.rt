@@ -1,13 +1,16 @@
 //! Laws of steps, each the contract of a function that does nothing.
 
-ghost use Rattle.std.specs.Prelude.{◌≡◌, ◌<◌, [], ◌∷◌, ℕ, List as ListOf};
+ghost use Rattle.std.specs.Prelude.{◌≡◌, ◌<◌, ◌≤◌, [], ◌∷◌, ℕ, ℤ, List as ListOf};
 ghost use Rattle.rx_typed.specs.Tree.{Exp, Body, Function, Mark, loop};
 ghost use Rattle.rx_meaning.specs.Values.{Value, State, new_frame};
 ghost use Rattle.rx_walks.specs.Orders.{Exit};
 ghost use Rattle.rx_meaning.specs.Results.{Result, jumps, after};
 ghost use Rattle.rx_meaning.specs.Expressions.{Functions, passed};
 ghost use Rattle.rx_running.specs.Running.{Meaning, value, body, entered, level, with_arguments};
-ghost use Rattle.rx_frames.specs.Frames.{Hole, Around, hole, pass, call_from, loops, does_next, opened, opened_body, filled, resume, unwind};
+ghost use Rattle.rx_meaning.specs.Programs.{Program, run, outcome_of, begins};
+ghost use Rattle.rx_frames.specs.Stepping.{config, step, turn, means};
+ghost use Rattle.rx_frames.specs.Laws.{Keeps, Lessens};
+ghost use Rattle.rx_frames.specs.Frames.{Next, calls, finishes, Hole, Around, hole, pass, call_from, loops, does_next, opened, opened_body, filled, resume, unwind};
 
 /// What an expression does first, and what is left of it then, is what it does.
 #[tactic(auto, using(crate::proofs::Steps::opened_is))]
@@ -63,4 +66,25 @@ pub fn calls_begin()
     ensures { (P : Functions) (n i : ℕ) (f : Function) (vs : ListOf Value) (s : State) → s.turns < n
         → entered (level P n) i f vs s ≡ unwind P (level P n) (call_from s.frame ∷ [])
         (with_arguments f.params vs (λ s1. value P (level P n) f.body s1) (record s { frame = new_frame i })) }
+{}
+
+/// One step leaves the rest of a run as it is, behind what it printed, where fewer turns are left than may be nested; and
+/// it makes what is left to do before the next turn smaller.
+pub fn steps_keep()
+    ensures keeps { (P : Functions) (n : ℕ) (K : ListOf Around) (x : Next) (s : State) → s.turns < n
+        → Keeps P n (config K x s) (step K x s) }
+    ensures lessens { (K : ListOf Around) (x : Next) (s : State) → Lessens (config K x s) (step K x s) }
+{}
+
+/// A turn leaves the rest of a run as it is; none is left where it was cut off.
+pub fn turns_keep()
+    ensures { (P : Functions) (n : ℕ) (K : ListOf Around) (x : Next) (s : State) → s.turns ≤ n
+        → Keeps P n (config K x s) (turn P K x s) }
+{}
+
+/// A run is what is left of it where the call of `main` waits for its turn.
+#[tactic(auto, using(crate::proofs::StepLemmas::run_begins))]
+pub fn runs_begin()
+    ensures { (P : Program) (given : ListOf ℤ) (n : ℕ)
+        → run P given n ≡ outcome_of (means P.functions n (config [] (finishes (calls P.main) []) (begins given n))) }
 {}

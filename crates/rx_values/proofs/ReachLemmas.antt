@@ -26,7 +26,7 @@ slot_further M i p w s = by (element M i)
     by None = refl
     by (Some v) = further p s v
 
-abbrev led : List Value → List Step → Spot → Option Value
+abbrev pub led : List Value → List Step → Spot → Option Value
 led M ss at = and_then (follow M ss at) (λ to. content M to)
 
 -- nothing stands behind nothing
@@ -35,7 +35,7 @@ none_deeper : (M : List Value) (s : Step) (ss : List Step) (at : Spot) → ((to 
 none_deeper M s ss (in_slot i p w) k e = k (in_slot i (p ++ s ∷ []) w) (slot_further M i p w s ∙ ap (λ o. and_then o (λ u. part u s)) e)
 none_deeper M s ss (in_value v) k e = cc
 
-none_there : (M : List Value) (ss : List Step) (at : Spot) → content M at ≡ None → led M ss at ≡ None
+pub none_there : (M : List Value) (ss : List Step) (at : Spot) → content M at ≡ None → led M ss at ≡ None
 none_there M [] at e = e
 none_there M (Step.Deref m ∷ ss) at e = ap (λ o. and_then (and_then o (λ v. and_then (pointed (may_write at) v) (λ to. follow M ss to))) (λ to. content M to)) e
 none_there M (Step.Field i ∷ ss) at e = none_deeper M (Step.Field i) ss at (none_there M ss) e

@@ -1,13 +1,15 @@
 //! Copies of values.
 
 ghost use Rattle.std.specs.Prelude.{◌≡◌, ◌++◌, [], ◌∷◌, IfOk, OnOk, map};
-ghost use Rattle.rx_values.specs.PlainValues.{plain-Value, plain-Parts, plain-Pointer};
+ghost use Rattle.rx_values.specs.PlainValues.{plain-Value, plain-Parts, plain-Pointer, plain-Part};
 
+use crate::reading::Part;
 use crate::value::{Parts, Pointer, Value};
 use rx_core::{LetGo, List};
 use std::alloc::{AllocError, Global};
 
-fn boxed_parts(alloc: Global, parts: Parts) -> Result<Box<Parts>, AllocError>
+/// Values in a box.
+pub fn boxed_parts(alloc: Global, parts: Parts) -> Result<Box<Parts>, AllocError>
     ensures { IfOk result (λ it. it.value ≡ parts) }
 {
     match Box::new(alloc, parts) {
@@ -19,7 +21,8 @@ fn boxed_parts(alloc: Global, parts: Parts) -> Result<Box<Parts>, AllocError>
     }
 }
 
-fn boxed_pointer(alloc: Global, pointer: Pointer) -> Result<Box<Pointer>, AllocError>
+/// Where a reference leads, in a box.
+pub fn boxed_pointer(alloc: Global, pointer: Pointer) -> Result<Box<Pointer>, AllocError>
     ensures { IfOk result (λ it. it.value ≡ pointer) }
 {
     match Box::new(alloc, pointer) {
@@ -93,4 +96,15 @@ fn add_copy(alloc: Global, value: &Value, copies: &mut List<Value>) -> Result<()
 {
     let copy = copied(alloc, value)?;
     copies.push(copy)
+}
+
+/// A copy of what stands somewhere. The parts of a variant become a tuple.
+#[tactic(auto, using(crate::proofs::ValueRules::value_rules))]
+pub fn copied_part(alloc: Global, part: Part) -> Result<Value, AllocError>
+    ensures { IfOk result (λ it. plain-Value it ≡ plain-Part part.entry) }
+{
+    match part {
+        Part::Value(value) => copied(alloc, value),
+        Part::Parts(parts) => Ok(Value::Whole(copied_parts(alloc, parts)?)),
+    }
 }

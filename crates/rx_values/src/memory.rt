@@ -94,7 +94,7 @@ impl Memory {
     }
 
     /// What a reference leads to.
-    fn behind<'m>(&'m self, at: Part<'m>) -> Option<Part<'m>>
+    pub fn behind<'m>(&'m self, at: Part<'m>) -> Option<Part<'m>>
         ensures { option_map plain-Part result ≡ spec.behind (plain-Memory self.now) (plain-Part at.entry) }
     {
         match at {

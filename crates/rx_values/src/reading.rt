@@ -1,6 +1,7 @@
 //! Parts of values.
 
 ghost use Rattle.std.specs.Prelude.{◌≡◌, map, option_map};
+ghost use Rattle.rx_core.specs.declared.types.Step.TheVariants.{Field};
 ghost use Rattle.rx_meaning.specs.Values as plain;
 ghost use Rattle.rx_values.specs.PlainValues.{plain-Value, plain-Parts, plain-Part, values_of};
 
@@ -79,6 +80,38 @@ pub fn step_from<'v>(at: Part<'v>, step: Step) -> Option<Part<'v>>
     }
 }
 
+/// A field of a tuple or struct, by its number.
+pub fn field_from<'v>(at: Part<'v>, field: usize) -> Option<Part<'v>>
+    ensures { option_map plain-Part result ≡ plain.part (plain-Part at.entry) (Field field) }
+{
+    match at {
+        Part::Value(value) => field_of_value(value, field),
+        Part::Parts(parts) => field_of_whole(parts, field),
+    }
+}
+
+#[tactic(auto, using(crate::proofs::ValueRules::parts_are))]
+fn field_of_whole<'v>(parts: &'v Parts, at: usize) -> Option<Part<'v>>
+    ensures { option_map plain-Part result ≡ plain.part (plain.whole (plain-Parts parts.now)) (Field at) }
+{
+    field(parts.items.as_slice(), at)
+}
+
+#[tactic(auto, using(crate::proofs::ValueRules::value_rules))]
+fn field_of_value<'v>(value: &'v Value, at: usize) -> Option<Part<'v>>
+    ensures { option_map plain-Part result ≡ plain.part (plain-Value value.now) (Field at) }
+{
+    match value {
+        Value::Whole(parts) => field_of_whole(parts, at),
+        Value::Tagged(_, _) => None,
+        Value::Number(_) => None,
+        Value::Truth(_) => None,
+        Value::Unit => None,
+        Value::Pointer(_) => None,
+        Value::Lacking(_) => None,
+    }
+}
+
 /// What stands at a path in a part.
 pub fn at_path<'v>(from: Part<'v>, path: &[Step]) -> Option<Part<'v>>
     ensures { option_map plain-Part result ≡ plain.get path.now (plain-Part from.entry) }
@@ -117,4 +150,15 @@ fn are_set(values: &[Value]) -> bool
         }
     }
     true
+}
+
+/// Whether each part of what stands somewhere has a value.
+#[tactic(auto, using(crate::proofs::ValueRules::parts_are))]
+pub fn is_part_set(part: Part) -> bool
+    ensures { result ≡ plain.is_set (plain-Part part.entry) }
+{
+    match part {
+        Part::Value(value) => is_set(value),
+        Part::Parts(parts) => are_set(parts.items.as_slice()),
+    }
 }

@@ -1,0 +1,2 @@
+pub mod PlainActs
+pub mod Matching
