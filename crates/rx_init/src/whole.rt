@@ -134,7 +134,8 @@ fn judged(
     requires layout { IsLayout (plain-Frame frame.now) layout }
     requires few { length watched ≤ 4294967295 }
     requires kept { tables.KeepsForAll watched (map plain-Site sites.now) }
-    ensures { Answers (plain-Frame frame.now) mutable.now (map plain-Site sites.now) result }
+    ensures answers { Answers (plain-Frame frame.now) mutable.now (map plain-Site sites.now) result }
+    ensures layout { IfOk result (λ t. IsLayout (plain-Frame frame.now) t.layout) }
 {
     let setup = Setup {
         frame,
@@ -168,7 +169,8 @@ pub fn init(
     sites: &[Site],
 ) -> Result<InitTable, InitFault>
     requires { IsSized frame.now }
-    ensures { Answers (plain-Frame frame.now) mutable.now (map plain-Site sites.now) result }
+    ensures answers { Answers (plain-Frame frame.now) mutable.now (map plain-Site sites.now) result }
+    ensures layout { IfOk result (λ t. IsLayout (plain-Frame frame.now) t.layout) }
 {
     match layout(alloc, frame) {
         Ok(layout) => match watched(alloc, sites) {
