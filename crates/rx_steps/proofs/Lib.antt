@@ -1,0 +1,2 @@
+pub mod StepRules
+pub mod Marks
