@@ -1,0 +1,5 @@
+pub mod Fronts
+pub mod Listing
+pub mod Scoping
+pub mod Forbidding
+pub mod Walking

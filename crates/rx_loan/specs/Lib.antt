@@ -1,0 +1,5 @@
+pub mod Places
+pub mod Accesses
+pub mod Loans
+pub mod PlainOf
+pub mod Tables
