@@ -1,0 +1,16 @@
+mod Resolving
+mod Lifetimes
+mod Reading
+mod Items
+mod Adding
+mod Meeting
+mod Counting
+mod Signatures
+mod Signing
+mod Telling
+mod Stages
+mod Walks
+mod ExpressionWalks
+mod FunctionWalks
+mod Having
+mod Numbered

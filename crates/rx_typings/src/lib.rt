@@ -1,0 +1,6 @@
+//! What the typings of programs have.
+#![tactic(auto)]
+
+mod laws;
+
+pub use laws::{all_have_types, signatures_are_well_formed};
