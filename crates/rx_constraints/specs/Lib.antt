@@ -1,0 +1,2 @@
+pub mod PlainContext
+pub mod Steps

@@ -1,0 +1,11 @@
+//! What the actions and the types of a function ask of its lifetimes, as pairs.
+#![tactic(auto)]
+
+mod acts;
+mod given;
+mod made;
+mod reborrows;
+mod signatures;
+mod whole;
+
+pub use given::{Given, root_type, variables};
