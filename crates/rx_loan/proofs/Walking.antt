@@ -1,5 +1,5 @@
 -- Loans in scope lie on ways from their borrows; where lifetimes have fewer sites, they are in scope at fewer.
-use Rattle.std.proofs.Common.{◌≡◌, ◌⊎◌, inl, inr, ℕ, Bool, true, ◌==◌, ◌<◌, List, [], ◌∷◌, ◌++◌, sym, subst, true≢false, Some}
+use Rattle.std.proofs.Common.{◌≡◌, ◌⊎◌, inl, inr, ℕ, Bool, true, ◌==◌, ◌<◌, List, [], ◌∷◌, ◌++◌, sym, subst, true≢false, Some, length}
 use Rattle.std.proofs.lemmas.Bool.{eqb-true}
 use Rattle.rx_walks.specs.Actions.{Action}
 use Rattle.rx_walks.specs.Walks.{Among}
@@ -8,7 +8,7 @@ use Rattle.rx_graph.specs.Facts.{has, targets}
 use Rattle.rx_graph.proofs.Spreading.{one_of}
 use Rattle.rx_lower.specs.Graph.{Site, site_at}
 use Rattle.rx_along.specs.Along.{Arrives, there, by, edges_of}
-use Rattle.rx_along.proofs.Ways.{targets_at, site_here, arrives_on}
+use Rattle.rx_along.proofs.Ways.{targets_at, site_here, site_within, arrives_on}
 use Rattle.rx_reach.specs.Reached.{next, further}
 use Rattle.rx_reach.proofs.Seeing.{leads_within}
 use Rattle.rx_loan.specs.Accesses.{Loan}
@@ -38,10 +38,15 @@ pub inside : (g : List Site) (R : ℕ → ℕ → Bool) (l : Loan) (p : ℕ) →
 inside g R l p (next t i) = i
 inside g R l p (further q r e t i) = i
 
-pub more_scope : (g : List Site) (R S : ℕ → ℕ → Bool) (l : Loan) (p : ℕ) → ((r p : ℕ) → R r p ≡ true → S r p ≡ true) → InScope g R l p → InScope g S l p
-more_scope g R S l p more (next t i) = next t (more l.region p i)
-more_scope g R S l p more (further q r e t i) = further q (more_scope g R S l q more r) e t (more l.region p i)
+pub more_scope : (g : List Site) (R S : ℕ → ℕ → Bool) (l : Loan) (p : ℕ) → p < length g → ((r p : ℕ) → p < length g → R r p ≡ true → S r p ≡ true)
+    → InScope g R l p → InScope g S l p
+more_scope g R S l p w more (next t i) = next t (more l.region p w i)
+more_scope g R S l p w more (further q r e t i) =
+    further q (more_scope g R S l q (subst (λ n. q < n) (length_edges g) (leads_within (edges_of g) q p t)) more r) e t (more l.region p w i)
 
-pub fewer_legal : (g : List Site) (R S : ℕ → ℕ → Bool) (ls : List Loan) → ((r p : ℕ) → R r p ≡ true → S r p ≡ true) → IsLegal g S ls → IsLegal g R ls
-fewer_legal g R S ls more legal l p meets =
-    legal l p (record { listed = meets.listed; scope = more_scope g R S l p more meets.scope; against = meets.against })
+pub fewer_legal : (g : List Site) (R S : ℕ → ℕ → Bool) (ls : List Loan) → ((r p : ℕ) → p < length g → R r p ≡ true → S r p ≡ true) → IsLegal g S ls → IsLegal g R ls
+fewer_legal g R S ls more legal l p meets = legal l p (record {
+  listed = meets.listed;
+  scope = more_scope g R S l p (site_within g p meets.against.0 meets.against.1) more meets.scope;
+  against = meets.against;
+})

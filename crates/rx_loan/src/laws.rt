@@ -1,6 +1,6 @@
 //! Laws of loans, each the contract of a function that does nothing.
 
-ghost use Rattle.std.specs.Prelude.{◌≡◌, ℕ, Bool, true, List};
+ghost use Rattle.std.specs.Prelude.{◌≡◌, ◌<◌, ℕ, Bool, true, List, length};
 ghost use Rattle.rx_walks.specs.Actions.{Action};
 ghost use Rattle.rx_lower.specs.Graph.{Site};
 ghost use Rattle.rx_along.specs.Along.{Arrives};
@@ -16,5 +16,5 @@ pub fn loans_lie_behind_their_borrows()
 /// What is legal where lifetimes have more sites is legal where they have fewer: so if some sets that serve are legal, the least
 /// are.
 pub fn fewer_sites_are_legal()
-    ensures { (g : List Site) (R S : ℕ → ℕ → Bool) (ls : List Loan) → ((r p : ℕ) → R r p ≡ true → S r p ≡ true) → IsLegal g S ls → IsLegal g R ls }
+    ensures { (g : List Site) (R S : ℕ → ℕ → Bool) (ls : List Loan) → ((r p : ℕ) → p < length g → R r p ≡ true → S r p ≡ true) → IsLegal g S ls → IsLegal g R ls }
 {}
