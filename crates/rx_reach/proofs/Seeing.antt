@@ -63,8 +63,8 @@ fewer_last n r s x within none h rest (inl e) = one_less (if holds s n then 0 el
     (ap (λ b. if b then 0 else 1) (ap (λ k. holds r k) e ∙ none))
 fewer_last n r s x within none h rest (inr e) = same_more (if holds s n then 0 else 1) (unseen n s) (if holds r n then 0 else 1) (unseen n r)
     (ap (λ b. if b then 0 else 1) (h n (omega arith) ∙ ap (λ b. b || holds r n) (different n x e))) (rest (less n x within e)) where
-  less : (n x : ℕ) → x < suc n → (n ≡ x → ⊥) → x < n
-  less n x w f = omega (arith, w, f)
+      less : (n x : ℕ) → x < suc n → (n ≡ x → ⊥) → x < n
+      less n x w f = omega (arith, w, f)
 
 fewer_unseen : (n : ℕ) (r s : List ℕ) (x : ℕ) → x < n → holds r x ≡ false → ((i : ℕ) → i < n → holds s i ≡ (i == x || holds r i))
     → suc (unseen n s) ≡ unseen n r
@@ -110,17 +110,24 @@ one_added n inside x seen ahead seen' wide within i none put = record {
 } where
   at : (p : ℕ) → p < n → holds seen' p ≡ (p == x || holds seen p)
   at p w = put.holds p (omega (arith, w, wide))
+
   there : holds seen' x ≡ true
   there = at x within ∙ ap (λ b. b || holds seen x) (eq-eqb x x refl)
+
   new : (p : ℕ) → (p == x ≡ true) ⊎ (holds seen p ≡ true)
       → (holds seen p ≡ true) ⊎ ((has (x ∷ []) p ≡ true) × (inside p ≡ true) × (has (ahead ++ x ∷ []) p ≡ true))
   new p (inl e) = let f = eqb-true p x e in
-      inr (subst (λ k. has (x ∷ []) k ≡ true) (sym f) (has_itself x), subst (λ k. inside k ≡ true) (sym f) i,
-          subst (λ k. has (ahead ++ x ∷ []) k ≡ true) (sym f) (behind ahead (x ∷ []) x (has_itself x)))
+      inr (
+        subst (λ k. has (x ∷ []) k ≡ true) (sym f) (has_itself x),
+        subst (λ k. inside k ≡ true) (sym f) i,
+        subst (λ k. has (ahead ++ x ∷ []) k ≡ true) (sym f) (behind ahead (x ∷ []) x (has_itself x)),
+      )
   new p (inr h) = inl h
+
   opened : (p : ℕ) → (has ahead p ≡ true) ⊎ (has (x ∷ []) p ≡ true) → (has ahead p ≡ true) ⊎ ((p < n) × (holds seen' p ≡ true))
   opened p (inl h) = inl h
   opened p (inr h) = let f = has_one x p h in inr (subst (λ k. k < n) (sym f) within, subst (λ k. holds seen' k ≡ true) (sym f) there)
+
   moved : (k : ℕ) → suc (unseen n seen') ≡ unseen n seen → k + 1 + unseen n seen' ≡ k + unseen n seen
   moved k f = omega (arith, f)
 
@@ -140,16 +147,20 @@ added_both n inside x xs r a s b t c one more = record {
       → (holds r p ≡ true) ⊎ ((has (x ∷ xs) p ≡ true) × (inside p ≡ true) × (has c p ≡ true))
   first p w (inl h) = inl h
   first p w (inr h) = inr (ap (λ k. k || has xs p) (sym (or_false (p == x)) ∙ h.0), h.1, more.kept p h.2)
+
   new : (p : ℕ) → p < n → (holds s p ≡ true) ⊎ ((has xs p ≡ true) × (inside p ≡ true) × (has c p ≡ true))
       → (holds r p ≡ true) ⊎ ((has (x ∷ xs) p ≡ true) × (inside p ≡ true) × (has c p ≡ true))
   new p w (inl h) = first p w (one.only p w h)
   new p w (inr h) = inr (ap (λ k. p == x || k) h.0 ∙ or_true (p == x), h.1, h.2)
+
   earlier : (p : ℕ) → (has a p ≡ true) ⊎ ((p < n) × (holds s p ≡ true)) → (has a p ≡ true) ⊎ ((p < n) × (holds t p ≡ true))
   earlier p (inl h) = inl h
   earlier p (inr h) = inr (h.0, more.keeps p h.0 h.1)
+
   opened : (p : ℕ) → (has b p ≡ true) ⊎ ((p < n) × (holds t p ≡ true)) → (has a p ≡ true) ⊎ ((p < n) × (holds t p ≡ true))
   opened p (inl h) = earlier p (one.opens p h)
   opened p (inr h) = inr h
+
   each : (p : ℕ) → p < n → inside p ≡ true → (p == x ≡ true) ⊎ (has xs p ≡ true) → holds t p ≡ true
   each p w i (inl e) = more.keeps p w (one.all p w (ap (λ k. k || false) e) i)
   each p w i (inr h) = more.all p w h i
@@ -186,9 +197,11 @@ begins edges inside stops first seen seen' ahead' wide none added = record {
   reach : (p : ℕ) → p < length edges → (holds seen p ≡ true) ⊎ ((has (targets edges first) p ≡ true) × (inside p ≡ true) × (has ahead' p ≡ true)) → Reached edges inside stops first p
   reach p w (inl h) = absurd (true≢false (sym h ∙ none p))
   reach p w (inr h) = next h.0 h.1
+
   ahead : (p : ℕ) → (has [] p ≡ true) ⊎ ((p < length edges) × (holds seen' p ≡ true)) → (p < length edges) × (holds seen' p ≡ true)
   ahead p (inl h) = absurd (true≢false (sym h))
   ahead p (inr h) = h
+
   fresh : (q : ℕ) → (holds seen q ≡ true) ⊎ ((has (targets edges first) q ≡ true) × (inside q ≡ true) × (has ahead' q ≡ true)) → has ahead' q ≡ true
   fresh q (inl h) = absurd (true≢false (sym h ∙ none q))
   fresh q (inr h) = h.2
@@ -213,23 +226,30 @@ goes_on edges inside stops first x seen ahead left seen' ahead' e added before =
 } where
   last : (p : ℕ) → has left p ≡ true → has ahead p ≡ true
   last p h = subst (λ l. has l p ≡ true) (sym e) (in_front left (x ∷ []) p h)
+
   popped : (x < length edges) × (holds seen x ≡ true)
   popped = before.opened x (subst (λ l. has l x ≡ true) (sym e) (behind left (x ∷ []) x (has_itself x)))
+
   reach : (p : ℕ) → p < length edges → (holds seen p ≡ true) ⊎ ((has (onward edges stops x) p ≡ true) × (inside p ≡ true) × (has ahead' p ≡ true)) → Reached edges inside stops first p
   reach p w (inl h) = before.sound p w h
   reach p w (inr h) = let o = onward_goes edges stops x p h.0 in further x (before.sound x popped.0 popped.1) o.0 o.1 h.1
+
   opening : (p : ℕ) → (has left p ≡ true) ⊎ ((p < length edges) × (holds seen' p ≡ true)) → (p < length edges) × (holds seen' p ≡ true)
   opening p (inl h) = let o = before.opened p (last p h) in (o.0, added.keeps p o.0 o.1)
   opening p (inr h) = h
+
   Closed : ℕ → Type 0
   Closed q = (has ahead' q ≡ true)
       ⊎ (stops q ≡ false → (p : ℕ) → p < length edges → has (targets edges q) p ≡ true → inside p ≡ true → holds seen' p ≡ true)
+
   still : (q : ℕ) → (has left q ≡ true) ⊎ (has (x ∷ []) q ≡ true) → Closed q
   still q (inl h) = inl (added.kept q h)
   still q (inr h) = inr (λ s p w t i. added.all p w (goes_onward edges stops x p (subst (λ k. stops k ≡ false) (has_one x q h) s) (subst (λ k. has (targets edges k) p ≡ true) (has_one x q h) t)) i)
+
   older : (q : ℕ) → (has ahead q ≡ true) ⊎ (stops q ≡ false → (p : ℕ) → p < length edges → has (targets edges q) p ≡ true → inside p ≡ true → holds seen p ≡ true) → Closed q
   older q (inl h) = still q (either left (x ∷ []) q (subst (λ l. has l q ≡ true) e h))
   older q (inr h) = inr (λ s p w t i. added.keeps p w (h s p w t i))
+
   closing : (q : ℕ) → q < length edges → (holds seen q ≡ true) ⊎ ((has (onward edges stops x) q ≡ true) × (inside q ≡ true) × (has ahead' q ≡ true)) → Closed q
   closing q w (inl h) = older q (before.closed q w h)
   closing q w (inr h) = inl h.2
@@ -241,6 +261,7 @@ ends edges inside stops first seen h p w = (h.sound p w, λ r. complete p w r) w
       → stops q ≡ false → p < length edges → has (targets edges q) p ≡ true → inside p ≡ true → holds seen p ≡ true
   closed q p (inl n) s w t i = absurd (true≢false (sym n))
   closed q p (inr f) s w t i = f s p w t i
+
   complete : (p : ℕ) → p < length edges → Reached edges inside stops first p → holds seen p ≡ true
   complete p w (next t i) = h.begun p w t i
   complete p w (further q r s t i) = let inside_q = leads_within edges q p t in closed q p (h.closed q inside_q (complete q inside_q r)) s w t i

@@ -33,7 +33,12 @@ impl<'t> Search<'t> {
     }
 
     /// Sees these sites.
-    fn see_all(&self, sites: &[u32], seen: &mut Row, ahead: &mut List<u32>) -> Result<(), AllocError>
+    fn see_all(
+        &self,
+        sites: &[u32],
+        seen: &mut Row,
+        ahead: &mut List<u32>,
+    ) -> Result<(), AllocError>
         requires { length self.now.edges.now ≤ 64 * length seen.old }
         ensures { OnOk result (walking.Added (length self.now.edges.now) (has_bit self.now.inside.now) sites.now seen.old ahead.old seen.new ahead.new) }
     {

@@ -8,7 +8,7 @@ pub returns : goal.returns
 returns c = ends c.args.edges.now (holds c.args.inside.now) (holds c.args.stops.now) c.args.first c.go_far.new.seen
     (c.in_ok-go_far.ensures c.args.first
     (begins c.args.edges.now (holds c.args.inside.now) (holds c.args.stops.now) c.args.first c.in_ok-seen.seen c.see_all.new.seen c.see_all.new.ahead
-        (wide_enough (length c.args.edges.now) c.in_ok-seen.seen c.in_ok-seen.ensures.width) c.in_ok-seen.ensures.empty
-        (subst (λ s. Added (length c.args.edges.now) (holds c.args.inside.now) s c.in_ok-seen.seen [] c.see_all.new.seen c.see_all.new.ahead) (sym c.targets.ensures)
-        (subst (λ a. Added (length c.args.edges.now) (holds c.args.inside.now) c.targets.result.now c.in_ok-seen.seen a c.see_all.new.seen c.see_all.new.ahead) c.new-ahead.ensures
-        c.in_ok-see_all.ensures))))
+    (wide_enough (length c.args.edges.now) c.in_ok-seen.seen c.in_ok-seen.ensures.width) c.in_ok-seen.ensures.empty
+    (subst (λ s. Added (length c.args.edges.now) (holds c.args.inside.now) s c.in_ok-seen.seen [] c.see_all.new.seen c.see_all.new.ahead) (sym c.targets.ensures)
+    (subst (λ a. Added (length c.args.edges.now) (holds c.args.inside.now) c.targets.result.now c.in_ok-seen.seen a c.see_all.new.seen c.see_all.new.ahead) c.new-ahead.ensures
+    c.in_ok-see_all.ensures))))

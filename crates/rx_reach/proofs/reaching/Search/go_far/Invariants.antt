@@ -5,7 +5,7 @@ use Rattle.rx_reach.proofs.reaching.Search.go_far.Given as goal
 
 abbrev pub invariant-sites : goal.invariant-sites
 invariant-sites l = ((first : ℕ) → Stands l.self.edges.now (holds l.self.inside.now) (holds l.self.stops.now) first l.fn.seen l.fn.ahead
-        → Stands l.self.edges.now (holds l.self.inside.now) (holds l.self.stops.now) first l.seen l.ahead)
+    → Stands l.self.edges.now (holds l.self.inside.now) (holds l.self.stops.now) first l.seen l.ahead)
     × (length l.self.edges.now ≤ 64 * length l.seen)
 
 abbrev pub decreases-sites : goal.decreases-sites
