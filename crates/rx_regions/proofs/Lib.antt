@@ -1,0 +1,10 @@
+mod Rules
+mod Counting
+mod Points
+mod Solving
+mod Seeding
+mod Rooting
+mod Musts
+mod Knowing
+mod Ordering
+mod Wholes

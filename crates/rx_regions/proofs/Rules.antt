@@ -1,0 +1,11 @@
+-- Equations, as the tactics take them.
+use Rattle.std.proofs.Common.{◌≡◌, ℕ, List, [], ◌++◌}
+use Rattle.std.proofs.lemmas.List.{append-nil, append_assoc}
+
+pub numbers_none : (xs : List ℕ) → xs ++ [] ≡ xs
+numbers_none xs = append-nil xs
+
+pub numbers_then : (xs ys zs : List ℕ) → (xs ++ ys) ++ zs ≡ xs ++ (ys ++ zs)
+numbers_then xs ys zs = append_assoc xs ys zs
+
+pub ruleset appending = (numbers_none, numbers_then)

@@ -1,0 +1,12 @@
+use Rattle.std.proofs.Common.{◌≡◌, List, length}
+use Rattle.rx_bits.specs.Rows.{words}
+use Rattle.rx_closure.specs.Filling.{HasExactly}
+use Rattle.rx_flow.specs.PlainFlow.{plain-Root}
+use Rattle.rx_lower.specs.Graph.{Site}
+use Rattle.rx_live.specs.Tables.{Lives}
+use Rattle.rx_regions.specs.Seeds.{LiveBefore}
+use Rattle.rx_regions.proofs.seeds.live_row.Given as goal
+
+abbrev pub invariant-loop-site : goal.invariant-loop-site
+invariant-loop-site l =
+    (length l.row ≡ words l.bound) × ((g : List Site) → Lives g l.live → l.sites ≡ length g → HasExactly (words l.bound) l.row (LiveBefore g (plain-Root l.root) l.site))

@@ -1,0 +1,4 @@
+pub mod Points
+pub mod Seeds
+pub mod Tables
+pub mod Passing
