@@ -1,14 +1,15 @@
 //! The graph of a function of a typed program.
 #![tactic(auto)]
 
-ghost use Rattle.std.specs.Prelude.{◌≡◌, map, Some as SomeOf, IfOk};
+ghost use Rattle.std.specs.Prelude.{◌≡◌, ◌<◌, map, Some as SomeOf, IfOk};
 ghost use Rattle.std.specs.Option.{option_copied, IsSome};
 ghost use Rattle.rx_typeck.specs.declared.typed.TypedFn.{TypedFn as FnOf};
 ghost use Rattle.rx_lifetimes.specs.PlainOf.{plain-Told};
 ghost use Rattle.rx_lifetimes.specs.Answer.{Answers, Walked};
+ghost use Rattle.rx_lowered.specs.Functions as spec;
 ghost use Rattle.rx_lowered.specs.Functions.{function_at, written, function};
 
-use rx_core::{LetGo, List, keep, pushed};
+use rx_core::{LetGo, List, Ty, keep, pushed};
 use rx_let_types::AnnotatedVariable;
 use rx_lifetimes::{Graph, LowerFault, Told, lower_function};
 use rx_place_types::place_type;
@@ -56,8 +57,34 @@ fn all_told(
     Ok(all)
 }
 
-/// The graph of a function.
-fn lower_typed(alloc: Global, decls: &Decls, typed: &TypedFn) -> Result<Graph, LowerFault>
+/// How many types there are up to the last that is there, by those before one.
+fn last_there(ty: &Option<Ty>, at: usize, before: usize) -> usize
+    requires { at < 18446744073709551615 }
+    ensures { result ≡ spec.last_there ty.now at before }
+{
+    match ty {
+        Some(_) => at + 1,
+        None => before,
+    }
+}
+
+/// The types up to the last that is there.
+pub fn trimmed(types: &[Option<Ty>]) -> &[Option<Ty>]
+    ensures { result.now ≡ spec.trimmed types.now }
+{
+    let mut count = 0;
+    for i in 0..types.len() {
+        count = last_there(&types[i], i, count);
+    }
+    &types[..count]
+}
+
+/// The graph of a function, with its lifetimes.
+///
+/// # Errors
+///
+/// As of `lower`.
+pub fn lower_typed(alloc: Global, decls: &Decls, typed: &TypedFn) -> Result<Graph, LowerFault>
     ensures answers { Answers (function decls.now.items typed.now) typed.now.mutable result }
     ensures walked { IfOk result (λ g. Walked (function decls.now.items typed.now) g) }
 {
@@ -69,7 +96,7 @@ fn lower_typed(alloc: Global, decls: &Decls, typed: &TypedFn) -> Result<Graph, L
                 typed.item,
                 &typed.tree,
                 typed.mutable.as_slice(),
-                typed.variables.as_slice(),
+                trimmed(typed.variables.as_slice()),
                 lets.as_slice(),
             );
             lets.let_go();

@@ -1,0 +1,4 @@
+pub mod Passing
+pub mod Functions
+pub mod Answers
+pub mod Same
