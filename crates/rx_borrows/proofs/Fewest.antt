@@ -1,11 +1,10 @@
 -- What some sets accept, the least accept.
-use Rattle.std.proofs.Common.{◌≡◌, ℕ, ◌<◌, true, List, length}
+use Rattle.std.proofs.Common.{List}
 use Rattle.rx_lower.specs.Graph.{Site}
 use Rattle.rx_region.specs.Constraints.{Context}
-use Rattle.rx_region.specs.Solutions.{site, end, Sets, Least, AreLeast}
-use Rattle.rx_region.specs.Known.{Known}
+use Rattle.rx_region.specs.Solutions.{site, end, Sets, AreLeast}
 use Rattle.rx_region.proofs.LeastLaws.{least_serves, least_is_within}
-use Rattle.rx_loan.specs.Loans.{loans_of, IsLegal}
+use Rattle.rx_loan.specs.Loans.{loans_of}
 use Rattle.rx_loan.proofs.Walking.{fewer_legal}
 use Rattle.rx_borrows.specs.Accepted.{at_sites, AcceptedBy}
 

@@ -3,7 +3,7 @@
 use Rattle.std.specs.Prelude.{◌≡◌, ℕ, ◌<◌, Bool, true, List}
 use Rattle.rx_lower.specs.Graph.{Site}
 use Rattle.rx_region.specs.Constraints.{Context}
-use Rattle.rx_region.specs.Solutions.{Point, site, end, Sets, Solution}
+use Rattle.rx_region.specs.Solutions.{site, end, Sets, Solution}
 use Rattle.rx_region.specs.Known.{Known}
 use Rattle.rx_loan.specs.Loans.{loans_of, IsLegal}
 

@@ -1,6 +1,8 @@
 //! Whether the lifetimes and loans of a function are accepted.
 #![tactic(auto)]
 
+mod judging;
 mod laws;
 
-pub use laws::fewest_are_accepted;
+pub use judging::{BorrowFault, Borrows, check_borrows};
+pub use laws::{accepted_or_refused, fewest_are_accepted};

@@ -65,7 +65,7 @@ first_listed f n ps e = subst FirstIsLeast (sym e) (first_below f n)
 -- ---- what is answered
 
 by_list : (C : Context) (g : List Site) (r : Regions) (ps : List Bound) (q : Result Regions RegionFault) → Solved C g r ps → FirstOf r ps q → RegionAnswer C g q
-by_list C g r [] q s h = subst (RegionAnswer C g) (sym h) (s.least, s.keeps refl)
+by_list C g r [] q s h = subst (RegionAnswer C g) (sym h) (s.least, s.keeps refl, s.sites)
 by_list C g r (b ∷ bs) q s h = subst (RegionAnswer C g) (sym h) ((s.misses b.long b.short).0 (inl refl), λ x y m. s.first x y ((s.misses x y).1 m))
 
 pub answered : (C : Context) (g : List Site) (r : Regions) (ps qs : List Bound) (q : Result Regions RegionFault) → Solved C g r ps → qs ≡ ps → FirstOf r qs q → RegionAnswer C g q

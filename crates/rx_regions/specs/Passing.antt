@@ -1,5 +1,5 @@
 -- What is answered of a function's lifetimes: its least sets, or the first pair that is missing.
-use Rattle.std.specs.Prelude.{◌≡◌, ◌⊎◌, ℕ, ◌<◌, ◌≤◌, List, [], ◌∷◌, Result, Ok, Err}
+use Rattle.std.specs.Prelude.{◌≡◌, ◌⊎◌, ℕ, ◌<◌, ◌≤◌, List, [], ◌∷◌, length, Result, Ok, Err}
 use Rattle.rx_core.specs.declared.types.Bound.{Bound}
 use Rattle.rx_outlives.specs.Implied.{HasPair}
 use Rattle.rx_lower.specs.Graph.{Site}
@@ -15,9 +15,9 @@ use Rattle.rx_regions.specs.declared.pass.RegionFault.TheVariants as fault
 abbrev pub IsFirst : Context → List Site → ℕ → ℕ → Type 0
 IsFirst C g l k = (x y : ℕ) → Missing C g x y → (l < x) ⊎ ((l ≡ x) × (k ≤ y))
 
--- the sets are the least, and keep to what is known; or a pair is missing, and it is the first
+-- the sets are the least, of as many sites, and keep to what is known; or a pair is missing, and it is the first
 abbrev pub RegionAnswer : Context → List Site → Result Regions RegionFault → Type 0
-RegionAnswer C g (Ok r) = AreLeast C g (sets_of r) × Keeps C (sets_of r)
+RegionAnswer C g (Ok r) = AreLeast C g (sets_of r) × Keeps C (sets_of r) × (r.sites ≡ length g)
 RegionAnswer C g (Err (fault.Missing l k)) = Missing C g l k × IsFirst C g l k
 RegionAnswer C g (Err fault.OutOfMemory) = Unit {0}
 
@@ -34,6 +34,7 @@ FirstIsLeast (b ∷ bs) = (x y : ℕ) → HasPair (b ∷ bs) x y → Precedes b.
 
 pub record Solved (C : Context) (g : List Site) (r : Regions) (ps : List Bound) : Type 0 where
   pub least : AreLeast C g (sets_of r)
+  pub sites : r.sites ≡ length g
   pub misses : Misses C g ps
   pub first : FirstIsLeast ps
   pub keeps : ps ≡ [] → Keeps C (sets_of r)

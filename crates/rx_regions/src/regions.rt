@@ -67,7 +67,8 @@ fn closed(alloc: Global, outlives: &Outlives, bound: usize) -> Result<Vec<Row>, 
 /// Memory runs out.
 pub fn solve(alloc: Global, outlives: &Outlives) -> Result<Regions, AllocError>
     requires { spec.IsTable outlives.now }
-    ensures { IfOk result (λ r. (C : Context) (g : ListOf graphs.Site) → spec.Asks C g outlives.now → AreLeast C g (spec.sets_of r)) }
+    ensures least { IfOk result (λ r. (C : Context) (g : ListOf graphs.Site) → spec.Asks C g outlives.now → AreLeast C g (spec.sets_of r)) }
+    ensures sites { IfOk result (λ r. r.sites ≡ outlives.now.sites) }
 {
     let bound = outlives.sites as usize + outlives.own as usize;
     let rows = closed(alloc, outlives, bound)?;

@@ -4,7 +4,7 @@ use Rattle.rx_closure.specs.Closing.{Closed}
 use Rattle.rx_regions.proofs.Solving.{are_least}
 use Rattle.rx_regions.proofs.regions.solve.Goals as goal
 
-pub returns : goal.returns
-returns c = λ C g asks. are_least C g c.args.outlives.now asks (words (c.args.outlives.now.sites + c.args.outlives.now.own)) c.from_vec.result c.requires
+pub returns-clause-least : goal.returns-clause-least
+returns-clause-least c = λ C g asks. are_least C g c.args.outlives.now asks (words (c.args.outlives.now.sites + c.args.outlives.now.own)) c.from_vec.result c.requires
     (subst (λ (V : List (List ℕ)). Closed c.args.outlives.now.pairs (words (c.args.outlives.now.sites + c.args.outlives.now.own)) c.args.outlives.now.rows V)
     (sym c.from_vec.ensures) c.in_ok-rows.ensures)
