@@ -6,10 +6,11 @@ ghost use Rattle.rx_tree.specs.Size.{IsNumbered};
 use rx_check::front;
 use rx_core::{LetGo, List, Step};
 use rx_emit::{GraphFault, Site};
-use rx_flow::{Act, Place, Root, Temporary};
+use rx_flow::{Act, Action, Place, Root, Temporary};
 use rx_parse::{parse, parsed_programs_are_numbered};
 use rx_sites::sites;
 use rx_tree::Program;
+use rx_typeck::Typed;
 use rx_typed_tree::TypedTree;
 use std::alloc::{AllocError, Global};
 
@@ -127,6 +128,14 @@ fn push_act(alloc: Global, text: &mut String, act: &Act) -> Result<(), AllocErro
     }
 }
 
+/// An action with its node.
+pub fn action_text(alloc: Global, action: &Action) -> Result<String, AllocError> {
+    let mut text = format!(in alloc; "{}: ", action.node)?;
+    push_act(alloc, &mut text, &action.act)?;
+    text.push_str(";")?;
+    Ok(text)
+}
+
 /// A site behind those before it.
 fn push_site(alloc: Global, text: &mut String, site: &Site) -> Result<(), AllocError> {
     if !text.is_empty() {
@@ -166,30 +175,51 @@ fn tree_text(alloc: Global, tree: &TypedTree) -> Result<String, AllocError> {
     }
 }
 
-fn program_text(alloc: Global, program: &Program) -> Result<String, AllocError>
-    requires { IsNumbered (plain-Program program.now) }
+/// What is said of a typed program.
+fn program_text<F: Fn(Global, &Typed) -> Result<String, AllocError>>(
+    alloc: Global,
+    program: &Program,
+    said: F,
+) -> Result<String, AllocError>
+    requires numbered { IsNumbered (plain-Program program.now) }
+    requires callable { F.IsAlwaysCallable said }
 {
     match front(alloc, program) {
-        Ok(checked) => match checked.typed().functions.get(0) {
-            Some(function) => tree_text(alloc, &function.tree),
-            None => String::from_str(alloc, "no function"),
-        },
+        Ok(checked) => said(alloc, checked.typed()),
         Err(_) => String::from_str(alloc, "not typed"),
     }
 }
 
-/// The sites of the first function of a text, each with those that may follow it; or that it isn't typed.
-pub fn graph_text(alloc: Global, text: &str) -> Result<String, AllocError> {
+/// What is said of the typed program of a text; or that it isn't typed.
+pub fn typed_text<F: Fn(Global, &Typed) -> Result<String, AllocError>>(
+    alloc: Global,
+    text: &str,
+    said: F,
+) -> Result<String, AllocError>
+    requires { F.IsAlwaysCallable said }
+{
     if text.len() > 1_048_576 {
         return String::from_str(alloc, "TooLong");
     }
     match parse(alloc, text.as_bytes()) {
         Ok(program) => {
             parsed_programs_are_numbered();
-            let outcome = program_text(alloc, &program);
+            let outcome = program_text(alloc, &program, said);
             program.let_go();
             outcome
         }
         Err(_) => String::from_str(alloc, "no program"),
     }
+}
+
+fn first_graph(alloc: Global, typed: &Typed) -> Result<String, AllocError> {
+    match typed.functions.get(0) {
+        Some(function) => tree_text(alloc, &function.tree),
+        None => String::from_str(alloc, "no function"),
+    }
+}
+
+/// The sites of the first function of a text, each with those that may follow it; or that it isn't typed.
+pub fn graph_text(alloc: Global, text: &str) -> Result<String, AllocError> {
+    typed_text(alloc, text, first_graph)
 }
