@@ -1,0 +1,2 @@
+pub mod TypedLemmas
+pub mod TableLemmas
