@@ -1,5 +1,5 @@
 -- Acceptance and a fault exclude each other, and two faults are of one pass.
-use Rattle.std.proofs.Common.{◌≡◌, ◌≢◌, true, List, [], ◌∷◌, Some, unwrap_or, refl, sym, ap, subst, ◌∙◌, true≢false}
+use Rattle.std.proofs.Common.{◌≡◌, ◌≢◌, ℕ, true, List, [], ◌∷◌, Some, unwrap_or, refl, sym, ap, subst, ◌∙◌, true≢false}
 use Rattle.std.specs.Prelude.{if◌then◌else◌, is_none}
 use Rattle.std.proofs.lemmas.Bool.{and_parts}
 use Rattle.rx_core.specs.declared.types.Span.{Span}
@@ -7,19 +7,30 @@ use Rattle.rx_tree.specs.Plain.{ProgramTree}
 use Rattle.rx_tree.specs.Spans.{item_span}
 use Rattle.rx_resolve.specs.declared.resolved.ItemNames.{ItemNames}
 use Rattle.rx_resolve.specs.Causes.{Meant}
+use Rattle.rx_cycles.specs.Reaches.{NoCycle}
+use Rattle.rx_typed.specs.Types.{Declarations}
 use Rattle.rx_typed.specs.PlainTypes.{declarations}
+use Rattle.rx_declared.specs.Held.{held}
+use Rattle.rx_declared.specs.Sizes.{Sized}
 use Rattle.rx_typeck.specs.declared.typed.Typed.{Typed}
 use Rattle.rx_typeck.specs.declared.typed.TypeFault.{TypeFault}
 use Rattle.rx_typeck.specs.Typing as typing
 use Rattle.rx_typeck.specs.Typing.{IsTyped}
 use Rattle.rx_typeck.specs.Alike.{AreAlike}
 use Rattle.rx_cover.specs.declared.covering.CoverFault.{CoverFault}
+use Rattle.rx_lifetimes.specs.declared.whole.LowerFault.{LowerFault}
+use Rattle.rx_facts.specs.declared.fault.InitFault.{InitFault}
+use Rattle.rx_facts.specs.Passing.{AllAre, FirstNot}
+use Rattle.rx_facts.specs.Functions.{IsSmall, IsLarge, IsInitialised, IsUninitialised}
+use Rattle.rx_facts.specs.Same.{SameFunction, AreSame}
+use Rattle.rx_facts.proofs.Passing.{first_or_all, first_both, first_alike, all_alike}
+use Rattle.rx_facts.proofs.Settling.{settled_small, one_large, settled_initialised, same_small, same_large, same_initialised}
 use Rattle.rx_first_check.specs.FirstGrammar.{is_first_item, is_first_program}
 use Rattle.rx_first_check.specs.Faults.{first, other_spans}
 use Rattle.rx_check.specs.declared.fault.CheckFault.{CheckFault}
 use Rattle.rx_check.specs.declared.fault.CheckFault.TheVariants as check_fault
-use Rattle.rx_check.specs.Passes.{IsFront, Accepted, Passes}
-use Rattle.rx_check.specs.Causes.{FirstUncovered, IsMistyped, IsUncovered, Causes, PassCauses, AreOneCover, AreOne}
+use Rattle.rx_check.specs.Passes.{FunctionsCovered, IsFront, Accepted, Passes}
+use Rattle.rx_check.specs.Causes.{FirstUncovered, IsMistyped, IsUncovered, IsTooLarge, IsUnstarted, Causes, PassCauses, AreOneCover, AreOne}
 use Rattle.rx_check.proofs.NameLemmas.{one_meaning, meant_or_misnamed, misnamed_one}
 use Rattle.rx_check.proofs.CoverLemmas.{uncovered_or_covered, uncovered_one, uncovered_alike}
 
@@ -39,8 +50,14 @@ some_is a b h = ap (λ o. unwrap_or o a) h
 
 -- ---- passes, by what the rules of types say
 
+fun_ext : {A B : Type 0} (f g : A → B) → ((x : A) → f x ≡ g x) → f ≡ g
+fun_ext f g h = λ i x. h x i
+
 module _ (or_wrong : (p : ProgramTree) (ns : List ItemNames) (t : Typed) (e : TypeFault) → IsTyped p ns t → typing.Causes p ns e → ⊥)
-    (one : (p : ProgramTree) (ns : List ItemNames) (t u : Typed) → IsTyped p ns t → IsTyped p ns u → AreAlike t u) where
+    (one : (p : ProgramTree) (ns : List ItemNames) (t u : Typed) → IsTyped p ns t → IsTyped p ns u → AreAlike t u)
+    (same : (p : ProgramTree) (ns : List ItemNames) (t u : Typed) → IsTyped p ns t → IsTyped p ns u → AreSame t u)
+    (finite : (p : ProgramTree) (ns : List ItemNames) (t : Typed) → IsTyped p ns t → NoCycle (held (declarations t.decls.items)))
+    (one_size : (D : Declarations) (P Q : ℕ → ℕ) → NoCycle (held D) → Sized D P → Sized D Q → (i : ℕ) → P i ≡ Q i) where
   -- types of a program whose names have a meaning
   typed_or_mistyped : (p : ProgramTree) (ns : List ItemNames) (t : Typed) → Meant p ns → IsTyped p ns t → (e : TypeFault) → IsMistyped p e → ⊥
   typed_or_mistyped p ns t m h e c =
@@ -54,14 +71,52 @@ module _ (or_wrong : (p : ProgramTree) (ns : List ItemNames) (t : Typed) (e : Ty
       let alike = one p ns c.types t typed h in
       subst (λ D. FirstUncovered D t.functions e) alike.declared (uncovered_alike (declarations c.types.decls.items) c.types.functions t.functions e alike.functions c.first)
 
-  front_or_uncovered : (p : ProgramTree) (t : Typed) → IsFront p t → (e : CoverFault) → IsUncovered p e → ⊥
-  front_or_uncovered p t f e c =
-      uncovered_or_covered (declarations t.decls.items) t.functions e c.told (uncovered_in p f.names t f.meant f.typed e c) f.covered
+  covered_or_not : (p : ProgramTree) (ns : List ItemNames) (t : Typed) → Meant p ns → IsTyped p ns t → FunctionsCovered (declarations t.decls.items) t.functions
+      → (e : CoverFault) → IsUncovered p e → ⊥
+  covered_or_not p ns t m h a e c = uncovered_or_covered (declarations t.decls.items) t.functions e c.told (uncovered_in p ns t m h e c) a
+
+  -- its fault of graphs, as one of these types
+  large_in : (p : ProgramTree) (ns : List ItemNames) (t : Typed) → Meant p ns → IsTyped p ns t → (e : LowerFault) → IsTooLarge p e
+      → FirstNot (IsSmall t.decls.items) (IsLarge t.decls.items e) t.functions
+  large_in p ns t m h e c =
+      let typed : IsTyped p ns c.types = subst (λ x. IsTyped p x c.types) (one_meaning p c.names ns c.meant m) c.typed in
+      let s = same p ns c.types t typed h in
+      first_alike SameFunction (IsSmall c.types.decls.items) (IsSmall t.decls.items) (IsLarge c.types.decls.items e) (IsLarge t.decls.items e)
+      (λ f g k. same_small c.types.decls.items t.decls.items s.items f g k) (λ f g k. same_large c.types.decls.items t.decls.items s.items f g k e)
+      c.types.functions t.functions s.functions c.first
+
+  small_or_not : (p : ProgramTree) (ns : List ItemNames) (t : Typed) → Meant p ns → IsTyped p ns t → AllAre (IsSmall t.decls.items) t.functions
+      → (e : LowerFault) → IsTooLarge p e → ⊥
+  small_or_not p ns t m h a e c =
+      first_or_all (IsSmall t.decls.items) (IsLarge t.decls.items e) (settled_small t.decls.items e c.told) t.functions (large_in p ns t m h e c) a
+
+  larges_one : (p : ProgramTree) (d e : LowerFault) → IsTooLarge p d → IsTooLarge p e → d ≡ e
+  larges_one p d e a b =
+      let items = a.types.decls.items in
+      let both = first_both (IsSmall items) (IsLarge items d) (IsLarge items e) (settled_small items d a.told) (settled_small items e b.told) a.types.functions a.first
+      (large_in p a.names a.types a.meant a.typed e b) in
+      one_large items d e a.told b.told both.0 both.1 both.2
+
+  -- an initialised program has no fault of initialisation
+  started_or_not : (p : ProgramTree) (t : Typed) → IsFront p t → (e : InitFault) → IsUnstarted p e → ⊥
+  started_or_not p t f e c =
+      let typed : IsTyped p f.names c.types = subst (λ x. IsTyped p x c.types) (one_meaning p c.names f.names c.meant f.meant) c.typed in
+      let s = same p f.names t c.types f.typed typed in
+      let D : Declarations = declarations t.decls.items in
+      let E : Declarations = declarations c.types.decls.items in
+      let declared : D ≡ E = (one p f.names t c.types f.typed typed).declared in
+      let parts : f.parts ≡ c.first.parts = fun_ext f.parts c.first.parts
+      (one_size E f.parts c.first.parts (finite p f.names c.types typed) (subst (λ (X : Declarations). Sized X f.parts) declared f.sized) c.first.sized) in
+      first_or_all (IsInitialised E c.first.parts) (IsUninitialised E c.first.parts e) (settled_initialised E c.first.parts e c.told) c.types.functions c.first.first
+      (all_alike SameFunction (IsInitialised D f.parts) (IsInitialised E c.first.parts) (λ f1 g k. same_initialised D E declared f.parts c.first.parts parts f1 g k)
+      t.functions c.types.functions s.functions f.initialised)
 
   pub accepted_or_faulty : (p : ProgramTree) (e : CheckFault) → Accepted p → PassCauses e p → e ≡ check_fault.OutOfMemory
   accepted_or_faulty p (check_fault.Name e) a c = absurd (meant_or_misnamed p a.1.names e c.told a.1.meant c.cause)
   accepted_or_faulty p (check_fault.Types e) a c = absurd (typed_or_mistyped p a.1.names a.0 a.1.meant a.1.typed e c)
-  accepted_or_faulty p (check_fault.Cover e) a c = absurd (front_or_uncovered p a.0 a.1 e c)
+  accepted_or_faulty p (check_fault.Cover e) a c = absurd (covered_or_not p a.1.names a.0 a.1.meant a.1.typed a.1.covered e c)
+  accepted_or_faulty p (check_fault.Lower e) a c = absurd (small_or_not p a.1.names a.0 a.1.meant a.1.typed a.1.small e c)
+  accepted_or_faulty p (check_fault.Init e) a c = absurd (started_or_not p a.0 a.1 e c)
   accepted_or_faulty p (check_fault.NotBuilt at) a c = absurd c
   accepted_or_faulty p check_fault.OutOfMemory a c = refl
 
@@ -69,6 +124,8 @@ module _ (or_wrong : (p : ProgramTree) (ns : List ItemNames) (t : Typed) (e : Ty
   passed_or_faulty p (check_fault.Name e) a c = accepted_or_faulty p (check_fault.Name e) a.0 c
   passed_or_faulty p (check_fault.Types e) a c = accepted_or_faulty p (check_fault.Types e) a.0 c
   passed_or_faulty p (check_fault.Cover e) a c = accepted_or_faulty p (check_fault.Cover e) a.0 c
+  passed_or_faulty p (check_fault.Lower e) a c = accepted_or_faulty p (check_fault.Lower e) a.0 c
+  passed_or_faulty p (check_fault.Init e) a c = accepted_or_faulty p (check_fault.Init e) a.0 c
   passed_or_faulty p (check_fault.NotBuilt at) a c = absurd (first_or_other p at a.1 c.item)
   passed_or_faulty p check_fault.OutOfMemory a c = refl
 
@@ -79,18 +136,38 @@ module _ (or_wrong : (p : ProgramTree) (ns : List ItemNames) (t : Typed) (e : Ty
   causes_one p (check_fault.Name d) (check_fault.Name e) h i a b = misnamed_one p d e a.told b.told a.cause b.cause
   causes_one p (check_fault.Name d) (check_fault.Types e) h i a b = absurd (meant_or_misnamed p b.names d a.told b.meant a.cause)
   causes_one p (check_fault.Name d) (check_fault.Cover e) h i a b = absurd (meant_or_misnamed p b.names d a.told b.meant a.cause)
+  causes_one p (check_fault.Name d) (check_fault.Lower e) h i a b = absurd (meant_or_misnamed p b.names d a.told b.meant a.cause)
+  causes_one p (check_fault.Name d) (check_fault.Init e) h i a b = absurd (meant_or_misnamed p b.names d a.told b.meant a.cause)
   causes_one p (check_fault.Name d) (check_fault.NotBuilt t) h i a b = absurd (meant_or_misnamed p b.accepted.1.names d a.told b.accepted.1.meant a.cause)
   causes_one p (check_fault.Types d) (check_fault.Name e) h i a b = absurd (meant_or_misnamed p a.names e b.told a.meant b.cause)
   causes_one p (check_fault.Types d) (check_fault.Types e) h i a b = tt
   causes_one p (check_fault.Types d) (check_fault.Cover e) h i a b = absurd (typed_or_mistyped p b.names b.types b.meant b.typed d a)
+  causes_one p (check_fault.Types d) (check_fault.Lower e) h i a b = absurd (typed_or_mistyped p b.names b.types b.meant b.typed d a)
+  causes_one p (check_fault.Types d) (check_fault.Init e) h i a b = absurd (typed_or_mistyped p b.names b.types b.meant b.typed d a)
   causes_one p (check_fault.Types d) (check_fault.NotBuilt t) h i a b = absurd (typed_or_mistyped p b.accepted.1.names b.accepted.0 b.accepted.1.meant b.accepted.1.typed d a)
   causes_one p (check_fault.Cover d) (check_fault.Name e) h i a b = absurd (meant_or_misnamed p a.names e b.told a.meant b.cause)
   causes_one p (check_fault.Cover d) (check_fault.Types e) h i a b = absurd (typed_or_mistyped p a.names a.types a.meant a.typed e b)
   causes_one p (check_fault.Cover d) (check_fault.Cover e) h i a b = covers_one p d e a b
-  causes_one p (check_fault.Cover d) (check_fault.NotBuilt t) h i a b = absurd (front_or_uncovered p b.accepted.0 b.accepted.1 d a)
+  causes_one p (check_fault.Cover d) (check_fault.Lower e) h i a b = absurd (covered_or_not p b.names b.types b.meant b.typed b.covered d a)
+  causes_one p (check_fault.Cover d) (check_fault.Init e) h i a b = absurd (covered_or_not p b.names b.types b.meant b.typed b.covered d a)
+  causes_one p (check_fault.Cover d) (check_fault.NotBuilt t) h i a b = absurd (covered_or_not p b.accepted.1.names b.accepted.0 b.accepted.1.meant b.accepted.1.typed b.accepted.1.covered d a)
+  causes_one p (check_fault.Lower d) (check_fault.Name e) h i a b = absurd (meant_or_misnamed p a.names e b.told a.meant b.cause)
+  causes_one p (check_fault.Lower d) (check_fault.Types e) h i a b = absurd (typed_or_mistyped p a.names a.types a.meant a.typed e b)
+  causes_one p (check_fault.Lower d) (check_fault.Cover e) h i a b = absurd (covered_or_not p a.names a.types a.meant a.typed a.covered e b)
+  causes_one p (check_fault.Lower d) (check_fault.Lower e) h i a b = larges_one p d e a b
+  causes_one p (check_fault.Lower d) (check_fault.Init e) h i a b = absurd (small_or_not p b.names b.types b.meant b.typed b.small d a)
+  causes_one p (check_fault.Lower d) (check_fault.NotBuilt t) h i a b = absurd (small_or_not p b.accepted.1.names b.accepted.0 b.accepted.1.meant b.accepted.1.typed b.accepted.1.small d a)
+  causes_one p (check_fault.Init d) (check_fault.Name e) h i a b = absurd (meant_or_misnamed p a.names e b.told a.meant b.cause)
+  causes_one p (check_fault.Init d) (check_fault.Types e) h i a b = absurd (typed_or_mistyped p a.names a.types a.meant a.typed e b)
+  causes_one p (check_fault.Init d) (check_fault.Cover e) h i a b = absurd (covered_or_not p a.names a.types a.meant a.typed a.covered e b)
+  causes_one p (check_fault.Init d) (check_fault.Lower e) h i a b = absurd (small_or_not p a.names a.types a.meant a.typed a.small e b)
+  causes_one p (check_fault.Init d) (check_fault.Init e) h i a b = tt
+  causes_one p (check_fault.Init d) (check_fault.NotBuilt t) h i a b = absurd (started_or_not p b.accepted.0 b.accepted.1 d a)
   causes_one p (check_fault.NotBuilt s) (check_fault.Name e) h i a b = absurd (meant_or_misnamed p a.accepted.1.names e b.told a.accepted.1.meant b.cause)
   causes_one p (check_fault.NotBuilt s) (check_fault.Types e) h i a b = absurd (typed_or_mistyped p a.accepted.1.names a.accepted.0 a.accepted.1.meant a.accepted.1.typed e b)
-  causes_one p (check_fault.NotBuilt s) (check_fault.Cover e) h i a b = absurd (front_or_uncovered p a.accepted.0 a.accepted.1 e b)
+  causes_one p (check_fault.NotBuilt s) (check_fault.Cover e) h i a b = absurd (covered_or_not p a.accepted.1.names a.accepted.0 a.accepted.1.meant a.accepted.1.typed a.accepted.1.covered e b)
+  causes_one p (check_fault.NotBuilt s) (check_fault.Lower e) h i a b = absurd (small_or_not p a.accepted.1.names a.accepted.0 a.accepted.1.meant a.accepted.1.typed a.accepted.1.small e b)
+  causes_one p (check_fault.NotBuilt s) (check_fault.Init e) h i a b = absurd (started_or_not p a.accepted.0 a.accepted.1 e b)
   causes_one p (check_fault.NotBuilt s) (check_fault.NotBuilt t) h i a b = some_is s t (sym a.item ∙ b.item)
   causes_one p check_fault.OutOfMemory e h i a b = absurd (h refl)
   causes_one p d check_fault.OutOfMemory h i a b = absurd (i refl)

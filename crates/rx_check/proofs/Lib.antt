@@ -2,3 +2,4 @@ mod CoverLemmas
 mod PassLemmas
 mod NameLemmas
 mod ExclusionLemmas
+mod ReaderLemmas

@@ -19,9 +19,17 @@ use Rattle.rx_cover.specs.declared.covering.CoverFault.{CoverFault}
 use Rattle.rx_cover.specs.declared.covering.CoverFault.TheVariants as cover_fault
 use Rattle.rx_cover.specs.Causes.{AllCovered}
 use Rattle.rx_cover.specs.Judging.{ToldAt}
+use Rattle.rx_lifetimes.specs.declared.whole.LowerFault.{LowerFault}
+use Rattle.rx_lifetimes.specs.declared.whole.LowerFault.TheVariants as lower_fault
+use Rattle.rx_facts.specs.declared.fault.InitFault.{InitFault}
+use Rattle.rx_facts.specs.declared.fault.InitFault.TheVariants as init_fault
+use Rattle.rx_facts.specs.Passing.{AllAre, FirstNot}
+use Rattle.rx_facts.specs.Functions.{IsSmall, IsLarge}
+use Rattle.rx_facts.specs.Answers.{FirstUninitialised, AreGraphs, AreFacts}
 use Rattle.rx_first_check.specs.Faults.{first, other_spans}
 use Rattle.rx_check.specs.declared.fault.CheckFault.{CheckFault}
 use Rattle.rx_check.specs.declared.fault.CheckFault.TheVariants as check_fault
+use Rattle.rx_check.specs.declared.passes.Found.{Found}
 use Rattle.rx_check.specs.Passes.{matches_of, FunctionsCovered, Accepted}
 
 -- of the first function, in order, whose matches are not all covered, this is said of the first that is not
@@ -50,6 +58,27 @@ pub record IsUncovered (p : ProgramTree) (e : CoverFault) : Type 0 where
   pub typed : IsTyped p names types
   pub first : FirstUncovered (declarations types.decls.items) types.functions e
 
+-- all matches are covered, and this is said of the first function whose graph passes a limit
+pub record IsTooLarge (p : ProgramTree) (e : LowerFault) : Type 0 where
+  pub told : e ≢ lower_fault.OutOfMemory
+  pub names : List ItemNames
+  pub meant : Meant p names
+  pub types : Typed
+  pub typed : IsTyped p names types
+  pub covered : FunctionsCovered (declarations types.decls.items) types.functions
+  pub first : FirstNot (IsSmall types.decls.items) (IsLarge types.decls.items e) types.functions
+
+-- all graphs are within the limits, and this is said of the first function that is not initialised
+pub record IsUnstarted (p : ProgramTree) (e : InitFault) : Type 0 where
+  pub told : e ≢ init_fault.OutOfMemory
+  pub names : List ItemNames
+  pub meant : Meant p names
+  pub types : Typed
+  pub typed : IsTyped p names types
+  pub covered : FunctionsCovered (declarations types.decls.items) types.functions
+  pub small : AllAre (IsSmall types.decls.items) types.functions
+  pub first : FirstUninitialised types e
+
 -- the passes accept the program, and this is the first of its items that is beyond the first grammar
 pub record IsNotBuilt (p : ProgramTree) (at : Span) : Type 0 where
   pub accepted : Accepted p
@@ -60,6 +89,8 @@ abbrev pub Causes : CheckFault → ProgramTree → Type 0
 Causes (check_fault.Name e) p = IsMisnamed p e
 Causes (check_fault.Types e) p = IsMistyped p e
 Causes (check_fault.Cover e) p = IsUncovered p e
+Causes (check_fault.Lower e) p = IsTooLarge p e
+Causes (check_fault.Init e) p = IsUnstarted p e
 Causes (check_fault.NotBuilt at) p = IsNotBuilt p at
 Causes check_fault.OutOfMemory p = Unit {0}
 
@@ -68,8 +99,8 @@ abbrev pub PassCauses : CheckFault → ProgramTree → Type 0
 PassCauses (check_fault.NotBuilt at) p = ⊥
 PassCauses e p = Causes e p
 
--- two faults are of one pass; those of names and of the first grammar are one, and so are the places of those of coverage,
--- and the products
+-- two faults are of one pass; those of names, of graphs and of the first grammar are one, and so are the places of those of
+-- coverage, and the products
 abbrev pub AreOneCover : CoverFault → CoverFault → Type 0
 AreOneCover (cover_fault.Missing a v) (cover_fault.Missing b w) = a ≡ b
 AreOneCover (cover_fault.TooWide a m) (cover_fault.TooWide b n) = (a ≡ b) × (m ≡ n)
@@ -79,13 +110,31 @@ abbrev pub AreOne : CheckFault → CheckFault → Type 0
 AreOne (check_fault.Name e) (check_fault.Name f) = e ≡ f
 AreOne (check_fault.Types e) (check_fault.Types f) = Unit {0}
 AreOne (check_fault.Cover e) (check_fault.Cover f) = AreOneCover e f
+AreOne (check_fault.Lower e) (check_fault.Lower f) = e ≡ f
+AreOne (check_fault.Init e) (check_fault.Init f) = Unit {0}
 AreOne (check_fault.NotBuilt a) (check_fault.NotBuilt b) = a ≡ b
 AreOne _ _ = ⊥
 
--- ---- what a private function does
+-- ---- what private functions do
 
 -- what is answered of functions, one after the other
 abbrev pub FunctionsAnswer : Declarations → List TypedFn → Result (Unit {0}) CoverFault → Type 0
 FunctionsAnswer D fs (Ok u) = FunctionsCovered D fs
 FunctionsAnswer D fs (Err cover_fault.OutOfMemory) = Unit {0}
 FunctionsAnswer D fs (Err e) = FirstUncovered D fs e
+
+-- what the passes behind types say of a typed program
+abbrev pub TypedCauses : CheckFault → Typed → Type 0
+TypedCauses (check_fault.Cover e) t = (e ≢ cover_fault.OutOfMemory) × FirstUncovered (declarations t.decls.items) t.functions e
+TypedCauses (check_fault.Lower e) t = (e ≢ lower_fault.OutOfMemory) × FunctionsCovered (declarations t.decls.items) t.functions
+    × FirstNot (IsSmall t.decls.items) (IsLarge t.decls.items e) t.functions
+TypedCauses (check_fault.Init e) t = (e ≢ init_fault.OutOfMemory) × FunctionsCovered (declarations t.decls.items) t.functions
+    × AllAre (IsSmall t.decls.items) t.functions × FirstUninitialised t e
+TypedCauses check_fault.OutOfMemory t = Unit {0}
+TypedCauses _ t = ⊥
+
+-- what they find
+pub record FoundIn (t : Typed) (x : Found) : Type 0 where
+  pub covered : FunctionsCovered (declarations t.decls.items) t.functions
+  pub graphs : AreGraphs t x.graphs
+  pub facts : AreFacts t x.facts

@@ -5,6 +5,10 @@ use Rattle.rx_typeck.specs.declared.typed.TypeFault.{TypeFault}
 use Rattle.rx_typeck.specs.declared.typed.TypeFault.TheVariants as type_fault
 use Rattle.rx_cover.specs.declared.covering.CoverFault.{CoverFault}
 use Rattle.rx_cover.specs.declared.covering.CoverFault.TheVariants as cover_fault
+use Rattle.rx_lifetimes.specs.declared.whole.LowerFault.{LowerFault}
+use Rattle.rx_lifetimes.specs.declared.whole.LowerFault.TheVariants as lower_fault
+use Rattle.rx_facts.specs.declared.fault.InitFault.{InitFault}
+use Rattle.rx_facts.specs.declared.fault.InitFault.TheVariants as init_fault
 use Rattle.rx_check.specs.declared.fault.CheckFault.{CheckFault}
 use Rattle.rx_check.specs.declared.fault.CheckFault.TheVariants as check_fault
 
@@ -19,3 +23,11 @@ of_types f = check_fault.Types f
 abbrev pub of_cover : CoverFault → CheckFault
 of_cover cover_fault.OutOfMemory = check_fault.OutOfMemory
 of_cover f = check_fault.Cover f
+
+abbrev pub of_lower : LowerFault → CheckFault
+of_lower lower_fault.OutOfMemory = check_fault.OutOfMemory
+of_lower f = check_fault.Lower f
+
+abbrev pub of_init : InitFault → CheckFault
+of_init init_fault.OutOfMemory = check_fault.OutOfMemory
+of_init f = check_fault.Init f

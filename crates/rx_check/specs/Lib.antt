@@ -1,4 +1,4 @@
 pub mod Passes
+pub mod Front
 pub mod Faults
 pub mod Causes
-pub mod Kept

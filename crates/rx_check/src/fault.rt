@@ -5,6 +5,8 @@ ghost use Rattle.rx_check.specs.Faults as spec;
 
 use rx_core::Span;
 use rx_cover::CoverFault;
+use rx_facts::InitFault;
+use rx_lifetimes::LowerFault;
 use rx_resolve::NameFault;
 use rx_typeck::TypeFault;
 
@@ -17,6 +19,10 @@ pub enum CheckFault {
     Types(TypeFault),
     /// The first `match` or `let` that doesn't cover all values, or whose tests are too wide.
     Cover(CoverFault),
+    /// The first function whose graph passes a limit.
+    Lower(LowerFault),
+    /// What is wrong with the first function that is not initialised.
+    Init(InitFault),
     /// The first item that is beyond the first grammar, of a program that has no other fault.
     NotBuilt { at: Span },
     OutOfMemory,
@@ -49,5 +55,25 @@ pub(crate) fn of_cover(fault: CoverFault) -> CheckFault
     match fault {
         CoverFault::OutOfMemory => CheckFault::OutOfMemory,
         fault => CheckFault::Cover(fault),
+    }
+}
+
+/// A fault of graphs as one of the check.
+pub(crate) fn of_lower(fault: LowerFault) -> CheckFault
+    ensures { result ≡ spec.of_lower fault }
+{
+    match fault {
+        LowerFault::OutOfMemory => CheckFault::OutOfMemory,
+        fault => CheckFault::Lower(fault),
+    }
+}
+
+/// A fault of initialisation as one of the check.
+pub(crate) fn of_init(fault: InitFault) -> CheckFault
+    ensures { result ≡ spec.of_init fault }
+{
+    match fault {
+        InitFault::OutOfMemory => CheckFault::OutOfMemory,
+        fault => CheckFault::Init(fault),
     }
 }

@@ -1,17 +1,61 @@
 //! Programs that the passes accept, with what they found.
 
-ghost use Rattle.std.specs.Prelude.{◌≡◌};
-ghost use Rattle.rx_check.specs.Passes.{IsFronted, IsChecked};
+ghost use Rattle.std.specs.Prelude.{◌≡◌, ◌<◌, ℕ, length, slice_get, Some as SomeOf};
+ghost use Rattle.std.specs.Option.{IsSome};
+ghost use Rattle.rx_typed.specs.PlainTypes.{declarations};
+ghost use Rattle.rx_typeck.specs.declared.typed.TypedFn.{TypedFn as FnOf};
+ghost use Rattle.rx_declared.specs.Sizes.{Sized, told};
+ghost use Rattle.rx_parts.specs.Layouts.{plain-Frame, IsSized};
+ghost use Rattle.rx_lifetimes.specs.Answer.{IsLowered};
+ghost use Rattle.rx_live.specs.Tables.{Lives};
+ghost use Rattle.rx_init.specs.Answer.{IsTable};
+ghost use Rattle.rx_lowered.specs.Functions as lowered;
+ghost use Rattle.rx_facts.specs.Functions.{sites_of, frame_of, IsInitialised};
 
-use rx_core::LetGo;
-use rx_typeck::Typed;
+use rx_core::{LetGo, List};
+use rx_facts::{FunctionFacts, Lowered, ProgramFacts};
+use rx_init::InitTable;
+use rx_lifetimes::Graph;
+use rx_live::LiveTable;
+use rx_lowered::trimmed;
+use rx_parts::Frame;
+use rx_typeck::{Typed, TypedFn};
+use std::marker::Model;
 
-/// What the passes up to coverage know of a program.
+/// What the passes up to initialisation know of a program that they accept.
 #[derive(Drop)]
 pub struct FrontEnd {
     pub(crate) typed: Typed,
-    /// There is a program that they accept, with these types.
-    pub ghost fronted: { ∥ IsFronted typed ∥₁ },
+    pub(crate) graphs: List<Lowered>,
+    pub(crate) facts: ProgramFacts,
+}
+
+impl Model for FrontEnd {
+    ghost use Rattle.std.specs.Coded.{codes};
+    ghost use Rattle.rx_typeck.specs.contracts.typed.Typed.{the_row as typed_row};
+    ghost use Rattle.rx_facts.specs.contracts.lowering.Lowered.{the_row as lowered_row};
+    ghost use Rattle.rx_facts.specs.contracts.finding.ProgramFacts.{the_row as facts_row};
+    ghost use Rattle.rx_check.specs.Front.{Front, IsFronted};
+
+    ghost Value = { Front };
+
+    ghost coded = { Prim.hlevel (codes, typed_row.coded, lowered_row.coded, facts_row.coded) };
+
+    ghost view = { λ f. record { typed = f.typed; graphs = f.graphs; facts = f.facts } };
+
+    ghost invariant = { λ f. IsFronted (record { typed = f.typed; graphs = f.graphs; facts = f.facts }) };
+}
+
+/// The place of the function of an item among all; how many there are, where it is none of them.
+fn place_of(functions: &[TypedFn], item: u32) -> usize
+    ensures { (f : FnOf) → lowered.function_at functions.now item ≡ SomeOf f → slice_get functions.now result ≡ SomeOf f }
+{
+    for i in 0..functions.len() {
+        if functions[i].item == item {
+            return i;
+        }
+    }
+    functions.len()
 }
 
 impl FrontEnd {
@@ -21,20 +65,71 @@ impl FrontEnd {
     {
         &self.typed
     }
+
+    /// How many parts each struct and enum has, by its item's number.
+    pub fn sizes(&self) -> &[u64]
+        ensures sizes { result.now ≡ self.now.facts.sizes }
+        ensures sized { Sized (declarations self.now.typed.decls.items) (told result.now) }
+    {
+        self.facts.sizes.as_slice()
+    }
+
+    /// The graph of the function of an item.
+    pub fn graph(&self, function: u32) -> &Graph
+        requires { IsSome (lowered.function_at self.now.typed.functions function) }
+        ensures { (f : FnOf) → lowered.function_at self.now.typed.functions function ≡ SomeOf f
+            → IsLowered (lowered.function self.now.typed.decls.items f) f.mutable result.now }
+    {
+        let place = place_of(self.typed.functions.as_slice(), function);
+        &self.graphs.as_slice()[place].graph
+    }
+
+    /// What is live in the function of an item.
+    pub fn live(&self, function: u32) -> &LiveTable
+        requires { IsSome (lowered.function_at self.now.typed.functions function) }
+        ensures { (f : FnOf) → lowered.function_at self.now.typed.functions function ≡ SomeOf f → Lives (sites_of f) result.now }
+    {
+        let place = place_of(self.typed.functions.as_slice(), function);
+        &self.facts.functions.as_slice()[place].live
+    }
+
+    /// What may be set and unset in the function of an item.
+    pub fn init(&self, function: u32) -> &InitTable
+        requires { IsSome (lowered.function_at self.now.typed.functions function) }
+        ensures { (f : FnOf) → lowered.function_at self.now.typed.functions function ≡ SomeOf f
+            → IsTable (frame_of (declarations self.now.typed.decls.items) (told self.now.facts.sizes) f) (sites_of f) result.now }
+    {
+        let place = place_of(self.typed.functions.as_slice(), function);
+        &self.facts.functions.as_slice()[place].init
+    }
 }
 
 /// A program that is accepted.
 #[derive(Drop)]
 pub struct Checked {
     pub(crate) front: FrontEnd,
-    /// There is a program that all passes accept, within the first grammar, with these types.
-    pub ghost checked: { ∥ IsChecked front.typed ∥₁ },
+}
+
+impl Model for Checked {
+    ghost use Rattle.std.specs.Coded.{codes};
+    ghost use Rattle.rx_typeck.specs.contracts.typed.Typed.{the_row as typed_row};
+    ghost use Rattle.rx_facts.specs.contracts.lowering.Lowered.{the_row as lowered_row};
+    ghost use Rattle.rx_facts.specs.contracts.finding.ProgramFacts.{the_row as facts_row};
+    ghost use Rattle.rx_check.specs.Front.{Front as Known, IsChecked};
+
+    ghost Value = { Known };
+
+    ghost coded = { Prim.hlevel (codes, typed_row.coded, lowered_row.coded, facts_row.coded) };
+
+    ghost view = { λ c. c.front };
+
+    ghost invariant = { λ c. IsChecked c.front };
 }
 
 impl Checked {
     /// What the passes know of it.
     pub fn front(&self) -> &FrontEnd
-        ensures { result.now ≡ self.now.front }
+        ensures { result.now ≡ self.now }
     {
         &self.front
     }

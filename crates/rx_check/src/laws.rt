@@ -7,14 +7,19 @@ ghost use Rattle.rx_check.specs.declared.fault.CheckFault.TheVariants as fault;
 ghost use Rattle.rx_check.specs.Causes.{Causes, PassCauses, AreOne};
 ghost use Rattle.rx_check.specs.Passes.{Accepted, Passes};
 
-use rx_typeck::{one_typed_program, typed_or_wrong};
+use rx_declared::one_size_each;
+use rx_facts::one_typing;
+use rx_typeck::{one_typed_program, typed_declarations_are_finite, typed_or_wrong};
 
 /// A program that all passes accept has no fault of a pass, and one that is within the first grammar too has none at all.
 pub fn passed_or_faulty()
     ensures accepted { (p : ProgramTree) (e : Fault) → Accepted p → PassCauses e p → e ≡ fault.OutOfMemory }
     ensures passed { (p : ProgramTree) (e : Fault) → Passes p → Causes e p → e ≡ fault.OutOfMemory }
 {
+    one_size_each();
     one_typed_program();
+    one_typing();
+    typed_declarations_are_finite();
     typed_or_wrong();
 }
 
@@ -22,6 +27,9 @@ pub fn passed_or_faulty()
 pub fn causes_are_one()
     ensures { (p : ProgramTree) (e f : Fault) → e ≢ fault.OutOfMemory → f ≢ fault.OutOfMemory → Causes e p → Causes f p → AreOne e f }
 {
+    one_size_each();
     one_typed_program();
+    one_typing();
+    typed_declarations_are_finite();
     typed_or_wrong();
 }

@@ -8,14 +8,18 @@ ghost use Rattle.rx_cycles.specs.Reaches.{NoCycle};
 ghost use Rattle.rx_declared.specs.Held.{held};
 ghost use Rattle.rx_typed.specs.PlainTypes.{declarations};
 ghost use Rattle.rx_cover.specs.Finding.{Numbered};
-ghost use Rattle.rx_check.specs.Causes.{Causes, PassCauses, FunctionsAnswer};
-ghost use Rattle.rx_check.specs.Passes.{Accepted, Passes};
-ghost use Rattle.rx_check.specs.Kept.{IsFrontOf, IsCheckedOf};
+ghost use Rattle.rx_facts.specs.Functions.{IsTypedProgram};
+ghost use Rattle.rx_facts.specs.Answers.{AreGraphs};
+ghost use Rattle.rx_check.specs.Causes.{Causes, PassCauses, FunctionsAnswer, TypedCauses, FoundIn};
+ghost use Rattle.rx_check.specs.Passes.{FunctionsCovered, Accepted, Passes};
+ghost use Rattle.rx_check.specs.Front.{IsFrontOf, IsCheckedOf};
 
-use crate::fault::{CheckFault, of_cover, of_names, of_types};
+use crate::fault::{CheckFault, of_cover, of_init, of_lower, of_names, of_types};
 use crate::front_end::{Checked, FrontEnd};
 use crate::laws::passed_or_faulty;
+use rx_core::{LetGo, List};
 use rx_cover::{CoverFault, covers};
+use rx_facts::{Lowered, ProgramFacts, facts, lower_all};
 use rx_first_check::other_item;
 use rx_resolve::{Resolved, resolve};
 use rx_tree::Program;
@@ -39,6 +43,57 @@ fn all_covered(alloc: Global, typed: &Typed) -> Result<(), CoverFault>
     Ok(())
 }
 
+/// What the passes behind types find.
+#[derive(Drop)]
+struct Found {
+    graphs: List<Lowered>,
+    facts: ProgramFacts,
+}
+
+/// The pass over initialisation.
+fn with_graphs(alloc: Global, typed: &Typed, graphs: List<Lowered>) -> Result<Found, CheckFault>
+    requires typed { IsTypedProgram typed.now }
+    requires covered { FunctionsCovered (declarations typed.now.decls.items) typed.now.functions }
+    requires graphs { AreGraphs typed.now graphs }
+    ensures found { IfOk result (λ x. FoundIn typed.now x) }
+    ensures fault { IfErr result (λ e. TypedCauses e typed.now) }
+{
+    match facts(alloc, typed, graphs.as_slice()) {
+        Ok(facts) => Ok(Found { graphs, facts }),
+        Err(fault) => {
+            graphs.let_go();
+            Err(of_init(fault))
+        }
+    }
+}
+
+/// The passes over graphs and initialisation.
+fn with_matches(alloc: Global, typed: &Typed) -> Result<Found, CheckFault>
+    requires typed { IsTypedProgram typed.now }
+    requires covered { FunctionsCovered (declarations typed.now.decls.items) typed.now.functions }
+    ensures found { IfOk result (λ x. FoundIn typed.now x) }
+    ensures fault { IfErr result (λ e. TypedCauses e typed.now) }
+{
+    match lower_all(alloc, typed) {
+        Ok(graphs) => with_graphs(alloc, typed, graphs),
+        Err(fault) => Err(of_lower(fault)),
+    }
+}
+
+/// The passes behind types.
+fn behind_types(alloc: Global, typed: &Typed) -> Result<Found, CheckFault>
+    requires typed { IsTypedProgram typed.now }
+    requires finite { NoCycle (held (declarations typed.now.decls.items)) }
+    requires numbered { Numbered (declarations typed.now.decls.items) }
+    ensures found { IfOk result (λ x. FoundIn typed.now x) }
+    ensures fault { IfErr result (λ e. TypedCauses e typed.now) }
+{
+    match all_covered(alloc, typed) {
+        Ok(()) => with_matches(alloc, typed),
+        Err(fault) => Err(of_cover(fault)),
+    }
+}
+
 /// The passes behind names.
 fn fronted(alloc: Global, program: &Program, names: &Resolved) -> Result<FrontEnd, CheckFault>
     requires numbered { IsNumbered (plain-Program program.now) }
@@ -48,15 +103,19 @@ fn fronted(alloc: Global, program: &Program, names: &Resolved) -> Result<FrontEn
 {
     typed_declarations_are_finite();
     match typecheck(alloc, program, names) {
-        Ok(typed) => match all_covered(alloc, &typed) {
-            Ok(()) => Ok(FrontEnd { typed }),
-            Err(fault) => Err(of_cover(fault)),
+        Ok(typed) => match behind_types(alloc, &typed) {
+            Ok(found) => Ok(FrontEnd {
+                typed,
+                graphs: found.graphs,
+                facts: found.facts,
+            }),
+            Err(fault) => Err(fault),
         },
         Err(fault) => Err(of_types(fault)),
     }
 }
 
-/// Names, types and coverage of a program, each over all of it before the next.
+/// Names, types, coverage, graphs and initialisation of a program, each over all of it before the next.
 ///
 /// # Errors
 ///

@@ -16,6 +16,8 @@ fn main() { let x = 1; let r = &mut x; } | Mutability 31 37 16 17
 fn main() { let x = 300u8; } | Literal 20 25
 fn f(p: &i64, q: &i64) -> &i64 { p } fn main() {} | Elision 26 30
 fn main() { match true { true => {} } } | Missing 12 37 false
+fn main() { let x: i64; println!(\"{}\", x); } | Unset 39 40
+fn main() { let x = 1; x = 2; } | Again 23 28 16 17
 fn main() { let a = 9223372036854775808i64; } | Literal 20 42
 fn main() { let a = -9223372036854775808i64; } | NotBuilt 0 46
 fn main() { let a = 9223372036854775807i64; } | accepted";
@@ -45,12 +47,17 @@ fn each_rule_has_its_word(rt: HostRuntime) {
     all_said(&rt, rt.alloc(), RULES);
 }
 
-/// Names come before types, types before coverage, and all of them before the first grammar.
+/// Names come before types, types before coverage, coverage before initialisation, and all of them before the first grammar; each
+/// goes over all functions.
 const ORDER: &str = "\
 fn f() { match true { true => {} } } fn main() { let x: i64 = true; } | Mismatch 62 66 Equal
 fn f() { let x: i64 = true; } fn main() { y; } | Unknown 42 43
 fn f() { match true { true => {} } } fn main() { if true {} } | Missing 9 34 false
 struct S {} fn main() { match 1u8 { 1 => {} } match true { true => {} } } | Missing 24 45 0
+fn f() { let x: i64; let y = x; } fn main() { match true { true => {} } } | Missing 46 71 false
+fn f() { let x: i64; let y = x; } fn main() { let z = 1; z = 2; } | Unset 25 26
+fn f() { let z = 1; z = 2; } fn main() { let x: i64; let y = x; } | Again 20 25 13 14
+struct S {} fn main() { let x: i64; let y = x; } | Unset 40 41
 fn main() { if true {} } | NotBuilt 0 24
 fn main() { x; } enum E { A } | Unknown 12 13
 fn main() { f(1i64); } | Unknown 12 13

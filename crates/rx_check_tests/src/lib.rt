@@ -1,10 +1,12 @@
-//! Tests of the command `check` over the whole language: faults of names, types and coverage, with their places and values.
+//! Tests of the command `check` over the whole language: a fault of each pass, with its places and values.
 #![tactic(auto)]
 
 #[cfg(test)]
 mod covered;
 #[cfg(test)]
 mod faults;
+#[cfg(test)]
+mod large;
 #[cfg(test)]
 mod said;
 #[cfg(test)]

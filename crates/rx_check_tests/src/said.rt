@@ -61,6 +61,14 @@ pub fn is_said(alloc: Global, text: &str, want: &str) -> Outcome {
     said.is(alloc, want)
 }
 
+/// Adds a part to a text so often.
+pub fn push_times(text: &mut String, part: &str, count: usize) -> Result<(), AllocError> {
+    for _ in 0..count {
+        text.push_str(part)?;
+    }
+    Ok(())
+}
+
 /// Ends the test unless it holds, naming what it is of.
 pub fn hold(rt: &impl Abort, outcome: Outcome, row: &str) {
     assert!(rt; outcome == Ok(true), "{row}");

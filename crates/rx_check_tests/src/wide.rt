@@ -1,14 +1,7 @@
 //! Matches of many arms, and of many tested positions.
 
-use crate::said::{Outcome, checked, hold};
+use crate::said::{Outcome, checked, hold, push_times};
 use std::alloc::{AllocError, Global};
-
-fn push_times(text: &mut String, part: &str, count: usize) -> Result<(), AllocError> {
-    for _ in 0..count {
-        text.push_str(part)?;
-    }
-    Ok(())
-}
 
 /// A match on a number of 8 bits with the literals below a bound as arms.
 fn literals(alloc: Global, bound: u32) -> Result<String, AllocError> {

@@ -3,14 +3,14 @@
 ghost use Rattle.rx_tree.specs.PlainOf.{plain-Program};
 ghost use Rattle.rx_tree.specs.Size.{IsNumbered};
 
-use rx_check::front;
 use rx_core::{LetGo, List, Step};
 use rx_emit::{GraphFault, Site};
 use rx_flow::{Act, Action, Place, Root, Temporary};
 use rx_parse::{parse, parsed_programs_are_numbered};
+use rx_resolve::resolve;
 use rx_sites::sites;
 use rx_tree::Program;
-use rx_typeck::Typed;
+use rx_typeck::{Typed, typecheck};
 use rx_typed_tree::TypedTree;
 use std::alloc::{AllocError, Global};
 
@@ -184,9 +184,12 @@ fn program_text<F: Fn(Global, &Typed) -> Result<String, AllocError>>(
     requires numbered { IsNumbered (plain-Program program.now) }
     requires callable { F.IsAlwaysCallable said }
 {
-    match front(alloc, program) {
-        Ok(checked) => said(alloc, checked.typed()),
-        Err(_) => String::from_str(alloc, "not typed"),
+    match resolve(alloc, program) {
+        Ok(names) => match typecheck(alloc, program, &names) {
+            Ok(typed) => said(alloc, &typed),
+            Err(_) => String::from_str(alloc, "not typed"),
+        },
+        Err(_) => String::from_str(alloc, "not named"),
     }
 }
 

@@ -37,6 +37,8 @@ pub found_faulty : (p : ProgramTree) (f : CheckFault) → Causes f p → FoundOf
 found_faulty p (check.Name e) c = judged (faulty (check.Name e) (λ e. cc) c)
 found_faulty p (check.Types e) c = judged (faulty (check.Types e) (λ e. cc) c)
 found_faulty p (check.Cover e) c = judged (faulty (check.Cover e) (λ e. cc) c)
+found_faulty p (check.Lower e) c = judged (faulty (check.Lower e) (λ e. cc) c)
+found_faulty p (check.Init e) c = judged (faulty (check.Init e) (λ e. cc) c)
 found_faulty p (check.NotBuilt at) c = judged (faulty (check.NotBuilt at) (λ e. cc) c)
 found_faulty p check.OutOfMemory c = no_space
 

@@ -10,6 +10,10 @@ use Rattle.rx_cover.specs.declared.covering.CoverFault.{CoverFault}
 use Rattle.rx_cover.specs.declared.covering.CoverFault.TheVariants as cover
 use Rattle.rx_cover.specs.PlainValue.{plain-Value}
 use Rattle.rx_print_values.specs.Shown.{shown}
+use Rattle.rx_lifetimes.specs.declared.whole.LowerFault.{LowerFault}
+use Rattle.rx_lifetimes.specs.declared.whole.LowerFault.TheVariants as lower
+use Rattle.rx_facts.specs.declared.fault.InitFault.{InitFault}
+use Rattle.rx_facts.specs.declared.fault.InitFault.TheVariants as init
 use Rattle.rx_check.specs.declared.fault.CheckFault.{CheckFault}
 use Rattle.rx_check.specs.declared.fault.CheckFault.TheVariants as check
 use Rattle.rx_tool.specs.declared.status.Status.{Status}
@@ -53,11 +57,22 @@ line_of_cover p (cover.Missing at v) = line_of (with_span (codes "NotAccepted Mi
 line_of_cover p (cover.TooWide at n) = line_of (with_numbers (codes "NotAccepted TooWide") (at.start ∷ at.end ∷ n ∷ []))
 line_of_cover p cover.OutOfMemory = line_of (codes "OutOfMemory")
 
+abbrev pub line_of_lower : LowerFault → List ℕ
+line_of_lower (lower.TooLarge f s n) = line_of (with_numbers (codes "NotAccepted TooLarge") (f ∷ s ∷ n ∷ []))
+line_of_lower lower.OutOfMemory = line_of (codes "OutOfMemory")
+
+abbrev pub line_of_init : InitFault → List ℕ
+line_of_init (init.Unset at q) = line_of (with_span (codes "NotAccepted Unset") at)
+line_of_init (init.Again at v) = line_of (with_numbers (codes "NotAccepted Again") (at.start ∷ at.end ∷ v.start ∷ v.end ∷ []))
+line_of_init init.OutOfMemory = line_of (codes "OutOfMemory")
+
 -- the line of a fault of a program
 abbrev pub line_of_check : ProgramTree → CheckFault → List ℕ
 line_of_check p (check.Name f) = line_of_name f
 line_of_check p (check.Types f) = line_of_types f
 line_of_check p (check.Cover f) = line_of_cover p f
+line_of_check p (check.Lower f) = line_of_lower f
+line_of_check p (check.Init f) = line_of_init f
 line_of_check p (check.NotBuilt at) = line_of (with_span (codes "NotAccepted NotBuilt") at)
 line_of_check p check.OutOfMemory = line_of (codes "OutOfMemory")
 

@@ -12,6 +12,8 @@ use crate::status::Status;
 use rx_check::CheckFault;
 use rx_core::{Span, Text};
 use rx_cover::{CoverFault, Value};
+use rx_facts::InitFault;
+use rx_lifetimes::LowerFault;
 use rx_print_values::shown;
 use rx_resolve::NameFault;
 use rx_tree::Program;
@@ -112,6 +114,35 @@ fn line_of_cover(alloc: Global, program: &Program, fault: &CoverFault) -> Result
     }
 }
 
+fn line_of_lower(alloc: Global, fault: &LowerFault) -> Result<Text, AllocError>
+    ensures { IfOk result (λ l. l ≡ spec.line_of_lower fault.now) }
+{
+    match fault {
+        LowerFault::TooLarge {
+            function,
+            sites,
+            lifetimes,
+        } => {
+            let numbers = [*function as u64, *sites, *lifetimes];
+            line(alloc, "NotAccepted TooLarge", &numbers, "")
+        }
+        LowerFault::OutOfMemory => line(alloc, "OutOfMemory", &[], ""),
+    }
+}
+
+fn line_of_init(alloc: Global, fault: &InitFault) -> Result<Text, AllocError>
+    ensures { IfOk result (λ l. l ≡ spec.line_of_init fault.now) }
+{
+    match fault {
+        InitFault::Unset { at, .. } => line(alloc, "NotAccepted Unset", &[at.start, at.end], ""),
+        InitFault::Again { at, var } => {
+            let numbers = [at.start, at.end, var.start, var.end];
+            line(alloc, "NotAccepted Again", &numbers, "")
+        }
+        InitFault::OutOfMemory => line(alloc, "OutOfMemory", &[], ""),
+    }
+}
+
 /// The line of a fault of a program.
 pub fn line_of_check(
     alloc: Global,
@@ -124,6 +155,8 @@ pub fn line_of_check(
         CheckFault::Name(fault) => line_of_name(alloc, fault),
         CheckFault::Types(fault) => line_of_types(alloc, fault),
         CheckFault::Cover(fault) => line_of_cover(alloc, program, fault),
+        CheckFault::Lower(fault) => line_of_lower(alloc, fault),
+        CheckFault::Init(fault) => line_of_init(alloc, fault),
         CheckFault::NotBuilt { at } => {
             line(alloc, "NotAccepted NotBuilt", &[at.start, at.end], "")
         }

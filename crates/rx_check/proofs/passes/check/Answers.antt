@@ -12,7 +12,7 @@ told slice items o e is same found = ap (λ l. first (other_spans (map plain-Ite
 
 pub invariant_of-result : goal.invariant_of-result
 invariant_of-result c = let p = plain-Program c.args.program.now in
-    record { checked = ∣ (p, c.in-Ok.ensures.front, all_first p (told c.as_slice.result.now c.args.program.now.items c.other_item.result None c.other_item.ensures c.as_slice.ensures c.in-None.is)) ∣₁ }
+    (p, (c.in-Ok.ensures.front, all_first p (told c.as_slice.result.now c.args.program.now.items c.other_item.result None c.other_item.ensures c.as_slice.ensures c.in-None.is)))
 
 pub returns-in-None-clause-checked : goal.returns-in-None-clause-checked
 returns-in-None-clause-checked c = let p = plain-Program c.args.program.now in

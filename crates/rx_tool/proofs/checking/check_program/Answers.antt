@@ -2,7 +2,6 @@
 use Rattle.std.proofs.Common.{[], inl, inr}
 use Rattle.std.specs.Prelude.{codes}
 use Rattle.rx_tree.specs.PlainOf.{plain-Program}
-use Rattle.rx_check.specs.Kept.{typed_of, front_of}
 use Rattle.rx_tool.specs.declared.status.Status.TheVariants.{Done, OutOfMemory}
 use Rattle.rx_tool.specs.Lines.{status_line}
 use Rattle.rx_tool.specs.CheckLines.{line_of_check, status_of_check}
@@ -17,7 +16,7 @@ returns-in-Ok g c = (
   Done,
   codes "accepted\n",
   [],
-  judged (passed ((typed_of (front_of c.in-Ok.checked), c.in-Ok.ensures.checked.0), c.in-Ok.ensures.checked.1)),
+  judged (passed ((c.in-Ok.checked.typed, c.in-Ok.ensures.checked.0.accepted), c.in-Ok.ensures.checked.1)),
   delivered _ _ _ _ Done c.deliver.result (codes "accepted\n") c.deliver.ensures,
 )
 
