@@ -12,4 +12,6 @@ mod said;
 #[cfg(test)]
 mod values;
 #[cfg(test)]
+mod whole;
+#[cfg(test)]
 mod wide;
