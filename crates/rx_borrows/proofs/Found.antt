@@ -1,10 +1,10 @@
--- What is found of a function's lifetimes and loans is what is answered.
-use Rattle.std.proofs.Common.{◌≡◌, ◌≢◌, ℕ, ◌<◌, Bool, true, false, ◌&&◌, nat_lt, List, length, refl, sym, subst, true≢false, lt-ltb}
+-- What is found of a function's loans is what is answered.
+use Rattle.std.proofs.Common.{◌≡◌, ℕ, ◌<◌, Bool, true, false, ◌&&◌, nat_lt, List, length, sym, subst, true≢false, lt-ltb}
 use Rattle.rx_graph.specs.Tables.{at}
 use Rattle.rx_lower.specs.Graph.{Site}
 use Rattle.rx_lifetimes.specs.Numbered.{Own}
 use Rattle.rx_region.specs.Constraints.{Context}
-use Rattle.rx_region.specs.Solutions.{end, Sets, AreLeast}
+use Rattle.rx_region.specs.Solutions.{site, end, Sets, AreLeast}
 use Rattle.rx_region.specs.Known.{Missing}
 use Rattle.rx_region.proofs.LeastLaws.{least_serves, least_is_within}
 use Rattle.rx_regions.specs.Tables.{sets_of, Keeps}
@@ -15,13 +15,10 @@ use Rattle.rx_loan.specs.Tables.{IsTable, IsMet}
 use Rattle.rx_loan.specs.declared.table.LoanTable.{LoanTable}
 use Rattle.rx_loan.proofs.Walking.{more_scope, fewer_legal}
 use Rattle.rx_borrows.specs.Accepted.{at_sites, IsAccepted}
-use Rattle.rx_borrows.specs.Answer.{AreBorrows, IsForbidden, Refused}
-use Rattle.rx_borrows.specs.declared.judging.Borrows.{Borrows}
-use Rattle.rx_borrows.specs.declared.judging.BorrowFault.{BorrowFault}
-use Rattle.rx_borrows.specs.declared.judging.BorrowFault.TheVariants as fault
+use Rattle.rx_borrows.specs.Answer.{AreLoans, IsForbidden}
 use Rattle.rx_borrows.proofs.Fewest.{least_too}
 
-nothing_missing : (C : Context) (g : List Site) (R : Sets) → AreLeast C g R → Keeps C R → (l k : ℕ) → Missing C g l k → ⊥
+pub nothing_missing : (C : Context) (g : List Site) (R : Sets) → AreLeast C g R → Keeps C R → (l k : ℕ) → Missing C g l k → ⊥
 nothing_missing C g R least keeps l k m = m.unknown (keeps l k m.long m.short ((least l (end k)).1 m.needed))
 
 -- ---- the sites of rows, and of sets
@@ -41,27 +38,37 @@ set_has r l p h = behind (nat_lt p r.sites) (at r.rows l p) h where
   behind true b h = h
   behind false b h = absurd (true≢false (sym h))
 
-same_table : (g : List Site) (os : List Own) (r : Regions) (t : LoanTable) → r.sites ≡ length g → IsTable g os (at r.rows) t → IsTable g os (at_sites (sets_of r)) t
-same_table g os r t is table = record {
+-- a table by some sets of sites is one by others that have the same
+same_table : (g : List Site) (os : List Own) (R S : ℕ → ℕ → Bool) (t : LoanTable) → ((l p : ℕ) → p < length g → R l p ≡ true → S l p ≡ true)
+    → ((l p : ℕ) → p < length g → S l p ≡ true → R l p ≡ true) → IsTable g os R t → IsTable g os S t
+same_table g os R S t more fewer table = record {
   list = table.list;
   exact = λ i p l e w. (
-    λ h. more_scope g (at r.rows) (at_sites (sets_of r)) l p w (λ x y v b. row_has r g is x y v b) ((table.exact i p l e w).0 h),
-    λ s. (table.exact i p l e w).1 (more_scope g (at_sites (sets_of r)) (at r.rows) l p w (λ x y v b. set_has r x y b) s),
+    λ h. more_scope g R S l p w more ((table.exact i p l e w).0 h),
+    λ s. (table.exact i p l e w).1 (more_scope g S R l p w fewer s),
   );
 }
 
+-- two least sets have the same points
+same_least : (C : Context) (g : List Site) (R S : Sets) → AreLeast C g R → AreLeast C g S → (l p : ℕ) → at_sites R l p ≡ true → at_sites S l p ≡ true
+same_least C g R S a b l p h = (b l (site p)).1 ((a l (site p)).0 h)
+
 -- ---- answers
 
-pub accepted : (C : Context) (g : List Site) (b : Borrows) → b.regions.sites ≡ length g → AreLeast C g (sets_of b.regions) → Keeps C (sets_of b.regions)
-    → IsTable g C.lifetimes.owned (at b.regions.rows) b.loans → IsLegal g (at b.regions.rows) (loans_of g C.lifetimes.owned) → AreBorrows C g b
-accepted C g b is least known table legal = record {
-  least = least;
-  accepted = record {
-    solution = least_serves C g (sets_of b.regions) least;
-    known = known;
-    legal = fewer_legal g (at_sites (sets_of b.regions)) (at b.regions.rows) (loans_of g C.lifetimes.owned) (λ x y w h. set_has b.regions x y h) legal;
-  };
-  loans = same_table g C.lifetimes.owned b.regions b.loans is table;
+pub accepted : (C : Context) (g : List Site) (r : Regions) (t : LoanTable) → r.sites ≡ length g → AreLeast C g (sets_of r) → Keeps C (sets_of r)
+    → IsTable g C.lifetimes.owned (at r.rows) t → IsLegal g (at r.rows) (loans_of g C.lifetimes.owned) → AreLoans C g t
+accepted C g r t is least known table legal = record {
+  accepted = (
+    sets_of r,
+    record {
+      solution = least_serves C g (sets_of r) least;
+      known = known;
+      legal = fewer_legal g (at_sites (sets_of r)) (at r.rows) (loans_of g C.lifetimes.owned) (λ x y w h. set_has r x y h) legal;
+    },
+  );
+  exact = λ R other. same_table g C.lifetimes.owned (at r.rows) (at_sites R) t
+      (λ x y w h. same_least C g (sets_of r) R least other x y (row_has r g is x y w h))
+      (λ x y w h. set_has r x y (same_least C g R (sets_of r) other least x y h)) table;
 }
 
 pub forbidden : (C : Context) (g : List Site) (r : Regions) (b p : ℕ) → r.sites ≡ length g → AreLeast C g (sets_of r) → Keeps C (sets_of r)
@@ -81,8 +88,10 @@ forbidden C g r b p is least known met = record {
   );
 }
 
-pub not_both : (C : Context) (g : List Site) (e : BorrowFault) → e ≢ fault.OutOfMemory → Refused C g e → IsAccepted C g → ⊥
-not_both C g (fault.Region l k) told refused is = let m = refused.0 in
-    m.unknown (is.1.known l k m.long m.short (least_is_within C g is.0 is.1.solution l (end k) m.needed))
-not_both C g (fault.Loan b p) told refused is = (least_too C g is.0 refused.sets is.1 refused.least).legal refused.met.0 p refused.met.2
-not_both C g fault.OutOfMemory told refused is = told refl
+-- ---- refusals exclude acceptance
+
+pub missing_or_accepted : (C : Context) (g : List Site) (l k : ℕ) → Missing C g l k → IsAccepted C g → ⊥
+missing_or_accepted C g l k m is = m.unknown (is.1.known l k m.long m.short (least_is_within C g is.0 is.1.solution l (end k) m.needed))
+
+pub forbidden_or_accepted : (C : Context) (g : List Site) (b p : ℕ) → IsForbidden C g b p → IsAccepted C g → ⊥
+forbidden_or_accepted C g b p refused is = (least_too C g is.0 refused.sets is.1 refused.least).legal refused.met.0 p refused.met.2

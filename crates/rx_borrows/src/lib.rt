@@ -4,5 +4,5 @@
 mod judging;
 mod laws;
 
-pub use judging::{BorrowFault, Borrows, check_borrows};
+pub use judging::{BorrowFault, check_loans};
 pub use laws::{accepted_or_refused, fewest_are_accepted};

@@ -27,44 +27,44 @@ use Rattle.rx_facts.specs.Functions.{body}
 
 -- ---- what is recorded counts for nothing
 
-abbrev plain : List Decl → List Decl
+abbrev pub plain : List Decl → List Decl
 plain D = map unrecorded D
 
-abbrev unrecorded_option : Option Decl → Option Decl
+abbrev pub unrecorded_option : Option Decl → Option Decl
 unrecorded_option o = option_map unrecorded o
 
-lifetimes_same : (o : Option Decl) → lifetimes_of (unrecorded_option o) ≡ lifetimes_of o
+pub lifetimes_same : (o : Option Decl) → lifetimes_of (unrecorded_option o) ≡ lifetimes_of o
 lifetimes_same None = refl
 lifetimes_same (Some decl.Rt) = refl
 lifetimes_same (Some (decl.Struct c l vs fs)) = refl
 lifetimes_same (Some (decl.Enum c l vs ds)) = refl
 lifetimes_same (Some (decl.Func l ps t bs)) = refl
 
-lifetimes_at : (D : List Decl) (i : ℕ) → lifetimes_of (slice_get (plain D) i) ≡ lifetimes_of (slice_get D i)
+pub lifetimes_at : (D : List Decl) (i : ℕ) → lifetimes_of (slice_get (plain D) i) ≡ lifetimes_of (slice_get D i)
 lifetimes_at D i = ap lifetimes_of (slice_get-map unrecorded D i) ∙ lifetimes_same (slice_get D i)
 
-parameters_same : (o : Option Decl) → parameters (unrecorded_option o) ≡ parameters o
+pub parameters_same : (o : Option Decl) → parameters (unrecorded_option o) ≡ parameters o
 parameters_same None = refl
 parameters_same (Some decl.Rt) = refl
 parameters_same (Some (decl.Struct c l vs fs)) = refl
 parameters_same (Some (decl.Enum c l vs ds)) = refl
 parameters_same (Some (decl.Func l ps t bs)) = refl
 
-result_same : (o : Option Decl) → result_type (unrecorded_option o) ≡ result_type o
+pub result_same : (o : Option Decl) → result_type (unrecorded_option o) ≡ result_type o
 result_same None = refl
 result_same (Some decl.Rt) = refl
 result_same (Some (decl.Struct c l vs fs)) = refl
 result_same (Some (decl.Enum c l vs ds)) = refl
 result_same (Some (decl.Func l ps t bs)) = refl
 
-fields_same : (o : Option Decl) → fields_of (unrecorded_option o) ≡ fields_of o
+pub fields_same : (o : Option Decl) → fields_of (unrecorded_option o) ≡ fields_of o
 fields_same None = refl
 fields_same (Some decl.Rt) = refl
 fields_same (Some (decl.Struct c l vs fs)) = refl
 fields_same (Some (decl.Enum c l vs ds)) = refl
 fields_same (Some (decl.Func l ps t bs)) = refl
 
-variant_same : (o : Option Decl) (v : ℕ) → places.variant_of (unrecorded_option o) v ≡ places.variant_of o v
+pub variant_same : (o : Option Decl) (v : ℕ) → places.variant_of (unrecorded_option o) v ≡ places.variant_of o v
 variant_same None v = refl
 variant_same (Some decl.Rt) v = refl
 variant_same (Some (decl.Struct c l vs fs)) v = refl
@@ -76,14 +76,14 @@ item_behind_same o ls (step.Field i) = ap (λ (ts : RegionTyps). instance ls (pa
 item_behind_same o ls (step.Variant v) = ap (λ (ts : RegionTyps). instance ls (region_tuple ts)) (variant_same o v)
 item_behind_same o ls (step.Deref k) = refl
 
-behind_same : (D : List Decl) (t : RegionTyp) (s : Step) → behind (plain D) t s ≡ behind D t s
+pub behind_same : (D : List Decl) (t : RegionTyp) (s : Step) → behind (plain D) t s ≡ behind D t s
 behind_same D (region_integer k) s = refl
 behind_same D region_boolean s = refl
 behind_same D (region_tuple ts) s = refl
 behind_same D (region_reference m l t) s = refl
 behind_same D (region_named k ls) s = ap (λ (o : Option Decl). item_behind o ls s) (slice_get-map unrecorded D k) ∙ item_behind_same (slice_get D k) ls s
 
-place_same : (D : List Decl) (t : RegionTyp) (ss : List Step) → place_type (plain D) t ss ≡ place_type D t ss
+pub place_same : (D : List Decl) (t : RegionTyp) (ss : List Step) → place_type (plain D) t ss ≡ place_type D t ss
 place_same D t [] = refl
 place_same D t (s ∷ ss) = ap (λ (x : RegionTyp). place_type (plain D) x ss) (behind_same D t s) ∙ place_same D (behind D t s) ss
 
@@ -100,7 +100,7 @@ made_same D tuple ts = refl
 made_same D (struct i) ts = made_item_same D i
 made_same D (variant_of i v) ts = made_item_same D i
 
-abbrev knowing : List Decl → List Open → Known
+abbrev pub knowing : List Decl → List Open → Known
 knowing D vs = record { items = D; variables = vs }
 
 value_same : (D : List Decl) (vs : List Open) (H : List Held) (a : Act) → value_type (knowing (plain D) vs) H a ≡ value_type (knowing D vs) H a
@@ -116,12 +116,12 @@ value_same D vs H (Input d) = refl
 value_same D vs H (Print t) = refl
 value_same D vs H (Give t) = refl
 
-held_same : (D : List Decl) (vs : List Open) (us : List Action) (H : List Held) → held_by (knowing (plain D) vs) H us ≡ held_by (knowing D vs) H us
+pub held_same : (D : List Decl) (vs : List Open) (us : List Action) (H : List Held) → held_by (knowing (plain D) vs) H us ≡ held_by (knowing D vs) H us
 held_same D vs [] H = refl
 held_same D vs (a ∷ us) H = ap (λ (t : RegionTyp). held_by (knowing (plain D) vs) (hold H (filled a.act) t) us) (value_same D vs H a.act)
     ∙ held_same D vs us (hold H (filled a.act) (value_type (knowing D vs) H a.act))
 
-own_same : (D : List Decl) (a : Act) → own_lifetimes (plain D) a ≡ own_lifetimes D a
+pub own_same : (D : List Decl) (a : Act) → own_lifetimes (plain D) a ≡ own_lifetimes D a
 own_same D (Declare x) = refl
 own_same D (Dead x) = refl
 own_same D (Read m p d) = refl
@@ -134,7 +134,7 @@ own_same D (Input d) = refl
 own_same D (Print t) = refl
 own_same D (Give t) = refl
 
-all_own_same : (D : List Decl) (us : List Action) → all_own (plain D) us ≡ all_own D us
+pub all_own_same : (D : List Decl) (us : List Action) → all_own (plain D) us ≡ all_own D us
 all_own_same D [] = refl
 all_own_same D (a ∷ us) = λ j. own_same D a.act j + all_own_same D us j
 
@@ -143,15 +143,15 @@ positions_same D vs us = λ j. in_variables vs + (in_held (held_same D vs us [] 
 
 -- ---- types of variables with the numbers of their lifetimes
 
-abbrev known_type : Option RegionTyp → RegionTyp
+abbrev pub known_type : Option RegionTyp → RegionTyp
 known_type (Some t) = t
 known_type None = unit_region
 
-abbrev opened : ℕ → Option RegionTyp → Option RegionTyp → Open
+abbrev pub opened : ℕ → Option RegionTyp → Option RegionTyp → Open
 opened own (Some t) r = record { typ = t; from = own }
 opened own None r = record { typ = known_type r; from = 0 }
 
-abbrev all_opened : ℕ → List Parameter → List Ty → List Written → ℕ → List (Option RegionTyp) → List Open
+abbrev pub all_opened : ℕ → List Parameter → List Ty → List Written → ℕ → List (Option RegionTyp) → List Open
 all_opened own ps ts ws x [] = []
 all_opened own ps ts ws x (r ∷ rs) = opened own (told (parameter_type ps ts x) (written_type ws x)) r ∷ all_opened own ps ts ws (suc x) rs
 
@@ -160,7 +160,7 @@ opened_is own (Some t) r = refl
 opened_is own None None = refl
 opened_is own None (Some t) = refl
 
-all_opened_is : (own : ℕ) (ps : List Parameter) (ts : List Ty) (ws : List Written) (x : ℕ) (rs : List (Option Ty))
+pub all_opened_is : (own : ℕ) (ps : List Parameter) (ts : List Ty) (ws : List Written) (x : ℕ) (rs : List (Option Ty))
     → open_types own ps ts ws x rs ≡ all_opened own ps ts ws x (map (option_map region-Ty) rs)
 all_opened_is own ps ts ws x [] = refl
 all_opened_is own ps ts ws x (r ∷ rs) = λ j. opened_is own (told (parameter_type ps ts x) (written_type ws x)) r j ∷ all_opened_is own ps ts ws (suc x) rs j

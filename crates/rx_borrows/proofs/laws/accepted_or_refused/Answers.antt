@@ -1,5 +1,8 @@
-use Rattle.rx_borrows.proofs.Found.{not_both}
+use Rattle.rx_borrows.proofs.Found.{missing_or_accepted, forbidden_or_accepted}
 use Rattle.rx_borrows.proofs.laws.accepted_or_refused.Goals as goal
 
-pub returns : goal.returns
-returns c C g e = not_both C g e
+pub returns-clause-missing : goal.returns-clause-missing
+returns-clause-missing c = missing_or_accepted
+
+pub returns-clause-forbidden : goal.returns-clause-forbidden
+returns-clause-forbidden c = forbidden_or_accepted

@@ -1,0 +1,6 @@
+mod Variances
+mod Declared
+mod Asking
+mod Judging
+pub mod Telling
+pub mod Settling
