@@ -1,10 +1,6 @@
 -- Acceptance and a fault exclude each other, and two faults are of one pass.
-use Rattle.std.proofs.Common.{◌≡◌, ◌≢◌, ℕ, true, List, [], ◌∷◌, Some, unwrap_or, refl, sym, ap, subst, ◌∙◌, true≢false}
-use Rattle.std.specs.Prelude.{if◌then◌else◌, is_none}
-use Rattle.std.proofs.lemmas.Bool.{and_parts}
-use Rattle.rx_core.specs.declared.types.Span.{Span}
+use Rattle.std.proofs.Common.{◌≡◌, ◌≢◌, ℕ, List, refl, ap, subst}
 use Rattle.rx_tree.specs.Plain.{ProgramTree}
-use Rattle.rx_tree.specs.Spans.{item_span}
 use Rattle.rx_resolve.specs.declared.resolved.ItemNames.{ItemNames}
 use Rattle.rx_resolve.specs.Causes.{Meant}
 use Rattle.rx_cycles.specs.Reaches.{NoCycle}
@@ -25,28 +21,17 @@ use Rattle.rx_facts.specs.Functions.{IsSmall, IsLarge, IsInitialised, IsUninitia
 use Rattle.rx_facts.specs.Same.{SameFunction, AreSame}
 use Rattle.rx_facts.proofs.Passing.{first_or_all, first_both, first_alike, all_alike}
 use Rattle.rx_facts.proofs.Settling.{settled_small, one_large, settled_initialised, same_small, same_large, same_initialised}
-use Rattle.rx_first_check.specs.FirstGrammar.{is_first_item, is_first_program}
-use Rattle.rx_first_check.specs.Faults.{first, other_spans}
+use Rattle.rx_judged.specs.declared.regions.RegionFault.{RegionFault}
+use Rattle.rx_judged.specs.declared.regions.RegionFault.TheVariants as region_fault
+use Rattle.rx_judged.specs.declared.loans.LoanFault.{LoanFault}
+use Rattle.rx_judged.specs.Answers.{FirstLacks, FirstMeets}
+use Rattle.rx_judged.proofs.Settling.{lacks_in, meets_in, lacks_or_lack_none, borrowing_lacks_none, meets_or_borrow, lacks_are_one}
 use Rattle.rx_check.specs.declared.fault.CheckFault.{CheckFault}
 use Rattle.rx_check.specs.declared.fault.CheckFault.TheVariants as check_fault
-use Rattle.rx_check.specs.Passes.{FunctionsCovered, IsFront, Accepted, Passes}
-use Rattle.rx_check.specs.Causes.{FirstUncovered, IsMistyped, IsUncovered, IsTooLarge, IsUnstarted, Causes, PassCauses, AreOneCover, AreOne}
+use Rattle.rx_check.specs.Passes.{FunctionsCovered, IsFront, Fronted, Accepted}
+use Rattle.rx_check.specs.Causes.{FirstUncovered, IsMistyped, IsUncovered, IsTooLarge, IsUnstarted, IsLacking, IsConflicting, Causes, PassCauses, AreOneCover, AreOne}
 use Rattle.rx_check.proofs.NameLemmas.{one_meaning, meant_or_misnamed, misnamed_one}
 use Rattle.rx_check.proofs.CoverLemmas.{uncovered_or_covered, uncovered_one, uncovered_alike}
-
--- ---- the first grammar
-
-none_other : (p : ProgramTree) → is_first_program p ≡ true → other_spans p ≡ []
-none_other [] h = refl
-none_other (i ∷ p) h =
-    let parts = and_parts (is_first_item i) (is_first_program p) h in
-    ap (λ b. if b then other_spans p else (item_span i ∷ other_spans p)) parts.0 ∙ none_other p parts.1
-
-pub first_or_other : (p : ProgramTree) (at : Span) → is_first_program p ≡ true → first (other_spans p) ≡ Some at → ⊥
-first_or_other p at h e = true≢false (ap is_none (sym (ap first (none_other p h)) ∙ e))
-
-some_is : {A : Type 0} (a b : A) → Some a ≡ Some b → a ≡ b
-some_is a b h = ap (λ o. unwrap_or o a) h
 
 -- ---- passes, by what the rules of types say
 
@@ -111,26 +96,62 @@ module _ (or_wrong : (p : ProgramTree) (ns : List ItemNames) (t : Typed) (e : Ty
       (all_alike SameFunction (IsInitialised D f.parts) (IsInitialised E c.first.parts) (λ f1 g k. same_initialised D E declared f.parts c.first.parts parts f1 g k)
       t.functions c.types.functions s.functions f.initialised)
 
-  pub accepted_or_faulty : (p : ProgramTree) (e : CheckFault) → Accepted p → PassCauses e p → e ≡ check_fault.OutOfMemory
-  accepted_or_faulty p (check_fault.Name e) a c = absurd (meant_or_misnamed p a.1.names e c.told a.1.meant c.cause)
-  accepted_or_faulty p (check_fault.Types e) a c = absurd (typed_or_mistyped p a.1.names a.0 a.1.meant a.1.typed e c)
-  accepted_or_faulty p (check_fault.Cover e) a c = absurd (covered_or_not p a.1.names a.0 a.1.meant a.1.typed a.1.covered e c)
-  accepted_or_faulty p (check_fault.Lower e) a c = absurd (small_or_not p a.1.names a.0 a.1.meant a.1.typed a.1.small e c)
-  accepted_or_faulty p (check_fault.Init e) a c = absurd (started_or_not p a.0 a.1 e c)
-  accepted_or_faulty p (check_fault.NotBuilt at) a c = absurd c
-  accepted_or_faulty p check_fault.OutOfMemory a c = refl
+  -- its fault of lifetimes, and of loans, as one of these types
+  lacks_of : (p : ProgramTree) (t : Typed) → IsFront p t → (e : RegionFault) → IsLacking p e → FirstLacks t e
+  lacks_of p t f e c =
+      let typed : IsTyped p f.names c.types = subst (λ x. IsTyped p x c.types) (one_meaning p c.front.names f.names c.front.meant f.meant) c.front.typed in
+      lacks_in c.types t (same p f.names c.types t typed f.typed) typed.recorded f.typed.recorded e c.first
 
-  pub passed_or_faulty : (p : ProgramTree) (e : CheckFault) → Passes p → Causes e p → e ≡ check_fault.OutOfMemory
-  passed_or_faulty p (check_fault.Name e) a c = accepted_or_faulty p (check_fault.Name e) a.0 c
-  passed_or_faulty p (check_fault.Types e) a c = accepted_or_faulty p (check_fault.Types e) a.0 c
-  passed_or_faulty p (check_fault.Cover e) a c = accepted_or_faulty p (check_fault.Cover e) a.0 c
-  passed_or_faulty p (check_fault.Lower e) a c = accepted_or_faulty p (check_fault.Lower e) a.0 c
-  passed_or_faulty p (check_fault.Init e) a c = accepted_or_faulty p (check_fault.Init e) a.0 c
-  passed_or_faulty p (check_fault.NotBuilt at) a c = absurd (first_or_other p at a.1 c.item)
-  passed_or_faulty p check_fault.OutOfMemory a c = refl
+  meets_of : (p : ProgramTree) (t : Typed) → IsFront p t → (e : LoanFault) → IsConflicting p e → FirstMeets t e
+  meets_of p t f e c =
+      let typed : IsTyped p f.names c.types = subst (λ x. IsTyped p x c.types) (one_meaning p c.front.names f.names c.front.meant f.meant) c.front.typed in
+      meets_in c.types t (same p f.names c.types t typed f.typed) typed.recorded f.typed.recorded e c.first
+
+  pub fronted_or_faulty : (p : ProgramTree) (e : CheckFault) → Fronted p → PassCauses e p → e ≡ check_fault.OutOfMemory
+  fronted_or_faulty p (check_fault.Name e) a c = absurd (meant_or_misnamed p a.1.names e c.told a.1.meant c.cause)
+  fronted_or_faulty p (check_fault.Types e) a c = absurd (typed_or_mistyped p a.1.names a.0 a.1.meant a.1.typed e c)
+  fronted_or_faulty p (check_fault.Cover e) a c = absurd (covered_or_not p a.1.names a.0 a.1.meant a.1.typed a.1.covered e c)
+  fronted_or_faulty p (check_fault.Lower e) a c = absurd (small_or_not p a.1.names a.0 a.1.meant a.1.typed a.1.small e c)
+  fronted_or_faulty p (check_fault.Init e) a c = absurd (started_or_not p a.0 a.1 e c)
+  fronted_or_faulty p (check_fault.Region i l k) a c = absurd c
+  fronted_or_faulty p (check_fault.Loan e) a c = absurd c
+  fronted_or_faulty p check_fault.OutOfMemory a c = refl
+
+  pub accepted_or_faulty : (p : ProgramTree) (e : CheckFault) → Accepted p → Causes e p → e ≡ check_fault.OutOfMemory
+  accepted_or_faulty p (check_fault.Name e) a c = fronted_or_faulty p (check_fault.Name e) (a.0, a.1.front) c
+  accepted_or_faulty p (check_fault.Types e) a c = fronted_or_faulty p (check_fault.Types e) (a.0, a.1.front) c
+  accepted_or_faulty p (check_fault.Cover e) a c = fronted_or_faulty p (check_fault.Cover e) (a.0, a.1.front) c
+  accepted_or_faulty p (check_fault.Lower e) a c = fronted_or_faulty p (check_fault.Lower e) (a.0, a.1.front) c
+  accepted_or_faulty p (check_fault.Init e) a c = fronted_or_faulty p (check_fault.Init e) (a.0, a.1.front) c
+  accepted_or_faulty p (check_fault.Region i l k) a c =
+      absurd (lacks_or_lack_none a.0 (region_fault.Missing i l k) (λ e. cc) (lacks_of p a.0 a.1.front (region_fault.Missing i l k) c) (borrowing_lacks_none a.0 a.1.borrows))
+  accepted_or_faulty p (check_fault.Loan e) a c = absurd (meets_or_borrow a.0 e c.told (meets_of p a.0 a.1.front e c) a.1.borrows)
+  accepted_or_faulty p check_fault.OutOfMemory a c = refl
 
   covers_one : (p : ProgramTree) (d e : CoverFault) → IsUncovered p d → IsUncovered p e → AreOneCover d e
   covers_one p d e a b = uncovered_one (declarations a.types.decls.items) a.types.functions d e a.told b.told a.first (uncovered_in p a.names a.types a.meant a.typed e b)
+
+  -- the first pair is one, and no loan is looked at where a pair is missing
+  lacks_one : (p : ProgramTree) (d e : RegionFault) → d ≢ region_fault.OutOfMemory → e ≢ region_fault.OutOfMemory → IsLacking p d → IsLacking p e → d ≡ e
+  lacks_one p d e h i a b = lacks_are_one a.types d e h i a.first (lacks_of p a.types a.front e b)
+
+  lacks_or_meets : (p : ProgramTree) (d : RegionFault) (e : LoanFault) → d ≢ region_fault.OutOfMemory → IsLacking p d → IsConflicting p e → ⊥
+  lacks_or_meets p d e told a b = lacks_or_lack_none b.types d told (lacks_of p b.types b.front d a) b.known
+
+  abbrev item_of : RegionFault → ℕ
+  item_of (region_fault.Missing i l k) = i
+  item_of region_fault.OutOfMemory = 0
+
+  abbrev long_of : RegionFault → ℕ
+  long_of (region_fault.Missing i l k) = l
+  long_of region_fault.OutOfMemory = 0
+
+  abbrev short_of : RegionFault → ℕ
+  short_of (region_fault.Missing i l k) = k
+  short_of region_fault.OutOfMemory = 0
+
+  pairs_one : (i l k j m n : ℕ) → region_fault.Missing i l k ≡ region_fault.Missing j m n → (i ≡ j) × (l ≡ m) × (k ≡ n)
+  pairs_one i l k j m n e = (ap item_of e, ap long_of e, ap short_of e)
 
   pub causes_one : (p : ProgramTree) (d e : CheckFault) → d ≢ check_fault.OutOfMemory → e ≢ check_fault.OutOfMemory → Causes d p → Causes e p → AreOne d e
   causes_one p (check_fault.Name d) (check_fault.Name e) h i a b = misnamed_one p d e a.told b.told a.cause b.cause
@@ -138,36 +159,50 @@ module _ (or_wrong : (p : ProgramTree) (ns : List ItemNames) (t : Typed) (e : Ty
   causes_one p (check_fault.Name d) (check_fault.Cover e) h i a b = absurd (meant_or_misnamed p b.names d a.told b.meant a.cause)
   causes_one p (check_fault.Name d) (check_fault.Lower e) h i a b = absurd (meant_or_misnamed p b.names d a.told b.meant a.cause)
   causes_one p (check_fault.Name d) (check_fault.Init e) h i a b = absurd (meant_or_misnamed p b.names d a.told b.meant a.cause)
-  causes_one p (check_fault.Name d) (check_fault.NotBuilt t) h i a b = absurd (meant_or_misnamed p b.accepted.1.names d a.told b.accepted.1.meant a.cause)
   causes_one p (check_fault.Types d) (check_fault.Name e) h i a b = absurd (meant_or_misnamed p a.names e b.told a.meant b.cause)
   causes_one p (check_fault.Types d) (check_fault.Types e) h i a b = tt
   causes_one p (check_fault.Types d) (check_fault.Cover e) h i a b = absurd (typed_or_mistyped p b.names b.types b.meant b.typed d a)
   causes_one p (check_fault.Types d) (check_fault.Lower e) h i a b = absurd (typed_or_mistyped p b.names b.types b.meant b.typed d a)
   causes_one p (check_fault.Types d) (check_fault.Init e) h i a b = absurd (typed_or_mistyped p b.names b.types b.meant b.typed d a)
-  causes_one p (check_fault.Types d) (check_fault.NotBuilt t) h i a b = absurd (typed_or_mistyped p b.accepted.1.names b.accepted.0 b.accepted.1.meant b.accepted.1.typed d a)
   causes_one p (check_fault.Cover d) (check_fault.Name e) h i a b = absurd (meant_or_misnamed p a.names e b.told a.meant b.cause)
   causes_one p (check_fault.Cover d) (check_fault.Types e) h i a b = absurd (typed_or_mistyped p a.names a.types a.meant a.typed e b)
   causes_one p (check_fault.Cover d) (check_fault.Cover e) h i a b = covers_one p d e a b
   causes_one p (check_fault.Cover d) (check_fault.Lower e) h i a b = absurd (covered_or_not p b.names b.types b.meant b.typed b.covered d a)
   causes_one p (check_fault.Cover d) (check_fault.Init e) h i a b = absurd (covered_or_not p b.names b.types b.meant b.typed b.covered d a)
-  causes_one p (check_fault.Cover d) (check_fault.NotBuilt t) h i a b = absurd (covered_or_not p b.accepted.1.names b.accepted.0 b.accepted.1.meant b.accepted.1.typed b.accepted.1.covered d a)
   causes_one p (check_fault.Lower d) (check_fault.Name e) h i a b = absurd (meant_or_misnamed p a.names e b.told a.meant b.cause)
   causes_one p (check_fault.Lower d) (check_fault.Types e) h i a b = absurd (typed_or_mistyped p a.names a.types a.meant a.typed e b)
   causes_one p (check_fault.Lower d) (check_fault.Cover e) h i a b = absurd (covered_or_not p a.names a.types a.meant a.typed a.covered e b)
   causes_one p (check_fault.Lower d) (check_fault.Lower e) h i a b = larges_one p d e a b
   causes_one p (check_fault.Lower d) (check_fault.Init e) h i a b = absurd (small_or_not p b.names b.types b.meant b.typed b.small d a)
-  causes_one p (check_fault.Lower d) (check_fault.NotBuilt t) h i a b = absurd (small_or_not p b.accepted.1.names b.accepted.0 b.accepted.1.meant b.accepted.1.typed b.accepted.1.small d a)
   causes_one p (check_fault.Init d) (check_fault.Name e) h i a b = absurd (meant_or_misnamed p a.names e b.told a.meant b.cause)
   causes_one p (check_fault.Init d) (check_fault.Types e) h i a b = absurd (typed_or_mistyped p a.names a.types a.meant a.typed e b)
   causes_one p (check_fault.Init d) (check_fault.Cover e) h i a b = absurd (covered_or_not p a.names a.types a.meant a.typed a.covered e b)
   causes_one p (check_fault.Init d) (check_fault.Lower e) h i a b = absurd (small_or_not p a.names a.types a.meant a.typed a.small e b)
   causes_one p (check_fault.Init d) (check_fault.Init e) h i a b = tt
-  causes_one p (check_fault.Init d) (check_fault.NotBuilt t) h i a b = absurd (started_or_not p b.accepted.0 b.accepted.1 d a)
-  causes_one p (check_fault.NotBuilt s) (check_fault.Name e) h i a b = absurd (meant_or_misnamed p a.accepted.1.names e b.told a.accepted.1.meant b.cause)
-  causes_one p (check_fault.NotBuilt s) (check_fault.Types e) h i a b = absurd (typed_or_mistyped p a.accepted.1.names a.accepted.0 a.accepted.1.meant a.accepted.1.typed e b)
-  causes_one p (check_fault.NotBuilt s) (check_fault.Cover e) h i a b = absurd (covered_or_not p a.accepted.1.names a.accepted.0 a.accepted.1.meant a.accepted.1.typed a.accepted.1.covered e b)
-  causes_one p (check_fault.NotBuilt s) (check_fault.Lower e) h i a b = absurd (small_or_not p a.accepted.1.names a.accepted.0 a.accepted.1.meant a.accepted.1.typed a.accepted.1.small e b)
-  causes_one p (check_fault.NotBuilt s) (check_fault.Init e) h i a b = absurd (started_or_not p a.accepted.0 a.accepted.1 e b)
-  causes_one p (check_fault.NotBuilt s) (check_fault.NotBuilt t) h i a b = some_is s t (sym a.item ∙ b.item)
+  causes_one p (check_fault.Name d) (check_fault.Region j m n) h i a b = absurd (h (fronted_or_faulty p (check_fault.Name d) (b.types, b.front) a))
+  causes_one p (check_fault.Name d) (check_fault.Loan e) h i a b = absurd (h (fronted_or_faulty p (check_fault.Name d) (b.types, b.front) a))
+  causes_one p (check_fault.Region q l k) (check_fault.Name e) h i a b = absurd (i (fronted_or_faulty p (check_fault.Name e) (a.types, a.front) b))
+  causes_one p (check_fault.Loan d) (check_fault.Name e) h i a b = absurd (i (fronted_or_faulty p (check_fault.Name e) (a.types, a.front) b))
+  causes_one p (check_fault.Types d) (check_fault.Region j m n) h i a b = absurd (h (fronted_or_faulty p (check_fault.Types d) (b.types, b.front) a))
+  causes_one p (check_fault.Types d) (check_fault.Loan e) h i a b = absurd (h (fronted_or_faulty p (check_fault.Types d) (b.types, b.front) a))
+  causes_one p (check_fault.Region q l k) (check_fault.Types e) h i a b = absurd (i (fronted_or_faulty p (check_fault.Types e) (a.types, a.front) b))
+  causes_one p (check_fault.Loan d) (check_fault.Types e) h i a b = absurd (i (fronted_or_faulty p (check_fault.Types e) (a.types, a.front) b))
+  causes_one p (check_fault.Cover d) (check_fault.Region j m n) h i a b = absurd (h (fronted_or_faulty p (check_fault.Cover d) (b.types, b.front) a))
+  causes_one p (check_fault.Cover d) (check_fault.Loan e) h i a b = absurd (h (fronted_or_faulty p (check_fault.Cover d) (b.types, b.front) a))
+  causes_one p (check_fault.Region q l k) (check_fault.Cover e) h i a b = absurd (i (fronted_or_faulty p (check_fault.Cover e) (a.types, a.front) b))
+  causes_one p (check_fault.Loan d) (check_fault.Cover e) h i a b = absurd (i (fronted_or_faulty p (check_fault.Cover e) (a.types, a.front) b))
+  causes_one p (check_fault.Lower d) (check_fault.Region j m n) h i a b = absurd (h (fronted_or_faulty p (check_fault.Lower d) (b.types, b.front) a))
+  causes_one p (check_fault.Lower d) (check_fault.Loan e) h i a b = absurd (h (fronted_or_faulty p (check_fault.Lower d) (b.types, b.front) a))
+  causes_one p (check_fault.Region q l k) (check_fault.Lower e) h i a b = absurd (i (fronted_or_faulty p (check_fault.Lower e) (a.types, a.front) b))
+  causes_one p (check_fault.Loan d) (check_fault.Lower e) h i a b = absurd (i (fronted_or_faulty p (check_fault.Lower e) (a.types, a.front) b))
+  causes_one p (check_fault.Init d) (check_fault.Region j m n) h i a b = absurd (h (fronted_or_faulty p (check_fault.Init d) (b.types, b.front) a))
+  causes_one p (check_fault.Init d) (check_fault.Loan e) h i a b = absurd (h (fronted_or_faulty p (check_fault.Init d) (b.types, b.front) a))
+  causes_one p (check_fault.Region q l k) (check_fault.Init e) h i a b = absurd (i (fronted_or_faulty p (check_fault.Init e) (a.types, a.front) b))
+  causes_one p (check_fault.Loan d) (check_fault.Init e) h i a b = absurd (i (fronted_or_faulty p (check_fault.Init e) (a.types, a.front) b))
+  causes_one p (check_fault.Region q l k) (check_fault.Region j m n) h i a b =
+      pairs_one q l k j m n (lacks_one p (region_fault.Missing q l k) (region_fault.Missing j m n) (λ e. cc) (λ e. cc) a b)
+  causes_one p (check_fault.Region q l k) (check_fault.Loan e) h i a b = absurd (lacks_or_meets p (region_fault.Missing q l k) e (λ e. cc) a b)
+  causes_one p (check_fault.Loan d) (check_fault.Region j m n) h i a b = absurd (lacks_or_meets p (region_fault.Missing j m n) d (λ e. cc) b a)
+  causes_one p (check_fault.Loan d) (check_fault.Loan e) h i a b = tt
   causes_one p check_fault.OutOfMemory e h i a b = absurd (h refl)
   causes_one p d check_fault.OutOfMemory h i a b = absurd (i refl)

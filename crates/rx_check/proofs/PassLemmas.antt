@@ -1,5 +1,6 @@
 -- What each pass says is said by the check.
-use Rattle.std.proofs.Common.{◌≢◌, List, Err}
+use Rattle.std.proofs.Common.{◌≢◌, List, Result, Ok, Err}
+use Rattle.std.specs.Prelude.{IfErr}
 use Rattle.rx_tree.specs.Plain.{ProgramTree}
 use Rattle.rx_resolve.specs.declared.resolved.ItemNames.{ItemNames}
 use Rattle.rx_resolve.specs.declared.resolved.NameFault.{NameFault}
@@ -25,12 +26,20 @@ use Rattle.rx_facts.specs.Passing.{AllAre}
 use Rattle.rx_facts.specs.Functions.{IsSmall, IsInitialised}
 use Rattle.rx_facts.specs.Answers.{IsGraphOf, AreGraphs, LowerAnswers, AreFactsOf, AreFacts, FactsAnswer}
 use Rattle.rx_facts.proofs.Passing.{all_of_each}
+use Rattle.rx_judged.specs.declared.regions.FunctionRegions.{FunctionRegions}
+use Rattle.rx_judged.specs.declared.regions.RegionFault.{RegionFault}
+use Rattle.rx_judged.specs.declared.regions.RegionFault.TheVariants as region_fault
+use Rattle.rx_judged.specs.declared.loans.FunctionLoans.{FunctionLoans}
+use Rattle.rx_judged.specs.declared.loans.LoanFault.{LoanFault}
+use Rattle.rx_judged.specs.declared.loans.LoanFault.TheVariants as loan_fault
+use Rattle.rx_judged.specs.Answers.{AreRegions, RegionsAnswer, AreLoans, LoansAnswer}
+use Rattle.rx_judged.proofs.Telling.{found_lack_none, found_borrow}
 use Rattle.rx_check.specs.declared.fault.CheckFault.{CheckFault}
 use Rattle.rx_check.specs.declared.fault.CheckFault.TheVariants as check_fault
-use Rattle.rx_check.specs.Passes.{FunctionsCovered}
-use Rattle.rx_check.specs.Front.{IsFrontOf}
-use Rattle.rx_check.specs.Faults.{of_names, of_types, of_cover, of_lower, of_init}
-use Rattle.rx_check.specs.Causes.{PassCauses, FunctionsAnswer, TypedCauses}
+use Rattle.rx_check.specs.Passes.{FunctionsCovered, IsFront}
+use Rattle.rx_check.specs.Front.{Front, IsFrontOf, IsCheckedOf}
+use Rattle.rx_check.specs.Faults.{of_names, of_types, of_cover, of_lower, of_init, of_regions, of_loans}
+use Rattle.rx_check.specs.Causes.{Causes, PassCauses, FunctionsAnswer, TypedCauses, BorrowCauses}
 
 pub misnamed : (p : ProgramTree) (e : NameFault) → naming.Causes e p → PassCauses (of_names e) p
 misnamed p (name_fault.Unknown s) c = record { told = λ e. cc; cause = c }
@@ -54,7 +63,8 @@ behind_types p ns t (check_fault.Init e) m h c = record { told = c.0; names = ns
 behind_types p ns t check_fault.OutOfMemory m h c = tt
 behind_types p ns t (check_fault.Name e) m h c = absurd c
 behind_types p ns t (check_fault.Types e) m h c = absurd c
-behind_types p ns t (check_fault.NotBuilt at) m h c = absurd c
+behind_types p ns t (check_fault.Region i l k) m h c = absurd c
+behind_types p ns t (check_fault.Loan e) m h c = absurd c
 
 pub uncovered : (t : Typed) (e : CoverFault) → FunctionsAnswer (declarations t.decls.items) t.functions (Err e) → TypedCauses (of_cover e) t
 uncovered t (cover_fault.Missing at v) a = (λ e. cc, a)
@@ -90,3 +100,44 @@ front_of p ns t gs x m h c g f = record {
   graphs = g;
   facts = f;
 }
+
+-- ---- behind initialisation
+
+pub lacking : (t : Typed) (e : RegionFault) → RegionsAnswer t (Err e) → BorrowCauses (of_regions e) t
+lacking t (region_fault.Missing i l k) a = a
+lacking t region_fault.OutOfMemory a = tt
+
+pub conflicting : (t : Typed) (xs : List FunctionRegions) (e : LoanFault) → AreRegions t xs → LoansAnswer t (Err e) → BorrowCauses (of_loans e) t
+conflicting t xs (loan_fault.Loan b c) regions a = (λ e. cc, found_lack_none t xs regions, a)
+conflicting t xs loan_fault.OutOfMemory regions a = tt
+
+pub behind_front : (p : ProgramTree) (t : Typed) (e : CheckFault) → IsFront p t → BorrowCauses e t → Causes e p
+behind_front p t (check_fault.Region i l k) f c = record { types = t; front = f; first = c }
+behind_front p t (check_fault.Loan e) f c = record { told = c.0; types = t; front = f; known = c.1; first = c.2 }
+behind_front p t check_fault.OutOfMemory f c = tt
+behind_front p t (check_fault.Name e) f c = absurd c
+behind_front p t (check_fault.Types e) f c = absurd c
+behind_front p t (check_fault.Cover e) f c = absurd c
+behind_front p t (check_fault.Lower e) f c = absurd c
+behind_front p t (check_fault.Init e) f c = absurd c
+
+-- what a pass up to initialisation says is said by the check
+pub of_pass : (p : ProgramTree) (e : CheckFault) → PassCauses e p → Causes e p
+of_pass p (check_fault.Name e) c = c
+of_pass p (check_fault.Types e) c = c
+of_pass p (check_fault.Cover e) c = c
+of_pass p (check_fault.Lower e) c = c
+of_pass p (check_fault.Init e) c = c
+of_pass p (check_fault.Region i l k) c = absurd c
+of_pass p (check_fault.Loan e) c = absurd c
+of_pass p check_fault.OutOfMemory c = tt
+
+-- what all passes find of a program
+pub checked_of : (p : ProgramTree) (x : Front) (rs : List FunctionRegions) (ls : List FunctionLoans) → IsFrontOf p x → AreRegions x.typed rs → AreLoans x.typed ls
+    → IsCheckedOf p (record { front = x; regions = rs; loans = ls })
+checked_of p x rs ls front regions loans = record { front = front; borrows = found_borrow x.typed ls loans; regions = regions; loans = loans }
+
+-- what follows from a fault
+pub on_err : {A E : Type 0} (P Q : E → Type 0) → ((e : E) → P e → Q e) → (r : Result A E) → IfErr r P → IfErr r Q
+on_err P Q f (Ok a) h = h
+on_err P Q f (Err e) h = f e h

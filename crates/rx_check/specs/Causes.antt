@@ -1,6 +1,5 @@
 -- Why the check refuses a program: one case a pass, in their order, each with what the passes before it say.
-use Rattle.std.specs.Prelude.{◌≡◌, ◌≢◌, ◌⊎◌, List, [], ◌∷◌, Some, Result, Ok, Err}
-use Rattle.rx_core.specs.declared.types.Span.{Span}
+use Rattle.std.specs.Prelude.{◌≡◌, ◌≢◌, ◌⊎◌, List, [], ◌∷◌, Result, Ok, Err}
 use Rattle.rx_tree.specs.Plain.{ProgramTree}
 use Rattle.rx_resolve.specs.declared.resolved.ItemNames.{ItemNames}
 use Rattle.rx_resolve.specs.declared.resolved.NameFault.{NameFault}
@@ -26,11 +25,16 @@ use Rattle.rx_facts.specs.declared.fault.InitFault.TheVariants as init_fault
 use Rattle.rx_facts.specs.Passing.{AllAre, FirstNot}
 use Rattle.rx_facts.specs.Functions.{IsSmall, IsLarge}
 use Rattle.rx_facts.specs.Answers.{FirstUninitialised, AreGraphs, AreFacts}
-use Rattle.rx_first_check.specs.Faults.{first, other_spans}
+use Rattle.rx_judged.specs.declared.regions.RegionFault.{RegionFault}
+use Rattle.rx_judged.specs.declared.regions.RegionFault.TheVariants as region_fault
+use Rattle.rx_judged.specs.declared.loans.LoanFault.{LoanFault}
+use Rattle.rx_judged.specs.declared.loans.LoanFault.TheVariants as loan_fault
+use Rattle.rx_judged.specs.Answers.{LackNone, FirstLacks, FirstMeets, AreRegions, AreLoans}
 use Rattle.rx_check.specs.declared.fault.CheckFault.{CheckFault}
 use Rattle.rx_check.specs.declared.fault.CheckFault.TheVariants as check_fault
 use Rattle.rx_check.specs.declared.passes.Found.{Found}
-use Rattle.rx_check.specs.Passes.{matches_of, FunctionsCovered, Accepted}
+use Rattle.rx_check.specs.declared.passes.Borrowed.{Borrowed}
+use Rattle.rx_check.specs.Passes.{matches_of, FunctionsCovered, IsFront}
 
 -- of the first function, in order, whose matches are not all covered, this is said of the first that is not
 abbrev pub FirstUncovered : Declarations → List TypedFn → CoverFault → Type 0
@@ -79,10 +83,19 @@ pub record IsUnstarted (p : ProgramTree) (e : InitFault) : Type 0 where
   pub small : AllAre (IsSmall types.decls.items) types.functions
   pub first : FirstUninitialised types e
 
--- the passes accept the program, and this is the first of its items that is beyond the first grammar
-pub record IsNotBuilt (p : ProgramTree) (at : Span) : Type 0 where
-  pub accepted : Accepted p
-  pub item : first (other_spans p) ≡ Some at
+-- the passes up to initialisation accept the program, and this is said of the first function that lacks a pair
+pub record IsLacking (p : ProgramTree) (e : RegionFault) : Type 0 where
+  pub types : Typed
+  pub front : IsFront p types
+  pub first : FirstLacks types e
+
+-- no function lacks a pair, and this is said of the first in which an access meets a conflicting loan in scope
+pub record IsConflicting (p : ProgramTree) (e : LoanFault) : Type 0 where
+  pub told : e ≢ loan_fault.OutOfMemory
+  pub types : Typed
+  pub front : IsFront p types
+  pub known : LackNone types
+  pub first : FirstMeets types e
 
 -- why a program is refused
 abbrev pub Causes : CheckFault → ProgramTree → Type 0
@@ -91,16 +104,18 @@ Causes (check_fault.Types e) p = IsMistyped p e
 Causes (check_fault.Cover e) p = IsUncovered p e
 Causes (check_fault.Lower e) p = IsTooLarge p e
 Causes (check_fault.Init e) p = IsUnstarted p e
-Causes (check_fault.NotBuilt at) p = IsNotBuilt p at
+Causes (check_fault.Region i l k) p = IsLacking p (region_fault.Missing i l k)
+Causes (check_fault.Loan e) p = IsConflicting p e
 Causes check_fault.OutOfMemory p = Unit {0}
 
--- why a pass refuses it: nothing is said of the first grammar
+-- why a pass up to initialisation refuses it
 abbrev pub PassCauses : CheckFault → ProgramTree → Type 0
-PassCauses (check_fault.NotBuilt at) p = ⊥
+PassCauses (check_fault.Region i l k) p = ⊥
+PassCauses (check_fault.Loan e) p = ⊥
 PassCauses e p = Causes e p
 
--- two faults are of one pass; those of names, of graphs and of the first grammar are one, and so are the places of those of
--- coverage, and the products
+-- two faults are of one pass; those of names, of graphs and of lifetimes are one, and so are the places of those of coverage, and
+-- the products
 abbrev pub AreOneCover : CoverFault → CoverFault → Type 0
 AreOneCover (cover_fault.Missing a v) (cover_fault.Missing b w) = a ≡ b
 AreOneCover (cover_fault.TooWide a m) (cover_fault.TooWide b n) = (a ≡ b) × (m ≡ n)
@@ -112,7 +127,8 @@ AreOne (check_fault.Types e) (check_fault.Types f) = Unit {0}
 AreOne (check_fault.Cover e) (check_fault.Cover f) = AreOneCover e f
 AreOne (check_fault.Lower e) (check_fault.Lower f) = e ≡ f
 AreOne (check_fault.Init e) (check_fault.Init f) = Unit {0}
-AreOne (check_fault.NotBuilt a) (check_fault.NotBuilt b) = a ≡ b
+AreOne (check_fault.Region i l k) (check_fault.Region j m n) = (i ≡ j) × (l ≡ m) × (k ≡ n)
+AreOne (check_fault.Loan e) (check_fault.Loan f) = Unit {0}
 AreOne _ _ = ⊥
 
 -- ---- what private functions do
@@ -138,3 +154,14 @@ pub record FoundIn (t : Typed) (x : Found) : Type 0 where
   pub covered : FunctionsCovered (declarations t.decls.items) t.functions
   pub graphs : AreGraphs t x.graphs
   pub facts : AreFacts t x.facts
+
+-- what the passes behind initialisation say of a typed program, and what they find
+abbrev pub BorrowCauses : CheckFault → Typed → Type 0
+BorrowCauses (check_fault.Region i l k) t = FirstLacks t (region_fault.Missing i l k)
+BorrowCauses (check_fault.Loan e) t = (e ≢ loan_fault.OutOfMemory) × LackNone t × FirstMeets t e
+BorrowCauses check_fault.OutOfMemory t = Unit {0}
+BorrowCauses _ t = ⊥
+
+pub record BorrowedIn (t : Typed) (x : Borrowed) : Type 0 where
+  pub regions : AreRegions t x.regions
+  pub loans : AreLoans t x.loans

@@ -9,6 +9,10 @@ use Rattle.rx_lifetimes.specs.declared.whole.LowerFault.{LowerFault}
 use Rattle.rx_lifetimes.specs.declared.whole.LowerFault.TheVariants as lower_fault
 use Rattle.rx_facts.specs.declared.fault.InitFault.{InitFault}
 use Rattle.rx_facts.specs.declared.fault.InitFault.TheVariants as init_fault
+use Rattle.rx_judged.specs.declared.regions.RegionFault.{RegionFault}
+use Rattle.rx_judged.specs.declared.regions.RegionFault.TheVariants as region_fault
+use Rattle.rx_judged.specs.declared.loans.LoanFault.{LoanFault}
+use Rattle.rx_judged.specs.declared.loans.LoanFault.TheVariants as loan_fault
 use Rattle.rx_check.specs.declared.fault.CheckFault.{CheckFault}
 use Rattle.rx_check.specs.declared.fault.CheckFault.TheVariants as check_fault
 
@@ -31,3 +35,11 @@ of_lower f = check_fault.Lower f
 abbrev pub of_init : InitFault → CheckFault
 of_init init_fault.OutOfMemory = check_fault.OutOfMemory
 of_init f = check_fault.Init f
+
+abbrev pub of_regions : RegionFault → CheckFault
+of_regions region_fault.OutOfMemory = check_fault.OutOfMemory
+of_regions (region_fault.Missing i l k) = check_fault.Region i l k
+
+abbrev pub of_loans : LoanFault → CheckFault
+of_loans loan_fault.OutOfMemory = check_fault.OutOfMemory
+of_loans f = check_fault.Loan f

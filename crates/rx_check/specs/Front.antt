@@ -1,11 +1,14 @@
--- What the passes know of a program: its types, the graphs of its functions, what is live in them, and what may be set and unset.
-use Rattle.std.specs.Prelude.{◌≡◌, true, List}
+-- What the passes know of a program: its types, the graphs of its functions, what is live in them, and what may be set and unset;
+-- where it is accepted, the least sets of points of their lifetimes, and where loans are in scope.
+use Rattle.std.specs.Prelude.{List}
 use Rattle.rx_tree.specs.Plain.{ProgramTree}
 use Rattle.rx_typeck.specs.declared.typed.Typed.{Typed}
-use Rattle.rx_first_check.specs.FirstGrammar.{is_first_program}
 use Rattle.rx_facts.specs.declared.lowering.Lowered.{Lowered}
 use Rattle.rx_facts.specs.declared.finding.ProgramFacts.{ProgramFacts}
 use Rattle.rx_facts.specs.Answers.{AreGraphs, AreFacts}
+use Rattle.rx_judged.specs.declared.regions.FunctionRegions.{FunctionRegions}
+use Rattle.rx_judged.specs.declared.loans.FunctionLoans.{FunctionLoans}
+use Rattle.rx_judged.specs.Answers.{AllBorrow, AreRegions, AreLoans}
 use Rattle.rx_check.specs.Passes.{IsFront}
 
 pub record Front : Type 0 where
@@ -13,7 +16,7 @@ pub record Front : Type 0 where
   pub graphs : List Lowered
   pub facts : ProgramFacts
 
--- of this program, which the passes accept
+-- of this program, which the passes up to initialisation accept
 pub record IsFrontOf (p : ProgramTree) (x : Front) : Type 0 where
   pub accepted : IsFront p x.typed
   pub graphs : AreGraphs x.typed x.graphs
@@ -23,9 +26,19 @@ pub record IsFrontOf (p : ProgramTree) (x : Front) : Type 0 where
 abbrev pub IsFronted : Front → Type 0
 IsFronted x = (p : ProgramTree) × IsFrontOf p x
 
--- of this program, which is within the first grammar too; of some such program
-abbrev pub IsCheckedOf : ProgramTree → Front → Type 0
-IsCheckedOf p x = IsFrontOf p x × (is_first_program p ≡ true)
+-- ---- of a program that is accepted
 
-abbrev pub IsChecked : Front → Type 0
+pub record Judged : Type 0 where
+  pub front : Front
+  pub regions : List FunctionRegions
+  pub loans : List FunctionLoans
+
+-- of this program, which is accepted; of some such program
+pub record IsCheckedOf (p : ProgramTree) (x : Judged) : Type 0 where
+  pub front : IsFrontOf p x.front
+  pub borrows : AllBorrow x.front.typed
+  pub regions : AreRegions x.front.typed x.regions
+  pub loans : AreLoans x.front.typed x.loans
+
+abbrev pub IsChecked : Judged → Type 0
 IsChecked x = (p : ProgramTree) × IsCheckedOf p x

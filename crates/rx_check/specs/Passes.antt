@@ -1,6 +1,6 @@
--- What a program has where the passes accept it: its names have a meaning, its types a valid assignment, the matches of each
--- function are covered, its graph is within the limits, and it is initialised.
-use Rattle.std.specs.Prelude.{◌≡◌, ℕ, true, List, [], ◌∷◌}
+-- What a program has where it is accepted: its names have a meaning, its types a valid assignment, the matches of each function are
+-- covered, its graph is within the limits, it is initialised, and some sets of points accept its lifetimes and loans.
+use Rattle.std.specs.Prelude.{ℕ, List, [], ◌∷◌}
 use Rattle.rx_tree.specs.Plain.{ProgramTree}
 use Rattle.rx_resolve.specs.declared.resolved.ItemNames.{ItemNames}
 use Rattle.rx_resolve.specs.Causes.{Meant}
@@ -15,7 +15,7 @@ use Rattle.rx_cover.specs.Choices.{Choice, choices_of}
 use Rattle.rx_cover.specs.Causes.{AllCovered}
 use Rattle.rx_facts.specs.Passing.{AllAre}
 use Rattle.rx_facts.specs.Functions.{IsSmall, IsInitialised}
-use Rattle.rx_first_check.specs.FirstGrammar.{is_first_program}
+use Rattle.rx_judged.specs.Answers.{AllBorrow}
 
 -- the matches of a function, in the order of the text
 abbrev pub matches_of : TypedFn → List Choice
@@ -26,7 +26,7 @@ abbrev pub FunctionsCovered : Declarations → List TypedFn → Type 0
 FunctionsCovered D [] = Unit {0}
 FunctionsCovered D (f ∷ fs) = AllCovered D (matches_of f) × FunctionsCovered D fs
 
--- all passes accept the program, and this is it with its types
+-- the passes up to initialisation accept the program, and this is it with its types
 pub record IsFront (p : ProgramTree) (t : Typed) : Type 0 where
   pub names : List ItemNames
   pub meant : Meant p names
@@ -38,10 +38,14 @@ pub record IsFront (p : ProgramTree) (t : Typed) : Type 0 where
   pub sized : Sized (declarations t.decls.items) parts
   pub initialised : AllAre (IsInitialised (declarations t.decls.items) parts) t.functions
 
--- all passes accept the program
-abbrev pub Accepted : ProgramTree → Type 0
-Accepted p = (t : Typed) × IsFront p t
+-- they accept the program
+abbrev pub Fronted : ProgramTree → Type 0
+Fronted p = (t : Typed) × IsFront p t
 
--- and it is within the first grammar
-abbrev pub Passes : ProgramTree → Type 0
-Passes p = Accepted p × (is_first_program p ≡ true)
+-- the program is accepted, and this is it with its types
+pub record IsAccepted (p : ProgramTree) (t : Typed) : Type 0 where
+  pub front : IsFront p t
+  pub borrows : AllBorrow t
+
+abbrev pub Accepted : ProgramTree → Type 0
+Accepted p = (t : Typed) × IsAccepted p t

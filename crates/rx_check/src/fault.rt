@@ -3,9 +3,9 @@
 ghost use Rattle.std.specs.Prelude.{◌≡◌};
 ghost use Rattle.rx_check.specs.Faults as spec;
 
-use rx_core::Span;
 use rx_cover::CoverFault;
 use rx_facts::InitFault;
+use rx_judged::{LoanFault, RegionFault};
 use rx_lifetimes::LowerFault;
 use rx_resolve::NameFault;
 use rx_typeck::TypeFault;
@@ -23,8 +23,15 @@ pub enum CheckFault {
     Lower(LowerFault),
     /// What is wrong with the first function that is not initialised.
     Init(InitFault),
-    /// The first item that is beyond the first grammar, of a program that has no other fault.
-    NotBuilt { at: Span },
+    /// The first function of whose own lifetimes a pair is missing, by its item, and its first such pair: the least set of `long`
+    /// has the end of `short`, and it is not known that this outlives that.
+    Region {
+        function: u32,
+        long: u32,
+        short: u32,
+    },
+    /// The first function in which an access meets a loan in scope that forbids it.
+    Loan(LoanFault),
     OutOfMemory,
 }
 
@@ -75,5 +82,33 @@ pub(crate) fn of_init(fault: InitFault) -> CheckFault
     match fault {
         InitFault::OutOfMemory => CheckFault::OutOfMemory,
         fault => CheckFault::Init(fault),
+    }
+}
+
+/// A fault of lifetimes as one of the check.
+pub(crate) fn of_regions(fault: RegionFault) -> CheckFault
+    ensures { result ≡ spec.of_regions fault }
+{
+    match fault {
+        RegionFault::OutOfMemory => CheckFault::OutOfMemory,
+        RegionFault::Missing {
+            function,
+            long,
+            short,
+        } => CheckFault::Region {
+            function,
+            long,
+            short,
+        },
+    }
+}
+
+/// A fault of loans as one of the check.
+pub(crate) fn of_loans(fault: LoanFault) -> CheckFault
+    ensures { result ≡ spec.of_loans fault }
+{
+    match fault {
+        LoanFault::OutOfMemory => CheckFault::OutOfMemory,
+        fault => CheckFault::Loan(fault),
     }
 }

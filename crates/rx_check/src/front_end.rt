@@ -1,7 +1,8 @@
 //! Programs that the passes accept, with what they found.
 
-ghost use Rattle.std.specs.Prelude.{◌≡◌, ◌<◌, ℕ, length, slice_get, Some as SomeOf};
+ghost use Rattle.std.specs.Prelude.{◌≡◌, ◌<◌, ℕ, List as ListOf, length, slice_get, Some as SomeOf};
 ghost use Rattle.std.specs.Option.{IsSome};
+ghost use Rattle.rx_core.specs.declared.types.Bound.{Bound};
 ghost use Rattle.rx_typed.specs.PlainTypes.{declarations};
 ghost use Rattle.rx_typeck.specs.declared.typed.TypedFn.{TypedFn as FnOf};
 ghost use Rattle.rx_declared.specs.Sizes.{Sized, told};
@@ -11,14 +12,22 @@ ghost use Rattle.rx_live.specs.Tables.{Lives};
 ghost use Rattle.rx_init.specs.Answer.{IsTable};
 ghost use Rattle.rx_lowered.specs.Functions as lowered;
 ghost use Rattle.rx_facts.specs.Functions.{sites_of, frame_of, IsInitialised};
+ghost use Rattle.rx_region.specs.Solutions.{Sets, AreLeast};
+ghost use Rattle.rx_regions.specs.Tables.{sets_of};
+ghost use Rattle.rx_loan.specs.Tables as loans;
+ghost use Rattle.rx_borrows.specs.Accepted.{at_sites};
+ghost use Rattle.rx_judged.specs.Contexts.{AreAsked, context_of};
 
 use rx_core::{LetGo, List};
 use rx_facts::{FunctionFacts, Lowered, ProgramFacts};
 use rx_init::InitTable;
+use rx_judged::{FunctionLoans, FunctionRegions};
 use rx_lifetimes::Graph;
 use rx_live::LiveTable;
+use rx_loan::LoanTable;
 use rx_lowered::trimmed;
 use rx_parts::Frame;
+use rx_regions::Regions;
 use rx_typeck::{Typed, TypedFn};
 use std::marker::Model;
 
@@ -66,6 +75,20 @@ impl FrontEnd {
         &self.typed
     }
 
+    /// The graphs of all functions, in order.
+    pub(crate) fn graphs(&self) -> &[Lowered]
+        ensures { result.now ≡ self.now.graphs }
+    {
+        self.graphs.as_slice()
+    }
+
+    /// What is found of all functions.
+    pub(crate) fn facts(&self) -> &ProgramFacts
+        ensures { result.now ≡ self.now.facts }
+    {
+        &self.facts
+    }
+
     /// How many parts each struct and enum has, by its item's number.
     pub fn sizes(&self) -> &[u64]
         ensures sizes { result.now ≡ self.now.facts.sizes }
@@ -104,10 +127,12 @@ impl FrontEnd {
     }
 }
 
-/// A program that is accepted.
+/// A program that is accepted, with the least sets of points of its lifetimes, and where its loans are in scope.
 #[derive(Drop)]
 pub struct Checked {
     pub(crate) front: FrontEnd,
+    pub(crate) regions: List<FunctionRegions>,
+    pub(crate) loans: List<FunctionLoans>,
 }
 
 impl Model for Checked {
@@ -115,23 +140,48 @@ impl Model for Checked {
     ghost use Rattle.rx_typeck.specs.contracts.typed.Typed.{the_row as typed_row};
     ghost use Rattle.rx_facts.specs.contracts.lowering.Lowered.{the_row as lowered_row};
     ghost use Rattle.rx_facts.specs.contracts.finding.ProgramFacts.{the_row as facts_row};
-    ghost use Rattle.rx_check.specs.Front.{Front as Known, IsChecked};
+    ghost use Rattle.rx_judged.specs.contracts.regions.FunctionRegions.{the_row as regions_row};
+    ghost use Rattle.rx_judged.specs.contracts.loans.FunctionLoans.{the_row as loans_row};
+    ghost use Rattle.rx_check.specs.Front.{Judged, IsChecked};
 
-    ghost Value = { Known };
+    ghost Value = { Judged };
 
-    ghost coded = { Prim.hlevel (codes, typed_row.coded, lowered_row.coded, facts_row.coded) };
+    ghost coded = { Prim.hlevel (codes, typed_row.coded, lowered_row.coded, facts_row.coded, regions_row.coded, loans_row.coded) };
 
-    ghost view = { λ c. c.front };
+    ghost view = { λ c. record { front = c.front; regions = c.regions; loans = c.loans } };
 
-    ghost invariant = { λ c. IsChecked c.front };
+    ghost invariant = { λ c. IsChecked (record { front = c.front; regions = c.regions; loans = c.loans }) };
 }
 
 impl Checked {
-    /// What the passes know of it.
+    /// What the passes up to initialisation know of it.
     pub fn front(&self) -> &FrontEnd
-        ensures { result.now ≡ self.now }
+        ensures { result.now ≡ self.now.front }
     {
         &self.front
+    }
+
+    /// The least sets of points of the function of an item.
+    pub fn regions(&self, function: u32) -> &Regions
+        requires { IsSome (lowered.function_at self.now.front.typed.functions function) }
+        ensures { (f : FnOf) → lowered.function_at self.now.front.typed.functions function ≡ SomeOf f
+            → (P : ℕ → ListOf Bound) → AreAsked self.now.front.typed.decls.items P
+            → AreLeast (context_of self.now.front.typed.decls.items P f) (sites_of f) (sets_of result.now) }
+    {
+        let place = place_of(self.front.typed().functions.as_slice(), function);
+        &self.regions.as_slice()[place].regions
+    }
+
+    /// The loans of the function of an item, and where each is in scope under its least sets.
+    pub fn loans(&self, function: u32) -> &LoanTable
+        requires { IsSome (lowered.function_at self.now.front.typed.functions function) }
+        ensures { (f : FnOf) → lowered.function_at self.now.front.typed.functions function ≡ SomeOf f
+            → (P : ℕ → ListOf Bound) → AreAsked self.now.front.typed.decls.items P
+            → (R : Sets) → AreLeast (context_of self.now.front.typed.decls.items P f) (sites_of f) R
+            → loans.IsTable (sites_of f) (context_of self.now.front.typed.decls.items P f).lifetimes.owned (at_sites R) result.now }
+    {
+        let place = place_of(self.front.typed().functions.as_slice(), function);
+        &self.loans.as_slice()[place].loans
     }
 }
 

@@ -5,16 +5,16 @@ ghost use Rattle.rx_tree.specs.Plain.{ProgramTree};
 ghost use Rattle.rx_check.specs.declared.fault.CheckFault.{CheckFault as Fault};
 ghost use Rattle.rx_check.specs.declared.fault.CheckFault.TheVariants as fault;
 ghost use Rattle.rx_check.specs.Causes.{Causes, PassCauses, AreOne};
-ghost use Rattle.rx_check.specs.Passes.{Accepted, Passes};
+ghost use Rattle.rx_check.specs.Passes.{Fronted, Accepted};
 
 use rx_declared::one_size_each;
 use rx_facts::one_typing;
 use rx_typeck::{one_typed_program, typed_declarations_are_finite, typed_or_wrong};
 
-/// A program that all passes accept has no fault of a pass, and one that is within the first grammar too has none at all.
+/// A program that the passes up to initialisation accept has no fault of these, and one that is accepted has none at all.
 pub fn passed_or_faulty()
-    ensures accepted { (p : ProgramTree) (e : Fault) → Accepted p → PassCauses e p → e ≡ fault.OutOfMemory }
-    ensures passed { (p : ProgramTree) (e : Fault) → Passes p → Causes e p → e ≡ fault.OutOfMemory }
+    ensures fronted { (p : ProgramTree) (e : Fault) → Fronted p → PassCauses e p → e ≡ fault.OutOfMemory }
+    ensures accepted { (p : ProgramTree) (e : Fault) → Accepted p → Causes e p → e ≡ fault.OutOfMemory }
 {
     one_size_each();
     one_typed_program();

@@ -1,4 +1,4 @@
-//! The checker of the whole language, up to here: names, types, and that patterns cover all values.
+//! The checker of the whole language: which programs are accepted, and why others are not.
 #![tactic(auto)]
 
 mod fault;

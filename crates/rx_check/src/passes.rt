@@ -1,6 +1,7 @@
 //! The passes, one after another.
 
 ghost use Rattle.std.specs.Prelude.{◌≡◌, ◌≢◌, IfOk, IfErr, map};
+ghost use Rattle.rx_tree.specs.Plain.{ProgramTree};
 ghost use Rattle.rx_tree.specs.PlainOf.{plain-Program};
 ghost use Rattle.rx_tree.specs.Size.{IsNumbered};
 ghost use Rattle.rx_resolve.specs.Causes.{Meant};
@@ -9,18 +10,21 @@ ghost use Rattle.rx_declared.specs.Held.{held};
 ghost use Rattle.rx_typed.specs.PlainTypes.{declarations};
 ghost use Rattle.rx_cover.specs.Finding.{Numbered};
 ghost use Rattle.rx_facts.specs.Functions.{IsTypedProgram};
-ghost use Rattle.rx_facts.specs.Answers.{AreGraphs};
-ghost use Rattle.rx_check.specs.Causes.{Causes, PassCauses, FunctionsAnswer, TypedCauses, FoundIn};
-ghost use Rattle.rx_check.specs.Passes.{FunctionsCovered, Accepted, Passes};
+ghost use Rattle.rx_facts.specs.Answers.{AreGraphs, AreFacts};
+ghost use Rattle.rx_judged.specs.Answers.{AreRegions};
+ghost use Rattle.rx_check.specs.Causes.{Causes, PassCauses, FunctionsAnswer, TypedCauses, FoundIn, BorrowCauses, BorrowedIn};
+ghost use Rattle.rx_check.specs.Passes.{FunctionsCovered, Fronted, Accepted};
 ghost use Rattle.rx_check.specs.Front.{IsFrontOf, IsCheckedOf};
 
-use crate::fault::{CheckFault, of_cover, of_init, of_lower, of_names, of_types};
+use crate::fault::{
+    CheckFault, of_cover, of_init, of_loans, of_lower, of_names, of_regions, of_types,
+};
 use crate::front_end::{Checked, FrontEnd};
 use crate::laws::passed_or_faulty;
-use rx_core::{LetGo, List};
+use rx_core::{LetGo, List, keep};
 use rx_cover::{CoverFault, covers};
 use rx_facts::{Lowered, ProgramFacts, facts, lower_all};
-use rx_first_check::other_item;
+use rx_judged::{FunctionLoans, FunctionRegions, all_loans, all_regions};
 use rx_resolve::{Resolved, resolve};
 use rx_tree::Program;
 use rx_typeck::{Typed, typecheck, typed_declarations_are_finite};
@@ -119,13 +123,13 @@ fn fronted(alloc: Global, program: &Program, names: &Resolved) -> Result<FrontEn
 ///
 /// # Errors
 ///
-/// What the first pass that refuses the program says of it; `NotBuilt` is never answered.
+/// What the first of these passes that refuses the program says of it; `Region` and `Loan` are never answered.
 pub fn front(alloc: Global, program: &Program) -> Result<FrontEnd, CheckFault>
     requires { IsNumbered (plain-Program program.now) }
     ensures front { IfOk result (λ f. IsFrontOf (plain-Program program.now) f) }
     ensures fault { IfErr result (λ e. PassCauses e (plain-Program program.now)) }
-    // An accepted program passes, unless memory runs out.
-    ensures complete { Accepted (plain-Program program.now) → IfErr result (λ e. e ≡ CheckFault.OutOfMemory) }
+    // A program that these passes accept passes, unless memory runs out.
+    ensures complete { Fronted (plain-Program program.now) → IfErr result (λ e. e ≡ CheckFault.OutOfMemory) }
 {
     passed_or_faulty();
     match resolve(alloc, program) {
@@ -134,23 +138,86 @@ pub fn front(alloc: Global, program: &Program) -> Result<FrontEnd, CheckFault>
     }
 }
 
-/// Whether a program is accepted: the passes accept it, and it is within the first grammar.
+/// What the passes behind initialisation find.
+#[derive(Drop)]
+struct Borrowed {
+    regions: List<FunctionRegions>,
+    loans: List<FunctionLoans>,
+}
+
+/// The pass over loans.
+fn with_regions(
+    alloc: Global,
+    typed: &Typed,
+    graphs: &[Lowered],
+    regions: List<FunctionRegions>,
+) -> Result<Borrowed, CheckFault>
+    requires graphs { AreGraphs typed.now graphs.now }
+    requires regions { AreRegions typed.now regions }
+    ensures found { IfOk result (λ x. BorrowedIn typed.now x) }
+    ensures fault { IfErr result (λ e. BorrowCauses e typed.now) }
+{
+    match all_loans(alloc, typed, graphs, regions.as_slice()) {
+        Ok(loans) => Ok(Borrowed { regions, loans }),
+        Err(fault) => {
+            regions.let_go();
+            Err(of_loans(fault))
+        }
+    }
+}
+
+/// The passes over lifetimes and loans.
+fn behind_front(
+    alloc: Global,
+    typed: &Typed,
+    graphs: &[Lowered],
+    facts: &ProgramFacts,
+) -> Result<Borrowed, CheckFault>
+    requires typed { IsTypedProgram typed.now }
+    requires graphs { AreGraphs typed.now graphs.now }
+    requires facts { AreFacts typed.now facts.now }
+    ensures found { IfOk result (λ x. BorrowedIn typed.now x) }
+    ensures fault { IfErr result (λ e. BorrowCauses e typed.now) }
+{
+    match all_regions(alloc, typed, graphs, facts) {
+        Ok(regions) => with_regions(alloc, typed, graphs, regions),
+        Err(fault) => Err(of_regions(fault)),
+    }
+}
+
+/// The passes behind initialisation, of a program that those up to it accept.
+fn with_front(alloc: Global, front: FrontEnd) -> Result<Checked, CheckFault>
+    requires { (p : ProgramTree) × IsNumbered p × IsFrontOf p front }
+    ensures checked { IfOk result (λ c. (p : ProgramTree) → IsFrontOf p front → IsCheckedOf p c) }
+    ensures fault { IfErr result (λ e. (p : ProgramTree) → IsFrontOf p front → Causes e p) }
+{
+    let outcome = behind_front(alloc, front.typed(), front.graphs(), front.facts());
+    match keep(front, outcome) {
+        Ok((found, front)) => Ok(Checked {
+            front,
+            regions: found.regions,
+            loans: found.loans,
+        }),
+        Err(fault) => Err(fault),
+    }
+}
+
+/// Whether a program is accepted: names, types, coverage, graphs, initialisation, lifetimes and loans, each over all of it before the
+/// next.
 ///
 /// # Errors
 ///
-/// What the first pass that refuses the program says of it; where all accept it, `NotBuilt` with the first item that is
-/// beyond the first grammar.
+/// What the first pass that refuses the program says of it.
 pub fn check(alloc: Global, program: &Program) -> Result<Checked, CheckFault>
     requires { IsNumbered (plain-Program program.now) }
     ensures checked { IfOk result (λ c. IsCheckedOf (plain-Program program.now) c) }
     ensures fault { IfErr result (λ e. Causes e (plain-Program program.now)) }
-    ensures complete { Passes (plain-Program program.now) → IfErr result (λ e. e ≡ CheckFault.OutOfMemory) }
+    // An accepted program passes, unless memory runs out.
+    ensures complete { Accepted (plain-Program program.now) → IfErr result (λ e. e ≡ CheckFault.OutOfMemory) }
 {
+    passed_or_faulty();
     match front(alloc, program) {
-        Ok(front) => match other_item(program.items.as_slice()) {
-            Some(at) => Err(CheckFault::NotBuilt { at }),
-            None => Ok(Checked { front }),
-        },
+        Ok(front) => with_front(alloc, front),
         Err(fault) => Err(fault),
     }
 }

@@ -18,8 +18,10 @@ fn f(p: &i64, q: &i64) -> &i64 { p } fn main() {} | Elision 26 30
 fn main() { match true { true => {} } } | Missing 12 37 false
 fn main() { let x: i64; println!(\"{}\", x); } | Unset 39 40
 fn main() { let x = 1; x = 2; } | Again 23 28 16 17
+fn f<'a, 'b>(p: &'a i64, q: &'b i64) -> &'a i64 { q } fn main() {} | Region 0 1 0
+fn main() { let mut x = 1; let r = &mut x; x = 2; println!(\"{}\", *r); } | Loan 35 41 43 48
 fn main() { let a = 9223372036854775808i64; } | Literal 20 42
-fn main() { let a = -9223372036854775808i64; } | NotBuilt 0 46
+fn main() { let a = -9223372036854775808i64; } | accepted
 fn main() { let a = 9223372036854775807i64; } | accepted";
 
 #[test]
@@ -47,8 +49,8 @@ fn each_rule_has_its_word(rt: HostRuntime) {
     all_said(&rt, rt.alloc(), RULES);
 }
 
-/// Names come before types, types before coverage, coverage before initialisation, and all of them before the first grammar; each
-/// goes over all functions.
+/// Names come before types, types before coverage, coverage before initialisation, initialisation before lifetimes, lifetimes before
+/// loans; each goes over all functions.
 const ORDER: &str = "\
 fn f() { match true { true => {} } } fn main() { let x: i64 = true; } | Mismatch 62 66 Equal
 fn f() { let x: i64 = true; } fn main() { y; } | Unknown 42 43
@@ -58,12 +60,16 @@ fn f() { let x: i64; let y = x; } fn main() { match true { true => {} } } | Miss
 fn f() { let x: i64; let y = x; } fn main() { let z = 1; z = 2; } | Unset 25 26
 fn f() { let z = 1; z = 2; } fn main() { let x: i64; let y = x; } | Again 20 25 13 14
 struct S {} fn main() { let x: i64; let y = x; } | Unset 40 41
-fn main() { if true {} } | NotBuilt 0 24
+fn e() { let mut x = 1; let r = &mut x; x = 2; println!(\"{}\", *r); } fn f<'a, 'b>(p: &'a i64, q: &'b i64) -> &'a i64 { q } fn main() { let z = 1; z = 2; } | Again 146 151 139 140
+fn e() { let mut x = 1; let r = &mut x; x = 2; println!(\"{}\", *r); } fn f<'a, 'b>(p: &'a i64, q: &'b i64) -> &'a i64 { q } fn main() {} | Region 1 1 0
+fn f<'a, 'b, 'c>(p: &'a i64, q: &'b i64, r: &'c i64) -> &'a i64 { if *p == 1 { r } else { q } } fn g<'a, 'b>(p: &'a i64, q: &'b i64) -> &'b i64 { p } fn main() {} | Region 0 1 0
+fn e() { let mut x = 1; let r = &x; x = 2; println!(\"{}\", *r); } fn f() { let mut x = 1; let r = &mut x; let y = x; println!(\"{}\", *r); } fn main() {} | Loan 32 34 36 41
+fn main() { if true {} } | accepted
 fn main() { x; } enum E { A } | Unknown 12 13
 fn main() { f(1i64); } | Unknown 12 13
 fn a() {} fn a() {} struct S {} | Twice 3 4 13 14
-mod rt; fn main() {} | NotBuilt 0 7
-fn main() {} struct S {} | NotBuilt 13 24
+mod rt; fn main() {} | accepted
+fn main() {} struct S {} | accepted
 fn main() {} | accepted";
 
 #[test]

@@ -21,12 +21,12 @@ fn is_missed(alloc: Global, items: &str, typ: &str, (arms, value): (&str, &str))
     let words = format!(in alloc; "Missing {start} {end} {value}")?;
     let is_missing = checked(alloc, text.as_str())?.is(alloc, words.as_str())?;
     let other = making(alloc, items, typ, value)?;
-    let reads = if value.contains("&") {
-        "Mismatch "
+    let said = checked(alloc, other.as_str())?;
+    let is_value = if value.contains("&") {
+        said.begins(alloc, "Mismatch ")?
     } else {
-        "NotBuilt "
+        said.is_accepted()
     };
-    let is_value = checked(alloc, other.as_str())?.begins(alloc, reads)?;
     Ok(is_missing && is_value)
 }
 

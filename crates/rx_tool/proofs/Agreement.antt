@@ -9,7 +9,7 @@ use Rattle.rx_grammar.specs.grammar.Items.{Parses}
 use Rattle.rx_grammar.proofs.Whole.{one_text}
 use Rattle.rx_check.specs.declared.fault.CheckFault.{CheckFault}
 use Rattle.rx_check.specs.declared.fault.CheckFault.TheVariants as check
-use Rattle.rx_check.specs.Passes.{Passes}
+use Rattle.rx_check.specs.Passes.{Accepted}
 use Rattle.rx_check.specs.Causes.{Causes, AreOne as AreOneFault}
 use Rattle.rx_spelling.specs.Items.{print_program}
 use Rattle.rx_engine.specs.declared.extraction.Answer.{Answer}
@@ -102,7 +102,7 @@ results_agree bytes start end name (Err f) (Err g) x y n m =
 
 -- ---- two checks, by what is known of faults
 
-module _ (excluded : (p : ProgramTree) (e : CheckFault) → Passes p → Causes e p → e ≡ check.OutOfMemory)
+module _ (excluded : (p : ProgramTree) (e : CheckFault) → Accepted p → Causes e p → e ≡ check.OutOfMemory)
     (one : (p : ProgramTree) (e f : CheckFault) → e ≢ check.OutOfMemory → f ≢ check.OutOfMemory → Causes e p → Causes f p → AreOneFault e f) where
   judged_agree : (text : List ℕ) (p : ProgramTree) → Parses text p → (s t : Status) (a b c d : List ℕ) → Judged p s a b → Judged p t c d
       → (s ≡ t) × (a ≡ c) × (AreOneLine b d ⊎ AreFaultLines text b d)
@@ -169,15 +169,15 @@ extraction_defined words text name start end p q e x =
 pub acceptance_defined : (words : List (List ℕ)) (text : List ℕ) → command_of words ≡ Some checks → IsAccepted text
     → Defined words text Done (codes "accepted\n") []
 acceptance_defined words text e a = subst (λ (c : Option Command). AnswersTo c text Done (codes "accepted\n") [])
-    (sym e) (program a.program a.parses (passed a.passes))
+    (sym e) (program a.program a.parses (passed a.accepted))
 
-judged_passes : (p : ProgramTree) (s : Status) (out err : List ℕ) → s ≡ Done → Judged p s out err → Passes p
-judged_passes p _ _ _ e (passed a) = a
-judged_passes p _ _ _ e (faulty f told c) = absurd (cc)
+judged_accepted : (p : ProgramTree) (s : Status) (out err : List ℕ) → s ≡ Done → Judged p s out err → Accepted p
+judged_accepted p _ _ _ e (passed a) = a
+judged_accepted p _ _ _ e (faulty f told c) = absurd (cc)
 
 checked_accepted : (text : List ℕ) (s : Status) (out err : List ℕ) → s ≡ Done → Checked text s out err → IsAccepted text
 checked_accepted text _ _ _ e (no_program f c) = absurd (cc)
-checked_accepted text s out err e (program p x j) = record { program = p; parses = x; passes = judged_passes p s out err e j }
+checked_accepted text s out err e (program p x j) = record { program = p; parses = x; accepted = judged_accepted p s out err e j }
 
 pub done_accepted : (words : List (List ℕ)) (text out err : List ℕ) → command_of words ≡ Some checks
     → Defined words text Done out err → IsAccepted text

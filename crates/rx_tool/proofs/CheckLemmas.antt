@@ -39,7 +39,8 @@ found_faulty p (check.Types e) c = judged (faulty (check.Types e) (λ e. cc) c)
 found_faulty p (check.Cover e) c = judged (faulty (check.Cover e) (λ e. cc) c)
 found_faulty p (check.Lower e) c = judged (faulty (check.Lower e) (λ e. cc) c)
 found_faulty p (check.Init e) c = judged (faulty (check.Init e) (λ e. cc) c)
-found_faulty p (check.NotBuilt at) c = judged (faulty (check.NotBuilt at) (λ e. cc) c)
+found_faulty p (check.Region i l k) c = judged (faulty (check.Region i l k) (λ e. cc) c)
+found_faulty p (check.Loan e) c = judged (faulty (check.Loan e) (λ e. cc) c)
 found_faulty p check.OutOfMemory c = no_space
 
 -- what is found for its program is found for the text

@@ -14,6 +14,8 @@ use Rattle.rx_lifetimes.specs.declared.whole.LowerFault.{LowerFault}
 use Rattle.rx_lifetimes.specs.declared.whole.LowerFault.TheVariants as lower
 use Rattle.rx_facts.specs.declared.fault.InitFault.{InitFault}
 use Rattle.rx_facts.specs.declared.fault.InitFault.TheVariants as init
+use Rattle.rx_judged.specs.declared.loans.LoanFault.{LoanFault}
+use Rattle.rx_judged.specs.declared.loans.LoanFault.TheVariants as loan
 use Rattle.rx_check.specs.declared.fault.CheckFault.{CheckFault}
 use Rattle.rx_check.specs.declared.fault.CheckFault.TheVariants as check
 use Rattle.rx_tool.specs.declared.status.Status.{Status}
@@ -66,6 +68,10 @@ line_of_init (init.Unset at q) = line_of (with_span (codes "NotAccepted Unset") 
 line_of_init (init.Again at v) = line_of (with_numbers (codes "NotAccepted Again") (at.start ∷ at.end ∷ v.start ∷ v.end ∷ []))
 line_of_init init.OutOfMemory = line_of (codes "OutOfMemory")
 
+abbrev pub line_of_loan : LoanFault → List ℕ
+line_of_loan (loan.Loan b a) = line_of (with_numbers (codes "NotAccepted Loan") (b.start ∷ b.end ∷ a.start ∷ a.end ∷ []))
+line_of_loan loan.OutOfMemory = line_of (codes "OutOfMemory")
+
 -- the line of a fault of a program
 abbrev pub line_of_check : ProgramTree → CheckFault → List ℕ
 line_of_check p (check.Name f) = line_of_name f
@@ -73,7 +79,8 @@ line_of_check p (check.Types f) = line_of_types f
 line_of_check p (check.Cover f) = line_of_cover p f
 line_of_check p (check.Lower f) = line_of_lower f
 line_of_check p (check.Init f) = line_of_init f
-line_of_check p (check.NotBuilt at) = line_of (with_span (codes "NotAccepted NotBuilt") at)
+line_of_check p (check.Region i l k) = line_of (with_numbers (codes "NotAccepted Region") (i ∷ l ∷ k ∷ []))
+line_of_check p (check.Loan f) = line_of_loan f
 line_of_check p check.OutOfMemory = line_of (codes "OutOfMemory")
 
 abbrev pub status_of_check : CheckFault → Status

@@ -6,7 +6,7 @@ use Rattle.rx_tree.specs.Plain.{ProgramTree}
 use Rattle.rx_grammar.specs.grammar.Items.{Parses}
 use Rattle.rx_check.specs.declared.fault.CheckFault.{CheckFault}
 use Rattle.rx_check.specs.declared.fault.CheckFault.TheVariants as check
-use Rattle.rx_check.specs.Passes.{Passes}
+use Rattle.rx_check.specs.Passes.{Accepted}
 use Rattle.rx_check.specs.Causes.{Causes, AreOne}
 use Rattle.rx_engine.specs.declared.extraction.Answer.{Answer}
 use Rattle.rx_engine.specs.declared.extraction.Fault.{Fault}
@@ -42,11 +42,11 @@ pub record Obtained (text name : List ℕ) (start end : ℕ) (status : Status) (
 pub record IsAccepted (text : List ℕ) : Type 0 where
   pub program : ProgramTree
   pub parses : Parses text program
-  pub passes : Passes program
+  pub accepted : Accepted program
 
 -- these are of a program, which is accepted or has this fault
 pub data Judged (p : ProgramTree) : Status → List ℕ → List ℕ → Type 0 where
-  passed : Passes p → Judged p Done (codes "accepted\n") []
+  passed : Accepted p → Judged p Done (codes "accepted\n") []
   faulty : (f : CheckFault) → f ≢ check.OutOfMemory → Causes f p → Judged p NotAccepted [] (line_of_check p f)
 
 -- these are of a text, which is no program, for this reason, or is one

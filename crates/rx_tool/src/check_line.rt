@@ -13,6 +13,7 @@ use rx_check::CheckFault;
 use rx_core::{Span, Text};
 use rx_cover::{CoverFault, Value};
 use rx_facts::InitFault;
+use rx_judged::LoanFault;
 use rx_lifetimes::LowerFault;
 use rx_print_values::shown;
 use rx_resolve::NameFault;
@@ -143,6 +144,18 @@ fn line_of_init(alloc: Global, fault: &InitFault) -> Result<Text, AllocError>
     }
 }
 
+fn line_of_loan(alloc: Global, fault: &LoanFault) -> Result<Text, AllocError>
+    ensures { IfOk result (λ l. l ≡ spec.line_of_loan fault.now) }
+{
+    match fault {
+        LoanFault::Loan { borrow, access } => {
+            let numbers = [borrow.start, borrow.end, access.start, access.end];
+            line(alloc, "NotAccepted Loan", &numbers, "")
+        }
+        LoanFault::OutOfMemory => line(alloc, "OutOfMemory", &[], ""),
+    }
+}
+
 /// The line of a fault of a program.
 pub fn line_of_check(
     alloc: Global,
@@ -157,9 +170,15 @@ pub fn line_of_check(
         CheckFault::Cover(fault) => line_of_cover(alloc, program, fault),
         CheckFault::Lower(fault) => line_of_lower(alloc, fault),
         CheckFault::Init(fault) => line_of_init(alloc, fault),
-        CheckFault::NotBuilt { at } => {
-            line(alloc, "NotAccepted NotBuilt", &[at.start, at.end], "")
+        CheckFault::Region {
+            function,
+            long,
+            short,
+        } => {
+            let numbers = [*function as u64, *long as u64, *short as u64];
+            line(alloc, "NotAccepted Region", &numbers, "")
         }
+        CheckFault::Loan(fault) => line_of_loan(alloc, fault),
         CheckFault::OutOfMemory => line(alloc, "OutOfMemory", &[], ""),
     }
 }

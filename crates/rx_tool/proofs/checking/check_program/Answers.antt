@@ -16,7 +16,7 @@ returns-in-Ok g c = (
   Done,
   codes "accepted\n",
   [],
-  judged (passed ((c.in-Ok.checked.typed, c.in-Ok.ensures.checked.0.accepted), c.in-Ok.ensures.checked.1)),
+  judged (passed (c.in-Ok.checked.front.typed, record { front = c.in-Ok.ensures.checked.front.accepted; borrows = c.in-Ok.ensures.checked.borrows })),
   delivered _ _ _ _ Done c.deliver.result (codes "accepted\n") c.deliver.ensures,
 )
 

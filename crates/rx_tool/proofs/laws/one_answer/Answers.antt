@@ -3,4 +3,4 @@ use Rattle.rx_tool.proofs.Agreement.{defined_agree}
 use Rattle.rx_tool.proofs.laws.one_answer.Goals as goal
 
 pub returns : goal.returns
-returns c = defined_agree c.passed_or_faulty.ensures.passed c.causes_are_one.ensures
+returns c = defined_agree c.passed_or_faulty.ensures.accepted c.causes_are_one.ensures
