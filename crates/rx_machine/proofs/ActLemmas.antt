@@ -31,7 +31,8 @@ use Rattle.rx_machine.specs.declared.data.Machine.{Machine}
 use Rattle.rx_machine.specs.declared.data.Turn.{Turn}
 use Rattle.rx_machine.specs.declared.data.Step.{Step}
 use Rattle.rx_machine.specs.declared.data.Step.TheVariants as step_to
-use Rattle.rx_machine.specs.Fitting.{recorded, Fits, plain-Turn}
+use Rattle.rx_direct.specs.Direct.{recorded}
+use Rattle.rx_machine.specs.Fitting.{Fits, plain-Turn}
 use Rattle.rx_machine.specs.Running.{found_at, IsGiven, IsMade, IsDone, IsWrittenBack, IsModified, IsDecided, Follows, Leads}
 
 -- ---- the same machine, or with other memory or input

@@ -31,7 +31,8 @@ use Rattle.rx_machine.specs.declared.slots.Slots.{Slots}
 use Rattle.rx_machine.specs.declared.data.Machine.{Machine}
 use Rattle.rx_machine.specs.declared.data.Step.{Step}
 use Rattle.rx_machine.specs.declared.data.Step.TheVariants as step_to
-use Rattle.rx_machine.specs.Fitting.{recorded, Tells, Fits}
+use Rattle.rx_direct.specs.Direct.{recorded}
+use Rattle.rx_machine.specs.Fitting.{Tells, Fits}
 use Rattle.rx_machine.specs.Running.{Follows, Leads, Came, Through, Changes}
 use Rattle.rx_machine.specs.Binding.{taken_of, seen_at, arm_of, TakesArm, NoneLeft}
 use Rattle.rx_machine.proofs.SlotLemmas.{tells_more}

@@ -5,3 +5,4 @@ pub mod MatchLemmas
 pub mod BindLemmas
 pub mod FrameLemmas
 pub mod RunLemmas
+pub mod ReachLemmas

@@ -23,7 +23,8 @@ use Rattle.rx_steps.specs.declared.next.Subject.{Subject}
 use Rattle.rx_steps.specs.declared.next.Subject.TheVariants as subject
 use Rattle.rx_steps.specs.PlainSteps.{plain-Subject, held_of}
 use Rattle.rx_machine.specs.declared.data.Machine.{Machine}
-use Rattle.rx_machine.specs.Fitting.{recorded, Fits}
+use Rattle.rx_direct.specs.Direct.{recorded}
+use Rattle.rx_machine.specs.Fitting.{Fits}
 use Rattle.rx_machine.specs.Binding.{taken_of, seen_at, arm_of}
 use Rattle.rx_machine.proofs.ActLemmas.{found_is}
 

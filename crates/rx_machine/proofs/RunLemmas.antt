@@ -12,11 +12,11 @@ use Rattle.rx_typed.specs.Tree.{Mark, Exp, Function}
 use Rattle.rx_values.specs.PlainMemory.{plain-Memory}
 use Rattle.rx_frames.specs.Frames as frames
 use Rattle.rx_frames.specs.Frames.{Around}
-use Rattle.rx_frames.specs.Stepping.{Config, Led, goes, waits, ends, step, turn, config, means, called, entered, with_turn}
+use Rattle.rx_frames.specs.Stepping.{Config, Led, goes, waits, ends, config, means, called, entered, with_turn}
 use Rattle.rx_frames.specs.Sizes.{next_size, sizes}
 use Rattle.rx_frames.specs.Laws.{Keeps, Lessens}
 use Rattle.rx_frames.proofs.Steps.{after_after, after_nothing}
-use Rattle.rx_frames.proofs.StepLemmas.{step_keeps, step_less, turn_keeps, run_begins}
+use Rattle.rx_frames.proofs.StepLemmas.{turn_keeps, run_begins}
 use Rattle.rx_steps.specs.declared.next.Next.{Next}
 use Rattle.rx_steps.specs.PlainSteps.{plain-Next}
 use Rattle.rx_machine.specs.declared.data.Machine.{Machine}
@@ -26,7 +26,7 @@ use Rattle.rx_machine.specs.declared.data.Turn.{Turn}
 use Rattle.rx_machine.specs.declared.data.Paused.{Paused}
 use Rattle.rx_machine.specs.declared.data.Paused.TheVariants as paused
 use Rattle.rx_machine.specs.Fitting.{AreAround, Fits, plain-Turn}
-use Rattle.rx_machine.specs.Running.{EndsSo, Follows, Leads, Takes, work_of, left_size, Stands, Ended, Pauses, IsFunction, IsCutOff}
+use Rattle.rx_machine.specs.Running.{EndsSo, Follows, IsStep, Reaches, Turns, work_of, left_size, Stands, Ended, Pauses, IsFunction, IsCutOff}
 use Rattle.rx_machine.proofs.SlotLemmas.{tells_none}
 use Rattle.rx_machine.proofs.FitLemmas.{some_frames, some_state, fits_some, fits_weigh}
 
@@ -39,8 +39,8 @@ outcome_after w (stops v e) = refl
 
 module _ (P : Functions) (n t : ℕ) (o : Outcome) where
   -- it goes on
-  goes_on : (old new : Machine) (c : Config) (w : List ℕ) (d : Config) (y : Next) → Fits new t d.around d.state → plain-Next y ≡ d.next → new.printed ≡ old.printed ++ w → means P n c ≡ after w (means P n d)
-      → outcome_of (after old.printed (means P n c)) ≡ o → Stands P n t new (plain-Next y) o
+  goes_on : (old new : Machine) (c : Config) (w : List ℕ) (d : Config) (y : frames.Next) → Fits new t d.around d.state → y ≡ d.next → new.printed ≡ old.printed ++ w → means P n c ≡ after w (means P n d)
+      → outcome_of (after old.printed (means P n c)) ≡ o → Stands P n t new y o
   goes_on old new c w d y f e p k h = (
     d.around,
     d.state,
@@ -66,8 +66,8 @@ module _ (P : Functions) (n t : ℕ) (o : Outcome) where
 
   by_step : (old new : Machine) (K : List Around) (s : State) (x : frames.Next) (led : Led) (to : Step) → Follows t old x K s led new to → Keeps P n (config K x s) led → outcome_of (after old.printed (means P n (config K x s))) ≡ o → Stepped new to
   unfolding Stepped
-  by_step old new K s x (goes w d) (step_to.Next y) f k h = goes_on old new (config K x s) w d y f.0 f.1 f.2 k h
-  by_step old new K s x (goes w d) (step_to.Turn u) f k h = absurd f
+  by_step old new K s x (goes w d) (step_to.Next y) f k h = goes_on old new (config K x s) w d (plain-Next y) f.0 f.1 f.2 k h
+  by_step old new K s x (goes w d) (step_to.Turn u) f k h = goes_on old new (config K x s) w d (plain-Turn u) f.0 f.1 f.2 k h
   by_step old new K s x (goes w d) (step_to.End e) f k h = absurd f
   by_step old new K s x waits (step_to.Next y) f k h = absurd f
   by_step old new K s x waits (step_to.Turn u) f k h = (K, s, f.0, ap (λ y. outcome_of (after new.printed (means P n (config K y s)))) f.1 ∙ ap (λ q. outcome_of (after q (means P n (config K x s)))) f.2 ∙ h)
@@ -76,37 +76,39 @@ module _ (P : Functions) (n t : ℕ) (o : Outcome) where
   by_step old new K s x (ends w e) (step_to.Turn u) f k h = absurd f
   by_step old new K s x (ends w e) (step_to.End r) f k h = ended old new (config K x s) w e r f.0 f.1 k h
 
-  stepped : (old new : Machine) (x : frames.Next) (to : Step) → t < n → Leads old x new to → Stands P n t old x o → Stepped new to
+  stepped : (old new : Machine) (x : frames.Next) (to : Step) → t < n → Reaches old x new to → Stands P n t old x o → Stepped new to
   stepped old new x to l h st =
       let e : st.1.turns ≡ t = st.2.turns in
-      by_step old new st.0 st.1 x (step st.0 x st.1) to (h t st.0 st.1 st.2) (step_keeps P n st.0 x st.1 (omega (arith, e, l))) st.3
+      let r : (led : Led) × IsStep st.0 x st.1 led × Follows t old x st.0 st.1 led new to = h t st.0 st.1 st.2 in
+      by_step old new st.0 st.1 x r.0 to r.2 (r.1.0 P n (omega (arith, e, l))) st.3
 
-  pub stands_next : (old new : Machine) (x : frames.Next) (y : Next) → t < n → Leads old x new (step_to.Next y) → Stands P n t old x o → Stands P n t new (plain-Next y) o
+  pub stands_next : (old new : Machine) (x : frames.Next) (y : Next) → t < n → Reaches old x new (step_to.Next y) → Stands P n t old x o → Stands P n t new (plain-Next y) o
   unfolding Stepped
   stands_next old new x y l h st = stepped old new x (step_to.Next y) l h st
 
-  pub stands_turn : (old new : Machine) (x : frames.Next) (u : Turn) → t < n → Leads old x new (step_to.Turn u) → Stands P n t old x o → Stands P n t new (plain-Turn u) o
+  pub stands_turn : (old new : Machine) (x : frames.Next) (u : Turn) → t < n → Reaches old x new (step_to.Turn u) → Stands P n t old x o → Stands P n t new (plain-Turn u) o
   unfolding Stepped
   stands_turn old new x u l h st = stepped old new x (step_to.Turn u) l h st
 
-  pub stands_end : (old new : Machine) (x : frames.Next) (e : End) → t < n → Leads old x new (step_to.End e) → Stands P n t old x o → Ended new e o
+  pub stands_end : (old new : Machine) (x : frames.Next) (e : End) → t < n → Reaches old x new (step_to.End e) → Stands P n t old x o → Ended new e o
   unfolding Stepped
   stands_end old new x e l h st = stepped old new x (step_to.End e) l h st
 
-  turned : (old new : Machine) (x : frames.Next) (to : Step) → suc t ≤ n → Takes P old x new to → Stands P n (suc t) old x o → Stepped new to
+  turned : (old new : Machine) (x : frames.Next) (to : Step) → suc t ≤ n → Turns P old x new to → Stands P n (suc t) old x o → Stepped new to
   turned old new x to l h st =
       let e : st.1.turns ≡ suc t = st.2.turns in
-      by_step old new st.0 st.1 x (turn P st.0 x st.1) to (h t st.0 st.1 st.2) (turn_keeps P n st.0 x st.1 (omega (arith, e, l))) st.3
+      let r : (led : Led) × ((n : ℕ) → st.1.turns ≤ n → Keeps P n (config st.0 x st.1) led) × Follows t old x st.0 st.1 led new to = h t st.0 st.1 st.2 in
+      by_step old new st.0 st.1 x r.0 to r.2 (r.1 n (omega (arith, e, l))) st.3
 
-  pub takes_next : (old new : Machine) (x : frames.Next) (y : Next) → suc t ≤ n → Takes P old x new (step_to.Next y) → Stands P n (suc t) old x o → Stands P n t new (plain-Next y) o
+  pub takes_next : (old new : Machine) (x : frames.Next) (y : Next) → suc t ≤ n → Turns P old x new (step_to.Next y) → Stands P n (suc t) old x o → Stands P n t new (plain-Next y) o
   unfolding Stepped
   takes_next old new x y l h st = turned old new x (step_to.Next y) l h st
 
-  pub takes_turn : (old new : Machine) (x : frames.Next) (u : Turn) → suc t ≤ n → Takes P old x new (step_to.Turn u) → Stands P n (suc t) old x o → Stands P n t new (plain-Turn u) o
+  pub takes_turn : (old new : Machine) (x : frames.Next) (u : Turn) → suc t ≤ n → Turns P old x new (step_to.Turn u) → Stands P n (suc t) old x o → Stands P n t new (plain-Turn u) o
   unfolding Stepped
   takes_turn old new x u l h st = turned old new x (step_to.Turn u) l h st
 
-  pub takes_end : (old new : Machine) (x : frames.Next) (e : End) → suc t ≤ n → Takes P old x new (step_to.End e) → Stands P n (suc t) old x o → Ended new e o
+  pub takes_end : (old new : Machine) (x : frames.Next) (e : End) → suc t ≤ n → Turns P old x new (step_to.End e) → Stands P n (suc t) old x o → Ended new e o
   unfolding Stepped
   takes_end old new x e l h st = turned old new x (step_to.End e) l h st
 
@@ -121,11 +123,12 @@ less_by old new K s x (goes w d) y f k l =
 less_by old new K s x waits y f k l = absurd k
 less_by old new K s x (ends w e) y f k l = absurd k
 
-pub step_lessens : (old new : Machine) (x : frames.Next) (y : Next) → Leads old x new (step_to.Next y) → left_size new (plain-Next y) < left_size old x
+pub step_lessens : (old new : Machine) (x : frames.Next) (y : Next) → Reaches old x new (step_to.Next y) → left_size new (plain-Next y) < left_size old x
 step_lessens old new x y h =
     let K : List Around = some_frames old in
     let s : State = some_state old in
-    less_by old new K s x (step K x s) y (fits_some old) (h 0 K s (fits_some old)) (step_less K x s)
+    let r : (led : Led) × IsStep K x s led × Follows 0 old x K s led new (step_to.Next y) = h 0 K s (fits_some old) in
+    less_by old new K s x r.0 y (fits_some old) r.2 r.1.1
 
 -- ---- whole runs
 

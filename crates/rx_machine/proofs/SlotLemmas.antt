@@ -1,10 +1,11 @@
 -- Tables of slots, and the lists that they tell.
-use Rattle.std.proofs.Common.{◌≡◌, ◌≢◌, ◌⊎◌, inl, inr, ℕ, zero, suc, ◌+◌, ◌<◌, ◌≤◌, nat_eq, true, false, List, [], ◌∷◌, ◌++◌, length, get_or, slice_set, Option, None, Some, if◌then◌else◌, refl, sym, ap, ◌∙◌, arith}
+use Rattle.std.proofs.Common.{◌≡◌, ◌≢◌, ◌⊎◌, inl, inr, ℕ, zero, suc, ◌+◌, ◌<◌, nat_eq, true, false, List, [], ◌∷◌, ◌++◌, length, slice_set, Option, None, Some, if◌then◌else◌, refl, sym, ap, ◌∙◌, arith}
 use Rattle.std.proofs.lemmas.Bool.{eq-eqb}
 use Rattle.std.proofs.lemmas.Bool.Decides.{eqb_tells}
 use Rattle.rx_meaning.specs.Values.{slot_of}
 use Rattle.rx_machine.specs.declared.slots.Slots.{Slots}
-use Rattle.rx_machine.specs.Fitting.{recorded, Tells}
+use Rattle.rx_direct.specs.Direct.{recorded}
+use Rattle.rx_machine.specs.Fitting.{Tells}
 
 not_same : (i j : ℕ) → (i ≡ j → ⊥) → nat_eq i j ≡ false
 not_same i j h = by (eqb_tells i j)
@@ -19,18 +20,6 @@ same_suc i j = by (eqb_tells i j)
     by : ((nat_eq i j ≡ true) × (i ≡ j)) ⊎ ((nat_eq i j ≡ false) × (i ≢ j)) → nat_eq i j ≡ nat_eq (suc i) (suc j)
     by (inl t) = t.0 ∙ sym (eq-eqb (suc i) (suc j) (ap suc t.1))
     by (inr f) = f.0 ∙ sym (not_same (suc i) (suc j) (λ e. f.1 (omega (arith, e))))
-
--- ---- reading
-
-pub recorded_at : (l : List (Option ℕ)) (x : ℕ) (o : Option ℕ) → x < length l → o ≡ get_or l x o → o ≡ recorded l x
-recorded_at [] x o k e = absurd (omega (arith, k))
-recorded_at (p ∷ l) zero o k e = e
-recorded_at (p ∷ l) (suc x) o k e = recorded_at l x o (omega (arith, k)) e
-
-pub recorded_past : (l : List (Option ℕ)) (x : ℕ) → length l ≤ x → None ≡ recorded l x
-recorded_past [] x k = refl
-recorded_past (p ∷ l) zero k = absurd (omega (arith, k))
-recorded_past (p ∷ l) (suc x) k = recorded_past l x (omega (arith, k))
 
 -- ---- writing
 

@@ -22,7 +22,7 @@ use Rattle.rx_steps.specs.PlainSteps.{plain-Subject, held_of, plain-Next}
 use Rattle.rx_machine.specs.declared.data.Machine.{Machine}
 use Rattle.rx_machine.specs.declared.data.Step.{Step}
 use Rattle.rx_machine.specs.declared.data.Step.TheVariants as step_to
-use Rattle.rx_machine.specs.Fitting.{recorded}
+use Rattle.rx_direct.specs.Direct.{recorded}
 use Rattle.rx_machine.specs.Running.{found_at, Changes}
 
 -- what a binding takes of what is matched

@@ -1,11 +1,12 @@
 -- When the machine's data stand for frames and a state of the run.
-use Rattle.std.specs.Prelude.{◌≡◌, ℕ, zero, suc, List, [], ◌∷◌, reverse, map, option_map, Option, None}
+use Rattle.std.specs.Prelude.{◌≡◌, ℕ, List, [], ◌∷◌, reverse, map, option_map, Option}
 use Rattle.std.proofs.Common.{Bor}
 use Rattle.rx_typed_tree.specs.declared.tree.TypedTree.{TypedTree}
 use Rattle.rx_typed_tree.specs.PlainTree.{plain-Mark, plain-Expr, plain-TypedTree}
 use Rattle.rx_meaning.specs.Values.{slot_of, State}
 use Rattle.rx_meaning.specs.Expressions.{Functions}
 use Rattle.rx_values.specs.PlainValues.{plain-Value}
+use Rattle.rx_direct.specs.Direct.{recorded}
 use Rattle.rx_values.specs.PlainMemory.{plain-Memory}
 use Rattle.rx_frames.specs.Frames as frames
 use Rattle.rx_frames.specs.Frames.{Around}
@@ -16,12 +17,6 @@ use Rattle.rx_machine.specs.declared.data.Frame.TheVariants as frame
 use Rattle.rx_machine.specs.declared.data.Machine.{Machine}
 use Rattle.rx_machine.specs.declared.data.Turn.{Turn}
 use Rattle.rx_machine.specs.declared.data.Turn.TheVariants as turn
-
--- the slot of a variable, where there is one
-abbrev pub recorded : List (Option ℕ) → ℕ → Option ℕ
-recorded [] x = None
-recorded (o ∷ l) zero = o
-recorded (o ∷ l) (suc x) = recorded l x
 
 -- the table tells the newest slot of each variable
 abbrev pub Tells : Slots → List (ℕ × ℕ) → Type 0

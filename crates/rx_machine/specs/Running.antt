@@ -1,5 +1,5 @@
 -- What the machine's functions do.
-use Rattle.std.specs.Prelude.{◌≡◌, ℕ, suc, ◌+◌, ◌++◌, Bool, true, false, List, [], ◌∷◌, reverse, Option, Some, None}
+use Rattle.std.specs.Prelude.{◌≡◌, ◌<◌, ◌≤◌, ℕ, suc, ◌+◌, ◌++◌, Bool, true, false, List, [], ◌∷◌, reverse, Option, Some, None}
 use Rattle.rx_meaning.specs.declared.outcome.End.{End}
 use Rattle.rx_meaning.specs.declared.outcome.Outcome.{Outcome}
 use Rattle.rx_meaning.specs.Values as values
@@ -8,7 +8,7 @@ use Rattle.rx_tree.specs.declared.tree.BinaryOp.{BinaryOp}
 use Rattle.rx_typed.specs.Tree as tree
 use Rattle.rx_typed.specs.Tree.{Function}
 use Rattle.rx_walks.specs.Actions.{Write}
-use Rattle.rx_running.specs.Running.{nowhere}
+use Rattle.rx_running.specs.Running.{Meaning, nowhere}
 use Rattle.rx_walks.specs.Orders.{Exit, breaks, continues, returns}
 use Rattle.rx_meaning.specs.Operators as operators
 use Rattle.rx_meaning.specs.Operators.{Computed}
@@ -22,10 +22,12 @@ use Rattle.rx_typed_tree.specs.PlainTree.{plain-Mark, plain-Expr}
 use Rattle.rx_values.specs.PlainMemory.{plain-Memory}
 use Rattle.rx_acts.specs.PlainActs.{found_from}
 use Rattle.rx_frames.specs.Frames as frames
-use Rattle.rx_frames.specs.Frames.{Around}
+use Rattle.rx_frames.specs.Frames.{Around, does_next}
 use Rattle.rx_frames.specs.Stepping as stepping
 use Rattle.rx_frames.specs.Stepping.{Led, step, config, means, behind_pass}
 use Rattle.rx_frames.specs.Sizes.{hole_size, next_size}
+use Rattle.rx_frames.specs.Laws.{Keeps, Lessens}
+use Rattle.rx_direct.specs.Reaching.{Reach, reached, reach_size, Comes}
 use Rattle.rx_steps.specs.PlainSteps.{plain-Hole, plain-Next}
 use Rattle.rx_machine.specs.declared.slots.Slots.{Slots}
 use Rattle.rx_machine.specs.declared.data.Frame.{Frame}
@@ -35,7 +37,8 @@ use Rattle.rx_machine.specs.declared.data.Step.{Step}
 use Rattle.rx_machine.specs.declared.data.Step.TheVariants as step_to
 use Rattle.rx_machine.specs.declared.data.Paused.{Paused}
 use Rattle.rx_machine.specs.declared.data.Paused.TheVariants as paused
-use Rattle.rx_machine.specs.Fitting.{recorded, Fits, plain-Turn}
+use Rattle.rx_direct.specs.Direct.{recorded}
+use Rattle.rx_machine.specs.Fitting.{Fits, plain-Turn}
 
 -- where a place of the text leads, and what stands there
 abbrev pub found_at : Machine → ℕ → List PlaceStep → Option (places.Spot × values.Value)
@@ -50,6 +53,7 @@ IsGiven _ _ = ⊥
 -- the machine went where the run goes
 abbrev pub Follows : ℕ → Machine → frames.Next → List Around → State → Led → Machine → Step → Type 0
 Follows t old x K s (stepping.goes w d) new (step_to.Next y) = Fits new t d.around d.state × (plain-Next y ≡ d.next) × (new.printed ≡ old.printed ++ w)
+Follows t old x K s (stepping.goes w d) new (step_to.Turn u) = Fits new t d.around d.state × (plain-Turn u ≡ d.next) × (new.printed ≡ old.printed ++ w)
 Follows t old x K s stepping.waits new (step_to.Turn u) = Fits new t K s × (plain-Turn u ≡ x) × (new.printed ≡ old.printed)
 Follows t old x K s (stepping.ends w e) new (step_to.End r) = (r ≡ e) × (new.printed ≡ old.printed ++ w)
 Follows t old x K s _ new _ = ⊥
@@ -114,6 +118,27 @@ Leads old x new to = (t : ℕ) (K : List Around) (s : State) → Fits old t K s 
 -- one turn, where one is left
 abbrev pub Takes : Functions → Machine → frames.Next → Machine → Step → Type 0
 Takes P old x new to = (t : ℕ) (K : List Around) (s : State) → Fits old (suc t) K s → Follows t old x K s (stepping.turn P K x s) new to
+
+-- this leaves the rest of the run as it is, and less to do before the next turn
+abbrev pub IsStep : List Around → frames.Next → State → Led → Type 0
+IsStep K x s led = ((P : Functions) (n : ℕ) → s.turns < n → Keeps P n (config K x s) led) × Lessens (config K x s) led
+
+-- one step or several that come to no turn
+abbrev pub Reaches : Machine → frames.Next → Machine → Step → Type 0
+Reaches old x new to = (t : ℕ) (K : List Around) (s : State) → Fits old t K s → (led : Led) × IsStep K x s led × Follows t old x K s led new to
+
+-- one turn, where one is left, and steps behind it
+abbrev pub Turns : Functions → Machine → frames.Next → Machine → Step → Type 0
+Turns P old x new to = (t : ℕ) (K : List Around) (s : State) → Fits old (suc t) K s
+    → (led : Led) × ((n : ℕ) → s.turns ≤ n → Keeps P n (config K x s) led) × Follows t old x K s led new to
+
+-- an expression came so far, by writes to memory alone
+abbrev pub Arrives : Machine → tree.Exp → Machine → Reach → Type 0
+Arrives old e new r = (new ≡ record old { memory = new.memory }) × Comes old.slots.table.items (plain-Memory old.memory) e (plain-Memory new.memory) r
+
+-- this comes next where an expression came so far
+abbrev pub Begins : Reach → frames.Next → Type 0
+Begins r y = ((P : Functions) (below : Meaning) (s : State) → reached P below r s ≡ does_next P below y s) × (next_size y ≤ reach_size r)
 
 -- the function of an item
 abbrev pub IsFunction : Option (Option Function) → Option Function → Type 0

@@ -2,6 +2,7 @@
 #![tactic(auto)]
 
 mod acting;
+mod arriving;
 mod binding;
 mod data;
 mod giving;

@@ -1,7 +1,7 @@
 //! The slots of an activation's variables.
 
 ghost use Rattle.std.specs.Prelude.{◌≡◌, ◌<◌, ℕ, [], Some, length, nat_eq, if◌then◌else◌, OnOk};
-ghost use Rattle.rx_machine.specs.Fitting.{recorded};
+ghost use Rattle.rx_direct.specs.Direct.{recorded};
 
 use rx_core::LetGo;
 use std::alloc::{AllocError, Global};
@@ -29,7 +29,7 @@ impl Slots {
     }
 
     /// The slot of a variable.
-    #[tactic(auto, using(crate::proofs::SlotLemmas::recorded_at, crate::proofs::SlotLemmas::recorded_past))]
+    #[tactic(auto, using(rx_direct::proofs::TableLemmas::recorded_at, rx_direct::proofs::TableLemmas::recorded_past))]
     pub fn get(&self, variable: usize) -> Option<usize>
         ensures { result ≡ recorded self.now.table.items variable }
     {

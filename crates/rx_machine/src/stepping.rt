@@ -5,7 +5,7 @@ ghost use Rattle.rx_meaning.specs.Expressions.{Functions};
 ghost use Rattle.rx_meaning.specs.declared.outcome.Outcome.{Outcome as OutcomeOf};
 ghost use Rattle.rx_steps.specs.PlainSteps.{plain-Next};
 ghost use Rattle.rx_steps.specs.declared.next.Next.TheVariants as next;
-ghost use Rattle.rx_machine.specs.Running.{Leads, Stands, Pauses};
+ghost use Rattle.rx_machine.specs.Running.{Leads, Reaches, Stands, Pauses};
 
 use crate::data::{Frame, Machine, Paused, Step, Turn};
 use rx_core::{LetGo, List};
@@ -79,13 +79,27 @@ impl<'a> Machine<'a> {
         }
     }
 
+    /// One step, or several where an expression comes further at once.
+    fn advance(&mut self, alloc: Global, next: Next<'a>) -> Result<Step<'a>, AllocError>
+        ensures { IfOk result (λ to. Reaches self.old (plain-Next next.entry) self.new to) }
+    {
+        match next {
+            Next::GoesInto(expr) => Ok(self.goes_into(alloc, expr)),
+            Next::Part(hole, expr) => self.goes_into_part(alloc, hole, expr),
+            other => {
+                let step = self.step(alloc, other)?;
+                Ok(step)
+            }
+        }
+    }
+
     /// Steps up to the next turn.
     pub fn until_turn(&mut self, alloc: Global, next: Next<'a>) -> Result<Paused<'a>, AllocError>
         ensures { IfOk result (λ to. (P : Functions) (n t : ℕ) (o : OutcomeOf) → t < n → Stands P n t self.old (plain-Next next.entry) o → Pauses P n t self.new to o) }
     {
         let mut now = next;
         'steps: loop {
-            let step = self.step(alloc, now)?;
+            let step = self.advance(alloc, now)?;
             match step {
                 Step::Next(next) => now = next,
                 Step::Turn(turn) => return Ok(Paused::Turn(turn)),

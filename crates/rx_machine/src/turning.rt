@@ -8,8 +8,9 @@ ghost use Rattle.rx_meaning.specs.Expressions.{Functions};
 ghost use Rattle.rx_frames.specs.Frames.{loops};
 ghost use Rattle.rx_values.specs.PlainValues.{plain-Value};
 ghost use Rattle.rx_machine.specs.Fitting.{functions_of, plain-Turn};
-ghost use Rattle.rx_machine.specs.Running.{IsFunction, Enters, Takes, Stands, Pauses, IsCutOff};
+ghost use Rattle.rx_machine.specs.Running.{IsFunction, Enters, Turns, Stands, Pauses, IsCutOff};
 
+use crate::arriving::{begun, given_value};
 use crate::data::{Frame, Machine, Paused, Step, Turn};
 use crate::slots::Slots;
 use rx_core::{LetGo, List};
@@ -76,12 +77,27 @@ impl<'a> Machine<'a> {
         }
     }
 
-    /// A pass of a loop begins.
-    fn pass(&mut self, mark: &'a Mark, number: u32, body: &'a Expr) -> Result<Step<'a>, AllocError>
-        ensures { IfOk result (λ to. (P : Functions) → Takes P self.old (loops (plain-Mark mark.entry.now) number (plain-Expr body.entry.now)) self.new to) }
+    /// A pass of a loop begins, and is done where its body is told at once.
+    fn pass(
+        &mut self,
+        alloc: Global,
+        mark: &'a Mark,
+        number: u32,
+        body: &'a Expr,
+    ) -> Result<Step<'a>, AllocError>
+        ensures { IfOk result (λ to. (P : Functions) → Turns P self.old (loops (plain-Mark mark.entry.now) number (plain-Expr body.entry.now)) self.new to) }
     {
-        self.frames.push(Frame::Pass(mark, number, body))?;
-        Ok(Step::Next(Next::GoesInto(body)))
+        let reached = self.arrive(body);
+        match given_value(reached) {
+            Some(value) => {
+                value.let_go();
+                Ok(Step::Turn(Turn::Loops(mark, number, body)))
+            }
+            None => {
+                self.frames.push(Frame::Pass(mark, number, body))?;
+                Ok(Step::Next(begun(alloc, reached)))
+            }
+        }
     }
 
     /// What takes a turn begins.
@@ -91,11 +107,11 @@ impl<'a> Machine<'a> {
         functions: &'a [Option<&'a TypedTree>],
         turn: Turn<'a>,
     ) -> Result<Step<'a>, AllocError>
-        ensures { IfOk result (λ to. Takes (functions_of functions.entry.now) self.old (plain-Turn turn.entry) self.new to) }
+        ensures { IfOk result (λ to. Turns (functions_of functions.entry.now) self.old (plain-Turn turn.entry) self.new to) }
     {
         match turn {
             Turn::Loops(mark, number, body) => {
-                let step = self.pass(mark, number, body)?;
+                let step = self.pass(alloc, mark, number, body)?;
                 Ok(step)
             }
             Turn::Calls(item, arguments) => match function_at(functions, item) {

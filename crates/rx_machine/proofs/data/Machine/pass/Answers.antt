@@ -1,7 +1,16 @@
 use Rattle.std.proofs.Common.{refl}
-use Rattle.rx_steps.specs.declared.next.Next.TheVariants as next
-use Rattle.rx_machine.proofs.FrameLemmas.{pass_takes}
+use Rattle.rx_values.specs.PlainValues.{plain-Value}
+use Rattle.rx_direct.specs.PlainReached.{plain-Reached}
+use Rattle.rx_machine.specs.declared.data.Turn.TheVariants as turn_form
+use Rattle.rx_machine.proofs.ReachLemmas.{pass_given, pass_pushed}
 use Rattle.rx_machine.proofs.data.Machine.pass.Goals as goal
 
-pub returns : goal.returns
-returns c = λ P. pass_takes c.args.self.now c.args.mark c.args.number c.args.body c.push.new.self (next.GoesInto c.args.body) c.in_ok-push.ensures.ok refl P
+pub returns-in-Some : goal.returns-in-Some
+returns-in-Some c = λ P.
+    pass_given c.args.self.now c.args.mark c.args.number c.args.body c.arrive-reached.new.self (plain-Reached c.arrive-reached.result) (plain-Value c.in-Some.value) (turn_form.Loops c.args.mark c.args.number c.args.body)
+    c.arrive-reached.ensures c.in-Some.ensures refl P
+
+pub returns-in_ok-push-in-None : goal.returns-in_ok-push-in-None
+returns-in_ok-push-in-None c = λ P.
+    pass_pushed c.args.self.now c.args.mark c.args.number c.args.body c.arrive-reached.new.self (plain-Reached c.arrive-reached.result) c.push.new.self c.begun.result
+    c.arrive-reached.ensures c.begun.ensures c.in_ok-push-in-None.ensures.ok P

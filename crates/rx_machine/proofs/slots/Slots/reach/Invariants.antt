@@ -1,5 +1,5 @@
 use Rattle.std.proofs.Common.{◌≡◌, ℕ, suc, ◌-◌, length}
-use Rattle.rx_machine.specs.Fitting.{recorded}
+use Rattle.rx_direct.specs.Direct.{recorded}
 use Rattle.rx_machine.proofs.slots.Slots.reach.Given as goal
 
 abbrev pub invariant-loop-self : goal.invariant-loop-self

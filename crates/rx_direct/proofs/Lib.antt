@@ -1,0 +1,4 @@
+pub mod DirectLemmas
+pub mod DirectRules
+pub mod FormLemmas
+pub mod TableLemmas

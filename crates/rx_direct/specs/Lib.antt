@@ -1,0 +1,4 @@
+pub mod Direct
+pub mod Reaching
+pub mod PlainScalar
+pub mod PlainReached
