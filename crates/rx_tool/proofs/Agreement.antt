@@ -3,6 +3,10 @@ use Rattle.std.specs.Prelude.{◌≢◌, codes}
 use Rattle.std.proofs.Common.{ℕ, ◌≡◌, Bool, true, false, ◌&&◌, ◌||◌, List, [], Option, Some, None, Result, Ok, Err, ◌⊎◌, inl, inr, refl, sym, ap, ◌∙◌, subst}
 use Rattle.std.proofs.lemmas.Bool.{and_parts}
 use Rattle.rx_tree.specs.Plain.{ProgramTree}
+use Rattle.rx_resolve.specs.declared.resolved.ItemNames.{ItemNames}
+use Rattle.rx_typeck.specs.declared.typed.Typed.{Typed}
+use Rattle.rx_typeck.specs.Typing.{IsTyped}
+use Rattle.rx_typeck.specs.Alike.{AreAlike}
 use Rattle.rx_parse.specs.declared.fault.SyntaxFault.{SyntaxFault}
 use Rattle.rx_parse.specs.declared.fault.SyntaxFault.TheVariants as syntax
 use Rattle.rx_grammar.specs.grammar.Items.{Parses}
@@ -22,9 +26,10 @@ use Rattle.rx_engine.proofs.RefusalLemmas.{one_tree}
 use Rattle.rx_engine.proofs.OneFault.{one_fault, answer_excludes, read_one, unread_none}
 use Rattle.rx_tool.specs.declared.status.Status.{Status}
 use Rattle.rx_tool.specs.declared.status.Status.TheVariants.{Done, NotAccepted, OutOfMemory}
-use Rattle.rx_tool.specs.Forms.{Command, extracts, checks, command_of}
+use Rattle.rx_tool.specs.Forms.{Command, extracts, checks, runs, command_of}
 use Rattle.rx_tool.specs.Lines.{fault_status, fault_line}
 use Rattle.rx_tool.specs.Defined.{Defined, AnswersTo, IsAccepted, Judged, passed, faulty, Checked, no_program, program, result_status, result_bytes, result_line, SaysTooDeep, SaysStop, AreOneLine, AreFaultLines, AreLines}
+use Rattle.rx_tool.proofs.RunLemmas.{outcome_one, runs_agree}
 
 -- ---- lines
 
@@ -100,10 +105,11 @@ results_agree bytes start end name (Err f) (Err g) x y n m =
     let o = one_fault bytes start end name f g (known f n) (known g m) x y in
     (statuses_one f g o (stop_status f) (stop_status g), refl, lines_one f g o)
 
--- ---- two checks, by what is known of faults
+-- ---- two checks, by what is known of faults, and two runs, by what is known of types
 
 module _ (excluded : (p : ProgramTree) (e : CheckFault) → Accepted p → Causes e p → e ≡ check.OutOfMemory)
-    (one : (p : ProgramTree) (e f : CheckFault) → e ≢ check.OutOfMemory → f ≢ check.OutOfMemory → Causes e p → Causes f p → AreOneFault e f) where
+    (one : (p : ProgramTree) (e f : CheckFault) → e ≢ check.OutOfMemory → f ≢ check.OutOfMemory → Causes e p → Causes f p → AreOneFault e f)
+    (alike : (p : ProgramTree) (ns : List ItemNames) (t u : Typed) → IsTyped p ns t → IsTyped p ns u → AreAlike t u) where
   judged_agree : (text : List ℕ) (p : ProgramTree) → Parses text p → (s t : Status) (a b c d : List ℕ) → Judged p s a b → Judged p t c d
       → (s ≡ t) × (a ≡ c) × (AreOneLine b d ⊎ AreFaultLines text b d)
   judged_agree text p x _ _ _ _ _ _ (passed h) (passed k) = (refl, refl, inl (inl refl))
@@ -149,6 +155,8 @@ module _ (excluded : (p : ProgramTree) (e : CheckFault) → Accepted p → Cause
             (subst (AreOneLine (result_line x.result)) (sym y.err_is) p.2),
       )
   answers_agree (Some checks) text s t a b c d x y = checks_agree text s t a b c d x y
+  answers_agree (Some (runs turns input)) text s t a b c d x y =
+      runs_agree text turns input (checks_agree text) (λ p o q. outcome_one alike p turns input o q) s t a b c d x y
 
   pub defined_agree : (words : List (List ℕ)) (text : List ℕ) (s t : Status) (a b c d : List ℕ)
       → Defined words text s a b → Defined words text t c d

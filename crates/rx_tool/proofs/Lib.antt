@@ -1,4 +1,6 @@
 pub mod Digits
+pub mod RunWords
 pub mod Replies
 pub mod CheckLemmas
+pub mod RunLemmas
 pub mod Agreement

@@ -1,7 +1,9 @@
 -- A reply follows from what is due and how far it was written, by cases on both.
-use Rattle.std.proofs.Common.{ℕ, ◌≡◌, ◌≤◌, ◌<◌, ◌⊎◌, inl, inr, List, [], length, Option, Some, None, Result, Ok, Err, refl, sym, ap, ◌∙◌, subst, arith, append-nil, length-append}
+use Rattle.std.proofs.Common.{ℕ, ℤ, ◌≡◌, ◌≤◌, ◌<◌, ◌⊎◌, inl, inr, List, [], length, take, Option, Some, None, Result, Ok, Err, refl, sym, ap, ◌∙◌, subst, arith, append-nil, length-append}
 use Rattle.std.proofs.lemmas.Bool.{cases_lt}
-use Rattle.rx_core.specs.Streams.{Rose, Told, Gone}
+use Rattle.rx_core.specs.Streams.{Rose, Told, Gone, Grown}
+use Rattle.rx_core.specs.declared.write.WriteFail.{WriteFail}
+use Rattle.rx_core.specs.declared.write.WriteFail.TheVariants as fail
 use Rattle.rx_engine.specs.declared.extraction.Answer.{Answer}
 use Rattle.rx_engine.specs.declared.extraction.Fault.{Fault}
 use Rattle.rx_lex.specs.declared.lexer.LexFault.{LexFault}
@@ -15,23 +17,24 @@ use Rattle.rx_first_check.specs.declared.fault.TypeFault.TheVariants as type
 use Rattle.rx_first_check.specs.declared.fault.CheckFault.{CheckFault}
 use Rattle.rx_first_check.specs.declared.fault.CheckFault.TheVariants as check
 use Rattle.rx_engine.specs.declared.extraction.Fault.TheVariants as fault
+use Rattle.rx_meaning.specs.declared.outcome.End.{End}
+use Rattle.rx_meaning.specs.declared.outcome.End.TheVariants as ends
 use Rattle.rx_tool.specs.declared.status.Status.{Status}
 use Rattle.rx_tool.specs.declared.status.Status.TheVariants.{Done, Usage, NotAccepted, Refused, ReadFault, WriteFault, OutOfMemory, TooLong, StillRunning, Wrong, Trapped}
 use Rattle.rx_tree.specs.Plain.{ProgramTree}
 use Rattle.rx_engine.specs.Verdict.{Extracts}
-use Rattle.rx_tool.specs.Forms.{Command, extracts, checks, command_of}
+use Rattle.rx_tool.specs.Forms.{Command, extracts, checks, runs, command_of}
 use Rattle.rx_tool.specs.Lines.{status_line, fault_line, lex_line, syntax_line, name_line, type_line, check_line, fault_status, lex_status, syntax_status, name_status, type_status, check_status}
-use Rattle.rx_tool.specs.Defined.{Defined, AnswersTo, Judged, passed, faulty, Checked, no_program, program, result_status, result_bytes, result_line}
-use Rattle.rx_tool.specs.Replies.{Stream, IsForm, HasFailed, HasAll, IsRead, TakesAtMost, TakesOneMore, Due, answered, not_read, too_long, no_memory, Ending, whole, out_cut, both_cut, err_cut, IsComplete, Replies, Reports, Delivers, Found, defined, no_room}
+use Rattle.rx_tool.specs.RunLines.{end_status}
+use Rattle.rx_tool.specs.Defined.{Defined, AnswersTo, Judged, passed, faulty, Checked, no_program, program, Ran, refused, ran, result_status, result_bytes, result_line}
+use Rattle.rx_tool.specs.Replies.{Stream, IsForm, HasFailed, HasAll, IsCut, IsRead, TakesAtMost, TakesOneMore, Due, answered, not_read, too_long, no_memory, Ending, whole, out_cut, both_cut, err_cut, IsComplete, Replies, Reports, Delivers, Found, defined, no_room}
 
 -- the statuses that a text's answer has
 abbrev pub IsAnswer : Status → Type 0
-IsAnswer Done = Unit {0}
-IsAnswer Refused = Unit {0}
-IsAnswer Usage = Unit {0}
-IsAnswer NotAccepted = Unit {0}
-IsAnswer OutOfMemory = Unit {0}
-IsAnswer _ = ⊥
+IsAnswer ReadFault = ⊥
+IsAnswer WriteFault = ⊥
+IsAnswer TooLong = ⊥
+IsAnswer _ = Unit {0}
 
 lex_answers : (f : LexFault) → IsAnswer (lex_status f)
 lex_answers (lex.NotText at) = tt
@@ -79,12 +82,24 @@ checked_answers : (text : List ℕ) (status : Status) (outs errs : List ℕ) →
 checked_answers text _ _ _ (no_program f c) = tt
 checked_answers text status outs errs (program p x j) = judged_answers p status outs errs j
 
+end_answers : (e : End) → IsAnswer (end_status e)
+end_answers ends.Ended = tt
+end_answers (ends.Trapped t) = tt
+end_answers ends.Running = tt
+end_answers ends.Wrong = tt
+
+ran_answers : (text : List ℕ) (turns : ℕ) (input : List ℤ) (status : Status) (outs errs : List ℕ) → Ran text turns input status outs errs
+    → IsAnswer status
+ran_answers text turns input _ _ _ (refused c) = tt
+ran_answers text turns input _ _ _ (ran p x h o d) = end_answers o.end
+
 asked_answers : (q : Option Command) (text : List ℕ) (status : Status) (outs errs : List ℕ)
     → AnswersTo q text status outs errs → IsAnswer status
 asked_answers None text status outs errs a = subst IsAnswer (sym a.0) tt
 asked_answers (Some (extracts name start end)) text status outs errs a =
     subst IsAnswer (sym a.status_is) (result_answers a.result)
 asked_answers (Some checks) text status outs errs a = checked_answers text status outs errs a
+asked_answers (Some (runs turns input)) text status outs errs a = ran_answers text turns input status outs errs a
 
 defined_answers : (words : List (List ℕ)) (text : List ℕ) (status : Status) (outs errs : List ℕ)
     → Defined words text status outs errs → IsAnswer status
@@ -184,6 +199,17 @@ delivered out out' err err' status result bytes (inl r) =
 delivered out out' err err' status result bytes (inr r) =
     subst (λ (x : Status). Ending out out' err err' status bytes [] x) (sym r.0)
     (elim r.2 [ inl a ↦ out_cut r.1 a | inr b ↦ both_cut r.1 b ])
+
+failed : (old new : Stream) (f : WriteFail) → (f ≡ fail.WriteFault → Rose old.faults new.faults)
+    → ((left : ℕ) → f ≡ fail.Stuck left → Rose old.standstills new.standstills) → HasFailed old new
+failed old new fail.WriteFault h k = inl (h refl)
+failed old new (fail.Stuck left) h k = inr (k left refl)
+
+-- a front of the bytes of a text was written, and then the sink failed
+pub cut : (old new : Stream) (bytes text : List ℕ) (f : WriteFail) → bytes ≡ text
+    → ((n : ℕ) × (n ≤ length bytes) × Grown old.bytes new.bytes (take n bytes)) → (f ≡ fail.WriteFault → Rose old.faults new.faults)
+    → ((left : ℕ) → f ≡ fail.Stuck left → Rose old.standstills new.standstills) → IsCut old new text
+cut old new bytes text f e front h k = subst (IsCut old new) e (front, failed old new f h k)
 
 status_memory : (s : Status) → (s ≡ OutOfMemory) ⊎ (s ≡ OutOfMemory → ⊥)
 status_memory OutOfMemory = inl refl

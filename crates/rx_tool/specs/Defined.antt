@@ -1,9 +1,10 @@
 -- The defined answer of words on a text: a status, the bytes for standard output, and the line for standard error.
-use Rattle.std.specs.Prelude.{ℕ, ◌≡◌, ◌≢◌, ◌⊎◌, List, [], Option, Some, None, Result, Ok, Err, codes}
+use Rattle.std.specs.Prelude.{ℕ, ℤ, ◌≡◌, ◌≢◌, ◌⊎◌, List, [], Option, Some, None, Result, Ok, Err, codes}
 use Rattle.rx_parse.specs.declared.fault.SyntaxFault.{SyntaxFault}
 use Rattle.rx_parse.specs.declared.fault.SyntaxFault.TheVariants as syntax
 use Rattle.rx_tree.specs.Plain.{ProgramTree}
 use Rattle.rx_grammar.specs.grammar.Items.{Parses}
+use Rattle.rx_meaning.specs.declared.outcome.Outcome.{Outcome}
 use Rattle.rx_check.specs.declared.fault.CheckFault.{CheckFault}
 use Rattle.rx_check.specs.declared.fault.CheckFault.TheVariants as check
 use Rattle.rx_check.specs.Passes.{Accepted}
@@ -13,9 +14,11 @@ use Rattle.rx_engine.specs.declared.extraction.Fault.{Fault}
 use Rattle.rx_engine.specs.Verdict.{IsUnread, Extracts}
 use Rattle.rx_tool.specs.declared.status.Status.{Status}
 use Rattle.rx_tool.specs.declared.status.Status.TheVariants.{Done, Usage, NotAccepted, OutOfMemory}
-use Rattle.rx_tool.specs.Forms.{Command, extracts, checks, command_of}
+use Rattle.rx_tool.specs.Forms.{Command, extracts, checks, runs, command_of}
 use Rattle.rx_tool.specs.Lines.{status_line, fault_status, syntax_line, fault_line}
 use Rattle.rx_tool.specs.CheckLines.{line_of_check}
+use Rattle.rx_tool.specs.RunLines.{end_status, end_line}
+use Rattle.rx_tool.specs.Runs.{Does}
 
 abbrev pub result_status : Result Answer Fault → Status
 result_status (Ok a) = Done
@@ -54,10 +57,17 @@ pub data Checked (text : List ℕ) : Status → List ℕ → List ℕ → Type 0
   no_program : (f : SyntaxFault) → IsUnread text f → Checked text NotAccepted [] (syntax_line f)
   program : {status : Status} {out err : List ℕ} (p : ProgramTree) → Parses text p → Judged p status out err → Checked text status out err
 
+-- these are of a text that is not accepted, as its check answers, or of what its program does
+pub data Ran (text : List ℕ) (turns : ℕ) (input : List ℤ) : Status → List ℕ → List ℕ → Type 0 where
+  refused : {out err : List ℕ} → Checked text NotAccepted out err → Ran text turns input NotAccepted out err
+  ran : (p : ProgramTree) → Parses text p → Accepted p → (o : Outcome) → Does p turns input o
+      → Ran text turns input (end_status o.end) o.printed (end_line o.end)
+
 abbrev pub AnswersTo : Option Command → List ℕ → Status → List ℕ → List ℕ → Type 0
 AnswersTo None text status out err = (status ≡ Usage) × (out ≡ []) × (err ≡ status_line Usage)
 AnswersTo (Some (extracts name start end)) text status out err = Obtained text name start end status out err
 AnswersTo (Some checks) text status out err = Checked text status out err
+AnswersTo (Some (runs turns input)) text status out err = Ran text turns input status out err
 
 abbrev pub Defined : List (List ℕ) → List ℕ → Status → List ℕ → List ℕ → Type 0
 Defined words text status out err = AnswersTo (command_of words) text status out err
@@ -89,4 +99,5 @@ pub record AreFaultLines (text a b : List ℕ) : Type 0 where
 -- the lines of two defined answers
 abbrev pub AreLines : Option Command → List ℕ → List ℕ → List ℕ → Type 0
 AreLines (Some checks) text a b = AreOneLine a b ⊎ AreFaultLines text a b
+AreLines (Some (runs turns input)) text a b = AreOneLine a b ⊎ AreFaultLines text a b
 AreLines _ text a b = AreOneLine a b

@@ -3,4 +3,8 @@ pub mod CheckLines
 pub mod Defined
 pub mod Forms
 pub mod Lines
+pub mod Numbers
 pub mod Replies
+pub mod RunLines
+pub mod RunReplies
+pub mod Runs

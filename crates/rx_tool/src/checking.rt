@@ -19,7 +19,7 @@ use rx_tree::Program;
 use std::alloc::{AllocError, Global};
 
 /// Writes the line of a fault of reading, or of want of memory.
-fn refuse_text<E: Sink>(alloc: Global, err: &mut E, fault: &SyntaxFault) -> Status
+pub(crate) fn refuse_text<E: Sink>(alloc: Global, err: &mut E, fault: &SyntaxFault) -> Status
     ensures { Reports (sink_state E.contents E.faults E.standstills err.old) (sink_state E.contents E.faults E.standstills err.new) (syntax_status fault.now) (syntax_line fault.now) result
         ⊎ Reports (sink_state E.contents E.faults E.standstills err.old) (sink_state E.contents E.faults E.standstills err.new) Status.OutOfMemory (status_line Status.OutOfMemory) result }
 {
@@ -30,7 +30,7 @@ fn refuse_text<E: Sink>(alloc: Global, err: &mut E, fault: &SyntaxFault) -> Stat
 }
 
 /// Writes the line of a fault of a program, or of want of memory.
-fn refuse_program<E: Sink>(
+pub(crate) fn refuse_program<E: Sink>(
     alloc: Global,
     err: &mut E,
     program: &Program,

@@ -5,12 +5,17 @@ mod check_line;
 mod checking;
 mod laws;
 mod line;
+mod numbers;
 mod reply;
+mod run_line;
+mod running;
 mod status;
 mod tool;
 mod words;
 
-pub use crate::laws::{acceptance_is_defined, extraction_is_defined, one_answer};
+pub use crate::laws::{
+    acceptance_is_defined, extraction_is_defined, one_answer, one_outcome, runs_are_defined,
+};
 pub use crate::reply::report_name;
 pub use crate::status::Status;
 pub use crate::tool::rem;

@@ -9,6 +9,7 @@ ghost use Rattle.rx_tool.specs.Replies.{Ending, Found, Replies, Reports, sink_st
 use crate::checking::check_text;
 use crate::line::{line_of_fault, status_of_fault};
 use crate::reply::{deliver, report, report_name};
+use crate::running::run_text;
 use crate::status::Status;
 use crate::words::{Command, read_words};
 use rx_core::{List, ReadFail, Sink, Source, Text, read_all};
@@ -67,6 +68,7 @@ fn answer<O: Sink, E: Sink>(
             extract_run(alloc, out, err, text, selection, name)
         }
         Command::Check => check_text(alloc, out, err, text),
+        Command::Run { turns, numbers } => run_text(alloc, out, err, text, turns, numbers),
     }
 }
 

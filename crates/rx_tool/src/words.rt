@@ -1,9 +1,11 @@
 //! The words of the command line, read by their position.
 
-ghost use Rattle.std.specs.Prelude.{◌≡◌, ◌<◌, [], ◌∷◌, length, option_map};
-ghost use Rattle.rx_tool.specs.Forms.{digits_from, number_of, command_of};
+ghost use Rattle.std.specs.Prelude.{◌≡◌, ◌∷◌, option_map};
+ghost use Rattle.rx_tool.specs.Numbers.{integers_of};
+ghost use Rattle.rx_tool.specs.Forms.{command_of, check_of, extract_of, run_of, runs_of};
 ghost use Rattle.rx_tool.specs.Asked.{asked};
 
+use crate::numbers::{are_integers, number};
 use rx_core::Text;
 use rx_engine::Selection;
 
@@ -14,55 +16,69 @@ pub enum Command<'w> {
     Extract { name: &'w str, selection: Selection },
     /// Whether the text is accepted.
     Check,
+    /// What its program does in so many turns, where these integers are its input.
+    Run { turns: u64, numbers: &'w [Text] },
 }
 
-/// The value of at most 19 decimal digits, or `None` where another byte is among them.
-fn digits(word: &[u8]) -> Option<u64>
-    requires { length word.now < 20 }
-    ensures { result ≡ digits_from 0 word.now }
+fn check_words<'w>(words: &'w [Text]) -> Option<Command<'w>>
+    ensures { option_map asked result ≡ check_of words.entry.now }
 {
-    let mut value = 0u64;
-    for byte in word {
-        if !byte.is_ascii_digit() {
-            return None;
+    if words.is_empty() {
+        Some(Command::Check)
+    } else {
+        None
+    }
+}
+
+fn extract_words<'w>(words: &'w [Text]) -> Option<Command<'w>>
+    ensures { option_map asked result ≡ extract_of words.entry.now }
+{
+    match words {
+        [name, start, end] => {
+            match (
+                number(start.as_str().as_bytes()),
+                number(end.as_str().as_bytes()),
+            ) {
+                (Some(start), Some(end)) => Some(Command::Extract {
+                    name: name.as_str(),
+                    selection: Selection { start, end },
+                }),
+                _ => None,
+            }
         }
-        value = value * 10 + u64::from(*byte - b'0');
-    }
-    Some(value)
-}
-
-/// The value of a word of 1 to 19 decimal digits.
-fn number(word: &str) -> Option<u64>
-    ensures { result ≡ number_of word.now }
-{
-    let bytes = word.as_bytes();
-    if bytes.is_empty() || bytes.len() >= 20 {
-        return None;
-    }
-    digits(bytes)
-}
-
-fn check_words<'w>(verb: &str) -> Option<Command<'w>>
-    ensures { option_map asked result ≡ command_of (verb.now ∷ []) }
-{
-    if verb != "check" {
-        return None;
-    }
-    Some(Command::Check)
-}
-
-fn extract_words<'w>(verb: &str, name: &'w str, start: &str, end: &str) -> Option<Command<'w>>
-    ensures { option_map asked result ≡ command_of (verb.now ∷ name.now ∷ start.now ∷ end.now ∷ []) }
-{
-    if verb != "extract" {
-        return None;
-    }
-    match (number(start), number(end)) {
-        (Some(start), Some(end)) => Some(Command::Extract {
-            name,
-            selection: Selection { start, end },
-        }),
         _ => None,
+    }
+}
+
+/// A run of so many turns, where all words behind them are integers.
+fn run_with<'w>(turns: Option<u64>, numbers: &'w [Text]) -> Option<Command<'w>>
+    ensures { option_map asked result ≡ runs_of turns (integers_of numbers.entry.now) }
+{
+    match turns {
+        Some(turns) if are_integers(numbers) => Some(Command::Run { turns, numbers }),
+        _ => None,
+    }
+}
+
+fn run_words<'w>(words: &'w [Text]) -> Option<Command<'w>>
+    ensures { option_map asked result ≡ run_of words.entry.now }
+{
+    let (turns, numbers) = words.split_first()?;
+    run_with(number(turns.as_str().as_bytes()), numbers)
+}
+
+/// What a verb asks for, with the words behind it.
+fn verb_words<'w>(verb: &str, words: &'w [Text]) -> Option<Command<'w>>
+    ensures { option_map asked result ≡ command_of (verb.now ∷ words.entry.now) }
+{
+    if verb == "check" {
+        check_words(words)
+    } else if verb == "extract" {
+        extract_words(words)
+    } else if verb == "run" {
+        run_words(words)
+    } else {
+        None
     }
 }
 
@@ -70,11 +86,6 @@ fn extract_words<'w>(verb: &str, name: &'w str, start: &str, end: &str) -> Optio
 pub fn read_words(words: &[Text]) -> Option<Command<'_>>
     ensures { option_map asked result ≡ command_of words.now }
 {
-    match words {
-        [verb] => check_words(verb.as_str()),
-        [verb, name, start, end] => {
-            extract_words(verb.as_str(), name.as_str(), start.as_str(), end.as_str())
-        }
-        _ => None,
-    }
+    let (verb, words) = words.split_first()?;
+    verb_words(verb.as_str(), words)
 }

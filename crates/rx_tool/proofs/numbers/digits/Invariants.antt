@@ -1,7 +1,7 @@
 -- The rest of the word behind the value so far is the whole word.
 use Rattle.std.proofs.Common.{◌≡◌, ◌<◌, ◌^◌, drop}
-use Rattle.rx_tool.specs.Forms.{digits_from}
-use Rattle.rx_tool.proofs.words.digits.Given as goal
+use Rattle.rx_tool.specs.Numbers.{digits_from}
+use Rattle.rx_tool.proofs.numbers.digits.Given as goal
 
 abbrev pub invariant-loop-byte : goal.invariant-loop-byte
 invariant-loop-byte l = record {

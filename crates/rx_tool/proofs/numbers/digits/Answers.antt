@@ -1,7 +1,7 @@
 -- A value of at most 18 digits is small.
 use Rattle.std.proofs.Common.{arith, length}
 use Rattle.rx_tool.proofs.Digits.{few_digits}
-use Rattle.rx_tool.proofs.words.digits.Goals as goal
+use Rattle.rx_tool.proofs.numbers.digits.Goals as goal
 
 pub overflow_mul-value : goal.overflow_mul-value
 overflow_mul-value c =
