@@ -227,9 +227,9 @@ extract f 0 0: fn f() -> i64 { 9223372036854775808i64 } fn main() {} | 3 error: 
 extract f 0 0: fn main() { let x = 9223372036854775808i64; y(); } | 3 error: NotAccepted Unknown 44 45
 extract f 0 0: fn f() { 9223372036854775808i64 } fn g() {} | 3 error: NotAccepted Mismatch 0 43 Main
 extract f 0 0: fn u() {} fn main() { let x = 1i64; let x = u(); println!("{}", x); } | 3 error: NotAccepted Mismatch 64 65 KindOf
-extract f 0 0: fn main() { if true {} } | 3 error: NotAccepted NotBuilt 0 24
-extract f 0 0: mod rt; fn main() {} | 3 error: NotAccepted NotBuilt 0 7
-extract f 0 0: fn f() {} fn f() {} struct S { a: i64 } fn main() { y(); } | 3 error: NotAccepted NotBuilt 20 39"#;
+extract f 0 0: fn main() { if true {} } | 1 error: Refused NotBuilt
+extract f 0 0: mod rt; fn main() {} | 1 error: Refused NotBuilt
+extract f 0 0: fn f() {} fn f() {} struct S { a: i64 } fn main() { y(); } | 3 error: NotAccepted Twice 3 4 13 14"#;
 
 #[test]
 fn the_first_fault_is_named_with_its_place(rt: HostRuntime) {

@@ -28,7 +28,7 @@ use Rattle.rx_tool.specs.declared.status.Status.{Status}
 use Rattle.rx_tool.specs.declared.status.Status.TheVariants.{Done, NotAccepted, OutOfMemory}
 use Rattle.rx_tool.specs.Forms.{Command, extracts, checks, runs, command_of}
 use Rattle.rx_tool.specs.Lines.{fault_status, fault_line}
-use Rattle.rx_tool.specs.Defined.{Defined, AnswersTo, IsAccepted, Judged, passed, faulty, Checked, no_program, program, result_status, result_bytes, result_line, SaysTooDeep, SaysStop, AreOneLine, AreFaultLines, AreLines}
+use Rattle.rx_tool.specs.Defined.{Defined, AnswersTo, IsAccepted, Judged, passed, faulty, Checked, no_program, program, Obtained, Drawn, unaccepted, drawn, result_status, result_bytes, result_line, SaysTooDeep, SaysStop, AreOneLine, AreFaultLines, AreLines}
 use Rattle.rx_tool.proofs.RunLemmas.{outcome_one, runs_agree}
 
 -- ---- lines
@@ -143,10 +143,9 @@ module _ (excluded : (p : ProgramTree) (e : CheckFault) → Accepted p → Cause
   checks_agree text s t a b c d (program p x j) (program q y k) =
       judged_agree text p x s t a b c d j (subst (λ r. Judged r t c d) (one_text text q p y x) k)
 
-  answers_agree : (q : Option Command) (text : List ℕ) (s t : Status) (a b c d : List ℕ) → AnswersTo q text s a b
-      → AnswersTo q text t c d → (s ≡ t) × (a ≡ c) × AreLines q text b d
-  answers_agree None text s t a b c d x y = (x.0 ∙ sym y.0, x.1 ∙ sym y.1, inl (x.2 ∙ sym y.2))
-  answers_agree (Some (extracts name start end)) text s t a b c d x y =
+  obtained_agree : (text name : List ℕ) (start end : ℕ) (s t : Status) (a b c d : List ℕ) → Obtained text name start end s a b → Obtained text name start end t c d
+      → (s ≡ t) × (a ≡ c) × AreOneLine b d
+  obtained_agree text name start end s t a b c d x y =
       let p = results_agree text start end name x.result y.result x.extracts y.extracts (λ e. x.found (x.status_is ∙ e))
       (λ e. y.found (y.status_is ∙ e)) in (
         x.status_is ∙ (p.0 ∙ sym y.status_is),
@@ -154,6 +153,25 @@ module _ (excluded : (p : ProgramTree) (e : CheckFault) → Accepted p → Cause
         subst (λ (l : List ℕ). AreOneLine l d) (sym x.err_is)
             (subst (AreOneLine (result_line x.result)) (sym y.err_is) p.2),
       )
+
+  -- an accepted text is not answered as one that is not
+  accepted_or_checked : (text : List ℕ) (p : ProgramTree) → Parses text p → Accepted p → (out err : List ℕ) → Checked text NotAccepted out err → ⊥
+  accepted_or_checked text p x h out err c = done_or_not (checks_agree text Done NotAccepted (codes "accepted\n") [] out err (program p x (passed h)) c).0
+    where
+      done_or_not : Done ≡ NotAccepted → ⊥
+      done_or_not e = cc
+
+  drawn_agree : (text name : List ℕ) (start end : ℕ) (s t : Status) (a b c d : List ℕ) → Drawn text name start end s a b → Drawn text name start end t c d
+      → (s ≡ t) × (a ≡ c) × (AreOneLine b d ⊎ AreFaultLines text b d)
+  drawn_agree text name start end _ _ a b c d (unaccepted x) (unaccepted y) = checks_agree text NotAccepted NotAccepted a b c d x y
+  drawn_agree text name start end _ t a b c d (unaccepted x) (drawn p y h o) = absurd (accepted_or_checked text p y h a b x)
+  drawn_agree text name start end s _ a b c d (drawn p x h o) (unaccepted y) = absurd (accepted_or_checked text p x h c d y)
+  drawn_agree text name start end s t a b c d (drawn p x h o) (drawn q y k u) = let r = obtained_agree text name start end s t a b c d o u in (r.0, r.1, inl r.2)
+
+  answers_agree : (q : Option Command) (text : List ℕ) (s t : Status) (a b c d : List ℕ) → AnswersTo q text s a b
+      → AnswersTo q text t c d → (s ≡ t) × (a ≡ c) × AreLines q text b d
+  answers_agree None text s t a b c d x y = (x.0 ∙ sym y.0, x.1 ∙ sym y.1, inl (x.2 ∙ sym y.2))
+  answers_agree (Some (extracts name start end)) text s t a b c d x y = drawn_agree text name start end s t a b c d x y
   answers_agree (Some checks) text s t a b c d x y = checks_agree text s t a b c d x y
   answers_agree (Some (runs turns input)) text s t a b c d x y =
       runs_agree text turns input (checks_agree text) (λ p o q. outcome_one alike p turns input o q) s t a b c d x y
@@ -166,12 +184,12 @@ module _ (excluded : (p : ProgramTree) (e : CheckFault) → Accepted p → Cause
 -- where no condition fails, the extraction is the defined answer
 pub extraction_defined : (words : List (List ℕ)) (text name : List ℕ) (start end : ℕ) (p q : ProgramTree)
     → command_of words ≡ Some (extracts name start end)
-    → IsExtraction text start end name p q → Defined words text Done (print_program q) []
-extraction_defined words text name start end p q e x =
+    → Accepted p → IsExtraction text start end name p q → Defined words text Done (print_program q) []
+extraction_defined words text name start end p q e accepted x =
     let k = keeps text start end name (print_program q) p q x.run x.names x.moves refl x.short in
     let a : Answer = record { text = print_program q; bounds = [] } in
     subst (λ (c : Option Command). AnswersTo c text Done (print_program q) []) (sym e)
-    (record { result = Ok a; extracts = (k, refl); found = λ m. cc; status_is = refl; out_is = refl; err_is = refl })
+    (drawn p x.names.selects.accepts.parses accepted (record { result = Ok a; extracts = (k, refl); found = λ m. cc; status_is = refl; out_is = refl; err_is = refl }))
 
 -- an accepted text has the defined answer of a check, and no other text has it
 pub acceptance_defined : (words : List (List ℕ)) (text : List ℕ) → command_of words ≡ Some checks → IsAccepted text

@@ -10,12 +10,6 @@ use Rattle.rx_lex.specs.declared.lexer.LexFault.{LexFault}
 use Rattle.rx_lex.specs.declared.lexer.LexFault.TheVariants as lex
 use Rattle.rx_parse.specs.declared.fault.SyntaxFault.{SyntaxFault}
 use Rattle.rx_parse.specs.declared.fault.SyntaxFault.TheVariants as syntax
-use Rattle.rx_first_check.specs.declared.fault.NameFault.{NameFault}
-use Rattle.rx_first_check.specs.declared.fault.NameFault.TheVariants as name
-use Rattle.rx_first_check.specs.declared.fault.TypeFault.{TypeFault}
-use Rattle.rx_first_check.specs.declared.fault.TypeFault.TheVariants as type
-use Rattle.rx_first_check.specs.declared.fault.CheckFault.{CheckFault}
-use Rattle.rx_first_check.specs.declared.fault.CheckFault.TheVariants as check
 use Rattle.rx_engine.specs.declared.extraction.Fault.TheVariants as fault
 use Rattle.rx_meaning.specs.declared.outcome.End.{End}
 use Rattle.rx_meaning.specs.declared.outcome.End.TheVariants as ends
@@ -23,10 +17,12 @@ use Rattle.rx_tool.specs.declared.status.Status.{Status}
 use Rattle.rx_tool.specs.declared.status.Status.TheVariants.{Done, Usage, NotAccepted, Refused, ReadFault, WriteFault, OutOfMemory, TooLong, StillRunning, Wrong, Trapped}
 use Rattle.rx_tree.specs.Plain.{ProgramTree}
 use Rattle.rx_engine.specs.Verdict.{Extracts}
+use Rattle.rx_grammar.specs.grammar.Items.{Parses}
+use Rattle.rx_check.specs.Passes.{Accepted}
 use Rattle.rx_tool.specs.Forms.{Command, extracts, checks, runs, command_of}
-use Rattle.rx_tool.specs.Lines.{status_line, fault_line, lex_line, syntax_line, name_line, type_line, check_line, fault_status, lex_status, syntax_status, name_status, type_status, check_status}
+use Rattle.rx_tool.specs.Lines.{status_line, fault_line, lex_line, syntax_line, fault_status, lex_status, syntax_status}
 use Rattle.rx_tool.specs.RunLines.{end_status}
-use Rattle.rx_tool.specs.Defined.{Defined, AnswersTo, Judged, passed, faulty, Checked, no_program, program, Ran, refused, ran, result_status, result_bytes, result_line}
+use Rattle.rx_tool.specs.Defined.{Defined, AnswersTo, Judged, passed, faulty, Checked, no_program, program, Drawn, unaccepted, drawn, Ran, refused, ran, result_status, result_bytes, result_line}
 use Rattle.rx_tool.specs.Replies.{Stream, IsForm, HasFailed, HasAll, IsCut, IsRead, TakesAtMost, TakesOneMore, Due, answered, not_read, too_long, no_memory, Ending, whole, out_cut, both_cut, err_cut, IsComplete, Replies, Reports, Delivers, Found, defined, no_room}
 
 -- the statuses that a text's answer has
@@ -47,25 +43,9 @@ syntax_answers (syntax.Syntax at) = tt
 syntax_answers (syntax.TooDeep at) = tt
 syntax_answers syntax.OutOfMemory = tt
 
-name_answers : (f : NameFault) → IsAnswer (name_status f)
-name_answers (name.Unknown at) = tt
-name_answers (name.Twice a b) = tt
-name_answers name.OutOfMemory = tt
-
-type_answers : (f : TypeFault) → IsAnswer (type_status f)
-type_answers (type.Mismatch at rule) = tt
-type_answers (type.Literal at) = tt
-type_answers type.OutOfMemory = tt
-
-check_answers : (f : CheckFault) → IsAnswer (check_status f)
-check_answers (check.Name f) = name_answers f
-check_answers (check.Types f) = type_answers f
-check_answers (check.NotBuilt at) = tt
-check_answers check.OutOfMemory = tt
-
 fault_answers : (f : Fault) → IsAnswer (fault_status f)
 fault_answers (fault.Syntax f) = syntax_answers f
-fault_answers (fault.NotAccepted f) = check_answers f
+fault_answers (fault.NotAccepted f) = tt
 fault_answers (fault.Refused r) = tt
 fault_answers fault.OutOfMemory = tt
 
@@ -93,11 +73,14 @@ ran_answers : (text : List ℕ) (turns : ℕ) (input : List ℤ) (status : Statu
 ran_answers text turns input _ _ _ (refused c) = tt
 ran_answers text turns input _ _ _ (ran p x h o d) = end_answers o.end
 
+drawn_answers : (text name : List ℕ) (start end : ℕ) (status : Status) (outs errs : List ℕ) → Drawn text name start end status outs errs → IsAnswer status
+drawn_answers text name start end _ _ _ (unaccepted c) = tt
+drawn_answers text name start end status outs errs (drawn p x a o) = subst IsAnswer (sym o.status_is) (result_answers o.result)
+
 asked_answers : (q : Option Command) (text : List ℕ) (status : Status) (outs errs : List ℕ)
     → AnswersTo q text status outs errs → IsAnswer status
 asked_answers None text status outs errs a = subst IsAnswer (sym a.0) tt
-asked_answers (Some (extracts name start end)) text status outs errs a =
-    subst IsAnswer (sym a.status_is) (result_answers a.result)
+asked_answers (Some (extracts name start end)) text status outs errs a = drawn_answers text name start end status outs errs a
 asked_answers (Some checks) text status outs errs a = checked_answers text status outs errs a
 asked_answers (Some (runs turns input)) text status outs errs a = ran_answers text turns input status outs errs a
 
@@ -235,25 +218,9 @@ syntax_memory (syntax.Syntax at) e = absurd (cc)
 syntax_memory (syntax.TooDeep at) e = absurd (cc)
 syntax_memory syntax.OutOfMemory e = refl
 
-name_memory : (f : NameFault) → name_status f ≡ OutOfMemory → name_line f ≡ status_line OutOfMemory
-name_memory (name.Unknown at) e = absurd (cc)
-name_memory (name.Twice a b) e = absurd (cc)
-name_memory name.OutOfMemory e = refl
-
-type_memory : (f : TypeFault) → type_status f ≡ OutOfMemory → type_line f ≡ status_line OutOfMemory
-type_memory (type.Mismatch at rule) e = absurd (cc)
-type_memory (type.Literal at) e = absurd (cc)
-type_memory type.OutOfMemory e = refl
-
-check_memory : (f : CheckFault) → check_status f ≡ OutOfMemory → check_line f ≡ status_line OutOfMemory
-check_memory (check.Name f) e = name_memory f e
-check_memory (check.Types f) e = type_memory f e
-check_memory (check.NotBuilt at) e = absurd (cc)
-check_memory check.OutOfMemory e = refl
-
 fault_memory : (f : Fault) → fault_status f ≡ OutOfMemory → fault_line f ≡ status_line OutOfMemory
 fault_memory (fault.Syntax f) e = syntax_memory f e
-fault_memory (fault.NotAccepted f) e = check_memory f e
+fault_memory (fault.NotAccepted f) e = absurd (cc)
 fault_memory (fault.Refused r) e = absurd (cc)
 fault_memory fault.OutOfMemory e = refl
 
@@ -265,13 +232,13 @@ found_no_room text name start end status line e l =
     subst (λ (s : Status). Found command text s [] line) (sym e)
     (subst (λ (b : List ℕ). Found command text OutOfMemory [] b) (sym l) no_room)
 
-pub found_fault : (text name : List ℕ) (start end : ℕ) (r : Result Answer Fault) (f : Fault)
+pub found_fault : (text name : List ℕ) (start end : ℕ) (r : Result Answer Fault) (f : Fault) (p : ProgramTree) → Parses text p → Accepted p
     → Extracts text start end name r → r ≡ Err f
     → Found (extracts name start end) text (fault_status f) [] (fault_line f)
-found_fault text name start end r f x e =
+found_fault text name start end r f p parses accepted x e =
     elim (status_memory (fault_status f)) [
       | inl m ↦ found_no_room text name start end (fault_status f) (fault_line f) m (fault_memory f m)
-      | inr n ↦ defined (record {
+      | inr n ↦ defined (drawn p parses accepted (record {
         result = r;
         extracts = x;
         found = n;
@@ -279,14 +246,14 @@ found_fault text name start end r f x e =
         out_is =
             ap result_bytes (sym e);
         err_is = ap result_line (sym e);
-      })
+      }))
     ]
 
-pub found_answer : (text name : List ℕ) (start end : ℕ) (r : Result Answer Fault) (a : Answer) (bytes : List ℕ)
+pub found_answer : (text name : List ℕ) (start end : ℕ) (r : Result Answer Fault) (a : Answer) (bytes : List ℕ) (p : ProgramTree) → Parses text p → Accepted p
     → Extracts text start end name r → r ≡ Ok a → bytes ≡ a.text
     → Found (extracts name start end) text Done bytes []
-found_answer text name start end r a bytes x e b =
-    defined (record {
+found_answer text name start end r a bytes p parses accepted x e b =
+    defined (drawn p parses accepted (record {
       result = r;
       extracts = x;
       found = λ m. cc;
@@ -294,7 +261,7 @@ found_answer text name start end r a bytes x e b =
       out_is = b
           ∙ ap result_bytes (sym e);
       err_is = ap result_line (sym e);
-    })
+    }))
 
 -- what is found for the text that was read is due
 pub found_due : (words : List (List ℕ)) (s s' : Stream) (command : Command) (text : List ℕ) (status : Status)

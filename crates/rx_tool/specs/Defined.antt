@@ -32,7 +32,7 @@ abbrev pub result_line : Result Answer Fault → List ℕ
 result_line (Ok a) = []
 result_line (Err f) = fault_line f
 
--- these are of a result of the extraction that is no want of memory
+-- these are of a result of the extraction of an accepted text, which is no want of memory
 pub record Obtained (text name : List ℕ) (start end : ℕ) (status : Status) (out err : List ℕ) : Type 0 where
   pub result : Result Answer Fault
   pub extracts : Extracts text start end name result
@@ -57,6 +57,12 @@ pub data Checked (text : List ℕ) : Status → List ℕ → List ℕ → Type 0
   no_program : (f : SyntaxFault) → IsUnread text f → Checked text NotAccepted [] (syntax_line f)
   program : {status : Status} {out err : List ℕ} (p : ProgramTree) → Parses text p → Judged p status out err → Checked text status out err
 
+-- these are of a text that is not accepted, as its check answers, or of the extraction from it
+pub data Drawn (text name : List ℕ) (start end : ℕ) : Status → List ℕ → List ℕ → Type 0 where
+  unaccepted : {out err : List ℕ} → Checked text NotAccepted out err → Drawn text name start end NotAccepted out err
+  drawn : {status : Status} {out err : List ℕ} (p : ProgramTree) → Parses text p → Accepted p → Obtained text name start end status out err
+      → Drawn text name start end status out err
+
 -- these are of a text that is not accepted, as its check answers, or of what its program does
 pub data Ran (text : List ℕ) (turns : ℕ) (input : List ℤ) : Status → List ℕ → List ℕ → Type 0 where
   refused : {out err : List ℕ} → Checked text NotAccepted out err → Ran text turns input NotAccepted out err
@@ -65,7 +71,7 @@ pub data Ran (text : List ℕ) (turns : ℕ) (input : List ℤ) : Status → Lis
 
 abbrev pub AnswersTo : Option Command → List ℕ → Status → List ℕ → List ℕ → Type 0
 AnswersTo None text status out err = (status ≡ Usage) × (out ≡ []) × (err ≡ status_line Usage)
-AnswersTo (Some (extracts name start end)) text status out err = Obtained text name start end status out err
+AnswersTo (Some (extracts name start end)) text status out err = Drawn text name start end status out err
 AnswersTo (Some checks) text status out err = Checked text status out err
 AnswersTo (Some (runs turns input)) text status out err = Ran text turns input status out err
 
@@ -98,6 +104,5 @@ pub record AreFaultLines (text a b : List ℕ) : Type 0 where
 
 -- the lines of two defined answers
 abbrev pub AreLines : Option Command → List ℕ → List ℕ → List ℕ → Type 0
-AreLines (Some checks) text a b = AreOneLine a b ⊎ AreFaultLines text a b
-AreLines (Some (runs turns input)) text a b = AreOneLine a b ⊎ AreFaultLines text a b
-AreLines _ text a b = AreOneLine a b
+AreLines None text a b = AreOneLine a b
+AreLines _ text a b = AreOneLine a b ⊎ AreFaultLines text a b

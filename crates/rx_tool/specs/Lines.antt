@@ -6,8 +6,6 @@ use Rattle.rx_core.specs.declared.types.Which.{Which}
 use Rattle.rx_core.specs.declared.types.Which.TheVariants.{Parameters, Lifetimes, Levels, Parts, Sites, Positions, Bytes}
 use Rattle.rx_tool.specs.declared.status.Status.{Status}
 use Rattle.rx_tool.specs.declared.status.Status.TheVariants.{Done, Refused, Usage, NotAccepted, ReadFault, WriteFault, OutOfMemory, TooLong, StillRunning, Wrong, Trapped}
-use Rattle.rx_first_check.specs.declared.fault.Rule.{Rule}
-use Rattle.rx_first_check.specs.declared.fault.Rule.TheVariants.{Equal, KindOf, Count, NotFunction, Main}
 use Rattle.rx_engine.specs.declared.extraction.Refusal.{Refusal}
 use Rattle.rx_engine.specs.declared.extraction.Refusal.TheVariants.{NotARun, BadName, NameTaken, NotBuilt, Limit}
 use Rattle.rx_lex.specs.declared.lexer.LexFault.{LexFault}
@@ -16,15 +14,6 @@ use Rattle.rx_lex.specs.declared.lexer.LexFault.TheVariants as lex
 use Rattle.rx_parse.specs.declared.fault.SyntaxFault.{SyntaxFault}
 use Rattle.rx_parse.specs.declared.fault.SyntaxFault.TheVariants.{Lex, Syntax, TooDeep}
 use Rattle.rx_parse.specs.declared.fault.SyntaxFault.TheVariants as syntax
-use Rattle.rx_first_check.specs.declared.fault.NameFault.{NameFault}
-use Rattle.rx_first_check.specs.declared.fault.NameFault.TheVariants.{Unknown, Twice}
-use Rattle.rx_first_check.specs.declared.fault.NameFault.TheVariants as name
-use Rattle.rx_first_check.specs.declared.fault.TypeFault.{TypeFault}
-use Rattle.rx_first_check.specs.declared.fault.TypeFault.TheVariants.{Mismatch, Literal}
-use Rattle.rx_first_check.specs.declared.fault.TypeFault.TheVariants as type
-use Rattle.rx_first_check.specs.declared.fault.CheckFault.{CheckFault}
-use Rattle.rx_first_check.specs.declared.fault.CheckFault.TheVariants.{Name, Types}
-use Rattle.rx_first_check.specs.declared.fault.CheckFault.TheVariants as check
 use Rattle.rx_engine.specs.declared.extraction.Fault.{Fault}
 use Rattle.rx_engine.specs.declared.extraction.Fault.TheVariants as fault
 
@@ -97,32 +86,10 @@ syntax_line (Syntax at) = line_of (with_numbers (codes "NotAccepted Syntax") (at
 syntax_line (TooDeep at) = line_of (with_numbers (codes "NotAccepted TooDeep") (at ∷ []))
 syntax_line syntax.OutOfMemory = line_of (codes "OutOfMemory")
 
-abbrev pub rule_words : Rule → List ℕ
-rule_words Equal = codes " Equal"
-rule_words KindOf = codes " KindOf"
-rule_words Count = codes " Count"
-rule_words NotFunction = codes " NotFunction"
-rule_words Main = codes " Main"
-
-abbrev pub name_line : NameFault → List ℕ
-name_line (Unknown at) = line_of (with_span (codes "NotAccepted Unknown") at)
-name_line (Twice first second) = line_of (with_numbers (codes "NotAccepted Twice") (first.start ∷ first.end ∷ second.start ∷ second.end ∷ []))
-name_line name.OutOfMemory = line_of (codes "OutOfMemory")
-
-abbrev pub type_line : TypeFault → List ℕ
-type_line (Mismatch at rule) = line_of (with_span (codes "NotAccepted Mismatch") at ++ rule_words rule)
-type_line (Literal at) = line_of (with_span (codes "NotAccepted Literal") at)
-type_line type.OutOfMemory = line_of (codes "OutOfMemory")
-
-abbrev pub check_line : CheckFault → List ℕ
-check_line (Name f) = name_line f
-check_line (Types f) = type_line f
-check_line (check.NotBuilt at) = line_of (with_span (codes "NotAccepted NotBuilt") at)
-check_line check.OutOfMemory = line_of (codes "OutOfMemory")
-
+-- of an accepted text: what the checker of the first grammar refuses is of a form that is not built
 abbrev pub fault_line : Fault → List ℕ
 fault_line (fault.Syntax f) = syntax_line f
-fault_line (fault.NotAccepted f) = check_line f
+fault_line (fault.NotAccepted f) = refusal_line NotBuilt
 fault_line (fault.Refused r) = refusal_line r
 fault_line fault.OutOfMemory = line_of (codes "OutOfMemory")
 
@@ -136,22 +103,8 @@ syntax_status (Lex f) = lex_status f
 syntax_status syntax.OutOfMemory = OutOfMemory
 syntax_status _ = NotAccepted
 
-abbrev pub name_status : NameFault → Status
-name_status name.OutOfMemory = OutOfMemory
-name_status _ = NotAccepted
-
-abbrev pub type_status : TypeFault → Status
-type_status type.OutOfMemory = OutOfMemory
-type_status _ = NotAccepted
-
-abbrev pub check_status : CheckFault → Status
-check_status (Name f) = name_status f
-check_status (Types f) = type_status f
-check_status (check.NotBuilt at) = NotAccepted
-check_status check.OutOfMemory = OutOfMemory
-
 abbrev pub fault_status : Fault → Status
 fault_status (fault.Syntax f) = syntax_status f
-fault_status (fault.NotAccepted f) = check_status f
+fault_status (fault.NotAccepted f) = Refused
 fault_status (fault.Refused r) = Refused
 fault_status fault.OutOfMemory = OutOfMemory

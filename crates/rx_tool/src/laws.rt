@@ -16,9 +16,8 @@ ghost use Rattle.rx_meaning.specs.declared.outcome.Outcome.{Outcome};
 use rx_check::{causes_are_one, passed_or_faulty};
 use rx_typeck::one_typed_program;
 
-/// Two defined answers of the same words on the same text have one status and one output. Of an extraction they have one
-/// line, but for the places where the tokens of the text stop because of their depth; of a check, and of a run of a text that
-/// is not accepted, each line says a fault of the program, and both are of one pass.
+/// Two defined answers of the same words on the same text have one status and one output. They have one line, but for the places
+/// where the tokens of the text stop because of their depth; or each line says a fault of the program, and both are of one pass.
 pub fn one_answer()
     ensures { (words : List (List ℕ)) (text : List ℕ) (s t : Status) (a b c d : List ℕ) → Defined words text s a b → Defined words text t c d
         → (s ≡ t) × (a ≡ c) × AreLines (command_of words) text b d }
@@ -28,10 +27,10 @@ pub fn one_answer()
     one_typed_program();
 }
 
-/// Where no condition of the extraction fails, its canonical text is the defined answer.
+/// Where the text is accepted and no condition of the extraction fails, its canonical text is the defined answer.
 pub fn extraction_is_defined()
     ensures { (words : List (List ℕ)) (text name : List ℕ) (start end : ℕ) (p q : ProgramTree) → command_of words ≡ Some (extracts name start end)
-        → IsExtraction text start end name p q → Defined words text Status.Done (print_program q) [] }
+        → Accepted p → IsExtraction text start end name p q → Defined words text Status.Done (print_program q) [] }
 {}
 
 /// The defined answer of a check is `accepted` where the text is accepted, and nowhere else.

@@ -3,6 +3,7 @@
 
 mod check_line;
 mod checking;
+mod extracting;
 mod laws;
 mod line;
 mod numbers;

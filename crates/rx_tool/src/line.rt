@@ -1,11 +1,11 @@
 //! The line that says why there is no answer.
 
 ghost use Rattle.std.specs.Prelude.{◌≡◌, ◌++◌, IfOk};
-ghost use Rattle.rx_tool.specs.Lines.{line_of, with_numbers, fault_status, syntax_status, check_status, fault_line, syntax_line, lex_line, check_line, name_line, type_line, refusal_line, which_words, rule_words};
+ghost use Rattle.rx_tool.specs.Lines.{line_of, with_numbers, fault_status, syntax_status, fault_line, syntax_line, lex_line, refusal_line, which_words};
 
 use crate::status::Status;
 use rx_core::{Text, Which};
-use rx_engine::{CheckFault, Fault, NameFault, Refusal, Rule, TypeFault};
+use rx_engine::{Fault, Refusal};
 use rx_lex::LexFault;
 use rx_parse::SyntaxFault;
 use std::alloc::{AllocError, Global};
@@ -73,64 +73,14 @@ pub fn syntax_fault(alloc: Global, fault: &SyntaxFault) -> Result<Text, AllocErr
     }
 }
 
-fn rule_rest(rule: &Rule) -> &'static str
-    ensures { result.now ≡ rule_words rule.now }
-{
-    match rule {
-        Rule::Equal => " Equal",
-        Rule::KindOf => " KindOf",
-        Rule::Count => " Count",
-        Rule::NotFunction => " NotFunction",
-        Rule::Main => " Main",
-    }
-}
-
-fn name_fault(alloc: Global, fault: &NameFault) -> Result<Text, AllocError>
-    ensures { IfOk result (λ l. l ≡ name_line fault.now) }
-{
-    match fault {
-        NameFault::Unknown { at } => line(alloc, "NotAccepted Unknown", &[at.start, at.end], ""),
-        NameFault::Twice { first, second } => {
-            let numbers = [first.start, first.end, second.start, second.end];
-            line(alloc, "NotAccepted Twice", &numbers, "")
-        }
-        NameFault::OutOfMemory => line(alloc, "OutOfMemory", &[], ""),
-    }
-}
-
-fn type_fault(alloc: Global, fault: &TypeFault) -> Result<Text, AllocError>
-    ensures { IfOk result (λ l. l ≡ type_line fault.now) }
-{
-    match fault {
-        TypeFault::Mismatch { at, rule } => {
-            let rest = rule_rest(rule);
-            line(alloc, "NotAccepted Mismatch", &[at.start, at.end], rest)
-        }
-        TypeFault::Literal { at } => line(alloc, "NotAccepted Literal", &[at.start, at.end], ""),
-        TypeFault::OutOfMemory => line(alloc, "OutOfMemory", &[], ""),
-    }
-}
-
-fn check_fault(alloc: Global, fault: &CheckFault) -> Result<Text, AllocError>
-    ensures { IfOk result (λ l. l ≡ check_line fault.now) }
-{
-    match fault {
-        CheckFault::Name(fault) => name_fault(alloc, fault),
-        CheckFault::Types(fault) => type_fault(alloc, fault),
-        CheckFault::NotBuilt { at } => {
-            line(alloc, "NotAccepted NotBuilt", &[at.start, at.end], "")
-        }
-        CheckFault::OutOfMemory => line(alloc, "OutOfMemory", &[], ""),
-    }
-}
-
-/// The line of a fault.
+/// The line of a fault of the extraction of an accepted text. What the checker of the first grammar refuses is of a form that is not
+/// built.
 pub fn line_of_fault(alloc: Global, fault: &Fault) -> Result<Text, AllocError>
     ensures { IfOk result (λ l. l ≡ fault_line fault.now) }
 {
     match fault {
         Fault::Syntax(fault) => syntax_fault(alloc, fault),
-        Fault::NotAccepted(fault) => check_fault(alloc, fault),
+        Fault::NotAccepted(_) => refusal(alloc, &Refusal::NotBuilt),
         Fault::Refused(why) => refusal(alloc, why),
         Fault::OutOfMemory => line(alloc, "OutOfMemory", &[], ""),
     }
@@ -146,25 +96,13 @@ pub fn status_of_syntax(fault: &SyntaxFault) -> Status
     }
 }
 
-fn status_of_check(fault: &CheckFault) -> Status
-    ensures { result ≡ check_status fault.now }
-{
-    match fault {
-        CheckFault::OutOfMemory
-        | CheckFault::Name(NameFault::OutOfMemory)
-        | CheckFault::Types(TypeFault::OutOfMemory) => Status::OutOfMemory,
-        _ => Status::NotAccepted,
-    }
-}
-
-/// The status of a fault. Want of memory anywhere in it is `OutOfMemory`.
+/// The status of a fault of the extraction of an accepted text.
 pub fn status_of_fault(fault: &Fault) -> Status
     ensures { result ≡ fault_status fault.now }
 {
     match fault {
         Fault::Syntax(fault) => status_of_syntax(fault),
-        Fault::NotAccepted(fault) => status_of_check(fault),
-        Fault::Refused(_) => Status::Refused,
+        Fault::NotAccepted(_) | Fault::Refused(_) => Status::Refused,
         Fault::OutOfMemory => Status::OutOfMemory,
     }
 }

@@ -1,54 +1,21 @@
 //! The tool: words and a text in, a status, an answer and a line out.
 
 ghost use Rattle.std.specs.Prelude.{◌≡◌, ◌≤◌, ◌⊎◌, List as ListOf, ℕ, None, length};
-ghost use Rattle.rx_tool.specs.Lines.{fault_line, fault_status, status_line};
 ghost use Rattle.rx_tool.specs.Asked.{asked};
-ghost use Rattle.rx_tool.specs.Forms.{command_of, extracts};
-ghost use Rattle.rx_tool.specs.Replies.{Ending, Found, Replies, Reports, sink_state, source_state};
+ghost use Rattle.rx_tool.specs.Forms.{command_of};
+ghost use Rattle.rx_tool.specs.Replies.{Ending, Found, Replies, sink_state, source_state};
 
 use crate::checking::check_text;
-use crate::line::{line_of_fault, status_of_fault};
-use crate::reply::{deliver, report, report_name};
+use crate::extracting::extract_text;
+use crate::reply::report_name;
 use crate::running::run_text;
 use crate::status::Status;
 use crate::words::{Command, read_words};
 use rx_core::{List, ReadFail, Sink, Source, Text, read_all};
-use rx_engine::{Fault, Selection, extract};
-use std::alloc::{AllocError, Global};
+use std::alloc::Global;
 
 /// The bytes of a text at most.
 const TEXT_LIMIT: usize = 1_048_576;
-
-/// Writes the line of a fault, or of want of memory.
-fn refuse<E: Sink>(alloc: Global, err: &mut E, fault: &Fault) -> Status
-    ensures { Reports (sink_state E.contents E.faults E.standstills err.old) (sink_state E.contents E.faults E.standstills err.new) (fault_status fault.now) (fault_line fault.now) result
-        ⊎ Reports (sink_state E.contents E.faults E.standstills err.old) (sink_state E.contents E.faults E.standstills err.new) Status.OutOfMemory (status_line Status.OutOfMemory) result }
-{
-    match line_of_fault(alloc, fault) {
-        Ok(line) => report(err, status_of_fault(fault), line.as_str()),
-        Err(AllocError) => report_name(err, Status::OutOfMemory),
-    }
-}
-
-/// Extracts the run of a text, and writes the answer or why there is none.
-fn extract_run<O: Sink, E: Sink>(
-    alloc: Global,
-    out: &mut O,
-    err: &mut E,
-    text: &[u8],
-    selection: Selection,
-    name: &str,
-) -> Status
-    requires { length text.now ≤ 1048576 }
-    ensures { (status : Status) × (outs : ListOf ℕ) × (errs : ListOf ℕ) × Found (extracts name.now selection.start selection.end) text.now status outs errs
-        × Ending (sink_state O.contents O.faults O.standstills out.old) (sink_state O.contents O.faults O.standstills out.new)
-        (sink_state E.contents E.faults E.standstills err.old) (sink_state E.contents E.faults E.standstills err.new) status outs errs result }
-{
-    match extract(alloc, text, selection, name) {
-        Ok(answer) => deliver(out, err, answer.text.as_str()),
-        Err(fault) => refuse(alloc, err, &fault),
-    }
-}
 
 /// Does what a command asks for a text.
 fn answer<O: Sink, E: Sink>(
@@ -65,7 +32,7 @@ fn answer<O: Sink, E: Sink>(
 {
     match command {
         Command::Extract { name, selection } => {
-            extract_run(alloc, out, err, text, selection, name)
+            extract_text(alloc, out, err, text, selection, name)
         }
         Command::Check => check_text(alloc, out, err, text),
         Command::Run { turns, numbers } => run_text(alloc, out, err, text, turns, numbers),

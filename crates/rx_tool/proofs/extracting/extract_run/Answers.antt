@@ -4,14 +4,14 @@ use Rattle.rx_tool.specs.declared.status.Status.TheVariants.{Done, OutOfMemory}
 use Rattle.rx_tool.specs.Lines.{fault_line, fault_status, status_line}
 use Rattle.rx_tool.specs.Replies.{no_room}
 use Rattle.rx_tool.proofs.Replies.{delivered, reported, found_answer, found_fault}
-use Rattle.rx_tool.proofs.tool.extract_run.Goals as goal
+use Rattle.rx_tool.proofs.extracting.extract_run.Goals as goal
 
 pub returns-in-Ok : goal.returns-in-Ok
 returns-in-Ok g c = (
   Done,
   c.as_str.result.now,
   [],
-  found_answer _ _ _ _ c.extract.result c.in-Ok.answer c.as_str.result.now c.extract.ensures.verdict c.in-Ok.is c.as_str.ensures,
+  found_answer _ _ _ _ c.extract.result c.in-Ok.answer c.as_str.result.now c.requires.accepted.0 c.requires.accepted.1 c.requires.accepted.2 c.extract.ensures.verdict c.in-Ok.is c.as_str.ensures,
   delivered _ _ _ _ Done c.deliver.result c.as_str.result.now c.deliver.ensures,
 )
 
@@ -22,7 +22,7 @@ returns-in-Err g c =
         fault_status c.in-Err.fault,
         [],
         fault_line c.in-Err.fault,
-        found_fault _ _ _ _ c.extract.result c.in-Err.fault c.extract.ensures.verdict c.in-Err.is,
+        found_fault _ _ _ _ c.extract.result c.in-Err.fault c.requires.accepted.0 c.requires.accepted.1 c.requires.accepted.2 c.extract.ensures.verdict c.in-Err.is,
         reported _ _ _ _ c.refuse.result _ r,
       )
       | inr r ↦ (OutOfMemory, [], status_line OutOfMemory, no_room, reported _ _ _ OutOfMemory c.refuse.result _ r)
