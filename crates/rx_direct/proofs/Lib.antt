@@ -1,4 +1,5 @@
 pub mod DirectLemmas
 pub mod DirectRules
 pub mod FormLemmas
+pub mod NaturalLemmas
 pub mod TableLemmas

@@ -2,6 +2,7 @@
 //! expression comes by these.
 #![tactic(auto)]
 
+mod naturals;
 mod reaching;
 mod scalars;
 mod variable;

@@ -3,13 +3,14 @@
 ghost use Rattle.std.specs.Prelude.{◌≡◌, map, option_map};
 ghost use Rattle.rx_typed.specs.Tree as tree;
 ghost use Rattle.rx_typed_tree.specs.PlainTree.{plain-Constant, plain-Making, plain-Expr, plain-Operand, operands_of};
-ghost use Rattle.rx_meaning.specs.Operators.{value_of};
-ghost use Rattle.rx_values.specs.PlainNumber.{plain-Calculated};
+ghost use Rattle.rx_meaning.specs.Operators.{compute, value_of};
+ghost use Rattle.rx_values.specs.PlainNumber.{plain-Calculated, whole_of};
 ghost use Rattle.rx_values.specs.PlainValues.{plain-Value};
 ghost use Rattle.rx_values.specs.PlainMemory.{plain-Memory};
 ghost use Rattle.rx_direct.specs.Direct as spec;
 ghost use Rattle.rx_direct.specs.PlainScalar.{plain-Scalar};
 
+use crate::naturals::at_once;
 use crate::variable::at_place;
 use rx_tree::BinaryOp;
 use rx_typed_tree::{Constant, Expr, Form, Making, Operand};
@@ -63,13 +64,23 @@ fn given(calculated: Calculated) -> Option<Scalar>
     }
 }
 
+/// What an operator gives of two numbers of the machine, unless it is a trap.
+fn operated_numbers(op: BinaryOp, left: Number, right: Number) -> Option<Scalar>
+    ensures { option_map plain-Scalar result ≡ spec.given (compute op left.kind (whole_of left) (whole_of right)) }
+{
+    match at_once(op, left, right) {
+        Some(scalar) => Some(scalar),
+        None => given(computed(op, left, right)),
+    }
+}
+
 /// What an operator gives of two numbers, unless it is a trap.
 pub fn operated(op: BinaryOp, left: Scalar, right: Scalar) -> Option<Scalar>
     ensures { option_map plain-Scalar result ≡ spec.operated op (plain-Scalar left) (plain-Scalar right) }
 {
     match left {
         Scalar::Number(left) => match right {
-            Scalar::Number(right) => given(computed(op, left, right)),
+            Scalar::Number(right) => operated_numbers(op, left, right),
             Scalar::Truth(_) => None,
         },
         Scalar::Truth(_) => None,
