@@ -317,6 +317,15 @@ fn f(p: &mut i64) { { let q: &i64 = { p }; } } fn main() {} | Ok / &mut i64 &i64
 fn f(p: &mut i64) { let q: &i64 = if true { p } else { &1 }; } fn main() {} | Mismatch 56 57 NotPlace
 fn f(a: &i64, b: &mut i64) { let mut x = a; x = b; } fn main() {} | Ok / &i64 &mut i64 &i64 /
 fn f(p: &mut &i64, b: &mut i64) { *p = b; } fn main() {} | Ok / &mut &i64 &mut i64 /
+fn f(p: &mut &mut i64, q: &mut &mut i64) { *p = *q; } fn main() {} | Ok / &mut &mut i64 &mut &mut i64 /
+fn f(p: &mut &i64, q: &mut &mut i64) { *p = *q; } fn main() {} | Ok / &mut &i64 &mut &mut i64 /
+fn f(p: &mut &mut i64, q: &mut &mut i64) { let t = (*q, *p); } fn main() {} | Mismatch 52 54 MoveOut
+struct W<'a> { r: &'a mut i64 } fn f(q: &mut &mut i64) { let w = W { r: *q }; } fn main() {} | Ok / &mut &mut i64 #0 /
+struct S<'a> { r: &'a i64 } fn f(q: &mut &mut i64) { let s = S { r: *q }; } fn main() {} | Ok / &mut &mut i64 #0 /
+enum L<'a> { N, C(&'a mut i64) } fn f(q: &mut &mut i64) { let l = L::C(*q); } fn main() {} | Ok / &mut &mut i64 #0 /
+enum L<'a> { N, C(&'a i64) } fn f(q: &mut &mut i64) { let l = L::C(*q); } fn main() {} | Ok / &mut &mut i64 #0 /
+struct W<'a> { r: &'a mut i64 } fn f(q: &i64) { let w = W { r: q }; } fn main() {} | Mismatch 63 64 Equal
+enum L<'a> { N, C(&'a mut i64) } fn f(q: &i64) { let l = L::C(q); } fn main() {} | Mismatch 62 63 Equal
 struct S<'a> { r: &'a i64 } fn f(s: &mut S<'_>) { s.r = s.r; } fn main() {} | Ok / &mut #0 /
 fn f(x: i64) -> (i64, i64) { let t = (x, f(x)); t.1 } fn main() {} | Ok / i64 (i64,(i64,i64,),) /
 fn f() -> i64 { let x = loop { return 1; }; x } fn main() {} | Mismatch 44 45 Unclear
@@ -388,12 +397,16 @@ fn wide(alloc: Global, count: usize) -> Outcome {
     Ok(written.as_str().starts_with("Ok") && inferred.as_str().starts_with("Ok"))
 }
 
+/// A type that is written and a value, each too wide, are named whole.
 fn too_wide(alloc: Global, count: usize) -> Outcome {
     let written = repeated(alloc, "fn f(t: (", "u8, ", count, ")) {} fn main() {}")?;
     let inferred = repeated(alloc, "fn main() { let t = (", "1, ", count, "); }")?;
     let written = types_told(alloc, written.as_str())?;
     let inferred = types_told(alloc, inferred.as_str())?;
-    Ok(written.as_str().ends_with(" Parts") && inferred.as_str().ends_with(" Parts"))
+    Ok(
+        written.as_str() == "Mismatch 8 16398 Parts"
+            && inferred.as_str() == "Mismatch 20 12313 Parts",
+    )
 }
 
 #[test]
@@ -416,7 +429,7 @@ fn types_keep_their_levels(rt: HostRuntime) {
     };
     hold(&rt, last, "128 levels");
     let past = match borrowed(rt.alloc(), 128) {
-        Ok(text) => Ok(text.as_str().ends_with(" Parts")),
+        Ok(text) => Ok(text.as_str() == "Mismatch 1555 1557 Parts"),
         Err(fault) => Err(fault),
     };
     hold(&rt, past, "129 levels");
