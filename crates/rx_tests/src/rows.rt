@@ -2,7 +2,7 @@
 
 use crate::holding::{all_hold, hold};
 use crate::rem::{is_done, replies, replies_to, writes};
-use rx_tables::{BLOCKS, LINES, Nesting, Outcome};
+use rx_tables::{BLOCKS, LINES, Outcome};
 use std::alloc::{AllocError, Global};
 
 /// Three functions, one with a result.
@@ -369,15 +369,27 @@ fn a_function_has_64_parameters(rt: HostRuntime) {
     );
 }
 
-fn fault_of_calls(alloc: Global, calls: usize, want: &str) -> Outcome {
-    let text = Nesting {
-        front: "fn f(){}fn main(){let a=1i64;",
-        before: "f();",
-        inner: "}",
-        after: "",
-        back: "",
+fn push_calls(text: &mut String, name: &str, count: usize) -> Result<(), AllocError> {
+    text.push_str("fn ")?;
+    text.push_str(name)?;
+    text.push_str("(){")?;
+    for _ in 0..count {
+        text.push_str("f();")?;
     }
-    .text(alloc, calls)?;
+    text.push_str("}")
+}
+
+/// A statement in `main`, and functions of these names with so many calls each.
+fn calls(alloc: Global, names: &str, count: usize) -> Result<String, AllocError> {
+    let mut text = String::from_str(alloc, "fn f(){}fn main(){let a=1i64;}")?;
+    for name in names.split(" ") {
+        push_calls(&mut text, name, count)?;
+    }
+    Ok(text)
+}
+
+fn reply_to_calls(alloc: Global, names: &str, want: &str) -> Outcome {
+    let text = calls(alloc, names, 14_561)?;
     replies(alloc, "extract one 18 29", text.as_bytes(), want)
 }
 
@@ -385,7 +397,11 @@ fn fault_of_calls(alloc: Global, calls: usize, want: &str) -> Outcome {
 fn an_answer_has_1048576_bytes(rt: HostRuntime) {
     hold(
         &rt,
-        fault_of_calls(rt.alloc(), 116_501, "1 error: Refused Limit Bytes 1048577"),
+        reply_to_calls(
+            rt.alloc(),
+            "b c d e g h i jjjjjjjjjjjjjjjjjjjjjj",
+            "1 error: Refused Limit Bytes 1048577",
+        ),
         "calls",
     );
 }
