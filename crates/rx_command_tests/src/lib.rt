@@ -1,13 +1,7 @@
-//! Tests of the command `run`: its words, what programs print, how they end, and writes that fail.
+//! Tests of the commands `check` and `run` over the whole language.
 #![tactic(auto)]
 
 #[cfg(test)]
-mod programs;
+mod check;
 #[cfg(test)]
-mod said;
-#[cfg(test)]
-mod sinks;
-#[cfg(test)]
-mod whole;
-#[cfg(test)]
-mod words;
+mod run;

@@ -1,0 +1,5 @@
+//! Closed sets: beside a slow solver, and along long chains.
+
+mod chains;
+mod closing;
+mod slow;

@@ -1,0 +1,13 @@
+//! Tests of what is found of functions: their graphs, initialisation and liveness, lifetimes and closed sets.
+#![tactic(auto)]
+
+#[cfg(test)]
+mod closure;
+#[cfg(test)]
+mod facts;
+#[cfg(test)]
+mod holding;
+#[cfg(test)]
+mod lifetimes;
+#[cfg(test)]
+mod sites;

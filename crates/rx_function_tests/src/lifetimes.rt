@@ -1,0 +1,4 @@
+//! Lifetimes: functions with the pairs that are missing.
+
+mod pairs;
+mod said;

@@ -1,0 +1,8 @@
+//! Graphs of functions: texts with their sites, walks beside paths, and the limits.
+
+mod agreement;
+mod graphs;
+mod lowered;
+mod paths;
+mod said;
+mod walks;
