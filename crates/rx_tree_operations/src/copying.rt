@@ -2,6 +2,7 @@
 
 ghost use Rattle.std.specs.Prelude.{◌≡◌, Ok, IfOk};
 
+use crate::copied::{make_pattern, named, reference, variant_pattern};
 use rx_core::{Boxed, LetGo, List, keep, pushed};
 use rx_tree::{FieldPattern, Ident, Pattern, PatternNode, TypeNode, TypeText};
 use std::alloc::{AllocError, Global};
@@ -105,18 +106,27 @@ fn copy_type_node(alloc: Global, node: &TypeNode) -> Result<TypeNode, AllocError
         TypeNode::Kind(kind) => Ok(TypeNode::Kind(*kind)),
         TypeNode::Bool => Ok(TypeNode::Bool),
         TypeNode::Tuple(parts) => Ok(TypeNode::Tuple(copy_types(alloc, parts.as_slice())?)),
-        TypeNode::Ref(lifetime, mutable, inner) => {
-            let (inner, lifetime) = both(
-                copy_boxed_type(alloc, inner),
-                copy_optional(alloc, lifetime),
-            )?;
-            Ok(TypeNode::Ref(lifetime, *mutable, inner))
+        TypeNode::Ref(lifetime, mutable, inner) => reference(
+            copy_optional(alloc, lifetime),
+            *mutable,
+            copy_boxed_type(alloc, inner),
+        ),
+        TypeNode::Named(name, lifetimes) => {
+            named(name.copy(alloc), copy_written(alloc, lifetimes))
         }
-        TypeNode::Named(name, None) => Ok(TypeNode::Named(name.copy(alloc)?, None)),
-        TypeNode::Named(name, Some(lifetimes)) => {
-            let (name, lifetimes) = both(name.copy(alloc), copy_all(alloc, lifetimes.as_slice()))?;
-            Ok(TypeNode::Named(name, Some(lifetimes)))
-        }
+    }
+}
+
+/// The lifetimes that are written, where a list of them is.
+fn copy_written(
+    alloc: Global,
+    lifetimes: &Option<List<Option<Ident>>>,
+) -> Result<Option<List<Option<Ident>>>, AllocError>
+    ensures { IfOk result (λ it. it ≡ lifetimes.now) }
+{
+    match lifetimes {
+        Some(lifetimes) => Ok(Some(copy_all(alloc, lifetimes.as_slice())?)),
+        None => Ok(None),
     }
 }
 
@@ -161,20 +171,15 @@ fn copy_pattern_node(alloc: Global, node: &PatternNode) -> Result<PatternNode, A
         PatternNode::Tuple(parts) => {
             Ok(PatternNode::Tuple(copy_patterns(alloc, parts.as_slice())?))
         }
-        PatternNode::Variant(adt, variant, parts) => {
-            let (names, parts) = both(
-                both(adt.copy(alloc), variant.copy(alloc)),
-                copy_patterns(alloc, parts.as_slice()),
-            )?;
-            Ok(PatternNode::Variant(names.0, names.1, parts))
-        }
-        PatternNode::Make(name, fields) => {
-            let (name, fields) = both(
-                name.copy(alloc),
-                copy_field_patterns(alloc, fields.as_slice()),
-            )?;
-            Ok(PatternNode::Make(name, fields))
-        }
+        PatternNode::Variant(adt, variant, parts) => variant_pattern(
+            adt.copy(alloc),
+            variant.copy(alloc),
+            copy_patterns(alloc, parts.as_slice()),
+        ),
+        PatternNode::Make(name, fields) => make_pattern(
+            name.copy(alloc),
+            copy_field_patterns(alloc, fields.as_slice()),
+        ),
     }
 }
 

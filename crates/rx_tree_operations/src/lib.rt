@@ -1,6 +1,7 @@
 //! What is done with whole trees: copies, equality apart from spans, and nodes by their positions.
 #![tactic(auto)]
 
+mod copied;
 mod copying;
 mod copying_expressions;
 mod copying_items;
