@@ -237,7 +237,7 @@ extract f 1 12345678901234567890: fn main() {} | 2 error: Usage
 checks: fn main() {} | 2 error: Usage
 check now: fn main() {} | 2 error: Usage
 run: fn main() {} | 2 error: Usage
-run 5: fn main() {} | 2 error: Usage
+run -5: fn main() {} | 2 error: Usage
 gen 0: fn main() {} | 2 error: Usage
 gen 1: fn main() {} | 2 error: Usage";
 
