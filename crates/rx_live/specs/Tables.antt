@@ -1,5 +1,5 @@
 -- What private functions do: numbers of variables and temporaries, and tables of what lies ahead.
-use Rattle.std.specs.Prelude.{◌≡◌, ◌↔◌, ℕ, ◌<◌, true, List, length, Some, slice_get}
+use Rattle.std.specs.Prelude.{◌≡◌, ◌↔◌, ℕ, ◌<◌, true, List, length, Option, Some, MatchOption, slice_get}
 use Rattle.rx_walks.specs.Actions.{Act}
 use Rattle.rx_walks.specs.Walks.{Among}
 use Rattle.rx_lower.specs.Graph.{Site, site_at}
@@ -19,6 +19,10 @@ key (Root.Temporary t) = t.node
 -- this number is not this root's
 abbrev pub IsNot : List Root → ℕ → Root → Type 0
 IsNot roots k r = slice_get roots k ≡ Some r → ⊥
+
+-- the number of a root, where it has one
+abbrev pub IsNumberOf : List Root → Root → Option ℕ → Type 0
+IsNumberOf roots r n = MatchOption n ((k : ℕ) → IsNot roots k r) (λ k. slice_get roots k ≡ Some r)
 
 abbrev pub HasNumber : List Root → Root → Type 0
 HasNumber roots r = (k : ℕ) × (slice_get roots k ≡ Some r)

@@ -6,6 +6,7 @@ ghost use Rattle.rx_graph.specs.Tables.{at};
 ghost use Rattle.rx_lower.specs.Graph as graphs;
 ghost use Rattle.rx_emit.specs.PlainSite.{plain-Site};
 ghost use Rattle.rx_flow.specs.PlainFlow.{plain-Act, plain-Action, plain-Root};
+ghost use Rattle.rx_flow.specs.declared.actions.Root.{Root as RootOf};
 ghost use Rattle.rx_live.specs.Live as spec;
 ghost use Rattle.rx_live.specs.Tables as tables;
 ghost use Rattle.rx_live.specs.Effects.{Numbers, DoesAt, listed};
@@ -58,16 +59,33 @@ impl LiveTable {
         }
     }
 
+    /// The number by which the table knows a variable or temporary; none of one that is live nowhere.
+    pub fn number(&self, root: Root) -> Option<u32>
+        requires { tables.IsIndex self.now.index }
+        ensures { tables.IsNumberOf self.now.index.roots root result }
+    {
+        self.index.find(root)
+    }
+
+    /// Whether the variable or temporary of a number is live at a site: on some walk from there on it is used, and is not
+    /// written as a whole before.
+    pub fn is_live_by(&self, number: Option<u32>, site: usize) -> bool
+        ensures { (g : ListOf graphs.Site) (root : RootOf) → tables.IsNumberOf self.now.index.roots root number → tables.Lives g self.now → site < length g
+            → (result ≡ true) ↔ spec.IsLive g (plain-Root root) site }
+    {
+        match number {
+            Some(number) => self.told(number, site),
+            None => false,
+        }
+    }
+
     /// Whether a variable or temporary is live at a site: on some walk from there on it is used, and is not written as a
     /// whole before.
     pub fn is_live(&self, root: Root, site: usize) -> bool
         requires { tables.IsIndex self.now.index }
         ensures { (g : ListOf graphs.Site) → tables.Lives g self.now → site < length g → (result ≡ true) ↔ spec.IsLive g (plain-Root root) site }
     {
-        match self.index.find(root) {
-            Some(number) => self.told(number, site),
-            None => false,
-        }
+        self.is_live_by(self.number(root), site)
     }
 }
 

@@ -42,8 +42,9 @@ fn live_row(
     ensures exact { IfOk result (λ row. (g : ListOf graphs.Site) → Lives g live.now → sites ≡ length g → HasExactly (bits.words bound) row (spec.LiveBefore g (plain-Root root) sites)) }
 {
     let mut row = Row::new(alloc, bound)?;
+    let number = live.number(root);
     for site in 0..sites {
-        let wanted = live.is_live(root, site as usize);
+        let wanted = live.is_live_by(number, site as usize);
         insert_if(&mut row, wanted, site as usize);
     }
     Ok(row)

@@ -3,10 +3,11 @@ use Rattle.rx_bits.specs.Rows.{words}
 use Rattle.rx_closure.specs.Filling.{HasExactly}
 use Rattle.rx_flow.specs.PlainFlow.{plain-Root}
 use Rattle.rx_lower.specs.Graph.{Site}
-use Rattle.rx_live.specs.Tables.{Lives}
+use Rattle.rx_live.specs.Tables.{Lives, IsNumberOf}
 use Rattle.rx_regions.specs.Seeds.{LiveBefore}
 use Rattle.rx_regions.proofs.seeds.live_row.Given as goal
 
 abbrev pub invariant-loop-site : goal.invariant-loop-site
 invariant-loop-site l =
-    (length l.row ≡ words l.bound) × ((g : List Site) → Lives g l.live → l.sites ≡ length g → HasExactly (words l.bound) l.row (LiveBefore g (plain-Root l.root) l.site))
+    (length l.row ≡ words l.bound) × IsNumberOf l.live.index.roots l.fn.root l.number
+    × ((g : List Site) → Lives g l.live → l.sites ≡ length g → HasExactly (words l.bound) l.row (LiveBefore g (plain-Root l.fn.root) l.site))
