@@ -5,7 +5,7 @@ ghost use Rattle.rx_along.specs.Tracking.{Tracks, Foresees};
 
 use crate::turning::turned;
 use rx_core::List;
-use rx_graph::{Effect, Start, Table, fixpoint};
+use rx_graph::{Effect, Start, Table, holding};
 use std::alloc::{AllocError, Global};
 
 /// By site, the facts below a bound that hold there on some way from site 0, where these facts hold at the start.
@@ -25,7 +25,7 @@ pub fn along(
     ensures { IfOk result (λ table. Tracks edges.now effects.now facts bound table.rows) }
 {
     let start = Start { site: 0, facts };
-    fixpoint(alloc, edges, effects, &start, bound, false)
+    holding(alloc, edges, effects, &start, bound, false)
 }
 
 /// By site, the facts below a bound that lie ahead on some way from a site that it leads to.
@@ -48,5 +48,5 @@ pub fn ahead(
         site: 0,
         facts: List::new(alloc),
     };
-    fixpoint(alloc, back.as_slice(), effects, &start, bound, true)
+    holding(alloc, back.as_slice(), effects, &start, bound, true)
 }

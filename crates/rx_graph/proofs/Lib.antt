@@ -1,3 +1,5 @@
+pub mod Rounds
 pub mod Rows
 pub mod Spreading
-pub mod Rounds
+pub mod Telling
+pub mod Working

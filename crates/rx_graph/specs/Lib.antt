@@ -1,2 +1,5 @@
+pub mod ByEffects
+pub mod Equations
 pub mod Facts
 pub mod Tables
+pub mod Worklist

@@ -1,9 +1,9 @@
 -- Tables of facts: a row of bits for each site.
-use Rattle.std.specs.Prelude.{◌≡◌, ◌↔◌, ℕ, ◌+◌, ◌*◌, ◌-◌, ◌<◌, Bool, true, false, not, ◌&&◌, ◌||◌, List, [], ◌∷◌, length, get_or, slice_get}
+use Rattle.std.specs.Prelude.{◌≡◌, ◌↔◌, ℕ, ◌+◌, ◌*◌, ◌<◌, Bool, true, false, not, ◌&&◌, ◌||◌, List, [], ◌∷◌, length, get_or}
 use Rattle.rx_bits.specs.Rows.{holds, rank, Bounded}
 use Rattle.rx_graph.specs.declared.effect.Effect.{Effect}
 use Rattle.rx_graph.specs.declared.effect.Start.{Start}
-use Rattle.rx_graph.specs.Facts.{has, targets, effect_of, behind, Holds}
+use Rattle.rx_graph.specs.Facts.{has, Holds}
 
 -- whether the table has a fact at a site
 abbrev pub at : List (List ℕ) → ℕ → ℕ → Bool
@@ -46,44 +46,7 @@ pub record Spread (w : ℕ) (old new : List (List ℕ)) (sites : List ℕ) (row 
   pub same : grown ≡ false → new ≡ old
   pub more : grown ≡ true → total old < total new
 
--- what the rows of these sites leave is in those that they lead to
-abbrev pub Follows : List (List ℕ) → List Effect → ℕ → List (List ℕ) → ℕ → Type 0
-Follows edges effects w T q = (p i : ℕ) → p < length T → i < 64 * w → has (targets edges q) p ≡ true
-    → behind (effect_of (slice_get effects q)) i (at T q i) ≡ true → at T p i ≡ true
-
--- what happens to a table where sites of some kind join what they leave to where they lead
-pub record Passed (edges : List (List ℕ)) (effects : List Effect) (w : ℕ) (Done : ℕ → Type 0) (old new : List (List ℕ)) (grown : Bool) : Type 0 where
-  pub regular : Regular (length old) w new
-  pub keeps : (p i : ℕ) → p < length old → at old p i ≡ true → at new p i ≡ true
-  -- what holds there is still all that stands in it
-  pub sound : (start : Start) → ((p i : ℕ) → p < length old → i < 64 * w → at old p i ≡ true → Holds edges effects start i p)
-      → (p i : ℕ) → p < length old → i < 64 * w → at new p i ≡ true → Holds edges effects start i p
-  pub same : grown ≡ false → new ≡ old
-  pub follows : grown ≡ false → (q : ℕ) → Done q → Follows edges effects w new q
-  pub more : grown ≡ true → total old < total new
-
--- the sites of the first steps of a round, which goes up or down
-abbrev pub site_of : Bool → ℕ → ℕ → ℕ
-site_of false n k = k
-site_of true n k = n - (k + 1)
-
-abbrev pub Among : Bool → ℕ → ℕ → ℕ → Type 0
-Among down n k q = (j : ℕ) × (j < k) × (q ≡ site_of down n j)
-
--- rounds until nothing grows
-pub record Closed (edges : List (List ℕ)) (effects : List Effect) (w : ℕ) (old new : List (List ℕ)) : Type 0 where
-  pub regular : Regular (length old) w new
-  pub keeps : (p i : ℕ) → p < length old → at old p i ≡ true → at new p i ≡ true
-  pub sound : (start : Start) → ((p i : ℕ) → p < length old → i < 64 * w → at old p i ≡ true → Holds edges effects start i p)
-      → (p i : ℕ) → p < length old → i < 64 * w → at new p i ≡ true → Holds edges effects start i p
-  pub follows : (q : ℕ) → q < length old → Follows edges effects w new q
-
--- what stands in a table at the beginning
+-- rows of so many words each, of which nothing holds
 pub record Empty (n w : ℕ) (T : List (List ℕ)) : Type 0 where
   pub regular : Regular n w T
   pub nothing : (p i : ℕ) → p < n → at T p i ≡ false
-
-pub record Started (n w : ℕ) (start : Start) (T : List (List ℕ)) : Type 0 where
-  pub regular : Regular n w T
-  pub only : (p i : ℕ) → p < n → i < 64 * w → at T p i ≡ true → (p ≡ start.site) × (has start.facts i ≡ true)
-  pub all : (i : ℕ) → start.site < n → i < 64 * w → has start.facts i ≡ true → at T start.site i ≡ true

@@ -2,7 +2,11 @@
 #![tactic(auto)]
 
 mod effect;
+mod lattice;
 mod least;
+mod worklist;
 
 pub use effect::{Effect, Start};
-pub use least::{Table, fixpoint};
+pub use lattice::Facts;
+pub use least::{Table, holding};
+pub use worklist::fixpoint;
