@@ -13,7 +13,7 @@ use Rattle.rx_emit.specs.declared.sums.Begin.TheVariants.{Starts, Through}
 use Rattle.rx_emit.specs.declared.sums.Sum.{Sum}
 use Rattle.rx_emit.specs.declared.around.Around.{Around}
 use Rattle.rx_emit.specs.Around.{depth}
-use Rattle.rx_emit.specs.Sums.{cap, add, same, exit_way, moved, then_begins, turned, round, has, joined, without, breaks_of, nowhere_sum, leads_sum, act_sum, leaving_sum, then_sum, else_sum, or_sum, may_sum, ends_sum, loop_sum, sum, suffix}
+use Rattle.rx_emit.specs.Sums.{cap, add, same, exit_way, moved, then_begins, turned, round, has, joined, without, breaks_of, nowhere_sum, leads_sum, act_sum, leaving_sum, then_sum, else_sum, or_sum, may_sum, ends_sum, loop_sum, sum, sum_items}
 use Rattle.rx_emit.proofs.Standing.{Round, one_variable, one_loop, ended_left, ended_length}
 
 -- ---- ways and begins
@@ -315,14 +315,14 @@ mutual
   sum_like nothing r = leads_like pieces.ahead
   sum_like nowhere r = nowhere_like
   sum_like (act a) r = act_like a
-  sum_like (items l) r = suffix_like l r
+  sum_like (items l) r = items_like l r
   sum_like (or f g) r = or_like _ _ _ _ (sum_like f r) (sum_like g r)
   sum_like (leave x) r = leave_like x r
   sum_like (passes l f) r = loop_like l _ _ (sum_like f (one_loop l [] [] r))
 
-  pub suffix_like : {A : Around} {s : Scope} (l : Items) → Round A s → Like (suffix A l).sum (part s (order_of_items l))
-  suffix_like (last f) r = sum_like f r
-  suffix_like (do_and f l) r = then_like _ _ _ _ (sum_like f r) (suffix_like l r)
-  suffix_like (ends_and n x l) r = ends_like n x _ _ (suffix_like l (one_variable x r))
-  suffix_like (may_and l) r = may_like _ _ (suffix_like l r)
-  suffix_like (else_and f l) r = else_like _ _ _ _ (sum_like f r) (suffix_like l r)
+  pub items_like : {A : Around} {s : Scope} (l : Items) → Round A s → Like (sum_items A l) (part s (order_of_items l))
+  items_like (last f) r = sum_like f r
+  items_like (do_and f l) r = then_like _ _ _ _ (sum_like f r) (items_like l r)
+  items_like (ends_and n x l) r = ends_like n x _ _ (items_like l (one_variable x r))
+  items_like (may_and l) r = may_like _ _ (items_like l r)
+  items_like (else_and f l) r = else_like _ _ _ _ (sum_like f r) (items_like l r)

@@ -3,6 +3,8 @@ pub mod Agrees
 pub mod Same
 pub mod Lists
 pub mod Rows
+pub mod Alike
+pub mod Depths
 pub mod Closing
 pub mod Emitting
 pub mod Graphs

@@ -16,10 +16,10 @@ use Rattle.rx_emit.specs.declared.around.Loop.{Loop}
 use Rattle.rx_emit.specs.declared.around.Around.{Around}
 use Rattle.rx_emit.specs.declared.sums.Sum.{Sum}
 use Rattle.rx_emit.specs.Around.{with_variable, with_loop, after_in, head_in, exits}
-use Rattle.rx_emit.specs.Sums.{cap, sum, suffix}
+use Rattle.rx_emit.specs.Sums.{cap, sum, sum_items}
 use Rattle.rx_emit.specs.Emitted.{place, way_of, entered, dying, emitted, emitted_items}
 use Rattle.rx_emit.proofs.Standing.{Round, one_variable, one_loop, after_snoc, head_snoc, ended_left}
-use Rattle.rx_emit.proofs.Agrees.{Like, code_way, capped, ended_part, inner_ahead, inner_size, leaving_size, not_zero, sum_like, suffix_like}
+use Rattle.rx_emit.proofs.Agrees.{Like, code_way, capped, ended_part, inner_ahead, inner_size, leaving_size, not_zero, sum_like, items_like}
 
 -- ---- exits
 
@@ -201,18 +201,18 @@ mutual
       → emitted_items A l b on fails ≡ (part s (order_of_items l)).sites b (exits on fails A.loops)
   items_are (last f) r b on fails lt = flow_is f r b on fails lt
   items_are {A = A} {s = s} (do_and f l) r b on fails lt =
-      seq_same ahead s (order_of f) (order_of_items l) b (exits on fails A.loops) (sum A f) (suffix A l).sum (sum A f).ahead
-      (sum_like f r) (suffix_like l r) (sum_like f r).ahead lt (λ e. emitted A f b e fails) (λ c. emitted_items A l c on fails)
+      seq_same ahead s (order_of f) (order_of_items l) b (exits on fails A.loops) (sum A f) (sum_items A l) (sum A f).ahead
+      (sum_like f r) (items_like l r) (sum_like f r).ahead lt (λ e. emitted A f b e fails) (λ c. emitted_items A l c on fails)
       (λ small e. flow_is f r b e fails small ∙ ap ((part s (order_of f)).sites b) (sym (exits_on e on fails A.loops)))
       (λ small. items_are l r (b + (part s (order_of f)).size) on fails small)
   items_are {A = A} {s = s} (else_and f l) r b on fails lt =
-      seq_same failing s (order_of f) (order_of_items l) b (exits on fails A.loops) (sum A f) (suffix A l).sum (sum A f).failing
-      (sum_like f r) (suffix_like l r) (sum_like f r).failing lt (λ e. emitted A f b on e) (λ c. emitted_items A l c on fails)
+      seq_same failing s (order_of f) (order_of_items l) b (exits on fails A.loops) (sum A f) (sum_items A l) (sum A f).failing
+      (sum_like f r) (items_like l r) (sum_like f r).failing lt (λ e. emitted A f b on e) (λ c. emitted_items A l c on fails)
       (λ small e. flow_is f r b on e small ∙ ap ((part s (order_of f)).sites b) (sym (exits_fails e on fails A.loops)))
       (λ small. items_are l r (b + (part s (order_of f)).size) on fails small)
   items_are {A = A} {s = s} (may_and l) r b on fails lt =
       items_are l r b on fails (omega (arith, lt)) ∙ sym (append_nil _)
   items_are {A = A} {s = s} (ends_and n x l) r b on fails lt =
       let small : b + (part (Variable x ∷ s) (order_of_items l)).size < 4294967296 = omega (arith, lt, inner_size (part (Variable x ∷ s) (order_of_items l))) in
-      ends_same n x (part (Variable x ∷ s) (order_of_items l)) (suffix (with_variable x A) l).sum b on fails A.loops (suffix_like l (one_variable x r)) small
+      ends_same n x (part (Variable x ∷ s) (order_of_items l)) (sum_items (with_variable x A) l) b on fails A.loops (items_like l (one_variable x r)) small
       (λ e. emitted_items (with_variable x A) l b e []) (λ e. items_are l (one_variable x r) b e [] small)

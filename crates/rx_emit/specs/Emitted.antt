@@ -14,7 +14,7 @@ use Rattle.rx_emit.specs.declared.around.Around.{Around}
 use Rattle.rx_emit.specs.declared.site.Open.{Open}
 use Rattle.rx_emit.specs.declared.site.Stand.{Stand}
 use Rattle.rx_emit.specs.Around.{with_variable, with_loop, ended, exits}
-use Rattle.rx_emit.specs.Sums.{round, sum, suffix}
+use Rattle.rx_emit.specs.Sums.{round, sum, sum_items}
 
 -- the number after so many sites, 0 where there is none
 abbrev pub place : ℕ → ℕ → ℕ
@@ -53,13 +53,13 @@ abbrev mutual
   pub emitted_items : Around → Items → ℕ → List ℕ → List ℕ → List Site
   emitted_items A (last f) b on fails = emitted A f b on fails
   emitted_items A (do_and f l) b on fails = let c = place b (sum A f).size in
-      emitted A f b (entered (suffix A l).sum.begins c (exits on fails A.loops)) fails
+      emitted A f b (entered (sum_items A l).begins c (exits on fails A.loops)) fails
       ++ (if (sum A f).ahead then emitted_items A l c on fails else [])
   emitted_items A (else_and f l) b on fails = let c = place b (sum A f).size in
-      emitted A f b on (entered (suffix A l).sum.begins c (exits on fails A.loops))
+      emitted A f b on (entered (sum_items A l).begins c (exits on fails A.loops))
       ++ (if (sum A f).failing then emitted_items A l c on fails else [])
   emitted_items A (may_and l) b on fails = emitted_items A l b on fails
-  emitted_items A (ends_and n x l) b on fails = let inner = (suffix (with_variable x A) l).sum in
+  emitted_items A (ends_and n x l) b on fails = let inner = sum_items (with_variable x A) l in
       emitted_items (with_variable x A) l b (place b inner.size ∷ []) []
       ++ (if inner.ahead then record { action = does n (Dead x); next = distinct on } ∷ [] else [])
 

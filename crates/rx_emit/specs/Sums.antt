@@ -7,7 +7,6 @@ use Rattle.rx_emit.specs.declared.sums.Way.TheVariants.{Ahead, Breaking, Continu
 use Rattle.rx_emit.specs.declared.sums.Begin.{Begin}
 use Rattle.rx_emit.specs.declared.sums.Begin.TheVariants.{Starts, Through}
 use Rattle.rx_emit.specs.declared.sums.Sum.{Sum}
-use Rattle.rx_emit.specs.declared.sums.Suffix.{Suffix}
 use Rattle.rx_emit.specs.declared.around.Around.{Around}
 use Rattle.rx_emit.specs.Around.{with_variable, with_loop, depth}
 
@@ -142,39 +141,24 @@ ends_sum h = record {
 abbrev pub loop_sum : ℕ → Sum → Sum
 loop_sum l f = record { size = f.size; ahead = has l f.breaks; failing = false; begins = round l f.begins; breaks = without l f.breaks }
 
--- ---- sequences, and flows
-
-abbrev pub last_suffix : Sum → Suffix
-last_suffix f = record { sum = f; rows = [] }
-
-abbrev pub do_suffix : Sum → Suffix → Suffix
-do_suffix f r = record { sum = then_sum f r.sum; rows = r.rows ++ record { own = f; rest = r.sum } ∷ [] }
-
-abbrev pub else_suffix : Sum → Suffix → Suffix
-else_suffix f r = record { sum = else_sum f r.sum; rows = r.rows ++ record { own = f; rest = r.sum } ∷ [] }
-
-abbrev pub ends_suffix : Suffix → Suffix
-ends_suffix r = record { sum = ends_sum r.sum; rows = r.rows ++ record { own = nowhere_sum; rest = r.sum } ∷ [] }
-
-abbrev pub may_suffix : Suffix → Suffix
-may_suffix r = record { sum = may_sum r.sum; rows = r.rows ++ record { own = nowhere_sum; rest = r.sum } ∷ [] }
+-- ---- flows, and sequences
 
 abbrev mutual
   pub sum : Around → Flow → Sum
   sum A nothing = leads_sum Ahead
   sum A nowhere = nowhere_sum
   sum A (act a) = act_sum
-  sum A (items l) = (suffix A l).sum
+  sum A (items l) = sum_items A l
   sum A (or f g) = or_sum (sum A f) (sum A g)
   sum A (leave x) = leaving_sum (length A.variables - depth x A.loops) (exit_way x)
   sum A (passes l f) = loop_sum l (sum (with_loop l [] [] A) f)
 
-  pub suffix : Around → Items → Suffix
-  suffix A (last f) = last_suffix (sum A f)
-  suffix A (do_and f l) = do_suffix (sum A f) (suffix A l)
-  suffix A (ends_and n x l) = ends_suffix (suffix (with_variable x A) l)
-  suffix A (may_and l) = may_suffix (suffix A l)
-  suffix A (else_and f l) = else_suffix (sum A f) (suffix A l)
+  pub sum_items : Around → Items → Sum
+  sum_items A (last f) = sum A f
+  sum_items A (do_and f l) = then_sum (sum A f) (sum_items A l)
+  sum_items A (ends_and n x l) = ends_sum (sum_items (with_variable x A) l)
+  sum_items A (may_and l) = may_sum (sum_items A l)
+  sum_items A (else_and f l) = else_sum (sum A f) (sum_items A l)
 
 -- the variables of a sequence's items, declared
 abbrev pub opened : Items → Around → Around

@@ -1,22 +1,23 @@
 //! The sites of flows, in the order of the text.
 
-ghost use Rattle.std.specs.Prelude.{◌≡◌, [], ◌∷◌, ◌++◌, IfOk, OnOk, List as ListOf, map};
+ghost use Rattle.std.specs.Prelude.{◌≡◌, [], ◌∷◌, ◌++◌, ◌<◌, length, IfOk, OnOk, List as ListOf, map};
 ghost use Rattle.rx_lower.specs.Pieces.{distinct};
 ghost use Rattle.rx_flow.specs.Flows as flows;
 ghost use Rattle.rx_flow.specs.Flows.{Items, item_and, items_of};
 ghost use Rattle.rx_flow.specs.PlainFlow.{plain-Action, plain-Flow, plain-Item, plain-Exit};
 ghost use Rattle.rx_emit.specs.PlainSite.{plain-Site};
 ghost use Rattle.rx_emit.specs.Around.{with_variable, with_loop, exits};
-ghost use Rattle.rx_emit.specs.Sums.{sum, suffix, opened, no_items};
+ghost use Rattle.rx_emit.specs.Sums.{round};
+ghost use Rattle.rx_emit.specs.Rows.{flow_rows, items_rows, past, own_rows, item_row};
 ghost use Rattle.rx_emit.specs.Emitted.{place, entered, emitted, emitted_items, with_open, left_over, left_where};
 
 use crate::around::Around;
 use crate::breaks::distinct;
 use crate::exits::{entered, exit_node, exit_sites};
-use crate::measure::{measure, measure_passes, measure_rows};
 use crate::numbers::place;
 use crate::site::{Open, Site, Stand, close, dying, push_site};
 use crate::sums::Row;
+use crate::ways::rounded;
 use rx_core::List;
 use rx_flow::{Action, Exit, Flow, Item, action_copied};
 use std::alloc::{AllocError, Global};
@@ -62,19 +63,18 @@ fn emit_leave(
 fn pass_head(
     alloc: Global,
     number: u32,
-    body: &Flow,
+    row: &Row,
     at: u32,
     on: &[u32],
     fails: &[u32],
-    around: &mut Around,
+    around: &Around,
 ) -> Result<List<u32>, AllocError>
-    ensures head { IfOk result (λ it. it ≡ entered (sum around.old (flows.passes number (plain-Flow body.now))).begins at (exits on.now fails.now around.old.loops)) }
-    ensures around { OnOk result (around.new ≡ around.old) }
+    ensures { IfOk result (λ it. it ≡ entered (round number row.now.own.begins) at (exits on.now fails.now around.now.loops)) }
 {
-    let passes = measure_passes(alloc, number, body, around)?;
+    let begins = rounded(alloc, number, row.own.begins.as_slice())?;
     entered(
         alloc,
-        passes.begins.as_slice(),
+        begins.as_slice(),
         at,
         on,
         fails,
@@ -162,17 +162,33 @@ fn begin_end(
     around.open(variable)
 }
 
+/// The row of a part and what comes behind it, the rows behind, and those of the part.
+fn split(rows: &[Row]) -> (&Row, &[Row], &[Row])
+    requires { 0 < length rows.now }
+    ensures { (behind own : ListOf Row) (row : Row) → rows.now ≡ behind ++ (own ++ row ∷ []) → row.behind ≡ length behind
+        → (result.0.now ≡ row) × (result.1.now ≡ behind) × (result.2.now ≡ own) }
+{
+    let before = rows.len() - 1;
+    let row = &rows[before];
+    if row.behind > before {
+        return (row, &rows[..before], &rows[..before]);
+    }
+    (row, &rows[..row.behind], &rows[row.behind..before])
+}
+
 #[cycle(emit)]
 #[tactic(auto, using(rx_flow::proofs::Rules::flow_rules))]
 pub fn emit(
     alloc: Global,
     flow: &Flow,
+    rows: &[Row],
     at: u32,
     on: &[u32],
     fails: &[u32],
     around: &mut Around,
     out: &mut List<Site>,
 ) -> Result<(), AllocError>
+    requires { rows.now ≡ flow_rows around.old (plain-Flow flow.now) }
     ensures sites { OnOk result (map plain-Site out.new ≡ map plain-Site out.old ++ emitted around.old (plain-Flow flow.now) at on.now fails.now) }
     ensures around { OnOk result (around.new ≡ around.old) }
 {
@@ -185,6 +201,7 @@ pub fn emit(
                 alloc,
                 items.as_slice(),
                 last.get(),
+                rows,
                 at,
                 on,
                 fails,
@@ -193,11 +210,21 @@ pub fn emit(
             )
         }
         Flow::Or(first, second) => {
-            emit_or(alloc, first.get(), second.get(), at, on, fails, around, out)
+            emit_or(
+                alloc,
+                first.get(),
+                second.get(),
+                rows,
+                at,
+                on,
+                fails,
+                around,
+                out,
+            )
         }
         Flow::Leave(exit) => emit_leave(alloc, *exit, at, on, fails, around, out),
         Flow::Passes(number, body) => {
-            emit_passes(alloc, *number, body.get(), at, on, fails, around, out)
+            emit_passes(alloc, *number, body.get(), rows, at, on, fails, around, out)
         }
     }
 }
@@ -207,18 +234,21 @@ fn emit_or(
     alloc: Global,
     first: &Flow,
     second: &Flow,
+    rows: &[Row],
     at: u32,
     on: &[u32],
     fails: &[u32],
     around: &mut Around,
     out: &mut List<Site>,
 ) -> Result<(), AllocError>
+    requires { rows.now ≡ flow_rows around.old (flows.or (plain-Flow first.now) (plain-Flow second.now)) }
     ensures sites { OnOk result (map plain-Site out.new ≡ map plain-Site out.old ++ emitted around.old (flows.or (plain-Flow first.now) (plain-Flow second.now)) at on.now fails.now) }
     ensures around { OnOk result (around.new ≡ around.old) }
 {
-    let size = measure(alloc, first, around)?.size;
-    emit(alloc, first, at, on, fails, around, out)?;
-    emit(alloc, second, place(at, size), on, fails, around, out)
+    let (row, behind, own) = split(rows);
+    let next = place(at, row.own.size);
+    emit(alloc, first, own, at, on, fails, around, out)?;
+    emit(alloc, second, behind, next, on, fails, around, out)
 }
 
 #[cycle(emit)]
@@ -226,21 +256,25 @@ fn emit_passes(
     alloc: Global,
     number: u32,
     body: &Flow,
+    rows: &[Row],
     at: u32,
     on: &[u32],
     fails: &[u32],
     around: &mut Around,
     out: &mut List<Site>,
 ) -> Result<(), AllocError>
+    requires { rows.now ≡ flow_rows around.old (flows.passes number (plain-Flow body.now)) }
     ensures sites { OnOk result (map plain-Site out.new ≡ map plain-Site out.old ++ emitted around.old (flows.passes number (plain-Flow body.now)) at on.now fails.now) }
     ensures around { OnOk result (around.new ≡ around.old) }
 {
-    let head = pass_head(alloc, number, body, at, on, fails, around)?;
+    let (row, _behind, own) = split(rows);
+    let head = pass_head(alloc, number, row, at, on, fails, around)?;
     let nothing = List::new(alloc);
     enter(alloc, number, on, head.as_slice(), around)?;
     emit(
         alloc,
         body,
+        own,
         at,
         head.as_slice(),
         nothing.as_slice(),
@@ -257,10 +291,12 @@ fn emit_do(
     alloc: Global,
     flow: &Flow,
     row: &Row,
+    own: &[Row],
     stand: &mut Stand,
     around: &mut Around,
     out: &mut List<Site>,
 ) -> Result<(), AllocError>
+    requires { own.now ≡ flow_rows around.old (plain-Flow flow.now) }
     ensures sites { OnOk result (map plain-Site out.new ≡ map plain-Site out.old ++ emitted around.old (plain-Flow flow.now) stand.old.at
         (entered row.now.rest.begins (place stand.old.at row.now.own.size) (exits stand.old.on stand.old.fails around.old.loops)) stand.old.fails) }
     ensures stand { OnOk result (stand.new ≡ record stand.old { at = place stand.old.at row.now.own.size }) }
@@ -271,6 +307,7 @@ fn emit_do(
     emit(
         alloc,
         flow,
+        own,
         stand.at,
         on.as_slice(),
         stand.fails.as_slice(),
@@ -287,10 +324,12 @@ fn emit_else(
     alloc: Global,
     flow: &Flow,
     row: &Row,
+    own: &[Row],
     stand: &mut Stand,
     around: &mut Around,
     out: &mut List<Site>,
 ) -> Result<(), AllocError>
+    requires { own.now ≡ flow_rows around.old (plain-Flow flow.now) }
     ensures sites { OnOk result (map plain-Site out.new ≡ map plain-Site out.old ++ emitted around.old (plain-Flow flow.now) stand.old.at
         stand.old.on (entered row.now.rest.begins (place stand.old.at row.now.own.size) (exits stand.old.on stand.old.fails around.old.loops))) }
     ensures stand { OnOk result (stand.new ≡ record stand.old { at = place stand.old.at row.now.own.size }) }
@@ -301,6 +340,7 @@ fn emit_else(
     emit(
         alloc,
         flow,
+        own,
         stand.at,
         stand.on.as_slice(),
         fails.as_slice(),
@@ -317,19 +357,20 @@ fn emit_item(
     alloc: Global,
     item: &Item,
     row: &Row,
+    own: &[Row],
     stand: &mut Stand,
     around: &mut Around,
     out: &mut List<Site>,
 ) -> Result<bool, AllocError>
-    ensures sites { IfOk result (λ goes. (l : Items) (rows : ListOf Row) → (suffix around.old (item_and (plain-Item item.now) l)).rows ≡ rows ++ row.now ∷ []
+    requires { own.now ≡ own_rows around.old (plain-Item item.now) }
+    ensures sites { IfOk result (λ goes. (l : Items) → row.now ≡ item_row around.old (plain-Item item.now) l
         → map plain-Site out.old ++ left_over around.old (item_and (plain-Item item.now) l) stand.old ≡ map plain-Site out.new ++ left_where goes around.new l stand.new) }
-    ensures rows { IfOk result (λ goes. (l : Items) (rows : ListOf Row) → (suffix around.old (item_and (plain-Item item.now) l)).rows ≡ rows ++ row.now ∷ []
-        → rows ≡ (suffix around.new l).rows) }
+    ensures past { IfOk result (λ goes. around.new ≡ past (plain-Item item.now) around.old) }
     ensures around { IfOk result (λ goes. (A : Around) → around.old ≡ with_open stand.old.opens A → around.new ≡ with_open stand.new.opens A) }
 {
     match item {
         Item::Do(flow) => {
-            emit_do(alloc, flow, row, stand, around, out)?;
+            emit_do(alloc, flow, row, own, stand, around, out)?;
             Ok(row.own.ahead)
         }
         Item::Ends(node, variable) => {
@@ -338,31 +379,9 @@ fn emit_item(
         }
         Item::May => Ok(true),
         Item::Else(flow) => {
-            emit_else(alloc, flow, row, stand, around, out)?;
+            emit_else(alloc, flow, row, own, stand, around, out)?;
             Ok(row.own.failing)
         }
-    }
-}
-
-/// The next item of a sequence, whose row stands last.
-#[cycle(emit)]
-fn emit_next(
-    alloc: Global,
-    item: &Item,
-    rows: &mut List<Row>,
-    stand: &mut Stand,
-    around: &mut Around,
-    out: &mut List<Site>,
-) -> Result<bool, AllocError>
-    ensures sites { IfOk result (λ goes. (l : Items) → (suffix around.old (item_and (plain-Item item.now) l)).rows ≡ rows.old
-        → map plain-Site out.old ++ left_over around.old (item_and (plain-Item item.now) l) stand.old ≡ map plain-Site out.new ++ left_where goes around.new l stand.new) }
-    ensures rows { IfOk result (λ goes. (l : Items) → (suffix around.old (item_and (plain-Item item.now) l)).rows ≡ rows.old → rows.new ≡ (suffix around.new l).rows) }
-    ensures around { IfOk result (λ goes. (A : Around) → around.old ≡ with_open stand.old.opens A → around.new ≡ with_open stand.new.opens A) }
-{
-    match rows.pop() {
-        Some(row) => emit_item(alloc, item, &row, stand, around, out),
-        // there is a row for each item
-        None => Ok(true),
     }
 }
 
@@ -371,26 +390,31 @@ fn emit_items(
     alloc: Global,
     items: &[Item],
     last: &Flow,
+    rows: &[Row],
     at: u32,
     on: &[u32],
     fails: &[u32],
     around: &mut Around,
     out: &mut List<Site>,
 ) -> Result<(), AllocError>
+    requires { rows.now ≡ items_rows around.old (items_of (map plain-Item items.now) (flows.last (plain-Flow last.now))) }
     ensures sites { OnOk result (map plain-Site out.new ≡ map plain-Site out.old
         ++ emitted_items around.old (items_of (map plain-Item items.now) (flows.last (plain-Flow last.now))) at on.now fails.now) }
     ensures around { OnOk result (around.new ≡ around.old) }
 {
-    let mut rows = measure_rows(alloc, items, last, around)?.rows;
+    let mut left = rows;
     let mut stand = stand_at(alloc, at, on, fails)?;
     for item in items {
-        if !emit_next(alloc, item, &mut rows, &mut stand, around, out)? {
+        let (row, behind, own) = split(left);
+        if !emit_item(alloc, item, row, own, &mut stand, around, out)? {
             return close(stand.opens, around, out);
         }
+        left = behind;
     }
     emit(
         alloc,
         last,
+        left,
         stand.at,
         stand.on.as_slice(),
         stand.fails.as_slice(),

@@ -14,5 +14,5 @@ mod whole;
 
 pub use around::{Around, Loop};
 pub use site::{Open, Site, Stand};
-pub use sums::{Begin, Row, Suffix, Sum, Way};
+pub use sums::{Begin, Row, Sum, Way};
 pub use whole::{GraphFault, graph, summed};

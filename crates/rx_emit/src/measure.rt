@@ -1,16 +1,16 @@
 //! What flows are to what is around them.
 
-ghost use Rattle.std.specs.Prelude.{◌≡◌, [], IfOk, OnOk, map};
+ghost use Rattle.std.specs.Prelude.{◌≡◌, [], ◌++◌, length, IfOk, OnOk, map, List as ListOf};
 ghost use Rattle.rx_flow.specs.Flows as flows;
 ghost use Rattle.rx_flow.specs.Flows.{Items, item_and, items_of};
 ghost use Rattle.rx_flow.specs.PlainFlow.{plain-Flow, plain-Item, plain-Exit};
-ghost use Rattle.rx_emit.specs.Sums.{sum, suffix, opened, no_items, loop_sum, or_sum};
-ghost use Rattle.rx_emit.specs.Around.{with_loop};
+ghost use Rattle.rx_emit.specs.Sums.{sum, sum_items, opened, no_items};
+ghost use Rattle.rx_emit.specs.Rows.{flow_rows, items_rows, past};
 
 use crate::around::Around;
 use crate::sums::{
-    Suffix, Sum, Way, acts, do_suffix, else_suffix, ends_suffix, last_suffix, leads, leaving,
-    loop_sum, may_suffix, nowhere, or_sum,
+    Row, Sum, Way, acts, do_row, else_row, ends_row, leads, leaving, loop_row, may_row, nowhere,
+    or_row,
 };
 use crate::ways::exit_way;
 use rx_core::List;
@@ -19,7 +19,7 @@ use std::alloc::{AllocError, Global};
 
 /// Declares the variable of an item.
 #[tactic(auto, using(rx_flow::proofs::Rules::flow_rules))]
-pub fn open_item(item: &Item, around: &mut Around) -> Result<(), AllocError>
+fn open_item(item: &Item, around: &mut Around) -> Result<(), AllocError>
     ensures { OnOk result ((l : Items) → opened l around.new ≡ opened (item_and (plain-Item item.now) l) around.old) }
 {
     match item {
@@ -45,35 +45,37 @@ fn leaves(alloc: Global, exit: Exit, around: &Around) -> Result<Sum, AllocError>
     leaving(alloc, around.count(exit), exit_way(exit))
 }
 
+/// How many rows were added behind so many.
+fn added(rows: &List<Row>, under: usize) -> usize
+    ensures { (front more : ListOf Row) → rows.now ≡ front ++ more → length front ≡ under → result ≡ length more }
+{
+    rows.len().saturating_sub(under)
+}
+
+/// What a flow is; its rows are added.
 #[cycle(measure)]
-#[tactic(auto, using(rx_flow::proofs::Rules::flow_rules))]
-pub fn measure(alloc: Global, flow: &Flow, around: &mut Around) -> Result<Sum, AllocError>
+#[tactic(auto, using(rx_flow::proofs::Rules::flow_rules, crate::proofs::Rows::no_more))]
+pub fn measure(
+    alloc: Global,
+    flow: &Flow,
+    around: &mut Around,
+    rows: &mut List<Row>,
+) -> Result<Sum, AllocError>
     ensures sum { IfOk result (λ it. it ≡ sum around.old (plain-Flow flow.now)) }
+    ensures rows { OnOk result (rows.new ≡ rows.old ++ flow_rows around.old (plain-Flow flow.now)) }
     ensures around { OnOk result (around.new ≡ around.old) }
 {
     match flow {
         Flow::Nothing => leads(alloc, Way::Ahead),
         Flow::Nowhere => Ok(nowhere(alloc)),
         Flow::Act(_) => acts(alloc),
-        Flow::Items(items, last) => measure_items(alloc, items.as_slice(), last.get(), around),
-        Flow::Or(first, second) => measure_or(alloc, first.get(), second.get(), around),
+        Flow::Items(items, last) => {
+            measure_items(alloc, items.as_slice(), last.get(), around, rows)
+        }
+        Flow::Or(first, second) => measure_or(alloc, first.get(), second.get(), around, rows),
         Flow::Leave(exit) => leaves(alloc, *exit, around),
-        Flow::Passes(number, body) => measure_passes(alloc, *number, body.get(), around),
+        Flow::Passes(number, body) => measure_passes(alloc, *number, body.get(), around, rows),
     }
-}
-
-#[cycle(measure)]
-fn measure_items(
-    alloc: Global,
-    items: &[Item],
-    last: &Flow,
-    around: &mut Around,
-) -> Result<Sum, AllocError>
-    ensures sum { IfOk result (λ it. it ≡ (suffix around.old (items_of (map plain-Item items.now) (flows.last (plain-Flow last.now)))).sum) }
-    ensures around { OnOk result (around.new ≡ around.old) }
-{
-    let whole = measure_rows(alloc, items, last, around)?;
-    Ok(whole.sum)
 }
 
 #[cycle(measure)]
@@ -82,30 +84,36 @@ fn measure_or(
     first: &Flow,
     second: &Flow,
     around: &mut Around,
+    rows: &mut List<Row>,
 ) -> Result<Sum, AllocError>
-    ensures sum { IfOk result (λ it. it ≡ or_sum (sum around.old (plain-Flow first.now)) (sum around.old (plain-Flow second.now))) }
+    ensures sum { IfOk result (λ it. it ≡ sum around.old (flows.or (plain-Flow first.now) (plain-Flow second.now))) }
+    ensures rows { OnOk result (rows.new ≡ rows.old ++ flow_rows around.old (flows.or (plain-Flow first.now) (plain-Flow second.now))) }
     ensures around { OnOk result (around.new ≡ around.old) }
 {
-    let first = measure(alloc, first, around)?;
-    let second = measure(alloc, second, around)?;
-    or_sum(alloc, &first, &second)
+    let under = rows.len();
+    let rest = measure(alloc, second, around, rows)?;
+    let behind = added(rows, under);
+    let own = measure(alloc, first, around, rows)?;
+    or_row(alloc, own, rest, behind, rows)
 }
 
 /// A loop, by its passes.
 #[cycle(measure)]
-pub fn measure_passes(
+fn measure_passes(
     alloc: Global,
     number: u32,
     body: &Flow,
     around: &mut Around,
+    rows: &mut List<Row>,
 ) -> Result<Sum, AllocError>
-    ensures sum { IfOk result (λ it. it ≡ loop_sum number (sum (with_loop number [] [] around.old) (plain-Flow body.now))) }
+    ensures sum { IfOk result (λ it. it ≡ sum around.old (flows.passes number (plain-Flow body.now))) }
+    ensures rows { OnOk result (rows.new ≡ rows.old ++ flow_rows around.old (flows.passes number (plain-Flow body.now))) }
     ensures around { OnOk result (around.new ≡ around.old) }
 {
     around.enter(number, List::new(alloc), List::new(alloc))?;
-    let passes = measure(alloc, body, around)?;
+    let passes = measure(alloc, body, around, rows)?;
     around.leave();
-    loop_sum(alloc, number, &passes)
+    loop_row(alloc, number, passes, rows)
 }
 
 /// An item in front of what follows it, and its variable ended.
@@ -114,45 +122,60 @@ pub fn measure_passes(
 fn measure_item(
     alloc: Global,
     item: &Item,
-    rest: Suffix,
+    rest: Sum,
+    behind: usize,
     around: &mut Around,
-) -> Result<Suffix, AllocError>
-    ensures suffix { IfOk result (λ it. (A : Around) (l : Items) → around.old ≡ opened (item_and (plain-Item item.now) no_items) A → rest ≡ suffix around.old l
-        → it ≡ suffix A (item_and (plain-Item item.now) l)) }
-    ensures around { OnOk result ((A : Around) → around.old ≡ opened (item_and (plain-Item item.now) no_items) A → around.new ≡ A) }
+    rows: &mut List<Row>,
+) -> Result<Sum, AllocError>
+    ensures sum { IfOk result (λ it. (A : Around) (l : Items) → around.old ≡ past (plain-Item item.now) A → rest ≡ sum_items around.old l
+        → it ≡ sum_items A (item_and (plain-Item item.now) l)) }
+    ensures rows { OnOk result ((A : Around) (l : Items) (front : ListOf Row) → around.old ≡ past (plain-Item item.now) A → rest ≡ sum_items around.old l
+        → behind ≡ length (items_rows around.old l) → rows.old ≡ front ++ items_rows around.old l → rows.new ≡ front ++ items_rows A (item_and (plain-Item item.now) l)) }
+    ensures around { OnOk result ((A : Around) → around.old ≡ past (plain-Item item.now) A → around.new ≡ A) }
 {
     match item {
         Item::Do(flow) => {
-            let own = measure(alloc, flow, around)?;
-            do_suffix(alloc, own, rest)
+            let own = measure(alloc, flow, around, rows)?;
+            do_row(alloc, own, rest, behind, rows)
         }
         Item::Ends(_, _) => {
             around.close();
-            ends_suffix(alloc, rest)
+            ends_row(alloc, rest, behind, rows)
         }
-        Item::May => may_suffix(alloc, rest),
+        Item::May => may_row(alloc, rest, behind, rows),
         Item::Else(flow) => {
-            let own = measure(alloc, flow, around)?;
-            else_suffix(alloc, own, rest)
+            let own = measure(alloc, flow, around, rows)?;
+            else_row(alloc, own, rest, behind, rows)
         }
     }
 }
 
-/// A sequence, and its items.
+/// A sequence, from its last item to its first.
 #[cycle(measure)]
-pub fn measure_rows(
+fn measure_items(
     alloc: Global,
     items: &[Item],
     last: &Flow,
     around: &mut Around,
-) -> Result<Suffix, AllocError>
-    ensures suffix { IfOk result (λ it. it ≡ suffix around.old (items_of (map plain-Item items.now) (flows.last (plain-Flow last.now)))) }
+    rows: &mut List<Row>,
+) -> Result<Sum, AllocError>
+    ensures sum { IfOk result (λ it. it ≡ sum_items around.old (items_of (map plain-Item items.now) (flows.last (plain-Flow last.now)))) }
+    ensures rows { OnOk result (rows.new ≡ rows.old ++ items_rows around.old (items_of (map plain-Item items.now) (flows.last (plain-Flow last.now)))) }
     ensures around { OnOk result (around.new ≡ around.old) }
 {
     open_all(items, around)?;
-    let mut rows = last_suffix(alloc, measure(alloc, last, around)?);
+    let under = rows.len();
+    let mut sum = measure(alloc, last, around, rows)?;
     for turn in 0..items.len() {
-        rows = measure_item(alloc, &items[items.len() - 1 - turn], rows, around)?;
+        let behind = added(rows, under);
+        sum = measure_item(
+            alloc,
+            &items[items.len() - 1 - turn],
+            sum,
+            behind,
+            around,
+            rows,
+        )?;
     }
-    Ok(rows)
+    Ok(sum)
 }

@@ -1,7 +1,7 @@
 //! What a part is to the parts around it.
 
-ghost use Rattle.std.specs.Prelude.{◌≡◌, [], ◌∷◌, ◌++◌, IfOk, if◌then◌else◌};
-ghost use Rattle.rx_emit.specs.Sums.{joined, moved, then_begins, breaks_of, nowhere_sum, leads_sum, act_sum, leaving_sum, then_sum, else_sum, or_sum, may_sum, ends_sum, loop_sum, last_suffix, do_suffix, else_suffix, ends_suffix, may_suffix};
+ghost use Rattle.std.specs.Prelude.{◌≡◌, [], ◌∷◌, ◌++◌, IfOk, OnOk, if◌then◌else◌};
+ghost use Rattle.rx_emit.specs.Sums.{joined, moved, then_begins, breaks_of, nowhere_sum, leads_sum, act_sum, leaving_sum, then_sum, else_sum, or_sum, may_sum, ends_sum, loop_sum};
 
 use crate::breaks::{has, join, without};
 use crate::numbers::add;
@@ -44,18 +44,13 @@ pub struct Sum {
     pub breaks: List<u32>,
 }
 
-/// An item of a sequence, and what follows the item.
+/// A part and what comes behind it: an item and the rest of its sequence, or one of two ways and the other. Of a loop, its passes alone.
 #[derive(Drop)]
 pub struct Row {
     pub own: Sum,
     pub rest: Sum,
-}
-
-/// The items of a sequence from some item on: as a whole, and item by item, the last first.
-#[derive(Drop)]
-pub struct Suffix {
-    pub sum: Sum,
-    pub rows: List<Row>,
+    /// How many rows what comes behind has.
+    pub behind: usize,
 }
 
 impl LetGo for Begin {
@@ -188,7 +183,7 @@ fn joined_breaks(
 }
 
 /// A part and, where it goes on, another.
-pub fn then_sum(alloc: Global, first: &Sum, second: &Sum) -> Result<Sum, AllocError>
+fn then_sum(alloc: Global, first: &Sum, second: &Sum) -> Result<Sum, AllocError>
     ensures { IfOk result (λ it. it ≡ then_sum first.now second.now) }
 {
     let begins = begins_of(alloc, Way::Ahead, first, second)?;
@@ -203,7 +198,7 @@ pub fn then_sum(alloc: Global, first: &Sum, second: &Sum) -> Result<Sum, AllocEr
 }
 
 /// A part and, where a test in it fails, another.
-pub fn else_sum(alloc: Global, first: &Sum, second: &Sum) -> Result<Sum, AllocError>
+fn else_sum(alloc: Global, first: &Sum, second: &Sum) -> Result<Sum, AllocError>
     ensures { IfOk result (λ it. it ≡ else_sum first.now second.now) }
 {
     let begins = begins_of(alloc, Way::Failing, first, second)?;
@@ -218,7 +213,7 @@ pub fn else_sum(alloc: Global, first: &Sum, second: &Sum) -> Result<Sum, AllocEr
 }
 
 /// One or the other.
-pub fn or_sum(alloc: Global, first: &Sum, second: &Sum) -> Result<Sum, AllocError>
+fn or_sum(alloc: Global, first: &Sum, second: &Sum) -> Result<Sum, AllocError>
     ensures { IfOk result (λ it. it ≡ or_sum first.now second.now) }
 {
     let mut begins = List::from_slice(alloc, first.begins.as_slice())?;
@@ -282,7 +277,7 @@ fn ends_sum(alloc: Global, rest: &Sum) -> Result<Sum, AllocError>
 }
 
 /// A loop, by its passes.
-pub fn loop_sum(alloc: Global, number: u32, body: &Sum) -> Result<Sum, AllocError>
+fn loop_sum(alloc: Global, number: u32, body: &Sum) -> Result<Sum, AllocError>
     ensures { IfOk result (λ it. it ≡ loop_sum number body.now) }
 {
     let begins = rounded(alloc, number, body.begins.as_slice())?;
@@ -296,52 +291,104 @@ pub fn loop_sum(alloc: Global, number: u32, body: &Sum) -> Result<Sum, AllocErro
     })
 }
 
-// ---- sequences
+// ---- rows
 
-/// The flow that a sequence ends in.
-pub fn last_suffix(alloc: Global, last: Sum) -> Suffix
-    ensures { result ≡ last_suffix last }
+/// One or the other, and the row of both.
+pub fn or_row(
+    alloc: Global,
+    own: Sum,
+    rest: Sum,
+    behind: usize,
+    rows: &mut List<Row>,
+) -> Result<Sum, AllocError>
+    ensures sum { IfOk result (λ it. it ≡ or_sum own rest) }
+    ensures rows { OnOk result (rows.new ≡ rows.old ++ record { own = own; rest = rest; behind = behind } ∷ []) }
 {
-    Suffix {
-        sum: last,
-        rows: List::new(alloc),
-    }
+    let sum = or_sum(alloc, &own, &rest)?;
+    rows.push(Row { own, rest, behind })?;
+    Ok(sum)
 }
 
-/// One item more in front: what it is, and the whole.
-fn in_front(own: Sum, rest: Suffix, sum: Sum) -> Result<Suffix, AllocError>
-    ensures { IfOk result (λ it. it ≡ record { sum = sum; rows = rest.rows ++ record { own = own; rest = rest.sum } ∷ [] }) }
+/// A part and, where it goes on, what follows.
+pub fn do_row(
+    alloc: Global,
+    own: Sum,
+    rest: Sum,
+    behind: usize,
+    rows: &mut List<Row>,
+) -> Result<Sum, AllocError>
+    ensures sum { IfOk result (λ it. it ≡ then_sum own rest) }
+    ensures rows { OnOk result (rows.new ≡ rows.old ++ record { own = own; rest = rest; behind = behind } ∷ []) }
 {
-    let Suffix { sum: behind, rows } = rest;
-    let mut rows = rows;
-    rows.push(Row { own, rest: behind })?;
-    Ok(Suffix { sum, rows })
+    let sum = then_sum(alloc, &own, &rest)?;
+    rows.push(Row { own, rest, behind })?;
+    Ok(sum)
 }
 
-pub fn do_suffix(alloc: Global, own: Sum, rest: Suffix) -> Result<Suffix, AllocError>
-    ensures { IfOk result (λ it. it ≡ do_suffix own rest) }
+/// A part and, where a test in it fails, what follows.
+pub fn else_row(
+    alloc: Global,
+    own: Sum,
+    rest: Sum,
+    behind: usize,
+    rows: &mut List<Row>,
+) -> Result<Sum, AllocError>
+    ensures sum { IfOk result (λ it. it ≡ else_sum own rest) }
+    ensures rows { OnOk result (rows.new ≡ rows.old ++ record { own = own; rest = rest; behind = behind } ∷ []) }
 {
-    let sum = then_sum(alloc, &own, &rest.sum)?;
-    in_front(own, rest, sum)
+    let sum = else_sum(alloc, &own, &rest)?;
+    rows.push(Row { own, rest, behind })?;
+    Ok(sum)
 }
 
-pub fn else_suffix(alloc: Global, own: Sum, rest: Suffix) -> Result<Suffix, AllocError>
-    ensures { IfOk result (λ it. it ≡ else_suffix own rest) }
+/// A variable that ends where what follows does.
+pub fn ends_row(
+    alloc: Global,
+    rest: Sum,
+    behind: usize,
+    rows: &mut List<Row>,
+) -> Result<Sum, AllocError>
+    ensures sum { IfOk result (λ it. it ≡ ends_sum rest) }
+    ensures rows { OnOk result (rows.new ≡ rows.old ++ record { own = nowhere_sum; rest = rest; behind = behind } ∷ []) }
 {
-    let sum = else_sum(alloc, &own, &rest.sum)?;
-    in_front(own, rest, sum)
+    let sum = ends_sum(alloc, &rest)?;
+    let own = nowhere(alloc);
+    rows.push(Row { own, rest, behind })?;
+    Ok(sum)
 }
 
-pub fn ends_suffix(alloc: Global, rest: Suffix) -> Result<Suffix, AllocError>
-    ensures { IfOk result (λ it. it ≡ ends_suffix rest) }
+/// What follows, or a failed test.
+pub fn may_row(
+    alloc: Global,
+    rest: Sum,
+    behind: usize,
+    rows: &mut List<Row>,
+) -> Result<Sum, AllocError>
+    ensures sum { IfOk result (λ it. it ≡ may_sum rest) }
+    ensures rows { OnOk result (rows.new ≡ rows.old ++ record { own = nowhere_sum; rest = rest; behind = behind } ∷ []) }
 {
-    let sum = ends_sum(alloc, &rest.sum)?;
-    in_front(nowhere(alloc), rest, sum)
+    let sum = may_sum(alloc, &rest)?;
+    let own = nowhere(alloc);
+    rows.push(Row { own, rest, behind })?;
+    Ok(sum)
 }
 
-pub fn may_suffix(alloc: Global, rest: Suffix) -> Result<Suffix, AllocError>
-    ensures { IfOk result (λ it. it ≡ may_suffix rest) }
+/// A loop, by its passes.
+pub fn loop_row(
+    alloc: Global,
+    number: u32,
+    own: Sum,
+    rows: &mut List<Row>,
+) -> Result<Sum, AllocError>
+    ensures sum { IfOk result (λ it. it ≡ loop_sum number own) }
+    ensures rows { OnOk result (rows.new ≡ rows.old ++ record { own = own; rest = nowhere_sum; behind = 0 } ∷ []) }
 {
-    let sum = may_sum(alloc, &rest.sum)?;
-    in_front(nowhere(alloc), rest, sum)
+    let sum = loop_sum(alloc, number, &own)?;
+    let rest = nowhere(alloc);
+    rows.push(Row {
+        own,
+        rest,
+        behind: 0,
+    })?;
+    Ok(sum)
 }

@@ -1,12 +1,13 @@
 //! The graph of a flow.
 
-ghost use Rattle.std.specs.Prelude.{◌≡◌, ◌≤◌, [], length, map, IfOk, MatchResult};
+ghost use Rattle.std.specs.Prelude.{◌≡◌, ◌≤◌, [], ◌++◌, length, map, IfOk, OnOk, MatchResult};
 ghost use Rattle.rx_flow.specs.Flows.{order_of};
 ghost use Rattle.rx_flow.specs.PlainFlow.{plain-Flow};
 ghost use Rattle.rx_lower.specs.Pieces.{part, graph_of};
 ghost use Rattle.rx_emit.specs.PlainSite.{plain-Site};
 ghost use Rattle.rx_emit.specs.Around.{nothing_around};
 ghost use Rattle.rx_emit.specs.Sums.{cap, sum};
+ghost use Rattle.rx_emit.specs.Rows.{flow_rows};
 ghost use Rattle.rx_emit.specs.Emitted.{emitted};
 ghost use Rattle.rx_emit.specs.Refusal.{Refuses};
 
@@ -14,7 +15,7 @@ use crate::around::Around;
 use crate::emit::emit;
 use crate::measure::measure;
 use crate::site::Site;
-use crate::sums::Sum;
+use crate::sums::{Row, Sum};
 use rx_core::List;
 use rx_flow::Flow;
 use std::alloc::{AllocError, Global};
@@ -31,19 +32,30 @@ pub enum GraphFault {
 pub fn summed(alloc: Global, flow: &Flow) -> Result<Sum, AllocError>
     ensures { IfOk result (λ it. it ≡ sum nothing_around (plain-Flow flow.now)) }
 {
-    let mut around = Around::nothing(alloc);
-    measure(alloc, flow, &mut around)
+    let mut rows = List::new(alloc);
+    measured(alloc, flow, &mut rows)
 }
 
-/// How many sites it has.
-#[tactic(auto, using(crate::proofs::Graphs::size_summed))]
-fn size_of(alloc: Global, flow: &Flow) -> Result<u64, AllocError>
-    ensures { IfOk result (λ n. n ≡ cap (part [] (order_of (plain-Flow flow.now))).size) }
+/// The same, and the rows of the flow.
+fn measured(alloc: Global, flow: &Flow, rows: &mut List<Row>) -> Result<Sum, AllocError>
+    ensures sum { IfOk result (λ it. it ≡ sum nothing_around (plain-Flow flow.now)) }
+    ensures rows { OnOk result (rows.new ≡ rows.old ++ flow_rows nothing_around (plain-Flow flow.now)) }
 {
-    Ok(summed(alloc, flow)?.size)
+    let mut around = Around::nothing(alloc);
+    measure(alloc, flow, &mut around, rows)
 }
 
-fn whole(alloc: Global, flow: &Flow) -> Result<List<Site>, AllocError>
+/// How many sites it has, and its rows.
+#[tactic(auto, using(crate::proofs::Graphs::size_summed))]
+fn size_of(alloc: Global, flow: &Flow, rows: &mut List<Row>) -> Result<u64, AllocError>
+    ensures size { IfOk result (λ n. n ≡ cap (part [] (order_of (plain-Flow flow.now))).size) }
+    ensures rows { OnOk result (rows.new ≡ rows.old ++ flow_rows nothing_around (plain-Flow flow.now)) }
+{
+    Ok(measured(alloc, flow, rows)?.size)
+}
+
+fn whole(alloc: Global, flow: &Flow, rows: &[Row]) -> Result<List<Site>, AllocError>
+    requires { rows.now ≡ flow_rows nothing_around (plain-Flow flow.now) }
     ensures { IfOk result (λ g. map plain-Site g ≡ emitted nothing_around (plain-Flow flow.now) 0 [] []) }
 {
     let mut around = Around::nothing(alloc);
@@ -52,6 +64,7 @@ fn whole(alloc: Global, flow: &Flow) -> Result<List<Site>, AllocError>
     emit(
         alloc,
         flow,
+        rows,
         0,
         nothing.as_slice(),
         nothing.as_slice(),
@@ -66,13 +79,14 @@ pub fn graph(alloc: Global, flow: &Flow) -> Result<List<Site>, GraphFault>
     ensures { MatchResult result (λ g. (map plain-Site g ≡ graph_of (order_of (plain-Flow flow.now))) × (length g ≤ 16384))
         (λ fault. Refuses fault (part [] (order_of (plain-Flow flow.now))).size) }
 {
-    match size_of(alloc, flow) {
+    let mut rows = List::new(alloc);
+    match size_of(alloc, flow, &mut rows) {
         Err(_) => Err(GraphFault::OutOfMemory),
         Ok(size) => {
             if size > 16384 {
                 return Err(GraphFault::TooLarge(size));
             }
-            match whole(alloc, flow) {
+            match whole(alloc, flow, rows.as_slice()) {
                 Ok(sites) => Ok(sites),
                 Err(_) => Err(GraphFault::OutOfMemory),
             }

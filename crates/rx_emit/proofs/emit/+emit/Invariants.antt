@@ -6,7 +6,7 @@ use Rattle.rx_flow.specs.PlainFlow.{plain-Flow, plain-Item}
 use Rattle.rx_flow.proofs.flow.Flow.TheLaws as flow
 use Rattle.rx_flow.proofs.flow.Item.TheLaws as item
 use Rattle.rx_emit.specs.PlainSite.{plain-Site}
-use Rattle.rx_emit.specs.Sums.{suffix}
+use Rattle.rx_emit.specs.Rows.{items_rows}
 use Rattle.rx_emit.specs.Emitted.{emitted_items, with_open, left_over}
 use Rattle.rx_emit.proofs.emit.+emit.Given as goal
 
@@ -14,7 +14,7 @@ abbrev pub invariant-emit_items-loop-item : goal.invariant-emit_items-loop-item
 invariant-emit_items-loop-item l = record {
   sites : map plain-Site l.out ++ left_over l.around (items_of (map plain-Item (drop l.item-index l.items)) (last (plain-Flow l.last))) l.stand
       ≡ map plain-Site l.fn.out ++ emitted_items l.fn.around (items_of (map plain-Item l.items) (last (plain-Flow l.last))) l.at l.on l.fails;
-  rows : l.rows ≡ (suffix l.around (items_of (map plain-Item (drop l.item-index l.items)) (last (plain-Flow l.last)))).rows;
+  rows : l.left ≡ items_rows l.around (items_of (map plain-Item (drop l.item-index l.items)) (last (plain-Flow l.last)));
   around : l.around ≡ with_open l.stand.opens l.fn.around;
 }
 
@@ -36,9 +36,6 @@ decreases-emit_else l = 4 * flow.the_size l.flow.now + 1
 
 abbrev pub decreases-emit_item : goal.decreases-emit_item
 decreases-emit_item l = 4 * item.the_size l.item.now
-
-abbrev pub decreases-emit_next : goal.decreases-emit_next
-decreases-emit_next l = 4 * item.the_size l.item.now + 1
 
 abbrev pub decreases-emit_items : goal.decreases-emit_items
 decreases-emit_items l = 4 * max (most item.the_size l.items.now) (flow.the_size l.last.now) + 2
