@@ -1,7 +1,9 @@
 //! The command `run`: its words, what programs print, how they end, and writes that fail.
 
+mod large;
 mod programs;
 mod said;
+mod scalars;
 mod sinks;
 mod whole;
 mod words;
