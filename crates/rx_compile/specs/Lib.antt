@@ -1,0 +1,6 @@
+pub mod Compiling
+pub mod Right
+pub mod Settings
+pub mod Parts
+pub mod Unwinding
+pub mod Whole

@@ -1,0 +1,14 @@
+//! Functions of numbers and truth values become code for registers.
+#![tactic(auto)]
+
+mod items;
+mod matches;
+mod operating;
+mod program;
+mod scope;
+mod sequences;
+mod shapes;
+mod simple;
+mod trees;
+
+pub use program::{compile, signature};
