@@ -2,6 +2,7 @@
 #![tactic(auto)]
 
 mod functions;
+mod hints;
 mod laws;
 mod runs;
 

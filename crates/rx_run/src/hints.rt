@@ -1,0 +1,31 @@
+//! What functions take and give, where that is numbers and truth values.
+
+use rx_code::Signature;
+use rx_compile::signature;
+use rx_typed::Decl;
+use std::alloc::{AllocError, Global};
+
+/// What the function of an item takes and gives.
+fn signature_of(alloc: Global, decl: &Decl) -> Result<Option<Signature>, AllocError> {
+    match decl {
+        Decl::Func {
+            lifetimes: _,
+            params,
+            answer,
+            bounds: _,
+        } => signature(alloc, params.as_slice(), answer),
+        Decl::Rt => Ok(None),
+        Decl::Struct { .. } => Ok(None),
+        Decl::Enum { .. } => Ok(None),
+    }
+}
+
+/// Of each item's function, what it takes and gives, where that is numbers and truth values.
+pub fn signatures(alloc: Global, decls: &[Decl]) -> Result<Vec<Option<Signature>>, AllocError> {
+    let mut all = Vec::new(alloc);
+    for decl in decls {
+        let one = signature_of(alloc, decl)?;
+        all.push(one)?;
+    }
+    Ok(all)
+}
