@@ -1,9 +1,14 @@
 //! Laws of the tool, each as the contract of a function that does nothing.
 
-ghost use Rattle.std.specs.Prelude.{◌≡◌, ℕ, ℤ, List, [], Some, codes};
+ghost use Rattle.std.specs.Prelude.{◌≡◌, ◌↔◌, ◌⊎◌, ◌≤◌, ℕ, ℤ, false, List, [], length, Some, codes};
 ghost use Rattle.rx_tool.specs.declared.status.Status.{Status};
 ghost use Rattle.rx_spelling.specs.Items.{print_program};
-ghost use Rattle.rx_engine.specs.Promise.{IsExtraction};
+ghost use Rattle.rx_first_check.specs.FirstGrammar.{is_first_program};
+ghost use Rattle.rx_select.specs.Run.{Run};
+ghost use Rattle.rx_engine.specs.declared.extraction.Refusal.{Refusal};
+ghost use Rattle.rx_engine.specs.Promise.{IsExtraction, Names};
+ghost use Rattle.rx_engine.specs.Verdict.{IsNotBuilt};
+ghost use Rattle.rx_tool.specs.Lines.{refusal_line};
 ghost use Rattle.rx_tool.specs.Forms.{command_of, extracts, checks, runs};
 ghost use Rattle.rx_tool.specs.RunLines.{end_status, end_line};
 ghost use Rattle.rx_tool.specs.Runs.{Does};
@@ -13,7 +18,9 @@ ghost use Rattle.rx_grammar.specs.grammar.Items.{Parses};
 ghost use Rattle.rx_check.specs.Passes.{Accepted};
 ghost use Rattle.rx_meaning.specs.declared.outcome.Outcome.{Outcome};
 
+use rx_agreement::typed_are_accepted;
 use rx_check::{causes_are_one, passed_or_faulty};
+use rx_parse::parsed_programs_are_numbered;
 use rx_typeck::one_typed_program;
 
 /// Two defined answers of the same words on the same text have one status and one output. They have one line, but for the places
@@ -32,6 +39,17 @@ pub fn extraction_is_defined()
     ensures { (words : List (List ℕ)) (text name : List ℕ) (start end : ℕ) (p q : ProgramTree) → command_of words ≡ Some (extracts name start end)
         → Accepted p → IsExtraction text start end name p q → Defined words text Status.Done (print_program q) [] }
 {}
+
+/// `NotBuilt` is the defined answer exactly where the text is accepted and some item isn't of the first grammar, or the run
+/// that the range selects, under a name that it may have, is of a form that isn't built.
+pub fn not_built_exactly()
+    ensures { (words : List (List ℕ)) (text name : List ℕ) (start end : ℕ) → command_of words ≡ Some (extracts name start end) → length text ≤ 1048576
+        → Defined words text Status.Refused [] (refusal_line Refusal.NotBuilt)
+        ↔ ((p : ProgramTree) × Parses text p × Accepted p × ((is_first_program p ≡ false) ⊎ ((r : Run) × Names text start end name p r × IsNotBuilt p r))) }
+{
+    parsed_programs_are_numbered();
+    typed_are_accepted();
+}
 
 /// The defined answer of a check is `accepted` where the text is accepted, and nowhere else.
 pub fn acceptance_is_defined()

@@ -15,7 +15,8 @@ mod tool;
 mod words;
 
 pub use crate::laws::{
-    acceptance_is_defined, extraction_is_defined, one_answer, one_outcome, runs_are_defined,
+    acceptance_is_defined, extraction_is_defined, not_built_exactly, one_answer, one_outcome,
+    runs_are_defined,
 };
 pub use crate::reply::report_name;
 pub use crate::status::Status;
