@@ -1,5 +1,5 @@
 -- Sums ask of what is around a part only how many variables there are and where its loops stand, not what follows those.
-use Rattle.std.proofs.Common.{◌≡◌, ℕ, suc, ◌-◌, ◌==◌, List, [], ◌∷◌, length, if◌then◌else◌, refl, sym, ap, ◌∙◌}
+use Rattle.std.proofs.Common.{◌≡◌, ℕ, suc, ◌-◌, ◌==◌, List, [], length, if◌then◌else◌, refl, sym, ap, ◌∙◌}
 use Rattle.rx_walks.specs.Orders.{Exit, breaks, continues, returns}
 use Rattle.rx_flow.specs.Flows.{Flow, nothing, nowhere, act, items, or, leave, passes, Items, last, do_and, ends_and, may_and, else_and}
 use Rattle.rx_emit.specs.declared.sums.Sum.{Sum}

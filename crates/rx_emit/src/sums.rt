@@ -5,7 +5,7 @@ ghost use Rattle.rx_emit.specs.Sums.{joined, moved, then_begins, breaks_of, nowh
 
 use crate::breaks::{has, join, without};
 use crate::numbers::add;
-use crate::ways::{push_moved, push_then, rounded, same};
+use crate::ways::{ended, push_moved, push_then, rounded, same};
 use rx_core::{LetGo, List};
 use std::alloc::{AllocError, Global};
 
@@ -158,10 +158,14 @@ pub fn leaving(alloc: Global, count: usize, way: Way) -> Result<Sum, AllocError>
 fn begins_of(alloc: Global, way: Way, first: &Sum, second: &Sum) -> Result<List<Begin>, AllocError>
     ensures { IfOk result (λ it. it ≡ then_begins way first.now.begins (moved first.now.size second.now.begins)) }
 {
-    let mut behind = List::new(alloc);
-    push_moved(&mut behind, first.size, second.begins.as_slice())?;
     let mut all = List::new(alloc);
-    push_then(&mut all, way, first.begins.as_slice(), behind.as_slice())?;
+    push_then(
+        &mut all,
+        way,
+        first.begins.as_slice(),
+        first.size,
+        second.begins.as_slice(),
+    )?;
     Ok(all)
 }
 
@@ -244,28 +248,11 @@ fn may_sum(alloc: Global, rest: &Sum) -> Result<Sum, AllocError>
     })
 }
 
-fn ended_begins(alloc: Global, rest: &Sum) -> Result<List<Begin>, AllocError>
-    ensures { IfOk result (λ it. it ≡ then_begins Way.Ahead (then_begins Way.Failing rest.now.begins []) (Begin.Starts rest.now.size ∷ [])) }
-{
-    let nothing = List::new(alloc);
-    let mut inner = List::new(alloc);
-    push_then(
-        &mut inner,
-        Way::Failing,
-        rest.begins.as_slice(),
-        nothing.as_slice(),
-    )?;
-    let end = begin_list(alloc, Begin::Starts(rest.size))?;
-    let mut all = List::new(alloc);
-    push_then(&mut all, Way::Ahead, inner.as_slice(), end.as_slice())?;
-    Ok(all)
-}
-
 /// What follows, and the end of a variable.
 fn ends_sum(alloc: Global, rest: &Sum) -> Result<Sum, AllocError>
     ensures { IfOk result (λ it. it ≡ ends_sum rest.now) }
 {
-    let begins = ended_begins(alloc, rest)?;
+    let begins = ended(alloc, rest.begins.as_slice(), rest.size)?;
     let breaks = List::from_slice(alloc, rest.breaks.as_slice())?;
     Ok(Sum {
         size: add(rest.size, if rest.ahead { 1 } else { 0 }),

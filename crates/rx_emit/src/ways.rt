@@ -3,6 +3,8 @@
 ghost use Rattle.std.specs.Prelude.{◌≡◌, [], ◌∷◌, ◌++◌, IfOk, OnOk, List as ListOf};
 ghost use Rattle.rx_flow.specs.PlainFlow.{plain-Exit};
 ghost use Rattle.rx_emit.specs.Sums.{same, exit_way, moved, then_begins, turned, round};
+ghost use Rattle.rx_emit.specs.declared.sums.Way.TheVariants.{Ahead, Failing};
+ghost use Rattle.rx_emit.specs.declared.sums.Begin.TheVariants.{Starts, Through};
 
 use crate::numbers::add;
 use crate::sums::{Begin, Way};
@@ -66,29 +68,21 @@ pub fn push_moved(all: &mut List<Begin>, size: u64, begins: &[Begin]) -> Result<
     Ok(())
 }
 
-fn push_begins(all: &mut List<Begin>, begins: &[Begin]) -> Result<(), AllocError>
-    ensures { OnOk result (all.new ≡ all.old ++ begins.now) }
-{
-    for begin in begins {
-        all.push(*begin)?;
-    }
-    Ok(())
-}
-
-/// What one begin is, where another part comes where the first leads this way.
+/// What one begin is, where another part, behind so many sites, comes where the first leads this way.
 fn push_next(
     all: &mut List<Begin>,
     way: Way,
     begin: Begin,
+    size: u64,
     behind: &[Begin],
 ) -> Result<(), AllocError>
-    ensures { OnOk result ((bs : ListOf Begin) → all.old ++ then_begins way (begin ∷ bs) behind.now ≡ all.new ++ then_begins way bs behind.now) }
+    ensures { OnOk result ((bs : ListOf Begin) → all.old ++ then_begins way (begin ∷ bs) (moved size behind.now) ≡ all.new ++ then_begins way bs (moved size behind.now)) }
 {
     match begin {
         Begin::Starts(_) => all.push(begin),
         Begin::Through(through) => {
             if same(through, way) {
-                push_begins(all, behind)
+                push_moved(all, size, behind)
             } else {
                 all.push(begin)
             }
@@ -96,19 +90,55 @@ fn push_next(
     }
 }
 
-/// The begins of two parts, the second where the first leads this way.
+/// The begins of two parts, the second behind so many sites, where the first leads this way.
 pub fn push_then(
     all: &mut List<Begin>,
     way: Way,
     begins: &[Begin],
+    size: u64,
     behind: &[Begin],
 ) -> Result<(), AllocError>
-    ensures { OnOk result (all.new ≡ all.old ++ then_begins way begins.now behind.now) }
+    ensures { OnOk result (all.new ≡ all.old ++ then_begins way begins.now (moved size behind.now)) }
 {
     for begin in begins {
-        push_next(all, way, *begin, behind)?;
+        push_next(all, way, *begin, size, behind)?;
     }
     Ok(())
+}
+
+/// A way out of what follows, where a variable ends behind so many sites: no failed test leads out of it.
+fn push_out(all: &mut List<Begin>, size: u64, way: Way) -> Result<(), AllocError>
+    ensures { OnOk result ((bs : ListOf Begin) → all.old ++ then_begins Ahead (then_begins Failing (Through way ∷ bs) []) (Starts size ∷ [])
+        ≡ all.new ++ then_begins Ahead (then_begins Failing bs []) (Starts size ∷ [])) }
+{
+    match way {
+        Way::Ahead => all.push(Begin::Starts(size)),
+        Way::Breaking(_) => all.push(Begin::Through(way)),
+        Way::Continuing(_) => all.push(Begin::Through(way)),
+        Way::Returning => all.push(Begin::Through(way)),
+        Way::Failing => Ok(()),
+    }
+}
+
+fn push_end(all: &mut List<Begin>, size: u64, begin: Begin) -> Result<(), AllocError>
+    ensures { OnOk result ((bs : ListOf Begin) → all.old ++ then_begins Ahead (then_begins Failing (begin ∷ bs) []) (Starts size ∷ [])
+        ≡ all.new ++ then_begins Ahead (then_begins Failing bs []) (Starts size ∷ [])) }
+{
+    match begin {
+        Begin::Starts(_) => all.push(begin),
+        Begin::Through(way) => push_out(all, size, way),
+    }
+}
+
+/// The begins of what follows and the end of a variable, behind so many sites.
+pub fn ended(alloc: Global, begins: &[Begin], size: u64) -> Result<List<Begin>, AllocError>
+    ensures { IfOk result (λ it. it ≡ then_begins Ahead (then_begins Failing begins.now []) (Starts size ∷ [])) }
+{
+    let mut all = List::new(alloc);
+    for begin in begins {
+        push_end(&mut all, size, *begin)?;
+    }
+    Ok(all)
 }
 
 /// A way out of a pass, as one of the loop.
