@@ -1,4 +1,5 @@
 pub mod ByEffects
+pub mod Lawfulness
 pub mod Equations
 pub mod Facts
 pub mod Tables

@@ -3,6 +3,7 @@
 ghost use Rattle.std.specs.Prelude.{◌≡◌, ℕ, ◌+◌, ◌*◌, ◌<◌, ◌≤◌, Bool, true, false, List as ListOf, [], ◌∷◌, length, get_or, slice_get, IfOk};
 ghost use Rattle.rx_bits.specs.Rows as bits;
 ghost use Rattle.rx_graph.specs.ByEffects as by_effects;
+ghost use Rattle.rx_graph.specs.Lawfulness as lawfulness;
 ghost use Rattle.rx_graph.specs.Facts as facts;
 ghost use Rattle.rx_graph.specs.Tables as tables;
 
@@ -114,7 +115,7 @@ impl<'t> Facts for ByEffects<'t> {
         into.join(from)
     }
 
-    ghost lawful = { λ f. by_effects.lawful f.effects.now f.start.now f.bound };
+    ghost lawful = { λ f. lawfulness.lawful f.effects.now f.start.now f.bound };
 }
 
 /// The facts that hold at each site, of those below a bound: the least table that begins with what holds at the start, and
