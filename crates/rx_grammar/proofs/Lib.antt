@@ -1,4 +1,5 @@
 pub mod SymbolLemmas
+pub mod WordLengths
 pub mod Reading
 pub mod Deriving
 pub mod NumberLaws

@@ -1,5 +1,5 @@
 -- A token has a symbol exactly where it is the word that the symbol names: each entry of the tables is looked at once.
-use Rattle.std.proofs.Common.{◌≡◌, ℕ, zero, Bool, true, false, cond, List, [], ◌∷◌, map, codes, refl, sym, subst, ◌∙◌, rules}
+use Rattle.std.proofs.Common.{◌≡◌, ℕ, zero, Bool, true, false, cond, List, [], ◌∷◌, codes, refl, sym, subst, ◌∙◌, rules}
 use Rattle.std.specs.Prelude.{◌≢◌}
 use Rattle.std.specs.Str.{bytes_eq}
 use Rattle.std.proofs.lemmas.Slice.Eq.{bytes_eq-Decides}
@@ -10,9 +10,8 @@ use Rattle.rx_lex.specs.declared.token.Class.TheVariants as class
 use Rattle.rx_lex.specs.Tok.{Tok}
 use Rattle.rx_grammar.specs.declared.symbol.Symbol.{Symbol}
 use Rattle.rx_grammar.specs.declared.symbol.Symbol.TheVariants as symbol
-use Rattle.rx_grammar.specs.declared.symbol.TheConstants.{KEYWORDS, MARKS}
 use Rattle.rx_grammar.specs.contracts.symbol.Symbol.{the_type}
-use Rattle.rx_grammar.specs.parser.Symbols.{lookup, keyword, mark, symbol_by, symbol_of, same_symbol, peek}
+use Rattle.rx_grammar.specs.parser.Symbols.{lookup, keywords, keyword, marks, mark, symbol_by, symbol_of, same_symbol, peek}
 use Rattle.rx_grammar.specs.parser.Steps.{sees}
 use Rattle.rx_grammar.specs.grammar.Words.{IsMark, IsKeyword, IsName, IsFormat, IsLifetime, IsAnonymous}
 
@@ -105,13 +104,13 @@ keyword_stands : (w : List ℕ) → Standing class.Keyword (keyword w) w
 unfolding keyword
 keyword_stands w =
     let entry : (v : List ℕ) (t : Tok) → t.class ≡ class.Keyword → t.text ≡ v → IsKeyword v t = λ v t a b. (a, b) in
-    lookup_stands class.Keyword (map (λ k. (k.0.now, k.1)) KEYWORDS) w (entry _, (entry _, (entry _, (entry _, (entry _, (entry _, (entry _, (entry _, (entry _, (entry _, (entry _, (entry _, (entry _, (entry _, (entry _, (entry _, (entry _, (entry _, (entry _, (entry _, (entry _, (entry _, refl))))))))))))))))))))))
+    lookup_stands class.Keyword keywords w (entry _, (entry _, (entry _, (entry _, (entry _, (entry _, (entry _, (entry _, (entry _, (entry _, (entry _, (entry _, (entry _, (entry _, (entry _, (entry _, (entry _, (entry _, (entry _, (entry _, (entry _, (entry _, refl))))))))))))))))))))))
 
 mark_stands : (w : List ℕ) → Standing class.Mark (mark w) w
 unfolding mark
 mark_stands w =
     let entry : (v : List ℕ) (t : Tok) → t.class ≡ class.Mark → t.text ≡ v → IsMark v t = λ v t a b. (a, b) in
-    lookup_stands class.Mark (map (λ k. (k.0.now, k.1)) MARKS) w (entry _, (entry _, (entry _, (entry _, (entry _, (entry _, (entry _, (entry _, (entry _, (entry _, (entry _, (entry _, (entry _, (entry _, (entry _, (entry _, (entry _, (entry _, (entry _, (entry _, (entry _, (entry _, (entry _, (entry _, (entry _, (entry _, (entry _, (entry _, (entry _, (entry _, (entry _, (entry _, (entry _, (entry _, (entry _, (entry _, refl))))))))))))))))))))))))))))))))))))
+    lookup_stands class.Mark marks w (entry _, (entry _, (entry _, (entry _, (entry _, (entry _, (entry _, (entry _, (entry _, (entry _, (entry _, (entry _, (entry _, (entry _, (entry _, (entry _, (entry _, (entry _, (entry _, (entry _, (entry _, (entry _, (entry _, (entry _, (entry _, (entry _, (entry _, (entry _, (entry _, (entry _, (entry _, (entry _, (entry _, (entry _, (entry _, (entry _, refl))))))))))))))))))))))))))))))))))))
 
 lifetime_stands : (t : Tok) (w : List ℕ) (b : Bool) → t.class ≡ class.Lifetime → t.text ≡ w → bytes_eq w (codes "'_") ≡ b → Stands (cond b symbol.Anonymous symbol.Lifetime) t
 lifetime_stands t w true c e q = (c, e ∙ (bytes_eq-Decides w (codes "'_")).0 q)

@@ -1,6 +1,6 @@
 //! What a token is to the grammar.
 
-ghost use Rattle.std.specs.Prelude.{◌≡◌, true, map};
+ghost use Rattle.std.specs.Prelude.{◌≡◌, true, map, [], ◌∷◌};
 ghost use Rattle.rx_lex.specs.Tok.{tok};
 ghost use Rattle.rx_grammar.specs.parser.Symbols as spec;
 
@@ -80,76 +80,12 @@ pub enum Symbol {
     End,
 }
 
-pub const KEYWORDS: [(&str, Symbol); 22] = [
-    ("mod", Symbol::Mod),
-    ("struct", Symbol::Struct),
-    ("enum", Symbol::Enum),
-    ("fn", Symbol::Fn),
-    ("let", Symbol::Let),
-    ("mut", Symbol::Mut),
-    ("if", Symbol::If),
-    ("else", Symbol::Else),
-    ("match", Symbol::Match),
-    ("loop", Symbol::Loop),
-    ("while", Symbol::While),
-    ("break", Symbol::Break),
-    ("continue", Symbol::Continue),
-    ("return", Symbol::Return),
-    ("true", Symbol::True),
-    ("false", Symbol::False),
-    ("bool", Symbol::Bool),
-    ("u8", Symbol::U8),
-    ("u32", Symbol::U32),
-    ("u64", Symbol::U64),
-    ("i32", Symbol::I32),
-    ("i64", Symbol::I64),
-];
-
-pub const MARKS: [(&str, Symbol); 36] = [
-    ("->", Symbol::Arrow),
-    ("=>", Symbol::FatArrow),
-    ("::", Symbol::ColonColon),
-    ("==", Symbol::EqualEqual),
-    ("!=", Symbol::NotEqual),
-    ("<=", Symbol::LessEqual),
-    (">=", Symbol::GreaterEqual),
-    ("&&", Symbol::AndAnd),
-    ("||", Symbol::OrOr),
-    ("+=", Symbol::PlusEqual),
-    ("-=", Symbol::MinusEqual),
-    ("*=", Symbol::StarEqual),
-    ("/=", Symbol::SlashEqual),
-    ("%=", Symbol::PercentEqual),
-    ("(", Symbol::OpenParen),
-    (")", Symbol::CloseParen),
-    ("{", Symbol::OpenBrace),
-    ("}", Symbol::CloseBrace),
-    ("[", Symbol::OpenBracket),
-    ("]", Symbol::CloseBracket),
-    ("<", Symbol::Less),
-    (">", Symbol::Greater),
-    (",", Symbol::Comma),
-    (";", Symbol::Semicolon),
-    (":", Symbol::Colon),
-    (".", Symbol::Dot),
-    ("=", Symbol::Equal),
-    ("+", Symbol::Plus),
-    ("-", Symbol::Minus),
-    ("*", Symbol::Star),
-    ("/", Symbol::Slash),
-    ("%", Symbol::Percent),
-    ("!", Symbol::Bang),
-    ("&", Symbol::Ampersand),
-    ("#", Symbol::Hash),
-    ("_", Symbol::Underscore),
-];
-
 /// The symbol of a word in a table, or `Other`.
-fn lookup(mut table: &[(&str, Symbol)], word: &str) -> Symbol
+fn lookup(mut table: &[(&str, Symbol)], word: &[u8]) -> Symbol
     ensures { result ≡ spec.lookup (map (λ k. (k.0.now, k.1)) table.entry.now) word.now }
 {
     while let [entry, rest @ ..] = table {
-        if entry.0 == word {
+        if entry.0.as_bytes() == word {
             return entry.1;
         }
         table = rest;
@@ -157,18 +93,116 @@ fn lookup(mut table: &[(&str, Symbol)], word: &str) -> Symbol
     Symbol::Other
 }
 
+/// The symbol of the keyword with this first letter and this rest: at most three have the same first letter.
+#[tactic(auto, unfolding(crate::specs::parser::Symbols::keyword))]
+fn keyword_of(first: u8, rest: &[u8]) -> Symbol
+    ensures { result ≡ spec.keyword (first ∷ rest.now) }
+{
+    match first {
+        b'b' => lookup(&[("reak", Symbol::Break), ("ool", Symbol::Bool)], rest),
+        b'c' => lookup(&[("ontinue", Symbol::Continue)], rest),
+        b'e' => lookup(&[("num", Symbol::Enum), ("lse", Symbol::Else)], rest),
+        b'f' => lookup(&[("n", Symbol::Fn), ("alse", Symbol::False)], rest),
+        b'i' => lookup(
+            &[("f", Symbol::If), ("32", Symbol::I32), ("64", Symbol::I64)],
+            rest,
+        ),
+        b'l' => lookup(&[("et", Symbol::Let), ("oop", Symbol::Loop)], rest),
+        b'm' => lookup(
+            &[
+                ("od", Symbol::Mod),
+                ("ut", Symbol::Mut),
+                ("atch", Symbol::Match),
+            ],
+            rest,
+        ),
+        b'r' => lookup(&[("eturn", Symbol::Return)], rest),
+        b's' => lookup(&[("truct", Symbol::Struct)], rest),
+        b't' => lookup(&[("rue", Symbol::True)], rest),
+        b'u' => lookup(
+            &[("8", Symbol::U8), ("32", Symbol::U32), ("64", Symbol::U64)],
+            rest,
+        ),
+        b'w' => lookup(&[("hile", Symbol::While)], rest),
+        _ => Symbol::Other,
+    }
+}
+
 #[tactic(auto, unfolding(crate::specs::parser::Symbols::keyword))]
 fn keyword(word: &str) -> Symbol
     ensures { result ≡ spec.keyword word.now }
 {
-    lookup(&KEYWORDS, word)
+    match word.as_bytes() {
+        [first, rest @ ..] => keyword_of(*first, rest),
+        [] => Symbol::Other,
+    }
 }
 
+/// The symbol of the mark of this byte.
 #[tactic(auto, unfolding(crate::specs::parser::Symbols::mark))]
+fn mark_of_one(byte: u8) -> Symbol
+    ensures { result ≡ spec.mark (byte ∷ []) }
+{
+    match byte {
+        b'(' => Symbol::OpenParen,
+        b')' => Symbol::CloseParen,
+        b'{' => Symbol::OpenBrace,
+        b'}' => Symbol::CloseBrace,
+        b'[' => Symbol::OpenBracket,
+        b']' => Symbol::CloseBracket,
+        b'<' => Symbol::Less,
+        b'>' => Symbol::Greater,
+        b',' => Symbol::Comma,
+        b';' => Symbol::Semicolon,
+        b':' => Symbol::Colon,
+        b'.' => Symbol::Dot,
+        b'=' => Symbol::Equal,
+        b'+' => Symbol::Plus,
+        b'-' => Symbol::Minus,
+        b'*' => Symbol::Star,
+        b'/' => Symbol::Slash,
+        b'%' => Symbol::Percent,
+        b'!' => Symbol::Bang,
+        b'&' => Symbol::Ampersand,
+        b'#' => Symbol::Hash,
+        b'_' => Symbol::Underscore,
+        _ => Symbol::Other,
+    }
+}
+
+/// The symbol of the mark of these two bytes.
+#[tactic(auto, unfolding(crate::specs::parser::Symbols::mark))]
+fn mark_of_two(first: u8, second: u8) -> Symbol
+    ensures { result ≡ spec.mark (first ∷ second ∷ []) }
+{
+    match (first, second) {
+        (b'-', b'>') => Symbol::Arrow,
+        (b'=', b'>') => Symbol::FatArrow,
+        (b':', b':') => Symbol::ColonColon,
+        (b'=', b'=') => Symbol::EqualEqual,
+        (b'!', b'=') => Symbol::NotEqual,
+        (b'<', b'=') => Symbol::LessEqual,
+        (b'>', b'=') => Symbol::GreaterEqual,
+        (b'&', b'&') => Symbol::AndAnd,
+        (b'|', b'|') => Symbol::OrOr,
+        (b'+', b'=') => Symbol::PlusEqual,
+        (b'-', b'=') => Symbol::MinusEqual,
+        (b'*', b'=') => Symbol::StarEqual,
+        (b'/', b'=') => Symbol::SlashEqual,
+        (b'%', b'=') => Symbol::PercentEqual,
+        _ => Symbol::Other,
+    }
+}
+
+#[tactic(auto, using(crate::proofs::WordLengths::no_mark))]
 fn mark(word: &str) -> Symbol
     ensures { result ≡ spec.mark word.now }
 {
-    lookup(&MARKS, word)
+    match word.as_bytes() {
+        [byte] => mark_of_one(*byte),
+        [first, second] => mark_of_two(*first, *second),
+        _ => Symbol::Other,
+    }
 }
 
 fn lifetime(word: &str) -> Symbol
