@@ -1,5 +1,6 @@
 pub mod Finding
 pub mod Noting
+pub mod Leading
 pub mod Gathered
 pub mod Answering
 pub mod Typed

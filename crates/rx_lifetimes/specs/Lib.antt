@@ -2,6 +2,7 @@ pub mod Values
 pub mod Finding
 pub mod Positions
 pub mod Held
+pub mod Leads
 pub mod Numbered
 pub mod PlainOf
 pub mod PlainOwn

@@ -7,6 +7,7 @@ mod held;
 mod laws;
 mod notes;
 mod numbering;
+mod onward;
 mod positions;
 mod values;
 mod variables;

@@ -140,8 +140,9 @@ fn noted(alloc: Global, decls: &Decls, variables: &[Open], flow: &Flow) -> Resul
         held: List::new(alloc),
         own: 0,
     };
-    match gather(alloc, decls, variables, flow, &mut notes) {
-        Ok(()) => Ok(notes),
+    let mut broken = List::new(alloc);
+    match gather(alloc, decls, variables, flow, &mut notes, &mut broken) {
+        Ok(_) => Ok(notes),
         Err(AllocError) => {
             notes.let_go();
             Err(AllocError)
