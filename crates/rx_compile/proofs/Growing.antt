@@ -1,7 +1,9 @@
 -- Code and points grow at their ends: what was right stays right.
-use Rattle.std.proofs.Common.{◌≡◌, ◌<◌, ◌≤◌, ◌⊎◌, inl, inr, ℕ, zero, suc, ◌+◌, nat_lt, Bool, true, false, List, [], ◌∷◌, ◌++◌, length, Option, Some, None, refl, sym, ap, subst, ◌∙◌, arith}
+use Rattle.std.proofs.Common.{◌≡◌, ◌<◌, ◌≤◌, ◌⊎◌, inl, inr, ℕ, ℤ, pos, zero, suc, ◌+◌, nat_lt, Bool, true, false, List, [], ◌∷◌, ◌++◌, length, Option, Some, None, refl, sym, ap, subst, ◌∙◌, arith}
 use Rattle.std.proofs.lemmas.Bool.{ltb-true, ltb-false}
 use Rattle.std.proofs.lemmas.List.{append-nil, append_assoc, length-append}
+use Rattle.rx_core.specs.declared.types.Kind.{Kind}
+use Rattle.rx_tree.specs.declared.tree.BinaryOp.{BinaryOp}
 use Rattle.rx_meaning.specs.Values.{element, State}
 use Rattle.rx_meaning.specs.Results.{Result}
 use Rattle.rx_meaning.specs.Values.{Value}
@@ -9,9 +11,10 @@ use Rattle.rx_meaning.specs.Expressions.{Functions}
 use Rattle.rx_frames.specs.Frames.{Next, Around}
 use Rattle.rx_code.specs.declared.code.Shape.{Shape}
 use Rattle.rx_code.specs.declared.code.Instruction.{Instruction}
+use Rattle.rx_code.specs.declared.code.Source.{Source}
 use Rattle.rx_code.specs.declared.code.Signature.{Signature}
 use Rattle.rx_code.specs.Registers.{Registers, Local}
-use Rattle.rx_code.specs.Points.{Point, IsPoint, Leads, IsRight}
+use Rattle.rx_code.specs.Points.{Point, IsPoint, Leads, Computing, Assigning, Testing, Calling, Returning, At, Deciding, IsRight}
 use Rattle.rx_compile.specs.Compiling.{Want, a_value, a_unit, whatever, Label, Setting, Made}
 use Rattle.rx_compile.specs.Right.{Frames, AtAll, Stands, Continues, Lands, IsInside, Grows, Makes}
 
@@ -61,6 +64,26 @@ leads_more T X i h L Q l = (l.0, element_more T X i l.0 l.1, l.2, l.3, l.4, l.5)
 pub leads_by : (T : List Point) (i : ℕ) (h : Option Shape) (L : List Local) (Q R : Point → Type 0) → ((q : Point) → (X : List Local) → L ≡ X ++ q.locals → Q q → R q) → Leads T i h L Q → Leads T i h L R
 leads_by T i h L Q R f l = (l.0, l.1, l.2, l.3, l.4, f l.0 l.3 l.4 l.5)
 
+-- what holds where an instruction leads holds there still
+at_more : (T X : List Point) (i : ℕ) (h : Option Shape) (L : List Local) (Q R S : Point → Type 0) → Leads T i h L Q → ((q : Point) → R q → S q) → At T i R → At (T ++ X) i S
+at_more T X i h L Q R S l f a = λ q e. f q (a q (element_less T X i q (element_below T i l.0 l.1) e))
+
+computing_more : (T X : List Point) (p : Point) (o : BinaryOp) (k : Kind) (a b : Source) (i j : ℕ) → Computing T p o k a b i j → Computing (T ++ X) p o k a b i j
+computing_more T X p o k a b i j r = (r.0, leads_more T X _ _ _ _ r.1)
+
+assigning_more : (T X : List Point) (p : Point) (i : ℕ) (h : Shape) (from : Source) (j : ℕ) → Assigning T p i h from j → Assigning (T ++ X) p i h from j
+assigning_more T X p i h from j r = (r.0, r.1, r.2, leads_more T X _ _ _ _ r.3)
+
+testing_more : (T X : List Point) (p : Point) (i : ℕ) (z : ℤ) (j k : ℕ) → Testing T p i z j k → Testing (T ++ X) p i z j k
+testing_more T X p i z j k r = (leads_more T X _ _ _ _ r.0, leads_more T X _ _ _ _ r.1)
+
+calling_more : (E : List (Option Signature)) (T X : List Point) (p : Point) (f i j : ℕ) → Calling E T p f i j → Calling E (T ++ X) p f i j
+calling_more E T X p f i j r = (r.0, r.1, r.2, leads_more T X _ _ _ _ r.3)
+
+deciding_more : (T X : List Point) (p : Point) (o : BinaryOp) (k : Kind) (a b : Source) (i j l : ℕ) → Deciding T p o k a b i j l → Deciding (T ++ X) p o k a b i j l
+deciding_more T X p o k a b i j l r = (r.0, computing_more T X p o k a b i r.0 r.1,
+    at_more T X r.0 _ _ _ (λ q. Testing T q i (pos 0) l j) (λ q. Testing (T ++ X) q i (pos 0) l j) r.1.1 (λ q. testing_more T X q i (pos 0) l j) r.2)
+
 pub right_more : (E : List (Option Signature)) (T X : List Point) (p : Point) (c : Instruction) → IsRight E T p c → IsRight E (T ++ X) p c
 right_more E T X p (Instruction.Move from i j) r = (r.0, leads_more T X _ _ _ _ r.1)
 right_more E T X p (Instruction.Compute o k a b i j) r = (r.0, leads_more T X _ _ _ _ r.1)
@@ -74,6 +97,20 @@ right_more E T X p (Instruction.Return h from) r = r
 right_more E T X p (Instruction.Print h from j) r = leads_more T X _ _ _ _ r
 right_more E T X p (Instruction.Input i j) r = (r.0, leads_more T X _ _ _ _ r.1)
 right_more E T X p Instruction.Stop r = r
+right_more E T X p (Instruction.MoveCompute from d o k a b i j) r = (r.0, (r.1.0, leads_more T X _ _ _ _ r.1.1),
+    at_more T X r.0 _ _ _ (λ q. Computing T q o k a b i j) (λ q. Computing (T ++ X) q o k a b i j) r.1.1 (λ q. computing_more T X q o k a b i j) r.2)
+right_more E T X p (Instruction.MoveReturn from i h) r = (r.0, (r.1.0, leads_more T X _ _ _ _ r.1.1),
+    at_more T X r.0 _ _ _ (λ q. Returning q h (Source.Register i)) (λ q. Returning q h (Source.Register i)) r.1.1 (λ q a. a) r.2)
+right_more E T X p (Instruction.ComputeTest o k a b i j l) r = deciding_more T X p o k a b i j l r
+right_more E T X p (Instruction.ComputeAssign o k a b i x j) r = (r.0, computing_more T X p o k a b i r.0 r.1,
+    at_more T X r.0 _ _ _ (λ q. (h : Shape) × Assigning T q x h (Source.Register i) j) (λ q. (h : Shape) × Assigning (T ++ X) q x h (Source.Register i) j) r.1.1
+    (λ q a. (a.0, assigning_more T X q x a.0 (Source.Register i) j a.1)) r.2)
+right_more E T X p (Instruction.ComputeCall o k a b i f x j) r = (r.0, computing_more T X p o k a b i r.0 r.1,
+    at_more T X r.0 _ _ _ (λ q. Calling E T q f x j) (λ q. Calling E (T ++ X) q f x j) r.1.1 (λ q. calling_more E T X q f x j) r.2)
+right_more E T X p (Instruction.ComputeReturn o k a b i h) r = (r.0, computing_more T X p o k a b i r.0 r.1,
+    at_more T X r.0 _ _ _ (λ q. Returning q h (Source.Register i)) (λ q. Returning q h (Source.Register i)) r.1.1 (λ q a. a) r.2)
+right_more E T X p (Instruction.PassComputeTest o k a b i j l) r = (r.0, leads_more T X _ _ _ _ r.1,
+    at_more T X r.0 _ _ _ (λ q. Deciding T q o k a b i j l) (λ q. Deciding (T ++ X) q o k a b i j l) r.1 (λ q. deciding_more T X q o k a b i j l) r.2)
 
 pub stands_more : (T X : List Point) (i : ℕ) (g : Option Shape) (L : List Local) (h : ℕ) (Q : Functions → ℕ → List Around → Registers → State → Result ℕ Value → Type 0)
     → Stands T i g L h Q → Stands (T ++ X) i g L h Q
