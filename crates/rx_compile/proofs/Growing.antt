@@ -81,8 +81,11 @@ calling_more : (E : List (Option Signature)) (T X : List Point) (p : Point) (f i
 calling_more E T X p f i j r = (r.0, r.1, r.2, leads_more T X _ _ _ _ r.3)
 
 deciding_more : (T X : List Point) (p : Point) (o : BinaryOp) (k : Kind) (a b : Source) (i j l : ℕ) → Deciding T p o k a b i j l → Deciding (T ++ X) p o k a b i j l
-deciding_more T X p o k a b i j l r = (r.0, computing_more T X p o k a b i r.0 r.1,
-    at_more T X r.0 _ _ _ (λ q. Testing T q i (pos 0) l j) (λ q. Testing (T ++ X) q i (pos 0) l j) r.1.1 (λ q. testing_more T X q i (pos 0) l j) r.2)
+deciding_more T X p o k a b i j l r = (
+  r.0,
+  computing_more T X p o k a b i r.0 r.1,
+  at_more T X r.0 _ _ _ (λ q. Testing T q i (pos 0) l j) (λ q. Testing (T ++ X) q i (pos 0) l j) r.1.1 (λ q. testing_more T X q i (pos 0) l j) r.2,
+)
 
 pub right_more : (E : List (Option Signature)) (T X : List Point) (p : Point) (c : Instruction) → IsRight E T p c → IsRight E (T ++ X) p c
 right_more E T X p (Instruction.Move from i j) r = (r.0, leads_more T X _ _ _ _ r.1)
@@ -97,20 +100,38 @@ right_more E T X p (Instruction.Return h from) r = r
 right_more E T X p (Instruction.Print h from j) r = leads_more T X _ _ _ _ r
 right_more E T X p (Instruction.Input i j) r = (r.0, leads_more T X _ _ _ _ r.1)
 right_more E T X p Instruction.Stop r = r
-right_more E T X p (Instruction.MoveCompute from d o k a b i j) r = (r.0, (r.1.0, leads_more T X _ _ _ _ r.1.1),
-    at_more T X r.0 _ _ _ (λ q. Computing T q o k a b i j) (λ q. Computing (T ++ X) q o k a b i j) r.1.1 (λ q. computing_more T X q o k a b i j) r.2)
-right_more E T X p (Instruction.MoveReturn from i h) r = (r.0, (r.1.0, leads_more T X _ _ _ _ r.1.1),
-    at_more T X r.0 _ _ _ (λ q. Returning q h (Source.Register i)) (λ q. Returning q h (Source.Register i)) r.1.1 (λ q a. a) r.2)
+right_more E T X p (Instruction.MoveCompute from d o k a b i j) r = (
+  r.0,
+  (r.1.0, leads_more T X _ _ _ _ r.1.1),
+  at_more T X r.0 _ _ _ (λ q. Computing T q o k a b i j) (λ q. Computing (T ++ X) q o k a b i j) r.1.1 (λ q. computing_more T X q o k a b i j) r.2,
+)
+right_more E T X p (Instruction.MoveReturn from i h) r = (
+  r.0,
+  (r.1.0, leads_more T X _ _ _ _ r.1.1),
+  at_more T X r.0 _ _ _ (λ q. Returning q h (Source.Register i)) (λ q. Returning q h (Source.Register i)) r.1.1 (λ q a. a) r.2,
+)
 right_more E T X p (Instruction.ComputeTest o k a b i j l) r = deciding_more T X p o k a b i j l r
-right_more E T X p (Instruction.ComputeAssign o k a b i x j) r = (r.0, computing_more T X p o k a b i r.0 r.1,
-    at_more T X r.0 _ _ _ (λ q. (h : Shape) × Assigning T q x h (Source.Register i) j) (λ q. (h : Shape) × Assigning (T ++ X) q x h (Source.Register i) j) r.1.1
-    (λ q a. (a.0, assigning_more T X q x a.0 (Source.Register i) j a.1)) r.2)
-right_more E T X p (Instruction.ComputeCall o k a b i f x j) r = (r.0, computing_more T X p o k a b i r.0 r.1,
-    at_more T X r.0 _ _ _ (λ q. Calling E T q f x j) (λ q. Calling E (T ++ X) q f x j) r.1.1 (λ q. calling_more E T X q f x j) r.2)
-right_more E T X p (Instruction.ComputeReturn o k a b i h) r = (r.0, computing_more T X p o k a b i r.0 r.1,
-    at_more T X r.0 _ _ _ (λ q. Returning q h (Source.Register i)) (λ q. Returning q h (Source.Register i)) r.1.1 (λ q a. a) r.2)
-right_more E T X p (Instruction.PassComputeTest o k a b i j l) r = (r.0, leads_more T X _ _ _ _ r.1,
-    at_more T X r.0 _ _ _ (λ q. Deciding T q o k a b i j l) (λ q. Deciding (T ++ X) q o k a b i j l) r.1 (λ q. deciding_more T X q o k a b i j l) r.2)
+right_more E T X p (Instruction.ComputeAssign o k a b i x j) r = (
+  r.0,
+  computing_more T X p o k a b i r.0 r.1,
+  at_more T X r.0 _ _ _ (λ q. (h : Shape) × Assigning T q x h (Source.Register i) j) (λ q. (h : Shape) × Assigning (T ++ X) q x h (Source.Register i) j) r.1.1
+      (λ q a. (a.0, assigning_more T X q x a.0 (Source.Register i) j a.1)) r.2,
+)
+right_more E T X p (Instruction.ComputeCall o k a b i f x j) r = (
+  r.0,
+  computing_more T X p o k a b i r.0 r.1,
+  at_more T X r.0 _ _ _ (λ q. Calling E T q f x j) (λ q. Calling E (T ++ X) q f x j) r.1.1 (λ q. calling_more E T X q f x j) r.2,
+)
+right_more E T X p (Instruction.ComputeReturn o k a b i h) r = (
+  r.0,
+  computing_more T X p o k a b i r.0 r.1,
+  at_more T X r.0 _ _ _ (λ q. Returning q h (Source.Register i)) (λ q. Returning q h (Source.Register i)) r.1.1 (λ q a. a) r.2,
+)
+right_more E T X p (Instruction.PassComputeTest o k a b i j l) r = (
+  r.0,
+  leads_more T X _ _ _ _ r.1,
+  at_more T X r.0 _ _ _ (λ q. Deciding T q o k a b i j l) (λ q. Deciding (T ++ X) q o k a b i j l) r.1 (λ q. deciding_more T X q o k a b i j l) r.2,
+)
 
 pub stands_more : (T X : List Point) (i : ℕ) (g : Option Shape) (L : List Local) (h : ℕ) (Q : Functions → ℕ → List Around → Registers → State → Result ℕ Value → Type 0)
     → Stands T i g L h Q → Stands (T ++ X) i g L h Q

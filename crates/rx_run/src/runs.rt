@@ -10,6 +10,7 @@ use crate::functions::{main_at, table};
 use crate::hints::signatures;
 use rx_compile::compile;
 use rx_execute::execute;
+use rx_fuse::fuse;
 use rx_machine::run as run_machine;
 use rx_meaning::Outcome;
 use rx_tree::Program;
@@ -33,7 +34,8 @@ fn run_by_code<'x>(
         return Ok(None);
     }
     let signatures = signatures(alloc, decls)?;
-    let code = compile(alloc, functions, signatures)?;
+    let mut code = compile(alloc, functions, signatures)?;
+    fuse(&mut code);
     let outcome = execute(alloc, &code, main as u32, input, turns)?;
     Ok(outcome)
 }

@@ -37,6 +37,9 @@ run 9: fn main() { let mut i = 0i64; while i < 3 { let x = i * i; let y = { let 
 run 9: fn kind(n: i64) -> i64 { match n { 0 => 10, 1 => 20, -1 => 30, _ => 40 } } fn main() { println!(\"{}\", kind(0)); println!(\"{}\", kind(1)); println!(\"{}\", kind(0 - 1)); println!(\"{}\", kind(2)); } | 0 10 20 30 40 /
 run 9: fn main() { let b = 1i64 > 2; let c = match b { true => 1i64, false => 2 }; println!(\"{}\", c); if b { println!(\"{}\", 3i64); } else { println!(\"{}\", 4i64); } } | 0 2 4 /
 run 9: fn f(x: i64) -> i64 { let x = x + 1; let y = x; let x = y * x; x } fn main() { println!(\"{}\", f(2)); let _ = f(3); } | 0 9 /
+run 9: fn kind(n: i64) -> i64 { match n % 3 { 0 => 10, 1 => 20, _ => 30 } } fn main() { println!(\"{}\", kind(6)); println!(\"{}\", kind(7)); println!(\"{}\", kind(8)); } | 0 10 20 30 /
+run 9: fn add(a: i64, b: i64) -> i64 { if a < 1 { return b; } add(a - 1, b + 1) } fn main() { println!(\"{}\", add(5, 7)); } | 0 12 /
+run 30: fn small(n: i64) -> bool { n < 3 } fn main() { let mut s = 0i64; let mut i = 0i64; while small(i) { let mut j = 0i64; while j < i * 2 { s += j; j += 1; } i += 1; } println!(\"{}\", s); } | 0 7 /
 run 9 4 -5: mod rt; fn main() { let a = rt::next(); let b = a - rt::next() * rt::next(); println!(\"{}\", b); } | 0 4 /";
 
 #[test]
@@ -50,6 +53,10 @@ run 4: fn one() -> i64 { 1 } fn main() { println!(\"{}\", one() + one() + one())
 run 3: fn one() -> i64 { 1 } fn main() { println!(\"{}\", one() + one() + one()); } | 8 / error: StillRunning
 run 4: fn main() { let mut i = 0i64; while i < 2 { println!(\"{}\", i); i += 1; } } | 0 0 1 /
 run 3: fn main() { let mut i = 0i64; while i < 2 { println!(\"{}\", i); i += 1; } } | 8 0 1 / error: StillRunning
+run 1: fn up(n: i64) -> i64 { n } fn main() { let a = 1i64; println!(\"{}\", up(a + 1)); } | 8 / error: StillRunning
+run 1: fn up(n: i64) -> i64 { n } fn main() { let a = 9223372036854775807i64; println!(\"{}\", up(a + 1)); } | 101 / error: Trapped Overflow
+run 4: fn main() { let mut i = 2i64; loop { match 6 / i { 0 => { break; } _ => { i -= 1; } } } } | 101 / error: Trapped DivideByZero
+run 3: fn main() { let mut i = 2i64; loop { match 6 / i { 0 => { break; } _ => { i -= 1; } } } } | 8 / error: StillRunning
 run 1: fn main() { loop { println!(\"{}\", 1i64); } } | 8 / error: StillRunning
 run 3: fn main() { loop { println!(\"{}\", 1i64); } } | 8 1 1 / error: StillRunning";
 
