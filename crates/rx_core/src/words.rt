@@ -5,18 +5,30 @@ ghost use Rattle.rx_core.specs.Bytes.{same_bytes, is_one_of};
 
 use crate::text::Name;
 
-/// Whether both are the same bytes.
+/// Whether both are the same bytes. On short words, which mostly differ in their first byte, `==` takes several times as long.
 pub fn is_same(a: &[u8], b: &[u8]) -> bool
     ensures { result ≡ same_bytes a.now b.now }
 {
-    a == b
+    let mut left = a;
+    let mut right = b;
+    while let [first, left_rest @ ..] = left {
+        let [second, right_rest @ ..] = right else {
+            return false;
+        };
+        if *first != *second {
+            return false;
+        }
+        left = left_rest;
+        right = right_rest;
+    }
+    matches!(right, [])
 }
 
 /// Whether both are the same text.
 pub fn is_same_text(a: &str, b: &str) -> bool
     ensures { result ≡ same_bytes a.now b.now }
 {
-    a == b
+    is_same(a.as_bytes(), b.as_bytes())
 }
 
 /// Whether both are the same name.

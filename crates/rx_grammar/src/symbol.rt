@@ -1,6 +1,7 @@
 //! What a token is to the grammar.
 
 ghost use Rattle.std.specs.Prelude.{◌≡◌, true, map, [], ◌∷◌};
+ghost use Rattle.std.specs.Str.{bytes_eq};
 ghost use Rattle.rx_lex.specs.Tok.{tok};
 ghost use Rattle.rx_grammar.specs.parser.Symbols as spec;
 
@@ -80,12 +81,26 @@ pub enum Symbol {
     End,
 }
 
+/// Whether both are the same bytes. On words this short, which mostly differ in their first byte, `==` takes several times as long.
+fn is_same_word(mut a: &[u8], mut b: &[u8]) -> bool
+    ensures { result ≡ bytes_eq a.entry.now b.entry.now }
+{
+    while let ([first, a_rest @ ..], [second, b_rest @ ..]) = (a, b) {
+        if *first != *second {
+            return false;
+        }
+        a = a_rest;
+        b = b_rest;
+    }
+    a.is_empty() && b.is_empty()
+}
+
 /// The symbol of a word in a table, or `Other`.
 fn lookup(mut table: &[(&str, Symbol)], word: &[u8]) -> Symbol
     ensures { result ≡ spec.lookup (map (λ k. (k.0.now, k.1)) table.entry.now) word.now }
 {
     while let [entry, rest @ ..] = table {
-        if entry.0.as_bytes() == word {
+        if is_same_word(entry.0.as_bytes(), word) {
             return entry.1;
         }
         table = rest;

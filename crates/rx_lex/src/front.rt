@@ -13,7 +13,7 @@ ghost use Rattle.rx_lex.specs.FrontWord.{WordOf, NoWord, begins_comment as begin
 use crate::identifier::{is_lifetime_name, is_name, run_length};
 use crate::numeral::{is_digit_byte, numeral_in};
 use crate::token::Class;
-use crate::words::{is_keyword, is_mark};
+use crate::words::{is_keyword, is_mark_of_one, is_mark_of_two};
 use rx_core::is_same;
 use std::alloc::{AllocError, Global};
 
@@ -112,11 +112,24 @@ fn has_format(rest: &[u8]) -> bool
     rest.len() >= 4 && is_same(&rest[..4], b"\"{}\"")
 }
 
-/// Whether the first bytes, this many, are a mark.
-fn has_mark(rest: &[u8], count: usize) -> bool
-    ensures { result ≡ (nat_le count (length rest.now) && is_one_of (take count rest.now) marks) }
+/// Whether the first two bytes are a mark.
+fn has_long_mark(rest: &[u8]) -> bool
+    ensures { result ≡ (nat_le 2 (length rest.now) && is_one_of (take 2 rest.now) marks) }
 {
-    count <= rest.len() && is_mark(&rest[..count])
+    match rest {
+        [first, second, ..] => is_mark_of_two(*first, *second),
+        _ => false,
+    }
+}
+
+/// Whether the first byte is a mark.
+fn has_short_mark(rest: &[u8]) -> bool
+    ensures { result ≡ (nat_le 1 (length rest.now) && is_one_of (take 1 rest.now) marks) }
+{
+    match rest {
+        [byte, ..] => is_mark_of_one(*byte),
+        [] => false,
+    }
 }
 
 /// Whether `//` or `/*` comes first.
@@ -131,13 +144,13 @@ fn mark_length(rest: &[u8]) -> Option<usize>
     requires { goes_on rest.now ≡ false }
     ensures { MatchOption result (((q : List ℕ) → Gap rest.now q → ⊥) → (w r : List ℕ) → Front Mark w r rest.now → ⊥) (λ n. WordOf Mark n rest.now) }
 {
-    if has_mark(rest, 2) {
+    if has_long_mark(rest) {
         return Some(2);
     }
     if begins_comment(rest) {
         return None;
     }
-    if has_mark(rest, 1) {
+    if has_short_mark(rest) {
         return Some(1);
     }
     None
