@@ -1,5 +1,5 @@
 -- Words and the numbers that they hold.
-use Rattle.std.proofs.Common.{◌≡◌, ◌⊎◌, inl, inr, ℕ, zero, suc, ◌+◌, ◌*◌, ◌/◌, ◌%◌, ◌^◌, ◌<◌, ◌≤◌, List, [], ◌∷◌, length, get_or, arith, refl, ap, sym, ◌∙◌, Bool, true, false, ◌||◌, ◌&&◌, not, ◌==◌, w64, max, subst, true≢false}
+use Rattle.std.proofs.Common.{◌≡◌, ◌⊎◌, inl, inr, ℕ, zero, suc, ◌+◌, ◌-◌, ◌*◌, ◌/◌, ◌%◌, ◌^◌, ◌<◌, ◌≤◌, List, [], ◌∷◌, length, get_or, arith, refl, ap, sym, ◌∙◌, Bool, true, false, ◌||◌, ◌&&◌, not, ◌==◌, w64, max, subst, true≢false}
 use Rattle.std.proofs.Math.ListN.{set}
 use Rattle.std.proofs.lemmas.Bool.{cases_eq, cases_lt, eq-eqb, eqb-true, eqb-false}
 use Rattle.std.proofs.lemmas.List.{get_or-set_same, get_or-set_other, length-set}
@@ -219,3 +219,78 @@ all_joined old other now k grown e past within h =
 pub bounded : (ws : List ℕ) → ((i : ℕ) → get_or ws i 0 < 2 ^ 64) → Bounded ws
 bounded [] h = omega arith
 bounded (w ∷ ws) h = let first = h zero in let rest = bounded ws (λ i. h (suc i)) in omega (arith, first, rest)
+
+-- ---- a word before a row
+
+pub bounded_both : (w : ℕ) (ws : List ℕ) → w < 2 ^ 64 → ((i : ℕ) → get_or ws i 0 < 2 ^ 64) → Bounded (w ∷ ws)
+bounded_both w ws h k = bounded (w ∷ ws) each where
+  each : (i : ℕ) → get_or (w ∷ ws) i 0 < 2 ^ 64
+  each zero = h
+  each (suc i) = k i
+
+in_first : (w : ℕ) (ws : List ℕ) (i : ℕ) → i < 64 → holds (w ∷ ws) i ≡ (bit_at w (i % 64) == 1)
+in_first w ws i h = ap (λ k. bit_at (get_or (w ∷ ws) k 0) (i % 64) == 1) (zeroth i h) where
+  zeroth : (i : ℕ) → i < 64 → i / 64 ≡ zero
+  zeroth i h = omega (arith, h)
+
+in_rest : (w : ℕ) (ws : List ℕ) (i : ℕ) → 64 ≤ i → holds (w ∷ ws) i ≡ holds ws (i - 64)
+in_rest w ws i h = ap (λ k. bit_at (get_or (w ∷ ws) k 0) (i % 64) == 1) (next i h)
+    ∙ ap (λ k. bit_at (get_or ws ((i - 64) / 64) 0) k == 1) (same i h) where
+      next : (i : ℕ) → 64 ≤ i → i / 64 ≡ suc ((i - 64) / 64)
+      next i h = omega (arith, h)
+
+      same : (i : ℕ) → 64 ≤ i → i % 64 ≡ (i - 64) % 64
+      same i h = omega (arith, h)
+
+pub inserted_first : (w : ℕ) (ws : List ℕ) (n : ℕ) → n < 64 → Inserted (w ∷ ws) (bit_or w (1 * 2 ^ (n % 64) % 2 ^ 64) ∷ ws) n
+inserted_first w ws n h =
+    subst (λ k. Inserted (w ∷ ws) (set (w ∷ ws) k (bit_or (get_or (w ∷ ws) k 0) (1 * 2 ^ (n % 64) % 2 ^ 64))) n) (zeroth n h)
+    (inserted (w ∷ ws) n (omega (arith, h))) where
+      zeroth : (n : ℕ) → n < 64 → n / 64 ≡ zero
+      zeroth n h = omega (arith, h)
+
+pub removed_first : (w : ℕ) (ws : List ℕ) (n : ℕ) → n < 64 → Removed (w ∷ ws) (bit_and w (bit_not w64 (1 * 2 ^ (n % 64) % 2 ^ 64)) ∷ ws) n
+removed_first w ws n h =
+    subst (λ k. Removed (w ∷ ws) (set (w ∷ ws) k (bit_and (get_or (w ∷ ws) k 0) (bit_not w64 (1 * 2 ^ (n % 64) % 2 ^ 64)))) n) (zeroth n h)
+    (removed (w ∷ ws) n (omega (arith, h))) where
+      zeroth : (n : ℕ) → n < 64 → n / 64 ≡ zero
+      zeroth n h = omega (arith, h)
+
+behind_first : (i n : ℕ) → 64 ≤ i → 64 ≤ n → (i - 64 == n - 64) ≡ (i == n)
+behind_first i n h k = go (cases_eq i n) where
+  go : (i ≡ n) ⊎ (i ≡ n → ⊥) → (i - 64 == n - 64) ≡ (i == n)
+  go (inl e) = eq-eqb (i - 64) (n - 64) (ap (λ x. x - 64) e) ∙ sym (eq-eqb i n e)
+  go (inr d) = different (i - 64) (n - 64) (λ e. d (omega (arith, h, k, e))) ∙ sym (different i n d)
+
+pub inserted_rest : (w : ℕ) (old new : List ℕ) (n : ℕ) → 64 ≤ n → Inserted old new (n - 64) → Inserted (w ∷ old) (w ∷ new) n
+inserted_rest w old new n k x = record { width = ap suc x.width; holds = λ i h. at i h (cases_lt i 64) } where
+  at : (i : ℕ) → i < 64 * length (w ∷ old) → (i < 64) ⊎ (64 ≤ i) → holds (w ∷ new) i ≡ (i == n || holds (w ∷ old) i)
+  at i h (inl b) = in_first w new i b ∙ sym (in_first w old i b) ∙ ap (λ c. c || holds (w ∷ old) i) (sym (different i n (λ e. omega (arith, b, k, e))))
+  at i h (inr b) = in_rest w new i b ∙ x.holds (i - 64) (omega (arith, h, b))
+      ∙ two (λ c d. c || d) (behind_first i n b k) (sym (in_rest w old i b))
+
+pub removed_rest : (w : ℕ) (old new : List ℕ) (n : ℕ) → 64 ≤ n → Removed old new (n - 64) → Removed (w ∷ old) (w ∷ new) n
+removed_rest w old new n k x = record { width = ap suc x.width; holds = λ i h. at i h (cases_lt i 64) } where
+  at : (i : ℕ) → i < 64 * length (w ∷ old) → (i < 64) ⊎ (64 ≤ i) → holds (w ∷ new) i ≡ (not (i == n) && holds (w ∷ old) i)
+  at i h (inl b) = in_first w new i b ∙ sym (in_first w old i b) ∙ ap (λ c. not c && holds (w ∷ old) i) (sym (different i n (λ e. omega (arith, b, k, e))))
+  at i h (inr b) = in_rest w new i b ∙ x.holds (i - 64) (omega (arith, h, b))
+      ∙ two (λ c d. not c && d) (behind_first i n b k) (sym (in_rest w old i b))
+
+pub joined_both : (w v : ℕ) (old other new : List ℕ) (more : Bool) → Joined old other new more
+    → Joined (w ∷ old) (v ∷ other) (bit_or w v ∷ new) (not (bit_or w v == w) || more)
+joined_both w v old other new more x = record { width = ap suc x.width; holds = λ i. at i (cases_lt i 64); same = same _ refl; more = grows _ refl } where
+  at : (i : ℕ) → (i < 64) ⊎ (64 ≤ i) → holds (bit_or w v ∷ new) i ≡ (holds (w ∷ old) i || holds (v ∷ other) i)
+  at i (inl b) = in_first (bit_or w v) new i b ∙ ap (λ c. c == 1) (bit_at_or w v (i % 64)) ∙ one_of _ _ (bit_at-lt w (i % 64)) (bit_at-lt v (i % 64))
+      ∙ two (λ c d. c || d) (sym (in_first w old i b)) (sym (in_first v other i b))
+  at i (inr b) = in_rest (bit_or w v) new i b ∙ x.holds (i - 64) ∙ two (λ c d. c || d) (sym (in_rest w old i b)) (sym (in_rest v other i b))
+
+  same : (b : Bool) → (bit_or w v == w) ≡ b → (not b || more) ≡ false → bit_or w v ∷ new ≡ w ∷ old
+  same true e f = two (λ y l. y ∷ l) (eqb-true _ _ e) (x.same f)
+  same false e f = absurd (true≢false f)
+
+  grows : (b : Bool) → (bit_or w v == w) ≡ b → (not b || more) ≡ true → rank (w ∷ old) < rank (bit_or w v ∷ new)
+  grows true e f = let first = eqb-true _ _ e in let rest = x.more f in omega (arith, first, rest)
+  grows false e f = let first = less (le_or_l w v) (eqb-false _ _ e) in let rest = least_rank _ refl in omega (arith, first, rest) where
+    least_rank : (c : Bool) → more ≡ c → rank old ≤ rank new
+    least_rank true d = let up = x.more d in omega (arith, up)
+    least_rank false d = let up = ap rank (x.same d) in omega (arith, up)

@@ -1,23 +1,26 @@
 //! A row of bits.
 
-ghost use Rattle.std.specs.Prelude.{◌≡◌, ℕ, ◌*◌, ◌<◌, ◌≤◌, Bool, true, false, length, get_or, IfOk};
+ghost use Rattle.std.specs.Prelude.{◌≡◌, ℕ, ◌*◌, ◌<◌, ◌≤◌, Bool, true, false, ◌∷◌, length, get_or, IfOk};
 ghost use Rattle.rx_bits.specs.Rows as rows;
 
 use std::alloc::{AllocError, Global};
 use std::marker::Model;
 
-/// A set of numbers below a bound.
+/// A set of numbers below a bound. One below 64 takes no memory beside the row itself.
 #[derive(Drop)]
 pub struct Row {
-    words: Vec<u64>,
+    /// The word of the numbers below 64.
+    first: u64,
+    /// The words of the others.
+    rest: Vec<u64>,
 }
 
 impl Model for Row {
-    ghost use Rattle.std.specs.Prelude.{ℕ as Word, List as ListOf};
+    ghost use Rattle.std.specs.Prelude.{ℕ as Word, List as ListOf, ◌∷◌};
 
     ghost Value = { ListOf Word };
 
-    ghost view = { λ r. r.words.items };
+    ghost view = { λ r. r.first ∷ r.rest.items };
 }
 
 impl Row {
@@ -27,18 +30,29 @@ impl Row {
         ensures empty { IfOk result (λ row. (i : ℕ) → rows.holds row i ≡ false) }
         ensures bounded { IfOk result rows.Bounded }
     {
-        let words = vec![in alloc; 0u64; bound / 64 + 1]?;
-        has_words(words.as_slice());
-        Ok(Row { words })
+        let rest = vec![in alloc; 0u64; bound / 64]?;
+        has_words(0, rest.as_slice());
+        Ok(Row { first: 0, rest })
     }
 
     /// Whether it holds a number.
     pub fn holds(&self, number: usize) -> bool
         ensures { result ≡ rows.holds self.now number }
     {
-        match self.words.get(number / 64) {
-            Some(word) => (*word >> (number % 64)) & 1 == 1,
-            None => false,
+        (self.word(number / 64) >> (number % 64)) & 1 == 1
+    }
+
+    /// The word at a place, which is 0 where there is none.
+    fn word(&self, at: usize) -> u64
+        ensures { result ≡ get_or self.now at 0 }
+    {
+        if at == 0 {
+            self.first
+        } else {
+            match self.rest.get(at - 1) {
+                Some(word) => *word,
+                None => 0,
+            }
         }
     }
 
@@ -47,8 +61,8 @@ impl Row {
         ensures inserted { rows.Inserted self.old self.new number }
         ensures bounded { rows.Bounded self.new }
     {
-        set_bit(self.words.as_mut_slice(), number);
-        has_words(self.words.as_slice());
+        set_in(&mut self.first, self.rest.as_mut_slice(), number);
+        has_words(self.first, self.rest.as_slice());
     }
 
     /// Takes a number out.
@@ -56,8 +70,8 @@ impl Row {
         ensures removed { rows.Removed self.old self.new number }
         ensures bounded { rows.Bounded self.new }
     {
-        clear_bit(self.words.as_mut_slice(), number);
-        has_words(self.words.as_slice());
+        clear_in(&mut self.first, self.rest.as_mut_slice(), number);
+        has_words(self.first, self.rest.as_slice());
     }
 
     /// Adds the numbers of another set with the same bound. Whether any of them is new.
@@ -66,8 +80,13 @@ impl Row {
         ensures joined { rows.Joined self.old other.now self.new result }
         ensures bounded { rows.Bounded self.new }
     {
-        let grown = join_words(self.words.as_mut_slice(), other.words.as_slice());
-        has_words(self.words.as_slice());
+        let grown = join_in(
+            &mut self.first,
+            self.rest.as_mut_slice(),
+            other.first,
+            other.rest.as_slice(),
+        );
+        has_words(self.first, self.rest.as_slice());
         grown
     }
 
@@ -76,16 +95,39 @@ impl Row {
         requires { length other.now ≡ length self.old }
         ensures { self.new ≡ other.now }
     {
-        self.words
+        self.first = other.first;
+        self.rest
             .as_mut_slice()
-            .copy_from_slice(other.words.as_slice());
+            .copy_from_slice(other.rest.as_slice());
     }
 }
 
 /// What words of 64 bits are below.
-fn has_words(words: &[u64])
-    ensures { rows.Bounded words.now }
+fn has_words(first: u64, rest: &[u64])
+    ensures { rows.Bounded (first ∷ rest.now) }
 {}
+
+/// Adds a number to a first word and those behind it.
+fn set_in(first: &mut u64, rest: &mut [u64], number: usize)
+    ensures { rows.Inserted (first.old ∷ rest.old) (first.new ∷ rest.new) number }
+{
+    if number < 64 {
+        *first |= 1u64 << (number % 64);
+    } else {
+        set_bit(rest, number - 64);
+    }
+}
+
+/// Takes a number out of a first word and those behind it.
+fn clear_in(first: &mut u64, rest: &mut [u64], number: usize)
+    ensures { rows.Removed (first.old ∷ rest.old) (first.new ∷ rest.new) number }
+{
+    if number < 64 {
+        *first &= !(1u64 << (number % 64));
+    } else {
+        clear_bit(rest, number - 64);
+    }
+}
 
 fn set_bit(words: &mut [u64], number: usize)
     ensures { rows.Inserted words.old words.new number }
@@ -101,6 +143,17 @@ fn clear_bit(words: &mut [u64], number: usize)
     if number / 64 < words.len() {
         words[number / 64] &= !(1u64 << (number % 64));
     }
+}
+
+/// Joins a first word and those behind it with others. Whether any of them grew.
+fn join_in(first: &mut u64, rest: &mut [u64], other: u64, others: &[u64]) -> bool
+    requires { length others.now ≡ length rest.old }
+    ensures { rows.Joined (first.old ∷ rest.old) (other ∷ others.now) (first.new ∷ rest.new) result }
+{
+    let joined = *first | other;
+    let grown = joined != *first;
+    *first = joined;
+    grown | join_words(rest, others)
 }
 
 fn join_words(into: &mut [u64], from: &[u64]) -> bool
