@@ -1,9 +1,10 @@
 -- Tables that are filled one after the other, and pairs that are listed.
-use Rattle.std.proofs.Common.{◌≡◌, ◌⊎◌, inl, inr, ℕ, suc, ◌+◌, ◌-◌, ◌<◌, ◌≤◌, Bool, true, List, ◌++◌, length, ap, sym, ◌∙◌, subst, arith}
+use Rattle.std.proofs.Common.{◌≡◌, ◌⊎◌, inl, inr, ℕ, zero, suc, ◌+◌, ◌-◌, ◌<◌, ◌≤◌, Bool, true, false, List, [], ◌∷◌, ◌++◌, length, get_or, ap, sym, ◌∙◌, subst, arith}
 use Rattle.std.proofs.lemmas.Bool.{cases_eq}
-use Rattle.std.proofs.lemmas.List.{append_assoc}
+use Rattle.std.proofs.lemmas.List.{append_assoc, length-append}
 use Rattle.rx_core.specs.declared.types.Bound.{Bound}
-use Rattle.rx_graph.specs.Tables.{at, Regular}
+use Rattle.rx_bits.specs.Rows.{holds, Bounded}
+use Rattle.rx_graph.specs.Tables.{at, Regular, Empty}
 use Rattle.rx_graph.proofs.Spreading.{regular_after}
 use Rattle.rx_closure.specs.Filling.{Added}
 use Rattle.rx_closure.specs.Listing.{pair_if, pairs_of, pairs_from}
@@ -40,6 +41,30 @@ added_so w A B P R one f g = record { regular = one.regular; exact = λ m i k j.
   back : (m i : ℕ) → (at A m i ≡ true) ⊎ R m i → (at A m i ≡ true) ⊎ P m i
   back m i (inl e) = inl e
   back m i (inr r) = inr (f m i r)
+
+-- ---- one more empty row
+
+each_row : (P : List ℕ → Type 0) (T : List (List ℕ)) (r : List ℕ) → ((p : ℕ) → p < length T → P (get_or T p [])) → P r
+    → (p : ℕ) → p < length T + 1 → P (get_or (T ++ r ∷ []) p [])
+each_row P [] r each last zero k = last
+each_row P [] r each last (suc p) k = absurd (omega (arith, k))
+each_row P (t ∷ T) r each last zero k = each zero (omega arith)
+each_row P (t ∷ T) r each last (suc p) k = each_row P T r (λ q h. each (suc q) (omega (arith, h))) last p (omega (arith, k))
+
+pub empty_more : (n w : ℕ) (T : List (List ℕ)) (r : List ℕ) → Empty n w T → length r ≡ w → Bounded r → ((i : ℕ) → holds r i ≡ false) → Empty (n + 1) w (T ++ r ∷ [])
+empty_more n w T r before width bounded none = record {
+  regular = record {
+    count = let e = length-append T (r ∷ []) in omega (arith, e, before.regular.count);
+    width = λ p k. each_row (λ s. length s ≡ w) T r (λ q h. before.regular.width q (below q h)) width p (within p k);
+    bounded = λ p k. each_row Bounded T r (λ q h. before.regular.bounded q (below q h)) bounded p (within p k);
+  };
+  nothing = λ p i k. each_row (λ s. holds s i ≡ false) T r (λ q h. before.nothing q i (below q h)) (none i) p (within p k);
+} where
+  below : (q : ℕ) → q < length T → q < n
+  below q h = omega (arith, h, before.regular.count)
+
+  within : (q : ℕ) → q < n + 1 → q < length T + 1
+  within q h = omega (arith, h, before.regular.count)
 
 -- ---- a diagonal
 

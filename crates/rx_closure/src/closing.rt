@@ -16,6 +16,7 @@ use std::alloc::{AllocError, Global};
 /// # Errors
 ///
 /// Memory runs out.
+#[tactic(auto, using(crate::proofs::Tables::empty_more))]
 pub fn empty_rows(alloc: Global, count: usize, bound: usize) -> Result<Vec<Row>, AllocError>
     ensures { IfOk result (λ t. tables.Empty count (bits.words bound) t.items) }
 {

@@ -180,7 +180,7 @@ fn note_all(pending: &mut Row, count: usize)
 fn beginnings<F: Facts>(alloc: Global, facts: &F, count: usize) -> Result<Vec<F::Item>, AllocError>
     ensures { IfOk result (λ t. work.Begun (F.rules facts.now) count t.items) }
 {
-    let mut all = Vec::new(alloc);
+    let mut all = Vec::with_capacity(alloc, count)?;
     'rows: for site in 0..count {
         let row = facts.first(alloc, site)?;
         all.push(row)?;
