@@ -6,8 +6,10 @@ use Rattle.rx_walks.specs.Actions.{Action}
 use Rattle.rx_lower.specs.Graph as graph
 use Rattle.rx_lower.specs.Graph.{site_at}
 use Rattle.rx_graph.specs.declared.effect.Effect.{Effect}
+use Rattle.rx_graph.specs.Facts.{targets}
 use Rattle.rx_emit.specs.declared.site.Site.{Site}
 use Rattle.rx_emit.specs.PlainSite.{plain-Site}
+use Rattle.rx_along.specs.Along.{edges_of}
 use Rattle.rx_along.specs.Tracking.{EachDoes}
 use Rattle.rx_along.proofs.Ways.{site_within}
 
@@ -47,3 +49,9 @@ pub all_do : (D : Effect → Action → Type 0) (all : List Effect) (sites : Lis
     → EachDoes D all (map plain-Site sites)
 all_do D all sites k past h = subst (λ (l : List Effect). EachDoes D l (map plain-Site sites)) (append-nil all)
     (h [] (subst (λ (l : List Site). EachDoes D [] (map plain-Site l)) (sym (none_left sites k past)) tt))
+
+-- where a site leads
+pub next_there : (sites : List Site) (i : ℕ) (s : Site) (next : List ℕ) → i < length sites → s ≡ get_or sites i s → next ≡ s.next → targets (edges_of (map plain-Site sites)) i ≡ next
+next_there [] i s next h e n = absurd (omega (arith, h))
+next_there (t ∷ sites) zero s next h e n = ap (λ (x : Site). x.next) (sym e) ∙ sym n
+next_there (t ∷ sites) (suc i) s next h e n = next_there sites i s next (omega (arith, h)) e n

@@ -1,10 +1,10 @@
 //! Facts along the ways through a graph of sites.
 #![tactic(auto)]
 
-mod listing;
+mod onward;
 mod tracking;
 mod turning;
 
-pub use listing::edges;
+pub use onward::Onward;
 pub use tracking::{ahead, along};
-pub use turning::turned;
+pub use turning::{Back, turned};

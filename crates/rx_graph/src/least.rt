@@ -8,7 +8,9 @@ ghost use Rattle.rx_graph.specs.Facts as facts;
 ghost use Rattle.rx_graph.specs.Tables as tables;
 
 use crate::effect::{Effect, Start};
+use crate::few::Few;
 use crate::lattice::Facts;
+use crate::leads::Leads;
 use crate::worklist::fixpoint;
 use rx_bits::Row;
 use rx_core::List;
@@ -51,13 +53,37 @@ fn put_in(row: &mut Row, facts: &[u32])
     }
 }
 
+/// Makes few facts false.
+fn take_few_out(row: &mut Row, facts: &Few<u32>)
+    ensures { tables.Changed row.old row.new (tables.without facts.now) }
+{
+    let (first, others) = facts.parts();
+    match first {
+        Some(fact) => row.remove(fact as usize),
+        None => {}
+    }
+    take_out(row, others);
+}
+
+/// Makes few facts true.
+fn put_few_in(row: &mut Row, facts: &Few<u32>)
+    ensures { tables.Changed row.old row.new (tables.with facts.now) }
+{
+    let (first, others) = facts.parts();
+    match first {
+        Some(fact) => row.insert(fact as usize),
+        None => {}
+    }
+    put_in(row, others);
+}
+
 /// What a site does to the facts.
 #[tactic(auto, using(crate::proofs::Rows::both_changes))]
 fn apply(row: &mut Row, effect: &Effect)
     ensures { tables.Changed row.old row.new (facts.behind effect.now) }
 {
-    take_out(row, effect.kills.as_slice());
-    put_in(row, effect.gives.as_slice());
+    take_few_out(row, &effect.kills);
+    put_few_in(row, &effect.gives);
 }
 
 /// Facts below a bound that sites make false and true.
@@ -76,7 +102,7 @@ impl<'t> ByEffects<'t> {
         ensures { tables.Changed row.old row.new (by_effects.beginning self.now.start.now site) }
     {
         if site == self.start.site as usize {
-            put_in(row, self.start.facts.as_slice());
+            put_few_in(row, &self.start.facts);
         }
     }
 
@@ -120,22 +146,21 @@ impl<'t> Facts for ByEffects<'t> {
 
 /// The facts that hold at each site, of those below a bound: the least table that begins with what holds at the start, and
 /// has what each site makes of the facts at it where the site leads to. So a fact holds at the start, or comes along some way
-/// from a site that makes it true, through none that makes it false. `edges` has for each site those that it leads to,
-/// `effects` what each does; `down` says that facts mostly go from later sites to earlier ones, which changes nothing but the
+/// from a site that makes it true, through none that makes it false. `effects` has for each site of the graph what it does; `down` says that facts mostly go from later sites to earlier ones, which changes nothing but the
 /// time.
 ///
 /// # Errors
 ///
 /// Memory runs out.
-pub fn holding(
+pub fn holding<G: Leads>(
     alloc: Global,
-    edges: &[List<u32>],
+    graph: &G,
     effects: &[Effect],
     start: &Start,
     bound: usize,
     down: bool,
 ) -> Result<Table, AllocError>
-    ensures { IfOk result (λ table. tables.Tells edges.now effects.now start.now bound table.rows) }
+    ensures { IfOk result (λ table. tables.Tells (G.edges graph.now) effects.now start.now bound table.rows) }
 {
     let facts = ByEffects {
         effects,
@@ -143,6 +168,6 @@ pub fn holding(
         bound,
         down,
     };
-    let rows = fixpoint(alloc, edges, &facts)?;
+    let rows = fixpoint(alloc, graph, &facts)?;
     Ok(Table { rows })
 }

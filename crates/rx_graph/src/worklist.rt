@@ -7,18 +7,19 @@ ghost use Rattle.rx_graph.specs.Equations.{Derived, Solves};
 ghost use Rattle.rx_graph.specs.Worklist as work;
 
 use crate::lattice::Facts;
+use crate::leads::Leads;
 use rx_bits::Row;
 use rx_core::List;
 use std::alloc::{AllocError, Global};
 
-/// A graph, by the sites that each site leads to, and what is asked of its sites.
+/// A graph, and what is asked of its sites.
 #[derive(Drop)]
-struct Task<'t, F: Facts> {
-    edges: &'t [List<u32>],
+struct Task<'t, F: Facts, G: Leads> {
+    graph: &'t G,
     facts: &'t F,
 }
 
-impl<'t, F: Facts> Task<'t, F> {
+impl<'t, F: Facts, G: Leads> Task<'t, F, G> {
     /// Joins a value to that of a site, where there is one. Whether it grew; then the site is noted.
     fn join_at(&self, rows: &mut [F::Item], pending: &mut Row, site: usize, row: &F::Item) -> bool
         requires fits { work.Fit (F.rules self.now.facts.now) rows.old }
@@ -38,9 +39,9 @@ impl<'t, F: Facts> Task<'t, F> {
     fn spread(&self, rows: &mut [F::Item], pending: &mut Row, sites: &[u32], row: &F::Item) -> bool
         requires row { (F.rules self.now.facts.now).Fits row.now }
         requires fits { work.Fit (F.rules self.now.facts.now) rows.old }
-        ensures passed { (q : ℕ) (a : F.Item) → targets self.now.edges.now q ≡ sites.now → Derived (F.rules self.now.facts.now) self.now.edges.now q a
-            → (F.rules self.now.facts.now).Steps q a row.now → work.Passing (F.rules self.now.facts.now) self.now.edges.now q a row.now (λ p. ⊥) rows.old pending.old
-            → work.Passing (F.rules self.now.facts.now) self.now.edges.now q a row.now (λ p. has sites.now p ≡ true) rows.new pending.new }
+        ensures passed { (q : ℕ) (a : F.Item) → targets (G.edges self.now.graph.now) q ≡ sites.now → Derived (F.rules self.now.facts.now) (G.edges self.now.graph.now) q a
+            → (F.rules self.now.facts.now).Steps q a row.now → work.Passing (F.rules self.now.facts.now) (G.edges self.now.graph.now) q a row.now (λ p. ⊥) rows.old pending.old
+            → work.Passing (F.rules self.now.facts.now) (G.edges self.now.graph.now) q a row.now (λ p. has sites.now p ≡ true) rows.new pending.new }
         ensures grown { work.Grown (F.rules self.now.facts.now).height rows.old rows.new pending.old pending.new result }
     {
         let mut grown = false;
@@ -49,16 +50,6 @@ impl<'t, F: Facts> Task<'t, F> {
             grown = grown | more;
         }
         grown
-    }
-
-    /// The sites that a site leads to.
-    fn targets(&self, site: usize) -> &[u32]
-        ensures { targets self.now.edges.now site ≡ result.now }
-    {
-        match self.edges.get(site) {
-            Some(sites) => sites.as_slice(),
-            None => &[],
-        }
     }
 
     /// Joins what a site makes of its value to where it leads. Whether anything grew.
@@ -71,13 +62,13 @@ impl<'t, F: Facts> Task<'t, F> {
     ) -> bool
         requires site { site < length rows.old }
         requires scratch { (F.rules self.now.facts.now).Fits scratch.old }
-        requires stands { work.StandsBut (F.rules self.now.facts.now) self.now.edges.now site rows.old pending.old }
-        ensures stands { work.Stands (F.rules self.now.facts.now) self.now.edges.now rows.new pending.new }
+        requires stands { work.StandsBut (F.rules self.now.facts.now) (G.edges self.now.graph.now) site rows.old pending.old }
+        ensures stands { work.Stands (F.rules self.now.facts.now) (G.edges self.now.graph.now) rows.new pending.new }
         ensures grown { work.Grown (F.rules self.now.facts.now).height rows.old rows.new pending.old pending.new result }
         ensures scratch { (F.rules self.now.facts.now).Fits scratch.new }
     {
         self.facts.step(site, &rows[site], scratch);
-        self.spread(rows, pending, self.targets(site), scratch)
+        self.spread(rows, pending, self.graph.targets(site), scratch)
     }
 
     /// Passes on the value of a site, if it is noted; then it no longer is, unless it grew. Whether anything grew.
@@ -90,8 +81,8 @@ impl<'t, F: Facts> Task<'t, F> {
     ) -> bool
         requires site { site < length rows.old }
         requires scratch { (F.rules self.now.facts.now).Fits scratch.old }
-        requires stands { work.Stands (F.rules self.now.facts.now) self.now.edges.now rows.old pending.old }
-        ensures stands { work.Stands (F.rules self.now.facts.now) self.now.edges.now rows.new pending.new }
+        requires stands { work.Stands (F.rules self.now.facts.now) (G.edges self.now.graph.now) rows.old pending.old }
+        ensures stands { work.Stands (F.rules self.now.facts.now) (G.edges self.now.graph.now) rows.new pending.new }
         ensures grown { work.Grown (F.rules self.now.facts.now).height rows.old rows.new pending.old pending.new result }
         ensures done { result ≡ false → bits.holds pending.new site ≡ false }
         ensures scratch { (F.rules self.now.facts.now).Fits scratch.new }
@@ -107,8 +98,8 @@ impl<'t, F: Facts> Task<'t, F> {
     /// Visits each site once. Whether anything grew.
     fn sweep(&self, rows: &mut [F::Item], pending: &mut Row, scratch: &mut F::Item) -> bool
         requires scratch { (F.rules self.now.facts.now).Fits scratch.old }
-        requires stands { work.Stands (F.rules self.now.facts.now) self.now.edges.now rows.old pending.old }
-        ensures stands { work.Stands (F.rules self.now.facts.now) self.now.edges.now rows.new pending.new }
+        requires stands { work.Stands (F.rules self.now.facts.now) (G.edges self.now.graph.now) rows.old pending.old }
+        ensures stands { work.Stands (F.rules self.now.facts.now) (G.edges self.now.graph.now) rows.new pending.new }
         ensures grown { work.Grown (F.rules self.now.facts.now).height rows.old rows.new pending.old pending.new result }
         ensures done { result ≡ false → work.NoneNoted (λ q. q < length rows.old) pending.new }
         ensures scratch { (F.rules self.now.facts.now).Fits scratch.new }
@@ -126,8 +117,8 @@ impl<'t, F: Facts> Task<'t, F> {
     /// Sweeps until nothing grows.
     fn close(&self, rows: &mut [F::Item], pending: &mut Row, scratch: &mut F::Item)
         requires scratch { (F.rules self.now.facts.now).Fits scratch.old }
-        requires stands { work.Stands (F.rules self.now.facts.now) self.now.edges.now rows.old pending.old }
-        ensures { Solves (F.rules self.now.facts.now) self.now.edges.now rows.new }
+        requires stands { work.Stands (F.rules self.now.facts.now) (G.edges self.now.graph.now) rows.old pending.old }
+        ensures { Solves (F.rules self.now.facts.now) (G.edges self.now.graph.now) rows.new }
     {
         let mut grown = true;
         'sweeps: while grown {
@@ -138,9 +129,9 @@ impl<'t, F: Facts> Task<'t, F> {
     /// Fills a table of what sites begin with.
     fn fill(&self, rows: &mut [F::Item], pending: &mut Row, scratch: &mut F::Item)
         requires scratch { (F.rules self.now.facts.now).Fits scratch.old }
-        requires width { length self.now.edges.now ≤ 64 * length pending.old }
-        requires begun { work.Begun (F.rules self.now.facts.now) (length self.now.edges.now) rows.old }
-        ensures { Solves (F.rules self.now.facts.now) self.now.edges.now rows.new }
+        requires width { length (G.edges self.now.graph.now) ≤ 64 * length pending.old }
+        requires begun { work.Begun (F.rules self.now.facts.now) (length (G.edges self.now.graph.now)) rows.old }
+        ensures { Solves (F.rules self.now.facts.now) (G.edges self.now.graph.now) rows.new }
     {
         note_all(pending, rows.len());
         self.close(rows, pending, scratch);
@@ -189,23 +180,23 @@ fn beginnings<F: Facts>(alloc: Global, facts: &F, count: usize) -> Result<Vec<F:
 }
 
 /// By site, the least values that meet the equations: what a site begins with is below its value, and so is what the sites
-/// that lead to it make of theirs. `edges` has for each site those that it leads to. A site passes its value on where it
-/// grew, in the order of sites, or against it.
+/// that lead to it make of theirs. A site passes its value on where it grew, in the order of sites, or against it.
 ///
 /// # Errors
 ///
 /// Memory runs out.
-pub fn fixpoint<F: Facts>(
+pub fn fixpoint<F: Facts, G: Leads>(
     alloc: Global,
-    edges: &[List<u32>],
+    graph: &G,
     facts: &F,
 ) -> Result<List<F::Item>, AllocError>
-    ensures { IfOk result (Solves (F.rules facts.now) edges.now) }
+    ensures { IfOk result (Solves (F.rules facts.now) (G.edges graph.now)) }
 {
-    let mut rows = beginnings(alloc, facts, edges.len())?;
+    let count = graph.count();
+    let mut rows = beginnings(alloc, facts, count)?;
     let mut scratch = facts.first(alloc, 0)?;
-    let mut pending = Row::new(alloc, edges.len())?;
-    let task = Task { edges, facts };
+    let mut pending = Row::new(alloc, count)?;
+    let task = Task { graph, facts };
     task.fill(rows.as_mut_slice(), &mut pending, &mut scratch);
     Ok(List::from_vec(rows))
 }

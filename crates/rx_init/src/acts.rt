@@ -14,15 +14,16 @@ ghost use Rattle.rx_init.specs.Tables.{picked, pushed_where};
 use crate::steps::{holds_in, is_behind, is_front, is_variable, same_steps};
 use rx_core::{List, Place as Kept};
 use rx_flow::{Act, Place, Root};
+use rx_graph::Few;
 use rx_parts::{Frame, Layout, Range, range};
 use std::alloc::{AllocError, Global};
 
 /// The numbers of parts.
-pub fn numbers(alloc: Global, range: Range) -> Result<List<u32>, AllocError>
+pub fn numbers(alloc: Global, range: Range) -> Result<Few<u32>, AllocError>
     requires { range.first + range.count ≤ 4294967295 }
     ensures { IfOk result (λ it. (n : ℕ) → has it n ≡ (nat_le range.first n && nat_lt n (range.first + range.count))) }
 {
-    let mut all = List::new(alloc);
+    let mut all = Few::new(alloc);
     for n in range.first..range.first + range.count {
         all.push(n as u32)?;
     }
@@ -35,7 +36,7 @@ fn parts(
     frame: &Frame<'_>,
     layout: &Layout,
     place: &Place,
-) -> Result<List<u32>, AllocError>
+) -> Result<Few<u32>, AllocError>
     requires sized { IsSized frame.now }
     requires layout { IsLayout (plain-Frame frame.now) layout.now }
     ensures { IfOk result (λ it. (n : ℕ) → has it n ≡ is_part (plain-Frame frame.now) (plain-Place place.now) n) }
@@ -49,7 +50,7 @@ fn variable_parts(
     frame: &Frame<'_>,
     layout: &Layout,
     variable: u32,
-) -> Result<List<u32>, AllocError>
+) -> Result<Few<u32>, AllocError>
     requires sized { IsSized frame.now }
     requires layout { IsLayout (plain-Frame frame.now) layout.now }
     ensures { IfOk result (λ it. (n : ℕ) → has it n ≡ is_part (plain-Frame frame.now) (own variable) n) }
@@ -67,7 +68,7 @@ pub fn sets(
     frame: &Frame<'_>,
     layout: &Layout,
     act: &Act,
-) -> Result<List<u32>, AllocError>
+) -> Result<Few<u32>, AllocError>
     requires sized { IsSized frame.now }
     requires layout { IsLayout (plain-Frame frame.now) layout.now }
     ensures { IfOk result (λ it. (n : ℕ) → has it n ≡ setting.sets (plain-Frame frame.now) n (plain-Act act.now)) }
@@ -75,11 +76,11 @@ pub fn sets(
     match act {
         Act::Write(place, _, _) => {
             if is_behind(place.steps.as_slice()) {
-                return Ok(List::new(alloc));
+                return Ok(Few::new(alloc));
             }
             parts(alloc, frame, layout, place)
         }
-        _ => Ok(List::new(alloc)),
+        _ => Ok(Few::new(alloc)),
     }
 }
 
@@ -89,7 +90,7 @@ pub fn unsets(
     frame: &Frame<'_>,
     layout: &Layout,
     act: &Act,
-) -> Result<List<u32>, AllocError>
+) -> Result<Few<u32>, AllocError>
     requires sized { IsSized frame.now }
     requires layout { IsLayout (plain-Frame frame.now) layout.now }
     ensures { IfOk result (λ it. (n : ℕ) → has it n ≡ setting.unsets (plain-Frame frame.now) n (plain-Act act.now)) }
@@ -98,7 +99,7 @@ pub fn unsets(
         Act::Declare(variable) => variable_parts(alloc, frame, layout, *variable),
         Act::Dead(variable) => variable_parts(alloc, frame, layout, *variable),
         Act::Read(true, place, _) => parts(alloc, frame, layout, place),
-        _ => Ok(List::new(alloc)),
+        _ => Ok(Few::new(alloc)),
     }
 }
 
@@ -144,18 +145,18 @@ pub fn enters(place: &Kept, act: &Act) -> bool
 }
 
 /// Adds a number where something holds.
-fn push_where(all: &mut List<u32>, holds: bool, number: u32) -> Result<(), AllocError>
+fn push_where(all: &mut Few<u32>, holds: bool, number: u32) -> Result<(), AllocError>
     ensures { OnOk result (all.new ≡ pushed_where holds all.old number) }
 {
     if holds { all.push(number) } else { Ok(()) }
 }
 
 /// The numbers of the places that an action writes, or that are in one that it writes.
-pub fn regained(alloc: Global, watched: &[Kept], act: &Act) -> Result<List<u32>, AllocError>
+pub fn regained(alloc: Global, watched: &[Kept], act: &Act) -> Result<Few<u32>, AllocError>
     requires { length watched.now ≤ 4294967295 }
     ensures { IfOk result (λ it. (i : ℕ) → has it i ≡ picked (λ q. wholes.regains q.var q.steps (plain-Act act.now)) watched.now i) }
 {
-    let mut all = List::new(alloc);
+    let mut all = Few::new(alloc);
     for k in 0..watched.len() {
         push_where(&mut all, regains(&watched[k], act), k as u32)?;
     }
@@ -163,11 +164,11 @@ pub fn regained(alloc: Global, watched: &[Kept], act: &Act) -> Result<List<u32>,
 }
 
 /// The numbers of the places that an action loses.
-pub fn lost(alloc: Global, watched: &[Kept], act: &Act) -> Result<List<u32>, AllocError>
+pub fn lost(alloc: Global, watched: &[Kept], act: &Act) -> Result<Few<u32>, AllocError>
     requires { length watched.now ≤ 4294967295 }
     ensures { IfOk result (λ it. (i : ℕ) → has it i ≡ picked (λ q. wholes.loses q.var q.steps (plain-Act act.now)) watched.now i) }
 {
-    let mut all = List::new(alloc);
+    let mut all = Few::new(alloc);
     for k in 0..watched.len() {
         push_where(&mut all, loses(&watched[k], act), k as u32)?;
     }

@@ -4,17 +4,16 @@ ghost use Rattle.std.specs.Prelude.{◌≡◌, ◌≤◌, ℕ, length, map, IfOk
 ghost use Rattle.rx_flow.specs.PlainFlow.{plain-Act, plain-Action};
 ghost use Rattle.rx_graph.specs.Facts.{has};
 ghost use Rattle.rx_emit.specs.PlainSite.{plain-Site};
-ghost use Rattle.rx_along.specs.Along.{edges_of};
 ghost use Rattle.rx_along.specs.Tracking.{EachDoes};
 ghost use Rattle.rx_parts.specs.Layouts.{plain-Frame, IsSized, IsLayout};
 ghost use Rattle.rx_init.specs.Tables as tables;
 
 use crate::acts::{assigned, begun, lost, regained, sets, unsets};
 use rx_along::along;
-use rx_core::{List, Place};
+use rx_core::Place;
 use rx_emit::Site;
 use rx_flow::{Act, Action};
-use rx_graph::{Effect, Table};
+use rx_graph::{Effect, Few, Table};
 use rx_parts::{Frame, Layout};
 use std::alloc::{AllocError, Global};
 
@@ -37,19 +36,17 @@ pub struct Setup<'t> {
 }
 
 /// The list of a number, where there is one.
-fn single(alloc: Global, number: Option<u32>) -> Result<List<u32>, AllocError>
-    ensures { IfOk result (λ it. (i : ℕ) → has it i ≡ tables.is_it number i) }
+fn single(alloc: Global, number: Option<u32>) -> Few<u32>
+    ensures { (i : ℕ) → has result i ≡ tables.is_it number i }
 {
-    let mut all = List::new(alloc);
     match number {
-        Some(number) => all.push(number)?,
-        None => (),
+        Some(number) => Few::one(alloc, number),
+        None => Few::new(alloc),
     }
-    Ok(all)
 }
 
 /// What an action makes true, of facts of a kind.
-fn gives(alloc: Global, setup: &Setup<'_>, kind: Kind, act: &Act) -> Result<List<u32>, AllocError>
+fn gives(alloc: Global, setup: &Setup<'_>, kind: Kind, act: &Act) -> Result<Few<u32>, AllocError>
     requires { tables.IsSetup setup.now }
     ensures { IfOk result (λ it. (i : ℕ) → has it i ≡ tables.given (plain-Frame setup.now.frame.now) setup.now.watched.now kind i (plain-Act act.now)) }
 {
@@ -57,12 +54,12 @@ fn gives(alloc: Global, setup: &Setup<'_>, kind: Kind, act: &Act) -> Result<List
         Kind::Unset => unsets(alloc, setup.frame, setup.layout, act),
         Kind::Set => sets(alloc, setup.frame, setup.layout, act),
         Kind::Lost => lost(alloc, setup.watched, act),
-        Kind::Assigned => single(alloc, assigned(act)),
+        Kind::Assigned => Ok(single(alloc, assigned(act))),
     }
 }
 
 /// What an action makes false, of facts of a kind.
-fn kills(alloc: Global, setup: &Setup<'_>, kind: Kind, act: &Act) -> Result<List<u32>, AllocError>
+fn kills(alloc: Global, setup: &Setup<'_>, kind: Kind, act: &Act) -> Result<Few<u32>, AllocError>
     requires { tables.IsSetup setup.now }
     ensures { IfOk result (λ it. (i : ℕ) → has it i ≡ tables.killed (plain-Frame setup.now.frame.now) setup.now.watched.now kind i (plain-Act act.now)) }
 {
@@ -70,7 +67,7 @@ fn kills(alloc: Global, setup: &Setup<'_>, kind: Kind, act: &Act) -> Result<List
         Kind::Unset => sets(alloc, setup.frame, setup.layout, act),
         Kind::Set => unsets(alloc, setup.frame, setup.layout, act),
         Kind::Lost => regained(alloc, setup.watched, act),
-        Kind::Assigned => single(alloc, begun(act)),
+        Kind::Assigned => Ok(single(alloc, begun(act))),
     }
 }
 
@@ -99,7 +96,7 @@ fn effects(
     requires { tables.IsSetup setup.now }
     ensures { IfOk result (λ es. EachDoes (tables.DoesAt (tables.switches (plain-Frame setup.now.frame.now) setup.now.watched.now kind)) es.items (map plain-Site sites.now)) }
 {
-    let mut all = Vec::new(alloc);
+    let mut all = Vec::with_capacity(alloc, sites.len())?;
     for site in sites {
         let one = effect(alloc, setup, kind, &site.action)?;
         all.push(one)?;
@@ -112,15 +109,13 @@ pub fn table(
     alloc: Global,
     setup: &Setup<'_>,
     kind: Kind,
-    edges: &[List<u32>],
     sites: &[Site],
-    start: List<u32>,
+    start: Few<u32>,
     bound: usize,
 ) -> Result<Table, AllocError>
-    requires setup { tables.IsSetup setup.now }
-    requires edges { edges.now ≡ edges_of (map plain-Site sites.now) }
+    requires { tables.IsSetup setup.now }
     ensures { IfOk result (λ t. tables.Tells (map plain-Site sites.now) (tables.switches (plain-Frame setup.now.frame.now) setup.now.watched.now kind) (has start) bound t.rows) }
 {
     let effects = effects(alloc, setup, kind, sites)?;
-    along(alloc, edges, effects.as_slice(), start, bound)
+    along(alloc, sites, effects.as_slice(), start, bound)
 }

@@ -14,11 +14,10 @@ use crate::acts::numbers;
 use crate::facts::{Kind, Setup, table};
 use crate::judging::{Facts, judge_all, some_at};
 use crate::watching::watched;
-use rx_along::edges;
 use rx_core::{List, Place as Kept};
 use rx_emit::Site;
 use rx_flow::Place;
-use rx_graph::Table;
+use rx_graph::{Few, Table};
 use rx_parts::{Frame, Layout, Range, layout, range};
 use std::alloc::{AllocError, Global};
 
@@ -64,7 +63,7 @@ impl InitTable {
 }
 
 /// The numbers below a bound.
-fn all_below(alloc: Global, bound: u64) -> Result<List<u32>, AllocError>
+fn all_below(alloc: Global, bound: u64) -> Result<Few<u32>, AllocError>
     requires { bound ≤ 4294967295 }
     ensures { IfOk result (λ it. (n : ℕ) → n < bound → has it n ≡ true) }
 {
@@ -87,30 +86,19 @@ fn facts(
     requires { tables.IsSetup setup.now }
     ensures { IfOk result (λ t. IsFacts setup.now (map plain-Site sites.now) variables t) }
 {
-    let edges = edges(alloc, sites)?;
-    let edges = edges.as_slice();
     let parts = setup.layout.total as usize;
     let places = setup.watched.len();
     let all_parts = all_below(alloc, setup.layout.total)?;
-    let unset = table(alloc, setup, Kind::Unset, edges, sites, all_parts, parts)?;
-    let set = table(
-        alloc,
-        setup,
-        Kind::Set,
-        edges,
-        sites,
-        List::new(alloc),
-        parts,
-    )?;
+    let unset = table(alloc, setup, Kind::Unset, sites, all_parts, parts)?;
+    let set = table(alloc, setup, Kind::Set, sites, Few::new(alloc), parts)?;
     let all_places = all_below(alloc, places as u64)?;
-    let lost = table(alloc, setup, Kind::Lost, edges, sites, all_places, places)?;
+    let lost = table(alloc, setup, Kind::Lost, sites, all_places, places)?;
     let assigned = table(
         alloc,
         setup,
         Kind::Assigned,
-        edges,
         sites,
-        List::new(alloc),
+        Few::new(alloc),
         variables,
     )?;
     Ok(Facts {

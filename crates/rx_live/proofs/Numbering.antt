@@ -1,5 +1,5 @@
 -- Roots get numbers.
-use Rattle.std.proofs.Common.{◌≡◌, ◌⊎◌, inl, inr, ℕ, zero, suc, ◌+◌, ◌<◌, ◌≤◌, Bool, true, false, ◌&&◌, ◌||◌, ◌==◌, List, [], ◌∷◌, ◌++◌, map, length, drop, get_or, Option, Some, None, MatchBool, MatchOption, Result, Ok, Err, OnOk, slice_get, refl, ap, sym, ◌∙◌, subst, arith, true≢false}
+use Rattle.std.proofs.Common.{◌≡◌, ◌⊎◌, inl, inr, ℕ, zero, suc, ◌+◌, ◌<◌, ◌≤◌, Bool, true, false, ◌&&◌, ◌||◌, ◌==◌, List, [], ◌∷◌, ◌++◌, map, length, drop, get_or, Option, Some, None, MatchBool, MatchOption, option_to_list, Result, Ok, Err, OnOk, slice_get, refl, ap, sym, ◌∙◌, subst, arith, true≢false}
 use Rattle.std.proofs.lemmas.List.{drop_more, get_or_past}
 use Rattle.std.proofs.lemmas.Option.{slice_get_within, slice_get_past}
 use Rattle.std.proofs.lemmas.Bool.{cases_eq, cases_lt}
@@ -180,6 +180,19 @@ is_among (q ∷ rs) r h = by (one_of (same_root (plain-Root r) (plain-Root q)) (
 
 pub used_numbered : (W rs : List Root) (a : Act) → map plain-Root rs ≡ used a → HasNumbers W rs → HasUsed W a
 used_numbered W rs a e h r u = h r (is_among rs r (ap (λ l. has_root l (plain-Root r)) e ∙ u))
+
+pub on_both : {P Q R : Type 0} (r : Result (Unit {0}) AllocError) → (P → Q → R) → OnOk r P → OnOk r Q → OnOk r R
+on_both (Ok u) f h k = f h k
+on_both (Err e) f h k = tt
+
+-- those of the first, where there is one, and of others
+pub numbered_then : (V W : List Root) (first : Option Root) (rs all : List Root) → option_to_list first ++ rs ≡ all → KeepsRoots V W → HasNumbers V (option_to_list first)
+    → HasNumbers W rs → HasNumbers W all
+numbered_then V W first rs all is keeps one others = subst (HasNumbers W) is (λ r m. by first one r m) where
+  by : (o : Option Root) → HasNumbers V (option_to_list o) → (r : Root) → Among r (option_to_list o ++ rs) → HasNumber W r
+  by None h r m = others r m
+  by (Some q) h r here = keeps r (h r here)
+  by (Some q) h r (there m) = others r m
 
 pub has_used : (V W : List Root) (a : Act) → KeepsRoots V W → HasUsed V a → HasUsed W a
 has_used V W a keeps h r u = keeps r (h r u)

@@ -1,6 +1,6 @@
 //! Numbers of variables and temporaries.
 
-ghost use Rattle.std.specs.Prelude.{◌≡◌, ◌<◌, ◌≤◌, ◌∷◌, ◌++◌, [], ℕ, List as ListOf, length, map, true, IfOk, OnOk, MatchBool, MatchOption, slice_get, Some, Bool};
+ghost use Rattle.std.specs.Prelude.{◌≡◌, ◌<◌, ◌≤◌, ◌∷◌, ◌++◌, [], ℕ, List as ListOf, length, map, true, IfOk, OnOk, MatchBool, MatchOption, slice_get, Some, Bool, option_to_list};
 ghost use Rattle.rx_graph.specs.Facts.{has, targets};
 ghost use Rattle.rx_flow.specs.PlainFlow.{plain-Root, plain-Act};
 ghost use Rattle.rx_along.specs.Turning.{Joined};
@@ -130,7 +130,22 @@ impl Index {
         ensures kept { OnOk result (tables.HasUsed self.new.roots (plain-Act act.now)) }
     {
         let roots = used(alloc, act)?;
-        self.add_all(alloc, roots.as_slice())
+        let (first, others) = roots.parts();
+        self.add_some(alloc, first)?;
+        self.add_all(alloc, others)
+    }
+
+    /// Numbers a root, where there is one.
+    fn add_some(&mut self, alloc: Global, root: Option<Root>) -> Result<(), AllocError>
+        requires { tables.IsIndex self.old }
+        ensures index { OnOk result (tables.IsIndex self.new) }
+        ensures keeps { OnOk result (tables.KeepsRoots self.old.roots self.new.roots) }
+        ensures kept { OnOk result (tables.HasNumbers self.new.roots (option_to_list root)) }
+    {
+        match root {
+            Some(root) => self.add(alloc, root),
+            None => Ok(()),
+        }
     }
 
     /// Numbers roots.

@@ -1,6 +1,6 @@
 //! Tables of liveness.
 
-ghost use Rattle.std.specs.Prelude.{◌≡◌, ◌↔◌, ◌<◌, ◌≤◌, ◌==◌, ℕ, List as ListOf, length, map, true, false, ◌++◌, OnOk, IfOk, option_map, slice_get};
+ghost use Rattle.std.specs.Prelude.{◌≡◌, ◌↔◌, ◌<◌, ◌≤◌, ◌==◌, ℕ, List as ListOf, length, map, true, false, ◌++◌, OnOk, IfOk, option_map, option_to_list, slice_get};
 ghost use Rattle.rx_graph.specs.Facts as facts;
 ghost use Rattle.rx_graph.specs.Tables.{at};
 ghost use Rattle.rx_lower.specs.Graph as graphs;
@@ -9,16 +9,15 @@ ghost use Rattle.rx_flow.specs.PlainFlow.{plain-Act, plain-Action, plain-Root};
 ghost use Rattle.rx_flow.specs.declared.actions.Root.{Root as RootOf};
 ghost use Rattle.rx_live.specs.Live as spec;
 ghost use Rattle.rx_live.specs.Tables as tables;
-ghost use Rattle.rx_live.specs.Effects.{Numbers, DoesAt, listed};
+ghost use Rattle.rx_live.specs.Effects.{Numbers, Adds, DoesAt, listed};
 ghost use Rattle.rx_along.specs.Tracking.{EachDoes};
 
 use crate::index::Index;
 use crate::uses::{used, written};
-use rx_along::{ahead, edges};
-use rx_core::List;
+use rx_along::ahead;
 use rx_emit::Site;
 use rx_flow::{Action, Root};
-use rx_graph::{Effect, Table};
+use rx_graph::{Effect, Few, Table};
 use std::alloc::{AllocError, Global};
 
 /// Which variables and temporaries are live at each site.
@@ -29,22 +28,11 @@ pub struct LiveTable {
     ahead: Table,
 }
 
-fn has(numbers: &[u32], number: u32) -> bool
-    ensures { result ≡ facts.has numbers.now number }
-{
-    for one in numbers {
-        if number == *one {
-            return true;
-        }
-    }
-    false
-}
-
 /// Whether a fact holds behind what a site does, where it does or doesn't at it.
 fn behind(effect: &Effect, number: u32, before: bool) -> bool
     ensures { result ≡ facts.behind effect.now number before }
 {
-    has(effect.gives.as_slice(), number) || (!has(effect.kills.as_slice(), number) && before)
+    effect.gives.has(number) || (!effect.kills.has(number) && before)
 }
 
 impl LiveTable {
@@ -90,7 +78,7 @@ impl LiveTable {
 }
 
 /// Adds a number, where there is one.
-fn push_some(all: &mut List<u32>, number: Option<u32>) -> Result<(), AllocError>
+fn push_some(all: &mut Few<u32>, number: Option<u32>) -> Result<(), AllocError>
     ensures { OnOk result (all.new ≡ all.old ++ listed number) }
 {
     match number {
@@ -99,27 +87,40 @@ fn push_some(all: &mut List<u32>, number: Option<u32>) -> Result<(), AllocError>
     }
 }
 
-/// The numbers of roots that have one.
-fn numbers(alloc: Global, index: &Index, roots: &[Root]) -> Result<List<u32>, AllocError>
+/// Adds the numbers of roots that have one.
+fn push_numbers(all: &mut Few<u32>, index: &Index, roots: &[Root]) -> Result<(), AllocError>
     requires { tables.IsIndex index.now }
-    ensures { IfOk result (λ it. Numbers index.now.roots (map plain-Root roots.now) it) }
+    ensures { OnOk result (Adds index.now.roots (map plain-Root roots.now) all.old all.new) }
 {
-    let mut all = List::new(alloc);
     for root in roots {
-        push_some(&mut all, index.find(*root))?;
+        push_some(all, index.find(*root))?;
     }
-    Ok(all)
+    Ok(())
 }
 
 /// The number of a root, where there is one.
-fn number(alloc: Global, index: &Index, root: Option<Root>) -> Result<List<u32>, AllocError>
+fn number(alloc: Global, index: &Index, root: Option<Root>) -> Few<u32>
     requires { tables.IsIndex index.now }
-    ensures { IfOk result (λ it. Numbers index.now.roots (spec.roots_of (option_map plain-Root root)) it) }
+    ensures { Numbers index.now.roots (map plain-Root (option_to_list root)) result }
 {
     match root {
-        Some(root) => numbers(alloc, index, &[root]),
-        None => Ok(List::new(alloc)),
+        Some(root) => match index.find(root) {
+            Some(number) => Few::one(alloc, number),
+            None => Few::new(alloc),
+        },
+        None => Few::new(alloc),
     }
+}
+
+/// The numbers of roots that have one.
+fn numbers(alloc: Global, index: &Index, roots: &Few<Root>) -> Result<Few<u32>, AllocError>
+    requires { tables.IsIndex index.now }
+    ensures { IfOk result (λ it. Numbers index.now.roots (map plain-Root roots.now) it) }
+{
+    let (first, others) = roots.parts();
+    let mut all = number(alloc, index, first);
+    push_numbers(&mut all, index, others)?;
+    Ok(all)
 }
 
 /// What an action does to facts by these numbers.
@@ -128,8 +129,8 @@ fn effect(alloc: Global, index: &Index, action: &Action) -> Result<Effect, Alloc
     ensures { IfOk result (λ e. DoesAt index.now.roots e (plain-Action action.now)) }
 {
     let roots = used(alloc, &action.act)?;
-    let gives = numbers(alloc, index, roots.as_slice())?;
-    let kills = number(alloc, index, written(&action.act))?;
+    let gives = numbers(alloc, index, &roots)?;
+    let kills = number(alloc, index, written(&action.act));
     Ok(Effect { kills, gives })
 }
 
@@ -137,7 +138,7 @@ fn effects(alloc: Global, index: &Index, sites: &[Site]) -> Result<Vec<Effect>, 
     requires { tables.IsIndex index.now }
     ensures { IfOk result (λ es. EachDoes (DoesAt index.now.roots) es.items (map plain-Site sites.now)) }
 {
-    let mut all = Vec::new(alloc);
+    let mut all = Vec::with_capacity(alloc, sites.len())?;
     for site in sites {
         let one = effect(alloc, index, &site.action)?;
         all.push(one)?;
@@ -157,13 +158,7 @@ pub fn live(alloc: Global, sites: &[Site]) -> Result<LiveTable, AllocError>
 {
     let index = Index::of(alloc, sites)?;
     let effects = effects(alloc, &index, sites)?;
-    let edges = edges(alloc, sites)?;
-    let ahead = ahead(
-        alloc,
-        edges.as_slice(),
-        effects.as_slice(),
-        index.roots.len(),
-    )?;
+    let ahead = ahead(alloc, sites, effects.as_slice(), index.roots.len())?;
     Ok(LiveTable {
         index,
         effects,

@@ -5,8 +5,8 @@ ghost use Rattle.rx_flow.specs.PlainFlow.{plain-Act, plain-Root, plain-Temporary
 ghost use Rattle.rx_typed.specs.Tree as tree;
 ghost use Rattle.rx_live.specs.Live as spec;
 
-use rx_core::List;
 use rx_flow::{Act, Place, Root, Temporary};
+use rx_graph::Few;
 use std::alloc::{AllocError, Global};
 
 pub fn same_root(a: Root, b: Root) -> bool
@@ -24,18 +24,10 @@ pub fn same_root(a: Root, b: Root) -> bool
     }
 }
 
-fn single(alloc: Global, root: Root) -> Result<List<Root>, AllocError>
-    ensures { IfOk result (λ it. map plain-Root it ≡ plain-Root root ∷ []) }
-{
-    let mut all = List::new(alloc);
-    all.push(root)?;
-    Ok(all)
-}
-
-fn temporaries(alloc: Global, operands: &[Temporary]) -> Result<List<Root>, AllocError>
+fn temporaries(alloc: Global, operands: &[Temporary]) -> Result<Few<Root>, AllocError>
     ensures { IfOk result (λ it. map plain-Root it ≡ map tree.temporary (map plain-Temporary operands.now)) }
 {
-    let mut all = List::new(alloc);
+    let mut all = Few::new(alloc);
     for operand in operands {
         all.push(Root::Temporary(*operand))?;
     }
@@ -43,10 +35,10 @@ fn temporaries(alloc: Global, operands: &[Temporary]) -> Result<List<Root>, Allo
 }
 
 /// What a write uses: its operand, and the place's root where it does not write the whole.
-fn written_roots(alloc: Global, place: &Place, from: Temporary) -> Result<List<Root>, AllocError>
+fn written_roots(alloc: Global, place: &Place, from: Temporary) -> Result<Few<Root>, AllocError>
     ensures { IfOk result (λ it. map plain-Root it ≡ tree.temporary (plain-Temporary from) ∷ spec.entered (plain-Root place.now.root) place.now.steps) }
 {
-    let mut all = single(alloc, Root::Temporary(from))?;
+    let mut all = Few::one(alloc, Root::Temporary(from));
     if !place.steps.is_empty() {
         all.push(place.root)?;
     }
@@ -54,19 +46,19 @@ fn written_roots(alloc: Global, place: &Place, from: Temporary) -> Result<List<R
 }
 
 /// What an action uses.
-pub fn used(alloc: Global, act: &Act) -> Result<List<Root>, AllocError>
+pub fn used(alloc: Global, act: &Act) -> Result<Few<Root>, AllocError>
     ensures { IfOk result (λ it. map plain-Root it ≡ spec.used (plain-Act act.now)) }
 {
     match act {
-        Act::Declare(_) | Act::Dead(_) | Act::Input(_) => Ok(List::new(alloc)),
-        Act::Read(_, place, _) => single(alloc, place.root),
-        Act::Borrow(_, place, _) => single(alloc, place.root),
-        Act::Test(place, _) => single(alloc, place.root),
+        Act::Declare(_) | Act::Dead(_) | Act::Input(_) => Ok(Few::new(alloc)),
+        Act::Read(_, place, _) => Ok(Few::one(alloc, place.root)),
+        Act::Borrow(_, place, _) => Ok(Few::one(alloc, place.root)),
+        Act::Test(place, _) => Ok(Few::one(alloc, place.root)),
         Act::Write(place, from, _) => written_roots(alloc, place, *from),
         Act::Call(_, operands, _) => temporaries(alloc, operands.as_slice()),
         Act::Build(_, _, operands, _) => temporaries(alloc, operands.as_slice()),
-        Act::Print(from) => single(alloc, Root::Temporary(*from)),
-        Act::Give(from) => single(alloc, Root::Temporary(*from)),
+        Act::Print(from) => Ok(Few::one(alloc, Root::Temporary(*from))),
+        Act::Give(from) => Ok(Few::one(alloc, Root::Temporary(*from))),
     }
 }
 

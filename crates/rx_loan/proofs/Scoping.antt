@@ -1,5 +1,5 @@
 -- Where a loan is in scope, by rows of bits.
-use Rattle.std.proofs.Common.{◌≡◌, ◌⊎◌, inl, inr, ◌↔◌, ℕ, zero, suc, ◌+◌, ◌*◌, ◌<◌, ◌≤◌, Bool, true, false, ◌&&◌, ◌||◌, ◌==◌, List, [], ◌∷◌, ◌++◌, length, get_or, slice_get, Option, Some, None, refl, ap, sym, ◌∙◌, subst, arith, true≢false}
+use Rattle.std.proofs.Common.{◌≡◌, ◌⊎◌, inl, inr, ◌↔◌, ℕ, zero, suc, ◌+◌, ◌*◌, ◌<◌, ◌≤◌, Bool, true, false, ◌&&◌, ◌||◌, ◌==◌, List, [], ◌∷◌, ◌++◌, map, length, get_or, slice_get, Option, Some, None, refl, ap, sym, ◌∙◌, subst, arith, true≢false}
 use Rattle.std.proofs.lemmas.Bool.{cases_eq, eq-eqb}
 use Rattle.std.proofs.lemmas.List.{length-append, length-map, get_or_append_left}
 use Rattle.std.proofs.lemmas.Nat.Bits.{bit_at-zero}
@@ -12,6 +12,8 @@ use Rattle.rx_lower.specs.Graph.{Site, site_at}
 use Rattle.rx_along.specs.Along.{edges_of}
 use Rattle.rx_reach.specs.Reached.{Reached, next, further}
 use Rattle.rx_reach.proofs.Seeing.{leads_within}
+use Rattle.rx_loan.specs.declared.accesses.Loan as code
+use Rattle.rx_loan.specs.PlainOf.{plain-Loan}
 use Rattle.rx_loan.specs.Accesses.{Loan}
 use Rattle.rx_loan.specs.Loans.{ends_at, InScope}
 use Rattle.rx_loan.specs.Tables.{Stops, Marks, Scopes, AllScoped}
@@ -133,6 +135,11 @@ same_loan ls k l m h i = ap (λ (o : Option Loan). some_of o) (sym h ∙ i) wher
   some_of : Option Loan → Loan
   some_of None = l
   some_of (Some y) = y
+
+pub loan_there : (ls : List code.Loan) (k : ℕ) (l : code.Loan) → k < length ls → l ≡ get_or ls k l → slice_get (map plain-Loan ls) k ≡ Some (plain-Loan l)
+loan_there [] k l h e = absurd (omega (arith, h))
+loan_there (m ∷ ls) zero l h e = ap (λ x. Some (plain-Loan x)) (sym e)
+loan_there (m ∷ ls) (suc k) l h e = loan_there ls k l (omega (arith, h)) e
 
 pub scoped_next : (g : List Site) (R : ℕ → ℕ → Bool) (ls : List Loan) (rows : List (List ℕ)) (k : ℕ) (l : Loan) (row : List ℕ) → slice_get ls k ≡ Some l
     → Scopes g R l row → AllScoped g R ls rows k → AllScoped g R ls (rows ++ row ∷ []) (k + 1)

@@ -8,7 +8,6 @@ ghost use Rattle.rx_flow.specs.PlainFlow.{plain-Place};
 ghost use Rattle.rx_emit.specs.PlainSite.{plain-Site};
 ghost use Rattle.rx_lifetimes.specs.Numbered as numbered;
 ghost use Rattle.rx_lifetimes.specs.PlainOwn.{plain-Own};
-ghost use Rattle.rx_along.specs.Along.{edges_of};
 ghost use Rattle.rx_loan.specs.Accesses as accesses;
 ghost use Rattle.rx_loan.specs.Loans as spec;
 ghost use Rattle.rx_loan.specs.PlainOf.{plain-Loan};
@@ -16,7 +15,7 @@ ghost use Rattle.rx_loan.specs.Tables as tables;
 
 use crate::accesses::Loan;
 use crate::borrows::{all_loans, ends};
-use rx_along::edges;
+use rx_along::Onward;
 use rx_bits::Row;
 use rx_core::List;
 use rx_emit::Site;
@@ -75,20 +74,13 @@ fn stops(alloc: Global, sites: &[Site], place: &Place) -> Result<Row, AllocError
 }
 
 /// The sites at which a loan is in scope.
-fn scope(
-    alloc: Global,
-    edges: &[List<u32>],
-    sites: &[Site],
-    regions: &[Row],
-    loan: &Loan,
-) -> Result<Row, AllocError>
-    requires { edges.now ≡ edges_of (map plain-Site sites.now) }
+fn scope(alloc: Global, sites: &[Site], regions: &[Row], loan: &Loan) -> Result<Row, AllocError>
     ensures { IfOk result (λ it. tables.Scopes (map plain-Site sites.now) (at regions.now) (plain-Loan loan.now) it) }
 {
     let stops = stops(alloc, sites, &loan.place)?;
     match regions.get(loan.region as usize) {
         Some(inside) => {
-            let row = reached(alloc, edges, inside, &stops, loan.site as usize)?;
+            let row = reached(alloc, &Onward { sites }, inside, &stops, loan.site as usize)?;
             Ok(row)
         }
         None => {
@@ -101,17 +93,15 @@ fn scope(
 /// The sites at which each of these loans is in scope.
 fn scopes(
     alloc: Global,
-    edges: &[List<u32>],
     sites: &[Site],
     regions: &[Row],
     loans: &[Loan],
 ) -> Result<Vec<Row>, AllocError>
-    requires { edges.now ≡ edges_of (map plain-Site sites.now) }
     ensures { IfOk result (λ it. tables.AllScoped (map plain-Site sites.now) (at regions.now) (map plain-Loan loans.now) it.items (length loans.now)) }
 {
     let mut rows = Vec::new(alloc);
     'loans: for k in 0..loans.len() {
-        let row = scope(alloc, edges, sites, regions, &loans[k])?;
+        let row = scope(alloc, sites, regions, &loans[k])?;
         rows.push(row)?;
     }
     Ok(rows)
@@ -134,7 +124,6 @@ pub fn loans(
     ensures { IfOk result (λ t. tables.IsTable (map plain-Site sites.now) (map plain-Own owned.now) (at regions.now) t) }
 {
     let list = all_loans(alloc, sites, owned)?;
-    let edges = edges(alloc, sites)?;
-    let rows = scopes(alloc, edges.as_slice(), sites, regions, list.as_slice())?;
+    let rows = scopes(alloc, sites, regions, list.as_slice())?;
     Ok(LoanTable { list, rows })
 }

@@ -8,24 +8,25 @@ ghost use Rattle.rx_reach.specs.Walking as walking;
 
 use rx_bits::Row;
 use rx_core::List;
+use rx_graph::Leads;
 use std::alloc::{AllocError, Global};
 
-/// A graph, by the sites that each site leads to; the set that ways stay inside, and the sites that stop them.
+/// A graph, the set that ways stay inside, and the sites that stop them.
 #[derive(Drop)]
-struct Search<'t> {
-    edges: &'t [List<u32>],
+struct Search<'t, G: Leads> {
+    graph: &'t G,
     inside: &'t Row,
     stops: &'t Row,
 }
 
-impl<'t> Search<'t> {
+impl<'t, G: Leads> Search<'t, G> {
     /// Sees a site, where it is inside and was not seen.
     fn see(&self, site: u32, seen: &mut Row, ahead: &mut List<u32>) -> Result<(), AllocError>
-        requires { length self.now.edges.now ≤ 64 * length seen.old }
-        ensures { OnOk result (walking.Added (length self.now.edges.now) (has_bit self.now.inside.now) (site ∷ []) seen.old ahead.old seen.new ahead.new) }
+        requires { length (G.edges self.now.graph.now) ≤ 64 * length seen.old }
+        ensures { OnOk result (walking.Added (length (G.edges self.now.graph.now)) (has_bit self.now.inside.now) (site ∷ []) seen.old ahead.old seen.new ahead.new) }
     {
         let at = site as usize;
-        if at < self.edges.len() && self.inside.holds(at) && !seen.holds(at) {
+        if at < self.graph.count() && self.inside.holds(at) && !seen.holds(at) {
             ahead.push(site)?;
             seen.insert(at);
         }
@@ -39,8 +40,8 @@ impl<'t> Search<'t> {
         seen: &mut Row,
         ahead: &mut List<u32>,
     ) -> Result<(), AllocError>
-        requires { length self.now.edges.now ≤ 64 * length seen.old }
-        ensures { OnOk result (walking.Added (length self.now.edges.now) (has_bit self.now.inside.now) sites.now seen.old ahead.old seen.new ahead.new) }
+        requires { length (G.edges self.now.graph.now) ≤ 64 * length seen.old }
+        ensures { OnOk result (walking.Added (length (G.edges self.now.graph.now)) (has_bit self.now.inside.now) sites.now seen.old ahead.old seen.new ahead.new) }
     {
         'sites: for k in 0..sites.len() {
             self.see(sites[k], seen, ahead)?;
@@ -48,33 +49,23 @@ impl<'t> Search<'t> {
         Ok(())
     }
 
-    /// The sites that a site leads to.
-    fn targets(&self, site: usize) -> &[u32]
-        ensures { facts.targets self.now.edges.now site ≡ result.now }
-    {
-        match self.edges.get(site) {
-            Some(sites) => sites.as_slice(),
-            None => &[],
-        }
-    }
-
     /// Goes on from a site, unless it stops a way.
     fn go_on(&self, site: usize, seen: &mut Row, ahead: &mut List<u32>) -> Result<(), AllocError>
-        requires { length self.now.edges.now ≤ 64 * length seen.old }
-        ensures { OnOk result (walking.Added (length self.now.edges.now) (has_bit self.now.inside.now) (walking.onward self.now.edges.now (has_bit self.now.stops.now) site) seen.old ahead.old seen.new ahead.new) }
+        requires { length (G.edges self.now.graph.now) ≤ 64 * length seen.old }
+        ensures { OnOk result (walking.Added (length (G.edges self.now.graph.now)) (has_bit self.now.inside.now) (walking.onward (G.edges self.now.graph.now) (has_bit self.now.stops.now) site) seen.old ahead.old seen.new ahead.new) }
     {
         if self.stops.holds(site) {
             Ok(())
         } else {
-            self.see_all(self.targets(site), seen, ahead)
+            self.see_all(self.graph.targets(site), seen, ahead)
         }
     }
 
     /// Goes on from each site that is seen.
     fn go_far(&self, seen: &mut Row, ahead: &mut List<u32>) -> Result<(), AllocError>
-        requires { length self.now.edges.now ≤ 64 * length seen.old }
-        ensures { OnOk result ((first : ℕ) → walking.Stands self.now.edges.now (has_bit self.now.inside.now) (has_bit self.now.stops.now) first seen.old ahead.old
-            → walking.Stands self.now.edges.now (has_bit self.now.inside.now) (has_bit self.now.stops.now) first seen.new []) }
+        requires { length (G.edges self.now.graph.now) ≤ 64 * length seen.old }
+        ensures { OnOk result ((first : ℕ) → walking.Stands (G.edges self.now.graph.now) (has_bit self.now.inside.now) (has_bit self.now.stops.now) first seen.old ahead.old
+            → walking.Stands (G.edges self.now.graph.now) (has_bit self.now.inside.now) (has_bit self.now.stops.now) first seen.new []) }
     {
         'sites: while let Some(site) = ahead.pop() {
             self.go_on(site as usize, seen, ahead)?;
@@ -83,29 +74,29 @@ impl<'t> Search<'t> {
     }
 }
 
-/// The sites that are reached from a site, by ways that stay inside a set and go on from no site that stops them. `edges` has
-/// for each site those that it leads to. What is seen is a row of as many sites; time is near the edges of the sites reached.
+/// The sites that are reached from a site, by ways that stay inside a set and go on from no site that stops them.
+/// What is seen is a row of as many sites; time is near the edges of the sites reached.
 ///
 /// # Errors
 ///
 /// Memory runs out.
-pub fn reached(
+pub fn reached<G: Leads>(
     alloc: Global,
-    edges: &[List<u32>],
+    graph: &G,
     inside: &Row,
     stops: &Row,
     first: usize,
 ) -> Result<Row, AllocError>
-    ensures { IfOk result (λ it. (p : ℕ) → p < length edges.now → (has_bit it p ≡ true) ↔ Reached edges.now (has_bit inside.now) (has_bit stops.now) first p) }
+    ensures { IfOk result (λ it. (p : ℕ) → p < length (G.edges graph.now) → (has_bit it p ≡ true) ↔ Reached (G.edges graph.now) (has_bit inside.now) (has_bit stops.now) first p) }
 {
     let search = Search {
-        edges,
+        graph,
         inside,
         stops,
     };
-    let mut seen = Row::new(alloc, edges.len())?;
+    let mut seen = Row::new(alloc, graph.count())?;
     let mut ahead = List::new(alloc);
-    search.see_all(search.targets(first), &mut seen, &mut ahead)?;
+    search.see_all(graph.targets(first), &mut seen, &mut ahead)?;
     search.go_far(&mut seen, &mut ahead)?;
     Ok(seen)
 }

@@ -2,4 +2,4 @@ use Rattle.rx_along.proofs.Turns.{TurnedTo}
 use Rattle.rx_along.proofs.turning.turned.Given as goal
 
 abbrev pub invariant-loop-p : goal.invariant-loop-p
-invariant-loop-p l = TurnedTo l.edges l.back.items l.p
+invariant-loop-p g l = TurnedTo (g.G.Leads.edges l.graph) l.back.items l.p

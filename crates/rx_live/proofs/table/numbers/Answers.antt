@@ -1,9 +1,5 @@
-use Rattle.rx_live.proofs.Effecting.{listed_more, listed_done}
+use Rattle.rx_live.proofs.Effecting.{numbers_then}
 use Rattle.rx_live.proofs.table.numbers.Goals as goal
 
-pub loop-root-preserved : goal.loop-root-preserved
-loop-root-preserved c = listed_more c.args.index.now.roots c.requires.once c.args.roots.now c.loop-root.all c.push_some.new.all c.loop-root.root-index _ c.find.result
-    c.loop-root-test.true c.find.ensures c.in_ok-push_some.ensures c.loop-root.invariant
-
 pub returns : goal.returns
-returns c = listed_done c.args.index.now.roots c.requires.once c.args.roots.now c.loop-root.all c.loop-root.root-index c.loop-root-test.false c.loop-root.invariant
+returns c = numbers_then c.args.index.now.roots _ _ c.args.roots.now c.number-all.result c.push_numbers.new.all c.parts-first.ensures c.number-all.ensures c.in_ok-push_numbers.ensures

@@ -8,6 +8,6 @@ step-requires-clause-from g c = c.requires.stands.sound.fits c.args.site (get_or
     (slice_get-get_or c.args.rows.now c.args.site c.index-rows-site.result c.requires.site)
 
 pub returns-clause-stands : goal.returns-clause-stands
-returns-clause-stands g c = passed_on (g.F.Facts.rules c.args.self.now.facts.now) (g.met.F.Facts.lawful c.args.self.now.facts.now) c.args.self.now.edges.now c.args.site
+returns-clause-stands g c = passed_on (g.F.Facts.rules c.args.self.now.facts.now) (g.met.F.Facts.lawful c.args.self.now.facts.now) (g.G.Leads.edges c.args.self.now.graph.now) c.args.site
     c.index-rows-site.result c.step.new.into c.args.rows.now c.spread.new.rows c.args.pending.now c.spread.new.pending c.targets.result.now c.requires.site c.requires.stands
     c.step.ensures.steps c.targets.ensures c.spread.ensures.passed

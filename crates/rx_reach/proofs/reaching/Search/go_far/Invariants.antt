@@ -4,9 +4,9 @@ use Rattle.rx_reach.specs.Walking.{Stands, unseen}
 use Rattle.rx_reach.proofs.reaching.Search.go_far.Given as goal
 
 abbrev pub invariant-sites : goal.invariant-sites
-invariant-sites l = ((first : ℕ) → Stands l.self.edges.now (holds l.self.inside.now) (holds l.self.stops.now) first l.fn.seen l.fn.ahead
-    → Stands l.self.edges.now (holds l.self.inside.now) (holds l.self.stops.now) first l.seen l.ahead)
-    × (length l.self.edges.now ≤ 64 * length l.seen)
+invariant-sites g l = ((first : ℕ) → Stands (g.G.Leads.edges l.self.graph.now) (holds l.self.inside.now) (holds l.self.stops.now) first l.fn.seen l.fn.ahead
+    → Stands (g.G.Leads.edges l.self.graph.now) (holds l.self.inside.now) (holds l.self.stops.now) first l.seen l.ahead)
+    × (length (g.G.Leads.edges l.self.graph.now) ≤ 64 * length l.seen)
 
 abbrev pub decreases-sites : goal.decreases-sites
-decreases-sites l = length l.ahead + unseen (length l.self.edges.now) l.seen
+decreases-sites g l = length l.ahead + unseen (length (g.G.Leads.edges l.self.graph.now)) l.seen
