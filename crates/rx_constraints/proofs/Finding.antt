@@ -1,5 +1,6 @@
 -- Where variables and temporaries stand, and the parts of what is made.
-use Rattle.std.proofs.Common.{◌≡◌, ℕ, zero, suc, ◌+◌, ◌-◌, ◌<◌, ◌≤◌, Bool, true, false, if◌then◌else◌, List, [], ◌∷◌, map, drop, take, length, slice_get, get_or, Option, Some, None, refl, ap, ◌∙◌, arith}
+use Rattle.std.proofs.Common.{◌≡◌, ℕ, zero, suc, ◌+◌, ◌-◌, ◌<◌, ◌≤◌, ◌==◌, ◌&&◌, Bool, true, false, if◌then◌else◌, List, [], ◌∷◌, map, drop, take, length, slice_get, get_or, Option, Some, None, refl, ap, ◌∙◌, arith}
+use Rattle.std.proofs.lemmas.Bool.Decides.{Decides-eqb}
 use Rattle.rx_core.specs.declared.types.Ty.{Ty}
 use Rattle.rx_typed.specs.declared.declarations.Decl.{Decl}
 use Rattle.rx_typed.specs.declared.declarations.FieldDecl.{FieldDecl}
@@ -14,6 +15,18 @@ use Rattle.rx_place_types.specs.Renaming.{renamed, all_renamed, argument, of_lis
 use Rattle.rx_lifetimes.specs.Values.{same, type_found}
 use Rattle.rx_region.specs.Constraints.{temporary_type, made_parts, instances}
 use Rattle.rx_constraints.specs.Steps.{place_among, declared_parts, arguments_for, regions_in}
+
+-- those before a place, of which none has its node
+pub skipped : (ts : List code.Temporary) (t : code.Temporary) (k : ℕ) → k ≤ length ts → ((i : ℕ) (s : code.Temporary) → i < k → slice_get ts i ≡ Some s → s.node ≡ t.node → ⊥)
+    → k + place_among (map plain-Temporary (drop k ts)) (plain-Temporary t) ≡ place_among (map plain-Temporary ts) (plain-Temporary t)
+skipped ts t zero within none = omega arith
+skipped [] t (suc k) within none = absurd (omega (arith, within))
+skipped (s ∷ ts) t (suc k) within none = go (s.node == t.node) refl (skipped ts t k (omega (arith, within)) (λ i r less. none (suc i) r (omega (arith, less))))
+  where
+    go : (b : Bool) → (s.node == t.node) ≡ b → k + place_among (map plain-Temporary (drop k ts)) (plain-Temporary t) ≡ place_among (map plain-Temporary ts) (plain-Temporary t)
+        → suc k + place_among (map plain-Temporary (drop k ts)) (plain-Temporary t) ≡ (if b && (s.which == t.which) then 0 else suc (place_among (map plain-Temporary ts) (plain-Temporary t)))
+    go true e rest = absurd (none zero s (omega arith) refl ((Decides-eqb s.node t.node).0 e))
+    go false e rest = omega (arith, rest)
 
 pub length_types : (ts : List Ty) → length (map region-Ty ts) ≡ length ts
 length_types [] = refl

@@ -1,9 +1,10 @@
 //! What pairs are told by, and the types of variables, temporaries and places.
 
-ghost use Rattle.std.specs.Prelude.{◌≡◌, ◌+◌, ◌++◌, map, drop, slice_get, IfOk, OnOk};
+ghost use Rattle.std.specs.Prelude.{◌≡◌, ◌≤◌, ◌<◌, ◌+◌, ◌++◌, ℕ, map, drop, length, slice_get, Some, IfOk, OnOk};
 ghost use Rattle.std.specs.Option.{option_copied};
 ghost use Rattle.rx_typed.specs.Regions.{region-Ty};
 ghost use Rattle.rx_typed.specs.Tree.{temporary as temporary_root, variable as variable_root};
+ghost use Rattle.rx_flow.specs.declared.actions.Temporary.{Temporary as TemporaryOf};
 ghost use Rattle.rx_flow.specs.PlainFlow.{plain-Root, plain-Temporary};
 ghost use Rattle.rx_place_types.specs.Renaming.{unit_region};
 ghost use Rattle.rx_lifetimes.specs.Answer.{plain-Lifetimes};
@@ -14,7 +15,7 @@ ghost use Rattle.rx_constraints.specs.Steps as steps_of;
 
 use rx_core::{Bound, List, Step, Ty};
 use rx_flow::{Root, Temporary};
-use rx_lifetimes::Lifetimes;
+use rx_lifetimes::{Lifetimes, Noted};
 use rx_outlives::{Implied, add_subtypes};
 use rx_place_types::place_type;
 use rx_typed::Decls;
@@ -46,10 +47,23 @@ fn unit(alloc: Global) -> Ty
 }
 
 /// Where a temporary stands among these; behind all where it is none of them.
-fn find(temporaries: &[Temporary], temporary: Temporary) -> usize
+fn find(temporaries: &Noted<Temporary>, temporary: Temporary) -> usize
     ensures { result ≡ steps_of.place_among (map plain-Temporary temporaries.now) (plain-Temporary temporary) }
 {
-    for i in 0..temporaries.len() {
+    find_from(
+        temporaries.as_slice(),
+        temporaries.start(temporary.node),
+        temporary,
+    )
+}
+
+/// Where a temporary stands among these, where none before the first place has its node.
+fn find_from(temporaries: &[Temporary], first: usize, temporary: Temporary) -> usize
+    requires within { first ≤ length temporaries.now }
+    requires before { (i : ℕ) (one : TemporaryOf) → i < first → slice_get temporaries.now i ≡ Some one → one.node ≡ temporary.node → ⊥ }
+    ensures { result ≡ steps_of.place_among (map plain-Temporary temporaries.now) (plain-Temporary temporary) }
+{
+    for i in first..temporaries.len() {
         if temporaries[i].node == temporary.node && temporaries[i].which == temporary.which {
             return i;
         }
@@ -97,7 +111,7 @@ fn behind(types: &[Ty], first: usize, place: usize) -> Option<&Ty>
 fn temporary_type(lifetimes: &Lifetimes, temporary: Temporary) -> Option<&Ty>
     ensures { type_found (option_copied result) ≡ spec.root_type (plain-Lifetimes lifetimes.now) (temporary_root (plain-Temporary temporary)) }
 {
-    let place = find(lifetimes.temporaries.as_slice(), temporary);
+    let place = find(&lifetimes.temporaries, temporary);
     behind(lifetimes.types.as_slice(), variables(lifetimes), place)
 }
 

@@ -22,7 +22,7 @@ use Rattle.rx_lifetimes.specs.Values.{Open, held_by}
 use Rattle.rx_lifetimes.specs.Positions.{in_variables, in_held, all_own, positions}
 use Rattle.rx_lifetimes.specs.Numbered.{all_open, all_numbered}
 use Rattle.rx_lifetimes.specs.Held.{held_acts, Notes, all_noted}
-use Rattle.rx_lifetimes.specs.Lowered.{Function, known, actions, temporaries, lifetimes, lifetimes_by}
+use Rattle.rx_lifetimes.specs.Lowered.{Function, known, actions, temporaries, lifetimes_by}
 use Rattle.rx_lifetimes.specs.Answer.{plain-Lifetimes, IsLowered, Answers, Refuses, Walked}
 use Rattle.rx_lifetimes.proofs.Gathered.{flow_notes}
 

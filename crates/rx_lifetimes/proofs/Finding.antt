@@ -1,5 +1,5 @@
 -- Where temporaries and variables stand.
-use Rattle.std.proofs.Common.{append_assoc, drop, ◌==◌, ◌++◌, Result, Ok, Err, OnOk, ◌≡◌, ℕ, zero, suc, ◌+◌, ◌<◌, ◌≤◌, List, [], ◌∷◌, map, length, slice_get, get_or, Option, Some, None, Bool, true, false, if◌then◌else◌, refl, sym, ap, ◌∙◌, arith}
+use Rattle.std.proofs.Common.{append_assoc, drop, ◌==◌, ◌++◌, Result, Ok, Err, OnOk, ◌≡◌, ℕ, zero, suc, ◌+◌, ◌<◌, ◌≤◌, List, [], ◌∷◌, map, length, slice_get, get_or, Option, Some, None, Bool, true, false, ◌&&◌, if◌then◌else◌, refl, sym, ap, ◌∙◌, arith}
 use Rattle.rx_typed.specs.Regions.{RegionTyp, region-Ty}
 use Rattle.rx_core.specs.declared.types.Ty.{Ty}
 use Rattle.std.proofs.lemmas.List.{at_drop_all, at_drop_more}
@@ -50,6 +50,18 @@ pub variable_there : (vs : List Open) (x : ℕ) → (get_or (map plain-Open vs) 
 variable_there [] x = refl
 variable_there (v ∷ vs) zero = refl
 variable_there (v ∷ vs) (suc x) = variable_there vs x
+
+-- those before a place, of which none has its node
+pub skipped : (hs : List Held) (t : code.Temporary) (k : ℕ) → k ≤ length hs → ((i : ℕ) (h : Held) → i < k → slice_get hs i ≡ Some h → h.temporary.node ≡ t.node → ⊥)
+    → k + place_of (map plain-Held (drop k hs)) (plain-Temporary t) ≡ place_of (map plain-Held hs) (plain-Temporary t)
+skipped hs t zero within none = omega arith
+skipped [] t (suc k) within none = absurd (omega (arith, within))
+skipped (h ∷ hs) t (suc k) within none = go (h.temporary.node == t.node) refl (skipped hs t k (omega (arith, within)) (λ i g less. none (suc i) g (omega (arith, less))))
+  where
+    go : (b : Bool) → (h.temporary.node == t.node) ≡ b → k + place_of (map plain-Held (drop k hs)) (plain-Temporary t) ≡ place_of (map plain-Held hs) (plain-Temporary t)
+        → suc k + place_of (map plain-Held (drop k hs)) (plain-Temporary t) ≡ (if b && (h.temporary.which == t.which) then 0 else suc (place_of (map plain-Held hs) (plain-Temporary t)))
+    go true e rest = absurd (none zero h (omega arith) refl ((Decides-eqb h.temporary.node t.node).0 e))
+    go false e rest = omega (arith, rest)
 
 -- it is filled exactly where it stands among those that are
 pub held_before : (hs : List values.Held) (t : Temporary) → place_of hs t < length hs → is_held hs t ≡ true

@@ -17,7 +17,7 @@ use Rattle.rx_emit.proofs.Agrees.{sum_like}
 use Rattle.rx_place_types.specs.Numbers.{capped}
 use Rattle.rx_lifetimes.specs.Values.{Known, Held, value_type, hold, held_by}
 use Rattle.rx_lifetimes.specs.Positions.{own_lifetimes, all_own}
-use Rattle.rx_lifetimes.specs.Held.{held_acts, held_items, noted, all_noted}
+use Rattle.rx_lifetimes.specs.Held.{held_acts, held_items, all_noted}
 
 -- ---- without the ends of variables
 

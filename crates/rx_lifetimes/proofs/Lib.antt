@@ -1,3 +1,4 @@
+pub mod Starting
 pub mod Finding
 pub mod Noting
 pub mod Leading

@@ -1,3 +1,4 @@
+pub mod Starting
 pub mod Values
 pub mod Finding
 pub mod Positions

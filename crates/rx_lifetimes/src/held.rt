@@ -1,15 +1,17 @@
 //! Variables and temporaries with their types.
 
-ghost use Rattle.std.specs.Prelude.{◌≡◌, map, get_or, IfOk};
+ghost use Rattle.std.specs.Prelude.{◌≡◌, ◌≤◌, ◌<◌, ℕ, map, length, get_or, slice_get, Some, IfOk};
 ghost use Rattle.std.specs.Option.{option_copied};
 ghost use Rattle.rx_typed.specs.Regions.{region-Ty};
 ghost use Rattle.rx_flow.specs.PlainFlow.{plain-Temporary, plain-Place};
 ghost use Rattle.rx_place_types.specs.Renaming.{unit_region};
 ghost use Rattle.rx_place_types.specs.Places.{place_type as place_type_of};
+ghost use Rattle.rx_lifetimes.specs.declared.held.Held.{Held as HeldOf};
 ghost use Rattle.rx_lifetimes.specs.Values as values;
 ghost use Rattle.rx_lifetimes.specs.Finding.{place_of};
 ghost use Rattle.rx_lifetimes.specs.PlainOf.{plain-Open, plain-Held, known};
 
+use crate::noted::{HasNode, Noted};
 use rx_core::{LetGo, List, Step, Ty};
 use rx_flow::{Place, Root, Temporary};
 use rx_place_types::place_type;
@@ -30,6 +32,22 @@ pub struct Held {
     pub ty: Ty,
 }
 
+impl HasNode for Held {
+    ghost node_of = { λ h. h.temporary.node };
+
+    fn node(&self) -> usize {
+        self.temporary.node
+    }
+}
+
+impl HasNode for Temporary {
+    ghost node_of = { λ t. t.node };
+
+    fn node(&self) -> usize {
+        self.node
+    }
+}
+
 impl LetGo for Open {
     fn let_go(self) {
         self.ty.let_go();
@@ -43,10 +61,19 @@ impl LetGo for Held {
 }
 
 /// Where a temporary stands among those that are filled: behind all where it is none of them.
-pub fn find(held: &[Held], temporary: Temporary) -> usize
+pub fn find(held: &Noted<Held>, temporary: Temporary) -> usize
     ensures { result ≡ place_of (map plain-Held held.now) (plain-Temporary temporary) }
 {
-    for i in 0..held.len() {
+    find_from(held.as_slice(), held.start(temporary.node), temporary)
+}
+
+/// Where a temporary stands among those that are filled, where none before the first place has its node.
+fn find_from(held: &[Held], first: usize, temporary: Temporary) -> usize
+    requires within { first ≤ length held.now }
+    requires before { (i : ℕ) (one : HeldOf) → i < first → slice_get held.now i ≡ Some one → one.temporary.node ≡ temporary.node → ⊥ }
+    ensures { result ≡ place_of (map plain-Held held.now) (plain-Temporary temporary) }
+{
+    for i in first..held.len() {
         if held[i].temporary.node == temporary.node && held[i].temporary.which == temporary.which {
             return i;
         }
@@ -62,10 +89,11 @@ pub fn unit(alloc: Global) -> Ty
 }
 
 /// The type of a temporary that is filled.
-fn held_at(held: &[Held], temporary: Temporary) -> Option<&Ty>
+fn held_at(held: &Noted<Held>, temporary: Temporary) -> Option<&Ty>
     ensures { values.type_found (option_copied result) ≡ values.held_type (map plain-Held held.now) (plain-Temporary temporary) }
 {
     let at = find(held, temporary);
+    let held = held.as_slice();
     if at < held.len() {
         Some(&held[at].ty)
     } else {
@@ -77,7 +105,7 @@ fn held_at(held: &[Held], temporary: Temporary) -> Option<&Ty>
 pub fn from_temporary(
     alloc: Global,
     decls: &Decls,
-    held: &[Held],
+    held: &Noted<Held>,
     temporary: Temporary,
     steps: &[Step],
 ) -> Result<Ty, AllocError>
@@ -110,7 +138,7 @@ pub fn type_in(
     alloc: Global,
     decls: &Decls,
     variables: &[Open],
-    held: &[Held],
+    held: &Noted<Held>,
     place: &Place,
 ) -> Result<Ty, AllocError>
     ensures { IfOk result (λ it. region-Ty it ≡ values.type_in (known decls.now.items variables.now) (map plain-Held held.now) (plain-Place place.now)) }

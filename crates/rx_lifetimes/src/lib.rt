@@ -5,6 +5,7 @@
 mod gather;
 mod held;
 mod laws;
+mod noted;
 mod notes;
 mod numbering;
 mod onward;
@@ -15,6 +16,7 @@ mod whole;
 
 pub use held::{Held, Open};
 pub use laws::filled_temporaries_have_types;
+pub use noted::{HasNode, Noted};
 pub use numbering::Own;
 pub use variables::Told;
 pub use whole::{Graph, Lifetimes, LowerFault, lower_function};

@@ -8,8 +8,8 @@ ghost use Rattle.rx_lifetimes.specs.Held as acts;
 ghost use Rattle.rx_lifetimes.specs.PlainOf.{plain-Held, plain-Notes, known};
 
 use crate::held::{Held, Open, find};
+use crate::noted::Noted;
 use crate::values::{filled, own_lifetimes, value_type};
-use rx_core::List;
 use rx_flow::{Act, Action};
 use rx_typed::Decls;
 use std::alloc::{AllocError, Global};
@@ -18,7 +18,7 @@ use std::alloc::{AllocError, Global};
 /// of their own, 2^64 - 1 where there are more.
 #[derive(Drop)]
 pub struct Notes {
-    pub held: List<Held>,
+    pub held: Noted<Held>,
     pub own: u64,
 }
 
@@ -28,16 +28,16 @@ fn hold(
     decls: &Decls,
     variables: &[Open],
     act: &Act,
-    held: &mut List<Held>,
+    held: &mut Noted<Held>,
 ) -> Result<(), AllocError>
     ensures { OnOk result (map plain-Held held.new ≡ values.hold (map plain-Held held.old) (actions.filled (plain-Act act.now)) (values.value_type (known decls.now.items variables.now) (map plain-Held held.old) (plain-Act act.now))) }
 {
     match filled(act) {
         Some(temporary) => {
-            if find(held.as_slice(), temporary) < held.len() {
+            if find(held, temporary) < held.len() {
                 return Ok(());
             }
-            let ty = value_type(alloc, decls, variables, held.as_slice(), act)?;
+            let ty = value_type(alloc, decls, variables, held, act)?;
             held.push(Held { temporary, ty })
         }
         None => Ok(()),

@@ -11,6 +11,7 @@ ghost use Rattle.rx_lifetimes.specs.Positions as positions;
 ghost use Rattle.rx_lifetimes.specs.PlainOf.{plain-Held, known};
 
 use crate::held::{Held, Open, from_temporary, type_in, unit};
+use crate::noted::Noted;
 use rx_core::{Kind, List, Ty, keep, pushed};
 use rx_flow::{Act, Made, Place, Temporary};
 use rx_place_types::{place_type, reference};
@@ -82,7 +83,7 @@ fn compares(op: BinaryOp) -> bool
 fn held_type(
     alloc: Global,
     decls: &Decls,
-    held: &[Held],
+    held: &Noted<Held>,
     temporary: Temporary,
 ) -> Result<Ty, AllocError>
     ensures { IfOk result (λ it. region-Ty it ≡ values.held_type (map plain-Held held.now) (plain-Temporary temporary)) }
@@ -95,7 +96,7 @@ fn held_type(
 fn operand_types(
     alloc: Global,
     decls: &Decls,
-    held: &[Held],
+    held: &Noted<Held>,
     operands: &[Temporary],
 ) -> Result<List<Ty>, AllocError>
     ensures { IfOk result (λ it. map region-Ty it ≡ map (values.held_type (map plain-Held held.now)) (map plain-Temporary operands.now)) }
@@ -112,7 +113,7 @@ fn operand_types(
 fn first_type(
     alloc: Global,
     decls: &Decls,
-    held: &[Held],
+    held: &Noted<Held>,
     operands: &[Temporary],
 ) -> Result<Ty, AllocError>
     ensures { IfOk result (λ it. region-Ty it ≡ values.first (map (values.held_type (map plain-Held held.now)) (map plain-Temporary operands.now))) }
@@ -128,7 +129,7 @@ fn first_type(
 fn operation_type(
     alloc: Global,
     decls: &Decls,
-    held: &[Held],
+    held: &Noted<Held>,
     op: BinaryOp,
     operands: &[Temporary],
 ) -> Result<Ty, AllocError>
@@ -145,7 +146,7 @@ fn operation_type(
 fn making_type(
     alloc: Global,
     decls: &Decls,
-    held: &[Held],
+    held: &Noted<Held>,
     making: Making,
     operands: &[Temporary],
 ) -> Result<Ty, AllocError>
@@ -166,7 +167,7 @@ fn making_type(
 fn made_type(
     alloc: Global,
     decls: &Decls,
-    held: &[Held],
+    held: &Noted<Held>,
     made: Made,
     operands: &[Temporary],
 ) -> Result<Ty, AllocError>
@@ -196,7 +197,7 @@ fn borrow_type(
     alloc: Global,
     decls: &Decls,
     variables: &[Open],
-    held: &[Held],
+    held: &Noted<Held>,
     mutable: bool,
     place: &Place,
 ) -> Result<Ty, AllocError>
@@ -212,7 +213,7 @@ pub fn value_type(
     alloc: Global,
     decls: &Decls,
     variables: &[Open],
-    held: &[Held],
+    held: &Noted<Held>,
     act: &Act,
 ) -> Result<Ty, AllocError>
     ensures { IfOk result (λ it. region-Ty it ≡ values.value_type (known decls.now.items variables.now) (map plain-Held held.now) (plain-Act act.now)) }

@@ -20,6 +20,7 @@ ghost use Rattle.rx_lifetimes.specs.PlainOf.{plain-Open, plain-Held, plain-Notes
 
 use crate::gather::gather;
 use crate::held::{Held, Open};
+use crate::noted::Noted;
 use crate::notes::Notes;
 use crate::numbering::{Own, all_owned, push_temporaries, push_variables};
 use crate::positions::{count_held, count_variables};
@@ -41,7 +42,7 @@ pub struct Lifetimes {
     pub types: List<Ty>,
     /// Those that sites fill, in the order of the first site that fills each. One that is used and never filled is the unit, or
     /// what a parameter begins with.
-    pub temporaries: List<Temporary>,
+    pub temporaries: Noted<Temporary>,
     /// What each site has of its own.
     pub owned: List<Own>,
     /// The variables of the parameters.
@@ -122,10 +123,10 @@ fn param_variables(alloc: Global, params: &[Param]) -> Result<List<u32>, AllocEr
     Ok(all)
 }
 
-fn temporaries_of(alloc: Global, held: &[Held]) -> Result<List<Temporary>, AllocError>
+fn temporaries_of(alloc: Global, held: &[Held]) -> Result<Noted<Temporary>, AllocError>
     ensures { IfOk result (λ it. map plain-Temporary it ≡ map (λ h. h.temporary) (map plain-Held held.now)) }
 {
-    let mut all = List::new(alloc);
+    let mut all = Noted::new(alloc);
     for one in held {
         all.push(one.temporary)?;
     }
@@ -137,7 +138,7 @@ fn noted(alloc: Global, decls: &Decls, variables: &[Open], flow: &Flow) -> Resul
     ensures { IfOk result (λ it. plain-Notes it ≡ acts.all_noted (known decls.now.items variables.now) (record { held = []; own = 0 }) (acts.held_acts (plain-Flow flow.now))) }
 {
     let mut notes = Notes {
-        held: List::new(alloc),
+        held: Noted::new(alloc),
         own: 0,
     };
     let mut broken = List::new(alloc);

@@ -1,3 +1,4 @@
+use Rattle.std.proofs.Common.{refl}
 use Rattle.std.specs.Option.{option_copied}
 use Rattle.rx_flow.specs.PlainFlow.{plain-Temporary}
 use Rattle.rx_lifetimes.specs.Values.{type_found}
@@ -5,5 +6,5 @@ use Rattle.rx_constraints.proofs.Finding.{temporary_at}
 use Rattle.rx_constraints.proofs.given.temporary_type.Goals as goal
 
 pub returns : goal.returns
-returns c = temporary_at c.args.lifetimes.now.types c.as_slice-2.result.now c.args.lifetimes.now.temporaries c.as_slice.result.now (plain-Temporary c.args.temporary)
-    c.variables.result c.find-place.result (type_found (option_copied c.behind.result)) c.behind.ensures c.as_slice-2.ensures c.find-place.ensures c.as_slice.ensures c.variables.ensures
+returns c = temporary_at c.args.lifetimes.now.types c.as_slice.result.now c.args.lifetimes.now.temporaries c.args.lifetimes.now.temporaries (plain-Temporary c.args.temporary)
+    c.variables.result c.find-place.result (type_found (option_copied c.behind.result)) c.behind.ensures c.as_slice.ensures c.find-place.ensures refl c.variables.ensures

@@ -1,8 +1,7 @@
-use Rattle.std.proofs.Common.{map, ap, ◌∙◌}
+use Rattle.std.proofs.Common.{map}
 use Rattle.rx_walks.specs.Actions as actions
 use Rattle.rx_flow.specs.PlainFlow.{plain-Temporary, plain-Act}
 use Rattle.rx_lifetimes.specs.Values.{value_type}
-use Rattle.rx_lifetimes.specs.Finding.{place_of}
 use Rattle.rx_lifetimes.specs.PlainOf.{plain-Held, known}
 use Rattle.rx_lifetimes.proofs.Finding.{held_stays, held_grows, on_weaker}
 use Rattle.rx_lifetimes.proofs.notes.hold.Goals as goal
@@ -10,13 +9,13 @@ use Rattle.rx_lifetimes.proofs.notes.hold.Goals as goal
 pub returns-then-find-len : goal.returns-then-find-len
 returns-then-find-len c =
     held_stays c.args.held.now (actions.filled (plain-Act c.args.act.now)) (plain-Temporary c.in-Some.temporary) _ c.find.result c.len.result c.in-Some.ensures
-    (c.find.ensures ∙ ap (λ l. place_of (map plain-Held l) (plain-Temporary c.in-Some.temporary)) c.as_slice.ensures) c.if-find-len.true c.len.ensures
+    c.find.ensures c.if-find-len.true c.len.ensures
 
 pub returns-in_ok-ty-in-Some : goal.returns-in_ok-ty-in-Some
 returns-in_ok-ty-in-Some c =
     on_weaker c.push.result
     (held_grows c.args.held.now c.push.new.self (actions.filled (plain-Act c.args.act.now)) c.in-Some.temporary c.in_ok-ty-in-Some.ty
     (value_type (known c.args.decls.now.items c.args.variables.now) (map plain-Held c.args.held.now) (plain-Act c.args.act.now)) c.find.result c.len.result c.in-Some.ensures
-    (c.find.ensures ∙ ap (λ l. place_of (map plain-Held l) (plain-Temporary c.in-Some.temporary)) c.as_slice.ensures) c.if-find-len.false c.len.ensures
-    (c.in_ok-ty-in-Some.ensures ∙ ap (λ l. value_type (known c.args.decls.now.items c.args.variables.now) (map plain-Held l) (plain-Act c.args.act.now)) c.as_slice-in-Some.ensures))
+    c.find.ensures c.if-find-len.false c.len.ensures
+    c.in_ok-ty-in-Some.ensures)
     c.push.ensures.ok
