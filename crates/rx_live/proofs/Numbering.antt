@@ -146,6 +146,28 @@ all_passed W ns r i past before k h = by (before k h)
     by (inl e) = absurd (true≢false (sym (ap (λ l. has l k) (sym (none_left ns i past)) ∙ e)))
     by (inr e) = e
 
+-- among the first number, where there is one, and others
+pub among_others : (W : List Root) (r : Root) (first : Option ℕ) (others all : List ℕ) (n : Option ℕ) → option_to_list first ++ others ≡ all
+    → ((k : ℕ) → has (option_to_list first) k ≡ true → IsNot W k r)
+    → MatchOption n ((k : ℕ) → has others k ≡ true → IsNot W k r) (λ k. slice_get W k ≡ Some r)
+    → MatchOption n ((k : ℕ) → has all k ≡ true → IsNot W k r) (λ k. slice_get W k ≡ Some r)
+among_others W r first others all (Some n) is none found = found
+among_others W r first others all None is none found = λ k h. by first none k (ap (λ l. has l k) is ∙ h)
+  where
+    by : (o : Option ℕ) → ((k : ℕ) → has (option_to_list o) k ≡ true → IsNot W k r) → (k : ℕ) → has (option_to_list o ++ others) k ≡ true → IsNot W k r
+    by None f k g = found k g
+    by (Some m) f k g = elim (one_of (k == m) (has others k) g) [
+      | inl x ↦ f k (ap (λ b. b || false) x)
+      | inr x ↦ found k x
+    ]
+
+pub not_first : (W : List Root) (r : Root) (n k : ℕ) → IsNot W n r → has (n ∷ []) k ≡ true → IsNot W k r
+not_first W r n k is h = by (one_of (k == n) false h)
+  where
+    by : (k == n ≡ true) ⊎ (false ≡ true) → IsNot W k r
+    by (inl x) = subst (λ m. IsNot W m r) (sym ((Decides-eqb k n).0 x)) is
+    by (inr x) = absurd (true≢false (sym x))
+
 -- roots that were passed have numbers
 abbrev pub Given : List Root → List Root → ℕ → Type 0
 Given W rs i = (r : Root) → Among r rs → Among r (drop i rs) ⊎ HasNumber W r

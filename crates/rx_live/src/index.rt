@@ -11,13 +11,14 @@ use crate::uses::{same_root, used};
 use rx_core::List;
 use rx_emit::Site;
 use rx_flow::{Act, Root};
+use rx_graph::Few;
 use std::alloc::{AllocError, Global};
 
 /// Variables and temporaries by numbers; of each number of a variable or of a node, the numbers of those that have it.
 #[derive(Drop)]
 pub struct Index {
     pub roots: List<Root>,
-    buckets: Vec<List<u32>>,
+    buckets: Vec<Few<u32>>,
 }
 
 /// A variable's number, a temporary's node.
@@ -52,19 +53,36 @@ fn among(roots: &[Root], numbers: &[u32], root: Root) -> Option<u32>
     None
 }
 
+/// The first of few numbers that is this root's.
+fn among_few(roots: &[Root], numbers: &Few<u32>, root: Root) -> Option<u32>
+    ensures { MatchOption result ((k : ℕ) → has numbers.now k ≡ true → tables.IsNot roots.now k root) (λ k. slice_get roots.now k ≡ Some root) }
+{
+    let (first, others) = numbers.parts();
+    match first {
+        Some(number) => {
+            if is_at(roots, number, root) {
+                Some(number)
+            } else {
+                among(roots, others, root)
+            }
+        }
+        None => among(roots, others, root),
+    }
+}
+
 /// Makes so many lists, where there are fewer.
-fn grow(alloc: Global, lists: &mut Vec<List<u32>>, key: usize) -> Result<(), AllocError>
+fn grow(alloc: Global, lists: &mut Vec<Few<u32>>, key: usize) -> Result<(), AllocError>
     ensures within { OnOk result (key < length lists.new.items) }
     ensures same { OnOk result ((q : ℕ) → targets lists.new.items q ≡ targets lists.old.items q) }
 {
     'grow: while lists.len() <= key {
-        lists.push(List::new(alloc))?;
+        lists.push(Few::new(alloc))?;
     }
     Ok(())
 }
 
 /// Adds a number to the list at a place.
-fn add_at(lists: &mut [List<u32>], at: usize, number: u32) -> Result<(), AllocError>
+fn add_at(lists: &mut [Few<u32>], at: usize, number: u32) -> Result<(), AllocError>
     requires { at < length lists.old }
     ensures { OnOk result (Joined lists.old lists.new (at ∷ []) number) }
 {
@@ -88,7 +106,7 @@ impl Index {
         ensures { MatchOption result ((k : ℕ) → tables.IsNot self.now.roots k root) (λ k. slice_get self.now.roots k ≡ Some root) }
     {
         match self.buckets.get(key(root)) {
-            Some(numbers) => among(self.roots.as_slice(), numbers.as_slice(), root),
+            Some(numbers) => among_few(self.roots.as_slice(), numbers, root),
             None => None,
         }
     }
