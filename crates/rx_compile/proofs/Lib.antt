@@ -21,3 +21,4 @@ pub mod Forms
 pub mod Arms
 pub mod Statements
 pub mod Outsets
+pub mod Signatures

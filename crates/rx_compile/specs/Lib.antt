@@ -3,4 +3,5 @@ pub mod Right
 pub mod Settings
 pub mod Parts
 pub mod Unwinding
+pub mod Signatures
 pub mod Whole

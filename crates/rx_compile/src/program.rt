@@ -1,9 +1,14 @@
 //! The code of a program: of those of its functions that are of numbers and truth values, and call no others.
 
-ghost use Rattle.std.specs.Prelude.{IfOk};
+ghost use Rattle.std.specs.Prelude.{◌≡◌, ℕ, [], map, IfOk, IsTrue, IsFalse};
+ghost use Rattle.std.specs.Prelude.{Some as SomeOf, None as NoneOf};
+ghost use Rattle.rx_typed.specs.PlainTypes.{plain-Ty};
 ghost use Rattle.rx_meaning.specs.Expressions.{Functions};
-ghost use Rattle.rx_code.specs.Points.{IsCode};
-ghost use Rattle.rx_compile.specs.Whole.{functions_of};
+ghost use Rattle.rx_code.specs.declared.code.Signature.{Signature as SignatureOf};
+ghost use Rattle.rx_code.specs.Points.{IsCode, signature_of};
+ghost use Rattle.rx_compile.specs.Signatures as plain;
+ghost use Rattle.rx_compile.specs.Signatures.{signature_for};
+ghost use Rattle.rx_compile.specs.Whole.{functions_of, Fewer, HasCode};
 
 use crate::items::{all_functions, function, tree_at};
 use crate::scope::Refusal;
@@ -20,7 +25,9 @@ fn fits(
     signatures: &[Option<Signature>],
     at: usize,
     code: &mut Vec<Instruction>,
-) -> Result<bool, AllocError> {
+) -> Result<bool, AllocError>
+    ensures { IfOk result (λ b. IsTrue b → HasCode (functions_of functions.entry.now) signatures.now code.old.items at) }
+{
     if at >= signatures.len() {
         return Ok(false);
     }
@@ -44,7 +51,11 @@ fn sift_item(
     signatures: &mut Vec<Option<Signature>>,
     at: usize,
     code: &mut Vec<Instruction>,
-) -> Result<bool, AllocError> {
+) -> Result<bool, AllocError>
+    ensures fewer { Fewer signatures.old.items signatures.new.items }
+    ensures fits { IfOk result (λ b. IsFalse b → (signatures.new ≡ signatures.old) × HasCode (functions_of functions.entry.now) signatures.old.items code.old.items at) }
+    ensures gone { IfOk result (λ b. IsTrue b → signature_of signatures.new.items at ≡ NoneOf) }
+{
     if fits(alloc, functions, signatures.as_slice(), at, code)? {
         return Ok(false);
     }
@@ -59,7 +70,10 @@ fn sift(
     alloc: Global,
     functions: &[Option<&TypedTree>],
     signatures: &mut Vec<Option<Signature>>,
-) -> Result<bool, AllocError> {
+) -> Result<bool, AllocError>
+    ensures fewer { Fewer signatures.old.items signatures.new.items }
+    ensures same { IfOk result (λ b. IsFalse b → signatures.new ≡ signatures.old) }
+{
     let mut code = Vec::new(alloc);
     let mut some = false;
     for i in 0..signatures.len() {
@@ -75,7 +89,10 @@ fn sift_back(
     alloc: Global,
     functions: &[Option<&TypedTree>],
     signatures: &mut Vec<Option<Signature>>,
-) -> Result<bool, AllocError> {
+) -> Result<bool, AllocError>
+    ensures fewer { Fewer signatures.old.items signatures.new.items }
+    ensures same { IfOk result (λ b. IsFalse b → signatures.new ≡ signatures.old) }
+{
     let mut code = Vec::new(alloc);
     let mut some = false;
     for i in (0..signatures.len()).rev() {
@@ -95,10 +112,15 @@ fn sifted(
     alloc: Global,
     functions: &[Option<&TypedTree>],
     signatures: Vec<Option<Signature>>,
-) -> Result<Vec<Option<Signature>>, AllocError> {
+) -> Result<Vec<Option<Signature>>, AllocError>
+    ensures { IfOk result (λ it. Fewer signatures.items it.items) }
+{
     let mut left = signatures;
     for _round in 0..ROUNDS {
-        if !sift_back(alloc, functions, &mut left)? || !sift(alloc, functions, &mut left)? {
+        if !sift_back(alloc, functions, &mut left)? {
+            return Ok(left);
+        }
+        if !sift(alloc, functions, &mut left)? {
             return Ok(left);
         }
     }
@@ -107,7 +129,8 @@ fn sifted(
 
 /// No function has code.
 fn no_code(alloc: Global) -> Code
-    ensures { (P : Functions) → IsCode P result.signatures.items result.starts.items result.instructions.items }
+    ensures right { (P : Functions) → IsCode P result.signatures.items result.starts.items result.instructions.items }
+    ensures none { result.signatures.items ≡ [] }
 {
     Code {
         instructions: Vec::new(alloc),
@@ -122,7 +145,8 @@ fn coded(
     functions: &[Option<&TypedTree>],
     signatures: Vec<Option<Signature>>,
 ) -> Result<Code, AllocError>
-    ensures { IfOk result (λ it. IsCode (functions_of functions.entry.now) it.signatures.items it.starts.items it.instructions.items) }
+    ensures right { IfOk result (λ it. IsCode (functions_of functions.entry.now) it.signatures.items it.starts.items it.instructions.items) }
+    ensures fewer { IfOk result (λ it. Fewer signatures.items it.signatures.items) }
 {
     match all_functions(alloc, functions, signatures.as_slice()) {
         Ok(parts) => Ok(Code {
@@ -135,38 +159,59 @@ fn coded(
     }
 }
 
-/// The code of the functions that have a signature, without those that it does not suit. Where these aren't found in a few
-/// rounds, no function has code.
+/// The code of the functions that have a signature, without those that it does not suit: no function has another signature
+/// than the one that is given. Where these aren't found in a few rounds, no function has code.
 pub fn compile(
     alloc: Global,
     functions: &[Option<&TypedTree>],
     signatures: Vec<Option<Signature>>,
 ) -> Result<Code, AllocError>
-    ensures { IfOk result (λ it. IsCode (functions_of functions.entry.now) it.signatures.items it.starts.items it.instructions.items) }
+    ensures right { IfOk result (λ it. IsCode (functions_of functions.entry.now) it.signatures.items it.starts.items it.instructions.items) }
+    ensures fewer { IfOk result (λ it. (i : ℕ) (g : SignatureOf) → signature_of it.signatures.items i ≡ SomeOf g → signature_of signatures.items i ≡ SomeOf g) }
 {
-    let signatures = sifted(alloc, functions, signatures)?;
-    coded(alloc, functions, signatures)
+    let left = sifted(alloc, functions, signatures)?;
+    coded(alloc, functions, left)
 }
 
 /// The shapes of the values of types.
-fn shapes_of(alloc: Global, types: &[Ty]) -> Result<Option<List<Shape>>, AllocError> {
+fn shapes_of(alloc: Global, types: &[Ty]) -> Result<Option<List<Shape>>, AllocError>
+    ensures { IfOk result (λ o. o ≡ plain.shapes_of (map plain-Ty types.now)) }
+{
     let mut shapes = Vec::new(alloc);
     for ty in types {
         match shape_of_type(ty) {
-            Some(shape) => match shapes.push(shape) {
-                Ok(()) => (),
-                Err(_) => return Err(AllocError),
-            },
+            Some(shape) => shapes.push(shape)?,
             None => return Ok(None),
         }
     }
     Ok(Some(List::from_vec(shapes)))
 }
 
-fn is_unit(ty: &Ty) -> bool {
+#[tactic(auto, using(rx_typed::proofs::Rules::typ_rules))]
+fn is_unit(ty: &Ty) -> bool
+    ensures { result ≡ plain.is_unit (plain-Ty ty.now) }
+{
     match ty {
         Ty::Tuple(parts) => parts.is_empty(),
-        _ => false,
+        Ty::Int(_) => false,
+        Ty::Bool => false,
+        Ty::Shared(_, _) => false,
+        Ty::Mut(_, _) => false,
+        Ty::Adt(_, _) => false,
+    }
+}
+
+/// What a function with this result gives: nothing of `()`, or a value of a shape.
+fn given_of(ty: &Ty) -> Option<Option<Shape>>
+    ensures { result ≡ plain.given_of (plain-Ty ty.now) }
+{
+    if is_unit(ty) {
+        Some(None)
+    } else {
+        match shape_of_type(ty) {
+            Some(shape) => Some(Some(shape)),
+            None => None,
+        }
     }
 }
 
@@ -175,16 +220,14 @@ pub fn signature(
     alloc: Global,
     parameters: &[Ty],
     gives: &Ty,
-) -> Result<Option<Signature>, AllocError> {
-    let given = shape_of_type(gives);
-    if given.is_none() && !is_unit(gives) {
-        return Ok(None);
-    }
-    match shapes_of(alloc, parameters)? {
-        Some(parameters) => Ok(Some(Signature {
-            parameters,
-            gives: given,
-        })),
+) -> Result<Option<Signature>, AllocError>
+    ensures { IfOk result (λ o. o ≡ signature_for (map plain-Ty parameters.now) (plain-Ty gives.now)) }
+{
+    match given_of(gives) {
+        Some(gives) => match shapes_of(alloc, parameters)? {
+            Some(parameters) => Ok(Some(Signature { parameters, gives })),
+            None => Ok(None),
+        },
         None => Ok(None),
     }
 }
