@@ -8,11 +8,11 @@ use Rattle.rx_typed_tree.proofs.Rules.{arm_by_parts}
 use Rattle.rx_meaning.specs.Values.{and_then}
 use Rattle.rx_code.specs.declared.code.Shape.{Shape}
 use Rattle.rx_code.specs.declared.code.Instruction.{Instruction}
-use Rattle.rx_compile.specs.Compiling.{Want, Setting, Made, made, pushed, tested, expression, arms}
-use Rattle.rx_compile.specs.Parts.{tries, Covered, Covers}
-use Rattle.rx_compile.specs.declared.scope.Scope.{Scope}
-use Rattle.rx_compile.specs.Settings.{setting}
-use Rattle.rx_compile.proofs.Forms.{then_made, in_scope}
+use Rattle.rx_compile_parts.specs.Compiling.{Want, Setting, Made, made, pushed, tested, expression, arms}
+use Rattle.rx_compile_parts.specs.Parts.{tries, Covered, Covers}
+use Rattle.rx_compile_parts.specs.declared.scope.Scope.{Scope}
+use Rattle.rx_compile_parts.specs.Settings.{setting}
+use Rattle.rx_compile_parts.proofs.Forms.{then_made, in_scope}
 
 -- an arm before those behind it
 arm_tries : (W : Setting) (w : Want) (r : ℕ) (h : Shape) (p : Pattern) (e : Exp) (rest : Arms) (next : ℕ) (C D E : List Instruction) (miss j : ℕ) → arms W w r h rest next C ≡ made D miss

@@ -19,7 +19,7 @@ use Rattle.rx_code.specs.declared.code.Source.{Source}
 use Rattle.rx_code.specs.declared.code.Instruction.{Instruction}
 use Rattle.rx_code.specs.Registers.{value_of, result_shape, Registers, with, Local, Holds}
 use Rattle.rx_code.specs.Points.{Point, Computes, Inputs, IsRight}
-use Rattle.rx_compile.specs.Compiling.{shape_of, kind_of_shape, Want, a_value, takes, takes_unit, Setting, local_at, is_arithmetic, expression}
+use Rattle.rx_compile_parts.specs.Compiling.{shape_of, kind_of_shape, Want, a_value, takes, takes_unit, Setting, local_at, is_arithmetic, expression}
 use Rattle.rx_compile.specs.Right.{Frames, Stands, Continues, IsInside, Grows, Makes}
 use Rattle.rx_compile.proofs.Growing.{leads_by}
 use Rattle.rx_compile.proofs.Holding.{with_same, beside_free, beside_local, holds_there, holds_with, holds_assigned, holds_input, length_with}

@@ -18,7 +18,7 @@ use Rattle.rx_code.specs.declared.code.Source.{Source}
 use Rattle.rx_code.specs.declared.code.Instruction.{Instruction}
 use Rattle.rx_code.specs.Registers.{value_of, given_value, Registers, source, with, Local, local_of, Falls, Holds}
 use Rattle.rx_code.specs.Points.{Point}
-use Rattle.rx_compile.specs.Compiling.{shape_of, Want, a_value, a_unit, whatever, takes_unit, Setting, with_local, Made, made, Maker, pushed, only_if, local_at, handed, returning, wanted_back, bound}
+use Rattle.rx_compile_parts.specs.Compiling.{shape_of, Want, a_value, a_unit, whatever, takes_unit, Setting, with_local, Made, made, Maker, pushed, only_if, local_at, handed, returning, wanted_back, bound}
 use Rattle.rx_compile.specs.Right.{Frames, is_taken, Stands, Continues, IsInside, Grows, Makes, IsMade, IsBody}
 use Rattle.rx_compile.proofs.Growing.{leads_by, grows_none, element_last, element_more}
 use Rattle.rx_compile.proofs.Holding.{with_same, beside_free, falls_below, holds_there, holds_with}

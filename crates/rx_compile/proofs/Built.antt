@@ -2,7 +2,7 @@
 use Rattle.std.proofs.Common.{Bool}
 use Rattle.rx_tree.specs.declared.tree.BinaryOp.{BinaryOp}
 use Rattle.rx_typed.specs.Tree.{Mark, Making, constant, negation, inversion, operation, lazy, tuple, struct, variant_of, Exp, build, borrow, share, Place, Operands, no_operand, operand_and}
-use Rattle.rx_compile.specs.Compiling.{expression}
+use Rattle.rx_compile_parts.specs.Compiling.{expression}
 use Rattle.rx_compile.proofs.Feeding.{AreMade}
 use Rattle.rx_compile.proofs.Leaves.{constant_made}
 use Rattle.rx_compile.proofs.Operators.{negation_made, inversion_made}

@@ -11,7 +11,7 @@ use Rattle.rx_code.specs.declared.code.Instruction.{Instruction}
 use Rattle.rx_code.specs.declared.code.Signature.{Signature}
 use Rattle.rx_code.specs.Registers.{value_of, given_value, Registers, arguments, Agree}
 use Rattle.rx_code.specs.Points.{Point, signature_of, IsRight}
-use Rattle.rx_compile.specs.Compiling.{Want, a_value, takes_given, Setting, higher, Made, expression, operands}
+use Rattle.rx_compile_parts.specs.Compiling.{Want, a_value, takes_given, Setting, higher, Made, expression, operands}
 use Rattle.rx_compile.specs.Right.{Frames, Stands, Continues, IsInside, AgreeBeside, Grows, Makes}
 use Rattle.rx_compile.proofs.Growing.{leads_by}
 use Rattle.rx_compile.proofs.Holding.{beside_of}

@@ -24,7 +24,7 @@ use Rattle.rx_code.specs.declared.code.Shape.{Shape}
 use Rattle.rx_code.specs.declared.code.Instruction.{Instruction}
 use Rattle.rx_code.specs.Registers.{value_of, Registers, Agree, Local, Holds}
 use Rattle.rx_code.specs.Points.{Point, There, Leads, IsRight}
-use Rattle.rx_compile.specs.Compiling.{shape_of, Want, a_value, a_unit, whatever, takes, Setting, Made, Maker, pushed, only_if, own_local, local_at, tested}
+use Rattle.rx_compile_parts.specs.Compiling.{shape_of, Want, a_value, a_unit, whatever, takes, Setting, Made, Maker, pushed, only_if, own_local, local_at, tested}
 use Rattle.rx_compile.specs.Right.{Frames, AtAll, Stands, Continues, IsInside, Grows, Makes, IsMade}
 use Rattle.rx_compile.proofs.Holding.{held}
 use Rattle.rx_compile.proofs.Making.{silent, into_form, into_part, into_hole, comes, any_comes, stands_by, continues_grown, inside_grown, stands_grown, leads_there, point_at, IsTold, point_is, told_by, wants_value, makes_by, makes_if, makes_of, makes_then, makes_behind, makes_one}

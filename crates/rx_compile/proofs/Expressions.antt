@@ -3,7 +3,7 @@ use Rattle.std.proofs.Common.{ℕ, true, false, List, [], ◌∷◌, ◌++◌, l
 use Rattle.rx_typed.specs.Tree.{any, bind, exactly, parts, variant, behind, by_value, by_reference, Exp, read, borrow, share, build, unit, lazily, assign, update, call, input, print, block, choose, loop, jump, give, Operands, no_operand, operand_and, at_place, of_value, Arms, no_arm, arm_and, Body, ends, runs, declares, lets}
 use Rattle.rx_code.specs.declared.code.Shape.{Shape}
 use Rattle.rx_code.specs.declared.code.Instruction.{Instruction}
-use Rattle.rx_compile.specs.Compiling.{Want, a_value, whatever, Setting, with_label, with_local, wanted_back, expression, arms, body}
+use Rattle.rx_compile_parts.specs.Compiling.{Want, a_value, whatever, Setting, with_label, with_local, wanted_back, expression, arms, body}
 use Rattle.rx_compile.specs.Right.{IsBody}
 use Rattle.rx_compile.proofs.Feeding.{AreMade}
 use Rattle.rx_compile.proofs.Leaves.{read_made}

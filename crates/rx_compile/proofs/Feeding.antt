@@ -10,7 +10,7 @@ use Rattle.rx_code.specs.declared.code.Shape.{Shape}
 use Rattle.rx_code.specs.declared.code.Instruction.{Instruction}
 use Rattle.rx_code.specs.Registers.{value_of, Registers, with}
 use Rattle.rx_code.specs.Points.{Point, Leads, IsRight}
-use Rattle.rx_compile.specs.Compiling.{Want, a_value, a_unit, whatever, Setting, takes, expression}
+use Rattle.rx_compile_parts.specs.Compiling.{Want, a_value, a_unit, whatever, Setting, takes, expression}
 use Rattle.rx_compile.specs.Right.{Frames, AtAll, Stands, Continues, IsInside, is_taken, AgreeBeside, Makes, IsMade}
 use Rattle.rx_compile.proofs.Growing.{leads_by, grows_none}
 use Rattle.rx_compile.proofs.Holding.{with_same, beside_free, falls_below, taken_below, holds_there, holds_with}

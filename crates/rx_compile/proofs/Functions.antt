@@ -15,7 +15,7 @@ use Rattle.rx_code.specs.declared.code.Instruction.{Instruction}
 use Rattle.rx_code.specs.declared.code.Signature.{Signature}
 use Rattle.rx_code.specs.Registers.{Local, local_of, Falls, AreApart}
 use Rattle.rx_code.specs.Points.{Point, IsPoint, IsRight, AreRight, Begins, parameters_from}
-use Rattle.rx_compile.specs.Compiling.{whatever, Setting, Made, only_if, expression, lacks, are_apart, same_length, outset, function}
+use Rattle.rx_compile_parts.specs.Compiling.{whatever, Setting, Made, only_if, expression, lacks, are_apart, same_length, outset, function}
 use Rattle.rx_compile.specs.Right.{Frames, Stands, Continues, IsInside, Grows, Makes, IsFunction}
 use Rattle.rx_compile.proofs.Growing.{element_less, element_below, below_or, right_more, grows_on, grows_one, stands_last}
 use Rattle.rx_compile.proofs.Holding.{falls_below, holds_there}

@@ -15,7 +15,7 @@ use Rattle.rx_code.specs.declared.code.Source.{Source}
 use Rattle.rx_code.specs.declared.code.Signature.{Signature}
 use Rattle.rx_code.specs.Registers.{Registers, Local}
 use Rattle.rx_code.specs.Points.{Point, IsPoint, Leads, Computing, Assigning, Testing, Calling, Returning, At, Deciding, IsRight}
-use Rattle.rx_compile.specs.Compiling.{Want, a_value, a_unit, whatever, Label, Setting, Made}
+use Rattle.rx_compile_parts.specs.Compiling.{Want, a_value, a_unit, whatever, Label, Setting, Made}
 use Rattle.rx_compile.specs.Right.{Frames, AtAll, Stands, Continues, Lands, IsInside, Grows, Makes}
 
 pub some_is : {A : Type 0} (a b : A) → Some a ≡ Some b → a ≡ b

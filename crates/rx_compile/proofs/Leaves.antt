@@ -24,7 +24,7 @@ use Rattle.rx_code.specs.declared.code.Source.{Source}
 use Rattle.rx_code.specs.declared.code.Instruction.{Instruction}
 use Rattle.rx_code.specs.Registers.{value_of, Registers, source, Local, Falls, Holds}
 use Rattle.rx_code.specs.Points.{IsRight}
-use Rattle.rx_compile.specs.Compiling.{Want, Setting, takes, only_if, pushed, small, of_constant, own_local, local_at, leaf, leaf_of, same_shape, moved, expression}
+use Rattle.rx_compile_parts.specs.Compiling.{Want, Setting, takes, only_if, pushed, small, of_constant, own_local, local_at, leaf, leaf_of, same_shape, moved, expression}
 use Rattle.rx_compile.specs.Right.{is_taken, Makes, IsMade}
 use Rattle.rx_compile.proofs.Growing.{some_is, leads_by}
 use Rattle.rx_compile.proofs.Holding.{local_taken, held, local_below, local_there}

@@ -15,9 +15,6 @@ pub mod Built
 pub mod Expressions
 pub mod Functions
 pub mod Programs
-pub mod Marks
-pub mod Scopes
-pub mod Forms
 pub mod Arms
 pub mod Statements
 pub mod Outsets

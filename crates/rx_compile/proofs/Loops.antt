@@ -19,7 +19,7 @@ use Rattle.rx_code.specs.declared.code.Instruction.{Instruction}
 use Rattle.rx_code.specs.declared.code.Signature.{Signature}
 use Rattle.rx_code.specs.Registers.{Registers, Local, Holds}
 use Rattle.rx_code.specs.Points.{Point, IsPoint, Turns, IsRight}
-use Rattle.rx_compile.specs.Compiling.{Want, whatever, takes_unit, Label, label_of, Setting, with_label, Made, made, only_if}
+use Rattle.rx_compile_parts.specs.Compiling.{Want, whatever, takes_unit, Label, label_of, Setting, with_label, Made, made, only_if}
 use Rattle.rx_compile.specs.Right.{Frames, Stands, Means, Lands, IsInside, Grows, Makes, IsMade}
 use Rattle.rx_compile.proofs.Growing.{some_is, element_more, element_last, inside_more, stands_more, grows_none, stands_last}
 use Rattle.rx_compile.proofs.Holding.{element_same, element_other, length_with}

@@ -17,7 +17,7 @@ use Rattle.rx_code.specs.declared.code.Instruction.{Instruction}
 use Rattle.rx_code.specs.declared.code.Signature.{Signature}
 use Rattle.rx_code.specs.Registers.{value_of, Registers, Agree, Local, Holds}
 use Rattle.rx_code.specs.Points.{Point, IsPoint, Leads, IsRight}
-use Rattle.rx_compile.specs.Compiling.{same_kind, same_shape, Want, a_value, a_unit, whatever, takes, takes_unit, Setting, Made, pushed, only_if}
+use Rattle.rx_compile_parts.specs.Compiling.{same_kind, same_shape, Want, a_value, a_unit, whatever, takes, takes_unit, Setting, Made, pushed, only_if}
 use Rattle.rx_compile.specs.Right.{Frames, Stands, Means, Continues, IsInside, Grows, Makes}
 use Rattle.rx_compile.proofs.Growing.{leads_by, stands_more, continues_more, inside_more, grows_on, grows_one, stands_last}
 use Rattle.rx_compile.proofs.Holding.{beside_of, falls_below, holds_there}

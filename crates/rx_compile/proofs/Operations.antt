@@ -13,7 +13,7 @@ use Rattle.rx_code.specs.declared.code.Source.{Source}
 use Rattle.rx_code.specs.declared.code.Instruction.{Instruction}
 use Rattle.rx_code.specs.Registers.{result_shape, Registers, source, Holds}
 use Rattle.rx_code.specs.Points.{Point}
-use Rattle.rx_compile.specs.Compiling.{kind_of, Want, a_value, takes, Setting, higher, Made, pushed, leaf_of, is_operator, computed, expression}
+use Rattle.rx_compile_parts.specs.Compiling.{kind_of, Want, a_value, takes, Setting, higher, Made, pushed, leaf_of, is_operator, computed, expression}
 use Rattle.rx_compile.specs.Right.{Frames, Stands, Continues, IsInside, Grows, Makes}
 use Rattle.rx_compile.proofs.Making.{into_part, into_hole, comes, stands_by, inside_grown, point_is, makes_by, makes_if, makes_of, makes_then, makes_one}
 use Rattle.rx_compile.proofs.Feeding.{AreMade, inside_higher, inside_hole, untaken, fed}

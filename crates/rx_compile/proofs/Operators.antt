@@ -18,7 +18,7 @@ use Rattle.rx_code.specs.declared.code.Source.{Source}
 use Rattle.rx_code.specs.declared.code.Instruction.{Instruction}
 use Rattle.rx_code.specs.Registers.{value_of, result_shape, Registers, source, with}
 use Rattle.rx_code.specs.Points.{Point, IsRight}
-use Rattle.rx_compile.specs.Compiling.{kind_of, Want, a_value, takes, Setting, expression}
+use Rattle.rx_compile_parts.specs.Compiling.{kind_of, Want, a_value, takes, Setting, expression}
 use Rattle.rx_compile.specs.Right.{Frames, AtAll, Continues, IsInside, Makes}
 use Rattle.rx_compile.proofs.Growing.{leads_by}
 use Rattle.rx_compile.proofs.Making.{into_form, into_part, into_hole, point_at, makes_by, makes_if, makes_of}

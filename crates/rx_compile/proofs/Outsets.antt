@@ -11,13 +11,13 @@ use Rattle.rx_code.specs.declared.code.Instruction.{Instruction}
 use Rattle.rx_code.specs.declared.code.Signature.{Signature}
 use Rattle.rx_code.specs.Registers as registers
 use Rattle.rx_code.specs.Points.{parameters_from, signature_of, IsCode}
-use Rattle.rx_compile.specs.Compiling.{Setting, Made, made, pushed, whatever, lacks, are_apart, same_length, outset, expression, function}
+use Rattle.rx_compile_parts.specs.Compiling.{Setting, Made, made, pushed, whatever, lacks, are_apart, same_length, outset, expression, function}
 use Rattle.rx_compile.specs.Right.{Begun}
-use Rattle.rx_compile.specs.declared.scope.Scope.{Scope}
-use Rattle.rx_compile.specs.Settings.{setting, locals_in, labels_in, with_new, locals_on, labels_on}
+use Rattle.rx_compile_parts.specs.declared.scope.Scope.{Scope}
+use Rattle.rx_compile_parts.specs.Settings.{setting, locals_in, labels_in, with_new, locals_on, labels_on}
 use Rattle.rx_compile.specs.Whole.{Joins, IsOutset, functions_of}
-use Rattle.rx_compile.proofs.Forms.{then_made, if_made}
-use Rattle.rx_compile.proofs.Scopes.{newest, signature_found}
+use Rattle.rx_compile_parts.proofs.Forms.{then_made, if_made}
+use Rattle.rx_compile_parts.proofs.Scopes.{newest, signature_found}
 use Rattle.rx_compile.proofs.Programs.{begun_none, begun_skip, begun_function, begun_all}
 
 both_true : {a b : Bool} → a ≡ true → b ≡ true → (a && b) ≡ true

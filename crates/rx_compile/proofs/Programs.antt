@@ -7,7 +7,7 @@ use Rattle.rx_meaning.specs.Expressions.{Functions}
 use Rattle.rx_code.specs.declared.code.Instruction.{Instruction}
 use Rattle.rx_code.specs.declared.code.Signature.{Signature}
 use Rattle.rx_code.specs.Points.{Point, AreRight, Begins, signature_of, IsCode}
-use Rattle.rx_compile.specs.Compiling.{Made, function}
+use Rattle.rx_compile_parts.specs.Compiling.{Made, function}
 use Rattle.rx_compile.specs.Right.{IsFunction, Begun}
 use Rattle.rx_compile.proofs.Growing.{element_more, element_last, below_or}
 use Rattle.rx_compile.proofs.Functions.{functions_right}

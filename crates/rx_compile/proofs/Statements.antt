@@ -10,14 +10,14 @@ use Rattle.rx_code.specs.declared.code.Source.{Source}
 use Rattle.rx_code.specs.declared.code.Instruction.{Instruction}
 use Rattle.rx_code.specs.Registers as registers
 use Rattle.rx_code.specs.Registers.{local_of}
-use Rattle.rx_compile.specs.Compiling.{Want, a_value, a_unit, whatever, Setting, with_local, Made, made, pushed, shape_of, local_at, handed, bound, expression, body}
-use Rattle.rx_compile.specs.declared.scope.Scope.{Scope}
-use Rattle.rx_compile.specs.declared.scope.Local.{Local}
-use Rattle.rx_compile.specs.Settings.{plain-Local, setting, locals_in, with_new, without_last}
-use Rattle.rx_compile.specs.Parts.{handed_at, idle, popped, before, initialised, introduced, closed, matched_shape, Opens, firsts, finished}
+use Rattle.rx_compile_parts.specs.Compiling.{Want, a_value, a_unit, whatever, Setting, with_local, Made, made, pushed, shape_of, local_at, handed, bound, expression, body}
+use Rattle.rx_compile_parts.specs.declared.scope.Scope.{Scope}
+use Rattle.rx_compile_parts.specs.declared.scope.Local.{Local}
+use Rattle.rx_compile_parts.specs.Settings.{plain-Local, setting, locals_in, with_new, without_last}
+use Rattle.rx_compile_parts.specs.Parts.{handed_at, idle, popped, before, initialised, introduced, closed, matched_shape, Opens, firsts, finished}
 use Rattle.rx_compile.specs.Unwinding.{scope_before, unwound}
-use Rattle.rx_compile.proofs.Forms.{then_made}
-use Rattle.rx_compile.proofs.Scopes.{declared_setting, last_gone, newest, newest_setting}
+use Rattle.rx_compile_parts.proofs.Forms.{then_made}
+use Rattle.rx_compile_parts.proofs.Scopes.{declared_setting, last_gone, newest, newest_setting}
 
 then_both : {A B D : Type 0} (o : Option A) (f : A → Option B) (g : B → Option D) → and_then (and_then o f) g ≡ and_then o (λ a. and_then (f a) g)
 then_both None f g = refl

@@ -13,7 +13,7 @@ use Rattle.rx_code.specs.declared.code.Instruction.{Instruction}
 use Rattle.rx_code.specs.declared.code.Signature.{Signature}
 use Rattle.rx_code.specs.Registers.{value_of, Registers, Local, Falls, AreApart, Holds}
 use Rattle.rx_code.specs.Points.{Point, IsPoint, Leads, IsRight, AreRight, Begins, signature_of}
-use Rattle.rx_compile.specs.Compiling.{Want, a_value, a_unit, whatever, Label, label_of, Setting, Made}
+use Rattle.rx_compile_parts.specs.Compiling.{Want, a_value, a_unit, whatever, Label, label_of, Setting, Made}
 
 -- the frames of an activation, by its registers
 abbrev pub Frames : Type 0

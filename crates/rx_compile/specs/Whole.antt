@@ -12,9 +12,9 @@ use Rattle.rx_code.specs.declared.code.Instruction.{Instruction}
 use Rattle.rx_code.specs.declared.code.Signature.{Signature}
 use Rattle.rx_code.specs.Registers.{local_of}
 use Rattle.rx_code.specs.Points.{signature_of, parameters_from}
-use Rattle.rx_compile.specs.Compiling.{Made, are_apart, function}
-use Rattle.rx_compile.specs.declared.scope.Scope.{Scope}
-use Rattle.rx_compile.specs.Settings.{locals_in, labels_in, with_new}
+use Rattle.rx_compile_parts.specs.Compiling.{Made, are_apart, function}
+use Rattle.rx_compile_parts.specs.declared.scope.Scope.{Scope}
+use Rattle.rx_compile_parts.specs.Settings.{locals_in, labels_in, with_new}
 
 abbrev pub functions_of : List (Option (Bor TypedTree)) → Functions
 functions_of l = map (λ o. option_map (λ f. plain-TypedTree f.now) o) l

@@ -4,15 +4,13 @@ ghost use Rattle.std.specs.Prelude.{◌≡◌, ◌∷◌, ◌++◌, [], length, 
 ghost use Rattle.rx_typed_tree.specs.PlainTree.{plain-TypedTree};
 ghost use Rattle.rx_meaning.specs.Values.{element};
 ghost use Rattle.rx_code.specs.Points.{IsCode};
-ghost use Rattle.rx_compile.specs.Compiling as plain;
+ghost use Rattle.rx_compile_parts.specs.Compiling as plain;
 ghost use Rattle.rx_compile.specs.Right.{Begun};
 ghost use Rattle.rx_compile.specs.Whole.{Joins, IsOutset, functions_of};
 
-use crate::scope::{Local, Refusal, Scope, Want};
-use crate::shapes::shape_at;
-use crate::simple::pushed;
 use crate::trees::expression;
 use rx_code::{Instruction, Shape, Signature};
+use rx_compile_parts::{Local, Refusal, Scope, Want, pushed, shape_at};
 use rx_core::List;
 use rx_typed_tree::{Param, TypedTree};
 use std::alloc::{AllocError, Global};

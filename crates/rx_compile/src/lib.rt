@@ -5,10 +5,7 @@ mod items;
 mod matches;
 mod operating;
 mod program;
-mod scope;
 mod sequences;
-mod shapes;
-mod simple;
 mod trees;
 
-pub use program::{compile, signature};
+pub use program::compile;

@@ -3,15 +3,13 @@
 ghost use Rattle.std.specs.Prelude.{◌≡◌, IsTrue, IfOk, OnOk, drop, map};
 ghost use Rattle.rx_typed.specs.Tree as tree;
 ghost use Rattle.rx_typed_tree.specs.PlainTree.{plain-Arm, plain-Expr, plain-Mark, plain-Pattern, plain-Place, arms_of};
-ghost use Rattle.rx_compile.specs.Compiling as plain;
-ghost use Rattle.rx_compile.specs.Settings.{plain-Want, setting};
-ghost use Rattle.rx_compile.specs.Parts.{Covers, tries};
+ghost use Rattle.rx_compile_parts.specs.Compiling as plain;
+ghost use Rattle.rx_compile_parts.specs.Settings.{plain-Want, setting};
+ghost use Rattle.rx_compile_parts.specs.Parts.{Covers, tries};
 
-use crate::scope::{Refusal, Scope, Want};
-use crate::shapes::shape_of;
-use crate::simple::{own_local, pushed, tested};
 use crate::trees::expression;
 use rx_code::{Instruction, Shape};
+use rx_compile_parts::{Refusal, Scope, Want, own_local, pushed, shape_of, tested};
 use rx_core::Place;
 use rx_typed_tree::{Arm, Expr, Mark, Pattern};
 

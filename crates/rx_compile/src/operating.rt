@@ -6,14 +6,15 @@ ghost use Rattle.rx_code.specs.declared.code.Shape.TheVariants.{Number as Number
 ghost use Rattle.rx_code.specs.declared.code.Source.{Source as SourceOf};
 ghost use Rattle.rx_typed.specs.Tree as tree;
 ghost use Rattle.rx_typed_tree.specs.PlainTree.{plain-Expr, plain-Making, plain-Mark, plain-Operand, operands_of};
-ghost use Rattle.rx_compile.specs.Compiling as plain;
-ghost use Rattle.rx_compile.specs.Settings.{plain-Want, locals_in, setting};
+ghost use Rattle.rx_compile_parts.specs.Compiling as plain;
+ghost use Rattle.rx_compile_parts.specs.Settings.{plain-Want, locals_in, setting};
 
-use crate::scope::{Refusal, Scope, Want, above, expect, expect_operator, offset};
-use crate::shapes::{kind_of, result_shape, shape_at};
-use crate::simple::{constant, leaf_of, pushed};
 use crate::trees::expression;
 use rx_code::{Instruction, Shape, Source};
+use rx_compile_parts::{
+    Refusal, Scope, Want, above, constant, expect, expect_operator, kind_of, leaf_of, offset,
+    pushed, result_shape, shape_at,
+};
 use rx_core::Kind;
 use rx_tree::BinaryOp;
 use rx_typed_tree::{Expr, Making, Mark, Operand};

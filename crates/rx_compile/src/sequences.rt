@@ -6,16 +6,14 @@ ghost use Rattle.rx_typed.specs.Tree as tree;
 ghost use Rattle.rx_typed_tree.specs.PlainTree.{plain-Expr, plain-Mark, plain-Matched, plain-Pattern, plain-Stmt, nested_of};
 ghost use Rattle.rx_meaning.specs.Values.{and_then};
 ghost use Rattle.rx_code.specs.Registers.{local_of};
-ghost use Rattle.rx_compile.specs.Compiling as plain;
-ghost use Rattle.rx_compile.specs.Settings.{plain-Want, plain-Local, setting, locals_in, with_new, without_last};
-ghost use Rattle.rx_compile.specs.Parts.{Opens, idle, handed_at, matched_shape, initialised, introduced, popped, before, closed, finished, firsts};
+ghost use Rattle.rx_compile_parts.specs.Compiling as plain;
+ghost use Rattle.rx_compile_parts.specs.Settings.{plain-Want, plain-Local, setting, locals_in, with_new, without_last};
+ghost use Rattle.rx_compile_parts.specs.Parts.{Opens, idle, handed_at, matched_shape, initialised, introduced, popped, before, closed, finished, firsts};
 ghost use Rattle.rx_compile.specs.Unwinding.{scope_before, unwound};
 
-use crate::scope::{Local, Refusal, Scope, Want, above};
-use crate::shapes::shape_of;
-use crate::simple::{handed, own_local, pushed};
 use crate::trees::expression;
 use rx_code::{Instruction, Shape, Source};
+use rx_compile_parts::{Local, Refusal, Scope, Want, above, handed, own_local, pushed, shape_of};
 use rx_typed_tree::{Expr, Mark, Matched, Mode, Pattern, Stmt};
 
 /// The instruction that comes next, and the first register that is free.

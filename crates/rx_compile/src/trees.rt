@@ -4,21 +4,18 @@
 ghost use Rattle.std.specs.Prelude.{◌≡◌, IfOk, OnOk, map};
 ghost use Rattle.rx_typed.specs.Tree as tree;
 ghost use Rattle.rx_typed_tree.specs.PlainTree.{plain-Expr, plain-Making, plain-Mark, plain-Matched, plain-Operand, plain-Arm, plain-Place, plain-Stmt, operands_of, arms_of, nested_of};
-ghost use Rattle.rx_compile.specs.Compiling as plain;
-ghost use Rattle.rx_compile.specs.Settings.{plain-Want, setting};
+ghost use Rattle.rx_compile_parts.specs.Compiling as plain;
+ghost use Rattle.rx_compile_parts.specs.Settings.{plain-Want, setting};
 
 use crate::matches::{choose_place, choose_value};
 use crate::operating::{build, operands};
-use crate::scope::{
-    Label, Refusal, Scope, Want, expect, expect_arithmetic, expect_given, expect_unit, signature_at,
-};
 use crate::sequences::block;
-use crate::shapes::{kind_of_shape, shape_of};
-use crate::simple::{
-    computes, input, jump, own_local, pushed, read, returning, set_pass, tested_lazily, unit,
-    wanted_back,
-};
 use rx_code::{Instruction, Shape, Source};
+use rx_compile_parts::{
+    Label, Refusal, Scope, Want, computes, expect, expect_arithmetic, expect_given, expect_unit,
+    input, jump, kind_of_shape, own_local, pushed, read, returning, set_pass, shape_of,
+    signature_at, tested_lazily, unit, wanted_back,
+};
 use rx_core::Place;
 use rx_tree::BinaryOp;
 use rx_typed_tree::{Arm, Expr, Form, Mark, Matched, Operand};

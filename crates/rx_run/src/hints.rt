@@ -2,10 +2,10 @@
 
 ghost use Rattle.std.specs.Prelude.{◌≡◌, IfOk};
 ghost use Rattle.rx_typed.specs.PlainTypes.{plain-Decl, declarations};
-ghost use Rattle.rx_compile.specs.Signatures.{declared_signature, declared_signatures};
+ghost use Rattle.rx_compile_parts.specs.Signatures.{declared_signature, declared_signatures};
 
 use rx_code::Signature;
-use rx_compile::signature;
+use rx_compile_parts::signature;
 use rx_typed::Decl;
 use std::alloc::{AllocError, Global};
 

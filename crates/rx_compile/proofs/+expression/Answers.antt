@@ -7,13 +7,13 @@ use Rattle.rx_code.specs.declared.code.Shape.{Shape}
 use Rattle.rx_typed.specs.Tree.{negation, inversion, operation, no_operand, operand_and, lets, any, bind}
 use Rattle.rx_typed_tree.specs.declared.tree.Stmt.{Stmt}
 use Rattle.rx_typed_tree.specs.PlainTree.{plain-Mark, plain-Place, plain-Expr, plain-Making, plain-Matched, plain-Mode, plain-Pattern, plain-Operand, plain-Arm, plain-Stmt, operands_of, arms_of, nested_of, stmt_runs, stmt_lets, pattern_any, pattern_bind}
-use Rattle.rx_compile.specs.Compiling.{a_value, takes, leaf_of, expression, built, operands, made}
-use Rattle.rx_compile.specs.Settings.{plain-Want, plain-Local, setting, locals_in}
-use Rattle.rx_compile.specs.Parts.{idle, before, closed, firsts, finished}
+use Rattle.rx_compile_parts.specs.Compiling.{a_value, takes, leaf_of, expression, built, operands, made}
+use Rattle.rx_compile_parts.specs.Settings.{plain-Want, plain-Local, setting, locals_in}
+use Rattle.rx_compile_parts.specs.Parts.{idle, before, closed, firsts, finished}
 use Rattle.rx_compile.specs.Unwinding.{scope_before}
-use Rattle.rx_compile.specs.declared.scope.Scope.{Scope}
-use Rattle.rx_compile.proofs.Scopes.{labelled_setting}
-use Rattle.rx_compile.proofs.Forms.{then_made, lazily_made, assign_made, update_made, call_made, print_made, loop_made, give_made, choose_place_made, choose_value_made, build_is, block_is, negation_made, inversion_made, operation_made, one_operand, two_operands, operands_turn, operands_end}
+use Rattle.rx_compile_parts.specs.declared.scope.Scope.{Scope}
+use Rattle.rx_compile_parts.proofs.Scopes.{labelled_setting}
+use Rattle.rx_compile_parts.proofs.Forms.{then_made, lazily_made, assign_made, update_made, call_made, print_made, loop_made, give_made, choose_place_made, choose_value_made, build_is, block_is, negation_made, inversion_made, operation_made, one_operand, two_operands, operands_turn, operands_end}
 use Rattle.rx_compile.proofs.Arms.{arms_turn, covered_made, uncovered_made}
 use Rattle.rx_compile.proofs.Statements.{introduced_made, popped_is, scope_bind, finished_more, unwound_less}
 use Rattle.rx_compile.proofs.+expression.Goals as goal
@@ -25,21 +25,21 @@ trees::lazily-returns-clause-made t c =
     IfOk-weaker c.value.result _ _ (λ start h.
     lazily_made c.args.scope.now c.expression.new.scope c.args.free (plain-Want c.args.want) (plain-Mark c.args._mark.now) c.args.both (plain-Expr c.args.left.now) (plain-Expr c.args.right.now)
     c.args.next c.args.code.now.items c.expression.new.code.items c.tested_lazily.new.code.items c.in_ok-second.second c.in_ok-test.test (made c.value.new.code.items start)
-    c.in_ok-expect.ensures c.in_ok-second.ensures.scope c.in_ok-second.ensures.made c.in_ok-test.ensures h) c.value.ensures.made
+    c.in_ok-expect.ensures.wanted c.in_ok-second.ensures.scope c.in_ok-second.ensures.made c.in_ok-test.ensures.made h) c.value.ensures.made
 
 pub trees::assign-returns-clause-made : goal.trees::assign-returns-clause-made
 trees::assign-returns-clause-made t c =
     IfOk-weaker c.expression.result _ _ (λ start h.
     assign_made (setting c.args.scope.now c.args.free) (plain-Want c.args.want) (plain-Mark c.args._mark.now) (plain-Place c.args.place.now) (plain-Expr c.args.value.now)
     c.args.next c.args.code.now.items c.pushed.new.code.items (plain-Local c.in_ok-local.local) c.in_ok-at.at (made c.expression.new.code.items start)
-    c.in_ok-expect_unit.ensures c.in_ok-local.ensures c.in_ok-at.ensures h) c.expression.ensures.made
+    c.in_ok-expect_unit.ensures.wanted c.in_ok-local.ensures.local c.in_ok-at.ensures.made h) c.expression.ensures.made
 
 pub trees::update-returns-clause-made : goal.trees::update-returns-clause-made
 trees::update-returns-clause-made t c =
     IfOk-weaker c.expression.result _ _ (λ start h.
     update_made (setting c.args.scope.now c.args.free) (plain-Want c.args.want) (plain-Mark c.args._mark.now) c.args.op (plain-Place c.args.place.now) (plain-Expr c.args.value.now)
     c.args.next c.args.code.now.items c.pushed.new.code.items c.computes.new.code.items (plain-Local c.in_ok-local.local) c.in_ok-kind.kind c.in_ok-set.set c.in_ok-at.at (made c.expression.new.code.items start)
-    c.in_ok-expect_unit.ensures c.in_ok-expect_arithmetic.ensures c.in_ok-local.ensures c.in_ok-kind.ensures c.in_ok-set.ensures c.in_ok-at.ensures h) c.expression.ensures.made
+    c.in_ok-expect_unit.ensures.wanted c.in_ok-expect_arithmetic.ensures.wanted c.in_ok-local.ensures.local c.in_ok-kind.ensures.kind c.in_ok-set.ensures.made c.in_ok-at.ensures.made h) c.expression.ensures.made
 
 pub trees::call-returns-clause-made : goal.trees::call-returns-clause-made
 trees::call-returns-clause-made t c =
@@ -48,7 +48,7 @@ trees::call-returns-clause-made t c =
     IfOk-weaker c.operands.result _ _ (λ start h.
     call_made W (plain-Want c.args.want) (plain-Mark c.args._mark.now) c.args.function es
     c.args.next c.args.code.now.items c.pushed.new.code.items c.in_ok-signature.signature.now c.in_ok-at.at (made c.operands.new.code.items start)
-    c.in_ok-signature.ensures c.in_ok-expect_given.ensures c.in_ok-at.ensures
+    c.in_ok-signature.ensures.signature c.in_ok-expect_given.ensures.wanted c.in_ok-at.ensures.made
     (ap (λ hs. operands W hs es c.in_ok-at.at c.pushed.new.code.items) (sym c.as_slice.ensures) ∙ h)) c.operands.ensures.made
 
 pub trees::print-returns-clause-made : goal.trees::print-returns-clause-made
@@ -56,13 +56,13 @@ trees::print-returns-clause-made t c =
     IfOk-weaker c.expression.result _ _ (λ start h.
     print_made (setting c.args.scope.now c.args.free) (plain-Want c.args.want) (plain-Mark c.args._mark.now) (plain-Expr c.args.value.now)
     c.args.next c.args.code.now.items c.pushed.new.code.items c.in_ok-shape.shape c.in_ok-at.at (made c.expression.new.code.items start)
-    c.in_ok-expect_unit.ensures c.in_ok-shape.ensures c.in_ok-at.ensures h) c.expression.ensures.made
+    c.in_ok-expect_unit.ensures.wanted c.in_ok-shape.ensures.shape c.in_ok-at.ensures.made h) c.expression.ensures.made
 
 pub trees::repeat-returns-clause-made : goal.trees::repeat-returns-clause-made
 trees::repeat-returns-clause-made t c =
     loop_made c.args.scope.now c.enter.new.self c.args.free (plain-Want c.args.want) (plain-Mark c.args._mark.now) c.args.number (plain-Expr c.args.body.now)
     c.args.next c.args.code.now.items c.pushed.new.code.items c.expression.new.code.items c.set_pass.new.code.items c.in_ok-again.again c.in_ok-start.start
-    c.in_ok-expect_unit.ensures c.in_ok-again.ensures
+    c.in_ok-expect_unit.ensures.wanted c.in_ok-again.ensures.made
     (ap (λ (x : Scope). setting x c.args.free) c.in_ok-enter.ensures ∙ labelled_setting c.args.scope.now (record { number = c.args.number; again = c.in_ok-again.again; behind = c.args.next }) c.args.free)
     c.in_ok-start.ensures.made c.set_pass.ensures
 
@@ -71,7 +71,7 @@ trees::give-returns-clause-made t c =
     let W = setting c.args.scope.now c.args.free in
     IfOk-weaker c.expression.result _ _ (λ start h.
     give_made W (plain-Want c.args.want) (plain-Mark c.args._mark.now) (plain-Expr c.args.value.now) c.args._next c.args.code.now.items c.returning.new.code.items c.in_ok-at.at (made c.expression.new.code.items start)
-    c.in_ok-at.ensures (ap (λ w. expression W w (plain-Expr c.args.value.now) c.in_ok-at.at c.returning.new.code.items) (sym c.wanted_back.ensures) ∙ h)) c.expression.ensures.made
+    c.in_ok-at.ensures.made (ap (λ w. expression W w (plain-Expr c.args.value.now) c.in_ok-at.at c.returning.new.code.items) (sym c.wanted_back.ensures) ∙ h)) c.expression.ensures.made
 
 -- ---- matches
 
@@ -79,14 +79,14 @@ pub matches::choose_place-returns-clause-made : goal.matches::choose_place-retur
 matches::choose_place-returns-clause-made t c =
     IfOk-weaker c.all_arms.result _ _ (λ start h.
     choose_place_made (setting c.args.scope.now c.args.free) (plain-Want c.args.want) (plain-Mark c.args._mark.now) (plain-Mark c.args._at.now) (plain-Place c.args.place.now) (arms_of (map plain-Arm c.args.arms.now))
-    c.args.next c.args.code.now.items (plain-Local c.in_ok-local.local) (made c.all_arms.new.code.items start) c.in_ok-local.ensures h) c.all_arms.ensures.made
+    c.args.next c.args.code.now.items (plain-Local c.in_ok-local.local) (made c.all_arms.new.code.items start) c.in_ok-local.ensures.local h) c.all_arms.ensures.made
 
 pub matches::choose_value-returns-clause-made : goal.matches::choose_value-returns-clause-made
 matches::choose_value-returns-clause-made t c =
     IfOk-weaker c.expression.result _ _ (λ start h.
     choose_value_made c.args.scope.now c.all_arms.new.scope c.args.free (plain-Want c.args.want) (plain-Mark c.args._mark.now) (plain-Expr c.args.value.now) (arms_of (map plain-Arm c.args.arms.now))
     c.args.next c.args.code.now.items c.all_arms.new.code.items c.in_ok-shape.shape c.in_ok-at.at (made c.expression.new.code.items start)
-    c.in_ok-at.ensures.scope c.in_ok-shape.ensures c.in_ok-at.ensures.made h) c.expression.ensures.made
+    c.in_ok-at.ensures.scope c.in_ok-shape.ensures.shape c.in_ok-at.ensures.made h) c.expression.ensures.made
 
 pub matches::last_arm-returns-then-end-arms-clause-made : goal.matches::last_arm-returns-then-end-arms-clause-made
 matches::last_arm-returns-then-end-arms-clause-made t c =
@@ -100,7 +100,7 @@ matches::last_arm-returns-else-end-arms-clause-made t c =
     let k = c.if-end-arms.false in
     IfOk-weaker c.pushed.result _ _ (λ start h.
     uncovered_made (setting c.args.scope.now c.args.free) (plain-Want c.args.want) c.args.register c.args.shape c.args.arms.now c.args.end c.args.next c.args.code.now.items
-    (made c.pushed.new.code.items start) (omega (arith, k)) h) c.pushed.ensures
+    (made c.pushed.new.code.items start) (omega (arith, k)) h) c.pushed.ensures.made
 
 pub matches::all_arms-loop-i-preserved : goal.matches::all_arms-loop-i-preserved
 matches::all_arms-loop-i-preserved t c =
@@ -162,27 +162,27 @@ pub operating::negation-returns-clause-made : goal.operating::negation-returns-c
 operating::negation-returns-clause-made t c =
     IfOk-weaker c.expression.result _ _ (λ start h i.
     negation_made (setting c.args.scope.now c.args.free) (plain-Want c.args.want) i (plain-Expr c.args.operand.now) c.args.next c.args.code.now.items c.pushed.new.code.items c.in_ok-kind.kind c.in_ok-at.at
-    (made c.expression.new.code.items start) c.in_ok-kind.ensures c.in_ok-expect.ensures c.in_ok-at.ensures h) c.expression.ensures.made
+    (made c.expression.new.code.items start) c.in_ok-kind.ensures.kind c.in_ok-expect.ensures.wanted c.in_ok-at.ensures.made h) c.expression.ensures.made
 
 pub operating::inversion-returns-clause-made : goal.operating::inversion-returns-clause-made
 operating::inversion-returns-clause-made t c =
     IfOk-weaker c.expression.result _ _ (λ start h i.
     inversion_made (setting c.args.scope.now c.args.free) (plain-Want c.args.want) i (plain-Expr c.args.operand.now) c.args.next c.args.code.now.items c.pushed.new.code.items c.in_ok-at.at
-    (made c.expression.new.code.items start) c.in_ok-expect.ensures c.in_ok-at.ensures h) c.expression.ensures.made
+    (made c.expression.new.code.items start) c.in_ok-expect.ensures.wanted c.in_ok-at.ensures.made h) c.expression.ensures.made
 
 pub operating::operation-returns-in-Some-clause-made : goal.operating::operation-returns-in-Some-clause-made
 operating::operation-returns-in-Some-clause-made t c =
     let w = plain-Want c.args.want in
     IfOk-weaker c.left_computed.result _ _ (λ start h i j.
     operation_made (setting c.args.scope.now c.args.free) w c.args.op i j (plain-Expr c.args.left.now) (plain-Expr c.args.right.now) c.args.next c.args.code.now.items c.in_ok-kind.kind _
-    (made c.left_computed.new.code.items start) c.in_ok-kind.ensures (ap (takes w) (sym c.result_shape.ensures) ∙ c.in_ok-expect.ensures) c.in_ok-expect_operator.ensures (sym c.in-Some.is ∙ c.leaf_of-second.ensures) (h _)) c.left_computed.ensures.made
+    (made c.left_computed.new.code.items start) c.in_ok-kind.ensures.kind (ap (takes w) (sym c.result_shape.ensures) ∙ c.in_ok-expect.ensures.wanted) c.in_ok-expect_operator.ensures.wanted (sym c.in-Some.is ∙ c.leaf_of-second.ensures) (h _)) c.left_computed.ensures.made
 
 pub operating::operation-returns-in-None-clause-made : goal.operating::operation-returns-in-None-clause-made
 operating::operation-returns-in-None-clause-made t c =
     let w = plain-Want c.args.want in
     IfOk-weaker c.both_computed.result _ _ (λ start h i j.
     operation_made (setting c.args.scope.now c.args.free) w c.args.op i j (plain-Expr c.args.left.now) (plain-Expr c.args.right.now) c.args.next c.args.code.now.items c.in_ok-kind.kind _
-    (made c.both_computed.new.code.items start) c.in_ok-kind.ensures (ap (takes w) (sym c.result_shape.ensures) ∙ c.in_ok-expect.ensures) c.in_ok-expect_operator.ensures (sym c.in-None.is ∙ c.leaf_of-second.ensures) (h (leaf_of (locals_in c.args.scope.now) (plain-Expr c.args.left.now) (Shape.Number c.in_ok-kind.kind)))) c.both_computed.ensures.made
+    (made c.both_computed.new.code.items start) c.in_ok-kind.ensures.kind (ap (takes w) (sym c.result_shape.ensures) ∙ c.in_ok-expect.ensures.wanted) c.in_ok-expect_operator.ensures.wanted (sym c.in-None.is ∙ c.leaf_of-second.ensures) (h (leaf_of (locals_in c.args.scope.now) (plain-Expr c.args.left.now) (Shape.Number c.in_ok-kind.kind)))) c.both_computed.ensures.made
 
 pub operating::operands-loop-i-init : goal.operating::operands-loop-i-init
 operating::operands-loop-i-init t c =
@@ -197,11 +197,11 @@ operating::operands-loop-i-preserved t c =
     let p = c.loop-i-test.true in
     let W = c.args.scope.now in
     let h = c.in_ok-shape.shape in
-    let e = c.in_ok-shape.ensures in
+    let e = c.in_ok-shape.ensures.shape in
     record {
       made = operands_turn W c.loop-i.scope c.args.free n (n - 1) c.args.shapes.now c.args.parts.now h c.index-parts-i.result c.args.next c.args.code.now.items
           c.loop-i.code.items c.loop-i.start (made c.operand.new.code.items c.in_ok-start.start) (omega arith) (slice_get_within c.args.shapes.now (n - 1) h e) (omega (arith, p)) c.index-parts-i.is (sym (get_or_from_slice_get c.args.shapes.now (n - 1) h h e)) c.loop-i.invariant.scope c.loop-i.invariant.made
-          (ap (λ f. expression (setting c.loop-i.scope f) (a_value h) (plain-Operand c.index-parts-i.result).1 c.loop-i.start c.loop-i.code.items) (sym c.in_ok-register.ensures) ∙ c.in_ok-start.ensures.made);
+          (ap (λ f. expression (setting c.loop-i.scope f) (a_value h) (plain-Operand c.index-parts-i.result).1 c.loop-i.start c.loop-i.code.items) (sym c.in_ok-register.ensures.register) ∙ c.in_ok-start.ensures.made);
       scope = c.in_ok-start.ensures.scope ∙ c.loop-i.invariant.scope;
     }
 
@@ -210,7 +210,7 @@ operating::operands-loop-i-preserved t c =
 pub sequences::close_bind-returns-in_ok-next-in-Some-clause-made : goal.sequences::close_bind-returns-in_ok-next-in-Some-clause-made
 sequences::close_bind-returns-in_ok-next-in-Some-clause-made t c =
     introduced_made c.args.scope.now c.forget.new.self c.in-Some.local (plain-Matched c.args.matched.now) c.args.stand.free c.args.stand.next c.in_ok-at-in-Some.at c.args.code.now.items c.pushed.new.code.items
-    (made c.initialise.new.code.items c.in_ok-next-in-Some.next) c.in-Some.ensures c.in_ok-at-in-Some.ensures c.in_ok-next-in-Some.ensures.made
+    (made c.initialise.new.code.items c.in_ok-next-in-Some.next) c.in-Some.ensures c.in_ok-at-in-Some.ensures.made c.in_ok-next-in-Some.ensures.made
 
 pub sequences::close_bind-returns-in_ok-next-in-Some-clause-popped : goal.sequences::close_bind-returns-in_ok-next-in-Some-clause-popped
 sequences::close_bind-returns-in_ok-next-in-Some-clause-popped t c =

@@ -7,9 +7,9 @@ use Rattle.rx_typed_tree.proofs.tree.Arm.TheLaws as arm
 use Rattle.rx_typed_tree.proofs.tree.Stmt.TheLaws as stmt
 use Rattle.rx_typed_tree.proofs.tree.Matched.TheLaws as matched
 use Rattle.rx_typed_tree.specs.PlainTree.{plain-Operand, plain-Arm, operands_of, arms_of}
-use Rattle.rx_compile.specs.Compiling.{made, operands, arms}
-use Rattle.rx_compile.specs.Settings.{plain-Want, setting}
-use Rattle.rx_compile.specs.Parts.{firsts, finished}
+use Rattle.rx_compile_parts.specs.Compiling.{made, operands, arms}
+use Rattle.rx_compile_parts.specs.Settings.{plain-Want, setting}
+use Rattle.rx_compile_parts.specs.Parts.{firsts, finished}
 use Rattle.rx_compile.specs.Unwinding.{unwound}
 use Rattle.rx_compile.proofs.+expression.Given as goal
 

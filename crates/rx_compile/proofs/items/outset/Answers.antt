@@ -12,7 +12,7 @@ loop-i-preserved c =
     let h = c.in_ok-shape.shape in
     let i = c.loop-i.i in
     let p = c.in_ok-param.param in
-    let e = ap (λ hs. slice_get hs i) (sym c.as_slice-shapes.ensures) ∙ c.in_ok-shape.ensures in
+    let e = ap (λ hs. slice_get hs i) (sym c.as_slice-shapes.ensures) ∙ c.in_ok-shape.ensures.shape in
     joined_more c.args.signatures.now c.args.params.now g c.loop-i.scope c.join.new.scope i p h c.loop-i-test.true (slice_get_within g.parameters i h e) (sym (get_or_from_slice_get c.args.params.now i p p c.in_ok-param.ensures))
     (sym (get_or_from_slice_get g.parameters i h h e)) c.in_ok-join.ensures c.loop-i.invariant
 

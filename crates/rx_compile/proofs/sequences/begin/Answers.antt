@@ -3,8 +3,8 @@ use Rattle.std.proofs.lemmas.Result.{IfOk-weaker, on_ok_weaker}
 use Rattle.rx_typed.specs.Tree.{runs, lets}
 use Rattle.rx_typed_tree.specs.declared.tree.Stmt.{Stmt}
 use Rattle.rx_typed_tree.specs.PlainTree.{plain-Expr, plain-Matched, plain-Pattern, plain-Stmt, stmt_runs, stmt_lets}
-use Rattle.rx_compile.specs.Settings.{plain-Want, setting}
-use Rattle.rx_compile.specs.Parts.{idle}
+use Rattle.rx_compile_parts.specs.Settings.{plain-Want, setting}
+use Rattle.rx_compile_parts.specs.Parts.{idle}
 use Rattle.rx_compile.specs.Unwinding.{scope_before}
 use Rattle.rx_compile.proofs.Statements.{opens_as, opens_runs}
 use Rattle.rx_compile.proofs.sequences.begin.Goals as goal

@@ -1,5 +1,5 @@
 use Rattle.std.proofs.Common.{◌+◌, refl, arith}
-use Rattle.rx_compile.specs.Settings.{plain-Want, setting}
+use Rattle.rx_compile_parts.specs.Settings.{plain-Want, setting}
 use Rattle.rx_compile.proofs.Statements.{begun_more, begun_all, unwound_more}
 use Rattle.rx_compile.proofs.sequences.begin_all.Goals as goal
 

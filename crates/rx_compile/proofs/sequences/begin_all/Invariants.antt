@@ -1,6 +1,6 @@
 use Rattle.std.proofs.Common.{◌≡◌, []}
-use Rattle.rx_compile.specs.Settings.{plain-Want, setting}
-use Rattle.rx_compile.specs.Parts.{firsts}
+use Rattle.rx_compile_parts.specs.Settings.{plain-Want, setting}
+use Rattle.rx_compile_parts.specs.Parts.{firsts}
 use Rattle.rx_compile.specs.Unwinding.{unwound}
 use Rattle.rx_compile.proofs.Statements.{Begun}
 use Rattle.rx_compile.proofs.sequences.begin_all.Given as goal

@@ -1,6 +1,6 @@
 use Rattle.std.proofs.lemmas.Result.{IfOk-weaker, on_ok_weaker}
 use Rattle.rx_typed_tree.specs.PlainTree.{plain-Matched}
-use Rattle.rx_compile.specs.Settings.{plain-Want}
+use Rattle.rx_compile_parts.specs.Settings.{plain-Want}
 use Rattle.rx_compile.proofs.Statements.{opens_bind, scope_bind}
 use Rattle.rx_compile.proofs.sequences.begin_bind.Goals as goal
 

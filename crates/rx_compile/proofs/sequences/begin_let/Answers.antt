@@ -2,8 +2,8 @@ use Rattle.std.proofs.Common.{ap, sym, subst, ◌∙◌}
 use Rattle.std.proofs.lemmas.Result.{IfOk-weaker, on_ok_weaker}
 use Rattle.rx_typed.specs.Tree.{lets, any, bind, by_value, of_value}
 use Rattle.rx_typed_tree.specs.PlainTree.{plain-Matched, plain-Mode, plain-Pattern, pattern_any, pattern_bind}
-use Rattle.rx_compile.specs.Settings.{plain-Want, setting}
-use Rattle.rx_compile.specs.Parts.{Opens, idle}
+use Rattle.rx_compile_parts.specs.Settings.{plain-Want, setting}
+use Rattle.rx_compile_parts.specs.Parts.{Opens, idle}
 use Rattle.rx_compile.specs.Unwinding.{scope_before}
 use Rattle.rx_compile.specs.declared.sequences.Stand.{Stand}
 use Rattle.rx_compile.proofs.Statements.{opens_as, opens_any}

@@ -1,6 +1,6 @@
 use Rattle.std.proofs.Common.{◌≡◌, take}
 use Rattle.rx_typed.specs.PlainTypes.{declarations}
-use Rattle.rx_compile.specs.Signatures.{declared_signatures}
+use Rattle.rx_compile_parts.specs.Signatures.{declared_signatures}
 use Rattle.rx_run.proofs.hints.signatures.Given as goal
 
 abbrev pub invariant-loop-decl : goal.invariant-loop-decl

@@ -1,0 +1,5 @@
+pub mod Compiling
+pub mod Settings
+pub mod Parts
+pub mod Signatures
+pub mod Refusals
