@@ -71,7 +71,7 @@ but_last (l ∷ m ∷ ls) = l ∷ but_last (m ∷ ls)
 abbrev pub without_last : Scope → Scope
 without_last s = record s { locals = but_last s.locals }
 
--- it was forgotten, where there was one
+-- it was forgotten; or there was none
 abbrev pub Forgets : Scope → Scope → Option Local → Type 0
-Forgets s t None = Unit {0}
+Forgets s t None = (s.locals ≡ []) × (t ≡ s)
 Forgets s t (Some l) = s ≡ with_new t l
