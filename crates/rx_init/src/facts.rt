@@ -10,7 +10,7 @@ ghost use Rattle.rx_init.specs.Tables as tables;
 
 use crate::acts::{assigned, begun, lost, regained, sets, unsets};
 use rx_along::along;
-use rx_core::Place;
+use rx_core::{List, Place};
 use rx_emit::Site;
 use rx_flow::{Act, Action};
 use rx_graph::{Effect, Few, Table};
@@ -104,7 +104,7 @@ fn effects(
     Ok(all)
 }
 
-/// The table of facts of a kind below a bound, where these hold at the start.
+/// The table of facts of a kind below a bound, where these hold at the start. Where there are no facts it has no rows.
 pub fn table(
     alloc: Global,
     setup: &Setup<'_>,
@@ -116,6 +116,11 @@ pub fn table(
     requires { tables.IsSetup setup.now }
     ensures { IfOk result (λ t. tables.Tells (map plain-Site sites.now) (tables.switches (plain-Frame setup.now.frame.now) setup.now.watched.now kind) (has start) bound t.rows) }
 {
+    if bound == 0 {
+        return Ok(Table {
+            rows: List::new(alloc),
+        });
+    }
     let effects = effects(alloc, setup, kind, sites)?;
     along(alloc, sites, effects.as_slice(), start, bound)
 }
