@@ -1,5 +1,6 @@
 //! The command `run`: its words, what programs print, how they end, and writes that fail.
 
+mod forms;
 mod large;
 mod programs;
 mod said;
