@@ -1,7 +1,8 @@
 //! How far an expression comes at once, and what comes next then.
 
-ghost use Rattle.std.specs.Prelude.{◌≡◌, IfOk, IfSome};
+ghost use Rattle.std.specs.Prelude.{◌≡◌, IfOk, IfSome, IfNone};
 ghost use Rattle.rx_typed_tree.specs.PlainTree.{plain-Expr};
+ghost use Rattle.rx_meaning.specs.Values.{Value as ValueOf};
 ghost use Rattle.rx_values.specs.PlainValues.{plain-Value};
 ghost use Rattle.rx_direct.specs.Reaching.{gave};
 ghost use Rattle.rx_direct.specs.PlainReached.{plain-Reached};
@@ -16,10 +17,11 @@ use rx_typed_tree::Expr;
 use rx_values::Value;
 use std::alloc::{AllocError, Global};
 
-/// The value that was given.
+/// The value that was given; none only where something is left.
 #[tactic(auto, using(rx_steps::proofs::StepRules::unit_is))]
 pub fn given_value<'a>(reached: Reached<'a>) -> Option<Value>
-    ensures { IfSome result (λ v. plain-Reached reached.entry ≡ gave (plain-Value v)) }
+    ensures some { IfSome result (λ v. plain-Reached reached.entry ≡ gave (plain-Value v)) }
+    ensures none { IfNone result ((v : ValueOf) → plain-Reached reached.entry ≡ gave v → ⊥) }
 {
     match reached {
         Reached::Gave(scalar) => Some(scalar.value()),

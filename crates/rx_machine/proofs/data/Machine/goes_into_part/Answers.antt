@@ -7,7 +7,7 @@ use Rattle.rx_machine.proofs.data.Machine.goes_into_part.Goals as goal
 pub returns-in_ok-next-in-Some : goal.returns-in_ok-next-in-Some
 returns-in_ok-next-in-Some c =
     part_given c.args.self.now c.args.hole (plain-Expr c.args.expr.now) c.arrive-reached.new.self (plain-Reached c.arrive-reached.result) (plain-Value c.in-Some.value) c.in_ok-next-in-Some.next
-    c.arrive-reached.ensures c.in-Some.ensures c.in_ok-next-in-Some.ensures
+    c.arrive-reached.ensures c.in-Some.ensures.some c.in_ok-next-in-Some.ensures
 
 pub returns-in_ok-push-in-None : goal.returns-in_ok-push-in-None
 returns-in_ok-push-in-None c =

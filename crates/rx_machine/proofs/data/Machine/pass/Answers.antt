@@ -8,7 +8,7 @@ use Rattle.rx_machine.proofs.data.Machine.pass.Goals as goal
 pub returns-in-Some : goal.returns-in-Some
 returns-in-Some c = λ P.
     pass_given c.args.self.now c.args.mark c.args.number c.args.body c.arrive-reached.new.self (plain-Reached c.arrive-reached.result) (plain-Value c.in-Some.value) (turn_form.Loops c.args.mark c.args.number c.args.body)
-    c.arrive-reached.ensures c.in-Some.ensures refl P
+    c.arrive-reached.ensures c.in-Some.ensures.some refl P
 
 pub returns-in_ok-push-in-None : goal.returns-in_ok-push-in-None
 returns-in_ok-push-in-None c = λ P.
