@@ -1,37 +1,48 @@
-//! Extracts a run of statements of a Rust file into a function of its own, or checks the file.
+//! Extracts a run of statements of a Rust file into a function of its own, or checks or runs the file.
 #![tactic(auto)]
+
+ghost use Rattle.std.specs.Prelude.{◌≡◌, map, drop, string_bytes, IfOk};
 
 use rx_core::{List, StdSink, StdSource, Text};
 use rx_tool::{Status, rem, report_name};
+use std::alloc::{AllocError, Global};
 use std::env;
 use std::io::ErrorKind;
 use std::process::ExitCode;
-use std::rt::Env;
 
-/// The words after the program's name. A word that is not UTF-8 is a faulty command line.
-fn given_words<R: Env + AllocGlobal>(rt: &R) -> Result<List<Text>, Status> {
-    let args = match env::args(rt) {
-        Ok(args) => args,
-        Err(error) if error.kind() == ErrorKind::OutOfMemory => return Err(Status::OutOfMemory),
-        Err(_) => return Err(Status::Usage),
-    };
-    let mut words = List::new(rt.alloc());
-    for arg in args.skip(1) {
-        match Text::new(rt.alloc(), arg.as_str()) {
-            Ok(word) => {
-                if words.push(word).is_err() {
-                    return Err(Status::OutOfMemory);
-                }
-            }
-            Err(_) => return Err(Status::OutOfMemory),
-        }
+/// Copies of texts.
+fn texts_of(alloc: Global, given: &[String]) -> Result<List<Text>, AllocError>
+    ensures { IfOk result (λ texts. texts ≡ map string_bytes given.now) }
+{
+    let mut texts = List::new(alloc);
+    for text in given {
+        texts.push(Text::new(alloc, text.as_str())?)?;
     }
-    Ok(words)
+    Ok(texts)
+}
+
+/// The words behind the program's name.
+fn words_of(alloc: Global, given: &[String]) -> Result<List<Text>, AllocError>
+    ensures { IfOk result (λ words. words ≡ map string_bytes (drop 1 given.now)) }
+{
+    match given {
+        [_program, words @ ..] => texts_of(alloc, words),
+        [] => Ok(List::new(alloc)),
+    }
 }
 
 fn main(rt: HostRuntime) -> ExitCode {
     let mut err = StdSink::new(rt.stderr());
-    let status = match given_words(&rt) {
+    // A word that is not UTF-8 is a faulty command line.
+    let words = match env::args(&rt) {
+        Ok(args) => match args.collect::<Vec<String>>(rt.alloc()) {
+            Ok(given) => words_of(rt.alloc(), given.as_slice()).map_err(|_| Status::OutOfMemory),
+            Err(_) => Err(Status::OutOfMemory),
+        },
+        Err(error) if error.kind() == ErrorKind::OutOfMemory => Err(Status::OutOfMemory),
+        Err(_) => Err(Status::Usage),
+    };
+    let status = match words {
         Ok(words) => {
             let mut source = StdSource::new(rt.stdin());
             let mut out = StdSink::new(rt.stdout());
