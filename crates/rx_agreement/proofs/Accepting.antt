@@ -13,10 +13,10 @@ use Rattle.rx_resolve.specs.Items.{apart, in_item, in_items}
 use Rattle.rx_resolve.specs.Causes.{Meant}
 use Rattle.rx_typed.specs.declared.declarations.Decl.{Decl}
 use Rattle.rx_typed.specs.Naming.{function_named}
-use Rattle.rx_unify.specs.Facts.{MeetsEach}
-use Rattle.rx_rules.specs.Demands as rules
-use Rattle.rx_declare.specs.Steps.{on_ok}
-use Rattle.rx_declare.specs.Items.{declared_item, declared_items, entries_of}
+use Rattle.rx_typeck_solver.specs.Facts.{MeetsEach}
+use Rattle.rx_typeck_rules.specs.Demands as rules
+use Rattle.rx_typeck_declare.specs.Steps.{on_ok}
+use Rattle.rx_typeck_declare.specs.Items.{declared_item, declared_items, entries_of}
 use Rattle.rx_typeck.specs.declared.typed.TypedFn.{TypedFn}
 use Rattle.rx_typeck.specs.declared.typed.Typed.{Typed}
 use Rattle.rx_typeck.specs.Typing as typing

@@ -7,7 +7,7 @@ use Rattle.rx_tree.specs.declared.tree.Ident.{Ident}
 use Rattle.rx_tree.specs.declared.tree.BinaryOp.{BinaryOp}
 use Rattle.rx_tree.specs.Plain as plain
 use Rattle.rx_tree.specs.Plain.{Expression, Expressions, ProgramTree}
-use Rattle.rx_scope.specs.Scopes.{Variables, variable_named}
+use Rattle.rx_resolve_scope.specs.Scopes.{Variables, variable_named}
 use Rattle.rx_resolve.specs.declared.resolved.ItemNames.{ItemNames}
 use Rattle.rx_resolve.specs.declared.resolved.NodeNames.{NodeNames}
 use Rattle.rx_resolve.specs.Meant.{function_name, item_named, as_function, Around}
@@ -22,12 +22,12 @@ use Rattle.rx_typed.specs.Naming as naming
 use Rattle.rx_typed.specs.Naming.{Cursor, a_node, declaration, use_of}
 use Rattle.rx_typed.specs.Types as types
 use Rattle.rx_typed.specs.Types.{Declared, parameters_declared, result_declared}
-use Rattle.rx_unify.specs.declared.facts.Op.TheVariants as op
-use Rattle.rx_unify.specs.declared.facts.Demand.{Demand}
-use Rattle.rx_unify.specs.Facts.{Types, Known, MeetsEach, coerced}
-use Rattle.rx_rules.specs.Asking.{type_of, expected}
-use Rattle.rx_rules.specs.Demands as rules
-use Rattle.rx_rules.specs.Demands.{Listed, argument_count}
+use Rattle.rx_typeck_solver.specs.declared.facts.Op.TheVariants as op
+use Rattle.rx_typeck_solver.specs.declared.facts.Demand.{Demand}
+use Rattle.rx_typeck_solver.specs.Facts.{Types, Known, MeetsEach, coerced}
+use Rattle.rx_typeck_rules.specs.Asking.{type_of, expected}
+use Rattle.rx_typeck_rules.specs.Demands as rules
+use Rattle.rx_typeck_rules.specs.Demands.{Listed, argument_count}
 use Rattle.rx_first_check.specs.Accepted as accepted
 use Rattle.rx_first_check.specs.Accepted.{ValueType, integer, unit, Scope, type_in, Signature, signature_of, IsArithmetic, HasType, AreIntegers}
 use Rattle.rx_first_check.specs.FirstGrammar.{is_arithmetic, is_first_value, are_variables}

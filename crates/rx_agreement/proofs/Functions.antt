@@ -10,8 +10,8 @@ use Rattle.rx_tree.specs.Plain.{TypeTree, Parameter, Function, Body, ProgramTree
 use Rattle.rx_tree.specs.Lists.{statements, tail, Every}
 use Rattle.rx_tree.specs.Nodes.{total, below_block}
 use Rattle.rx_tree.specs.Size.{bindings_at}
-use Rattle.rx_scope.specs.declared.table.Known.{Known as Meant}
-use Rattle.rx_scope.specs.Scopes.{Declared, Variables, entered}
+use Rattle.rx_resolve_scope.specs.declared.table.Known.{Known as Meant}
+use Rattle.rx_resolve_scope.specs.Scopes.{Declared, Variables, entered}
 use Rattle.rx_resolve.specs.declared.resolved.ItemNames.{ItemNames}
 use Rattle.rx_resolve.specs.declared.resolved.NodeNames.{NodeNames}
 use Rattle.rx_resolve.specs.Meant.{number, Around}
@@ -26,11 +26,11 @@ use Rattle.rx_typed.specs.Named.{Written, body_node, written_node}
 use Rattle.rx_typed.specs.Naming as naming
 use Rattle.rx_typed.specs.Naming.{Cursor, a_node}
 use Rattle.rx_typed.specs.Types.{Typ, result_declared}
-use Rattle.rx_unify.specs.declared.facts.Subject.TheVariants as subject
-use Rattle.rx_unify.specs.declared.facts.Demand.{Demand}
-use Rattle.rx_unify.specs.Facts.{Types, Known, MeetsEach}
-use Rattle.rx_rules.specs.Asking.{expected}
-use Rattle.rx_rules.specs.Demands as rules
+use Rattle.rx_typeck_solver.specs.declared.facts.Subject.TheVariants as subject
+use Rattle.rx_typeck_solver.specs.declared.facts.Demand.{Demand}
+use Rattle.rx_typeck_solver.specs.Facts.{Types, Known, MeetsEach}
+use Rattle.rx_typeck_rules.specs.Asking.{expected}
+use Rattle.rx_typeck_rules.specs.Demands as rules
 use Rattle.rx_first_check.specs.Accepted.{integer, Scope, Signature, given_by, scope_from, IsI64, IsParameter, parameter_names, IsTyped}
 use Rattle.rx_first_check.specs.FirstGrammar.{is_i64_type, is_first_parameter, is_first_result, is_first_statement, is_first_tail}
 use Rattle.rx_agreement.proofs.Meeting.{typ_of, front, last, result_is}

@@ -8,19 +8,19 @@ use Rattle.rx_typed.specs.declared.nodes.Site.{Site}
 use Rattle.rx_typed.specs.declared.nodes.Use.{Use}
 use Rattle.rx_typed.specs.Types as types
 use Rattle.rx_typed.specs.Types.{Typ, Declared, unit_shape, outline, parameters_declared, result_declared}
-use Rattle.rx_unify.specs.declared.facts.Broken.{Broken}
-use Rattle.rx_unify.specs.declared.facts.Subject.{Subject}
-use Rattle.rx_unify.specs.declared.facts.Subject.TheVariants as subject
-use Rattle.rx_unify.specs.declared.facts.Op.{Op}
-use Rattle.rx_unify.specs.declared.facts.Op.TheVariants as op
-use Rattle.rx_unify.specs.declared.facts.Test.TheVariants as test
-use Rattle.rx_unify.specs.declared.facts.Rule.{Rule}
-use Rattle.rx_unify.specs.declared.facts.Passing.{Passing}
-use Rattle.rx_unify.specs.declared.facts.Fact.{Fact}
-use Rattle.rx_unify.specs.declared.facts.Demand.{Demand}
-use Rattle.rx_unify.specs.Facts.{Types, Known, MeetsAll, MeetsEach, coerced, made, types_at, is_plain, has}
-use Rattle.rx_rules.specs.Asking.{ask, asks, type_of, expected, alike, passes, just, fitting}
-use Rattle.rx_rules.specs.Demands as rules
+use Rattle.rx_typeck_solver.specs.declared.facts.Broken.{Broken}
+use Rattle.rx_typeck_solver.specs.declared.facts.Subject.{Subject}
+use Rattle.rx_typeck_solver.specs.declared.facts.Subject.TheVariants as subject
+use Rattle.rx_typeck_solver.specs.declared.facts.Op.{Op}
+use Rattle.rx_typeck_solver.specs.declared.facts.Op.TheVariants as op
+use Rattle.rx_typeck_solver.specs.declared.facts.Test.TheVariants as test
+use Rattle.rx_typeck_solver.specs.declared.facts.Rule.{Rule}
+use Rattle.rx_typeck_solver.specs.declared.facts.Passing.{Passing}
+use Rattle.rx_typeck_solver.specs.declared.facts.Fact.{Fact}
+use Rattle.rx_typeck_solver.specs.declared.facts.Demand.{Demand}
+use Rattle.rx_typeck_solver.specs.Facts.{Types, Known, MeetsAll, MeetsEach, coerced, made, types_at, is_plain, has}
+use Rattle.rx_typeck_rules.specs.Asking.{ask, asks, type_of, expected, alike, passes, just, fitting}
+use Rattle.rx_typeck_rules.specs.Demands as rules
 use Rattle.rx_first_check.specs.Accepted.{ValueType, integer, unit, greatest_literal}
 use Rattle.rx_first_check.specs.FirstGrammar.{is_arithmetic}
 

@@ -9,7 +9,7 @@ use Rattle.rx_tree.specs.Lists.{listed, statements, tail}
 use Rattle.rx_tree.specs.Nodes.{total, below_statement, below_block, within_statements, within_optional}
 use Rattle.rx_tree.specs.Size.{bindings_at}
 use Rattle.rx_tree.proofs.NodesLaws.{total_both}
-use Rattle.rx_scope.specs.Scopes.{Variables}
+use Rattle.rx_resolve_scope.specs.Scopes.{Variables}
 use Rattle.rx_resolve.specs.declared.resolved.ItemNames.{ItemNames}
 use Rattle.rx_resolve.specs.declared.resolved.NodeNames.{NodeNames}
 use Rattle.rx_resolve.specs.Meant.{number, Around}
@@ -23,11 +23,11 @@ use Rattle.rx_typed.specs.Named.{Exp, Pattern, node_of, body_node}
 use Rattle.rx_typed.specs.Naming as naming
 use Rattle.rx_typed.specs.Naming.{Cursor, a_node}
 use Rattle.rx_typed.specs.Types.{Typ}
-use Rattle.rx_unify.specs.declared.facts.Subject.TheVariants as subject
-use Rattle.rx_unify.specs.declared.facts.Demand.{Demand}
-use Rattle.rx_unify.specs.Facts.{Types, Known, MeetsEach, coerced}
-use Rattle.rx_rules.specs.Asking.{type_of, expected}
-use Rattle.rx_rules.specs.Demands as rules
+use Rattle.rx_typeck_solver.specs.declared.facts.Subject.TheVariants as subject
+use Rattle.rx_typeck_solver.specs.declared.facts.Demand.{Demand}
+use Rattle.rx_typeck_solver.specs.Facts.{Types, Known, MeetsEach, coerced}
+use Rattle.rx_typeck_rules.specs.Asking.{type_of, expected}
+use Rattle.rx_typeck_rules.specs.Demands as rules
 use Rattle.rx_first_check.specs.Accepted as accepted
 use Rattle.rx_first_check.specs.Accepted.{ValueType, integer, unit, Scope, Signature, HasType, AreTyped, Gives}
 use Rattle.rx_first_check.specs.FirstGrammar.{is_first_value, is_first_call, is_first_print, is_first_statement, is_first_tail}

@@ -3,29 +3,29 @@ use Rattle.std.proofs.Common.{◌≡◌, ◌≢◌, ℕ, List, refl, ap, subst}
 use Rattle.rx_tree.specs.Plain.{ProgramTree}
 use Rattle.rx_resolve.specs.declared.resolved.ItemNames.{ItemNames}
 use Rattle.rx_resolve.specs.Causes.{Meant}
-use Rattle.rx_cycles.specs.Reaches.{NoCycle}
+use Rattle.rx_graph_cycles.specs.Reaches.{NoCycle}
 use Rattle.rx_typed.specs.Types.{Declarations}
 use Rattle.rx_typed.specs.PlainTypes.{declarations}
-use Rattle.rx_declared.specs.Held.{held}
-use Rattle.rx_declared.specs.Sizes.{Sized}
+use Rattle.rx_typed_declarations.specs.Held.{held}
+use Rattle.rx_typed_declarations.specs.Sizes.{Sized}
 use Rattle.rx_typeck.specs.declared.typed.Typed.{Typed}
 use Rattle.rx_typeck.specs.declared.typed.TypeFault.{TypeFault}
 use Rattle.rx_typeck.specs.Typing as typing
 use Rattle.rx_typeck.specs.Typing.{IsTyped}
 use Rattle.rx_typeck.specs.Alike.{AreAlike}
 use Rattle.rx_cover.specs.declared.covering.CoverFault.{CoverFault}
-use Rattle.rx_lifetimes.specs.declared.whole.LowerFault.{LowerFault}
+use Rattle.rx_lower_lifetimes.specs.declared.whole.LowerFault.{LowerFault}
 use Rattle.rx_facts.specs.declared.fault.InitFault.{InitFault}
 use Rattle.rx_facts.specs.Passing.{AllAre, FirstNot}
 use Rattle.rx_facts.specs.Functions.{IsSmall, IsLarge, IsInitialised, IsUninitialised}
 use Rattle.rx_facts.specs.Same.{SameFunction, AreSame}
 use Rattle.rx_facts.proofs.Passing.{first_or_all, first_both, first_alike, all_alike}
 use Rattle.rx_facts.proofs.Settling.{settled_small, one_large, settled_initialised, same_small, same_large, same_initialised}
-use Rattle.rx_judged.specs.declared.regions.RegionFault.{RegionFault}
-use Rattle.rx_judged.specs.declared.regions.RegionFault.TheVariants as region_fault
-use Rattle.rx_judged.specs.declared.loans.LoanFault.{LoanFault}
-use Rattle.rx_judged.specs.Answers.{FirstLacks, FirstMeets}
-use Rattle.rx_judged.proofs.Settling.{lacks_in, meets_in, lacks_or_lack_none, borrowing_lacks_none, meets_or_borrow, lacks_are_one}
+use Rattle.rx_check_loans.specs.declared.regions.RegionFault.{RegionFault}
+use Rattle.rx_check_loans.specs.declared.regions.RegionFault.TheVariants as region_fault
+use Rattle.rx_check_loans.specs.declared.loans.LoanFault.{LoanFault}
+use Rattle.rx_check_loans.specs.Answers.{FirstLacks, FirstMeets}
+use Rattle.rx_check_loans.proofs.Settling.{lacks_in, meets_in, lacks_or_lack_none, borrowing_lacks_none, meets_or_borrow, lacks_are_one}
 use Rattle.rx_check.specs.declared.fault.CheckFault.{CheckFault}
 use Rattle.rx_check.specs.declared.fault.CheckFault.TheVariants as check_fault
 use Rattle.rx_check.specs.Passes.{FunctionsCovered, IsFront, Fronted, Accepted}

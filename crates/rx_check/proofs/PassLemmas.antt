@@ -15,9 +15,9 @@ use Rattle.rx_typeck.specs.Typing as typing
 use Rattle.rx_typeck.specs.Typing.{IsTyped}
 use Rattle.rx_cover.specs.declared.covering.CoverFault.{CoverFault}
 use Rattle.rx_cover.specs.declared.covering.CoverFault.TheVariants as cover_fault
-use Rattle.rx_declared.specs.Sizes.{told}
-use Rattle.rx_lifetimes.specs.declared.whole.LowerFault.{LowerFault}
-use Rattle.rx_lifetimes.specs.declared.whole.LowerFault.TheVariants as lower_fault
+use Rattle.rx_typed_declarations.specs.Sizes.{told}
+use Rattle.rx_lower_lifetimes.specs.declared.whole.LowerFault.{LowerFault}
+use Rattle.rx_lower_lifetimes.specs.declared.whole.LowerFault.TheVariants as lower_fault
 use Rattle.rx_facts.specs.declared.fault.InitFault.{InitFault}
 use Rattle.rx_facts.specs.declared.fault.InitFault.TheVariants as init_fault
 use Rattle.rx_facts.specs.declared.lowering.Lowered.{Lowered}
@@ -26,14 +26,14 @@ use Rattle.rx_facts.specs.Passing.{AllAre}
 use Rattle.rx_facts.specs.Functions.{IsSmall, IsInitialised}
 use Rattle.rx_facts.specs.Answers.{IsGraphOf, AreGraphs, LowerAnswers, AreFactsOf, AreFacts, FactsAnswer}
 use Rattle.rx_facts.proofs.Passing.{all_of_each}
-use Rattle.rx_judged.specs.declared.regions.FunctionRegions.{FunctionRegions}
-use Rattle.rx_judged.specs.declared.regions.RegionFault.{RegionFault}
-use Rattle.rx_judged.specs.declared.regions.RegionFault.TheVariants as region_fault
-use Rattle.rx_judged.specs.declared.loans.FunctionLoans.{FunctionLoans}
-use Rattle.rx_judged.specs.declared.loans.LoanFault.{LoanFault}
-use Rattle.rx_judged.specs.declared.loans.LoanFault.TheVariants as loan_fault
-use Rattle.rx_judged.specs.Answers.{AreRegions, RegionsAnswer, AreLoans, LoansAnswer}
-use Rattle.rx_judged.proofs.Telling.{found_lack_none, found_borrow}
+use Rattle.rx_check_loans.specs.declared.regions.FunctionRegions.{FunctionRegions}
+use Rattle.rx_check_loans.specs.declared.regions.RegionFault.{RegionFault}
+use Rattle.rx_check_loans.specs.declared.regions.RegionFault.TheVariants as region_fault
+use Rattle.rx_check_loans.specs.declared.loans.FunctionLoans.{FunctionLoans}
+use Rattle.rx_check_loans.specs.declared.loans.LoanFault.{LoanFault}
+use Rattle.rx_check_loans.specs.declared.loans.LoanFault.TheVariants as loan_fault
+use Rattle.rx_check_loans.specs.Answers.{AreRegions, RegionsAnswer, AreLoans, LoansAnswer}
+use Rattle.rx_check_loans.proofs.Telling.{found_lack_none, found_borrow}
 use Rattle.rx_check.specs.declared.fault.CheckFault.{CheckFault}
 use Rattle.rx_check.specs.declared.fault.CheckFault.TheVariants as check_fault
 use Rattle.rx_check.specs.Passes.{FunctionsCovered, IsFront}

@@ -10,12 +10,12 @@ use Rattle.rx_typed_tree.specs.PlainTree.{plain-Expr}
 use Rattle.rx_typeck.specs.declared.typed.Typed.{Typed}
 use Rattle.rx_typeck.specs.declared.typed.TypedFn.{TypedFn}
 use Rattle.rx_typeck.specs.Typing.{IsTyped}
-use Rattle.rx_declared.specs.Sizes.{Sized}
+use Rattle.rx_typed_declarations.specs.Sizes.{Sized}
 use Rattle.rx_cover.specs.Choices.{Choice, choices_of}
 use Rattle.rx_cover.specs.Causes.{AllCovered}
 use Rattle.rx_facts.specs.Passing.{AllAre}
 use Rattle.rx_facts.specs.Functions.{IsSmall, IsInitialised}
-use Rattle.rx_judged.specs.Answers.{AllBorrow}
+use Rattle.rx_check_loans.specs.Answers.{AllBorrow}
 
 -- the matches of a function, in the order of the text
 abbrev pub matches_of : TypedFn → List Choice

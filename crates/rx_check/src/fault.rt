@@ -3,10 +3,10 @@
 ghost use Rattle.std.specs.Prelude.{◌≡◌};
 ghost use Rattle.rx_check.specs.Faults as spec;
 
+use rx_check_loans::{LoanFault, RegionFault};
 use rx_cover::CoverFault;
 use rx_facts::InitFault;
-use rx_judged::{LoanFault, RegionFault};
-use rx_lifetimes::LowerFault;
+use rx_lower_lifetimes::LowerFault;
 use rx_resolve::NameFault;
 use rx_typeck::TypeFault;
 

@@ -2,12 +2,12 @@
 use Rattle.std.proofs.Common.{◌≡◌, ℕ, zero, suc, ◌+◌, ◌-◌, ◌<◌, ◌≤◌, Bool, true, false, List, [], ◌∷◌, ◌++◌, length, map, replicate, Option, Some, None, slice_get, slice_set, refl, sym, ap, ◌∙◌, subst, ◌⊎◌, inl, inr, ⊎_elim, arith}
 use Rattle.std.proofs.lemmas.List.{length-map}
 use Rattle.rx_core.specs.declared.types.Kind.{Kind}
-use Rattle.rx_cycles.specs.Reaches.{targets, IsIn, NoCycle}
-use Rattle.rx_cycles.specs.Orders.{Behind, InOrder}
-use Rattle.rx_cycles.proofs.Ways.{is_in_front, is_in_behind}
-use Rattle.rx_cycles.proofs.Placing.{order_exists}
+use Rattle.rx_graph_cycles.specs.Reaches.{targets, IsIn, NoCycle}
+use Rattle.rx_graph_cycles.specs.Orders.{Behind, InOrder}
+use Rattle.rx_graph_cycles.proofs.Ways.{is_in_front, is_in_behind}
+use Rattle.rx_graph_cycles.proofs.Placing.{order_exists}
 use Rattle.rx_typed.specs.Types.{Typ, integer, boolean, tuple_of, reference, named, Shapes, no_shape, shape_and, shapes_of, Declared, Declarations, VariantDeclared, parts_declared}
-use Rattle.rx_declared.specs.Held.{named_in, named_among, held_by, held, variant_types}
+use Rattle.rx_typed_declarations.specs.Held.{named_in, named_among, held_by, held, variant_types}
 use Rattle.rx_cover.specs.Finite.{held_at, Each, EachOf, Within, Finite, expanse, expanse_all, item_expanse, expanse_in, all_in}
 
 module _ (P : ℕ → Type 0) where

@@ -6,7 +6,7 @@ use Rattle.std.proofs.lemmas.List.{append_assoc, append-nil, length-map}
 use Rattle.rx_core.specs.declared.types.Kind.{Kind}
 use Rattle.rx_typed.specs.Types.{Typ, integer, boolean, tuple_of, reference, named, Shapes, no_shape, shape_and, shapes_of, shapes_listed, Declarations, Declared, FieldDeclared, VariantDeclared, variants_declared, fields_declared, parts_declared}
 use Rattle.rx_typed.specs.Elaborated.{with_sign}
-use Rattle.rx_declared.specs.Held.{field_types, variant_types}
+use Rattle.rx_typed_declarations.specs.Held.{field_types, variant_types}
 use Rattle.rx_cover.specs.Values as value
 use Rattle.rx_cover.specs.Values.{Values, number, tuple, made, pointing, no_value, value_and, HasType, HaveTypes, InKind, greatest, below_zero, is_struct}
 use Rattle.rx_cover.specs.Heads as head

@@ -3,7 +3,7 @@ use Rattle.std.specs.Prelude.{ℕ, zero, suc, ◌+◌, List, [], length, Option,
 use Rattle.rx_typed.specs.Types.{Typ, Shapes, no_shape, shape_and, integer, boolean, tuple_of, reference, named, shapes_of}
 use Rattle.rx_typed.specs.Types.{Declared, Declarations}
 use Rattle.rx_core.specs.declared.types.Kind.{Kind}
-use Rattle.rx_declared.specs.Held.{held_types}
+use Rattle.rx_typed_declarations.specs.Held.{held_types}
 
 abbrev pub held_at : Option Declared → List Typ
 held_at None = []

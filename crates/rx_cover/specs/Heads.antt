@@ -3,7 +3,7 @@ use Rattle.std.specs.Prelude.{◌≡◌, ℕ, suc, ◌<◌, nat_eq, nat_le, nat_
 use Rattle.rx_core.specs.declared.types.Kind.{Kind}
 use Rattle.rx_typed.specs.Types.{Typ, integer, boolean, tuple_of, reference, named, shapes_listed, Declared, Declarations}
 use Rattle.rx_typed.specs.Types.{fields_declared, variants_declared, parts_declared}
-use Rattle.rx_declared.specs.Held.{field_types}
+use Rattle.rx_typed_declarations.specs.Held.{field_types}
 use Rattle.rx_typed.specs.Tree as tree
 use Rattle.rx_typed.specs.Tree.{Pattern, any, bind, exactly, parts, behind, Subpatterns, no_part, part_and, whole_number}
 use Rattle.rx_cover.specs.Values as value

@@ -3,7 +3,7 @@ use Rattle.std.specs.Prelude.{◌≡◌, ℕ, ◌<◌, ◌≤◌, ℤ, pos, negs
 use Rattle.rx_core.specs.declared.types.Kind.{Kind}
 use Rattle.rx_typed.specs.Types.{Typ, integer, boolean, tuple_of, reference, named, shapes_listed, Declared, struct_declared}
 use Rattle.rx_typed.specs.Types.{Declarations, fields_declared, variants_declared, variant_parts}
-use Rattle.rx_declared.specs.Held.{field_types}
+use Rattle.rx_typed_declarations.specs.Held.{field_types}
 
 mutual
   pub data Value : Type 0 where

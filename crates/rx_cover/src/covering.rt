@@ -1,8 +1,8 @@
 //! Whether the matches of a function are covered.
 
 ghost use Rattle.std.specs.Prelude.{◌≡◌};
-ghost use Rattle.rx_cycles.specs.Reaches.{NoCycle};
-ghost use Rattle.rx_declared.specs.Held.{held};
+ghost use Rattle.rx_graph_cycles.specs.Reaches.{NoCycle};
+ghost use Rattle.rx_typed_declarations.specs.Held.{held};
 ghost use Rattle.rx_typed.specs.PlainTypes.{declarations};
 ghost use Rattle.rx_typed_tree.specs.PlainTree.{plain-Expr};
 ghost use Rattle.rx_cover.specs.Choices.{Choice as PlainChoice, choices_of};

@@ -1,8 +1,8 @@
 //! What is wrong with the first match of a function that is not covered.
 
 ghost use Rattle.std.specs.Prelude.{◌≡◌, IfOk, map, option_map};
-ghost use Rattle.rx_cycles.specs.Reaches.{NoCycle};
-ghost use Rattle.rx_declared.specs.Held.{held};
+ghost use Rattle.rx_graph_cycles.specs.Reaches.{NoCycle};
+ghost use Rattle.rx_typed_declarations.specs.Held.{held};
 ghost use Rattle.rx_typed.specs.PlainTypes.{declarations};
 ghost use Rattle.rx_typed_tree.specs.PlainTree.{plain-Expr};
 ghost use Rattle.rx_cover.specs.Choices.{choices_of};

@@ -3,7 +3,7 @@
 ghost use Rattle.std.specs.Prelude.{◌≡◌, ◌<◌, ℕ, Bool, [], ◌∷◌, Ok, Err, Some, None, true, false, IfOk, length, map, option_map, slice_get};
 ghost use Rattle.rx_typed.specs.PlainTypes.{plain-Ty, plain-FieldDecl, plain-VariantDecl, plain-Decl, declarations};
 ghost use Rattle.rx_typed.specs.Types.{integer, boolean, tuple_of, reference, named, shapes_of, Declarations};
-ghost use Rattle.rx_declared.specs.Held.{field_types};
+ghost use Rattle.rx_typed_declarations.specs.Held.{field_types};
 ghost use Rattle.rx_cover.specs.Finite.{Finite};
 ghost use Rattle.rx_cover.specs.PlainCells.{plain-Head};
 ghost use Rattle.rx_cover.specs.PlainValue.{plain-Value, plain_values};

@@ -6,7 +6,7 @@ ghost use Rattle.rx_typed.specs.Types.{variants_declared, fields_declared};
 ghost use Rattle.rx_cover.specs.Values as values_spec;
 ghost use Rattle.rx_typed_tree.specs.PlainTree.{plain-Pattern, plain-Subpattern, subpatterns_of};
 ghost use Rattle.rx_typed.specs.Tree as tree;
-ghost use Rattle.rx_declared.specs.Held.{field_types};
+ghost use Rattle.rx_typed_declarations.specs.Held.{field_types};
 ghost use Rattle.rx_cover.specs.Heads as heads_spec;
 ghost use Rattle.rx_cover.specs.PlainCells.{plain-Head, plain-Cell, plain-Row, plain-Cells, plain-Column};
 ghost use Rattle.rx_cover.specs.Matrices as spec;

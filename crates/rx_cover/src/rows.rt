@@ -2,7 +2,7 @@
 
 ghost use Rattle.std.specs.Prelude.{◌≡◌, [], ◌∷◌, ◌++◌, IfOk, OnOk, List, length, map, drop, slice_get};
 ghost use Rattle.rx_typed.specs.PlainTypes.{plain-Ty, plain-FieldDecl, declarations};
-ghost use Rattle.rx_declared.specs.Held.{field_types};
+ghost use Rattle.rx_typed_declarations.specs.Held.{field_types};
 ghost use Rattle.rx_cover.specs.Heads as heads_spec;
 ghost use Rattle.rx_cover.specs.PlainCells.{plain-Head, plain-Cell, plain-Row, plain-Cells, plain-Column};
 ghost use Rattle.rx_cover.specs.Matrices as spec;

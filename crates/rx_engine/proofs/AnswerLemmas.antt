@@ -7,10 +7,10 @@ use Rattle.rx_lex.specs.Tok.{Tok}
 use Rattle.rx_lex.specs.Tokens.{Lexes}
 use Rattle.rx_lex.specs.Words.{is_identifier}
 use Rattle.rx_lex.proofs.TokenLaws.{lexes_one}
-use Rattle.rx_grammar.specs.grammar.Items.{Parses}
-use Rattle.rx_spelling.specs.Items.{print_program}
+use Rattle.rx_parse_grammar.specs.grammar.Items.{Parses}
+use Rattle.rx_print_spelling.specs.Items.{print_program}
 use Rattle.rx_engine.proofs.PrintParses.{print_parses}
-use Rattle.rx_spelling.proofs.SameText.{print_same}
+use Rattle.rx_print_spelling.proofs.SameText.{print_same}
 use Rattle.rx_engine.proofs.SamePrintable.{printable_same}
 use Rattle.rx_engine.proofs.Measured.{parses_printable}
 use Rattle.rx_first_check.specs.Names.{free}

@@ -1,8 +1,8 @@
 -- Why a text does not pass: what the parser and the checker say of it, by cases on the fault.
 use Rattle.std.proofs.Common.{◌≡◌, ℕ, true, List, Some, Result, Ok, Err, ◌⊎◌, inl, inr, ap, subst}
 use Rattle.rx_tree.specs.Plain.{ProgramTree}
-use Rattle.rx_grammar.specs.grammar.Items.{Parses}
-use Rattle.rx_grammar.proofs.Whole.{one_text}
+use Rattle.rx_parse_grammar.specs.grammar.Items.{Parses}
+use Rattle.rx_parse_grammar.proofs.Whole.{one_text}
 use Rattle.rx_parse.specs.Answer.{IsCause}
 use Rattle.rx_parse.specs.declared.fault.SyntaxFault.{SyntaxFault}
 use Rattle.rx_parse.specs.declared.fault.SyntaxFault.TheVariants as syntax_fault

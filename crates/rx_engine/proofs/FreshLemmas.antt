@@ -6,13 +6,13 @@ use Rattle.rx_tree.specs.PlainOf.{expressions_of}
 use Rattle.rx_tree.specs.Lists.{statements, tail, Every}
 use Rattle.rx_tree.proofs.ListsLemmas.{listed-statements_of}
 use Rattle.rx_lex.specs.Tok.{Tok}
-use Rattle.rx_grammar.specs.grammar.Words.{IsListOf, no_element, last_element, element}
-use Rattle.rx_grammar.specs.grammar.Patterns as pattern
-use Rattle.rx_grammar.specs.grammar.Patterns.{IsPattern}
-use Rattle.rx_grammar.specs.grammar.Expressions as g
-use Rattle.rx_grammar.specs.grammar.Expressions.{IsExpression, IsOperand, IsUnary, IsPostfix, IsPrimary, AreArguments, IsLike, IsIf, IsBlock, IsStatement, AreStatements}
-use Rattle.rx_grammar.specs.grammar.Items as item
-use Rattle.rx_grammar.specs.grammar.Items.{IsParameter, IsItem, IsFile}
+use Rattle.rx_parse_grammar.specs.grammar.Words.{IsListOf, no_element, last_element, element}
+use Rattle.rx_parse_grammar.specs.grammar.Patterns as pattern
+use Rattle.rx_parse_grammar.specs.grammar.Patterns.{IsPattern}
+use Rattle.rx_parse_grammar.specs.grammar.Expressions as g
+use Rattle.rx_parse_grammar.specs.grammar.Expressions.{IsExpression, IsOperand, IsUnary, IsPostfix, IsPrimary, AreArguments, IsLike, IsIf, IsBlock, IsStatement, AreStatements}
+use Rattle.rx_parse_grammar.specs.grammar.Items as item
+use Rattle.rx_parse_grammar.specs.grammar.Items.{IsParameter, IsItem, IsFile}
 use Rattle.rx_engine.specs.Conditions.{is_taken}
 use Rattle.rx_engine.specs.Avoids.{AvoidsExpression, AvoidsExpressions, AvoidsGiven, AvoidsPattern, AvoidsStatement, AvoidsParameter, AvoidsItem, Avoids}
 use Rattle.rx_engine.proofs.OtherNames.{Others, others_left, others_right, inside, untaken}

@@ -13,18 +13,18 @@ use Rattle.rx_tree.specs.Lists.{statements, tail}
 use Rattle.rx_tree.specs.Erase.{SameProgram}
 use Rattle.rx_tree.proofs.ListsLemmas.{listed-statements_of}
 use Rattle.rx_lex.specs.Tok.{Tok}
-use Rattle.rx_grammar.specs.grammar.Words.{IsListOf, no_element, last_element, element}
-use Rattle.rx_grammar.specs.grammar.Expressions as g
-use Rattle.rx_grammar.specs.grammar.Expressions.{IsExpression, IsOperand, IsUnary, IsPostfix, IsPrimary, AreArguments, IsLike, IsIf, IsBlock, IsStatement, AreStatements, IsOperator}
-use Rattle.rx_grammar.specs.grammar.Items as item
-use Rattle.rx_grammar.specs.grammar.Items.{IsParameter, IsResult, IsItem, IsFile, Parses}
-use Rattle.rx_grammar.proofs.TypesRead.{type_positive}
-use Rattle.rx_grammar.proofs.PatternsRead.{pattern_positive}
+use Rattle.rx_parse_grammar.specs.grammar.Words.{IsListOf, no_element, last_element, element}
+use Rattle.rx_parse_grammar.specs.grammar.Expressions as g
+use Rattle.rx_parse_grammar.specs.grammar.Expressions.{IsExpression, IsOperand, IsUnary, IsPostfix, IsPrimary, AreArguments, IsLike, IsIf, IsBlock, IsStatement, AreStatements, IsOperator}
+use Rattle.rx_parse_grammar.specs.grammar.Items as item
+use Rattle.rx_parse_grammar.specs.grammar.Items.{IsParameter, IsResult, IsItem, IsFile, Parses}
+use Rattle.rx_parse_grammar.proofs.TypesRead.{type_positive}
+use Rattle.rx_parse_grammar.proofs.PatternsRead.{pattern_positive}
 use Rattle.rx_first_check.specs.FirstGrammar.{is_arithmetic, is_first_value, is_variable, are_variables, is_first_call, is_first_print, is_first_given, is_first_binding, is_none, is_empty, is_first_statement, is_first_tail, is_i64_type, is_first_parameter, is_first_result, is_first_item, is_first_program}
-use Rattle.rx_spelling.specs.Places.{strength, left_strength, right_strength, too_weak, weakness, begins, shown, is_like}
-use Rattle.rx_spelling.specs.Levels.{enclosed_levels, deepest, type_levels, written_levels, pattern_levels, placed_levels, stated_levels, expression_levels, list_levels, statement_levels, statements_levels, block_levels, tail_levels, parameter_levels, item_levels, levels_of}
-use Rattle.rx_spelling.specs.Items.{print_program}
-use Rattle.rx_spelling.proofs.ItemsFormed.{text_formed}
+use Rattle.rx_print_spelling.specs.Places.{strength, left_strength, right_strength, too_weak, weakness, begins, shown, is_like}
+use Rattle.rx_print_spelling.specs.Levels.{enclosed_levels, deepest, type_levels, written_levels, pattern_levels, placed_levels, stated_levels, expression_levels, list_levels, statement_levels, statements_levels, block_levels, tail_levels, parameter_levels, item_levels, levels_of}
+use Rattle.rx_print_spelling.specs.Items.{print_program}
+use Rattle.rx_print_spelling.proofs.ItemsFormed.{text_formed}
 use Rattle.rx_engine.specs.Printable.{Printable}
 use Rattle.rx_engine.proofs.PrintParses.{print_parses}
 

@@ -14,13 +14,13 @@ use Rattle.rx_lex.specs.Tokens.{Lexes}
 use Rattle.rx_lex.specs.Words.{is_identifier}
 use Rattle.rx_lex.proofs.Reading.{only_memory}
 use Rattle.rx_lex.proofs.TokenLaws.{lexes_one, stuck_one}
-use Rattle.rx_grammar.specs.grammar.Items.{Parses}
-use Rattle.rx_grammar.proofs.Whole.{one_text}
+use Rattle.rx_parse_grammar.specs.grammar.Items.{Parses}
+use Rattle.rx_parse_grammar.proofs.Whole.{one_text}
 use Rattle.rx_parse.specs.declared.fault.SyntaxFault.{SyntaxFault}
 use Rattle.rx_parse.specs.declared.fault.SyntaxFault.TheVariants as syntax_fault
 use Rattle.rx_parse.proofs.Causes.{cause_excludes}
 use Rattle.rx_parse.proofs.OnePlace.{one_place}
-use Rattle.rx_spelling.proofs.SameText.{print_same}
+use Rattle.rx_print_spelling.proofs.SameText.{print_same}
 use Rattle.rx_first_check.specs.declared.fault.NameFault.TheVariants as name_fault
 use Rattle.rx_first_check.specs.declared.fault.TypeFault.TheVariants as type_fault
 use Rattle.rx_first_check.specs.declared.fault.CheckFault.{CheckFault}

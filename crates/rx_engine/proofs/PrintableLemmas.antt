@@ -11,9 +11,9 @@ use Rattle.rx_tree.specs.PlainOf.{statements_of}
 use Rattle.rx_tree.specs.Erase.{nowhere}
 use Rattle.rx_tree.specs.Lists.{Every, listed}
 use Rattle.rx_lex.specs.Words.{is_identifier}
-use Rattle.rx_grammar.specs.grammar.Items.{levels}
-use Rattle.rx_spelling.specs.Levels.{deepest, written_levels, list_levels, statement_levels, statements_levels, tail_levels, parameter_levels, item_levels}
-use Rattle.rx_spelling.specs.Formed.{Formed, FormedList, FormedOptional, FormedStatement, FormedStatements, FormedParameter, FormedItem, WrittenType, MoreFollows, has_semicolon}
+use Rattle.rx_parse_grammar.specs.grammar.Items.{levels}
+use Rattle.rx_print_spelling.specs.Levels.{deepest, written_levels, list_levels, statement_levels, statements_levels, tail_levels, parameter_levels, item_levels}
+use Rattle.rx_print_spelling.specs.Formed.{Formed, FormedList, FormedOptional, FormedStatement, FormedStatements, FormedParameter, FormedItem, WrittenType, MoreFollows, has_semicolon}
 use Rattle.rx_engine.specs.Printable.{Printable}
 use Rattle.rx_engine.proofs.SamePrintable.{printable_same}
 use Rattle.rx_first_check.specs.FirstGrammar.{is_empty, is_first_statement, is_first_tail, is_first_parameter, is_first_result, is_first_call, is_first_print, are_variables, is_first_item}

@@ -7,10 +7,10 @@ use Rattle.rx_tree.specs.Plain as plain
 use Rattle.rx_tree.specs.Plain.{TypeTree, PatternTree, Expression, Expressions, OptionalExpression, Body, Statement, Statements, Parameter, Function, ItemTree, ProgramTree}
 use Rattle.rx_tree.specs.Lists.{listed, statements, tail}
 use Rattle.rx_tree.specs.Erase.{erase, erase_all, erase_optional, erase_pattern, erase_statement, erase_statements, erase_body, erase_type, erase_lifetime, erase_parameter, erase_function, erase_item, erase_program, SameProgram}
-use Rattle.rx_grammar.specs.grammar.Items.{levels}
+use Rattle.rx_parse_grammar.specs.grammar.Items.{levels}
 use Rattle.rx_first_check.specs.FirstGrammar.{is_first_value, is_variable, are_variables, is_first_call, is_first_print, is_first_given, is_first_binding, is_none, is_empty, is_first_statement, is_first_tail, is_i64_type, is_first_parameter, is_first_result, is_first_function, is_first_item, is_first_program}
-use Rattle.rx_spelling.proofs.SameLevels.{levels_same}
-use Rattle.rx_spelling.proofs.SameFormed.{formed_same}
+use Rattle.rx_print_spelling.proofs.SameLevels.{levels_same}
+use Rattle.rx_print_spelling.proofs.SameFormed.{formed_same}
 use Rattle.rx_engine.specs.Printable.{Printable}
 
 same_value : (e : Expression) → is_first_value (erase e) ≡ is_first_value e

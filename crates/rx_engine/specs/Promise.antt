@@ -3,8 +3,8 @@ use Rattle.std.specs.Prelude.{◌≡◌, ℕ, ℤ, ◌≤◌, ◌*◌, true, fal
 use Rattle.rx_core.specs.Bytes.{is_one_of}
 use Rattle.rx_tree.specs.Plain.{ProgramTree}
 use Rattle.rx_lex.specs.Words.{is_identifier}
-use Rattle.rx_grammar.specs.grammar.Items.{Parses}
-use Rattle.rx_spelling.specs.Items.{print_program}
+use Rattle.rx_parse_grammar.specs.grammar.Items.{Parses}
+use Rattle.rx_print_spelling.specs.Items.{print_program}
 use Rattle.rx_first_meaning.specs.Meaning.{run, UpTo}
 use Rattle.rx_first_check.specs.FirstGrammar.{is_first_program}
 use Rattle.rx_first_check.specs.Names.{free}

@@ -6,12 +6,12 @@ use Rattle.rx_core.specs.Bytes.{is_one_of}
 use Rattle.rx_tree.specs.Plain.{ProgramTree}
 use Rattle.rx_lex.specs.Words.{is_identifier}
 use Rattle.rx_lex.specs.Tok.{Tok}
-use Rattle.rx_grammar.specs.grammar.Items.{Parses}
+use Rattle.rx_parse_grammar.specs.grammar.Items.{Parses}
 use Rattle.rx_lex.specs.declared.lexer.LexFault.TheVariants as lex_fault
 use Rattle.rx_parse.specs.Answer.{IsCause}
 use Rattle.rx_parse.specs.declared.fault.SyntaxFault.{SyntaxFault}
 use Rattle.rx_parse.specs.declared.fault.SyntaxFault.TheVariants as syntax_fault
-use Rattle.rx_spelling.specs.Items.{print_program}
+use Rattle.rx_print_spelling.specs.Items.{print_program}
 use Rattle.rx_first_check.specs.Names.{free}
 use Rattle.rx_first_check.specs.Accepted.{unit, Scope, type_in, signatures, AreTyped, scope_from}
 use Rattle.rx_first_check.specs.Faults.{Breaks, first, faults}

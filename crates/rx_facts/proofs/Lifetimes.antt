@@ -6,19 +6,19 @@ use Rattle.rx_typed.specs.declared.declarations.Decl.{Decl}
 use Rattle.rx_typed.specs.declared.declarations.Decl.TheVariants as decl
 use Rattle.rx_typed.specs.Regions.{RegionTyp, region-Ty}
 use Rattle.rx_typed.specs.Tree as tree
-use Rattle.rx_walks.specs.Actions.{Act, Declare, Dead, Read, Write, Borrow, Test, Call, Build, Input, Print, Give, Action}
-use Rattle.rx_lower.specs.Text.{actions_of}
-use Rattle.rx_lower.specs.Pieces.{graph}
-use Rattle.rx_declared.specs.Variance.{unrecorded}
-use Rattle.rx_place_types.specs.Renaming.{Signature, signature_from}
-use Rattle.rx_lifetimes.specs.Values.{Open, Held, lifetimes_of, held_by, result_type}
-use Rattle.rx_lifetimes.specs.Variables.{Written, open_types}
-use Rattle.rx_lifetimes.specs.Numbered as numbered
-use Rattle.rx_lifetimes.specs.Numbered.{Own, signed, own_of, all_owned, all_open, all_numbered}
-use Rattle.rx_lifetimes.specs.Positions.{own_lifetimes}
-use Rattle.rx_lifetimes.specs.Lowered.{Lifetimes, parameters, bounds_of, lifetimes_by, lifetimes}
+use Rattle.rx_lower_walks.specs.Actions.{Act, Declare, Dead, Read, Write, Borrow, Test, Call, Build, Input, Print, Give, Action}
+use Rattle.rx_lower_graph.specs.Text.{actions_of}
+use Rattle.rx_lower_graph.specs.Pieces.{graph}
+use Rattle.rx_typed_declarations.specs.Variance.{unrecorded}
+use Rattle.rx_typed_places.specs.Renaming.{Signature, signature_from}
+use Rattle.rx_lower_lifetimes.specs.Values.{Open, Held, lifetimes_of, held_by, result_type}
+use Rattle.rx_lower_lifetimes.specs.Variables.{Written, open_types}
+use Rattle.rx_lower_lifetimes.specs.Numbered as numbered
+use Rattle.rx_lower_lifetimes.specs.Numbered.{Own, signed, own_of, all_owned, all_open, all_numbered}
+use Rattle.rx_lower_lifetimes.specs.Positions.{own_lifetimes}
+use Rattle.rx_lower_lifetimes.specs.Lowered.{Lifetimes, parameters, bounds_of, lifetimes_by, lifetimes}
 use Rattle.rx_typeck.specs.declared.typed.TypedFn.{TypedFn}
-use Rattle.rx_lowered.specs.Functions.{trimmed, written, function}
+use Rattle.rx_lower.specs.Functions.{trimmed, written, function}
 use Rattle.rx_facts.specs.Functions.{body}
 use Rattle.rx_facts.specs.Same.{SameFunction}
 use Rattle.rx_facts.proofs.Positions.{plain, unrecorded_option, knowing, all_opened, lifetimes_at, parameters_same, result_same, held_same, own_same, all_own_same, all_opened_is}

@@ -10,19 +10,19 @@ use Rattle.rx_typed.specs.declared.declarations.Decl.TheVariants as decl
 use Rattle.rx_typed.specs.Regions.{RegionTyp, region_integer, region_boolean, region_tuple, region_reference, region_named, RegionTyps, region-Ty}
 use Rattle.rx_typed.specs.Tree as tree
 use Rattle.rx_typed.specs.Tree.{Parameter, Making, constant, negation, inversion, operation, lazy, tuple, struct, variant_of}
-use Rattle.rx_walks.specs.Actions.{Act, Declare, Dead, Read, Write, Borrow, Test, Call, Build, Input, Print, Give, Action, filled}
-use Rattle.rx_lower.specs.Text.{actions_of}
-use Rattle.rx_lower.specs.Pieces.{graph}
-use Rattle.rx_declared.specs.Variance.{unrecorded}
-use Rattle.rx_place_types.specs.Renaming.{unit_region, instance}
-use Rattle.rx_place_types.specs.Places as places
-use Rattle.rx_place_types.specs.Places.{fields_of, part_at, item_behind, behind, place_type}
-use Rattle.rx_lifetimes.specs.Values.{Open, Known, Held, lifetimes_of, root_type, made_item, made_type, result_type, value_type, hold, held_by, held_type}
-use Rattle.rx_lifetimes.specs.Variables.{Written, parameter_type, written_type, told, open_type, open_types}
-use Rattle.rx_lifetimes.specs.Positions.{own_lifetimes, all_own, in_variables, in_held, positions}
-use Rattle.rx_lifetimes.specs.Lowered.{parameters, known, actions}
+use Rattle.rx_lower_walks.specs.Actions.{Act, Declare, Dead, Read, Write, Borrow, Test, Call, Build, Input, Print, Give, Action, filled}
+use Rattle.rx_lower_graph.specs.Text.{actions_of}
+use Rattle.rx_lower_graph.specs.Pieces.{graph}
+use Rattle.rx_typed_declarations.specs.Variance.{unrecorded}
+use Rattle.rx_typed_places.specs.Renaming.{unit_region, instance}
+use Rattle.rx_typed_places.specs.Places as places
+use Rattle.rx_typed_places.specs.Places.{fields_of, part_at, item_behind, behind, place_type}
+use Rattle.rx_lower_lifetimes.specs.Values.{Open, Known, Held, lifetimes_of, root_type, made_item, made_type, result_type, value_type, hold, held_by, held_type}
+use Rattle.rx_lower_lifetimes.specs.Variables.{Written, parameter_type, written_type, told, open_type, open_types}
+use Rattle.rx_lower_lifetimes.specs.Positions.{own_lifetimes, all_own, in_variables, in_held, positions}
+use Rattle.rx_lower_lifetimes.specs.Lowered.{parameters, known, actions}
 use Rattle.rx_typeck.specs.declared.typed.TypedFn.{TypedFn}
-use Rattle.rx_lowered.specs.Functions.{trimmed, written, function}
+use Rattle.rx_lower.specs.Functions.{trimmed, written, function}
 use Rattle.rx_facts.specs.Functions.{body}
 
 -- ---- what is recorded counts for nothing

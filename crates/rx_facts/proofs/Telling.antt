@@ -4,22 +4,22 @@ use Rattle.rx_core.specs.declared.types.Ty.{Ty}
 use Rattle.rx_typed.specs.declared.declarations.Decl.{Decl}
 use Rattle.rx_typed.specs.Types.{Declarations}
 use Rattle.rx_typed.specs.PlainTypes.{plain-Ty, declarations}
-use Rattle.rx_emit.specs.declared.site.Site as code_site
-use Rattle.rx_emit.specs.PlainSite.{plain-Site}
-use Rattle.rx_lower.specs.Graph.{Site}
-use Rattle.rx_parts.specs.Places.{Frame}
-use Rattle.rx_live.specs.Tables.{Lives}
-use Rattle.rx_init.specs.Answer.{IsTable, Answers}
-use Rattle.rx_init.specs.Initialised.{Initialised, IsUnset, IsAgain}
-use Rattle.rx_init.specs.Wholes.{placed}
-use Rattle.rx_init.specs.declared.whole.InitFault.{InitFault as NodeFault}
-use Rattle.rx_init.specs.declared.whole.InitFault.TheVariants as node_fault
-use Rattle.rx_lifetimes.specs.declared.whole.LowerFault.{LowerFault}
-use Rattle.rx_lifetimes.specs.declared.whole.LowerFault.TheVariants as lower_fault
+use Rattle.rx_lower_emit.specs.declared.site.Site as code_site
+use Rattle.rx_lower_emit.specs.PlainSite.{plain-Site}
+use Rattle.rx_lower_graph.specs.Graph.{Site}
+use Rattle.rx_facts_parts.specs.Places.{Frame}
+use Rattle.rx_facts_live.specs.Tables.{Lives}
+use Rattle.rx_facts_init.specs.Answer.{IsTable, Answers}
+use Rattle.rx_facts_init.specs.Initialised.{Initialised, IsUnset, IsAgain}
+use Rattle.rx_facts_init.specs.Wholes.{placed}
+use Rattle.rx_facts_init.specs.declared.whole.InitFault.{InitFault as NodeFault}
+use Rattle.rx_facts_init.specs.declared.whole.InitFault.TheVariants as node_fault
+use Rattle.rx_lower_lifetimes.specs.declared.whole.LowerFault.{LowerFault}
+use Rattle.rx_lower_lifetimes.specs.declared.whole.LowerFault.TheVariants as lower_fault
 use Rattle.rx_typeck.specs.declared.typed.TypedFn.{TypedFn}
 use Rattle.rx_typeck.specs.declared.typed.Typed.{Typed}
-use Rattle.rx_declared.specs.Sizes.{Sized}
-use Rattle.rx_lowered.specs.Functions.{trimmed}
+use Rattle.rx_typed_declarations.specs.Sizes.{Sized}
+use Rattle.rx_lower.specs.Functions.{trimmed}
 use Rattle.rx_facts.specs.declared.fault.InitFault.{InitFault}
 use Rattle.rx_facts.specs.declared.fault.InitFault.TheVariants as fault
 use Rattle.rx_facts.specs.declared.lowering.Lowered.{Lowered}

@@ -4,7 +4,7 @@ use Rattle.rx_core.specs.declared.types.Span.{Span}
 use Rattle.rx_core.specs.declared.types.Ty.{Ty}
 use Rattle.rx_tree.specs.Plain as plain
 use Rattle.rx_tree.specs.Plain.{ProgramTree}
-use Rattle.rx_cycles.specs.Reaches.{NoCycle}
+use Rattle.rx_graph_cycles.specs.Reaches.{NoCycle}
 use Rattle.rx_resolve.specs.declared.resolved.ItemNames.{ItemNames}
 use Rattle.rx_resolve.specs.declared.resolved.NodeNames.{NodeNames}
 use Rattle.rx_resolve.proofs.WalkLemmas.{ok_is}
@@ -15,21 +15,21 @@ use Rattle.rx_typed.specs.Regions.{RegionTyp, region-Ty}
 use Rattle.rx_typed.specs.Named.{Function}
 use Rattle.rx_typed.specs.Naming.{function_named}
 use Rattle.rx_typed.specs.Elaborated.{elaborated}
-use Rattle.rx_declared.specs.Held.{held}
-use Rattle.rx_declared.specs.Sizes.{Sized, IsSizes}
-use Rattle.rx_declared.specs.Variance.{unrecorded}
-use Rattle.rx_declare.specs.Programs.{Fits}
-use Rattle.rx_elaborate_parts.specs.Assigning.{joined}
-use Rattle.rx_let_types.specs.declared.variables.AnnotatedVariable.{AnnotatedVariable}
-use Rattle.rx_let_types.specs.Walks.{plain-Variable}
-use Rattle.rx_unify.specs.declared.facts.Subject.{Subject}
-use Rattle.rx_unify.specs.declared.facts.Subject.TheVariants as subject
-use Rattle.rx_unify.specs.Facts.{Types, Known}
+use Rattle.rx_typed_declarations.specs.Held.{held}
+use Rattle.rx_typed_declarations.specs.Sizes.{Sized, IsSizes}
+use Rattle.rx_typed_declarations.specs.Variance.{unrecorded}
+use Rattle.rx_typeck_declare.specs.Programs.{Fits}
+use Rattle.rx_typeck_elaborate_parts.specs.Assigning.{joined}
+use Rattle.rx_typeck_let_types.specs.declared.variables.AnnotatedVariable.{AnnotatedVariable}
+use Rattle.rx_typeck_let_types.specs.Walks.{plain-Variable}
+use Rattle.rx_typeck_solver.specs.declared.facts.Subject.{Subject}
+use Rattle.rx_typeck_solver.specs.declared.facts.Subject.TheVariants as subject
+use Rattle.rx_typeck_solver.specs.Facts.{Types, Known}
 use Rattle.rx_typeck.specs.declared.typed.TypedFn.{TypedFn}
 use Rattle.rx_typeck.specs.declared.typed.Typed.{Typed}
 use Rattle.rx_typeck.specs.Typing.{Given, known_in, entries, variables_at, assigned, type_at, TypeIs, FunctionTyped, FunctionsTyped, IsTyped}
-use Rattle.rx_lifetimes.specs.Variables.{Written}
-use Rattle.rx_lowered.specs.Functions.{trimmed, trimmed_and, written}
+use Rattle.rx_lower_lifetimes.specs.Variables.{Written}
+use Rattle.rx_lower.specs.Functions.{trimmed, trimmed_and, written}
 use Rattle.rx_facts.specs.Passing.{Each}
 use Rattle.rx_facts.specs.Same.{SameFunction, AreSame}
 

@@ -5,17 +5,17 @@ use Rattle.rx_typed.specs.Types.{Declarations}
 use Rattle.rx_typed.specs.PlainTypes.{declarations}
 use Rattle.rx_typeck.specs.declared.typed.Typed.{Typed}
 use Rattle.rx_typeck.specs.declared.typed.TypedFn.{TypedFn}
-use Rattle.rx_declared.specs.Sizes.{Sized, told}
-use Rattle.rx_live.specs.Tables.{Lives}
-use Rattle.rx_init.specs.Answer.{IsTable}
-use Rattle.rx_init.specs.Wholes.{placed}
-use Rattle.rx_init.specs.Initialised.{IsUnset, IsAgain}
-use Rattle.rx_init.specs.declared.whole.InitFault.{InitFault as NodeFault}
-use Rattle.rx_init.specs.declared.whole.InitFault.TheVariants as node_fault
-use Rattle.rx_lifetimes.specs.declared.whole.LowerFault.{LowerFault}
-use Rattle.rx_lifetimes.specs.declared.whole.LowerFault.TheVariants as lower_fault
-use Rattle.rx_lifetimes.specs.Answer.{IsLowered}
-use Rattle.rx_lowered.specs.Functions.{function}
+use Rattle.rx_typed_declarations.specs.Sizes.{Sized, told}
+use Rattle.rx_facts_live.specs.Tables.{Lives}
+use Rattle.rx_facts_init.specs.Answer.{IsTable}
+use Rattle.rx_facts_init.specs.Wholes.{placed}
+use Rattle.rx_facts_init.specs.Initialised.{IsUnset, IsAgain}
+use Rattle.rx_facts_init.specs.declared.whole.InitFault.{InitFault as NodeFault}
+use Rattle.rx_facts_init.specs.declared.whole.InitFault.TheVariants as node_fault
+use Rattle.rx_lower_lifetimes.specs.declared.whole.LowerFault.{LowerFault}
+use Rattle.rx_lower_lifetimes.specs.declared.whole.LowerFault.TheVariants as lower_fault
+use Rattle.rx_lower_lifetimes.specs.Answer.{IsLowered}
+use Rattle.rx_lower.specs.Functions.{function}
 use Rattle.rx_facts.specs.Passing.{Each, FirstNot}
 use Rattle.rx_facts.specs.Functions.{body, sites_of, IsSmall, IsLarge, frame_of, IsInitialised, IsUninitialised}
 use Rattle.rx_facts.specs.declared.fault.InitFault.{InitFault}

@@ -10,19 +10,19 @@ use Rattle.rx_typed.specs.Types.{Declarations}
 use Rattle.rx_typed.specs.PlainTypes.{plain-Ty}
 use Rattle.rx_typed.specs.Tree as tree
 use Rattle.rx_typed_tree.specs.PlainTree.{plain-TypedTree}
-use Rattle.rx_lower.specs.Graph.{Site}
-use Rattle.rx_lower.specs.Pieces.{graph}
+use Rattle.rx_lower_graph.specs.Graph.{Site}
+use Rattle.rx_lower_graph.specs.Pieces.{graph}
 use Rattle.rx_typeck.specs.declared.typed.Typed.{Typed}
 use Rattle.rx_typeck.specs.declared.typed.TypedFn.{TypedFn}
 use Rattle.rx_typeck.specs.Typing.{IsTyped}
-use Rattle.rx_parts.specs.Places.{Frame}
-use Rattle.rx_init.specs.Wholes.{placed}
-use Rattle.rx_init.specs.Initialised.{Initialised, IsUnset, IsAgain}
-use Rattle.rx_lifetimes.specs.Positions.{positions}
-use Rattle.rx_lifetimes.specs.Lowered.{known, actions}
-use Rattle.rx_lifetimes.specs.declared.whole.LowerFault.{LowerFault}
-use Rattle.rx_lifetimes.specs.Answer.{Refuses}
-use Rattle.rx_lowered.specs.Functions.{trimmed, function}
+use Rattle.rx_facts_parts.specs.Places.{Frame}
+use Rattle.rx_facts_init.specs.Wholes.{placed}
+use Rattle.rx_facts_init.specs.Initialised.{Initialised, IsUnset, IsAgain}
+use Rattle.rx_lower_lifetimes.specs.Positions.{positions}
+use Rattle.rx_lower_lifetimes.specs.Lowered.{known, actions}
+use Rattle.rx_lower_lifetimes.specs.declared.whole.LowerFault.{LowerFault}
+use Rattle.rx_lower_lifetimes.specs.Answer.{Refuses}
+use Rattle.rx_lower.specs.Functions.{trimmed, function}
 use Rattle.rx_facts.specs.declared.fault.InitFault.{InitFault}
 use Rattle.rx_facts.specs.declared.fault.InitFault.TheVariants as fault
 

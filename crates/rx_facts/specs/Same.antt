@@ -2,10 +2,10 @@
 -- its places, its tree and the types of its variables.
 use Rattle.std.specs.Prelude.{◌≡◌, map, option_map}
 use Rattle.rx_typed.specs.Regions.{region-Ty}
-use Rattle.rx_declared.specs.Variance.{unrecorded}
+use Rattle.rx_typed_declarations.specs.Variance.{unrecorded}
 use Rattle.rx_typeck.specs.declared.typed.Typed.{Typed}
 use Rattle.rx_typeck.specs.declared.typed.TypedFn.{TypedFn}
-use Rattle.rx_lowered.specs.Functions.{trimmed, written}
+use Rattle.rx_lower.specs.Functions.{trimmed, written}
 use Rattle.rx_facts.specs.Passing.{Each}
 use Rattle.rx_facts.specs.Functions.{body}
 

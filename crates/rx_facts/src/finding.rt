@@ -2,7 +2,7 @@
 
 ghost use Rattle.std.specs.Prelude.{◌≡◌, ◌≢◌, ◌++◌, ◌∷◌, [], IfOk, IfErr};
 ghost use Rattle.rx_typed.specs.PlainTypes.{declarations};
-ghost use Rattle.rx_declared.specs.Sizes.{Sized, told};
+ghost use Rattle.rx_typed_declarations.specs.Sizes.{Sized, told};
 ghost use Rattle.rx_facts.specs.declared.finding.FunctionFacts.{FunctionFacts as FactsOf};
 ghost use Rattle.rx_facts.specs.Functions.{IsTypedProgram, IsUninitialised};
 ghost use Rattle.rx_facts.specs.Passing.{Each};
@@ -11,14 +11,14 @@ ghost use Rattle.rx_facts.specs.Answers.{IsGraphOf, AreGraphs, AreFactsOf, Funct
 use crate::fault::{InitFault, placed};
 use crate::lowering::Lowered;
 use rx_core::{LetGo, List, keep, pushed};
-use rx_declared::sizes;
-use rx_init::{InitTable, init};
-use rx_live::{LiveTable, live};
-use rx_lowered::trimmed;
-use rx_parts::Frame;
-use rx_sized::typed_sizes_are_sized;
+use rx_facts_init::{InitTable, init};
+use rx_facts_live::{LiveTable, live};
+use rx_facts_parts::Frame;
+use rx_lower::trimmed;
 use rx_typeck::{Typed, TypedFn, typed_declarations_are_finite};
+use rx_typeck_sized::typed_sizes_are_sized;
 use rx_typed::Decls;
+use rx_typed_declarations::sizes;
 use std::alloc::Global;
 
 /// What is live in a function at each site, and what may be set and unset where a walk comes there.

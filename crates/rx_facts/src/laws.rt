@@ -7,8 +7,8 @@ ghost use Rattle.rx_typeck.specs.Typing.{IsTyped};
 ghost use Rattle.rx_typeck.specs.declared.typed.Typed.{Typed};
 ghost use Rattle.rx_facts.specs.Same.{AreSame};
 
-use rx_declare::declared_are_finite;
-use rx_declared::one_size_each;
+use rx_typeck_declare::declared_are_finite;
+use rx_typed_declarations::one_size_each;
 
 /// Two typed programs of one text are the same, but for how they record polarities and what they have of variables
 /// without types: so whether a function is within the limits, and whether it is initialised, is told by the text.

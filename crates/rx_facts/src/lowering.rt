@@ -1,13 +1,13 @@
 //! The graphs of all functions.
 
 ghost use Rattle.std.specs.Prelude.{◌≡◌, ◌≢◌, ◌++◌, ◌∷◌, [], IfOk, IfErr};
-ghost use Rattle.rx_lifetimes.specs.declared.whole.LowerFault.TheVariants as fault;
+ghost use Rattle.rx_lower_lifetimes.specs.declared.whole.LowerFault.TheVariants as fault;
 ghost use Rattle.rx_facts.specs.Functions.{IsLarge};
 ghost use Rattle.rx_facts.specs.Answers.{IsGraphOf, EachLowered, LowerAnswers};
 
 use rx_core::{LetGo, List, keep, pushed};
-use rx_lifetimes::{Graph, LowerFault};
-use rx_lowered::lower_typed;
+use rx_lower::lower_typed;
+use rx_lower_lifetimes::{Graph, LowerFault};
 use rx_typeck::{Typed, TypedFn};
 use rx_typed::Decls;
 use std::alloc::Global;

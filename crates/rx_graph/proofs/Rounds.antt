@@ -1,6 +1,6 @@
 -- Rounds that add to rows end: how much can be added to them.
 use Rattle.std.proofs.Common.{◌≡◌, ℕ, zero, suc, ◌+◌, ◌*◌, ◌-◌, ◌<◌, ◌≤◌, Bool, List, [], ◌∷◌, length, get_or, if◌then◌else◌, subst, arith}
-use Rattle.rx_bits.specs.Rows.{Bounded}
+use Rattle.rx_graph_bits.specs.Rows.{Bounded}
 use Rattle.rx_graph.specs.Tables.{total, Regular}
 
 -- what stands in so many rows of so many words is at most this

@@ -1,7 +1,7 @@
 -- What is done to one row.
 use Rattle.std.proofs.Common.{◌≡◌, ℕ, ◌+◌, ◌*◌, ◌<◌, ◌≤◌, Bool, true, false, not, ◌&&◌, ◌||◌, ◌==◌, List, [], ◌∷◌, length, get_or, drop, refl, ap, sym, ◌∙◌, subst, arith, zero, suc}
 use Rattle.std.proofs.lemmas.List.{drop_more}
-use Rattle.rx_bits.specs.Rows.{holds, Bounded, Inserted, Removed}
+use Rattle.rx_graph_bits.specs.Rows.{holds, Bounded, Inserted, Removed}
 use Rattle.rx_graph.specs.declared.effect.Effect.{Effect}
 use Rattle.rx_graph.specs.Facts.{has, behind}
 use Rattle.rx_graph.specs.Tables.{Changed, without, with}

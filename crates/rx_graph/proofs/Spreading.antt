@@ -5,7 +5,7 @@ use Rattle.std.proofs.lemmas.Bool.{cases_eq, eq-eqb, eqb-true}
 use Rattle.std.proofs.lemmas.List.{drop_more, get_or-set_same, get_or-set_other, length-set, set-get_or}
 use Rattle.std.proofs.lemmas.Option.{none-some}
 use Rattle.std.proofs.lemmas.Nat.Bits.{bit_at-zero}
-use Rattle.rx_bits.specs.Rows.{holds, rank, Bounded, Joined}
+use Rattle.rx_graph_bits.specs.Rows.{holds, rank, Bounded, Joined}
 use Rattle.rx_graph.specs.Facts.{has}
 use Rattle.rx_graph.specs.Tables.{at, total, Regular, Spread}
 

@@ -2,7 +2,7 @@
 use Rattle.std.proofs.Common.{◌≡◌, ◌⊎◌, inl, inr, ℕ, ◌*◌, ◌<◌, Bool, true, false, not, ◌&&◌, ◌||◌, ◌==◌, List, [], length, get_or, slice_get, Some, refl, ap, sym, ◌∙◌, subst, arith, true≢false}
 use Rattle.std.proofs.lemmas.Bool.{eq-eqb, eqb-true}
 use Rattle.std.proofs.lemmas.Option.{slice_get-get_or}
-use Rattle.rx_bits.specs.Rows.{holds, words}
+use Rattle.rx_graph_bits.specs.Rows.{holds, words}
 use Rattle.rx_graph.specs.declared.effect.Effect.{Effect}
 use Rattle.rx_graph.specs.declared.effect.Start.{Start}
 use Rattle.rx_graph.specs.ByEffects.{rules, beginning}

@@ -4,7 +4,7 @@ use Rattle.std.proofs.Math.ListN.{set}
 use Rattle.std.proofs.lemmas.Bool.{cases_eq, eq-eqb}
 use Rattle.std.proofs.lemmas.List.{length-set}
 use Rattle.std.proofs.lemmas.Option.{none-some, slice_get_within, slice_get-get_or}
-use Rattle.rx_bits.specs.Rows.{holds, Inserted}
+use Rattle.rx_graph_bits.specs.Rows.{holds, Inserted}
 use Rattle.rx_graph.specs.Facts.{has, targets}
 use Rattle.rx_graph.specs.Equations.{Rules, Lawful, Meets, Derived, Solves}
 use Rattle.rx_graph.specs.Equations as equations

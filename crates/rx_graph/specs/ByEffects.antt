@@ -1,6 +1,6 @@
 -- Facts that sites make false and true, as values with an order: rows of bits, each below those that hold what it does.
 use Rattle.std.specs.Prelude.{◌≡◌, ℕ, ◌*◌, ◌<◌, Bool, true, false, ◌&&◌, ◌||◌, ◌==◌, List, length, slice_get}
-use Rattle.rx_bits.specs.Rows.{holds, rank, words, Bounded}
+use Rattle.rx_graph_bits.specs.Rows.{holds, rank, words, Bounded}
 use Rattle.rx_graph.specs.declared.effect.Effect.{Effect}
 use Rattle.rx_graph.specs.declared.effect.Start.{Start}
 use Rattle.rx_graph.specs.Facts.{has, effect_of, behind}

@@ -1,6 +1,6 @@
 -- Facts by effects have the laws of facts: the lemmas of an impl's law, which imports from specs alone.
 use Rattle.std.proofs.Common.{◌≡◌, ℕ, ◌*◌, ◌≤◌, Bool, true, false, not, ◌&&◌, ◌||◌, List, slice_get, refl, sym, subst, ◌∙◌}
-use Rattle.rx_bits.specs.Rows.{holds, rank}
+use Rattle.rx_graph_bits.specs.Rows.{holds, rank}
 use Rattle.rx_graph.specs.declared.effect.Effect.{Effect}
 use Rattle.rx_graph.specs.declared.effect.Start.{Start}
 use Rattle.rx_graph.specs.Facts.{has, effect_of}

@@ -1,6 +1,6 @@
 -- Tables of facts: a row of bits for each site.
 use Rattle.std.specs.Prelude.{◌≡◌, ◌↔◌, ℕ, ◌+◌, ◌*◌, ◌<◌, Bool, true, false, not, ◌&&◌, ◌||◌, List, [], ◌∷◌, length, get_or}
-use Rattle.rx_bits.specs.Rows.{holds, rank, Bounded}
+use Rattle.rx_graph_bits.specs.Rows.{holds, rank, Bounded}
 use Rattle.rx_graph.specs.declared.effect.Effect.{Effect}
 use Rattle.rx_graph.specs.declared.effect.Start.{Start}
 use Rattle.rx_graph.specs.Facts.{has, Holds}

@@ -1,6 +1,6 @@
 -- What private functions of the worklist do.
 use Rattle.std.specs.Prelude.{◌≡◌, ◌⊎◌, ℕ, ◌+◌, ◌*◌, ◌-◌, ◌<◌, ◌≤◌, Bool, true, false, List, [], ◌∷◌, length, Some, slice_get}
-use Rattle.rx_bits.specs.Rows.{holds, Inserted}
+use Rattle.rx_graph_bits.specs.Rows.{holds, Inserted}
 use Rattle.rx_graph.specs.Facts.{has, targets}
 use Rattle.rx_graph.specs.Equations.{Rules, Derived}
 

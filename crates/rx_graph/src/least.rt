@@ -1,7 +1,7 @@
 //! The least table of facts that sites make false and true.
 
 ghost use Rattle.std.specs.Prelude.{◌≡◌, ℕ, ◌+◌, ◌*◌, ◌<◌, ◌≤◌, Bool, true, false, List as ListOf, [], ◌∷◌, length, get_or, slice_get, IfOk};
-ghost use Rattle.rx_bits.specs.Rows as bits;
+ghost use Rattle.rx_graph_bits.specs.Rows as bits;
 ghost use Rattle.rx_graph.specs.ByEffects as by_effects;
 ghost use Rattle.rx_graph.specs.Lawfulness as lawfulness;
 ghost use Rattle.rx_graph.specs.Facts as facts;
@@ -12,8 +12,8 @@ use crate::few::Few;
 use crate::lattice::Facts;
 use crate::leads::Leads;
 use crate::worklist::fixpoint;
-use rx_bits::Row;
 use rx_core::List;
+use rx_graph_bits::Row;
 use std::alloc::{AllocError, Global};
 
 /// By site, the facts that hold there.

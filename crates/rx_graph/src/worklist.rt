@@ -1,15 +1,15 @@
 //! The least table of facts, by a worklist.
 
 ghost use Rattle.std.specs.Prelude.{◌≡◌, ℕ, ◌*◌, ◌<◌, ◌≤◌, true, false, length, Some, slice_get, IfOk};
-ghost use Rattle.rx_bits.specs.Rows as bits;
+ghost use Rattle.rx_graph_bits.specs.Rows as bits;
 ghost use Rattle.rx_graph.specs.Facts.{has, targets};
 ghost use Rattle.rx_graph.specs.Equations.{Derived, Solves};
 ghost use Rattle.rx_graph.specs.Worklist as work;
 
 use crate::lattice::Facts;
 use crate::leads::Leads;
-use rx_bits::Row;
 use rx_core::List;
+use rx_graph_bits::Row;
 use std::alloc::{AllocError, Global};
 
 /// A graph, and what is asked of its sites.

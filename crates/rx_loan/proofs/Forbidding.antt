@@ -3,11 +3,11 @@ use Rattle.std.proofs.Common.{◌≡◌, ◌⊎◌, inl, inr, ℕ, zero, suc, �
 use Rattle.std.proofs.lemmas.Bool.{cases_eq}
 use Rattle.std.proofs.lemmas.List.{length-map}
 use Rattle.std.proofs.lemmas.Option.{slice_get_within}
-use Rattle.rx_walks.specs.Walks.{Among, here, there}
+use Rattle.rx_lower_walks.specs.Walks.{Among, here, there}
 use Rattle.rx_graph.specs.Tables.{at}
-use Rattle.rx_lower.specs.Graph.{Site, site_at}
-use Rattle.rx_lifetimes.specs.Numbered.{Own}
-use Rattle.rx_along.proofs.Ways.{site_within}
+use Rattle.rx_lower_graph.specs.Graph.{Site, site_at}
+use Rattle.rx_lower_lifetimes.specs.Numbered.{Own}
+use Rattle.rx_facts_along.proofs.Ways.{site_within}
 use Rattle.rx_loan.specs.Accesses.{Loan, acts_against}
 use Rattle.rx_loan.specs.Loans.{loans_of, InScope, Meets, IsLegal}
 use Rattle.rx_loan.specs.PlainOf.{plain-Loan}

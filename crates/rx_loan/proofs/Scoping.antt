@@ -5,13 +5,13 @@ use Rattle.std.proofs.lemmas.List.{length-append, length-map, get_or_append_left
 use Rattle.std.proofs.lemmas.Nat.Bits.{bit_at-zero}
 use Rattle.std.proofs.Math.Seq.{get_or-append_seam}
 use Rattle.rx_typed.specs.Tree.{Place}
-use Rattle.rx_bits.specs.Rows.{holds}
+use Rattle.rx_graph_bits.specs.Rows.{holds}
 use Rattle.rx_graph.specs.Tables.{at}
 use Rattle.rx_graph.proofs.Spreading.{different}
-use Rattle.rx_lower.specs.Graph.{Site, site_at}
-use Rattle.rx_along.specs.Along.{edges_of}
-use Rattle.rx_reach.specs.Reached.{Reached, next, further}
-use Rattle.rx_reach.proofs.Seeing.{leads_within}
+use Rattle.rx_lower_graph.specs.Graph.{Site, site_at}
+use Rattle.rx_facts_along.specs.Along.{edges_of}
+use Rattle.rx_graph_reach.specs.Reached.{Reached, next, further}
+use Rattle.rx_graph_reach.proofs.Seeing.{leads_within}
 use Rattle.rx_loan.specs.declared.accesses.Loan as code
 use Rattle.rx_loan.specs.PlainOf.{plain-Loan}
 use Rattle.rx_loan.specs.Accesses.{Loan}

@@ -1,16 +1,16 @@
 -- Loans in scope lie on ways from their borrows; where lifetimes have fewer sites, they are in scope at fewer.
 use Rattle.std.proofs.Common.{◌≡◌, ◌⊎◌, inl, inr, ℕ, Bool, true, ◌==◌, ◌<◌, List, [], ◌∷◌, ◌++◌, sym, subst, true≢false, Some, length}
 use Rattle.std.proofs.lemmas.Bool.{eqb-true}
-use Rattle.rx_walks.specs.Actions.{Action}
-use Rattle.rx_walks.specs.Walks.{Among}
-use Rattle.rx_walks.specs.Walks as walks
+use Rattle.rx_lower_walks.specs.Actions.{Action}
+use Rattle.rx_lower_walks.specs.Walks.{Among}
+use Rattle.rx_lower_walks.specs.Walks as walks
 use Rattle.rx_graph.specs.Facts.{has, targets}
 use Rattle.rx_graph.proofs.Spreading.{one_of}
-use Rattle.rx_lower.specs.Graph.{Site, site_at}
-use Rattle.rx_along.specs.Along.{Arrives, there, by, edges_of}
-use Rattle.rx_along.proofs.Ways.{targets_at, site_here, site_within, arrives_on}
-use Rattle.rx_reach.specs.Reached.{next, further}
-use Rattle.rx_reach.proofs.Seeing.{leads_within}
+use Rattle.rx_lower_graph.specs.Graph.{Site, site_at}
+use Rattle.rx_facts_along.specs.Along.{Arrives, there, by, edges_of}
+use Rattle.rx_facts_along.proofs.Ways.{targets_at, site_here, site_within, arrives_on}
+use Rattle.rx_graph_reach.specs.Reached.{next, further}
+use Rattle.rx_graph_reach.proofs.Seeing.{leads_within}
 use Rattle.rx_loan.specs.Accesses.{Loan}
 use Rattle.rx_loan.specs.Loans.{InScope, IsLegal}
 use Rattle.rx_loan.proofs.Scoping.{length_edges}

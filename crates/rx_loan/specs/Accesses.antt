@@ -1,8 +1,8 @@
 -- What actions access, and which loans conflict with that. (RFC 2094, "Access legality". What differs: no loan is in two phases.)
 use Rattle.std.specs.Prelude.{ℕ, Bool, true, false, ◌&&◌, ◌||◌, if◌then◌else◌, Option, Some, None}
 use Rattle.rx_typed.specs.Tree.{Place, own}
-use Rattle.rx_walks.specs.Matching.{Check, has_tag, equals}
-use Rattle.rx_walks.specs.Actions.{Act, Dead, Read, Write, Borrow, Test}
+use Rattle.rx_lower_walks.specs.Matching.{Check, has_tag, equals}
+use Rattle.rx_lower_walks.specs.Actions.{Act, Dead, Read, Write, Borrow, Test}
 use Rattle.rx_loan.specs.Places.{is_prefix, is_shallow_prefix, is_supporting_prefix}
 
 pub record Access : Type 0 where

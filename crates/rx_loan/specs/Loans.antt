@@ -2,12 +2,12 @@
 -- of a prefix of its place changes what it leads to.)
 use Rattle.std.specs.Prelude.{◌≡◌, ℕ, ◌+◌, Bool, true, false, List, [], ◌∷◌, ◌++◌, Option, Some, None}
 use Rattle.rx_typed.specs.Tree.{Place}
-use Rattle.rx_walks.specs.Actions.{Act, Borrow, Write}
-use Rattle.rx_walks.specs.Walks.{Among}
-use Rattle.rx_lower.specs.Graph.{Site, site_at}
-use Rattle.rx_lifetimes.specs.Numbered.{Own, region}
-use Rattle.rx_along.specs.Along.{edges_of}
-use Rattle.rx_reach.specs.Reached.{Reached}
+use Rattle.rx_lower_walks.specs.Actions.{Act, Borrow, Write}
+use Rattle.rx_lower_walks.specs.Walks.{Among}
+use Rattle.rx_lower_graph.specs.Graph.{Site, site_at}
+use Rattle.rx_lower_lifetimes.specs.Numbered.{Own, region}
+use Rattle.rx_facts_along.specs.Along.{edges_of}
+use Rattle.rx_graph_reach.specs.Reached.{Reached}
 use Rattle.rx_loan.specs.Places.{is_prefix}
 use Rattle.rx_loan.specs.Accesses.{Loan, acts_against}
 

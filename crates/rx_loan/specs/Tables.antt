@@ -1,10 +1,10 @@
 -- What tables of loans tell; what private functions do.
 use Rattle.std.specs.Prelude.{◌≡◌, ◌↔◌, ℕ, ◌*◌, ◌<◌, Bool, true, false, ◌&&◌, ◌||◌, ◌==◌, List, [], ◌∷◌, length, map, Option, Some, None, slice_get, get_or}
 use Rattle.rx_typed.specs.Tree.{Place}
-use Rattle.rx_bits.specs.Rows.{holds}
+use Rattle.rx_graph_bits.specs.Rows.{holds}
 use Rattle.rx_graph.specs.Tables.{at}
-use Rattle.rx_lower.specs.Graph.{Site, site_at}
-use Rattle.rx_lifetimes.specs.Numbered.{Own}
+use Rattle.rx_lower_graph.specs.Graph.{Site, site_at}
+use Rattle.rx_lower_lifetimes.specs.Numbered.{Own}
 use Rattle.rx_loan.specs.Accesses as accesses
 use Rattle.rx_loan.specs.Accesses.{Access, conflicts, acts_against}
 use Rattle.rx_loan.specs.Loans.{loans_of, ends_at, InScope, Meets}

@@ -1,13 +1,13 @@
 //! What actions access, and which loans conflict with that.
 
 ghost use Rattle.std.specs.Prelude.{◌≡◌, option_map};
-ghost use Rattle.rx_flow.specs.PlainFlow.{plain-Act, plain-Check, plain-Place};
+ghost use Rattle.rx_lower_flow.specs.PlainFlow.{plain-Act, plain-Check, plain-Place};
 ghost use Rattle.rx_loan.specs.Accesses as spec;
 ghost use Rattle.rx_loan.specs.PlainOf.{plain-Access, plain-Loan};
 
 use crate::places::{is_prefix, strips_parts, strips_unshared};
 use rx_core::Step;
-use rx_flow::{Act, Check, Place, Root};
+use rx_lower_flow::{Act, Check, Place, Root};
 
 /// What an action accesses: a place, by its root and steps.
 #[derive(Clone, Copy)]

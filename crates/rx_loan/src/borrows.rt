@@ -1,9 +1,9 @@
 //! The loans of a function, and what ends them.
 
 ghost use Rattle.std.specs.Prelude.{◌≡◌, ◌≤◌, ◌++◌, length, map, option_map, IfOk, OnOk};
-ghost use Rattle.rx_flow.specs.PlainFlow.{plain-Act, plain-Place};
-ghost use Rattle.rx_emit.specs.PlainSite.{plain-Site};
-ghost use Rattle.rx_lifetimes.specs.PlainOwn.{plain-Own};
+ghost use Rattle.rx_lower_flow.specs.PlainFlow.{plain-Act, plain-Place};
+ghost use Rattle.rx_lower_emit.specs.PlainSite.{plain-Site};
+ghost use Rattle.rx_lower_lifetimes.specs.PlainOwn.{plain-Own};
 ghost use Rattle.rx_loan.specs.Loans as spec;
 ghost use Rattle.rx_loan.specs.PlainOf.{plain-Loan};
 ghost use Rattle.rx_loan.specs.Tables.{listed};
@@ -11,9 +11,9 @@ ghost use Rattle.rx_loan.specs.Tables.{listed};
 use crate::accesses::Loan;
 use crate::places::is_prefix;
 use rx_core::{LetGo, List};
-use rx_emit::Site;
-use rx_flow::{Act, Place};
-use rx_lifetimes::Own;
+use rx_lower_emit::Site;
+use rx_lower_flow::{Act, Place};
+use rx_lower_lifetimes::Own;
 use std::alloc::{AllocError, Global};
 
 impl LetGo for Loan {

@@ -2,11 +2,11 @@
 
 ghost use Rattle.std.specs.Prelude.{◌≡◌, ◌&&◌, ◌∷◌, List as ListOf, drop};
 ghost use Rattle.rx_core.specs.declared.types.Step.{Step as StepOf};
-ghost use Rattle.rx_flow.specs.PlainFlow.{plain-Root};
+ghost use Rattle.rx_lower_flow.specs.PlainFlow.{plain-Root};
 ghost use Rattle.rx_loan.specs.Places as spec;
 
 use rx_core::Step;
-use rx_flow::Root;
+use rx_lower_flow::Root;
 
 fn same_step(a: Step, b: Step) -> bool
     ensures { result ≡ spec.same_step a b }

@@ -1,13 +1,13 @@
 //! Where loans are in scope.
 
 ghost use Rattle.std.specs.Prelude.{◌≡◌, ◌↔◌, ◌≤◌, ◌<◌, ◌*◌, ℕ, Bool, List as ListOf, true, length, map, IfOk, slice_get, Some};
-ghost use Rattle.rx_bits.specs.Rows.{holds as has_bit};
+ghost use Rattle.rx_graph_bits.specs.Rows.{holds as has_bit};
 ghost use Rattle.rx_graph.specs.Tables.{at};
-ghost use Rattle.rx_lower.specs.Graph as graphs;
-ghost use Rattle.rx_flow.specs.PlainFlow.{plain-Place};
-ghost use Rattle.rx_emit.specs.PlainSite.{plain-Site};
-ghost use Rattle.rx_lifetimes.specs.Numbered as numbered;
-ghost use Rattle.rx_lifetimes.specs.PlainOwn.{plain-Own};
+ghost use Rattle.rx_lower_graph.specs.Graph as graphs;
+ghost use Rattle.rx_lower_flow.specs.PlainFlow.{plain-Place};
+ghost use Rattle.rx_lower_emit.specs.PlainSite.{plain-Site};
+ghost use Rattle.rx_lower_lifetimes.specs.Numbered as numbered;
+ghost use Rattle.rx_lower_lifetimes.specs.PlainOwn.{plain-Own};
 ghost use Rattle.rx_loan.specs.Accesses as accesses;
 ghost use Rattle.rx_loan.specs.Loans as spec;
 ghost use Rattle.rx_loan.specs.PlainOf.{plain-Loan};
@@ -15,13 +15,13 @@ ghost use Rattle.rx_loan.specs.Tables as tables;
 
 use crate::accesses::Loan;
 use crate::borrows::{all_loans, ends};
-use rx_along::Onward;
-use rx_bits::Row;
 use rx_core::List;
-use rx_emit::Site;
-use rx_flow::Place;
-use rx_lifetimes::Own;
-use rx_reach::reached;
+use rx_facts_along::Onward;
+use rx_graph_bits::Row;
+use rx_graph_reach::reached;
+use rx_lower_emit::Site;
+use rx_lower_flow::Place;
+use rx_lower_lifetimes::Own;
 use std::alloc::{AllocError, Global};
 
 /// The loans of a function, and the sites at which each is in scope.

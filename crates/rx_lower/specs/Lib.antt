@@ -1,3 +1,1 @@
-pub mod Graph
-pub mod Pieces
-pub mod Text
+pub mod Functions

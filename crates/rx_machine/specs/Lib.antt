@@ -1,3 +1,2 @@
-pub mod Fitting
-pub mod Running
-pub mod Binding
+pub mod Functions
+pub mod TypedRuns

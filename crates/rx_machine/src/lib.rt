@@ -1,15 +1,9 @@
-//! Runs of programs: a machine with a stack of its own.
+//! Runs of typed programs.
 #![tactic(auto)]
 
-mod acting;
-mod arriving;
-mod binding;
-mod data;
-mod giving;
-mod places;
+mod functions;
+mod laws;
 mod runs;
-mod slots;
-mod stepping;
-mod turning;
 
+pub use laws::typed_programs_run;
 pub use runs::run;

@@ -1,9 +1,9 @@
 -- Two ways to act that give the same values, states and ends give runs that are alike, whatever each tells.
 use Rattle.std.proofs.Common.{ℕ, zero, suc, Bool, true, false, nat_eq, List, [], ◌∷◌, Option, Some, None, if◌then◌else◌}
 use Rattle.rx_typed.specs.Tree.{Temporary, Exp, read, borrow, share, build, unit, lazily, assign, update, call, input, print, block, choose, loop, jump, give, Operands, no_operand, operand_and, Scrutinee, at_place, of_value, Arms, no_arm, arm_and, Body, ends, runs, declares, lets, Parameter, Function, temporary_of}
-use Rattle.rx_walks.specs.Matching.{PartTest, Binding, tests, bindings}
-use Rattle.rx_walks.specs.Actions.{Act, Action, Subject, subject, taken}
-use Rattle.rx_walks.specs.Orders.{Exit, breaks, continues, returns}
+use Rattle.rx_lower_walks.specs.Matching.{PartTest, Binding, tests, bindings}
+use Rattle.rx_lower_walks.specs.Actions.{Act, Action, Subject, subject, taken}
+use Rattle.rx_lower_walks.specs.Orders.{Exit, breaks, continues, returns}
 use Rattle.rx_meaning.specs.declared.outcome.End.{End}
 use Rattle.rx_meaning.specs.Values.{Value, truth, Frame, new_frame, State, element}
 use Rattle.rx_meaning.specs.Results as results

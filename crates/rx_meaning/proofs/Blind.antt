@@ -1,6 +1,6 @@
 -- The plain way to act, and that which tells its actions, don't look at the turns.
 use Rattle.std.proofs.Common.{ℕ, ℤ, List, [], ◌∷◌, Option, Some, None, refl}
-use Rattle.rx_walks.specs.Actions.{Act, Declare, Dead, Read, Write, Borrow, Test, Call, Build, Input, Print, Give, Action}
+use Rattle.rx_lower_walks.specs.Actions.{Act, Declare, Dead, Read, Write, Borrow, Test, Call, Build, Input, Print, Give, Action}
 use Rattle.rx_meaning.specs.Values.{Value, get, State, with_turns}
 use Rattle.rx_meaning.specs.Results.{Done, or_ends}
 use Rattle.rx_meaning.specs.Places.{spot, found, whole_value, reference_to, after_write}

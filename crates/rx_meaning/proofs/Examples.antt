@@ -1,9 +1,9 @@
 -- Runs of programs, computed, with the number of turns at which each ends.
 use Rattle.std.specs.Prelude.{◌≡◌, refl, pos, negsuc, [], ◌∷◌, codes}
 use Rattle.std.specs.Fmt.{digits}
-use Rattle.rx_walks.proofs.Programs.{product_functions, gate_functions, steps_functions, found_functions, replaced_functions, whiles_functions, nested_functions, parts_functions}
-use Rattle.rx_walks.proofs.ProgramsOfTypes.{shapes_functions, coerced_functions, matching_functions}
-use Rattle.rx_walks.proofs.Bank.{bank_functions}
+use Rattle.rx_lower_walks.proofs.Programs.{product_functions, gate_functions, steps_functions, found_functions, replaced_functions, whiles_functions, nested_functions, parts_functions}
+use Rattle.rx_lower_walks.proofs.ProgramsOfTypes.{shapes_functions, coerced_functions, matching_functions}
+use Rattle.rx_lower_walks.proofs.Bank.{bank_functions}
 use Rattle.rx_meaning.specs.declared.outcome.End.{End}
 use Rattle.rx_meaning.specs.declared.outcome.Trap.{Trap}
 use Rattle.rx_meaning.specs.Results.{after, bind, result_of}

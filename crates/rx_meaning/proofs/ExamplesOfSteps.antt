@@ -6,8 +6,8 @@ use Rattle.rx_core.specs.declared.types.Step.{Step}
 use Rattle.rx_core.specs.declared.types.Step.TheVariants as step
 use Rattle.rx_tree.specs.declared.tree.BinaryOp.{BinaryOp}
 use Rattle.rx_typed.specs.Tree.{Temporary, Place, negation, own, under, temporary_at}
-use Rattle.rx_walks.specs.Matching.{has_tag}
-use Rattle.rx_walks.specs.Actions.{Read, Write, Borrow, Test}
+use Rattle.rx_lower_walks.specs.Matching.{has_tag}
+use Rattle.rx_lower_walks.specs.Actions.{Read, Write, Borrow, Test}
 use Rattle.rx_meaning.specs.declared.outcome.End.{End}
 use Rattle.rx_meaning.specs.declared.outcome.Trap.{Trap}
 use Rattle.rx_meaning.specs.Values.{Value, number, truth, whole, tagged, pointer, lacking, unset, no_value, value_and, unit_value, State}

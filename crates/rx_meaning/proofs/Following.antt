@@ -2,12 +2,12 @@
 use Rattle.std.proofs.Common.{◌≡◌, ℕ, zero, suc, Bool, true, false, nat_eq, List, [], ◌∷◌, ◌++◌, Option, Some, None, refl, sym, subst, eqb-true, if◌then◌else◌}
 use Rattle.std.proofs.lemmas.Bool.{eqb-false}
 use Rattle.rx_typed.specs.Tree.{Function}
-use Rattle.rx_walks.specs.Matching.{PartTest, Binding}
-use Rattle.rx_walks.specs.Actions.{Act, Action, does, Subject, taken}
-use Rattle.rx_walks.specs.Orders as order
-use Rattle.rx_walks.specs.Orders.{Exit, breaks, continues, returns, Order, perhaps, binding, declaring, testing}
-use Rattle.rx_walks.specs.Walks as walk
-use Rattle.rx_walks.specs.Walks.{Walk, Passed}
+use Rattle.rx_lower_walks.specs.Matching.{PartTest, Binding}
+use Rattle.rx_lower_walks.specs.Actions.{Act, Action, does, Subject, taken}
+use Rattle.rx_lower_walks.specs.Orders as order
+use Rattle.rx_lower_walks.specs.Orders.{Exit, breaks, continues, returns, Order, perhaps, binding, declaring, testing}
+use Rattle.rx_lower_walks.specs.Walks as walk
+use Rattle.rx_lower_walks.specs.Walks.{Walk, Passed}
 use Rattle.rx_meaning.specs.declared.outcome.End.{End}
 use Rattle.rx_meaning.specs.Values.{Value, truth, unit_value, Frame, State}
 use Rattle.rx_meaning.specs.Results.{Done, gives, ends, Result, on, jumps, stops, after, bind, result_of}

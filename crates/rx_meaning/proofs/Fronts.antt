@@ -1,6 +1,6 @@
 -- What a part told is a front of what it tells with what follows.
 use Rattle.std.proofs.Common.{◌≡◌, ℕ, nat_eq, Bool, true, false, List, [], ◌∷◌, ◌++◌, refl, sym, ap, ◌∙◌, append_assoc, if◌then◌else◌}
-use Rattle.rx_walks.specs.Orders.{breaks, continues, returns}
+use Rattle.rx_lower_walks.specs.Orders.{breaks, continues, returns}
 use Rattle.rx_meaning.specs.Values.{Value, unit_value, Frame, State}
 use Rattle.rx_meaning.specs.Results.{Result, on, jumps, stops, after, bind}
 use Rattle.rx_meaning.specs.Acting.{Acting}

@@ -1,9 +1,9 @@
 -- What each action keeps of the state, and turns and frames don't touch, each part keeps.
 use Rattle.std.proofs.Common.{ℕ, zero, suc, Bool, true, false, nat_eq, List, [], ◌∷◌, Option, Some, None, if◌then◌else◌}
 use Rattle.rx_typed.specs.Tree.{Temporary, Exp, read, borrow, share, build, unit, lazily, assign, update, call, input, print, block, choose, loop, jump, give, Operands, no_operand, operand_and, Scrutinee, at_place, of_value, Arms, no_arm, arm_and, Body, ends, runs, declares, lets, Parameter, Function, temporary_of}
-use Rattle.rx_walks.specs.Matching.{PartTest, Binding, tests, bindings}
-use Rattle.rx_walks.specs.Actions.{Act, Dead, Action, does, Subject, subject, taken}
-use Rattle.rx_walks.specs.Orders.{Exit, breaks, continues, returns, exit_node}
+use Rattle.rx_lower_walks.specs.Matching.{PartTest, Binding, tests, bindings}
+use Rattle.rx_lower_walks.specs.Actions.{Act, Dead, Action, does, Subject, subject, taken}
+use Rattle.rx_lower_walks.specs.Orders.{Exit, breaks, continues, returns, exit_node}
 use Rattle.rx_meaning.specs.Values.{Value, truth, element, Frame, new_frame, State, with_turns}
 use Rattle.rx_meaning.specs.Results as results
 use Rattle.rx_meaning.specs.Results.{Done, gives, or_ends, Result, on, jumps, stops, after, bind, result_of, Leaves}

@@ -1,7 +1,7 @@
 -- The memory only grows, by what each action does.
 use Rattle.std.proofs.Common.{◌≡◌, ℕ, zero, suc, ◌≤◌, true, false, List, [], ◌∷◌, length, Option, Some, None, refl, ap, subst, sym, ◌∙◌, arith, le_refl, ℤ, length-append}
 use Rattle.rx_typed.specs.Tree.{Function}
-use Rattle.rx_walks.specs.Actions.{Act, Declare, Dead, Read, Write, Borrow, Test, Call, Build, Input, Print, Give}
+use Rattle.rx_lower_walks.specs.Actions.{Act, Declare, Dead, Read, Write, Borrow, Test, Call, Build, Input, Print, Give}
 use Rattle.rx_meaning.specs.Values.{Value, lacking, unset, get, put, element, with_element, State, and_then}
 use Rattle.rx_meaning.specs.Results.{Done, or_ends, Leaves}
 use Rattle.rx_meaning.specs.Places.{Spot, in_slot, in_value, spot, found, whole_value, reference_to, after_write}

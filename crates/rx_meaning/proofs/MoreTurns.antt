@@ -1,9 +1,9 @@
 -- With more turns a run does the same, or goes on where it was cut off: by recursion on the typed tree, and on the levels.
 use Rattle.std.proofs.Common.{◌≡◌, ℕ, zero, suc, ◌<◌, ◌≤◌, List, [], ◌∷◌, refl, ap, ◌∙◌, sym, arith, inl, inr, le_refl, ℤ}
 use Rattle.rx_typed.specs.Tree.{Temporary, Exp, read, borrow, share, build, unit, lazily, assign, update, call, input, print, block, choose, loop, jump, give, Operands, no_operand, operand_and, Scrutinee, at_place, of_value, Arms, no_arm, arm_and, Body, ends, runs, declares, lets, Function, temporary_of}
-use Rattle.rx_walks.specs.Matching.{tests, bindings}
-use Rattle.rx_walks.specs.Actions.{Subject, subject}
-use Rattle.rx_walks.specs.Orders.{exit, returns}
+use Rattle.rx_lower_walks.specs.Matching.{tests, bindings}
+use Rattle.rx_lower_walks.specs.Actions.{Subject, subject}
+use Rattle.rx_lower_walks.specs.Orders.{exit, returns}
 use Rattle.rx_meaning.specs.Values.{Value, unit_value, State, with_turns, element, new_frame}
 use Rattle.rx_meaning.specs.Results.{Result, on, jumps, stops}
 use Rattle.rx_meaning.specs.Acting.{Acting, plainly}

@@ -1,12 +1,12 @@
 -- What a run tells is a walk: by recursion on the typed tree, and on the turns.
 use Rattle.std.proofs.Common.{ℕ, zero, suc, List, [], ◌∷◌}
 use Rattle.rx_typed.specs.Tree.{Temporary, Exp, read, borrow, share, build, unit, lazily, assign, update, call, input, print, block, choose, loop, jump, give, Operands, no_operand, operand_and, Scrutinee, at_place, of_value, Arms, no_arm, arm_and, Body, ends, runs, declares, lets, Parameter, Function, mark_of, temporary_of}
-use Rattle.rx_walks.specs.Matching.{tests, bindings}
-use Rattle.rx_walks.specs.Actions.{Action, Subject, subject}
-use Rattle.rx_walks.specs.Orders as order
-use Rattle.rx_walks.specs.Orders.{Order, order_all, order_scrutinee, order_arms, order_body, order_function, beginning}
-use Rattle.rx_walks.specs.Walks as walk
-use Rattle.rx_walks.specs.Walks.{Walk}
+use Rattle.rx_lower_walks.specs.Matching.{tests, bindings}
+use Rattle.rx_lower_walks.specs.Actions.{Action, Subject, subject}
+use Rattle.rx_lower_walks.specs.Orders as order
+use Rattle.rx_lower_walks.specs.Orders.{Order, order_all, order_scrutinee, order_arms, order_body, order_function, beginning}
+use Rattle.rx_lower_walks.specs.Walks as walk
+use Rattle.rx_lower_walks.specs.Walks.{Walk}
 use Rattle.rx_meaning.specs.Values.{Value, State, element}
 use Rattle.rx_meaning.specs.Results.{Result}
 use Rattle.rx_meaning.specs.Expressions.{Functions, Meaning, turn_at, take_turn, with_arguments, activation, value, values, matched, arms, body, below_level}

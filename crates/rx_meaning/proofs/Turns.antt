@@ -2,9 +2,9 @@
 -- of the meaning, where a datum says which.
 use Rattle.std.proofs.Common.{◌≡◌, ℕ, zero, suc, ◌<◌, ◌≤◌, Bool, true, false, nat_eq, List, [], ◌∷◌, Option, Some, None, refl, sym, subst, arith, le_refl, if◌then◌else◌}
 use Rattle.rx_typed.specs.Tree.{Parameter, Function}
-use Rattle.rx_walks.specs.Matching.{PartTest, Binding}
-use Rattle.rx_walks.specs.Actions.{Act, Dead, Action, does, Subject, taken}
-use Rattle.rx_walks.specs.Orders.{Exit, breaks, continues, returns, exit_node}
+use Rattle.rx_lower_walks.specs.Matching.{PartTest, Binding}
+use Rattle.rx_lower_walks.specs.Actions.{Act, Dead, Action, does, Subject, taken}
+use Rattle.rx_lower_walks.specs.Orders.{Exit, breaks, continues, returns, exit_node}
 use Rattle.rx_meaning.specs.declared.outcome.End.{End}
 use Rattle.rx_meaning.specs.Values.{Value, number, truth, whole, tagged, pointer, lacking, Frame, State, with_turns}
 use Rattle.rx_meaning.specs.Results as results

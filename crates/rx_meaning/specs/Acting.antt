@@ -3,8 +3,8 @@ use Rattle.std.specs.Prelude.{ℕ, ℤ, pos, Bool, nat_eq, List, [], ◌∷◌, 
 use Rattle.rx_core.specs.declared.types.Kind.{Kind}
 use Rattle.rx_typed.specs.Tree.{whole_number}
 use Rattle.rx_typed.specs.Tree as tree
-use Rattle.rx_walks.specs.Matching.{Check, has_tag, equals}
-use Rattle.rx_walks.specs.Actions.{Act, Declare, Dead, Read, Write, Borrow, Test, Call, Build, Input, Print, Give, Action}
+use Rattle.rx_lower_walks.specs.Matching.{Check, has_tag, equals}
+use Rattle.rx_lower_walks.specs.Actions.{Act, Declare, Dead, Read, Write, Borrow, Test, Call, Build, Input, Print, Give, Action}
 use Rattle.rx_meaning.specs.declared.outcome.End.{End}
 use Rattle.rx_meaning.specs.Values.{Value, number, truth, tagged, unit_value, get, State, with_memory, with_variable}
 use Rattle.rx_meaning.specs.Results.{Done, gives, ends, or_ends, Result, result_of}

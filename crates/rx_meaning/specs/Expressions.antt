@@ -3,9 +3,9 @@ use Rattle.std.specs.Prelude.{ℕ, zero, suc, true, false, nat_eq, List, [], ◌
 use Rattle.rx_core.specs.declared.types.Step.{Step}
 use Rattle.rx_typed.specs.Tree.{Temporary, operation, lazy, Exp, read, borrow, share, build, unit, lazily, assign, update, call, input, print, block, choose, loop, jump, give, Operands, no_operand, operand_and, Scrutinee, at_place, of_value, Arms, no_arm, arm_and, Body, ends, runs, declares, lets, Parameter, Function, held, under, mark_of, temporary_at, temporary_of, temporaries_of, fields_of}
 use Rattle.rx_typed.specs.Tree as tree
-use Rattle.rx_walks.specs.Matching.{equals, tests, bindings}
-use Rattle.rx_walks.specs.Actions.{Read, Write, Borrow, Test, Call, Build, Input, Print, Give, at_mark, Subject, subject}
-use Rattle.rx_walks.specs.Orders.{Exit, breaks, continues, returns, exit, declared_parameter, written_parameter}
+use Rattle.rx_lower_walks.specs.Matching.{equals, tests, bindings}
+use Rattle.rx_lower_walks.specs.Actions.{Read, Write, Borrow, Test, Call, Build, Input, Print, Give, at_mark, Subject, subject}
+use Rattle.rx_lower_walks.specs.Orders.{Exit, breaks, continues, returns, exit, declared_parameter, written_parameter}
 use Rattle.rx_meaning.specs.declared.outcome.End.{End}
 use Rattle.rx_meaning.specs.Values.{Value, unit_value, element, Frame, new_frame, State, with_turns}
 use Rattle.rx_meaning.specs.Results.{Result, on, jumps, stops, after, bind}

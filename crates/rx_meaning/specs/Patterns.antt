@@ -1,8 +1,8 @@
 -- What patterns and new variables do (Rust Reference, "Patterns", "Binding modes", "let statements", "Drop scopes").
 use Rattle.std.specs.Prelude.{ℕ, true, false, List, [], ◌∷◌, Option, Some, None}
-use Rattle.rx_walks.specs.Matching.{PartTest, Binding}
-use Rattle.rx_walks.specs.Actions.{Act, Declare, Dead, does, Subject, test_of, taken, declared, written}
-use Rattle.rx_walks.specs.Orders.{exit_node}
+use Rattle.rx_lower_walks.specs.Matching.{PartTest, Binding}
+use Rattle.rx_lower_walks.specs.Actions.{Act, Declare, Dead, does, Subject, test_of, taken, declared, written}
+use Rattle.rx_lower_walks.specs.Orders.{exit_node}
 use Rattle.rx_meaning.specs.declared.outcome.End.{End}
 use Rattle.rx_meaning.specs.Values.{Value, truth, State}
 use Rattle.rx_meaning.specs.Results.{Result, on, jumps, stops, after, bind}

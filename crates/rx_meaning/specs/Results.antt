@@ -1,6 +1,6 @@
 -- What a part of a program does, and one part behind another.
 use Rattle.std.specs.Prelude.{List, [], ◌++◌, Option, Some, None}
-use Rattle.rx_walks.specs.Orders.{Exit}
+use Rattle.rx_lower_walks.specs.Orders.{Exit}
 use Rattle.rx_meaning.specs.declared.outcome.End.{End}
 use Rattle.rx_meaning.specs.Values.{Value, State}
 

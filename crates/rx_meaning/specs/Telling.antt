@@ -1,9 +1,9 @@
 -- The actions that a run performs.
 use Rattle.std.specs.Prelude.{ℕ, List, [], ◌∷◌}
-use Rattle.rx_walks.specs.Actions.{Action}
-use Rattle.rx_walks.specs.Orders.{Exit}
-use Rattle.rx_walks.specs.Walks as walks
-use Rattle.rx_walks.specs.Walks.{Out}
+use Rattle.rx_lower_walks.specs.Actions.{Action}
+use Rattle.rx_lower_walks.specs.Orders.{Exit}
+use Rattle.rx_lower_walks.specs.Walks as walks
+use Rattle.rx_lower_walks.specs.Walks.{Out}
 use Rattle.rx_meaning.specs.declared.outcome.End.{End}
 use Rattle.rx_meaning.specs.Values.{Value, State}
 use Rattle.rx_meaning.specs.Results.{Done, gives, ends, Result, on, jumps, stops}

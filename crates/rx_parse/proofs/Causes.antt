@@ -7,7 +7,7 @@ use Rattle.rx_lex.specs.Tok.{Tok}
 use Rattle.rx_lex.specs.Tokens.{Lexes}
 use Rattle.rx_lex.proofs.Reading.{only_memory}
 use Rattle.rx_lex.proofs.TokenLaws.{lexes_one}
-use Rattle.rx_grammar.specs.grammar.Items.{IsFile, Parses}
+use Rattle.rx_parse_grammar.specs.grammar.Items.{IsFile, Parses}
 use Rattle.rx_parse.specs.declared.fault.SyntaxFault.{SyntaxFault}
 use Rattle.rx_parse.specs.declared.fault.SyntaxFault.TheVariants as fault
 use Rattle.rx_parse.specs.Answer.{TokenAt, through, StopsAt, StopsAtEnd, TooDeepAt, HasNoTree, IsCause}

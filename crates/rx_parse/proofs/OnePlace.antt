@@ -4,9 +4,9 @@ use Rattle.std.proofs.lemmas.Bool.{cases_lt}
 use Rattle.std.proofs.lemmas.List.{length-append}
 use Rattle.rx_lex.specs.Tok.{Tok}
 use Rattle.rx_lex.proofs.TokenLaws.{lexes_one}
-use Rattle.rx_grammar.specs.grammar.Begins.{Begins, BeginsNone}
-use Rattle.rx_grammar.specs.grammar.Items.{IsFile}
-use Rattle.rx_grammar.specs.parser.Symbols.{head, tail}
+use Rattle.rx_parse_grammar.specs.grammar.Begins.{Begins, BeginsNone}
+use Rattle.rx_parse_grammar.specs.grammar.Items.{IsFile}
+use Rattle.rx_parse_grammar.specs.parser.Symbols.{head, tail}
 use Rattle.rx_parse.specs.declared.fault.SyntaxFault.TheVariants.{Syntax}
 use Rattle.rx_parse.specs.Answer.{through, StopsAt, StopsAtEnd, IsCause}
 

@@ -8,15 +8,15 @@ use Rattle.rx_lex.specs.Tok.{Tok}
 use Rattle.rx_lex.specs.Words.{IsWord}
 use Rattle.rx_lex.specs.Tokens.{Lexes}
 use Rattle.rx_lex.proofs.TokenLaws.{lexes_one}
-use Rattle.rx_grammar.specs.declared.stop.Stop.{Stop}
-use Rattle.rx_grammar.specs.declared.stop.Stop.TheVariants as stop
-use Rattle.rx_grammar.specs.grammar.Items.{IsFile, Parses, levels}
-use Rattle.rx_grammar.specs.parser.Steps.{Outcome, ReadsAs}
-use Rattle.rx_grammar.specs.parser.Items.{file}
-use Rattle.rx_grammar.specs.parser.Places.{Says, program, syntax_at, syntax_at_end, too_deep_at}
-use Rattle.rx_grammar.proofs.Deriving.{same_pair}
-use Rattle.rx_grammar.proofs.Whole.{program_read, program_derived}
-use Rattle.rx_grammar.proofs.Places.{says, text_word}
+use Rattle.rx_parse_grammar.specs.declared.stop.Stop.{Stop}
+use Rattle.rx_parse_grammar.specs.declared.stop.Stop.TheVariants as stop
+use Rattle.rx_parse_grammar.specs.grammar.Items.{IsFile, Parses, levels}
+use Rattle.rx_parse_grammar.specs.parser.Steps.{Outcome, ReadsAs}
+use Rattle.rx_parse_grammar.specs.parser.Items.{file}
+use Rattle.rx_parse_grammar.specs.parser.Places.{Says, program, syntax_at, syntax_at_end, too_deep_at}
+use Rattle.rx_parse_grammar.proofs.Deriving.{same_pair}
+use Rattle.rx_parse_grammar.proofs.Whole.{program_read, program_derived}
+use Rattle.rx_parse_grammar.proofs.Places.{says, text_word}
 use Rattle.rx_parse_cursor.specs.declared.got.Found.{Found}
 use Rattle.rx_parse.specs.declared.fault.SyntaxFault.TheVariants as fault
 use Rattle.rx_parse_items.specs.ItemsOf.{file_of}

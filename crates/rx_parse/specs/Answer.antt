@@ -7,8 +7,8 @@ use Rattle.rx_lex.specs.declared.lexer.LexFault.TheVariants as lex_fault
 use Rattle.rx_lex.specs.Tok.{Tok}
 use Rattle.rx_lex.specs.Tokens.{Lexes}
 use Rattle.rx_lex.specs.Lexing.{FaultOf}
-use Rattle.rx_grammar.specs.grammar.Items.{IsFile, levels}
-use Rattle.rx_grammar.specs.grammar.Begins.{Begins, BeginsNone, BeginsNoneWithin}
+use Rattle.rx_parse_grammar.specs.grammar.Items.{IsFile, levels}
+use Rattle.rx_parse_grammar.specs.grammar.Begins.{Begins, BeginsNone, BeginsNoneWithin}
 use Rattle.rx_parse.specs.declared.fault.SyntaxFault.{SyntaxFault}
 use Rattle.rx_parse.specs.declared.fault.SyntaxFault.TheVariants.{Lex, Syntax, TooDeep, OutOfMemory}
 

@@ -3,7 +3,7 @@
 ghost use Rattle.std.specs.Prelude.{◌≡◌, ◌≤◌, ℕ, List, length};
 ghost use Rattle.rx_tree.specs.Plain.{ProgramTree};
 ghost use Rattle.rx_tree.specs.Size.{IsNumbered};
-ghost use Rattle.rx_grammar.specs.grammar.Items.{Parses};
+ghost use Rattle.rx_parse_grammar.specs.grammar.Items.{Parses};
 ghost use Rattle.rx_parse.specs.declared.fault.SyntaxFault.TheVariants.{Syntax};
 ghost use Rattle.rx_parse.specs.Answer.{IsCause};
 

@@ -6,15 +6,15 @@ ghost use Rattle.rx_tree.specs.PlainOf.{plain-Program};
 ghost use Rattle.rx_lex.specs.Tok.{toks};
 ghost use Rattle.rx_lex.specs.Tokens.{Lexes};
 ghost use Rattle.rx_lex.specs.declared.lexer.LexFault.TheVariants as lex_fault;
-ghost use Rattle.rx_grammar.specs.grammar.Items.{Parses};
+ghost use Rattle.rx_parse_grammar.specs.grammar.Items.{Parses};
 ghost use Rattle.rx_parse.specs.declared.fault.SyntaxFault.TheVariants as faults;
 ghost use Rattle.rx_parse.specs.Place.{place_of, fault_of};
 ghost use Rattle.rx_parse.specs.Answer.{Answers, IsCause};
 
 use crate::fault::SyntaxFault;
-use rx_grammar::Stop;
 use rx_lex::{LexFault, Token, lex};
 use rx_parse_cursor::Cursor;
+use rx_parse_grammar::Stop;
 use rx_parse_items::file;
 use rx_tree::Program;
 use std::alloc::Global;

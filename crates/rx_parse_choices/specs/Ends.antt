@@ -1,10 +1,10 @@
 -- What stands behind an expression in a block, and behind the value of an arm.
 use Rattle.std.specs.Prelude.{Bool, not, ◌&&◌, if◌then◌else◌, List}
 use Rattle.rx_lex.specs.Tok.{Tok}
-use Rattle.rx_grammar.specs.declared.symbol.Symbol.{Symbol}
-use Rattle.rx_grammar.specs.declared.symbol.Symbol.TheVariants as symbol
-use Rattle.rx_grammar.specs.parser.Symbols.{tail}
-use Rattle.rx_grammar.specs.parser.Steps.{Parser, ◌>>=◌, pure, next, expect, when_next, sees}
+use Rattle.rx_parse_grammar.specs.declared.symbol.Symbol.{Symbol}
+use Rattle.rx_parse_grammar.specs.declared.symbol.Symbol.TheVariants as symbol
+use Rattle.rx_parse_grammar.specs.parser.Symbols.{tail}
+use Rattle.rx_parse_grammar.specs.parser.Steps.{Parser, ◌>>=◌, pure, next, expect, when_next, sees}
 use Rattle.rx_parse_choices.specs.declared.ends.After.{After}
 use Rattle.rx_parse_choices.specs.declared.ends.After.TheVariants.{Semicolon, Closing, Nothing}
 

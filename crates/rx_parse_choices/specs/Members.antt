@@ -2,10 +2,10 @@
 use Rattle.std.specs.Prelude.{ℕ}
 use Rattle.rx_core.specs.declared.types.Span.{Span}
 use Rattle.rx_lex.specs.Tok.{Tok, tok}
-use Rattle.rx_grammar.specs.declared.symbol.Symbol.{Symbol}
-use Rattle.rx_grammar.specs.declared.symbol.Symbol.TheVariants as symbol
-use Rattle.rx_grammar.specs.parser.Steps.{Parser, ◌>>=◌, ◌>>◌, pure, refuse, next, expect, within}
-use Rattle.rx_grammar.specs.parser.Numbers.{index}
+use Rattle.rx_parse_grammar.specs.declared.symbol.Symbol.{Symbol}
+use Rattle.rx_parse_grammar.specs.declared.symbol.Symbol.TheVariants as symbol
+use Rattle.rx_parse_grammar.specs.parser.Steps.{Parser, ◌>>=◌, ◌>>◌, pure, refuse, next, expect, within}
+use Rattle.rx_parse_grammar.specs.parser.Numbers.{index}
 use Rattle.rx_parse_choices.specs.declared.members.Member.{Member}
 use Rattle.rx_parse_choices.specs.declared.members.Member.TheVariants.{Field, Part}
 

@@ -1,6 +1,6 @@
 -- Operators of one strength in a row.
 use Rattle.std.specs.Prelude.{ℕ, if◌then◌else◌, ◌==◌}
-use Rattle.rx_grammar.specs.grammar.Strengths as at
+use Rattle.rx_parse_grammar.specs.grammar.Strengths as at
 
 -- how many may stand behind an operand of strength j, where so many tokens are left: comparisons don't group
 abbrev pub turns : ℕ → ℕ → ℕ

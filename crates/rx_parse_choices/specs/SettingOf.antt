@@ -1,5 +1,5 @@
 -- What the code's settings stand for.
-use Rattle.rx_grammar.specs.parser.Operators as operators
+use Rattle.rx_parse_grammar.specs.parser.Operators as operators
 use Rattle.rx_parse_choices.specs.declared.operators.Setting.{Setting}
 use Rattle.rx_parse_choices.specs.declared.operators.Setting.TheVariants.{Assigns, Updates}
 

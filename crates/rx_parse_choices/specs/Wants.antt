@@ -1,10 +1,10 @@
 -- What the parser of expressions is asked for.
 use Rattle.std.specs.Prelude.{ℕ, Bool}
 use Rattle.rx_tree.specs.Plain.{Expression}
-use Rattle.rx_grammar.specs.declared.symbol.Symbol.{Symbol}
-use Rattle.rx_grammar.specs.parser.Steps.{Parser, Got}
-use Rattle.rx_grammar.specs.parser.Operators.{begins_operand, begins_expression, begins_like}
-use Rattle.rx_grammar.specs.parser.Blocks.{operand, whole, like}
+use Rattle.rx_parse_grammar.specs.declared.symbol.Symbol.{Symbol}
+use Rattle.rx_parse_grammar.specs.parser.Steps.{Parser, Got}
+use Rattle.rx_parse_grammar.specs.parser.Operators.{begins_operand, begins_expression, begins_like}
+use Rattle.rx_parse_grammar.specs.parser.Blocks.{operand, whole, like}
 use Rattle.rx_parse_choices.specs.declared.wanted.Wanted.{Wanted}
 use Rattle.rx_parse_choices.specs.declared.wanted.Wanted.TheVariants.{Operand, Whole, Like}
 

@@ -1,12 +1,12 @@
 //! What stands behind an expression in a block, and behind the value of an arm.
 
 ghost use Rattle.std.specs.Prelude.{◌≡◌};
-ghost use Rattle.rx_grammar.specs.parser.Steps.{ReadsAs};
+ghost use Rattle.rx_parse_grammar.specs.parser.Steps.{ReadsAs};
 ghost use Rattle.rx_parse_choices.specs.Ends as ends;
 
 use rx_core::Span;
-use rx_grammar::{Stop, Symbol};
 use rx_parse_cursor::Cursor;
+use rx_parse_grammar::{Stop, Symbol};
 
 /// What stands behind an expression in a block.
 #[derive(Clone, Copy)]

@@ -1,14 +1,14 @@
 //! What stands behind a dot.
 
 ghost use Rattle.std.specs.Prelude.{◌≡◌, ◌≤◌, IfOk};
-ghost use Rattle.rx_grammar.specs.parser.Symbols.{peek};
-ghost use Rattle.rx_grammar.specs.parser.Steps.{ReadsAs};
+ghost use Rattle.rx_parse_grammar.specs.parser.Symbols.{peek};
+ghost use Rattle.rx_parse_grammar.specs.parser.Steps.{ReadsAs};
 ghost use Rattle.rx_parse_choices.specs.Members as tree;
 
 use rx_core::Span;
-use rx_grammar::{Stop, Symbol};
 use rx_lex::Token;
 use rx_parse_cursor::{Cursor, index};
+use rx_parse_grammar::{Stop, Symbol};
 
 /// What stands behind a dot: a field by its name, or a part of a tuple by its number.
 #[derive(Clone, Copy)]

@@ -1,11 +1,11 @@
 //! The operators by their symbols, and what expressions begin with.
 
 ghost use Rattle.std.specs.Prelude.{◌≡◌, option_map};
-ghost use Rattle.rx_grammar.specs.parser.Operators as spec;
+ghost use Rattle.rx_parse_grammar.specs.parser.Operators as spec;
 ghost use Rattle.rx_parse_choices.specs.SettingOf.{setting_of};
 ghost use Rattle.rx_parse_choices.specs.Rows as rows;
 
-use rx_grammar::{COMPARISON, CONJUNCTION, DISJUNCTION, PRODUCT, SUM, Symbol};
+use rx_parse_grammar::{COMPARISON, CONJUNCTION, DISJUNCTION, PRODUCT, SUM, Symbol};
 use rx_tree::{BinaryOp, UpdateOp};
 
 /// `=` alone, or with an operator.
@@ -55,7 +55,7 @@ fn operator(symbol: Symbol) -> Option<BinaryOp>
 }
 
 /// The operator of this strength that a symbol is.
-#[tactic(auto, unfolding(rx_grammar::specs::parser::Operators::operator_at))]
+#[tactic(auto, unfolding(rx_parse_grammar::specs::parser::Operators::operator_at))]
 pub fn operator_at(j: usize, symbol: Symbol) -> Option<BinaryOp>
     ensures { result ≡ spec.operator_at j symbol }
 {

@@ -1,12 +1,12 @@
 //! What the parser of expressions is asked for.
 
 ghost use Rattle.std.specs.Prelude.{◌≡◌, false};
-ghost use Rattle.rx_grammar.specs.grammar.Strengths as at;
+ghost use Rattle.rx_parse_grammar.specs.grammar.Strengths as at;
 ghost use Rattle.rx_parse_choices.specs.declared.wanted.Wanted.TheVariants as wanted;
 ghost use Rattle.rx_parse_choices.specs.Wants.{begins_wanted};
 
 use crate::operators::{begins_expression, begins_like, begins_operand};
-use rx_grammar::{COMPARISON, DISJUNCTION, Symbol, UNARY};
+use rx_parse_grammar::{COMPARISON, DISJUNCTION, Symbol, UNARY};
 
 /// What is to be read.
 #[derive(Clone, Copy)]

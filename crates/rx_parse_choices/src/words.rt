@@ -3,7 +3,7 @@
 ghost use Rattle.std.specs.Prelude.{◌≡◌, codes};
 ghost use Rattle.std.specs.Str.{bytes_eq};
 ghost use Rattle.rx_lex.specs.Tok.{tok};
-ghost use Rattle.rx_grammar.specs.parser.Expressions as spec;
+ghost use Rattle.rx_parse_grammar.specs.parser.Expressions as spec;
 
 use rx_lex::Token;
 

@@ -3,9 +3,9 @@ use Rattle.std.proofs.Common.{◌≡◌, ℕ, suc, ◌-◌, ◌<◌, Bool, true,
 use Rattle.std.proofs.lemmas.List.{length-map}
 use Rattle.rx_lex.specs.declared.token.Token.{Token}
 use Rattle.rx_lex.specs.Tok.{Tok, tok, toks}
-use Rattle.rx_grammar.specs.declared.symbol.Symbol.TheVariants as symbol
-use Rattle.rx_grammar.specs.grammar.Words.{second_ampersand}
-use Rattle.rx_grammar.specs.parser.Symbols.{symbol_of, mark, head, tail, peek}
+use Rattle.rx_parse_grammar.specs.declared.symbol.Symbol.TheVariants as symbol
+use Rattle.rx_parse_grammar.specs.grammar.Words.{second_ampersand}
+use Rattle.rx_parse_grammar.specs.parser.Symbols.{symbol_of, mark, head, tail, peek}
 use Rattle.rx_parse_cursor.specs.Place.{halved}
 
 pub ampersand_is : (t : Tok) → symbol_of (second_ampersand t) ≡ symbol.Ampersand

@@ -2,12 +2,12 @@
 use Rattle.std.proofs.Common.{◌≡◌, ℕ, suc, ◌+◌, ◌-◌, ◌<◌, max, true, false, List, [], ◌∷◌, ◌++◌, Result, Ok, Err, ap, sym, subst, ◌∙◌}
 use Rattle.rx_core.specs.declared.types.Span.{Span}
 use Rattle.rx_lex.specs.Tok.{Tok}
-use Rattle.rx_grammar.specs.declared.stop.Stop.{Stop}
-use Rattle.rx_grammar.specs.declared.symbol.Symbol.{Symbol}
-use Rattle.rx_grammar.specs.declared.symbol.Symbol.TheVariants as symbol
-use Rattle.rx_grammar.specs.parser.Symbols.{tail}
-use Rattle.rx_grammar.specs.parser.Steps.{Parser, Outcome, Got, ReadsAs, and_then, pure, sees, expect}
-use Rattle.rx_grammar.specs.parser.Lists.{Items, elements, elements_from, some_elements, group, group_by}
+use Rattle.rx_parse_grammar.specs.declared.stop.Stop.{Stop}
+use Rattle.rx_parse_grammar.specs.declared.symbol.Symbol.{Symbol}
+use Rattle.rx_parse_grammar.specs.declared.symbol.Symbol.TheVariants as symbol
+use Rattle.rx_parse_grammar.specs.parser.Symbols.{tail}
+use Rattle.rx_parse_grammar.specs.parser.Steps.{Parser, Outcome, Got, ReadsAs, and_then, pure, sees, expect}
+use Rattle.rx_parse_grammar.specs.parser.Lists.{Items, elements, elements_from, some_elements, group, group_by}
 use Rattle.rx_parse_cursor.specs.Elements.{another, ended}
 use Rattle.rx_parse_cursor.proofs.Turns.{one_more}
 

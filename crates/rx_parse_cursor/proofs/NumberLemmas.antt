@@ -5,9 +5,9 @@ use Rattle.std.proofs.lemmas.Bool.{and_parts, and_from}
 use Rattle.rx_core.specs.declared.types.Kind.{Kind}
 use Rattle.rx_lex.specs.Numerals.{IsNumeral, decimal, is_digit, is_among_decimal, value_from, greatest}
 use Rattle.rx_lex.proofs.NumeralLaws.{numeral_one}
-use Rattle.rx_grammar.specs.grammar.Words.{is_index}
-use Rattle.rx_grammar.specs.parser.Numbers.{numeral, index_value}
-use Rattle.rx_grammar.proofs.NumberLaws.{numeral_sound, index_sound, index_complete}
+use Rattle.rx_parse_grammar.specs.grammar.Words.{is_index}
+use Rattle.rx_parse_grammar.specs.parser.Numbers.{numeral, index_value}
+use Rattle.rx_parse_grammar.proofs.NumberLaws.{numeral_sound, index_sound, index_complete}
 
 none_by : (w : List ℕ) (o : Option (ℕ × Option Kind)) → numeral w ≡ o → ((v : ℕ) (k : Option Kind) → IsNumeral w v k → v ≤ greatest → ⊥) → None ≡ numeral w
 none_by w None e h = sym e

@@ -1,8 +1,8 @@
 -- One turn of the loop over the elements of a list.
 use Rattle.std.specs.Prelude.{ℕ, max, List, [], ◌∷◌, ◌++◌}
-use Rattle.rx_grammar.specs.declared.symbol.Symbol.{Symbol}
-use Rattle.rx_grammar.specs.parser.Steps.{Parser, Got, ◌>>=◌, pure, expect}
-use Rattle.rx_grammar.specs.parser.Lists.{Items}
+use Rattle.rx_parse_grammar.specs.declared.symbol.Symbol.{Symbol}
+use Rattle.rx_parse_grammar.specs.parser.Steps.{Parser, Got, ◌>>=◌, pure, expect}
+use Rattle.rx_parse_grammar.specs.parser.Lists.{Items}
 
 -- one more element behind those that were found, and the most levels that one has
 abbrev pub another : {A : Type 0} → Parser (Got A) → List A → ℕ → Parser (List A × ℕ)

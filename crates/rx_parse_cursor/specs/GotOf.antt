@@ -2,10 +2,10 @@
 use Rattle.std.specs.Prelude.{ℕ, List, Option, map}
 use Rattle.rx_core.specs.declared.types.Kind.{Kind}
 use Rattle.rx_lex.specs.declared.numeral.Numeral.{Numeral}
-use Rattle.rx_grammar.specs.parser.Steps as steps
-use Rattle.rx_grammar.specs.parser.Numbers as numbers
+use Rattle.rx_parse_grammar.specs.parser.Steps as steps
+use Rattle.rx_parse_grammar.specs.parser.Numbers as numbers
 use Rattle.rx_parse_cursor.specs.declared.numbers.Numbered.{Numbered}
-use Rattle.rx_grammar.specs.parser.Lists as lists
+use Rattle.rx_parse_grammar.specs.parser.Lists as lists
 use Rattle.rx_parse_cursor.specs.declared.got.Got.{Got}
 use Rattle.rx_parse_cursor.specs.declared.got.Found.{Found}
 use Rattle.rx_parse_cursor.specs.declared.got.Items.{Items}

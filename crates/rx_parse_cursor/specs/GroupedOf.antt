@@ -1,7 +1,7 @@
 -- What the code's groups stand for.
 use Rattle.std.specs.Prelude.{ℕ, ◌≤◌, ◌+◌, List, map}
 use Rattle.rx_core.specs.declared.types.Span.{Span}
-use Rattle.rx_grammar.specs.parser.Steps as steps
+use Rattle.rx_parse_grammar.specs.parser.Steps as steps
 use Rattle.rx_parse_cursor.specs.declared.groups.Grouped.{Grouped}
 use Rattle.rx_parse_cursor.specs.declared.groups.Grouped.TheVariants.{Alone, Parts}
 use Rattle.rx_parse_cursor.specs.GotOf.{got_of}

@@ -4,7 +4,7 @@ use Rattle.std.specs.List.{All}
 use Rattle.rx_parse_cursor.specs.declared.cursor.Cursor.TheInside.{Inside}
 use Rattle.rx_lex.specs.declared.token.Token.{Token}
 use Rattle.rx_lex.specs.Tok.{Tok, toks}
-use Rattle.rx_grammar.specs.grammar.Words.{second_ampersand}
+use Rattle.rx_parse_grammar.specs.grammar.Words.{second_ampersand}
 
 -- the first token is a `&&` of which the second `&` is left
 abbrev pub halved : List Tok → List Tok

@@ -2,16 +2,16 @@
 
 ghost use Rattle.std.specs.Prelude.{◌≡◌, ◌<◌, ◌∷◌, length};
 ghost use Rattle.rx_lex.specs.Tok.{tok, toks};
-ghost use Rattle.rx_grammar.specs.declared.symbol.Symbol.TheVariants as symbol;
-ghost use Rattle.rx_grammar.specs.grammar.Words.{second_ampersand};
+ghost use Rattle.rx_parse_grammar.specs.declared.symbol.Symbol.TheVariants as symbol;
+ghost use Rattle.rx_parse_grammar.specs.grammar.Words.{second_ampersand};
 ghost use Rattle.rx_parse_cursor.specs.Place.{ArePlaced};
-ghost use Rattle.rx_grammar.specs.parser.Symbols as spec;
-ghost use Rattle.rx_grammar.specs.parser.Steps as steps;
-ghost use Rattle.rx_grammar.specs.parser.Steps.{ReadsAs};
+ghost use Rattle.rx_parse_grammar.specs.parser.Symbols as spec;
+ghost use Rattle.rx_parse_grammar.specs.parser.Steps as steps;
+ghost use Rattle.rx_parse_grammar.specs.parser.Steps.{ReadsAs};
 
 use rx_core::Span;
-use rx_grammar::{Stop, Symbol, same_symbol, symbol_of};
 use rx_lex::{Class, Token};
+use rx_parse_grammar::{Stop, Symbol, same_symbol, symbol_of};
 use std::marker::Model;
 
 /// A place in a list of tokens. Contracts see it as the tokens from there on.
@@ -164,7 +164,7 @@ impl<'t> Cursor<'t> {
     }
 
     /// Goes past a token with this symbol.
-    #[tactic(auto, unfolding(rx_grammar::specs::parser::Steps::expect))]
+    #[tactic(auto, unfolding(rx_parse_grammar::specs::parser::Steps::expect))]
     pub fn expect(&mut self, symbol: Symbol) -> Result<Token<'t>, Stop>
         ensures { ReadsAs tok (steps.expect symbol self.old) result self.new }
     {
@@ -176,7 +176,7 @@ impl<'t> Cursor<'t> {
     }
 
     /// Whether the next token is a name that is this word.
-    #[tactic(auto, unfolding(rx_grammar::specs::parser::Steps::sees_word))]
+    #[tactic(auto, unfolding(rx_parse_grammar::specs::parser::Steps::sees_word))]
     pub fn sees_word(&self, word: &str) -> bool
         ensures { result ≡ steps.sees_word word.now self.now }
     {
@@ -184,7 +184,7 @@ impl<'t> Cursor<'t> {
     }
 
     /// Goes past a name that is this word.
-    #[tactic(auto, unfolding(rx_grammar::specs::parser::Steps::expect_word))]
+    #[tactic(auto, unfolding(rx_parse_grammar::specs::parser::Steps::expect_word))]
     pub fn expect_word(&mut self, word: &str) -> Result<Token<'t>, Stop>
         ensures { ReadsAs tok (steps.expect_word word.now self.old) result self.new }
     {

@@ -2,7 +2,7 @@
 
 ghost use Rattle.std.specs.Prelude.{◌≡◌, ◌∷◌, ◌++◌, [], max, IfOk};
 ghost use Rattle.rx_lex.specs.Tok.{tok};
-ghost use Rattle.rx_grammar.specs.grammar.Words as words;
+ghost use Rattle.rx_parse_grammar.specs.grammar.Words as words;
 
 use rx_core::{LetGo, List, Name, Span, pushed};
 use rx_lex::Token;

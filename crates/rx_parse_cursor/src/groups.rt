@@ -3,8 +3,8 @@
 ghost use Rattle.std.specs.Prelude.{◌≡◌, ◌≤◌, ◌+◌, List, IfOk};
 ghost use Rattle.rx_core.specs.declared.types.Span as span;
 ghost use Rattle.rx_lex.specs.Tok.{tok};
-ghost use Rattle.rx_grammar.specs.parser.Steps.{ReadsAs};
-ghost use Rattle.rx_grammar.specs.parser.Lists as lists;
+ghost use Rattle.rx_parse_grammar.specs.parser.Steps.{ReadsAs};
+ghost use Rattle.rx_parse_grammar.specs.parser.Lists as lists;
 ghost use Rattle.rx_parse_cursor.specs.GotOf.{got_of};
 ghost use Rattle.rx_parse_cursor.specs.declared.groups.Grouped.TheVariants as grouped;
 ghost use Rattle.rx_parse_cursor.specs.GroupedOf.{grouped_of, HasMost};
@@ -13,8 +13,8 @@ use crate::cursor::Cursor;
 use crate::got::{Found, Got, Items, join};
 use crate::lists::{Reader, elements};
 use rx_core::{Span, keep};
-use rx_grammar::{Stop, Symbol};
 use rx_lex::Token;
+use rx_parse_grammar::{Stop, Symbol};
 use std::alloc::Global;
 
 /// What stood in parentheses.
@@ -43,7 +43,7 @@ fn alone<T>(first: Got<T>, span: Span) -> Grouped<T>
 }
 
 /// What stands in parentheses, from behind the first part.
-#[tactic(auto, unfolding(rx_grammar::specs::parser::Steps::expect))]
+#[tactic(auto, unfolding(rx_parse_grammar::specs::parser::Steps::expect))]
 fn group_behind<R: Reader>(
     alloc: Global,
     cursor: &mut Cursor<'_>,
@@ -69,7 +69,7 @@ fn group_behind<R: Reader>(
 }
 
 /// What stands in parentheses: nothing, which is the empty tuple, one thing alone, or the parts of a tuple.
-#[tactic(auto, unfolding(rx_grammar::specs::parser::Lists::group))]
+#[tactic(auto, unfolding(rx_parse_grammar::specs::parser::Lists::group))]
 pub fn group<R: Reader>(
     alloc: Global,
     cursor: &mut Cursor<'_>,

@@ -1,16 +1,16 @@
 //! Lists in brackets, written once for all that they are made of: a loop over the elements that a reader reads.
 
 ghost use Rattle.std.specs.Prelude.{◌≡◌, ℕ, ◌≤◌, map, IfOk};
-ghost use Rattle.rx_grammar.specs.parser.Steps.{Parser, ReadsAs};
-ghost use Rattle.rx_grammar.specs.parser.Steps as steps;
-ghost use Rattle.rx_grammar.specs.parser.Lists as lists;
+ghost use Rattle.rx_parse_grammar.specs.parser.Steps.{Parser, ReadsAs};
+ghost use Rattle.rx_parse_grammar.specs.parser.Steps as steps;
+ghost use Rattle.rx_parse_grammar.specs.parser.Lists as lists;
 ghost use Rattle.rx_parse_cursor.specs.GotOf.{got_of, found_of, items_of};
 ghost use Rattle.rx_parse_cursor.specs.Elements.{another, ended};
 
 use crate::cursor::Cursor;
 use crate::got::{Found, Got, Items};
 use rx_core::{LetGo, keep};
-use rx_grammar::{Stop, Symbol};
+use rx_parse_grammar::{Stop, Symbol};
 use std::alloc::Global;
 
 /// What reads the elements of a list. It is a value, so that it may hold how many levels are left, and the parser of
@@ -98,7 +98,7 @@ pub fn elements<R: Reader>(
 }
 
 /// The elements, of which there is one at least, and the closing bracket.
-#[tactic(auto, unfolding(rx_grammar::specs::parser::Lists::some_elements))]
+#[tactic(auto, unfolding(rx_parse_grammar::specs::parser::Lists::some_elements))]
 pub fn some_elements<R: Reader>(
     alloc: Global,
     cursor: &mut Cursor<'_>,

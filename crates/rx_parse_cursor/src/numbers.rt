@@ -3,15 +3,15 @@
 ghost use Rattle.std.specs.Prelude.{◌≡◌, option_map};
 ghost use Rattle.std.specs.List.{list_all};
 ghost use Rattle.rx_lex.specs.Numerals.{is_digit};
-ghost use Rattle.rx_grammar.specs.grammar.Words as words;
-ghost use Rattle.rx_grammar.specs.parser.Numbers as spec;
-ghost use Rattle.rx_grammar.specs.parser.Steps.{ReadsAs};
+ghost use Rattle.rx_parse_grammar.specs.grammar.Words as words;
+ghost use Rattle.rx_parse_grammar.specs.parser.Numbers as spec;
+ghost use Rattle.rx_parse_grammar.specs.parser.Steps.{ReadsAs};
 ghost use Rattle.rx_parse_cursor.specs.GotOf.{pair_of, numbered_of};
 
 use crate::cursor::Cursor;
 use rx_core::{Kind, Span};
-use rx_grammar::{Stop, Symbol};
 use rx_lex::{Numeral, numeral_of};
+use rx_parse_grammar::{Stop, Symbol};
 
 /// A number where it stands.
 #[derive(Clone, Copy)]
@@ -32,7 +32,7 @@ fn numeral(text: &str) -> Option<Numeral>
 }
 
 /// A number, and where it stands.
-#[tactic(auto, unfolding(rx_grammar::specs::parser::Numbers::number))]
+#[tactic(auto, unfolding(rx_parse_grammar::specs::parser::Numbers::number))]
 pub fn number(cursor: &mut Cursor<'_>) -> Result<Numbered, Stop>
     ensures { ReadsAs numbered_of (spec.number cursor.old) result cursor.new }
 {
@@ -91,7 +91,7 @@ fn index_value(text: &str) -> Option<u64>
 }
 
 /// An index of a tuple, and where it stands.
-#[tactic(auto, unfolding(rx_grammar::specs::parser::Numbers::index))]
+#[tactic(auto, unfolding(rx_parse_grammar::specs::parser::Numbers::index))]
 pub fn index(cursor: &mut Cursor<'_>) -> Result<(u64, Span), Stop>
     ensures { ReadsAs (λ v. v) (spec.index cursor.old) result cursor.new }
 {

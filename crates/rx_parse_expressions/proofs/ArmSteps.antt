@@ -2,16 +2,16 @@
 use Rattle.std.proofs.Common.{◌≡◌, ℕ, suc, Bool, true, false, not, ◌&&◌, cond, List, length, Ok, Err, refl, ap, ◌∙◌}
 use Rattle.rx_tree.specs.Plain.{Expression, PatternTree}
 use Rattle.rx_lex.specs.Tok.{Tok}
-use Rattle.rx_grammar.specs.declared.stop.Stop.{Stop}
-use Rattle.rx_grammar.specs.declared.stop.Stop.TheVariants.{Syntax}
-use Rattle.rx_grammar.specs.declared.symbol.Symbol.TheVariants as symbol
-use Rattle.rx_grammar.specs.parser.Symbols.{peek, head, tail}
-use Rattle.rx_grammar.specs.parser.Steps.{Parser, Outcome, Got, and_then, sees, expect}
-use Rattle.rx_grammar.specs.parser.Lists.{Items}
-use Rattle.rx_grammar.specs.parser.Patterns.{pattern}
-use Rattle.rx_grammar.specs.parser.Operators.{begins_like}
-use Rattle.rx_grammar.specs.parser.Expressions as spec
-use Rattle.rx_grammar.specs.parser.Blocks.{operand, whole, like, block}
+use Rattle.rx_parse_grammar.specs.declared.stop.Stop.{Stop}
+use Rattle.rx_parse_grammar.specs.declared.stop.Stop.TheVariants.{Syntax}
+use Rattle.rx_parse_grammar.specs.declared.symbol.Symbol.TheVariants as symbol
+use Rattle.rx_parse_grammar.specs.parser.Symbols.{peek, head, tail}
+use Rattle.rx_parse_grammar.specs.parser.Steps.{Parser, Outcome, Got, and_then, sees, expect}
+use Rattle.rx_parse_grammar.specs.parser.Lists.{Items}
+use Rattle.rx_parse_grammar.specs.parser.Patterns.{pattern}
+use Rattle.rx_parse_grammar.specs.parser.Operators.{begins_like}
+use Rattle.rx_parse_grammar.specs.parser.Expressions as spec
+use Rattle.rx_parse_grammar.specs.parser.Blocks.{operand, whole, like, block}
 use Rattle.rx_parse_choices.specs.Ends.{behind_comma, follows}
 use Rattle.rx_parse_expressions.specs.Arms.{ArmsTree, ValueTree, arms_from, arms_closed, value, value_by, arm, with_arm}
 

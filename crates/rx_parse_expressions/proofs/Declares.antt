@@ -9,7 +9,7 @@ use Rattle.rx_tree.specs.declared.tree.PatternNode.{PatternNode}
 use Rattle.rx_tree.specs.declared.tree.PatternNode.TheVariants as node
 use Rattle.rx_tree.specs.Plain.{PatternTree}
 use Rattle.rx_tree.specs.PlainOf.{plain-Pattern, plain-PatternNode, pattern_is, pattern_wild, pattern_bind, pattern_int, pattern_bool, pattern_tuple, pattern_variant, pattern_make}
-use Rattle.rx_grammar.specs.parser.Blocks.{declares}
+use Rattle.rx_parse_grammar.specs.parser.Blocks.{declares}
 
 by_node : (p : Pattern) (h : ℕ) (n : PatternNode) (t : PatternTree) → p.node ≡ n → plain-PatternNode n p.span ≡ t → declares (plain-Pattern p) h ≡ declares t h
 by_node p h n t e k = ap (λ z. declares z h) (pattern_is p.span p.node ∙ ap (λ z. plain-PatternNode z p.span) e ∙ k)

@@ -1,9 +1,9 @@
 -- The parsers of so many levels, by whether there is one: each is its own equation.
 use Rattle.std.proofs.Common.{◌≡◌, ℕ, suc, zero, ◌-◌, ◌<◌, true, false, List, length, Err, refl, subst, arith}
 use Rattle.rx_lex.specs.Tok.{Tok}
-use Rattle.rx_grammar.specs.declared.stop.Stop.TheVariants.{Syntax, TooDeep}
-use Rattle.rx_grammar.specs.parser.Symbols.{peek}
-use Rattle.rx_grammar.specs.parser.Blocks.{operand, whole, like, block, block_of, opens}
+use Rattle.rx_parse_grammar.specs.declared.stop.Stop.TheVariants.{Syntax, TooDeep}
+use Rattle.rx_parse_grammar.specs.parser.Symbols.{peek}
+use Rattle.rx_parse_grammar.specs.parser.Blocks.{operand, whole, like, block, block_of, opens}
 use Rattle.rx_parse_choices.specs.declared.wanted.Wanted.{Wanted}
 use Rattle.rx_parse_choices.specs.declared.wanted.Wanted.TheVariants.{Operand, Whole, Like}
 use Rattle.rx_parse_choices.specs.Wants.{wanted_of, begins_wanted}

@@ -4,15 +4,15 @@ use Rattle.std.specs.Prelude.{◌≢◌, nat_lt, length}
 use Rattle.rx_core.specs.declared.types.Span.{Span}
 use Rattle.rx_tree.specs.Plain.{Expression}
 use Rattle.rx_lex.specs.Tok.{Tok}
-use Rattle.rx_grammar.specs.declared.stop.Stop.{Stop}
-use Rattle.rx_grammar.specs.declared.stop.Stop.TheVariants.{TooDeep}
-use Rattle.rx_grammar.specs.declared.symbol.Symbol.{Symbol}
-use Rattle.rx_grammar.specs.declared.symbol.Symbol.TheVariants as symbol
-use Rattle.rx_grammar.specs.parser.Symbols.{peek}
-use Rattle.rx_grammar.specs.parser.Steps.{Outcome, Got, and_then, expect}
-use Rattle.rx_grammar.specs.parser.Numbers.{index}
-use Rattle.rx_grammar.specs.parser.Expressions as spec
-use Rattle.rx_grammar.specs.parser.Blocks.{operand, whole, like, block}
+use Rattle.rx_parse_grammar.specs.declared.stop.Stop.{Stop}
+use Rattle.rx_parse_grammar.specs.declared.stop.Stop.TheVariants.{TooDeep}
+use Rattle.rx_parse_grammar.specs.declared.symbol.Symbol.{Symbol}
+use Rattle.rx_parse_grammar.specs.declared.symbol.Symbol.TheVariants as symbol
+use Rattle.rx_parse_grammar.specs.parser.Symbols.{peek}
+use Rattle.rx_parse_grammar.specs.parser.Steps.{Outcome, Got, and_then, expect}
+use Rattle.rx_parse_grammar.specs.parser.Numbers.{index}
+use Rattle.rx_parse_grammar.specs.parser.Expressions as spec
+use Rattle.rx_parse_grammar.specs.parser.Blocks.{operand, whole, like, block}
 use Rattle.rx_parse_expressions.specs.Levels.{member_step}
 use Rattle.rx_parse_choices.specs.Members.{MemberTree, field, part, behind, behind_by}
 use Rattle.rx_parse_expressions.specs.Members.{with_member, member}

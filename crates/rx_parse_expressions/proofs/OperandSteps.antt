@@ -6,17 +6,17 @@ use Rattle.rx_tree.specs.declared.tree.BinaryOp.{BinaryOp}
 use Rattle.rx_tree.specs.Plain as plain
 use Rattle.rx_tree.specs.Plain.{Expression, Body}
 use Rattle.rx_lex.specs.Tok.{Tok}
-use Rattle.rx_grammar.specs.declared.stop.Stop.{Stop}
-use Rattle.rx_grammar.specs.declared.symbol.Symbol.{Symbol}
-use Rattle.rx_grammar.specs.declared.symbol.Symbol.TheVariants as symbol
-use Rattle.rx_grammar.specs.grammar.Words.{join, second_ampersand}
-use Rattle.rx_grammar.specs.parser.Symbols.{head, tail, peek}
-use Rattle.rx_grammar.specs.parser.Steps.{Parser, Outcome, Got, and_then, node, sees, expect}
-use Rattle.rx_grammar.specs.parser.Lists.{elements}
-use Rattle.rx_grammar.specs.parser.Operators.{Setting, operator_at}
-use Rattle.rx_grammar.specs.parser.Expressions as spec
-use Rattle.rx_grammar.specs.parser.Blocks.{operand, whole, like, block}
-use Rattle.rx_grammar.proofs.SymbolLemmas.{seen}
+use Rattle.rx_parse_grammar.specs.declared.stop.Stop.{Stop}
+use Rattle.rx_parse_grammar.specs.declared.symbol.Symbol.{Symbol}
+use Rattle.rx_parse_grammar.specs.declared.symbol.Symbol.TheVariants as symbol
+use Rattle.rx_parse_grammar.specs.grammar.Words.{join, second_ampersand}
+use Rattle.rx_parse_grammar.specs.parser.Symbols.{head, tail, peek}
+use Rattle.rx_parse_grammar.specs.parser.Steps.{Parser, Outcome, Got, and_then, node, sees, expect}
+use Rattle.rx_parse_grammar.specs.parser.Lists.{elements}
+use Rattle.rx_parse_grammar.specs.parser.Operators.{Setting, operator_at}
+use Rattle.rx_parse_grammar.specs.parser.Expressions as spec
+use Rattle.rx_parse_grammar.specs.parser.Blocks.{operand, whole, like, block}
+use Rattle.rx_parse_grammar.proofs.SymbolLemmas.{seen}
 use Rattle.rx_parse_choices.specs.Rows.{turns}
 use Rattle.rx_parse_expressions.specs.Levels as levels
 

@@ -1,7 +1,7 @@
 -- Steps in a row: how they group, and that equal steps give equal outcomes.
 use Rattle.std.proofs.Common.{◌≡◌, List, Ok, Err, refl}
 use Rattle.rx_lex.specs.Tok.{Tok}
-use Rattle.rx_grammar.specs.parser.Steps.{Parser, Outcome, and_then}
+use Rattle.rx_parse_grammar.specs.parser.Steps.{Parser, Outcome, and_then}
 
 pub joined : {A B C : Type 0} (o : Outcome A) (f : A → Parser B) (g : B → Parser C) → and_then (and_then o f) g ≡ and_then o (λ x j. and_then (f x j) g)
 joined (Ok r) f g = refl

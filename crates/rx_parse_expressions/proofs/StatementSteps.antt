@@ -6,17 +6,17 @@ use Rattle.rx_tree.specs.Plain as plain
 use Rattle.rx_tree.specs.Plain.{TypeTree, PatternTree, Expression, OptionalExpression, Body, Statement}
 use Rattle.rx_tree.specs.PlainOf.{statements_of}
 use Rattle.rx_lex.specs.Tok.{Tok}
-use Rattle.rx_grammar.specs.declared.stop.Stop.{Stop}
-use Rattle.rx_grammar.specs.declared.stop.Stop.TheVariants.{Syntax, TooDeep}
-use Rattle.rx_grammar.specs.declared.symbol.Symbol.{Symbol}
-use Rattle.rx_grammar.specs.declared.symbol.Symbol.TheVariants as symbol
-use Rattle.rx_grammar.specs.grammar.Words.{join}
-use Rattle.rx_grammar.specs.parser.Symbols.{peek}
-use Rattle.rx_grammar.specs.parser.Steps.{Parser, Outcome, Got, and_then, sees, expect, node}
-use Rattle.rx_grammar.specs.parser.Patterns.{pattern}
-use Rattle.rx_grammar.specs.parser.Operators.{begins_like}
-use Rattle.rx_grammar.specs.parser.Blocks as spec
-use Rattle.rx_grammar.specs.parser.Blocks.{whole, like, annotation, declares}
+use Rattle.rx_parse_grammar.specs.declared.stop.Stop.{Stop}
+use Rattle.rx_parse_grammar.specs.declared.stop.Stop.TheVariants.{Syntax, TooDeep}
+use Rattle.rx_parse_grammar.specs.declared.symbol.Symbol.{Symbol}
+use Rattle.rx_parse_grammar.specs.declared.symbol.Symbol.TheVariants as symbol
+use Rattle.rx_parse_grammar.specs.grammar.Words.{join}
+use Rattle.rx_parse_grammar.specs.parser.Symbols.{peek}
+use Rattle.rx_parse_grammar.specs.parser.Steps.{Parser, Outcome, Got, and_then, sees, expect, node}
+use Rattle.rx_parse_grammar.specs.parser.Patterns.{pattern}
+use Rattle.rx_parse_grammar.specs.parser.Operators.{begins_like}
+use Rattle.rx_parse_grammar.specs.parser.Blocks as spec
+use Rattle.rx_parse_grammar.specs.parser.Blocks.{whole, like, annotation, declares}
 use Rattle.rx_parse_choices.specs.declared.ends.After.{After}
 use Rattle.rx_parse_choices.specs.declared.ends.After.TheVariants.{Semicolon, Closing}
 use Rattle.rx_parse_choices.specs.Ends as ends

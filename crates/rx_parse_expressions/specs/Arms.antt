@@ -1,14 +1,14 @@
 -- One turn of the parser of arms, apart from what follows it.
 use Rattle.std.specs.Prelude.{ℕ, max, Bool, true, false, List, [], ◌∷◌, ◌++◌, Ok}
 use Rattle.rx_tree.specs.Plain.{Expression, PatternTree}
-use Rattle.rx_grammar.specs.declared.symbol.Symbol.TheVariants as symbol
-use Rattle.rx_grammar.specs.parser.Steps.{Parser, Got, ◌>>=◌, ◌>>◌, pure, next, expect}
-use Rattle.rx_grammar.specs.parser.Lists.{Items}
-use Rattle.rx_grammar.specs.parser.Patterns.{pattern}
-use Rattle.rx_grammar.specs.parser.Operators.{begins_like}
-use Rattle.rx_grammar.specs.parser.Expressions as spec
+use Rattle.rx_parse_grammar.specs.declared.symbol.Symbol.TheVariants as symbol
+use Rattle.rx_parse_grammar.specs.parser.Steps.{Parser, Got, ◌>>=◌, ◌>>◌, pure, next, expect}
+use Rattle.rx_parse_grammar.specs.parser.Lists.{Items}
+use Rattle.rx_parse_grammar.specs.parser.Patterns.{pattern}
+use Rattle.rx_parse_grammar.specs.parser.Operators.{begins_like}
+use Rattle.rx_parse_grammar.specs.parser.Expressions as spec
 use Rattle.rx_parse_choices.specs.Ends.{behind_comma, follows}
-use Rattle.rx_grammar.specs.parser.Blocks.{operand, whole, like, block}
+use Rattle.rx_parse_grammar.specs.parser.Blocks.{operand, whole, like, block}
 
 abbrev pub arms_from : ℕ → ℕ → List (PatternTree × Expression) → ℕ → Parser (Items (PatternTree × Expression))
 arms_from b = spec.arms_from (operand b) (whole b) (like b) (block b) b

@@ -7,15 +7,15 @@ use Rattle.rx_tree.specs.Plain as plain
 use Rattle.rx_tree.specs.Plain.{Expression}
 use Rattle.rx_tree.specs.PlainOf.{expressions_of}
 use Rattle.rx_lex.specs.Tok.{Tok}
-use Rattle.rx_grammar.specs.declared.symbol.Symbol.{Symbol}
-use Rattle.rx_grammar.specs.declared.symbol.Symbol.TheVariants as symbol
-use Rattle.rx_grammar.specs.grammar.Words.{join}
-use Rattle.rx_grammar.specs.parser.Steps.{Parser, Got, ◌>>=◌, ◌>>◌, pure, expect, within, leaf, node}
-use Rattle.rx_grammar.specs.parser.Numbers.{number}
-use Rattle.rx_grammar.specs.parser.Lists.{elements}
-use Rattle.rx_grammar.specs.parser.Operators.{Setting}
-use Rattle.rx_grammar.specs.parser.Expressions as spec
-use Rattle.rx_grammar.specs.parser.Blocks.{operand, whole, like, block}
+use Rattle.rx_parse_grammar.specs.declared.symbol.Symbol.{Symbol}
+use Rattle.rx_parse_grammar.specs.declared.symbol.Symbol.TheVariants as symbol
+use Rattle.rx_parse_grammar.specs.grammar.Words.{join}
+use Rattle.rx_parse_grammar.specs.parser.Steps.{Parser, Got, ◌>>=◌, ◌>>◌, pure, expect, within, leaf, node}
+use Rattle.rx_parse_grammar.specs.parser.Numbers.{number}
+use Rattle.rx_parse_grammar.specs.parser.Lists.{elements}
+use Rattle.rx_parse_grammar.specs.parser.Operators.{Setting}
+use Rattle.rx_parse_grammar.specs.parser.Expressions as spec
+use Rattle.rx_parse_grammar.specs.parser.Blocks.{operand, whole, like, block}
 
 abbrev pub member_step : ℕ → Got Expression → Symbol → Option (Parser (Got Expression))
 member_step b = spec.member_step (operand b) (whole b) (like b) (block b) b

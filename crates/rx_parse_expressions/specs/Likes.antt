@@ -2,12 +2,12 @@
 use Rattle.std.specs.Prelude.{ℕ, Option}
 use Rattle.rx_tree.specs.Plain.{Expression, PatternTree}
 use Rattle.rx_lex.specs.Tok.{Tok}
-use Rattle.rx_grammar.specs.grammar.Expressions.{Test}
-use Rattle.rx_grammar.specs.parser.Steps.{Parser, Got, ◌>>◌, expect, within}
-use Rattle.rx_grammar.specs.declared.symbol.Symbol.TheVariants as symbol
-use Rattle.rx_grammar.specs.parser.Lists.{Items}
-use Rattle.rx_grammar.specs.parser.Expressions as spec
-use Rattle.rx_grammar.specs.parser.Blocks.{operand, whole, like, block}
+use Rattle.rx_parse_grammar.specs.grammar.Expressions.{Test}
+use Rattle.rx_parse_grammar.specs.parser.Steps.{Parser, Got, ◌>>◌, expect, within}
+use Rattle.rx_parse_grammar.specs.declared.symbol.Symbol.TheVariants as symbol
+use Rattle.rx_parse_grammar.specs.parser.Lists.{Items}
+use Rattle.rx_parse_grammar.specs.parser.Expressions as spec
+use Rattle.rx_parse_grammar.specs.parser.Blocks.{operand, whole, like, block}
 
 abbrev pub block_value : ℕ → Parser (Got Expression)
 block_value b = spec.block_value (operand b) (whole b) (like b) (block b) b

@@ -2,8 +2,8 @@
 use Rattle.std.specs.Prelude.{ℕ}
 use Rattle.rx_tree.specs.Plain as plain
 use Rattle.rx_tree.specs.Plain.{Expression}
-use Rattle.rx_grammar.specs.grammar.Words.{join, ident}
-use Rattle.rx_grammar.specs.parser.Steps.{Parser, Got, ◌>>=◌, pure, node}
+use Rattle.rx_parse_grammar.specs.grammar.Words.{join, ident}
+use Rattle.rx_parse_grammar.specs.parser.Steps.{Parser, Got, ◌>>=◌, pure, node}
 use Rattle.rx_parse_choices.specs.Members.{MemberTree, field, part, behind}
 
 abbrev pub with_member : Got Expression → MemberTree → Got Expression

@@ -6,12 +6,12 @@ use Rattle.rx_tree.specs.declared.tree.Expr.{Expr}
 use Rattle.rx_tree.specs.Plain.{Expression}
 use Rattle.rx_tree.specs.PlainOf.{plain-Expr}
 use Rattle.rx_lex.specs.Tok.{Tok}
-use Rattle.rx_grammar.specs.declared.stop.Stop.{Stop}
-use Rattle.rx_grammar.specs.parser.Steps.{Parser, ReadsAs}
-use Rattle.rx_grammar.specs.parser.Steps as steps
+use Rattle.rx_parse_grammar.specs.declared.stop.Stop.{Stop}
+use Rattle.rx_parse_grammar.specs.parser.Steps.{Parser, ReadsAs}
+use Rattle.rx_parse_grammar.specs.parser.Steps as steps
 use Rattle.rx_parse_cursor.specs.declared.got.Got.{Got}
 use Rattle.rx_parse_cursor.specs.GotOf.{got_of}
-use Rattle.rx_grammar.specs.parser.Symbols.{peek}
+use Rattle.rx_parse_grammar.specs.parser.Symbols.{peek}
 use Rattle.rx_parse_expressions.specs.Levels as levels
 use Rattle.rx_parse_choices.specs.declared.wanted.Wanted.{Wanted}
 use Rattle.rx_parse_choices.specs.declared.wanted.Wanted.TheVariants.{Operand, Whole, Like}

@@ -3,14 +3,14 @@ use Rattle.std.specs.Prelude.{ℕ, max, Bool, true, false, List, [], ◌∷◌, 
 use Rattle.rx_core.specs.declared.types.Span.{Span}
 use Rattle.rx_tree.specs.Plain as plain
 use Rattle.rx_tree.specs.Plain.{TypeTree, PatternTree, Expression, OptionalExpression, Body, Statement}
-use Rattle.rx_grammar.specs.declared.symbol.Symbol.{Symbol}
-use Rattle.rx_grammar.specs.declared.symbol.Symbol.TheVariants as symbol
-use Rattle.rx_grammar.specs.grammar.Words.{join}
-use Rattle.rx_grammar.specs.parser.Steps.{Parser, Got, ◌>>=◌, ◌>>◌, pure, refuse, next, expect, when_next, within}
-use Rattle.rx_grammar.specs.parser.Patterns.{pattern}
-use Rattle.rx_grammar.specs.parser.Operators.{begins_like}
-use Rattle.rx_grammar.specs.parser.Blocks as spec
-use Rattle.rx_grammar.specs.parser.Blocks.{whole, like, annotation, declares}
+use Rattle.rx_parse_grammar.specs.declared.symbol.Symbol.{Symbol}
+use Rattle.rx_parse_grammar.specs.declared.symbol.Symbol.TheVariants as symbol
+use Rattle.rx_parse_grammar.specs.grammar.Words.{join}
+use Rattle.rx_parse_grammar.specs.parser.Steps.{Parser, Got, ◌>>=◌, ◌>>◌, pure, refuse, next, expect, when_next, within}
+use Rattle.rx_parse_grammar.specs.parser.Patterns.{pattern}
+use Rattle.rx_parse_grammar.specs.parser.Operators.{begins_like}
+use Rattle.rx_parse_grammar.specs.parser.Blocks as spec
+use Rattle.rx_parse_grammar.specs.parser.Blocks.{whole, like, annotation, declares}
 use Rattle.rx_parse_choices.specs.declared.ends.After.{After}
 use Rattle.rx_parse_choices.specs.declared.ends.After.TheVariants.{Semicolon, Closing, Nothing}
 use Rattle.rx_parse_choices.specs.Ends.{after_like, after_whole}

@@ -2,7 +2,7 @@
 
 ghost use Rattle.std.specs.Prelude.{◌≡◌, ◌≤◌, ◌+◌, max, map, length, IfOk};
 ghost use Rattle.rx_tree.specs.PlainOf.{plain-Pattern, plain-Expr, plain-Arm};
-ghost use Rattle.rx_grammar.specs.parser.Steps.{ReadsAs};
+ghost use Rattle.rx_parse_grammar.specs.parser.Steps.{ReadsAs};
 ghost use Rattle.rx_parse_cursor.specs.GotOf.{got_of, items_of};
 ghost use Rattle.rx_parse_expressions.specs.Nests.{Nests};
 ghost use Rattle.rx_parse_expressions.specs.Arms as arms;
@@ -11,9 +11,9 @@ ghost use Rattle.rx_parse_expressions.specs.Likes as likes;
 
 use crate::level::Level;
 use rx_core::{LetGo, keep};
-use rx_grammar::{Stop, Symbol};
 use rx_parse_choices::{Wanted, begins_like, condition, goes_on};
 use rx_parse_cursor::{Cursor, Found, Got, Items, join, larger};
+use rx_parse_grammar::{Stop, Symbol};
 use rx_parse_nodes::match_of;
 use rx_parse_types::pattern;
 use rx_tree::{Arm, Expr, Pattern};
@@ -113,7 +113,7 @@ impl<F: Fn(Global, &mut Cursor<'_>, usize, Wanted) -> Result<Got<Expr>, Stop>> L
     }
 
     /// The arms in their braces.
-    #[tactic(auto, unfolding(rx_grammar::specs::parser::Expressions::arms))]
+    #[tactic(auto, unfolding(rx_parse_grammar::specs::parser::Expressions::arms))]
     fn arm_list(&self, cursor: &mut Cursor<'_>) -> Result<Items<Arm>, Stop>
         requires nests { Nests self.now.below (F.pre self.now.expression) (F.post self.now.expression) }
         ensures reads { ReadsAs (items_of plain-Arm) (likes.arm_list self.now.below cursor.old) result cursor.new }
@@ -124,7 +124,7 @@ impl<F: Fn(Global, &mut Cursor<'_>, usize, Wanted) -> Result<Got<Expr>, Stop>> L
     }
 
     /// A `match`.
-    #[tactic(auto, unfolding(rx_grammar::specs::parser::Expressions::match_value))]
+    #[tactic(auto, unfolding(rx_parse_grammar::specs::parser::Expressions::match_value))]
     pub fn match_value(&self, cursor: &mut Cursor<'_>) -> Result<Got<Expr>, Stop>
         requires nests { Nests self.now.below (F.pre self.now.expression) (F.post self.now.expression) }
         ensures reads { ReadsAs (got_of plain-Expr) (likes.match_value self.now.below cursor.old) result cursor.new }

@@ -2,8 +2,8 @@
 
 ghost use Rattle.std.specs.Prelude.{◌≡◌, ◌≤◌, ◌<◌, ◌+◌, ◌-◌, length, IfOk};
 ghost use Rattle.rx_tree.specs.PlainOf.{plain-Expr};
-ghost use Rattle.rx_grammar.specs.parser.Steps.{ReadsAs};
-ghost use Rattle.rx_grammar.specs.parser.Expressions as spec;
+ghost use Rattle.rx_parse_grammar.specs.parser.Steps.{ReadsAs};
+ghost use Rattle.rx_parse_grammar.specs.parser.Expressions as spec;
 ghost use Rattle.rx_parse_cursor.specs.GotOf.{got_of};
 ghost use Rattle.rx_parse_choices.specs.Rows.{turns};
 ghost use Rattle.rx_parse_expressions.specs.Nests.{Nests};
@@ -11,9 +11,9 @@ ghost use Rattle.rx_parse_expressions.specs.Levels as levels;
 
 use crate::level::Level;
 use rx_core::keep;
-use rx_grammar::{Stop, Symbol};
 use rx_parse_choices::{Wanted, operator_at, turns};
 use rx_parse_cursor::{Cursor, Got};
+use rx_parse_grammar::{Stop, Symbol};
 use rx_parse_nodes::binary_of;
 use rx_tree::{BinaryOp, Expr};
 use std::alloc::Global;

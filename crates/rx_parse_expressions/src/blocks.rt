@@ -3,9 +3,9 @@
 ghost use Rattle.std.specs.Prelude.{◌≡◌, ◌≤◌, ◌+◌, max, map, length, IfOk};
 ghost use Rattle.rx_tree.specs.Plain as plain;
 ghost use Rattle.rx_tree.specs.PlainOf.{plain-Block, plain-Expr, plain-Stmt, statements_of};
-ghost use Rattle.rx_grammar.specs.grammar.Words as words;
-ghost use Rattle.rx_grammar.specs.parser.Steps.{ReadsAs, node};
-ghost use Rattle.rx_grammar.specs.parser.Blocks as spec;
+ghost use Rattle.rx_parse_grammar.specs.grammar.Words as words;
+ghost use Rattle.rx_parse_grammar.specs.parser.Steps.{ReadsAs, node};
+ghost use Rattle.rx_parse_grammar.specs.parser.Blocks as spec;
 ghost use Rattle.rx_parse_cursor.specs.GotOf.{got_of};
 ghost use Rattle.rx_parse_expressions.specs.Nests.{Nests};
 ghost use Rattle.rx_parse_expressions.specs.Pieces as pieces;
@@ -14,9 +14,9 @@ ghost use Rattle.rx_parse_expressions.specs.PieceOf.{ending_of, piece_of, turn_o
 use crate::level::{Level, expression};
 use crate::statements::Piece;
 use rx_core::{Boxed, LetGo, Span, keep};
-use rx_grammar::{Stop, Symbol};
 use rx_parse_choices::Wanted;
 use rx_parse_cursor::{Cursor, Found, Got, join, larger};
+use rx_parse_grammar::{Stop, Symbol};
 use rx_tree::{Block, Expr, Stmt};
 use std::alloc::{AllocError, Global};
 
@@ -131,7 +131,7 @@ impl<F: Fn(Global, &mut Cursor<'_>, usize, Wanted) -> Result<Got<Expr>, Stop>> L
 
 impl<F: Fn(Global, &mut Cursor<'_>, usize, Wanted) -> Result<Got<Expr>, Stop> + Copy> Level<F> {
     /// A block of this level.
-    #[tactic(auto, unfolding(rx_grammar::specs::parser::Blocks::block_of, rx_grammar::specs::parser::Blocks::statements))]
+    #[tactic(auto, unfolding(rx_parse_grammar::specs::parser::Blocks::block_of, rx_parse_grammar::specs::parser::Blocks::statements))]
     fn block_of(&self, cursor: &mut Cursor<'_>) -> Result<Got<Block>, Stop>
         requires { Nests self.now.below (F.pre self.now.expression) (F.post self.now.expression) }
         ensures reads { ReadsAs (got_of plain-Block) (spec.block_of (spec.whole self.now.below) (spec.like self.now.below) self.now.below cursor.old) result cursor.new }

@@ -3,14 +3,14 @@
 
 ghost use Rattle.std.specs.Prelude.{◌≡◌, ◌≤◌, ◌+◌, IfOk};
 ghost use Rattle.rx_tree.specs.PlainOf.{plain-Expr};
-ghost use Rattle.rx_grammar.specs.parser.Steps.{ReadsAs};
+ghost use Rattle.rx_parse_grammar.specs.parser.Steps.{ReadsAs};
 ghost use Rattle.rx_parse_cursor.specs.GotOf.{got_of};
 ghost use Rattle.rx_parse_choices.specs.Wants.{wanted_of};
 ghost use Rattle.rx_parse_expressions.specs.Nests.{Nests, level_of};
 
-use rx_grammar::Stop;
 use rx_parse_choices::{Wanted, begins};
 use rx_parse_cursor::{Cursor, Got};
+use rx_parse_grammar::Stop;
 use rx_tree::Expr;
 use std::alloc::Global;
 

@@ -3,8 +3,8 @@
 ghost use Rattle.std.specs.Prelude.{◌≡◌, ◌≤◌, ◌+◌, option_map, IfOk};
 ghost use Rattle.rx_tree.specs.PlainOf.{plain-Expr};
 ghost use Rattle.rx_lex.specs.Tok.{tok};
-ghost use Rattle.rx_grammar.specs.parser.Symbols.{peek};
-ghost use Rattle.rx_grammar.specs.parser.Steps.{ReadsAs};
+ghost use Rattle.rx_parse_grammar.specs.parser.Symbols.{peek};
+ghost use Rattle.rx_parse_grammar.specs.parser.Steps.{ReadsAs};
 ghost use Rattle.rx_parse_cursor.specs.GotOf.{got_of};
 ghost use Rattle.rx_parse_nodes.specs.TestOf.{test_of};
 ghost use Rattle.rx_parse_expressions.specs.Nests.{Nests};
@@ -13,10 +13,10 @@ ghost use Rattle.rx_parse_expressions.specs.Likes as likes;
 
 use crate::level::Level;
 use rx_core::keep;
-use rx_grammar::{Stop, Symbol};
 use rx_lex::Token;
 use rx_parse_choices::{Wanted, condition, fitted};
 use rx_parse_cursor::{Cursor, Got};
+use rx_parse_grammar::{Stop, Symbol};
 use rx_parse_nodes::{
     Test, block_of, fits, holds, if_else_of, if_of, label_of, loop_of, start_of, while_of,
 };
@@ -26,7 +26,7 @@ use std::alloc::Global;
 
 impl<F: Fn(Global, &mut Cursor<'_>, usize, Wanted) -> Result<Got<Expr>, Stop> + Copy> Level<F> {
     /// A block as a value.
-    #[tactic(auto, unfolding(rx_grammar::specs::parser::Expressions::block_value))]
+    #[tactic(auto, unfolding(rx_parse_grammar::specs::parser::Expressions::block_value))]
     fn block_value(&self, cursor: &mut Cursor<'_>) -> Result<Got<Expr>, Stop>
         requires nests { Nests self.now.below (F.pre self.now.expression) (F.post self.now.expression) }
         ensures reads { ReadsAs (got_of plain-Expr) (likes.block_value self.now.below cursor.old) result cursor.new }
@@ -40,7 +40,7 @@ impl<F: Fn(Global, &mut Cursor<'_>, usize, Wanted) -> Result<Got<Expr>, Stop> + 
     }
 
     /// A pattern and what it is to fit.
-    #[tactic(auto, unfolding(rx_grammar::specs::parser::Expressions::let_test))]
+    #[tactic(auto, unfolding(rx_parse_grammar::specs::parser::Expressions::let_test))]
     fn let_test(&self, cursor: &mut Cursor<'_>) -> Result<Got<Test>, Stop>
         requires nests { Nests self.now.below (F.pre self.now.expression) (F.post self.now.expression) }
         ensures reads { ReadsAs (got_of test_of) (likes.let_test self.now.below cursor.old) result cursor.new }
@@ -70,7 +70,7 @@ impl<F: Fn(Global, &mut Cursor<'_>, usize, Wanted) -> Result<Got<Expr>, Stop> + 
     }
 
     /// What stands behind `else`.
-    #[tactic(auto, unfolding(rx_grammar::specs::parser::Expressions::else_value))]
+    #[tactic(auto, unfolding(rx_parse_grammar::specs::parser::Expressions::else_value))]
     fn else_value(&self, cursor: &mut Cursor<'_>) -> Result<Got<Expr>, Stop>
         requires nests { Nests self.now.below (F.pre self.now.expression) (F.post self.now.expression) }
         ensures reads { ReadsAs (got_of plain-Expr) (likes.else_value self.now.below cursor.old) result cursor.new }
@@ -97,7 +97,7 @@ impl<F: Fn(Global, &mut Cursor<'_>, usize, Wanted) -> Result<Got<Expr>, Stop> + 
     }
 
     /// An `if`.
-    #[tactic(auto, unfolding(rx_grammar::specs::parser::Expressions::conditional))]
+    #[tactic(auto, unfolding(rx_parse_grammar::specs::parser::Expressions::conditional))]
     fn conditional(&self, cursor: &mut Cursor<'_>) -> Result<Got<Expr>, Stop>
         requires nests { Nests self.now.below (F.pre self.now.expression) (F.post self.now.expression) }
         ensures reads { ReadsAs (got_of plain-Expr) (likes.conditional self.now.below cursor.old) result cursor.new }
@@ -117,7 +117,7 @@ impl<F: Fn(Global, &mut Cursor<'_>, usize, Wanted) -> Result<Got<Expr>, Stop> + 
     }
 
     /// A `loop`, behind its label.
-    #[tactic(auto, unfolding(rx_grammar::specs::parser::Expressions::loop_value))]
+    #[tactic(auto, unfolding(rx_parse_grammar::specs::parser::Expressions::loop_value))]
     fn loop_value(
         &self,
         cursor: &mut Cursor<'_>,
@@ -135,7 +135,7 @@ impl<F: Fn(Global, &mut Cursor<'_>, usize, Wanted) -> Result<Got<Expr>, Stop> + 
     }
 
     /// A `while`, behind its label.
-    #[tactic(auto, unfolding(rx_grammar::specs::parser::Expressions::while_value))]
+    #[tactic(auto, unfolding(rx_parse_grammar::specs::parser::Expressions::while_value))]
     fn while_value(
         &self,
         cursor: &mut Cursor<'_>,
@@ -154,7 +154,7 @@ impl<F: Fn(Global, &mut Cursor<'_>, usize, Wanted) -> Result<Got<Expr>, Stop> + 
     }
 
     /// A loop with a label.
-    #[tactic(auto, unfolding(rx_grammar::specs::parser::Expressions::labelled))]
+    #[tactic(auto, unfolding(rx_parse_grammar::specs::parser::Expressions::labelled))]
     fn labelled(&self, cursor: &mut Cursor<'_>) -> Result<Got<Expr>, Stop>
         requires nests { Nests self.now.below (F.pre self.now.expression) (F.post self.now.expression) }
         ensures reads { ReadsAs (got_of plain-Expr) (likes.labelled self.now.below cursor.old) result cursor.new }

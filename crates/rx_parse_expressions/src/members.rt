@@ -2,17 +2,17 @@
 
 ghost use Rattle.std.specs.Prelude.{◌≡◌, ◌≤◌, ◌+◌, length, IfOk};
 ghost use Rattle.rx_tree.specs.PlainOf.{plain-Expr};
-ghost use Rattle.rx_grammar.specs.parser.Steps.{ReadsAs};
-ghost use Rattle.rx_grammar.specs.parser.Expressions as spec;
+ghost use Rattle.rx_parse_grammar.specs.parser.Steps.{ReadsAs};
+ghost use Rattle.rx_parse_grammar.specs.parser.Expressions as spec;
 ghost use Rattle.rx_parse_cursor.specs.GotOf.{got_of};
 ghost use Rattle.rx_parse_choices.specs.Members.{member_of};
 ghost use Rattle.rx_parse_expressions.specs.Members as tree;
 ghost use Rattle.rx_parse_expressions.specs.Levels as levels;
 
 use rx_core::keep;
-use rx_grammar::{Stop, Symbol};
 use rx_parse_choices::{Member, member_behind};
 use rx_parse_cursor::{Cursor, Got};
+use rx_parse_grammar::{Stop, Symbol};
 use rx_parse_nodes::{field_of, part_of};
 use rx_tree::Expr;
 use std::alloc::{AllocError, Global};

@@ -5,20 +5,20 @@ ghost use Rattle.rx_tree.specs.declared.tree.Ident.{Ident};
 ghost use Rattle.rx_tree.specs.Plain.{Expression};
 ghost use Rattle.rx_tree.specs.PlainOf.{plain-Expr, plain-FieldExpr};
 ghost use Rattle.rx_lex.specs.Tok.{tok};
-ghost use Rattle.rx_grammar.specs.declared.symbol.Symbol.TheVariants as symbol;
-ghost use Rattle.rx_grammar.specs.parser.Symbols.{peek};
-ghost use Rattle.rx_grammar.specs.parser.Steps.{ReadsAs};
-ghost use Rattle.rx_grammar.specs.parser.Expressions as spec;
-ghost use Rattle.rx_grammar.specs.parser.Blocks.{whole};
+ghost use Rattle.rx_parse_grammar.specs.declared.symbol.Symbol.TheVariants as symbol;
+ghost use Rattle.rx_parse_grammar.specs.parser.Symbols.{peek};
+ghost use Rattle.rx_parse_grammar.specs.parser.Steps.{ReadsAs};
+ghost use Rattle.rx_parse_grammar.specs.parser.Expressions as spec;
+ghost use Rattle.rx_parse_grammar.specs.parser.Blocks.{whole};
 ghost use Rattle.rx_parse_cursor.specs.GotOf.{got_of};
 ghost use Rattle.rx_parse_expressions.specs.Nests.{Nests};
 
 use crate::level::Level;
 use rx_core::keep;
-use rx_grammar::{Stop, Symbol};
 use rx_lex::Token;
 use rx_parse_choices::{Wanted, is_input, is_println};
 use rx_parse_cursor::{Cursor, Found, Got, Reader, elements, join, some_elements};
+use rx_parse_grammar::{Stop, Symbol};
 use rx_parse_nodes::{
     bare_variant, call_of, field_value_of, input_of, print_of, short_field, struct_of, variable,
     variant_of,
@@ -52,7 +52,7 @@ impl<F: Fn(Global, &mut Cursor<'_>, usize, Wanted) -> Result<Got<Expr>, Stop>> R
 
 impl<F: Fn(Global, &mut Cursor<'_>, usize, Wanted) -> Result<Got<Expr>, Stop>> Level<F> {
     /// The arguments of a call, behind its name.
-    #[tactic(auto, unfolding(rx_grammar::specs::parser::Expressions::call))]
+    #[tactic(auto, unfolding(rx_parse_grammar::specs::parser::Expressions::call))]
     fn call(&self, cursor: &mut Cursor<'_>, name: Token<'_>) -> Result<Got<Expr>, Stop>
         requires nests { Nests self.now.below (F.pre self.now.expression) (F.post self.now.expression) }
         ensures reads { ReadsAs (got_of plain-Expr) (spec.call (whole self.now.below) self.now.below (tok name.entry) cursor.old) result cursor.new }
@@ -65,7 +65,7 @@ impl<F: Fn(Global, &mut Cursor<'_>, usize, Wanted) -> Result<Got<Expr>, Stop>> L
     }
 
     /// What prints a value, behind the name.
-    #[tactic(auto, unfolding(rx_grammar::specs::parser::Expressions::print))]
+    #[tactic(auto, unfolding(rx_parse_grammar::specs::parser::Expressions::print))]
     fn print(&self, cursor: &mut Cursor<'_>, name: Token<'_>) -> Result<Got<Expr>, Stop>
         requires nests { Nests self.now.below (F.pre self.now.expression) (F.post self.now.expression) }
         ensures reads { ReadsAs (got_of plain-Expr) (spec.print (whole self.now.below) self.now.below (tok name.entry) cursor.old) result cursor.new }
@@ -84,7 +84,7 @@ impl<F: Fn(Global, &mut Cursor<'_>, usize, Wanted) -> Result<Got<Expr>, Stop>> L
     }
 
     /// The arguments of a variant, behind the opening parenthesis.
-    #[tactic(auto, unfolding(rx_grammar::specs::parser::Expressions::variant_arguments))]
+    #[tactic(auto, unfolding(rx_parse_grammar::specs::parser::Expressions::variant_arguments))]
     fn variant_arguments(
         &self,
         cursor: &mut Cursor<'_>,
@@ -100,7 +100,7 @@ impl<F: Fn(Global, &mut Cursor<'_>, usize, Wanted) -> Result<Got<Expr>, Stop>> L
     }
 
     /// The next number of the input, or a variant that is called so, behind the names.
-    #[tactic(auto, unfolding(rx_grammar::specs::parser::Expressions::input))]
+    #[tactic(auto, unfolding(rx_parse_grammar::specs::parser::Expressions::input))]
     fn input(
         &self,
         cursor: &mut Cursor<'_>,
@@ -120,7 +120,7 @@ impl<F: Fn(Global, &mut Cursor<'_>, usize, Wanted) -> Result<Got<Expr>, Stop>> L
     }
 
     /// A variant with arguments, behind the names.
-    #[tactic(auto, unfolding(rx_grammar::specs::parser::Expressions::variant_with))]
+    #[tactic(auto, unfolding(rx_parse_grammar::specs::parser::Expressions::variant_with))]
     fn variant_with(
         &self,
         cursor: &mut Cursor<'_>,
@@ -139,7 +139,7 @@ impl<F: Fn(Global, &mut Cursor<'_>, usize, Wanted) -> Result<Got<Expr>, Stop>> L
     }
 
     /// A variant, behind the name of its enum.
-    #[tactic(auto, unfolding(rx_grammar::specs::parser::Expressions::path))]
+    #[tactic(auto, unfolding(rx_parse_grammar::specs::parser::Expressions::path))]
     fn path(&self, cursor: &mut Cursor<'_>, name: Token<'_>) -> Result<Got<Expr>, Stop>
         requires { Nests self.now.below (F.pre self.now.expression) (F.post self.now.expression) }
         ensures reads { ReadsAs (got_of plain-Expr) (spec.path (whole self.now.below) self.now.below (tok name.entry) cursor.old) result cursor.new }
@@ -157,7 +157,7 @@ impl<F: Fn(Global, &mut Cursor<'_>, usize, Wanted) -> Result<Got<Expr>, Stop>> L
     }
 
     /// A field and its value.
-    #[tactic(auto, unfolding(rx_grammar::specs::parser::Expressions::field_value))]
+    #[tactic(auto, unfolding(rx_parse_grammar::specs::parser::Expressions::field_value))]
     fn field_value(&self, cursor: &mut Cursor<'_>) -> Result<Got<FieldExpr>, Stop>
         requires nests { Nests self.now.below (F.pre self.now.expression) (F.post self.now.expression) }
         requires some { 0 < self.now.below }
@@ -174,7 +174,7 @@ impl<F: Fn(Global, &mut Cursor<'_>, usize, Wanted) -> Result<Got<Expr>, Stop>> L
     }
 
     /// A field, which needs a level for its value.
-    #[tactic(auto, unfolding(rx_grammar::specs::parser::Expressions::field))]
+    #[tactic(auto, unfolding(rx_parse_grammar::specs::parser::Expressions::field))]
     fn field(&self, cursor: &mut Cursor<'_>) -> Result<Got<FieldExpr>, Stop>
         requires { Nests self.now.below (F.pre self.now.expression) (F.post self.now.expression) }
         ensures reads { ReadsAs (got_of plain-FieldExpr) (spec.field (whole self.now.below) self.now.below cursor.old) result cursor.new }
@@ -213,7 +213,7 @@ impl<F: Fn(Global, &mut Cursor<'_>, usize, Wanted) -> Result<Got<Expr>, Stop>> R
 
 impl<F: Fn(Global, &mut Cursor<'_>, usize, Wanted) -> Result<Got<Expr>, Stop> + Copy> Level<F> {
     /// A struct, behind its name.
-    #[tactic(auto, unfolding(rx_grammar::specs::parser::Expressions::struct_literal))]
+    #[tactic(auto, unfolding(rx_parse_grammar::specs::parser::Expressions::struct_literal))]
     fn struct_literal(&self, cursor: &mut Cursor<'_>, name: Token<'_>) -> Result<Got<Expr>, Stop>
         requires { Nests self.now.below (F.pre self.now.expression) (F.post self.now.expression) }
         ensures reads { ReadsAs (got_of plain-Expr) (spec.struct_literal (whole self.now.below) self.now.below (tok name.entry) cursor.old) result cursor.new }
@@ -286,7 +286,7 @@ impl<F: Fn(Global, &mut Cursor<'_>, usize, Wanted) -> Result<Got<Expr>, Stop> + 
     }
 
     /// A primary that begins with a name.
-    #[tactic(auto, unfolding(rx_grammar::specs::parser::Expressions::named))]
+    #[tactic(auto, unfolding(rx_parse_grammar::specs::parser::Expressions::named))]
     pub fn named(&self, cursor: &mut Cursor<'_>, literals: bool) -> Result<Got<Expr>, Stop>
         requires { Nests self.now.below (F.pre self.now.expression) (F.post self.now.expression) }
         ensures reads { ReadsAs (got_of plain-Expr) (spec.named (whole self.now.below) self.now.below literals cursor.old) result cursor.new }

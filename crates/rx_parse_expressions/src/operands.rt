@@ -3,20 +3,20 @@
 ghost use Rattle.std.specs.Prelude.{◌≡◌, ◌≤◌, ◌+◌, IfOk};
 ghost use Rattle.rx_tree.specs.Plain as plain;
 ghost use Rattle.rx_tree.specs.PlainOf.{plain-Expr, expressions_of};
-ghost use Rattle.rx_grammar.specs.declared.symbol.Symbol.TheVariants as symbol;
-ghost use Rattle.rx_grammar.specs.parser.Symbols.{peek};
-ghost use Rattle.rx_grammar.specs.parser.Steps.{ReadsAs};
-ghost use Rattle.rx_grammar.specs.parser.Lists as lists;
-ghost use Rattle.rx_grammar.specs.parser.Blocks.{whole};
+ghost use Rattle.rx_parse_grammar.specs.declared.symbol.Symbol.TheVariants as symbol;
+ghost use Rattle.rx_parse_grammar.specs.parser.Symbols.{peek};
+ghost use Rattle.rx_parse_grammar.specs.parser.Steps.{ReadsAs};
+ghost use Rattle.rx_parse_grammar.specs.parser.Lists as lists;
+ghost use Rattle.rx_parse_grammar.specs.parser.Blocks.{whole};
 ghost use Rattle.rx_parse_cursor.specs.GotOf.{got_of};
 ghost use Rattle.rx_parse_expressions.specs.Nests.{Nests};
 ghost use Rattle.rx_parse_expressions.specs.Levels as levels;
 
 use crate::level::Level;
 use crate::members::members;
-use rx_grammar::{Stop, Symbol};
 use rx_parse_choices::{Wanted, unary_operand};
 use rx_parse_cursor::{Cursor, Got, Grouped, group, number};
+use rx_parse_grammar::{Stop, Symbol};
 use rx_parse_nodes::{bool_value, borrow_of, deref, int_value, invert, negate, tuple_of};
 use rx_parse_types::mutability;
 use rx_tree::Expr;
@@ -87,7 +87,7 @@ impl<F: Fn(Global, &mut Cursor<'_>, usize, Wanted) -> Result<Got<Expr>, Stop>> L
     }
 
     /// A reference.
-    #[tactic(auto, unfolding(rx_grammar::specs::parser::Expressions::borrow))]
+    #[tactic(auto, unfolding(rx_parse_grammar::specs::parser::Expressions::borrow))]
     fn borrow(&self, cursor: &mut Cursor<'_>, literals: bool) -> Result<Got<Expr>, Stop>
         requires { Nests self.now.below (F.pre self.now.expression) (F.post self.now.expression) }
         ensures reads { ReadsAs (got_of plain-Expr) (levels.borrow self.now.below literals cursor.old) result cursor.new }
@@ -103,7 +103,7 @@ impl<F: Fn(Global, &mut Cursor<'_>, usize, Wanted) -> Result<Got<Expr>, Stop>> L
     }
 
     /// `&&` as two `&`.
-    #[tactic(auto, unfolding(rx_grammar::specs::parser::Expressions::borrow_twice, rx_grammar::specs::parser::Steps::expect))]
+    #[tactic(auto, unfolding(rx_parse_grammar::specs::parser::Expressions::borrow_twice, rx_parse_grammar::specs::parser::Steps::expect))]
     fn borrow_twice(&self, cursor: &mut Cursor<'_>, literals: bool) -> Result<Got<Expr>, Stop>
         requires nests { Nests self.now.below (F.pre self.now.expression) (F.post self.now.expression) }
         requires two { peek cursor.old ≡ symbol.AndAnd }
@@ -121,7 +121,7 @@ impl<F: Fn(Global, &mut Cursor<'_>, usize, Wanted) -> Result<Got<Expr>, Stop>> L
 
 impl<F: Fn(Global, &mut Cursor<'_>, usize, Wanted) -> Result<Got<Expr>, Stop> + Copy> Level<F> {
     /// A primary.
-    #[tactic(auto, unfolding(rx_grammar::specs::parser::Expressions::primary))]
+    #[tactic(auto, unfolding(rx_parse_grammar::specs::parser::Expressions::primary))]
     fn primary(&self, cursor: &mut Cursor<'_>, literals: bool) -> Result<Got<Expr>, Stop>
         requires { Nests self.now.below (F.pre self.now.expression) (F.post self.now.expression) }
         ensures reads { ReadsAs (got_of plain-Expr) (levels.primary self.now.below literals cursor.old) result cursor.new }
@@ -144,7 +144,7 @@ impl<F: Fn(Global, &mut Cursor<'_>, usize, Wanted) -> Result<Got<Expr>, Stop> + 
     }
 
     /// A primary, with the members behind it.
-    #[tactic(auto, unfolding(rx_grammar::specs::parser::Expressions::postfix))]
+    #[tactic(auto, unfolding(rx_parse_grammar::specs::parser::Expressions::postfix))]
     fn postfix(&self, cursor: &mut Cursor<'_>, literals: bool) -> Result<Got<Expr>, Stop>
         requires { Nests self.now.below (F.pre self.now.expression) (F.post self.now.expression) }
         ensures reads { ReadsAs (got_of plain-Expr) (levels.postfix self.now.below literals cursor.old) result cursor.new }
@@ -155,7 +155,7 @@ impl<F: Fn(Global, &mut Cursor<'_>, usize, Wanted) -> Result<Got<Expr>, Stop> + 
     }
 
     /// An operand of no operator with two operands.
-    #[tactic(auto, unfolding(rx_grammar::specs::parser::Expressions::unary))]
+    #[tactic(auto, unfolding(rx_parse_grammar::specs::parser::Expressions::unary))]
     pub fn unary(&self, cursor: &mut Cursor<'_>, literals: bool) -> Result<Got<Expr>, Stop>
         requires { Nests self.now.below (F.pre self.now.expression) (F.post self.now.expression) }
         ensures reads { ReadsAs (got_of plain-Expr) (levels.unary self.now.below literals cursor.old) result cursor.new }

@@ -3,11 +3,11 @@
 ghost use Rattle.std.specs.Prelude.{◌≡◌, ◌≤◌, ◌+◌, max, true, false, IfOk};
 ghost use Rattle.rx_tree.specs.Plain as plain;
 ghost use Rattle.rx_tree.specs.PlainOf.{plain-Pattern, plain-Expr, plain-Stmt};
-ghost use Rattle.rx_grammar.specs.grammar.Words as words;
-ghost use Rattle.rx_grammar.specs.parser.Symbols.{peek};
-ghost use Rattle.rx_grammar.specs.parser.Steps.{ReadsAs};
-ghost use Rattle.rx_grammar.specs.parser.Operators as operators;
-ghost use Rattle.rx_grammar.specs.parser.Blocks as spec;
+ghost use Rattle.rx_parse_grammar.specs.grammar.Words as words;
+ghost use Rattle.rx_parse_grammar.specs.parser.Symbols.{peek};
+ghost use Rattle.rx_parse_grammar.specs.parser.Steps.{ReadsAs};
+ghost use Rattle.rx_parse_grammar.specs.parser.Operators as operators;
+ghost use Rattle.rx_parse_grammar.specs.parser.Blocks as spec;
 ghost use Rattle.rx_parse_cursor.specs.GotOf.{got_of};
 ghost use Rattle.rx_parse_expressions.specs.Nests.{Nests};
 ghost use Rattle.rx_parse_expressions.specs.Pieces as pieces;
@@ -15,9 +15,9 @@ ghost use Rattle.rx_parse_expressions.specs.PieceOf.{annotation_of, initial_of, 
 
 use crate::level::Level;
 use rx_core::{LetGo, Span, keep};
-use rx_grammar::{Stop, Symbol};
 use rx_parse_choices::{After, Wanted, after_like, after_whole, begins_like};
 use rx_parse_cursor::{Cursor, Got, join, larger};
+use rx_parse_grammar::{Stop, Symbol};
 use rx_parse_types::{pattern, typ};
 use rx_tree::{Expr, Pattern, PatternNode, Stmt, StmtNode, TypeText};
 use std::alloc::Global;
@@ -67,7 +67,7 @@ fn declares(read: &Got<Pattern>) -> bool
 }
 
 /// The type behind a pattern, where one is written.
-#[tactic(auto, unfolding(rx_grammar::specs::parser::Blocks::annotation))]
+#[tactic(auto, unfolding(rx_parse_grammar::specs::parser::Blocks::annotation))]
 fn annotation(alloc: Global, cursor: &mut Cursor<'_>, depth: usize) -> Result<Annotated, Stop>
     requires { depth ≤ 128 }
     ensures reads { ReadsAs annotation_of (spec.annotation depth cursor.old) result cursor.new }

@@ -3,11 +3,11 @@
 ghost use Rattle.std.specs.Prelude.{◌≡◌, ◌≤◌, ◌+◌, max, IfOk};
 ghost use Rattle.rx_tree.specs.Plain as plain;
 ghost use Rattle.rx_tree.specs.PlainOf.{plain-Expr};
-ghost use Rattle.rx_grammar.specs.declared.symbol.Symbol.TheVariants as symbol;
-ghost use Rattle.rx_grammar.specs.grammar.Words as words;
-ghost use Rattle.rx_grammar.specs.parser.Symbols.{peek};
-ghost use Rattle.rx_grammar.specs.parser.Steps.{ReadsAs, node};
-ghost use Rattle.rx_grammar.specs.parser.Operators.{setting};
+ghost use Rattle.rx_parse_grammar.specs.declared.symbol.Symbol.TheVariants as symbol;
+ghost use Rattle.rx_parse_grammar.specs.grammar.Words as words;
+ghost use Rattle.rx_parse_grammar.specs.parser.Symbols.{peek};
+ghost use Rattle.rx_parse_grammar.specs.parser.Steps.{ReadsAs, node};
+ghost use Rattle.rx_parse_grammar.specs.parser.Operators.{setting};
 ghost use Rattle.rx_parse_cursor.specs.GotOf.{got_of};
 ghost use Rattle.rx_parse_expressions.specs.Nests.{Nests};
 ghost use Rattle.rx_parse_expressions.specs.Levels as levels;
@@ -15,16 +15,16 @@ ghost use Rattle.rx_parse_choices.specs.SettingOf.{setting_of};
 
 use crate::level::Level;
 use rx_core::keep;
-use rx_grammar::{DISJUNCTION, Stop, Symbol};
 use rx_parse_choices::{Setting, Wanted, begins_expression, setting_at};
 use rx_parse_cursor::{Cursor, Got, ident, join};
+use rx_parse_grammar::{DISJUNCTION, Stop, Symbol};
 use rx_parse_nodes::{assign_of, bare_return, break_of, continue_of, return_of, update_of};
 use rx_tree::Expr;
 use std::alloc::{AllocError, Global};
 
 impl<F: Fn(Global, &mut Cursor<'_>, usize, Wanted) -> Result<Got<Expr>, Stop>> Level<F> {
     /// A `return`.
-    #[tactic(auto, unfolding(rx_grammar::specs::parser::Expressions::return_value))]
+    #[tactic(auto, unfolding(rx_parse_grammar::specs::parser::Expressions::return_value))]
     fn return_value(&self, cursor: &mut Cursor<'_>) -> Result<Got<Expr>, Stop>
         requires { Nests self.now.below (F.pre self.now.expression) (F.post self.now.expression) }
         ensures reads { ReadsAs (got_of plain-Expr) (levels.return_value self.now.below cursor.old) result cursor.new }
@@ -39,7 +39,7 @@ impl<F: Fn(Global, &mut Cursor<'_>, usize, Wanted) -> Result<Got<Expr>, Stop>> L
     }
 
     /// A `break`.
-    #[tactic(auto, unfolding(rx_grammar::specs::parser::Expressions::jump))]
+    #[tactic(auto, unfolding(rx_parse_grammar::specs::parser::Expressions::jump))]
     fn break_value(&self, cursor: &mut Cursor<'_>) -> Result<Got<Expr>, Stop>
         requires { Nests self.now.below (F.pre self.now.expression) (F.post self.now.expression) }
         ensures reads { ReadsAs (got_of plain-Expr) (levels.jump self.now.below symbol.Break plain.break cursor.old) result cursor.new }
@@ -55,7 +55,7 @@ impl<F: Fn(Global, &mut Cursor<'_>, usize, Wanted) -> Result<Got<Expr>, Stop>> L
     }
 
     /// A `continue`.
-    #[tactic(auto, unfolding(rx_grammar::specs::parser::Expressions::jump))]
+    #[tactic(auto, unfolding(rx_parse_grammar::specs::parser::Expressions::jump))]
     fn continue_value(&self, cursor: &mut Cursor<'_>) -> Result<Got<Expr>, Stop>
         requires { Nests self.now.below (F.pre self.now.expression) (F.post self.now.expression) }
         ensures reads { ReadsAs (got_of plain-Expr) (levels.jump self.now.below symbol.Continue plain.continue cursor.old) result cursor.new }
@@ -143,7 +143,7 @@ impl<F: Fn(Global, &mut Cursor<'_>, usize, Wanted) -> Result<Got<Expr>, Stop>> L
 
 impl<F: Fn(Global, &mut Cursor<'_>, usize, Wanted) -> Result<Got<Expr>, Stop> + Copy> Level<F> {
     /// An operand, or an assignment to it.
-    #[tactic(auto, unfolding(rx_grammar::specs::parser::Expressions::set_or_operand))]
+    #[tactic(auto, unfolding(rx_parse_grammar::specs::parser::Expressions::set_or_operand))]
     fn set_or_operand(&self, cursor: &mut Cursor<'_>) -> Result<Got<Expr>, Stop>
         requires { Nests self.now.below (F.pre self.now.expression) (F.post self.now.expression) }
         ensures reads { ReadsAs (got_of plain-Expr) (levels.set_or_operand self.now.below cursor.old) result cursor.new }

@@ -4,12 +4,12 @@ use Rattle.rx_core.specs.declared.types.Span.{Span}
 use Rattle.rx_tree.specs.declared.tree.Ident.{Ident}
 use Rattle.rx_tree.specs.Plain.{ItemTree}
 use Rattle.rx_lex.specs.Tok.{Tok}
-use Rattle.rx_grammar.specs.declared.stop.Stop.{Stop}
-use Rattle.rx_grammar.specs.declared.symbol.Symbol.TheVariants as symbol
-use Rattle.rx_grammar.specs.grammar.Words.{ident}
-use Rattle.rx_grammar.specs.parser.Symbols.{tail}
-use Rattle.rx_grammar.specs.parser.Steps.{Got, sees, expect}
-use Rattle.rx_grammar.specs.parser.Items.{bounds_from, item, items_from}
+use Rattle.rx_parse_grammar.specs.declared.stop.Stop.{Stop}
+use Rattle.rx_parse_grammar.specs.declared.symbol.Symbol.TheVariants as symbol
+use Rattle.rx_parse_grammar.specs.grammar.Words.{ident}
+use Rattle.rx_parse_grammar.specs.parser.Symbols.{tail}
+use Rattle.rx_parse_grammar.specs.parser.Steps.{Got, sees, expect}
+use Rattle.rx_parse_grammar.specs.parser.Items.{bounds_from, item, items_from}
 use Rattle.rx_parse_cursor.specs.Elements.{another}
 use Rattle.rx_parse_cursor.proofs.ListSteps.{fault_of, made_of, with_one}
 use Rattle.rx_parse_items.specs.ItemsOf.{another_bound}

@@ -6,9 +6,9 @@ use Rattle.rx_tree.specs.declared.tree.TypeText.{TypeText}
 use Rattle.rx_tree.specs.declared.tree.Item.{Item}
 use Rattle.rx_tree.specs.Plain.{TypeTree, ItemTree}
 use Rattle.rx_tree.specs.PlainOf.{plain-TypeText, plain-Item}
-use Rattle.rx_grammar.specs.declared.symbol.Symbol.TheVariants as symbol
-use Rattle.rx_grammar.specs.grammar.Words.{ident}
-use Rattle.rx_grammar.specs.parser.Steps.{Parser, ◌>>=◌, pure, expect}
+use Rattle.rx_parse_grammar.specs.declared.symbol.Symbol.TheVariants as symbol
+use Rattle.rx_parse_grammar.specs.grammar.Words.{ident}
+use Rattle.rx_parse_grammar.specs.parser.Steps.{Parser, ◌>>=◌, pure, expect}
 use Rattle.rx_parse_cursor.specs.declared.got.Found.{Found}
 
 -- the items of a file, and the levels of their types and bodies

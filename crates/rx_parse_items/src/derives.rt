@@ -2,18 +2,18 @@
 
 ghost use Rattle.std.specs.Prelude.{◌≤◌, IfOk};
 ghost use Rattle.rx_tree.specs.declared.tree.Derive as tree;
-ghost use Rattle.rx_grammar.specs.parser.Steps.{ReadsAs};
-ghost use Rattle.rx_grammar.specs.parser.Items as spec;
+ghost use Rattle.rx_parse_grammar.specs.parser.Steps.{ReadsAs};
+ghost use Rattle.rx_parse_grammar.specs.parser.Items as spec;
 ghost use Rattle.rx_parse_cursor.specs.GotOf.{got_of};
 
 use rx_core::{List, keep};
-use rx_grammar::{Stop, Symbol};
 use rx_parse_cursor::{Cursor, Got, Reader, some_elements};
+use rx_parse_grammar::{Stop, Symbol};
 use rx_tree::Derive;
 use std::alloc::Global;
 
 /// `Clone` or `Copy`.
-#[tactic(auto, unfolding(rx_grammar::specs::parser::Items::derived_name))]
+#[tactic(auto, unfolding(rx_parse_grammar::specs::parser::Items::derived_name))]
 fn derived_name(cursor: &mut Cursor<'_>) -> Result<Got<Derive>, Stop>
     ensures reads { ReadsAs (got_of (λ x. x)) (spec.derived_name cursor.old) result cursor.new }
     ensures low { IfOk result (λ x. x.height ≤ 0) }
@@ -57,7 +57,7 @@ impl Reader for DerivedNames {
 }
 
 /// The traits that are derived, from behind the `#`.
-#[tactic(auto, using(rx_parse_types::proofs::Rules::list_rules), unfolding(rx_grammar::specs::parser::Items::derives))]
+#[tactic(auto, using(rx_parse_types::proofs::Rules::list_rules), unfolding(rx_parse_grammar::specs::parser::Items::derives))]
 pub fn derives(alloc: Global, cursor: &mut Cursor<'_>) -> Result<List<Derive>, Stop>
     ensures { ReadsAs (λ l. l) (spec.derives cursor.old) result cursor.new }
 {

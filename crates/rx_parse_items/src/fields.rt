@@ -3,15 +3,15 @@
 ghost use Rattle.std.specs.Prelude.{◌≤◌, Some, None, IfOk};
 ghost use Rattle.rx_tree.specs.Plain as plain;
 ghost use Rattle.rx_tree.specs.PlainOf.{plain-TypeText, plain-Field, plain-EnumVariant, plain-Param};
-ghost use Rattle.rx_grammar.specs.parser.Steps.{ReadsAs};
-ghost use Rattle.rx_grammar.specs.parser.Types as types;
-ghost use Rattle.rx_grammar.specs.parser.Items as spec;
+ghost use Rattle.rx_parse_grammar.specs.parser.Steps.{ReadsAs};
+ghost use Rattle.rx_parse_grammar.specs.parser.Types as types;
+ghost use Rattle.rx_parse_grammar.specs.parser.Items as spec;
 ghost use Rattle.rx_parse_cursor.specs.GotOf.{got_of};
 ghost use Rattle.rx_parse_items.specs.ItemsOf.{result_of};
 
 use rx_core::{List, keep};
-use rx_grammar::{Stop, Symbol};
 use rx_parse_cursor::{Cursor, Got, Reader, ident, join, some_elements};
+use rx_parse_grammar::{Stop, Symbol};
 use rx_parse_types::typ;
 use rx_tree::{EnumVariant, Field, Param, TypeText};
 use std::alloc::Global;
@@ -41,7 +41,7 @@ impl Reader for Types {
 }
 
 /// A name with its type.
-#[tactic(auto, unfolding(rx_grammar::specs::parser::Items::struct_field))]
+#[tactic(auto, unfolding(rx_parse_grammar::specs::parser::Items::struct_field))]
 fn struct_field(alloc: Global, cursor: &mut Cursor<'_>, depth: usize) -> Result<Got<Field>, Stop>
     requires { depth ≤ 128 }
     ensures reads { ReadsAs (got_of plain-Field) (spec.struct_field depth cursor.old) result cursor.new }
@@ -86,7 +86,7 @@ impl Reader for Fields {
 }
 
 /// A variant of an enum, with the types of its parts where parentheses are written.
-#[tactic(auto, unfolding(rx_grammar::specs::parser::Items::variant))]
+#[tactic(auto, unfolding(rx_parse_grammar::specs::parser::Items::variant))]
 fn variant(alloc: Global, cursor: &mut Cursor<'_>, depth: usize) -> Result<Got<EnumVariant>, Stop>
     requires { depth ≤ 128 }
     ensures reads { ReadsAs (got_of plain-EnumVariant) (spec.variant depth cursor.old) result cursor.new }
@@ -141,7 +141,7 @@ impl Reader for Variants {
 }
 
 /// A parameter of a function.
-#[tactic(auto, unfolding(rx_grammar::specs::parser::Items::parameter))]
+#[tactic(auto, unfolding(rx_parse_grammar::specs::parser::Items::parameter))]
 fn parameter(alloc: Global, cursor: &mut Cursor<'_>, depth: usize) -> Result<Got<Param>, Stop>
     requires { depth ≤ 128 }
     ensures reads { ReadsAs (got_of plain-Param) (spec.parameter depth cursor.old) result cursor.new }
@@ -201,7 +201,7 @@ impl Reader for Parameters {
 }
 
 /// The type of a function's result with its levels, where one is written.
-#[tactic(auto, unfolding(rx_grammar::specs::parser::Items::result))]
+#[tactic(auto, unfolding(rx_parse_grammar::specs::parser::Items::result))]
 pub fn result_type(
     alloc: Global,
     cursor: &mut Cursor<'_>,

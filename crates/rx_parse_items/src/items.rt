@@ -3,8 +3,8 @@
 ghost use Rattle.std.specs.Prelude.{◌≡◌, ℕ, ◌≤◌, map, option_map};
 ghost use Rattle.rx_tree.specs.PlainOf.{plain-Item};
 ghost use Rattle.rx_lex.specs.Tok.{tok};
-ghost use Rattle.rx_grammar.specs.parser.Steps.{ReadsAs};
-ghost use Rattle.rx_grammar.specs.parser.Items as spec;
+ghost use Rattle.rx_parse_grammar.specs.parser.Steps.{ReadsAs};
+ghost use Rattle.rx_parse_grammar.specs.parser.Items as spec;
 ghost use Rattle.rx_parse_cursor.specs.GotOf.{got_of};
 ghost use Rattle.rx_parse_cursor.specs.Elements.{another};
 ghost use Rattle.rx_parse_items.specs.ItemsOf.{file_of};
@@ -13,10 +13,10 @@ use crate::derives::derives;
 use crate::fields::{Fields, Parameters, Variants, result_type};
 use crate::lifetimes::{bound_lifetimes, lifetimes};
 use rx_core::{LetGo, List, Span, keep};
-use rx_grammar::{Stop, Symbol};
 use rx_lex::Token;
 use rx_parse_cursor::{Cursor, Found, Got, elements, ident, join, larger, some_elements};
 use rx_parse_expressions::block;
+use rx_parse_grammar::{Stop, Symbol};
 use rx_tree::{Derive, Enum, Func, Item, ItemNode, Struct};
 use std::alloc::Global;
 
@@ -31,7 +31,7 @@ fn start_of(mark: Option<Token<'_>>, token: Token<'_>) -> Span
 }
 
 /// A struct, behind its derives.
-#[tactic(auto, unfolding(rx_grammar::specs::parser::Items::structure))]
+#[tactic(auto, unfolding(rx_parse_grammar::specs::parser::Items::structure))]
 fn structure(
     alloc: Global,
     cursor: &mut Cursor<'_>,
@@ -73,7 +73,7 @@ fn structure(
 }
 
 /// An enum, behind its derives.
-#[tactic(auto, unfolding(rx_grammar::specs::parser::Items::enumeration))]
+#[tactic(auto, unfolding(rx_parse_grammar::specs::parser::Items::enumeration))]
 fn enumeration(
     alloc: Global,
     cursor: &mut Cursor<'_>,
@@ -109,7 +109,7 @@ fn enumeration(
 }
 
 /// A struct or an enum, from its derives on.
-#[tactic(auto, unfolding(rx_grammar::specs::parser::Items::derived))]
+#[tactic(auto, unfolding(rx_parse_grammar::specs::parser::Items::derived))]
 fn derived(alloc: Global, cursor: &mut Cursor<'_>, depth: usize) -> Result<Got<Item>, Stop>
     requires { depth ≤ 128 }
     ensures { ReadsAs (got_of plain-Item) (spec.derived depth cursor.old) result cursor.new }
@@ -124,7 +124,7 @@ fn derived(alloc: Global, cursor: &mut Cursor<'_>, depth: usize) -> Result<Got<I
 }
 
 /// A function.
-#[tactic(auto, unfolding(rx_grammar::specs::parser::Items::function))]
+#[tactic(auto, unfolding(rx_parse_grammar::specs::parser::Items::function))]
 fn function(alloc: Global, cursor: &mut Cursor<'_>, depth: usize) -> Result<Got<Item>, Stop>
     requires { depth ≤ 128 }
     ensures { ReadsAs (got_of plain-Item) (spec.function depth cursor.old) result cursor.new }
@@ -163,7 +163,7 @@ fn function(alloc: Global, cursor: &mut Cursor<'_>, depth: usize) -> Result<Got<
 }
 
 /// `mod rt;`
-#[tactic(auto, unfolding(rx_grammar::specs::parser::Items::rt))]
+#[tactic(auto, unfolding(rx_parse_grammar::specs::parser::Items::rt))]
 fn rt_module(cursor: &mut Cursor<'_>) -> Result<Got<Item>, Stop>
     ensures { (d : ℕ) → ReadsAs (got_of plain-Item) (spec.rt d cursor.old) result cursor.new }
 {
@@ -182,7 +182,7 @@ fn rt_module(cursor: &mut Cursor<'_>) -> Result<Got<Item>, Stop>
 }
 
 /// An item.
-#[tactic(auto, unfolding(rx_grammar::specs::parser::Items::item))]
+#[tactic(auto, unfolding(rx_parse_grammar::specs::parser::Items::item))]
 fn item(alloc: Global, cursor: &mut Cursor<'_>, depth: usize) -> Result<Got<Item>, Stop>
     requires { depth ≤ 128 }
     ensures { ReadsAs (got_of plain-Item) (spec.item depth cursor.old) result cursor.new }

@@ -3,19 +3,19 @@
 ghost use Rattle.std.specs.Prelude.{◌≤◌, IfOk};
 ghost use Rattle.rx_tree.specs.declared.tree.Ident as ident_tree;
 ghost use Rattle.rx_tree.specs.declared.tree.BoundLifetime as bound_tree;
-ghost use Rattle.rx_grammar.specs.parser.Steps.{ReadsAs};
-ghost use Rattle.rx_grammar.specs.parser.Items as spec;
+ghost use Rattle.rx_parse_grammar.specs.parser.Steps.{ReadsAs};
+ghost use Rattle.rx_parse_grammar.specs.parser.Items as spec;
 ghost use Rattle.rx_parse_cursor.specs.GotOf.{got_of};
 ghost use Rattle.rx_parse_items.specs.ItemsOf.{another_bound};
 
 use rx_core::{LetGo, List, Span, keep, pushed};
-use rx_grammar::{Stop, Symbol};
 use rx_parse_cursor::{Cursor, Got, Reader, ident, join, some_elements};
+use rx_parse_grammar::{Stop, Symbol};
 use rx_tree::{BoundLifetime, Ident};
 use std::alloc::Global;
 
 /// A lifetime alone, as structs and enums have it.
-#[tactic(auto, unfolding(rx_grammar::specs::parser::Items::lifetime_parameter))]
+#[tactic(auto, unfolding(rx_parse_grammar::specs::parser::Items::lifetime_parameter))]
 fn lifetime_parameter(alloc: Global, cursor: &mut Cursor<'_>) -> Result<Got<Ident>, Stop>
     ensures reads { ReadsAs (got_of (λ x. x)) (spec.lifetime_parameter cursor.old) result cursor.new }
     ensures low { IfOk result (λ x. x.height ≤ 0) }
@@ -51,7 +51,7 @@ impl Reader for LifetimeParameters {
 }
 
 /// The lifetimes of a struct or an enum, in `<` and `>`, or nothing.
-#[tactic(auto, using(rx_parse_types::proofs::Rules::list_rules), unfolding(rx_grammar::specs::parser::Items::lifetimes))]
+#[tactic(auto, using(rx_parse_types::proofs::Rules::list_rules), unfolding(rx_parse_grammar::specs::parser::Items::lifetimes))]
 pub fn lifetimes(alloc: Global, cursor: &mut Cursor<'_>) -> Result<List<Ident>, Stop>
     ensures { ReadsAs (λ l. l) (spec.lifetimes cursor.old) result cursor.new }
 {
@@ -94,7 +94,7 @@ fn bounds(alloc: Global, cursor: &mut Cursor<'_>) -> Result<(List<Ident>, Span),
 }
 
 /// A lifetime, with its bounds where they are written.
-#[tactic(auto, unfolding(rx_grammar::specs::parser::Items::bound_lifetime))]
+#[tactic(auto, unfolding(rx_parse_grammar::specs::parser::Items::bound_lifetime))]
 fn bound_lifetime(alloc: Global, cursor: &mut Cursor<'_>) -> Result<Got<BoundLifetime>, Stop>
     ensures reads { ReadsAs (got_of (λ x. x)) (spec.bound_lifetime cursor.old) result cursor.new }
     ensures low { IfOk result (λ x. x.height ≤ 0) }
@@ -143,7 +143,7 @@ impl Reader for FunctionLifetimes {
 }
 
 /// The lifetimes of a function with their bounds, in `<` and `>`, or nothing.
-#[tactic(auto, using(rx_parse_types::proofs::Rules::list_rules), unfolding(rx_grammar::specs::parser::Items::bound_lifetimes))]
+#[tactic(auto, using(rx_parse_types::proofs::Rules::list_rules), unfolding(rx_parse_grammar::specs::parser::Items::bound_lifetimes))]
 pub fn bound_lifetimes(alloc: Global, cursor: &mut Cursor<'_>) -> Result<List<BoundLifetime>, Stop>
     ensures { ReadsAs (λ l. l) (spec.bound_lifetimes cursor.old) result cursor.new }
 {

@@ -1,6 +1,6 @@
 -- What the code's tests of an `if` or a `while` stand for.
 use Rattle.rx_tree.specs.PlainOf.{plain-Pattern, plain-Expr}
-use Rattle.rx_grammar.specs.grammar.Expressions as grammar
+use Rattle.rx_parse_grammar.specs.grammar.Expressions as grammar
 use Rattle.rx_parse_nodes.specs.declared.conditions.Test.{Test}
 use Rattle.rx_parse_nodes.specs.declared.conditions.Test.TheVariants.{Condition, Fitting}
 

@@ -3,9 +3,9 @@
 ghost use Rattle.std.specs.Prelude.{◌≡◌, ◌≤◌, ◌+◌, max, option_map, IfOk};
 ghost use Rattle.rx_tree.specs.Plain as plain;
 ghost use Rattle.rx_tree.specs.PlainOf.{plain-Pattern, plain-Expr, plain-Block, optional_of};
-ghost use Rattle.rx_grammar.specs.grammar.Words as words;
-ghost use Rattle.rx_grammar.specs.grammar.Expressions as grammar;
-ghost use Rattle.rx_grammar.specs.parser.Steps.{node};
+ghost use Rattle.rx_parse_grammar.specs.grammar.Words as words;
+ghost use Rattle.rx_parse_grammar.specs.grammar.Expressions as grammar;
+ghost use Rattle.rx_parse_grammar.specs.parser.Steps.{node};
 ghost use Rattle.rx_parse_cursor.specs.GotOf.{got_of};
 ghost use Rattle.rx_parse_nodes.specs.TestOf.{test_of};
 

@@ -4,9 +4,9 @@ ghost use Rattle.std.specs.Prelude.{◌≡◌, ◌≤◌, ◌+◌, max, map, opt
 ghost use Rattle.rx_tree.specs.Plain as plain;
 ghost use Rattle.rx_tree.specs.PlainOf.{plain-Expr, plain-Block, plain-FieldExpr, plain-Arm, expressions_of, field_expressions_of, arms_of};
 ghost use Rattle.rx_lex.specs.Tok.{tok};
-ghost use Rattle.rx_grammar.specs.grammar.Words as words;
-ghost use Rattle.rx_grammar.specs.parser.Steps.{leaf, node};
-ghost use Rattle.rx_grammar.specs.parser.Expressions as spec;
+ghost use Rattle.rx_parse_grammar.specs.grammar.Words as words;
+ghost use Rattle.rx_parse_grammar.specs.parser.Steps.{leaf, node};
+ghost use Rattle.rx_parse_grammar.specs.parser.Expressions as spec;
 ghost use Rattle.rx_parse_cursor.specs.GotOf.{got_of};
 
 use rx_core::{Boxed, Name, Span, keep};

@@ -2,12 +2,12 @@
 use Rattle.std.proofs.Common.{◌≡◌, ℕ, suc, zero, ◌-◌, ◌<◌, List, [], Ok, Err, refl, subst, arith}
 use Rattle.rx_tree.specs.Plain.{PatternTree}
 use Rattle.rx_lex.specs.Tok.{Tok}
-use Rattle.rx_grammar.specs.declared.stop.Stop.{Stop}
-use Rattle.rx_grammar.specs.declared.symbol.Symbol.TheVariants as symbol
-use Rattle.rx_grammar.specs.parser.Symbols.{peek}
-use Rattle.rx_grammar.specs.parser.Steps.{Parser, Got, expect}
-use Rattle.rx_grammar.specs.parser.Lists.{elements}
-use Rattle.rx_grammar.specs.parser.Patterns.{pattern, pattern_by, field_pattern, struct_pattern}
+use Rattle.rx_parse_grammar.specs.declared.stop.Stop.{Stop}
+use Rattle.rx_parse_grammar.specs.declared.symbol.Symbol.TheVariants as symbol
+use Rattle.rx_parse_grammar.specs.parser.Symbols.{peek}
+use Rattle.rx_parse_grammar.specs.parser.Steps.{Parser, Got, expect}
+use Rattle.rx_parse_grammar.specs.parser.Lists.{elements}
+use Rattle.rx_parse_grammar.specs.parser.Patterns.{pattern, pattern_by, field_pattern, struct_pattern}
 
 pub pattern_is : (d : ℕ) (i : List Tok) → 0 < d → pattern d i ≡ pattern_by (pattern (d - 1)) (d - 1) (peek i) i
 unfolding pattern

@@ -5,13 +5,13 @@ use Rattle.std.proofs.lemmas.Bool.{le-ltb}
 use Rattle.rx_tree.specs.Plain as plain
 use Rattle.rx_tree.specs.Plain.{TypeTree}
 use Rattle.rx_lex.specs.Tok.{Tok}
-use Rattle.rx_grammar.specs.declared.stop.Stop.{Stop}
-use Rattle.rx_grammar.specs.declared.symbol.Symbol.TheVariants as symbol
-use Rattle.rx_grammar.specs.grammar.Words.{join, second_ampersand}
-use Rattle.rx_grammar.specs.parser.Symbols.{head, tail, peek}
-use Rattle.rx_grammar.specs.parser.Steps.{Parser, Got, node, sees, expect}
-use Rattle.rx_grammar.specs.parser.Types.{typ, type_by, two_references}
-use Rattle.rx_grammar.proofs.SymbolLemmas.{seen}
+use Rattle.rx_parse_grammar.specs.declared.stop.Stop.{Stop}
+use Rattle.rx_parse_grammar.specs.declared.symbol.Symbol.TheVariants as symbol
+use Rattle.rx_parse_grammar.specs.grammar.Words.{join, second_ampersand}
+use Rattle.rx_parse_grammar.specs.parser.Symbols.{head, tail, peek}
+use Rattle.rx_parse_grammar.specs.parser.Steps.{Parser, Got, node, sees, expect}
+use Rattle.rx_parse_grammar.specs.parser.Types.{typ, type_by, two_references}
+use Rattle.rx_parse_grammar.proofs.SymbolLemmas.{seen}
 
 pub typ_is : (d : ℕ) (i : List Tok) → 0 < d → typ d i ≡ type_by (typ (d - 1)) (d - 1) (peek i) i
 unfolding typ

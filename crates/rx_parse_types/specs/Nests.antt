@@ -3,9 +3,9 @@ use Rattle.std.specs.Prelude.{ℕ, ◌≤◌, List, Result, IfOk}
 use Rattle.std.specs.declared.alloc.Global.{Global}
 use denote.Ref.{MutBor}
 use Rattle.rx_lex.specs.Tok.{Tok}
-use Rattle.rx_grammar.specs.declared.stop.Stop.{Stop}
-use Rattle.rx_grammar.specs.parser.Steps.{Parser, ReadsAs}
-use Rattle.rx_grammar.specs.parser.Steps as steps
+use Rattle.rx_parse_grammar.specs.declared.stop.Stop.{Stop}
+use Rattle.rx_parse_grammar.specs.parser.Steps.{Parser, ReadsAs}
+use Rattle.rx_parse_grammar.specs.parser.Steps as steps
 use Rattle.rx_parse_cursor.specs.declared.got.Got.{Got}
 use Rattle.rx_parse_cursor.specs.GotOf.{got_of}
 

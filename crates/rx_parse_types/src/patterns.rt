@@ -5,22 +5,22 @@ ghost use Rattle.rx_tree.specs.declared.tree.Ident as ident_tree;
 ghost use Rattle.rx_tree.specs.Plain as plain;
 ghost use Rattle.rx_tree.specs.PlainOf.{plain-Pattern, plain-FieldPattern, patterns_of, field_patterns_of};
 ghost use Rattle.rx_lex.specs.Tok.{tok};
-ghost use Rattle.rx_grammar.specs.grammar.Words as words;
-ghost use Rattle.rx_grammar.specs.declared.symbol.Symbol.TheVariants as symbol;
-ghost use Rattle.rx_grammar.specs.parser.Symbols.{peek};
-ghost use Rattle.rx_grammar.specs.parser.Steps.{ReadsAs, leaf, node};
-ghost use Rattle.rx_grammar.specs.parser.Lists as lists;
-ghost use Rattle.rx_grammar.specs.parser.Patterns as spec;
+ghost use Rattle.rx_parse_grammar.specs.grammar.Words as words;
+ghost use Rattle.rx_parse_grammar.specs.declared.symbol.Symbol.TheVariants as symbol;
+ghost use Rattle.rx_parse_grammar.specs.parser.Symbols.{peek};
+ghost use Rattle.rx_parse_grammar.specs.parser.Steps.{ReadsAs, leaf, node};
+ghost use Rattle.rx_parse_grammar.specs.parser.Lists as lists;
+ghost use Rattle.rx_parse_grammar.specs.parser.Patterns as spec;
 ghost use Rattle.rx_parse_cursor.specs.GotOf.{got_of, items_of, numbered_of};
 ghost use Rattle.rx_parse_types.specs.Nests.{Nests};
 
 use rx_core::{List, Span, keep};
-use rx_grammar::{Stop, Symbol};
 use rx_lex::Token;
 use rx_parse_cursor::{
     Cursor, Found, Got, Grouped, Items, Numbered, Reader, elements, group, ident, join, number,
     some_elements,
 };
+use rx_parse_grammar::{Stop, Symbol};
 use rx_tree::{FieldPattern, Ident, Pattern, PatternNode};
 use std::alloc::{AllocError, Global};
 
@@ -235,7 +235,7 @@ fn bound_field(
     })
 }
 
-#[tactic(auto, unfolding(rx_grammar::specs::parser::Patterns::mutable_binding))]
+#[tactic(auto, unfolding(rx_parse_grammar::specs::parser::Patterns::mutable_binding))]
 fn mutable_binding(alloc: Global, cursor: &mut Cursor<'_>) -> Result<Got<Pattern>, Stop>
     ensures reads { ReadsAs (got_of plain-Pattern) (spec.mutable_binding cursor.old) result cursor.new }
     ensures low { IfOk result (λ x. x.height ≤ 1) }
@@ -245,7 +245,7 @@ fn mutable_binding(alloc: Global, cursor: &mut Cursor<'_>) -> Result<Got<Pattern
     Ok(binding(alloc, join(start.span, name.span), name, true)?)
 }
 
-#[tactic(auto, unfolding(rx_grammar::specs::parser::Patterns::number_pattern))]
+#[tactic(auto, unfolding(rx_parse_grammar::specs::parser::Patterns::number_pattern))]
 fn number_pattern(cursor: &mut Cursor<'_>) -> Result<Got<Pattern>, Stop>
     ensures reads { ReadsAs (got_of plain-Pattern) (spec.number_pattern cursor.old) result cursor.new }
     ensures low { IfOk result (λ x. x.height ≤ 1) }
@@ -254,7 +254,7 @@ fn number_pattern(cursor: &mut Cursor<'_>) -> Result<Got<Pattern>, Stop>
     Ok(int_pattern(value.span, false, value))
 }
 
-#[tactic(auto, unfolding(rx_grammar::specs::parser::Patterns::negative_pattern))]
+#[tactic(auto, unfolding(rx_parse_grammar::specs::parser::Patterns::negative_pattern))]
 fn negative_pattern(cursor: &mut Cursor<'_>) -> Result<Got<Pattern>, Stop>
     ensures reads { ReadsAs (got_of plain-Pattern) (spec.negative_pattern cursor.old) result cursor.new }
     ensures low { IfOk result (λ x. x.height ≤ 1) }
@@ -265,7 +265,7 @@ fn negative_pattern(cursor: &mut Cursor<'_>) -> Result<Got<Pattern>, Stop>
 }
 
 /// A field that is bound to a mutable variable.
-#[tactic(auto, unfolding(rx_grammar::specs::parser::Patterns::short_field))]
+#[tactic(auto, unfolding(rx_parse_grammar::specs::parser::Patterns::short_field))]
 fn short_field(
     alloc: Global,
     cursor: &mut Cursor<'_>,
@@ -333,7 +333,7 @@ impl<F: Fn(Global, &mut Cursor<'_>, usize) -> Result<Got<Pattern>, Stop>> Reader
 
 impl<F: Fn(Global, &mut Cursor<'_>, usize) -> Result<Got<Pattern>, Stop>> PatternLevel<F> {
     /// A field, from its name on.
-    #[tactic(auto, unfolding(rx_grammar::specs::parser::Patterns::long_field))]
+    #[tactic(auto, unfolding(rx_parse_grammar::specs::parser::Patterns::long_field))]
     fn long_field(&self, alloc: Global, cursor: &mut Cursor<'_>) -> Result<Got<FieldPattern>, Stop>
         requires some { 0 < self.now.below }
         requires nests { Nests plain-Pattern spec.pattern self.now.below (F.pre self.now.pattern) (F.post self.now.pattern) }
@@ -350,7 +350,7 @@ impl<F: Fn(Global, &mut Cursor<'_>, usize) -> Result<Got<Pattern>, Stop>> Patter
     }
 
     /// A field with its pattern.
-    #[tactic(auto, unfolding(rx_grammar::specs::parser::Patterns::field_pattern))]
+    #[tactic(auto, unfolding(rx_parse_grammar::specs::parser::Patterns::field_pattern))]
     fn field_pattern(
         &self,
         alloc: Global,
@@ -378,7 +378,7 @@ impl<F: Fn(Global, &mut Cursor<'_>, usize) -> Result<Got<Pattern>, Stop>> Patter
     }
 
     /// A variant, from behind the name of its enum.
-    #[tactic(auto, unfolding(rx_grammar::specs::parser::Patterns::variant_pattern))]
+    #[tactic(auto, unfolding(rx_parse_grammar::specs::parser::Patterns::variant_pattern))]
     fn variant_pattern(
         &self,
         alloc: Global,
@@ -417,7 +417,7 @@ impl<F: Fn(Global, &mut Cursor<'_>, usize) -> Result<Got<Pattern>, Stop>> Patter
 
 impl<F: Fn(Global, &mut Cursor<'_>, usize) -> Result<Got<Pattern>, Stop> + Copy> PatternLevel<F> {
     /// A struct, from behind its name.
-    #[tactic(auto, unfolding(rx_grammar::specs::parser::Patterns::struct_pattern))]
+    #[tactic(auto, unfolding(rx_parse_grammar::specs::parser::Patterns::struct_pattern))]
     fn struct_pattern(
         &self,
         alloc: Global,
@@ -441,7 +441,7 @@ impl<F: Fn(Global, &mut Cursor<'_>, usize) -> Result<Got<Pattern>, Stop> + Copy>
     }
 
     /// A pattern that begins with a name.
-    #[tactic(auto, unfolding(rx_grammar::specs::parser::Patterns::named_pattern))]
+    #[tactic(auto, unfolding(rx_parse_grammar::specs::parser::Patterns::named_pattern))]
     fn named_pattern(&self, alloc: Global, cursor: &mut Cursor<'_>) -> Result<Got<Pattern>, Stop>
         requires { Nests plain-Pattern spec.pattern self.now.below (F.pre self.now.pattern) (F.post self.now.pattern) }
         ensures reads { ReadsAs (got_of plain-Pattern) (spec.named_pattern (spec.pattern self.now.below) self.now.below cursor.old) result cursor.new }
@@ -485,7 +485,7 @@ impl<F: Fn(Global, &mut Cursor<'_>, usize) -> Result<Got<Pattern>, Stop> + Copy>
 }
 
 /// A pattern of at most so many levels.
-#[tactic(auto, unfolding(rx_grammar::specs::parser::Patterns::pattern))]
+#[tactic(auto, unfolding(rx_parse_grammar::specs::parser::Patterns::pattern))]
 pub fn pattern(alloc: Global, cursor: &mut Cursor<'_>, depth: usize) -> Result<Got<Pattern>, Stop>
     requires { depth ≤ 128 }
     ensures reads { ReadsAs (got_of plain-Pattern) (spec.pattern depth cursor.old) result cursor.new }

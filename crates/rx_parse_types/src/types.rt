@@ -5,19 +5,19 @@ ghost use Rattle.rx_tree.specs.declared.tree.Ident as ident_tree;
 ghost use Rattle.rx_tree.specs.Plain as plain;
 ghost use Rattle.rx_tree.specs.PlainOf.{plain-TypeText, types_of};
 ghost use Rattle.rx_lex.specs.Tok.{tok};
-ghost use Rattle.rx_grammar.specs.grammar.Words as words;
-ghost use Rattle.rx_grammar.specs.declared.symbol.Symbol.TheVariants as symbol;
-ghost use Rattle.rx_grammar.specs.parser.Symbols.{peek};
-ghost use Rattle.rx_grammar.specs.parser.Steps.{ReadsAs, leaf, node};
-ghost use Rattle.rx_grammar.specs.parser.Lists as lists;
-ghost use Rattle.rx_grammar.specs.parser.Types as spec;
+ghost use Rattle.rx_parse_grammar.specs.grammar.Words as words;
+ghost use Rattle.rx_parse_grammar.specs.declared.symbol.Symbol.TheVariants as symbol;
+ghost use Rattle.rx_parse_grammar.specs.parser.Symbols.{peek};
+ghost use Rattle.rx_parse_grammar.specs.parser.Steps.{ReadsAs, leaf, node};
+ghost use Rattle.rx_parse_grammar.specs.parser.Lists as lists;
+ghost use Rattle.rx_parse_grammar.specs.parser.Types as spec;
 ghost use Rattle.rx_parse_cursor.specs.GotOf.{got_of, items_of};
 ghost use Rattle.rx_parse_types.specs.Nests.{Nests};
 
 use rx_core::{Boxed, Kind, Span, keep};
-use rx_grammar::{Stop, Symbol};
 use rx_lex::Token;
 use rx_parse_cursor::{Cursor, Got, Grouped, Items, Reader, group, ident, join, some_elements};
+use rx_parse_grammar::{Stop, Symbol};
 use rx_tree::{Ident, TypeNode, TypeText};
 use std::alloc::{AllocError, Global};
 
@@ -40,7 +40,7 @@ pub fn begins_type(symbol: Symbol) -> bool
 }
 
 /// `mut`, or nothing.
-#[tactic(auto, unfolding(rx_grammar::specs::parser::Types::mutability))]
+#[tactic(auto, unfolding(rx_parse_grammar::specs::parser::Types::mutability))]
 pub fn mutability(cursor: &mut Cursor<'_>) -> Result<bool, Stop>
     ensures { ReadsAs (λ m. m) (spec.mutability cursor.old) result cursor.new }
 {
@@ -52,7 +52,7 @@ pub fn mutability(cursor: &mut Cursor<'_>) -> Result<bool, Stop>
 }
 
 /// A lifetime, or nothing; `'_` is none.
-#[tactic(auto, unfolding(rx_grammar::specs::parser::Types::reference_lifetime))]
+#[tactic(auto, unfolding(rx_parse_grammar::specs::parser::Types::reference_lifetime))]
 fn reference_lifetime(alloc: Global, cursor: &mut Cursor<'_>) -> Result<Option<Ident>, Stop>
     ensures { ReadsAs (λ l. l) (spec.reference_lifetime cursor.old) result cursor.new }
 {
@@ -67,7 +67,7 @@ fn reference_lifetime(alloc: Global, cursor: &mut Cursor<'_>) -> Result<Option<I
 }
 
 /// A lifetime, which counts no level.
-#[tactic(auto, unfolding(rx_grammar::specs::parser::Types::lifetime_argument))]
+#[tactic(auto, unfolding(rx_parse_grammar::specs::parser::Types::lifetime_argument))]
 fn lifetime_argument(alloc: Global, cursor: &mut Cursor<'_>) -> Result<Got<Option<Ident>>, Stop>
     ensures reads { ReadsAs (got_of (λ l. l)) (spec.lifetime_argument cursor.old) result cursor.new }
     ensures low { IfOk result (λ x. x.height ≤ 0) }
@@ -173,7 +173,7 @@ fn name_alone(name: Ident, span: Span) -> Got<TypeText>
 }
 
 /// A type by its name, and the lifetimes behind it where they are written.
-#[tactic(auto, using(crate::proofs::Rules::list_rules), unfolding(rx_grammar::specs::parser::Types::named_type))]
+#[tactic(auto, using(crate::proofs::Rules::list_rules), unfolding(rx_parse_grammar::specs::parser::Types::named_type))]
 fn named_type(alloc: Global, cursor: &mut Cursor<'_>) -> Result<Got<TypeText>, Stop>
     ensures reads { ReadsAs (got_of plain-TypeText) (spec.named_type cursor.old) result cursor.new }
     ensures low { IfOk result (λ x. x.height ≤ 1) }
@@ -274,7 +274,7 @@ impl<F: Fn(Global, &mut Cursor<'_>, usize) -> Result<Got<TypeText>, Stop>> Reade
 }
 
 impl<F: Fn(Global, &mut Cursor<'_>, usize) -> Result<Got<TypeText>, Stop>> TypeLevel<F> {
-    #[tactic(auto, unfolding(rx_grammar::specs::parser::Types::reference))]
+    #[tactic(auto, unfolding(rx_parse_grammar::specs::parser::Types::reference))]
     fn reference(&self, alloc: Global, cursor: &mut Cursor<'_>) -> Result<Got<TypeText>, Stop>
         requires { Nests plain-TypeText spec.typ self.now.below (F.pre self.now.typ) (F.post self.now.typ) }
         ensures reads { ReadsAs (got_of plain-TypeText) (spec.reference (spec.typ self.now.below) self.now.below cursor.old) result cursor.new }
@@ -291,7 +291,7 @@ impl<F: Fn(Global, &mut Cursor<'_>, usize) -> Result<Got<TypeText>, Stop>> TypeL
     }
 
     /// `&&` as two `&`.
-    #[tactic(auto, unfolding(rx_grammar::specs::parser::Types::two_references, rx_grammar::specs::parser::Steps::expect))]
+    #[tactic(auto, unfolding(rx_parse_grammar::specs::parser::Types::two_references, rx_parse_grammar::specs::parser::Steps::expect))]
     fn two_references(&self, alloc: Global, cursor: &mut Cursor<'_>) -> Result<Got<TypeText>, Stop>
         requires nests { Nests plain-TypeText spec.typ self.now.below (F.pre self.now.typ) (F.post self.now.typ) }
         requires two { peek cursor.old ≡ symbol.AndAnd }
@@ -344,7 +344,7 @@ impl<F: Fn(Global, &mut Cursor<'_>, usize) -> Result<Got<TypeText>, Stop>> TypeL
 }
 
 /// A type of at most so many levels.
-#[tactic(auto, unfolding(rx_grammar::specs::parser::Types::typ))]
+#[tactic(auto, unfolding(rx_parse_grammar::specs::parser::Types::typ))]
 pub fn typ(alloc: Global, cursor: &mut Cursor<'_>, depth: usize) -> Result<Got<TypeText>, Stop>
     requires { depth ≤ 128 }
     ensures reads { ReadsAs (got_of plain-TypeText) (spec.typ depth cursor.old) result cursor.new }

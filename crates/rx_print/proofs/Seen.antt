@@ -2,7 +2,7 @@
 use Rattle.std.proofs.Common.{ℕ, refl, map}
 use Rattle.std.specs.Prelude.{false}
 use Rattle.rx_tree.specs.PlainOf.{plain-Expr, expressions_of, plain-FieldExpr, field_expressions_of}
-use Rattle.rx_spelling.specs.Expressions.{pieces, each, each_field}
+use Rattle.rx_print_spelling.specs.Expressions.{pieces, each, each_field}
 use Rattle.rx_print_parts.proofs.WrittenLists.{Seen}
 use Rattle.rx_print.specs.ExpressionParts as parts
 

@@ -6,11 +6,11 @@ use Rattle.rx_tree.specs.declared.tree.Stmt.{Stmt}
 use Rattle.rx_tree.specs.Plain as plain
 use Rattle.rx_tree.specs.Plain.{PatternTree, Expression, Arms, Statements}
 use Rattle.rx_tree.specs.PlainOf.{plain-Arm, arms_of, plain-Stmt, statements_of}
-use Rattle.rx_spelling.specs.Pieces.{bytes_of, flat, mark, space, line, enclosed}
-use Rattle.rx_spelling.specs.Patterns.{pattern_pieces}
-use Rattle.rx_spelling.specs.Strengths as at
-use Rattle.rx_spelling.specs.Places.{is_block, stated, tested, unfit}
-use Rattle.rx_spelling.specs.Expressions.{between, arm_comma, is_empty, closing, pieces, arms, statements}
+use Rattle.rx_print_spelling.specs.Pieces.{bytes_of, flat, mark, space, line, enclosed}
+use Rattle.rx_print_spelling.specs.Patterns.{pattern_pieces}
+use Rattle.rx_print_spelling.specs.Strengths as at
+use Rattle.rx_print_spelling.specs.Places.{is_block, stated, tested, unfit}
+use Rattle.rx_print_spelling.specs.Expressions.{between, arm_comma, is_empty, closing, pieces, arms, statements}
 use Rattle.rx_print.specs.ExpressionParts.{arm_pieces, line_pieces, value_pieces, bare_pieces, valued_pieces, match_pieces}
 use Rattle.rx_print_parts.proofs.Flat.{flat-append}
 use Rattle.rx_print_parts.proofs.Written.{written_two, written_three}

@@ -7,8 +7,8 @@ use Rattle.rx_tree.specs.declared.tree.ExprNode.TheVariants as node
 use Rattle.rx_tree.specs.Plain as plain
 use Rattle.rx_tree.specs.Plain.{Expression}
 use Rattle.rx_tree.specs.PlainOf.{plain-Expr, plain-ExprNode, plain-Block, expression_if}
-use Rattle.rx_spelling.specs.Pieces.{flat, mark}
-use Rattle.rx_spelling.specs.Expressions.{pieces}
+use Rattle.rx_print_spelling.specs.Pieces.{flat, mark}
+use Rattle.rx_print_spelling.specs.Expressions.{pieces}
 use Rattle.rx_print.specs.ExpressionParts.{if_else_pieces, print_pieces}
 use Rattle.rx_tree.proofs.Rules.{expression_by_node}
 use Rattle.rx_print_parts.proofs.Flat.{flat-append}

@@ -3,8 +3,8 @@ use Rattle.std.proofs.Common.{◌≡◌, ℕ, get_or, ◌+◌, ◌<◌, Bool, tr
 use Rattle.rx_tree.specs.declared.tree.Item.{Item}
 use Rattle.rx_tree.specs.Plain.{ItemTree, ProgramTree}
 use Rattle.rx_tree.specs.PlainOf.{plain-Item}
-use Rattle.rx_spelling.specs.Pieces.{Piece, flat}
-use Rattle.rx_spelling.specs.Items.{after_item, program_pieces}
+use Rattle.rx_print_spelling.specs.Pieces.{Piece, flat}
+use Rattle.rx_print_spelling.specs.Items.{after_item, program_pieces}
 use Rattle.rx_print_parts.proofs.WrittenLists.{all_step}
 use Rattle.rx_print.specs.ItemParts.{next_item}
 

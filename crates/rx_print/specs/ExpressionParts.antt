@@ -6,12 +6,12 @@ use Rattle.rx_tree.specs.Plain as plain
 use Rattle.rx_tree.specs.Plain.{TypeTree, PatternTree, Expression, Expressions, FieldExpressions, Arms, Body, Statement, Statements}
 use Rattle.rx_lex.specs.declared.token.Class.TheVariants.{Format}
 use Rattle.rx_lex.specs.Words.{format_text}
-use Rattle.rx_spelling.specs.Pieces.{Piece, word, mark, keyword, identifier, name, index, space, line, arguments_of, fields_of, mutable_pieces, with_ampersand}
-use Rattle.rx_spelling.specs.Types.{annotation_pieces}
-use Rattle.rx_spelling.specs.Patterns.{pattern_pieces}
-use Rattle.rx_spelling.specs.Strengths as at
-use Rattle.rx_spelling.specs.Places.{operator_text, left_strength, right_strength, is_block, placed, tested, stated}
-use Rattle.rx_spelling.specs.Expressions.{between, fitted, label_pieces, target_pieces, arm_comma, is_empty, closing, pieces, each, each_field, arms, block, statement, statements}
+use Rattle.rx_print_spelling.specs.Pieces.{Piece, word, mark, keyword, identifier, name, index, space, line, arguments_of, fields_of, mutable_pieces, with_ampersand}
+use Rattle.rx_print_spelling.specs.Types.{annotation_pieces}
+use Rattle.rx_print_spelling.specs.Patterns.{pattern_pieces}
+use Rattle.rx_print_spelling.specs.Strengths as at
+use Rattle.rx_print_spelling.specs.Places.{operator_text, left_strength, right_strength, is_block, placed, tested, stated}
+use Rattle.rx_print_spelling.specs.Expressions.{between, fitted, label_pieces, target_pieces, arm_comma, is_empty, closing, pieces, each, each_field, arms, block, statement, statements}
 
 abbrev pub jump_pieces : List ℕ → Option Ident → List Piece
 jump_pieces w l = keyword w ∷ target_pieces l

@@ -2,8 +2,8 @@
 
 ghost use Rattle.std.specs.Prelude.{◌≡◌, ◌++◌, suc, OnOk, map, option_map};
 ghost use Rattle.rx_tree.specs.PlainOf.{plain-Expr, plain-Arm, plain-Block, plain-Stmt, plain-Pattern, plain-TypeText, arms_of, statements_of};
-ghost use Rattle.rx_spelling.specs.Pieces.{flat};
-ghost use Rattle.rx_spelling.specs.Expressions.{semicolon, arm_comma, arms, block, statement, statements};
+ghost use Rattle.rx_print_spelling.specs.Pieces.{flat};
+ghost use Rattle.rx_print_spelling.specs.Expressions.{semicolon, arm_comma, arms, block, statement, statements};
 ghost use Rattle.rx_print.specs.ExpressionParts.{arm_pieces, match_pieces, value_pieces, bare_pieces, valued_pieces, declared_pieces, line_pieces};
 
 use crate::expressions::push_between;

@@ -2,8 +2,8 @@
 
 ghost use Rattle.std.specs.Prelude.{◌≡◌, ◌++◌, [], ◌∷◌, not, ◌&&◌, true, false, OnOk, map};
 ghost use Rattle.rx_tree.specs.PlainOf.{plain-Pattern, plain-Expr, plain-FieldExpr, plain-Block, expressions_of, field_expressions_of};
-ghost use Rattle.rx_spelling.specs.Pieces.{flat, enclosed, separated, tuple_of, arguments_of, fields_of};
-ghost use Rattle.rx_spelling.specs.Expressions.{label_pieces, is_borrow, pieces, each, each_field};
+ghost use Rattle.rx_print_spelling.specs.Pieces.{flat, enclosed, separated, tuple_of, arguments_of, fields_of};
+ghost use Rattle.rx_print_spelling.specs.Expressions.{label_pieces, is_borrow, pieces, each, each_field};
 ghost use Rattle.rx_print_parts.specs.Parts.{next_of};
 ghost use Rattle.rx_print.specs.ExpressionParts.{jump_pieces, path_pieces, member_pieces, part_pieces, unary_pieces, borrowed_pieces, pointer_pieces, binary_pieces, assigned_pieces, call_pieces, variant_pieces, make_pieces, field_pieces, print_pieces, if_pieces, if_else_pieces, fitted_pieces, if_let_pieces, if_let_else_pieces, loop_pieces, while_pieces, while_let_pieces};
 

@@ -4,11 +4,11 @@ ghost use Rattle.std.specs.Prelude.{◌≡◌, ◌≤◌, ◌++◌, OnOk, IfOk, 
 ghost use Rattle.rx_tree.specs.Plain.{ProgramTree};
 ghost use Rattle.rx_tree.specs.Erase.{SameProgram};
 ghost use Rattle.rx_tree.specs.PlainOf.{plain-Func, plain-Item, plain-Program};
-ghost use Rattle.rx_grammar.specs.grammar.Items.{Parses, levels};
-ghost use Rattle.rx_spelling.specs.Levels.{levels_of};
-ghost use Rattle.rx_spelling.specs.Formed.{FormedProgram};
-ghost use Rattle.rx_spelling.specs.Pieces.{flat};
-ghost use Rattle.rx_spelling.specs.Items.{function_pieces, item_pieces, program_pieces, print_program};
+ghost use Rattle.rx_parse_grammar.specs.grammar.Items.{Parses, levels};
+ghost use Rattle.rx_print_spelling.specs.Levels.{levels_of};
+ghost use Rattle.rx_print_spelling.specs.Formed.{FormedProgram};
+ghost use Rattle.rx_print_spelling.specs.Pieces.{flat};
+ghost use Rattle.rx_print_spelling.specs.Items.{function_pieces, item_pieces, program_pieces, print_program};
 ghost use Rattle.rx_print.specs.ItemParts.{next_item};
 
 use crate::blocks::push_block;

@@ -1,6 +1,6 @@
 -- The text of pieces one after the other: by recursion on the pieces.
 use Rattle.std.proofs.Common.{◌≡◌, List, [], ◌∷◌, ◌++◌, refl, sym, ap, ◌∙◌, append_assoc}
-use Rattle.rx_spelling.specs.Pieces.{Piece, bytes_of, flat}
+use Rattle.rx_print_spelling.specs.Pieces.{Piece, bytes_of, flat}
 
 pub flat-append : (ps qs : List Piece) → flat (ps ++ qs) ≡ flat ps ++ flat qs
 flat-append [] qs = refl

@@ -2,10 +2,10 @@
 use Rattle.std.proofs.Common.{List, refl, map}
 use Rattle.std.specs.Prelude.{false}
 use Rattle.rx_tree.specs.PlainOf.{plain-TypeText, types_of, plain-Pattern, patterns_of, plain-FieldPattern, field_patterns_of, plain-Param, plain-Field, plain-EnumVariant}
-use Rattle.rx_spelling.specs.Types.{argument_pieces, type_pieces, each_type}
-use Rattle.rx_spelling.specs.Patterns.{pattern_pieces, each_pattern, each_field_pattern}
-use Rattle.rx_spelling.specs.Pieces.{Piece}
-use Rattle.rx_spelling.specs.Items.{parameter_pieces, field_pieces, variant_pieces}
+use Rattle.rx_print_spelling.specs.Types.{argument_pieces, type_pieces, each_type}
+use Rattle.rx_print_spelling.specs.Patterns.{pattern_pieces, each_pattern, each_field_pattern}
+use Rattle.rx_print_spelling.specs.Pieces.{Piece}
+use Rattle.rx_print_spelling.specs.Items.{parameter_pieces, field_pieces, variant_pieces}
 use Rattle.rx_print_parts.specs.Parts.{field_pattern_pieces}
 use Rattle.rx_print_parts.proofs.WrittenLists.{Seen}
 

@@ -3,9 +3,9 @@ use Rattle.std.proofs.Common.{◌≡◌, ℕ, get_or, ◌+◌, ◌<◌, Bool, tr
 use Rattle.std.specs.Prelude.{◌==◌, codes}
 use Rattle.rx_tree.specs.declared.tree.Ident.{Ident}
 use Rattle.rx_tree.specs.declared.tree.Derive.{Derive}
-use Rattle.rx_spelling.specs.Pieces.{Piece, flat, mark, line, separated, entries, entries_of}
-use Rattle.rx_spelling.specs.Expressions.{between}
-use Rattle.rx_spelling.specs.Items.{derive_pieces, derives_pieces, in_angles, bounds_pieces, behind_lifetime}
+use Rattle.rx_print_spelling.specs.Pieces.{Piece, flat, mark, line, separated, entries, entries_of}
+use Rattle.rx_print_spelling.specs.Expressions.{between}
+use Rattle.rx_print_spelling.specs.Items.{derive_pieces, derives_pieces, in_angles, bounds_pieces, behind_lifetime}
 use Rattle.rx_print_parts.specs.ItemParts.{next_bound, entry_pieces}
 use Rattle.rx_print_parts.proofs.Flat.{flat-append}
 use Rattle.rx_print_parts.proofs.Written.{written_two, written_three}

@@ -2,8 +2,8 @@
 use Rattle.std.proofs.Common.{◌≡◌, ℕ, suc, get_or, add-one, drop-cons, ◌+◌, ◌<◌, Bool, true, false, List, [], ◌∷◌, ◌++◌, length, drop, refl, sym, ap, ◌∙◌, append_assoc, append-nil, arith}
 use Rattle.std.specs.Prelude.{codes, ◌==◌}
 use Rattle.std.proofs.lemmas.Bool.{ne_eqb}
-use Rattle.rx_spelling.specs.Pieces.{Piece, flat, mark, space, separated, tuple_of, lone_comma, arguments_of, fields_of}
-use Rattle.rx_spelling.specs.Patterns.{parts_of}
+use Rattle.rx_print_spelling.specs.Pieces.{Piece, flat, mark, space, separated, tuple_of, lone_comma, arguments_of, fields_of}
+use Rattle.rx_print_spelling.specs.Patterns.{parts_of}
 use Rattle.rx_print_parts.specs.Parts.{next_of, closed_tuple}
 use Rattle.rx_print_parts.proofs.Flat.{flat-append}
 use Rattle.rx_print_parts.proofs.Written.{written_three}

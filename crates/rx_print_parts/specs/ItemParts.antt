@@ -3,8 +3,8 @@ use Rattle.std.specs.Prelude.{Bool, true, false, ℕ, List, [], ◌∷◌, ◌++
 use Rattle.rx_tree.specs.declared.tree.Ident.{Ident}
 use Rattle.rx_tree.specs.declared.tree.BoundLifetime.{BoundLifetime}
 use Rattle.rx_tree.specs.Plain.{TypeTree, Parameter}
-use Rattle.rx_spelling.specs.Pieces.{Piece, mark, keyword, name, lifetime, space, line, separated}
-use Rattle.rx_spelling.specs.Items.{in_angles, one_lifetime, bound_pieces, parameter_pieces, result_pieces}
+use Rattle.rx_print_spelling.specs.Pieces.{Piece, mark, keyword, name, lifetime, space, line, separated}
+use Rattle.rx_print_spelling.specs.Items.{in_angles, one_lifetime, bound_pieces, parameter_pieces, result_pieces}
 
 -- before a bound of a lifetime that follows another
 abbrev pub plus_pieces : Bool → List Piece

@@ -3,9 +3,9 @@ use Rattle.std.specs.Prelude.{ℕ, zero, suc, Bool, true, false, List, [], ◌�
 use Rattle.rx_tree.specs.declared.tree.Ident.{Ident}
 use Rattle.rx_core.specs.declared.types.Kind.{Kind}
 use Rattle.rx_tree.specs.Plain.{TypeTree, PatternTree, PatternTrees, FieldPatterns}
-use Rattle.rx_spelling.specs.Pieces.{Piece, mark, space, name, number, fields_of, mutable_pieces, with_ampersand}
-use Rattle.rx_spelling.specs.Types.{lifetime_pieces, arguments_pieces, type_pieces}
-use Rattle.rx_spelling.specs.Patterns.{minus_pieces, parts_of, pattern_pieces, each_pattern, each_field_pattern}
+use Rattle.rx_print_spelling.specs.Pieces.{Piece, mark, space, name, number, fields_of, mutable_pieces, with_ampersand}
+use Rattle.rx_print_spelling.specs.Types.{lifetime_pieces, arguments_pieces, type_pieces}
+use Rattle.rx_print_spelling.specs.Patterns.{minus_pieces, parts_of, pattern_pieces, each_pattern, each_field_pattern}
 
 -- how many levels of blanks these are
 abbrev pub depth_of : List ℕ → ℕ

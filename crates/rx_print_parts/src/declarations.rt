@@ -2,10 +2,10 @@
 
 ghost use Rattle.std.specs.Prelude.{◌≡◌, ◌++◌, OnOk, map};
 ghost use Rattle.rx_tree.specs.PlainOf.{plain-TypeText, plain-Field, plain-Struct, plain-EnumVariant, plain-Enum, types_of};
-ghost use Rattle.rx_spelling.specs.Pieces.{flat, separated, arguments_of, entries, entries_of};
-ghost use Rattle.rx_spelling.specs.Types.{each_type};
-ghost use Rattle.rx_spelling.specs.Patterns.{parts_of};
-ghost use Rattle.rx_spelling.specs.Items.{derive_pieces, derives_pieces, in_angles, one_lifetime, field_pieces, structure_pieces, variant_pieces, enumeration_pieces};
+ghost use Rattle.rx_print_spelling.specs.Pieces.{flat, separated, arguments_of, entries, entries_of};
+ghost use Rattle.rx_print_spelling.specs.Types.{each_type};
+ghost use Rattle.rx_print_spelling.specs.Patterns.{parts_of};
+ghost use Rattle.rx_print_spelling.specs.Items.{derive_pieces, derives_pieces, in_angles, one_lifetime, field_pieces, structure_pieces, variant_pieces, enumeration_pieces};
 ghost use Rattle.rx_print_parts.specs.Parts.{next_of};
 ghost use Rattle.rx_print_parts.specs.ItemParts.{entry_pieces, declared_pieces};
 

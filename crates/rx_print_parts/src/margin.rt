@@ -1,7 +1,7 @@
 //! The blanks before a line. Contracts see them as the depth of the line.
 
 ghost use Rattle.std.specs.Prelude.{◌≡◌, ◌++◌, ◌∷◌, zero, suc, IfOk, OnOk};
-ghost use Rattle.rx_spelling.specs.Pieces.{bytes_of, line};
+ghost use Rattle.rx_print_spelling.specs.Pieces.{bytes_of, line};
 
 use rx_core::Text;
 use std::alloc::{AllocError, Global};
@@ -15,7 +15,7 @@ pub struct Margin {
 
 impl Model for Margin {
     ghost use Rattle.std.specs.Prelude.{◌≡◌, ℕ};
-    ghost use Rattle.rx_spelling.specs.Pieces.{indent};
+    ghost use Rattle.rx_print_spelling.specs.Pieces.{indent};
     ghost use Rattle.rx_print_parts.specs.Parts.{depth_of};
 
     ghost Value = { ℕ };

@@ -2,8 +2,8 @@
 
 ghost use Rattle.std.specs.Prelude.{◌≡◌, ◌++◌, OnOk, map};
 ghost use Rattle.rx_tree.specs.PlainOf.{plain-Pattern, plain-FieldPattern, patterns_of, field_patterns_of};
-ghost use Rattle.rx_spelling.specs.Pieces.{flat, separated, tuple_of, arguments_of, fields_of};
-ghost use Rattle.rx_spelling.specs.Patterns.{minus_pieces, parts_of, pattern_pieces, each_pattern, each_field_pattern};
+ghost use Rattle.rx_print_spelling.specs.Pieces.{flat, separated, tuple_of, arguments_of, fields_of};
+ghost use Rattle.rx_print_spelling.specs.Patterns.{minus_pieces, parts_of, pattern_pieces, each_pattern, each_field_pattern};
 ghost use Rattle.rx_print_parts.specs.Parts.{next_of, bound_name_pieces, integer_pieces, variant_pattern_pieces, make_pattern_pieces, field_pattern_pieces};
 
 use crate::words::{comma, push_mutable, push_number, truth_text, tuple_end};

@@ -2,8 +2,8 @@
 
 ghost use Rattle.std.specs.Prelude.{◌≡◌, ◌++◌, OnOk, map, option_map};
 ghost use Rattle.rx_tree.specs.PlainOf.{plain-TypeText, plain-Param};
-ghost use Rattle.rx_spelling.specs.Pieces.{flat, separated};
-ghost use Rattle.rx_spelling.specs.Items.{in_angles, bounds_pieces, behind_lifetime, bound_pieces, parameter_pieces, result_pieces};
+ghost use Rattle.rx_print_spelling.specs.Pieces.{flat, separated};
+ghost use Rattle.rx_print_spelling.specs.Items.{in_angles, bounds_pieces, behind_lifetime, bound_pieces, parameter_pieces, result_pieces};
 ghost use Rattle.rx_print_parts.specs.Parts.{next_of};
 ghost use Rattle.rx_print_parts.specs.ItemParts.{plus_pieces, next_bound, signature_pieces, called_pieces};
 

@@ -2,8 +2,8 @@
 
 ghost use Rattle.std.specs.Prelude.{◌≡◌, ◌++◌, ◌&&◌, true, false, OnOk, map, option_map};
 ghost use Rattle.rx_tree.specs.PlainOf.{plain-TypeText, types_of};
-ghost use Rattle.rx_spelling.specs.Pieces.{flat, separated, tuple_of};
-ghost use Rattle.rx_spelling.specs.Types.{lifetime_pieces, argument_pieces, arguments_pieces, is_reference, is_bare, type_pieces, each_type, written_type, annotation_pieces};
+ghost use Rattle.rx_print_spelling.specs.Pieces.{flat, separated, tuple_of};
+ghost use Rattle.rx_print_spelling.specs.Types.{lifetime_pieces, argument_pieces, arguments_pieces, is_reference, is_bare, type_pieces, each_type, written_type, annotation_pieces};
 ghost use Rattle.rx_print_parts.specs.Parts.{next_of, pointee_pieces, pointer_pieces, named_pieces};
 
 use crate::words::{comma, kind_text, push_mutable, tuple_end};

@@ -3,8 +3,8 @@
 ghost use Rattle.std.specs.Prelude.{◌≡◌, ◌++◌, [], ◌∷◌, OnOk};
 ghost use Rattle.std.specs.Fmt.{decimal};
 ghost use Rattle.rx_lex.specs.Numerals.{kind_name, suffix_text};
-ghost use Rattle.rx_spelling.specs.Pieces.{flat, bytes_of, truth, mutable_pieces};
-ghost use Rattle.rx_spelling.specs.Places.{operator_text, update_text};
+ghost use Rattle.rx_print_spelling.specs.Pieces.{flat, bytes_of, truth, mutable_pieces};
+ghost use Rattle.rx_print_spelling.specs.Places.{operator_text, update_text};
 ghost use Rattle.rx_print_parts.specs.Parts.{comma_pieces, closed_tuple};
 
 use rx_core::{Kind, Text};

@@ -15,9 +15,9 @@ use Rattle.rx_tree.specs.declared.tree.ExprNode.TheVariants as node
 use Rattle.rx_tree.specs.PlainOf.{plain-Expr, plain-ExprNode, expression_is, expression_deref, expression_neg, expression_not, expression_borrow, expression_binary, expression_assign, expression_update, expression_break, expression_continue, expression_return, expression_make, expression_field, expression_part, expression_block, expression_if, expression_if_let, expression_match, expression_loop, expression_while, expression_while_let}
 use Rattle.rx_tree.proofs.Layers.{Layer, seen, back, by_layer}
 use Rattle.rx_tree.proofs.Rules.{expression_by_node}
-use Rattle.rx_spelling.specs.Places.{weakness, shown, too_weak, is_open, is_like, is_block, begins}
-use Rattle.rx_spelling.specs.Strengths as at
-use Rattle.rx_spelling.specs.Expressions.{is_borrow}
+use Rattle.rx_print_spelling.specs.Places.{weakness, shown, too_weak, is_open, is_like, is_block, begins}
+use Rattle.rx_print_spelling.specs.Strengths as at
+use Rattle.rx_print_spelling.specs.Expressions.{is_borrow}
 
 pub ruleset weakness_rules = (expression_by_node, expression_deref, expression_neg, expression_not, expression_borrow, expression_binary, expression_assign, expression_update, expression_break, expression_continue, expression_return)
 

@@ -2,8 +2,8 @@
 
 ghost use Rattle.std.specs.Prelude.{◌≡◌, nat_lt};
 ghost use Rattle.rx_tree.specs.PlainOf.{plain-Expr};
-ghost use Rattle.rx_spelling.specs.Places.{weakness, too_weak, shown, is_open, unfit, is_like, is_block, begins, goes_on};
-ghost use Rattle.rx_spelling.specs.Expressions.{is_borrow};
+ghost use Rattle.rx_print_spelling.specs.Places.{weakness, too_weak, shown, is_open, unfit, is_like, is_block, begins, goes_on};
+ghost use Rattle.rx_print_spelling.specs.Expressions.{is_borrow};
 
 use crate::strengths::{
     DISJUNCTION, JUMP, POSTFIX, Strength, UNARY, left_strength, right_strength, strength,

@@ -1,7 +1,7 @@
 //! How weakly an expression holds together, as a number, and what the places beside an operator take.
 
 ghost use Rattle.std.specs.Prelude.{◌≡◌};
-ghost use Rattle.rx_spelling.specs.Places.{strength, left_strength, right_strength};
+ghost use Rattle.rx_print_spelling.specs.Places.{strength, left_strength, right_strength};
 
 use rx_tree::BinaryOp;
 

@@ -1,2 +1,10 @@
-pub mod LeastLaws
-mod Examples
+mod Rules
+mod Counting
+mod Points
+mod Solving
+mod Seeding
+mod Rooting
+mod Musts
+mod Knowing
+mod Ordering
+mod Wholes

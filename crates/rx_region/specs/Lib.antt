@@ -1,3 +1,4 @@
-pub mod Constraints
-pub mod Solutions
-pub mod Known
+pub mod Points
+pub mod Seeds
+pub mod Tables
+pub mod Passing

@@ -1,17 +1,19 @@
-//! Laws of solutions, each the contract of a function that does nothing.
+//! Laws of constraints, each the contract of a function that does nothing.
 
-ghost use Rattle.std.specs.Prelude.{◌≡◌, ℕ, List as ListOf, true};
-ghost use Rattle.rx_lower.specs.Graph.{Site};
-ghost use Rattle.rx_region.specs.Constraints.{Context};
-ghost use Rattle.rx_region.specs.Solutions.{Point, Sets, Solution, both, Least, AreLeast};
+ghost use Rattle.std.specs.Prelude.{◌↔◌, ℕ, List as ListOf};
+ghost use Rattle.rx_lower_graph.specs.Graph.{Site};
+ghost use Rattle.rx_region_solutions.specs.Constraints.{Context};
+ghost use Rattle.rx_region_solutions.specs.Known.{Missing};
+ghost use Rattle.rx_region_solutions.specs.Solutions.{Sets, Solution};
+ghost use Rattle.rx_region.specs.Tables.{Asks, Meets, Keeps};
+ghost use Rattle.rx_region.specs.declared.outlives.Outlives.{Outlives as OutlivesOf};
 
-/// Solutions are closed under intersection.
-pub fn solutions_meet()
-    ensures { (C : Context) (g : ListOf Site) (R S : Sets) → Solution C g R → Solution C g S → Solution C g (both R S) }
+/// Sets are a solution exactly where they meet the constraints.
+pub fn solutions_meet_constraints()
+    ensures { (C : Context) (g : ListOf Site) (o : OutlivesOf) (R : Sets) → Asks C g o → Solution C g R ↔ Meets o R }
 {}
 
-/// Sets that have exactly the points of the least are a solution, and each solution has these.
-pub fn least_are_a_solution()
-    ensures serves { (C : Context) (g : ListOf Site) (R : Sets) → AreLeast C g R → Solution C g R }
-    ensures least { (C : Context) (g : ListOf Site) (R : Sets) → Solution C g R → (l : ℕ) (x : Point) → Least C g l x → R l x ≡ true }
+/// Where a pair is missing, no solution keeps to what is known.
+pub fn missing_pairs_are_needed()
+    ensures { (C : Context) (g : ListOf Site) (R : Sets) (l k : ℕ) → Solution C g R → Keeps C R → Missing C g l k → ⊥ }
 {}

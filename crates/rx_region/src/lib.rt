@@ -1,6 +1,18 @@
-//! The lifetimes of a function as sets of points.
+//! The lifetimes of a function as the least sets of points that its constraints allow, and what is known of its own.
 #![tactic(auto)]
 
+mod known;
 mod laws;
+mod missing_pairs;
+mod outlives;
+mod pass;
+mod regions;
+mod seeds;
+mod types;
 
-pub use laws::{least_are_a_solution, solutions_meet};
+pub use known::{Known, known_pairs};
+pub use laws::{missing_pairs_are_needed, solutions_meet_constraints};
+pub use missing_pairs::missing;
+pub use outlives::{Outlives, constraints};
+pub use pass::{RegionFault, check_regions};
+pub use regions::{Regions, solve};

@@ -4,7 +4,7 @@
 ghost use Rattle.std.specs.Prelude.{◌≡◌, map, drop, string_bytes, IfOk};
 
 use rx_core::{List, StdSink, StdSource, Text};
-use rx_tool::{Status, rem, report_name};
+use rx_rem_command::{Status, rem, report_name};
 use std::alloc::{AllocError, Global};
 use std::env;
 use std::io::ErrorKind;

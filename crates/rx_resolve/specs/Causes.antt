@@ -2,7 +2,7 @@
 use Rattle.std.specs.Prelude.{◌≡◌, ℕ, List, Option, Some, None, Ok, Err, slice_get}
 use Rattle.rx_core.specs.declared.types.Span.{Span}
 use Rattle.rx_tree.specs.Plain.{ItemTree, ProgramTree}
-use Rattle.rx_cycles.specs.Reaches.{NoCycle, FirstOnCycle}
+use Rattle.rx_graph_cycles.specs.Reaches.{NoCycle, FirstOnCycle}
 use Rattle.rx_resolve.specs.declared.resolved.ItemNames.{ItemNames}
 use Rattle.rx_resolve.specs.declared.resolved.Misnamed.{Misnamed}
 use Rattle.rx_resolve.specs.declared.resolved.Misnamed.TheVariants as misnamed

@@ -13,7 +13,7 @@ use crate::resolved::Misnamed;
 use crate::types::pushed;
 use crate::walk::Walk;
 use rx_core::{List, Span};
-use rx_scope::Table;
+use rx_resolve_scope::Table;
 use rx_tree::{BoundLifetime, EnumVariant, Field, Func, Ident, Item, ItemNode, Param, TypeText};
 
 impl<'w, 't> Walk<'w, 't> {

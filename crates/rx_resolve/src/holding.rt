@@ -8,7 +8,7 @@ ghost use Rattle.rx_resolve.specs.Causes as causes;
 use crate::items::Items;
 use crate::types::as_type;
 use rx_core::{List, Span};
-use rx_cycles::first_on_cycle;
+use rx_graph_cycles::first_on_cycle;
 use rx_tree::{EnumVariant, Field, Item, ItemNode, TypeNode, TypeText};
 use std::alloc::{AllocError, Global};
 

@@ -4,8 +4,8 @@ ghost use Rattle.std.specs.Prelude.{◌≡◌, ◌≢◌, ◌<◌, ◌^◌, [], 
 ghost use Rattle.rx_tree.specs.declared.tree.EnumVariant.{EnumVariant};
 ghost use Rattle.rx_tree.specs.declared.tree.BoundLifetime.{BoundLifetime};
 ghost use Rattle.rx_tree.specs.PlainOf.{plain-Item};
-ghost use Rattle.rx_scope.specs.declared.table.Known.{Known};
-ghost use Rattle.rx_scope.specs.Scopes.{declared_as};
+ghost use Rattle.rx_resolve_scope.specs.declared.table.Known.{Known};
+ghost use Rattle.rx_resolve_scope.specs.Scopes.{declared_as};
 ghost use Rattle.rx_resolve.specs.declared.resolved.Misnamed.TheVariants as misnamed;
 ghost use Rattle.rx_resolve.specs.Meant as meant;
 ghost use Rattle.rx_resolve.specs.Steps as steps;
@@ -14,7 +14,7 @@ ghost use Rattle.rx_resolve.specs.Tables as tables;
 
 use crate::resolved::Misnamed;
 use rx_core::{List, Span};
-use rx_scope::{Known, Table};
+use rx_resolve_scope::{Known, Table};
 use rx_tree::{BoundLifetime, EnumVariant, Ident, Item, ItemNode};
 use std::alloc::{AllocError, Global};
 use std::marker::Model;

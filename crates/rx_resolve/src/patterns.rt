@@ -12,7 +12,7 @@ use crate::resolved::Misnamed;
 use crate::types::known;
 use crate::walk::Walk;
 use rx_core::{List, Span};
-use rx_scope::Table;
+use rx_resolve_scope::Table;
 use rx_tree::{FieldPattern, Ident, Item, ItemNode, Pattern, PatternNode};
 use std::alloc::AllocError;
 

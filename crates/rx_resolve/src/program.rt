@@ -15,7 +15,7 @@ use crate::items::{Items, first_lifetimes, firsts, number};
 use crate::resolved::{ItemNames, Misnamed, NameFault, Resolved, fault_of};
 use crate::walk::Walk;
 use rx_core::{List, Span};
-use rx_scope::{Scope, Table};
+use rx_resolve_scope::{Scope, Table};
 use rx_tree::{BoundLifetime, Ident, Item, ItemNode, Program};
 use std::alloc::{AllocError, Global};
 

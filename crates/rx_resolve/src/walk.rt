@@ -9,7 +9,7 @@ ghost use Rattle.rx_resolve.specs.Walks as walks;
 use crate::items::Items;
 use crate::resolved::{ItemNames, Misnamed, NodeNames};
 use rx_core::{LetGo, List, Position, Span};
-use rx_scope::{Scope, Table};
+use rx_resolve_scope::{Scope, Table};
 use rx_tree::{Ident, Item};
 use std::alloc::{AllocError, Global};
 

@@ -12,12 +12,12 @@ use Rattle.rx_tree.proofs.ListsLemmas.{listed-statements_of}
 use Rattle.rx_lex.specs.Tok.{Tok}
 use Rattle.rx_lex.specs.Tokens.{Lexes}
 use Rattle.rx_lex.proofs.TokenLaws.{tokens_in_order, lexes_one}
-use Rattle.rx_grammar.specs.grammar.Words.{final_span, span_of}
-use Rattle.rx_grammar.specs.grammar.Expressions as grammar
-use Rattle.rx_grammar.specs.grammar.Expressions.{IsStatement, AreStatements, IsBlock}
-use Rattle.rx_grammar.specs.grammar.Items as items
-use Rattle.rx_grammar.specs.grammar.Items.{IsItem, IsFile, Parses}
-use Rattle.rx_grammar.proofs.ExpressionsFront.{expression_some, like_some}
+use Rattle.rx_parse_grammar.specs.grammar.Words.{final_span, span_of}
+use Rattle.rx_parse_grammar.specs.grammar.Expressions as grammar
+use Rattle.rx_parse_grammar.specs.grammar.Expressions.{IsStatement, AreStatements, IsBlock}
+use Rattle.rx_parse_grammar.specs.grammar.Items as items
+use Rattle.rx_parse_grammar.specs.grammar.Items.{IsItem, IsFile, Parses}
+use Rattle.rx_parse_grammar.proofs.ExpressionsFront.{expression_some, like_some}
 use Rattle.rx_tree.specs.Spans.{body_span}
 use Rattle.rx_select.specs.Placed.{IsToken, PlacedFrom, PlacedIn}
 use Rattle.rx_select.proofs.Inside.{Inside, inside_front, inside_back, inside_before, inside_is, token_right, last_end, last, Spans, Begins, Stand, holds, stand_more, stand_is, PlacedBody, one_long, placed_near, ordered_above, ordered_at, ordered_long, EachLong, each_long}

@@ -4,7 +4,7 @@ ghost use Rattle.std.specs.Prelude.{◌≡◌, ℕ, List};
 ghost use Rattle.rx_tree.specs.Plain.{ProgramTree};
 ghost use Rattle.rx_lex.specs.Tok.{Tok};
 ghost use Rattle.rx_lex.specs.Tokens.{Lexes};
-ghost use Rattle.rx_grammar.specs.grammar.Items.{Parses};
+ghost use Rattle.rx_parse_grammar.specs.grammar.Items.{Parses};
 ghost use Rattle.rx_select.specs.Run.{Run, RunOf};
 ghost use Rattle.rx_select.specs.Placed.{PlacedIn};
 

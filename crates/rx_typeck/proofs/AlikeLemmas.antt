@@ -5,7 +5,7 @@ use Rattle.rx_core.specs.declared.types.Span.{Span}
 use Rattle.rx_core.specs.declared.types.Ty.{Ty}
 use Rattle.rx_tree.specs.Plain as plain
 use Rattle.rx_tree.specs.Plain.{ProgramTree}
-use Rattle.rx_cycles.specs.Reaches.{NoCycle}
+use Rattle.rx_graph_cycles.specs.Reaches.{NoCycle}
 use Rattle.rx_resolve.specs.declared.resolved.ItemNames.{ItemNames}
 use Rattle.rx_resolve.specs.declared.resolved.NodeNames.{NodeNames}
 use Rattle.rx_resolve.proofs.WalkLemmas.{ok_is}
@@ -14,10 +14,10 @@ use Rattle.rx_typed.specs.Types.{Declarations}
 use Rattle.rx_typed.specs.PlainTypes.{declarations}
 use Rattle.rx_typed.specs.Naming.{function_named}
 use Rattle.rx_typed.specs.Elaborated.{elaborated}
-use Rattle.rx_declared.specs.Held.{held}
-use Rattle.rx_declared.specs.Sizes.{Sized, IsSizes}
-use Rattle.rx_declare.specs.Programs.{Fits}
-use Rattle.rx_unify.specs.declared.facts.Subject.{Subject}
+use Rattle.rx_typed_declarations.specs.Held.{held}
+use Rattle.rx_typed_declarations.specs.Sizes.{Sized, IsSizes}
+use Rattle.rx_typeck_declare.specs.Programs.{Fits}
+use Rattle.rx_typeck_solver.specs.declared.facts.Subject.{Subject}
 use Rattle.rx_typeck.specs.declared.typed.TypedFn.{TypedFn}
 use Rattle.rx_typeck.specs.declared.typed.Typed.{Typed}
 use Rattle.rx_typeck.specs.Typing.{Given, known_in, entries, variables_at, assigned, type_at, TypeIs, FunctionTyped, FunctionsTyped, IsTyped}

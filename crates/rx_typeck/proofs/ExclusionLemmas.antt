@@ -4,18 +4,18 @@ use Rattle.std.proofs.Common.{◌≡◌, ℕ, suc, ◌<◌, true≢false, List, 
 use Rattle.std.specs.Result.{is_ok}
 use Rattle.rx_tree.specs.Plain as plain
 use Rattle.rx_tree.specs.Plain.{ProgramTree}
-use Rattle.rx_cycles.specs.Reaches.{NoCycle}
+use Rattle.rx_graph_cycles.specs.Reaches.{NoCycle}
 use Rattle.rx_resolve.specs.declared.resolved.ItemNames.{ItemNames}
 use Rattle.rx_resolve.proofs.WalkLemmas.{ok_is}
 use Rattle.rx_typed.specs.declared.declarations.Decl.{Decl}
 use Rattle.rx_typed.specs.Types.{Declarations}
 use Rattle.rx_typed.specs.PlainTypes.{declarations}
-use Rattle.rx_declared.specs.Held.{held}
-use Rattle.rx_declared.specs.Sizes.{Sized, IsSizes}
-use Rattle.rx_declare.specs.declared.fault.DeclareFault.{DeclareFault}
-use Rattle.rx_declare.specs.Steps.{Outcome}
-use Rattle.rx_declare.specs.Programs.{Fits, Unfit, derived_wrong, past_limit, main_wrong, Declares, Wrong, in_types, unfit}
-use Rattle.rx_unify.specs.Stepping.{known}
+use Rattle.rx_typed_declarations.specs.Held.{held}
+use Rattle.rx_typed_declarations.specs.Sizes.{Sized, IsSizes}
+use Rattle.rx_typeck_declare.specs.declared.fault.DeclareFault.{DeclareFault}
+use Rattle.rx_typeck_declare.specs.Steps.{Outcome}
+use Rattle.rx_typeck_declare.specs.Programs.{Fits, Unfit, derived_wrong, past_limit, main_wrong, Declares, Wrong, in_types, unfit}
+use Rattle.rx_typeck_solver.specs.Stepping.{known}
 use Rattle.rx_typeck.specs.declared.typed.TypedFn.{TypedFn}
 use Rattle.rx_typeck.specs.declared.typed.Typed.{Typed}
 use Rattle.rx_typeck.specs.declared.typed.TypeFault.{TypeFault}

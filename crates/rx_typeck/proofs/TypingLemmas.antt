@@ -21,28 +21,28 @@ use Rattle.rx_typed.specs.Regions.{erased, all_erased}
 use Rattle.rx_typed.specs.Named.{Function}
 use Rattle.rx_typed.specs.Elaborated.{elaborated}
 use Rattle.rx_typed_tree.specs.PlainTree.{plain-TypedTree}
-use Rattle.rx_declared.specs.Variance.{unrecorded}
-use Rattle.rx_declared.proofs.RegionLemmas.{is_erased}
-use Rattle.rx_unify.specs.declared.facts.Broken.{Broken}
-use Rattle.rx_unify.specs.declared.facts.Demand.{Demand}
-use Rattle.rx_unify.specs.declared.facts.Subject.{Subject}
-use Rattle.rx_unify.specs.declared.facts.Subject.TheVariants as subject
-use Rattle.rx_unify.specs.declared.solver.Solved.{Solved}
-use Rattle.rx_unify.specs.declared.solver.Unsolved.{Unsolved}
-use Rattle.rx_unify.specs.declared.solver.Unsolved.TheVariants as unsolved
-use Rattle.rx_unify.specs.declared.export.Found.{Found}
-use Rattle.rx_unify.specs.Facts.{Types, Known, MeetsEach}
-use Rattle.rx_unify.specs.Stepping.{known}
-use Rattle.rx_unify.specs.Solver.{Term, filled_or}
-use Rattle.rx_unify.specs.Tabled.{table_of}
-use Rattle.rx_unify.specs.Valid.{Task, Told, Valid, Breaks, MeetsChosen, MeetsOne}
-use Rattle.rx_unify.specs.Solving.{types_of, HasType, IsSolved, IsUnsolved}
-use Rattle.rx_unify.specs.Views as views
-use Rattle.rx_unify.specs.Views.{unnumbered, all_unnumbered, kind_found, found_at, IsFound}
-use Rattle.rx_rules.specs.Demands.{demands, task}
-use Rattle.rx_elaborate_parts.specs.declared.assigned.NodeTypes.{NodeTypes}
-use Rattle.rx_elaborate_parts.specs.Assigning as parts
-use Rattle.rx_elaborate_parts.specs.Assigning.{joined, shape_of}
+use Rattle.rx_typed_declarations.specs.Variance.{unrecorded}
+use Rattle.rx_typed_declarations.proofs.RegionLemmas.{is_erased}
+use Rattle.rx_typeck_solver.specs.declared.facts.Broken.{Broken}
+use Rattle.rx_typeck_solver.specs.declared.facts.Demand.{Demand}
+use Rattle.rx_typeck_solver.specs.declared.facts.Subject.{Subject}
+use Rattle.rx_typeck_solver.specs.declared.facts.Subject.TheVariants as subject
+use Rattle.rx_typeck_solver.specs.declared.solver.Solved.{Solved}
+use Rattle.rx_typeck_solver.specs.declared.solver.Unsolved.{Unsolved}
+use Rattle.rx_typeck_solver.specs.declared.solver.Unsolved.TheVariants as unsolved
+use Rattle.rx_typeck_solver.specs.declared.export.Found.{Found}
+use Rattle.rx_typeck_solver.specs.Facts.{Types, Known, MeetsEach}
+use Rattle.rx_typeck_solver.specs.Stepping.{known}
+use Rattle.rx_typeck_solver.specs.Solver.{Term, filled_or}
+use Rattle.rx_typeck_solver.specs.Tabled.{table_of}
+use Rattle.rx_typeck_solver.specs.Valid.{Task, Told, Valid, Breaks, MeetsChosen, MeetsOne}
+use Rattle.rx_typeck_solver.specs.Solving.{types_of, HasType, IsSolved, IsUnsolved}
+use Rattle.rx_typeck_solver.specs.Views as views
+use Rattle.rx_typeck_solver.specs.Views.{unnumbered, all_unnumbered, kind_found, found_at, IsFound}
+use Rattle.rx_typeck_rules.specs.Demands.{demands, task}
+use Rattle.rx_typeck_elaborate_parts.specs.declared.assigned.NodeTypes.{NodeTypes}
+use Rattle.rx_typeck_elaborate_parts.specs.Assigning as parts
+use Rattle.rx_typeck_elaborate_parts.specs.Assigning.{joined, shape_of}
 use Rattle.rx_typeck.specs.declared.check.Described.{Described}
 use Rattle.rx_typeck.specs.declared.typed.TypedFn.{TypedFn}
 use Rattle.rx_typeck.specs.declared.typed.TypeFault.{TypeFault}

@@ -18,28 +18,28 @@ use Rattle.rx_typed.specs.Named.{Function}
 use Rattle.rx_typed.specs.Naming.{function_named, function_spans, function_variables, function_annotations}
 use Rattle.rx_typed.specs.Elaborated.{Assigned, Coercion, coercion, elaborated}
 use Rattle.rx_typed_tree.specs.PlainTree.{plain-TypedTree}
-use Rattle.rx_declared.specs.Sizes.{IsSizes}
-use Rattle.rx_declared.specs.WellFormed.{WellFormed}
-use Rattle.rx_declared.specs.Variance.{Recorded, unrecorded}
-use Rattle.rx_elaborate_parts.specs.Assigning.{joined, shape_of}
-use Rattle.rx_declare.specs.declared.fault.DeclareFault.{DeclareFault}
-use Rattle.rx_declare.specs.declared.fault.DeclareFault.TheVariants as declare_fault
-use Rattle.rx_declare.specs.Programs.{Declares, Wrong}
-use Rattle.rx_let_types.specs.declared.variables.AnnotatedVariable.{AnnotatedVariable}
-use Rattle.rx_let_types.specs.Bindings.{annotated}
-use Rattle.rx_let_types.specs.Walks.{plain-Variable}
-use Rattle.rx_unify.specs.declared.facts.Rule.{Rule}
-use Rattle.rx_unify.specs.declared.facts.Subject.{Subject}
-use Rattle.rx_unify.specs.declared.facts.Subject.TheVariants as subject
-use Rattle.rx_unify.specs.declared.facts.Broken.{Broken}
-use Rattle.rx_unify.specs.declared.facts.Broken.TheVariants as broken
-use Rattle.rx_unify.specs.declared.solver.Unsolved.{Unsolved}
-use Rattle.rx_unify.specs.declared.solver.Unsolved.TheVariants as unsolved
-use Rattle.rx_unify.specs.Facts.{Types, Known}
-use Rattle.rx_unify.specs.Stepping.{known}
-use Rattle.rx_unify.specs.Valid.{Valid, Breaks, IsUnclear, Asked, Told}
-use Rattle.rx_unify.specs.Views.{unnumbered}
-use Rattle.rx_rules.specs.Demands.{demands, task}
+use Rattle.rx_typed_declarations.specs.Sizes.{IsSizes}
+use Rattle.rx_typed_declarations.specs.WellFormed.{WellFormed}
+use Rattle.rx_typed_declarations.specs.Variance.{Recorded, unrecorded}
+use Rattle.rx_typeck_elaborate_parts.specs.Assigning.{joined, shape_of}
+use Rattle.rx_typeck_declare.specs.declared.fault.DeclareFault.{DeclareFault}
+use Rattle.rx_typeck_declare.specs.declared.fault.DeclareFault.TheVariants as declare_fault
+use Rattle.rx_typeck_declare.specs.Programs.{Declares, Wrong}
+use Rattle.rx_typeck_let_types.specs.declared.variables.AnnotatedVariable.{AnnotatedVariable}
+use Rattle.rx_typeck_let_types.specs.Bindings.{annotated}
+use Rattle.rx_typeck_let_types.specs.Walks.{plain-Variable}
+use Rattle.rx_typeck_solver.specs.declared.facts.Rule.{Rule}
+use Rattle.rx_typeck_solver.specs.declared.facts.Subject.{Subject}
+use Rattle.rx_typeck_solver.specs.declared.facts.Subject.TheVariants as subject
+use Rattle.rx_typeck_solver.specs.declared.facts.Broken.{Broken}
+use Rattle.rx_typeck_solver.specs.declared.facts.Broken.TheVariants as broken
+use Rattle.rx_typeck_solver.specs.declared.solver.Unsolved.{Unsolved}
+use Rattle.rx_typeck_solver.specs.declared.solver.Unsolved.TheVariants as unsolved
+use Rattle.rx_typeck_solver.specs.Facts.{Types, Known}
+use Rattle.rx_typeck_solver.specs.Stepping.{known}
+use Rattle.rx_typeck_solver.specs.Valid.{Valid, Breaks, IsUnclear, Asked, Told}
+use Rattle.rx_typeck_solver.specs.Views.{unnumbered}
+use Rattle.rx_typeck_rules.specs.Demands.{demands, task}
 use Rattle.rx_typeck.specs.declared.check.Check.{Check}
 use Rattle.rx_typeck.specs.declared.check.Described.{Described}
 use Rattle.rx_typeck.specs.declared.check.Question.{Question}

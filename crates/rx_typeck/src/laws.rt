@@ -4,17 +4,17 @@ ghost use Rattle.std.specs.Prelude.{ℕ, ◌<◌, List, length, slice_get};
 ghost use Rattle.rx_tree.specs.Plain.{ProgramTree};
 ghost use Rattle.rx_tree.specs.Size.{IsNumbered};
 ghost use Rattle.rx_resolve.specs.declared.resolved.ItemNames.{ItemNames};
-ghost use Rattle.rx_cycles.specs.Reaches.{NoCycle};
+ghost use Rattle.rx_graph_cycles.specs.Reaches.{NoCycle};
 ghost use Rattle.rx_typed.specs.Types.{variants_declared};
 ghost use Rattle.rx_typed.specs.PlainTypes.{declarations};
-ghost use Rattle.rx_declared.specs.Held.{held};
+ghost use Rattle.rx_typed_declarations.specs.Held.{held};
 ghost use Rattle.rx_typeck.specs.Alike.{AreAlike};
 ghost use Rattle.rx_typeck.specs.Typing.{IsTyped, Causes};
 ghost use Rattle.rx_typeck.specs.declared.typed.Typed.{Typed};
 ghost use Rattle.rx_typeck.specs.declared.typed.TypeFault.{TypeFault};
 
-use rx_declare::{declared_are_finite, declared_variants_are_few};
-use rx_declared::one_size_each;
+use rx_typeck_declare::{declared_are_finite, declared_variants_are_few};
+use rx_typed_declarations::one_size_each;
 
 /// Of what a typed program declares no struct or enum reaches itself, and each enum has fewer than 2^32 variants.
 pub fn typed_declarations_are_finite()

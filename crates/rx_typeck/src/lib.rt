@@ -8,5 +8,5 @@ mod typed;
 
 pub use check::typecheck;
 pub use laws::{one_typed_program, typed_declarations_are_finite, typed_or_wrong};
-pub use rx_elaborate_parts::Coercion;
+pub use rx_typeck_elaborate_parts::Coercion;
 pub use typed::{TypeFault, Typed, TypedFn};

@@ -5,14 +5,14 @@ ghost use Rattle.std.specs.Option.{option_copied};
 ghost use Rattle.rx_typed.specs.Types.{Typ, reference};
 ghost use Rattle.rx_typed.specs.PlainTypes.{plain-Ty};
 ghost use Rattle.rx_typed.specs.Elaborated as elaborated;
-ghost use Rattle.rx_unify.specs.declared.facts.Subject.TheVariants as subject;
-ghost use Rattle.rx_elaborate_parts.specs.Assigning.{joined, shape_of};
-ghost use Rattle.rx_elaborate_parts.specs.Coercing.{plain-Coercion};
+ghost use Rattle.rx_typeck_solver.specs.declared.facts.Subject.TheVariants as subject;
+ghost use Rattle.rx_typeck_elaborate_parts.specs.Assigning.{joined, shape_of};
+ghost use Rattle.rx_typeck_elaborate_parts.specs.Coercing.{plain-Coercion};
 ghost use Rattle.rx_typeck.specs.Typing as typing;
 
 use crate::typed::TypedFn;
 use rx_core::{List, Span, Ty};
-use rx_elaborate_parts::Coercion;
+use rx_typeck_elaborate_parts::Coercion;
 
 /// The type of this number, where there is one.
 fn type_in(types: &List<Option<Ty>>, number: usize) -> Option<&Ty>

@@ -5,7 +5,7 @@ use Rattle.std.proofs.lemmas.Result.{on_ok_weaker}
 use Rattle.rx_print_parts.proofs.WrittenLists.{next_written, tuple_written, some_fields}
 use Rattle.rx_print.proofs.WrittenBlocks.{arms_step, statements_step, bare_written, valued_written, match_written}
 use Rattle.rx_print.proofs.WrittenForms.{if_else_is, print_written}
-use Rattle.rx_spelling.specs.Pieces.{flat}
+use Rattle.rx_print_spelling.specs.Pieces.{flat}
 use Rattle.rx_print.proofs.Seen.{expressions_seen, fields_seen}
 use Rattle.rx_print.proofs.+expressions.Goals as goal
 

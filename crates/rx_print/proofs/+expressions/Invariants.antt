@@ -5,8 +5,8 @@ use Rattle.rx_tree.proofs.tree.Expr.TheLaws as expr
 use Rattle.rx_tree.proofs.tree.Block.TheLaws as block
 use Rattle.rx_tree.proofs.tree.Arm.TheLaws as arm
 use Rattle.rx_tree.specs.PlainOf.{plain-Expr, expressions_of, plain-FieldExpr, field_expressions_of, plain-Arm, arms_of, plain-Stmt, statements_of}
-use Rattle.rx_spelling.specs.Pieces.{flat, separated}
-use Rattle.rx_spelling.specs.Expressions.{each, each_field, arms, statements}
+use Rattle.rx_print_spelling.specs.Pieces.{flat, separated}
+use Rattle.rx_print_spelling.specs.Expressions.{each, each_field, arms, statements}
 use Rattle.rx_print_parts.proofs.WrittenLists.{left_of}
 use Rattle.rx_print.proofs.+expressions.Given as goal
 

@@ -1,5 +1,5 @@
 use Rattle.std.proofs.Common.{◌≡◌, drop}
-use Rattle.rx_lowered.specs.Functions.{function_at}
+use Rattle.rx_lower.specs.Functions.{function_at}
 use Rattle.rx_check.proofs.front_end.place_of.Given as goal
 
 abbrev pub invariant-loop-i : goal.invariant-loop-i

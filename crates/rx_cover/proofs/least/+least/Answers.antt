@@ -1,6 +1,6 @@
 use Rattle.std.proofs.Common.{◌≡◌, ◌∙◌, sym, ap, subst, true, false, [], ◌∷◌, map, arith, inr}
 use Rattle.rx_typed.specs.PlainTypes.{plain-Ty, plain-FieldDecl, plain-VariantDecl, declarations}
-use Rattle.rx_declared.specs.Held.{field_types, variant_types}
+use Rattle.rx_typed_declarations.specs.Held.{field_types, variant_types}
 use Rattle.rx_cover.specs.PlainCells.{plain-Head}
 use Rattle.std.proofs.Common.{slice_get}
 use Rattle.rx_typed.specs.Types.{parts_declared}

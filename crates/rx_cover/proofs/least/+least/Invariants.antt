@@ -1,7 +1,7 @@
 use Rattle.std.proofs.Common.{◌+◌, ◌*◌, Bool, List, map, drop}
 use Rattle.rx_typed.specs.PlainTypes.{plain-Ty, plain-FieldDecl, plain-VariantDecl, declarations}
 use Rattle.rx_typed.specs.Types.{named}
-use Rattle.rx_declared.specs.Held.{field_types, variant_types}
+use Rattle.rx_typed_declarations.specs.Held.{field_types, variant_types}
 use Rattle.rx_cover.specs.Finite.{expanse_in, all_in}
 use Rattle.rx_cover.specs.PlainCells.{plain-Head}
 use Rattle.rx_cover.specs.declared.value.Value.{Value}

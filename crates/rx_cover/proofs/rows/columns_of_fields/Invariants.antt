@@ -1,6 +1,6 @@
 use Rattle.std.proofs.Common.{◌≡◌, ◌++◌, map, drop}
 use Rattle.rx_typed.specs.PlainTypes.{plain-FieldDecl}
-use Rattle.rx_declared.specs.Held.{field_types}
+use Rattle.rx_typed_declarations.specs.Held.{field_types}
 use Rattle.rx_cover.specs.PlainCells.{plain-Column}
 use Rattle.rx_cover.proofs.rows.columns_of_fields.Given as goal
 

@@ -1,6 +1,6 @@
 use Rattle.std.proofs.Common.{drop}
 use Rattle.rx_typed.specs.PlainTypes.{declarations}
-use Rattle.rx_declared.specs.Sizes.{told}
+use Rattle.rx_typed_declarations.specs.Sizes.{told}
 use Rattle.rx_facts.specs.Passing.{Behind}
 use Rattle.rx_facts.specs.Functions.{IsInitialised, IsUninitialised}
 use Rattle.rx_facts.specs.Answers.{AreFactsOf}

@@ -1,8 +1,8 @@
 use Rattle.std.proofs.Common.{List, Option, ap, ◌∙◌}
 use Rattle.rx_core.specs.declared.types.Ty.{Ty}
 use Rattle.rx_typed.specs.PlainTypes.{declarations}
-use Rattle.rx_declared.specs.Sizes.{told}
-use Rattle.rx_lowered.specs.Functions.{trimmed}
+use Rattle.rx_typed_declarations.specs.Sizes.{told}
+use Rattle.rx_lower.specs.Functions.{trimmed}
 use Rattle.rx_facts.proofs.Telling.{facts_of, says_of}
 use Rattle.rx_facts.proofs.finding.function_facts.Goals as goal
 

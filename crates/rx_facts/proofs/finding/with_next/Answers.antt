@@ -1,6 +1,6 @@
 use Rattle.std.proofs.Common.{[], ◌∷◌, ◌++◌, ap, ◌∙◌, subst}
 use Rattle.rx_typed.specs.PlainTypes.{declarations}
-use Rattle.rx_declared.specs.Sizes.{told}
+use Rattle.rx_typed_declarations.specs.Sizes.{told}
 use Rattle.rx_facts.specs.Answers.{FunctionAnswers}
 use Rattle.rx_facts.proofs.finding.with_next.Goals as goal
 

@@ -1,6 +1,6 @@
 use Rattle.std.proofs.Common.{[], ◌∷◌, ◌++◌, ap, ◌∙◌, subst}
-use Rattle.rx_lifetimes.specs.Answer.{Answers}
-use Rattle.rx_lowered.specs.Functions.{function}
+use Rattle.rx_lower_lifetimes.specs.Answer.{Answers}
+use Rattle.rx_lower.specs.Functions.{function}
 use Rattle.rx_facts.proofs.lowering.with_next.Goals as goal
 
 pub returns-in-Ok-clause-more : goal.returns-in-Ok-clause-more

@@ -1,5 +1,5 @@
 use Rattle.std.proofs.Common.{◌≡◌, ℕ, ◌*◌, ◌<◌, true, length}
-use Rattle.rx_bits.specs.Rows.{holds}
+use Rattle.rx_graph_bits.specs.Rows.{holds}
 use Rattle.rx_graph.proofs.worklist.note_all.Given as goal
 
 abbrev pub invariant-sites : goal.invariant-sites

@@ -2,9 +2,9 @@ use Rattle.std.proofs.Common.{◌≡◌, ap, sym, ◌∙◌, Ok, Err, map, lengt
 use Rattle.rx_tree.specs.declared.tree.Item.{Item}
 use Rattle.rx_tree.specs.PlainOf.{plain-Item}
 use Rattle.rx_lex.specs.Tok.{toks}
-use Rattle.rx_grammar.specs.grammar.Items.{levels}
-use Rattle.rx_grammar.specs.parser.Items as spec
-use Rattle.rx_grammar.specs.parser.Steps.{ReadsAs}
+use Rattle.rx_parse_grammar.specs.grammar.Items.{levels}
+use Rattle.rx_parse_grammar.specs.parser.Items as spec
+use Rattle.rx_parse_grammar.specs.parser.Steps.{ReadsAs}
 use Rattle.rx_parse_cursor.specs.declared.got.Found.{Found}
 use Rattle.rx_parse_cursor.proofs.Placed.{are_placed}
 use Rattle.rx_parse_items.specs.ItemsOf.{file_of}

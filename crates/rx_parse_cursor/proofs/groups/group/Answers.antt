@@ -1,8 +1,8 @@
 use Rattle.std.proofs.Common.{◌≡◌, false, Ok, rules}
 use Rattle.rx_lex.specs.Tok.{tok}
-use Rattle.rx_grammar.specs.declared.symbol.Symbol.TheVariants as symbol
-use Rattle.rx_grammar.specs.parser.Steps.{sees, expect}
-use Rattle.rx_grammar.specs.parser.Lists.{group, group_by}
+use Rattle.rx_parse_grammar.specs.declared.symbol.Symbol.TheVariants as symbol
+use Rattle.rx_parse_grammar.specs.parser.Steps.{sees, expect}
+use Rattle.rx_parse_grammar.specs.parser.Lists.{group, group_by}
 use Rattle.rx_parse_cursor.specs.GotOf.{got_of}
 use Rattle.rx_parse_cursor.specs.GroupedOf.{grouped_of}
 use Rattle.rx_parse_cursor.proofs.ListSteps.{reads_as, group_first}

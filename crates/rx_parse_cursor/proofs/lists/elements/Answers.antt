@@ -1,9 +1,9 @@
 -- A list's loop reads what the parser reads: each exit is the parser's equation at one turn more, and what the code made of it.
 use Rattle.std.proofs.Common.{◌≡◌, true, false, Err, map, rules, arith}
 use Rattle.std.proofs.lemmas.Grind.{common_steps}
-use Rattle.rx_grammar.specs.declared.symbol.Symbol.TheVariants as symbol
-use Rattle.rx_grammar.specs.parser.Steps.{sees}
-use Rattle.rx_grammar.specs.parser.Lists.{elements, elements_from}
+use Rattle.rx_parse_grammar.specs.declared.symbol.Symbol.TheVariants as symbol
+use Rattle.rx_parse_grammar.specs.parser.Steps.{sees}
+use Rattle.rx_parse_grammar.specs.parser.Lists.{elements, elements_from}
 use Rattle.rx_parse_cursor.specs.GotOf.{found_of, items_of}
 use Rattle.rx_parse_cursor.specs.Elements.{another, ended}
 use Rattle.rx_parse_cursor.proofs.Turns.{no_more}

@@ -1,6 +1,6 @@
 -- The parser at the entry is the parser of the turns that are left, behind what was found.
 use Rattle.std.proofs.Common.{◌≡◌, ◌≤◌, ◌-◌, map}
-use Rattle.rx_grammar.specs.parser.Lists.{elements, elements_from}
+use Rattle.rx_parse_grammar.specs.parser.Lists.{elements, elements_from}
 use Rattle.rx_parse_cursor.proofs.lists.elements.Given as goal
 
 abbrev pub invariant-loop-turn : goal.invariant-loop-turn

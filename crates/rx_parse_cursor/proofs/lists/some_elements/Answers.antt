@@ -1,7 +1,7 @@
 use Rattle.std.proofs.Common.{◌≡◌, ◌∙◌, ap, sym, true, [], Ok, map, rules}
-use Rattle.rx_grammar.specs.declared.symbol.Symbol.TheVariants as symbol
-use Rattle.rx_grammar.specs.parser.Steps.{sees}
-use Rattle.rx_grammar.specs.parser.Lists.{elements, some_elements}
+use Rattle.rx_parse_grammar.specs.declared.symbol.Symbol.TheVariants as symbol
+use Rattle.rx_parse_grammar.specs.parser.Steps.{sees}
+use Rattle.rx_parse_grammar.specs.parser.Lists.{elements, some_elements}
 use Rattle.rx_parse_cursor.specs.GotOf.{items_of}
 use Rattle.rx_parse_cursor.specs.Elements.{another}
 use Rattle.rx_parse_cursor.proofs.ListSteps.{reads_as, some_more}

@@ -1,6 +1,6 @@
 use Rattle.std.proofs.Common.{◌≡◌, true, false, rules, arith}
 use Rattle.std.proofs.lemmas.Grind.{common_steps}
-use Rattle.rx_grammar.specs.grammar.Words.{is_index}
+use Rattle.rx_parse_grammar.specs.grammar.Words.{is_index}
 use Rattle.rx_parse_cursor.proofs.NumberLemmas.{found_index, no_index, not_index}
 use Rattle.rx_parse_cursor.proofs.numbers.index_value.Goals as goal
 

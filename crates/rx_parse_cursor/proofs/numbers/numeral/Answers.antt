@@ -1,5 +1,5 @@
 use Rattle.std.proofs.Common.{sym}
-use Rattle.rx_grammar.proofs.NumberLaws.{numeral_complete}
+use Rattle.rx_parse_grammar.proofs.NumberLaws.{numeral_complete}
 use Rattle.rx_parse_cursor.proofs.NumberLemmas.{no_numeral}
 use Rattle.rx_parse_cursor.proofs.numbers.numeral.Goals as goal
 

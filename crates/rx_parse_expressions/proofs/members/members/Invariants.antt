@@ -1,6 +1,6 @@
 use Rattle.std.proofs.Common.{◌≡◌, ◌≤◌, ◌+◌, ◌-◌, length}
 use Rattle.rx_tree.specs.PlainOf.{plain-Expr}
-use Rattle.rx_grammar.specs.parser.Expressions.{chain}
+use Rattle.rx_parse_grammar.specs.parser.Expressions.{chain}
 use Rattle.rx_parse_cursor.specs.GotOf.{got_of}
 use Rattle.rx_parse_expressions.specs.Levels.{member_step}
 use Rattle.rx_parse_expressions.proofs.members.members.Given as goal

@@ -2,9 +2,9 @@
 use Rattle.std.proofs.Common.{◌≡◌, ◌∙◌, true, false, Err, map, rules, arith}
 use Rattle.std.proofs.lemmas.Grind.{common_steps}
 use Rattle.rx_tree.specs.PlainOf.{plain-Item}
-use Rattle.rx_grammar.specs.declared.symbol.Symbol.TheVariants as symbol
-use Rattle.rx_grammar.specs.parser.Steps.{sees}
-use Rattle.rx_grammar.specs.parser.Items.{item, file, items_from}
+use Rattle.rx_parse_grammar.specs.declared.symbol.Symbol.TheVariants as symbol
+use Rattle.rx_parse_grammar.specs.parser.Steps.{sees}
+use Rattle.rx_parse_grammar.specs.parser.Items.{item, file, items_from}
 use Rattle.rx_parse_cursor.proofs.Turns.{one_more, no_more}
 use Rattle.rx_parse_cursor.proofs.ListSteps.{carried}
 use Rattle.rx_parse_cursor.specs.Elements.{another}

@@ -1,7 +1,7 @@
 -- The parser at the entry is the parser of the turns that are left, behind the items that were found.
 use Rattle.std.proofs.Common.{◌≡◌, ◌-◌, map}
 use Rattle.rx_tree.specs.PlainOf.{plain-Item}
-use Rattle.rx_grammar.specs.parser.Items.{file, items_from}
+use Rattle.rx_parse_grammar.specs.parser.Items.{file, items_from}
 use Rattle.rx_parse_items.proofs.items.file.Given as goal
 
 abbrev pub invariant-loop-turn : goal.invariant-loop-turn

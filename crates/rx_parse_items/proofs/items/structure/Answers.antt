@@ -2,7 +2,7 @@
 use Rattle.std.proofs.Common.{◌≡◌, option_map, rules, arith}
 use Rattle.std.proofs.lemmas.Grind.{common_steps}
 use Rattle.rx_lex.specs.Tok.{tok}
-use Rattle.rx_grammar.specs.parser.Items.{structure, start_of}
+use Rattle.rx_parse_grammar.specs.parser.Items.{structure, start_of}
 use Rattle.rx_parse_items.proofs.items.structure.Goals as goal
 
 pub returns : goal.returns

@@ -1,9 +1,9 @@
 -- The loop over bounds reads what the parser reads, turn by turn.
 use Rattle.std.proofs.Common.{◌≡◌, ◌∙◌, ap, sym, true, false, Err, rules, arith}
 use Rattle.std.proofs.lemmas.Grind.{common_steps}
-use Rattle.rx_grammar.specs.declared.symbol.Symbol.TheVariants as symbol
-use Rattle.rx_grammar.specs.parser.Steps.{sees}
-use Rattle.rx_grammar.specs.parser.Items.{bounds, bounds_from}
+use Rattle.rx_parse_grammar.specs.declared.symbol.Symbol.TheVariants as symbol
+use Rattle.rx_parse_grammar.specs.parser.Steps.{sees}
+use Rattle.rx_parse_grammar.specs.parser.Items.{bounds, bounds_from}
 use Rattle.rx_parse_cursor.proofs.Turns.{one_more, no_more}
 use Rattle.rx_parse_cursor.proofs.ListSteps.{carried}
 use Rattle.rx_parse_items.specs.ItemsOf.{another_bound}

@@ -1,6 +1,6 @@
 -- The parser at the entry is the parser of the turns that are left, behind the bounds that were found.
 use Rattle.std.proofs.Common.{◌≡◌, ◌-◌}
-use Rattle.rx_grammar.specs.parser.Items.{bounds, bounds_from}
+use Rattle.rx_parse_grammar.specs.parser.Items.{bounds, bounds_from}
 use Rattle.rx_parse_items.proofs.lifetimes.bounds.Given as goal
 
 abbrev pub invariant-loop-turn : goal.invariant-loop-turn

@@ -1,7 +1,7 @@
 use Rattle.std.proofs.Common.{◌<◌, ◌-◌, rules, arith}
 use Rattle.rx_tree.specs.PlainOf.{plain-Pattern}
-use Rattle.rx_grammar.specs.parser.Symbols.{peek}
-use Rattle.rx_grammar.specs.parser.Patterns.{pattern, pattern_by}
+use Rattle.rx_parse_grammar.specs.parser.Symbols.{peek}
+use Rattle.rx_parse_grammar.specs.parser.Patterns.{pattern, pattern_by}
 use Rattle.rx_parse_cursor.specs.GotOf.{got_of}
 use Rattle.rx_parse_cursor.proofs.ListSteps.{reads_as}
 use Rattle.rx_parse_types.proofs.PatternSteps.{pattern_is}

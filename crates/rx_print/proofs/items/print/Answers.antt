@@ -1,7 +1,7 @@
 use Rattle.std.proofs.Common.{◌≡◌, rules, arith}
 use Rattle.std.proofs.lemmas.Grind.{common_steps}
 use Rattle.rx_tree.specs.PlainOf.{plain-Program}
-use Rattle.rx_spelling.specs.Items.{print_program}
+use Rattle.rx_print_spelling.specs.Items.{print_program}
 use Rattle.rx_print.proofs.ReadBack.{written_parses}
 use Rattle.rx_print.proofs.items.print.Goals as goal
 

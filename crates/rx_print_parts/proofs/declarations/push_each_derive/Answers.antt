@@ -3,7 +3,7 @@ use Rattle.std.proofs.Common.{get_or}
 use Rattle.std.proofs.lemmas.List.{get_or_default}
 use Rattle.rx_tree.specs.declared.tree.Derive.{Derive}
 use Rattle.rx_tree.specs.declared.tree.Derive.TheVariants.{Clone}
-use Rattle.rx_spelling.specs.Items.{derive_pieces}
+use Rattle.rx_print_spelling.specs.Items.{derive_pieces}
 use Rattle.rx_print_parts.proofs.WrittenLists.{next_written}
 use Rattle.rx_print_parts.proofs.Seen.{mapped}
 use Rattle.rx_print_parts.proofs.declarations.push_each_derive.Goals as goal

@@ -1,7 +1,7 @@
 -- The goals that no tactic closes: by the lemmas of texts and lists written one part after the other.
 use Rattle.std.proofs.Common.{◌++◌, ◌∙◌, ap}
 use Rattle.std.proofs.lemmas.Result.{on_ok_weaker}
-use Rattle.rx_spelling.specs.Pieces.{flat}
+use Rattle.rx_print_spelling.specs.Pieces.{flat}
 use Rattle.rx_print_parts.proofs.WrittenLists.{some_parts}
 use Rattle.rx_print_parts.proofs.Seen.{types_seen}
 use Rattle.rx_print_parts.proofs.declarations.push_parts.Goals as goal

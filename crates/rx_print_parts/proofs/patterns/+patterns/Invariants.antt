@@ -1,8 +1,8 @@
 -- The invariants of the loops: what is written, and what is left of the list behind it, are the whole text.
 use Rattle.std.proofs.Common.{◌≡◌, ◌++◌, drop, map}
 use Rattle.rx_tree.specs.PlainOf.{plain-Pattern, patterns_of, plain-FieldPattern, field_patterns_of}
-use Rattle.rx_spelling.specs.Pieces.{flat, separated}
-use Rattle.rx_spelling.specs.Patterns.{each_pattern, each_field_pattern}
+use Rattle.rx_print_spelling.specs.Pieces.{flat, separated}
+use Rattle.rx_print_spelling.specs.Patterns.{each_pattern, each_field_pattern}
 use Rattle.rx_print_parts.proofs.WrittenLists.{left_of}
 use Rattle.rx_print_parts.proofs.patterns.+patterns.Given as goal
 

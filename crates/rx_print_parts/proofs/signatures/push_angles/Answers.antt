@@ -1,6 +1,6 @@
 -- The goals that no tactic closes: by the lemmas of texts and lists written one part after the other.
 use Rattle.std.proofs.lemmas.Result.{on_ok_weaker}
-use Rattle.rx_spelling.specs.Items.{bound_pieces}
+use Rattle.rx_print_spelling.specs.Items.{bound_pieces}
 use Rattle.rx_print_parts.proofs.WrittenItems.{some_angles}
 use Rattle.rx_print_parts.proofs.Seen.{mapped}
 use Rattle.rx_print_parts.proofs.signatures.push_angles.Goals as goal

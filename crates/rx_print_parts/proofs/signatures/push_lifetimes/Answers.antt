@@ -1,5 +1,5 @@
 -- The goals that no tactic closes: by the lemmas of texts and lists written one part after the other.
-use Rattle.rx_spelling.specs.Items.{bound_pieces}
+use Rattle.rx_print_spelling.specs.Items.{bound_pieces}
 use Rattle.rx_print_parts.proofs.WrittenLists.{next_written}
 use Rattle.rx_print_parts.proofs.Seen.{mapped}
 use Rattle.rx_print_parts.proofs.signatures.push_lifetimes.Goals as goal

@@ -1,7 +1,7 @@
 -- The invariants of the loops: what is written, and what is left of the list behind it, are the whole text.
 use Rattle.std.proofs.Common.{◌≡◌, ◌++◌, drop, map}
-use Rattle.rx_spelling.specs.Pieces.{flat, separated}
-use Rattle.rx_spelling.specs.Items.{bound_pieces}
+use Rattle.rx_print_spelling.specs.Pieces.{flat, separated}
+use Rattle.rx_print_spelling.specs.Items.{bound_pieces}
 use Rattle.rx_print_parts.proofs.WrittenLists.{left_of}
 use Rattle.rx_print_parts.proofs.signatures.push_lifetimes.Given as goal
 

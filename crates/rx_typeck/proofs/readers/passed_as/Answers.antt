@@ -3,7 +3,7 @@ use Rattle.std.specs.Option.{option_copied}
 use Rattle.rx_typed.specs.Types.{Typ}
 use Rattle.rx_typed.specs.PlainTypes.{plain-Ty, typ_mut}
 use Rattle.rx_typed.specs.Elaborated.{coercion}
-use Rattle.rx_elaborate_parts.specs.Assigning.{shape_of}
+use Rattle.rx_typeck_elaborate_parts.specs.Assigning.{shape_of}
 use Rattle.rx_typeck.proofs.readers.passed_as.Goals as goal
 
 pub returns-in-Mut : goal.returns-in-Mut

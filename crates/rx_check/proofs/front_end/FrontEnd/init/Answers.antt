@@ -1,6 +1,6 @@
 use Rattle.std.proofs.Common.{ap, ◌∙◌, subst}
 use Rattle.rx_typed.specs.PlainTypes.{declarations}
-use Rattle.rx_declared.specs.Sizes.{told}
+use Rattle.rx_typed_declarations.specs.Sizes.{told}
 use Rattle.rx_facts.specs.Answers.{AreFactsOf}
 use Rattle.rx_check.specs.Front.{Front, IsFronted}
 use Rattle.rx_check.proofs.ReaderLemmas.{within, reads}

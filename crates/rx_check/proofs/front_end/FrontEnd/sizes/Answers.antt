@@ -1,6 +1,6 @@
 use Rattle.std.proofs.Common.{List, ℕ, sym, ap, ◌∙◌, subst}
 use Rattle.rx_typed.specs.PlainTypes.{declarations}
-use Rattle.rx_declared.specs.Sizes.{Sized, told}
+use Rattle.rx_typed_declarations.specs.Sizes.{Sized, told}
 use Rattle.rx_check.specs.Front.{Front, IsFronted}
 use Rattle.rx_check.proofs.front_end.FrontEnd.sizes.Goals as goal
 

@@ -1,7 +1,7 @@
 use Rattle.std.proofs.Common.{◌∙◌, ◌∷◌, List, ap, drop}
 use Rattle.rx_lex.specs.Tok.{Tok, toks}
-use Rattle.rx_grammar.specs.grammar.Words.{second_ampersand}
-use Rattle.rx_grammar.specs.parser.Symbols.{head, tail, peek}
+use Rattle.rx_parse_grammar.specs.grammar.Words.{second_ampersand}
+use Rattle.rx_parse_grammar.specs.parser.Symbols.{head, tail, peek}
 use Rattle.rx_parse_cursor.proofs.CursorLemmas.{half_is}
 use Rattle.rx_parse_cursor.proofs.cursor.Cursor.halve.Goals as goal
 

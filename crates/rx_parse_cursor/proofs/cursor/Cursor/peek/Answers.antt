@@ -1,6 +1,6 @@
 use Rattle.std.proofs.Common.{◌∙◌, ap, cond, drop, sym}
 use Rattle.rx_lex.specs.Tok.{toks}
-use Rattle.rx_grammar.specs.parser.Symbols.{peek}
+use Rattle.rx_parse_grammar.specs.parser.Symbols.{peek}
 use Rattle.rx_parse_cursor.specs.Place.{halved}
 use Rattle.rx_parse_cursor.proofs.CursorLemmas.{half_peeked}
 use Rattle.rx_parse_cursor.proofs.cursor.Cursor.peek.Goals as goal

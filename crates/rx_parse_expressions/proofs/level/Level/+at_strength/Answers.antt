@@ -1,7 +1,7 @@
 use Rattle.std.proofs.Common.{◌≡◌, ◌<◌, ◌-◌, length, Ok, Err, rules, arith}
 use Rattle.std.proofs.lemmas.Grind.{common_steps}
 use Rattle.rx_tree.specs.PlainOf.{plain-Expr}
-use Rattle.rx_grammar.specs.parser.Expressions as spec
+use Rattle.rx_parse_grammar.specs.parser.Expressions as spec
 use Rattle.rx_parse_cursor.specs.GotOf.{got_of}
 use Rattle.rx_parse_cursor.proofs.ListSteps.{carried, reads_as}
 use Rattle.rx_parse_choices.specs.Rows.{turns}

@@ -1,8 +1,8 @@
 use Rattle.std.proofs.Common.{◌≡◌, ◌<◌, ◌-◌, true, false, rules, arith}
 use Rattle.std.proofs.lemmas.Grind.{common_steps}
 use Rattle.rx_tree.specs.PlainOf.{plain-Block}
-use Rattle.rx_grammar.specs.parser.Symbols.{peek}
-use Rattle.rx_grammar.specs.parser.Blocks.{whole, like, block, block_of, opens}
+use Rattle.rx_parse_grammar.specs.parser.Symbols.{peek}
+use Rattle.rx_parse_grammar.specs.parser.Blocks.{whole, like, block, block_of, opens}
 use Rattle.rx_parse_cursor.specs.GotOf.{got_of}
 use Rattle.rx_parse_cursor.proofs.ListSteps.{reads_as}
 use Rattle.rx_parse_expressions.proofs.LevelSteps.{block_above, block_deep, block_other}

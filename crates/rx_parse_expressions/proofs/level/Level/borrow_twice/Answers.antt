@@ -3,10 +3,10 @@ use Rattle.std.proofs.lemmas.Grind.{common_steps}
 use Rattle.rx_tree.specs.Plain as plain
 use Rattle.rx_tree.specs.PlainOf.{plain-Expr}
 use Rattle.rx_lex.specs.Tok.{Tok}
-use Rattle.rx_grammar.specs.grammar.Words.{join, second_ampersand}
-use Rattle.rx_grammar.specs.parser.Symbols.{head, tail}
-use Rattle.rx_grammar.specs.parser.Steps.{ReadsAs, node}
-use Rattle.rx_grammar.specs.parser.Blocks.{operand}
+use Rattle.rx_parse_grammar.specs.grammar.Words.{join, second_ampersand}
+use Rattle.rx_parse_grammar.specs.parser.Symbols.{head, tail}
+use Rattle.rx_parse_grammar.specs.parser.Steps.{ReadsAs, node}
+use Rattle.rx_parse_grammar.specs.parser.Blocks.{operand}
 use Rattle.rx_parse_cursor.specs.GotOf.{got_of}
 use Rattle.rx_parse_cursor.proofs.ListSteps.{carried, reads_as}
 use Rattle.rx_parse_choices.specs.declared.wanted.Wanted.{Wanted}

@@ -1,9 +1,9 @@
 use Rattle.std.proofs.Common.{◌≡◌, ◌∙◌, suc, ◌-◌, length, Some, None, Err, rules, arith}
 use Rattle.std.proofs.lemmas.Grind.{common_steps}
 use Rattle.rx_tree.specs.PlainOf.{plain-Expr}
-use Rattle.rx_grammar.specs.parser.Symbols.{peek}
-use Rattle.rx_grammar.specs.parser.Operators.{operator_at}
-use Rattle.rx_grammar.specs.parser.Expressions as spec
+use Rattle.rx_parse_grammar.specs.parser.Symbols.{peek}
+use Rattle.rx_parse_grammar.specs.parser.Operators.{operator_at}
+use Rattle.rx_parse_grammar.specs.parser.Expressions as spec
 use Rattle.rx_parse_cursor.specs.GotOf.{got_of}
 use Rattle.rx_parse_cursor.proofs.ListSteps.{carried}
 use Rattle.rx_parse_cursor.proofs.Turns.{one_more, no_more}

@@ -1,6 +1,6 @@
 use Rattle.std.proofs.Common.{◌≡◌, ◌≤◌, ◌+◌, ◌-◌, length}
 use Rattle.rx_tree.specs.PlainOf.{plain-Expr}
-use Rattle.rx_grammar.specs.parser.Expressions as spec
+use Rattle.rx_parse_grammar.specs.parser.Expressions as spec
 use Rattle.rx_parse_cursor.specs.GotOf.{got_of}
 use Rattle.rx_parse_choices.specs.Rows.{turns}
 use Rattle.rx_parse_expressions.specs.Levels.{binary_step}

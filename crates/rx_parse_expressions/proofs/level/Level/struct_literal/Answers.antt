@@ -2,11 +2,11 @@ use Rattle.std.proofs.Common.{◌≡◌, [], Ok, Err, rules, arith}
 use Rattle.std.proofs.lemmas.Grind.{common_steps}
 use Rattle.rx_tree.specs.PlainOf.{plain-Expr, plain-FieldExpr}
 use Rattle.rx_lex.specs.Tok.{tok}
-use Rattle.rx_grammar.specs.declared.symbol.Symbol.TheVariants as symbol
-use Rattle.rx_grammar.specs.parser.Steps.{expect}
-use Rattle.rx_grammar.specs.parser.Lists.{elements}
-use Rattle.rx_grammar.specs.parser.Expressions as spec
-use Rattle.rx_grammar.specs.parser.Blocks.{whole}
+use Rattle.rx_parse_grammar.specs.declared.symbol.Symbol.TheVariants as symbol
+use Rattle.rx_parse_grammar.specs.parser.Steps.{expect}
+use Rattle.rx_parse_grammar.specs.parser.Lists.{elements}
+use Rattle.rx_parse_grammar.specs.parser.Expressions as spec
+use Rattle.rx_parse_grammar.specs.parser.Blocks.{whole}
 use Rattle.rx_parse_cursor.specs.GotOf.{got_of, items_of}
 use Rattle.rx_parse_cursor.proofs.ListSteps.{carried}
 use Rattle.rx_parse_expressions.proofs.OperandSteps.{struct_fault}

@@ -1,10 +1,10 @@
 use Rattle.std.proofs.Common.{◌≡◌, [], Ok, Err, rules}
 use Rattle.rx_tree.specs.PlainOf.{plain-Pattern, plain-FieldPattern}
 use Rattle.rx_lex.specs.Tok.{tok}
-use Rattle.rx_grammar.specs.declared.symbol.Symbol.TheVariants as symbol
-use Rattle.rx_grammar.specs.parser.Steps.{expect}
-use Rattle.rx_grammar.specs.parser.Lists.{elements}
-use Rattle.rx_grammar.specs.parser.Patterns.{pattern, field_pattern, struct_pattern}
+use Rattle.rx_parse_grammar.specs.declared.symbol.Symbol.TheVariants as symbol
+use Rattle.rx_parse_grammar.specs.parser.Steps.{expect}
+use Rattle.rx_parse_grammar.specs.parser.Lists.{elements}
+use Rattle.rx_parse_grammar.specs.parser.Patterns.{pattern, field_pattern, struct_pattern}
 use Rattle.rx_parse_cursor.specs.GotOf.{got_of, items_of}
 use Rattle.rx_parse_cursor.proofs.ListSteps.{carried}
 use Rattle.rx_parse_types.proofs.PatternSteps.{struct_fault}

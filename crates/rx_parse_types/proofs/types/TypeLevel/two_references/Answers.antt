@@ -2,10 +2,10 @@ use Rattle.std.proofs.Common.{◌≡◌, ◌∙◌, ◌∷◌, ◌<◌, None, sy
 use Rattle.rx_lex.specs.Tok.{Tok}
 use Rattle.rx_tree.specs.Plain as plain
 use Rattle.rx_tree.specs.PlainOf.{plain-TypeText}
-use Rattle.rx_grammar.specs.grammar.Words.{join, second_ampersand}
-use Rattle.rx_grammar.specs.parser.Symbols.{head, tail}
-use Rattle.rx_grammar.specs.parser.Steps.{ReadsAs, node}
-use Rattle.rx_grammar.specs.parser.Types.{typ, two_references}
+use Rattle.rx_parse_grammar.specs.grammar.Words.{join, second_ampersand}
+use Rattle.rx_parse_grammar.specs.parser.Symbols.{head, tail}
+use Rattle.rx_parse_grammar.specs.parser.Steps.{ReadsAs, node}
+use Rattle.rx_parse_grammar.specs.parser.Types.{typ, two_references}
 use Rattle.rx_parse_cursor.specs.GotOf.{got_of}
 use Rattle.rx_parse_cursor.proofs.ListSteps.{carried}
 use Rattle.rx_parse_types.proofs.TypeSteps.{two_fault, two_made}

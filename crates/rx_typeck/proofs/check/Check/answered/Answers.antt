@@ -1,8 +1,8 @@
 use Rattle.std.proofs.Common.{IfErr, ap, sym, subst}
 use Rattle.rx_tree.specs.PlainOf.{plain-Func}
 use Rattle.rx_typed.specs.Naming.{function_named}
-use Rattle.rx_unify.specs.Ordered.{Orderly}
-use Rattle.rx_unify.specs.Solving.{task_of, IsSolved, IsUnsolved}
+use Rattle.rx_typeck_solver.specs.Ordered.{Orderly}
+use Rattle.rx_typeck_solver.specs.Solving.{task_of, IsSolved, IsUnsolved}
 use Rattle.rx_typeck.specs.declared.check.Question.{Question}
 use Rattle.rx_typeck.specs.Typing.{known_of}
 use Rattle.rx_typeck.proofs.TypingLemmas.{untyped_as, given}

@@ -1,8 +1,0 @@
-use Rattle.std.proofs.Common.{map, ap, sym, ◌∙◌}
-use Rattle.rx_typed.specs.Tree as tree
-use Rattle.rx_meaning.specs.Operators as operators
-use Rattle.rx_values.specs.PlainValues.{plain-Value}
-use Rattle.rx_acts.proofs.making.inversion_made.Goals as goal
-
-pub returns-in-Some : goal.returns-in-Some
-returns-in-Some c = λ js. c.inverted_value.ensures js ∙ ap (λ l. operators.make tree.inversion js (map plain-Value l)) (sym c.in-Some.ensures)

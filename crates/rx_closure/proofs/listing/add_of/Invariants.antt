@@ -1,8 +1,0 @@
-use Rattle.std.proofs.Common.{◌≡◌, ◌+◌, ◌-◌, ◌++◌, ◌&&◌, not}
-use Rattle.rx_graph.specs.Tables as tables
-use Rattle.rx_closure.specs.Listing as spec
-use Rattle.rx_closure.proofs.listing.add_of.Given as goal
-
-abbrev pub invariant-loop-short : goal.invariant-loop-short
-invariant-loop-short l = l.pairs ++ spec.pairs_of (λ x k. tables.at l.rows x (l.base + k) && not (tables.at l.others x k)) l.long l.short (l.count - l.short)
-    ≡ l.fn.pairs ++ spec.pairs_of (λ x k. tables.at l.fn.rows x (l.fn.base + k) && not (tables.at l.fn.others x k)) l.fn.long 0 l.fn.count

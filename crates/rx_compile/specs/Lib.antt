@@ -1,3 +1,0 @@
-pub mod Right
-pub mod Unwinding
-pub mod Whole

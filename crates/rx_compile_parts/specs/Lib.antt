@@ -1,5 +1,0 @@
-pub mod Compiling
-pub mod Settings
-pub mod Parts
-pub mod Signatures
-pub mod Refusals

@@ -1,5 +1,0 @@
-use Rattle.rx_cycles.specs.Reaches.{NoneBefore}
-use Rattle.rx_cycles.proofs.first.first_by_search.Given as goal
-
-abbrev pub invariant-loop-i : goal.invariant-loop-i
-invariant-loop-i l = NoneBefore l.edges l.i

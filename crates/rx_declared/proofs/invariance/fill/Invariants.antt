@@ -1,6 +1,0 @@
-use Rattle.std.proofs.Common.{◌≡◌, drop}
-use Rattle.rx_declared.specs.Variance.{fill}
-use Rattle.rx_declared.proofs.invariance.fill.Given as goal
-
-abbrev pub invariant-loop-i : goal.invariant-loop-i
-invariant-loop-i l = fill l.items l.table.items (drop l.i l.order) ≡ fill l.fn.items l.fn.table.items l.fn.order

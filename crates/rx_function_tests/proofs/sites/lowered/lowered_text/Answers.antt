@@ -1,5 +1,0 @@
-use Rattle.rx_function_tests.proofs.Functions.{first_there}
-use Rattle.rx_function_tests.proofs.sites.lowered.lowered_text.Goals as goal
-
-pub lower-requires : goal.lower-requires
-lower-requires c = first_there c.args.typed.now.functions c.in-Some.function.now c.in-Some.ensures.value

@@ -1,5 +1,0 @@
-use Rattle.rx_grammar.proofs.Whole.{one_text}
-use Rattle.rx_grammar.proofs.laws.one_tree.Goals as goal
-
-pub returns : goal.returns
-returns c = one_text

@@ -1,0 +1,17 @@
+pub mod Fits
+pub mod Sequences
+pub mod Choices
+pub mod Passes
+pub mod Scoped
+pub mod Settled
+pub mod Reached
+pub mod Whole
+pub mod Entry
+pub mod Sites
+pub mod Bounds
+pub mod Once
+pub mod Local
+pub mod Unfailing
+pub mod InText
+pub mod Forks
+pub mod Examples

@@ -1,0 +1,3 @@
+pub mod Graph
+pub mod Pieces
+pub mod Text

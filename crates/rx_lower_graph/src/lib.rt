@@ -1,0 +1,8 @@
+//! The graph of a function.
+#![tactic(auto)]
+
+mod laws;
+
+pub use laws::{
+    neighbours_follow, next_are_sites, paths_are_walks, sites_are_held, sites_stand_in_order,
+};

@@ -1,9 +1,0 @@
-use Rattle.std.proofs.Common.{◌≡◌, ◌↔◌, ◌++◌, ◌<◌, [], ◌∷◌, length, map, slice_get, slice_set, slice_index_or, ℕ, ◌+◌, ◌-◌, ◌*◌, ◌≤◌, drop, Bool, true, false, List}
-use Rattle.rx_typed.specs.Regions.{region-Ty, regions_of, region_fields, region_variants, held_regions, lifetimes_in, lifetimes_among}
-use Rattle.rx_declared.proofs.Filling.{Fills}
-use Rattle.rx_outlives.specs.Implied as spec
-use Rattle.rx_outlives.proofs.implied.add_by_variants.Given as goal
-
-abbrev pub invariant-loop-variant : goal.invariant-loop-variant
-invariant-loop-variant l = l.pairs ++ spec.implied_among (spec.pairs_of l.table) (regions_of (region_variants (drop l.variant-index l.variants)))
-    ≡ l.fn.pairs ++ spec.implied_among (spec.pairs_of l.fn.table) (regions_of (region_variants l.fn.variants))

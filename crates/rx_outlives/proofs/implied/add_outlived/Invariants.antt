@@ -1,8 +1,0 @@
-use Rattle.std.proofs.Common.{◌≡◌, ◌↔◌, ◌++◌, ◌<◌, [], ◌∷◌, length, map, slice_get, slice_set, slice_index_or, ℕ, ◌+◌, ◌-◌, ◌*◌, ◌≤◌, drop, Bool, true, false, List}
-use Rattle.rx_typed.specs.Regions.{region-Ty, regions_of, region_fields, region_variants, held_regions, lifetimes_in, lifetimes_among}
-use Rattle.rx_declared.proofs.Filling.{Fills}
-use Rattle.rx_outlives.specs.Implied as spec
-use Rattle.rx_outlives.proofs.implied.add_outlived.Given as goal
-
-abbrev pub invariant-loop-long : goal.invariant-loop-long
-invariant-loop-long l = l.pairs ++ spec.all_outlive (drop l.long-index l.lifetimes) l.short ≡ l.fn.pairs ++ spec.all_outlive l.fn.lifetimes l.fn.short

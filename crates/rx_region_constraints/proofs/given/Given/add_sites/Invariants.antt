@@ -1,0 +1,11 @@
+use Rattle.std.proofs.Common.{◌≡◌, ◌++◌, map, drop}
+use Rattle.rx_lower_graph.specs.Text.{actions_of}
+use Rattle.rx_lower_emit.specs.PlainSite.{plain-Site}
+use Rattle.rx_lower_lifetimes.specs.PlainOwn.{plain-Own}
+use Rattle.rx_region_solutions.specs.Constraints.{all_ask}
+use Rattle.rx_region_constraints.specs.PlainContext.{plain-Given}
+use Rattle.rx_region_constraints.proofs.given.Given.add_sites.Given as goal
+
+abbrev pub invariant-loop-site : goal.invariant-loop-site
+invariant-loop-site l = l.pairs ++ all_ask (plain-Given l.self) (actions_of (map plain-Site (drop l.site-index l.sites))) (map plain-Own l.left)
+    ≡ l.fn.pairs ++ all_ask (plain-Given l.fn.self) (actions_of (map plain-Site l.fn.sites)) (map plain-Own l.fn.owned)

@@ -1,5 +1,0 @@
-use Rattle.std.proofs.Common.{◌≡◌, ◌++◌, drop}
-use Rattle.rx_regions.proofs.types.add_all.Given as goal
-
-abbrev pub invariant-loop-lifetime : goal.invariant-loop-lifetime
-invariant-loop-lifetime l = l.lifetimes ++ drop l.lifetime-index l.list ≡ l.fn.lifetimes ++ l.fn.list

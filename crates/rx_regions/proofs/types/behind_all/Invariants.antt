@@ -1,5 +1,0 @@
-use Rattle.rx_regions.proofs.Counting.{Counted}
-use Rattle.rx_regions.proofs.types.behind_all.Given as goal
-
-abbrev pub invariant-loop-k : goal.invariant-loop-k
-invariant-loop-k l = Counted l.lifetimes l.fn.least l.k l.count

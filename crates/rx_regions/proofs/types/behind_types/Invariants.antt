@@ -1,5 +1,0 @@
-use Rattle.rx_regions.proofs.Counting.{TypesCounted}
-use Rattle.rx_regions.proofs.types.behind_types.Given as goal
-
-abbrev pub invariant-loop-k : goal.invariant-loop-k
-invariant-loop-k l = TypesCounted l.types l.fn.least l.k l.count

@@ -1,4 +1,0 @@
-pub mod Points
-pub mod Seeds
-pub mod Tables
-pub mod Passing

@@ -1,0 +1,308 @@
+-- A reply follows from what is due and how far it was written, by cases on both.
+use Rattle.std.proofs.Common.{ℕ, ℤ, ◌≡◌, ◌≤◌, ◌<◌, ◌⊎◌, inl, inr, List, [], length, take, Option, Some, None, Result, Ok, Err, refl, sym, ap, ◌∙◌, subst, arith, append-nil, length-append}
+use Rattle.std.proofs.lemmas.Bool.{cases_lt}
+use Rattle.rx_core.specs.Streams.{Rose, Told, Gone, Grown}
+use Rattle.rx_core.specs.declared.write.WriteFail.{WriteFail}
+use Rattle.rx_core.specs.declared.write.WriteFail.TheVariants as fail
+use Rattle.rx_engine.specs.declared.extraction.Answer.{Answer}
+use Rattle.rx_engine.specs.declared.extraction.Fault.{Fault}
+use Rattle.rx_lex.specs.declared.lexer.LexFault.{LexFault}
+use Rattle.rx_lex.specs.declared.lexer.LexFault.TheVariants as lex
+use Rattle.rx_parse.specs.declared.fault.SyntaxFault.{SyntaxFault}
+use Rattle.rx_parse.specs.declared.fault.SyntaxFault.TheVariants as syntax
+use Rattle.rx_engine.specs.declared.extraction.Fault.TheVariants as fault
+use Rattle.rx_meaning.specs.declared.outcome.End.{End}
+use Rattle.rx_meaning.specs.declared.outcome.End.TheVariants as ends
+use Rattle.rx_rem_command.specs.declared.status.Status.{Status}
+use Rattle.rx_rem_command.specs.declared.status.Status.TheVariants.{Done, Usage, NotAccepted, Refused, ReadFault, WriteFault, OutOfMemory, TooLong, StillRunning, Wrong, Trapped}
+use Rattle.rx_tree.specs.Plain.{ProgramTree}
+use Rattle.rx_engine.specs.Verdict.{Extracts}
+use Rattle.rx_parse_grammar.specs.grammar.Items.{Parses}
+use Rattle.rx_check.specs.Passes.{Accepted}
+use Rattle.rx_rem_command.specs.Forms.{Command, extracts, checks, runs, command_of}
+use Rattle.rx_rem_command.specs.Lines.{status_line, fault_line, lex_line, syntax_line, fault_status, lex_status, syntax_status}
+use Rattle.rx_rem_command.specs.RunLines.{end_status}
+use Rattle.rx_rem_command.specs.Defined.{Defined, AnswersTo, Judged, passed, faulty, Checked, no_program, program, Drawn, unaccepted, drawn, Ran, refused, ran, result_status, result_bytes, result_line}
+use Rattle.rx_rem_command.specs.Replies.{Stream, IsForm, HasFailed, HasAll, IsCut, IsRead, TakesAtMost, TakesOneMore, Due, answered, not_read, too_long, no_memory, Ending, whole, out_cut, both_cut, err_cut, IsComplete, Replies, Reports, Delivers, Found, defined, no_room}
+
+-- the statuses that a text's answer has
+abbrev pub IsAnswer : Status → Type 0
+IsAnswer ReadFault = ⊥
+IsAnswer WriteFault = ⊥
+IsAnswer TooLong = ⊥
+IsAnswer _ = Unit {0}
+
+lex_answers : (f : LexFault) → IsAnswer (lex_status f)
+lex_answers (lex.NotText at) = tt
+lex_answers (lex.BadToken at) = tt
+lex_answers lex.OutOfMemory = tt
+
+syntax_answers : (f : SyntaxFault) → IsAnswer (syntax_status f)
+syntax_answers (syntax.Lex f) = lex_answers f
+syntax_answers (syntax.Syntax at) = tt
+syntax_answers (syntax.TooDeep at) = tt
+syntax_answers syntax.OutOfMemory = tt
+
+fault_answers : (f : Fault) → IsAnswer (fault_status f)
+fault_answers (fault.Syntax f) = syntax_answers f
+fault_answers (fault.NotAccepted f) = tt
+fault_answers (fault.Refused r) = tt
+fault_answers fault.OutOfMemory = tt
+
+result_answers : (r : Result Answer Fault) → IsAnswer (result_status r)
+result_answers (Ok a) = tt
+result_answers (Err f) = fault_answers f
+
+judged_answers : (p : ProgramTree) (status : Status) (outs errs : List ℕ) → Judged p status outs errs → IsAnswer status
+judged_answers p _ _ _ (passed a) = tt
+judged_answers p _ _ _ (faulty f n c) = tt
+
+checked_answers : (text : List ℕ) (status : Status) (outs errs : List ℕ) → Checked text status outs errs
+    → IsAnswer status
+checked_answers text _ _ _ (no_program f c) = tt
+checked_answers text status outs errs (program p x j) = judged_answers p status outs errs j
+
+end_answers : (e : End) → IsAnswer (end_status e)
+end_answers ends.Ended = tt
+end_answers (ends.Trapped t) = tt
+end_answers ends.Running = tt
+end_answers ends.Wrong = tt
+
+ran_answers : (text : List ℕ) (turns : ℕ) (input : List ℤ) (status : Status) (outs errs : List ℕ) → Ran text turns input status outs errs
+    → IsAnswer status
+ran_answers text turns input _ _ _ (refused c) = tt
+ran_answers text turns input _ _ _ (ran p x h o d) = end_answers o.end
+
+drawn_answers : (text name : List ℕ) (start end : ℕ) (status : Status) (outs errs : List ℕ) → Drawn text name start end status outs errs → IsAnswer status
+drawn_answers text name start end _ _ _ (unaccepted c) = tt
+drawn_answers text name start end status outs errs (drawn p x a o) = subst IsAnswer (sym o.status_is) (result_answers o.result)
+
+asked_answers : (q : Option Command) (text : List ℕ) (status : Status) (outs errs : List ℕ)
+    → AnswersTo q text status outs errs → IsAnswer status
+asked_answers None text status outs errs a = subst IsAnswer (sym a.0) tt
+asked_answers (Some (extracts name start end)) text status outs errs a = drawn_answers text name start end status outs errs a
+asked_answers (Some checks) text status outs errs a = checked_answers text status outs errs a
+asked_answers (Some (runs turns input)) text status outs errs a = ran_answers text turns input status outs errs a
+
+defined_answers : (words : List (List ℕ)) (text : List ℕ) (status : Status) (outs errs : List ℕ)
+    → Defined words text status outs errs → IsAnswer status
+defined_answers words text status outs errs d = asked_answers (command_of words) text status outs errs d
+
+-- a source from which one byte more was taken than a text may have had more left
+too_many : (s s' : Stream) → TakesOneMore s s' → Told s.bytes (λ all. 1048576 < length all)
+too_many s s' t = λ all h. let p = t.gone.told all h in let n = t.many in
+    omega (arith, n, ap length p.1, length-append t.bytes p.0)
+
+-- where a text is small enough and the source didn't fail, the due answer is the defined one, or want of memory
+due_complete : (words : List (List ℕ)) (s s' : Stream) (status : Status) (outs errs : List ℕ)
+    → Due words s s' status outs errs → IsForm words
+    → (text : List ℕ) → s.bytes ≡ Some text → length text ≤ 1048576 → (Rose s.faults s'.faults → ⊥)
+    → (status ≡ OutOfMemory) ⊎ Defined words text status outs errs
+due_complete words s s' status outs errs (answered t r d) form text e small calm =
+    let p = (r form).whole text e in
+    inr (subst (λ (x : List ℕ). Defined words x status outs errs) p.0 d)
+due_complete words s s' _ _ _ (not_read f r t) form text e small calm = absurd (calm r)
+due_complete words s s' _ _ _ (too_long f t) form text e small calm = let l = too_many s s' t text e in
+    absurd (omega arith)
+due_complete words s s' _ _ _ (no_memory f t) form text e small calm = inl refl
+
+due_fault : (words : List (List ℕ)) (s s' : Stream) (status : Status) (outs errs : List ℕ)
+    → Due words s s' status outs errs → status ≡ ReadFault
+    → Rose s.faults s'.faults
+due_fault words s s' status outs errs (answered t r d) e =
+    absurd (subst IsAnswer e (defined_answers words t status outs errs d))
+due_fault words s s' _ _ _ (not_read f r t) e = r
+due_fault words s s' _ _ _ (too_long f t) e = absurd (cc)
+due_fault words s s' _ _ _ (no_memory f t) e = absurd (cc)
+
+due_written : (words : List (List ℕ)) (s s' : Stream) (status : Status) (outs errs : List ℕ)
+    → Due words s s' status outs errs → status ≡ WriteFault → ⊥
+due_written words s s' status outs errs (answered t r d) e =
+    subst IsAnswer e (defined_answers words t status outs errs d)
+due_written words s s' _ _ _ (not_read f r t) e = cc
+due_written words s s' _ _ _ (too_long f t) e = cc
+due_written words s s' _ _ _ (no_memory f t) e = cc
+
+ending_fault : (out out' err err' : Stream) (status result : Status) (outs errs : List ℕ)
+    → Ending out out' err err' status outs errs result
+    → result ≡ ReadFault → status ≡ ReadFault
+ending_fault out out' err err' status _ outs errs (whole a b) e = e
+ending_fault out out' err err' status _ outs errs (out_cut a b) e = absurd (cc)
+ending_fault out out' err err' status _ outs errs (both_cut a b) e = absurd (cc)
+ending_fault out out' err err' status _ outs errs (err_cut a b) e = absurd (cc)
+
+ending_written : (out out' err err' : Stream) (status result : Status) (outs errs : List ℕ)
+    → Ending out out' err err' status outs errs result
+    → (status ≡ WriteFault → ⊥) → result ≡ WriteFault → HasFailed out out' ⊎ HasFailed err err'
+ending_written out out' err err' status _ outs errs (whole a b) n e = absurd (n e)
+ending_written out out' err err' status _ outs errs (out_cut a b) n e = inl a.1
+ending_written out out' err err' status _ outs errs (both_cut a b) n e = inl a.1
+ending_written out out' err err' status _ outs errs (err_cut a b) n e = inr b.1
+
+-- where no sink failed, all was written
+ending_complete : (words : List (List ℕ)) (text : List ℕ) (out out' err err' : Stream) (status result : Status)
+    (outs errs : List ℕ)
+    → Ending out out' err err' status outs errs result → (status ≡ OutOfMemory) ⊎ Defined words text status outs errs
+    → (HasFailed out out' → ⊥) → (HasFailed err err' → ⊥) → IsComplete words text out out' err err' result
+ending_complete words text out out' err err' status _ outs errs (whole a b) d calm calm' =
+    elim d [ inl e ↦ inl e | inr f ↦ inr (outs, errs, f, a, b) ]
+ending_complete words text out out' err err' status _ outs errs (out_cut a b) d calm calm' = absurd (calm a.1)
+ending_complete words text out out' err err' status _ outs errs (both_cut a b) d calm calm' = absurd (calm a.1)
+ending_complete words text out out' err err' status _ outs errs (err_cut a b) d calm calm' = absurd (calm' b.1)
+
+pub replies : (words : List (List ℕ)) (s s' out out' err err' : Stream) (status : Status) (outs errs : List ℕ)
+    (result : Status)
+    → Due words s s' status outs errs → Ending out out' err err' status outs errs result
+    → Replies words s s' out out' err err' result
+replies words s s' out out' err err' status outs errs result d e = record {
+  written = (status, outs, errs, d, e);
+  read_fault = λ r. due_fault words s s' status outs errs d
+      (ending_fault out out' err err' status result outs errs e r);
+  write_fault = ending_written out out' err err' status result outs errs e (due_written words s s' status outs errs d);
+  complete = λ form text t small calm. ending_complete words text out out' err err' status result outs errs e
+      (due_complete words s s' status outs errs d form text t small calm);
+}
+
+pub nothing_more : (k : Stream) → HasAll k k []
+nothing_more k = record { told = λ held h. h ∙ ap Some (sym (append-nil held)); untold = λ h. h }
+
+-- a line that was written or cut, where nothing goes to standard output
+pub reported : (out err err' : Stream) (status result : Status) (line : List ℕ) → Reports err err' status line result
+    → Ending out out err err' status [] line result
+reported out err err' status result line (inl r) = subst (λ (x : Status). Ending out out err err' status [] line x)
+    (sym r.0) (whole (nothing_more out) r.1)
+reported out err err' status result line (inr r) = subst (λ (x : Status). Ending out out err err' status [] line x)
+    (sym r.0) (err_cut (nothing_more out) r.1)
+
+pub delivered : (out out' err err' : Stream) (status result : Status) (bytes : List ℕ)
+    → Delivers out out' err err' bytes status result
+    → Ending out out' err err' status bytes [] result
+delivered out out' err err' status result bytes (inl r) =
+    subst (λ (x : Status). Ending out out' err err' status bytes [] x) (sym r.0) (whole r.1 r.2)
+delivered out out' err err' status result bytes (inr r) =
+    subst (λ (x : Status). Ending out out' err err' status bytes [] x) (sym r.0)
+    (elim r.2 [ inl a ↦ out_cut r.1 a | inr b ↦ both_cut r.1 b ])
+
+failed : (old new : Stream) (f : WriteFail) → (f ≡ fail.WriteFault → Rose old.faults new.faults)
+    → ((left : ℕ) → f ≡ fail.Stuck left → Rose old.standstills new.standstills) → HasFailed old new
+failed old new fail.WriteFault h k = inl (h refl)
+failed old new (fail.Stuck left) h k = inr (k left refl)
+
+-- a front of the bytes of a text was written, and then the sink failed
+pub cut : (old new : Stream) (bytes text : List ℕ) (f : WriteFail) → bytes ≡ text
+    → ((n : ℕ) × (n ≤ length bytes) × Grown old.bytes new.bytes (take n bytes)) → (f ≡ fail.WriteFault → Rose old.faults new.faults)
+    → ((left : ℕ) → f ≡ fail.Stuck left → Rose old.standstills new.standstills) → IsCut old new text
+cut old new bytes text f e front h k = subst (IsCut old new) e (front, failed old new f h k)
+
+status_memory : (s : Status) → (s ≡ OutOfMemory) ⊎ (s ≡ OutOfMemory → ⊥)
+status_memory OutOfMemory = inl refl
+status_memory Done = inr (λ e. cc)
+status_memory Refused = inr (λ e. cc)
+status_memory Usage = inr (λ e. cc)
+status_memory NotAccepted = inr (λ e. cc)
+status_memory ReadFault = inr (λ e. cc)
+status_memory WriteFault = inr (λ e. cc)
+status_memory TooLong = inr (λ e. cc)
+status_memory StillRunning = inr (λ e. cc)
+status_memory Wrong = inr (λ e. cc)
+status_memory Trapped = inr (λ e. cc)
+
+lex_memory : (f : LexFault) → lex_status f ≡ OutOfMemory → lex_line f ≡ status_line OutOfMemory
+lex_memory (lex.NotText at) e = absurd (cc)
+lex_memory (lex.BadToken at) e = absurd (cc)
+lex_memory lex.OutOfMemory e = refl
+
+syntax_memory : (f : SyntaxFault) → syntax_status f ≡ OutOfMemory → syntax_line f ≡ status_line OutOfMemory
+syntax_memory (syntax.Lex f) e = lex_memory f e
+syntax_memory (syntax.Syntax at) e = absurd (cc)
+syntax_memory (syntax.TooDeep at) e = absurd (cc)
+syntax_memory syntax.OutOfMemory e = refl
+
+fault_memory : (f : Fault) → fault_status f ≡ OutOfMemory → fault_line f ≡ status_line OutOfMemory
+fault_memory (fault.Syntax f) e = syntax_memory f e
+fault_memory (fault.NotAccepted f) e = absurd (cc)
+fault_memory (fault.Refused r) e = absurd (cc)
+fault_memory fault.OutOfMemory e = refl
+
+found_no_room : (text name : List ℕ) (start end : ℕ) (status : Status) (line : List ℕ) → status ≡ OutOfMemory
+    → line ≡ status_line OutOfMemory
+    → Found (extracts name start end) text status [] line
+found_no_room text name start end status line e l =
+    let command = extracts name start end in
+    subst (λ (s : Status). Found command text s [] line) (sym e)
+    (subst (λ (b : List ℕ). Found command text OutOfMemory [] b) (sym l) no_room)
+
+pub found_fault : (text name : List ℕ) (start end : ℕ) (r : Result Answer Fault) (f : Fault) (p : ProgramTree) → Parses text p → Accepted p
+    → Extracts text start end name r → r ≡ Err f
+    → Found (extracts name start end) text (fault_status f) [] (fault_line f)
+found_fault text name start end r f p parses accepted x e =
+    elim (status_memory (fault_status f)) [
+      | inl m ↦ found_no_room text name start end (fault_status f) (fault_line f) m (fault_memory f m)
+      | inr n ↦ defined (drawn p parses accepted (record {
+        result = r;
+        extracts = x;
+        found = n;
+        status_is = ap result_status (sym e);
+        out_is =
+            ap result_bytes (sym e);
+        err_is = ap result_line (sym e);
+      }))
+    ]
+
+pub found_answer : (text name : List ℕ) (start end : ℕ) (r : Result Answer Fault) (a : Answer) (bytes : List ℕ) (p : ProgramTree) → Parses text p → Accepted p
+    → Extracts text start end name r → r ≡ Ok a → bytes ≡ a.text
+    → Found (extracts name start end) text Done bytes []
+found_answer text name start end r a bytes p parses accepted x e b =
+    defined (drawn p parses accepted (record {
+      result = r;
+      extracts = x;
+      found = λ m. cc;
+      status_is = ap result_status (sym e);
+      out_is = b
+          ∙ ap result_bytes (sym e);
+      err_is = ap result_line (sym e);
+    }))
+
+-- what is found for the text that was read is due
+pub found_due : (words : List (List ℕ)) (s s' : Stream) (command : Command) (text : List ℕ) (status : Status)
+    (outs errs : List ℕ)
+    → Some command ≡ command_of words → IsRead s s' text → Found command text status outs errs
+    → Due words s s' status outs errs
+found_due words s s' command text status outs errs e r (defined d) =
+    answered text (λ form. r) (subst (λ (q : Option Command). AnswersTo q text status outs errs) e d)
+found_due words s s' command text _ _ _ e r no_room = no_memory (λ n. cc)
+    (record { bytes = text; many = r.within; gone = r.gone })
+
+-- the bytes that were taken, where they are not too many
+pub taken_few : (s s' : Stream) (bytes : List ℕ) → (1048576 < length bytes → ⊥) → Gone s.bytes s'.bytes bytes
+    → TakesAtMost s s'
+taken_few s s' bytes n g = record {
+  bytes = bytes;
+  many =
+      elim (cases_lt 1048576 (length bytes)) [ inl l ↦ absurd (n l) | inr l ↦ l ];
+  gone = g;
+}
+
+pub taken_more : (s s' : Stream) (bytes : List ℕ) → length bytes ≤ 1048577 → 1048576 < length bytes
+    → Gone s.bytes s'.bytes bytes → TakesOneMore s s'
+taken_more s s' bytes l m g = record { bytes = bytes; many = omega arith; gone = g }
+
+-- the text is what was taken, since nothing is left
+whole_gone : (s s' : Option (List ℕ)) (text bytes : List ℕ) → Told s (λ all. (text ≡ all) × (s' ≡ Some []))
+    → Gone s s' bytes → Gone s s' text
+whole_gone s s' text bytes w g = record {
+  told = λ left h. let p = w left h in ([], sym p.0 ∙ sym (append-nil text), p.1);
+  untold = g.untold;
+}
+
+pub read_whole : (old new : Stream) (text bytes gone : List ℕ) → text ≡ bytes
+    → Told old.bytes (λ all. (bytes ≡ all) × (new.bytes ≡ Some [])) → length bytes ≤ 1048576
+    → Gone old.bytes new.bytes gone → IsRead old new text
+read_whole old new text bytes gone e w l g =
+    let whole : Told old.bytes (λ all. (text ≡ all) × (new.bytes ≡ Some [])) = λ all h. let p = w all h in
+    (e ∙ p.0, p.1) in
+    record {
+      whole = whole;
+      within = subst (λ (x : List ℕ). length x ≤ 1048576) (sym e) l;
+      gone = whole_gone old.bytes new.bytes text gone whole g;
+    }

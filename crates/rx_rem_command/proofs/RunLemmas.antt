@@ -1,0 +1,159 @@
+-- What a program does is one thing, and what is found where a text is run is defined.
+use Rattle.std.proofs.Common.{ℕ, ℤ, ◌≡◌, ◌⊎◌, List, [], ◌∷◌, Option, Some, None, inl, inr, refl, sym, ap, ◌∙◌, subst}
+use Rattle.rx_tree.specs.Plain as plain
+use Rattle.rx_tree.specs.Plain.{ProgramTree}
+use Rattle.rx_lex.specs.declared.lexer.LexFault.TheVariants as lex
+use Rattle.rx_parse_grammar.specs.grammar.Items.{Parses}
+use Rattle.rx_parse_grammar.proofs.Whole.{one_text}
+use Rattle.rx_parse.specs.declared.fault.SyntaxFault.{SyntaxFault}
+use Rattle.rx_parse.specs.declared.fault.SyntaxFault.TheVariants as syntax
+use Rattle.rx_parse.specs.Answer.{IsCause}
+use Rattle.rx_resolve.specs.declared.resolved.ItemNames.{ItemNames}
+use Rattle.rx_resolve.specs.Causes.{Meant}
+use Rattle.rx_resolve.proofs.WalkLemmas.{ok_is}
+use Rattle.rx_typed_tree.specs.PlainTree.{plain-TypedTree}
+use Rattle.rx_typeck.specs.declared.typed.Typed.{Typed}
+use Rattle.rx_typeck.specs.declared.typed.TypedFn.{TypedFn}
+use Rattle.rx_typeck.specs.Typing.{IsTyped}
+use Rattle.rx_typeck.specs.Alike.{FunctionsAlike, AreAlike}
+use Rattle.rx_meaning.specs.declared.outcome.Outcome.{Outcome}
+use Rattle.rx_meaning.specs.Programs.{main_in, run}
+use Rattle.rx_machine.specs.Functions.{typed_functions, program_of}
+use Rattle.rx_check.specs.declared.fault.CheckFault.{CheckFault}
+use Rattle.rx_check.specs.declared.fault.CheckFault.TheVariants as check
+use Rattle.rx_check.specs.Passes.{Accepted}
+use Rattle.rx_rem_command.specs.declared.status.Status.{Status}
+use Rattle.rx_rem_command.specs.declared.status.Status.TheVariants.{Done, NotAccepted}
+use Rattle.rx_rem_command.specs.Forms.{Command, checks, runs, command_of}
+use Rattle.rx_rem_command.specs.Lines.{syntax_status, syntax_line}
+use Rattle.rx_rem_command.specs.CheckLines.{line_of_check, status_of_check}
+use Rattle.rx_rem_command.specs.RunLines.{end_status, end_line}
+use Rattle.rx_rem_command.specs.Runs.{Does}
+use Rattle.rx_rem_command.specs.Defined.{Defined, AnswersTo, Judged, passed, faulty, Checked, no_program, program, Ran, refused, ran, AreOneLine, AreFaultLines}
+use Rattle.rx_rem_command.specs.Replies.{Stream, Ending, whole, out_cut, both_cut, err_cut, Found, defined, no_room}
+use Rattle.rx_rem_command.specs.RunReplies.{FoundRun, did, not_passed, no_memory_left, Tells}
+use Rattle.rx_rem_command.proofs.CheckLemmas.{found_unread, found_faulty, found_program}
+
+-- ---- one outcome
+
+-- typed programs that are alike are one program
+same_functions : (p : ProgramTree) (ts us : List TypedFn) → FunctionsAlike ts us → typed_functions p ts ≡ typed_functions p us
+same_functions [] ts us h = refl
+same_functions (plain.function_item s f ∷ is) [] [] h = ap (λ l. None ∷ l) (same_functions is [] [] h)
+same_functions (plain.function_item s f ∷ is) [] (u ∷ us) h = absurd h
+same_functions (plain.function_item s f ∷ is) (t ∷ ts) [] h = absurd h
+same_functions (plain.function_item s f ∷ is) (t ∷ ts) (u ∷ us) h =
+    ap (λ x. Some x ∷ typed_functions is ts) h.2 ∙ ap (λ l. Some (plain-TypedTree u.tree) ∷ l) (same_functions is ts us h.3)
+same_functions (plain.rt_item s r ∷ is) ts us h = ap (λ l. None ∷ l) (same_functions is ts us h)
+same_functions (plain.struct_item s d ∷ is) ts us h = ap (λ l. None ∷ l) (same_functions is ts us h)
+same_functions (plain.enum_item s d ∷ is) ts us h = ap (λ l. None ∷ l) (same_functions is ts us h)
+
+-- names have one meaning
+one_meaning : (p : ProgramTree) (ns ms : List ItemNames) → Meant p ns → Meant p ms → ns ≡ ms
+one_meaning p ns ms a b = ok_is ns ms (sym a.names_are ∙ b.names_are)
+
+module _ (alike : (p : ProgramTree) (ns : List ItemNames) (t u : Typed) → IsTyped p ns t → IsTyped p ns u → AreAlike t u) where
+  pub outcome_one : (p : ProgramTree) (turns : ℕ) (input : List ℤ) (o q : Outcome) → Does p turns input o → Does p turns input q → o ≡ q
+  outcome_one p turns input o q d e =
+      let k : IsTyped p d.names e.types = subst (λ x. IsTyped p x e.types) (one_meaning p e.names d.names e.meant d.meant) e.typed in
+      let same = same_functions p d.types.functions e.types.functions (alike p d.names d.types e.types d.typed k).functions in
+      d.outcome ∙ (ap (λ F. run (record { functions = F; main = main_in p 0 }) input turns) same ∙ sym e.outcome)
+
+pub outcome_some : (p : ProgramTree) (turns : ℕ) (input : List ℤ) → Accepted p → (o : Outcome) × Does p turns input o
+outcome_some p turns input h = let f = h.1.front in
+    (run (program_of p h.0.functions) input turns, record { names = f.names; meant = f.meant; types = h.0; typed = f.typed; outcome = refl })
+
+-- ---- what is found
+
+-- a check that doesn't pass is a run's refusal
+of_judged : (text : List ℕ) (turns : ℕ) (input : List ℤ) (p : ProgramTree) → Parses text p → (s : Status) (out err : List ℕ) → (s ≡ Done → ⊥)
+    → Judged p s out err → Ran text turns input s out err
+of_judged text turns input p x _ _ _ n (passed h) = absurd (n refl)
+of_judged text turns input p x _ _ _ n (faulty f told c) = refused (program p x (faulty f told c))
+
+of_check : (text : List ℕ) (turns : ℕ) (input : List ℤ) (s : Status) (out err : List ℕ) → (s ≡ Done → ⊥) → Checked text s out err
+    → Ran text turns input s out err
+of_check text turns input _ _ _ n (no_program f c) = refused (no_program f c)
+of_check text turns input s out err n (program p x j) = of_judged text turns input p x s out err n j
+
+found_of_check : (text : List ℕ) (turns : ℕ) (input : List ℤ) (s : Status) (out err : List ℕ) → (s ≡ Done → ⊥) → Found checks text s out err
+    → Found (runs turns input) text s out err
+found_of_check text turns input s out err n (defined d) = defined (of_check text turns input s out err n d)
+found_of_check text turns input _ _ _ n no_room = no_room
+
+not_passed_not_done : (f : CheckFault) → status_of_check f ≡ Done → ⊥
+not_passed_not_done check.OutOfMemory e = cc
+not_passed_not_done _ e = cc
+
+unread_not_done : (f : SyntaxFault) → syntax_status f ≡ Done → ⊥
+unread_not_done (syntax.Lex (lex.NotText at)) e = cc
+unread_not_done (syntax.Lex (lex.BadToken at)) e = cc
+unread_not_done (syntax.Lex lex.OutOfMemory) e = cc
+unread_not_done (syntax.Syntax at) e = cc
+unread_not_done (syntax.TooDeep at) e = cc
+unread_not_done syntax.OutOfMemory e = cc
+
+pub found_run_unread : (text : List ℕ) (turns : ℕ) (input : List ℤ) (f : SyntaxFault) → IsCause f text
+    → Found (runs turns input) text (syntax_status f) [] (syntax_line f)
+found_run_unread text turns input f c =
+    found_of_check text turns input (syntax_status f) [] (syntax_line f) (unread_not_done f) (found_unread text f c)
+
+pub found_run : (text : List ℕ) (p : ProgramTree) (turns : ℕ) (input : List ℤ) (s : Status) (out err : List ℕ) → Parses text p
+    → FoundRun p turns input s out err → Found (runs turns input) text s out err
+found_run text p turns input _ _ _ x (did o h d) = defined (ran p x h o d)
+found_run text p turns input _ _ _ x (not_passed f c) =
+    found_of_check text turns input (status_of_check f) [] (line_of_check p f) (not_passed_not_done f)
+    (found_program text p (status_of_check f) [] (line_of_check p f) x (found_faulty p f c))
+found_run text p turns input _ _ _ x no_memory_left = no_room
+
+-- ---- how far it was written
+
+pub told : (out out' err err' : Stream) (status result : Status) (outs errs : List ℕ) → Tells out out' err err' status outs errs result
+    → Ending out out' err err' status outs errs result
+told out out' err err' status result outs errs (inl (a, inl r)) =
+    subst (λ (x : Status). Ending out out' err err' status outs errs x) (sym r.0) (whole a r.1)
+told out out' err err' status result outs errs (inl (a, inr r)) =
+    subst (λ (x : Status). Ending out out' err err' status outs errs x) (sym r.0) (err_cut a r.1)
+told out out' err err' status result outs errs (inr (a, inl r)) =
+    subst (λ (x : Status). Ending out out' err err' status outs errs x) (sym r.0) (out_cut a r.1)
+told out out' err err' status result outs errs (inr (a, inr r)) =
+    subst (λ (x : Status). Ending out out' err err' status outs errs x) (sym r.0) (both_cut a r.1)
+
+-- ---- defined answers
+
+abbrev Agree : List ℕ → Status → Status → List ℕ → List ℕ → List ℕ → List ℕ → Type 0
+Agree text s t a b c d = (s ≡ t) × (a ≡ c) × (AreOneLine b d ⊎ AreFaultLines text b d)
+
+not_both : (NotAccepted ≡ Done) → ⊥
+not_both e = cc
+
+pub runs_agree : (text : List ℕ) (turns : ℕ) (input : List ℤ)
+    → ((s t : Status) (a b c d : List ℕ) → Checked text s a b → Checked text t c d → Agree text s t a b c d)
+    → ((p : ProgramTree) (o q : Outcome) → Does p turns input o → Does p turns input q → o ≡ q)
+    → (s t : Status) (a b c d : List ℕ) → Ran text turns input s a b → Ran text turns input t c d → Agree text s t a b c d
+runs_agree text turns input checked one _ _ a b c d (refused h) (refused k) = checked NotAccepted NotAccepted a b c d h k
+runs_agree text turns input checked one _ _ a b _ _ (refused h) (ran q y k e f) =
+    absurd (not_both (checked NotAccepted Done a b _ _ h (program q y (passed k))).0)
+runs_agree text turns input checked one _ _ _ _ c d (ran p x h o f) (refused k) =
+    absurd (not_both (checked NotAccepted Done c d _ _ k (program p x (passed h))).0)
+runs_agree text turns input checked one _ _ _ _ _ _ (ran p x h o f) (ran q y k e g) =
+    let same : o ≡ e = one p o e f (subst (λ r. Does r turns input e) (one_text text q p y x) g) in (
+      ap (λ (w : Outcome). end_status w.end) same,
+      ap (λ (w : Outcome). w.printed) same,
+      inl (inl (ap (λ (w : Outcome). end_line w.end) same)),
+    )
+
+-- an accepted text has the defined answer of what its program does
+pub run_defined : (words : List (List ℕ)) (text : List ℕ) (turns : ℕ) (input : List ℤ) (p : ProgramTree) (o : Outcome)
+    → command_of words ≡ Some (runs turns input) → Parses text p → Accepted p → Does p turns input o
+    → Defined words text (end_status o.end) o.printed (end_line o.end)
+run_defined words text turns input p o e x h d =
+    subst (λ (c : Option Command). AnswersTo c text (end_status o.end) o.printed (end_line o.end)) (sym e) (ran p x h o d)
+
+-- another text has that of a check
+pub refusal_defined : (words other : List (List ℕ)) (text out err : List ℕ) (turns : ℕ) (input : List ℤ)
+    → command_of words ≡ Some (runs turns input) → command_of other ≡ Some checks
+    → Defined other text NotAccepted out err → Defined words text NotAccepted out err
+refusal_defined words other text out err turns input e k d =
+    let c : Checked text NotAccepted out err = subst (λ (c : Option Command). AnswersTo c text NotAccepted out err) k d in
+    subst (λ (c : Option Command). AnswersTo c text NotAccepted out err) (sym e) (refused c)

@@ -1,0 +1,26 @@
+-- What is found is why the text is not read, or what is found for its program.
+use Rattle.std.proofs.Common.{[], inl, inr}
+use Rattle.rx_tree.specs.PlainOf.{plain-Program}
+use Rattle.rx_rem_command.specs.declared.status.Status.TheVariants.{OutOfMemory}
+use Rattle.rx_rem_command.specs.Lines.{syntax_line, syntax_status, status_line}
+use Rattle.rx_rem_command.specs.Replies.{no_room}
+use Rattle.rx_rem_command.proofs.Replies.{reported}
+use Rattle.rx_rem_command.proofs.CheckLemmas.{found_unread, found_program}
+use Rattle.rx_rem_command.proofs.checking.check_text.Goals as goal
+
+pub returns-in-Ok : goal.returns-in-Ok
+returns-in-Ok g c = let f = c.check_program-status.ensures in
+    (f.0, f.1, f.2, found_program c.args.text.now (plain-Program c.in-Ok.program) f.0 f.1 f.2 c.in-Ok.ensures.found f.3, f.4)
+
+pub returns-in-Err : goal.returns-in-Err
+returns-in-Err g c =
+    elim c.refuse_text.ensures [
+      | inl r ↦ (
+        syntax_status c.in-Err.fault,
+        [],
+        syntax_line c.in-Err.fault,
+        found_unread c.args.text.now c.in-Err.fault c.in-Err.ensures.fault,
+        reported _ _ _ _ c.refuse_text.result _ r,
+      )
+      | inr r ↦ (OutOfMemory, [], status_line OutOfMemory, no_room, reported _ _ _ OutOfMemory c.refuse_text.result _ r)
+    ]

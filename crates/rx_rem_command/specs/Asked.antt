@@ -1,0 +1,10 @@
+-- What a command of the code asks for.
+use Rattle.rx_rem_command.specs.declared.words.Command.{Command}
+use Rattle.rx_rem_command.specs.declared.words.Command.TheVariants.{Extract, Check, Run}
+use Rattle.rx_rem_command.specs.Numbers.{integers_among}
+use Rattle.rx_rem_command.specs.Forms as forms
+
+abbrev pub asked : Command → forms.Command
+asked (Extract name selection) = forms.extracts name.now selection.start selection.end
+asked Check = forms.checks
+asked (Run turns numbers) = forms.runs turns (integers_among numbers.now)

@@ -1,0 +1,108 @@
+-- The defined answer of words on a text: a status, the bytes for standard output, and the line for standard error.
+use Rattle.std.specs.Prelude.{ℕ, ℤ, ◌≡◌, ◌≢◌, ◌⊎◌, List, [], Option, Some, None, Result, Ok, Err, codes}
+use Rattle.rx_parse.specs.declared.fault.SyntaxFault.{SyntaxFault}
+use Rattle.rx_parse.specs.declared.fault.SyntaxFault.TheVariants as syntax
+use Rattle.rx_tree.specs.Plain.{ProgramTree}
+use Rattle.rx_parse_grammar.specs.grammar.Items.{Parses}
+use Rattle.rx_meaning.specs.declared.outcome.Outcome.{Outcome}
+use Rattle.rx_check.specs.declared.fault.CheckFault.{CheckFault}
+use Rattle.rx_check.specs.declared.fault.CheckFault.TheVariants as check
+use Rattle.rx_check.specs.Passes.{Accepted}
+use Rattle.rx_check.specs.Causes.{Causes, AreOne}
+use Rattle.rx_engine.specs.declared.extraction.Answer.{Answer}
+use Rattle.rx_engine.specs.declared.extraction.Fault.{Fault}
+use Rattle.rx_engine.specs.Verdict.{IsUnread, Extracts}
+use Rattle.rx_rem_command.specs.declared.status.Status.{Status}
+use Rattle.rx_rem_command.specs.declared.status.Status.TheVariants.{Done, Usage, NotAccepted, OutOfMemory}
+use Rattle.rx_rem_command.specs.Forms.{Command, extracts, checks, runs, command_of}
+use Rattle.rx_rem_command.specs.Lines.{status_line, fault_status, syntax_line, fault_line}
+use Rattle.rx_rem_command.specs.CheckLines.{line_of_check}
+use Rattle.rx_rem_command.specs.RunLines.{end_status, end_line}
+use Rattle.rx_rem_command.specs.Runs.{Does}
+
+abbrev pub result_status : Result Answer Fault → Status
+result_status (Ok a) = Done
+result_status (Err f) = fault_status f
+
+abbrev pub result_bytes : Result Answer Fault → List ℕ
+result_bytes (Ok a) = a.text
+result_bytes (Err f) = []
+
+abbrev pub result_line : Result Answer Fault → List ℕ
+result_line (Ok a) = []
+result_line (Err f) = fault_line f
+
+-- these are of a result of the extraction of an accepted text, which is no want of memory
+pub record Obtained (text name : List ℕ) (start end : ℕ) (status : Status) (out err : List ℕ) : Type 0 where
+  pub result : Result Answer Fault
+  pub extracts : Extracts text start end name result
+  pub found : status ≡ OutOfMemory → ⊥
+  pub status_is : status ≡ result_status result
+  pub out_is : out ≡ result_bytes result
+  pub err_is : err ≡ result_line result
+
+-- the text is a program that is accepted
+pub record IsAccepted (text : List ℕ) : Type 0 where
+  pub program : ProgramTree
+  pub parses : Parses text program
+  pub accepted : Accepted program
+
+-- these are of a program, which is accepted or has this fault
+pub data Judged (p : ProgramTree) : Status → List ℕ → List ℕ → Type 0 where
+  passed : Accepted p → Judged p Done (codes "accepted\n") []
+  faulty : (f : CheckFault) → f ≢ check.OutOfMemory → Causes f p → Judged p NotAccepted [] (line_of_check p f)
+
+-- these are of a text, which is no program, for this reason, or is one
+pub data Checked (text : List ℕ) : Status → List ℕ → List ℕ → Type 0 where
+  no_program : (f : SyntaxFault) → IsUnread text f → Checked text NotAccepted [] (syntax_line f)
+  program : {status : Status} {out err : List ℕ} (p : ProgramTree) → Parses text p → Judged p status out err → Checked text status out err
+
+-- these are of a text that is not accepted, as its check answers, or of the extraction from it
+pub data Drawn (text name : List ℕ) (start end : ℕ) : Status → List ℕ → List ℕ → Type 0 where
+  unaccepted : {out err : List ℕ} → Checked text NotAccepted out err → Drawn text name start end NotAccepted out err
+  drawn : {status : Status} {out err : List ℕ} (p : ProgramTree) → Parses text p → Accepted p → Obtained text name start end status out err
+      → Drawn text name start end status out err
+
+-- these are of a text that is not accepted, as its check answers, or of what its program does
+pub data Ran (text : List ℕ) (turns : ℕ) (input : List ℤ) : Status → List ℕ → List ℕ → Type 0 where
+  refused : {out err : List ℕ} → Checked text NotAccepted out err → Ran text turns input NotAccepted out err
+  ran : (p : ProgramTree) → Parses text p → Accepted p → (o : Outcome) → Does p turns input o
+      → Ran text turns input (end_status o.end) o.printed (end_line o.end)
+
+abbrev pub AnswersTo : Option Command → List ℕ → Status → List ℕ → List ℕ → Type 0
+AnswersTo None text status out err = (status ≡ Usage) × (out ≡ []) × (err ≡ status_line Usage)
+AnswersTo (Some (extracts name start end)) text status out err = Drawn text name start end status out err
+AnswersTo (Some checks) text status out err = Checked text status out err
+AnswersTo (Some (runs turns input)) text status out err = Ran text turns input status out err
+
+abbrev pub Defined : List (List ℕ) → List ℕ → Status → List ℕ → List ℕ → Type 0
+Defined words text status out err = AnswersTo (command_of words) text status out err
+
+-- the line says where the tokens of a text stop, because of their depth or at all
+abbrev pub SaysTooDeep : List ℕ → Type 0
+SaysTooDeep line = (at : ℕ) × (line ≡ syntax_line (syntax.TooDeep at))
+
+abbrev pub SaysStop : List ℕ → Type 0
+SaysStop line = ((at : ℕ) × (line ≡ syntax_line (syntax.Syntax at))) ⊎ SaysTooDeep line
+
+-- two lines are one, or both say where the same tokens stop, one of them because of their depth
+abbrev pub AreOneLine : List ℕ → List ℕ → Type 0
+AreOneLine a b = (a ≡ b) ⊎ (SaysStop a × SaysStop b × (SaysTooDeep a ⊎ SaysTooDeep b))
+
+-- two lines say faults of one program, which are of one pass: those of types need not be one, nor the values that a match
+-- misses
+pub record AreFaultLines (text a b : List ℕ) : Type 0 where
+  pub program : ProgramTree
+  pub parses : Parses text program
+  pub one : CheckFault
+  pub other : CheckFault
+  pub cause_one : Causes one program
+  pub cause_other : Causes other program
+  pub alike : AreOne one other
+  pub line_one : a ≡ line_of_check program one
+  pub line_other : b ≡ line_of_check program other
+
+-- the lines of two defined answers
+abbrev pub AreLines : Option Command → List ℕ → List ℕ → List ℕ → Type 0
+AreLines None text a b = AreOneLine a b
+AreLines _ text a b = AreOneLine a b ⊎ AreFaultLines text a b

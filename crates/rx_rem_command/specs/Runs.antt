@@ -1,0 +1,17 @@
+-- What a program does on an input, with a number of turns: the outcome of the meaning, with its types.
+use Rattle.std.specs.Prelude.{◌≡◌, ℕ, ℤ, List}
+use Rattle.rx_tree.specs.Plain.{ProgramTree}
+use Rattle.rx_resolve.specs.declared.resolved.ItemNames.{ItemNames}
+use Rattle.rx_resolve.specs.Causes.{Meant}
+use Rattle.rx_typeck.specs.declared.typed.Typed.{Typed}
+use Rattle.rx_typeck.specs.Typing.{IsTyped}
+use Rattle.rx_meaning.specs.declared.outcome.Outcome.{Outcome}
+use Rattle.rx_meaning.specs.Programs.{run}
+use Rattle.rx_machine.specs.Functions.{program_of}
+
+pub record Does (p : ProgramTree) (turns : ℕ) (input : List ℤ) (o : Outcome) : Type 0 where
+  pub names : List ItemNames
+  pub meant : Meant p names
+  pub types : Typed
+  pub typed : IsTyped p names types
+  pub outcome : o ≡ run (program_of p types.functions) input turns

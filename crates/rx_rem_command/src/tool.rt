@@ -1,0 +1,65 @@
+//! The tool: words and a text in, a status, an answer and a line out.
+
+ghost use Rattle.std.specs.Prelude.{◌≡◌, ◌≤◌, ◌⊎◌, List as ListOf, ℕ, None, length};
+ghost use Rattle.rx_rem_command.specs.Asked.{asked};
+ghost use Rattle.rx_rem_command.specs.Forms.{command_of};
+ghost use Rattle.rx_rem_command.specs.Replies.{Ending, Found, Replies, sink_state, source_state};
+
+use crate::checking::check_text;
+use crate::extracting::extract_text;
+use crate::reply::report_name;
+use crate::running::run_text;
+use crate::status::Status;
+use crate::words::{Command, read_words};
+use rx_core::{List, ReadFail, Sink, Source, Text, read_all};
+use std::alloc::Global;
+
+/// The bytes of a text at most.
+const TEXT_LIMIT: usize = 1_048_576;
+
+/// Does what a command asks for a text.
+fn answer<O: Sink, E: Sink>(
+    alloc: Global,
+    out: &mut O,
+    err: &mut E,
+    text: &[u8],
+    command: Command<'_>,
+) -> Status
+    requires { length text.now ≤ 1048576 }
+    ensures { (status : Status) × (outs : ListOf ℕ) × (errs : ListOf ℕ) × Found (asked command.entry) text.now status outs errs
+        × Ending (sink_state O.contents O.faults O.standstills out.old) (sink_state O.contents O.faults O.standstills out.new)
+        (sink_state E.contents E.faults E.standstills err.old) (sink_state E.contents E.faults E.standstills err.new) status outs errs result }
+{
+    match command {
+        Command::Extract { name, selection } => {
+            extract_text(alloc, out, err, text, selection, name)
+        }
+        Command::Check => check_text(alloc, out, err, text),
+        Command::Run { turns, numbers } => run_text(alloc, out, err, text, turns, numbers),
+    }
+}
+
+/// Does what the words ask for: reads the text of `source`, and writes the answer to `out`, or a line that says why
+/// there is none to `err`. It writes to `out` only once all that it writes there is computed.
+pub fn rem<S: Source, O: Sink, E: Sink>(
+    alloc: Global,
+    words: &List<Text>,
+    source: &mut S,
+    out: &mut O,
+    err: &mut E,
+) -> Status
+    ensures replies { Replies words.now (source_state S.remaining S.faults source.old) (source_state S.remaining S.faults source.new)
+        (sink_state O.contents O.faults O.standstills out.old) (sink_state O.contents O.faults O.standstills out.new)
+        (sink_state E.contents E.faults E.standstills err.old) (sink_state E.contents E.faults E.standstills err.new) result }
+    ensures unread { command_of words.now ≡ None → source.new ≡ source.old }
+{
+    let Some(command) = read_words(words.as_slice()) else {
+        return report_name(err, Status::Usage);
+    };
+    match read_all(alloc, source, TEXT_LIMIT) {
+        Ok(text) => answer(alloc, out, err, text.as_slice(), command),
+        Err(ReadFail::ReadFault) => report_name(err, Status::ReadFault),
+        Err(ReadFail::TooLong) => report_name(err, Status::TooLong),
+        Err(ReadFail::OutOfMemory) => report_name(err, Status::OutOfMemory),
+    }
+}

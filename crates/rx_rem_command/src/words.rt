@@ -1,0 +1,91 @@
+//! The words of the command line, read by their position.
+
+ghost use Rattle.std.specs.Prelude.{◌≡◌, ◌∷◌, option_map};
+ghost use Rattle.rx_rem_command.specs.Numbers.{integers_of};
+ghost use Rattle.rx_rem_command.specs.Forms.{command_of, check_of, extract_of, run_of, runs_of};
+ghost use Rattle.rx_rem_command.specs.Asked.{asked};
+
+use crate::numbers::{are_integers, number};
+use rx_core::Text;
+use rx_engine::Selection;
+
+/// What the words ask for.
+#[derive(Clone, Copy)]
+pub enum Command<'w> {
+    /// The run that a range of bytes selects becomes a function of this name.
+    Extract { name: &'w str, selection: Selection },
+    /// Whether the text is accepted.
+    Check,
+    /// What its program does in so many turns, where these integers are its input.
+    Run { turns: u64, numbers: &'w [Text] },
+}
+
+fn check_words<'w>(words: &'w [Text]) -> Option<Command<'w>>
+    ensures { option_map asked result ≡ check_of words.entry.now }
+{
+    if words.is_empty() {
+        Some(Command::Check)
+    } else {
+        None
+    }
+}
+
+fn extract_words<'w>(words: &'w [Text]) -> Option<Command<'w>>
+    ensures { option_map asked result ≡ extract_of words.entry.now }
+{
+    match words {
+        [name, start, end] => {
+            match (
+                number(start.as_str().as_bytes()),
+                number(end.as_str().as_bytes()),
+            ) {
+                (Some(start), Some(end)) => Some(Command::Extract {
+                    name: name.as_str(),
+                    selection: Selection { start, end },
+                }),
+                _ => None,
+            }
+        }
+        _ => None,
+    }
+}
+
+/// A run of so many turns, where all words behind them are integers.
+fn run_with<'w>(turns: Option<u64>, numbers: &'w [Text]) -> Option<Command<'w>>
+    ensures { option_map asked result ≡ runs_of turns (integers_of numbers.entry.now) }
+{
+    match turns {
+        Some(turns) if are_integers(numbers) => Some(Command::Run { turns, numbers }),
+        _ => None,
+    }
+}
+
+fn run_words<'w>(words: &'w [Text]) -> Option<Command<'w>>
+    ensures { option_map asked result ≡ run_of words.entry.now }
+{
+    let (turns, numbers) = words.split_first()?;
+    run_with(number(turns.as_str().as_bytes()), numbers)
+}
+
+/// What a verb asks for, with the words behind it.
+fn verb_words<'w>(verb: &str, words: &'w [Text]) -> Option<Command<'w>>
+    ensures { option_map asked result ≡ command_of (verb.now ∷ words.entry.now) }
+{
+    if verb == "check" {
+        check_words(words)
+    } else if verb == "extract" {
+        extract_words(words)
+    } else if verb == "run" {
+        run_words(words)
+    } else {
+        None
+    }
+}
+
+/// What the words after the program's name ask for, or `None` where they have no form.
+pub fn read_words(words: &[Text]) -> Option<Command<'_>>
+    ensures { option_map asked result ≡ command_of words.now }
+{
+    let (verb, words) = words.split_first()?;
+    verb_words(verb.as_str(), words)
+}

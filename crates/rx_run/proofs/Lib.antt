@@ -1,2 +1,0 @@
-pub mod TypedLemmas
-pub mod TableLemmas

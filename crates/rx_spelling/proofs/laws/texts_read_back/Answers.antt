@@ -1,5 +1,0 @@
-use Rattle.rx_spelling.proofs.Spelling.{text_reads_back}
-use Rattle.rx_spelling.proofs.laws.texts_read_back.Goals as goal
-
-pub returns : goal.returns
-returns c = text_reads_back

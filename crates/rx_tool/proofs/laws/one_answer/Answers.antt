@@ -1,6 +1,0 @@
--- A text has one tree, so two results of its extraction agree, and two of its check; and a program has one outcome.
-use Rattle.rx_tool.proofs.Agreement.{defined_agree}
-use Rattle.rx_tool.proofs.laws.one_answer.Goals as goal
-
-pub returns : goal.returns
-returns c = defined_agree c.passed_or_faulty.ensures.accepted c.causes_are_one.ensures c.one_typed_program.ensures

@@ -1,9 +1,0 @@
--- By the cases of the definition.
-use Rattle.rx_tool.proofs.RunLemmas.{run_defined, refusal_defined}
-use Rattle.rx_tool.proofs.laws.runs_are_defined.Goals as goal
-
-pub returns-clause-accepted : goal.returns-clause-accepted
-returns-clause-accepted c = run_defined
-
-pub returns-clause-refused : goal.returns-clause-refused
-returns-clause-refused c = refusal_defined

@@ -1,8 +1,0 @@
--- The words and the numbers so far are written.
-use Rattle.std.proofs.Common.{◌≡◌, ◌++◌, take}
-use Rattle.std.specs.Prelude.{codes}
-use Rattle.rx_tool.specs.Lines.{with_numbers}
-use Rattle.rx_tool.proofs.line.line.Given as goal
-
-abbrev pub invariant-loop-n : goal.invariant-loop-n
-invariant-loop-n l = l.line ≡ codes "error: " ++ with_numbers l.words (take l.n-index l.numbers)

@@ -1,8 +1,0 @@
--- The words so far are integers, so all are where the rest is.
-use Rattle.std.proofs.Common.{◌≡◌, drop}
-use Rattle.std.specs.Option.{is_some}
-use Rattle.rx_tool.specs.Numbers.{integers_of}
-use Rattle.rx_tool.proofs.numbers.are_integers.Given as goal
-
-abbrev pub invariant-loop-word : goal.invariant-loop-word
-invariant-loop-word l = is_some (integers_of (drop l.word-index l.words)) ≡ is_some (integers_of l.words)

@@ -1,7 +1,0 @@
--- What is made, and the numbers among the rest, are the numbers among all.
-use Rattle.std.proofs.Common.{◌≡◌, ◌++◌, drop}
-use Rattle.rx_tool.specs.Numbers.{integers_among}
-use Rattle.rx_tool.proofs.numbers.integers.Given as goal
-
-abbrev pub invariant-loop-word : goal.invariant-loop-word
-invariant-loop-word l = l.all.items ++ integers_among (drop l.word-index l.words) ≡ integers_among l.words

@@ -1,0 +1,11 @@
+use Rattle.std.proofs.Common.{refl}
+use Rattle.std.proofs.lemmas.Result.{IfOk-weaker}
+use Rattle.rx_typed.specs.Types.{integer}
+use Rattle.rx_typeck_solver.specs.declared.arena.Form.TheVariants as form
+use Rattle.rx_typeck_solver.specs.Solver.{Fixed}
+use Rattle.rx_typeck_solver.specs.Cells.{one}
+use Rattle.rx_typeck_solver.proofs.Adding.{added}
+use Rattle.rx_typeck_solver.proofs.arena.Arena.fixed.Goals as goal
+
+pub returns : goal.returns
+returns c = IfOk-weaker c.add.result _ _ (λ i h. λ sizes n b. added sizes n c.args.self.now.entries.items c.add.new.self.entries.items (record { form = form.Fixed c.args.kind; parts = 1; levels = 1 }) i (one (integer (Fixed c.args.kind))) b h.0 h.1 tt refl refl refl) c.add.ensures

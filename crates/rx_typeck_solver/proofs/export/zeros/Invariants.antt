@@ -1,0 +1,5 @@
+use Rattle.std.proofs.Common.{◌≡◌, replicate}
+use Rattle.rx_typeck_solver.proofs.export.zeros.Given as goal
+
+abbrev pub invariant-loop-zero : goal.invariant-loop-zero
+invariant-loop-zero l = l.zeros.items ≡ replicate l._zero 0

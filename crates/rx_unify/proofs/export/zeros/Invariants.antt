@@ -1,5 +1,0 @@
-use Rattle.std.proofs.Common.{◌≡◌, replicate}
-use Rattle.rx_unify.proofs.export.zeros.Given as goal
-
-abbrev pub invariant-loop-zero : goal.invariant-loop-zero
-invariant-loop-zero l = l.zeros.items ≡ replicate l._zero 0

@@ -1,5 +1,0 @@
-use Rattle.rx_unify.proofs.Looking as looking
-use Rattle.rx_unify.proofs.looks.is_mutable.Goals as goal
-
-pub returns : goal.returns
-returns c = looking.mutable_is c.args.arena.now.entries.items c.requires.formed c.args.of c.form.result c.requires.term c.form.ensures _ c.mutable_form.ensures

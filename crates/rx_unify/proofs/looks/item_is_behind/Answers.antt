@@ -1,6 +1,0 @@
-use Rattle.rx_unify.specs.Cells.{term}
-use Rattle.rx_unify.proofs.Looking as looking
-use Rattle.rx_unify.proofs.looks.item_is_behind.Goals as goal
-
-pub returns : goal.returns
-returns c = looking.item_is c.args.arena.now.entries.items c.requires.formed c.peeled.result c.form.result c.peeled.ensures.term c.form.ensures _ c.args.item (term c.args.arena.now.entries.items c.args.of) c.item_form.ensures c.peeled.ensures.value

@@ -1,6 +1,0 @@
-use Rattle.std.proofs.Common.{rules, ◌≡◌, ◌<◌, length, ℕ}
-use Rattle.rx_unify.proofs.Viewing as viewing
-use Rattle.rx_unify.proofs.solver.Solved.part.Goals as goal
-
-pub returns : goal.returns
-returns c = viewing.part_seen c.args.self.now c.args.entry c.args.number c.part_behind.result c.part_behind.ensures

@@ -1,5 +1,0 @@
-use Rattle.rx_unify.proofs.Units.{unit_tuple}
-use Rattle.rx_unify.proofs.tests.is_nothing.Goals as goal
-
-pub returns : goal.returns
-returns c = unit_tuple c.args.parts.now
