@@ -7,20 +7,20 @@ use Rattle.rx_tree.specs.Lists.{Every}
 use Rattle.rx_tree.specs.Nodes.{total, nodes, below_item}
 use Rattle.rx_tree.specs.Size.{bindings_at, IsNumbered}
 use Rattle.rx_tree.proofs.NodesLaws.{total_both}
-use Rattle.rx_resolve.specs.declared.resolved.ItemNames.{ItemNames}
-use Rattle.rx_resolve.specs.Steps as names
-use Rattle.rx_resolve.specs.Items.{apart, in_item, in_items}
-use Rattle.rx_resolve.specs.Causes.{Meant}
+use Rattle.rx_resolve_names.specs.declared.resolved.ItemNames.{ItemNames}
+use Rattle.rx_resolve_names.specs.Steps as names
+use Rattle.rx_resolve_names.specs.Items.{apart, in_item, in_items}
+use Rattle.rx_resolve_names.specs.Causes.{Meant}
 use Rattle.rx_typed.specs.declared.declarations.Decl.{Decl}
 use Rattle.rx_typed.specs.Naming.{function_named}
 use Rattle.rx_typeck_solver.specs.Facts.{MeetsEach}
 use Rattle.rx_typeck_rules.specs.Demands as rules
 use Rattle.rx_typeck_declare.specs.Steps.{on_ok}
 use Rattle.rx_typeck_declare.specs.Items.{declared_item, declared_items, entries_of}
-use Rattle.rx_typeck.specs.declared.typed.TypedFn.{TypedFn}
-use Rattle.rx_typeck.specs.declared.typed.Typed.{Typed}
-use Rattle.rx_typeck.specs.Typing as typing
-use Rattle.rx_typeck.specs.Typing.{Given, known_in, entries, FunctionsTyped}
+use Rattle.rx_typeck_typed.specs.declared.typed.TypedFn.{TypedFn}
+use Rattle.rx_typeck_typed.specs.declared.typed.Typed.{Typed}
+use Rattle.rx_typeck_typed.specs.Typing as typing
+use Rattle.rx_typeck_typed.specs.Typing.{Given, known_in, entries, FunctionsTyped}
 use Rattle.rx_first_check.specs.Accepted.{functions, signatures, IsTyped, Accepted}
 use Rattle.rx_first_check.specs.FirstGrammar.{is_first_function, is_first_item, is_first_program}
 use Rattle.rx_agreement.proofs.Expressions.{resolved, and_true, Callees}

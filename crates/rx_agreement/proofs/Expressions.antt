@@ -8,11 +8,11 @@ use Rattle.rx_tree.specs.declared.tree.BinaryOp.{BinaryOp}
 use Rattle.rx_tree.specs.Plain as plain
 use Rattle.rx_tree.specs.Plain.{Expression, Expressions, ProgramTree}
 use Rattle.rx_resolve_scope.specs.Scopes.{Variables, variable_named}
-use Rattle.rx_resolve.specs.declared.resolved.ItemNames.{ItemNames}
-use Rattle.rx_resolve.specs.declared.resolved.NodeNames.{NodeNames}
-use Rattle.rx_resolve.specs.Meant.{function_name, item_named, as_function, Around}
-use Rattle.rx_resolve.specs.Steps.{Outcome, and_then, Inside, known, one, child, next, position, entry, with_names, names}
-use Rattle.rx_resolve.specs.Names.{callee, in_expression, in_expressions}
+use Rattle.rx_resolve_names.specs.declared.resolved.ItemNames.{ItemNames}
+use Rattle.rx_resolve_names.specs.declared.resolved.NodeNames.{NodeNames}
+use Rattle.rx_resolve_names.specs.Meant.{function_name, item_named, as_function, Around}
+use Rattle.rx_resolve_names.specs.Steps.{Outcome, and_then, Inside, known, one, child, next, position, entry, with_names, names}
+use Rattle.rx_resolve_names.specs.Names.{callee, in_expression, in_expressions}
 use Rattle.rx_typed.specs.declared.nodes.Node.{Node}
 use Rattle.rx_typed.specs.declared.nodes.Site.{Site}
 use Rattle.rx_typed.specs.declared.nodes.Declaration.{Declaration}

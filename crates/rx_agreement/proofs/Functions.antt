@@ -12,12 +12,12 @@ use Rattle.rx_tree.specs.Nodes.{total, below_block}
 use Rattle.rx_tree.specs.Size.{bindings_at}
 use Rattle.rx_resolve_scope.specs.declared.table.Known.{Known as Meant}
 use Rattle.rx_resolve_scope.specs.Scopes.{Declared, Variables, entered}
-use Rattle.rx_resolve.specs.declared.resolved.ItemNames.{ItemNames}
-use Rattle.rx_resolve.specs.declared.resolved.NodeNames.{NodeNames}
-use Rattle.rx_resolve.specs.Meant.{number, Around}
-use Rattle.rx_resolve.specs.Steps.{Outcome, and_then, Inside, child, next, entry, declare, numbered, with_variable, with_names}
-use Rattle.rx_resolve.specs.Names.{Bound, in_type, in_optional_type, in_block}
-use Rattle.rx_resolve.specs.Items.{numbers_from, in_parameter, in_parameters, body_at, in_function}
+use Rattle.rx_resolve_names.specs.declared.resolved.ItemNames.{ItemNames}
+use Rattle.rx_resolve_names.specs.declared.resolved.NodeNames.{NodeNames}
+use Rattle.rx_resolve_names.specs.Meant.{number, Around}
+use Rattle.rx_resolve_names.specs.Steps.{Outcome, and_then, Inside, child, next, entry, declare, numbered, with_variable, with_names}
+use Rattle.rx_resolve_names.specs.Names.{Bound, in_type, in_optional_type, in_block}
+use Rattle.rx_resolve_names.specs.Items.{numbers_from, in_parameter, in_parameters, body_at, in_function}
 use Rattle.rx_typed.specs.declared.nodes.Node.{Node}
 use Rattle.rx_typed.specs.declared.nodes.Site.{Site}
 use Rattle.rx_typed.specs.declared.nodes.Stage.{Stage}

@@ -17,11 +17,11 @@ use Rattle.rx_tree.specs.Nodes.{total, nodes, below_item, below_block, within_pa
 use Rattle.rx_tree.specs.Positions.{a_block}
 use Rattle.rx_tree.specs.Size.{bindings_at}
 use Rattle.rx_tree.proofs.NodesLaws.{total_both}
-use Rattle.rx_resolve.specs.declared.resolved.ItemNames.{ItemNames}
-use Rattle.rx_resolve.specs.declared.resolved.NodeNames.{NodeNames}
-use Rattle.rx_resolve.specs.Meant.{function_name, item_named, as_function, lifetimes_declared, firsts}
-use Rattle.rx_resolve.specs.Meant as meaning
-use Rattle.rx_resolve.specs.Items.{Lists, declared_in, apart, in_item}
+use Rattle.rx_resolve_names.specs.declared.resolved.ItemNames.{ItemNames}
+use Rattle.rx_resolve_names.specs.declared.resolved.NodeNames.{NodeNames}
+use Rattle.rx_resolve_names.specs.Meant.{function_name, item_named, as_function, lifetimes_declared, firsts}
+use Rattle.rx_resolve_names.specs.Meant as meaning
+use Rattle.rx_resolve_names.specs.Items.{Lists, declared_in, apart, in_item}
 use Rattle.rx_typed.specs.declared.declarations.Decl.{Decl}
 use Rattle.rx_typed.specs.declared.declarations.Decl.TheVariants as decl
 use Rattle.rx_typed.specs.Types as types

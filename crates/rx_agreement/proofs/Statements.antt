@@ -10,11 +10,11 @@ use Rattle.rx_tree.specs.Nodes.{total, below_statement, below_block, within_stat
 use Rattle.rx_tree.specs.Size.{bindings_at}
 use Rattle.rx_tree.proofs.NodesLaws.{total_both}
 use Rattle.rx_resolve_scope.specs.Scopes.{Variables}
-use Rattle.rx_resolve.specs.declared.resolved.ItemNames.{ItemNames}
-use Rattle.rx_resolve.specs.declared.resolved.NodeNames.{NodeNames}
-use Rattle.rx_resolve.specs.Meant.{number, Around}
-use Rattle.rx_resolve.specs.Steps.{Outcome, Inside, child, next, entry, with_names, with_variable}
-use Rattle.rx_resolve.specs.Names.{in_expression, in_optional, in_statement, in_statements, in_block, Scoped}
+use Rattle.rx_resolve_names.specs.declared.resolved.ItemNames.{ItemNames}
+use Rattle.rx_resolve_names.specs.declared.resolved.NodeNames.{NodeNames}
+use Rattle.rx_resolve_names.specs.Meant.{number, Around}
+use Rattle.rx_resolve_names.specs.Steps.{Outcome, Inside, child, next, entry, with_names, with_variable}
+use Rattle.rx_resolve_names.specs.Names.{in_expression, in_optional, in_statement, in_statements, in_block, Scoped}
 use Rattle.rx_typed.specs.declared.nodes.Node.{Node}
 use Rattle.rx_typed.specs.declared.nodes.Site.{Site}
 use Rattle.rx_typed.specs.declared.nodes.Stage.{Stage}

@@ -3,10 +3,10 @@
 ghost use Rattle.std.specs.Prelude.{◌≡◌, true, List};
 ghost use Rattle.rx_tree.specs.Plain.{ProgramTree};
 ghost use Rattle.rx_tree.specs.Size.{IsNumbered};
-ghost use Rattle.rx_resolve.specs.declared.resolved.ItemNames.{ItemNames};
-ghost use Rattle.rx_resolve.specs.Causes.{Meant};
-ghost use Rattle.rx_typeck.specs.declared.typed.Typed.{Typed};
-ghost use Rattle.rx_typeck.specs.Typing.{IsTyped};
+ghost use Rattle.rx_resolve_names.specs.declared.resolved.ItemNames.{ItemNames};
+ghost use Rattle.rx_resolve_names.specs.Causes.{Meant};
+ghost use Rattle.rx_typeck_typed.specs.declared.typed.Typed.{Typed};
+ghost use Rattle.rx_typeck_typed.specs.Typing.{IsTyped};
 ghost use Rattle.rx_first_check.specs.Accepted.{Accepted};
 ghost use Rattle.rx_first_check.specs.FirstGrammar.{is_first_program};
 

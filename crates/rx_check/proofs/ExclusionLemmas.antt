@@ -1,18 +1,18 @@
 -- Acceptance and a fault exclude each other, and two faults are of one pass.
 use Rattle.std.proofs.Common.{◌≡◌, ◌≢◌, ℕ, List, refl, ap, subst}
 use Rattle.rx_tree.specs.Plain.{ProgramTree}
-use Rattle.rx_resolve.specs.declared.resolved.ItemNames.{ItemNames}
-use Rattle.rx_resolve.specs.Causes.{Meant}
+use Rattle.rx_resolve_names.specs.declared.resolved.ItemNames.{ItemNames}
+use Rattle.rx_resolve_names.specs.Causes.{Meant}
 use Rattle.rx_graph_cycles.specs.Reaches.{NoCycle}
 use Rattle.rx_typed.specs.Types.{Declarations}
 use Rattle.rx_typed.specs.PlainTypes.{declarations}
 use Rattle.rx_typed_declarations.specs.Held.{held}
 use Rattle.rx_typed_declarations.specs.Sizes.{Sized}
-use Rattle.rx_typeck.specs.declared.typed.Typed.{Typed}
-use Rattle.rx_typeck.specs.declared.typed.TypeFault.{TypeFault}
-use Rattle.rx_typeck.specs.Typing as typing
-use Rattle.rx_typeck.specs.Typing.{IsTyped}
-use Rattle.rx_typeck.specs.Alike.{AreAlike}
+use Rattle.rx_typeck_typed.specs.declared.typed.Typed.{Typed}
+use Rattle.rx_typeck_typed.specs.declared.typed.TypeFault.{TypeFault}
+use Rattle.rx_typeck_typed.specs.Typing as typing
+use Rattle.rx_typeck_typed.specs.Typing.{IsTyped}
+use Rattle.rx_typeck_typed.specs.Alike.{AreAlike}
 use Rattle.rx_cover.specs.declared.covering.CoverFault.{CoverFault}
 use Rattle.rx_lower_lifetimes.specs.declared.whole.LowerFault.{LowerFault}
 use Rattle.rx_facts.specs.declared.fault.InitFault.{InitFault}

@@ -5,15 +5,15 @@ use Rattle.std.proofs.lemmas.Bool.{cases_lt}
 use Rattle.std.specs.Result.{is_ok}
 use Rattle.rx_core.specs.declared.types.Span.{Span}
 use Rattle.rx_tree.specs.Plain.{ProgramTree}
-use Rattle.rx_resolve.specs.declared.resolved.ItemNames.{ItemNames}
-use Rattle.rx_resolve.specs.declared.resolved.Misnamed.{Misnamed}
-use Rattle.rx_resolve.specs.declared.resolved.Misnamed.TheVariants as misnamed
-use Rattle.rx_resolve.specs.declared.resolved.NameFault.{NameFault}
-use Rattle.rx_resolve.specs.declared.resolved.NameFault.TheVariants as name_fault
-use Rattle.rx_resolve.specs.Items.{in_program}
-use Rattle.rx_resolve.specs.Holding.{name_span}
-use Rattle.rx_resolve.specs.Causes.{Meant, FirstHolding, SelfHolding, fault_of, Causes}
-use Rattle.rx_resolve.proofs.WalkLemmas.{ok_is}
+use Rattle.rx_resolve_names.specs.declared.resolved.ItemNames.{ItemNames}
+use Rattle.rx_resolve_names.specs.declared.resolved.Misnamed.{Misnamed}
+use Rattle.rx_resolve_names.specs.declared.resolved.Misnamed.TheVariants as misnamed
+use Rattle.rx_resolve_names.specs.declared.resolved.NameFault.{NameFault}
+use Rattle.rx_resolve_names.specs.declared.resolved.NameFault.TheVariants as name_fault
+use Rattle.rx_resolve_names.specs.Items.{in_program}
+use Rattle.rx_resolve_names.specs.Holding.{name_span}
+use Rattle.rx_resolve_names.specs.Causes.{Meant, FirstHolding, SelfHolding, fault_of, Causes}
+use Rattle.rx_core.proofs.Results.{ok_is}
 
 ok_or_err : {A E : Type 0} (r : Result A E) (a : A) (e : E) → r ≡ Ok a → r ≡ Err e → ⊥
 ok_or_err r a e ok err = true≢false (sym (ap is_ok ok) ∙ ap is_ok err)

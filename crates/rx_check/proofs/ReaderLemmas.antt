@@ -4,7 +4,7 @@ use Rattle.std.specs.Option.{IsSome}
 use Rattle.std.proofs.lemmas.Option.{slice_get_within, slice_get_read}
 use Rattle.std.proofs.lemmas.List.{drop_more}
 use Rattle.std.proofs.lemmas.Bool.Decides.{Decides-eqb}
-use Rattle.rx_typeck.specs.declared.typed.TypedFn.{TypedFn}
+use Rattle.rx_typeck_typed.specs.declared.typed.TypedFn.{TypedFn}
 use Rattle.rx_lower.specs.Functions.{function_at}
 use Rattle.rx_facts.specs.Passing.{Each}
 use Rattle.rx_facts.proofs.Passing.{as_long, each_at}

@@ -1,19 +1,19 @@
 -- Why the check refuses a program: one case a pass, in their order, each with what the passes before it say.
 use Rattle.std.specs.Prelude.{◌≡◌, ◌≢◌, ◌⊎◌, List, [], ◌∷◌, Result, Ok, Err}
 use Rattle.rx_tree.specs.Plain.{ProgramTree}
-use Rattle.rx_resolve.specs.declared.resolved.ItemNames.{ItemNames}
-use Rattle.rx_resolve.specs.declared.resolved.NameFault.{NameFault}
-use Rattle.rx_resolve.specs.declared.resolved.NameFault.TheVariants as name_fault
-use Rattle.rx_resolve.specs.Causes as naming
-use Rattle.rx_resolve.specs.Causes.{Meant}
+use Rattle.rx_resolve_names.specs.declared.resolved.ItemNames.{ItemNames}
+use Rattle.rx_resolve_names.specs.declared.resolved.NameFault.{NameFault}
+use Rattle.rx_resolve_names.specs.declared.resolved.NameFault.TheVariants as name_fault
+use Rattle.rx_resolve_names.specs.Causes as naming
+use Rattle.rx_resolve_names.specs.Causes.{Meant}
 use Rattle.rx_typed.specs.Types.{Declarations}
 use Rattle.rx_typed.specs.PlainTypes.{declarations}
-use Rattle.rx_typeck.specs.declared.typed.Typed.{Typed}
-use Rattle.rx_typeck.specs.declared.typed.TypedFn.{TypedFn}
-use Rattle.rx_typeck.specs.declared.typed.TypeFault.{TypeFault}
-use Rattle.rx_typeck.specs.declared.typed.TypeFault.TheVariants as type_fault
-use Rattle.rx_typeck.specs.Typing as typing
-use Rattle.rx_typeck.specs.Typing.{IsTyped}
+use Rattle.rx_typeck_typed.specs.declared.typed.Typed.{Typed}
+use Rattle.rx_typeck_typed.specs.declared.typed.TypedFn.{TypedFn}
+use Rattle.rx_typeck_typed.specs.declared.typed.TypeFault.{TypeFault}
+use Rattle.rx_typeck_typed.specs.declared.typed.TypeFault.TheVariants as type_fault
+use Rattle.rx_typeck_typed.specs.Typing as typing
+use Rattle.rx_typeck_typed.specs.Typing.{IsTyped}
 use Rattle.rx_cover.specs.declared.covering.CoverFault.{CoverFault}
 use Rattle.rx_cover.specs.declared.covering.CoverFault.TheVariants as cover_fault
 use Rattle.rx_cover.specs.Causes.{AllCovered}

@@ -1,8 +1,8 @@
 -- Faults of the passes as faults of the check: want of memory in a pass is that of the check.
-use Rattle.rx_resolve.specs.declared.resolved.NameFault.{NameFault}
-use Rattle.rx_resolve.specs.declared.resolved.NameFault.TheVariants as name_fault
-use Rattle.rx_typeck.specs.declared.typed.TypeFault.{TypeFault}
-use Rattle.rx_typeck.specs.declared.typed.TypeFault.TheVariants as type_fault
+use Rattle.rx_resolve_names.specs.declared.resolved.NameFault.{NameFault}
+use Rattle.rx_resolve_names.specs.declared.resolved.NameFault.TheVariants as name_fault
+use Rattle.rx_typeck_typed.specs.declared.typed.TypeFault.{TypeFault}
+use Rattle.rx_typeck_typed.specs.declared.typed.TypeFault.TheVariants as type_fault
 use Rattle.rx_cover.specs.declared.covering.CoverFault.{CoverFault}
 use Rattle.rx_cover.specs.declared.covering.CoverFault.TheVariants as cover_fault
 use Rattle.rx_lower_lifetimes.specs.declared.whole.LowerFault.{LowerFault}

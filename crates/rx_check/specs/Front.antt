@@ -2,7 +2,7 @@
 -- where it is accepted, the least sets of points of their lifetimes, and where loans are in scope.
 use Rattle.std.specs.Prelude.{List}
 use Rattle.rx_tree.specs.Plain.{ProgramTree}
-use Rattle.rx_typeck.specs.declared.typed.Typed.{Typed}
+use Rattle.rx_typeck_typed.specs.declared.typed.Typed.{Typed}
 use Rattle.rx_facts.specs.declared.lowering.Lowered.{Lowered}
 use Rattle.rx_facts.specs.declared.finding.ProgramFacts.{ProgramFacts}
 use Rattle.rx_facts.specs.Answers.{AreGraphs, AreFacts}

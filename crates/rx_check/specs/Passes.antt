@@ -2,14 +2,14 @@
 -- covered, its graph is within the limits, it is initialised, and some sets of points accept its lifetimes and loans.
 use Rattle.std.specs.Prelude.{ℕ, List, [], ◌∷◌}
 use Rattle.rx_tree.specs.Plain.{ProgramTree}
-use Rattle.rx_resolve.specs.declared.resolved.ItemNames.{ItemNames}
-use Rattle.rx_resolve.specs.Causes.{Meant}
+use Rattle.rx_resolve_names.specs.declared.resolved.ItemNames.{ItemNames}
+use Rattle.rx_resolve_names.specs.Causes.{Meant}
 use Rattle.rx_typed.specs.Types.{Declarations}
 use Rattle.rx_typed.specs.PlainTypes.{declarations}
 use Rattle.rx_typed_tree.specs.PlainTree.{plain-Expr}
-use Rattle.rx_typeck.specs.declared.typed.Typed.{Typed}
-use Rattle.rx_typeck.specs.declared.typed.TypedFn.{TypedFn}
-use Rattle.rx_typeck.specs.Typing.{IsTyped}
+use Rattle.rx_typeck_typed.specs.declared.typed.Typed.{Typed}
+use Rattle.rx_typeck_typed.specs.declared.typed.TypedFn.{TypedFn}
+use Rattle.rx_typeck_typed.specs.Typing.{IsTyped}
 use Rattle.rx_typed_declarations.specs.Sizes.{Sized}
 use Rattle.rx_cover.specs.Choices.{Choice, choices_of}
 use Rattle.rx_cover.specs.Causes.{AllCovered}

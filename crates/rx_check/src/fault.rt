@@ -7,8 +7,8 @@ use rx_check_loans::{LoanFault, RegionFault};
 use rx_cover::CoverFault;
 use rx_facts::InitFault;
 use rx_lower_lifetimes::LowerFault;
-use rx_resolve::NameFault;
-use rx_typeck::TypeFault;
+use rx_resolve_names::NameFault;
+use rx_typeck_typed::TypeFault;
 
 /// Why a program is not accepted. No `OutOfMemory` stands inside another fault.
 #[derive(Drop)]

@@ -4,7 +4,7 @@ ghost use Rattle.std.specs.Prelude.{◌≡◌, ◌<◌, ℕ, List as ListOf, len
 ghost use Rattle.std.specs.Option.{IsSome};
 ghost use Rattle.rx_core.specs.declared.types.Bound.{Bound};
 ghost use Rattle.rx_typed.specs.PlainTypes.{declarations};
-ghost use Rattle.rx_typeck.specs.declared.typed.TypedFn.{TypedFn as FnOf};
+ghost use Rattle.rx_typeck_typed.specs.declared.typed.TypedFn.{TypedFn as FnOf};
 ghost use Rattle.rx_typed_declarations.specs.Sizes.{Sized, told};
 ghost use Rattle.rx_facts_parts.specs.Layouts.{plain-Frame, IsSized};
 ghost use Rattle.rx_lower_lifetimes.specs.Answer.{IsLowered};
@@ -28,7 +28,7 @@ use rx_loan::LoanTable;
 use rx_lower::trimmed;
 use rx_lower_lifetimes::Graph;
 use rx_region::Regions;
-use rx_typeck::{Typed, TypedFn};
+use rx_typeck_typed::{Typed, TypedFn};
 use std::marker::Model;
 
 /// What the passes up to initialisation know of a program that they accept.
@@ -41,7 +41,7 @@ pub struct FrontEnd {
 
 impl Model for FrontEnd {
     ghost use Rattle.std.specs.Coded.{codes};
-    ghost use Rattle.rx_typeck.specs.contracts.typed.Typed.{the_row as typed_row};
+    ghost use Rattle.rx_typeck_typed.specs.contracts.typed.Typed.{the_row as typed_row};
     ghost use Rattle.rx_facts.specs.contracts.lowering.Lowered.{the_row as lowered_row};
     ghost use Rattle.rx_facts.specs.contracts.finding.ProgramFacts.{the_row as facts_row};
     ghost use Rattle.rx_check.specs.Front.{Front, IsFronted};
@@ -137,7 +137,7 @@ pub struct Checked {
 
 impl Model for Checked {
     ghost use Rattle.std.specs.Coded.{codes};
-    ghost use Rattle.rx_typeck.specs.contracts.typed.Typed.{the_row as typed_row};
+    ghost use Rattle.rx_typeck_typed.specs.contracts.typed.Typed.{the_row as typed_row};
     ghost use Rattle.rx_facts.specs.contracts.lowering.Lowered.{the_row as lowered_row};
     ghost use Rattle.rx_facts.specs.contracts.finding.ProgramFacts.{the_row as facts_row};
     ghost use Rattle.rx_check_loans.specs.contracts.regions.FunctionRegions.{the_row as regions_row};

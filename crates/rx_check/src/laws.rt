@@ -8,7 +8,7 @@ ghost use Rattle.rx_check.specs.Causes.{Causes, PassCauses, AreOne};
 ghost use Rattle.rx_check.specs.Passes.{Fronted, Accepted};
 
 use rx_facts::one_typing;
-use rx_typeck::{one_typed_program, typed_declarations_are_finite, typed_or_wrong};
+use rx_typeck_typed::{one_typed_program, typed_declarations_are_finite, typed_or_wrong};
 use rx_typed_declarations::one_size_each;
 
 /// A program that the passes up to initialisation accept has no fault of these, and one that is accepted has none at all.

@@ -4,7 +4,7 @@ ghost use Rattle.std.specs.Prelude.{◌≡◌, ◌≢◌, IfOk, IfErr, map};
 ghost use Rattle.rx_tree.specs.Plain.{ProgramTree};
 ghost use Rattle.rx_tree.specs.PlainOf.{plain-Program};
 ghost use Rattle.rx_tree.specs.Size.{IsNumbered};
-ghost use Rattle.rx_resolve.specs.Causes.{Meant};
+ghost use Rattle.rx_resolve_names.specs.Causes.{Meant};
 ghost use Rattle.rx_graph_cycles.specs.Reaches.{NoCycle};
 ghost use Rattle.rx_typed_declarations.specs.Held.{held};
 ghost use Rattle.rx_typed.specs.PlainTypes.{declarations};
@@ -25,9 +25,11 @@ use rx_check_loans::{FunctionLoans, FunctionRegions, all_loans, all_regions};
 use rx_core::{LetGo, List, keep};
 use rx_cover::{CoverFault, covers};
 use rx_facts::{Lowered, ProgramFacts, facts, lower_all};
-use rx_resolve::{Resolved, resolve};
+use rx_resolve::resolve;
+use rx_resolve_names::Resolved;
 use rx_tree::Program;
-use rx_typeck::{Typed, typecheck, typed_declarations_are_finite};
+use rx_typeck::typecheck;
+use rx_typeck_typed::{Typed, typed_declarations_are_finite};
 use std::alloc::Global;
 
 /// Whether the matches of all functions are covered; else what is wrong with the first that is not, functions in order.

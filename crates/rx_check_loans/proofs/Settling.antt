@@ -18,8 +18,8 @@ use Rattle.rx_region.specs.Passing.{IsFirst}
 use Rattle.rx_loan_check.specs.Accepted.{IsAccepted}
 use Rattle.rx_loan_check.specs.Answer.{IsForbidden}
 use Rattle.rx_loan_check.proofs.Found.{missing_or_accepted, forbidden_or_accepted}
-use Rattle.rx_typeck.specs.declared.typed.Typed.{Typed}
-use Rattle.rx_typeck.specs.declared.typed.TypedFn.{TypedFn}
+use Rattle.rx_typeck_typed.specs.declared.typed.Typed.{Typed}
+use Rattle.rx_typeck_typed.specs.declared.typed.TypedFn.{TypedFn}
 use Rattle.rx_facts.specs.Functions.{sites_of, span_of}
 use Rattle.rx_facts.specs.Passing.{AllAre, Each, FirstNot}
 use Rattle.rx_facts.specs.Same.{SameFunction, AreSame}

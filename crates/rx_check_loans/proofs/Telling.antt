@@ -6,8 +6,8 @@ use Rattle.rx_lower_emit.specs.declared.site.Site as code_site
 use Rattle.rx_lower_emit.specs.PlainSite.{plain-Site}
 use Rattle.rx_core.specs.declared.types.Bound.{Bound}
 use Rattle.rx_typed.specs.declared.declarations.Decl.{Decl}
-use Rattle.rx_typeck.specs.declared.typed.Typed.{Typed}
-use Rattle.rx_typeck.specs.declared.typed.TypedFn.{TypedFn}
+use Rattle.rx_typeck_typed.specs.declared.typed.Typed.{Typed}
+use Rattle.rx_typeck_typed.specs.declared.typed.TypedFn.{TypedFn}
 use Rattle.rx_lower_graph.specs.Graph.{Site, site_at}
 use Rattle.rx_lower_lifetimes.specs.declared.numbering.Own.{Own}
 use Rattle.rx_lower_lifetimes.specs.PlainOwn.{plain-Own}

@@ -2,8 +2,8 @@
 use Rattle.std.specs.Prelude.{ℕ, List, Result, Ok, Err}
 use Rattle.rx_core.specs.declared.types.Bound.{Bound}
 use Rattle.rx_typed.specs.declared.declarations.Decl.{Decl}
-use Rattle.rx_typeck.specs.declared.typed.Typed.{Typed}
-use Rattle.rx_typeck.specs.declared.typed.TypedFn.{TypedFn}
+use Rattle.rx_typeck_typed.specs.declared.typed.Typed.{Typed}
+use Rattle.rx_typeck_typed.specs.declared.typed.TypedFn.{TypedFn}
 use Rattle.rx_facts.specs.Passing.{AllAre, Each, FirstNot}
 use Rattle.rx_check_loans.specs.Contexts.{AreAsked}
 use Rattle.rx_check_loans.specs.Functions.{LacksNone, LacksPair, AreRegionsOf, Borrows, MeetsLoan, AreLoansOf}

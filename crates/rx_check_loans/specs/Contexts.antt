@@ -8,7 +8,7 @@ use Rattle.rx_region_outlives.specs.Implied.{ImpliesOf}
 use Rattle.rx_lower_lifetimes.specs.Lowered.{lifetimes}
 use Rattle.rx_lower.specs.Functions.{function}
 use Rattle.rx_region_solutions.specs.Constraints.{Context}
-use Rattle.rx_typeck.specs.declared.typed.TypedFn.{TypedFn}
+use Rattle.rx_typeck_typed.specs.declared.typed.TypedFn.{TypedFn}
 
 -- of each item, a list of exactly the pairs of its lifetimes that its fields ask
 abbrev pub AreAsked : List Decl → (ℕ → List Bound) → Type 0

@@ -9,7 +9,7 @@ use Rattle.rx_region_solutions.specs.Known.{Missing}
 use Rattle.rx_region.specs.Passing.{IsFirst, RegionAnswer}
 use Rattle.rx_loan_check.specs.Accepted.{IsAccepted}
 use Rattle.rx_loan_check.specs.Answer as borrows
-use Rattle.rx_typeck.specs.declared.typed.TypedFn.{TypedFn}
+use Rattle.rx_typeck_typed.specs.declared.typed.TypedFn.{TypedFn}
 use Rattle.rx_facts.specs.Functions.{sites_of, span_of}
 use Rattle.rx_check_loans.specs.Contexts.{context_of}
 use Rattle.rx_check_loans.specs.declared.regions.FunctionRegions.{FunctionRegions}

@@ -3,11 +3,11 @@
 ghost use Rattle.std.specs.Prelude.{ℕ, List};
 ghost use Rattle.rx_core.specs.declared.types.Bound.{Bound};
 ghost use Rattle.rx_tree.specs.Plain.{ProgramTree};
-ghost use Rattle.rx_resolve.specs.declared.resolved.ItemNames.{ItemNames};
+ghost use Rattle.rx_resolve_names.specs.declared.resolved.ItemNames.{ItemNames};
 ghost use Rattle.rx_typed.specs.declared.declarations.Decl.{Decl};
-ghost use Rattle.rx_typeck.specs.declared.typed.Typed.{Typed};
-ghost use Rattle.rx_typeck.specs.declared.typed.TypedFn.{TypedFn};
-ghost use Rattle.rx_typeck.specs.Typing.{IsTyped};
+ghost use Rattle.rx_typeck_typed.specs.declared.typed.Typed.{Typed};
+ghost use Rattle.rx_typeck_typed.specs.declared.typed.TypedFn.{TypedFn};
+ghost use Rattle.rx_typeck_typed.specs.Typing.{IsTyped};
 ghost use Rattle.rx_region_solutions.specs.Solutions.{Sets, AreLeast};
 ghost use Rattle.rx_facts.specs.Functions.{sites_of};
 ghost use Rattle.rx_check_loans.specs.Contexts.{AreAsked, context_of};

@@ -17,7 +17,7 @@ use rx_facts::Lowered;
 use rx_loan::LoanTable;
 use rx_loan_check::{BorrowFault, check_loans};
 use rx_lower_emit::Site;
-use rx_typeck::{Typed, TypedFn};
+use rx_typeck_typed::{Typed, TypedFn};
 use std::alloc::Global;
 
 /// The loans of a function, and where each is in scope.

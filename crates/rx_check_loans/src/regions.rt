@@ -15,7 +15,7 @@ use rx_facts::{FunctionFacts, Lowered, ProgramFacts};
 use rx_region::{RegionFault as PairFault, Regions, check_regions};
 use rx_region_constraints::Given;
 use rx_region_outlives::{Implied, implied_by_fields};
-use rx_typeck::{Typed, TypedFn};
+use rx_typeck_typed::{Typed, TypedFn};
 use rx_typed::Decls;
 use std::alloc::Global;
 

@@ -17,7 +17,7 @@ use Rattle.rx_lower_lifetimes.specs.Numbered as numbered
 use Rattle.rx_lower_lifetimes.specs.Numbered.{Own, signed, own_of, all_owned, all_open, all_numbered}
 use Rattle.rx_lower_lifetimes.specs.Positions.{own_lifetimes}
 use Rattle.rx_lower_lifetimes.specs.Lowered.{Lifetimes, parameters, bounds_of, lifetimes_by, lifetimes}
-use Rattle.rx_typeck.specs.declared.typed.TypedFn.{TypedFn}
+use Rattle.rx_typeck_typed.specs.declared.typed.TypedFn.{TypedFn}
 use Rattle.rx_lower.specs.Functions.{trimmed, written, function}
 use Rattle.rx_facts.specs.Functions.{body}
 use Rattle.rx_facts.specs.Same.{SameFunction}

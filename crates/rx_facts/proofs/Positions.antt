@@ -21,7 +21,7 @@ use Rattle.rx_lower_lifetimes.specs.Values.{Open, Known, Held, lifetimes_of, roo
 use Rattle.rx_lower_lifetimes.specs.Variables.{Written, parameter_type, written_type, told, open_type, open_types}
 use Rattle.rx_lower_lifetimes.specs.Positions.{own_lifetimes, all_own, in_variables, in_held, positions}
 use Rattle.rx_lower_lifetimes.specs.Lowered.{parameters, known, actions}
-use Rattle.rx_typeck.specs.declared.typed.TypedFn.{TypedFn}
+use Rattle.rx_typeck_typed.specs.declared.typed.TypedFn.{TypedFn}
 use Rattle.rx_lower.specs.Functions.{trimmed, written, function}
 use Rattle.rx_facts.specs.Functions.{body}
 

@@ -16,8 +16,8 @@ use Rattle.rx_facts_init.specs.declared.whole.InitFault.{InitFault as NodeFault}
 use Rattle.rx_facts_init.specs.declared.whole.InitFault.TheVariants as node_fault
 use Rattle.rx_lower_lifetimes.specs.declared.whole.LowerFault.{LowerFault}
 use Rattle.rx_lower_lifetimes.specs.declared.whole.LowerFault.TheVariants as lower_fault
-use Rattle.rx_typeck.specs.declared.typed.TypedFn.{TypedFn}
-use Rattle.rx_typeck.specs.declared.typed.Typed.{Typed}
+use Rattle.rx_typeck_typed.specs.declared.typed.TypedFn.{TypedFn}
+use Rattle.rx_typeck_typed.specs.declared.typed.Typed.{Typed}
 use Rattle.rx_typed_declarations.specs.Sizes.{Sized}
 use Rattle.rx_lower.specs.Functions.{trimmed}
 use Rattle.rx_facts.specs.declared.fault.InitFault.{InitFault}

@@ -4,7 +4,7 @@ use Rattle.std.specs.Prelude.{◌≡◌, ◌≤◌, ℕ, List, length, map, opti
 use Rattle.rx_core.specs.declared.types.Span.{Span}
 use Rattle.rx_tree.specs.Plain.{ProgramTree}
 use Rattle.rx_tree.specs.Size.{IsNumbered}
-use Rattle.rx_resolve.specs.declared.resolved.ItemNames.{ItemNames}
+use Rattle.rx_resolve_names.specs.declared.resolved.ItemNames.{ItemNames}
 use Rattle.rx_typed.specs.declared.declarations.Decl.{Decl}
 use Rattle.rx_typed.specs.Types.{Declarations}
 use Rattle.rx_typed.specs.PlainTypes.{plain-Ty}
@@ -12,9 +12,9 @@ use Rattle.rx_typed.specs.Tree as tree
 use Rattle.rx_typed_tree.specs.PlainTree.{plain-TypedTree}
 use Rattle.rx_lower_graph.specs.Graph.{Site}
 use Rattle.rx_lower_graph.specs.Pieces.{graph}
-use Rattle.rx_typeck.specs.declared.typed.Typed.{Typed}
-use Rattle.rx_typeck.specs.declared.typed.TypedFn.{TypedFn}
-use Rattle.rx_typeck.specs.Typing.{IsTyped}
+use Rattle.rx_typeck_typed.specs.declared.typed.Typed.{Typed}
+use Rattle.rx_typeck_typed.specs.declared.typed.TypedFn.{TypedFn}
+use Rattle.rx_typeck_typed.specs.Typing.{IsTyped}
 use Rattle.rx_facts_parts.specs.Places.{Frame}
 use Rattle.rx_facts_init.specs.Wholes.{placed}
 use Rattle.rx_facts_init.specs.Initialised.{Initialised, IsUnset, IsAgain}

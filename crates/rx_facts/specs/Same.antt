@@ -3,8 +3,8 @@
 use Rattle.std.specs.Prelude.{◌≡◌, map, option_map}
 use Rattle.rx_typed.specs.Regions.{region-Ty}
 use Rattle.rx_typed_declarations.specs.Variance.{unrecorded}
-use Rattle.rx_typeck.specs.declared.typed.Typed.{Typed}
-use Rattle.rx_typeck.specs.declared.typed.TypedFn.{TypedFn}
+use Rattle.rx_typeck_typed.specs.declared.typed.Typed.{Typed}
+use Rattle.rx_typeck_typed.specs.declared.typed.TypedFn.{TypedFn}
 use Rattle.rx_lower.specs.Functions.{trimmed, written}
 use Rattle.rx_facts.specs.Passing.{Each}
 use Rattle.rx_facts.specs.Functions.{body}

@@ -7,7 +7,7 @@ ghost use Rattle.rx_facts.specs.Answers as answers;
 
 use rx_core::{Place, Span};
 use rx_facts_init::InitFault as NodeFault;
-use rx_typeck::TypedFn;
+use rx_typeck_typed::TypedFn;
 
 /// Why a function is not initialised.
 #[derive(Drop)]

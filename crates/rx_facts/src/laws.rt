@@ -2,9 +2,9 @@
 
 ghost use Rattle.std.specs.Prelude.{◌≡◌, List};
 ghost use Rattle.rx_tree.specs.Plain.{ProgramTree};
-ghost use Rattle.rx_resolve.specs.declared.resolved.ItemNames.{ItemNames};
-ghost use Rattle.rx_typeck.specs.Typing.{IsTyped};
-ghost use Rattle.rx_typeck.specs.declared.typed.Typed.{Typed};
+ghost use Rattle.rx_resolve_names.specs.declared.resolved.ItemNames.{ItemNames};
+ghost use Rattle.rx_typeck_typed.specs.Typing.{IsTyped};
+ghost use Rattle.rx_typeck_typed.specs.declared.typed.Typed.{Typed};
 ghost use Rattle.rx_facts.specs.Same.{AreSame};
 
 use rx_typeck_declare::declared_are_finite;

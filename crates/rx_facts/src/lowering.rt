@@ -8,7 +8,7 @@ ghost use Rattle.rx_facts.specs.Answers.{IsGraphOf, EachLowered, LowerAnswers};
 use rx_core::{LetGo, List, keep, pushed};
 use rx_lower::lower_typed;
 use rx_lower_lifetimes::{Graph, LowerFault};
-use rx_typeck::{Typed, TypedFn};
+use rx_typeck_typed::{Typed, TypedFn};
 use rx_typed::Decls;
 use std::alloc::Global;
 

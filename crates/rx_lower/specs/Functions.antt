@@ -4,7 +4,7 @@ use Rattle.rx_typed.specs.declared.declarations.Decl.{Decl}
 use Rattle.rx_typed.specs.Regions.{region-Ty}
 use Rattle.rx_typed_tree.specs.PlainTree.{plain-TypedTree}
 use Rattle.rx_typeck_let_types.specs.declared.variables.AnnotatedVariable.{AnnotatedVariable}
-use Rattle.rx_typeck.specs.declared.typed.TypedFn.{TypedFn}
+use Rattle.rx_typeck_typed.specs.declared.typed.TypedFn.{TypedFn}
 use Rattle.rx_lower_lifetimes.specs.Variables.{Written}
 use Rattle.rx_lower_lifetimes.specs.Lowered.{Function, function_of}
 

@@ -3,7 +3,7 @@
 
 ghost use Rattle.std.specs.Prelude.{◌≡◌, ◌<◌, map, Some as SomeOf, IfOk};
 ghost use Rattle.std.specs.Option.{option_copied, IsSome};
-ghost use Rattle.rx_typeck.specs.declared.typed.TypedFn.{TypedFn as FnOf};
+ghost use Rattle.rx_typeck_typed.specs.declared.typed.TypedFn.{TypedFn as FnOf};
 ghost use Rattle.rx_lower_lifetimes.specs.PlainOf.{plain-Told};
 ghost use Rattle.rx_lower_lifetimes.specs.Answer.{Answers, Walked};
 ghost use Rattle.rx_lower.specs.Functions as spec;
@@ -11,8 +11,8 @@ ghost use Rattle.rx_lower.specs.Functions.{function_at, written, function};
 
 use rx_core::{LetGo, List, Ty, keep, pushed};
 use rx_lower_lifetimes::{Graph, LowerFault, Told, lower_function};
-use rx_typeck::{Typed, TypedFn};
 use rx_typeck_let_types::AnnotatedVariable;
+use rx_typeck_typed::{Typed, TypedFn};
 use rx_typed::Decls;
 use rx_typed_places::place_type;
 use std::alloc::{AllocError, Global};

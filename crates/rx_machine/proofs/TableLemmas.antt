@@ -7,7 +7,7 @@ use Rattle.rx_meaning.specs.Programs.{is_main, main_in}
 use Rattle.rx_machine_driver.proofs.BindLemmas.{drop_next, drop_end}
 use Rattle.rx_typed_tree.specs.declared.tree.TypedTree.{TypedTree}
 use Rattle.rx_typed_tree.specs.PlainTree.{plain-TypedTree}
-use Rattle.rx_typeck.specs.declared.typed.TypedFn.{TypedFn}
+use Rattle.rx_typeck_typed.specs.declared.typed.TypedFn.{TypedFn}
 use Rattle.rx_machine_driver.specs.Fitting.{functions_of}
 use Rattle.rx_machine.specs.Functions.{is_function, first_of, behind, typed_functions}
 

@@ -6,7 +6,7 @@ use Rattle.rx_typed.specs.Tree.{Function}
 use Rattle.rx_typed_tree.specs.PlainTree.{plain-TypedTree}
 use Rattle.rx_meaning.specs.Expressions.{Functions}
 use Rattle.rx_meaning.specs.Programs.{Program, main_in}
-use Rattle.rx_typeck.specs.declared.typed.TypedFn.{TypedFn}
+use Rattle.rx_typeck_typed.specs.declared.typed.TypedFn.{TypedFn}
 
 abbrev pub is_function : ItemTree → Bool
 is_function (plain.function_item s f) = true

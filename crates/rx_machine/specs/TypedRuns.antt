@@ -2,16 +2,16 @@
 use Rattle.std.specs.Prelude.{◌≡◌, ℕ, suc, List, [], ◌∷◌, slice_get}
 use Rattle.rx_tree.specs.Plain as plain
 use Rattle.rx_tree.specs.Plain.{ProgramTree}
-use Rattle.rx_resolve.specs.declared.resolved.ItemNames.{ItemNames}
-use Rattle.rx_resolve.specs.declared.resolved.NodeNames.{NodeNames}
+use Rattle.rx_resolve_names.specs.declared.resolved.ItemNames.{ItemNames}
+use Rattle.rx_resolve_names.specs.declared.resolved.NodeNames.{NodeNames}
 use Rattle.rx_typed.specs.Naming.{function_named}
 use Rattle.rx_typed.specs.Elaborated.{Assigned}
 use Rattle.rx_typeck_solver.specs.Facts.{Types}
 use Rattle.rx_typeck_solver.specs.Valid.{Valid}
 use Rattle.rx_typeck_rules.specs.Demands.{task}
 use Rattle.rx_meaning.specs.Programs.{typed_program}
-use Rattle.rx_typeck.specs.declared.typed.Typed.{Typed}
-use Rattle.rx_typeck.specs.Typing.{Given, known_in, assigned, entries}
+use Rattle.rx_typeck_typed.specs.declared.typed.Typed.{Typed}
+use Rattle.rx_typeck_typed.specs.Typing.{Given, known_in, assigned, entries}
 use Rattle.rx_machine.specs.Functions.{program_of}
 
 -- the entries of names of each item

@@ -9,7 +9,7 @@ ghost use Rattle.rx_machine.specs.Functions.{typed_functions, is_function, first
 
 use rx_core::is_same_text;
 use rx_tree::{Item, ItemNode};
-use rx_typeck::TypedFn;
+use rx_typeck_typed::TypedFn;
 use rx_typed_tree::TypedTree;
 use std::alloc::{AllocError, Global};
 

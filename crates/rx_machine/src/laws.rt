@@ -2,9 +2,9 @@
 
 ghost use Rattle.std.specs.Prelude.{List as ListOf};
 ghost use Rattle.rx_tree.specs.Plain.{ProgramTree};
-ghost use Rattle.rx_resolve.specs.declared.resolved.ItemNames.{ItemNames as ItemNamesOf};
-ghost use Rattle.rx_typeck.specs.declared.typed.Typed.{Typed as TypedOf};
-ghost use Rattle.rx_typeck.specs.Typing.{IsTyped};
+ghost use Rattle.rx_resolve_names.specs.declared.resolved.ItemNames.{ItemNames as ItemNamesOf};
+ghost use Rattle.rx_typeck_typed.specs.declared.typed.Typed.{Typed as TypedOf};
+ghost use Rattle.rx_typeck_typed.specs.Typing.{IsTyped};
 ghost use Rattle.rx_machine.specs.TypedRuns.{RunsAs};
 
 /// What is run of a typed program is the program of its text, with the types of a valid assignment.

@@ -9,7 +9,7 @@ use crate::functions::{main_at, table};
 use rx_machine_driver::run as run_machine;
 use rx_meaning::Outcome;
 use rx_tree::Program;
-use rx_typeck::Typed;
+use rx_typeck_typed::Typed;
 use std::alloc::{AllocError, Global};
 
 /// What a typed program does on an input, with a number of turns. Only memory may be wanting.

@@ -3,7 +3,7 @@ use Rattle.std.specs.Prelude.{◌≡◌, ℕ, suc, ℤ, Bool, false, List, [], �
 use Rattle.rx_core.specs.Bytes.{same_bytes}
 use Rattle.rx_tree.specs.Plain.{ItemTree, ProgramTree}
 use Rattle.rx_tree.specs.Plain as plain
-use Rattle.rx_resolve.specs.declared.resolved.NodeNames.{NodeNames}
+use Rattle.rx_resolve_names.specs.declared.resolved.NodeNames.{NodeNames}
 use Rattle.rx_typed.specs.Naming.{function_named}
 use Rattle.rx_typed.specs.Tree.{Function}
 use Rattle.rx_typed.specs.Elaborated.{Assigned, elaborated}

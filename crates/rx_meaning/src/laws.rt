@@ -3,7 +3,7 @@
 ghost use Rattle.std.specs.Prelude.{◌≡◌, ◌≤◌, ℕ, ℤ, List as ListOf, length};
 ghost use Rattle.rx_tree.specs.Plain.{ProgramTree};
 ghost use Rattle.rx_tree.specs.Erase.{SameProgram};
-ghost use Rattle.rx_resolve.specs.declared.resolved.NodeNames.{NodeNames as NodeNamesOf};
+ghost use Rattle.rx_resolve_names.specs.declared.resolved.NodeNames.{NodeNames as NodeNamesOf};
 ghost use Rattle.rx_typed.specs.Tree.{Function};
 ghost use Rattle.rx_typed.specs.Elaborated.{Assigned};
 ghost use Rattle.rx_lower_walks.specs.Orders.{order_function};

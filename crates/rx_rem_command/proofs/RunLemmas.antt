@@ -8,14 +8,14 @@ use Rattle.rx_parse_grammar.proofs.Whole.{one_text}
 use Rattle.rx_parse.specs.declared.fault.SyntaxFault.{SyntaxFault}
 use Rattle.rx_parse.specs.declared.fault.SyntaxFault.TheVariants as syntax
 use Rattle.rx_parse.specs.Answer.{IsCause}
-use Rattle.rx_resolve.specs.declared.resolved.ItemNames.{ItemNames}
-use Rattle.rx_resolve.specs.Causes.{Meant}
-use Rattle.rx_resolve.proofs.WalkLemmas.{ok_is}
+use Rattle.rx_resolve_names.specs.declared.resolved.ItemNames.{ItemNames}
+use Rattle.rx_resolve_names.specs.Causes.{Meant}
+use Rattle.rx_core.proofs.Results.{ok_is}
 use Rattle.rx_typed_tree.specs.PlainTree.{plain-TypedTree}
-use Rattle.rx_typeck.specs.declared.typed.Typed.{Typed}
-use Rattle.rx_typeck.specs.declared.typed.TypedFn.{TypedFn}
-use Rattle.rx_typeck.specs.Typing.{IsTyped}
-use Rattle.rx_typeck.specs.Alike.{FunctionsAlike, AreAlike}
+use Rattle.rx_typeck_typed.specs.declared.typed.Typed.{Typed}
+use Rattle.rx_typeck_typed.specs.declared.typed.TypedFn.{TypedFn}
+use Rattle.rx_typeck_typed.specs.Typing.{IsTyped}
+use Rattle.rx_typeck_typed.specs.Alike.{FunctionsAlike, AreAlike}
 use Rattle.rx_meaning.specs.declared.outcome.Outcome.{Outcome}
 use Rattle.rx_meaning.specs.Programs.{main_in, run}
 use Rattle.rx_machine.specs.Functions.{typed_functions, program_of}

@@ -1,11 +1,11 @@
 -- The line of each fault of the check of the whole language.
 use Rattle.std.specs.Prelude.{ℕ, List, [], ◌∷◌, ◌++◌, codes}
 use Rattle.rx_tree.specs.Plain.{ProgramTree}
-use Rattle.rx_resolve.specs.declared.resolved.NameFault.{NameFault}
-use Rattle.rx_resolve.specs.declared.resolved.NameFault.TheVariants as name
+use Rattle.rx_resolve_names.specs.declared.resolved.NameFault.{NameFault}
+use Rattle.rx_resolve_names.specs.declared.resolved.NameFault.TheVariants as name
 use Rattle.rx_typeck_solver.specs.declared.facts.Rule.{Rule}
-use Rattle.rx_typeck.specs.declared.typed.TypeFault.{TypeFault}
-use Rattle.rx_typeck.specs.declared.typed.TypeFault.TheVariants as type
+use Rattle.rx_typeck_typed.specs.declared.typed.TypeFault.{TypeFault}
+use Rattle.rx_typeck_typed.specs.declared.typed.TypeFault.TheVariants as type
 use Rattle.rx_cover.specs.declared.covering.CoverFault.{CoverFault}
 use Rattle.rx_cover.specs.declared.covering.CoverFault.TheVariants as cover
 use Rattle.rx_cover.specs.PlainValue.{plain-Value}

@@ -1,10 +1,10 @@
 -- What a program does on an input, with a number of turns: the outcome of the meaning, with its types.
 use Rattle.std.specs.Prelude.{◌≡◌, ℕ, ℤ, List}
 use Rattle.rx_tree.specs.Plain.{ProgramTree}
-use Rattle.rx_resolve.specs.declared.resolved.ItemNames.{ItemNames}
-use Rattle.rx_resolve.specs.Causes.{Meant}
-use Rattle.rx_typeck.specs.declared.typed.Typed.{Typed}
-use Rattle.rx_typeck.specs.Typing.{IsTyped}
+use Rattle.rx_resolve_names.specs.declared.resolved.ItemNames.{ItemNames}
+use Rattle.rx_resolve_names.specs.Causes.{Meant}
+use Rattle.rx_typeck_typed.specs.declared.typed.Typed.{Typed}
+use Rattle.rx_typeck_typed.specs.Typing.{IsTyped}
 use Rattle.rx_meaning.specs.declared.outcome.Outcome.{Outcome}
 use Rattle.rx_meaning.specs.Programs.{run}
 use Rattle.rx_machine.specs.Functions.{program_of}

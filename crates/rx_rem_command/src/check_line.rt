@@ -16,10 +16,10 @@ use rx_cover::{CoverFault, Value};
 use rx_cover_values::shown;
 use rx_facts::InitFault;
 use rx_lower_lifetimes::LowerFault;
-use rx_resolve::NameFault;
+use rx_resolve_names::NameFault;
 use rx_tree::Program;
-use rx_typeck::TypeFault;
 use rx_typeck_solver::Rule;
+use rx_typeck_typed::TypeFault;
 use std::alloc::{AllocError, Global};
 
 fn rule_text(rule: Rule) -> &'static str

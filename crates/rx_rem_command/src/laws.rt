@@ -21,7 +21,7 @@ ghost use Rattle.rx_meaning.specs.declared.outcome.Outcome.{Outcome};
 use rx_agreement::typed_are_accepted;
 use rx_check::{causes_are_one, passed_or_faulty};
 use rx_parse::parsed_programs_are_numbered;
-use rx_typeck::one_typed_program;
+use rx_typeck_typed::one_typed_program;
 
 /// Two defined answers of the same words on the same text have one status and one output. They have one line, but for the places
 /// where the tokens of the text stop because of their depth; or each line says a fault of the program, and both are of one pass.

@@ -12,7 +12,7 @@ use Rattle.rx_tree.specs.PlainOf.{plain-EnumVariant}
 use Rattle.rx_tree.specs.Plain.{ItemTree, ProgramTree, VariantOf}
 use Rattle.rx_resolve_scope.specs.declared.table.Known.{Known}
 use Rattle.rx_resolve_scope.specs.Scopes.{Declared, declared_as}
-use Rattle.rx_resolve.specs.Meant.{number, item_named, has_name, kept, variant_names, variants_of, as_function}
+use Rattle.rx_resolve_names.specs.Meant.{number, item_named, has_name, kept, variant_names, variants_of, as_function}
 use Rattle.rx_resolve.specs.Tables.{kept_in, names_from}
 
 abbrev or : {A : Type 0} → Option A → Option A → Option A

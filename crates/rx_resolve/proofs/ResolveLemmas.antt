@@ -1,7 +1,7 @@
 -- The names of items, one item after the other.
 use Rattle.std.proofs.Common.{◌≡◌, List, [], ◌∷◌, ◌++◌, Ok, Err, refl, ap}
-use Rattle.rx_resolve.specs.declared.resolved.ItemNames.{ItemNames}
-use Rattle.rx_resolve.specs.Steps.{Outcome, and_then}
+use Rattle.rx_resolve_names.specs.declared.resolved.ItemNames.{ItemNames}
+use Rattle.rx_resolve_names.specs.Steps.{Outcome, and_then}
 
 -- what is found behind these
 abbrev pub before : List ItemNames → Outcome (List ItemNames) → Outcome (List ItemNames)

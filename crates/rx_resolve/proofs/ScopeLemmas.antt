@@ -10,12 +10,12 @@ use Rattle.rx_tree.specs.Lists.{listed}
 use Rattle.rx_tree.proofs.ListsLemmas.{listed-statements_of}
 use Rattle.rx_tree.specs.Plain.{Statement, Statements, Body, OptionalExpression}
 use Rattle.rx_resolve_scope.specs.Scopes.{Declared, Variables, Variable, entered, oldest}
-use Rattle.rx_resolve.specs.declared.resolved.ItemNames.{ItemNames}
-use Rattle.rx_resolve.specs.declared.resolved.Misnamed.{Misnamed}
+use Rattle.rx_resolve_names.specs.declared.resolved.ItemNames.{ItemNames}
+use Rattle.rx_resolve_names.specs.declared.resolved.Misnamed.{Misnamed}
 use Rattle.rx_resolve.specs.declared.walk.Walk.{Walk}
-use Rattle.rx_resolve.specs.Meant.{Around, number}
-use Rattle.rx_resolve.specs.Steps.{Outcome, and_then, Inside, child, next, ◌>>◌}
-use Rattle.rx_resolve.specs.Names.{Scoped, Bound, in_statement, in_statements, in_optional, in_optional_type, initialiser_at, in_expression, in_pattern, in_block}
+use Rattle.rx_resolve_names.specs.Meant.{Around, number}
+use Rattle.rx_resolve_names.specs.Steps.{Outcome, and_then, Inside, child, next, ◌>>◌}
+use Rattle.rx_resolve_names.specs.Names.{Scoped, Bound, in_statement, in_statements, in_optional, in_optional_type, initialiser_at, in_expression, in_pattern, in_block}
 use Rattle.rx_resolve.specs.Walks.{inside, around_from, with_tables, with_scope}
 
 -- new variables stand in front of the old ones

@@ -1,11 +1,11 @@
 -- Steps of the code's walk in turn.
 use Rattle.std.proofs.Common.{◌≡◌, ℕ, zero, suc, ◌<◌, Bool, true, false, List, [], ◌∷◌, ◌++◌, length, take, get_or, arith, cond, Option, Some, None, Result, Ok, Err, MatchOption, refl, sym, ap, ◌∙◌}
-use Rattle.rx_resolve.specs.declared.resolved.ItemNames.{ItemNames}
+use Rattle.rx_resolve_names.specs.declared.resolved.ItemNames.{ItemNames}
 use Rattle.rx_resolve.specs.declared.walk.Walk.{Walk}
 use Rattle.rx_tree.specs.declared.tree.Ident.{Ident}
 use Rattle.rx_resolve.specs.declared.walk.Around as code
 use Rattle.rx_resolve.specs.declared.walk.Around.TheVariants as form
-use Rattle.rx_resolve.specs.Meant.{Around, a_loop, Target, to_loop, out_of_test, nowhere, through_test, is_meant, target}
+use Rattle.rx_resolve_names.specs.Meant.{Around, a_loop, Target, to_loop, out_of_test, nowhere, through_test, is_meant, target}
 use Rattle.rx_resolve.specs.Walks.{above, around_from, around_of, with_tables, with_around}
 
 pub above_push : {A : Type 0} (xs : List A) (y : A) → above (xs ++ y ∷ []) ≡ xs
@@ -60,14 +60,6 @@ module _ (wanted : Option Ident) where
   pub at_loop : (l : List code.Around) (k : ℕ) (b : Bool) (r : Target) (x d : code.Around) (m : Option Ident) (n : ℕ) → k < length l → get_or l k d ≡ x → around_of x ≡ a_loop m n → is_meant wanted m ≡ true
       → beyond b (target wanted (around_from [] (take (suc k) l))) ≡ r → beyond b (to_loop n) ≡ r
   at_loop l k b r x d m n within is loop same before = sym (ap (beyond b) (target_at l k x d within is ∙ ap (λ a. target wanted (a ∷ around_from [] (take k l))) loop ∙ ap (λ c. cond c (to_loop n) (target wanted (around_from [] (take k l)))) same)) ∙ before
-
-value_or : {A E : Type 0} → A → Result A E → A
-value_or a (Ok x) = x
-value_or a (Err e) = a
-
-pub ok_is : {A E : Type 0} (a b : A) → ◌≡◌ {A = Result A E} (Ok a) (Ok b) → a ≡ b
-unfolding value_or
-ok_is a b h = ap (value_or a) h
 
 -- where a loop has opened
 pub opened : (w0 w1 w2 : Walk) (x : code.Around) (t : ItemNames) → with_tables t w0 ≡ w1 → with_around (w1.around ++ x ∷ []) w1 ≡ w2

@@ -1,8 +1,2 @@
-pub mod Meant
-pub mod Steps
-pub mod Names
-pub mod Items
-pub mod Holding
-pub mod Causes
 pub mod Tables
 pub mod Walks

@@ -4,11 +4,11 @@ use Rattle.rx_tree.specs.declared.tree.Ident.{Ident}
 use Rattle.rx_tree.specs.declared.tree.Item.{Item}
 use Rattle.rx_tree.specs.Plain.{ItemTree, ProgramTree}
 use Rattle.rx_resolve_scope.specs.Scopes.{Declared, declared_as}
-use Rattle.rx_resolve.specs.declared.resolved.Misnamed.{Misnamed}
-use Rattle.rx_resolve.specs.declared.resolved.Misnamed.TheVariants as misnamed
-use Rattle.rx_resolve.specs.Steps.{Outcome, and_then}
-use Rattle.rx_resolve.specs.Items.{declared_in}
-use Rattle.rx_resolve.specs.Meant.{type_name, function_name, kept, variant_names}
+use Rattle.rx_resolve_names.specs.declared.resolved.Misnamed.{Misnamed}
+use Rattle.rx_resolve_names.specs.declared.resolved.Misnamed.TheVariants as misnamed
+use Rattle.rx_resolve_names.specs.Steps.{Outcome, and_then}
+use Rattle.rx_resolve_names.specs.Items.{declared_in}
+use Rattle.rx_resolve_names.specs.Meant.{type_name, function_name, kept, variant_names}
 
 abbrev pub kept_in : Declared → ℕ → Option Ident → Declared
 kept_in ds n None = ds

@@ -5,17 +5,17 @@ use Rattle.rx_tree.specs.declared.tree.Item.{Item}
 use Rattle.rx_tree.specs.Plain.{ItemTree}
 use Rattle.rx_tree.specs.PlainOf.{plain-Item}
 use Rattle.rx_resolve_scope.specs.Scopes.{Variables, Declared}
-use Rattle.rx_resolve.specs.declared.resolved.ItemNames.{ItemNames}
+use Rattle.rx_resolve_names.specs.declared.resolved.ItemNames.{ItemNames}
 use Rattle.rx_resolve.specs.declared.walk.Walk.{Walk}
 use Rattle.rx_resolve.specs.declared.walk.Around as code
 use Rattle.rx_resolve.specs.declared.walk.Around.TheVariants as around
-use Rattle.rx_resolve.specs.declared.resolved.Misnamed.{Misnamed}
-use Rattle.rx_resolve.specs.declared.resolved.Misnamed.TheVariants as misnamed
+use Rattle.rx_resolve_names.specs.declared.resolved.Misnamed.{Misnamed}
+use Rattle.rx_resolve_names.specs.declared.resolved.Misnamed.TheVariants as misnamed
 use Rattle.rx_resolve.specs.declared.entries.Destination as code_target
 use Rattle.rx_resolve.specs.declared.entries.Destination.TheVariants as target_form
-use Rattle.rx_resolve.specs.Meant.{number, firsts, lifetimes_declared, Around, a_loop, a_test, Target, to_loop, out_of_test, nowhere}
-use Rattle.rx_resolve.specs.Steps.{Outcome, Inside, position, with_loop}
-use Rattle.rx_resolve.specs.Names.{Bound, Scoped}
+use Rattle.rx_resolve_names.specs.Meant.{number, firsts, lifetimes_declared, Around, a_loop, a_test, Target, to_loop, out_of_test, nowhere}
+use Rattle.rx_resolve_names.specs.Steps.{Outcome, Inside, position, with_loop}
+use Rattle.rx_resolve_names.specs.Names.{Bound, Scoped}
 
 abbrev pub with_tables : ItemNames → Walk → Walk
 with_tables t w = record { alloc = w.alloc; items = w.items; item = w.item; lifetimes = w.lifetimes; path = w.path; scope = w.scope; around = w.around; tables = t }

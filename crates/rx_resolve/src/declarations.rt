@@ -2,17 +2,17 @@
 
 ghost use Rattle.std.specs.Prelude.{◌≡◌, ◌≢◌, ℕ, suc, [], ◌∷◌, ◌++◌, length, map, Ok, Err, Some, None, Option, option_map, IfOk};
 ghost use Rattle.rx_tree.specs.PlainOf.{plain-TypeText, plain-Field, plain-EnumVariant, plain-Param, plain-Func, plain-Item};
-ghost use Rattle.rx_resolve.specs.Meant as meant;
-ghost use Rattle.rx_resolve.specs.Steps as steps;
-ghost use Rattle.rx_resolve.specs.Names as names;
-ghost use Rattle.rx_resolve.specs.Items as items;
+ghost use Rattle.rx_resolve_names.specs.Meant as meant;
+ghost use Rattle.rx_resolve_names.specs.Steps as steps;
+ghost use Rattle.rx_resolve_names.specs.Names as names;
+ghost use Rattle.rx_resolve_names.specs.Items as items;
 ghost use Rattle.rx_resolve.specs.Walks as walks;
 
 use crate::items::{declare, number};
-use crate::resolved::Misnamed;
 use crate::types::pushed;
 use crate::walk::Walk;
 use rx_core::{List, Span};
+use rx_resolve_names::Misnamed;
 use rx_resolve_scope::Table;
 use rx_tree::{BoundLifetime, EnumVariant, Field, Func, Ident, Item, ItemNode, Param, TypeText};
 

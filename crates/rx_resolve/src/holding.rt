@@ -2,8 +2,8 @@
 
 ghost use Rattle.std.specs.Prelude.{◌≡◌, [], ◌∷◌, ◌++◌, map, OnOk, IfOk};
 ghost use Rattle.rx_tree.specs.PlainOf.{plain-TypeText, plain-Field, plain-EnumVariant, plain-Item, types_of};
-ghost use Rattle.rx_resolve.specs.Holding as holding;
-ghost use Rattle.rx_resolve.specs.Causes as causes;
+ghost use Rattle.rx_resolve_names.specs.Holding as holding;
+ghost use Rattle.rx_resolve_names.specs.Causes as causes;
 
 use crate::items::Items;
 use crate::types::as_type;

@@ -8,9 +8,8 @@ mod holding;
 mod items;
 mod patterns;
 mod program;
-mod resolved;
 mod types;
 mod walk;
 
 pub use program::resolve;
-pub use resolved::{ItemNames, Misnamed, NameFault, NodeNames, Resolved};
+pub use rx_resolve_names::{ItemNames, Misnamed, NameFault, NodeNames, Resolved};

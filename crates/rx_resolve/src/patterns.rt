@@ -2,16 +2,16 @@
 
 ghost use Rattle.std.specs.Prelude.{◌≡◌, ◌≢◌, ℕ, suc, [], ◌∷◌, ◌++◌, length, map, Ok, Err, Some, None, Option, option_map};
 ghost use Rattle.rx_tree.specs.PlainOf.{plain-Pattern, plain-FieldPattern, patterns_of, field_patterns_of, plain-Item};
-ghost use Rattle.rx_resolve.specs.Meant as meant;
-ghost use Rattle.rx_resolve.specs.Steps as steps;
-ghost use Rattle.rx_resolve.specs.Names as names;
+ghost use Rattle.rx_resolve_names.specs.Meant as meant;
+ghost use Rattle.rx_resolve_names.specs.Steps as steps;
+ghost use Rattle.rx_resolve_names.specs.Names as names;
 ghost use Rattle.rx_resolve.specs.Walks as walks;
 
 use crate::items::{declare, number};
-use crate::resolved::Misnamed;
 use crate::types::known;
 use crate::walk::Walk;
 use rx_core::{List, Span};
+use rx_resolve_names::Misnamed;
 use rx_resolve_scope::Table;
 use rx_tree::{FieldPattern, Ident, Item, ItemNode, Pattern, PatternNode};
 use std::alloc::AllocError;

@@ -4,20 +4,32 @@ ghost use Rattle.std.specs.Prelude.{◌≡◌, ◌≢◌, ◌<◌, ◌^◌, [], 
 ghost use Rattle.rx_tree.specs.PlainOf.{plain-Item, plain-Program};
 ghost use Rattle.rx_tree.specs.declared.tree.Ident.{Ident};
 ghost use Rattle.rx_tree.specs.declared.tree.BoundLifetime.{BoundLifetime};
-ghost use Rattle.rx_resolve.specs.Meant as meant;
-ghost use Rattle.rx_resolve.specs.Steps as steps;
-ghost use Rattle.rx_resolve.specs.Items as items_spec;
+ghost use Rattle.rx_resolve_names.specs.Meant as meant;
+ghost use Rattle.rx_resolve_names.specs.Steps as steps;
+ghost use Rattle.rx_resolve_names.specs.Items as items_spec;
 ghost use Rattle.rx_tree.specs.Size.{IsNumbered};
 ghost use Rattle.rx_resolve.specs.Walks as walks;
-ghost use Rattle.rx_resolve.specs.Causes as causes;
+ghost use Rattle.rx_resolve_names.specs.Causes as causes;
 
 use crate::items::{Items, first_lifetimes, firsts, number};
-use crate::resolved::{ItemNames, Misnamed, NameFault, Resolved, fault_of};
 use crate::walk::Walk;
 use rx_core::{List, Span};
+use rx_resolve_names::{ItemNames, Misnamed, NameFault, Resolved};
 use rx_resolve_scope::{Scope, Table};
 use rx_tree::{BoundLifetime, Ident, Item, ItemNode, Program};
 use std::alloc::{AllocError, Global};
+
+/// The fault of a program in which something is misnamed.
+fn fault_of(misnamed: Misnamed) -> NameFault
+    ensures { result ≡ causes.fault_of misnamed }
+{
+    match misnamed {
+        Misnamed::Unknown { at } => NameFault::Unknown { at },
+        Misnamed::Twice { first, second } => NameFault::Twice { first, second },
+        Misnamed::Label { at } => NameFault::Label { at },
+        Misnamed::OutOfMemory => NameFault::OutOfMemory,
+    }
+}
 
 /// The first of each name of the lifetimes that an item declares.
 fn declared_lifetimes<'t>(alloc: Global, item: &'t Item) -> Result<Table<'t>, AllocError>

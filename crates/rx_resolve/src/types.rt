@@ -2,14 +2,14 @@
 
 ghost use Rattle.std.specs.Prelude.{◌≡◌, ℕ, suc, [], ◌∷◌, ◌++◌, length, map, Ok, Err, Some, None, Option, option_map, IfOk};
 ghost use Rattle.rx_tree.specs.PlainOf.{plain-TypeText, types_of, plain-Item};
-ghost use Rattle.rx_resolve.specs.Meant as meant;
-ghost use Rattle.rx_resolve.specs.Steps as steps;
-ghost use Rattle.rx_resolve.specs.Names as names;
+ghost use Rattle.rx_resolve_names.specs.Meant as meant;
+ghost use Rattle.rx_resolve_names.specs.Steps as steps;
+ghost use Rattle.rx_resolve_names.specs.Names as names;
 ghost use Rattle.rx_resolve.specs.Walks as walks;
 
-use crate::resolved::Misnamed;
 use crate::walk::Walk;
 use rx_core::{List, Span};
+use rx_resolve_names::Misnamed;
 use rx_tree::{Ident, Item, ItemNode, TypeNode, TypeText};
 use std::alloc::AllocError;
 

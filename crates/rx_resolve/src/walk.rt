@@ -2,13 +2,13 @@
 
 ghost use Rattle.std.specs.Prelude.{◌≡◌, [], ◌∷◌, ◌++◌, length, map, Ok, Err, Some, None, OnOk, option_map};
 ghost use Rattle.rx_tree.specs.PlainOf.{plain-Item};
-ghost use Rattle.rx_resolve.specs.Meant as meant;
-ghost use Rattle.rx_resolve.specs.Steps as steps;
+ghost use Rattle.rx_resolve_names.specs.Meant as meant;
+ghost use Rattle.rx_resolve_names.specs.Steps as steps;
 ghost use Rattle.rx_resolve.specs.Walks as walks;
 
 use crate::items::Items;
-use crate::resolved::{ItemNames, Misnamed, NodeNames};
 use rx_core::{LetGo, List, Position, Span};
+use rx_resolve_names::{ItemNames, Misnamed, NodeNames};
 use rx_resolve_scope::{Scope, Table};
 use rx_tree::{Ident, Item};
 use std::alloc::{AllocError, Global};

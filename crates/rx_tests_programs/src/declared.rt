@@ -3,7 +3,8 @@
 use crate::holding::all_hold;
 use rx_core::{LetGo, List, Ty};
 use rx_parse::{parse, parsed_programs_are_numbered};
-use rx_resolve::{Resolved, resolve};
+use rx_resolve::resolve;
+use rx_resolve_names::Resolved;
 use rx_tests_tables::{LINES, Outcome};
 use rx_tree::Program;
 use rx_typeck_declare::{DeclareFault, declare, declared_are_finite};

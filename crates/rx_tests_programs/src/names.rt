@@ -3,7 +3,8 @@
 use crate::holding::all_hold;
 use rx_core::{LetGo, List, Position, Span};
 use rx_parse::{parse, parsed_programs_are_numbered};
-use rx_resolve::{ItemNames, NameFault, NodeNames, Resolved, resolve};
+use rx_resolve::resolve;
+use rx_resolve_names::{ItemNames, NameFault, NodeNames, Resolved};
 use rx_tests_tables::{LINES, Outcome};
 use std::alloc::{AllocError, Global};
 

@@ -2,14 +2,15 @@
 
 ghost use Rattle.rx_tree.specs.PlainOf.{plain-Program};
 ghost use Rattle.rx_tree.specs.Size.{IsNumbered};
-ghost use Rattle.rx_resolve.specs.Causes.{Meant};
+ghost use Rattle.rx_resolve_names.specs.Causes.{Meant};
 
 use crate::holding::all_hold;
 use rx_core::LetGo;
 use rx_machine::run;
 use rx_meaning::{End, Trap};
 use rx_parse::{parse, parsed_programs_are_numbered};
-use rx_resolve::{Resolved, resolve};
+use rx_resolve::resolve;
+use rx_resolve_names::Resolved;
 use rx_tests_tables::{LINES, Outcome};
 use rx_tree::Program;
 use rx_typeck::typecheck;

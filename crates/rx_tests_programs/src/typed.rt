@@ -2,16 +2,18 @@
 
 ghost use Rattle.rx_tree.specs.PlainOf.{plain-Program};
 ghost use Rattle.rx_tree.specs.Size.{IsNumbered};
-ghost use Rattle.rx_resolve.specs.Causes.{Meant};
+ghost use Rattle.rx_resolve_names.specs.Causes.{Meant};
 
 use crate::declared::{push_type as push_written, rule_name};
 use crate::holding::{all_hold, hold};
 use rx_core::{Kind, LetGo, List, Ty};
 use rx_parse::{parse, parsed_programs_are_numbered};
-use rx_resolve::{Resolved, resolve};
+use rx_resolve::resolve;
+use rx_resolve_names::Resolved;
 use rx_tests_tables::{LINES, Outcome, push_times};
 use rx_tree::Program;
-use rx_typeck::{TypeFault, Typed, typecheck};
+use rx_typeck::typecheck;
+use rx_typeck_typed::{TypeFault, Typed};
 use std::alloc::{AllocError, Global};
 
 fn kind_name(kind: Kind) -> &'static str {

@@ -1,3 +1,1 @@
 mod TypingLemmas
-mod ExclusionLemmas
-mod AlikeLemmas

@@ -9,8 +9,8 @@ use Rattle.rx_tree.specs.declared.tree.Item.{Item}
 use Rattle.rx_tree.specs.declared.tree.Func.{Func}
 use Rattle.rx_tree.specs.declared.tree.ItemNode.TheVariants as node
 use Rattle.rx_tree.specs.PlainOf.{plain-Item, plain-ItemNode, plain-Func}
-use Rattle.rx_resolve.specs.declared.resolved.ItemNames.{ItemNames}
-use Rattle.rx_resolve.specs.declared.resolved.NodeNames.{NodeNames}
+use Rattle.rx_resolve_names.specs.declared.resolved.ItemNames.{ItemNames}
+use Rattle.rx_resolve_names.specs.declared.resolved.NodeNames.{NodeNames}
 use Rattle.rx_typed.specs.Naming.{function_named}
 use Rattle.rx_typed.specs.declared.declarations.Decl.{Decl}
 use Rattle.rx_typed.specs.declared.declarations.Decl.TheVariants as decl
@@ -44,10 +44,11 @@ use Rattle.rx_typeck_elaborate_parts.specs.declared.assigned.NodeTypes.{NodeType
 use Rattle.rx_typeck_elaborate_parts.specs.Assigning as parts
 use Rattle.rx_typeck_elaborate_parts.specs.Assigning.{joined, shape_of}
 use Rattle.rx_typeck.specs.declared.check.Described.{Described}
-use Rattle.rx_typeck.specs.declared.typed.TypedFn.{TypedFn}
-use Rattle.rx_typeck.specs.declared.typed.TypeFault.{TypeFault}
-use Rattle.rx_typeck.specs.declared.typed.TypeFault.TheVariants as fault
-use Rattle.rx_typeck.specs.Typing.{Given, known_in, IsAnnotated, entries, variables_at, assigned, type_at, TypeIs, FunctionTyped, fault_of, of_unsolved, described, FunctionUntyped, FunctionsTyped, FirstUntyped, ItemTyped, ItemUntyped, Behind}
+use Rattle.rx_typeck_typed.specs.declared.typed.TypedFn.{TypedFn}
+use Rattle.rx_typeck_typed.specs.declared.typed.TypeFault.{TypeFault}
+use Rattle.rx_typeck_typed.specs.declared.typed.TypeFault.TheVariants as fault
+use Rattle.rx_typeck_typed.specs.Typing.{Given, known_in, IsAnnotated, entries, variables_at, assigned, type_at, TypeIs, FunctionTyped, fault_of, of_unsolved, FunctionUntyped, FunctionsTyped, FirstUntyped}
+use Rattle.rx_typeck.specs.Checking.{described, ItemTyped, ItemUntyped, Behind}
 
 -- ---- a function without a valid assignment
 

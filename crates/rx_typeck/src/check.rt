@@ -4,7 +4,7 @@ ghost use Rattle.std.specs.Prelude.{List, ◌≡◌, ◌≢◌, ◌<◌, length,
 ghost use Rattle.rx_core.specs.declared.types.Span.{Span};
 ghost use Rattle.rx_tree.specs.PlainOf.{plain-Program, plain-Func, plain-Item};
 ghost use Rattle.rx_tree.specs.Size.{IsNumbered};
-ghost use Rattle.rx_resolve.specs.Causes.{Meant};
+ghost use Rattle.rx_resolve_names.specs.Causes.{Meant};
 ghost use Rattle.rx_typed.specs.Naming.{function_named};
 ghost use Rattle.rx_typed.specs.PlainTypes.{declarations};
 ghost use Rattle.rx_typeck_solver.specs.declared.solver.Solved as solver;
@@ -12,12 +12,12 @@ ghost use Rattle.rx_typeck_solver.specs.Solving.{IsSolved};
 ghost use Rattle.rx_typeck_solver.specs.Views.{IsFound};
 ghost use Rattle.rx_typeck_rules.specs.Demands.{task};
 ghost use Rattle.rx_typeck_declare.specs.Programs.{Declares};
-ghost use Rattle.rx_typeck.specs.Typing as typing;
-ghost use Rattle.rx_typeck.specs.declared.typed.TypeFault.TheVariants as fault;
+ghost use Rattle.rx_typeck.specs.Checking as checking;
+ghost use Rattle.rx_typeck_typed.specs.Typing as typing;
+ghost use Rattle.rx_typeck_typed.specs.declared.typed.TypeFault.TheVariants as fault;
 
-use crate::typed::{TypeFault, Typed, TypedFn};
 use rx_core::{List, Span, keep, pushed};
-use rx_resolve::{NodeNames, Resolved};
+use rx_resolve_names::{NodeNames, Resolved};
 use rx_tree::{Func, Item, ItemNode, Program};
 use rx_typeck_declare::{DeclareFault, declare, declared_are_finite, declared_are_well_formed};
 use rx_typeck_demands::asked;
@@ -26,6 +26,7 @@ use rx_typeck_elaborate_parts::NodeTypes;
 use rx_typeck_let_types::{AnnotatedVariable, annotated};
 use rx_typeck_rules::demands_are_orderly;
 use rx_typeck_solver::{Broken, Demand, Found, Unsolved, solve};
+use rx_typeck_typed::{TypeFault, Typed, TypedFn};
 use rx_typed::{Declaration, Decls};
 use rx_typed_declarations::{recorded, sizes};
 use std::alloc::{AllocError, Global};
@@ -68,7 +69,7 @@ fn described_by(
     variables: &[Declaration],
     spans: List<Span>,
 ) -> Result<Described, AllocError>
-    ensures { IfOk result (λ it. it ≡ typing.described_by names.now variables.now spans) }
+    ensures { IfOk result (λ it. it ≡ checking.described_by names.now variables.now spans) }
 {
     let names = List::from_slice(alloc, names)?;
     let mutable = mutability(alloc, variables)?;
@@ -144,7 +145,7 @@ impl<'t> Check<'t> {
         names: &List<NodeNames>,
         variables: &[Span],
     ) -> Result<Question, AllocError>
-        ensures { IfOk result (λ it. typing.IsQuestion (typing.given_of self.now) item span (plain-Func function.now) names.now variables.now it) }
+        ensures { IfOk result (λ it. checking.IsQuestion (checking.given_of self.now) item span (plain-Func function.now) names.now variables.now it) }
     {
         let task = asked(self.alloc, item, span, function, names)?;
         let written = task.annotations.as_slice();
@@ -171,10 +172,10 @@ impl<'t> Check<'t> {
         annotations: List<AnnotatedVariable>,
         found: Found,
     ) -> Result<TypedFn, AllocError>
-        ensures { (solved : solver.Solved) (variables : List Span) → IsFound solved (declarations self.now.decls.now.items) found → IsSolved (typing.known_of self.now) (task (function_named item span (plain-Func function.now) names.now)) solved
-            → described ≡ typing.described span (plain-Func function.now) names.now variables
-            → typing.IsAnnotated (typing.given_of self.now) item span (plain-Func function.now) names.now annotations
-            → IfOk result (λ t. typing.FunctionTyped (typing.given_of self.now) item span (plain-Func function.now) names.now variables t) }
+        ensures { (solved : solver.Solved) (variables : List Span) → IsFound solved (declarations self.now.decls.now.items) found → IsSolved (checking.known_of self.now) (task (function_named item span (plain-Func function.now) names.now)) solved
+            → described ≡ checking.described span (plain-Func function.now) names.now variables
+            → typing.IsAnnotated (checking.given_of self.now) item span (plain-Func function.now) names.now annotations
+            → IfOk result (λ t. typing.FunctionTyped (checking.given_of self.now) item span (plain-Func function.now) names.now variables t) }
     {
         let types = NodeTypes {
             nodes: found.nodes,
@@ -205,9 +206,9 @@ impl<'t> Check<'t> {
         variables: &[Span],
         question: Question,
     ) -> Result<TypedFn, TypeFault>
-        requires { typing.IsQuestion (typing.given_of self.now) item span (plain-Func function.now) names.now variables.now question }
-        ensures typed { IfOk result (λ t. typing.FunctionTyped (typing.given_of self.now) item span (plain-Func function.now) names.now variables.now t) }
-        ensures untyped { IfErr result (λ e. e ≢ fault.OutOfMemory → typing.FunctionUntyped (typing.known_of self.now) (function_named item span (plain-Func function.now) names.now) variables.now e) }
+        requires { checking.IsQuestion (checking.given_of self.now) item span (plain-Func function.now) names.now variables.now question }
+        ensures typed { IfOk result (λ t. typing.FunctionTyped (checking.given_of self.now) item span (plain-Func function.now) names.now variables.now t) }
+        ensures untyped { IfErr result (λ e. e ≢ fault.OutOfMemory → typing.FunctionUntyped (checking.known_of self.now) (function_named item span (plain-Func function.now) names.now) variables.now e) }
     {
         demands_are_orderly();
         match solve(
@@ -241,8 +242,8 @@ impl<'t> Check<'t> {
         names: &List<NodeNames>,
         variables: &[Span],
     ) -> Result<TypedFn, TypeFault>
-        ensures typed { IfOk result (λ t. typing.FunctionTyped (typing.given_of self.now) item span (plain-Func function.now) names.now variables.now t) }
-        ensures untyped { IfErr result (λ e. e ≢ fault.OutOfMemory → typing.FunctionUntyped (typing.known_of self.now) (function_named item span (plain-Func function.now) names.now) variables.now e) }
+        ensures typed { IfOk result (λ t. typing.FunctionTyped (checking.given_of self.now) item span (plain-Func function.now) names.now variables.now t) }
+        ensures untyped { IfErr result (λ e. e ≢ fault.OutOfMemory → typing.FunctionUntyped (checking.known_of self.now) (function_named item span (plain-Func function.now) names.now) variables.now e) }
     {
         match self.question(item, span, function, names, variables) {
             Ok(question) => self.answered(item, span, function, names, variables, question),
@@ -253,8 +254,8 @@ impl<'t> Check<'t> {
     /// A function with its types, by its item's number.
     fn function_at(&self, item: usize, span: Span, function: &Func) -> Result<TypedFn, TypeFault>
         requires { item < 4294967296 }
-        ensures typed { IfOk result (λ t. typing.FunctionTyped (typing.given_of self.now) item span (plain-Func function.now) (typing.entries (slice_get self.now.names.now.items item)) (typing.variables_at (slice_get self.now.names.now.items item)) t) }
-        ensures untyped { IfErr result (λ e. e ≢ fault.OutOfMemory → typing.FunctionUntyped (typing.known_of self.now) (function_named item span (plain-Func function.now) (typing.entries (slice_get self.now.names.now.items item))) (typing.variables_at (slice_get self.now.names.now.items item)) e) }
+        ensures typed { IfOk result (λ t. typing.FunctionTyped (checking.given_of self.now) item span (plain-Func function.now) (typing.entries (slice_get self.now.names.now.items item)) (typing.variables_at (slice_get self.now.names.now.items item)) t) }
+        ensures untyped { IfErr result (λ e. e ≢ fault.OutOfMemory → typing.FunctionUntyped (checking.known_of self.now) (function_named item span (plain-Func function.now) (typing.entries (slice_get self.now.names.now.items item))) (typing.variables_at (slice_get self.now.names.now.items item)) e) }
     {
         match self.names.items.get(item) {
             Some(table) => {
@@ -276,8 +277,8 @@ impl<'t> Check<'t> {
         all: List<TypedFn>,
     ) -> Result<List<TypedFn>, TypeFault>
         requires { number < 4294967296 }
-        ensures typed { IfOk result (λ new. typing.ItemTyped (typing.given_of self.now) self.now.names.now.items number (plain-Item item.now) all new) }
-        ensures untyped { IfErr result (λ e. e ≢ fault.OutOfMemory → typing.ItemUntyped (typing.known_of self.now) self.now.names.now.items number (plain-Item item.now) e) }
+        ensures typed { IfOk result (λ new. checking.ItemTyped (checking.given_of self.now) self.now.names.now.items number (plain-Item item.now) all new) }
+        ensures untyped { IfErr result (λ e. e ≢ fault.OutOfMemory → checking.ItemUntyped (checking.known_of self.now) self.now.names.now.items number (plain-Item item.now) e) }
     {
         match &item.node {
             ItemNode::Func(function) => {
@@ -296,8 +297,8 @@ impl<'t> Check<'t> {
     /// The functions with their types, in the order of the text.
     fn functions(&self, items: &[Item]) -> Result<List<TypedFn>, TypeFault>
         requires { length items.now < 4294967296 }
-        ensures typed { IfOk result (λ ts. typing.FunctionsTyped (typing.given_of self.now) self.now.names.now.items 0 (map plain-Item items.now) ts) }
-        ensures untyped { IfErr result (λ e. e ≢ fault.OutOfMemory → typing.FirstUntyped (typing.known_of self.now) self.now.names.now.items 0 (map plain-Item items.now) e) }
+        ensures typed { IfOk result (λ ts. typing.FunctionsTyped (checking.given_of self.now) self.now.names.now.items 0 (map plain-Item items.now) ts) }
+        ensures untyped { IfErr result (λ e. e ≢ fault.OutOfMemory → typing.FirstUntyped (checking.known_of self.now) self.now.names.now.items 0 (map plain-Item items.now) e) }
     {
         let mut all = List::new(self.alloc);
         for number in 0..items.len() {
@@ -319,8 +320,8 @@ fn typed_functions(
 ) -> Result<List<TypedFn>, TypeFault>
     requires numbered { IsNumbered (plain-Program program.now) }
     requires declares { Declares (plain-Program program.now) names.now.items decls.now.items }
-    ensures typed { IfOk result (λ ts. typing.TypedBy (plain-Program program.now) names.now.items decls.now.items ts) }
-    ensures untyped { IfErr result (λ e. e ≢ fault.OutOfMemory → typing.UntypedBy (plain-Program program.now) names.now.items decls.now.items e) }
+    ensures typed { IfOk result (λ ts. checking.TypedBy (plain-Program program.now) names.now.items decls.now.items ts) }
+    ensures untyped { IfErr result (λ e. e ≢ fault.OutOfMemory → checking.UntypedBy (plain-Program program.now) names.now.items decls.now.items e) }
 {
     declared_are_finite();
     match sizes(alloc, decls) {

@@ -2,11 +2,9 @@
 #![tactic(auto)]
 
 mod check;
-mod laws;
-mod readers;
-mod typed;
 
 pub use check::typecheck;
-pub use laws::{one_typed_program, typed_declarations_are_finite, typed_or_wrong};
-pub use rx_typeck_elaborate_parts::Coercion;
-pub use typed::{TypeFault, Typed, TypedFn};
+pub use rx_typeck_typed::{
+    Coercion, TypeFault, Typed, TypedFn, one_typed_program, typed_declarations_are_finite,
+    typed_or_wrong,
+};

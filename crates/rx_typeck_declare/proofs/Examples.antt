@@ -10,9 +10,9 @@ use Rattle.rx_tree.specs.declared.tree.BoundLifetime.{BoundLifetime}
 use Rattle.rx_tree.specs.Plain as plain
 use Rattle.rx_tree.specs.Plain.{TypeTree, Body, FieldOf, Parameter, ItemTree, ProgramTree}
 use Rattle.rx_tree.specs.Spans.{program_span}
-use Rattle.rx_resolve.specs.Steps as resolve_steps
-use Rattle.rx_resolve.specs.Items.{in_program}
-use Rattle.rx_resolve.specs.declared.resolved.ItemNames.{ItemNames}
+use Rattle.rx_resolve_names.specs.Steps as resolve_steps
+use Rattle.rx_resolve_names.specs.Items.{in_program}
+use Rattle.rx_resolve_names.specs.declared.resolved.ItemNames.{ItemNames}
 use Rattle.rx_typed.specs.declared.declarations.Decl.TheVariants as decl
 use Rattle.rx_typeck_solver.specs.declared.facts.Rule.{Rule}
 use Rattle.rx_typeck_declare.specs.declared.fault.DeclareFault.TheVariants as fault

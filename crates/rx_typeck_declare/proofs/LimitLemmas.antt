@@ -11,7 +11,7 @@ use Rattle.rx_typed.specs.PlainTypes.{typ_integer, typ_boolean, typ_tuple, typ_s
 use Rattle.rx_typed_declarations.specs.Held.{held}
 use Rattle.rx_typed_declarations.specs.Sizes.{Sized, IsSizes, told, capped}
 use Rattle.rx_tree.specs.Plain.{ProgramTree}
-use Rattle.rx_resolve.specs.Holding.{name_span}
+use Rattle.rx_resolve_names.specs.Holding.{name_span}
 use Rattle.rx_typeck_declare.specs.Steps.{Outcome, on_ok}
 use Rattle.rx_typeck_declare.specs.Limits.{all_fit, item_fits, levels_fit, fits_at, Limited, Limits}
 

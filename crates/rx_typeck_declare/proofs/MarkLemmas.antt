@@ -3,7 +3,7 @@ use Rattle.std.proofs.Common.{◌≡◌, ℕ, zero, suc, ◌+◌, ◌<◌, ◌�
 use Rattle.std.proofs.Common.{length, get_or, slice_set, replicate, Ok, Err, refl, sym, ap, subst, ◌∙◌, arith}
 use Rattle.std.proofs.lemmas.List.{get_or-replicate}
 use Rattle.rx_tree.specs.declared.tree.Ident.{Ident}
-use Rattle.rx_resolve.specs.Meant.{number}
+use Rattle.rx_resolve_names.specs.Meant.{number}
 use Rattle.rx_typeck_solver.specs.declared.facts.Rule.{Rule}
 use Rattle.rx_typeck_declare.specs.declared.fault.DeclareFault.TheVariants as fault
 use Rattle.rx_typeck_declare.specs.Steps.{on_ok}

@@ -11,14 +11,14 @@ use Rattle.rx_tree.specs.Plain as plain
 use Rattle.rx_tree.specs.Plain.{TypeTree, TypeTrees, FieldOf, VariantOf, Structure, Enumeration, Function, ItemTree, ProgramTree}
 use Rattle.rx_resolve_scope.specs.declared.table.Known.{Known}
 use Rattle.rx_resolve_scope.specs.Scopes.{Declared, declared_as}
-use Rattle.rx_resolve.specs.declared.resolved.ItemNames.{ItemNames}
-use Rattle.rx_resolve.specs.declared.resolved.NodeNames.{NodeNames}
-use Rattle.rx_resolve.specs.Meant.{number, type_name, item_named, has_name, as_type, number_in, firsts, kept, lifetimes_declared}
-use Rattle.rx_resolve.specs.Steps as names
-use Rattle.rx_resolve.specs.Steps.{Inside, child, next, entry, with_names, ◌>>◌}
-use Rattle.rx_resolve.specs.Names.{lifetimes_in, written, in_type, in_types, behind}
-use Rattle.rx_resolve.specs.Causes.{Meant}
-use Rattle.rx_resolve.specs.Items.{in_declared, in_variants, in_item, in_items, distinct, apart}
+use Rattle.rx_resolve_names.specs.declared.resolved.ItemNames.{ItemNames}
+use Rattle.rx_resolve_names.specs.declared.resolved.NodeNames.{NodeNames}
+use Rattle.rx_resolve_names.specs.Meant.{number, type_name, item_named, has_name, as_type, number_in, firsts, kept, lifetimes_declared}
+use Rattle.rx_resolve_names.specs.Steps as names
+use Rattle.rx_resolve_names.specs.Steps.{Inside, child, next, entry, with_names, ◌>>◌}
+use Rattle.rx_resolve_names.specs.Names.{lifetimes_in, written, in_type, in_types, behind}
+use Rattle.rx_resolve_names.specs.Causes.{Meant}
+use Rattle.rx_resolve_names.specs.Items.{in_declared, in_variants, in_item, in_items, distinct, apart}
 use Rattle.rx_tree.specs.Positions.{NodeTree}
 use Rattle.rx_tree.specs.Nodes.{nodes, total, greatest, below_item}
 use Rattle.rx_tree.specs.Size.{item_lifetimes, lifetimes_at as lifetimes_counted, longest_of_item, longest_at, IsNumbered}

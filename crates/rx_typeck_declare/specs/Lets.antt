@@ -3,7 +3,7 @@ use Rattle.std.specs.Prelude.{ℕ, List, [], Ok, Err}
 use Rattle.rx_core.specs.declared.types.Ty.{Ty}
 use Rattle.rx_core.specs.declared.types.Ty.TheVariants as ty
 use Rattle.rx_tree.specs.Plain.{TypeTree, ProgramTree}
-use Rattle.rx_resolve.specs.declared.resolved.NodeNames.{NodeNames}
+use Rattle.rx_resolve_names.specs.declared.resolved.NodeNames.{NodeNames}
 use Rattle.rx_typeck_declare.specs.declared.reader.Role.TheVariants as role
 use Rattle.rx_typeck_declare.specs.Steps.{Outcome, Reading}
 use Rattle.rx_typeck_declare.specs.Written.{type_of}

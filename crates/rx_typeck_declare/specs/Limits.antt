@@ -3,7 +3,7 @@ use Rattle.std.specs.Prelude.{◌≡◌, ◌≢◌, ℕ, suc, nat_le, Bool, true
 use Rattle.std.specs.Prelude.{Some, None, Ok, Err, slice_get}
 use Rattle.rx_core.specs.declared.types.Span.{Span}
 use Rattle.rx_tree.specs.Plain.{ItemTree, ProgramTree}
-use Rattle.rx_resolve.specs.Holding.{name_span}
+use Rattle.rx_resolve_names.specs.Holding.{name_span}
 use Rattle.rx_graph_cycles.specs.Reaches.{NoCycle, FirstOnCycle}
 use Rattle.rx_typed.specs.Types.{Typ, FieldDeclared, VariantDeclared, Declared, struct_declared, enum_declared}
 use Rattle.rx_typed.specs.Types.{Declarations, levels}

@@ -2,7 +2,7 @@
 use Rattle.std.specs.Prelude.{ℕ, suc, Bool, true, false, if◌then◌else◌, List, [], ◌∷◌, Ok, Err, slice_set}
 use Rattle.std.specs.Prelude.{slice_index_or}
 use Rattle.rx_tree.specs.declared.tree.Ident.{Ident}
-use Rattle.rx_resolve.specs.Meant.{number}
+use Rattle.rx_resolve_names.specs.Meant.{number}
 use Rattle.rx_typeck_solver.specs.declared.facts.Rule.{Rule}
 use Rattle.rx_typeck_declare.specs.declared.fault.DeclareFault.TheVariants as fault
 use Rattle.rx_typeck_declare.specs.Steps.{Outcome, on_ok}

@@ -10,7 +10,7 @@ use Rattle.rx_tree.specs.declared.tree.Derive.{Derive}
 use Rattle.rx_tree.specs.Plain as plain
 use Rattle.rx_tree.specs.Plain.{TypeTree, Parameter, Function, ItemTree, ProgramTree}
 use Rattle.rx_tree.specs.Spans.{program_span}
-use Rattle.rx_resolve.specs.declared.resolved.ItemNames.{ItemNames}
+use Rattle.rx_resolve_names.specs.declared.resolved.ItemNames.{ItemNames}
 use Rattle.rx_typed.specs.declared.declarations.Decl.{Decl}
 use Rattle.rx_typed.specs.Types.{Typ, FieldDeclared, VariantDeclared, Declared, struct_declared, enum_declared}
 use Rattle.rx_typed.specs.Types.{Declarations, copies}

@@ -1,7 +1,7 @@
 -- Steps of reading the types of an item: each takes the entries of names that it needs, in the order of the text, or
 -- says what is wrong; the first fault counts.
 use Rattle.std.specs.Prelude.{◌≡◌, ◌≢◌, ℕ, suc, List, [], ◌∷◌, ◌++◌, get_or, drop, Result, Ok, Err}
-use Rattle.rx_resolve.specs.declared.resolved.NodeNames.{NodeNames}
+use Rattle.rx_resolve_names.specs.declared.resolved.NodeNames.{NodeNames}
 use Rattle.rx_typeck_declare.specs.declared.fault.DeclareFault.{DeclareFault}
 use Rattle.rx_typeck_declare.specs.declared.fault.DeclareFault.TheVariants as fault
 

@@ -10,7 +10,7 @@ use crate::fault::DeclareFault;
 use crate::reader::{Reader, Role, begins, first, number, others, push};
 use crate::types::Types;
 use rx_core::{Bound, List, Ty};
-use rx_resolve::NodeNames;
+use rx_resolve_names::NodeNames;
 use rx_tree::{BoundLifetime, Func, Ident, Param, TypeText};
 use rx_typed::Decl;
 use std::alloc::Global;

@@ -11,7 +11,7 @@ use crate::marks::all_used;
 use crate::reader::{Reader, Role, begins, number, push};
 use crate::types::Types;
 use rx_core::{List, Name};
-use rx_resolve::NodeNames;
+use rx_resolve_names::NodeNames;
 use rx_tree::{Derive, Enum, EnumVariant, Field, Struct};
 use rx_typed::{Decl, FieldDecl, VariantDecl};
 use std::alloc::{AllocError, Global};

@@ -3,8 +3,8 @@
 ghost use Rattle.std.specs.Prelude.{ℕ, ◌<◌, List, length, slice_get};
 ghost use Rattle.rx_tree.specs.Plain.{ProgramTree};
 ghost use Rattle.rx_tree.specs.Size.{IsNumbered};
-ghost use Rattle.rx_resolve.specs.declared.resolved.ItemNames.{ItemNames};
-ghost use Rattle.rx_resolve.specs.Causes.{Meant};
+ghost use Rattle.rx_resolve_names.specs.declared.resolved.ItemNames.{ItemNames};
+ghost use Rattle.rx_resolve_names.specs.Causes.{Meant};
 ghost use Rattle.rx_typed.specs.declared.declarations.Decl.{Decl};
 ghost use Rattle.rx_graph_cycles.specs.Reaches.{NoCycle};
 ghost use Rattle.rx_typed.specs.Types.{Declarations, variants_declared};

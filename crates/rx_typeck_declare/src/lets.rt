@@ -8,7 +8,7 @@ use crate::fault::DeclareFault;
 use crate::reader::{Role, begins};
 use crate::types::Types;
 use rx_core::{List, Ty};
-use rx_resolve::NodeNames;
+use rx_resolve_names::NodeNames;
 use rx_tree::{Item, TypeText};
 use std::alloc::{AllocError, Global};
 

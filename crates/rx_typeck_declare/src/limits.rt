@@ -5,7 +5,7 @@ ghost use Rattle.rx_tree.specs.PlainOf.{plain-Item};
 ghost use Rattle.rx_typed.specs.Types as types;
 ghost use Rattle.rx_typed_declarations.specs.Sizes as sizes_of;
 ghost use Rattle.rx_typed.specs.PlainTypes.{declarations, plain-Ty, plain-FieldDecl, plain-VariantDecl};
-ghost use Rattle.rx_resolve.specs.Holding.{name_span as span_of_name};
+ghost use Rattle.rx_resolve_names.specs.Holding.{name_span as span_of_name};
 ghost use Rattle.rx_typeck_declare.specs.Limits as limits;
 
 use crate::fault::DeclareFault;

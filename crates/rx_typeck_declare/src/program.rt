@@ -17,7 +17,7 @@ use crate::limits::within_limits;
 use crate::reader::push;
 use crate::types::Types;
 use rx_core::{List, Span};
-use rx_resolve::{NodeNames, Resolved};
+use rx_resolve_names::{NodeNames, Resolved};
 use rx_tree::{Func, Item, ItemNode, Program};
 use rx_typeck_solver::Rule;
 use rx_typed::{Decl, Decls};

@@ -2,7 +2,7 @@
 
 ghost use Rattle.std.specs.Prelude.{◌≡◌, [], ◌∷◌, ◌++◌, Ok, map};
 ghost use Rattle.rx_tree.specs.PlainOf.{plain-Param};
-ghost use Rattle.rx_resolve.specs.Meant as meant;
+ghost use Rattle.rx_resolve_names.specs.Meant as meant;
 ghost use Rattle.rx_typeck_declare.specs.Steps as steps;
 ghost use Rattle.rx_typeck_declare.specs.Written as written;
 ghost use Rattle.rx_typeck_declare.specs.Items as items;
@@ -10,7 +10,7 @@ ghost use Rattle.rx_typeck_declare.specs.Readers.{reading};
 
 use crate::fault::DeclareFault;
 use rx_core::{LetGo, List, Span};
-use rx_resolve::NodeNames;
+use rx_resolve_names::NodeNames;
 use rx_tree::{Ident, Param};
 use std::alloc::{AllocError, Global};
 

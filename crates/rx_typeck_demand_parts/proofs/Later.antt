@@ -1,7 +1,7 @@
 -- What a pattern is with numbers depends on the place in the text alone, so it can be told later.
 use Rattle.std.proofs.Common.{◌≡◌, List, [], ◌∷◌, refl, ap, sym, ◌∙◌}
 use Rattle.rx_core.specs.declared.types.Span.{Span}
-use Rattle.rx_resolve.specs.declared.resolved.NodeNames.{NodeNames}
+use Rattle.rx_resolve_names.specs.declared.resolved.NodeNames.{NodeNames}
 use Rattle.rx_tree.specs.declared.tree.Pattern.{Pattern}
 use Rattle.rx_tree.specs.Plain as plain
 use Rattle.rx_tree.specs.Plain.{PatternTree, PatternTrees, FieldPatterns}

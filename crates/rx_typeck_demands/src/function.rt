@@ -13,7 +13,7 @@ ghost use Rattle.rx_typeck_demands.specs.Whole as whole;
 
 use crate::blocks::body;
 use rx_core::{List, Span};
-use rx_resolve::NodeNames;
+use rx_resolve_names::NodeNames;
 use rx_tree::{Block, BoundLifetime, Func, Param, TypeText};
 use rx_typeck_demand_parts::{Walk, type_of};
 use rx_typeck_numbering::{Annotation, Cursor};

@@ -11,7 +11,7 @@ ghost use Rattle.rx_typeck_elaborate_parts.specs.Walks as walks;
 
 use crate::statements::body_parts;
 use rx_core::{List, Span, keep};
-use rx_resolve::NodeNames;
+use rx_resolve_names::NodeNames;
 use rx_tree::{Block, Func};
 use rx_typeck_elaborate_parts::{Given, NodeTypes, Walk, give, has_entry};
 use rx_typeck_numbering::Cursor;

@@ -4,7 +4,7 @@ use Rattle.rx_tree.specs.declared.tree.TypeText.{TypeText}
 use Rattle.rx_tree.specs.Plain as plain
 use Rattle.rx_tree.specs.Plain.{PatternTree, PatternTrees, FieldPatterns}
 use Rattle.rx_tree.specs.PlainOf.{plain-TypeText}
-use Rattle.rx_resolve.specs.declared.resolved.NodeNames.{NodeNames}
+use Rattle.rx_resolve_names.specs.declared.resolved.NodeNames.{NodeNames}
 use Rattle.rx_typed.specs.declared.nodes.Site.{Site}
 use Rattle.rx_typed.specs.Named as named
 use Rattle.rx_typed.specs.Named.{Pattern}

@@ -5,8 +5,8 @@ use Rattle.rx_core.specs.declared.types.Span.{Span}
 use Rattle.rx_core.specs.declared.types.Ty.{Ty}
 use Rattle.rx_tree.specs.Plain as plain
 use Rattle.rx_tree.specs.Plain.{Function, ProgramTree}
-use Rattle.rx_resolve.specs.declared.resolved.ItemNames.{ItemNames}
-use Rattle.rx_resolve.specs.declared.resolved.NodeNames.{NodeNames}
+use Rattle.rx_resolve_names.specs.declared.resolved.ItemNames.{ItemNames}
+use Rattle.rx_resolve_names.specs.declared.resolved.NodeNames.{NodeNames}
 use Rattle.rx_typed.specs.Named as named
 use Rattle.rx_typed.specs.Naming.{function_named, function_variables}
 use Rattle.rx_typeck_solver.specs.declared.facts.Subject.{Subject}
@@ -14,9 +14,9 @@ use Rattle.rx_typeck_solver.specs.declared.facts.Subject.TheVariants as subject
 use Rattle.rx_typeck_solver.specs.Facts.{Types, Known}
 use Rattle.rx_typeck_solver.specs.Valid.{Told}
 use Rattle.rx_typeck_rules.specs.Demands.{demands}
-use Rattle.rx_typeck.specs.declared.typed.Typed.{Typed}
-use Rattle.rx_typeck.specs.declared.typed.TypedFn.{TypedFn}
-use Rattle.rx_typeck.specs.Typing.{Given, known_in, is_mutable, type_at, TypeIs, FunctionTyped, FunctionsTyped, IsTyped}
+use Rattle.rx_typeck_typed.specs.declared.typed.Typed.{Typed}
+use Rattle.rx_typeck_typed.specs.declared.typed.TypedFn.{TypedFn}
+use Rattle.rx_typeck_typed.specs.Typing.{Given, known_in, is_mutable, type_at, TypeIs, FunctionTyped, FunctionsTyped, IsTyped}
 use Rattle.rx_typeck_laws.specs.HaveTypes.{HasType, AllTyped, EachTyped}
 use Rattle.rx_typeck_laws.proofs.FunctionWalks.{variable_sure, node_sure}
 use Rattle.rx_typeck_laws.proofs.Numbered.{all_numbered}

@@ -11,12 +11,12 @@ use Rattle.rx_tree.specs.Nodes.{nodes, total, below_item}
 use Rattle.rx_tree.specs.Size.{item_lifetimes, lifetimes_at as lifetimes_counted, IsNumbered}
 use Rattle.rx_resolve_scope.specs.declared.table.Known.{Known}
 use Rattle.rx_resolve_scope.specs.Scopes.{Declared, declared_as}
-use Rattle.rx_resolve.specs.declared.resolved.ItemNames.{ItemNames}
-use Rattle.rx_resolve.specs.declared.resolved.NodeNames.{NodeNames}
-use Rattle.rx_resolve.specs.Meant.{number, type_name, item_named, has_name, as_type, number_in, firsts, kept}
-use Rattle.rx_resolve.specs.Steps as names
-use Rattle.rx_resolve.specs.Causes.{Meant}
-use Rattle.rx_resolve.specs.Items.{in_item, in_items, apart}
+use Rattle.rx_resolve_names.specs.declared.resolved.ItemNames.{ItemNames}
+use Rattle.rx_resolve_names.specs.declared.resolved.NodeNames.{NodeNames}
+use Rattle.rx_resolve_names.specs.Meant.{number, type_name, item_named, has_name, as_type, number_in, firsts, kept}
+use Rattle.rx_resolve_names.specs.Steps as names
+use Rattle.rx_resolve_names.specs.Causes.{Meant}
+use Rattle.rx_resolve_names.specs.Items.{in_item, in_items, apart}
 use Rattle.rx_typed.specs.PlainTypes.{plain-Decl, declarations}
 use Rattle.rx_typed.proofs.Items.{declared_at}
 use Rattle.rx_typed.specs.declared.declarations.Decl.{Decl}

@@ -14,3 +14,5 @@ mod ExpressionWalks
 mod FunctionWalks
 mod Having
 mod Numbered
+mod Exact
+mod Same

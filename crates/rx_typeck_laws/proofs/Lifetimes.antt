@@ -2,10 +2,10 @@
 use Rattle.std.proofs.Common.{◌≡◌, ℕ, suc, ◌≤◌, Bool, true, false, ◌&&◌, nat_lt, List, [], ◌∷◌, ◌++◌, length, Option, Some, None, Ok, Err, refl, ap, subst, ◌∙◌, arith, lt-ltb}
 use Rattle.rx_core.specs.declared.types.Span.{Span}
 use Rattle.rx_tree.specs.declared.tree.Ident.{Ident}
-use Rattle.rx_resolve.specs.Meant.{number_in}
-use Rattle.rx_resolve.specs.Steps as names
-use Rattle.rx_resolve.specs.Steps.{Inside}
-use Rattle.rx_resolve.specs.Names.{lifetime_in, lifetimes_in, written}
+use Rattle.rx_resolve_names.specs.Meant.{number_in}
+use Rattle.rx_resolve_names.specs.Steps as names
+use Rattle.rx_resolve_names.specs.Steps.{Inside}
+use Rattle.rx_resolve_names.specs.Names.{lifetime_in, lifetimes_in, written}
 use Rattle.rx_typed_declarations.specs.WellFormed.{all_below}
 use Rattle.rx_typeck_declare.specs.Steps as steps
 use Rattle.rx_typeck_declare.specs.Steps.{Reading, on_ok, occurs, another}

@@ -6,13 +6,13 @@ use Rattle.rx_core.specs.declared.types.Ty.TheVariants as ty
 use Rattle.rx_tree.specs.declared.tree.Ident.{Ident}
 use Rattle.rx_tree.specs.Plain as plain
 use Rattle.rx_tree.specs.Plain.{TypeTree, TypeTrees, Parameter, ProgramTree}
-use Rattle.rx_resolve.specs.declared.resolved.ItemNames.{ItemNames}
-use Rattle.rx_resolve.specs.declared.resolved.NodeNames.{NodeNames}
-use Rattle.rx_resolve.specs.Meant.{type_name, item_named, as_type}
-use Rattle.rx_resolve.specs.Steps as names
-use Rattle.rx_resolve.specs.Steps.{Inside, child, next, entry, with_names, with_variable}
-use Rattle.rx_resolve.specs.Names.{Bound, lifetimes_in, written, in_type, in_types, in_optional_type}
-use Rattle.rx_resolve.specs.Items.{in_parameter, in_parameters}
+use Rattle.rx_resolve_names.specs.declared.resolved.ItemNames.{ItemNames}
+use Rattle.rx_resolve_names.specs.declared.resolved.NodeNames.{NodeNames}
+use Rattle.rx_resolve_names.specs.Meant.{type_name, item_named, as_type}
+use Rattle.rx_resolve_names.specs.Steps as names
+use Rattle.rx_resolve_names.specs.Steps.{Inside, child, next, entry, with_names, with_variable}
+use Rattle.rx_resolve_names.specs.Names.{Bound, lifetimes_in, written, in_type, in_types, in_optional_type}
+use Rattle.rx_resolve_names.specs.Items.{in_parameter, in_parameters}
 use Rattle.rx_typed.specs.declared.nodes.Node.{Node}
 use Rattle.rx_typed.specs.declared.nodes.Site.{Site}
 use Rattle.rx_typed.specs.declared.nodes.Stage.{Stage}

@@ -4,11 +4,11 @@ use Rattle.rx_tree.specs.declared.tree.Ident.{Ident}
 use Rattle.rx_tree.specs.Plain as plain
 use Rattle.rx_tree.specs.Plain.{TypeTree, TypeTrees, PatternTree, PatternTrees, FieldPatterns, Expression, Expressions, OptionalExpression, OptionalExpressions, FieldExpressions, Statement, Statements}
 use Rattle.rx_resolve_scope.specs.Scopes.{Declared, Variables, variable_named, entered}
-use Rattle.rx_resolve.specs.declared.resolved.ItemNames.{ItemNames}
-use Rattle.rx_resolve.specs.declared.resolved.NodeNames.{NodeNames}
-use Rattle.rx_resolve.specs.Meant.{number, Around, a_loop, a_test}
-use Rattle.rx_resolve.specs.Steps.{Outcome, and_then, Naming, ◌>>◌, nothing, Inside, declare, child, next, with_loop, with_variable, position, entry, with_names, numbered, names}
-use Rattle.rx_resolve.specs.Names.{in_lifetime, in_type, in_types, Bound, Binding, binds, also, in_order, in_pattern, in_patterns, in_field_patterns, pattern_then, callee, in_loop, in_optional_type, initialiser_at, Scoped, in_expression, in_expressions, in_optional, in_arguments, in_fields, in_arms, in_block, in_statements, in_statement}
+use Rattle.rx_resolve_names.specs.declared.resolved.ItemNames.{ItemNames}
+use Rattle.rx_resolve_names.specs.declared.resolved.NodeNames.{NodeNames}
+use Rattle.rx_resolve_names.specs.Meant.{number, Around, a_loop, a_test}
+use Rattle.rx_resolve_names.specs.Steps.{Outcome, and_then, Naming, ◌>>◌, nothing, Inside, declare, child, next, with_loop, with_variable, position, entry, with_names, numbered, names}
+use Rattle.rx_resolve_names.specs.Names.{in_lifetime, in_type, in_types, Bound, Binding, binds, also, in_order, in_pattern, in_patterns, in_field_patterns, pattern_then, callee, in_loop, in_optional_type, initialiser_at, Scoped, in_expression, in_expressions, in_optional, in_arguments, in_fields, in_arms, in_block, in_statements, in_statement}
 
 -- entries were added
 abbrev pub Grown : ItemNames → ItemNames → Type 0

@@ -7,13 +7,13 @@ use Rattle.rx_tree.specs.declared.tree.Ident.{Ident}
 use Rattle.rx_tree.specs.declared.tree.BoundLifetime.{BoundLifetime}
 use Rattle.rx_tree.specs.Plain.{Parameter, Function}
 use Rattle.rx_resolve_scope.specs.Scopes.{Declared, Variables}
-use Rattle.rx_resolve.specs.declared.resolved.ItemNames.{ItemNames}
-use Rattle.rx_resolve.specs.declared.resolved.NodeNames.{NodeNames}
-use Rattle.rx_resolve.specs.Meant.{number, Around}
-use Rattle.rx_resolve.specs.Steps as names
-use Rattle.rx_resolve.specs.Steps.{Inside, entry, with_names, numbered}
-use Rattle.rx_resolve.specs.Names.{lifetime_in}
-use Rattle.rx_resolve.specs.Items.{bounds_in, lifetimes_of, numbers_from, in_function}
+use Rattle.rx_resolve_names.specs.declared.resolved.ItemNames.{ItemNames}
+use Rattle.rx_resolve_names.specs.declared.resolved.NodeNames.{NodeNames}
+use Rattle.rx_resolve_names.specs.Meant.{number, Around}
+use Rattle.rx_resolve_names.specs.Steps as names
+use Rattle.rx_resolve_names.specs.Steps.{Inside, entry, with_names, numbered}
+use Rattle.rx_resolve_names.specs.Names.{lifetime_in}
+use Rattle.rx_resolve_names.specs.Items.{bounds_in, lifetimes_of, numbers_from, in_function}
 use Rattle.rx_typed.specs.Named as named
 use Rattle.rx_typed.specs.Naming as naming
 use Rattle.rx_typed.specs.Naming.{Cursor, a_node, function_named}

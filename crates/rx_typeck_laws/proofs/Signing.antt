@@ -7,11 +7,11 @@ use Rattle.rx_tree.specs.declared.tree.BoundLifetime.{BoundLifetime}
 use Rattle.rx_tree.specs.Plain as plain
 use Rattle.rx_tree.specs.Plain.{Function, ItemTree, ProgramTree}
 use Rattle.rx_tree.specs.Size.{item_lifetimes, IsNumbered}
-use Rattle.rx_resolve.specs.declared.resolved.ItemNames.{ItemNames}
-use Rattle.rx_resolve.specs.Meant.{number, firsts, lifetimes_declared}
-use Rattle.rx_resolve.specs.Steps.{Inside}
-use Rattle.rx_resolve.specs.Causes.{Meant}
-use Rattle.rx_resolve.specs.Items.{in_item}
+use Rattle.rx_resolve_names.specs.declared.resolved.ItemNames.{ItemNames}
+use Rattle.rx_resolve_names.specs.Meant.{number, firsts, lifetimes_declared}
+use Rattle.rx_resolve_names.specs.Steps.{Inside}
+use Rattle.rx_resolve_names.specs.Causes.{Meant}
+use Rattle.rx_resolve_names.specs.Items.{in_item}
 use Rattle.rx_typed.specs.declared.declarations.Decl.{Decl}
 use Rattle.rx_typed.specs.declared.declarations.Decl.TheVariants as decl
 use Rattle.rx_typed.specs.Naming.{function_named}
@@ -23,9 +23,9 @@ use Rattle.rx_typeck_declare.specs.Steps.{Outcome, on_ok}
 use Rattle.rx_typeck_declare.specs.Items.{begins, bounded, bounds_of, entry_of, parameters_of, answer_of, declared_item, declared_function, entries_of}
 use Rattle.rx_typeck_solver.specs.Facts.{Types, Known, MeetsEach}
 use Rattle.rx_typeck_rules.specs.Demands.{demands}
-use Rattle.rx_typeck.specs.declared.typed.Typed.{Typed}
-use Rattle.rx_typeck.specs.declared.typed.TypedFn.{TypedFn}
-use Rattle.rx_typeck.specs.Typing.{Given, known_in, entries, variables_at, FunctionTyped, FunctionsTyped, IsTyped}
+use Rattle.rx_typeck_typed.specs.declared.typed.Typed.{Typed}
+use Rattle.rx_typeck_typed.specs.declared.typed.TypedFn.{TypedFn}
+use Rattle.rx_typeck_typed.specs.Typing.{Given, known_in, entries, variables_at, FunctionTyped, FunctionsTyped, IsTyped}
 use Rattle.rx_typeck_laws.proofs.Lifetimes.{read_ok, both_true}
 use Rattle.rx_typeck_laws.proofs.Reading.{Within, ParametersCounted, ResultCounted}
 use Rattle.rx_typeck_laws.proofs.Counting.{function_parameters_counted, function_result_counted}

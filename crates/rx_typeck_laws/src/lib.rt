@@ -3,4 +3,6 @@
 
 mod laws;
 
-pub use laws::{all_have_types, signatures_are_well_formed};
+pub use laws::{
+    all_have_types, signatures_are_well_formed, sizes_are_sized, typed_sizes_are_sized,
+};

@@ -8,7 +8,7 @@ ghost use Rattle.rx_typeck_let_types.specs.Walks as walks;
 
 use crate::variables::AnnotatedVariable;
 use rx_core::{LetGo, List, Ty};
-use rx_resolve::NodeNames;
+use rx_resolve_names::NodeNames;
 use rx_tree::Item;
 use rx_typeck_declare::let_type;
 use rx_typeck_numbering::Annotation;

@@ -13,8 +13,8 @@ use Rattle.rx_tree.specs.Plain as plain
 use Rattle.rx_tree.specs.Plain.{TypeTree, TypeTrees, PatternTree, PatternTrees, FieldPatterns}
 use Rattle.rx_tree.specs.PlainOf.{plain-TypeText, plain-Pattern, plain-FieldPattern, types_of, patterns_of, field_patterns_of, type_is, pattern_is, field_pattern_is}
 use Rattle.rx_tree.specs.PlainOf.{type_kind, type_bool, type_tuple, type_ref, type_named, pattern_wild, pattern_bind, pattern_int, pattern_bool, pattern_tuple, pattern_variant, pattern_make}
-use Rattle.rx_resolve.specs.declared.resolved.NodeNames.{NodeNames}
-use Rattle.rx_resolve.specs.contracts.resolved.NodeNames as entry
+use Rattle.rx_resolve_names.specs.declared.resolved.NodeNames.{NodeNames}
+use Rattle.rx_resolve_names.specs.contracts.resolved.NodeNames as entry
 use Rattle.rx_typed.specs.Naming.{Annotation}
 
 -- ---- types

@@ -6,7 +6,7 @@ ghost use Rattle.rx_typed.specs.Naming as naming;
 ghost use Rattle.rx_typeck_numbering.specs.Entries.{entry_of, marked, left_at, plain_annotation, in_front};
 
 use rx_core::{List, Span};
-use rx_resolve::NodeNames;
+use rx_resolve_names::NodeNames;
 use rx_tree::{Expr, ExprNode, Pattern, TypeText};
 use rx_typed::{Declaration, Node, Site, Stage, Use};
 use std::alloc::{AllocError, Global};

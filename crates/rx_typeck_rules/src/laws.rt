@@ -3,7 +3,7 @@
 ghost use Rattle.std.specs.Prelude.{ℕ, List as ListOf};
 ghost use Rattle.rx_core.specs.declared.types.Span.{Span};
 ghost use Rattle.rx_tree.specs.Plain.{Function};
-ghost use Rattle.rx_resolve.specs.declared.resolved.NodeNames.{NodeNames};
+ghost use Rattle.rx_resolve_names.specs.declared.resolved.NodeNames.{NodeNames};
 ghost use Rattle.rx_typed.specs.Naming.{function_named};
 ghost use Rattle.rx_typeck_solver.specs.Ordered.{Orderly};
 ghost use Rattle.rx_typeck_rules.specs.Demands.{task};

@@ -16,7 +16,8 @@ use rx_lower_flow::{Place, Root, Temporary};
 use rx_parse::{parse, parsed_programs_are_numbered};
 use rx_resolve::resolve;
 use rx_tree::Program;
-use rx_typeck::{Typed, TypedFn, typecheck};
+use rx_typeck::typecheck;
+use rx_typeck_typed::{Typed, TypedFn};
 use std::alloc::{AllocError, Global};
 
 /// What is asked of a function.

@@ -2,7 +2,7 @@
 
 ghost use Rattle.std.specs.Prelude.{◌≤◌, length};
 ghost use Rattle.rx_typed_declarations.specs.WellFormed.{WellFormed};
-ghost use Rattle.rx_resolve.specs.Causes.{Meant};
+ghost use Rattle.rx_resolve_names.specs.Causes.{Meant};
 ghost use Rattle.rx_tree.specs.PlainOf.{plain-Program};
 ghost use Rattle.rx_tree.specs.Size.{IsNumbered};
 
@@ -14,9 +14,11 @@ use rx_parse::{parse, parsed_programs_are_numbered};
 use rx_region::{constraints, known_pairs, missing, solve};
 use rx_region_constraints::Given;
 use rx_region_outlives::implied_by_fields;
-use rx_resolve::{Resolved, resolve};
+use rx_resolve::resolve;
+use rx_resolve_names::Resolved;
 use rx_tree::Program;
-use rx_typeck::{Typed, TypedFn, typecheck};
+use rx_typeck::typecheck;
+use rx_typeck_typed::{Typed, TypedFn};
 use rx_typed::Decls;
 use std::alloc::{AllocError, Global};
 

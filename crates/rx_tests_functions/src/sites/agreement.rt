@@ -4,7 +4,7 @@ use crate::holding::all_hold;
 use crate::sites::paths::agreed;
 use crate::sites::said::typed_text;
 use rx_tests_tables::{LINES, Outcome};
-use rx_typeck::Typed;
+use rx_typeck_typed::Typed;
 use std::alloc::{AllocError, Global};
 
 /// A text, and how many lists of at most 12 actions are walks of its first function and paths of its graph.

@@ -6,7 +6,7 @@ use rx_core::LetGo;
 use rx_lower::lower;
 use rx_lower_lifetimes::{Graph, LowerFault};
 use rx_tests_tables::{LINES, Outcome, push_times};
-use rx_typeck::Typed;
+use rx_typeck_typed::Typed;
 use std::alloc::{AllocError, Global};
 
 fn let_graph_go(graph: Graph) {

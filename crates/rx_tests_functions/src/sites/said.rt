@@ -4,15 +4,28 @@ ghost use Rattle.rx_tree.specs.PlainOf.{plain-Program};
 ghost use Rattle.rx_tree.specs.Size.{IsNumbered};
 
 use rx_core::{LetGo, List, Step};
-use rx_lower_emit::{GraphFault, Site};
+use rx_lower_emit::{GraphFault, Site, graph};
 use rx_lower_flow::{Act, Action, Place, Root, Temporary};
-use rx_lower_sites::sites;
+use rx_lower_order::flow_of;
 use rx_parse::{parse, parsed_programs_are_numbered};
 use rx_resolve::resolve;
 use rx_tree::Program;
-use rx_typeck::{Typed, typecheck};
+use rx_typeck::typecheck;
+use rx_typeck_typed::Typed;
 use rx_typed_tree::TypedTree;
 use std::alloc::{AllocError, Global};
+
+/// The graph of a function: its order of actions as a flow, and the sites of that flow.
+fn sites(alloc: Global, tree: &TypedTree) -> Result<List<Site>, GraphFault> {
+    match flow_of(alloc, tree) {
+        Ok(flow) => {
+            let answer = graph(alloc, &flow);
+            flow.let_go();
+            answer
+        }
+        Err(_) => Err(GraphFault::OutOfMemory),
+    }
+}
 
 fn push_number(
     alloc: Global,

@@ -2,17 +2,19 @@
 
 ghost use Rattle.rx_tree.specs.PlainOf.{plain-Program};
 ghost use Rattle.rx_tree.specs.Size.{IsNumbered};
-ghost use Rattle.rx_resolve.specs.Causes.{Meant};
+ghost use Rattle.rx_resolve_names.specs.Causes.{Meant};
 
 use crate::trying::search::Search;
 use crate::trying::shapes::number_of_type;
 use rx_core::{LetGo, List, Ty};
 use rx_parse::{parse, parsed_programs_are_numbered};
-use rx_resolve::{Resolved, resolve};
+use rx_resolve::resolve;
+use rx_resolve_names::Resolved;
 use rx_tree::{ItemNode, Program};
-use rx_typeck::{TypeFault, Typed, TypedFn, typecheck};
+use rx_typeck::typecheck;
 use rx_typeck_demands::{Task, asked};
 use rx_typeck_solver::Subject;
+use rx_typeck_typed::{TypeFault, Typed, TypedFn};
 use std::alloc::{AllocError, Global};
 use std::process::Abort;
 

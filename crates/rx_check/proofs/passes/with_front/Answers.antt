@@ -1,7 +1,7 @@
 use Rattle.std.proofs.Common.{sym, subst}
 use Rattle.std.specs.Prelude.{IfOk, IfErr}
 use Rattle.rx_tree.specs.Plain.{ProgramTree}
-use Rattle.rx_typeck.specs.declared.typed.Typed.{Typed}
+use Rattle.rx_typeck_typed.specs.declared.typed.Typed.{Typed}
 use Rattle.rx_check.specs.Causes.{BorrowCauses, BorrowedIn}
 use Rattle.rx_check.specs.Front.{Front, IsFrontOf, IsCheckedOf}
 use Rattle.rx_check.proofs.PassLemmas.{checked_of, behind_front}

@@ -1,5 +1,5 @@
 use Rattle.std.proofs.Common.{◌≡◌, ◌<◌, ◌≤◌, List, length, get_or, subst, arith}
-use Rattle.rx_typeck.specs.declared.typed.TypedFn.{TypedFn}
+use Rattle.rx_typeck_typed.specs.declared.typed.TypedFn.{TypedFn}
 use Rattle.rx_facts.specs.Answers.{IsGraphOf}
 use Rattle.rx_facts.proofs.Passing.{as_long, next_done, next_refused, end_done}
 use Rattle.rx_check_loans.specs.Functions.{AreRegionsOf, Borrows, MeetsLoan, AreLoansOf}

@@ -2,7 +2,7 @@ use Rattle.std.proofs.Common.{List, sym, subst}
 use Rattle.rx_typed.specs.PlainTypes.{declarations}
 use Rattle.rx_typed_declarations.specs.Sizes.{told}
 use Rattle.rx_region_outlives.specs.Implied.{pairs_of}
-use Rattle.rx_typeck.specs.declared.typed.TypedFn.{TypedFn}
+use Rattle.rx_typeck_typed.specs.declared.typed.TypedFn.{TypedFn}
 use Rattle.rx_facts.specs.declared.finding.FunctionFacts.{FunctionFacts}
 use Rattle.rx_facts.specs.Passing.{Each}
 use Rattle.rx_facts.specs.Answers.{AreFactsOf}

@@ -1,6 +1,6 @@
 use Rattle.std.proofs.Common.{get_or, sym, subst, arith}
 use Rattle.rx_region_outlives.specs.Implied.{pairs_of}
-use Rattle.rx_typeck.specs.declared.typed.TypedFn.{TypedFn}
+use Rattle.rx_typeck_typed.specs.declared.typed.TypedFn.{TypedFn}
 use Rattle.rx_facts.specs.declared.lowering.Lowered.{Lowered}
 use Rattle.rx_facts.specs.declared.finding.FunctionFacts.{FunctionFacts}
 use Rattle.rx_facts.specs.Answers.{IsGraphOf}

@@ -1,6 +1,6 @@
 use Rattle.std.proofs.Common.{List, ℕ, Err, subst}
 use Rattle.rx_typed.specs.PlainTypes.{declarations}
-use Rattle.rx_typeck.specs.declared.typed.TypedFn.{TypedFn}
+use Rattle.rx_typeck_typed.specs.declared.typed.TypedFn.{TypedFn}
 use Rattle.rx_typed_declarations.specs.Sizes.{told}
 use Rattle.rx_facts.specs.Answers.{EachAnswers}
 use Rattle.rx_facts.proofs.Telling.{facts_err}

@@ -1,6 +1,6 @@
 use Rattle.std.proofs.Common.{◌≡◌, ◌++◌, map, drop}
 use Rattle.rx_tree.specs.PlainOf.{plain-Param}
-use Rattle.rx_resolve.specs.Items.{numbers_from}
+use Rattle.rx_resolve_names.specs.Items.{numbers_from}
 use Rattle.rx_resolve.proofs.declarations.push_places.Given as goal
 
 abbrev pub invariant-loop-param : goal.invariant-loop-param

@@ -1,6 +1,6 @@
 use Rattle.std.proofs.Common.{◌≡◌, ◌-◌, suc, [], ap, sym, ◌∙◌, refl, arith, take}
 use Rattle.rx_resolve.specs.declared.walk.Around.TheVariants as form
-use Rattle.rx_resolve.specs.Meant.{target, to_loop}
+use Rattle.rx_resolve_names.specs.Meant.{target, to_loop}
 use Rattle.rx_resolve.specs.Walks.{around_from}
 use Rattle.rx_resolve.proofs.entries.target.Goals as goal
 use Rattle.rx_resolve.proofs.WalkLemmas.{past_test, past_loop, at_loop, beyond}

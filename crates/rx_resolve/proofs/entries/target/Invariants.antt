@@ -1,5 +1,5 @@
 use Rattle.std.proofs.Common.{◌≡◌, ◌≤◌, [], take, length}
-use Rattle.rx_resolve.specs.Meant.{target}
+use Rattle.rx_resolve_names.specs.Meant.{target}
 use Rattle.rx_resolve.specs.Walks.{around_from}
 use Rattle.rx_resolve.proofs.WalkLemmas.{beyond}
 use Rattle.rx_resolve.proofs.entries.target.Given as goal

@@ -1,6 +1,6 @@
 use Rattle.std.proofs.Common.{◌≡◌, ◌++◌, map, drop}
 use Rattle.rx_tree.specs.PlainOf.{plain-Item}
-use Rattle.rx_resolve.specs.Meant.{variant_names}
+use Rattle.rx_resolve_names.specs.Meant.{variant_names}
 use Rattle.rx_resolve.proofs.items.all_variants.Given as goal
 
 abbrev pub invariant-loop-item : goal.invariant-loop-item

@@ -1,5 +1,5 @@
 use Rattle.std.proofs.Common.{◌≡◌, [], drop}
-use Rattle.rx_resolve.specs.Meant.{firsts}
+use Rattle.rx_resolve_names.specs.Meant.{firsts}
 use Rattle.rx_resolve.proofs.items.firsts.Given as goal
 
 abbrev pub invariant-loop-i : goal.invariant-loop-i

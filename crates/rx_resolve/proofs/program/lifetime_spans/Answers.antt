@@ -2,7 +2,7 @@ use Rattle.std.proofs.Common.{ap, sym, ◌∙◌, map}
 use Rattle.rx_tree.specs.declared.tree.Ident.{Ident}
 use Rattle.rx_tree.specs.declared.tree.BoundLifetime.{BoundLifetime}
 use Rattle.rx_tree.specs.PlainOf.{plain-ItemNode}
-use Rattle.rx_resolve.specs.Meant.{lifetimes_declared}
+use Rattle.rx_resolve_names.specs.Meant.{lifetimes_declared}
 use Rattle.rx_resolve.proofs.program.lifetime_spans.Goals as goal
 use Rattle.rx_resolve.proofs.ItemLemmas.{lifetime_places, if_ok}
 

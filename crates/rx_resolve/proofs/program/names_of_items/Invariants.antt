@@ -1,6 +1,6 @@
 use Rattle.std.proofs.Common.{◌≡◌, map, drop}
 use Rattle.rx_tree.specs.PlainOf.{plain-Item}
-use Rattle.rx_resolve.specs.Items.{in_items}
+use Rattle.rx_resolve_names.specs.Items.{in_items}
 use Rattle.rx_resolve.proofs.ResolveLemmas.{before}
 use Rattle.rx_resolve.proofs.program.names_of_items.Given as goal
 

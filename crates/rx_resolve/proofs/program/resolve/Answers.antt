@@ -1,9 +1,9 @@
 use Rattle.std.proofs.Common.{List, [], map, None, ap, sym, subst, ◌∙◌}
 use Rattle.rx_tree.specs.declared.tree.Item.{Item}
 use Rattle.rx_tree.specs.PlainOf.{plain-Item}
-use Rattle.rx_resolve.specs.Steps.{and_then}
-use Rattle.rx_resolve.specs.Items.{apart, in_items}
-use Rattle.rx_resolve.specs.Causes.{HoldsItself}
+use Rattle.rx_resolve_names.specs.Steps.{and_then}
+use Rattle.rx_resolve_names.specs.Items.{apart, in_items}
+use Rattle.rx_resolve_names.specs.Causes.{HoldsItself}
 use Rattle.rx_resolve.proofs.program.resolve.Goals as goal
 
 pub returns-in-Ok-None-clause-found : goal.returns-in-Ok-None-clause-found

@@ -1,5 +1,5 @@
 use Rattle.std.proofs.Common.{◌≡◌, ◌++◌, map, drop}
-use Rattle.rx_typeck.specs.Typing.{is_mutable}
+use Rattle.rx_typeck_typed.specs.Typing.{is_mutable}
 use Rattle.rx_typeck.proofs.check.mutability.Given as goal
 
 abbrev pub invariant-loop-variable : goal.invariant-loop-variable

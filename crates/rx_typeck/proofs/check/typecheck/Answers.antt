@@ -1,5 +1,5 @@
 use Rattle.std.proofs.Common.{ap, ◌∙◌}
-use Rattle.rx_typeck.specs.Typing.{in_declaration, of_declaration}
+use Rattle.rx_typeck_typed.specs.Typing.{in_declaration, of_declaration}
 use Rattle.rx_typeck.proofs.TypingLemmas.{given_err}
 use Rattle.rx_typeck.proofs.check.typecheck.Goals as goal
 

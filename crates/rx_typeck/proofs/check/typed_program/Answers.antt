@@ -1,4 +1,4 @@
-use Rattle.rx_typeck.specs.Typing.{in_function}
+use Rattle.rx_typeck_typed.specs.Typing.{in_function}
 use Rattle.rx_typeck.proofs.TypingLemmas.{given_err}
 use Rattle.rx_typeck.proofs.check.typed_program.Goals as goal
 

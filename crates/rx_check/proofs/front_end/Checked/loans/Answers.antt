@@ -1,5 +1,5 @@
 use Rattle.std.proofs.Common.{ap, ◌∙◌, subst}
-use Rattle.rx_typeck.specs.declared.typed.Typed.{Typed}
+use Rattle.rx_typeck_typed.specs.declared.typed.Typed.{Typed}
 use Rattle.rx_check_loans.specs.Functions.{AreLoansOf}
 use Rattle.rx_check_loans.proofs.Settling.{any_pairs}
 use Rattle.rx_check.specs.Front.{Judged, IsChecked}

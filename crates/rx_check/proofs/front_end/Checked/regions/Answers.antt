@@ -1,5 +1,5 @@
 use Rattle.std.proofs.Common.{get_or, ap, ◌∙◌, subst}
-use Rattle.rx_typeck.specs.declared.typed.Typed.{Typed}
+use Rattle.rx_typeck_typed.specs.declared.typed.Typed.{Typed}
 use Rattle.rx_region.specs.Tables.{sets_of}
 use Rattle.rx_check_loans.specs.Functions.{AreRegionsOf}
 use Rattle.rx_check_loans.proofs.Settling.{any_pairs}

@@ -1,6 +1,6 @@
 use Rattle.std.proofs.Common.{◌≡◌, ◌++◌, map, drop}
 use Rattle.rx_tree.specs.PlainOf.{plain-Item, plain-TypeText, types_of}
-use Rattle.rx_resolve.specs.Holding.{held_among}
+use Rattle.rx_resolve_names.specs.Holding.{held_among}
 use Rattle.rx_resolve.proofs.items.Items.+held.Given as goal
 
 abbrev pub invariant-held_among-loop-typ : goal.invariant-held_among-loop-typ

@@ -1,6 +1,6 @@
 use Rattle.std.proofs.Common.{map, ap, ◌∙◌}
 use Rattle.rx_tree.specs.PlainOf.{plain-Item}
-use Rattle.rx_resolve.specs.Meant.{function_name, item_named, as_function}
+use Rattle.rx_resolve_names.specs.Meant.{function_name, item_named, as_function}
 use Rattle.rx_resolve.proofs.items.Items.function.Goals as goal
 use Rattle.rx_resolve.proofs.ItemLemmas.{function_number}
 

@@ -1,6 +1,6 @@
 use Rattle.std.proofs.Common.{◌≡◌, ◌++◌, map, drop}
 use Rattle.rx_tree.specs.PlainOf.{plain-Item, plain-Field}
-use Rattle.rx_resolve.specs.Holding.{held_by_fields}
+use Rattle.rx_resolve_names.specs.Holding.{held_by_fields}
 use Rattle.rx_resolve.proofs.items.Items.held_by_fields.Given as goal
 
 abbrev pub invariant-loop-field : goal.invariant-loop-field

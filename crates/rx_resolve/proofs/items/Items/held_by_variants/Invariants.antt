@@ -1,6 +1,6 @@
 use Rattle.std.proofs.Common.{◌≡◌, ◌++◌, map, drop}
 use Rattle.rx_tree.specs.PlainOf.{plain-Item, plain-EnumVariant}
-use Rattle.rx_resolve.specs.Holding.{held_by_variants}
+use Rattle.rx_resolve_names.specs.Holding.{held_by_variants}
 use Rattle.rx_resolve.proofs.items.Items.held_by_variants.Given as goal
 
 abbrev pub invariant-loop-variant : goal.invariant-loop-variant

@@ -1,7 +1,7 @@
 use Rattle.std.proofs.Common.{◌≡◌, [], map, drop}
 use Rattle.rx_tree.specs.PlainOf.{plain-Item}
-use Rattle.rx_resolve.specs.Meant.{type_name, function_name}
-use Rattle.rx_resolve.specs.Items.{apart}
+use Rattle.rx_resolve_names.specs.Meant.{type_name, function_name}
+use Rattle.rx_resolve_names.specs.Items.{apart}
 use Rattle.rx_resolve.specs.Tables.{names_from}
 use Rattle.rx_resolve.proofs.items.Items.new.Given as goal
 

@@ -1,7 +1,7 @@
 use Rattle.std.proofs.Common.{map, length, refl, sym, ap, ◌∙◌}
 use Rattle.std.proofs.lemmas.Option.{slice_get_read, slice_get_past}
 use Rattle.rx_tree.specs.PlainOf.{plain-Item}
-use Rattle.rx_resolve.specs.Meant.{type_name, item_named}
+use Rattle.rx_resolve_names.specs.Meant.{type_name, item_named}
 use Rattle.rx_resolve.proofs.items.Items.type_item.Goals as goal
 use Rattle.rx_resolve.proofs.ItemLemmas.{item_absent, item_is, item_there}
 

@@ -4,12 +4,12 @@ use Rattle.rx_tree.specs.Plain as plain
 use Rattle.rx_tree.specs.PlainOf.{plain-Expr, plain-Block, plain-Stmt, statements_of, optional_of}
 use Rattle.rx_tree.proofs.Rules.{block_by_parts}
 use Rattle.rx_resolve.specs.declared.walk.Walk.{Walk}
-use Rattle.rx_resolve.specs.Meant.{number}
-use Rattle.rx_resolve.specs.Steps.{child}
-use Rattle.rx_resolve.specs.Names.{in_expression, in_block}
+use Rattle.rx_resolve_names.specs.Meant.{number}
+use Rattle.rx_resolve_names.specs.Steps.{child}
+use Rattle.rx_resolve_names.specs.Names.{in_expression, in_block}
 use Rattle.rx_resolve.specs.Walks.{inside, around_from}
 use Rattle.rx_resolve.proofs.walk.Walk.+expression.Goals as goal
-use Rattle.rx_resolve.proofs.WalkLemmas.{ok_is}
+use Rattle.rx_core.proofs.Results.{ok_is}
 use Rattle.rx_resolve.proofs.ScopeLemmas.{bound_left, block_done, block_left, statements_counted}
 
 pub bound_block-returns : goal.bound_block-returns

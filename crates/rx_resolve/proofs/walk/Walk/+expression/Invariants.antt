@@ -1,6 +1,6 @@
 use Rattle.std.proofs.Common.{◌≡◌, [], map, drop, option_map}
 use Rattle.rx_tree.specs.PlainOf.{plain-Expr, plain-FieldExpr, plain-Arm, plain-Stmt, expressions_of, optional_list_of, field_expressions_of, arms_of, statements_of}
-use Rattle.rx_resolve.specs.Names.{in_expressions, in_arguments, in_fields, in_arms, in_statements}
+use Rattle.rx_resolve_names.specs.Names.{in_expressions, in_arguments, in_fields, in_arms, in_statements}
 use Rattle.rx_resolve.specs.Walks.{inside, with_tables, with_scope, around_from}
 use Rattle.rx_resolve.proofs.walk.Walk.+expression.Given as goal
 

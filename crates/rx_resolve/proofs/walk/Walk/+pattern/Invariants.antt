@@ -1,6 +1,6 @@
 use Rattle.std.proofs.Common.{◌≡◌, map, drop}
 use Rattle.rx_tree.specs.PlainOf.{plain-Pattern, plain-FieldPattern, patterns_of, field_patterns_of}
-use Rattle.rx_resolve.specs.Names.{in_patterns, in_field_patterns}
+use Rattle.rx_resolve_names.specs.Names.{in_patterns, in_field_patterns}
 use Rattle.rx_resolve.specs.Walks.{inside, with_tables}
 use Rattle.rx_resolve.proofs.walk.Walk.+pattern.Given as goal
 

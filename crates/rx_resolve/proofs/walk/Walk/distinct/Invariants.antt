@@ -1,5 +1,5 @@
 use Rattle.std.proofs.Common.{◌≡◌, [], drop}
-use Rattle.rx_resolve.specs.Items.{distinct}
+use Rattle.rx_resolve_names.specs.Items.{distinct}
 use Rattle.rx_resolve.proofs.walk.Walk.distinct.Given as goal
 
 abbrev pub invariant-loop-i : goal.invariant-loop-i

@@ -1,9 +1,10 @@
 use Rattle.std.proofs.Common.{[], ◌∷◌, ap, ◌∙◌}
-use Rattle.rx_resolve.specs.Meant.{number, a_loop}
-use Rattle.rx_resolve.specs.Steps.{with_loop}
+use Rattle.rx_resolve_names.specs.Meant.{number, a_loop}
+use Rattle.rx_resolve_names.specs.Steps.{with_loop}
 use Rattle.rx_resolve.specs.Walks.{with_around, with_tables, around_from}
 use Rattle.rx_resolve.proofs.walk.Walk.open_loop.Goals as goal
-use Rattle.rx_resolve.proofs.WalkLemmas.{opened, ok_is}
+use Rattle.rx_core.proofs.Results.{ok_is}
+use Rattle.rx_resolve.proofs.WalkLemmas.{opened}
 
 pub returns : goal.returns
 returns c =

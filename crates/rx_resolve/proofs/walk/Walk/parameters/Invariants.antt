@@ -1,6 +1,6 @@
 use Rattle.std.proofs.Common.{◌≡◌, [], map, drop}
 use Rattle.rx_tree.specs.PlainOf.{plain-Param}
-use Rattle.rx_resolve.specs.Items.{in_parameters}
+use Rattle.rx_resolve_names.specs.Items.{in_parameters}
 use Rattle.rx_resolve.specs.Walks.{inside, with_tables}
 use Rattle.rx_resolve.proofs.walk.Walk.parameters.Given as goal
 

@@ -1,6 +1,6 @@
 use Rattle.std.proofs.Common.{◌≡◌, [], drop, Ok}
-use Rattle.rx_resolve.specs.Steps.{both}
-use Rattle.rx_resolve.specs.Items.{lifetimes_of}
+use Rattle.rx_resolve_names.specs.Steps.{both}
+use Rattle.rx_resolve_names.specs.Items.{lifetimes_of}
 use Rattle.rx_resolve.specs.Walks.{inside}
 use Rattle.rx_resolve.proofs.walk.Walk.push_lifetime_bounds.Given as goal
 

@@ -4,7 +4,7 @@ use Rattle.rx_typed.specs.Naming.{function_named}
 use Rattle.rx_typeck_solver.specs.Ordered.{Orderly}
 use Rattle.rx_typeck_solver.specs.Solving.{task_of, IsSolved, IsUnsolved}
 use Rattle.rx_typeck.specs.declared.check.Question.{Question}
-use Rattle.rx_typeck.specs.Typing.{known_of}
+use Rattle.rx_typeck.specs.Checking.{known_of}
 use Rattle.rx_typeck.proofs.TypingLemmas.{untyped_as, given}
 use Rattle.rx_typeck.proofs.check.Check.answered.Goals as goal
 

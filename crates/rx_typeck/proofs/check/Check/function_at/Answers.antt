@@ -2,8 +2,9 @@ use Rattle.std.proofs.Common.{◌≢◌, IfOk, IfErr, refl, sym, ap, ◌∙◌, 
 use Rattle.std.specs.Option.{option_copied}
 use Rattle.rx_tree.specs.PlainOf.{plain-Func}
 use Rattle.rx_typed.specs.Naming.{function_named}
-use Rattle.rx_typeck.specs.declared.typed.TypeFault.TheVariants as fault
-use Rattle.rx_typeck.specs.Typing.{given_of, known_of, FunctionTyped, FunctionUntyped}
+use Rattle.rx_typeck_typed.specs.declared.typed.TypeFault.TheVariants as fault
+use Rattle.rx_typeck_typed.specs.Typing.{FunctionTyped, FunctionUntyped}
+use Rattle.rx_typeck.specs.Checking.{given_of, known_of}
 use Rattle.rx_typeck.proofs.TypingLemmas.{by_table, without_table}
 use Rattle.rx_typeck.proofs.check.Check.function_at.Goals as goal
 

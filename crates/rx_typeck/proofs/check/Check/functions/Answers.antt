@@ -1,6 +1,6 @@
 use Rattle.std.proofs.Common.{◌≡◌, suc, ◌+◌, map, subst, arith}
 use Rattle.rx_tree.specs.PlainOf.{plain-Item}
-use Rattle.rx_typeck.specs.Typing.{given_of, Behind, ItemTyped}
+use Rattle.rx_typeck.specs.Checking.{given_of, Behind, ItemTyped}
 use Rattle.rx_typeck.proofs.TypingLemmas.{goes_on, ends, stops, item_here, items_end, given, given_err}
 use Rattle.rx_typeck.proofs.check.Check.functions.Goals as goal
 

@@ -1,6 +1,6 @@
 use Rattle.std.proofs.Common.{map}
 use Rattle.rx_tree.specs.PlainOf.{plain-Item}
-use Rattle.rx_typeck.specs.Typing.{given_of, Behind}
+use Rattle.rx_typeck.specs.Checking.{given_of, Behind}
 use Rattle.rx_typeck.proofs.check.Check.functions.Given as goal
 
 abbrev pub invariant-loop-number : goal.invariant-loop-number

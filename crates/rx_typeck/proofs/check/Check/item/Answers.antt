@@ -1,6 +1,7 @@
 use Rattle.std.proofs.Common.{◌∙◌, ap, [], ◌∷◌, ◌++◌, slice_get}
 use Rattle.rx_tree.specs.PlainOf.{plain-Func}
-use Rattle.rx_typeck.specs.Typing.{given_of, entries, variables_at, FunctionTyped}
+use Rattle.rx_typeck_typed.specs.Typing.{entries, variables_at, FunctionTyped}
+use Rattle.rx_typeck.specs.Checking.{given_of}
 use Rattle.rx_typeck.proofs.TypingLemmas.{function_item, given}
 use Rattle.rx_typeck.proofs.check.Check.item.Goals as goal
 

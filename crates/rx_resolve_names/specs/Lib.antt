@@ -1,0 +1,6 @@
+pub mod Meant
+pub mod Steps
+pub mod Names
+pub mod Items
+pub mod Holding
+pub mod Causes

@@ -1,0 +1,2 @@
+mod ExclusionLemmas
+mod AlikeLemmas
