@@ -1,10 +1,10 @@
-//! Runs of each form of instruction: what operators give into registers and variables, in tests, behind passes of loops,
-//! before calls and as what calls give, of two registers, and of a register and a constant. What is printed was compared with
-//! rustc.
+//! Runs of each operator at each kind of place: what it gives into new variables and by assignments, in tests, behind passes
+//! of loops, before calls and as what calls give, of two variables, and of a variable and a constant. What is printed was
+//! compared with rustc.
 
 use crate::run::said::all_told;
 
-/// A program a group of forms.
+/// A program a group of places.
 const FORMS: &str = "\
 run 1000: fn main() { let a = 17i64; let b = 0 - 5i64; println!(\"{}\", a + b); println!(\"{}\", a + 3); println!(\"{}\", a - b); println!(\"{}\", a - 3); println!(\"{}\", a * b); println!(\"{}\", a * 3); println!(\"{}\", a / b); println!(\"{}\", a / 3); println!(\"{}\", a % b); println!(\"{}\", a % 3); } | 0 12 20 22 14 -85 51 -3 5 2 2 /
 run 1000: fn main() { let a = 0 - 17i32; let b = 5i32; let mut x = a; println!(\"{}\", x); x = a + b; println!(\"{}\", x); x = x + 4; println!(\"{}\", x); x = a - b; println!(\"{}\", x); x = x - 4; println!(\"{}\", x); x = a * b; println!(\"{}\", x); x = x * 4; println!(\"{}\", x); x = a / b; println!(\"{}\", x); x = x / 4; println!(\"{}\", x); x = a % b; println!(\"{}\", x); x = x % 4; println!(\"{}\", x); x = b; println!(\"{}\", x); x = 9; println!(\"{}\", x); } | 0 -17 -12 -8 -22 -26 -85 -340 -3 0 -2 -2 5 9 /
@@ -14,6 +14,6 @@ run 1000: fn half(n: i64) -> i64 { n / 2 } fn up(n: i64, by: i64) -> i64 { if n 
 run 1000: fn sum(a: i64, b: i64) -> i64 { a + b } fn difference(a: i64, b: i64) -> i64 { a - b } fn product(a: i64, b: i64) -> i64 { a * b } fn more(a: i64) -> i64 { a + 2 } fn less(a: i64) -> i64 { a - 2 } fn twice(a: i64) -> i64 { a * 2 } fn same(a: i64) -> i64 { a } fn seven() -> i64 { 7 } fn main() { println!(\"{}\", sum(9, 4)); println!(\"{}\", difference(4, 9)); println!(\"{}\", product(9, 4)); println!(\"{}\", more(9)); println!(\"{}\", less(1)); println!(\"{}\", twice(9)); println!(\"{}\", same(5)); println!(\"{}\", seven()); } | 0 13 -5 36 11 -1 18 5 7 /";
 
 #[test]
-fn each_form_is_done(rt: HostRuntime) {
+fn each_operator_is_done_everywhere(rt: HostRuntime) {
     all_told(&rt, rt.alloc(), FORMS);
 }
