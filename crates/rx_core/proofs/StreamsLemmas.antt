@@ -1,5 +1,5 @@
 -- Calls on a stream one after another add up, by associativity.
-use Rattle.std.proofs.Common.{ℕ, ◌≡◌, ◌++◌, ◌+◌, ◌≤◌, List, Option, Some, length, take, drop, min, ◌-◌, refl, sym, ap, subst, ◌∙◌, append_assoc, arith, length-drop, length-take, append-nil}
+use Rattle.std.proofs.Common.{ℕ, ◌≡◌, ◌++◌, ◌+◌, ◌≤◌, List, Option, Some, length, take, drop, ◌-◌, refl, sym, ap, subst, ◌∙◌, append_assoc, arith, length-drop, length-take, append-nil}
 use Rattle.std.proofs.lemmas.List.{take-take, take-append-drop, length-take-le, drop-drop}
 use Rattle.std.proofs.Math.Seq.{take-add, take_all, take-append_seam}
 use Rattle.rx_core.specs.Streams.{Gone, Grown}
@@ -49,12 +49,12 @@ gone-copied left copied behind rest n h e f =
 
 -- the same of the bytes behind the first `given`
 pub gone-given : (all bytes left copied buf : List ℕ) (given n : ℕ) → all ≡ bytes → drop given bytes ≡ left
-    → n ≡ min (length (take (length all - given) (drop given all))) (length buf)
+    → n ≤ length (take (length all - given) (drop given all))
     → copied ≡ take n (take (length all - given) (drop given all))
     → Gone (Some left) (Some (drop (given + n) bytes)) (take n (copied ++ drop n buf))
 gone-given all bytes left copied buf given n e v m k =
     let w : drop given all ≡ left = ap (drop given) e ∙ v in
     let d : length left ≡ length all - given = ap length (sym w) ∙ length-drop given all in
     let h : take (length all - given) (drop given all) ≡ left = rw w (take_all (length all - given) left (omega arith)) in
-    let le : n ≤ length left = subst (λ (l : List ℕ). n ≤ length l) h (omega arith) in
+    let le : n ≤ length left = subst (λ (l : List ℕ). n ≤ length l) h m in
     gone-copied left copied (drop n buf) (drop (given + n) bytes) n le (k ∙ ap (take n) h) (sym (drop-drop n given bytes) ∙ ap (drop n) v)

@@ -1,6 +1,6 @@
 //! A source and a sink in memory that never fail.
 
-ghost use Rattle.std.specs.Prelude.{◌≡◌, ◌++◌, ◌-◌, ◌+◌, ◌<◌, ◌≤◌, ◌↔◌, [], Ok, Some, length, take, drop, min, vec_len, vec_capacity, IfOk, OnErr};
+ghost use Rattle.std.specs.Prelude.{◌≡◌, ◌++◌, ◌-◌, ◌+◌, ◌<◌, ◌≤◌, ◌↔◌, ℕ, [], Ok, Some, length, take, drop, min, vec_len, vec_capacity, IfOk, OnErr};
 ghost use Rattle.rx_core.specs.Streams.{Rose, Told, Gone, Grown};
 
 use crate::list::List;
@@ -40,12 +40,16 @@ impl Source for NeverSource {
 
     ghost faults = { λ _. 0 };
 
+    ghost takes = { λ _. 0 };
+
     fn take(&mut self, buf: &mut [u8]) -> Result<usize, Failed>
         ensures bound { IfOk result (λ n. n ≤ length buf.old) }
         ensures gives { IfOk result (λ n. Gone (Some self.old) (Some self.new) (take n buf.new)) }
         ensures end { IfOk result (λ n. Told (Some self.old) (λ left. 0 < length buf.old → ((n ≡ 0) ↔ (left ≡ [])))) }
         ensures failed { OnErr result (Rose 0 0 × (Some self.new ≡ Some self.old)) }
         ensures faults { 0 ≤ 0 }
+        ensures sound { IfOk result (λ n. ◌≡◌ {A = ℕ} 0 0) }
+        ensures counted { (0 ≤ 0) × (0 ≤ 0 + 1) }
         ensures most { result ≡ Ok (min (length self.old) (length buf.old)) }
         ensures behind { IfOk result (λ n. drop n buf.new ≡ drop n buf.old) }
     {
@@ -63,18 +67,20 @@ pub struct NeverSink {
     held: Vec<u8>,
     room: usize,
     standstills: u64,
+    puts: u64,
     ghost reserved: { vec_len held + room ≤ vec_capacity held },
 }
 
 impl NeverSink {
     /// An empty sink with room for this many bytes, whose memory it takes here.
     pub fn new(alloc: Global, room: usize) -> Result<NeverSink, AllocError>
-        ensures { IfOk result (λ s. (s.held.items ≡ []) × (s.room ≡ room) × (s.standstills ≡ 0)) }
+        ensures { IfOk result (λ s. (s.held.items ≡ []) × (s.room ≡ room) × (s.standstills ≡ 0) × (s.puts ≡ 0)) }
     {
         Ok(NeverSink {
             held: Vec::with_capacity(alloc, room)?,
             room,
             standstills: 0,
+            puts: 0,
         })
     }
 
@@ -93,17 +99,22 @@ impl Sink for NeverSink {
 
     ghost standstills = { λ s. s.standstills };
 
+    ghost puts = { λ s. s.puts };
+
     fn put(&mut self, bytes: &[u8]) -> Result<usize, Failed>
         ensures bound { IfOk result (λ n. n ≤ length bytes.now) }
         ensures takes { IfOk result (λ n. Grown (Some self.old.held.items) (Some self.new.held.items) (take n bytes.now)) }
         ensures failed { OnErr result (Rose 0 0 × (Some self.new.held.items ≡ Some self.old.held.items)) }
         ensures faults { 0 ≤ 0 }
+        ensures sound { IfOk result (λ n. ◌≡◌ {A = ℕ} 0 0) }
         ensures stood { result ≡ Ok 0 → 0 < length bytes.now → Rose self.old.standstills self.new.standstills }
         ensures moved { self.old.standstills < self.new.standstills → (result ≡ Ok 0) × (0 < length bytes.now) }
         ensures standstills { self.old.standstills ≤ self.new.standstills }
+        ensures counted { (self.old.puts ≤ self.new.puts) × (self.new.puts ≤ self.old.puts + 1) }
         ensures most { result ≡ Ok (min (length bytes.now) self.old.room) }
         ensures room { IfOk result (λ n. self.new.room ≡ self.old.room - n) }
     {
+        self.puts = self.puts.saturating_add(1);
         let n = bytes.len().min(self.room);
         match self.held.extend_from_slice(&bytes[..n]) {
             Ok(()) => {}

@@ -40,6 +40,8 @@ fn read_piece<S: Source>(
         × Gone (S.remaining source.old) (S.remaining source.new) piece) }
     ensures fault { IsErrOf result ReadFail.ReadFault → Rose (S.faults source.old) (S.faults source.new) }
     ensures faults { S.faults source.old ≤ S.faults source.new }
+    ensures sound { (IsErrOf result ReadFail.ReadFault → ⊥) → S.faults source.new ≡ S.faults source.old }
+    ensures counted { (S.takes source.old ≤ S.takes source.new) × (S.takes source.new ≤ S.takes source.old + 1) }
 {
     let mut buf = [0u8; PIECE];
     let wanted = room.min(PIECE);
@@ -57,7 +59,8 @@ fn read_piece<S: Source>(
 }
 
 /// Reads a source to its end, which is where a piece with room gets no byte. It reads at most one byte more than
-/// `limit`, and fails with `TooLong` exactly where it got that byte.
+/// `limit`, and fails with `TooLong` exactly where it got that byte. It makes at most `limit + 1` calls of `take`, and
+/// none behind one that failed.
 pub fn read_all<S: Source>(
     alloc: Global,
     source: &mut S,
@@ -70,6 +73,8 @@ pub fn read_all<S: Source>(
     ensures gone { (bytes : ListOf ℕ) × (length bytes ≤ limit + 1) × (IsErrOf result ReadFail.TooLong ↔ (limit < length bytes))
         × Gone (S.remaining source.old) (S.remaining source.new) bytes }
     ensures faults { S.faults source.old ≤ S.faults source.new }
+    ensures sound { (IsErrOf result ReadFail.ReadFault → ⊥) → S.faults source.new ≡ S.faults source.old }
+    ensures counted { (S.takes source.old ≤ S.takes source.new) × (S.takes source.new ≤ S.takes source.old + (limit + 1)) }
 {
     let mut bytes = Vec::new(alloc);
     for _turn in 0..limit + 1 {

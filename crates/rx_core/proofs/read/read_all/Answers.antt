@@ -1,5 +1,5 @@
 -- What was read is a front of what was left: the bytes of the turns before, and the piece of the last one.
-use Rattle.std.proofs.Common.{◌≡◌, ◌+◌, ◌-◌, ◌<◌, ◌++◌, ◌∙◌, length, length-append, Err, arith, rules, refl, sym, ap}
+use Rattle.std.proofs.Common.{◌≡◌, ◌+◌, ◌++◌, ◌∙◌, length, length-append, Err, arith, rules, refl, sym, ap}
 use Rattle.std.proofs.lemmas.Grind.{common_steps}
 use Rattle.rx_core.specs.declared.read.ReadFail.TheVariants as fail
 use Rattle.rx_core.proofs.StreamsLemmas.{gone-more}
