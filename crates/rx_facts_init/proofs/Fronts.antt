@@ -1,7 +1,6 @@
 -- Fronts of ways.
 use Rattle.std.proofs.Common.{◌≡◌, ◌⊎◌, inl, inr, ℕ, zero, suc, ◌+◌, ◌<◌, ◌≤◌, Bool, true, false, not, ◌&&◌, ◌==◌, List, [], ◌∷◌, length, take, drop, get_or, Result, Ok, Err, OnOk, Some, refl, ap, sym, ◌∙◌, subst, arith, true≢false}
 use Rattle.std.specs.declared.alloc.AllocError.{AllocError}
-use Rattle.std.proofs.lemmas.List.{drop_more}
 use Rattle.std.proofs.lemmas.Option.{slice_get_read}
 use Rattle.std.proofs.lemmas.Bool.{cases_eq}
 use Rattle.std.proofs.lemmas.Bool.Decides.{Decides-eqb}
@@ -11,7 +10,8 @@ use Rattle.rx_core.specs.declared.types.Place.{Place}
 use Rattle.rx_typed.specs.Tree.{variable, Temporary}
 use Rattle.rx_lower_walks.specs.Actions.{Act, Write}
 use Rattle.rx_facts_init.specs.Setting.{is_behind}
-use Rattle.rx_facts_init.specs.Wholes.{same_step, is_front, same_steps, holds_in}
+use Rattle.rx_typed.specs.Places.{same_step, is_front, same_steps}
+use Rattle.rx_facts_init.specs.Wholes.{holds_in}
 use Rattle.rx_facts_init.specs.Tables.{Kept, Keeps, KeepsFor}
 
 pub both_true : (a b : Bool) → (a && b) ≡ true → (a ≡ true) × (b ≡ true)
@@ -69,17 +69,6 @@ both_fronts (r ∷ rs) (s ∷ ss) h k =
 
 pub same_steps_is : (rs ss : List Step) → same_steps rs ss ≡ true → rs ≡ ss
 same_steps_is rs ss h = let b = both_true (is_front rs ss) (is_front ss rs) h in both_fronts rs ss b.0 b.1
-
-none_left : (ss : List Step) (k : ℕ) → length ss ≤ k → drop k ss ≡ []
-none_left [] zero h = refl
-none_left [] (suc k) h = refl
-none_left (s ∷ ss) zero h = absurd (omega (arith, h))
-none_left (s ∷ ss) (suc k) h = none_left ss k (omega (arith, h))
-
-pub too_short : (qs ss : List Step) (i : ℕ) → i < length qs → length ss ≤ i → is_front (drop i qs) (drop i ss) ≡ false
-too_short [] ss i h k = absurd (omega (arith, h))
-too_short (q ∷ qs) ss i h k =
-    ap (λ (l : List Step). is_front l (drop i ss)) (drop_more (q ∷ qs) i q h) ∙ ap (λ (l : List Step). is_front (get_or (q ∷ qs) i q ∷ drop (i + 1) (q ∷ qs)) l) (none_left ss i k)
 
 pub place_is : (q : Place) (x : ℕ) (rs ss : List Step) (b : Bool) → q.var ≡ x → rs ≡ q.steps → b ≡ same_steps rs ss → b ≡ true → q ≡ record { var = x; steps = ss }
 place_is q x rs ss b v r e h = let z : q.steps ≡ ss = sym r ∙ same_steps_is rs ss (sym e ∙ h) in

@@ -2,8 +2,8 @@
 -- (Rust Reference, "Assignment expressions"; "Variables".)
 use Rattle.std.specs.Prelude.{ℕ, Bool, true, false, not, ◌&&◌, ◌==◌, List, [], ◌∷◌}
 use Rattle.rx_core.specs.declared.types.Step.{Step}
-use Rattle.rx_core.specs.declared.types.Step.TheVariants as step
 use Rattle.rx_typed.specs.Tree.{Place, Root, variable, temporary}
+use Rattle.rx_typed.specs.Places.{is_front, same_steps}
 use Rattle.rx_lower_walks.specs.Actions.{Act, Declare, Dead, Read, Write, Action}
 use Rattle.rx_facts_along.specs.Along.{Switch, after}
 use Rattle.rx_facts_init.specs.Setting.{is_behind}
@@ -11,22 +11,6 @@ use Rattle.rx_facts_init.specs.Setting.{is_behind}
 -- the place of a variable
 abbrev pub placed : ℕ → List Step → Place
 placed x ss = record { root = variable x; steps = ss }
-
-abbrev pub same_step : Step → Step → Bool
-same_step (step.Field i) (step.Field j) = i == j
-same_step (step.Variant v) (step.Variant w) = v == w
-same_step (step.Deref true) (step.Deref true) = true
-same_step (step.Deref false) (step.Deref false) = true
-same_step _ _ = false
-
--- whether a way is a front of another, or all of it
-abbrev pub is_front : List Step → List Step → Bool
-is_front [] ss = true
-is_front (r ∷ rs) [] = false
-is_front (r ∷ rs) (s ∷ ss) = same_step r s && is_front rs ss
-
-abbrev pub same_steps : List Step → List Step → Bool
-same_steps rs ss = is_front rs ss && is_front ss rs
 
 -- whether what a way leads to holds what the other does as a part, and is behind no dereference
 abbrev pub holds_in : List Step → List Step → Bool

@@ -11,11 +11,11 @@ ghost use Rattle.rx_facts_init.specs.Setting as setting;
 ghost use Rattle.rx_facts_init.specs.Wholes as wholes;
 ghost use Rattle.rx_facts_init.specs.Tables.{picked, pushed_where};
 
-use crate::steps::{holds_in, is_behind, is_front, is_variable, same_steps};
+use crate::steps::{holds_in, is_behind, is_variable};
 use rx_core::{List, Place as Kept};
 use rx_facts_parts::{Frame, Layout, Range, range};
 use rx_graph::Few;
-use rx_lower_flow::{Act, Place, Root};
+use rx_lower_flow::{Act, Place, Root, is_front, same_steps};
 use std::alloc::{AllocError, Global};
 
 /// The numbers of parts.

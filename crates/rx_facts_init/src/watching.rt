@@ -5,10 +5,9 @@ ghost use Rattle.rx_lower_flow.specs.PlainFlow.{plain-Act};
 ghost use Rattle.rx_lower_emit.specs.PlainSite.{plain-Site};
 ghost use Rattle.rx_facts_init.specs.Tables as tables;
 
-use crate::steps::same_steps;
 use rx_core::{List, Place, Step};
 use rx_lower_emit::Site;
-use rx_lower_flow::{Act, Root};
+use rx_lower_flow::{Act, Root, same_steps};
 use std::alloc::{AllocError, Global};
 
 /// The first steps.

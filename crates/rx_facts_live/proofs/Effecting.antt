@@ -7,7 +7,8 @@ use Rattle.rx_graph.specs.Facts.{has}
 use Rattle.rx_facts_along.proofs.Turns.{has_more}
 use Rattle.rx_lower_flow.specs.declared.actions.Root.{Root}
 use Rattle.rx_lower_flow.specs.PlainFlow.{plain-Root}
-use Rattle.rx_facts_live.specs.Live.{same_root, has_root, roots_of}
+use Rattle.rx_typed.specs.Places.{same_root}
+use Rattle.rx_facts_live.specs.Live.{has_root, roots_of}
 use Rattle.rx_facts_live.specs.Tables.{IsNot}
 use Rattle.rx_facts_live.specs.Effects.{Numbers, Adds, listed}
 use Rattle.rx_facts_live.proofs.Roots.{itself, other, not_true}

@@ -3,7 +3,7 @@ use Rattle.std.proofs.Common.{◌≡◌, Bool, true, false, ◌&&◌, ◌==◌, 
 use Rattle.std.proofs.lemmas.Bool.Decides.{Decides-eqb}
 use Rattle.rx_lower_flow.specs.declared.actions.Root.{Root}
 use Rattle.rx_lower_flow.specs.PlainFlow.{plain-Root}
-use Rattle.rx_facts_live.specs.Live.{same_root}
+use Rattle.rx_typed.specs.Places.{same_root}
 
 pub both_true : (a b : Bool) → (a && b) ≡ true → (a ≡ true) × (b ≡ true)
 both_true true b h = (refl, h)

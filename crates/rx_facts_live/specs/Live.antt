@@ -3,17 +3,10 @@
 use Rattle.std.specs.Prelude.{ℕ, Bool, false, ◌&&◌, ◌||◌, ◌==◌, List, [], ◌∷◌, map, Option, Some, None}
 use Rattle.rx_core.specs.declared.types.Step.{Step}
 use Rattle.rx_typed.specs.Tree.{Root, variable, temporary, Temporary}
+use Rattle.rx_typed.specs.Places.{same_root}
 use Rattle.rx_lower_walks.specs.Actions.{Act, Read, Write, Borrow, Test, Call, Build, Print, Give, filled}
 use Rattle.rx_lower_graph.specs.Graph.{Site}
 use Rattle.rx_facts_along.specs.Along.{Switch, LiesAhead}
-
-abbrev pub same_temporary : Temporary → Temporary → Bool
-same_temporary s t = s.node == t.node && s.which == t.which
-
-abbrev pub same_root : Root → Root → Bool
-same_root (variable x) (variable y) = x == y
-same_root (temporary s) (temporary t) = same_temporary s t
-same_root _ _ = false
 
 abbrev pub has_root : List Root → Root → Bool
 has_root [] r = false

@@ -7,11 +7,11 @@ ghost use Rattle.rx_facts_along.specs.Turning.{Joined};
 ghost use Rattle.rx_lower_emit.specs.PlainSite.{plain-Site};
 ghost use Rattle.rx_facts_live.specs.Tables as tables;
 
-use crate::uses::{same_root, used};
+use crate::uses::used;
 use rx_core::List;
 use rx_graph::Few;
 use rx_lower_emit::Site;
-use rx_lower_flow::{Act, Root};
+use rx_lower_flow::{Act, Root, same_root};
 use std::alloc::{AllocError, Global};
 
 /// Variables and temporaries by numbers; of each number of a variable or of a node, the numbers of those that have it.

@@ -9,21 +9,6 @@ use rx_graph::Few;
 use rx_lower_flow::{Act, Place, Root, Temporary};
 use std::alloc::{AllocError, Global};
 
-pub fn same_root(a: Root, b: Root) -> bool
-    ensures { result ≡ spec.same_root (plain-Root a) (plain-Root b) }
-{
-    match a {
-        Root::Variable(x) => match b {
-            Root::Variable(y) => x == y,
-            Root::Temporary(_) => false,
-        },
-        Root::Temporary(s) => match b {
-            Root::Variable(_) => false,
-            Root::Temporary(t) => s.node == t.node && s.which == t.which,
-        },
-    }
-}
-
 fn temporaries(alloc: Global, operands: &[Temporary]) -> Result<Few<Root>, AllocError>
     ensures { IfOk result (λ it. map plain-Root it ≡ map tree.temporary (map plain-Temporary operands.now)) }
 {

@@ -1,4 +1,3 @@
-pub mod Fronts
 pub mod Listing
 pub mod Scoping
 pub mod Forbidding

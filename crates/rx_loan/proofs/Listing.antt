@@ -8,7 +8,7 @@ use Rattle.rx_lower_lifetimes.specs.PlainOwn.{plain-Own}
 use Rattle.rx_lower_lifetimes.specs.declared.numbering.Own.{Own}
 use Rattle.rx_loan.specs.Accesses.{Loan}
 use Rattle.rx_loan.specs.Loans.{loan_at, loans_from, loans_of}
-use Rattle.rx_loan.proofs.Fronts.{none_left}
+use Rattle.rx_lower_flow.proofs.Fronts.{none_left}
 
 -- what is left to list
 abbrev pub left : List Site → List Own → ℕ → List Loan

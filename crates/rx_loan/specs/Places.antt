@@ -1,30 +1,9 @@
--- How places lie to one another. (RFC 2094, "Reborrow constraints", for supporting prefixes; "Access legality", for shallow ones.)
-use Rattle.std.specs.Prelude.{Bool, true, false, ◌&&◌, ◌==◌, List, [], ◌∷◌, length, drop}
+-- Prefixes of places, shallow and supporting. (RFC 2094, "Reborrow constraints", for supporting prefixes; "Access legality", for shallow ones.)
+use Rattle.std.specs.Prelude.{Bool, true, false, ◌&&◌, List, [], ◌∷◌, length, drop}
 use Rattle.rx_core.specs.declared.types.Step.{Step}
 use Rattle.rx_core.specs.declared.types.Step.TheVariants as step
-use Rattle.rx_typed.specs.Tree.{Place, Root, variable, temporary}
-
-abbrev pub same_step : Step → Step → Bool
-same_step (step.Field i) (step.Field j) = i == j
-same_step (step.Variant v) (step.Variant w) = v == w
-same_step (step.Deref true) (step.Deref true) = true
-same_step (step.Deref false) (step.Deref false) = true
-same_step _ _ = false
-
-abbrev pub same_root : Root → Root → Bool
-same_root (variable x) (variable y) = x == y
-same_root (temporary s) (temporary t) = s.node == t.node && s.which == t.which
-same_root _ _ = false
-
--- whether a way is a front of another, or all of it
-abbrev pub is_front : List Step → List Step → Bool
-is_front [] ss = true
-is_front (r ∷ rs) [] = false
-is_front (r ∷ rs) (s ∷ ss) = same_step r s && is_front rs ss
-
--- a place is a prefix of another: what stands behind it there is a way to it, or none where they are one
-abbrev pub is_prefix : Place → Place → Bool
-is_prefix p q = same_root p.root q.root && is_front p.steps q.steps
+use Rattle.rx_typed.specs.Tree.{Place}
+use Rattle.rx_typed.specs.Places.{is_prefix}
 
 abbrev pub behind : Place → Place → List Step
 behind p q = drop (length p.steps) q.steps

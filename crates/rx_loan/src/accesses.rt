@@ -5,9 +5,9 @@ ghost use Rattle.rx_lower_flow.specs.PlainFlow.{plain-Act, plain-Check, plain-Pl
 ghost use Rattle.rx_loan.specs.Accesses as spec;
 ghost use Rattle.rx_loan.specs.PlainOf.{plain-Access, plain-Loan};
 
-use crate::places::{is_prefix, strips_parts, strips_unshared};
+use crate::places::{strips_parts, strips_unshared};
 use rx_core::Step;
-use rx_lower_flow::{Act, Check, Place, Root};
+use rx_lower_flow::{Act, Check, Place, Root, is_prefix};
 
 /// What an action accesses: a place, by its root and steps.
 #[derive(Clone, Copy)]

@@ -9,10 +9,9 @@ ghost use Rattle.rx_loan.specs.PlainOf.{plain-Loan};
 ghost use Rattle.rx_loan.specs.Tables.{listed};
 
 use crate::accesses::Loan;
-use crate::places::is_prefix;
 use rx_core::{LetGo, List};
 use rx_lower_emit::Site;
-use rx_lower_flow::{Act, Place};
+use rx_lower_flow::{Act, Place, is_prefix};
 use rx_lower_lifetimes::Own;
 use std::alloc::{AllocError, Global};
 

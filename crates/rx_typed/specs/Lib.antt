@@ -3,5 +3,6 @@ pub mod PlainTypes
 pub mod Named
 pub mod Naming
 pub mod Tree
+pub mod Places
 pub mod Elaborated
 pub mod Regions
