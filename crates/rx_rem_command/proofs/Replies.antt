@@ -23,7 +23,7 @@ use Rattle.rx_rem_command.specs.Forms.{Command, extracts, checks, runs, command_
 use Rattle.rx_rem_command.specs.Lines.{status_line, fault_line, lex_line, syntax_line, fault_status, lex_status, syntax_status}
 use Rattle.rx_rem_command.specs.RunLines.{end_status}
 use Rattle.rx_rem_command.specs.Defined.{Defined, AnswersTo, Judged, passed, faulty, Checked, no_program, program, Drawn, unaccepted, drawn, Ran, refused, ran, result_status, result_bytes, result_line}
-use Rattle.rx_rem_command.specs.Replies.{Stream, IsForm, HasFailed, HasAll, IsCut, IsRead, TakesAtMost, TakesOneMore, Due, answered, not_read, too_long, no_memory, Ending, whole, out_cut, both_cut, err_cut, IsComplete, Replies, Reports, Delivers, Found, defined, no_room}
+use Rattle.rx_rem_command.specs.Replies.{Stream, IsForm, HasFailed, IsSound, HasAll, IsCut, IsRead, TakesAtMost, TakesOneMore, Due, answered, not_read, too_long, no_memory, Ending, whole, out_cut, both_cut, err_cut, IsComplete, Replies, Reports, Delivers, Found, defined, no_room}
 
 -- the statuses that a text's answer has
 abbrev pub IsAnswer : Status → Type 0
@@ -98,30 +98,38 @@ due_complete : (words : List (List ℕ)) (s s' : Stream) (status : Status) (outs
     → Due words s s' status outs errs → IsForm words
     → (text : List ℕ) → s.bytes ≡ Some text → length text ≤ 1048576 → (Rose s.faults s'.faults → ⊥)
     → (status ≡ OutOfMemory) ⊎ Defined words text status outs errs
-due_complete words s s' status outs errs (answered t r d) form text e small calm =
+due_complete words s s' status outs errs (answered t k r d) form text e small calm =
     let p = (r form).whole text e in
     inr (subst (λ (x : List ℕ). Defined words x status outs errs) p.0 d)
 due_complete words s s' _ _ _ (not_read f r t) form text e small calm = absurd (calm r)
-due_complete words s s' _ _ _ (too_long f t) form text e small calm = let l = too_many s s' t text e in
+due_complete words s s' _ _ _ (too_long f k t) form text e small calm = let l = too_many s s' t text e in
     absurd (omega arith)
-due_complete words s s' _ _ _ (no_memory f t) form text e small calm = inl refl
+due_complete words s s' _ _ _ (no_memory f k t) form text e small calm = inl refl
 
 due_fault : (words : List (List ℕ)) (s s' : Stream) (status : Status) (outs errs : List ℕ)
     → Due words s s' status outs errs → status ≡ ReadFault
     → Rose s.faults s'.faults
-due_fault words s s' status outs errs (answered t r d) e =
+due_fault words s s' status outs errs (answered t k r d) e =
     absurd (subst IsAnswer e (defined_answers words t status outs errs d))
 due_fault words s s' _ _ _ (not_read f r t) e = r
-due_fault words s s' _ _ _ (too_long f t) e = absurd (cc)
-due_fault words s s' _ _ _ (no_memory f t) e = absurd (cc)
+due_fault words s s' _ _ _ (too_long f k t) e = absurd (cc)
+due_fault words s s' _ _ _ (no_memory f k t) e = absurd (cc)
+
+due_sound : (words : List (List ℕ)) (s s' : Stream) (status : Status) (outs errs : List ℕ)
+    → Due words s s' status outs errs → (status ≡ ReadFault → ⊥)
+    → s'.faults ≡ s.faults
+due_sound words s s' status outs errs (answered t k r d) n = k
+due_sound words s s' _ _ _ (not_read f r t) n = absurd (n refl)
+due_sound words s s' _ _ _ (too_long f k t) n = k
+due_sound words s s' _ _ _ (no_memory f k t) n = k
 
 due_written : (words : List (List ℕ)) (s s' : Stream) (status : Status) (outs errs : List ℕ)
     → Due words s s' status outs errs → status ≡ WriteFault → ⊥
-due_written words s s' status outs errs (answered t r d) e =
+due_written words s s' status outs errs (answered t k r d) e =
     subst IsAnswer e (defined_answers words t status outs errs d)
 due_written words s s' _ _ _ (not_read f r t) e = cc
-due_written words s s' _ _ _ (too_long f t) e = cc
-due_written words s s' _ _ _ (no_memory f t) e = cc
+due_written words s s' _ _ _ (too_long f k t) e = cc
+due_written words s s' _ _ _ (no_memory f k t) e = cc
 
 ending_fault : (out out' err err' : Stream) (status result : Status) (outs errs : List ℕ)
     → Ending out out' err err' status outs errs result
@@ -138,6 +146,14 @@ ending_written out out' err err' status _ outs errs (whole a b) n e = absurd (n 
 ending_written out out' err err' status _ outs errs (out_cut a b) n e = inl a.1
 ending_written out out' err err' status _ outs errs (both_cut a b) n e = inl a.1
 ending_written out out' err err' status _ outs errs (err_cut a b) n e = inr b.1
+
+ending_sound : (out out' err err' : Stream) (status result : Status) (outs errs : List ℕ)
+    → Ending out out' err err' status outs errs result
+    → (result ≡ WriteFault → ⊥) → (status ≡ result) × IsSound out out' × IsSound err err'
+ending_sound out out' err err' status _ outs errs (whole a b) n = (refl, a.1, b.1)
+ending_sound out out' err err' status _ outs errs (out_cut a b) n = absurd (n refl)
+ending_sound out out' err err' status _ outs errs (both_cut a b) n = absurd (n refl)
+ending_sound out out' err err' status _ outs errs (err_cut a b) n = absurd (n refl)
 
 -- where no sink failed, all was written
 ending_complete : (words : List (List ℕ)) (text : List ℕ) (out out' err err' : Stream) (status result : Status)
@@ -159,12 +175,15 @@ replies words s s' out out' err err' status outs errs result d e = record {
   read_fault = λ r. due_fault words s s' status outs errs d
       (ending_fault out out' err err' status result outs errs e r);
   write_fault = ending_written out out' err err' status result outs errs e (due_written words s s' status outs errs d);
+  read_sound = λ n m. due_sound words s s' status outs errs d
+      (λ r. n (sym (ending_sound out out' err err' status result outs errs e m).0 ∙ r));
+  write_sound = λ m. let k = ending_sound out out' err err' status result outs errs e m in (k.1, k.2);
   complete = λ form text t small calm. ending_complete words text out out' err err' status result outs errs e
       (due_complete words s s' status outs errs d form text t small calm);
 }
 
 pub nothing_more : (k : Stream) → HasAll k k []
-nothing_more k = record { told = λ held h. h ∙ ap Some (sym (append-nil held)); untold = λ h. h }
+nothing_more k = (record { told = λ held h. h ∙ ap Some (sym (append-nil held)); untold = λ h. h }, (refl, refl))
 
 -- a line that was written or cut, where nothing goes to standard output
 pub reported : (out err err' : Stream) (status result : Status) (line : List ℕ) → Reports err err' status line result
@@ -184,15 +203,19 @@ delivered out out' err err' status result bytes (inr r) =
     (elim r.2 [ inl a ↦ out_cut r.1 a | inr b ↦ both_cut r.1 b ])
 
 failed : (old new : Stream) (f : WriteFail) → (f ≡ fail.WriteFault → Rose old.faults new.faults)
-    → ((left : ℕ) → f ≡ fail.Stuck left → Rose old.standstills new.standstills) → HasFailed old new
-failed old new fail.WriteFault h k = inl (h refl)
-failed old new (fail.Stuck left) h k = inr (k left refl)
+    → ((left : ℕ) → f ≡ fail.Stuck left → Rose old.standstills new.standstills)
+    → (f ≡ fail.WriteFault → new.standstills ≡ old.standstills)
+    → ((f ≡ fail.WriteFault → ⊥) → new.faults ≡ old.faults) → HasFailed old new
+failed old new fail.WriteFault h k moves sound = inl (h refl, moves refl)
+failed old new (fail.Stuck left) h k moves sound = inr (k left refl, sound (λ e. cc))
 
 -- a front of the bytes of a text was written, and then the sink failed
 pub cut : (old new : Stream) (bytes text : List ℕ) (f : WriteFail) → bytes ≡ text
     → ((n : ℕ) × (n ≤ length bytes) × Grown old.bytes new.bytes (take n bytes)) → (f ≡ fail.WriteFault → Rose old.faults new.faults)
-    → ((left : ℕ) → f ≡ fail.Stuck left → Rose old.standstills new.standstills) → IsCut old new text
-cut old new bytes text f e front h k = subst (IsCut old new) e (front, failed old new f h k)
+    → ((left : ℕ) → f ≡ fail.Stuck left → Rose old.standstills new.standstills)
+    → (f ≡ fail.WriteFault → new.standstills ≡ old.standstills)
+    → ((f ≡ fail.WriteFault → ⊥) → new.faults ≡ old.faults) → IsCut old new text
+cut old new bytes text f e front h k moves sound = subst (IsCut old new) e (front, failed old new f h k moves sound)
 
 status_memory : (s : Status) → (s ≡ OutOfMemory) ⊎ (s ≡ OutOfMemory → ⊥)
 status_memory OutOfMemory = inl refl
@@ -266,11 +289,11 @@ found_answer text name start end r a bytes p parses accepted x e b =
 -- what is found for the text that was read is due
 pub found_due : (words : List (List ℕ)) (s s' : Stream) (command : Command) (text : List ℕ) (status : Status)
     (outs errs : List ℕ)
-    → Some command ≡ command_of words → IsRead s s' text → Found command text status outs errs
+    → Some command ≡ command_of words → s'.faults ≡ s.faults → IsRead s s' text → Found command text status outs errs
     → Due words s s' status outs errs
-found_due words s s' command text status outs errs e r (defined d) =
-    answered text (λ form. r) (subst (λ (q : Option Command). AnswersTo q text status outs errs) e d)
-found_due words s s' command text _ _ _ e r no_room = no_memory (λ n. cc)
+found_due words s s' command text status outs errs e k r (defined d) =
+    answered text k (λ form. r) (subst (λ (q : Option Command). AnswersTo q text status outs errs) e d)
+found_due words s s' command text _ _ _ e k r no_room = no_memory (λ n. cc) k
     (record { bytes = text; many = r.within; gone = r.gone })
 
 -- the bytes that were taken, where they are not too many

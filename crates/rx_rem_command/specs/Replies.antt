@@ -24,12 +24,18 @@ sink_state contents faults standstills k = record { bytes = contents k; faults =
 abbrev pub IsForm : List (List ℕ) → Type 0
 IsForm words = command_of words ≡ None → ⊥
 
--- a sink failed, or took no byte of a piece
+-- a sink failed, or took no byte of a piece, and only one of them
 abbrev pub HasFailed : Stream → Stream → Type 0
-HasFailed old new = Rose old.faults new.faults ⊎ Rose old.standstills new.standstills
+HasFailed old new =
+    (Rose old.faults new.faults × (new.standstills ≡ old.standstills)) ⊎ (Rose old.standstills new.standstills × (new.faults ≡ old.faults))
 
+-- a sink did neither
+abbrev pub IsSound : Stream → Stream → Type 0
+IsSound old new = (new.faults ≡ old.faults) × (new.standstills ≡ old.standstills)
+
+-- a sink got all the bytes, at the first try
 abbrev pub HasAll : Stream → Stream → List ℕ → Type 0
-HasAll old new bytes = Grown old.bytes new.bytes bytes
+HasAll old new bytes = Grown old.bytes new.bytes bytes × IsSound old new
 
 -- a sink got a front of the bytes, and failed
 abbrev pub IsCut : Stream → Stream → List ℕ → Type 0
@@ -54,13 +60,13 @@ TakesAtMost old new = IsTaken old new (λ n. n ≤ 1048576)
 abbrev pub TakesOneMore : Stream → Stream → Type 0
 TakesOneMore old new = IsTaken old new (λ n. n ≡ 1048577)
 
--- the status, the bytes for standard output and the line for standard error
+-- the status, the bytes for standard output and the line for standard error; the source failed exactly where `ReadFault` is due
 pub data Due (words : List (List ℕ)) (source source' : Stream) : Status → List ℕ → List ℕ → Type 0 where
-  answered : {status : Status} {outs errs : List ℕ} (text : List ℕ) → (IsForm words → IsRead source source' text) → Defined words text status outs errs
+  answered : {status : Status} {outs errs : List ℕ} (text : List ℕ) → source'.faults ≡ source.faults → (IsForm words → IsRead source source' text) → Defined words text status outs errs
       → Due words source source' status outs errs
   not_read : IsForm words → Rose source.faults source'.faults → TakesAtMost source source' → Due words source source' ReadFault [] (status_line ReadFault)
-  too_long : IsForm words → TakesOneMore source source' → Due words source source' TooLong [] (status_line TooLong)
-  no_memory : IsForm words → TakesAtMost source source' → Due words source source' OutOfMemory [] (status_line OutOfMemory)
+  too_long : IsForm words → source'.faults ≡ source.faults → TakesOneMore source source' → Due words source source' TooLong [] (status_line TooLong)
+  no_memory : IsForm words → source'.faults ≡ source.faults → TakesAtMost source source' → Due words source source' OutOfMemory [] (status_line OutOfMemory)
 
 -- how far what is due was written; where that failed, the status is `WriteFault`
 pub data Ending (out out' err err' : Stream) (status : Status) (outs errs : List ℕ) : Status → Type 0 where
@@ -80,6 +86,9 @@ pub record Replies (words : List (List ℕ)) (source source' out out' err err' :
   -- a fault has its cause
   pub read_fault : result ≡ ReadFault → Rose source.faults source'.faults
   pub write_fault : result ≡ WriteFault → HasFailed out out' ⊎ HasFailed err err'
+  -- where none is told, none came; of a line that was cut, `written` says whether it was that of `ReadFault`
+  pub read_sound : (result ≡ ReadFault → ⊥) → (result ≡ WriteFault → ⊥) → source'.faults ≡ source.faults
+  pub write_sound : (result ≡ WriteFault → ⊥) → IsSound out out' × IsSound err err'
   -- where no count rose, the answer to a text is the defined one, or want of memory
   pub complete : IsForm words → (text : List ℕ) → source.bytes ≡ Some text → length text ≤ 1048576 → (Rose source.faults source'.faults → ⊥)
       → (HasFailed out out' → ⊥) → (HasFailed err err' → ⊥) → IsComplete words text out out' err err' result

@@ -9,6 +9,7 @@ returns-in-Err g c = let at = sink_state g.O.Sink.contents g.O.Sink.faults g.O.S
     inr (
       cut (at c.args.out.now) (at c.write_all_of.new.sink) c.as_bytes.result.now c.args.outcome.now.printed c.in-Err._fail
           (c.as_bytes.ensures.value ∙ c.as_str.ensures) c.write_all_of.ensures.front
-          (λ e. c.in-Err.ensures.fault (ap Err e)) (λ left e. (c.in-Err.ensures.stuck left (ap Err e)).2),
+          (λ e. c.in-Err.ensures.fault (ap Err e)) (λ left e. (c.in-Err.ensures.stuck left (ap Err e)).2)
+          (λ e. c.in-Err.ensures.failing (ap Err e)) (λ n. c.in-Err.ensures.sound (λ e. n (cc))),
       c.report_name.ensures,
     )

@@ -16,7 +16,7 @@ returns-in_default-clause-replies g c =
     ∙ (c.read_words.ensures ∙ ap command_of c.as_slice.ensures) in
     let d = subst (λ (q : Option Command). AnswersTo q [] Usage [] (status_line Usage)) e (refl, refl, refl) in
     replies _ _ _ _ _ _ _ Usage [] (status_line Usage) c.report_name.result
-    (answered [] (λ form. absurd (form (sym e))) d)
+    (answered [] refl (λ form. absurd (form (sym e))) d)
     (reported _ _ _ Usage c.report_name.result _ c.report_name.ensures)
 
 pub returns-in-Ok-clause-replies : goal.returns-in-Ok-clause-replies
@@ -28,7 +28,7 @@ returns-in-Ok-clause-replies g c =
     (source_state g.S.Source.remaining g.S.Source.faults c.read_all.new.source)
     c.as_slice-in-Ok.result.now c.in-Ok.text c.read_all.ensures.gone.0 c.as_slice-in-Ok.ensures c.in-Ok.ensures.all
     c.in-Ok.ensures.within c.read_all.ensures.gone.3 in
-    replies _ _ _ _ _ _ _ f.0 f.1 f.2 c.answer.result (found_due _ _ _ _ _ f.0 f.1 f.2 e r f.3) f.4
+    replies _ _ _ _ _ _ _ f.0 f.1 f.2 c.answer.result (found_due _ _ _ _ _ f.0 f.1 f.2 e (c.read_all.ensures.sound (λ q. cc)) r f.3) f.4
 
 pub returns-in-Err-ReadFault-clause-replies : goal.returns-in-Err-ReadFault-clause-replies
 returns-in-Err-ReadFault-clause-replies g c =
@@ -44,7 +44,7 @@ pub returns-in-Err-TooLong-clause-replies : goal.returns-in-Err-TooLong-clause-r
 returns-in-Err-TooLong-clause-replies g c =
     let e : Some (asked c.in-Some.command) ≡ command_of c.args.words.now
     = ap (option_map asked) (sym c.in-Some.is) ∙ (c.read_words.ensures ∙ ap command_of c.as_slice.ensures) in
-    replies _ _ _ _ _ _ _ TooLong [] (status_line TooLong) c.report_name-in-Err-TooLong.result (too_long (λ n. cc)
+    replies _ _ _ _ _ _ _ TooLong [] (status_line TooLong) c.report_name-in-Err-TooLong.result (too_long (λ n. cc) (c.in-Err-TooLong.ensures.sound (λ q. cc))
     (taken_more _ _ c.in-Err-TooLong.ensures.gone.0 c.in-Err-TooLong.ensures.gone.1
     (c.in-Err-TooLong.ensures.gone.2.0 (ap Err c.in-Err-TooLong.field-0-is)) c.in-Err-TooLong.ensures.gone.3))
     (reported _ _ _ TooLong c.report_name-in-Err-TooLong.result _ c.report_name-in-Err-TooLong.ensures)
@@ -54,7 +54,7 @@ returns-in-Err-OutOfMemory-clause-replies g c =
     let e : Some (asked c.in-Some.command) ≡ command_of c.args.words.now
     = ap (option_map asked) (sym c.in-Some.is) ∙ (c.read_words.ensures ∙ ap command_of c.as_slice.ensures) in
     replies _ _ _ _ _ _ _ OutOfMemory [] (status_line OutOfMemory) c.report_name-in-Err-OutOfMemory.result
-    (no_memory (λ n. cc)
+    (no_memory (λ n. cc) (c.in-Err-OutOfMemory.ensures.sound (λ q. cc))
     (taken_few _ _ c.in-Err-OutOfMemory.ensures.gone.0 (λ l. let e = c.in-Err-OutOfMemory.ensures.gone.2.1 l in cc)
     c.in-Err-OutOfMemory.ensures.gone.3))
     (reported _ _ _ OutOfMemory c.report_name-in-Err-OutOfMemory.result _ c.report_name-in-Err-OutOfMemory.ensures)
