@@ -5,3 +5,4 @@ pub mod Naming
 pub mod Tree
 pub mod Elaborated
 pub mod Regions
+pub mod Numbers
