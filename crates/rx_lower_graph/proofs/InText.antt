@@ -16,7 +16,7 @@ both_kept none k = k
 both_kept (kept h) k = kept (both_kept h k)
 both_kept (dropped h) k = dropped (both_kept h k)
 
-actions_of_both : (g h : List Site) → actions_of (g ++ h) ≡ actions_of g ++ actions_of h
+pub actions_of_both : (g h : List Site) → actions_of (g ++ h) ≡ actions_of g ++ actions_of h
 actions_of_both [] h = refl
 actions_of_both (s ∷ g) h = ap (λ l. s.action ∷ l) (actions_of_both g h)
 

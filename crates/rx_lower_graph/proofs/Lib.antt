@@ -14,4 +14,8 @@ pub mod Local
 pub mod Unfailing
 pub mod InText
 pub mod Forks
+pub mod Keys
+pub mod Weights
+pub mod Forms
+pub mod Distinct
 pub mod Examples

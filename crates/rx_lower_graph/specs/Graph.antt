@@ -32,7 +32,7 @@ pub data Joins (g : List Site) (a b : Action) : Type 0 where
   joins : (i j : ℕ) (s t : Site) → site_at g i ≡ Some s → s.action ≡ a → Among j s.next
       → site_at g j ≡ Some t → t.action ≡ b → Joins g a b
 
--- no number stands twice
-abbrev pub EachOnce : List ℕ → Type 0
+-- nothing stands twice
+abbrev pub EachOnce : {A : Type 0} → List A → Type 0
 EachOnce [] = Unit {0}
 EachOnce (p ∷ ps) = (Among p ps → ⊥) × EachOnce ps

@@ -1,13 +1,20 @@
 //! Laws of graphs, each the contract of a function that does nothing.
 
 ghost use Rattle.std.specs.Prelude.{◌≡◌, ℕ, List as ListOf, [], ◌∷◌, Some, ◌<◌, ◌↔◌, length};
+ghost use Rattle.rx_core.specs.declared.types.Span.{Span};
+ghost use Rattle.rx_tree.specs.Plain.{Function as FunctionTree};
+ghost use Rattle.rx_resolve_names.specs.declared.resolved.NodeNames.{NodeNames};
 ghost use Rattle.rx_typed.specs.Tree.{Function};
+ghost use Rattle.rx_typed.specs.Naming.{function_named};
+ghost use Rattle.rx_typed.specs.Elaborated.{Assigned, elaborated};
 ghost use Rattle.rx_lower_walks.specs.Actions.{Action};
 ghost use Rattle.rx_lower_walks.specs.Orders.{order_function};
 ghost use Rattle.rx_lower_walks.specs.Walks.{IsWalk, IsSite, Follows, Among};
 ghost use Rattle.rx_lower_graph.specs.Graph.{Site, site_at, Path, Comes, HasSite, Joins, EachOnce};
 ghost use Rattle.rx_lower_graph.specs.Pieces.{part, graph};
 ghost use Rattle.rx_lower_graph.specs.Text.{text, actions_of, Sublist};
+
+use rx_typed::numbers_stand_in_order;
 
 /// The paths of a function's graph from its site 0 are its walks.
 pub fn paths_are_walks()
@@ -36,3 +43,13 @@ pub fn next_are_sites()
 pub fn sites_stand_in_order()
     ensures { (f : Function) → Sublist (actions_of (graph f)) (text f) }
 {}
+
+/// No two sites of a function have the same action: an action is told by its node and by what it does there.
+pub fn actions_are_distinct()
+    ensures once { (A : Assigned) (i : ℕ) (s : Span) (f : FunctionTree) (ns : ListOf NodeNames) → EachOnce (actions_of (graph (elaborated A (function_named i s f ns)))) }
+    ensures told { (A : Assigned) (i : ℕ) (s : Span) (f : FunctionTree) (ns : ListOf NodeNames) (p q : ℕ) (v w : Site)
+        → site_at (graph (elaborated A (function_named i s f ns))) p ≡ Some v → site_at (graph (elaborated A (function_named i s f ns))) q ≡ Some w
+        → v.action ≡ w.action → p ≡ q }
+{
+    numbers_stand_in_order();
+}

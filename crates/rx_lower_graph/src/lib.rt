@@ -4,5 +4,6 @@
 mod laws;
 
 pub use laws::{
-    neighbours_follow, next_are_sites, paths_are_walks, sites_are_held, sites_stand_in_order,
+    actions_are_distinct, neighbours_follow, next_are_sites, paths_are_walks, sites_are_held,
+    sites_stand_in_order,
 };

@@ -6,3 +6,4 @@ pub mod Tree
 pub mod Places
 pub mod Elaborated
 pub mod Regions
+pub mod Numbers
