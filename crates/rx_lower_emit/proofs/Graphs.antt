@@ -33,10 +33,10 @@ length_map : (g : List Site) → length (map plain-Site g) ≡ length g
 length_map [] = refl
 length_map (s ∷ g) = ap suc (length_map g)
 
-pub within_limit : (f : Flow) (n : ℕ) (g : List Site) → n ≡ cap (part [] (order_of f)).size → n ≤ 16384 → map plain-Site g ≡ emitted nothing_around f 0 [] []
-    → (map plain-Site g ≡ graph_of (order_of f)) × (length g ≤ 16384)
-within_limit f n g e le h =
-    let small : (part [] (order_of f)).size ≤ 16384 = omega (arith, e, le) in
-    let same : map plain-Site g ≡ graph_of (order_of f) = h ∙ graph_emitted f (omega (arith, small)) in
+pub within_limit : (f : Flow) (n limit : ℕ) (g : List Site) → limit < 4294967296 → n ≡ cap (part [] (order_of f)).size → n ≤ limit
+    → map plain-Site g ≡ emitted nothing_around f 0 [] [] → (map plain-Site g ≡ graph_of (order_of f)) × (length g ≤ limit)
+within_limit f n limit g small e le h =
+    let few : (part [] (order_of f)).size ≤ limit = omega (arith, small, e, le) in
+    let same : map plain-Site g ≡ graph_of (order_of f) = h ∙ graph_emitted f (omega (arith, few, small)) in
     let long : length g ≡ (part [] (order_of f)).size = sym (length_map g) ∙ ap length same ∙ size_is (order_of f) in
-    (same, omega (arith, long, small))
+    (same, omega (arith, long, few))

@@ -4,6 +4,11 @@ use Rattle.rx_lower_emit.specs.declared.whole.GraphFault.{GraphFault}
 use Rattle.rx_lower_emit.specs.declared.whole.GraphFault.TheVariants.{TooLarge, OutOfMemory}
 use Rattle.rx_lower_emit.specs.Sums.{cap}
 
+-- where it may have so many
+abbrev pub RefusesOver : ℕ → GraphFault → ℕ → Type 0
+RefusesOver limit (TooLarge n) sites = (n ≡ cap sites) × (limit < sites)
+RefusesOver limit OutOfMemory sites = Unit {0}
+
+-- a function's graph
 abbrev pub Refuses : GraphFault → ℕ → Type 0
-Refuses (TooLarge n) sites = (n ≡ cap sites) × (16384 < sites)
-Refuses OutOfMemory sites = Unit {0}
+Refuses fault sites = RefusesOver 16384 fault sites

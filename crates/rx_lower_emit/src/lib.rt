@@ -15,4 +15,4 @@ mod whole;
 pub use around::{Around, Loop};
 pub use site::{Open, Site, Stand};
 pub use sums::{Begin, Row, Sum, Way};
-pub use whole::{GraphFault, graph, summed};
+pub use whole::{GraphFault, graph, graph_within, summed};

@@ -9,7 +9,7 @@ ghost use Rattle.rx_lower_emit.specs.Around.{nothing_around};
 ghost use Rattle.rx_lower_emit.specs.Sums.{cap, sum};
 ghost use Rattle.rx_lower_emit.specs.Rows.{flow_rows};
 ghost use Rattle.rx_lower_emit.specs.Emitted.{emitted};
-ghost use Rattle.rx_lower_emit.specs.Refusal.{Refuses};
+ghost use Rattle.rx_lower_emit.specs.Refusal.{Refuses, RefusesOver};
 
 use crate::around::Around;
 use crate::emit::emit;
@@ -74,16 +74,16 @@ fn whole(alloc: Global, flow: &Flow, rows: &[Row]) -> Result<List<Site>, AllocEr
     Ok(out)
 }
 
-/// The sites of a flow that has at most 16,384. Of one that has more no site is made.
-pub fn graph(alloc: Global, flow: &Flow) -> Result<List<Site>, GraphFault>
-    ensures { MatchResult result (λ g. (map plain-Site g ≡ graph_of (order_of (plain-Flow flow.now))) × (length g ≤ 16384))
-        (λ fault. Refuses fault (part [] (order_of (plain-Flow flow.now))).size) }
+/// The sites of a flow that has at most so many. Of one that has more no site is made.
+pub fn graph_within(alloc: Global, flow: &Flow, limit: u32) -> Result<List<Site>, GraphFault>
+    ensures { MatchResult result (λ g. (map plain-Site g ≡ graph_of (order_of (plain-Flow flow.now))) × (length g ≤ limit))
+        (λ fault. RefusesOver limit fault (part [] (order_of (plain-Flow flow.now))).size) }
 {
     let mut rows = List::new(alloc);
     match size_of(alloc, flow, &mut rows) {
         Err(_) => Err(GraphFault::OutOfMemory),
         Ok(size) => {
-            if size > 16384 {
+            if size > limit as u64 {
                 return Err(GraphFault::TooLarge(size));
             }
             match whole(alloc, flow, rows.as_slice()) {
@@ -92,4 +92,12 @@ pub fn graph(alloc: Global, flow: &Flow) -> Result<List<Site>, GraphFault>
             }
         }
     }
+}
+
+/// The sites of a flow that has at most 16,384. Of one that has more no site is made.
+pub fn graph(alloc: Global, flow: &Flow) -> Result<List<Site>, GraphFault>
+    ensures { MatchResult result (λ g. (map plain-Site g ≡ graph_of (order_of (plain-Flow flow.now))) × (length g ≤ 16384))
+        (λ fault. Refuses fault (part [] (order_of (plain-Flow flow.now))).size) }
+{
+    graph_within(alloc, flow, 16384)
 }

@@ -1,0 +1,4 @@
+pub mod Alike
+pub mod Trees
+pub mod Marks
+pub mod Behind
