@@ -1,0 +1,4 @@
+pub mod Selected
+pub mod Parts
+pub mod RunOf
+pub mod OneText

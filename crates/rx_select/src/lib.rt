@@ -1,0 +1,6 @@
+//! The run of statements that a range of bytes selects, in any block of a program.
+#![tactic(auto)]
+
+mod laws;
+
+pub use laws::one_run;
