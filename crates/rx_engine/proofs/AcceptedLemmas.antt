@@ -18,7 +18,7 @@ use Rattle.rx_engine.specs.Promise.{HasIntegers}
 use Rattle.rx_engine.specs.Avoids.{AvoidsStatement, AvoidsParameter, AvoidsFunction, AvoidsItem, Avoids}
 use Rattle.rx_first_check.specs.Accepted as accepted
 use Rattle.rx_first_check.specs.Accepted.{ValueType, integer, unit, Scope, type_in, Signature, signature, signatures, signature_of, functions, given_by, HasType, AreIntegers, AreTyped, Gives, IsI64, IsParameter, parameter_names, AreDistinct, scope_from, IsTyped, HasMain, Accepted}
-use Rattle.rx_select.specs.Run.{Run}
+use Rattle.rx_first_select.specs.Run.{Run}
 use Rattle.rx_first_hoist.specs.Extracted.{arguments, call_of, call_statement, by_value, result_of, tail_of, new_function, with_call, handed_out, Parts, extraction}
 use Rattle.rx_first_hoist.proofs.Membership.{false_true, unequal, unequal-sym, or_true, or_false, or_left, one_of-distinct, are_distinct}
 use Rattle.rx_engine.proofs.Scopes.{Serves, Grown, typed_serves, statements_serve, gives_serve, typed_split, typed_joined, typed_keeps, typed_lacks}

@@ -15,9 +15,9 @@ use Rattle.rx_engine.proofs.SamePrintable.{printable_same}
 use Rattle.rx_engine.proofs.Measured.{parses_printable}
 use Rattle.rx_first_check.specs.Names.{free}
 use Rattle.rx_first_check.specs.Accepted.{unit, integer}
-use Rattle.rx_select.specs.Run.{Run, RunOf}
-use Rattle.rx_select.proofs.RunLemmas.{one_run}
-use Rattle.rx_select.proofs.Places.{parses_placed}
+use Rattle.rx_first_select.specs.Run.{Run, RunOf}
+use Rattle.rx_first_select.proofs.RunLemmas.{one_run}
+use Rattle.rx_first_select.proofs.Places.{parses_placed}
 use Rattle.rx_first_hoist.specs.Plan.{outs}
 use Rattle.rx_first_hoist.specs.Extracted.{handed_out}
 use Rattle.rx_first_hoist.proofs.Membership.{false_true}

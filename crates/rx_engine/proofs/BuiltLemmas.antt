@@ -13,7 +13,7 @@ use Rattle.rx_first_check.specs.Accepted as accepted
 use Rattle.rx_first_check.specs.Accepted.{ValueType, integer, unit, Scope, type_in, Signature, signatures, functions, AreTyped, scope_from, IsTyped, Accepted}
 use Rattle.rx_first_check.specs.Types.{scope_after}
 use Rattle.rx_first_check.proofs.Exact.{typed_scope}
-use Rattle.rx_select.specs.Run.{Run}
+use Rattle.rx_first_select.specs.Run.{Run}
 use Rattle.rx_first_hoist.specs.Plan.{params, is_declared, declared_in, outs}
 use Rattle.rx_first_hoist.specs.Extracted.{Parts}
 use Rattle.rx_first_hoist.proofs.Membership.{false_true, or_false, or_left, or_right, distinct_one_of}

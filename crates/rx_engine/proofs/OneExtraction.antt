@@ -11,7 +11,7 @@ use Rattle.rx_tree.proofs.ListsLemmas.{listed-statements_of}
 use Rattle.rx_first_check.specs.Names.{free}
 use Rattle.rx_first_check.specs.Accepted.{signatures, AreTyped, scope_from}
 use Rattle.rx_first_hoist.specs.Plan.{params, outs}
-use Rattle.rx_select.specs.Run.{Run}
+use Rattle.rx_first_select.specs.Run.{Run}
 use Rattle.rx_first_hoist.specs.Chosen.{statements_at}
 use Rattle.rx_first_hoist.proofs.HoistForms.{statements_here}
 use Rattle.rx_engine.specs.Promise.{HasIntegers}

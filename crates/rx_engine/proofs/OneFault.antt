@@ -28,7 +28,7 @@ use Rattle.rx_first_check.specs.declared.fault.CheckFault.TheVariants as check_f
 use Rattle.rx_first_check.specs.Accepted.{unit, integer}
 use Rattle.rx_first_check.specs.Faults.{first, faults}
 use Rattle.rx_first_check.proofs.Verdicts.{unbroken}
-use Rattle.rx_select.specs.Run.{Run, RunOf}
+use Rattle.rx_first_select.specs.Run.{Run, RunOf}
 use Rattle.rx_first_hoist.proofs.Membership.{false_true}
 use Rattle.rx_engine.specs.declared.extraction.Answer.{Answer}
 use Rattle.rx_engine.specs.declared.extraction.Fault.{Fault}

@@ -14,7 +14,7 @@ use Rattle.rx_tree.specs.Lists.{statements, tail, nth}
 use Rattle.rx_first_check.specs.Names.{free}
 use Rattle.rx_first_check.specs.Accepted.{Scope, Signature, signatures, scope_from, Accepted}
 use Rattle.rx_first_check.specs.Types.{scope_after}
-use Rattle.rx_select.specs.Run.{Run}
+use Rattle.rx_first_select.specs.Run.{Run}
 use Rattle.rx_first_hoist.specs.Plan.{params, outs}
 use Rattle.rx_first_hoist.specs.Chosen.{chosen, behind, statements_in, tail_in, statements_at, tail_at, is_function, is_function_at}
 use Rattle.rx_first_hoist.proofs.HoistForms.{PartsOf, parts_of, take_parts}

@@ -19,7 +19,7 @@ use Rattle.rx_engine.proofs.SamePrintable.{printable_same}
 use Rattle.rx_first_check.specs.FirstGrammar.{is_empty, is_first_statement, is_first_tail, is_first_parameter, is_first_result, is_first_call, is_first_print, are_variables, is_first_item}
 use Rattle.rx_first_check.specs.Names.{uses, uses_all, uses_given, uses_in, declares, names, remove, without, distinct, free}
 use Rattle.rx_first_hoist.specs.Plan.{params, declared_in, handed, outs}
-use Rattle.rx_select.specs.Run.{Run}
+use Rattle.rx_first_select.specs.Run.{Run}
 use Rattle.rx_first_hoist.specs.Extracted.{arguments, call_statement, by_value, result_of, tail_of, new_function, with_call, handed_out, Parts, Extracted, extraction}
 use Rattle.rx_first_hoist.proofs.Membership.{names-append}
 use Rattle.rx_engine.proofs.AcceptedLemmas.{every-append, every-front, every-back}

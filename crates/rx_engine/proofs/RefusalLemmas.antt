@@ -8,7 +8,7 @@ use Rattle.rx_lex.specs.Tok.{Tok}
 use Rattle.rx_lex.specs.Tokens.{Lexes}
 use Rattle.rx_parse_grammar.proofs.Whole.{one_text}
 use Rattle.rx_print_spelling.specs.Items.{print_program}
-use Rattle.rx_select.specs.Run.{Run, RunOf}
+use Rattle.rx_first_select.specs.Run.{Run, RunOf}
 use Rattle.rx_engine.specs.declared.extraction.Answer.{Answer}
 use Rattle.rx_engine.specs.declared.extraction.Fault.{Fault}
 use Rattle.rx_engine.specs.declared.extraction.Fault.TheVariants as fault

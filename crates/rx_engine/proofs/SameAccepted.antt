@@ -8,7 +8,7 @@ use Rattle.rx_tree.specs.Plain as plain
 use Rattle.rx_tree.specs.Plain.{TypeTree, Expression, Expressions, OptionalExpression, Body, Statement, Statements, Parameter, Function, ItemTree, ProgramTree}
 use Rattle.rx_tree.specs.Lists.{listed, statements, tail, Every}
 use Rattle.rx_tree.specs.Erase.{erase, erase_all, erase_ident, erase_optional, erase_statement, erase_statements, erase_body, erase_type, erase_lifetime, erase_parameter, erase_function, erase_program, SameProgram}
-use Rattle.rx_select.specs.Run.{Run}
+use Rattle.rx_first_select.specs.Run.{Run}
 use Rattle.rx_first_hoist.specs.Extracted.{Extracted, extraction}
 use Rattle.rx_engine.specs.Avoids.{Avoids}
 use Rattle.rx_engine.specs.Promise.{HasIntegers}

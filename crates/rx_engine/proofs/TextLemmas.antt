@@ -5,7 +5,7 @@ use Rattle.rx_lex.specs.Tok.{Tok}
 use Rattle.rx_lex.specs.Tokens.{Lexes}
 use Rattle.rx_lex.specs.Words.{is_identifier}
 use Rattle.rx_lex.proofs.TokenLaws.{lexes_one}
-use Rattle.rx_select.specs.Run.{Run, RunOf}
+use Rattle.rx_first_select.specs.Run.{Run, RunOf}
 use Rattle.rx_engine.specs.Conditions.{is_taken}
 use Rattle.rx_engine.specs.Promise.{Accepts, Selects, Names}
 

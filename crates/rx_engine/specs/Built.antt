@@ -3,7 +3,7 @@ use Rattle.std.specs.Prelude.{◌≡◌, ℕ, ◌≤◌, ◌<◌, Bool, true, fa
 use Rattle.rx_tree.specs.Plain.{ProgramTree}
 use Rattle.rx_first_check.specs.Names.{free}
 use Rattle.rx_first_check.specs.Accepted.{ValueType, integer, unit, Scope, type_in}
-use Rattle.rx_select.specs.Run.{Run}
+use Rattle.rx_first_select.specs.Run.{Run}
 use Rattle.rx_first_hoist.specs.Plan.{params, outs}
 use Rattle.rx_first_hoist.specs.Chosen.{chosen, behind, statements_at, tail_at}
 use Rattle.rx_first_hoist.specs.Extracted.{Parts}

@@ -9,7 +9,7 @@ use Rattle.rx_first_meaning.specs.Meaning.{run, UpTo}
 use Rattle.rx_first_check.specs.FirstGrammar.{is_first_program}
 use Rattle.rx_first_check.specs.Names.{free}
 use Rattle.rx_first_check.specs.Accepted.{integer, Scope, type_in, signatures, AreTyped, scope_from, Accepted}
-use Rattle.rx_select.specs.Run.{Run, RunOf}
+use Rattle.rx_first_select.specs.Run.{Run, RunOf}
 use Rattle.rx_first_hoist.specs.Plan.{params, outs}
 use Rattle.rx_first_hoist.specs.Extracted.{Parts, Extracted}
 use Rattle.rx_engine.specs.Conditions.{most_parameters, most_bytes, is_taken}

@@ -19,7 +19,7 @@ use Rattle.rx_first_check.specs.declared.fault.NameFault.TheVariants as name_fau
 use Rattle.rx_first_check.specs.declared.fault.TypeFault.TheVariants as type_fault
 use Rattle.rx_first_check.specs.declared.fault.CheckFault.{CheckFault}
 use Rattle.rx_first_check.specs.declared.fault.CheckFault.TheVariants as check_fault
-use Rattle.rx_select.specs.Run.{Run, RunOf}
+use Rattle.rx_first_select.specs.Run.{Run, RunOf}
 use Rattle.rx_first_hoist.specs.Plan.{params, outs}
 use Rattle.rx_first_hoist.specs.Chosen.{statements_at}
 use Rattle.rx_first_hoist.specs.Extracted.{Parts}

@@ -15,7 +15,7 @@ ghost use Rattle.rx_engine.specs.declared.extraction.Refusal.{Refusal};
 ghost use Rattle.rx_engine.specs.Verdict.{Extracts, Checks, holds_memory, AreOne};
 ghost use Rattle.rx_engine.specs.Avoids.{Avoids};
 ghost use Rattle.rx_engine.specs.Conditions.{is_taken as taken};
-ghost use Rattle.rx_select.specs.Run.{Run};
+ghost use Rattle.rx_first_select.specs.Run.{Run};
 ghost use Rattle.rx_first_hoist.specs.Extracted.{Extracted};
 
 /// On each input the extraction of an accepted program does what the program does: with as many turns it is the one

@@ -22,7 +22,7 @@ use Rattle.rx_tree.specs.Lists.{statements, tail}
 use Rattle.rx_tree.specs.Erase.{nowhere, erase_ident, erase_type, erase, erase_all, erase_optional, erase_statement, erase_statements, erase_body, erase_parameter, erase_function, erase_item}
 use Rattle.rx_tree.proofs.ListsLemmas.{listed-statements_of, statements_of-listed}
 use Rattle.rx_first_check.specs.Names.{free}
-use Rattle.rx_select.specs.Run.{Run}
+use Rattle.rx_first_select.specs.Run.{Run}
 use Rattle.rx_first_hoist.specs.Plan.{params, outs}
 use Rattle.rx_first_hoist.specs.Chosen.{chosen, behind, statements_in, tail_in, statements_at, tail_at, is_function, is_function_at, first_of, body_with, with_statements}
 use Rattle.rx_first_hoist.specs.Extracted.{written, arguments, call_of, call_statement, by_value, result_of, tail_of, new_function, with_call, handed_out, Parts, Extracted}

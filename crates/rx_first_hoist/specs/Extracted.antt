@@ -9,7 +9,7 @@ use Rattle.rx_tree.specs.PlainOf.{statements_of}
 use Rattle.rx_tree.specs.Erase.{nowhere, SameProgram}
 use Rattle.rx_first_check.specs.Names.{free}
 use Rattle.rx_first_hoist.specs.Plan.{params, outs}
-use Rattle.rx_select.specs.Run.{Run}
+use Rattle.rx_first_select.specs.Run.{Run}
 
 -- a name that the extraction writes
 abbrev pub written : List ℕ → Ident

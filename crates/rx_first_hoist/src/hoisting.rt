@@ -10,12 +10,12 @@ ghost use Rattle.rx_tree.specs.Erase.{nowhere, erase, erase_type, erase_optional
 ghost use Rattle.rx_first_check.specs.Names.{free};
 ghost use Rattle.rx_first_hoist.specs.Plan as planned;
 ghost use Rattle.rx_first_hoist.specs.Chosen.{chosen, behind, statements_at, tail_at, is_function, is_function_at, first_of, with_statements};
-ghost use Rattle.rx_select.specs.Selecting.{run as run_is};
+ghost use Rattle.rx_first_select.specs.Selecting.{run as run_is};
 ghost use Rattle.rx_first_hoist.specs.Extracted.{i64_type, call_of, call_statement, by_value, handed_out, result_of, tail_of, new_function, with_call, Extracted};
 
 use crate::plan::Plan;
 use rx_core::{Boxed, Kind, LetGo, List, Name, Span, keep, pushed};
-use rx_select::Run;
+use rx_first_select::Run;
 use rx_tree::{
     Block, Expr, ExprNode, Func, Ident, Item, ItemNode, Param, Pattern, PatternNode, Program, Stmt,
     StmtNode, TypeNode, TypeText,

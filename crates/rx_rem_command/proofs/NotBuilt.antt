@@ -20,7 +20,7 @@ use Rattle.rx_first_check.specs.FirstGrammar.{is_first_program}
 use Rattle.rx_first_check.specs.Faults.{first, other_spans}
 use Rattle.rx_first_check.specs.declared.fault.CheckFault.TheVariants as check_fault
 use Rattle.rx_first_check.proofs.Verdicts.{all_first, first_other}
-use Rattle.rx_select.specs.Run.{Run}
+use Rattle.rx_first_select.specs.Run.{Run}
 use Rattle.rx_engine.specs.declared.extraction.Answer.{Answer}
 use Rattle.rx_engine.specs.declared.extraction.Fault.{Fault}
 use Rattle.rx_engine.specs.declared.extraction.Fault.TheVariants as fault

@@ -4,7 +4,7 @@ ghost use Rattle.std.specs.Prelude.{◌≡◌, ◌↔◌, ◌⊎◌, ◌≤◌, 
 ghost use Rattle.rx_rem_command.specs.declared.status.Status.{Status};
 ghost use Rattle.rx_print_spelling.specs.Items.{print_program};
 ghost use Rattle.rx_first_check.specs.FirstGrammar.{is_first_program};
-ghost use Rattle.rx_select.specs.Run.{Run};
+ghost use Rattle.rx_first_select.specs.Run.{Run};
 ghost use Rattle.rx_engine.specs.declared.extraction.Refusal.{Refusal};
 ghost use Rattle.rx_engine.specs.Promise.{IsExtraction, Names};
 ghost use Rattle.rx_engine.specs.Verdict.{IsNotBuilt};

@@ -1,7 +1,7 @@
-pub mod SelectForms
-pub mod PickLemmas
-pub mod PartLemmas
-pub mod RunLemmas
-pub mod RunFacts
-pub mod Inside
-pub mod Places
+pub mod Tokens
+pub mod Rows
+pub mod Nodes
+pub mod Placing
+pub mod Programs
+pub mod Choosing
+pub mod Ways

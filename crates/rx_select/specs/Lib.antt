@@ -1,3 +1,4 @@
-pub mod Run
-pub mod Placed
-pub mod Selecting
+pub mod Selected
+pub mod Parts
+pub mod RunOf
+pub mod OneText

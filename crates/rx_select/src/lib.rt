@@ -1,8 +1,6 @@
-//! The run of statements that a range of bytes selects.
+//! The run of statements that a range of bytes selects, in any block of a program.
 #![tactic(auto)]
 
 mod laws;
-mod select;
 
-pub use laws::{one_run, parsed_is_placed};
-pub use select::{Run, select_run};
+pub use laws::one_run;

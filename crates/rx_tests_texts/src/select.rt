@@ -2,9 +2,9 @@
 
 use crate::holding::all_hold;
 use rx_core::LetGo;
+use rx_first_select::select_run;
 use rx_lex::{LexFault, lex};
 use rx_parse::{SyntaxFault, parse};
-use rx_select::select_run;
 use rx_tests_tables::{LINES, Outcome};
 use std::alloc::Global;
 

@@ -15,7 +15,7 @@ use Rattle.rx_first_meaning.proofs.Spans.{same_runs}
 use Rattle.rx_first_check.specs.Names.{free}
 use Rattle.rx_first_hoist.specs.Plan.{params, outs, declared_in}
 use Rattle.rx_first_check.specs.Accepted.{ValueType, unit, Scope, Signature, signature, functions, signatures, signature_of, AreTyped, Gives, nothing, given_by, scope_from, parameter_names, IsTyped, Accepted}
-use Rattle.rx_select.specs.Run.{Run}
+use Rattle.rx_first_select.specs.Run.{Run}
 use Rattle.rx_first_hoist.specs.Extracted.{call_statement, new_function, with_call, handed_out, Parts, extraction, Extracted}
 use Rattle.rx_engine.specs.Avoids.{Avoids}
 use Rattle.rx_engine.proofs.sim.World.{Names, Knows, Permits}

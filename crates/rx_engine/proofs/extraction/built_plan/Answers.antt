@@ -3,7 +3,7 @@ use Rattle.std.proofs.Common.{◌+◌, ◌<◌, [], length, sym, ◌∙◌, arit
 use Rattle.rx_tree.specs.Lists.{statements}
 use Rattle.rx_tree.specs.PlainOf.{plain-Program, plain-Func, plain-Block}
 use Rattle.rx_first_check.specs.Accepted.{signatures, scope_from}
-use Rattle.rx_select.specs.Selecting.{run as run_is}
+use Rattle.rx_first_select.specs.Selecting.{run as run_is}
 use Rattle.rx_first_hoist.proofs.PlanForms.{body_is}
 use Rattle.rx_engine.proofs.PlanLemmas.{scoped, found_integers, found_unit, found_more, found_many, found_built, found_tail, units_told, as_many}
 use Rattle.rx_engine.proofs.extraction.built_plan.Goals as goal

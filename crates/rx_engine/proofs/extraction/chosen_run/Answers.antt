@@ -2,7 +2,7 @@ use Rattle.std.proofs.Common.{List, subst}
 use Rattle.rx_tree.specs.PlainOf.{plain-Program}
 use Rattle.rx_lex.specs.declared.token.Token.{Token}
 use Rattle.rx_lex.specs.Tok.{toks}
-use Rattle.rx_select.specs.Run.{Run, RunOf}
+use Rattle.rx_first_select.specs.Run.{Run, RunOf}
 use Rattle.rx_engine.proofs.extraction.chosen_run.Goals as goal
 
 pub returns-in-None-clause-fault : goal.returns-in-None-clause-fault

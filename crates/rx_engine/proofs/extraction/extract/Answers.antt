@@ -2,8 +2,8 @@
 use Rattle.std.proofs.Common.{ℕ, ◌<◌, subst}
 use Rattle.std.proofs.lemmas.List.{length-map}
 use Rattle.rx_tree.specs.PlainOf.{plain-Program, plain-Item}
-use Rattle.rx_select.specs.Selecting.{run as run_of}
-use Rattle.rx_select.proofs.RunFacts.{inside}
+use Rattle.rx_first_select.specs.Selecting.{run as run_of}
+use Rattle.rx_first_select.proofs.RunFacts.{inside}
 use Rattle.rx_engine.proofs.RefusalLemmas.{refuses_unaccepted, refuses_move, printed_verdict, printed_complete}
 use Rattle.rx_engine.proofs.PlanLemmas.{nth_within, function_there}
 use Rattle.rx_engine.proofs.extraction.extract.Goals as goal

@@ -1,8 +1,8 @@
 -- The run and its name, by any list of the text's tokens.
 use Rattle.rx_tree.specs.PlainOf.{plain-Program}
 use Rattle.rx_lex.specs.Tok.{toks}
-use Rattle.rx_select.specs.Selecting.{run as run_of}
-use Rattle.rx_select.proofs.Places.{parses_placed}
+use Rattle.rx_first_select.specs.Selecting.{run as run_of}
+use Rattle.rx_first_select.proofs.Places.{parses_placed}
 use Rattle.rx_first_hoist.proofs.HoistForms.{if_ok}
 use Rattle.rx_engine.proofs.RefusalLemmas.{refuses_choice, names_of, if_err}
 use Rattle.rx_engine.proofs.extraction.selected_run.Goals as goal

@@ -1,4 +1,4 @@
-use Rattle.rx_select.proofs.RunLemmas.{one_run}
+use Rattle.rx_select.proofs.Ways.{one_run}
 use Rattle.rx_select.proofs.laws.one_run.Goals as goal
 
 pub returns : goal.returns

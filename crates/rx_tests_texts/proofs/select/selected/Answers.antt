@@ -3,8 +3,8 @@ use Rattle.std.proofs.Common.{List, sym, subst}
 use Rattle.rx_tree.specs.PlainOf.{plain-Program}
 use Rattle.rx_lex.specs.declared.token.Token.{Token}
 use Rattle.rx_lex.specs.Tok.{toks}
-use Rattle.rx_select.specs.Placed.{PlacedIn}
-use Rattle.rx_select.proofs.Places.{parses_placed}
+use Rattle.rx_first_select.specs.Placed.{PlacedIn}
+use Rattle.rx_first_select.proofs.Places.{parses_placed}
 use Rattle.rx_tests_texts.proofs.select.selected.Goals as goal
 
 pub select_run-found-requires : goal.select_run-found-requires
