@@ -6,67 +6,46 @@ use Rattle.rx_core.specs.declared.types.Span.{Span}
 use Rattle.rx_tree.specs.declared.tree.Ident.{Ident}
 use Rattle.rx_tree.specs.Plain as plain
 use Rattle.rx_tree.specs.Plain.{TypeTree, PatternTree, Expression, OptionalExpression, Body, Statement}
-use Rattle.rx_tree.specs.PlainOf.{expressions_of, field_expressions_of, arms_of, statements_of}
-use Rattle.rx_tree.specs.Erase.{nowhere, erase, erase_ident, erase_label, erase_type, erase_pattern, erase_all, erase_fields, erase_arms, erase_body, erase_statement, erase_statements, erase_optional}
+use Rattle.rx_tree.specs.PlainOf.{expressions_of, arms_of, statements_of}
+use Rattle.rx_tree.specs.Erase.{nowhere, erase, erase_ident, erase_label, erase_type, erase_pattern, erase_all, erase_arms, erase_body, erase_statement, erase_statements, erase_optional}
 use Rattle.rx_lex.specs.declared.token.Class.TheVariants as class
 use Rattle.rx_lex.specs.Tok.{Tok}
 use Rattle.rx_parse_grammar.specs.grammar.Words.{span_of, ident, second_ampersand}
 use Rattle.rx_parse_grammar.specs.grammar.Expressions as g
 use Rattle.rx_parse_grammar.specs.grammar.Expressions.{IsExpression, IsOperand, IsUnary, IsPostfix, IsPrimary, AreArguments, BeginsLike, Test}
 use Rattle.rx_parse_laws.specs.Words.{words}
+use Rattle.rx_parse_laws.specs.Parts.{erased_arguments, erased_field, erased_fields, erased_arms, erased_test, Within, erased_within}
 use Rattle.rx_parse_laws.proofs.SameWords.{Same, Again, again, got, front, cut, closed, none, one_left, onto, behind, same_mark, same_keyword, same_named, same_lifetime, same_number, same_index, same_operator, same_update, same_ident, same_mutability}
 use Rattle.rx_parse_laws.proofs.TypesAgain.{annotation_again}
 use Rattle.rx_parse_laws.proofs.PatternsAgain.{pattern_again}
 
-same_label : {ts : List Tok} {l : Option Ident} → g.IsLabel ts l → (us : List Tok) → words us ≡ words ts → Again g.IsLabel erase_label us (erase_label l)
-same_label g.no_label us e = again None (subst (λ x. g.IsLabel x None) (sym (none us e)) g.no_label) refl
-same_label (g.label t c s m) us e =
+pub label_again : {ts : List Tok} {l : Option Ident} → g.IsLabel ts l → (us : List Tok) → words us ≡ words ts → Again g.IsLabel erase_label us (erase_label l)
+label_again g.no_label us e = again None (subst (λ x. g.IsLabel x None) (sym (none us e)) g.no_label) refl
+label_again (g.label t c s m) us e =
     let k = front us t (c ∷ []) e in
     let l = front k.more c [] k.rest_words in
     again (Some (ident k.tok)) (subst (λ x. g.IsLabel x (Some (ident k.tok))) (sym (onto k (onto l (none l.more l.rest_words)))) (g.label k.tok l.tok (same_lifetime k.same s) (same_mark _ l.same m)))
     (ap (λ (z : Ident). Some z) (same_ident k.same))
 
-abbrev pub arguments_view : List Expression → plain.Expressions
-arguments_view xs = erase_all (expressions_of xs)
-
-abbrev pub fields_view : List (Ident × Expression) → plain.FieldExpressions
-fields_view xs = erase_fields (field_expressions_of xs)
-
-abbrev pub field_view : Ident × Expression → Ident × Expression
-field_view p = (erase_ident p.0, erase p.1)
-
-some_arguments : (zs : List Expression) (a : Expression) (more : plain.Expressions) → arguments_view zs ≡ plain.expression_and a more
+some_arguments : (zs : List Expression) (a : Expression) (more : plain.Expressions) → erased_arguments zs ≡ plain.expression_and a more
     → (z : Expression) × (ws : List Expression) × (zs ≡ z ∷ ws)
 some_arguments [] a more e = absurd (cc)
 some_arguments (z ∷ ws) a more e = (z, ws, refl)
 
-abbrev pub arms_view : List (PatternTree × Expression) → plain.Arms
-arms_view xs = erase_arms (arms_of xs)
-
-abbrev pub test_view : Test → Test
-test_view (g.condition x) = g.condition (erase x)
-test_view (g.fitting p x) = g.fitting (erase_pattern p) (erase x)
-
-abbrev pub StatementsOf : Type 0
-StatementsOf = List Statement × OptionalExpression
-
-abbrev pub statements_view : StatementsOf → plain.Statements × OptionalExpression
-statements_view p = (erase_statements (statements_of p.0), erase_optional p.1)
-
-if_erased : (x : Test) (b : Body) (y : OptionalExpression) (s : Span) → erase (g.if_of s x b y) ≡ g.if_of nowhere (test_view x) (erase_body b) (erase_optional y)
+if_erased : (x : Test) (b : Body) (y : OptionalExpression) (s : Span) → erase (g.if_of s x b y) ≡ g.if_of nowhere (erased_test x) (erase_body b) (erase_optional y)
 if_erased (g.condition x) b y s = refl
 if_erased (g.fitting p x) b y s = refl
 
-while_erased : (x : Test) (l : Option Ident) (b : Body) (s : Span) → erase (g.while_of s l x b) ≡ g.while_of nowhere (erase_label l) (test_view x) (erase_body b)
+while_erased : (x : Test) (l : Option Ident) (b : Body) (s : Span) → erase (g.while_of s l x b) ≡ g.while_of nowhere (erase_label l) (erased_test x) (erase_body b)
 while_erased (g.condition x) l b s = refl
 while_erased (g.fitting p x) l b s = refl
 
-some_arms : (zs : List (PatternTree × Expression)) (p : PatternTree) (a : Expression) (more : plain.Arms) → arms_view zs ≡ plain.arm_and p a more
+some_arms : (zs : List (PatternTree × Expression)) (p : PatternTree) (a : Expression) (more : plain.Arms) → erased_arms zs ≡ plain.arm_and p a more
     → (z : PatternTree × Expression) × (ws : List (PatternTree × Expression)) × (zs ≡ z ∷ ws)
 some_arms [] p a more e = absurd (cc)
 some_arms (z ∷ ws) p a more e = (z, ws, refl)
 
-begins_again : (us ts : List Tok) → words us ≡ words ts → BeginsLike us → BeginsLike ts
+pub begins_again : (us ts : List Tok) → words us ≡ words ts → BeginsLike us → BeginsLike ts
 begins_again us [] e d = absurd (no_like (subst BeginsLike (none us e) d))
   where
     no_like : BeginsLike [] → ⊥
@@ -84,7 +63,7 @@ begins_again us (t ∷ ts) e d = let k = front us t ts e in by k.same (subst Beg
     by s (g.with_while m) = g.with_while (same_keyword _ (back s) m)
     by s (g.with_label m) = g.with_label (same_lifetime (back s) m)
 
-some_again : (us ts : List Tok) → words us ≡ words ts → ts ≢ [] → us ≢ []
+pub some_again : (us ts : List Tok) → words us ≡ words ts → ts ≢ [] → us ≢ []
 some_again us ts e n z = n (none ts (sym e ∙ ap words z))
 
 mutual
@@ -160,7 +139,7 @@ mutual
       let z = closed vs c l.more l.rest_words in
       got (arguments_again d z.first z.first_words) (λ y dy sy.
       again _ (g.call k.tok l.tok z.tok z.first y h (k.same.class ∙ s) (same_mark _ l.same so) (same_mark _ z.same sc) dy (onto k (onto l z.is)))
-      (ap (λ (i : Ident). plain.call nowhere i (arguments_view y)) (same_ident k.same) ∙ ap (λ (w : plain.Expressions). plain.call nowhere (erase_ident (ident t)) w) sy))
+      (ap (λ (i : Ident). plain.call nowhere i (erased_arguments y)) (same_ident k.same) ∙ ap (λ (w : plain.Expressions). plain.call nowhere (erase_ident (ident t)) w) sy))
   primary_again (g.next_input r q n o c sr sq sn so sc is) us e =
       let k = front us r (q ∷ n ∷ o ∷ c ∷ []) (e ∙ ap words is) in
       let l = front k.more q (n ∷ o ∷ c ∷ []) k.rest_words in
@@ -185,16 +164,16 @@ mutual
       let w = some_arguments y (erase x) (erase_all (expressions_of xs)) sy in
       again _ (g.variant_with k.tok l.tok m.tok i.tok z.tok z.first w.0 w.1 h (k.same.class ∙ sa) (same_mark _ l.same sq) (m.same.class ∙ sv) (same_mark _ i.same so) (same_mark _ z.same sc)
       (subst (λ ys. AreArguments z.first ys h) w.2 dy) (onto k (onto l (onto m (onto i z.is)))))
-      (ap (λ (i : Ident). plain.variant nowhere i (erase_ident (ident m.tok)) (plain.a_list (arguments_view (w.0 ∷ w.1)))) (same_ident k.same)
-      ∙ ap (λ (i : Ident). plain.variant nowhere (erase_ident (ident a)) i (plain.a_list (arguments_view (w.0 ∷ w.1)))) (same_ident m.same)
-      ∙ ap (λ (u : plain.Expressions). plain.variant nowhere (erase_ident (ident a)) (erase_ident (ident v)) (plain.a_list u)) (ap arguments_view (sym w.2) ∙ sy)))
+      (ap (λ (i : Ident). plain.variant nowhere i (erase_ident (ident m.tok)) (plain.a_list (erased_arguments (w.0 ∷ w.1)))) (same_ident k.same)
+      ∙ ap (λ (i : Ident). plain.variant nowhere (erase_ident (ident a)) i (plain.a_list (erased_arguments (w.0 ∷ w.1)))) (same_ident m.same)
+      ∙ ap (λ (u : plain.Expressions). plain.variant nowhere (erase_ident (ident a)) (erase_ident (ident v)) (plain.a_list u)) (ap erased_arguments (sym w.2) ∙ sy)))
   primary_again (g.structure n o c vs fs h sn so sc d is) us e =
       let k = front us n (o ∷ (vs ++ c ∷ [])) (e ∙ ap words is) in
       let l = front k.more o (vs ++ c ∷ []) k.rest_words in
       let z = closed vs c l.more l.rest_words in
       got (fields_again d z.first z.first_words) (λ y dy sy.
       again _ (g.structure k.tok l.tok z.tok z.first y h (k.same.class ∙ sn) (same_mark _ l.same so) (same_mark _ z.same sc) dy (onto k (onto l z.is)))
-      (ap (λ (i : Ident). plain.make nowhere i (fields_view y)) (same_ident k.same) ∙ ap (λ (w : plain.FieldExpressions). plain.make nowhere (erase_ident (ident n)) w) sy))
+      (ap (λ (i : Ident). plain.make nowhere i (erased_fields y)) (same_ident k.same) ∙ ap (λ (w : plain.FieldExpressions). plain.make nowhere (erase_ident (ident n)) w) sy))
   primary_again (g.print r b o q m c vs x h sr sb so sq sm sc d is) us e =
       let k = front us r (b ∷ o ∷ q ∷ m ∷ (vs ++ c ∷ [])) (e ∙ ap words is) in
       let l = front k.more b (o ∷ q ∷ m ∷ (vs ++ c ∷ [])) k.rest_words in
@@ -226,7 +205,7 @@ mutual
   primary_again (g.like d) us e = got (like_again d us e) (λ y dy sy. again y (g.like dy) sy)
 
   pub arguments_again : {ts : List Tok} {xs : List Expression} {h : ℕ} → AreArguments ts xs h → (us : List Tok) → words us ≡ words ts
-      → Again (λ vs ys. AreArguments vs ys h) arguments_view us (arguments_view xs)
+      → Again (λ vs ys. AreArguments vs ys h) erased_arguments us (erased_arguments xs)
   arguments_again g.no_argument us e = again [] (subst (λ l. AreArguments l [] 0) (sym (none us e)) g.no_argument) refl
   arguments_again (g.last_argument d) us e = got (expression_again d us e) (λ y dy sy. again (y ∷ []) (g.last_argument dy) (rw sy refl))
   arguments_again (g.argument_and a b c x xs m n d s r is) us e =
@@ -237,7 +216,7 @@ mutual
       again (y ∷ w) (g.argument_and k.first l.more l.tok y w m n dy (same_mark _ l.same s) dw (behind k l.is)) (rw (sy, sw) refl)))
 
   pub field_again : {ts : List Tok} {x : Ident × Expression} {h : ℕ} → g.IsField ts x h → (us : List Tok) → words us ≡ words ts
-      → Again (λ vs y. g.IsField vs y h) field_view us (field_view x)
+      → Again (λ vs y. g.IsField vs y h) erased_field us (erased_field x)
   field_again (g.long_field n c vs x h sn sc d is) us e =
       let k = front us n (c ∷ vs) (e ∙ ap words is) in
       let l = front k.more c vs k.rest_words in
@@ -250,7 +229,7 @@ mutual
       (ap (λ (w : List ℕ). (record { span = nowhere; name = w }, plain.var nowhere w)) k.same.text)
 
   pub fields_again : {ts : List Tok} {xs : List (Ident × Expression)} {h : ℕ} → g.AreFields ts xs h → (us : List Tok) → words us ≡ words ts
-      → Again (λ vs ys. g.AreFields vs ys h) fields_view us (fields_view xs)
+      → Again (λ vs ys. g.AreFields vs ys h) erased_fields us (erased_fields xs)
   fields_again g.no_field us e = again [] (subst (λ l. g.AreFields l [] 0) (sym (none us e)) g.no_field) refl
   fields_again (g.last_field d) us e = got (field_again d us e) (λ y dy sy. again (y ∷ []) (g.last_field dy)
       (ap (λ (z : Ident × Expression). plain.field_and z.0 z.1 plain.no_field) sy))
@@ -260,7 +239,7 @@ mutual
       got (field_again d k.first k.first_words) (λ y dy sy.
       got (fields_again r l.more l.rest_words) (λ w dw sw.
       again (y ∷ w) (g.field_and k.first l.more l.tok y w m n dy (same_mark _ l.same s) dw (behind k l.is))
-      (ap (λ (z : Ident × Expression). plain.field_and z.0 z.1 (fields_view w)) sy ∙ ap (λ (z : plain.FieldExpressions). plain.field_and (erase_ident x.0) (erase x.1) z) sw)))
+      (ap (λ (z : Ident × Expression). plain.field_and z.0 z.1 (erased_fields w)) sy ∙ ap (λ (z : plain.FieldExpressions). plain.field_and (erase_ident x.0) (erase x.1) z) sw)))
 
   pub expression_again : {ts : List Tok} {x : Expression} {h : ℕ} → IsExpression ts x h → (us : List Tok) → words us ≡ words ts
       → Again (λ vs y. IsExpression vs y h) erase us (erase x)
@@ -308,26 +287,26 @@ mutual
       let q = some_arms w (erase_pattern a.0) (erase a.1) (erase_arms (arms_of more)) sw in
       again _ (g.match k.tok l.tok z.tok b.first z.first y q.0 q.1 m n (same_keyword _ k.same st) (same_mark _ l.same so) (same_mark _ z.same sc) dy (subst (λ ys. g.AreArms z.first ys n) q.2 dw)
       (onto k (behind b (onto l z.is))))
-      (ap (λ (i : Expression). plain.match nowhere i (arms_view (q.0 ∷ q.1))) sy ∙ ap (λ (i : plain.Arms). plain.match nowhere (erase x) i) (ap arms_view (sym q.2) ∙ sw))))
+      (ap (λ (i : Expression). plain.match nowhere i (erased_arms (q.0 ∷ q.1))) sy ∙ ap (λ (i : plain.Arms). plain.match nowhere (erase x) i) (ap erased_arms (sym q.2) ∙ sw))))
   like_again (g.loop ks vs t l b h sl st d is) us e =
       let c = cut ks (t ∷ vs) us (e ∙ ap words is) in
       let k = front c.second t vs c.second_words in
-      got (same_label sl c.first c.first_words) (λ i di si.
+      got (label_again sl c.first c.first_words) (λ i di si.
       got (block_again d k.more k.rest_words) (λ y dy sy.
       again _ (g.loop c.first k.more k.tok i y h di (same_keyword _ k.same st) dy (behind c k.is)) (rw (si, sy) refl)))
   like_again (g.while ks ws vs t l x b m n sl st d r is) us e =
       let c = cut ks (t ∷ (ws ++ vs)) us (e ∙ ap words is) in
       let k = front c.second t (ws ++ vs) c.second_words in
       let q = cut ws vs k.more k.rest_words in
-      got (same_label sl c.first c.first_words) (λ i di si.
+      got (label_again sl c.first c.first_words) (λ i di si.
       got (test_again d q.first q.first_words) (λ y dy sy.
       got (block_again r q.second q.second_words) (λ w dw sw.
       again _ (g.while c.first q.first q.second k.tok i y w m n di (same_keyword _ k.same st) dy dw (behind c (onto k q.is)))
-      (while_erased y i w _ ∙ ap (λ (z : Option Ident). g.while_of nowhere z (test_view y) (erase_body w)) si ∙ ap (λ (z : Test). g.while_of nowhere (erase_label l) z (erase_body w)) sy
-      ∙ ap (λ (z : Body). g.while_of nowhere (erase_label l) (test_view x) z) sw ∙ sym (while_erased x l b _)))))
+      (while_erased y i w _ ∙ ap (λ (z : Option Ident). g.while_of nowhere z (erased_test y) (erase_body w)) si ∙ ap (λ (z : Test). g.while_of nowhere (erase_label l) z (erase_body w)) sy
+      ∙ ap (λ (z : Body). g.while_of nowhere (erase_label l) (erased_test x) z) sw ∙ sym (while_erased x l b _)))))
 
   pub test_again : {ts : List Tok} {x : Test} {h : ℕ} → g.IsTest ts x h → (us : List Tok) → words us ≡ words ts
-      → Again (λ vs y. g.IsTest vs y h) test_view us (test_view x)
+      → Again (λ vs y. g.IsTest vs y h) erased_test us (erased_test x)
   test_again (g.test d) us e = got (operand_again d us e) (λ y dy sy. again (g.condition y) (g.test dy) (ap (λ (z : Expression). g.condition z) sy))
   test_again (g.test_pattern t q ps vs p x m n st sq sp d is) us e =
       let k = front us t (ps ++ (q ∷ vs)) (e ∙ ap words is) in
@@ -346,7 +325,7 @@ mutual
       got (test_again d q.first q.first_words) (λ y dy sy.
       got (block_again r q.second q.second_words) (λ w dw sw.
       again _ (g.if_alone k.tok q.first q.second y w m n (same_keyword _ k.same st) dy dw (onto k q.is))
-      (if_erased y w plain.absent _ ∙ ap (λ (z : Test). g.if_of nowhere z (erase_body w) plain.absent) sy ∙ ap (λ (z : Body). g.if_of nowhere (test_view x) z plain.absent) sw ∙ sym (if_erased x b plain.absent _))))
+      (if_erased y w plain.absent _ ∙ ap (λ (z : Test). g.if_of nowhere z (erase_body w) plain.absent) sy ∙ ap (λ (z : Body). g.if_of nowhere (erased_test x) z plain.absent) sw ∙ sym (if_erased x b plain.absent _))))
   if_again (g.if_else t l ws vs rs x y b m n j st sl d r o is) us e =
       let k = front us t (ws ++ (vs ++ (l ∷ rs))) (e ∙ ap words is) in
       let q = cut ws (vs ++ (l ∷ rs)) k.more k.rest_words in
@@ -356,8 +335,8 @@ mutual
       got (block_again r p.first p.first_words) (λ w dw sw.
       got (else_again o i.more i.rest_words) (λ v dv sv.
       again _ (g.if_else k.tok i.tok q.first p.first i.more z v w m n j (same_keyword _ k.same st) (same_keyword _ i.same sl) dz dw dv (onto k (behind q (behind p i.is))))
-      (if_erased z w (plain.present v) _ ∙ ap (λ (a : Test). g.if_of nowhere a (erase_body w) (plain.present (erase v))) sz ∙ ap (λ (a : Body). g.if_of nowhere (test_view x) a (plain.present (erase v))) sw
-      ∙ ap (λ (a : Expression). g.if_of nowhere (test_view x) (erase_body b) (plain.present a)) sv ∙ sym (if_erased x b (plain.present y) _)))))
+      (if_erased z w (plain.present v) _ ∙ ap (λ (a : Test). g.if_of nowhere a (erase_body w) (plain.present (erase v))) sz ∙ ap (λ (a : Body). g.if_of nowhere (erased_test x) a (plain.present (erase v))) sw
+      ∙ ap (λ (a : Expression). g.if_of nowhere (erased_test x) (erase_body b) (plain.present a)) sv ∙ sym (if_erased x b (plain.present y) _)))))
 
   pub else_again : {ts : List Tok} {x : Expression} {h : ℕ} → g.IsElse ts x h → (us : List Tok) → words us ≡ words ts
       → Again (λ vs y. g.IsElse vs y h) erase us (erase x)
@@ -365,7 +344,7 @@ mutual
   else_again (g.else_if d) us e = got (if_again d us e) (λ y dy sy. again y (g.else_if dy) sy)
 
   pub arms_again : {ts : List Tok} {xs : List (PatternTree × Expression)} {h : ℕ} → g.AreArms ts xs h → (us : List Tok) → words us ≡ words ts
-      → Again (λ vs ys. g.AreArms vs ys h) arms_view us (arms_view xs)
+      → Again (λ vs ys. g.AreArms vs ys h) erased_arms us (erased_arms xs)
   arms_again g.no_arm us e = again [] (subst (λ l. g.AreArms l [] 0) (sym (none us e)) g.no_arm) refl
   arms_again (g.like_arm a ps ws vs p x more m n k sp sa d r is) us e =
       let c = cut ps (a ∷ (ws ++ vs)) us (e ∙ ap words is) in
@@ -439,7 +418,7 @@ mutual
       got (like_again d f.first f.first_words) (λ y dy sy. again _ (g.done_like f.tok f.first y h (same_mark _ f.same sz) dy f.is) (rw sy refl))
 
   pub statements_again : {ts : List Tok} {ss : List Statement} {y : OptionalExpression} {h : ℕ} → g.AreStatements ts ss y h → (us : List Tok) → words us ≡ words ts
-      → Again (λ vs (p : StatementsOf). g.AreStatements vs p.0 p.1 h) statements_view us (erase_statements (statements_of ss), erase_optional y)
+      → Again (λ vs (p : Within). g.AreStatements vs p.0 p.1 h) erased_within us (erase_statements (statements_of ss), erase_optional y)
   statements_again g.end us e = again ([], plain.absent) (subst (λ l. g.AreStatements l [] plain.absent 0) (sym (none us e)) g.end) refl
   statements_again {ts = ts} (g.tail d nb) us e =
       got (expression_again d us e) (λ y dy sy. again ([], plain.present y) (g.tail dy (λ g. nb (begins_again us ts e g)))

@@ -13,19 +13,20 @@ use Rattle.rx_lex.specs.Tok.{Tok}
 use Rattle.rx_parse_grammar.specs.grammar.Words.{IsListOf, no_element, last_element, element, ident}
 use Rattle.rx_parse_grammar.specs.grammar.Items as i
 use Rattle.rx_parse_laws.specs.Words.{words}
+use Rattle.rx_parse_laws.specs.Parts.{erased_types}
 use Rattle.rx_parse_laws.proofs.SameWords.{Again, again, got, front, cut, closed, none, one_left, onto, behind, list_again, some_element, same_mark, same_keyword, same_named, same_lifetime, same_ident, same_mutability}
-use Rattle.rx_parse_laws.proofs.TypesAgain.{types_view, type_again, types_again}
+use Rattle.rx_parse_laws.proofs.TypesAgain.{type_again, types_again}
 use Rattle.rx_parse_laws.proofs.ExpressionsAgain.{block_again}
 
 -- ---- derives
 
-derived_same : {ts : List Tok} {x : Derive} {h : ℕ} → i.IsDerivedName ts x h → (us : List Tok) → words us ≡ words ts → i.IsDerivedName us x h
+pub derived_same : {ts : List Tok} {x : Derive} {h : ℕ} → i.IsDerivedName ts x h → (us : List Tok) → words us ≡ words ts → i.IsDerivedName us x h
 derived_same (i.clone t s) us e =
     let k = front us t [] e in subst (λ l. i.IsDerivedName l Clone 0) (sym (one_left k)) (i.clone k.tok (same_named _ k.same s))
 derived_same (i.copy t s) us e =
     let k = front us t [] e in subst (λ l. i.IsDerivedName l Copy 0) (sym (one_left k)) (i.copy k.tok (same_named _ k.same s))
 
-derived_names_same : {ts : List Tok} {xs : List Derive} {h : ℕ} → IsListOf i.IsDerivedName ts xs h → (us : List Tok) → words us ≡ words ts
+pub derived_names_same : {ts : List Tok} {xs : List Derive} {h : ℕ} → IsListOf i.IsDerivedName ts xs h → (us : List Tok) → words us ≡ words ts
     → IsListOf i.IsDerivedName us xs h
 derived_names_same no_element us e = subst (λ l. IsListOf i.IsDerivedName l [] 0) (sym (none us e)) no_element
 derived_names_same (last_element d) us e = last_element (derived_same d us e)
@@ -34,7 +35,7 @@ derived_names_same (element a b c x xs m n d s r is) us e =
     let l = front k.second c b k.second_words in
     element k.first l.more l.tok x xs m n (derived_same d k.first k.first_words) (same_mark _ l.same s) (derived_names_same r l.more l.rest_words) (behind k l.is)
 
-derives_same : {ts : List Tok} {xs : List Derive} → i.AreDerives ts xs → (us : List Tok) → words us ≡ words ts → i.AreDerives us xs
+pub derives_same : {ts : List Tok} {xs : List Derive} → i.AreDerives ts xs → (us : List Tok) → words us ≡ words ts → i.AreDerives us xs
 derives_same i.no_derive us e = subst (λ l. i.AreDerives l []) (sym (none us e)) i.no_derive
 derives_same (i.derive m b n o c z vs x xs sm sb sn so sc sz d is) us e =
     let k = front us m (b ∷ n ∷ o ∷ (vs ++ (c ∷ z ∷ []))) (e ∙ ap words is) in
@@ -50,13 +51,13 @@ derives_same (i.derive m b n o c z vs x xs sm sb sn so sc sz d is) us e =
 
 -- ---- lifetimes
 
-lifetime_again : {ts : List Tok} {x : Ident} {h : ℕ} → i.IsLifetimeParameter ts x h → (us : List Tok) → words us ≡ words ts
+pub lifetime_again : {ts : List Tok} {x : Ident} {h : ℕ} → i.IsLifetimeParameter ts x h → (us : List Tok) → words us ≡ words ts
     → Again (λ vs y. i.IsLifetimeParameter vs y h) erase_ident us (erase_ident x)
 lifetime_again (i.lifetime_parameter t s) us e =
     let k = front us t [] e in
     again (ident k.tok) (subst (λ l. i.IsLifetimeParameter l (ident k.tok) 0) (sym (one_left k)) (i.lifetime_parameter k.tok (same_lifetime k.same s))) (same_ident k.same)
 
-lifetimes_again : {ts : List Tok} {xs : List Ident} → i.AreLifetimes ts xs → (us : List Tok) → words us ≡ words ts
+pub lifetimes_again : {ts : List Tok} {xs : List Ident} → i.AreLifetimes ts xs → (us : List Tok) → words us ≡ words ts
     → Again i.AreLifetimes (map erase_ident) us (map erase_ident xs)
 lifetimes_again i.no_lifetime us e = again [] (subst (λ l. i.AreLifetimes l []) (sym (none us e)) i.no_lifetime) refl
 lifetimes_again (i.lifetimes o c vs x xs so sc d is) us e =
@@ -67,7 +68,7 @@ lifetimes_again (i.lifetimes o c vs x xs so sc d is) us e =
     again (w.0 ∷ w.1) (i.lifetimes k.tok z.tok z.first w.0 w.1 (same_mark _ k.same so) (same_mark _ z.same sc)
     (subst (λ ys. IsListOf i.IsLifetimeParameter z.first ys 0) w.2 dy) (onto k z.is)) (ap (map erase_ident) (sym w.2) ∙ sy))
 
-bounds_again : {ts : List Tok} {xs : List Ident} → i.AreBounds ts xs → (us : List Tok) → words us ≡ words ts
+pub bounds_again : {ts : List Tok} {xs : List Ident} → i.AreBounds ts xs → (us : List Tok) → words us ≡ words ts
     → Again i.AreBounds (map erase_ident) us (map erase_ident xs)
 bounds_again (i.last_bound t s) us e =
     let k = front us t [] e in
@@ -84,7 +85,7 @@ bounds_again (i.bound_and t p vs xs s sp d) us e =
 abbrev lifetime_of : Ident → List Ident → BoundLifetime
 lifetime_of n bs = record { name = n; bounds = bs }
 
-bound_lifetime_again : {ts : List Tok} {x : BoundLifetime} {h : ℕ} → i.IsBoundLifetime ts x h → (us : List Tok) → words us ≡ words ts
+pub bound_lifetime_again : {ts : List Tok} {x : BoundLifetime} {h : ℕ} → i.IsBoundLifetime ts x h → (us : List Tok) → words us ≡ words ts
     → Again (λ vs y. i.IsBoundLifetime vs y h) erase_lifetime us (erase_lifetime x)
 bound_lifetime_again (i.unbounded t s) us e =
     let k = front us t [] e in
@@ -98,7 +99,7 @@ bound_lifetime_again (i.bounded t c vs xs s sc d) us e =
     (i.bounded k.tok l.tok l.more y (same_lifetime k.same s) (same_mark _ l.same sc) dy))
     (ap (λ (z : Ident). lifetime_of z (map erase_ident y)) (same_ident k.same) ∙ ap (λ z. lifetime_of (erase_ident (ident t)) z) sy))
 
-bound_lifetimes_again : {ts : List Tok} {xs : List BoundLifetime} → i.AreBoundLifetimes ts xs → (us : List Tok) → words us ≡ words ts
+pub bound_lifetimes_again : {ts : List Tok} {xs : List BoundLifetime} → i.AreBoundLifetimes ts xs → (us : List Tok) → words us ≡ words ts
     → Again i.AreBoundLifetimes (map erase_lifetime) us (map erase_lifetime xs)
 bound_lifetimes_again i.no_bound_lifetime us e = again [] (subst (λ l. i.AreBoundLifetimes l []) (sym (none us e)) i.no_bound_lifetime) refl
 bound_lifetimes_again (i.bound_lifetimes o c vs x xs so sc d is) us e =
@@ -114,7 +115,7 @@ bound_lifetimes_again (i.bound_lifetimes o c vs x xs so sc d is) us e =
 abbrev field_of : Ident → TypeTree → FieldOf
 field_of n y = record { name = n; typ = y }
 
-struct_field_again : {ts : List Tok} {x : FieldOf} {h : ℕ} → i.IsStructField ts x h → (us : List Tok) → words us ≡ words ts
+pub struct_field_again : {ts : List Tok} {x : FieldOf} {h : ℕ} → i.IsStructField ts x h → (us : List Tok) → words us ≡ words ts
     → Again (λ vs y. i.IsStructField vs y h) erase_field us (erase_field x)
 struct_field_again (i.struct_field n c vs x h sn sc d is) us e =
     let k = front us n (c ∷ vs) (e ∙ ap words is) in
@@ -123,7 +124,7 @@ struct_field_again (i.struct_field n c vs x h sn sc d is) us e =
     again _ (i.struct_field k.tok l.tok l.more y h (k.same.class ∙ sn) (same_mark _ l.same sc) dy (onto k l.is))
     (ap (λ (z : Ident). field_of z (erase_type y)) (same_ident k.same) ∙ ap (λ (z : TypeTree). field_of (erase_ident (ident n)) z) sy))
 
-some_types : (zs : List TypeTree) (a : TypeTree) (more : TypeTrees) → types_view zs ≡ plain.type_and a more
+some_types : (zs : List TypeTree) (a : TypeTree) (more : TypeTrees) → erased_types zs ≡ plain.type_and a more
     → (z : TypeTree) × (ws : List TypeTree) × (zs ≡ z ∷ ws)
 some_types [] a more e = absurd (cc)
 some_types (z ∷ ws) a more e = (z, ws, refl)
@@ -131,7 +132,7 @@ some_types (z ∷ ws) a more e = (z, ws, refl)
 abbrev variant_of : Ident → TypeTrees → VariantOf
 variant_of n ys = record { name = n; types = ys }
 
-variant_again : {ts : List Tok} {x : VariantOf} {h : ℕ} → i.IsVariant ts x h → (us : List Tok) → words us ≡ words ts
+pub variant_again : {ts : List Tok} {x : VariantOf} {h : ℕ} → i.IsVariant ts x h → (us : List Tok) → words us ≡ words ts
     → Again (λ vs y. i.IsVariant vs y h) erase_variant us (erase_variant x)
 variant_again (i.variant n s) us e =
     let k = front us n [] e in
@@ -143,16 +144,16 @@ variant_again (i.variant_with n o c vs x xs h sn so sc d is) us e =
     let l = front k.more o (vs ++ c ∷ []) k.rest_words in
     let z = closed vs c l.more l.rest_words in
     got (types_again d z.first z.first_words) (λ y dy sy.
-    let w = some_types y (erase_type x) (types_view xs) sy in
+    let w = some_types y (erase_type x) (erased_types xs) sy in
     again _ (i.variant_with k.tok l.tok z.tok z.first w.0 w.1 h (k.same.class ∙ sn) (same_mark _ l.same so) (same_mark _ z.same sc)
     (subst (λ ys. Rattle.rx_parse_grammar.specs.grammar.Types.AreTypes z.first ys h) w.2 dy) (onto k (onto l z.is)))
-    (ap (λ (a : Ident). variant_of a (types_view (w.0 ∷ w.1))) (same_ident k.same)
-    ∙ ap (λ (a : TypeTrees). variant_of (erase_ident (ident n)) a) (ap types_view (sym w.2) ∙ sy)))
+    (ap (λ (a : Ident). variant_of a (erased_types (w.0 ∷ w.1))) (same_ident k.same)
+    ∙ ap (λ (a : TypeTrees). variant_of (erase_ident (ident n)) a) (ap erased_types (sym w.2) ∙ sy)))
 
 abbrev parameter_of : Ident → Bool → TypeTree → Parameter
 parameter_of n m y = record { name = n; mutable = m; typ = y }
 
-parameter_again : {ts : List Tok} {x : Parameter} {h : ℕ} → i.IsParameter ts x h → (us : List Tok) → words us ≡ words ts
+pub parameter_again : {ts : List Tok} {x : Parameter} {h : ℕ} → i.IsParameter ts x h → (us : List Tok) → words us ≡ words ts
     → Again (λ vs y. i.IsParameter vs y h) erase_parameter us (erase_parameter x)
 parameter_again (i.parameter ms vs n c m x h sm sn sc d is) us e =
     let a = cut ms (n ∷ c ∷ vs) us (e ∙ ap words is) in
@@ -163,7 +164,7 @@ parameter_again (i.parameter ms vs n c m x h sm sn sc d is) us e =
     (behind a (onto k l.is)))
     (ap (λ (z : Ident). parameter_of z m (erase_type y)) (same_ident k.same) ∙ ap (λ (z : TypeTree). parameter_of (erase_ident (ident n)) m z) sy))
 
-result_again : {ts : List Tok} {x : Option TypeTree} {h : ℕ} → i.IsResult ts x h → (us : List Tok) → words us ≡ words ts
+pub result_again : {ts : List Tok} {x : Option TypeTree} {h : ℕ} → i.IsResult ts x h → (us : List Tok) → words us ≡ words ts
     → Again (λ vs y. i.IsResult vs y h) (option_map erase_type) us (option_map erase_type x)
 result_again i.no_result us e = again None (subst (λ l. i.IsResult l None 0) (sym (none us e)) i.no_result) refl
 result_again (i.result a vs x h sa d is) us e =

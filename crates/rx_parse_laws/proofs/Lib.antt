@@ -3,4 +3,4 @@ pub mod TypesAgain
 pub mod PatternsAgain
 pub mod ExpressionsAgain
 pub mod ItemsAgain
-pub mod Whole
+pub mod Texts

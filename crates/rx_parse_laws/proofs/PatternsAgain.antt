@@ -3,24 +3,16 @@ use Rattle.std.proofs.Common.{◌≡◌, ℕ, true, false, List, [], ◌∷◌, 
 use Rattle.rx_tree.specs.declared.tree.Ident.{Ident}
 use Rattle.rx_tree.specs.Plain as plain
 use Rattle.rx_tree.specs.Plain.{PatternTree}
-use Rattle.rx_tree.specs.PlainOf.{patterns_of, field_patterns_of}
-use Rattle.rx_tree.specs.Erase.{nowhere, erase_ident, erase_pattern, erase_patterns, erase_field_patterns}
+use Rattle.rx_tree.specs.PlainOf.{patterns_of}
+use Rattle.rx_tree.specs.Erase.{nowhere, erase_ident, erase_pattern, erase_patterns}
 use Rattle.rx_lex.specs.Tok.{Tok}
 use Rattle.rx_parse_grammar.specs.grammar.Words.{ident}
 use Rattle.rx_parse_grammar.specs.grammar.Patterns as p
 use Rattle.rx_parse_laws.specs.Words.{words}
+use Rattle.rx_parse_laws.specs.Parts.{erased_patterns, erased_field_pattern, erased_field_patterns}
 use Rattle.rx_parse_laws.proofs.SameWords.{Again, again, got, front, cut, closed, none, one_left, onto, behind, same_mark, same_keyword, same_number, same_ident}
 
-abbrev patterns_view : List PatternTree → plain.PatternTrees
-patterns_view ys = erase_patterns (patterns_of ys)
-
-abbrev fields_view : List (Ident × PatternTree) → plain.FieldPatterns
-fields_view fs = erase_field_patterns (field_patterns_of fs)
-
-abbrev field_view : Ident × PatternTree → Ident × PatternTree
-field_view f = (erase_ident f.0, erase_pattern f.1)
-
-some_patterns : (zs : List PatternTree) (a : PatternTree) (more : plain.PatternTrees) → patterns_view zs ≡ plain.pattern_and a more
+some_patterns : (zs : List PatternTree) (a : PatternTree) (more : plain.PatternTrees) → erased_patterns zs ≡ plain.pattern_and a more
     → (z : PatternTree) × (ws : List PatternTree) × (zs ≡ z ∷ ws)
 some_patterns [] a more e = absurd (cc)
 some_patterns (z ∷ ws) a more e = (z, ws, refl)
@@ -76,19 +68,19 @@ mutual
       let w = some_patterns y (erase_pattern x) (erase_patterns (patterns_of xs)) sy in
       again _ (p.variant_with k.tok l.tok m.tok i.tok z.tok z.first w.0 w.1 h (k.same.class ∙ sa) (same_mark _ l.same sq) (m.same.class ∙ sv) (same_mark _ i.same so) (same_mark _ z.same sc)
       (subst (λ ys. p.ArePatterns z.first ys h) w.2 dy) (onto k (onto l (onto m (onto i z.is)))))
-      (ap (λ (i : Ident). plain.variant_pattern nowhere i (erase_ident (ident m.tok)) (patterns_view (w.0 ∷ w.1))) (same_ident k.same)
-      ∙ ap (λ (i : Ident). plain.variant_pattern nowhere (erase_ident (ident a)) i (patterns_view (w.0 ∷ w.1))) (same_ident m.same)
-      ∙ ap (λ (u : plain.PatternTrees). plain.variant_pattern nowhere (erase_ident (ident a)) (erase_ident (ident v)) u) (ap patterns_view (sym w.2) ∙ sy)))
+      (ap (λ (i : Ident). plain.variant_pattern nowhere i (erase_ident (ident m.tok)) (erased_patterns (w.0 ∷ w.1))) (same_ident k.same)
+      ∙ ap (λ (i : Ident). plain.variant_pattern nowhere (erase_ident (ident a)) i (erased_patterns (w.0 ∷ w.1))) (same_ident m.same)
+      ∙ ap (λ (u : plain.PatternTrees). plain.variant_pattern nowhere (erase_ident (ident a)) (erase_ident (ident v)) u) (ap erased_patterns (sym w.2) ∙ sy)))
   pattern_again (p.structure n o c vs fs h sn so sc d is) us e =
       let k = front us n (o ∷ (vs ++ c ∷ [])) (e ∙ ap words is) in
       let l = front k.more o (vs ++ c ∷ []) k.rest_words in
       let z = closed vs c l.more l.rest_words in
       got (fields_again d z.first z.first_words) (λ y dy sy.
       again _ (p.structure k.tok l.tok z.tok z.first y h (k.same.class ∙ sn) (same_mark _ l.same so) (same_mark _ z.same sc) dy (onto k (onto l z.is)))
-      (ap (λ (i : Ident). plain.make_pattern nowhere i (fields_view y)) (same_ident k.same) ∙ ap (λ (w : plain.FieldPatterns). plain.make_pattern nowhere (erase_ident (ident n)) w) sy))
+      (ap (λ (i : Ident). plain.make_pattern nowhere i (erased_field_patterns y)) (same_ident k.same) ∙ ap (λ (w : plain.FieldPatterns). plain.make_pattern nowhere (erase_ident (ident n)) w) sy))
 
-  patterns_again : {ts : List Tok} {xs : List PatternTree} {h : ℕ} → p.ArePatterns ts xs h → (us : List Tok) → words us ≡ words ts
-      → Again (λ vs ys. p.ArePatterns vs ys h) patterns_view us (patterns_view xs)
+  pub patterns_again : {ts : List Tok} {xs : List PatternTree} {h : ℕ} → p.ArePatterns ts xs h → (us : List Tok) → words us ≡ words ts
+      → Again (λ vs ys. p.ArePatterns vs ys h) erased_patterns us (erased_patterns xs)
   patterns_again p.no_pattern us e = again [] (subst (λ l. p.ArePatterns l [] 0) (sym (none us e)) p.no_pattern) refl
   patterns_again (p.last_pattern d) us e = got (pattern_again d us e) (λ y dy sy. again (y ∷ []) (p.last_pattern dy) (rw sy refl))
   patterns_again (p.pattern_and a b c x xs m n d s r is) us e =
@@ -98,8 +90,8 @@ mutual
       got (patterns_again r l.more l.rest_words) (λ w dw sw.
       again (y ∷ w) (p.pattern_and k.first l.more l.tok y w m n dy (same_mark _ l.same s) dw (behind k l.is)) (rw (sy, sw) refl)))
 
-  field_again : {ts : List Tok} {x : Ident × PatternTree} {h : ℕ} → p.IsFieldPattern ts x h → (us : List Tok) → words us ≡ words ts
-      → Again (λ vs y. p.IsFieldPattern vs y h) field_view us (field_view x)
+  pub field_again : {ts : List Tok} {x : Ident × PatternTree} {h : ℕ} → p.IsFieldPattern ts x h → (us : List Tok) → words us ≡ words ts
+      → Again (λ vs y. p.IsFieldPattern vs y h) erased_field_pattern us (erased_field_pattern x)
   field_again (p.field n c vs x h sn sc d is) us e =
       let k = front us n (c ∷ vs) (e ∙ ap words is) in
       let l = front k.more c vs k.rest_words in
@@ -115,8 +107,8 @@ mutual
       again _ (p.short_mutable k.tok l.tok (same_keyword _ k.same s) (l.same.class ∙ sn) (onto k (one_left l)))
       (ap (λ (i : Ident). (i, plain.bind nowhere i true)) (same_ident l.same))
 
-  fields_again : {ts : List Tok} {xs : List (Ident × PatternTree)} {h : ℕ} → p.AreFieldPatterns ts xs h → (us : List Tok) → words us ≡ words ts
-      → Again (λ vs ys. p.AreFieldPatterns vs ys h) fields_view us (fields_view xs)
+  pub fields_again : {ts : List Tok} {xs : List (Ident × PatternTree)} {h : ℕ} → p.AreFieldPatterns ts xs h → (us : List Tok) → words us ≡ words ts
+      → Again (λ vs ys. p.AreFieldPatterns vs ys h) erased_field_patterns us (erased_field_patterns xs)
   fields_again p.no_field us e = again [] (subst (λ l. p.AreFieldPatterns l [] 0) (sym (none us e)) p.no_field) refl
   fields_again (p.last_field d) us e = got (field_again d us e) (λ y dy sy. again (y ∷ []) (p.last_field dy)
       (ap (λ (z : Ident × PatternTree). plain.field_pattern_and z.0 z.1 plain.no_field_pattern) sy))
@@ -126,4 +118,4 @@ mutual
       got (field_again d k.first k.first_words) (λ y dy sy.
       got (fields_again r l.more l.rest_words) (λ w dw sw.
       again (y ∷ w) (p.field_and k.first l.more l.tok y w m n dy (same_mark _ l.same s) dw (behind k l.is))
-      (ap (λ (z : Ident × PatternTree). plain.field_pattern_and z.0 z.1 (fields_view w)) sy ∙ ap (λ (z : plain.FieldPatterns). plain.field_pattern_and (erase_ident x.0) (erase_pattern x.1) z) sw)))
+      (ap (λ (z : Ident × PatternTree). plain.field_pattern_and z.0 z.1 (erased_field_patterns w)) sy ∙ ap (λ (z : plain.FieldPatterns). plain.field_pattern_and (erase_ident x.0) (erase_pattern x.1) z) sw)))

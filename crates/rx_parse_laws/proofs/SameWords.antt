@@ -116,6 +116,10 @@ again y d e = record { tree = y; derived = d; same = e }
 pub got : {B D R : Type 0} {J : List Tok → B → Type 0} {view : B → D} {us : List Tok} {want : D} → Again J view us want → ((y : B) → J us y → view y ≡ want → R) → R
 got r f = f r.tree r.derived r.same
 
+pub told : {B D : Type 0} {J : List Tok → B → Type 0} {view : B → D} {us : List Tok} {want : D} → Again J view us want
+    → (y : B) × J us y × (view y ≡ want)
+told r = (r.tree, r.derived, r.same)
+
 pub same_mutability : {ms : List Tok} {m : Bool} → IsMutability ms m → (us : List Tok) → words us ≡ words ms → IsMutability us m
 same_mutability immutable us e = subst (λ l. IsMutability l false) (sym (none us e)) immutable
 same_mutability (mutable t k) us e =

@@ -4,23 +4,20 @@ use Rattle.std.specs.Prelude.{option_map, map}
 use Rattle.rx_tree.specs.declared.tree.Ident.{Ident}
 use Rattle.rx_tree.specs.Plain as plain
 use Rattle.rx_tree.specs.Plain.{TypeTree}
-use Rattle.rx_tree.specs.PlainOf.{types_of}
-use Rattle.rx_tree.specs.Erase.{nowhere, erase_ident, erase_label, erase_type, erase_types}
+use Rattle.rx_tree.specs.Erase.{nowhere, erase_ident, erase_label, erase_type}
 use Rattle.rx_lex.specs.Tok.{Tok}
 use Rattle.rx_lex.specs.declared.token.Class.TheVariants as class
 use Rattle.rx_parse_grammar.specs.grammar.Words.{IsListOf, ident, second_ampersand}
 use Rattle.rx_parse_grammar.specs.grammar.Types as t
 use Rattle.rx_parse_grammar.specs.grammar.Expressions as g
 use Rattle.rx_parse_laws.specs.Words.{words}
+use Rattle.rx_parse_laws.specs.Parts.{erased_types}
 use Rattle.rx_parse_laws.proofs.SameWords.{Again, again, got, front, cut, closed, none, one_left, onto, behind, list_again, some_element, same_mark, same_keyword, same_lifetime, same_anonymous, same_ident, same_mutability}
-
-abbrev pub types_view : List TypeTree → plain.TypeTrees
-types_view ys = erase_types (types_of ys)
 
 abbrev labels_view : List (Option Ident) → List (Option Ident)
 labels_view ls = map erase_label ls
 
-argument_again : {ts : List Tok} {l : Option Ident} {h : ℕ} → t.IsLifetimeArgument ts l h → (us : List Tok) → words us ≡ words ts
+pub argument_again : {ts : List Tok} {l : Option Ident} {h : ℕ} → t.IsLifetimeArgument ts l h → (us : List Tok) → words us ≡ words ts
     → Again (λ vs y. t.IsLifetimeArgument vs y h) erase_label us (erase_label l)
 argument_again (t.anonymous_argument a m) us e =
     let k = front us a [] e in again None (subst (λ x. t.IsLifetimeArgument x None 0) (sym (one_left k)) (t.anonymous_argument k.tok (same_anonymous k.same m))) refl
@@ -29,7 +26,7 @@ argument_again (t.lifetime_argument a m) us e =
     again (Some (ident k.tok)) (subst (λ x. t.IsLifetimeArgument x (Some (ident k.tok)) 0) (sym (one_left k)) (t.lifetime_argument k.tok (same_lifetime k.same m)))
     (ap (λ (i : Ident). Some i) (same_ident k.same))
 
-reference_again : {ts : List Tok} {l : Option Ident} → t.IsReferenceLifetime ts l → (us : List Tok) → words us ≡ words ts
+pub reference_again : {ts : List Tok} {l : Option Ident} → t.IsReferenceLifetime ts l → (us : List Tok) → words us ≡ words ts
     → Again t.IsReferenceLifetime erase_label us (erase_label l)
 reference_again t.no_lifetime us e = again None (subst (λ x. t.IsReferenceLifetime x None) (sym (none us e)) t.no_lifetime) refl
 reference_again (t.anonymous a m) us e =
@@ -84,7 +81,7 @@ mutual
       (onto k (behind a (onto l z.is)))) (rw (sy, sw) refl)))
 
   pub types_again : {ts : List Tok} {xs : List TypeTree} {h : ℕ} → t.AreTypes ts xs h → (us : List Tok) → words us ≡ words ts
-      → Again (λ vs ys. t.AreTypes vs ys h) types_view us (types_view xs)
+      → Again (λ vs ys. t.AreTypes vs ys h) erased_types us (erased_types xs)
   types_again t.no_type us e = again [] (subst (λ l. t.AreTypes l [] 0) (sym (none us e)) t.no_type) refl
   types_again (t.last_type d) us e = got (type_again d us e) (λ y dy sy. again (y ∷ []) (t.last_type dy) (rw sy refl))
   types_again (t.type_and a b c x xs m n d s r is) us e =

@@ -3,4 +3,7 @@
 
 mod laws;
 
-pub use laws::{derivations_speak_of_words, texts_with_the_same_words};
+pub use laws::{
+    blocks_speak_of_words, expressions_speak_of_words, items_speak_of_words,
+    patterns_speak_of_words, texts_with_the_same_words, types_speak_of_words,
+};

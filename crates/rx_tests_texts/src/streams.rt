@@ -2,7 +2,8 @@
 
 use crate::holding::hold;
 use rx_core::{
-    List, NeverSink, NeverSource, ReadFail, StdSink, StdSource, WriteFail, read_all, write_all_of,
+    BytesSource, List, NeverSink, NeverSource, ReadFail, StdSink, StdSource, VecSink, WriteFail,
+    read_all, write_all_of,
 };
 use rx_tests_tables::Outcome;
 use std::alloc::Global;
@@ -58,6 +59,44 @@ fn is_written_to_the_end(alloc: Global) -> Outcome {
 #[test]
 fn all_is_written_while_there_is_room(rt: HostRuntime) {
     hold(&rt, is_written_to_the_end(rt.alloc()), "5");
+}
+
+/// Whether a source that gives 7 bytes in pieces of 3 is read whole, and fails where its second call does.
+fn is_read_in_pieces(alloc: Global) -> Outcome {
+    let bytes = List::from_slice(alloc, b"fn main")?;
+    let mut source = BytesSource::new(bytes, 3, List::new(alloc));
+    let is_all = match read_all(alloc, &mut source, 7) {
+        Ok(all) => all.as_slice() == b"fn main".as_slice(),
+        Err(_) => false,
+    };
+    let bytes = List::from_slice(alloc, b"fn main")?;
+    let mut source = BytesSource::new(bytes, 3, List::from_slice(alloc, &[1u64])?);
+    let failed = read_all(alloc, &mut source, 7);
+    Ok(is_all && matches!(failed, Err(ReadFail::ReadFault)))
+}
+
+#[test]
+fn a_source_in_pieces_is_read_until_a_call_fails(rt: HostRuntime) {
+    hold(&rt, is_read_in_pieces(rt.alloc()), "pieces of 3");
+}
+
+/// Whether a sink that takes pieces of 10 bytes holds one where its second call fails, and one with room for 5 bytes
+/// holds these.
+fn is_cut_where_told(alloc: Global) -> Outcome {
+    let mut sink = VecSink::new(alloc, 100, 10, List::from_slice(alloc, &[1u64])?)?;
+    let failed = write_all_of(&mut sink, b"fn main() {}");
+    let is_piece = sink.held() == b"fn main() ".as_slice();
+    let is_failed = matches!(failed, Err(WriteFail::WriteFault));
+    let mut sink = VecSink::new(alloc, 5, 10, List::new(alloc))?;
+    let stuck = write_all_of(&mut sink, b"fn main() {}");
+    let is_stuck = matches!(stuck, Err(WriteFail::Stuck { left: 7 }));
+    let is_front = sink.held() == b"fn ma".as_slice();
+    Ok(is_piece && is_failed && is_stuck && is_front)
+}
+
+#[test]
+fn a_sink_in_pieces_is_written_until_a_call_fails(rt: HostRuntime) {
+    hold(&rt, is_cut_where_told(rt.alloc()), "pieces of 10");
 }
 
 fn is_passed_by_a_reader(alloc: Global) -> bool {

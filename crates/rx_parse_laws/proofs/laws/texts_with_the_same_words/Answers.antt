@@ -1,4 +1,4 @@
-use Rattle.rx_parse_laws.proofs.Whole.{text_words}
+use Rattle.rx_parse_laws.proofs.Texts.{text_words}
 use Rattle.rx_parse_laws.proofs.laws.texts_with_the_same_words.Goals as goal
 
 pub returns : goal.returns
