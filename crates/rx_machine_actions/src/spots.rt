@@ -208,13 +208,13 @@ fn reference_to(alloc: Global, at: Spot, mutable: bool) -> Result<Option<Value>,
     ensures { IfOk result (λ it. option_map plain-Value it ≡ plain_reference mutable (plain-Spot at.entry)) }
 {
     match at {
-        Spot::Slot(slot, path, _) => {
+        Spot::Slot(slot, path, writable) => {
             let pointer = boxed_pointer(
                 alloc,
                 Pointer {
                     slot,
                     path,
-                    mutable,
+                    mutable: mutable && writable,
                 },
             )?;
             Ok(Some(Value::Pointer(pointer)))

@@ -8,6 +8,8 @@ use Rattle.rx_lower_walks.specs.Matching.{equals}
 use Rattle.rx_lower_walks.specs.Actions.{Read, Write, Build, in_temporary}
 use Rattle.rx_meaning.specs.Values as values
 use Rattle.rx_meaning.specs.Values.{Value, number, truth, whole, tagged, pointer, lacking, unit_value, and_then, element, slot_of, Frame, State, with_memory}
+use Rattle.rx_meaning.specs.Endings.{lacks}
+use Rattle.rx_meaning.specs.Straying.{why_not_found, why_not_written, why_not_checked}
 use Rattle.rx_meaning.specs.Results.{Result, on, bind, after, gives, or_ends, result_of}
 use Rattle.rx_meaning.specs.Places as places
 use Rattle.rx_meaning.specs.Places.{Spot, in_slot, whole_value, after_write}
@@ -19,7 +21,7 @@ use Rattle.rx_meaning.specs.Expressions.{Functions}
 use Rattle.rx_machine_running.specs.Running.{Meaning, nowhere, acts, bound, value, body}
 use Rattle.rx_machine_running.specs.Running as running
 use Rattle.rx_machine_frames.specs.Sizes.{size, size_arms, size_body}
-use Rattle.rx_machine_frames.proofs.Steps.{after_nothing, bind_on}
+use Rattle.rx_meaning.proofs.Sequences.{after_nothing, bind_on}
 use Rattle.rx_machine_direct.specs.Direct.{recorded, scalar, in_memory, at_place, given, operated, direct, built, stored_in, stored, assigned, fits, if_fits, both, picked}
 use Rattle.rx_typed_tree.specs.declared.tree.Stmt.{Stmt}
 use Rattle.rx_typed_tree.specs.PlainTree.{plain-Stmt, nested_of}
@@ -67,8 +69,8 @@ read_is : (T : List (Option ℕ)) (M : List Value) (r : Root) (ss : List Step) (
 unfolding result_of
 read_is T M (variable x) [] moves v s e h =
     let a : (i : ℕ) × (recorded T x ≡ Some i) × (element M i ≡ Some v) × (values.is_set v ≡ true) = stands M (recorded T x) v e in
-    ap (λ (o : Option (Spot × Value)). result_of (or_ends o (λ f. or_ends (whole_value f) (λ v. gives [] v s)))) (found_is x a.0 v s (h.1 x ∙ a.1) (ap (λ N. element N a.0) h.0 ∙ a.2))
-    ∙ ap (λ b. result_of (or_ends (if b then Some v else None) (λ v. gives [] v s))) a.3
+    ap (λ (o : Option (Spot × Value)). result_of (or_ends (why_not_found (record { root = variable x; steps = [] }) [] s) o (λ f. or_ends lacks (whole_value f) (λ v. gives [] v s)))) (found_is x a.0 v s (h.1 x ∙ a.1) (ap (λ N. element N a.0) h.0 ∙ a.2))
+    ∙ ap (λ b. result_of (or_ends lacks (if b then Some v else None) (λ v. gives [] v s))) a.3
 read_is T M (variable x) (st ∷ ss) moves v s e h = cc
 read_is T M (temporary t) ss moves v s e h = cc
 
@@ -159,8 +161,8 @@ stored_is T M (variable x) [] v N s e h = by (recorded T x) refl e
     by : (o : Option ℕ) → recorded T x ≡ o → stored_in M o v ≡ Some N → acts (Write (record { root = variable x; steps = [] }) nowhere []) (v ∷ []) s ≡ on [] unit_value (with_memory s N)
     by None k e = cc
     by (Some i) k e =
-        ap (λ (o : Option Spot). result_of (or_ends o (λ at. or_ends (after_write v s.memory at) (λ M. gives [] unit_value (with_memory s M))))) (spot_is x i s (h.1 x ∙ k))
-        ∙ ap (λ (o : Option (List Value)). result_of (or_ends o (λ M. gives [] unit_value (with_memory s M)))) (ap (λ M. after_write v M (in_slot i [] true)) h.0 ∙ e)
+        ap (λ (o : Option Spot). result_of (or_ends (why_not_found (record { root = variable x; steps = [] }) [] s) o (λ at. or_ends (why_not_written s.memory at) (after_write v s.memory at) (λ M. gives [] unit_value (with_memory s M))))) (spot_is x i s (h.1 x ∙ k))
+        ∙ ap (λ (o : Option (List Value)). result_of (or_ends (why_not_written s.memory (in_slot i [] true)) o (λ M. gives [] unit_value (with_memory s M)))) (ap (λ M. after_write v M (in_slot i [] true)) h.0 ∙ e)
 stored_is T M (variable x) (st ∷ ss) v N s e h = cc
 stored_is T M (temporary t) ss v N s e h = cc
 
@@ -221,7 +223,7 @@ picked_is v (arm_and tree.any f rest) e t d P below s = ap (λ g. value P below 
 picked_is v (arm_and (tree.exactly n c) f rest) e t d P below s = by (checked (equals c) v) d (λ q. picked_is v rest e t q P below s)
   where
     arm : Option Bool → Result ℕ Value
-    arm o = bind (result_of (or_ends o (λ b. gives [] (truth b) s))) (λ u s1. decided u (λ s2. value P below f s2) (λ s2. running.arms P below (in_temporary t) (v ∷ []) rest s2) s1)
+    arm o = bind (result_of (or_ends (why_not_checked v) o (λ b. gives [] (truth b) s))) (λ u s1. decided u (λ s2. value P below f s2) (λ s2. running.arms P below (in_temporary t) (v ∷ []) rest s2) s1)
 
     by : (o : Option Bool) → if_fits o f (picked v rest) ≡ Some e → (picked v rest ≡ Some e → running.arms P below (in_temporary t) (v ∷ []) rest s ≡ value P below e s) → arm o ≡ value P below e s
     by None d k = cc

@@ -15,6 +15,8 @@ use Rattle.rx_meaning.specs.declared.outcome.End.{End}
 use Rattle.rx_meaning.specs.Values as values
 use Rattle.rx_meaning.specs.Values.{and_then, slot_of, State, with_memory}
 use Rattle.rx_meaning.specs.Places.{Spot, in_slot, in_value, found, follow, content, whole_value, reference_to, after_write}
+use Rattle.rx_meaning.specs.Endings.{Cause}
+use Rattle.rx_meaning.specs.Straying.{why_not_found, why_not_written, why_not_checked}
 use Rattle.rx_meaning.specs.Results.{Done, gives, or_ends}
 use Rattle.rx_meaning.specs.Operators as operators
 use Rattle.rx_meaning.specs.Acting.{next_input, computed, checked}
@@ -56,37 +58,36 @@ found_is m t K s x ss f = by_slot (slot_of s.frame.slots x) ∙ ap (λ o. and_th
     by_slot (Some i) = refl
 
 -- what was found comes next
-given_follows : (m : Machine) (t : ℕ) (K : List Around) (s : State) (x : frames.Next) (o : Option values.Value) (to : Step) → Fits m t K s → IsGiven o to
-    → Follows t m x K s (done K (or_ends o (λ v. gives [] v s))) m to
-given_follows m t K s x (Some v) (step_to.Next y) f g = (f, g, nothing_more m)
-given_follows m t K s x (Some v) (step_to.Turn u) f g = absurd g
-given_follows m t K s x (Some v) (step_to.End e) f g = absurd g
-given_follows m t K s x None (step_to.Next y) f g = absurd g
-given_follows m t K s x None (step_to.Turn u) f g = absurd g
-given_follows m t K s x None (step_to.End e) f g = (g, nothing_more m)
-
-flat : {A B : Type 0} (o : Option A) (h : A → Option B) (go : B → Done ℕ) → or_ends (and_then o h) go ≡ or_ends o (λ a. or_ends (h a) go)
-flat None h go = refl
-flat (Some a) h go = refl
+given_follows : (m : Machine) (t : ℕ) (K : List Around) (s : State) (x : frames.Next) (c : Cause) (o : Option values.Value) (to : Step) → Fits m t K s → IsGiven o to
+    → Follows t m x K s (done K (or_ends c o (λ v. gives [] v s))) m to
+given_follows m t K s x c (Some v) (step_to.Next y) f g = (f, g, nothing_more m)
+given_follows m t K s x c (Some v) (step_to.Turn u) f g = absurd g
+given_follows m t K s x c (Some v) (step_to.End e) f g = absurd g
+given_follows m t K s x c None (step_to.Next y) f g = absurd g
+given_follows m t K s x c None (step_to.Turn u) f g = absurd g
+given_follows m t K s x c None (step_to.End e) f g = (g, nothing_more m)
 
 -- what stands at a place, or a reference to it, comes next
-found_follows : (m : Machine) (t : ℕ) (K : List Around) (s : State) (x : frames.Next) (p q : Option (Spot × values.Value)) (h : Spot × values.Value → Option values.Value) (to : Step) → Fits m t K s → p ≡ q
-    → IsGiven (and_then q h) to → Follows t m x K s (done K (or_ends p (λ f. or_ends (h f) (λ v. gives [] v s)))) m to
-found_follows m t K s x p q h to f e g =
-    subst (λ d. Follows t m x K s (done K d) m to) (flat p h (λ v. gives [] v s)) (given_follows m t K s x (and_then p h) to f (subst (λ o. IsGiven (and_then o h) to) (sym e) g))
+found_follows : (m : Machine) (t : ℕ) (K : List Around) (s : State) (x : frames.Next) (c : Cause) (p q : Option (Spot × values.Value)) (d : Cause) (h : Spot × values.Value → Option values.Value) (to : Step) → Fits m t K s → p ≡ q
+    → IsGiven (and_then q h) to → Follows t m x K s (done K (or_ends c p (λ f. or_ends d (h f) (λ v. gives [] v s)))) m to
+found_follows m t K s x c p q d h to f e g = by p (subst (λ o. IsGiven (and_then o h) to) (sym e) g)
+  where
+    by : (p : Option (Spot × values.Value)) → IsGiven (and_then p h) to → Follows t m x K s (done K (or_ends c p (λ f. or_ends d (h f) (λ v. gives [] v s)))) m to
+    by None g = given_follows m t K s x c None to f g
+    by (Some a) g = given_follows m t K s x d (h a) to f g
 
 pub reads_lead : (m : Machine) (b : Bool) (p : Place) (to : Step) → IsGiven (and_then (found_at m p.var p.steps) (λ f. whole_value f)) to
     → Leads m (frames.performs (Read b (plain-Place p) nowhere) []) m to
-reads_lead m b p to g = λ t K s f. found_follows m t K s _ _ _ (λ f. whole_value f) to f (found_is m t K s p.var p.steps f) g
+reads_lead m b p to g = λ t K s f. found_follows m t K s _ _ _ _ _ (λ f. whole_value f) to f (found_is m t K s p.var p.steps f) g
 
 pub borrows_lead : (m : Machine) (k : Bool) (p : Place) (to : Step) → IsGiven (and_then (found_at m p.var p.steps) (λ f. reference_to k f.0)) to
     → Leads m (frames.performs (Borrow k (plain-Place p) nowhere) []) m to
-borrows_lead m k p to g = λ t K s f. found_follows m t K s _ _ _ (λ f. reference_to k f.0) to f (found_is m t K s p.var p.steps f) g
+borrows_lead m k p to g = λ t K s f. found_follows m t K s _ _ _ _ _ (λ f. reference_to k f.0) to f (found_is m t K s p.var p.steps f) g
 
 -- a value that is held
 pub shares_lead : (m : Machine) (v : values.Value) (to : Step) → IsGiven (and_then (found_from (plain-Memory m.memory) (in_value v) (PlaceStep.Deref true ∷ [])) (λ f. reference_to false f.0)) to
     → Leads m (frames.performs (Borrow false (tree.under (tree.held nowhere) (PlaceStep.Deref true ∷ [])) nowhere) (v ∷ [])) m to
-shares_lead m v to g = λ t K s f. found_follows m t K s _ _ _ (λ f. reference_to false f.0) to f (ap (λ M. found_from M (in_value v) (PlaceStep.Deref true ∷ [])) (sym f.memory)) g
+shares_lead m v to g = λ t K s f. found_follows m t K s _ _ _ _ _ (λ f. reference_to false f.0) to f (ap (λ M. found_from M (in_value v) (PlaceStep.Deref true ∷ [])) (sym f.memory)) g
 
 -- ---- what leaves the frames and the variables
 
@@ -103,62 +104,68 @@ Wrote_is : Option (List values.Value) → List values.Value → List values.Valu
 Wrote_is r M N true = r ≡ Some N
 Wrote_is r M N false = (r ≡ None) × (N ≡ M)
 
-write_follows : (m : Machine) (mem : Memory) (t : ℕ) (K : List Around) (s : State) (x : frames.Next) (r : Option (List values.Value)) (b : Bool) (to : Step) → Fits m t K s
-    → Wrote_is r (plain-Memory m.memory) (plain-Memory mem) b → IsDone b to → Follows t m x K s (done K (or_ends r (λ N. gives [] values.unit_value (with_memory s N)))) (record m { memory = mem }) to
+write_follows : (m : Machine) (mem : Memory) (t : ℕ) (K : List Around) (s : State) (x : frames.Next) (c : Cause) (r : Option (List values.Value)) (b : Bool) (to : Step) → Fits m t K s
+    → Wrote_is r (plain-Memory m.memory) (plain-Memory mem) b → IsDone b to → Follows t m x K s (done K (or_ends c r (λ N. gives [] values.unit_value (with_memory s N)))) (record m { memory = mem }) to
 unfolding Wrote_is
-write_follows m mem t K s x r true (step_to.Next y) f w d =
-    subst (λ o. Follows t m x K s (done K (or_ends o (λ N. gives [] values.unit_value (with_memory s N)))) (record m { memory = mem }) (step_to.Next y)) (sym w) (with_other m t K s mem f, d, nothing_more m)
-write_follows m mem t K s x r true (step_to.Turn u) f w d = absurd d
-write_follows m mem t K s x r true (step_to.End e) f w d = absurd d
-write_follows m mem t K s x r false (step_to.Next y) f w d = absurd d
-write_follows m mem t K s x r false (step_to.Turn u) f w d = absurd d
-write_follows m mem t K s x r false (step_to.End e) f w d =
-    subst (λ o. Follows t m x K s (done K (or_ends o (λ N. gives [] values.unit_value (with_memory s N)))) (record m { memory = mem }) (step_to.End e)) (sym w.0) (d, nothing_more m)
+write_follows m mem t K s x c r true (step_to.Next y) f w d =
+    subst (λ o. Follows t m x K s (done K (or_ends c o (λ N. gives [] values.unit_value (with_memory s N)))) (record m { memory = mem }) (step_to.Next y)) (sym w) (with_other m t K s mem f, d, nothing_more m)
+write_follows m mem t K s x c r true (step_to.Turn u) f w d = absurd d
+write_follows m mem t K s x c r true (step_to.End e) f w d = absurd d
+write_follows m mem t K s x c r false (step_to.Next y) f w d = absurd d
+write_follows m mem t K s x c r false (step_to.Turn u) f w d = absurd d
+write_follows m mem t K s x c r false (step_to.End e) f w d =
+    subst (λ o. Follows t m x K s (done K (or_ends c o (λ N. gives [] values.unit_value (with_memory s N)))) (record m { memory = mem }) (step_to.End e)) (sym w.0) (d, nothing_more m)
 
 of_wrote : (M : List values.Value) (i : ℕ) (ss : List PlaceStep) (v : values.Value) (N : List values.Value) (b : Bool) → Wrote M i ss v N b → Wrote_is (and_then (follow M ss (in_slot i [] true)) (λ at. after_write v M at)) M N b
 unfolding Wrote_is
 of_wrote M i ss v N true w = w
 of_wrote M i ss v N false w = w
 
+spot_follows : (m : Machine) (mem : Memory) (t : ℕ) (K : List Around) (s : State) (x : frames.Next) (v : values.Value) (c : Cause) (o : Option Spot) (b : Bool) (to : Step) → Fits m t K s
+    → Wrote_is (and_then o (λ at. after_write v s.memory at)) (plain-Memory m.memory) (plain-Memory mem) b → IsDone b to
+    → Follows t m x K s (done K (or_ends c o (λ at. or_ends (why_not_written s.memory at) (after_write v s.memory at) (λ N. gives [] values.unit_value (with_memory s N))))) (record m { memory = mem }) to
+spot_follows m mem t K s x v c None b to f w d = write_follows m mem t K s x c None b to f w d
+spot_follows m mem t K s x v c (Some at) b to f w d = write_follows m mem t K s x (why_not_written s.memory at) (after_write v s.memory at) b to f w d
+
 -- where a variable has a slot
-abbrev write_from : State → List PlaceStep → values.Value → Option ℕ → Done ℕ
-write_from s ss v o =
-    or_ends (and_then (and_then o (λ i. Some (in_slot i [] true))) (λ at. follow s.memory ss at)) (λ at. or_ends (after_write v s.memory at) (λ N. gives [] values.unit_value (with_memory s N)))
+abbrev write_from : State → Cause → List PlaceStep → values.Value → Option ℕ → Done ℕ
+write_from s c ss v o =
+    or_ends c (and_then (and_then o (λ i. Some (in_slot i [] true))) (λ at. follow s.memory ss at)) (λ at.
+    or_ends (why_not_written s.memory at) (after_write v s.memory at) (λ N. gives [] values.unit_value (with_memory s N)))
 
 pub writes_lead : (m : Machine) (mem : Memory) (p : Place) (i : ℕ) (v : values.Value) (b : Bool) (to : Step) → Some i ≡ recorded m.slots.table.items p.var → Wrote (plain-Memory m.memory) i p.steps v (plain-Memory mem) b → IsDone b to
     → Leads m (frames.performs (Write (plain-Place p) nowhere []) (v ∷ [])) (record m { memory = mem }) to
 writes_lead m mem p i v b to h w d = λ t K s f.
     let x : frames.Next = frames.performs (Write (plain-Place p) nowhere []) (v ∷ []) in
-    let go : List values.Value → Done ℕ = λ N. gives [] values.unit_value (with_memory s N) in
-    let e : write_from s p.steps v (Some i) ≡ write_from s p.steps v (slot_of s.frame.slots p.var) = ap (write_from s p.steps v) (h ∙ sym (f.slots p.var)) in
-    let k : or_ends (and_then (follow s.memory p.steps (in_slot i [] true)) (λ at. after_write v s.memory at)) go ≡ write_from s p.steps v (Some i) = flat (follow s.memory p.steps (in_slot i [] true)) (λ at. after_write v s.memory at) go in
+    let c : Cause = why_not_found (plain-Place p) [] s in
+    let e : write_from s c p.steps v (Some i) ≡ write_from s c p.steps v (slot_of s.frame.slots p.var) = ap (write_from s c p.steps v) (h ∙ sym (f.slots p.var)) in
     let r : and_then (follow (plain-Memory m.memory) p.steps (in_slot i [] true)) (λ at. after_write v (plain-Memory m.memory) at) ≡ and_then (follow s.memory p.steps (in_slot i [] true)) (λ at. after_write v s.memory at)
     = ap (λ M. and_then (follow M p.steps (in_slot i [] true)) (λ at. after_write v M at)) f.memory in
-    subst (λ o. Follows t m x K s (done K o) (record m { memory = mem }) to) (k ∙ e)
-    (write_follows m mem t K s x (and_then (follow s.memory p.steps (in_slot i [] true)) (λ at. after_write v s.memory at)) b to f
+    subst (λ o. Follows t m x K s (done K o) (record m { memory = mem }) to) e
+    (spot_follows m mem t K s x v c (follow s.memory p.steps (in_slot i [] true)) b to f
     (subst (λ o. Wrote_is o (plain-Memory m.memory) (plain-Memory mem) b) r (of_wrote (plain-Memory m.memory) i p.steps v (plain-Memory mem) b w)) d)
 
 pub writes_nowhere : (m : Machine) (p : Place) (v : values.Value) → None ≡ recorded m.slots.table.items p.var → Leads m (frames.performs (Write (plain-Place p) nowhere []) (v ∷ [])) m (step_to.End End.Wrong)
 writes_nowhere m p v h = λ t K s f.
     let x : frames.Next = frames.performs (Write (plain-Place p) nowhere []) (v ∷ []) in
-    subst (λ o. Follows t m x K s (done K o) m (step_to.End End.Wrong)) (ap (write_from s p.steps v) (h ∙ sym (f.slots p.var))) (refl, nothing_more m)
+    subst (λ o. Follows t m x K s (done K o) m (step_to.End End.Wrong)) (ap (write_from s (why_not_found (plain-Place p) [] s) p.steps v) (h ∙ sym (f.slots p.var))) (refl, nothing_more m)
 
 -- ---- printing
 
-print_follows : (m : Machine) (w : List ℕ) (t : ℕ) (K : List Around) (s : State) (x : frames.Next) (o : Option (List ℕ)) (b : Bool) (to : Step) → Fits m t K s → Printed o m.printed w b → IsDone b to
-    → Follows t m x K s (done K (or_ends o (λ bytes. gives bytes values.unit_value s))) (record m { printed = w }) to
-print_follows m w t K s x (Some l) true (step_to.Next y) f p d = (with_text m t K s w f, d, p)
-print_follows m w t K s x (Some l) true (step_to.Turn u) f p d = absurd d
-print_follows m w t K s x (Some l) true (step_to.End e) f p d = absurd d
-print_follows m w t K s x (Some l) false to f p d = absurd p
-print_follows m w t K s x None true to f p d = absurd p
-print_follows m w t K s x None false (step_to.Next y) f p d = absurd d
-print_follows m w t K s x None false (step_to.Turn u) f p d = absurd d
-print_follows m w t K s x None false (step_to.End e) f p d = (d, p ∙ nothing_more m)
+print_follows : (m : Machine) (w : List ℕ) (t : ℕ) (K : List Around) (s : State) (x : frames.Next) (c : Cause) (o : Option (List ℕ)) (b : Bool) (to : Step) → Fits m t K s → Printed o m.printed w b → IsDone b to
+    → Follows t m x K s (done K (or_ends c o (λ bytes. gives bytes values.unit_value s))) (record m { printed = w }) to
+print_follows m w t K s x c (Some l) true (step_to.Next y) f p d = (with_text m t K s w f, d, p)
+print_follows m w t K s x c (Some l) true (step_to.Turn u) f p d = absurd d
+print_follows m w t K s x c (Some l) true (step_to.End e) f p d = absurd d
+print_follows m w t K s x c (Some l) false to f p d = absurd p
+print_follows m w t K s x c None true to f p d = absurd p
+print_follows m w t K s x c None false (step_to.Next y) f p d = absurd d
+print_follows m w t K s x c None false (step_to.Turn u) f p d = absurd d
+print_follows m w t K s x c None false (step_to.End e) f p d = (d, p ∙ nothing_more m)
 
 pub prints_lead : (m : Machine) (w : List ℕ) (v : values.Value) (b : Bool) (to : Step) → Printed (operators.shown v) m.printed w b → IsDone b to
     → Leads m (frames.performs (Print nowhere) (v ∷ [])) (record m { printed = w }) to
-prints_lead m w v b to p d = λ t K s f. print_follows m w t K s _ (operators.shown v) b to f p d
+prints_lead m w v b to p d = λ t K s f. print_follows m w t K s _ (why_not_checked v) (operators.shown v) b to f p d
 
 -- ---- input
 

@@ -16,7 +16,8 @@ use Rattle.rx_machine_frames.specs.Frames.{Around, hole, pass, does_next, resume
 use Rattle.rx_machine_frames.specs.Stepping.{goes, step, turn, config, means, with_turn}
 use Rattle.rx_machine_frames.specs.Sizes.{size, size_body, hole_size, next_size}
 use Rattle.rx_machine_frames.specs.Laws.{Keeps, Lessens}
-use Rattle.rx_machine_frames.proofs.Steps.{after_nothing, bind_on, opened_is, opened_body_is, filled_is}
+use Rattle.rx_meaning.proofs.Sequences.{after_nothing, bind_on}
+use Rattle.rx_machine_frames.proofs.Steps.{opened_is, opened_body_is, filled_is}
 use Rattle.rx_machine_frames.proofs.StepLemmas.{step_keeps, step_less, turn_keeps}
 use Rattle.rx_machine_direct.specs.Reaching.{Reach, into, statements, gave, Shows, reached, reach_size}
 use Rattle.rx_machine_direct.specs.declared.reaching.Reached.{Reached}

@@ -15,7 +15,7 @@ use Rattle.rx_machine_frames.specs.Frames.{Around}
 use Rattle.rx_machine_frames.specs.Stepping.{Config, Led, goes, waits, ends, config, means, called, entered, with_turn}
 use Rattle.rx_machine_frames.specs.Sizes.{next_size, sizes}
 use Rattle.rx_machine_frames.specs.Laws.{Keeps, Lessens}
-use Rattle.rx_machine_frames.proofs.Steps.{after_after, after_nothing}
+use Rattle.rx_meaning.proofs.Sequences.{after_after, after_nothing}
 use Rattle.rx_machine_frames.proofs.StepLemmas.{turn_keeps, run_begins}
 use Rattle.rx_machine_steps.specs.declared.next.Next.{Next}
 use Rattle.rx_machine_steps.specs.PlainSteps.{plain-Next}

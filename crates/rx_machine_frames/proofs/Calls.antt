@@ -3,9 +3,11 @@ use Rattle.std.proofs.Common.{◌≡◌, ℕ, ◌<◌, List, [], ◌∷◌, Opti
 use Rattle.rx_typed.specs.Tree.{Place, Temporary, Parameter, Function, own}
 use Rattle.rx_lower_walks.specs.Actions.{Declare, Write}
 use Rattle.rx_lower_walks.specs.Orders.{argument}
+use Rattle.rx_meaning.specs.Endings.{Cause}
 use Rattle.rx_meaning.specs.Values.{Value, unit_value, new_frame, State, with_memory, with_variable}
 use Rattle.rx_meaning.specs.Results.{Result, Done, gives, or_ends, after, bind, result_of}
 use Rattle.rx_meaning.specs.Places.{Spot, spot, after_write}
+use Rattle.rx_meaning.specs.Straying.{why_not_found, why_not_written}
 use Rattle.rx_meaning.specs.Acting.{plainly}
 use Rattle.rx_meaning.specs.Expressions.{Functions, returned}
 use Rattle.rx_machine_running.specs.Running.{acts, with_arguments, entered, value, level}
@@ -24,16 +26,17 @@ write_same : (p : Place) (t : Temporary) (v : Value) (s : State) (f g : Value �
 unfolding bind result_of
 write_same p t v s f g h = by_spot (spot p [] s)
   where
-    written : Option (List Value) → Done ℕ
-    written o = or_ends o (λ M. gives [] unit_value (with_memory s M))
+    written : Cause → Option (List Value) → Done ℕ
+    written c o = or_ends c o (λ M. gives [] unit_value (with_memory s M))
 
-    by_memory : (o : Option (List Value)) → bind (result_of (written o)) f ≡ bind (result_of (written o)) g
-    by_memory None = refl
-    by_memory (Some M) = ap (after []) (h unit_value (with_memory s M) refl)
+    by_memory : (c : Cause) (o : Option (List Value)) → bind (result_of (written c o)) f ≡ bind (result_of (written c o)) g
+    by_memory c None = refl
+    by_memory c (Some M) = ap (after []) (h unit_value (with_memory s M) refl)
 
-    by_spot : (o : Option Spot) → bind (result_of (or_ends o (λ at. written (after_write v s.memory at)))) f ≡ bind (result_of (or_ends o (λ at. written (after_write v s.memory at)))) g
+    by_spot : (o : Option Spot) → bind (result_of (or_ends (why_not_found p [] s) o (λ at. written (why_not_written s.memory at) (after_write v s.memory at)))) f
+        ≡ bind (result_of (or_ends (why_not_found p [] s) o (λ at. written (why_not_written s.memory at) (after_write v s.memory at)))) g
     by_spot None = refl
-    by_spot (Some at) = by_memory (after_write v s.memory at)
+    by_spot (Some at) = by_memory (why_not_written s.memory at) (after_write v s.memory at)
 
 arguments_same : (ps : List Parameter) (vs : List Value) (f g : State → Result ℕ Value) (s : State) → ((s1 : State) → s1.turns ≡ s.turns → f s1 ≡ g s1) → with_arguments ps vs f s ≡ with_arguments ps vs g s
 unfolding with_arguments

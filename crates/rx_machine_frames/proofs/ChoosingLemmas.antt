@@ -1,66 +1,82 @@
--- Tests, bindings, new variables and parameters are the functions of the state that they are told as.
+-- Tests, bindings, new variables and parameters are the functions of the state that they are told as, but for the cause where
+-- they are Wrong.
 use Rattle.std.proofs.Common.{◌≡◌, ℕ, Bool, true, false, List, [], ◌∷◌, ◌++◌, length, Option, None, Some, if◌then◌else◌, refl, ap, ◌∙◌}
 use Rattle.std.proofs.lemmas.Bool.{eq-eqb}
 use Rattle.rx_typed.specs.Tree.{Pattern, Exp, Arms, no_arm, arm_and, Temporary, Mode, by_value, by_reference, Parameter, own, under, temporary_at}
 use Rattle.rx_lower_walks.specs.Matching.{PartTest, Binding, tests, bindings}
 use Rattle.rx_lower_walks.specs.Actions.{Declare, Write, Subject, in_place, in_temporary, part, taken, written}
 use Rattle.rx_lower_walks.specs.Orders.{argument}
-use Rattle.rx_meaning.specs.declared.outcome.End.{End}
+use Rattle.rx_meaning.specs.Endings.{Cause, wrong, lacks, astray, mistyped, missing_arm}
 use Rattle.rx_meaning.specs.Values.{Value, truth, lacking, unset, unit_value, and_then, get, element, with_element, slot_of, State, with_memory, with_variable}
 use Rattle.rx_meaning.specs.Results.{Result, on, stops, after, bind, Done, gives, or_ends, result_of}
 use Rattle.rx_meaning.specs.Places.{Spot, in_slot, spot, follow, found, whole_value, reference_to, after_write}
+use Rattle.rx_meaning.specs.Straying.{why_no_part, why_not_found, why_not_written, why_not_checked}
 use Rattle.rx_meaning.specs.Acting.{checked, plainly, performed}
 use Rattle.rx_meaning.specs.Patterns.{decided, tested, took}
 use Rattle.rx_meaning.specs.Expressions.{Functions}
 use Rattle.rx_machine_running.specs.Running.{Meaning, acts, bound, begun, with_arguments, value, arms}
 use Rattle.rx_machine_frames.specs.Choosing.{both, all_hold, if_holds, first_arm, with_value, takes, bind_all, declare_all, fill_all}
-use Rattle.rx_machine_frames.proofs.Steps.{after_nothing}
+use Rattle.rx_meaning.proofs.Sequences.{after_nothing}
 
--- goes on from what is there
-abbrev pub or_stops : {A : Type 0} → Option A → (A → Result ℕ Value) → Result ℕ Value
-or_stops None go = stops [] End.Wrong
-or_stops (Some a) go = go a
+-- goes on from what is there, and is Wrong for a cause where nothing is
+abbrev pub or_stops : {A : Type 0} → Cause → Option A → (A → Result ℕ Value) → Result ℕ Value
+or_stops c None go = stops [] (wrong c)
+or_stops c (Some a) go = go a
 
 -- ---- arms
 
-abbrev way : Option Bool → (State → Result ℕ Value) → (State → Result ℕ Value) → State → Result ℕ Value
-way None go next s = stops [] End.Wrong
-way (Some true) go next s = go s
-way (Some false) go next s = next s
+abbrev way : Cause → Option Bool → (State → Result ℕ Value) → (State → Result ℕ Value) → State → Result ℕ Value
+way c None go next s = stops [] (wrong c)
+way c (Some true) go next s = go s
+way c (Some false) go next s = next s
 
-tested_is : (S : Subject) (vs : List Value) (ts : List PartTest) (go next : State → Result ℕ Value) (s : State) → tested plainly S vs ts go next s ≡ way (all_hold S vs ts s) go next s
+tested_is : (S : Subject) (vs : List Value) (ts : List PartTest) (go next : State → Result ℕ Value) (s : State) → (c : Cause) × (tested plainly S vs ts go next s ≡ way c (all_hold S vs ts s) go next s)
 unfolding tested bind decided result_of
-tested_is S vs [] go next s = refl
-tested_is S vs (t ∷ ts) go next s = by_found (found (part S t.steps) vs s) (tested_is S vs ts go next s)
+tested_is S vs [] go next s = (missing_arm, refl)
+tested_is S vs (t ∷ ts) go next s = by_found (found (part S t.steps) vs s) (why_not_found (part S t.steps) vs s) (tested_is S vs ts go next s)
   where
     More : Type 0
-    More = tested plainly S vs ts go next s ≡ way (all_hold S vs ts s) go next s
+    More = (c : Cause) × (tested plainly S vs ts go next s ≡ way c (all_hold S vs ts s) go next s)
 
     rest : Value → State → Result ℕ Value
     rest v s1 = decided v (λ s2. tested plainly S vs ts go next s2) next s1
 
-    by_check : (o : Option Bool) → More → bind (result_of (or_ends o (λ b. gives [] (truth b) s))) rest ≡ way (both o (all_hold S vs ts s)) go next s
-    by_check None h = refl
-    by_check (Some true) h = after_nothing _ ∙ h
-    by_check (Some false) h = after_nothing _
+    by_check : (o : Option Bool) (d : Cause) → More → (c : Cause) × (bind (result_of (or_ends d o (λ b. gives [] (truth b) s))) rest ≡ way c (both o (all_hold S vs ts s)) go next s)
+    by_check None d h = (d, refl)
+    by_check (Some true) d h = (h.0, after_nothing _ ∙ h.1)
+    by_check (Some false) d h = (d, after_nothing _)
 
-    by_found : (o : Option (Spot × Value)) → More → bind (result_of (or_ends o (λ f. or_ends (checked t.check f.1) (λ b. gives [] (truth b) s)))) rest ≡ way (both (and_then o (λ f. checked t.check f.1)) (all_hold S vs ts s)) go next s
-    by_found None h = refl
-    by_found (Some f) h = by_check (checked t.check f.1) h
+    by_found : (o : Option (Spot × Value)) (d : Cause) → More
+        → (c : Cause) × (bind (result_of (or_ends d o (λ f. or_ends (why_not_checked f.1) (checked t.check f.1) (λ b. gives [] (truth b) s)))) rest ≡ way c (both (and_then o (λ f. checked t.check f.1)) (all_hold S vs ts s)) go next s)
+    by_found None d h = (d, refl)
+    by_found (Some f) d h = by_check (checked t.check f.1) (why_not_checked f.1) h
 
 pub arms_is : (P : Functions) (below : Meaning) (S : Subject) (vs : List Value) (l : Arms) (s : State)
-    → arms P below S vs l s ≡ or_stops (first_arm S vs l s) (λ a. bound S vs (bindings [] a.0) (λ s1. value P below a.1 s1) s)
+    → (c : Cause) × (arms P below S vs l s ≡ or_stops c (first_arm S vs l s) (λ a. bound S vs (bindings [] a.0) (λ s1. value P below a.1 s1) s))
 unfolding value
-arms_is P below S vs no_arm s = refl
-arms_is P below S vs (arm_and p e rest) s = tested_is S vs (tests [] p) _ _ s ∙ by (all_hold S vs (tests [] p) s) (arms_is P below S vs rest s)
+arms_is P below S vs no_arm s = (missing_arm, refl)
+arms_is P below S vs (arm_and p e rest) s = chained (tested_is S vs (tests [] p) _ _ s) (arms_is P below S vs rest s)
   where
     go : Pattern × Exp → Result ℕ Value
     go a = bound S vs (bindings [] a.0) (λ s1. value P below a.1 s1) s
 
-    by : (o : Option Bool) → arms P below S vs rest s ≡ or_stops (first_arm S vs rest s) go → way o (λ s1. bound S vs (bindings [] p) (λ s2. value P below e s2) s1) (λ s1. arms P below S vs rest s1) s ≡ or_stops (if_holds o (Some (p, e)) (first_arm S vs rest s)) go
-    by None h = refl
-    by (Some true) h = refl
-    by (Some false) h = h
+    chosen : State → Result ℕ Value
+    chosen s1 = bound S vs (bindings [] p) (λ s2. value P below e s2) s1
+
+    next : State → Result ℕ Value
+    next s1 = arms P below S vs rest s1
+
+    Rest : Type 0
+    Rest = (c : Cause) × (arms P below S vs rest s ≡ or_stops c (first_arm S vs rest s) go)
+
+    by : (o : Option Bool) (d : Cause) → Rest → (c : Cause) × (way d o chosen next s ≡ or_stops c (if_holds o (Some (p, e)) (first_arm S vs rest s)) go)
+    by None d h = (d, refl)
+    by (Some true) d h = (d, refl)
+    by (Some false) d h = h
+
+    chained : (c : Cause) × (arms P below S vs (arm_and p e rest) s ≡ way c (all_hold S vs (tests [] p) s) chosen next s) → Rest
+        → (c : Cause) × (arms P below S vs (arm_and p e rest) s ≡ or_stops c (if_holds (all_hold S vs (tests [] p) s) (Some (p, e)) (first_arm S vs rest s)) go)
+    chained t h = let k = by (all_hold S vs (tests [] p) s) t.0 h in (k.0, t.1 ∙ k.1)
 
 -- ---- variables
 
@@ -76,10 +92,13 @@ abbrev own_slot : ℕ → State → Option ℕ
 own_slot x s = slot_of ((x, length s.memory) ∷ s.frame.slots) x
 
 abbrev own_write : ℕ → Value → State → Option ℕ → Done ℕ
-own_write x u s o = or_ends (and_then (and_then o (λ i. Some (in_slot i [] true))) (λ at. follow (with_variable x s).memory [] at)) (λ at. or_ends (after_write u (with_variable x s).memory at) (λ M. gives [] unit_value (with_memory (with_variable x s) M)))
+own_write x u s o =
+    or_ends (why_not_found (own x) [] (with_variable x s)) (and_then (and_then o (λ i. Some (in_slot i [] true))) (λ at. follow (with_variable x s).memory [] at)) (λ at.
+    or_ends (why_not_written (with_variable x s).memory at) (after_write u (with_variable x s).memory at) (λ M. gives [] unit_value (with_memory (with_variable x s) M)))
 
 -- a new variable is written at once
-new_slot : (x : ℕ) (u : Value) (s : State) → or_ends {E = ℕ} (spot (own x) [] (with_variable x s)) (λ at. or_ends (after_write u (with_variable x s).memory at) (λ M. gives [] unit_value (with_memory (with_variable x s) M))) ≡ gives [] unit_value (with_value x u s)
+new_slot : (x : ℕ) (u : Value) (s : State)
+    → or_ends {E = ℕ} (why_not_found (own x) [] (with_variable x s)) (spot (own x) [] (with_variable x s)) (λ at. or_ends (why_not_written (with_variable x s).memory at) (after_write u (with_variable x s).memory at) (λ M. gives [] unit_value (with_memory (with_variable x s) M))) ≡ gives [] unit_value (with_value x u s)
 new_slot x u s = by_slot ∙ by_element ∙ by_list
   where
     go : List Value → Done ℕ
@@ -92,7 +111,7 @@ new_slot x u s = by_slot ∙ by_element ∙ by_list
     by_slot = ap (own_write x u s) found_slot
 
     by_element : own_write x u s (Some (length s.memory)) ≡ go (with_element (s.memory ++ lacking unset ∷ []) (length s.memory) u)
-    by_element = ap (λ o. or_ends (and_then o (λ y. Some (with_element (s.memory ++ lacking unset ∷ []) (length s.memory) u))) go) (element_last s.memory (lacking unset))
+    by_element = ap (λ o. or_ends (why_not_written (with_variable x s).memory (in_slot (length s.memory) [] true)) (and_then o (λ y. Some (with_element (s.memory ++ lacking unset ∷ []) (length s.memory) u))) go) (element_last s.memory (lacking unset))
 
     by_list : go (with_element (s.memory ++ lacking unset ∷ []) (length s.memory) u) ≡ gives [] unit_value (with_value x u s)
     by_list = ap go (with_last s.memory (lacking unset) u)
@@ -103,68 +122,79 @@ begins_with : (x : ℕ) (t : Temporary) (u : Value) (s : State) (go : State → 
 unfolding bind result_of
 begins_with x t u s go = after_nothing _ ∙ ap (λ d. bind (result_of d) (λ w s2. go s2)) (new_slot x u s) ∙ after_nothing _
 
-flat : {A B : Type 0} (o : Option A) (f : A → Option B) (go : B → Done ℕ) → or_ends o (λ a. or_ends (f a) go) ≡ or_ends (and_then o f) go
-flat None f go = refl
-flat (Some a) f go = refl
-
-stops_flat : {A B : Type 0} (o : Option A) (f : A → Option B) (go : B → Result ℕ Value) → or_stops o (λ a. or_stops (f a) go) ≡ or_stops (and_then o f) go
-stops_flat None f go = refl
-stops_flat (Some a) f go = refl
+flat : {A B : Type 0} (c : Cause) (o : Option A) (d : A → Cause) (f : A → Option B) (go : B → Done ℕ) → (e : Cause) × (or_ends c o (λ a. or_ends (d a) (f a) go) ≡ or_ends e (and_then o f) go)
+flat c None d f go = (c, refl)
+flat c (Some a) d f go = (d a, refl)
 
 -- the variable that is written from what was taken
 abbrev written_from : ℕ → Temporary → (State → Result ℕ Value) → List Value → State → Result ℕ Value
 written_from x t go ws s1 = bind (acts (Declare x) [] s1) (λ v s2. bind (acts (Write (own x) t []) ws s2) (λ w s3. go s3))
 
 -- what is read or borrowed, and the variable with it
-takes_it : (o : Option Value) (x : ℕ) (t : Temporary) (s : State) (go : State → Result ℕ Value)
-    → bind (bind (result_of (or_ends o (λ v. gives [] v s))) (λ v s1. on [] (v ∷ []) s1)) (written_from x t go) ≡ or_stops o (λ v. go (with_value x v s))
+takes_it : (c : Cause) (o : Option Value) (x : ℕ) (t : Temporary) (s : State) (go : State → Result ℕ Value)
+    → bind (bind (result_of (or_ends c o (λ v. gives [] v s))) (λ v s1. on [] (v ∷ []) s1)) (written_from x t go) ≡ or_stops c o (λ v. go (with_value x v s))
 unfolding bind result_of after
-takes_it None x t s go = refl
-takes_it (Some v) x t s go = after_nothing _ ∙ begins_with x t v s go
+takes_it c None x t s go = refl
+takes_it c (Some v) x t s go = after_nothing _ ∙ begins_with x t v s go
 
 -- the part of what is held
-takes_part : (o : Option Value) (x : ℕ) (s : State) (go : State → Result ℕ Value)
-    → bind (acts (Declare x) [] s) (λ v s1. bind (result_of (or_ends o (λ u. or_ends (spot (own x) [] s1) (λ at. or_ends (after_write u s1.memory at) (λ M. gives [] unit_value (with_memory s1 M)))))) (λ w s2. go s2))
-    ≡ or_stops o (λ v. go (with_value x v s))
+takes_part : (c : Cause) (o : Option Value) (x : ℕ) (s : State) (go : State → Result ℕ Value)
+    → bind (acts (Declare x) [] s) (λ v s1. bind (result_of (or_ends c o (λ u. or_ends (why_not_found (own x) [] s1) (spot (own x) [] s1) (λ at.
+    or_ends (why_not_written s1.memory at) (after_write u s1.memory at) (λ M. gives [] unit_value (with_memory s1 M)))))) (λ w s2. go s2))
+    ≡ or_stops c o (λ v. go (with_value x v s))
 unfolding bind result_of
-takes_part None x s go = after_nothing _
-takes_part (Some u) x s go = after_nothing _ ∙ ap (λ d. bind (result_of d) (λ w s2. go s2)) (new_slot x u s) ∙ after_nothing _
+takes_part c None x s go = after_nothing _
+takes_part c (Some u) x s go = after_nothing _ ∙ ap (λ d. bind (result_of d) (λ w s2. go s2)) (new_slot x u s) ∙ after_nothing _
 
 -- one binding, and then more
 one_bound : (S : Subject) (vs : List Value) (b : Binding) (m : Mode) (s : State) (go : State → Result ℕ Value)
-    → bind (took plainly b.node (taken S (record b { mode = m })) vs s) (λ ws s1. bind (acts (Declare b.variable) [] s1) (λ u s2. bind (performed plainly (written S (record b { mode = m })) ws s2) (λ w s3. go s3)))
-    ≡ or_stops (takes m S b.steps vs s) (λ u. go (with_value b.variable u s))
+    → (c : Cause) × (bind (took plainly b.node (taken S (record b { mode = m })) vs s) (λ ws s1. bind (acts (Declare b.variable) [] s1) (λ u s2. bind (performed plainly (written S (record b { mode = m })) ws s2) (λ w s3. go s3)))
+    ≡ or_stops c (takes m S b.steps vs s) (λ u. go (with_value b.variable u s)))
 unfolding took bind result_of
 one_bound S vs b (by_reference k) s go =
-    ap (λ d. bind (bind (result_of d) (λ v s1. on [] (v ∷ []) s1)) (written_from b.variable (temporary_at b.node 0) go)) (flat (found (part S b.steps) vs s) (λ f. reference_to k f.0) (λ v. gives [] v s))
-    ∙ takes_it (and_then (found (part S b.steps) vs s) (λ f. reference_to k f.0)) b.variable (temporary_at b.node 0) s go
+    let f = flat (why_not_found (part S b.steps) vs s) (found (part S b.steps) vs s) (λ f. astray) (λ f. reference_to k f.0) (λ v. gives [] v s) in
+    (f.0, ap (λ d. bind (bind (result_of d) (λ v s1. on [] (v ∷ []) s1)) (written_from b.variable (temporary_at b.node 0) go)) f.1
+    ∙ takes_it f.0 (and_then (found (part S b.steps) vs s) (λ f. reference_to k f.0)) b.variable (temporary_at b.node 0) s go)
 one_bound (in_place p) vs b (by_value m) s go =
-    ap (λ d. bind (bind (result_of d) (λ v s1. on [] (v ∷ []) s1)) (written_from b.variable (temporary_at b.node 0) go)) (flat (found (under p b.steps) vs s) (λ f. whole_value f) (λ v. gives [] v s))
-    ∙ takes_it (and_then (found (under p b.steps) vs s) (λ f. whole_value f)) b.variable (temporary_at b.node 0) s go
-one_bound (in_temporary t) [] b (by_value m) s go = after_nothing _ ∙ after_nothing _
-one_bound (in_temporary t) (v ∷ []) b (by_value m) s go = after_nothing _ ∙ takes_part (get b.steps v) b.variable s go
-one_bound (in_temporary t) (v ∷ w ∷ vs) b (by_value m) s go = after_nothing _ ∙ after_nothing _
+    let f = flat (why_not_found (under p b.steps) vs s) (found (under p b.steps) vs s) (λ f. lacks) (λ f. whole_value f) (λ v. gives [] v s) in
+    (f.0, ap (λ d. bind (bind (result_of d) (λ v s1. on [] (v ∷ []) s1)) (written_from b.variable (temporary_at b.node 0) go)) f.1
+    ∙ takes_it f.0 (and_then (found (under p b.steps) vs s) (λ f. whole_value f)) b.variable (temporary_at b.node 0) s go)
+one_bound (in_temporary t) [] b (by_value m) s go = (mistyped, after_nothing _ ∙ after_nothing _)
+one_bound (in_temporary t) (v ∷ []) b (by_value m) s go = (why_no_part b.steps v, after_nothing _ ∙ takes_part (why_no_part b.steps v) (get b.steps v) b.variable s go)
+one_bound (in_temporary t) (v ∷ w ∷ vs) b (by_value m) s go = (mistyped, after_nothing _ ∙ after_nothing _)
 
-pub bound_is : (S : Subject) (vs : List Value) (bs : List Binding) (go : State → Result ℕ Value) (s : State) → bound S vs bs go s ≡ or_stops (bind_all S vs bs s) go
+pub bound_is : (S : Subject) (vs : List Value) (bs : List Binding) (go : State → Result ℕ Value) (s : State) → (c : Cause) × (bound S vs bs go s ≡ or_stops c (bind_all S vs bs s) go)
 unfolding bound
-bound_is S vs [] go s = refl
-bound_is S vs (b ∷ bs) go s = one_bound S vs b b.mode s (λ s3. bound S vs bs go s3) ∙ by (takes b.mode S b.steps vs s) (λ u. bound_is S vs bs go (with_value b.variable u s))
+bound_is S vs [] go s = (mistyped, refl)
+bound_is S vs (b ∷ bs) go s = chained (one_bound S vs b b.mode s (λ s3. bound S vs bs go s3)) (λ u. bound_is S vs bs go (with_value b.variable u s))
   where
-    by : (o : Option Value) → ((u : Value) → bound S vs bs go (with_value b.variable u s) ≡ or_stops (bind_all S vs bs (with_value b.variable u s)) go) → or_stops o (λ u. bound S vs bs go (with_value b.variable u s)) ≡ or_stops (and_then o (λ u. bind_all S vs bs (with_value b.variable u s))) go
-    by None h = refl
-    by (Some u) h = h u
+    rest : Value → Result ℕ Value
+    rest u = bound S vs bs go (with_value b.variable u s)
+
+    others : Value → Option State
+    others u = bind_all S vs bs (with_value b.variable u s)
+
+    by : (o : Option Value) (d : Cause) → ((u : Value) → (c : Cause) × (rest u ≡ or_stops c (others u) go)) → (c : Cause) × (or_stops d o rest ≡ or_stops c (and_then o others) go)
+    by None d h = (d, refl)
+    by (Some u) d h = h u
+
+    chained : (c : Cause) × (bound S vs (b ∷ bs) go s ≡ or_stops c (takes b.mode S b.steps vs s) rest) → ((u : Value) → (c : Cause) × (rest u ≡ or_stops c (others u) go))
+        → (c : Cause) × (bound S vs (b ∷ bs) go s ≡ or_stops c (and_then (takes b.mode S b.steps vs s) others) go)
+    chained t h = let k = by (takes b.mode S b.steps vs s) t.0 h in (k.0, t.1 ∙ k.1)
 
 pub begun_is : (xs : List ℕ) (go : State → Result ℕ Value) (s : State) → begun xs go s ≡ go (declare_all xs s)
 unfolding begun bind result_of
 begun_is [] go s = refl
 begun_is (x ∷ xs) go s = after_nothing _ ∙ begun_is xs go (with_variable x s)
 
-pub arguments_is : (ps : List Parameter) (vs : List Value) (go : State → Result ℕ Value) (s : State) → with_arguments ps vs go s ≡ or_stops (fill_all ps vs s) go
+pub arguments_is : (ps : List Parameter) (vs : List Value) (go : State → Result ℕ Value) (s : State) → (c : Cause) × (with_arguments ps vs go s ≡ or_stops c (fill_all ps vs s) go)
 unfolding with_arguments
-arguments_is [] [] go s = refl
-arguments_is [] (v ∷ vs) go s = refl
-arguments_is (p ∷ ps) [] go s = refl
-arguments_is (p ∷ ps) (v ∷ vs) go s = begins_with p.variable (argument p) v s (λ s2. with_arguments ps vs go s2) ∙ arguments_is ps vs go (with_value p.variable v s)
+arguments_is [] [] go s = (mistyped, refl)
+arguments_is [] (v ∷ vs) go s = (mistyped, refl)
+arguments_is (p ∷ ps) [] go s = (mistyped, refl)
+arguments_is (p ∷ ps) (v ∷ vs) go s =
+    let h = arguments_is ps vs go (with_value p.variable v s) in
+    (h.0, begins_with p.variable (argument p) v s (λ s2. with_arguments ps vs go s2) ∙ h.1)
 
 -- none takes a turn
 

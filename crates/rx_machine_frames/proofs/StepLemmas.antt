@@ -7,19 +7,21 @@ use Rattle.rx_typed.specs.Tree as tree
 use Rattle.rx_lower_walks.specs.Matching.{equals, tests, bindings}
 use Rattle.rx_lower_walks.specs.Actions.{Build, Write, Subject}
 use Rattle.rx_lower_walks.specs.Orders.{Exit, breaks, continues, returns}
-use Rattle.rx_meaning.specs.declared.outcome.End.{End}
+use Rattle.rx_meaning.specs.Endings.{Cause, Ending, trapped, running as still_running, wrong, lacks, mistyped, missing_function, missing_value, end_of}
 use Rattle.rx_meaning.specs.Values.{Value, truth, unit_value, and_then, element, Frame, new_frame, State, with_turns}
 use Rattle.rx_meaning.specs.Results.{Result, on, jumps, stops, after, bind, Done, or_ends, result_of}
 use Rattle.rx_meaning.specs.Results as results
 use Rattle.rx_meaning.specs.Places.{Spot, found, whole_value}
 use Rattle.rx_meaning.specs.Operators.{Computed, operate}
 use Rattle.rx_meaning.specs.Operators as operators
+use Rattle.rx_meaning.specs.Straying.{why_not_found, why_not_checked}
 use Rattle.rx_meaning.specs.Acting.{checked, computed, does_plainly, plainly}
 use Rattle.rx_meaning.specs.Patterns.{decided}
 use Rattle.rx_meaning.specs.Expressions.{Functions, turn_at, take_turn, passed, returned}
 use Rattle.rx_meaning.specs.Expressions as expressions
 use Rattle.rx_meaning.specs.Programs.{Program, outcome_of}
 use Rattle.rx_meaning.specs.Programs as programs
+use Rattle.rx_meaning.proofs.Sequences.{after_nothing}
 use Rattle.rx_machine_running.specs.Running.{Meaning, bound, value, body, level}
 use Rattle.rx_machine_running.specs.Running as running
 use Rattle.rx_machine_running.proofs.Runs.{run_is}
@@ -28,21 +30,21 @@ use Rattle.rx_machine_frames.specs.Choosing.{all_hold, if_holds, first_arm, bind
 use Rattle.rx_machine_frames.specs.Stepping.{Config, config, Led, goes, or_wrong, given, behind_pass, out_of_call, left, done, decided_by, modified, step, entered, with_turn, called, turn, means}
 use Rattle.rx_machine_frames.specs.Sizes.{size, size_operands, size_scrutinee, size_arms, size_body, hole_size, next_size, sizes, config_size}
 use Rattle.rx_machine_frames.specs.Laws.{Keeps, Lessens}
-use Rattle.rx_machine_frames.proofs.Steps.{after_nothing, opened_is, opened_body_is, filled_is}
+use Rattle.rx_machine_frames.proofs.Steps.{opened_is, opened_body_is, filled_is}
 use Rattle.rx_machine_frames.proofs.Unwinding.{unwind_after, pass_begins, pass_again}
 use Rattle.rx_machine_frames.proofs.Calls.{call_begins}
 use Rattle.rx_machine_frames.proofs.ChoosingLemmas.{or_stops, arms_is, bound_is, begun_is, arguments_is}
 
 -- ---- an end ends all
 
-pub unwind_stops : (P : Functions) (below : Meaning) (K : List Around) (w : List ℕ) (e : End) → unwind P below K (stops w e) ≡ stops w e
+pub unwind_stops : (P : Functions) (below : Meaning) (K : List Around) (w : List ℕ) (e : Ending) → unwind P below K (stops w e) ≡ stops w e
 unfolding unwind bind passed returned
 unwind_stops P below [] w e = refl
 unwind_stops P below (hole h ∷ K) w e = unwind_stops P below K w e
 unwind_stops P below (pass m l i ∷ K) w e = unwind_stops P below K w e
 unwind_stops P below (call_from F ∷ K) w e = unwind_stops P below K w e
 
-stops_there : (P : Functions) (below : Meaning) (K : List Around) (w : List ℕ) (e : End) → outcome_of (unwind P below K (stops w e)) ≡ record { printed = w; end = e }
+stops_there : (P : Functions) (below : Meaning) (K : List Around) (w : List ℕ) (e : Ending) → outcome_of (unwind P below K (stops w e)) ≡ record { printed = w; end = end_of e }
 stops_there P below K w e = ap outcome_of (unwind_stops P below K w e)
 
 -- ---- what is left stays
@@ -58,17 +60,17 @@ done_keeps P n c K (results.gives w v s) e = e ∙ ap (λ l. unwind P (level P n
 done_keeps P n c K (results.ends w r) e = ap outcome_of e ∙ stops_there P (level P n) K w r
 
 -- what goes on from what is there
-option_keeps : {A : Type 0} (P : Functions) (n : ℕ) (c : Config) (K : List Around) (o : Option A) (go : A → Led) (more : A → Result ℕ Value)
-    → means P n c ≡ unwind P (level P n) K (or_stops o more) → ((a : A) → means P n c ≡ unwind P (level P n) K (more a) → Keeps P n c (go a)) → Keeps P n c (or_wrong o go)
-option_keeps P n c K None go more e h = ap outcome_of e ∙ stops_there P (level P n) K [] End.Wrong
-option_keeps P n c K (Some a) go more e h = h a e
+option_keeps : {A : Type 0} (P : Functions) (n : ℕ) (c : Config) (K : List Around) (d : Cause) (o : Option A) (go : A → Led) (more : A → Result ℕ Value)
+    → means P n c ≡ unwind P (level P n) K (or_stops d o more) → ((a : A) → means P n c ≡ unwind P (level P n) K (more a) → Keeps P n c (go a)) → Keeps P n c (or_wrong o go)
+option_keeps P n c K d None go more e h = ap outcome_of e ∙ stops_there P (level P n) K [] (wrong d)
+option_keeps P n c K d (Some a) go more e h = h a e
 
 given_keeps : (P : Functions) (n : ℕ) (K : List Around) (v : Value) (s : State) → s.turns < n → Keeps P n (config K (gives v) s) (given K v s)
 unfolding means unwind bind passed returned
 given_keeps P n [] v s l = refl
 given_keeps P n (hole h ∷ K) v s l = on_the_way P n (config (hole h ∷ K) (gives v) s) (config K (filled h v) s) (ap (unwind P (level P n) K) (after_nothing _ ∙ filled_is P (level P n) h v s))
 given_keeps P n (pass m i e ∷ K) v s l = on_the_way P n (config (pass m i e ∷ K) (gives v) s) (config K (loops m i e) s) (ap (unwind P (level P n) K) (after_nothing _ ∙ pass_again P n m i e s l))
-given_keeps P n (call_from F ∷ K) v s l = stops_there P (level P n) K [] End.Wrong
+given_keeps P n (call_from F ∷ K) v s l = stops_there P (level P n) K [] (wrong missing_value)
 
 pass_keeps : (P : Functions) (n : ℕ) (m : Mark) (l : ℕ) (e : Exp) (K : List Around) (x : Exit) (v : Value) (s : State) → s.turns < n
     → Keeps P n (config (pass m l e ∷ K) (leaves x v) s) (goes [] (config K (behind_pass m l e x v) s))
@@ -88,8 +90,8 @@ pass_keeps P n m l e K (returns i) v s lt = on_the_way P n (config (pass m l e �
 call_keeps : (P : Functions) (n : ℕ) (F : Frame) (K : List Around) (x : Exit) (v : Value) (s : State) → Keeps P n (config (call_from F ∷ K) (leaves x v) s) (out_of_call F K x v s)
 unfolding means unwind returned
 call_keeps P n F K (returns i) v s = on_the_way P n (config (call_from F ∷ K) (leaves (returns i) v) s) (config K (gives v) (record s { frame = F })) refl
-call_keeps P n F K (breaks i k) v s = stops_there P (level P n) K [] End.Wrong
-call_keeps P n F K (continues i k) v s = stops_there P (level P n) K [] End.Wrong
+call_keeps P n F K (breaks i k) v s = stops_there P (level P n) K [] (wrong missing_value)
+call_keeps P n F K (continues i k) v s = stops_there P (level P n) K [] (wrong missing_value)
 
 left_keeps : (P : Functions) (n : ℕ) (K : List Around) (x : Exit) (v : Value) (s : State) → s.turns < n → Keeps P n (config K (leaves x v) s) (left K x v s)
 unfolding means unwind bind
@@ -103,11 +105,11 @@ unfolding means bind decided result_of
 decides_keep P n K b v f s = by (checked (equals (tree.truth b)) v) refl
   where
     test : Option Bool → Result ℕ Value
-    test o = bind (result_of (or_ends o (λ t. results.gives [] (truth t) s))) (λ t s1.
+    test o = bind (result_of (or_ends (why_not_checked v) o (λ t. results.gives [] (truth t) s))) (λ t s1.
         bind (decided t (λ s2. value P (level P n) f s2) (λ s2. on [] v s2) s1) (λ w s3. running.acts (Build tree.lazy [] [] running.nowhere) (w ∷ []) s3))
 
     by : (o : Option Bool) → test (checked (equals (tree.truth b)) v) ≡ test o → Keeps P n (config K (decides b v f) s) (decided_by K o v f s)
-    by None e = ap (λ r. outcome_of (unwind P (level P n) K r)) e ∙ stops_there P (level P n) K [] End.Wrong
+    by None e = ap (λ r. outcome_of (unwind P (level P n) K r)) e ∙ stops_there P (level P n) K [] (wrong (why_not_checked v))
     by (Some true) e = on_the_way P n (config K (decides b v f) s) (config K (part second_of f) s) (ap (unwind P (level P n) K) (e ∙ after_nothing _))
     by (Some false) e = on_the_way P n (config K (decides b v f) s) (config K (gives v) s) (ap (unwind P (level P n) K) (e ∙ after_nothing _ ∙ after_nothing _))
 
@@ -129,16 +131,16 @@ modifies_keep P n K o p v s = by_found (found p [] s) refl
 
     by_made : (u : Value) (c : Computed) → means P n (config K (modifies o p v) s) ≡ unwind P (level P n) K (make c) → Keeps P n (config K (modifies o p v) s) (modified K p c s)
     by_made u (operators.gives w) e = on_the_way P n (config K (modifies o p v) s) (config K (performs (Write p running.nowhere []) (w ∷ [])) s) (e ∙ ap (unwind P (level P n) K) (after_nothing _))
-    by_made u (operators.traps t) e = ap outcome_of e ∙ stops_there P (level P n) K [] (End.Trapped t)
-    by_made u operators.senseless e = ap outcome_of e ∙ stops_there P (level P n) K [] End.Wrong
+    by_made u (operators.traps t) e = ap outcome_of e ∙ stops_there P (level P n) K [] (trapped t)
+    by_made u operators.senseless e = ap outcome_of e ∙ stops_there P (level P n) K [] (wrong mistyped)
 
-    by_whole : (w : Option Value) → means P n (config K (modifies o p v) s) ≡ unwind P (level P n) K (bind (result_of (or_ends w (λ u. results.gives [] u s))) rest) → Keeps P n (config K (modifies o p v) s) (or_wrong w go)
-    by_whole None e = ap outcome_of e ∙ stops_there P (level P n) K [] End.Wrong
+    by_whole : (w : Option Value) → means P n (config K (modifies o p v) s) ≡ unwind P (level P n) K (bind (result_of (or_ends lacks w (λ u. results.gives [] u s))) rest) → Keeps P n (config K (modifies o p v) s) (or_wrong w go)
+    by_whole None e = ap outcome_of e ∙ stops_there P (level P n) K [] (wrong lacks)
     by_whole (Some u) e = by_made u (operate o u v) (e ∙ ap (unwind P (level P n) K) (after_nothing _))
 
     by_found : (f : Option (Spot × Value)) → found p [] s ≡ f → Keeps P n (config K (modifies o p v) s) (or_wrong (and_then f (λ f. whole_value f)) go)
-    by_found None e = ap (λ f. outcome_of (unwind P (level P n) K (bind (result_of (or_ends f (λ f. or_ends (whole_value f) (λ u. results.gives [] u s)))) rest))) e ∙ stops_there P (level P n) K [] End.Wrong
-    by_found (Some f) e = by_whole (whole_value f) (ap (λ f. unwind P (level P n) K (bind (result_of (or_ends f (λ f. or_ends (whole_value f) (λ u. results.gives [] u s)))) rest)) e)
+    by_found None e = ap (λ f. outcome_of (unwind P (level P n) K (bind (result_of (or_ends (why_not_found p [] s) f (λ f. or_ends lacks (whole_value f) (λ u. results.gives [] u s)))) rest))) e ∙ stops_there P (level P n) K [] (wrong (why_not_found p [] s))
+    by_found (Some f) e = by_whole (whole_value f) (ap (λ f. unwind P (level P n) K (bind (result_of (or_ends (why_not_found p [] s) f (λ f. or_ends lacks (whole_value f) (λ u. results.gives [] u s)))) rest)) e)
 
 pub step_keeps : (P : Functions) (n : ℕ) (K : List Around) (x : Next) (s : State) → s.turns < n → Keeps P n (config K x s) (step K x s)
 unfolding means unwind value
@@ -150,10 +152,13 @@ step_keeps P n K (finishes (makes w js) vs) s l = done_keeps P n (config K (fini
 step_keeps P n K (finishes (calls f) vs) s l = tt
 step_keeps P n K (runs_body b) s l = on_the_way P n (config K (runs_body b) s) (config K (opened_body b) s) (ap (unwind P (level P n) K) (opened_body_is P (level P n) b s))
 step_keeps P n K (tries S vs a) s l =
-    option_keeps P n (config K (tries S vs a) s) K (first_arm S vs a s) _ _ (ap (unwind P (level P n) K) (arms_is P (level P n) S vs a s)) (λ c e.
-    option_keeps P n (config K (tries S vs a) s) K (bind_all S vs (bindings [] c.0) s) _ _ (e ∙ ap (unwind P (level P n) K) (bound_is S vs (bindings [] c.0) _ s)) (λ s1 i. on_the_way P n (config K (tries S vs a) s) (config K (goes_into c.1) s1) i))
+    let all = arms_is P (level P n) S vs a s in
+    option_keeps P n (config K (tries S vs a) s) K all.0 (first_arm S vs a s) _ _ (ap (unwind P (level P n) K) all.1) (λ c e.
+    let these = bound_is S vs (bindings [] c.0) (λ s1. value P (level P n) c.1 s1) s in
+    option_keeps P n (config K (tries S vs a) s) K these.0 (bind_all S vs (bindings [] c.0) s) _ _ (e ∙ ap (unwind P (level P n) K) these.1) (λ s1 i. on_the_way P n (config K (tries S vs a) s) (config K (goes_into c.1) s1) i))
 step_keeps P n K (binds S vs p b) s l =
-    option_keeps P n (config K (binds S vs p b) s) K (bind_all S vs (bindings [] p) s) _ _ (ap (unwind P (level P n) K) (bound_is S vs (bindings [] p) _ s)) (λ s1 i. on_the_way P n (config K (binds S vs p b) s) (config K (runs_body b) s1) i)
+    let these = bound_is S vs (bindings [] p) (λ s1. body P (level P n) b s1) s in
+    option_keeps P n (config K (binds S vs p b) s) K these.0 (bind_all S vs (bindings [] p) s) _ _ (ap (unwind P (level P n) K) these.1) (λ s1 i. on_the_way P n (config K (binds S vs p b) s) (config K (runs_body b) s1) i)
 step_keeps P n K (begins xs b) s l = on_the_way P n (config K (begins xs b) s) (config K (runs_body b) (declare_all xs s)) (ap (unwind P (level P n) K) (begun_is xs _ s))
 step_keeps P n K (loops m i e) s l = tt
 step_keeps P n K (leaves x v) s l = left_keeps P n K x v s l
@@ -166,14 +171,15 @@ entered_keeps : (P : Functions) (n : ℕ) (c : Config) (K : List Around) (i : �
     → means P n c ≡ unwind P (level P n) K (running.entered (level P n) i g vs s) → Keeps P n c (entered K i g vs s)
 unfolding means unwind
 entered_keeps P n c K i g vs s l e =
-    option_keeps P n c (call_from s.frame ∷ K) (fill_all g.params vs (record s { frame = new_frame i })) _ (λ s1. value P (level P n) g.body s1)
-    (e ∙ ap (unwind P (level P n) K) (call_begins P n i g vs s l) ∙ ap (λ r. unwind P (level P n) K (returned plainly s.frame r)) (arguments_is g.params vs _ (record s { frame = new_frame i })))
+    let all = arguments_is g.params vs (λ s1. value P (level P n) g.body s1) (record s { frame = new_frame i }) in
+    option_keeps P n c (call_from s.frame ∷ K) all.0 (fill_all g.params vs (record s { frame = new_frame i })) _ (λ s1. value P (level P n) g.body s1)
+    (e ∙ ap (unwind P (level P n) K) (call_begins P n i g vs s l) ∙ ap (λ r. unwind P (level P n) K (returned plainly s.frame r)) all.1)
     (λ s1 h. on_the_way P n c (config (call_from s.frame ∷ K) (goes_into g.body) s1) h)
 
 -- what takes a turn
 turn_keeps_by : (P : Functions) (n : ℕ) (c : Config) (K : List Around) (t : ℕ) (s : State) (more : State → Result ℕ Value) (go : State → Led) → t ≤ n
     → means P n c ≡ unwind P (level P n) K (turn_at t s more) → ((s1 : State) → s1.turns < n → means P n c ≡ unwind P (level P n) K (more s1) → Keeps P n c (go s1)) → Keeps P n c (with_turn t s go)
-turn_keeps_by P n c K zero s more go l e h = ap outcome_of e ∙ stops_there P (level P n) K [] End.Running
+turn_keeps_by P n c K zero s more go l e h = ap outcome_of e ∙ stops_there P (level P n) K [] still_running
 turn_keeps_by P n c K (suc t) s more go l e h = h (with_turns s t) (omega (arith, l)) e
 
 pub turn_keeps : (P : Functions) (n : ℕ) (K : List Around) (x : Next) (s : State) → s.turns ≤ n → Keeps P n (config K x s) (turn P K x s)
@@ -181,8 +187,8 @@ unfolding means unwind take_turn
 turn_keeps P n K (finishes (calls f) vs) s l = by (element P f) refl
   where
     by : (o : Option (Option Function)) → element P f ≡ o → Keeps P n (config K (finishes (calls f) vs) s) (called K f o vs s)
-    by None e = ap (λ o. outcome_of (unwind P (level P n) K (expressions.found o (λ g. take_turn s (λ s1. running.entered (level P n) f g vs s1))))) e ∙ stops_there P (level P n) K [] End.Wrong
-    by (Some None) e = ap (λ o. outcome_of (unwind P (level P n) K (expressions.found o (λ g. take_turn s (λ s1. running.entered (level P n) f g vs s1))))) e ∙ stops_there P (level P n) K [] End.Wrong
+    by None e = ap (λ o. outcome_of (unwind P (level P n) K (expressions.found o (λ g. take_turn s (λ s1. running.entered (level P n) f g vs s1))))) e ∙ stops_there P (level P n) K [] (wrong missing_function)
+    by (Some None) e = ap (λ o. outcome_of (unwind P (level P n) K (expressions.found o (λ g. take_turn s (λ s1. running.entered (level P n) f g vs s1))))) e ∙ stops_there P (level P n) K [] (wrong missing_function)
     by (Some (Some g)) e = turn_keeps_by P n (config K (finishes (calls f) vs) s) K s.turns s _ _ l (ap (λ o. unwind P (level P n) K (expressions.found o (λ g. take_turn s (λ s1. running.entered (level P n) f g vs s1)))) e)
         (λ s1 k h. entered_keeps P n (config K (finishes (calls f) vs) s) K f g vs s1 k h)
 turn_keeps P n K (loops m i b) s l =

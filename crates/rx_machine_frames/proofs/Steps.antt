@@ -1,43 +1,14 @@
 -- What comes next is what the form does.
-use Rattle.std.proofs.Common.{◌≡◌, ℕ, List, [], ◌∷◌, ◌++◌, refl, sym, ap, ◌∙◌}
-use Rattle.std.proofs.lemmas.List.{append_assoc}
+use Rattle.std.proofs.Common.{◌≡◌, ℕ, List, [], ◌∷◌, refl, sym, ap, ◌∙◌, append_assoc}
 use Rattle.rx_typed.specs.Tree.{Exp, read, borrow, share, build, unit, lazily, assign, update, call, input, print, block, choose, loop, jump, give, Operands, no_operand, operand_and, Scrutinee, at_place, of_value, Arms, Pattern, Body, ends, runs, declares, lets, fields_of}
 use Rattle.rx_lower_walks.specs.Matching.{bindings}
 use Rattle.rx_lower_walks.specs.Actions.{subject}
 use Rattle.rx_meaning.specs.Values.{Value, State}
-use Rattle.rx_meaning.specs.Results.{Result, on, jumps, stops, after, bind}
+use Rattle.rx_meaning.specs.Results.{Result, bind}
 use Rattle.rx_meaning.specs.Expressions.{Functions}
+use Rattle.rx_meaning.proofs.Sequences.{bind_bind, bind_on, bind_same}
 use Rattle.rx_machine_running.specs.Running.{Meaning, bound, value, values, matched, arms, body}
-use Rattle.rx_machine_running.proofs.Alike.{bind_same}
 use Rattle.rx_machine_frames.specs.Frames.{Work, makes, calls, Hole, operand, shares, first_of, second_of, assigns, updates, prints, gives_back, scrutinee, statement, initialiser, finish, resume, does_next, opened_operands, opened_choice, opened_let, opened, opened_body, filled}
-
-pub after_after : {A : Type 0} (u w : List ℕ) (r : Result ℕ A) → after u (after w r) ≡ after (u ++ w) r
-unfolding after
-after_after u w (on x a s) = ap (λ l. on l a s) (sym (append_assoc u w x))
-after_after u w (jumps x j v s) = ap (λ l. jumps l j v s) (sym (append_assoc u w x))
-after_after u w (stops x e) = ap (λ l. stops l e) (sym (append_assoc u w x))
-
-pub after_nothing : {A : Type 0} (r : Result ℕ A) → after [] r ≡ r
-unfolding after
-after_nothing (on x a s) = refl
-after_nothing (jumps x j v s) = refl
-after_nothing (stops x e) = refl
-
-pub bind_after : {A B : Type 0} (w : List ℕ) (r : Result ℕ A) (f : A → State → Result ℕ B) → bind (after w r) f ≡ after w (bind r f)
-unfolding bind after
-bind_after w (on x a s) f = sym (after_after w x (f a s))
-bind_after w (jumps x j v s) f = refl
-bind_after w (stops x e) f = refl
-
-bind_bind : {A B C : Type 0} (r : Result ℕ A) (f : A → State → Result ℕ B) (g : B → State → Result ℕ C) → bind (bind r f) g ≡ bind r (λ a s. bind (f a s) g)
-unfolding bind
-bind_bind (on w a s) f g = bind_after w (f a s) g
-bind_bind (jumps w j v s) f g = refl
-bind_bind (stops w e) f g = refl
-
-pub bind_on : {A B : Type 0} (a : A) (s : State) (f : A → State → Result ℕ B) → bind (on [] a s) f ≡ f a s
-unfolding bind
-bind_on a s f = after_nothing (f a s)
 
 -- an operand, and those behind it
 one_out : (P : Functions) (below : Meaning) (i : ℕ) (e : Exp) (es : Operands) (s : State) (f : List Value → State → Result ℕ Value)

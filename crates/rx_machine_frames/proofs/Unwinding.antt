@@ -9,7 +9,8 @@ use Rattle.rx_meaning.specs.Expressions.{Functions, passed, returned}
 use Rattle.rx_machine_running.specs.Running.{Meaning, value, level}
 use Rattle.rx_machine_running.proofs.Runs.{at_a_turn}
 use Rattle.rx_machine_frames.specs.Frames.{Hole, Around, hole, pass, call_from, loops, does_next, resume, unwind}
-use Rattle.rx_machine_frames.proofs.Steps.{after_after, bind_after, opened_is}
+use Rattle.rx_meaning.proofs.Sequences.{after_after, bind_after}
+use Rattle.rx_machine_frames.proofs.Steps.{opened_is}
 
 passed_after : (l : ℕ) (w : List ℕ) (r : Result ℕ Value) (f : State → Result ℕ Value) → passed l (after w r) f ≡ after w (passed l r f)
 unfolding passed after

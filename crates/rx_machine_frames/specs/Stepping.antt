@@ -6,6 +6,7 @@ use Rattle.rx_lower_walks.specs.Matching.{equals, bindings}
 use Rattle.rx_lower_walks.specs.Actions.{Write, Build}
 use Rattle.rx_lower_walks.specs.Orders.{Exit, breaks, continues, returns}
 use Rattle.rx_meaning.specs.declared.outcome.End.{End}
+use Rattle.rx_meaning.specs.Endings.{end_of}
 use Rattle.rx_meaning.specs.Values.{Value, unit_value, and_then, element, Frame, new_frame, State, with_turns}
 use Rattle.rx_meaning.specs.Results.{Result, Done, bind}
 use Rattle.rx_meaning.specs.Results as results
@@ -66,7 +67,7 @@ left (call_from F ∷ K) x v s = out_of_call F K x v s
 
 abbrev pub done : List Around → Done ℕ → Led
 done K (results.gives w v s) = goes w (config K (gives v) s)
-done K (results.ends w e) = ends w e
+done K (results.ends w e) = ends w (end_of e)
 
 -- whether the second operand of `&&` or `||` comes
 abbrev pub decided_by : List Around → Option Bool → Value → Exp → State → Led

@@ -1,6 +1,5 @@
 -- Parts of runs that go on alike.
 use Rattle.std.proofs.Common.{◌≡◌, ℕ, zero, suc, nat_eq, Bool, true, false, List, [], ◌∷◌, Option, None, Some, if◌then◌else◌, refl, ap, ◌∙◌}
-use Rattle.std.proofs.lemmas.List.{append-nil}
 use Rattle.rx_typed.specs.Tree.{Parameter, Function}
 use Rattle.rx_lower_walks.specs.Matching.{PartTest, Binding}
 use Rattle.rx_lower_walks.specs.Actions.{Subject}
@@ -9,37 +8,16 @@ use Rattle.rx_meaning.specs.Values.{Value, number, truth, whole, tagged, pointer
 use Rattle.rx_meaning.specs.Results.{Result, on, jumps, stops, after, bind, gives, result_of}
 use Rattle.rx_meaning.specs.Acting.{plainly}
 use Rattle.rx_meaning.specs.Patterns as full
-use Rattle.rx_meaning.specs.Patterns.{decided, tested, closed}
+use Rattle.rx_meaning.specs.Patterns.{decided, tested}
 use Rattle.rx_meaning.specs.Expressions as full_expressions
 use Rattle.rx_meaning.specs.Expressions.{turn_at, take_turn, passed, found}
+use Rattle.rx_meaning.proofs.Sequences.{after_nothing, bind_same, closed_is}
 use Rattle.rx_machine_running.specs.Running.{bound, begun, with_arguments}
-
-pub bind_same : {A B : Type 0} (r r2 : Result ℕ A) (f g : A → State → Result ℕ B) → r ≡ r2 → ((a : A) (s : State) → f a s ≡ g a s) → bind r f ≡ bind r2 g
-unfolding bind
-bind_same {A = A} {B = B} r r2 f g e h = ap (λ x. bind x f) e ∙ by r2
-  where
-    by : (r : Result ℕ A) → bind r f ≡ bind r g
-    by (on w a s) = ap (after w) (h a s)
-    by (jumps w x v s) = refl
-    by (stops w e) = refl
-
-after_nothing : {A : Type 0} (r : Result ℕ A) → after [] r ≡ r
-unfolding after
-after_nothing (on w a s) = refl
-after_nothing (jumps w x v s) = refl
-after_nothing (stops w e) = refl
 
 -- what does nothing goes on
 pub goes_on : {B : Type 0} (v : Value) (s : State) (go : Value → State → Result ℕ B) → bind (result_of (gives [] v s)) go ≡ go v s
 unfolding bind result_of
 goes_on v s go = after_nothing (go v s)
-
--- the end of a variable does nothing
-pub closed_is : (n x : ℕ) (r : Result ℕ Value) → closed plainly n x r ≡ r
-unfolding closed bind after result_of
-closed_is n x (on w v s) = ap (λ l. on l v s) (append-nil w)
-closed_is n x (jumps w j v s) = ap (λ l. jumps l j v s) (append-nil w)
-closed_is n x (stops w e) = refl
 
 pub decided_same : (v : Value) (f g f2 g2 : State → Result ℕ Value) (s : State) → ((s : State) → f s ≡ f2 s) → ((s : State) → g s ≡ g2 s) → decided v f g s ≡ decided v f2 g2 s
 unfolding decided

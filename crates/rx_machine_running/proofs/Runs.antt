@@ -11,8 +11,9 @@ use Rattle.rx_meaning.specs.Programs as programs
 use Rattle.rx_meaning.specs.Programs.{Program, outcome_of, begins}
 use Rattle.rx_meaning.proofs.MoreTurns.{level_of}
 use Rattle.rx_meaning.proofs.Blind.{plainly_blind}
+use Rattle.rx_meaning.proofs.Sequences.{bind_same}
 use Rattle.rx_machine_running.specs.Running.{Meaning, nowhere, value, values, matched, arms, body, entered, level, run}
-use Rattle.rx_machine_running.proofs.Alike.{bind_same, goes_on, decided_same, tested_same, bound_same, begun_same, arguments_same, turn_same, passed_same, found_same}
+use Rattle.rx_machine_running.proofs.Alike.{goes_on, decided_same, tested_same, bound_same, begun_same, arguments_same, turn_same, passed_same, found_same}
 
 abbrev AllAlike : full.Meaning ℕ → Meaning → Type 0
 AllAlike below lower = (e : Exp) (d : Temporary) (s : State) → below e d s ≡ lower e s

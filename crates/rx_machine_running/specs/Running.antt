@@ -7,7 +7,7 @@ use Rattle.rx_typed.specs.Tree as tree
 use Rattle.rx_lower_walks.specs.Matching.{equals, tests, bindings, Binding}
 use Rattle.rx_lower_walks.specs.Actions.{Act, Declare, Read, Write, Borrow, Test, Build, Input, Print, Subject, subject, taken, written}
 use Rattle.rx_lower_walks.specs.Orders.{exit, returns, written_parameter}
-use Rattle.rx_meaning.specs.declared.outcome.End.{End}
+use Rattle.rx_meaning.specs.Endings.{running, wrong, mistyped, missing_arm}
 use Rattle.rx_meaning.specs.declared.outcome.Outcome.{Outcome}
 use Rattle.rx_meaning.specs.Values.{Value, unit_value, element, new_frame, State}
 use Rattle.rx_meaning.specs.Results.{Result, on, jumps, stops, bind, result_of}
@@ -40,7 +40,7 @@ unfoldable pub with_arguments : List Parameter → List Value → (State → Res
 with_arguments [] [] go s = go s
 with_arguments (p ∷ ps) (v ∷ vs) go s =
     bind (acts (Declare p.variable) [] s) (λ u s1. bind (performed plainly (written_parameter p) (v ∷ []) s1) (λ w s2. with_arguments ps vs go s2))
-with_arguments _ _ go s = stops [] End.Wrong
+with_arguments _ _ go s = stops [] (wrong mistyped)
 
 abbrev pub entered : Meaning → ℕ → Function → List Value → State → Result ℕ Value
 entered below i f vs s = returned plainly s.frame (with_arguments f.params vs (λ s1. below f.body s1) (record s { frame = new_frame i }))
@@ -78,7 +78,7 @@ unfoldable mutual
   matched P below (of_value e) s = bind (value P below e s) (λ v s1. on [] (v ∷ []) s1)
 
   pub arms : Functions → Meaning → Subject → List Value → Arms → State → Result ℕ Value
-  arms P below S vs no_arm s = stops [] End.Wrong
+  arms P below S vs no_arm s = stops [] (wrong missing_arm)
   arms P below S vs (arm_and p e rest) s =
       tested plainly S vs (tests [] p) (λ s1. bound S vs (bindings [] p) (λ s2. value P below e s2) s1) (λ s1. arms P below S vs rest s1) s
 
@@ -91,7 +91,7 @@ unfoldable mutual
 
 -- where so many turns may be nested
 unfoldable pub level : Functions → ℕ → Meaning
-level P zero e s = stops [] End.Running
+level P zero e s = stops [] running
 level P (suc n) e s = value P (level P n) e s
 
 abbrev pub called : Functions → ℕ → ℕ → List Value → State → Result ℕ Value

@@ -8,8 +8,8 @@ use Rattle.rx_tree.specs.declared.tree.BinaryOp.{BinaryOp}
 use Rattle.rx_typed.specs.Tree.{Temporary, Place, negation, own, under, temporary_at}
 use Rattle.rx_lower_walks.specs.Matching.{has_tag}
 use Rattle.rx_lower_walks.specs.Actions.{Read, Write, Borrow, Test}
-use Rattle.rx_meaning.specs.declared.outcome.End.{End}
 use Rattle.rx_meaning.specs.declared.outcome.Trap.{Trap}
+use Rattle.rx_meaning.specs.Endings.{wrong, lacks, astray, immutable, mistyped}
 use Rattle.rx_meaning.specs.Values.{Value, number, truth, whole, tagged, pointer, lacking, unset, no_value, value_and, unit_value, State}
 use Rattle.rx_meaning.specs.Results.{gives, ends}
 use Rattle.rx_meaning.specs.Operators.{traps, least, greatest, compute, make, shown}
@@ -86,10 +86,10 @@ half_set = whole (value_and one (value_and (lacking unset) no_value))
 abbrev first_of : List Step → Place
 first_of ss = under (own 0) ss
 
-never_written : does_plainly (Read false (own 0) into) [] (having (lacking unset ∷ [])) ≡ ends [] End.Wrong
+never_written : does_plainly (Read false (own 0) into) [] (having (lacking unset ∷ [])) ≡ ends [] (wrong lacks)
 never_written = refl
 
-part_not_written : does_plainly (Read false (own 0) into) [] (having (half_set ∷ [])) ≡ ends [] End.Wrong
+part_not_written : does_plainly (Read false (own 0) into) [] (having (half_set ∷ [])) ≡ ends [] (wrong lacks)
 unfolding half_set
 part_not_written = refl
 
@@ -98,34 +98,54 @@ borrowed : does_plainly (Borrow false (own 0) into) [] (having (half_set ∷ [])
 unfolding half_set
 borrowed = refl
 
-nothing_tested : does_plainly (Test (own 0) (has_tag 0)) [] (having (lacking unset ∷ [])) ≡ ends [] End.Wrong
+nothing_tested : does_plainly (Test (own 0) (has_tag 0)) [] (having (lacking unset ∷ [])) ≡ ends [] (wrong lacks)
 nothing_tested = refl
 
-into_nothing : does_plainly (Borrow false (first_of (step.Field 0 ∷ [])) into) [] (having (lacking unset ∷ [])) ≡ ends [] End.Wrong
+into_nothing : does_plainly (Borrow false (first_of (step.Field 0 ∷ [])) into) [] (having (lacking unset ∷ [])) ≡ ends [] (wrong lacks)
 into_nothing = refl
 
 other_part_written : does_plainly (Read false (first_of (step.Field 0 ∷ [])) into) [] (having (half_set ∷ [])) ≡ gives [] one (having (half_set ∷ []))
 unfolding half_set
 other_part_written = refl
 
-other_variant : does_plainly (Read false (first_of (step.Variant 1 ∷ step.Field 0 ∷ [])) into) [] (having (tagged 0 (value_and one no_value) ∷ [])) ≡ ends [] End.Wrong
+other_variant : does_plainly (Read false (first_of (step.Variant 1 ∷ step.Field 0 ∷ [])) into) [] (having (tagged 0 (value_and one no_value) ∷ [])) ≡ ends [] (wrong astray)
 other_variant = refl
 
 its_variant : does_plainly (Read false (first_of (step.Variant 0 ∷ step.Field 0 ∷ [])) into) [] (having (tagged 0 (value_and one no_value) ∷ []))
     ≡ gives [] one (having (tagged 0 (value_and one no_value) ∷ []))
 its_variant = refl
 
+-- a test of a value of another form
+tag_of_a_number : does_plainly (Test (own 0) (has_tag 1)) [] (having (one ∷ [])) ≡ ends [] (wrong mistyped)
+tag_of_a_number = refl
+
+-- a reference to what was never written leads to nothing to read; one that is no reference leads nowhere
+behind_a_reference : does_plainly (Read false (first_of (step.Deref false ∷ [])) into) [] (having (pointer 1 [] false ∷ lacking unset ∷ [])) ≡ ends [] (wrong lacks)
+behind_a_reference = refl
+
+behind_a_number : does_plainly (Read false (first_of (step.Deref false ∷ [])) into) [] (having (one ∷ [])) ≡ ends [] (wrong astray)
+behind_a_number = refl
+
 tag_tested : does_plainly (Test (own 0) (has_tag 1)) [] (having (tagged 0 no_value ∷ [])) ≡ gives [] (truth false) (having (tagged 0 no_value ∷ []))
 tag_tested = refl
 
-through_shared : does_plainly (Write (first_of (step.Deref false ∷ [])) into []) (one ∷ []) (having (pointer 1 [] false ∷ truth true ∷ [])) ≡ ends [] End.Wrong
+through_shared : does_plainly (Write (first_of (step.Deref false ∷ [])) into []) (one ∷ []) (having (pointer 1 [] false ∷ truth true ∷ [])) ≡ ends [] (wrong immutable)
 through_shared = refl
 
 -- a mutable reference behind a shared one
 through_both : does_plainly (Write (first_of (step.Deref false ∷ step.Deref true ∷ [])) into []) (one ∷ []) (having (pointer 1 [] false ∷ pointer 2 [] true ∷ truth true ∷ []))
-    ≡ ends [] End.Wrong
+    ≡ ends [] (wrong immutable)
 through_both = refl
 
 through_mutable : does_plainly (Write (first_of (step.Deref true ∷ [])) into []) (one ∷ []) (having (pointer 1 [] true ∷ truth true ∷ []))
     ≡ gives [] unit_value (having (pointer 1 [] true ∷ one ∷ []))
 through_mutable = refl
+
+-- a mutable reference that is asked for behind a shared one is shared, and one behind a mutable one is that one
+borrowed_behind_shared : does_plainly (Borrow true (first_of (step.Deref false ∷ [])) into) [] (having (pointer 1 [] false ∷ one ∷ []))
+    ≡ gives [] (pointer 1 [] false) (having (pointer 1 [] false ∷ one ∷ []))
+borrowed_behind_shared = refl
+
+borrowed_again : does_plainly (Borrow true (first_of (step.Deref true ∷ [])) into) [] (having (pointer 1 [] true ∷ one ∷ []))
+    ≡ gives [] (pointer 1 [] true) (having (pointer 1 [] true ∷ one ∷ []))
+borrowed_again = refl

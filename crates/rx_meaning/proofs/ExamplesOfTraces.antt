@@ -9,6 +9,7 @@ use Rattle.rx_lower_walks.proofs.ProgramsOfTypes.{shapes_functions, shapes_size}
 use Rattle.rx_lower_walks.proofs.Examples.{product_actions, half_actions, half_returning, gate_actions, steps_actions, size_actions}
 use Rattle.rx_meaning.specs.Values.{Value, number, truth, whole, tagged, pointer, no_value, value_and, new_frame, State}
 use Rattle.rx_meaning.specs.Results.{after, bind, result_of}
+use Rattle.rx_meaning.specs.Acting.{plainly}
 use Rattle.rx_meaning.specs.Patterns.{decided, tested, closed, took, bound, begun}
 use Rattle.rx_meaning.specs.Expressions.{Functions, take_turn, passed, returned, with_arguments, activation, value, below_level}
 use Rattle.rx_meaning.specs.Telling.{told, telling, told_by}
@@ -17,7 +18,7 @@ abbrev from : List Value → List ℤ → State
 from M given = record { memory = M; frame = new_frame 0; input = given; turns = 9 }
 
 abbrev performs : Functions → Function → List Value → State → List Action
-performs P f vs s = told_by (activation telling (below_level telling P 9) f vs s)
+performs P f vs s = told_by (activation (telling plainly) (below_level (telling plainly) P 9) f vs s)
 
 product_performs : performs product_functions product_main [] (from [] []) ≡ product_actions
 unfolding value below_level digits after bind result_of decided tested closed took bound begun take_turn passed returned with_arguments told

@@ -1,16 +1,18 @@
 -- What a run tells is a walk: the steps of the meaning against the forms of orders.
 use Rattle.std.proofs.Common.{◌≡◌, ℕ, zero, suc, Bool, true, false, nat_eq, List, [], ◌∷◌, ◌++◌, Option, Some, None, refl, sym, subst, eqb-true, if◌then◌else◌}
+use Rattle.std.proofs.lemmas.List.{append-nil}
 use Rattle.std.proofs.lemmas.Bool.{eqb-false}
 use Rattle.rx_typed.specs.Tree.{Function}
 use Rattle.rx_lower_walks.specs.Matching.{PartTest, Binding}
-use Rattle.rx_lower_walks.specs.Actions.{Act, Action, does, Subject, taken}
+use Rattle.rx_lower_walks.specs.Actions.{Act, Dead, Action, does, Subject, taken}
 use Rattle.rx_lower_walks.specs.Orders as order
-use Rattle.rx_lower_walks.specs.Orders.{Exit, breaks, continues, returns, Order, perhaps, binding, declaring, testing}
+use Rattle.rx_lower_walks.specs.Orders.{Exit, breaks, continues, returns, exit_node, Order, perhaps, binding, declaring, testing}
 use Rattle.rx_lower_walks.specs.Walks as walk
 use Rattle.rx_lower_walks.specs.Walks.{Walk, Passed}
-use Rattle.rx_meaning.specs.declared.outcome.End.{End}
+use Rattle.rx_meaning.specs.Endings.{Ending}
 use Rattle.rx_meaning.specs.Values.{Value, truth, unit_value, Frame, State}
 use Rattle.rx_meaning.specs.Results.{Done, gives, ends, Result, on, jumps, stops, after, bind, result_of}
+use Rattle.rx_meaning.specs.Acting.{Acting}
 use Rattle.rx_meaning.specs.Patterns.{decided, tested, closed, took, bound, begun}
 use Rattle.rx_meaning.specs.Expressions.{turn_at, take_turn, passed_by, passed, returned, found}
 use Rattle.rx_meaning.specs.Telling.{told, telling, told_by, out_of}
@@ -19,7 +21,7 @@ use Rattle.rx_meaning.specs.Telling.{told, telling, told_by, out_of}
 pub data Follows {A : Type 0} (W : Order) : Result Action A → Type 0 where
   goes_on : {w : List Action} {a : A} {s : State} → Walk W w walk.on → Follows W (on w a s)
   goes_out : {w : List Action} {x : Exit} {v : Value} {s : State} → Walk W w (walk.leaves x) → Follows W (jumps w x v s)
-  goes_no_further : {w : List Action} {e : End} → Walk W w walk.stopped → Follows W (stops w e)
+  goes_no_further : {w : List Action} {e : Ending} → Walk W w walk.stopped → Follows W (stops w e)
 
 pub walk_of : {A : Type 0} (W : Order) (r : Result Action A) → Follows W r → Walk W (told_by r) (out_of r)
 walk_of W _ (goes_on h) = h
@@ -40,47 +42,55 @@ then_goes {V = V} {W = W} (goes_on h) k = goes_after V W _ _ h (k _ _)
 then_goes (goes_out h) k = goes_out (walk.first tt h)
 then_goes (goes_no_further h) k = goes_no_further (walk.first tt h)
 
-pub performs : (a : Action) (r : Done ℕ) → Follows (order.act a) (result_of (told a r))
+pub performs : {E : Type 0} (a : Action) (r : Done E) → Follows (order.act a) (result_of (told a r))
 unfolding told result_of
 performs a (gives w v s) = goes_on walk.acts
 performs a (ends w e) = goes_no_further (walk.stops walk.acts)
 
-pub nil_right : {A : Type 0} (w : List A) → w ++ [] ≡ w
-nil_right [] = refl
-nil_right (a ∷ w) = rw (nil_right w)
-
 -- another value in place of what a part gave
 pub maps : {A B : Type 0} (W : Order) (f : A → B) (r : Result Action A) → Follows W r → Follows W (bind r (λ a s. on [] (f a) s))
 unfolding bind after
-maps W f _ (goes_on h) = goes_on (subst (λ u. Walk W u walk.on) (sym (nil_right _)) h)
+maps W f _ (goes_on h) = goes_on (subst (λ u. Walk W u walk.on) (sym (append-nil _)) h)
 maps W f _ (goes_out h) = goes_out h
 maps W f _ (goes_no_further h) = goes_no_further h
 
 -- ---- variables and patterns
 
-pub ending_goes : {W : Order} {n x : ℕ} {r : Result Action Value} → Follows W r → Follows (order.ending n x W) (closed telling n x r)
-unfolding closed bind after told result_of
-ending_goes (goes_on h) = goes_on (walk.ends h)
-ending_goes (goes_out h) = goes_out (walk.jumps h)
-ending_goes (goes_no_further h) = goes_no_further (walk.halts h)
+ended_goes : {E : Type 0} {W : Order} {n x : ℕ} (w : List Action) (v : Value) (d : Done E) → Walk W w walk.on
+    → Follows (order.ending n x W) (after w (bind (result_of (told (does n (Dead x)) d)) (λ u s1. on [] v s1)))
+unfolding bind after told result_of
+ended_goes w v (gives u z s) h = goes_on (walk.ends h)
+ended_goes w v (ends u e) h = goes_no_further (walk.stops (walk.ends h))
 
-took_goes : (n : ℕ) (a : Option Act) (vs : List Value) (s : State) → Follows (perhaps n a) (took telling n a vs s)
+jumped_goes : {E : Type 0} {W : Order} {n x : ℕ} (w : List Action) (j : Exit) (v : Value) (d : Done E) → Walk W w (walk.leaves j)
+    → Follows {A = Value} (order.ending n x W) (after w (bind (result_of (told (does (exit_node j) (Dead x)) d)) (λ u s1. jumps [] j v s1)))
+unfolding bind after told result_of
+jumped_goes w j v (gives u z s) h = goes_out (walk.jumps h)
+jumped_goes w j v (ends u e) h = goes_no_further (walk.stops (walk.jumps h))
+
+pub ending_goes : {E : Type 0} (A : Acting E) {W : Order} {n x : ℕ} {r : Result Action Value} → Follows W r → Follows (order.ending n x W) (closed (telling A) n x r)
+unfolding closed
+ending_goes A (goes_on h) = ended_goes _ _ (A.perform _ [] _) h
+ending_goes A (goes_out h) = jumped_goes _ _ _ (A.perform _ [] _) h
+ending_goes A (goes_no_further h) = goes_no_further (walk.halts h)
+
+took_goes : {E : Type 0} (A : Acting E) (n : ℕ) (a : Option Act) (vs : List Value) (s : State) → Follows (perhaps n a) (took (telling A) n a vs s)
 unfolding took
-took_goes n None vs s = goes_on walk.nothing
-took_goes n (Some a) vs s = maps (order.act (does n a)) (λ v. v ∷ []) _ (performs _ _)
+took_goes A n None vs s = goes_on walk.nothing
+took_goes A n (Some a) vs s = maps (order.act (does n a)) (λ v. v ∷ []) _ (performs _ _)
 
-pub bound_goes : {W : Order} (S : Subject) (vs : List Value) (bs : List Binding) (n : ℕ) (go : State → Result Action Value) (s : State)
-    → ((s1 : State) → Follows W (go s1)) → Follows (binding S bs n W) (bound telling S vs bs n go s)
+pub bound_goes : {E : Type 0} (A : Acting E) {W : Order} (S : Subject) (vs : List Value) (bs : List Binding) (n : ℕ) (go : State → Result Action Value) (s : State)
+    → ((s1 : State) → Follows W (go s1)) → Follows (binding S bs n W) (bound (telling A) S vs bs n go s)
 unfolding bound
-bound_goes S vs [] n go s h = h s
-bound_goes S vs (b ∷ bs) n go s h =
-    then_goes (took_goes b.node (taken S b) vs s) (λ ws s1. then_goes (performs _ _) (λ u s2. then_goes (performs _ _) (λ w s3. ending_goes (bound_goes S vs bs n go s3 h))))
+bound_goes A S vs [] n go s h = h s
+bound_goes A S vs (b ∷ bs) n go s h =
+    then_goes (took_goes A b.node (taken S b) vs s) (λ ws s1. then_goes (performs _ _) (λ u s2. then_goes (performs _ _) (λ w s3. ending_goes A (bound_goes A S vs bs n go s3 h))))
 
-pub begun_goes : {W : Order} (i : ℕ) (xs : List ℕ) (n : ℕ) (go : State → Result Action Value) (s : State)
-    → ((s1 : State) → Follows W (go s1)) → Follows (declaring i xs n W) (begun telling i xs n go s)
+pub begun_goes : {E : Type 0} (A : Acting E) {W : Order} (i : ℕ) (xs : List ℕ) (n : ℕ) (go : State → Result Action Value) (s : State)
+    → ((s1 : State) → Follows W (go s1)) → Follows (declaring i xs n W) (begun (telling A) i xs n go s)
 unfolding begun
-begun_goes i [] n go s h = h s
-begun_goes i (x ∷ xs) n go s h = then_goes (performs _ _) (λ u s1. ending_goes (begun_goes i xs n go s1 h))
+begun_goes A i [] n go s h = h s
+begun_goes A i (x ∷ xs) n go s h = then_goes (performs _ _) (λ u s1. ending_goes A (begun_goes A i xs n go s1 h))
 
 pub in_first : {V W : Order} {r : Result Action Value} → Follows V r → Follows (order.or V W) r
 in_first (goes_on h) = goes_on (walk.one h)
@@ -131,7 +141,7 @@ choice_goes (truth true) go other s h k = held_goes _ (h s)
 choice_goes (truth false) go other s h k = failed_goes _ (k s)
 choice_goes _ go other s h k = goes_no_further (walk.stops (walk.holds tt (walk.both walk.acts walk.rests)))
 
-test_goes : {a : Action} {V N : Order} (r : Done ℕ) (go other : State → Result Action Value)
+test_goes : {E : Type 0} {a : Action} {V N : Order} (r : Done E) (go other : State → Result Action Value)
     → ((s1 : State) → Follows (order.otherwise V N) (go s1)) → ((s1 : State) → Follows N (other s1))
     → Follows (Tested a V N) (bind (result_of (told a r)) (λ v s1. decided v go other s1))
 unfolding told bind result_of
@@ -143,11 +153,11 @@ stays (goes_on h) = goes_on (walk.holds tt h)
 stays (goes_out h) = goes_out (walk.holds tt h)
 stays (goes_no_further h) = goes_no_further (walk.holds tt h)
 
-pub tested_goes : {W N : Order} (S : Subject) (vs : List Value) (ts : List PartTest) (go next : State → Result Action Value) (s : State)
-    → ((s1 : State) → Follows W (go s1)) → ((s1 : State) → Follows N (next s1)) → Follows (order.otherwise (testing S ts W) N) (tested telling S vs ts go next s)
+pub tested_goes : {E : Type 0} (A : Acting E) {W N : Order} (S : Subject) (vs : List Value) (ts : List PartTest) (go next : State → Result Action Value) (s : State)
+    → ((s1 : State) → Follows W (go s1)) → ((s1 : State) → Follows N (next s1)) → Follows (order.otherwise (testing S ts W) N) (tested (telling A) S vs ts go next s)
 unfolding tested
-tested_goes S vs [] go other s h k = stays (h s)
-tested_goes S vs (t ∷ ts) go other s h k = test_goes _ (λ s2. tested telling S vs ts go other s2) other (λ s2. tested_goes S vs ts go other s2 h k) k
+tested_goes A S vs [] go other s h k = stays (h s)
+tested_goes A S vs (t ∷ ts) go other s h k = test_goes _ (λ s2. tested (telling A) S vs ts go other s2) other (λ s2. tested_goes A S vs ts go other s2 h k) k
 
 -- ---- loops
 
@@ -182,15 +192,15 @@ loop_goes l _ again (goes_no_further h) k = goes_no_further (walk.last h walk.by
 
 pub data Quiet : Result Action Value → Type 0 where
   quiet_on : {v : Value} {s : State} → Quiet (on [] v s)
-  quiet_stop : {e : End} → Quiet (stops [] e)
+  quiet_stop : {e : Ending} → Quiet (stops [] e)
 
-pub call_quiet : (F : Frame) (r : Result Action Value) → Quiet (returned telling F r)
+pub call_quiet : {E : Type 0} (A : Acting E) (F : Frame) (r : Result Action Value) → Quiet (returned (telling A) F r)
 unfolding returned
-call_quiet F (on w v s) = quiet_stop
-call_quiet F (jumps w (breaks n k) v s) = quiet_stop
-call_quiet F (jumps w (continues n k) v s) = quiet_stop
-call_quiet F (jumps w (returns n) v s) = quiet_on
-call_quiet F (stops w e) = quiet_stop
+call_quiet A F (on w v s) = quiet_stop
+call_quiet A F (jumps w (breaks n k) v s) = quiet_stop
+call_quiet A F (jumps w (continues n k) v s) = quiet_stop
+call_quiet A F (jumps w (returns n) v s) = quiet_on
+call_quiet A F (stops w e) = quiet_stop
 
 pub turn_quiet : (s : State) (go : State → Result Action Value) → ((s1 : State) → Quiet (go s1)) → Quiet (take_turn s go)
 unfolding take_turn

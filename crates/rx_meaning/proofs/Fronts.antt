@@ -1,5 +1,6 @@
 -- What a part told is a front of what it tells with what follows.
 use Rattle.std.proofs.Common.{◌≡◌, ℕ, nat_eq, Bool, true, false, List, [], ◌∷◌, ◌++◌, refl, sym, ap, ◌∙◌, append_assoc, if◌then◌else◌}
+use Rattle.std.proofs.lemmas.List.{append-nil}
 use Rattle.rx_lower_walks.specs.Orders.{breaks, continues, returns}
 use Rattle.rx_meaning.specs.Values.{Value, unit_value, Frame, State}
 use Rattle.rx_meaning.specs.Results.{Result, on, jumps, stops, after, bind}
@@ -9,12 +10,8 @@ use Rattle.rx_meaning.specs.Expressions.{passed, returned}
 use Rattle.rx_meaning.specs.Programs.{IsFront}
 use Rattle.rx_meaning.specs.Telling.{told_by}
 
-pub nil_right : {A : Type 0} (w : List A) → w ++ [] ≡ w
-nil_right [] = refl
-nil_right (a ∷ w) = rw (nil_right w)
-
 pub front_self : {A : Type 0} (w : List A) → IsFront w w
-front_self w = ([], sym (nil_right w))
+front_self w = ([], sym (append-nil w))
 
 pub front_more : {A : Type 0} (o w x : List A) → IsFront o w → IsFront o (w ++ x)
 front_more o w x h = (h.0 ++ x, ap (λ l. l ++ x) h.1 ∙ append_assoc o h.0 x)

@@ -1,7 +1,9 @@
 pub mod Following
 pub mod RunsFollow
 pub mod ActingAlike
+pub mod Told
 pub mod Fronts
+pub mod Sequences
 pub mod Turns
 pub mod Blind
 pub mod MoreTurns

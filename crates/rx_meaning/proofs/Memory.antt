@@ -2,6 +2,7 @@
 use Rattle.std.proofs.Common.{◌≡◌, ℕ, zero, suc, ◌≤◌, true, false, List, [], ◌∷◌, length, Option, Some, None, refl, ap, subst, sym, ◌∙◌, arith, le_refl, ℤ, length-append}
 use Rattle.rx_typed.specs.Tree.{Function}
 use Rattle.rx_lower_walks.specs.Actions.{Act, Declare, Dead, Read, Write, Borrow, Test, Call, Build, Input, Print, Give}
+use Rattle.rx_meaning.specs.Endings.{Cause}
 use Rattle.rx_meaning.specs.Values.{Value, lacking, unset, get, put, element, with_element, State, and_then}
 use Rattle.rx_meaning.specs.Results.{Done, or_ends, Leaves}
 use Rattle.rx_meaning.specs.Places.{Spot, in_slot, in_value, spot, found, whole_value, reference_to, after_write}
@@ -21,9 +22,9 @@ abbrev pub Has : ℕ → State → Type 0
 Has n s = n ≤ length s.memory
 
 module _ (n : ℕ) where
-  or_has : {A : Type 0} (o : Option A) (go : A → Done ℕ) → ((a : A) → o ≡ Some a → DoneLeaves (Has n) (go a)) → DoneLeaves (Has n) (or_ends o go)
-  or_has None go k = tt
-  or_has (Some a) go k = k a refl
+  or_has : {A : Type 0} (c : Cause) (o : Option A) (go : A → Done ℕ) → ((a : A) → o ≡ Some a → DoneLeaves (Has n) (go a)) → DoneLeaves (Has n) (or_ends c o go)
+  or_has c None go k = tt
+  or_has c (Some a) go k = k a refl
 
   some_length : (v : Value) (M N : List Value) (i : ℕ) (ss : _) → and_then (element M i) (λ u. and_then (put ss v u) (λ x. Some (with_element M i x))) ≡ Some N → length N ≡ length M
   some_length v M N i ss e = by (element M i) e
@@ -53,18 +54,18 @@ module _ (n : ℕ) where
   does_has : (a : Act) (vs : List Value) (s : State) → Has n s → DoneLeaves (Has n) (does_plainly a vs s)
   does_has (Declare x) vs s h = let e = length-append s.memory (lacking unset ∷ []) in omega (arith, e, h)
   does_has (Dead x) vs s h = h
-  does_has (Read m p d) vs s h = or_has (found p vs s) _ (λ f e. or_has (whole_value f) _ (λ v e. h))
+  does_has (Read m p d) vs s h = or_has _ (found p vs s) _ (λ f e. or_has _ (whole_value f) _ (λ v e. h))
   does_has (Write p t ss) [] s h = tt
   does_has (Write p t ss) (v ∷ []) s h =
-      or_has (get ss v) _ (λ u e. or_has (spot p [] s) _ (λ at e. or_has (after_write u s.memory at) _ (λ M e. subst (λ k. n ≤ k) (sym (written_length u s.memory M at e)) h)))
+      or_has _ (get ss v) _ (λ u e. or_has _ (spot p [] s) _ (λ at e. or_has _ (after_write u s.memory at) _ (λ M e. subst (λ k. n ≤ k) (sym (written_length u s.memory M at e)) h)))
   does_has (Write p t ss) (v ∷ w ∷ vs) s h = tt
-  does_has (Borrow k p d) vs s h = or_has (found p vs s) _ (λ f e. or_has (reference_to k f.0) _ (λ v e. h))
-  does_has (Test p c) vs s h = or_has (found p vs s) _ (λ f e. or_has (checked c f.1) _ (λ b e. h))
+  does_has (Borrow k p d) vs s h = or_has _ (found p vs s) _ (λ f e. or_has _ (reference_to k f.0) _ (λ v e. h))
+  does_has (Test p c) vs s h = or_has _ (found p vs s) _ (λ f e. or_has _ (checked c f.1) _ (λ b e. h))
   does_has (Call f ts d) vs s h = h
   does_has (Build w js ts d) vs s h = computed_has (make w js vs) s h
   does_has (Input d) vs s h = input_has s.input s h
   does_has (Print t) [] s h = tt
-  does_has (Print t) (v ∷ []) s h = or_has (shown v) _ (λ bytes e. h)
+  does_has (Print t) (v ∷ []) s h = or_has _ (shown v) _ (λ bytes e. h)
   does_has (Print t) (v ∷ w ∷ vs) s h = tt
   does_has (Give t) [] s h = tt
   does_has (Give t) (v ∷ []) s h = h

@@ -5,7 +5,7 @@ use Rattle.rx_typed.specs.Tree.{Parameter, Function}
 use Rattle.rx_lower_walks.specs.Matching.{PartTest, Binding}
 use Rattle.rx_lower_walks.specs.Actions.{Act, Dead, Action, does, Subject, taken}
 use Rattle.rx_lower_walks.specs.Orders.{Exit, breaks, continues, returns, exit_node}
-use Rattle.rx_meaning.specs.declared.outcome.End.{End}
+use Rattle.rx_meaning.specs.Endings.{Ending, running}
 use Rattle.rx_meaning.specs.Values.{Value, number, truth, whole, tagged, pointer, lacking, Frame, State, with_turns}
 use Rattle.rx_meaning.specs.Results as results
 use Rattle.rx_meaning.specs.Results.{Done, gives, Result, on, jumps, stops, after, bind, result_of}
@@ -33,7 +33,7 @@ MayStop longer = Unit {0}
 
 pub data SameDone {E : Type 0} (t u : ℕ) : Done E → Done E → Type 0 where
   gave : {w : List E} {v : Value} {s : State} → s.turns ≡ t → SameDone t u (gives w v s) (gives w v (with_turns s u))
-  ended : {w : List E} {e : End} → SameDone t u (results.ends w e) (results.ends w e)
+  ended : {w : List E} {e : Ending} → SameDone t u (results.ends w e) (results.ends w e)
 
 pub record IsBlind {E : Type 0} (A : Acting E) : Type 0 where
   pub performs : (a : Action) (vs : List Value) (s : State) (u : ℕ) → SameDone s.turns u (A.perform a vs s) (A.perform a vs (with_turns s u))
@@ -43,8 +43,8 @@ pub record IsBlind {E : Type 0} (A : Acting E) : Type 0 where
 pub data Later {E A : Type 0} (d : Compared) (t0 u0 : ℕ) : Result E A → Result E A → Type 0 where
   both_on : {o : List E} {a : A} {s : State} (u : ℕ) → Turns d s.turns u → s.turns ≤ t0 → u ≤ u0 → Later d t0 u0 (on o a s) (on o a (with_turns s u))
   both_jump : {o : List E} {x : Exit} {v : Value} {s : State} (u : ℕ) → Turns d s.turns u → s.turns ≤ t0 → u ≤ u0 → Later d t0 u0 (jumps o x v s) (jumps o x v (with_turns s u))
-  both_stop : {o : List E} {e : End} → Later d t0 u0 (stops o e) (stops o e)
-  cut : {o : List E} {r : Result E A} → MayStop d → IsFront o (told_by r) → Later d t0 u0 (stops o End.Running) r
+  both_stop : {o : List E} {e : Ending} → Later d t0 u0 (stops o e) (stops o e)
+  cut : {o : List E} {r : Result E A} → MayStop d → IsFront o (told_by r) → Later d t0 u0 (stops o running) r
 
 -- what follows, from each state with no more turns
 abbrev pub Ready : {E A : Type 0} → Compared → ℕ → ℕ → (State → Result E A) → (State → Result E A) → Type 0

@@ -6,7 +6,7 @@ use Rattle.rx_typed.specs.Tree as tree
 use Rattle.rx_lower_walks.specs.Matching.{equals, tests, bindings}
 use Rattle.rx_lower_walks.specs.Actions.{Read, Write, Borrow, Test, Call, Build, Input, Print, Give, at_mark, Subject, subject}
 use Rattle.rx_lower_walks.specs.Orders.{Exit, breaks, continues, returns, exit, declared_parameter, written_parameter}
-use Rattle.rx_meaning.specs.declared.outcome.End.{End}
+use Rattle.rx_meaning.specs.Endings.{running, wrong, mistyped, missing_function, missing_arm, missing_value}
 use Rattle.rx_meaning.specs.Values.{Value, unit_value, element, Frame, new_frame, State, with_turns}
 use Rattle.rx_meaning.specs.Results.{Result, on, jumps, stops, after, bind}
 use Rattle.rx_meaning.specs.Acting.{Acting, performed}
@@ -24,7 +24,7 @@ Meaning E = Exp → Temporary → State → Result E Value
 
 -- one turn, unless none is left
 abbrev pub turn_at : {E A : Type 0} → ℕ → State → (State → Result E A) → Result E A
-turn_at zero s go = stops [] End.Running
+turn_at zero s go = stops [] running
 turn_at (suc n) s go = go (with_turns s n)
 
 unfoldable pub take_turn : {E A : Type 0} → State → (State → Result E A) → Result E A
@@ -48,10 +48,10 @@ passed l (stops w e) again = stops w e
 -- a body leaves by giving; then the caller's frame is the one again
 abbrev pub back_in : {E : Type 0} → Frame → List E → Exit → Value → State → Result E Value
 back_in F w (returns n) v s = on w v (record s { frame = F })
-back_in F w _ v s = stops w End.Wrong
+back_in F w _ v s = stops w (wrong missing_value)
 
 unfoldable pub returned : {E : Type 0} → Acting E → Frame → Result E Value → Result E Value
-returned A F (on w v s) = stops (A.inner w) End.Wrong
+returned A F (on w v s) = stops (A.inner w) (wrong missing_value)
 returned A F (jumps w x v s) = back_in F (A.inner w) x v s
 returned A F (stops w e) = stops (A.inner w) e
 
@@ -60,7 +60,7 @@ with_arguments A [] n [] go s = go s
 with_arguments A (p ∷ ps) n (v ∷ vs) go s =
     bind (performed A (declared_parameter p) [] s) (λ u s1. bind (performed A (written_parameter p) (v ∷ []) s1) (λ w s2.
     closed A n p.variable (with_arguments A ps n vs go s2)))
-with_arguments A _ n _ go s = stops [] End.Wrong
+with_arguments A _ n _ go s = stops [] (wrong mistyped)
 
 abbrev pub activation : {E : Type 0} → Acting E → Meaning E → Function → List Value → State → Result E Value
 activation A below f vs s = with_arguments A f.params (mark_of f.body).node vs (λ s1. below f.body (temporary_of f.body) s1) s
@@ -71,7 +71,7 @@ entered A below i f vs s = returned A s.frame (activation A below f vs (record s
 
 abbrev pub found : {E : Type 0} → Option (Option Function) → (Function → Result E Value) → Result E Value
 found (Some (Some f)) go = go f
-found _ go = stops [] End.Wrong
+found _ go = stops [] (wrong missing_function)
 
 -- ---- the bodies of called functions and the passes of loops have the meaning below
 
@@ -135,7 +135,7 @@ unfoldable mutual
 
   -- the first arm whose tests hold
   pub arms : {E : Type 0} → Acting E → Functions → Meaning E → Subject → List Value → Arms → Temporary → State → Result E Value
-  arms A P below S vs no_arm d s = stops [] End.Wrong
+  arms A P below S vs no_arm d s = stops [] (wrong missing_arm)
   arms A P below S vs (arm_and p e rest) d s =
       tested A S vs (tests [] p) (λ s1. bound A S vs (bindings [] p) (mark_of e).node (λ s2. value A P below e d s2) s1)
       (λ s1. arms A P below S vs rest d s1) s
@@ -150,7 +150,7 @@ unfoldable mutual
 
 -- the meaning where so many turns may be nested
 unfoldable pub below_level : {E : Type 0} → Acting E → Functions → ℕ → Meaning E
-below_level A P zero e d s = stops [] End.Running
+below_level A P zero e d s = stops [] running
 below_level A P (suc n) e d s = value A P (below_level A P n) e d s
 
 -- a call of the function of an item

@@ -3,7 +3,8 @@ use Rattle.std.specs.Prelude.{ℕ, true, false, List, [], ◌∷◌, Option, Som
 use Rattle.rx_lower_walks.specs.Matching.{PartTest, Binding}
 use Rattle.rx_lower_walks.specs.Actions.{Act, Declare, Dead, does, Subject, test_of, taken, declared, written}
 use Rattle.rx_lower_walks.specs.Orders.{exit_node}
-use Rattle.rx_meaning.specs.declared.outcome.End.{End}
+use Rattle.rx_meaning.specs.Endings.{wrong}
+use Rattle.rx_meaning.specs.Straying.{why_not_checked}
 use Rattle.rx_meaning.specs.Values.{Value, truth, State}
 use Rattle.rx_meaning.specs.Results.{Result, on, jumps, stops, after, bind}
 use Rattle.rx_meaning.specs.Acting.{Acting, performed}
@@ -12,7 +13,7 @@ use Rattle.rx_meaning.specs.Acting.{Acting, performed}
 unfoldable pub decided : {E : Type 0} → Value → (State → Result E Value) → (State → Result E Value) → State → Result E Value
 decided (truth true) go other s = go s
 decided (truth false) go other s = other s
-decided _ go other s = stops [] End.Wrong
+decided v go other s = stops [] (wrong (why_not_checked v))
 
 -- the tests of an arm, from left to right: goes on where all hold, and else to the next arm
 unfoldable pub tested : {E : Type 0} → Acting E → Subject → List Value → List PartTest → (State → Result E Value) → (State → Result E Value)

@@ -54,9 +54,10 @@ found p vs s = and_then (spot p vs s) (λ at. and_then (content s.memory at) (λ
 abbrev pub whole_value : Spot × Value → Option Value
 whole_value f = if is_set f.1 then Some f.1 else None
 
--- a reference to a place; none leads into a temporary
+-- A reference to a place: it is mutable where it is asked to be and the place may be written, so that nothing behind a shared
+-- reference is written by way of another. None leads into a temporary.
 abbrev pub reference_to : Bool → Spot → Option Value
-reference_to k (in_slot i p w) = Some (pointer i p k)
+reference_to k (in_slot i p w) = Some (pointer i p (k && w))
 reference_to k (in_value v) = None
 
 -- the memory after a write; nothing is written through a shared reference

@@ -8,6 +8,7 @@ use Rattle.rx_typed.specs.Naming.{function_named}
 use Rattle.rx_typed.specs.Tree.{Function}
 use Rattle.rx_typed.specs.Elaborated.{Assigned, elaborated}
 use Rattle.rx_meaning.specs.declared.outcome.End.{End}
+use Rattle.rx_meaning.specs.Endings.{Ending, finished, wrong, missing_value, end_of}
 use Rattle.rx_meaning.specs.declared.outcome.Outcome.{Outcome}
 use Rattle.rx_meaning.specs.Values.{Value, new_frame, State}
 use Rattle.rx_meaning.specs.Results.{Result, on, jumps, stops}
@@ -19,10 +20,17 @@ pub record Program : Type 0 where
   pub functions : Functions
   pub main : ℕ
 
+-- how a run ended, with the cause where it is Wrong
+abbrev pub ending_of : {E : Type 0} → Result E Value → Ending
+ending_of (on w v s) = finished
+ending_of (jumps w x v s) = wrong missing_value
+ending_of (stops w e) = e
+
+-- what it printed, and how it ended, without the cause
 abbrev pub outcome_of : Result ℕ Value → Outcome
-outcome_of (on w v s) = record { printed = w; end = End.Ended }
-outcome_of (jumps w x v s) = record { printed = w; end = End.Wrong }
-outcome_of (stops w e) = record { printed = w; end = e }
+outcome_of (on w v s) = record { printed = w; end = end_of finished }
+outcome_of (jumps w x v s) = record { printed = w; end = end_of (wrong missing_value) }
+outcome_of (stops w e) = record { printed = w; end = end_of e }
 
 abbrev pub begins : List ℤ → ℕ → State
 begins input n = record { memory = []; frame = new_frame 0; input = input; turns = n }
@@ -33,6 +41,9 @@ run_by A P input n = called A P.functions n P.main [] (begins input n)
 
 abbrev pub run : Program → List ℤ → ℕ → Outcome
 run P input n = outcome_of (run_by plainly P input n)
+
+abbrev pub ending : Program → List ℤ → ℕ → Ending
+ending P input n = ending_of (run_by plainly P input n)
 
 abbrev pub IsFront : {A : Type 0} → List A → List A → Type 0
 IsFront {A = A} a b = (c : List A) × (b ≡ a ++ c)

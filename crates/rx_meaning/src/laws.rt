@@ -9,24 +9,36 @@ ghost use Rattle.rx_typed.specs.Elaborated.{Assigned};
 ghost use Rattle.rx_lower_walks.specs.Orders.{order_function};
 ghost use Rattle.rx_lower_walks.specs.Walks.{Walk};
 ghost use Rattle.rx_meaning.specs.declared.outcome.Outcome.{Outcome as OutcomeOf};
+ghost use Rattle.rx_meaning.specs.Endings.{end_of};
 ghost use Rattle.rx_meaning.specs.Values.{Value, State};
 ghost use Rattle.rx_meaning.specs.Results.{Leaves};
-ghost use Rattle.rx_meaning.specs.Acting.{plainly};
+ghost use Rattle.rx_meaning.specs.Acting.{Acting, plainly};
 ghost use Rattle.rx_meaning.specs.Expressions.{Functions, activation, below_level, called};
-ghost use Rattle.rx_meaning.specs.Programs.{Program, run, UpTo, typed_program};
-ghost use Rattle.rx_meaning.specs.Telling.{telling, told_by, out_of, Alike};
+ghost use Rattle.rx_meaning.specs.Programs.{Program, run, run_by, ending, UpTo, typed_program};
+ghost use Rattle.rx_meaning.specs.Telling.{telling, fully, acted, told_by, out_of, Alike, Anything, SameSaid, SameActions};
 
-/// The actions that an activation performs are those of a walk of its function, which ends as the activation does.
+/// Whichever way an activation acts, the actions that it performs are those of a walk of its function, which ends as the
+/// activation does; where they are told alone, and where they are told beside what it tells.
 pub fn runs_follow_walks()
-    ensures { (P : Functions) (n : ℕ) (f : Function) (vs : ListOf Value) (s : State)
-        → Walk (order_function f) (told_by (activation telling (below_level telling P n) f vs s))
-        (out_of (activation telling (below_level telling P n) f vs s)) }
+    ensures alone { (A : Acting ℕ) (P : Functions) (n : ℕ) (f : Function) (vs : ListOf Value) (s : State)
+        → Walk (order_function f) (told_by (activation (telling A) (below_level (telling A) P n) f vs s))
+        (out_of (activation (telling A) (below_level (telling A) P n) f vs s)) }
+    ensures beside { (A : Acting ℕ) (P : Functions) (n : ℕ) (f : Function) (vs : ListOf Value) (s : State)
+        → Walk (order_function f) (acted (told_by (activation (fully A) (below_level (fully A) P n) f vs s)))
+        (out_of (activation (fully A) (below_level (fully A) P n) f vs s)) }
 {}
 
-/// An activation that tells its actions does what the one that tells its bytes does.
-pub fn telling_is_plain()
-    ensures { (P : Functions) (n : ℕ) (f : Function) (vs : ListOf Value) (s : State)
-        → Alike (activation plainly (below_level plainly P n) f vs s) (activation telling (below_level telling P n) f vs s) }
+/// Whichever way an activation acts, telling its actions changes no value, no state and no end: `alone`, where they are told in
+/// place of what it tells. Where both are told, `beside` and in whole `runs`, what it tells is told, and the `actions` are those
+/// that are told alone.
+pub fn telling_changes_nothing()
+    ensures alone { (A : Acting ℕ) (P : Functions) (n : ℕ) (f : Function) (vs : ListOf Value) (s : State)
+        → Alike Anything (activation A (below_level A P n) f vs s) (activation (telling A) (below_level (telling A) P n) f vs s) }
+    ensures beside { (A : Acting ℕ) (P : Functions) (n : ℕ) (f : Function) (vs : ListOf Value) (s : State)
+        → Alike SameSaid (activation A (below_level A P n) f vs s) (activation (fully A) (below_level (fully A) P n) f vs s) }
+    ensures actions { (A : Acting ℕ) (P : Functions) (n : ℕ) (f : Function) (vs : ListOf Value) (s : State)
+        → Alike SameActions (activation (telling A) (below_level (telling A) P n) f vs s) (activation (fully A) (below_level (fully A) P n) f vs s) }
+    ensures runs { (A : Acting ℕ) (P : Program) (given : ListOf ℤ) (n : ℕ) → Alike SameSaid (run_by A P given n) (run_by (fully A) P given n) }
 {}
 
 /// A run with more turns is the same, or it goes on where the one with fewer was cut off.
@@ -38,6 +50,11 @@ pub fn more_turns_go_on()
 pub fn level_is_free()
     ensures { (P : Functions) (m n f : ℕ) (vs : ListOf Value) (s : State) → s.turns ≤ m → s.turns ≤ n
         → called plainly P m f vs s ≡ called plainly P n f vs s }
+{}
+
+/// An outcome ends as its run does: what is Wrong has a cause, which an outcome doesn't tell.
+pub fn outcomes_forget_causes()
+    ensures { (P : Program) (given : ListOf ℤ) (n : ℕ) → (run P given n).end ≡ end_of (ending P given n) }
 {}
 
 /// `UpTo` is reflexive and transitive.
