@@ -1,0 +1,9 @@
+pub mod Occurrences
+pub mod Diverging
+pub mod Exits
+pub mod Asked
+pub mod Plan
+pub mod Unreachable
+pub mod MixedInit
+pub mod PartlyMoved
+pub mod Shadowed
