@@ -5,3 +5,4 @@ pub mod Placing
 pub mod Programs
 pub mod Choosing
 pub mod Ways
+pub mod Forms

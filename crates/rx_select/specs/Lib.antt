@@ -2,3 +2,4 @@ pub mod Selected
 pub mod Parts
 pub mod RunOf
 pub mod OneText
+pub mod Search
