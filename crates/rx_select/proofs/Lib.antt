@@ -6,3 +6,5 @@ pub mod Programs
 pub mod Choosing
 pub mod Ways
 pub mod Forms
+pub mod Scanning
+pub mod Finding
