@@ -129,6 +129,9 @@ ending_is ts S E length from to g n (c ∷ ss) (suc k) a l x o p e q =
 
 -- ---- both
 
+same_place : (m n : ℕ) → m ≡ 0 + n → m ≡ n
+same_place m n e = omega (arith, e)
+
 pub run_says : (ts : List Tok) (S E length : ℕ) (g : Places) (ps : List Span) (i j : ℕ) → Long ts → Around ts S E length g → run_of g ps ≡ Some (i, j) → Chosen ts S E ps i j
 run_says ts S E length g ps i j n x e = by (beginning g 0 ps) (ending g 0 ps) refl refl e
   where
@@ -140,8 +143,8 @@ run_says ts S E length g ps i j n x e = by (beginning g 0 ps) (ending g 0 ps) re
         let v = ending_says g 0 ps l b in
         let u = begins_says g y.span y.has in
         let w = ends_says g v.span v.has in
-        let m : k ≡ y.place = let e = y.is in omega (arith, e) in
-        let o : l ≡ v.place = let e = v.is in omega (arith, e) in
+        let m : k ≡ y.place = same_place k y.place y.is in
+        let o : l ≡ v.place = same_place l v.place v.is in
         let P : ℕ × ℕ → Type 0 = λ r. Chosen ts S E ps r.0 r.1 in
         subst P z (record {
           a = y.span;

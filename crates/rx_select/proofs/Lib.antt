@@ -8,3 +8,4 @@ pub mod Ways
 pub mod Forms
 pub mod Scanning
 pub mod Finding
+pub mod Descending

@@ -3,3 +3,4 @@ pub mod Parts
 pub mod RunOf
 pub mod OneText
 pub mod Search
+pub mod Descent

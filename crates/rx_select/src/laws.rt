@@ -12,7 +12,7 @@ pub fn one_run()
     ensures { (bytes start end : ℕ) (ts : List Tok) (p : ProgramTree) (r q : RunPos) → OneText ts bytes p → RunOf bytes ts p start end r → RunOf bytes ts p start end q → r ≡ q }
 {}
 
-#[tactic(auto, using(crate::proofs::Finding::run_found))]
+#[tactic(auto, using(crate::proofs::Descending::fewer_below))]
 pub fn carry()
     ensures { ⊤ }
 {}
