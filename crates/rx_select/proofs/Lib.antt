@@ -5,3 +5,7 @@ pub mod Placing
 pub mod Programs
 pub mod Choosing
 pub mod Ways
+pub mod Forms
+pub mod Scanning
+pub mod Finding
+pub mod Descending

@@ -82,7 +82,7 @@ no_block_here : (n : NodeTree) (b : Body) → Bare n → Some n ≡ Some (a_bloc
 no_block_here n b h e = let q : n ≡ a_block b = cc in subst Bare q h
 
 -- a step down, where there is a child
-down : (P : Type 0) (n : NodeTree) (k : ℕ) (ks : List ℕ) (b : Body) → ((c : NodeTree) → slice_get (children n) k ≡ Some c → descend (Some c) ks ≡ Some (a_block b) → P)
+pub down : (P : Type 0) (n : NodeTree) (k : ℕ) (ks : List ℕ) (b : Body) → ((c : NodeTree) → slice_get (children n) k ≡ Some c → descend (Some c) ks ≡ Some (a_block b) → P)
     → descend (Some n) (k ∷ ks) ≡ Some (a_block b) → P
 down P n k ks b f e = by (slice_get (children n) k) refl e
   where
@@ -90,12 +90,27 @@ down P n k ks b f e = by (slice_get (children n) k) refl e
     by None q d = absurd (cc)
     by (Some c) q d = f c q d
 
-no_block : (ks : List ℕ) (n : NodeTree) (b : Body) → Bare n → descend (Some n) ks ≡ Some (a_block b) → ⊥
+pub no_block : (ks : List ℕ) (n : NodeTree) (b : Body) → Bare n → descend (Some n) ks ≡ Some (a_block b) → ⊥
 no_block [] n b h e = no_block_here n b h e
 no_block (k ∷ ks) n b h e = down ⊥ n k ks b (λ c q d. no_block ks c b (child_has Bare (children n) k c (bare_children n h) q) d) e
 
 no_block_below : (n : NodeTree) → Every Bare (children n) → (k : ℕ) (ks : List ℕ) (b : Body) → descend (Some n) (k ∷ ks) ≡ Some (a_block b) → ⊥
 no_block_below n h k ks b e = down ⊥ n k ks b (λ c q d. no_block ks c b (child_has Bare (children n) k c h q) d) e
+
+-- an item that is no function
+abbrev NoFunction : ItemTree → Type 0
+NoFunction (plain.function_item s f) = ⊥
+NoFunction _ = Unit {0}
+
+item_bare : (i : ItemTree) → NoFunction i → Every Bare (children (an_item i))
+item_bare (plain.rt_item s r) h = tt
+item_bare (plain.struct_item s x) h = declared_bare x.fields
+item_bare (plain.enum_item s x) h = variants_bare x.variants
+item_bare (plain.function_item s f) h = absurd h
+
+pub no_item_block : (ks : List ℕ) (i : ItemTree) (b : Body) → NoFunction i → descend (Some (an_item i)) ks ≡ Some (a_block b) → ⊥
+no_item_block [] i b h e = absurd (cc)
+no_item_block (k ∷ ks) i b h e = no_block_below (an_item i) (item_bare i h) k ks b e
 
 -- a node with a block below has its children in order in its span
 pub nested : (ts : List Tok) (n : NodeTree) (k : ℕ) (ks : List ℕ) (b : Body) → Laid ts n → descend (Some n) (k ∷ ks) ≡ Some (a_block b) → Nested n
@@ -266,7 +281,7 @@ pub runs : {bytes S E : ℕ} {ts : List Tok} {p : ProgramTree} {r : RunPos} → 
 runs {r = r} x = record { i = r.first; j = r.last; chosen = chosen_of x }
 
 -- the selected tokens have one first and one last
-spans_same : (S E : ℕ) (ts : List Tok) (w v : Span) → FirstToLast S E ts w → FirstToLast S E ts v → (w.start ≡ v.start) × (w.end ≡ v.end)
+pub spans_same : (S E : ℕ) (ts : List Tok) (w v : Span) → FirstToLast S E ts w → FirstToLast S E ts v → (w.start ≡ v.start) × (w.end ≡ v.end)
 spans_same S E ts w v f g =
     let a = every_token (λ t. Within S E t → Within w.start w.end t) ts g.first f.all g.first_is g.first_selected in
     let b = every_token (λ t. Within S E t → Within v.start v.end t) ts f.first g.all f.first_is f.first_selected in
@@ -278,7 +293,7 @@ spans_same S E ts w v f g =
     let l = g.ends in
     (omega (arith, a.0, b.0, i, j), omega (arith, c.1, d.1, k, l))
 
-span_is : (w v : Span) → (w.start ≡ v.start) × (w.end ≡ v.end) → w ≡ v
+pub span_is : (w v : Span) → (w.start ≡ v.start) × (w.end ≡ v.end) → w ≡ v
 span_is w v e = ap (λ s. record { start = s; end = w.end }) e.0 ∙ ap (λ s. record { start = v.start; end = s }) e.1
 
 position_is : (x y : Position) → x.item ≡ y.item → x.path ≡ y.path → x ≡ y
