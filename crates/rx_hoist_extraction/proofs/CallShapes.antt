@@ -18,11 +18,11 @@ use Rattle.rx_hoist_extraction.proofs.Trees.{here, name, bind, number, long, tup
 abbrev pub times : ProgramTree
 times =
     (function (codes "main") [] [] None (block_at here (
-        set (codes "a") (long 2) ∷
-        set (codes "b") (long 3) ∷
-        set (codes "c") (two op.Mul (var (codes "a")) (var (codes "b"))) ∷
-        does (plain.print nowhere (var (codes "c"))) ∷
-        []) plain.absent)) ∷ []
+    set (codes "a") (long 2) ∷
+    set (codes "b") (long 3) ∷
+    set (codes "c") (two op.Mul (var (codes "a")) (var (codes "b"))) ∷
+    does (plain.print nowhere (var (codes "c"))) ∷
+    []) plain.absent)) ∷ []
 
 abbrev pub times_run : Run
 times_run = run_at 0 [] 2 2
@@ -64,11 +64,11 @@ abbrev pub norm : ProgramTree
 norm =
     (structure (codes "P") [] [] ((name (codes "x"), (plain.kind_type nowhere kind.I64)) ∷ (name (codes "y"), (plain.kind_type nowhere kind.I64)) ∷ [])) ∷
     (function (codes "main") [] [] None (block_at here (
-        set (codes "p") (make (codes "P") ((name (codes "x"), (number 3)) ∷ (name (codes "y"), (number 4)) ∷ [])) ∷
-        set (codes "s") (two op.Add (two op.Mul (field (var (codes "p")) (codes "x")) (field (var (codes "p")) (codes "x"))) (two op.Mul (field (var (codes "p")) (codes "y")) (field (var (codes "p")) (codes "y")))) ∷
-        does (plain.print nowhere (var (codes "s"))) ∷
-        does (plain.print nowhere (field (var (codes "p")) (codes "x"))) ∷
-        []) plain.absent)) ∷ []
+    set (codes "p") (make (codes "P") ((name (codes "x"), (number 3)) ∷ (name (codes "y"), (number 4)) ∷ [])) ∷
+    set (codes "s") (two op.Add (two op.Mul (field (var (codes "p")) (codes "x")) (field (var (codes "p")) (codes "x"))) (two op.Mul (field (var (codes "p")) (codes "y")) (field (var (codes "p")) (codes "y")))) ∷
+    does (plain.print nowhere (var (codes "s"))) ∷
+    does (plain.print nowhere (field (var (codes "p")) (codes "x"))) ∷
+    []) plain.absent)) ∷ []
 
 abbrev pub norm_run : Run
 norm_run = run_at 1 [] 1 1
@@ -119,10 +119,10 @@ norm_extracted = (refl, refl)
 abbrev pub add : ProgramTree
 add =
     (function (codes "main") [] [] None (block_at here (
-        set (codes "k") (number 7) ∷
-        set (codes "d") (two op.Add (var (codes "k")) (number 1)) ∷
-        does (plain.print nowhere (var (codes "d"))) ∷
-        []) plain.absent)) ∷ []
+    set (codes "k") (number 7) ∷
+    set (codes "d") (two op.Add (var (codes "k")) (number 1)) ∷
+    does (plain.print nowhere (var (codes "d"))) ∷
+    []) plain.absent)) ∷ []
 
 abbrev pub add_run : Run
 add_run = run_at 0 [] 1 1
@@ -162,14 +162,14 @@ abbrev pub gather : ProgramTree
 gather =
     (plain.rt_item nowhere nowhere) ∷
     (function (codes "main") [] [] None (block_at nowhere (
-        set_mut (codes "sum") (long 0) ∷
-        set_mut (codes "n") (plain.next_input nowhere) ∷
-        plain.expression_statement nowhere (plain.while nowhere None (two op.Ne (var (codes "n")) (number 0)) (block_at here (
-            does (plain.assign nowhere (var (codes "sum")) (two op.Add (var (codes "sum")) (two op.Mul (var (codes "n")) (var (codes "n"))))) ∷
-            does (plain.assign nowhere (var (codes "n")) (plain.next_input nowhere)) ∷
-            []) plain.absent)) false ∷
-        does (plain.print nowhere (var (codes "sum"))) ∷
-        []) plain.absent)) ∷ []
+    set_mut (codes "sum") (long 0) ∷
+    set_mut (codes "n") (plain.next_input nowhere) ∷
+    plain.expression_statement nowhere (plain.while nowhere None (two op.Ne (var (codes "n")) (number 0)) (block_at here (
+    does (plain.assign nowhere (var (codes "sum")) (two op.Add (var (codes "sum")) (two op.Mul (var (codes "n")) (var (codes "n"))))) ∷
+    does (plain.assign nowhere (var (codes "n")) (plain.next_input nowhere)) ∷
+    []) plain.absent)) false ∷
+    does (plain.print nowhere (var (codes "sum"))) ∷
+    []) plain.absent)) ∷ []
 
 abbrev pub gather_run : Run
 gather_run = run_at 1 (2 ∷ 0 ∷ 1 ∷ []) 0 0
@@ -219,8 +219,8 @@ gather_extracted = (refl, refl)
 abbrev pub whole : ProgramTree
 whole =
     (function (codes "area") [] ((name (codes "w"), false, (plain.kind_type nowhere kind.I64)) ∷ (name (codes "h"), false, (plain.kind_type nowhere kind.I64)) ∷ []) (Some (plain.kind_type nowhere kind.I64)) (block_at here (
-        set (codes "base") (two op.Mul (var (codes "w")) (var (codes "h"))) ∷
-        []) (plain.present (two op.Add (var (codes "base")) (number 1))))) ∷
+    set (codes "base") (two op.Mul (var (codes "w")) (var (codes "h"))) ∷
+    []) (plain.present (two op.Add (var (codes "base")) (number 1))))) ∷
     (function (codes "main") [] [] None (block_at nowhere [] plain.absent)) ∷ []
 
 abbrev pub whole_run : Run
@@ -263,11 +263,11 @@ whole_extracted = (refl, refl)
 abbrev pub twice : ProgramTree
 twice =
     (function (codes "main") [] [] None (block_at here (
-        set (codes "k") (long 4) ∷
-        plain.let_statement nowhere (bind (codes "y")) None plain.absent ∷
-        does (plain.assign nowhere (var (codes "y")) (two op.Mul (var (codes "k")) (number 2))) ∷
-        does (plain.print nowhere (var (codes "y"))) ∷
-        []) plain.absent)) ∷ []
+    set (codes "k") (long 4) ∷
+    plain.let_statement nowhere (bind (codes "y")) None plain.absent ∷
+    does (plain.assign nowhere (var (codes "y")) (two op.Mul (var (codes "k")) (number 2))) ∷
+    does (plain.print nowhere (var (codes "y"))) ∷
+    []) plain.absent)) ∷ []
 
 abbrev pub twice_run : Run
 twice_run = run_at 0 [] 2 2
@@ -312,12 +312,12 @@ both =
     (structure (codes "State") [] [] ((name (codes "n"), (plain.kind_type nowhere kind.I64)) ∷ [])) ∷
     (function (codes "advance") [] ((name (codes "s"), false, (plain.named_type nowhere (name (codes "State")) None)) ∷ (name (codes "k"), false, (plain.kind_type nowhere kind.I64)) ∷ []) (Some (plain.named_type nowhere (name (codes "State")) None)) (block_at nowhere [] (plain.present (make (codes "State") ((name (codes "n"), (two op.Add (field (var (codes "s")) (codes "n")) (var (codes "k")))) ∷ []))))) ∷
     (function (codes "main") [] [] None (block_at nowhere (
-        set_mut (codes "s") (make (codes "State") ((name (codes "n"), (number 1)) ∷ [])) ∷
-        set (codes "v") (plain.block nowhere (block_at here (
-            does (plain.assign nowhere (var (codes "s")) (call (codes "advance") ((var (codes "s")) ∷ (number 2) ∷ []))) ∷
-            []) (plain.present (field (var (codes "s")) (codes "n"))))) ∷
-        does (plain.print nowhere (two op.Add (field (var (codes "s")) (codes "n")) (var (codes "v")))) ∷
-        []) plain.absent)) ∷ []
+    set_mut (codes "s") (make (codes "State") ((name (codes "n"), (number 1)) ∷ [])) ∷
+    set (codes "v") (plain.block nowhere (block_at here (
+    does (plain.assign nowhere (var (codes "s")) (call (codes "advance") ((var (codes "s")) ∷ (number 2) ∷ []))) ∷
+    []) (plain.present (field (var (codes "s")) (codes "n"))))) ∷
+    does (plain.print nowhere (two op.Add (field (var (codes "s")) (codes "n")) (var (codes "v")))) ∷
+    []) plain.absent)) ∷ []
 
 abbrev pub both_run : Run
 both_run = run_at 2 (1 ∷ 1 ∷ 0 ∷ []) 0 1
@@ -382,14 +382,14 @@ both_extracted = (refl, refl)
 abbrev pub three : ProgramTree
 three =
     (function (codes "main") [] [] None (block_at here (
-        set (codes "out_2") (plain.int nowhere 1 (Some kind.U8)) ∷
-        plain.let_statement nowhere (bind (codes "c")) None plain.absent ∷
-        set (codes "a") (tuple ((var (codes "out_2")) ∷ (plain.bool nowhere true) ∷ [])) ∷
-        set_mut (codes "b") (plain.part nowhere (var (codes "a")) 0) ∷
-        does (plain.assign nowhere (var (codes "c")) (var (codes "b"))) ∷
-        does (plain.assign nowhere (var (codes "b")) (plain.int nowhere 2 (Some kind.U8))) ∷
-        does (plain.print nowhere (two op.Add (two op.Add (plain.part nowhere (var (codes "a")) 0) (var (codes "b"))) (var (codes "c")))) ∷
-        []) plain.absent)) ∷ []
+    set (codes "out_2") (plain.int nowhere 1 (Some kind.U8)) ∷
+    plain.let_statement nowhere (bind (codes "c")) None plain.absent ∷
+    set (codes "a") (tuple ((var (codes "out_2")) ∷ (plain.bool nowhere true) ∷ [])) ∷
+    set_mut (codes "b") (plain.part nowhere (var (codes "a")) 0) ∷
+    does (plain.assign nowhere (var (codes "c")) (var (codes "b"))) ∷
+    does (plain.assign nowhere (var (codes "b")) (plain.int nowhere 2 (Some kind.U8))) ∷
+    does (plain.print nowhere (two op.Add (two op.Add (plain.part nowhere (var (codes "a")) 0) (var (codes "b"))) (var (codes "c")))) ∷
+    []) plain.absent)) ∷ []
 
 abbrev pub three_run : Run
 three_run = run_at 0 [] 2 4
@@ -440,15 +440,15 @@ three_extracted = (refl, refl)
 abbrev pub last : ProgramTree
 last =
     (function (codes "main") [] [] None (block_at here (
-        set (codes "c") (plain.bool nowhere true) ∷
-        set_mut (codes "n") (long 1) ∷
-        plain.let_statement nowhere (bind (codes "t")) (Some (plain.kind_type nowhere kind.I64)) plain.absent ∷
-        plain.expression_statement nowhere (plain.if nowhere (var (codes "c")) (block_at nowhere (
-            does (plain.assign nowhere (var (codes "n")) (long 2)) ∷
-            []) plain.absent) plain.absent) false ∷
-        does (plain.assign nowhere (var (codes "t")) (var (codes "n"))) ∷
-        does (plain.print nowhere (var (codes "t"))) ∷
-        []) plain.absent)) ∷ []
+    set (codes "c") (plain.bool nowhere true) ∷
+    set_mut (codes "n") (long 1) ∷
+    plain.let_statement nowhere (bind (codes "t")) (Some (plain.kind_type nowhere kind.I64)) plain.absent ∷
+    plain.expression_statement nowhere (plain.if nowhere (var (codes "c")) (block_at nowhere (
+    does (plain.assign nowhere (var (codes "n")) (long 2)) ∷
+    []) plain.absent) plain.absent) false ∷
+    does (plain.assign nowhere (var (codes "t")) (var (codes "n"))) ∷
+    does (plain.print nowhere (var (codes "t"))) ∷
+    []) plain.absent)) ∷ []
 
 abbrev pub last_run : Run
 last_run = run_at 0 [] 2 3
@@ -498,13 +498,13 @@ last_extracted = (refl, refl)
 abbrev pub done : ProgramTree
 done =
     (function (codes "show") [] ((name (codes "n"), false, (plain.kind_type nowhere kind.I64)) ∷ []) None (block_at nowhere (
-        does (plain.print nowhere (var (codes "n"))) ∷
-        []) plain.absent)) ∷
+    does (plain.print nowhere (var (codes "n"))) ∷
+    []) plain.absent)) ∷
     (function (codes "main") [] [] None (block_at nowhere (
-        set_mut (codes "n") (long 1) ∷
-        []) (plain.present (plain.loop nowhere None (block_at here (
-            does (plain.assign nowhere (var (codes "n")) (two op.Add (var (codes "n")) (number 1))) ∷
-            []) (plain.present (call (codes "show") ((var (codes "n")) ∷ [])))))))) ∷ []
+    set_mut (codes "n") (long 1) ∷
+    []) (plain.present (plain.loop nowhere None (block_at here (
+    does (plain.assign nowhere (var (codes "n")) (two op.Add (var (codes "n")) (number 1))) ∷
+    []) (plain.present (call (codes "show") ((var (codes "n")) ∷ [])))))))) ∷ []
 
 abbrev pub done_run : Run
 done_run = run_at 1 (1 ∷ 0 ∷ []) 0 1
@@ -555,9 +555,9 @@ done_extracted = (refl, refl)
 abbrev pub reborrow : ProgramTree
 reborrow =
     (function (codes "raise") [] ((name (codes "a"), false, (plain.ref_type nowhere None true (plain.kind_type nowhere kind.I64))) ∷ (name (codes "b"), false, (plain.ref_type nowhere None true (plain.kind_type nowhere kind.I64))) ∷ []) None (block_at here (
-        does (plain.assign nowhere (plain.deref nowhere (var (codes "a"))) (two op.Add (plain.deref nowhere (var (codes "b"))) (number 1))) ∷
-        does (plain.print nowhere (plain.deref nowhere (var (codes "a")))) ∷
-        []) plain.absent)) ∷
+    does (plain.assign nowhere (plain.deref nowhere (var (codes "a"))) (two op.Add (plain.deref nowhere (var (codes "b"))) (number 1))) ∷
+    does (plain.print nowhere (plain.deref nowhere (var (codes "a")))) ∷
+    []) plain.absent)) ∷
     (function (codes "main") [] [] None (block_at nowhere [] plain.absent)) ∷ []
 
 abbrev pub reborrow_run : Run
