@@ -1,3 +1,6 @@
+pub mod FreshNames
+pub mod Unchanged
+pub mod NewItemsAt
 pub mod Trees
 pub mod CallShapes
 pub mod ExitShapes

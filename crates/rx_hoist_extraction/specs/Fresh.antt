@@ -1,6 +1,6 @@
 -- Fresh names: `'r0`, `'r1`, .. and `out_0`, `out_1`, .., leaving out those that are taken (Rust Reference, "Identifiers",
 -- "Lifetimes and loop labels").
-use Rattle.std.specs.Prelude.{ℕ, zero, suc, ◌+◌, not, List, [], ◌∷◌, ◌++◌, length, filter, Option, Some, None, slice_get, codes}
+use Rattle.std.specs.Prelude.{ℕ, zero, suc, ◌+◌, not, List, [], ◌∷◌, ◌++◌, length, filter, get_or, codes}
 use Rattle.std.specs.Fmt.{decimal}
 use Rattle.rx_hoist_extraction.specs.Names.{Names, is_among}
 
@@ -13,13 +13,9 @@ row word n (suc many) = (word ++ decimal n) ∷ row word (suc n) many
 abbrev pub left_out : Names → Names → Names
 left_out taken names = filter (λ x. not (is_among x taken)) names
 
-abbrev pub name_or_none : Option (List ℕ) → List ℕ
-name_or_none None = []
-name_or_none (Some x) = x
-
 -- the i-th that is not taken. At most as many are left out as are taken, so it is among the first i + 1 + taken
 abbrev pub fresh : List ℕ → Names → ℕ → List ℕ
-fresh word taken i = name_or_none (slice_get (left_out taken (row word 0 (length taken + suc i))) i)
+fresh word taken i = get_or (left_out taken (row word 0 (length taken + suc i))) i []
 
 abbrev pub fresh_lifetime : Names → ℕ → List ℕ
 fresh_lifetime taken i = fresh (codes "'r") taken i

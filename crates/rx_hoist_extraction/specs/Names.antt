@@ -1,5 +1,5 @@
 -- The names that patterns and statements bind (Rust Reference, "Patterns", "Identifier patterns"; "Statements", "let statements").
-use Rattle.std.specs.Prelude.{ℕ, Bool, false, ◌||◌, List, [], ◌∷◌, ◌++◌}
+use Rattle.std.specs.Prelude.{◌≡◌, ℕ, Bool, false, ◌||◌, List, [], ◌∷◌, ◌++◌}
 use Rattle.std.specs.Str.{bytes_eq}
 use Rattle.rx_tree.specs.Plain as plain
 use Rattle.rx_tree.specs.Plain.{PatternTree, PatternTrees, FieldPatterns, Statement, Statements}
@@ -11,6 +11,11 @@ Names = List (List ℕ)
 abbrev pub is_among : List ℕ → Names → Bool
 is_among x [] = false
 is_among x (y ∷ ys) = bytes_eq x y || is_among x ys
+
+-- no two are the same
+abbrev pub Distinct : Names → Type 0
+Distinct [] = Unit {0}
+Distinct (x ∷ xs) = (is_among x xs ≡ false) × Distinct xs
 
 -- ---- what is bound
 

@@ -1,12 +1,48 @@
 //! Laws of the extraction, each as the contract of a function that does nothing.
 
-ghost use Rattle.rx_tree.specs.Plain.{ProgramTree};
+ghost use Rattle.std.specs.Prelude.{◌≡◌, ℕ, suc, ◌+◌, ◌≤◌, ◌<◌, ◌^◌, true, false, List, ◌++◌, length, take, drop, Some};
+ghost use Rattle.rx_core.specs.declared.types.Span.{Span};
+ghost use Rattle.rx_tree.specs.Plain as plain;
+ghost use Rattle.rx_tree.specs.Plain.{Body, Expression, Function, ProgramTree};
+ghost use Rattle.rx_tree.specs.Lists.{nth};
 ghost use Rattle.rx_tree.specs.Erase.{SameProgram};
+ghost use Rattle.rx_resolve_names.specs.Meant.{Around};
+ghost use Rattle.rx_hoist_extraction.specs.Names.{Names, is_among};
 ghost use Rattle.rx_hoist_extraction.specs.Run.{Run};
-ghost use Rattle.rx_hoist_extraction.specs.Plan.{Bounds, Plan};
-ghost use Rattle.rx_hoist_extraction.specs.Extraction.{Extracted};
+ghost use Rattle.rx_hoist_extraction.specs.Plan.{Bounds, Plan, has_enum};
+ghost use Rattle.rx_hoist_extraction.specs.Fresh.{fresh};
+ghost use Rattle.rx_hoist_extraction.specs.Changed.{changed, changed_body, kept};
+ghost use Rattle.rx_hoist_extraction.specs.Pinned.{pinned_function};
+ghost use Rattle.rx_hoist_extraction.specs.Extraction.{Extracted, added, extraction, in_two, made_enum, made_function, new_number, with_call};
 
 /// A program has one extraction of a run by a plan with bounds, apart from spans.
 pub fn one_extraction()
     ensures { (p : ProgramTree) (r : Run) (plan : Plan) (bounds : Bounds) (a b : ProgramTree) → Extracted p r plan bounds a → Extracted p r plan bounds b → SameProgram a b }
+{}
+
+/// A fresh name is none of those that are taken, and two fresh names of one word are not the same.
+pub fn fresh_names()
+    ensures free { (word : List ℕ) (taken : Names) (i : ℕ) → length taken + suc i ≤ 2 ^ 64 → is_among (fresh word taken i) taken ≡ false }
+    ensures differ { (word : List ℕ) (taken : Names) (i j : ℕ) → i < j → length taken + suc j ≤ 2 ^ 64 → fresh word taken i ≡ fresh word taken j → ⊥ }
+{}
+
+/// Where nothing becomes anything else, a part stays as it is.
+pub fn kept_is_same()
+    ensures expression { (own : Names) (around : List Around) (e : Expression) → changed kept own around e ≡ e }
+    ensures block { (own : Names) (around : List Around) (b : Body) → changed_body kept own around b ≡ b }
+{}
+
+/// The items of an extraction: those in front of the function of the run, that function with the call, the new items, those behind.
+pub fn items_stand()
+    ensures items { (p : ProgramTree) (r : Run) (plan : Plan) (bounds : Bounds) (s : Span) (f : Function) → nth p r.item ≡ Some (plain.function_item s f)
+        → extraction p r plan bounds ≡ take r.item p ++ (in_two p r plan bounds s (pinned_function p r.span plan.pins f) ++ drop (suc r.item) p) }
+    ensures old { (p : ProgramTree) (r : Run) (plan : Plan) (bounds : Bounds) (s : Span) (f : Function) → nth p r.item ≡ Some (plain.function_item s f)
+        → nth (extraction p r plan bounds) r.item ≡ Some (plain.function_item s (with_call p r plan (pinned_function p r.span plan.pins f))) }
+    ensures new { (p : ProgramTree) (r : Run) (plan : Plan) (bounds : Bounds) (s : Span) (f : Function) → nth p r.item ≡ Some (plain.function_item s f)
+        → nth (extraction p r plan bounds) (new_number r plan) ≡ Some (made_function p r plan bounds (pinned_function p r.span plan.pins f)) }
+    ensures exits { (p : ProgramTree) (r : Run) (plan : Plan) (bounds : Bounds) (s : Span) (f : Function) → nth p r.item ≡ Some (plain.function_item s f)
+        → has_enum plan.exits ≡ true → nth (extraction p r plan bounds) (suc r.item) ≡ Some (made_enum p r plan) }
+    ensures front { (p : ProgramTree) (r : Run) (plan : Plan) (bounds : Bounds) (k : ℕ) → k < r.item → nth (extraction p r plan bounds) k ≡ nth p k }
+    ensures behind { (p : ProgramTree) (r : Run) (plan : Plan) (bounds : Bounds) (s : Span) (f : Function) → nth p r.item ≡ Some (plain.function_item s f)
+        → (k : ℕ) → r.item < k → nth (extraction p r plan bounds) (k + added plan) ≡ nth p k }
 {}

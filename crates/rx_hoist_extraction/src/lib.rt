@@ -3,4 +3,4 @@
 
 mod laws;
 
-pub use laws::one_extraction;
+pub use laws::{fresh_names, items_stand, kept_is_same, one_extraction};
