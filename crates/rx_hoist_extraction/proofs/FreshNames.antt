@@ -24,7 +24,7 @@ negated : (b : Bool) → not b ≡ true → b ≡ false
 negated false e = refl
 negated true e = absurd (cc)
 
-unlike : (x y : List ℕ) → (x ≡ y → ⊥) → bytes_eq x y ≡ false
+pub unlike : (x y : List ℕ) → (x ≡ y → ⊥) → bytes_eq x y ≡ false
 unlike x y n = not_true (bytes_eq x y) (λ e. n ((bytes_eq-Decides x y).0 e))
 
 sides : (x y : List ℕ) → bytes_eq x y ≡ bytes_eq y x

@@ -1,6 +1,7 @@
 pub mod FreshNames
 pub mod Unchanged
 pub mod NewItemsAt
+pub mod Signatures
 pub mod Trees
 pub mod CallShapes
 pub mod ExitShapes

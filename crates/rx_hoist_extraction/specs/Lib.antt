@@ -13,3 +13,4 @@ pub mod NewEnum
 pub mod NewFunction
 pub mod Call
 pub mod Extraction
+pub mod OwnLifetimes
