@@ -1,7 +1,7 @@
 -- A fresh name is not taken, and two are not the same. The names of a row are distinct, so each taken name leaves out one of
 -- them at most, and enough are left; a longer row has the same names in front.
 use Rattle.std.proofs.Common.{◌≡◌, ℕ, zero, suc, ◌+◌, ◌-◌, ◌≤◌, ◌<◌, ◌^◌, Bool, true, false, List, [], ◌∷◌, ◌++◌, length, get_or, refl, sym, subst, ap, ◌∙◌, arith, cond}
-use Rattle.std.specs.Prelude.{not, ◌||◌, filter}
+use Rattle.std.specs.Prelude.{not, filter}
 use Rattle.std.specs.Fmt.{decimal}
 use Rattle.std.specs.Str.{bytes_eq}
 use Rattle.std.proofs.Math.ListN.{get_or-append}

@@ -23,7 +23,7 @@ use Rattle.rx_hoist_extraction.specs.Fresh.{fresh_lifetime}
 use Rattle.rx_hoist_extraction.specs.Made.{ident}
 use Rattle.rx_hoist_extraction.specs.WrittenTypes.{name_of, positions, all_positions, positions_of, lifetimes_of, lifetimes_from, list_if_any, full, all_full, each_full}
 use Rattle.rx_hoist_extraction.specs.NewEnum.{fields_at, all_fields, enum_positions, variants, new_enum}
-use Rattle.rx_hoist_extraction.specs.NewFunction.{passed, passed_types, new_parameters, parameter_positions, joined_type, full_if_any, enum_type, new_result, result_positions, signature_positions, lifetimes_at_all, firsts_of, copied_lifetimes, new_lifetimes, shorts_of, new_function}
+use Rattle.rx_hoist_extraction.specs.NewFunction.{passed, passed_types, new_parameters, parameter_positions, joined_type, full_if_any, enum_type, result_positions, signature_positions, lifetimes_at_all, firsts_of, copied_lifetimes, new_lifetimes, shorts_of, new_function}
 use Rattle.rx_hoist_extraction.proofs.FreshNames.{unlike, fresh_is_free, fresh_differ}
 use Rattle.rx_hoist_extraction.specs.OwnLifetimes.{lifetimes_in, lifetimes_in_all, lifetimes_if_any, in_parameters, in_variants, in_signature, idents, declared_lifetimes}
 
@@ -152,7 +152,6 @@ among_both : (x : List ℕ) (xs ys : Names) → is_among x xs ≡ false → is_a
 among_both x [] ys a b = b
 among_both x (y ∷ xs) ys a b = let p = or_parts (bytes_eq x y) (is_among x xs) a in
     or_from (bytes_eq x y) (is_among x (xs ++ ys)) p.0 (among_both x xs ys p.1 b)
-
 
 apart_row : (s : Span) (taken : Names) (n m many : ℕ) → n < m → length taken + (m + many) ≤ 2 ^ 64
     → is_among (fresh_lifetime taken n) (idents (lifetimes_from s (fresh_lifetime taken) m many)) ≡ false

@@ -1,7 +1,7 @@
 -- A part of a program in which some places become something else (Rust Reference, "Expressions", "Statements"). One walk goes
 -- over all forms; what becomes of a special place is told by a field. So moving the run, pinning types and putting the call in
 -- are instances of one function, and each law on it is one induction.
-use Rattle.std.specs.Prelude.{ℕ, List, [], ◌∷◌, ◌++◌, Option}
+use Rattle.std.specs.Prelude.{ℕ, List, ◌∷◌, ◌++◌, Option}
 use Rattle.rx_core.specs.declared.types.Span.{Span}
 use Rattle.rx_core.specs.declared.types.Kind.{Kind}
 use Rattle.rx_tree.specs.declared.tree.Ident.{Ident}

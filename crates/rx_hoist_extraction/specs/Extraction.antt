@@ -1,7 +1,7 @@
 -- The extraction of a run by a plan, with bounds for the lifetimes of the new function (REM, "Extract function"). It is a
 -- function on plain trees: what is copied keeps its span, what is made has the span of the run. The new items stand behind the
 -- function of the run, the enum first.
-use Rattle.std.specs.Prelude.{ℕ, zero, suc, ◌+◌, Bool, true, false, if◌then◌else◌, List, [], ◌∷◌, ◌++◌, length}
+use Rattle.std.specs.Prelude.{ℕ, zero, suc, ◌+◌, if◌then◌else◌, [], ◌∷◌, ◌++◌}
 use Rattle.rx_core.specs.declared.types.Span.{Span}
 use Rattle.rx_tree.specs.Plain as plain
 use Rattle.rx_tree.specs.Plain.{Body, Function, ItemTree, ProgramTree}

@@ -14,3 +14,4 @@ pub mod NewFunction
 pub mod Call
 pub mod Extraction
 pub mod OwnLifetimes
+pub mod Limits

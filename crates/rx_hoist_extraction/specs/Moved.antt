@@ -1,7 +1,7 @@
 -- What becomes of the run's variables, jumps and returns in the new function (REM, "Extract function"; Rust Reference,
 -- "Break expressions", "Continue expressions", "Return expressions"). A param behind a reference of the new function's own is
 -- dereferenced. A jump that leaves the run returns the variant of its exit, with the exit's outs.
-use Rattle.std.specs.Prelude.{ℕ, zero, suc, Bool, true, false, not, ◌&&◌, if◌then◌else◌, List, [], ◌∷◌, map, Option, Some, None}
+use Rattle.std.specs.Prelude.{ℕ, suc, Bool, true, false, not, ◌&&◌, if◌then◌else◌, List, [], ◌∷◌, map, Option, Some, None}
 use Rattle.rx_core.specs.declared.types.Span.{Span}
 use Rattle.rx_tree.specs.declared.tree.Ident.{Ident}
 use Rattle.rx_tree.specs.Plain as plain

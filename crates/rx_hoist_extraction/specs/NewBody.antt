@@ -1,6 +1,6 @@
 -- The body of the new function: the locals, the statements of the run, and the end (REM, "Extract function"; Rust Reference,
 -- "Block expressions"). What the end hands out is the run's value and then the outs of Next.
-use Rattle.std.specs.Prelude.{ℕ, Bool, true, false, not, ◌&&◌, ◌||◌, if◌then◌else◌, List, [], ◌∷◌, ◌++◌, map, Option, Some, None}
+use Rattle.std.specs.Prelude.{Bool, true, false, not, ◌&&◌, ◌||◌, if◌then◌else◌, List, [], ◌∷◌, ◌++◌, map, Option, Some}
 use Rattle.rx_core.specs.declared.types.Span.{Span}
 use Rattle.rx_tree.specs.Plain as plain
 use Rattle.rx_tree.specs.Plain.{Expression, OptionalExpression, Body, Statement, ProgramTree}

@@ -3,7 +3,6 @@
 -- for each lifetime position of these types.
 use Rattle.std.specs.Prelude.{ℕ, ◌+◌, List, [], ◌∷◌, ◌++◌}
 use Rattle.rx_core.specs.declared.types.Span.{Span}
-use Rattle.rx_tree.specs.Plain as plain
 use Rattle.rx_tree.specs.Plain.{VariantOf, Enumeration, ProgramTree}
 use Rattle.rx_typed.specs.Types.{Typ}
 use Rattle.rx_hoist_extraction.specs.Plan.{Leaving, Plan, enum_name, exit_name}

@@ -1,6 +1,6 @@
 -- A function with the kinds of its literals and the types of its `let`s written out, where a variable is loose: what they were
 -- inferred from may stand in another function afterwards (Rust Reference, "Integer literal expressions", "let statements").
-use Rattle.std.specs.Prelude.{ℕ, if◌then◌else◌, List, [], ◌∷◌, Option, Some, None, option_map}
+use Rattle.std.specs.Prelude.{if◌then◌else◌, List, [], ◌∷◌, Option, Some, None, option_map}
 use Rattle.rx_core.specs.declared.types.Span.{Span}
 use Rattle.rx_core.specs.declared.types.Kind.{Kind}
 use Rattle.rx_core.specs.declared.types.Kind.TheVariants.{I32}

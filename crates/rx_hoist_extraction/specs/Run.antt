@@ -9,7 +9,6 @@ use Rattle.rx_tree.specs.Plain.{OptionalExpression, Body, Statement, Statements,
 use Rattle.rx_tree.specs.Erase.{nowhere}
 use Rattle.rx_tree.specs.Lists.{listed, statements, tail}
 use Rattle.rx_tree.specs.Positions.{NodeTree, a_block, an_expression, children, descend}
-use Rattle.rx_tree.specs.Spans.{body_span}
 use Rattle.rx_resolve_names.specs.Meant.{Around, a_loop}
 
 pub record Run : Type 0 where

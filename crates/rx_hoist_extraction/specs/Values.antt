@@ -1,5 +1,5 @@
 -- The values that each exit of a run hands out, in order (REM, "Extract function", outputs and control flow).
-use Rattle.std.specs.Prelude.{ℕ, Bool, true, false, if◌then◌else◌, List, [], ◌∷◌, ◌++◌, map, Option, Some, None}
+use Rattle.std.specs.Prelude.{if◌then◌else◌, List, [], ◌∷◌, ◌++◌, map, Option, Some, None}
 use Rattle.rx_typed.specs.Types.{Typ}
 use Rattle.rx_hoist_extraction.specs.Plan.{Exit, to_next, to_break, to_continue, to_return, Variable, Leaving, Plan, has_exit, outs_of, is_unit}
 

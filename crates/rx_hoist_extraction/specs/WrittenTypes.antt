@@ -1,6 +1,6 @@
 -- A type as it is written (Rust Reference, "Types", "Lifetime elision"): with a lifetime of its own at each position, or with all
 -- lifetimes elided. A lifetime position is a reference, or a lifetime parameter of a struct or enum that is named.
-use Rattle.std.specs.Prelude.{ℕ, zero, suc, ◌+◌, Bool, List, [], ◌∷◌, length, map, Option, Some, None, slice_get}
+use Rattle.std.specs.Prelude.{ℕ, zero, suc, ◌+◌, List, [], ◌∷◌, length, map, Option, Some, None, slice_get}
 use Rattle.rx_core.specs.declared.types.Span.{Span}
 use Rattle.rx_core.specs.declared.types.Kind.{Kind}
 use Rattle.rx_tree.specs.declared.tree.Ident.{Ident}

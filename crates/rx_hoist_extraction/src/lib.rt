@@ -3,4 +3,7 @@
 
 mod laws;
 
-pub use laws::{fresh_names, items_stand, kept_is_same, one_extraction};
+pub use laws::{
+    counts_are_exact, fresh_names, items_stand, kept_is_same, one_extraction, own_lifetimes,
+    written_levels,
+};
