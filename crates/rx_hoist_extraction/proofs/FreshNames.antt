@@ -11,6 +11,7 @@ use Rattle.std.proofs.lemmas.Bool.Decides.{same_from_decides}
 use Rattle.std.proofs.lemmas.List.{append_cancel_left}
 use Rattle.std.proofs.lemmas.List.Elements.{filter-append}
 use Rattle.std.proofs.lemmas.Slice.Eq.{bytes_eq-Decides}
+use Rattle.rx_tree.specs.Lists.{Every}
 use Rattle.rx_hoist_extraction.specs.Names.{Names, is_among, Distinct}
 use Rattle.rx_hoist_extraction.specs.Fresh.{row, left_out, fresh}
 
@@ -133,6 +134,31 @@ enough_left word taken i b = let many = length taken + suc i in
 pub fresh_is_free : (word : List ℕ) (taken : Names) (i : ℕ) → length taken + suc i ≤ 2 ^ 64 → is_among (fresh word taken i) taken ≡ false
 fresh_is_free word taken i b = negated (is_among (fresh word taken i) taken)
     (passes (λ x. not (is_among x taken)) (row word 0 (length taken + suc i)) i (enough_left word taken i b))
+
+-- ---- what all names of a word are, a fresh one is
+
+all_of_row : (Q : List ℕ → Type 0) (word : List ℕ) → ((n : ℕ) → n < 2 ^ 64 → Q (word ++ decimal n)) → (n many : ℕ) → n + many ≤ 2 ^ 64 → Every Q (row word n many)
+all_of_row Q word q n zero b = tt
+all_of_row Q word q n (suc many) b = (q n (omega arith), all_of_row Q word q (suc n) many (omega arith))
+
+all_left_at : (Q : List ℕ → Type 0) (p : List ℕ → Bool) (x : List ℕ) (xs : Names) (b : Bool) → p x ≡ b → Q x → Every Q (filter p xs) → Every Q (filter p (x ∷ xs))
+all_left_at Q p x xs true e q h = subst (Every Q) (sym (passed p x xs e)) (q, h)
+all_left_at Q p x xs false e q h = subst (Every Q) (sym (dropped p x xs e)) h
+
+all_left : (Q : List ℕ → Type 0) (p : List ℕ → Bool) (xs : Names) → Every Q xs → Every Q (filter p xs)
+all_left Q p [] h = tt
+all_left Q p (x ∷ xs) h = all_left_at Q p x xs (p x) refl h.0 (all_left Q p xs h.1)
+
+one_of_all : (Q : List ℕ → Type 0) (xs : Names) (i : ℕ) → Every Q xs → i < length xs → Q (get_or xs i [])
+one_of_all Q [] i h l = absurd (omega arith)
+one_of_all Q (x ∷ xs) zero h l = h.0
+one_of_all Q (x ∷ xs) (suc i) h l = one_of_all Q xs i h.1 (omega arith)
+
+pub fresh_has : (Q : List ℕ → Type 0) (word : List ℕ) → ((n : ℕ) → n < 2 ^ 64 → Q (word ++ decimal n))
+    → (taken : Names) (i : ℕ) → length taken + suc i ≤ 2 ^ 64 → Q (fresh word taken i)
+fresh_has Q word q taken i b = let many = length taken + suc i in
+    one_of_all Q (left_out taken (row word 0 many)) i
+    (all_left Q (λ x. not (is_among x taken)) (row word 0 many) (all_of_row Q word q 0 many (omega arith))) (enough_left word taken i b)
 
 -- ---- two are not the same
 

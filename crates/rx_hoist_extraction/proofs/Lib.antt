@@ -3,6 +3,7 @@ pub mod Unchanged
 pub mod NewItemsAt
 pub mod Signatures
 pub mod WrittenLevels
+pub mod MadeNames
 pub mod Trees
 pub mod CallShapes
 pub mod ExitShapes

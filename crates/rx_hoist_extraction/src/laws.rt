@@ -6,11 +6,13 @@ ghost use Rattle.rx_tree.specs.Plain as plain;
 ghost use Rattle.rx_tree.specs.Plain.{Body, Expression, Function, ProgramTree};
 ghost use Rattle.rx_tree.specs.Lists.{nth, Every};
 ghost use Rattle.rx_tree.specs.Erase.{SameProgram};
+ghost use Rattle.rx_lex.specs.declared.token.Class.TheVariants.{Lifetime};
+ghost use Rattle.rx_lex.specs.Words.{IsWord, is_identifier};
 ghost use Rattle.rx_resolve_names.specs.Meant.{Around};
 ghost use Rattle.rx_hoist_extraction.specs.Names.{Distinct, Names, is_among};
 ghost use Rattle.rx_hoist_extraction.specs.Run.{Parts, Run};
-ghost use Rattle.rx_hoist_extraction.specs.Plan.{Bounds, Plan, has_enum};
-ghost use Rattle.rx_hoist_extraction.specs.Fresh.{fresh, fresh_lifetime};
+ghost use Rattle.rx_hoist_extraction.specs.Plan.{Bounds, Plan, enum_name, exit_name, has_enum, to_break, to_continue, to_next, to_return};
+ghost use Rattle.rx_hoist_extraction.specs.Fresh.{fresh, fresh_lifetime, fresh_variable};
 ghost use Rattle.rx_hoist_extraction.specs.Changed.{changed, changed_body, kept};
 ghost use Rattle.rx_hoist_extraction.specs.Pinned.{pinned_function};
 ghost use Rattle.rx_hoist_extraction.specs.WrittenTypes.{elided, full, lifetimes_from};
@@ -78,4 +80,16 @@ pub fn written_levels()
 pub fn counts_are_exact()
     ensures parameters { (p : ProgramTree) (plan : Plan) (bounds : Bounds) (s : Span) (around : List Around) (run : Parts) → length (new_function p plan bounds s around run).params ≡ count_parameters plan }
     ensures lifetimes { (p : ProgramTree) (plan : Plan) (bounds : Bounds) (s : Span) (around : List Around) (run : Parts) → length (new_function p plan bounds s around run).lifetimes ≡ count_lifetimes p plan run }
+{}
+
+/// The names that an extraction makes are words of the language: that of the enum wherever the new function's is, those of its
+/// variants, fresh variables and fresh lifetimes.
+pub fn made_names_are_words()
+    ensures exits { (plan : Plan) → is_identifier plan.name ≡ true → is_identifier (enum_name plan) ≡ true }
+    ensures breaks { (k : ℕ) → k < 2 ^ 64 → is_identifier (exit_name (to_break k)) ≡ true }
+    ensures continues { (k : ℕ) → k < 2 ^ 64 → is_identifier (exit_name (to_continue k)) ≡ true }
+    ensures next { is_identifier (exit_name to_next) ≡ true }
+    ensures returns { is_identifier (exit_name to_return) ≡ true }
+    ensures variables { (taken : Names) (i : ℕ) → length taken + suc i ≤ 2 ^ 64 → is_identifier (fresh_variable taken i) ≡ true }
+    ensures lifetimes { (taken : Names) (i : ℕ) → length taken + suc i ≤ 2 ^ 64 → IsWord Lifetime (fresh_lifetime taken i) }
 {}
