@@ -4,6 +4,7 @@ pub mod NewItemsAt
 pub mod Signatures
 pub mod WrittenLevels
 pub mod MadeNames
+pub mod FormedChanges
 pub mod Trees
 pub mod CallShapes
 pub mod ExitShapes

@@ -1,15 +1,14 @@
 -- The names that an extraction makes are words of the language. In front of a name in the normalization form C, `Exit_` changes
 -- nothing of the form: ASCII in front of an ASCII character keeps to itself, and nothing composes onto `_`. The others are ASCII.
-use Rattle.std.proofs.Common.{◌≡◌, ℕ, suc, ◌+◌, ◌%◌, ◌≤◌, ◌<◌, ◌^◌, true, false, List, [], ◌∷◌, ◌++◌, length, None, codes, refl, sym, ap, ◌∙◌, arith, inl, inr}
+use Rattle.std.proofs.Common.{◌≡◌, ◌≢◌, ℕ, zero, suc, ◌/◌, get_or, false, lt-ltb, Bool, ◌+◌, ◌%◌, ◌≤◌, ◌<◌, ◌^◌, true, List, [], ◌∷◌, ◌++◌, length, None, codes, refl, sym, ap, ◌∙◌, arith, inl, inr}
 use Rattle.std.specs.Prelude.{not, ◌&&◌, ◌==◌}
 use Rattle.std.specs.List.{list_all}
 use Rattle.std.specs.Char.{is_ascii}
 use Rattle.std.specs.Str.{chars}
-use Rattle.std.specs.Fmt.{decimal}
+use Rattle.std.specs.Fmt.{decimal, digits}
+use Rattle.core.specs.Fmt.{digits_onto, digit_glyph}
 use Rattle.std.proofs.lemmas.Bool.{and_parts, and_from, or_left, or_right}
 use Rattle.std.proofs.lemmas.Bool.Decides.{nat_tests}
-use Rattle.std.proofs.lemmas.Fmt.{decimal_by_steps}
-use Rattle.std.proofs.lemmas.List.Folds.{list_all-append}
 use Rattle.std.proofs.lemmas.Str.{IsUtf8-append}
 use Rattle.std.proofs.lemmas.Str.Ascii.{All-from_ascii}
 use Rattle.ucd_normal.proofs.Computing.{ucd_normal}
@@ -32,7 +31,7 @@ use Rattle.rx_lex.specs.Words.{is_ascii_start, is_continue, spells_name, is_name
 use Rattle.rx_lex.proofs.Names.{NameOf, name_parts, name_from, ascii_text, ascii_utf8, chars_low, continue_ascii, low_continue, spelled_all}
 use Rattle.rx_lex.proofs.FirstBytes.{all_more}
 use Rattle.rx_hoist_extraction.specs.Names.{Names}
-use Rattle.rx_hoist_extraction.specs.Plan.{to_break, to_continue, Plan, enum_name, exit_name}
+use Rattle.rx_hoist_extraction.specs.Plan.{Exit, to_next, to_break, to_continue, to_return, Plan, enum_name, exit_name}
 use Rattle.rx_hoist_extraction.specs.Fresh.{fresh_variable, fresh_lifetime}
 use Rattle.rx_hoist_extraction.proofs.FreshNames.{fresh_has}
 
@@ -82,10 +81,22 @@ exit_is_identifier pl e = let p = and_parts (is_name pl.name && not (same_bytes 
 is_digit_at : (d : ℕ) → d < 10 → is_digit (48 + d) ≡ true
 is_digit_at d b = grind (arith, nat_tests)
 
-all_digits : (n : ℕ) → n < 2 ^ 64 → list_all is_digit (decimal n) ≡ true
-all_digits = decimal_by_steps (λ n ds. list_all is_digit ds ≡ true) (λ n b. and_from (is_digit (48 + n)) true (is_digit_at n b) refl)
-    (λ n ds b h. list_all-append is_digit ds ((48 + n % 10) ∷ [])
-    ∙ and_from (list_all is_digit ds) (is_digit (48 + n % 10) && true) h (and_from (is_digit (48 + n % 10)) true (is_digit_at (n % 10) (omega arith)) refl))
+glyph_at : (n : ℕ) → is_digit (digit_glyph false (n % 10)) ≡ true
+glyph_at n = let small : n % 10 < 10 = omega arith in rw (lt-ltb (n % 10) 10 small) (is_digit_at (n % 10) small)
+
+one_digit_more : (k n : ℕ) (ds : List ℕ) (b : Bool) → (n / 10 == 0) ≡ b → list_all is_digit (digit_glyph false (n % 10) ∷ ds) ≡ true
+    → list_all is_digit (digits_onto k 10 false (n / 10) (digit_glyph false (n % 10) ∷ ds)) ≡ true → list_all is_digit (digits_onto (suc k) 10 false n ds) ≡ true
+one_digit_more k n ds true q e h = rw q e
+one_digit_more k n ds false q e h = rw q h
+
+digits_more : (k n : ℕ) (ds : List ℕ) → list_all is_digit ds ≡ true → list_all is_digit (digits_onto k 10 false n ds) ≡ true
+digits_more zero n ds e = e
+digits_more (suc k) n ds e = let longer = and_from (is_digit (digit_glyph false (n % 10))) (list_all is_digit ds) (glyph_at n) e in
+    one_digit_more k n ds (n / 10 == 0) refl longer (digits_more k (n / 10) (digit_glyph false (n % 10) ∷ ds) longer)
+
+all_digits : (n : ℕ) → list_all is_digit (decimal n) ≡ true
+unfolding digits
+all_digits n = digits_more 64 n [] refl
 
 low : (ds : List ℕ) → list_all is_digit ds ≡ true → list_all is_ascii ds ≡ true
 low ds e = all_more is_digit is_ascii (λ c d. low_continue c (or_right (is_ascii_start c) (is_digit c) d)) ds e
@@ -113,17 +124,20 @@ r_named (d ∷ ds) e = let p = and_parts (is_digit d) (list_all is_digit ds) e i
 
 -- ---- exits, fresh variables, fresh lifetimes
 
-pub break_is_identifier : (k : ℕ) → k < 2 ^ 64 → is_identifier (exit_name (to_break k)) ≡ true
-break_is_identifier k b = break_named (decimal k) (all_digits k b)
-
-pub continue_is_identifier : (k : ℕ) → k < 2 ^ 64 → is_identifier (exit_name (to_continue k)) ≡ true
-continue_is_identifier k b = continue_named (decimal k) (all_digits k b)
+pub exit_name_spells : (x : Exit) → is_identifier (exit_name x) ≡ true
+exit_name_spells to_next = refl
+exit_name_spells (to_break k) = break_named (decimal k) (all_digits k)
+exit_name_spells (to_continue k) = continue_named (decimal k) (all_digits k)
+exit_name_spells to_return = refl
 
 pub variable_is_identifier : (taken : Names) (i : ℕ) → length taken + suc i ≤ 2 ^ 64 → is_identifier (fresh_variable taken i) ≡ true
-variable_is_identifier taken i b = fresh_has (λ x. is_identifier x ≡ true) (codes "out_") (λ n l. out_named (decimal n) (all_digits n l)) taken i b
+variable_is_identifier taken i b = fresh_has (λ x. is_identifier x ≡ true) (codes "out_") (λ n l. out_named (decimal n) (all_digits n)) taken i b
 
-lifetime_word : (ds : List ℕ) → list_all is_digit ds ≡ true → IsWord Lifetime (codes "'r" ++ ds)
-lifetime_word ds e = lifetime {name = codes "r" ++ ds} (or_left (is_identifier (codes "r" ++ ds)) (same_bytes (codes "r" ++ ds) (codes "_")) (r_named ds e)) refl
+-- a lifetime, and not `'_`
+lifetime_word : (ds : List ℕ) → list_all is_digit ds ≡ true → IsWord Lifetime (codes "'r" ++ ds) × (codes "'r" ++ ds ≢ codes "'_")
+lifetime_word ds e =
+    (lifetime {name = codes "r" ++ ds} (or_left (is_identifier (codes "r" ++ ds)) (same_bytes (codes "r" ++ ds) (codes "_")) (r_named ds e)) refl,
+    λ same. let first : 114 ≡ 95 = ap (λ w. get_or w 1 0) same in omega (arith, first))
 
-pub lifetime_is_word : (taken : Names) (i : ℕ) → length taken + suc i ≤ 2 ^ 64 → IsWord Lifetime (fresh_lifetime taken i)
-lifetime_is_word taken i b = fresh_has (IsWord Lifetime) (codes "'r") (λ n l. lifetime_word (decimal n) (all_digits n l)) taken i b
+pub lifetime_is_word : (taken : Names) (i : ℕ) → length taken + suc i ≤ 2 ^ 64 → IsWord Lifetime (fresh_lifetime taken i) × (fresh_lifetime taken i ≢ codes "'_")
+lifetime_is_word taken i b = fresh_has (λ w. IsWord Lifetime w × (w ≢ codes "'_")) (codes "'r") (λ n l. lifetime_word (decimal n) (all_digits n)) taken i b

@@ -1,6 +1,6 @@
 //! Laws of the extraction, each as the contract of a function that does nothing.
 
-ghost use Rattle.std.specs.Prelude.{◌≡◌, ℕ, suc, ◌+◌, ◌≤◌, ◌<◌, ◌^◌, true, false, List, ◌++◌, length, map, take, drop, Some};
+ghost use Rattle.std.specs.Prelude.{◌≡◌, ◌≢◌, ℕ, suc, ◌+◌, ◌≤◌, ◌<◌, ◌^◌, true, false, List, ◌++◌, length, map, take, drop, Some, codes};
 ghost use Rattle.rx_core.specs.declared.types.Span.{Span};
 ghost use Rattle.rx_tree.specs.Plain as plain;
 ghost use Rattle.rx_tree.specs.Plain.{Body, Expression, Function, ProgramTree};
@@ -11,7 +11,7 @@ ghost use Rattle.rx_lex.specs.Words.{IsWord, is_identifier};
 ghost use Rattle.rx_resolve_names.specs.Meant.{Around};
 ghost use Rattle.rx_hoist_extraction.specs.Names.{Distinct, Names, is_among};
 ghost use Rattle.rx_hoist_extraction.specs.Run.{Parts, Run};
-ghost use Rattle.rx_hoist_extraction.specs.Plan.{Bounds, Plan, enum_name, exit_name, has_enum, to_break, to_continue, to_next, to_return};
+ghost use Rattle.rx_hoist_extraction.specs.Plan.{Bounds, Exit, Plan, enum_name, exit_name, has_enum};
 ghost use Rattle.rx_hoist_extraction.specs.Fresh.{fresh, fresh_lifetime, fresh_variable};
 ghost use Rattle.rx_hoist_extraction.specs.Changed.{changed, changed_body, kept};
 ghost use Rattle.rx_hoist_extraction.specs.Pinned.{pinned_function};
@@ -86,10 +86,7 @@ pub fn counts_are_exact()
 /// variants, fresh variables and fresh lifetimes.
 pub fn made_names_are_words()
     ensures exits { (plan : Plan) → is_identifier plan.name ≡ true → is_identifier (enum_name plan) ≡ true }
-    ensures breaks { (k : ℕ) → k < 2 ^ 64 → is_identifier (exit_name (to_break k)) ≡ true }
-    ensures continues { (k : ℕ) → k < 2 ^ 64 → is_identifier (exit_name (to_continue k)) ≡ true }
-    ensures next { is_identifier (exit_name to_next) ≡ true }
-    ensures returns { is_identifier (exit_name to_return) ≡ true }
+    ensures variants { (x : Exit) → is_identifier (exit_name x) ≡ true }
     ensures variables { (taken : Names) (i : ℕ) → length taken + suc i ≤ 2 ^ 64 → is_identifier (fresh_variable taken i) ≡ true }
-    ensures lifetimes { (taken : Names) (i : ℕ) → length taken + suc i ≤ 2 ^ 64 → IsWord Lifetime (fresh_lifetime taken i) }
+    ensures lifetimes { (taken : Names) (i : ℕ) → length taken + suc i ≤ 2 ^ 64 → IsWord Lifetime (fresh_lifetime taken i) × (fresh_lifetime taken i ≢ codes "'_") }
 {}
