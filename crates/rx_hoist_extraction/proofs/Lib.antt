@@ -1,0 +1,17 @@
+pub mod FreshNames
+pub mod Unchanged
+pub mod NewItemsAt
+pub mod Signatures
+pub mod WrittenLevels
+pub mod MadeNames
+pub mod FormedChanges
+pub mod Trees
+pub mod CallShapes
+pub mod ExitShapes
+pub mod ExitOuts
+pub mod Bank
+pub mod Lifetimes
+pub mod Shadowing
+pub mod Pins
+pub mod Refuted
+pub mod Spans

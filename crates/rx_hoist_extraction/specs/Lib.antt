@@ -1,0 +1,17 @@
+pub mod Names
+pub mod Run
+pub mod Plan
+pub mod Values
+pub mod Fresh
+pub mod Made
+pub mod WrittenTypes
+pub mod Changed
+pub mod Pinned
+pub mod Moved
+pub mod NewBody
+pub mod NewEnum
+pub mod NewFunction
+pub mod Call
+pub mod Extraction
+pub mod OwnLifetimes
+pub mod Limits
