@@ -5,6 +5,8 @@ pub mod Signatures
 pub mod WrittenLevels
 pub mod MadeNames
 pub mod FormedChanges
+pub mod FormedNodes
+pub mod FormedSignatures
 pub mod Trees
 pub mod CallShapes
 pub mod ExitShapes

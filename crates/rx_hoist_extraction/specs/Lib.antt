@@ -15,3 +15,4 @@ pub mod Call
 pub mod Extraction
 pub mod OwnLifetimes
 pub mod Limits
+pub mod FormedPlan
