@@ -135,7 +135,7 @@ mutual
       (plain.body s (changed_statements C own ls ss) (changed_optional C (behind_all own ss) ls o)) f
       (formed_statements C F own (behind_all own ss) ls ss o f.0, formed_optional C F (behind_all own ss) ls o f.1)
 
-  formed_statement : (C : Changes) → FormedPlaces C → (own : Names) (ls : List Around) (a : Statement) → FormedStatement a → FormedStatement (changed_statement C own ls a)
+  pub formed_statement : (C : Changes) → FormedPlaces C → (own : Names) (ls : List Around) (a : Statement) → FormedStatement a → FormedStatement (changed_statement C own ls a)
   formed_statement C F own ls (plain.let_statement s p t o) f =
       (same_lack C own ls p o f.0, f.1, F.typing p t f.2, formed_optional C F own ls o f.3)
   formed_statement C F own ls (plain.expression_statement s e b) f = (same_end C own ls e b f.0, formed C F own ls e f.1)

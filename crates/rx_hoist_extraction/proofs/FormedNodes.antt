@@ -20,10 +20,10 @@ NodeFormed (a_statement a) = FormedStatement a
 NodeFormed (an_expression e) = Formed e
 NodeFormed (a_pattern p) = ⊤
 
-abbrev All : List NodeTree → Type 0
+abbrev pub All : List NodeTree → Type 0
 All ns = Every NodeFormed ns
 
-both : (xs ys : List NodeTree) → All xs → All ys → All (xs ++ ys)
+pub both : (xs ys : List NodeTree) → All xs → All ys → All (xs ++ ys)
 both xs ys = every_both NodeFormed xs ys
 
 mutual
@@ -131,7 +131,7 @@ mutual
   pub body_nodes : (b : Body) → FormedBody b → All (below_block b)
   body_nodes (plain.body s ss o) f = both (within_statements ss) (within_optional o) (statements_nodes ss o f.0) (optional_nodes o f.1)
 
-  statement_nodes : (a : Statement) → FormedStatement a → All (below_statement a)
+  pub statement_nodes : (a : Statement) → FormedStatement a → All (below_statement a)
   statement_nodes (plain.let_statement s p t o) f =
       (tt, both (below_pattern p) (within_type t ++ within_optional o) (pattern_nodes p)
       (both (within_type t) (within_optional o) (written_nodes t f.2) (optional_nodes o f.3)))

@@ -7,6 +7,7 @@ pub mod MadeNames
 pub mod FormedChanges
 pub mod FormedNodes
 pub mod FormedSignatures
+pub mod FormedBodies
 pub mod Trees
 pub mod CallShapes
 pub mod ExitShapes
