@@ -8,6 +8,7 @@ pub mod FormedChanges
 pub mod FormedNodes
 pub mod FormedSignatures
 pub mod FormedBodies
+pub mod FormedRuns
 pub mod Trees
 pub mod CallShapes
 pub mod ExitShapes

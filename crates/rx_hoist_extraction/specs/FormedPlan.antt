@@ -8,7 +8,7 @@ use Rattle.rx_tree.specs.Plain.{ProgramTree}
 use Rattle.rx_typed.specs.Types.{Typ, Shape, Shapes, integer, boolean, tuple_of, reference, named, no_shape, shape_and}
 use Rattle.rx_print_spelling.specs.Formed.{Spells}
 use Rattle.rx_hoist_extraction.specs.Plan.{Variable, Param, Leaving, Pins, Plan}
-use Rattle.rx_hoist_extraction.specs.Values.{values_of}
+use Rattle.rx_hoist_extraction.specs.Values.{values_of, next_values}
 use Rattle.rx_hoist_extraction.specs.WrittenTypes.{name_of}
 use Rattle.rx_hoist_extraction.specs.NewFunction.{signature_positions}
 
@@ -49,3 +49,4 @@ pub record FormedPlan (P : ProgramTree) (pl : Plan) : Type 0 where
   pub fresh_lifetimes : length pl.lifetimes + signature_positions P pl ≤ 2 ^ 64
   pub fresh_variable : length pl.identifiers + 1 ≤ 2 ^ 64
   pub fresh_variables : Every (λ (x : Leaving). length pl.identifiers + length (values_of pl x) ≤ 2 ^ 64) pl.exits
+  pub fresh_handed : length pl.identifiers + length (next_values pl) ≤ 2 ^ 64
