@@ -1,7 +1,7 @@
 -- The body of the new function is formed: what becomes of the run's places is, and each end leaves no statement open. Statements that
 -- stand in a row are formed each; only the last asks what follows it.
-use Rattle.std.proofs.Common.{◌≡◌, ℕ, zero, suc, ◌+◌, ◌≤◌, ◌^◌, Bool, true, false, List, [], ◌∷◌, ◌++◌, length, map, Option, Some, None, refl, sym, subst, ap, ◌∙◌, arith, append-nil}
-use Rattle.std.specs.Prelude.{if◌then◌else◌, not, ◌&&◌, ◌||◌, ⊤}
+use Rattle.std.proofs.Common.{◌≡◌, ℕ, Bool, true, false, List, [], ◌∷◌, ◌++◌, map, Option, Some, None, refl, sym, subst, append-nil}
+use Rattle.std.specs.Prelude.{if◌then◌else◌, not, ◌&&◌, ◌||◌}
 use Rattle.rx_core.specs.declared.types.Span.{Span}
 use Rattle.rx_tree.specs.declared.tree.Ident.{Ident}
 use Rattle.rx_tree.specs.Lists.{Every, listed}
@@ -11,14 +11,14 @@ use Rattle.rx_resolve_names.specs.Meant.{Around}
 use Rattle.rx_typed.specs.Types.{Typ}
 use Rattle.rx_print_spelling.specs.Formed.{Spells, MaybeLasting, MoreFollows, has_semicolon, Formed, FormedList, FormedOptionalList, FormedOptional, FormedBody, FormedStatement, FormedStatements}
 use Rattle.rx_hoist_extraction.specs.Names.{Names, is_among, bound_by, behind_all}
-use Rattle.rx_hoist_extraction.specs.Run.{Parts, as_statements, block_of}
-use Rattle.rx_hoist_extraction.specs.Plan.{Exit, to_next, to_break, to_continue, to_return, Variable, Leaving, Plan, has_exit, has_enum, outs_of, names_of, is_unit, enum_name, exit_name}
+use Rattle.rx_hoist_extraction.specs.Run.{Parts, as_statements}
+use Rattle.rx_hoist_extraction.specs.Plan.{Exit, to_next, to_break, to_continue, to_return, Variable, Plan, has_exit, has_enum, outs_of, names_of, is_unit, enum_name, exit_name}
 use Rattle.rx_hoist_extraction.specs.Fresh.{fresh_variable}
-use Rattle.rx_hoist_extraction.specs.Made.{as_expressions, joined, given, variant, done, let_typed}
+use Rattle.rx_hoist_extraction.specs.Made.{as_expressions, joined, given, variant, let_typed}
 use Rattle.rx_hoist_extraction.specs.WrittenTypes.{elided}
 use Rattle.rx_hoist_extraction.specs.Changed.{Changes, changed_statements, changed_optional}
-use Rattle.rx_hoist_extraction.specs.Moved.{referred, leaves, handing_out, leaving, moved_variable, moved_break, moved_continue, returned, returned_unit, moved_return, moving}
-use Rattle.rx_hoist_extraction.specs.NewBody.{declared, moved_parts, handing_on, tail_done, followed, last_part, last_of, stays_last, with_tail, unfollowed, in_tuple, with_value, is_any, is_followed, without_value, ended, next_outs, behind_locals, new_parts, new_body}
+use Rattle.rx_hoist_extraction.specs.Moved.{referred, leaves, leaving, moved_variable, moved_break, moved_continue, returned, returned_unit, moved_return, moving}
+use Rattle.rx_hoist_extraction.specs.NewBody.{declared, handing_on, tail_done, followed, last_part, last_of, stays_last, with_tail, unfollowed, in_tuple, with_value, is_any, is_followed, without_value, ended, next_outs, new_body}
 use Rattle.rx_hoist_extraction.specs.FormedPlan.{TypeSpells, MaybeSpells, VariableSpells, FormedPlan}
 use Rattle.rx_hoist_extraction.proofs.MadeNames.{exit_is_identifier, exit_name_spells, variable_is_identifier}
 use Rattle.rx_hoist_extraction.proofs.FormedChanges.{FormedPlaces, formed_statement, formed_optional}
@@ -154,6 +154,7 @@ module _ (P : ProgramTree) (pl : Plan) (F : FormedPlan P pl) (r : Span) where
       only : (o : OptionalExpression) → FormedOptional o → FormedStatements (as_statements (tail_done r o)) (handing_on pl r es)
       only plain.absent g = tt
       only (plain.present e) g = ((tt, g), tt, tt)
+
       after : (o : OptionalExpression) → Follows (tail_done r o) (handing_on pl r es)
       after plain.absent = present_at (has_enum pl.exits) es e
       after (plain.present e) = tt
@@ -188,6 +189,7 @@ module _ (P : ProgramTree) (pl : Plan) (F : FormedPlan P pl) (r : Span) where
       second : (a b : Bool) → (a && b) ≡ true → b ≡ true
       second true b e = e
       second false b e = absurd cc
+
       by : (b : Bool) → is_followed pl es ≡ b → FormedParts (if b then followed pl r (record { statements = ss; tail = o }) es else unfollowed pl (record { statements = ss; tail = o }))
       by true e = followed_formed ss o es h g k (second (has_exit to_next pl.exits) (has_enum pl.exits || is_any es) e)
       by false e = unfollowed_formed ss o h g
@@ -196,17 +198,21 @@ module _ (P : ProgramTree) (pl : Plan) (F : FormedPlan P pl) (r : Span) where
       → FormedParts (in_tuple P pl r t ss e es)
   tuple_formed t ss e [] n h g k = (subst (λ xs. FormedStatements (as_statements xs) (plain.present e)) (append-nil ss) (row_formed ss [] (plain.present e) h tt tt), g)
   tuple_formed t ss e (o ∷ os) n h g k = let out_0 = fresh_variable pl.identifiers 0 in
-      let spells = variable_is_identifier pl.identifiers 0 F.fresh_variable in
-      (row_formed ss (let_typed r out_0 (elided P r t) e ∷ []) (joined r (plain.var r out_0 ∷ o ∷ os)) h ((tt, spells, elided_formed P r t n, g), tt, tt) tt,
-      listed_formed (plain.var r out_0 ∷ o ∷ os) (spells, k))
+      let spells = variable_is_identifier pl.identifiers 0 F.fresh_variable in (
+        row_formed ss (let_typed r out_0 (elided P r t) e ∷ []) (joined r (plain.var r out_0 ∷ o ∷ os)) h ((tt, spells, elided_formed P r t n, g), tt, tt) tt,
+        listed_formed (plain.var r out_0 ∷ o ∷ os) (spells, k),
+      )
 
   valued_formed : (t : Typ) (ss : List Statement) (e : Expression) (es : List Expression) → TypeSpells P t → Every FormedStatement ss → Formed e → Every Formed es
       → FormedParts (with_value P pl r t ss e es)
   valued_formed t ss e es n h g k = by (has_enum pl.exits) refl
     where
       by : (b : Bool) → has_enum pl.exits ≡ b → FormedParts (if b then record { statements = ss; tail = handing_on pl r (e ∷ es) } else in_tuple P pl r t ss e es)
-      by true q = (subst (λ xs. FormedStatements (as_statements xs) (handing_on pl r (e ∷ es))) (append-nil ss)
-          (row_formed ss [] (handing_on pl r (e ∷ es)) h tt (present_at (has_enum pl.exits) (e ∷ es) (rw q refl))), handed_on (e ∷ es) (g, k))
+      by true q = (
+        subst (λ xs. FormedStatements (as_statements xs) (handing_on pl r (e ∷ es))) (append-nil ss)
+            (row_formed ss [] (handing_on pl r (e ∷ es)) h tt (present_at (has_enum pl.exits) (e ∷ es) (rw q refl))),
+        handed_on (e ∷ es) (g, k),
+      )
       by false q = tuple_formed t ss e es n h g k
 
   ended_formed : (v : Option Typ) (ss : List Statement) (o : OptionalExpression) (es : List Expression) → MaybeSpells P v → Every FormedStatement ss → FormedOptional o → Every Formed es
@@ -221,7 +227,9 @@ module _ (P : ProgramTree) (pl : Plan) (F : FormedPlan P pl) (r : Span) where
       let ss = listed (changed_statements M [] ls (as_statements p.statements)) in
       let o = changed_optional M (behind_all [] (as_statements p.statements)) ls p.tail in
       let parts = ended_formed pl.value ss o (next_outs pl r) F.value (each_moved M places [] ls p.statements h)
-          (formed_optional M places (behind_all [] (as_statements p.statements)) ls p.tail g)
-          (outs_formed P r (outs_of to_next pl.exits) (outs_spell P to_next pl.exits F.exits)) in
-      (closed_formed (declared P r pl.locals) (ended P pl r pl.value ss o (next_outs pl r)).statements (ended P pl r pl.value ss o (next_outs pl r)).tail
-      (declared_closed P r pl.locals F.locals) parts.0, parts.1)
+      (formed_optional M places (behind_all [] (as_statements p.statements)) ls p.tail g)
+      (outs_formed P r (outs_of to_next pl.exits) (outs_spell P to_next pl.exits F.exits)) in (
+        closed_formed (declared P r pl.locals) (ended P pl r pl.value ss o (next_outs pl r)).statements (ended P pl r pl.value ss o (next_outs pl r)).tail
+            (declared_closed P r pl.locals F.locals) parts.0,
+        parts.1,
+      )

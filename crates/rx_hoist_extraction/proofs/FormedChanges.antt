@@ -1,13 +1,13 @@
 -- A part of a formed tree in which special places become something else is formed, where these are: by induction on the part. What
 -- ends in a block still does, and a branch stays one.
-use Rattle.std.proofs.Common.{◌≡◌, ℕ, Bool, true, false, List, [], ◌∷◌, ◌++◌, Option, refl, ◌∙◌}
+use Rattle.std.proofs.Common.{◌≡◌, ℕ, Bool, true, false, List, ◌∷◌, ◌++◌, Option, refl}
 use Rattle.rx_core.specs.declared.types.Span.{Span}
 use Rattle.rx_tree.specs.declared.tree.Ident.{Ident}
 use Rattle.rx_tree.specs.Plain as plain
 use Rattle.rx_tree.specs.Plain.{TypeTree, PatternTree, Expression, Expressions, OptionalExpression, OptionalExpressions, FieldExpressions, Arms, Body, Statement, Statements}
 use Rattle.rx_resolve_names.specs.Meant.{Around, a_loop, a_test}
 use Rattle.rx_print_spelling.specs.Places.{is_like, is_branch}
-use Rattle.rx_print_spelling.specs.Formed.{Spells, MaybeLasting, WrittenType, FormedPattern, MayLack, SomeExpression, SomeArm, EndsWell, MoreFollows, has_semicolon, Formed, FormedList, FormedOptionalList, FormedFields, FormedOptional, FormedElse, FormedArms, FormedBody, FormedStatement, FormedStatements}
+use Rattle.rx_print_spelling.specs.Formed.{Spells, MaybeLasting, WrittenType, MayLack, SomeExpression, SomeArm, EndsWell, MoreFollows, has_semicolon, Formed, FormedList, FormedOptionalList, FormedFields, FormedOptional, FormedElse, FormedArms, FormedBody, FormedStatement, FormedStatements}
 use Rattle.rx_hoist_extraction.specs.Names.{Names, bound, bound_by, behind_all}
 use Rattle.rx_hoist_extraction.specs.Changed.{Changes, changed, changed_all, changed_optional, changed_arguments, changed_fields, changed_arms, changed_body, changed_statement, changed_statements}
 

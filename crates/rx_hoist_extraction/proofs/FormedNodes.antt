@@ -1,8 +1,7 @@
 -- The nodes of a formed body are formed: by induction on it. So is the block of a run, and the labels of the loops round it and the
 -- lifetimes that types in it name are lasting.
-use Rattle.std.proofs.Common.{◌≡◌, ℕ, zero, suc, ◌+◌, Bool, true, false, List, [], ◌∷◌, ◌++◌, length, Option, Some, None, refl, sym, subst, ap, ◌∙◌, arith}
-use Rattle.std.specs.Prelude.{⊤, slice_get}
-use Rattle.rx_tree.specs.declared.tree.Ident.{Ident}
+use Rattle.std.proofs.Common.{List, ◌∷◌, ◌++◌, Option, Some, None}
+use Rattle.std.specs.Prelude.{⊤}
 use Rattle.rx_tree.specs.Plain as plain
 use Rattle.rx_tree.specs.Plain.{TypeTree, TypeTrees, PatternTree, PatternTrees, FieldPatterns, Expression, Expressions, OptionalExpression, OptionalExpressions, FieldExpressions, Arms, Body, Statement, Statements}
 use Rattle.rx_tree.specs.Lists.{Every}
@@ -85,19 +84,27 @@ mutual
   expression_nodes (plain.make s n fs) f = fields_nodes fs f.1
   expression_nodes (plain.print s e) f = (f, expression_nodes e f)
   expression_nodes (plain.block s b) f = (f, body_nodes b f)
-  expression_nodes (plain.if s c b o) f =
-      (f.0, both (below_expression c) (a_block b ∷ (below_block b ++ within_optional o)) (expression_nodes c f.0)
-      (f.1, both (below_block b) (within_optional o) (body_nodes b f.1) (else_nodes o f.2)))
-  expression_nodes (plain.if_let s p e b o) f =
-      (tt, both (below_pattern p) (an_expression e ∷ (below_expression e ++ (a_block b ∷ (below_block b ++ within_optional o)))) (pattern_nodes p)
-      (f.1, both (below_expression e) (a_block b ∷ (below_block b ++ within_optional o)) (expression_nodes e f.1)
-      (f.2, both (below_block b) (within_optional o) (body_nodes b f.2) (else_nodes o f.3))))
+  expression_nodes (plain.if s c b o) f = (
+    f.0,
+    both (below_expression c) (a_block b ∷ (below_block b ++ within_optional o)) (expression_nodes c f.0)
+        (f.1, both (below_block b) (within_optional o) (body_nodes b f.1) (else_nodes o f.2)),
+  )
+  expression_nodes (plain.if_let s p e b o) f = (
+    tt,
+    both (below_pattern p) (an_expression e ∷ (below_expression e ++ (a_block b ∷ (below_block b ++ within_optional o)))) (pattern_nodes p) (
+      f.1,
+      both (below_expression e) (a_block b ∷ (below_block b ++ within_optional o)) (expression_nodes e f.1)
+          (f.2, both (below_block b) (within_optional o) (body_nodes b f.2) (else_nodes o f.3)),
+    ),
+  )
   expression_nodes (plain.match s e arms) f = (f.0, both (below_expression e) (within_arms arms) (expression_nodes e f.0) (arms_nodes arms f.2))
   expression_nodes (plain.loop s l b) f = (f.1, body_nodes b f.1)
   expression_nodes (plain.while s l c b) f = (f.1, both (below_expression c) (a_block b ∷ below_block b) (expression_nodes c f.1) (f.2, body_nodes b f.2))
-  expression_nodes (plain.while_let s l p e b) f =
-      (tt, both (below_pattern p) (an_expression e ∷ (below_expression e ++ (a_block b ∷ below_block b))) (pattern_nodes p)
-      (f.2, both (below_expression e) (a_block b ∷ below_block b) (expression_nodes e f.2) (f.3, body_nodes b f.3)))
+  expression_nodes (plain.while_let s l p e b) f = (
+    tt,
+    both (below_pattern p) (an_expression e ∷ (below_expression e ++ (a_block b ∷ below_block b))) (pattern_nodes p)
+        (f.2, both (below_expression e) (a_block b ∷ below_block b) (expression_nodes e f.2) (f.3, body_nodes b f.3)),
+  )
   expression_nodes (plain.break s l) f = tt
   expression_nodes (plain.continue s l) f = tt
   expression_nodes (plain.return s o) f = optional_nodes o f
@@ -124,17 +131,21 @@ mutual
 
   arms_nodes : (arms : Arms) → FormedArms arms → All (within_arms arms)
   arms_nodes plain.no_arm f = tt
-  arms_nodes (plain.arm_and p e rest) f =
-      (tt, both (below_pattern p) (an_expression e ∷ (below_expression e ++ within_arms rest)) (pattern_nodes p)
-      (f.1, both (below_expression e) (within_arms rest) (expression_nodes e f.1) (arms_nodes rest f.2)))
+  arms_nodes (plain.arm_and p e rest) f = (
+    tt,
+    both (below_pattern p) (an_expression e ∷ (below_expression e ++ within_arms rest)) (pattern_nodes p)
+        (f.1, both (below_expression e) (within_arms rest) (expression_nodes e f.1) (arms_nodes rest f.2)),
+  )
 
   pub body_nodes : (b : Body) → FormedBody b → All (below_block b)
   body_nodes (plain.body s ss o) f = both (within_statements ss) (within_optional o) (statements_nodes ss o f.0) (optional_nodes o f.1)
 
   pub statement_nodes : (a : Statement) → FormedStatement a → All (below_statement a)
-  statement_nodes (plain.let_statement s p t o) f =
-      (tt, both (below_pattern p) (within_type t ++ within_optional o) (pattern_nodes p)
-      (both (within_type t) (within_optional o) (written_nodes t f.2) (optional_nodes o f.3)))
+  statement_nodes (plain.let_statement s p t o) f = (
+    tt,
+    both (below_pattern p) (within_type t ++ within_optional o) (pattern_nodes p)
+        (both (within_type t) (within_optional o) (written_nodes t f.2) (optional_nodes o f.3)),
+  )
   statement_nodes (plain.expression_statement s e b) f = (f.1, expression_nodes e f.1)
 
   pub statements_nodes : (ss : Statements) (o : OptionalExpression) → FormedStatements ss o → All (within_statements ss)

@@ -4,7 +4,7 @@ use Rattle.std.proofs.Common.{◌≡◌, ℕ, zero, suc, Bool, true, false, List
 use Rattle.std.specs.Prelude.{if◌then◌else◌, slice_get}
 use Rattle.rx_tree.specs.declared.tree.Ident.{Ident}
 use Rattle.rx_tree.specs.Erase.{nowhere}
-use Rattle.rx_tree.specs.Lists.{Every, listed, statements, tail}
+use Rattle.rx_tree.specs.Lists.{Every, listed}
 use Rattle.rx_tree.specs.Nodes.{below_block, below_statement, within_statements, within_optional}
 use Rattle.rx_tree.specs.Plain as plain
 use Rattle.rx_tree.specs.Plain.{OptionalExpression, Body, Statement, Statements, Function, ProgramTree}
@@ -12,7 +12,7 @@ use Rattle.rx_tree.specs.Positions.{NodeTree, an_item, a_type, a_block, a_statem
 use Rattle.rx_tree.proofs.NodesLaws.{every_both, every_node}
 use Rattle.rx_print_spelling.specs.Formed.{Lasting, MaybeLasting, FormedOptional, FormedBody, FormedStatement, FormedStatements}
 use Rattle.rx_hoist_extraction.specs.Names.{Names, is_among}
-use Rattle.rx_hoist_extraction.specs.Run.{Run, Parts, as_statements, tail_if, goes_past, as_block, run_block, chosen, chosen_parts, run_parts, label_of, labels_on, labels_round}
+use Rattle.rx_hoist_extraction.specs.Run.{Run, Parts, as_statements, tail_if, goes_past, as_block, run_block, chosen_parts, run_parts, label_of, labels_on, labels_round}
 use Rattle.rx_hoist_extraction.specs.NewFunction.{lifetimes_listed, lifetimes_at, lifetimes_at_all, firsts_of, copied_lifetimes}
 use Rattle.rx_hoist_extraction.proofs.FormedNodes.{NodeFormed, All, both, body_nodes, statement_nodes, optional_nodes}
 
@@ -55,8 +55,10 @@ tail_chosen false o h = tt
 tail_chosen true o h = h
 
 parts_chosen : (r : Run) (b : Body) → FormedBody b → Every FormedStatement (chosen_parts r b).statements × FormedOptional (chosen_parts r b).tail
-parts_chosen r (plain.body s ss o) f = (every_take FormedStatement _ (drop r.first (listed ss)) (every_drop FormedStatement r.first (listed ss) (each_statement ss o f.0)),
-    tail_chosen (goes_past r (listed ss)) o f.1)
+parts_chosen r (plain.body s ss o) f = (
+  every_take FormedStatement _ (drop r.first (listed ss)) (every_drop FormedStatement r.first (listed ss) (each_statement ss o f.0)),
+  tail_chosen (goes_past r (listed ss)) o f.1,
+)
 
 pub parts_formed : (r : Run) (f : Function) → FormedBody f.body → Every FormedStatement (run_parts r f).statements × FormedOptional (run_parts r f).tail
 parts_formed r f h = parts_chosen r (run_block r f) (block_formed r f h)

@@ -1,24 +1,22 @@
 -- The enum of exits and the signature of the new function are formed: written types are, by induction on them, since fresh lifetimes
 -- are words.
-use Rattle.std.proofs.Common.{◌≡◌, ℕ, zero, suc, ◌+◌, ◌≤◌, ◌^◌, Bool, true, false, List, [], ◌∷◌, ◌++◌, length, map, Option, Some, None, refl, sym, subst, ap, ◌∙◌, arith}
-use Rattle.std.specs.Prelude.{if◌then◌else◌, filter}
+use Rattle.std.proofs.Common.{◌≡◌, ℕ, zero, suc, ◌+◌, ◌≤◌, ◌^◌, Bool, true, false, List, [], ◌∷◌, ◌++◌, length, map, Option, Some, None, refl, arith}
+use Rattle.std.specs.Prelude.{if◌then◌else◌}
 use Rattle.rx_core.specs.declared.types.Span.{Span}
 use Rattle.rx_core.specs.declared.types.Kind.{Kind}
 use Rattle.rx_tree.specs.declared.tree.Ident.{Ident}
-use Rattle.rx_tree.specs.declared.tree.BoundLifetime.{BoundLifetime}
 use Rattle.rx_tree.specs.Lists.{Every}
 use Rattle.rx_tree.specs.Plain as plain
 use Rattle.rx_tree.specs.Plain.{ProgramTree}
-use Rattle.rx_tree.proofs.NodesLaws.{every_both}
 use Rattle.rx_typed.specs.Types.{Typ, Shape, Shapes, integer, boolean, tuple_of, reference, named, no_shape, shape_and, shapes_of}
-use Rattle.rx_print_spelling.specs.Formed.{Spells, Lasting, MaybeLasting, IsSome, GivenLifetimes, FormedType, FormedTypes, WrittenType, FormedBound, FormedVariant, FormedParameter, FormedItem}
+use Rattle.rx_print_spelling.specs.Formed.{Lasting, MaybeLasting, IsSome, GivenLifetimes, FormedType, FormedTypes, WrittenType, FormedBound, FormedVariant, FormedParameter, FormedItem}
 use Rattle.rx_hoist_extraction.specs.Names.{Names}
-use Rattle.rx_hoist_extraction.specs.Plan.{Exit, to_next, to_break, to_continue, to_return, Mode, by_value, by_reborrow, by_view, by_shared, by_mut, Variable, Param, Leaving, Bounds, Plan, has_enum, outs_of, same_exit, has_exit, is_unit, enum_name, exit_name}
-use Rattle.rx_hoist_extraction.specs.Values.{Value, result_of, held_by, held, result_if_any, unless_unit, values_at, values_of, next_values, value_type, types_of}
+use Rattle.rx_hoist_extraction.specs.Plan.{Exit, to_next, to_break, to_continue, to_return, Mode, by_value, by_reborrow, by_view, by_shared, by_mut, Variable, Param, Leaving, Bounds, Plan, has_enum, outs_of, same_exit, has_exit, is_unit}
+use Rattle.rx_hoist_extraction.specs.Values.{Value, result_of, held, result_if_any, values_at, next_values, types_of}
 use Rattle.rx_hoist_extraction.specs.Fresh.{fresh_lifetime}
 use Rattle.rx_hoist_extraction.specs.WrittenTypes.{lifetimes_of, positions, all_positions, positions_of, lifetimes_from, list_if_any, full, all_full, each_full, elided, all_elided}
 use Rattle.rx_hoist_extraction.specs.NewEnum.{fields_at, all_fields, enum_positions, variants, new_enum}
-use Rattle.rx_hoist_extraction.specs.NewFunction.{viewed, passed, passed_types, new_parameters, parameter_positions, joined_type, full_if_any, enum_type, new_result, result_positions, signature_positions, is_bound, shorts_of, with_bounds}
+use Rattle.rx_hoist_extraction.specs.NewFunction.{passed, passed_types, new_parameters, parameter_positions, joined_type, full_if_any, enum_type, new_result, result_positions, signature_positions, is_bound, shorts_of, with_bounds}
 use Rattle.rx_hoist_extraction.specs.FormedPlan.{TypeSpells, TypesSpell, MaybeSpells, VariableSpells, FormedPlan}
 use Rattle.rx_hoist_extraction.proofs.Signatures.{positions_both, shapes_positions}
 use Rattle.rx_hoist_extraction.proofs.MadeNames.{exit_is_identifier, exit_name_spells, lifetime_is_word}
@@ -118,9 +116,10 @@ variants_formed : (P : ProgramTree) (pl : Plan) → FormedPlan P pl → (s : Spa
     → length pl.lifetimes + (n + positions_of P (all_fields pl xs)) ≤ 2 ^ 64 → Every FormedVariant (variants P pl s n xs)
 variants_formed P pl F s n [] h b = tt
 variants_formed P pl F s n (x ∷ xs) h b = let ts = fields_at pl x in
-    let split = positions_both P ts (all_fields pl xs) in
-    ((exit_name_spells x.exit, each_full_formed P s pl.lifetimes n ts (omega (arith, split)) (values_spell P pl F x.exit x.outs h.0)),
-    variants_formed P pl F s (n + positions_of P ts) xs h.1 (omega (arith, split)))
+    let split = positions_both P ts (all_fields pl xs) in (
+      (exit_name_spells x.exit, each_full_formed P s pl.lifetimes n ts (omega (arith, split)) (values_spell P pl F x.exit x.outs h.0)),
+      variants_formed P pl F s (n + positions_of P ts) xs h.1 (omega (arith, split)),
+    )
 
 some_variant : (P : ProgramTree) (pl : Plan) (s : Span) (xs : List Leaving) → has_enum xs ≡ true → IsSome (variants P pl s 0 xs)
 some_variant P pl s [] e = absurd cc
@@ -131,9 +130,12 @@ enum_within P pl e = rw e refl
 
 pub enum_formed : (P : ProgramTree) (pl : Plan) → FormedPlan P pl → (s : Span) → has_enum pl.exits ≡ true → FormedItem (plain.enum_item s (new_enum P pl s))
 enum_formed P pl F s e = let within = enum_within P pl e in
-    let few = F.fresh_lifetimes in
-    (exit_is_identifier pl F.name, lasting_row s pl.lifetimes 0 (enum_positions P pl) (omega (arith, within, few)), some_variant P pl s pl.exits e,
-    variants_formed P pl F s 0 pl.exits F.exits (omega (arith, within, few)))
+    let few = F.fresh_lifetimes in (
+      exit_is_identifier pl F.name,
+      lasting_row s pl.lifetimes 0 (enum_positions P pl) (omega (arith, within, few)),
+      some_variant P pl s pl.exits e,
+      variants_formed P pl F s 0 pl.exits F.exits (omega (arith, within, few)),
+    )
 
 -- ---- the signature
 
@@ -151,9 +153,10 @@ passed_spells P by_mut t h = h
 parameters_formed : (P : ProgramTree) (pl : Plan) (s : Span) (n : ℕ) (xs : List Param) → Every (λ (x : Param). VariableSpells P x.variable) xs
     → length pl.lifetimes + (n + positions_of P (passed_types xs)) ≤ 2 ^ 64 → Every FormedParameter (new_parameters P pl s n xs)
 parameters_formed P pl s n [] h b = tt
-parameters_formed P pl s n (x ∷ xs) h b = let t = passed x.mode x.variable.typ in
-    ((h.0.0, full_formed P s pl.lifetimes n t (omega arith) (passed_spells P x.mode x.variable.typ h.0.1)),
-    parameters_formed P pl s (n + positions P t) xs h.1 (omega arith))
+parameters_formed P pl s n (x ∷ xs) h b = let t = passed x.mode x.variable.typ in (
+  (h.0.0, full_formed P s pl.lifetimes n t (omega arith) (passed_spells P x.mode x.variable.typ h.0.1)),
+  parameters_formed P pl s (n + positions P t) xs h.1 (omega arith),
+)
 
 shapes_spell : (P : ProgramTree) (ts : List Typ) → Every (TypeSpells P) ts → TypesSpell P (shapes_of ts)
 shapes_spell P [] h = tt
@@ -171,9 +174,11 @@ result_formed P pl F s = by (has_enum pl.exits) F.fresh_lifetimes
   where
     by : (b : Bool) → length pl.lifetimes + (parameter_positions P pl + (if b then enum_positions P pl else positions_of P (types_of (next_values pl)))) ≤ 2 ^ 64
         → WrittenType (if b then Some (enum_type P pl s (parameter_positions P pl)) else full_if_any P pl s (parameter_positions P pl) (joined_type (types_of (next_values pl))))
-    by true few = (exit_is_identifier pl F.name,
-        all_given (lifetimes_from s (fresh_lifetime pl.lifetimes) (parameter_positions P pl) (enum_positions P pl))
-        (lasting_row s pl.lifetimes (parameter_positions P pl) (enum_positions P pl) few))
+    by true few = (
+      exit_is_identifier pl F.name,
+      all_given (lifetimes_from s (fresh_lifetime pl.lifetimes) (parameter_positions P pl) (enum_positions P pl))
+          (lasting_row s pl.lifetimes (parameter_positions P pl) (enum_positions P pl) few),
+    )
     by false few = joined_formed P pl s (parameter_positions P pl) (types_of (next_values pl)) few (next_spell P pl F)
 
 pub params_formed : (P : ProgramTree) (pl : Plan) → FormedPlan P pl → (s : Span) → Every FormedParameter (new_parameters P pl s 0 pl.params)

@@ -9,6 +9,8 @@ pub mod FormedNodes
 pub mod FormedSignatures
 pub mod FormedBodies
 pub mod FormedRuns
+pub mod FormedCalls
+pub mod FormedPrograms
 pub mod Trees
 pub mod CallShapes
 pub mod ExitShapes
@@ -19,3 +21,4 @@ pub mod Shadowing
 pub mod Pins
 pub mod Refuted
 pub mod Spans
+pub mod FormedExample

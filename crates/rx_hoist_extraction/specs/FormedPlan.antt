@@ -1,6 +1,6 @@
 -- A plan whose names are words: what is asked of it so that the extraction of a formed program is formed (Rust Reference,
 -- "Identifiers"). What a text's plan names is a word in the text; the counts are far below their bound there.
-use Rattle.std.specs.Prelude.{ℕ, ◌+◌, ◌≤◌, ◌^◌, List, [], ◌∷◌, Option, Some, None, length, ⊤}
+use Rattle.std.specs.Prelude.{◌+◌, ◌≤◌, ◌^◌, Option, Some, None, length, ⊤}
 use Rattle.rx_core.specs.declared.types.Kind.{Kind}
 use Rattle.rx_core.specs.declared.types.Span.{Span}
 use Rattle.rx_tree.specs.Lists.{Every}
