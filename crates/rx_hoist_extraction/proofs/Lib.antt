@@ -19,6 +19,7 @@ pub mod Bank
 pub mod Lifetimes
 pub mod Shadowing
 pub mod Pins
+pub mod Together
 pub mod Refuted
 pub mod Spans
 pub mod FormedExample
