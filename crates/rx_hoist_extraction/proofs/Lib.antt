@@ -4,6 +4,7 @@ pub mod NewItemsAt
 pub mod Signatures
 pub mod WrittenLevels
 pub mod MadeNames
+pub mod FreeNames
 pub mod FormedChanges
 pub mod FormedNodes
 pub mod FormedSignatures

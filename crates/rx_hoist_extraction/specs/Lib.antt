@@ -16,3 +16,4 @@ pub mod Extraction
 pub mod OwnLifetimes
 pub mod Limits
 pub mod FormedPlan
+pub mod FreeName

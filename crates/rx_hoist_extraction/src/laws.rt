@@ -24,6 +24,7 @@ ghost use Rattle.rx_hoist_extraction.specs.NewEnum.{enum_positions, new_enum};
 ghost use Rattle.rx_hoist_extraction.specs.NewFunction.{copied_lifetimes, new_function, signature_positions};
 ghost use Rattle.rx_hoist_extraction.specs.OwnLifetimes.{declared_lifetimes, idents, in_signature, in_variants};
 ghost use Rattle.rx_hoist_extraction.specs.FormedPlan.{FormedPlan};
+ghost use Rattle.rx_hoist_extraction.specs.FreeName.{FreeName};
 ghost use Rattle.rx_hoist_extraction.specs.Extraction.{Extracted, added, extraction, in_two, made_enum, made_function, new_number, with_call};
 
 /// A program has one extraction of a run by a plan with bounds, apart from spans.
@@ -98,4 +99,14 @@ pub fn made_names_are_words()
 pub fn extractions_are_formed()
     ensures { (p : ProgramTree) (r : Run) (plan : Plan) (bounds : Bounds) (s : Span) (f : Function) → FormedProgram p → FormedPlan p plan → nth p r.item ≡ Some (plain.function_item s f)
         → (goes_past r (statements (run_block r (pinned_function p r.span plan.pins f))) ≡ false → plan.value ≡ None) → FormedProgram (extraction p r plan bounds) }
+{}
+
+/// A free name is none of the names that an extraction makes beside it, and the name of the enum is no variant's and no fresh
+/// variable's.
+pub fn free_names_are_new()
+    ensures exits { (identifiers : Names) (plan : Plan) → FreeName identifiers plan.name → plan.name ≢ enum_name plan }
+    ensures variants { (identifiers : Names) (name : List ℕ) → FreeName identifiers name → (x : Exit) → name ≢ exit_name x }
+    ensures variables { (identifiers : Names) (name : List ℕ) → FreeName identifiers name → (taken : Names) (i : ℕ) → length taken + suc i ≤ 2 ^ 64 → name ≢ fresh_variable taken i }
+    ensures enum_variants { (plan : Plan) (x : Exit) → enum_name plan ≢ exit_name x }
+    ensures enum_variables { (plan : Plan) (taken : Names) (i : ℕ) → length taken + suc i ≤ 2 ^ 64 → enum_name plan ≢ fresh_variable taken i }
 {}
