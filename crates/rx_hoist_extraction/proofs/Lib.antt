@@ -23,4 +23,5 @@ pub mod Pins
 pub mod Together
 pub mod Refuted
 pub mod Spans
+pub mod LimitExamples
 pub mod FormedExample
