@@ -1,5 +1,6 @@
 pub mod FreshNames
 pub mod Unchanged
+pub mod Elsewhere
 pub mod NewItemsAt
 pub mod Signatures
 pub mod WrittenLevels

@@ -17,3 +17,4 @@ pub mod OwnLifetimes
 pub mod Limits
 pub mod FormedPlan
 pub mod FreeName
+pub mod Elsewhere

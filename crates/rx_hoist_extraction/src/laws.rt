@@ -25,7 +25,8 @@ ghost use Rattle.rx_hoist_extraction.specs.NewFunction.{copied_lifetimes, new_fu
 ghost use Rattle.rx_hoist_extraction.specs.OwnLifetimes.{declared_lifetimes, idents, in_signature, in_variants};
 ghost use Rattle.rx_hoist_extraction.specs.FormedPlan.{FormedPlan};
 ghost use Rattle.rx_hoist_extraction.specs.FreeName.{FreeName};
-ghost use Rattle.rx_hoist_extraction.specs.Extraction.{Extracted, added, extraction, in_two, made_enum, made_function, new_number, with_call};
+ghost use Rattle.rx_hoist_extraction.specs.Extraction.{Extracted, added, extraction, in_two, made_enum, made_function, new_number, replacing, with_call};
+ghost use Rattle.rx_hoist_extraction.specs.Elsewhere.{BlockElsewhere, ExpressionElsewhere};
 
 /// A program has one extraction of a run by a plan with bounds, apart from spans.
 pub fn one_extraction()
@@ -42,6 +43,12 @@ pub fn fresh_names()
 pub fn kept_is_same()
     ensures expression { (own : Names) (around : List Around) (e : Expression) → changed kept own around e ≡ e }
     ensures block { (own : Names) (around : List Around) (b : Body) → changed_body kept own around b ≡ b }
+{}
+
+/// Where no block stands at a place, putting another block in there changes nothing.
+pub fn elsewhere_is_same()
+    ensures expression { (place : Span) (new : Body) (own : Names) (around : List Around) (e : Expression) → ExpressionElsewhere place e → changed (replacing place new) own around e ≡ e }
+    ensures block { (place : Span) (new : Body) (own : Names) (around : List Around) (b : Body) → BlockElsewhere place b → changed_body (replacing place new) own around b ≡ b }
 {}
 
 /// The items of an extraction: those in front of the function of the run, that function with the call, the new items, those behind.
