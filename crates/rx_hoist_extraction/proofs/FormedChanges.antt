@@ -1,13 +1,13 @@
 -- A part of a formed tree in which special places become something else is formed, where these are: by induction on the part. What
 -- ends in a block still does, and a branch stays one.
-use Rattle.std.proofs.Common.{◌≡◌, ℕ, Bool, true, false, List, [], ◌∷◌, ◌++◌, Option, refl, ◌∙◌}
+use Rattle.std.proofs.Common.{◌≡◌, ℕ, Bool, true, false, List, ◌∷◌, ◌++◌, Option, refl}
 use Rattle.rx_core.specs.declared.types.Span.{Span}
 use Rattle.rx_tree.specs.declared.tree.Ident.{Ident}
 use Rattle.rx_tree.specs.Plain as plain
 use Rattle.rx_tree.specs.Plain.{TypeTree, PatternTree, Expression, Expressions, OptionalExpression, OptionalExpressions, FieldExpressions, Arms, Body, Statement, Statements}
 use Rattle.rx_resolve_names.specs.Meant.{Around, a_loop, a_test}
 use Rattle.rx_print_spelling.specs.Places.{is_like, is_branch}
-use Rattle.rx_print_spelling.specs.Formed.{Spells, MaybeLasting, WrittenType, FormedPattern, MayLack, SomeExpression, SomeArm, EndsWell, MoreFollows, has_semicolon, Formed, FormedList, FormedOptionalList, FormedFields, FormedOptional, FormedElse, FormedArms, FormedBody, FormedStatement, FormedStatements}
+use Rattle.rx_print_spelling.specs.Formed.{Spells, MaybeLasting, WrittenType, MayLack, SomeExpression, SomeArm, EndsWell, MoreFollows, has_semicolon, Formed, FormedList, FormedOptionalList, FormedFields, FormedOptional, FormedElse, FormedArms, FormedBody, FormedStatement, FormedStatements}
 use Rattle.rx_hoist_extraction.specs.Names.{Names, bound, bound_by, behind_all}
 use Rattle.rx_hoist_extraction.specs.Changed.{Changes, changed, changed_all, changed_optional, changed_arguments, changed_fields, changed_arms, changed_body, changed_statement, changed_statements}
 
@@ -135,7 +135,7 @@ mutual
       (plain.body s (changed_statements C own ls ss) (changed_optional C (behind_all own ss) ls o)) f
       (formed_statements C F own (behind_all own ss) ls ss o f.0, formed_optional C F (behind_all own ss) ls o f.1)
 
-  formed_statement : (C : Changes) → FormedPlaces C → (own : Names) (ls : List Around) (a : Statement) → FormedStatement a → FormedStatement (changed_statement C own ls a)
+  pub formed_statement : (C : Changes) → FormedPlaces C → (own : Names) (ls : List Around) (a : Statement) → FormedStatement a → FormedStatement (changed_statement C own ls a)
   formed_statement C F own ls (plain.let_statement s p t o) f =
       (same_lack C own ls p o f.0, f.1, F.typing p t f.2, formed_optional C F own ls o f.3)
   formed_statement C F own ls (plain.expression_statement s e b) f = (same_end C own ls e b f.0, formed C F own ls e f.1)

@@ -1,10 +1,18 @@
 pub mod FreshNames
 pub mod Unchanged
+pub mod Elsewhere
 pub mod NewItemsAt
 pub mod Signatures
 pub mod WrittenLevels
 pub mod MadeNames
+pub mod FreeNames
 pub mod FormedChanges
+pub mod FormedNodes
+pub mod FormedSignatures
+pub mod FormedBodies
+pub mod FormedRuns
+pub mod FormedCalls
+pub mod FormedPrograms
 pub mod Trees
 pub mod CallShapes
 pub mod ExitShapes
@@ -13,5 +21,8 @@ pub mod Bank
 pub mod Lifetimes
 pub mod Shadowing
 pub mod Pins
+pub mod Together
 pub mod Refuted
 pub mod Spans
+pub mod LimitExamples
+pub mod FormedExample

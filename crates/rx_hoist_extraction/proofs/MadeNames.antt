@@ -135,9 +135,10 @@ variable_is_identifier taken i b = fresh_has (λ x. is_identifier x ≡ true) (c
 
 -- a lifetime, and not `'_`
 lifetime_word : (ds : List ℕ) → list_all is_digit ds ≡ true → IsWord Lifetime (codes "'r" ++ ds) × (codes "'r" ++ ds ≢ codes "'_")
-lifetime_word ds e =
-    (lifetime {name = codes "r" ++ ds} (or_left (is_identifier (codes "r" ++ ds)) (same_bytes (codes "r" ++ ds) (codes "_")) (r_named ds e)) refl,
-    λ same. let first : 114 ≡ 95 = ap (λ w. get_or w 1 0) same in omega (arith, first))
+lifetime_word ds e = (
+  lifetime {name = codes "r" ++ ds} (or_left (is_identifier (codes "r" ++ ds)) (same_bytes (codes "r" ++ ds) (codes "_")) (r_named ds e)) refl,
+  λ same. let first : 114 ≡ 95 = ap (λ w. get_or w 1 0) same in omega (arith, first),
+)
 
 pub lifetime_is_word : (taken : Names) (i : ℕ) → length taken + suc i ≤ 2 ^ 64 → IsWord Lifetime (fresh_lifetime taken i) × (fresh_lifetime taken i ≢ codes "'_")
 lifetime_is_word taken i b = fresh_has (λ w. IsWord Lifetime w × (w ≢ codes "'_")) (codes "'r") (λ n l. lifetime_word (decimal n) (all_digits n)) taken i b

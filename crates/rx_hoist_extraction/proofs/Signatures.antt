@@ -75,7 +75,7 @@ each_full_names P s r n (t ∷ ts) = ap₂ (λ a b. a ++ b) (full_names P s r n 
 
 -- ---- the enum
 
-positions_both : (P : ProgramTree) (ts us : List Typ) → positions_of P (ts ++ us) ≡ positions_of P ts + positions_of P us
+pub positions_both : (P : ProgramTree) (ts us : List Typ) → positions_of P (ts ++ us) ≡ positions_of P ts + positions_of P us
 positions_both P [] us = omega arith
 positions_both P (t ∷ ts) us = omega (arith, positions_both P ts us)
 
@@ -101,7 +101,7 @@ parameters_names P pl s n (x ∷ xs) = let row = fresh_lifetime pl.lifetimes in
     ap₂ (λ a b. a ++ b) (full_names P s row n t) (parameters_names P pl s (n + positions P t) xs)
     ∙ joined_rows s row n (positions P t) (positions_of P (passed_types xs))
 
-shapes_positions : (P : ProgramTree) (ts : List Typ) → all_positions P (shapes_of ts) ≡ positions_of P ts
+pub shapes_positions : (P : ProgramTree) (ts : List Typ) → all_positions P (shapes_of ts) ≡ positions_of P ts
 shapes_positions P [] = refl
 shapes_positions P (t ∷ ts) = ap (λ k. positions P t + k) (shapes_positions P ts)
 

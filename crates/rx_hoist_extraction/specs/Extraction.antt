@@ -18,12 +18,13 @@ use Rattle.rx_hoist_extraction.specs.Call.{replacement}
 -- ---- the function round the run
 
 -- the block at a place becomes another; nothing else does
-abbrev pub replacing : Span → (Body → Body) → Changes
-replacing place F = record kept { at_block = λ b changed. if same_place place (body_span b) then F b else changed }
+abbrev pub replacing : Span → Body → Changes
+replacing place new = record kept { at_block = λ b changed. if same_place place (body_span b) then new else changed }
 
 abbrev pub with_call : ProgramTree → Run → Plan → Function → Function
-with_call P r pl f = let call = replacement P pl r.span (labels_round r f) (run_parts r f) in
-    record f { body = changed_body (replacing (body_span (run_block r f)) (with_parts r call)) [] [] f.body }
+with_call P r pl f = let block = run_block r f in
+    let call = replacement P pl r.span (labels_round r f) (run_parts r f) in
+    record f { body = changed_body (replacing (body_span block) (with_parts r call block)) [] [] f.body }
 
 -- ---- the new items
 

@@ -15,3 +15,6 @@ pub mod Call
 pub mod Extraction
 pub mod OwnLifetimes
 pub mod Limits
+pub mod FormedPlan
+pub mod FreeName
+pub mod Elsewhere
