@@ -13,3 +13,4 @@ pub mod spans
 pub mod ExamplesOfTraces
 pub mod Kept
 pub mod Memory
+pub mod Reborrows

@@ -1,18 +1,22 @@
 //! Laws of runs, each the contract of a function that does nothing.
 
-ghost use Rattle.std.specs.Prelude.{◌≡◌, ◌≤◌, ℕ, ℤ, List as ListOf, length};
+ghost use Rattle.std.specs.Prelude.{◌≡◌, ◌≤◌, ℕ, ℤ, Bool, true, List as ListOf, [], ◌∷◌, length, Some};
+ghost use Rattle.rx_core.specs.declared.types.Step.{Step};
+ghost use Rattle.rx_core.specs.declared.types.Step.TheVariants as StepTo;
 ghost use Rattle.rx_tree.specs.Plain.{ProgramTree};
 ghost use Rattle.rx_tree.specs.Erase.{SameProgram};
 ghost use Rattle.rx_resolve_names.specs.declared.resolved.NodeNames.{NodeNames as NodeNamesOf};
-ghost use Rattle.rx_typed.specs.Tree.{Function};
+ghost use Rattle.rx_typed.specs.Tree.{Function, Temporary, own, under};
 ghost use Rattle.rx_typed.specs.Elaborated.{Assigned};
+ghost use Rattle.rx_lower_walks.specs.Actions.{Borrow};
 ghost use Rattle.rx_lower_walks.specs.Orders.{order_function};
 ghost use Rattle.rx_lower_walks.specs.Walks.{Walk};
 ghost use Rattle.rx_meaning.specs.declared.outcome.Outcome.{Outcome as OutcomeOf};
 ghost use Rattle.rx_meaning.specs.Endings.{end_of};
-ghost use Rattle.rx_meaning.specs.Values.{Value, State};
-ghost use Rattle.rx_meaning.specs.Results.{Leaves};
-ghost use Rattle.rx_meaning.specs.Acting.{Acting, plainly};
+ghost use Rattle.rx_meaning.specs.Values.{Value, pointer, element, slot_of, State};
+ghost use Rattle.rx_meaning.specs.Results.{Leaves, gives};
+ghost use Rattle.rx_meaning.specs.Places.{in_slot, content};
+ghost use Rattle.rx_meaning.specs.Acting.{Acting, does_plainly, plainly};
 ghost use Rattle.rx_meaning.specs.Expressions.{Functions, activation, below_level, called};
 ghost use Rattle.rx_meaning.specs.Programs.{Program, run, run_by, ending, UpTo, typed_program};
 ghost use Rattle.rx_meaning.specs.Telling.{telling, fully, acted, told_by, out_of, Alike, Anything, SameSaid, SameActions};
@@ -67,6 +71,13 @@ pub fn up_to_is_an_order()
 pub fn memory_only_grows()
     ensures { (P : Functions) (n : ℕ) (f : Function) (vs : ListOf Value) (s : State)
         → Leaves (λ s1. length s.memory ≤ length s1.memory) (activation plainly (below_level plainly P n) f vs s) }
+{}
+
+/// A mutable reference that is asked for to where the reference in a variable leads is that reference, shared or mutable.
+pub fn reborrows_are_copies()
+    ensures { (x i j : ℕ) (q : ListOf Step) (b m : Bool) (v : Value) (d : Temporary) (s : State)
+        → slot_of s.frame.slots x ≡ Some i → element s.memory i ≡ Some (pointer j q m) → content s.memory (in_slot j q m) ≡ Some v
+        → does_plainly (Borrow true (under (own x) (StepTo.Deref b ∷ [])) d) [] s ≡ gives [] (pointer j q m) s }
 {}
 
 /// Programs that are equal apart from spans have the same runs, with the same names and types.
