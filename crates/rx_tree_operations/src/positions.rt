@@ -40,8 +40,8 @@ pub fn at<'t>(program: &'t Program, position: &Position) -> Option<Node<'t>>
     Some(node)
 }
 
-/// The child of that number, from 0.
-fn child<'t>(node: Node<'t>, number: usize) -> Option<Node<'t>>
+/// The child of that number, counted from 0 in the order of the text.
+pub fn child<'t>(node: Node<'t>, number: usize) -> Option<Node<'t>>
     ensures { option_map plain-Node result ≡ slice_get (children (plain-Node node.entry)) number }
 {
     match node {
