@@ -9,3 +9,4 @@ pub mod Forms
 pub mod Scanning
 pub mod Finding
 pub mod Descending
+pub mod Around

@@ -155,7 +155,7 @@ around_at S E length ts f q h x y e =
     let c = leb-true q.0 E c1.1 in
     record {
       sides = of_every (λ t. (t.span.end ≤ f.0) ⊎ ((f.1 ≤ t.span.start) × (t.span.end ≤ q.0)) ⊎ (q.1 ≤ t.span.start)) ts (λ t i. side t
-      (every_token (λ t. (t.span.end ≤ f.0) ⊎ (f.1 ≤ t.span.start)) ts t x.sides i) (every_token (λ t. ((t.span.end ≤ q.0) × (t.span.start < E)) ⊎ ((q.1 ≤ t.span.start) × (E ≤ t.span.start))) ts t y.sides i));
+          (every_token (λ t. (t.span.end ≤ f.0) ⊎ (f.1 ≤ t.span.start)) ts t x.sides i) (every_token (λ t. ((t.span.end ≤ q.0) × (t.span.start < E)) ⊎ ((q.1 ≤ t.span.start) × (E ≤ t.span.start))) ts t y.sides i));
       low = low x.edge;
       from = a;
       some = omega (arith, b);
@@ -221,9 +221,10 @@ places_found S E length ts t o w i s =
     let b = stops l.1 y in
     let q = back E 0 length ts in
     let c : fits S E f.0 q ≡ true = both_true (nat_le S f.0.1) (nat_lt f.0.1 q.0 && nat_le q.0 E) (le-leb S f.0.1 a.0)
-        (both_true (nat_lt f.0.1 q.0) (nat_le q.0 E) (le-leb (suc f.0.1) q.0 (omega (arith, a.1, b.0, l.1))) (le-leb q.0 E b.1)) in
-    (record { before = f.0.0; start = f.0.1; end = q.0; after = q.1 },
-     ap (λ p. places_of S E p q) f.1 ∙ ap (λ d. if d then Some (record { before = f.0.0; start = f.0.1; end = q.0; after = q.1 }) else None) c)
+    (both_true (nat_lt f.0.1 q.0) (nat_le q.0 E) (le-leb (suc f.0.1) q.0 (omega (arith, a.1, b.0, l.1))) (le-leb q.0 E b.1)) in (
+      record { before = f.0.0; start = f.0.1; end = q.0; after = q.1 },
+      ap (λ p. places_of S E p q) f.1 ∙ ap (λ d. if d then Some (record { before = f.0.0; start = f.0.1; end = q.0; after = q.1 }) else None) c,
+    )
   where
     starts : t.span.start < t.span.end → (f : ℕ × ℕ) → Front S 0 ts f → (S ≤ f.1) × (f.1 ≤ t.span.start)
     starts m f x =

@@ -2,7 +2,10 @@
 #![tactic(auto)]
 
 mod block;
+mod children;
 mod laws;
 mod places;
+mod selecting;
 
 pub use laws::one_run;
+pub use selecting::{SelectFault, select};

@@ -217,8 +217,24 @@ pub arm_here : (xs : List Arm) (i k : ℕ) (x : Arm) (r : Option NodeTree) → i
     → r ≡ slice_get (a_pattern (plain-Pattern x.pattern) ∷ an_expression (plain-Expr x.body) ∷ []) k → r ≡ slice_get (arm_places (drop i xs)) k
 arm_here xs i k x r h e less is = is ∙ sym (in_front (a_pattern (plain-Pattern x.pattern) ∷ an_expression (plain-Expr x.body) ∷ []) (arm_places (drop (i + 1) xs)) k less) ∙ ap (λ (l : List NodeTree). slice_get l k) (sym (arms_from xs i x h e))
 
-pub arm_later : (xs : List Arm) (i k : ℕ) (x : Arm) → i < length xs → x ≡ get_or xs i x → 2 ≤ k → slice_get (arm_places (drop (i + 1) xs)) (k - 2) ≡ slice_get (arm_places (drop i xs)) k
-arm_later xs i k x h e more = sym (ap (λ (l : List NodeTree). slice_get l k) (arms_from xs i x h e) ∙ behind (a_pattern (plain-Pattern x.pattern) ∷ an_expression (plain-Expr x.body) ∷ []) (arm_places (drop (i + 1) xs)) k more)
+-- so many arms in front have two nodes each
+arms_skip : (xs : List Arm) (i k : ℕ) → slice_get (arm_places xs) (i + i + k) ≡ slice_get (arm_places (drop i xs)) k
+arms_skip xs zero k = let same : 0 + 0 + k ≡ k = omega arith in ap (λ n. slice_get (arm_places xs) n) same
+arms_skip [] (suc i) k = refl
+arms_skip (x ∷ xs) (suc i) k =
+    let same : suc i + suc i + k ≡ suc (suc (i + i + k)) = omega arith in
+    ap (λ l. slice_get l (suc i + suc i + k)) (arm_first x xs)
+    ∙ ap (λ n. slice_get (a_pattern (plain-Pattern x.pattern) ∷ an_expression (plain-Expr x.body) ∷ arm_places xs) n) same ∙ arms_skip xs i k
+
+pub arm_at : (xs : List Arm) (n i k : ℕ) (x : Arm) (r : Option NodeTree) → n ≡ i + i + k → i < length xs → x ≡ get_or xs i x → k < 2
+    → r ≡ slice_get (a_pattern (plain-Pattern x.pattern) ∷ an_expression (plain-Expr x.body) ∷ []) k → r ≡ slice_get (arm_places xs) n
+arm_at xs n i k x r q h e less is = arm_here xs i k x r h e less is ∙ sym (arms_skip xs i k) ∙ ap (λ m. slice_get (arm_places xs) m) (sym q)
+
+pub arm_past : (xs : List Arm) (n : ℕ) → length xs + length xs ≤ n → None ≡ slice_get (arm_places xs) n
+arm_past [] n h = refl
+arm_past (x ∷ xs) zero h = absurd (omega (arith, h))
+arm_past (x ∷ xs) (suc zero) h = absurd (omega (arith, h))
+arm_past (x ∷ xs) (suc (suc n)) h = arm_past xs n (omega (arith, h)) ∙ ap (λ l. slice_get l (suc (suc n))) (sym (arm_first x xs))
 
 abbrev pub variant_places : List EnumVariant → List NodeTree
 variant_places xs = variant_nodes (map plain-EnumVariant xs)

@@ -12,4 +12,4 @@ mod positions;
 
 pub use copying::CopyTree;
 pub use equality_items::same;
-pub use positions::{Node, at};
+pub use positions::{Node, at, child};

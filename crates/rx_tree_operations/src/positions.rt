@@ -40,8 +40,8 @@ pub fn at<'t>(program: &'t Program, position: &Position) -> Option<Node<'t>>
     Some(node)
 }
 
-/// The child of that number, from 0.
-fn child<'t>(node: Node<'t>, number: usize) -> Option<Node<'t>>
+/// The child of that number, counted from 0 in the order of the text.
+pub fn child<'t>(node: Node<'t>, number: usize) -> Option<Node<'t>>
     ensures { option_map plain-Node result ≡ slice_get (children (plain-Node node.entry)) number }
 {
     match node {
@@ -188,14 +188,17 @@ fn field_in<'t>(fields: &'t [FieldExpr], number: usize) -> Option<Node<'t>>
 fn arm_part<'t>(arms: &'t [Arm], number: usize) -> Option<Node<'t>>
     ensures { option_map plain-Node result ≡ slice_get (arm_nodes (arms_of (map plain-Arm arms.now))) number }
 {
-    let mut left = number;
-    for arm in arms {
-        if left < 2 {
-            return two(Node::Pattern(&arm.pattern), Node::Expr(&arm.body), left);
-        }
-        left -= 2;
+    let at = number / 2;
+    if at < arms.len() {
+        let arm = &arms[at];
+        two(
+            Node::Pattern(&arm.pattern),
+            Node::Expr(&arm.body),
+            number % 2,
+        )
+    } else {
+        None
     }
-    None
 }
 
 fn child_of_match<'t>(scrutinee: &'t Expr, arms: &'t [Arm], number: usize) -> Option<Node<'t>>
