@@ -152,13 +152,17 @@ one_bound : (S : Subject) (vs : List Value) (b : Binding) (m : Mode) (s : State)
     ≡ or_stops c (takes m S b.steps vs s) (λ u. go (with_value b.variable u s)))
 unfolding took bind result_of
 one_bound S vs b (by_reference k) s go =
-    let f = flat (why_not_found (part S b.steps) vs s) (found (part S b.steps) vs s) (λ f. astray) (λ f. reference_to k f.0) (λ v. gives [] v s) in
-    (f.0, ap (λ d. bind (bind (result_of d) (λ v s1. on [] (v ∷ []) s1)) (written_from b.variable (temporary_at b.node 0) go)) f.1
-    ∙ takes_it f.0 (and_then (found (part S b.steps) vs s) (λ f. reference_to k f.0)) b.variable (temporary_at b.node 0) s go)
+    let f = flat (why_not_found (part S b.steps) vs s) (found (part S b.steps) vs s) (λ f. astray) (λ f. reference_to k f.0) (λ v. gives [] v s) in (
+      f.0,
+      ap (λ d. bind (bind (result_of d) (λ v s1. on [] (v ∷ []) s1)) (written_from b.variable (temporary_at b.node 0) go)) f.1
+          ∙ takes_it f.0 (and_then (found (part S b.steps) vs s) (λ f. reference_to k f.0)) b.variable (temporary_at b.node 0) s go,
+    )
 one_bound (in_place p) vs b (by_value m) s go =
-    let f = flat (why_not_found (under p b.steps) vs s) (found (under p b.steps) vs s) (λ f. lacks) (λ f. whole_value f) (λ v. gives [] v s) in
-    (f.0, ap (λ d. bind (bind (result_of d) (λ v s1. on [] (v ∷ []) s1)) (written_from b.variable (temporary_at b.node 0) go)) f.1
-    ∙ takes_it f.0 (and_then (found (under p b.steps) vs s) (λ f. whole_value f)) b.variable (temporary_at b.node 0) s go)
+    let f = flat (why_not_found (under p b.steps) vs s) (found (under p b.steps) vs s) (λ f. lacks) (λ f. whole_value f) (λ v. gives [] v s) in (
+      f.0,
+      ap (λ d. bind (bind (result_of d) (λ v s1. on [] (v ∷ []) s1)) (written_from b.variable (temporary_at b.node 0) go)) f.1
+          ∙ takes_it f.0 (and_then (found (under p b.steps) vs s) (λ f. whole_value f)) b.variable (temporary_at b.node 0) s go,
+    )
 one_bound (in_temporary t) [] b (by_value m) s go = (mistyped, after_nothing _ ∙ after_nothing _)
 one_bound (in_temporary t) (v ∷ []) b (by_value m) s go = (why_no_part b.steps v, after_nothing _ ∙ takes_part (why_no_part b.steps v) (get b.steps v) b.variable s go)
 one_bound (in_temporary t) (v ∷ w ∷ vs) b (by_value m) s go = (mistyped, after_nothing _ ∙ after_nothing _)
