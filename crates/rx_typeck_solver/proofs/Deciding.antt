@@ -3,18 +3,19 @@
 use Rattle.std.proofs.Common.{◌≡◌, ◌⊎◌, ℕ, Bool, true, false, nat_eq, IsTrue, List, [], ◌∷◌, map, Option, Some, None, inl, inr, ⊎_elim, refl, sym, ap, subst, ◌∙◌}
 use Rattle.std.proofs.lemmas.Bool.{eqb-true, eqb-false}
 use Rattle.rx_core.specs.declared.types.Span.{Span}
-use Rattle.rx_typed.specs.Types.{integer}
+use Rattle.rx_typed.specs.Types.{integer, unit_shape}
 use Rattle.rx_typeck_solver.specs.declared.facts.Broken.{Broken}
 use Rattle.rx_typeck_solver.specs.declared.facts.Broken.TheVariants as broken
 use Rattle.rx_typeck_solver.specs.declared.facts.Rule.{Rule}
 use Rattle.rx_typeck_solver.specs.declared.facts.Subject.TheVariants as subject
+use Rattle.rx_typeck_solver.specs.declared.facts.Subject.{Subject}
 use Rattle.rx_typeck_solver.specs.declared.facts.Demand.{Demand}
 use Rattle.rx_typeck_solver.specs.Facts.{Types, Known}
-use Rattle.rx_typeck_solver.specs.Valid.{Task, IsIn, Valid, Breaks, IsUnclear, Asked}
-use Rattle.rx_typeck_solver.specs.Solver.{Leaf, Fixed, KindOf, Term, State, empty, Found, Found_all, Failed, Lacking, solve, literal_fine, class_fine, Root, answer}
+use Rattle.rx_typeck_solver.specs.Valid.{Task, Told, IsIn, Valid, Breaks, IsUnclear, Asked}
+use Rattle.rx_typeck_solver.specs.Solver.{Leaf, Fixed, KindOf, Term, State, empty, Found, Found_all, Failed, Lacking, solve, literal_fine, class_fine, Root, pick, filled_or, answer}
 use Rattle.rx_typeck_solver.specs.Ordered.{Orderly}
 use Rattle.rx_typeck_solver.proofs.Order.{AskedAt}
-use Rattle.rx_typeck_solver.proofs.Final.{failed_breaks, not_lacking, asks_asked, root_asked, answer_valid, unclear_class, unclear_literal}
+use Rattle.rx_typeck_solver.proofs.Final.{failed_breaks, not_lacking, asks_asked, root_asked, known_told, answer_valid, unclear_class, unclear_literal}
 
 -- a node of a task without a valid assignment
 pub record Faulty (K : Known) (task : Task) : Type 0 where
@@ -92,18 +93,30 @@ roots st ls (m ∷ ns) = by (one_root st ls m) (roots st ls ns)
 
 -- ---- a task
 
-pub valid_or_not : (K : Known) (task : Task) → Orderly task → ((A : Types) × Valid K task A) ⊎ Faulty K task
+-- where the rules give no type, that of the assignment is the unit
+abbrev pub Untold : Task → Types → Type 0
+Untold task A = (x : Subject) → (Told task.demands x → ⊥) → A x ≡ unit_shape
+
+untold_unit : (K : Known) (task : Task) (st : State) (o : Orderly task) (e : solve K task.demands empty ≡ Found_all st) → Untold task (answer st)
+untold_unit K task st o e x n = by (st.shapes x) refl
+  where
+    by : (t : Option Term) → st.shapes x ≡ t → answer st x ≡ unit_shape
+    by None h = ap (filled_or (λ c. pick (st.set (st.rep c)))) h
+    by (Some t) h = absurd (n (known_told K task st o e x (t, h)))
+
+pub valid_or_not : (K : Known) (task : Task) → Orderly task → ((A : Types) × (Valid K task A × Untold task A)) ⊎ Faulty K task
 valid_or_not K task o = by (solve K task.demands empty) refl
   where
     ended : (st : State) → solve K task.demands empty ≡ Found_all st
         → All (λ n. literal_fine st (st.shapes (subject.Node n))) task.literals ⊎ ((n : ℕ) × IsIn n task.literals × (literal_fine st (st.shapes (subject.Node n)) ≡ false))
         → ((n : ℕ) → IsIn n (nodes_of task.demands) → Fine st task.literals n) ⊎ ((n : ℕ) × Coarse st task.literals n)
-        → ((A : Types) × Valid K task A) ⊎ Faulty K task
+        → ((A : Types) × (Valid K task A × Untold task A)) ⊎ Faulty K task
     ended st e (inr l) c = inr (unclear K task l.0 (asks_asked l.0 task.demands (o.literals l.0 l.1)) (unclear_literal K task st o e l.0 l.1 l.2))
     ended st e (inl l) (inr c) = inr (unclear K task c.0 (root_asked K task st o e c.0 c.1.0) (unclear_class K task st o e l c.0 c.1.0 c.1.1))
-    ended st e (inl l) (inl f) = inl (answer st, answer_valid K task st o e l (λ n r. let a = root_asked K task st o e n r in f n (asked_node n a.0 task.demands a.1) r))
+    ended st e (inl l) (inl f) =
+        inl (answer st, (answer_valid K task st o e l (λ n r. let a = root_asked K task st o e n r in f n (asked_node n a.0 task.demands a.1) r), untold_unit K task st o e))
 
-    by : (r : Found) → solve K task.demands empty ≡ r → ((A : Types) × Valid K task A) ⊎ Faulty K task
+    by : (r : Found) → solve K task.demands empty ≡ r → ((A : Types) × (Valid K task A × Untold task A)) ⊎ Faulty K task
     by (Found_all st) e = ended st e (all_or_one (λ n. literal_fine st (st.shapes (subject.Node n))) task.literals) (roots st task.literals (nodes_of task.demands))
     by (Failed d) e =
         let b = failed_breaks K task d e in
