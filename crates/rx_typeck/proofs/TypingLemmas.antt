@@ -225,18 +225,3 @@ pub function_item : (G : Given) (ns : List ItemNames) (i : ℕ) (item : Item) (f
     → FunctionTyped G i item.span (plain-Func f) (entries (slice_get ns i)) (variables_at (slice_get ns i)) t → ItemTyped G ns i (plain-Item item) all new
 function_item G ns i item f all new t is more h =
     subst (λ n. ItemTyped G ns i (plain-ItemNode n item.span) all new) (sym is) (t, more, h)
-
--- ---- declarations are plainly the same, whatever polarities are recorded
-
-unrecorded_plain : (d : Decl) → plain-Decl (unrecorded d) ≡ plain-Decl d
-unrecorded_plain decl.Rt = refl
-unrecorded_plain (decl.Struct c l vs fs) = refl
-unrecorded_plain (decl.Enum c l vs ds) = refl
-unrecorded_plain (decl.Func l ps t bs) = refl
-
-unrecorded_declared : (ds : List Decl) → declarations (map unrecorded ds) ≡ declarations ds
-unrecorded_declared [] = refl
-unrecorded_declared (d ∷ ds) = (λ i. unrecorded_plain d i ∷ unrecorded_declared ds i)
-
-pub same_declared : (a b : List Decl) → map unrecorded a ≡ map unrecorded b → declarations a ≡ declarations b
-same_declared a b e = sym (unrecorded_declared a) ∙ ap declarations e ∙ unrecorded_declared b
