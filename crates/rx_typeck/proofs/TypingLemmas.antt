@@ -12,16 +12,13 @@ use Rattle.rx_tree.specs.PlainOf.{plain-Item, plain-ItemNode, plain-Func}
 use Rattle.rx_resolve_names.specs.declared.resolved.ItemNames.{ItemNames}
 use Rattle.rx_resolve_names.specs.declared.resolved.NodeNames.{NodeNames}
 use Rattle.rx_typed.specs.Naming.{function_named}
-use Rattle.rx_typed.specs.declared.declarations.Decl.{Decl}
-use Rattle.rx_typed.specs.declared.declarations.Decl.TheVariants as decl
 use Rattle.rx_typed.specs.declared.declarations.Decls.{Decls}
 use Rattle.rx_typed.specs.Types.{Typ, Shapes, integer, boolean, tuple_of, reference, named, no_shape, shape_and, unit_shape, Declarations}
-use Rattle.rx_typed.specs.PlainTypes.{declarations, plain-Decl}
+use Rattle.rx_typed.specs.PlainTypes.{declarations}
 use Rattle.rx_typed.specs.Regions.{erased, all_erased}
 use Rattle.rx_typed.specs.Named.{Function}
 use Rattle.rx_typed.specs.Elaborated.{elaborated}
 use Rattle.rx_typed_tree.specs.PlainTree.{plain-TypedTree}
-use Rattle.rx_typed_declarations.specs.Variance.{unrecorded}
 use Rattle.rx_typed_declarations.proofs.RegionLemmas.{is_erased}
 use Rattle.rx_typeck_solver.specs.declared.facts.Broken.{Broken}
 use Rattle.rx_typeck_solver.specs.declared.facts.Demand.{Demand}
@@ -38,7 +35,7 @@ use Rattle.rx_typeck_solver.specs.Tabled.{table_of}
 use Rattle.rx_typeck_solver.specs.Valid.{Task, Told, Valid, Breaks, MeetsChosen, MeetsOne}
 use Rattle.rx_typeck_solver.specs.Solving.{types_of, HasType, IsSolved, IsUnsolved}
 use Rattle.rx_typeck_solver.specs.Views as views
-use Rattle.rx_typeck_solver.specs.Views.{unnumbered, all_unnumbered, kind_found, found_at, IsFound}
+use Rattle.rx_typeck_solver.specs.Views.{unnumbered, all_unnumbered, kind_found, IsFound}
 use Rattle.rx_typeck_rules.specs.Demands.{demands, task}
 use Rattle.rx_typeck_elaborate_parts.specs.declared.assigned.NodeTypes.{NodeTypes}
 use Rattle.rx_typeck_elaborate_parts.specs.Assigning as parts
