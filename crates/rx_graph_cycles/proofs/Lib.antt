@@ -1,4 +1,5 @@
 pub mod Ways
+pub mod Deciding
 mod Marking
 mod Searching
 mod Settling

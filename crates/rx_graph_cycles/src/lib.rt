@@ -2,6 +2,7 @@
 #![tactic(auto)]
 
 mod first;
+mod laws;
 mod marks;
 mod order;
 mod placed;
@@ -9,4 +10,5 @@ mod search;
 mod settled;
 
 pub use first::first_on_cycle;
+pub use laws::some_first_on_cycle;
 pub use placed::in_order;

@@ -12,16 +12,13 @@ use Rattle.rx_tree.specs.PlainOf.{plain-Item, plain-ItemNode, plain-Func}
 use Rattle.rx_resolve_names.specs.declared.resolved.ItemNames.{ItemNames}
 use Rattle.rx_resolve_names.specs.declared.resolved.NodeNames.{NodeNames}
 use Rattle.rx_typed.specs.Naming.{function_named}
-use Rattle.rx_typed.specs.declared.declarations.Decl.{Decl}
-use Rattle.rx_typed.specs.declared.declarations.Decl.TheVariants as decl
 use Rattle.rx_typed.specs.declared.declarations.Decls.{Decls}
 use Rattle.rx_typed.specs.Types.{Typ, Shapes, integer, boolean, tuple_of, reference, named, no_shape, shape_and, unit_shape, Declarations}
-use Rattle.rx_typed.specs.PlainTypes.{declarations, plain-Decl}
+use Rattle.rx_typed.specs.PlainTypes.{declarations}
 use Rattle.rx_typed.specs.Regions.{erased, all_erased}
 use Rattle.rx_typed.specs.Named.{Function}
 use Rattle.rx_typed.specs.Elaborated.{elaborated}
 use Rattle.rx_typed_tree.specs.PlainTree.{plain-TypedTree}
-use Rattle.rx_typed_declarations.specs.Variance.{unrecorded}
 use Rattle.rx_typed_declarations.proofs.RegionLemmas.{is_erased}
 use Rattle.rx_typeck_solver.specs.declared.facts.Broken.{Broken}
 use Rattle.rx_typeck_solver.specs.declared.facts.Demand.{Demand}
@@ -38,7 +35,7 @@ use Rattle.rx_typeck_solver.specs.Tabled.{table_of}
 use Rattle.rx_typeck_solver.specs.Valid.{Task, Told, Valid, Breaks, MeetsChosen, MeetsOne}
 use Rattle.rx_typeck_solver.specs.Solving.{types_of, HasType, IsSolved, IsUnsolved}
 use Rattle.rx_typeck_solver.specs.Views as views
-use Rattle.rx_typeck_solver.specs.Views.{unnumbered, all_unnumbered, kind_found, found_at, IsFound}
+use Rattle.rx_typeck_solver.specs.Views.{unnumbered, all_unnumbered, kind_found, IsFound}
 use Rattle.rx_typeck_rules.specs.Demands.{demands, task}
 use Rattle.rx_typeck_elaborate_parts.specs.declared.assigned.NodeTypes.{NodeTypes}
 use Rattle.rx_typeck_elaborate_parts.specs.Assigning as parts
@@ -225,18 +222,3 @@ pub function_item : (G : Given) (ns : List ItemNames) (i : ℕ) (item : Item) (f
     → FunctionTyped G i item.span (plain-Func f) (entries (slice_get ns i)) (variables_at (slice_get ns i)) t → ItemTyped G ns i (plain-Item item) all new
 function_item G ns i item f all new t is more h =
     subst (λ n. ItemTyped G ns i (plain-ItemNode n item.span) all new) (sym is) (t, more, h)
-
--- ---- declarations are plainly the same, whatever polarities are recorded
-
-unrecorded_plain : (d : Decl) → plain-Decl (unrecorded d) ≡ plain-Decl d
-unrecorded_plain decl.Rt = refl
-unrecorded_plain (decl.Struct c l vs fs) = refl
-unrecorded_plain (decl.Enum c l vs ds) = refl
-unrecorded_plain (decl.Func l ps t bs) = refl
-
-unrecorded_declared : (ds : List Decl) → declarations (map unrecorded ds) ≡ declarations ds
-unrecorded_declared [] = refl
-unrecorded_declared (d ∷ ds) = (λ i. unrecorded_plain d i ∷ unrecorded_declared ds i)
-
-pub same_declared : (a b : List Decl) → map unrecorded a ≡ map unrecorded b → declarations a ≡ declarations b
-same_declared a b e = sym (unrecorded_declared a) ∙ ap declarations e ∙ unrecorded_declared b

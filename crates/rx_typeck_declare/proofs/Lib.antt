@@ -5,3 +5,4 @@ mod Examples
 mod MarkLemmas
 mod ProgramLemmas
 pub mod NamedLemmas
+pub mod Deciding

@@ -16,3 +16,4 @@ mod Having
 mod Numbered
 mod Exact
 mod Same
+mod WellTyped

@@ -16,9 +16,10 @@ use Rattle.rx_typed.specs.declared.declarations.Decl.{Decl}
 use Rattle.rx_typed.specs.declared.declarations.Decl.TheVariants as decl
 use Rattle.rx_typed.specs.Naming.{function_named}
 use Rattle.rx_typed.specs.Types.{Declarations}
-use Rattle.rx_typed.specs.PlainTypes.{plain-Decl, declarations}
+use Rattle.rx_typed.specs.PlainTypes.{declarations}
 use Rattle.rx_typed_declarations.specs.WellFormed.{signature_fits, WellSigned}
 use Rattle.rx_typed_declarations.specs.Variance.{unrecorded}
+use Rattle.rx_typed_declarations.proofs.Polarities.{same_declared}
 use Rattle.rx_typeck_declare.specs.Steps.{Outcome, on_ok}
 use Rattle.rx_typeck_declare.specs.Items.{begins, bounded, bounds_of, entry_of, parameters_of, answer_of, declared_item, declared_function, entries_of}
 use Rattle.rx_typeck_solver.specs.Facts.{Types, Known, MeetsEach}
@@ -33,19 +34,6 @@ use Rattle.rx_typeck_laws.proofs.Items.{lifetimes_below, few_number, lifetimes_w
 use Rattle.rx_typeck_laws.proofs.Signatures.{signature_read}
 
 -- ---- what is recorded of lifetimes counts for nothing
-
-unrecorded_plain : (d : Decl) → plain-Decl (unrecorded d) ≡ plain-Decl d
-unrecorded_plain decl.Rt = refl
-unrecorded_plain (decl.Struct c l vs fs) = refl
-unrecorded_plain (decl.Enum c l vs ds) = refl
-unrecorded_plain (decl.Func l ps t bs) = refl
-
-unrecorded_declared : (ds : List Decl) → declarations (map unrecorded ds) ≡ declarations ds
-unrecorded_declared [] = refl
-unrecorded_declared (d ∷ ds) = (λ i. unrecorded_plain d i ∷ unrecorded_declared ds i)
-
-same_declared : (a b : List Decl) → map unrecorded a ≡ map unrecorded b → declarations a ≡ declarations b
-same_declared a b e = sym (unrecorded_declared a) ∙ ap declarations e ∙ unrecorded_declared b
 
 unrecorded_fits : (D : Declarations) (d : Decl) → signature_fits D (unrecorded d) ≡ signature_fits D d
 unrecorded_fits D decl.Rt = refl

@@ -1,6 +1,6 @@
 //! Laws, each as the contract of a function that does nothing.
 
-ghost use Rattle.std.specs.Prelude.{ℕ, List};
+ghost use Rattle.std.specs.Prelude.{◌≡◌, ◌≢◌, ◌⊎◌, ℕ, List, map};
 ghost use Rattle.rx_tree.specs.Plain.{ProgramTree};
 ghost use Rattle.rx_tree.specs.Size.{IsNumbered};
 ghost use Rattle.rx_resolve_names.specs.declared.resolved.ItemNames.{ItemNames};
@@ -9,12 +9,18 @@ ghost use Rattle.rx_typed.specs.declared.declarations.Decl.{Decl};
 ghost use Rattle.rx_typed.specs.PlainTypes.{declarations};
 ghost use Rattle.rx_typed_declarations.specs.Sizes.{Sized, IsSizes, told};
 ghost use Rattle.rx_typed_declarations.specs.WellFormed.{WellSigned};
+ghost use Rattle.rx_typed_declarations.specs.Variance.{unrecorded};
+ghost use Rattle.rx_typeck_solver.specs.Stepping.{known};
 ghost use Rattle.rx_typeck_declare.specs.Programs.{Declares};
-ghost use Rattle.rx_typeck_typed.specs.Typing.{IsTyped};
+ghost use Rattle.rx_typeck_typed.specs.Typing.{IsTyped, Causes};
+ghost use Rattle.rx_typeck_typed.specs.declared.typed.TypeFault.{TypeFault};
+ghost use Rattle.rx_typeck_typed.specs.declared.typed.TypeFault.TheVariants as fault;
 ghost use Rattle.rx_typeck_typed.specs.declared.typed.Typed.{Typed};
 ghost use Rattle.rx_typeck_laws.specs.HaveTypes.{EachTyped};
+ghost use Rattle.rx_typeck_laws.specs.WellTyped.{WellTyped, functions_of, EachIsOf};
 
 use rx_typeck_declare::declared_are_finite;
+use rx_typeck_rules::demands_are_orderly;
 use rx_typed_declarations::one_size_each;
 
 /// The signatures of a typed program, whose names have a meaning, are well-formed: they name structs and enums alone, each
@@ -45,4 +51,18 @@ pub fn typed_sizes_are_sized()
         → Sized (declarations t.decls.items) (told sizes) }
 {
     sizes_are_sized();
+}
+
+/// A typed program is well-typed, with the declarations and the functions of each way to see that it is; and a program is well-typed, or has a fault of types that is no want of memory, and not both.
+/// So of a well-typed program `typecheck` answers its types, or want of memory.
+pub fn well_typed_or_wrong()
+    ensures typed { (p : ProgramTree) (names : List ItemNames) (t : Typed) → IsTyped p names t → WellTyped p names }
+    ensures either { (p : ProgramTree) (names : List ItemNames) → IsNumbered p → WellTyped p names ⊎ ((e : TypeFault) × (e ≢ fault.OutOfMemory) × Causes p names e) }
+    ensures one { (p : ProgramTree) (names : List ItemNames) (t : Typed) → IsTyped p names t → (w : WellTyped p names)
+        → (map unrecorded t.decls.items ≡ map unrecorded w.declared) × EachIsOf (known w.declared w.sizes) t.functions (functions_of p names w) }
+    ensures not_both { (p : ProgramTree) (names : List ItemNames) (e : TypeFault) → WellTyped p names → Causes p names e → ⊥ }
+{
+    declared_are_finite();
+    demands_are_orderly();
+    one_size_each();
 }

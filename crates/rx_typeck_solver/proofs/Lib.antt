@@ -5,6 +5,7 @@ pub mod EachFact
 pub mod Order
 pub mod Choice
 pub mod Final
+pub mod Deciding
 pub mod Knowing
 pub mod Parenthood
 pub mod ClassSteps

@@ -22,7 +22,7 @@ use Rattle.rx_typeck_typed.specs.declared.typed.TypedFn.{TypedFn}
 use Rattle.rx_typeck_typed.specs.declared.typed.Typed.{Typed}
 use Rattle.rx_typeck_typed.specs.Typing.{Given, known_in, entries, variables_at, assigned, type_at, TypeIs, FunctionTyped, FunctionsTyped, IsTyped}
 use Rattle.rx_typeck_typed.specs.Alike.{FunctionsAlike, AreAlike}
-use Rattle.rx_typeck_typed.proofs.TypingLemmas.{same_declared}
+use Rattle.rx_typed_declarations.proofs.Polarities.{same_declared}
 use Rattle.rx_typeck_typed.proofs.ExclusionLemmas as exclusion
 
 fun_ext : {A B : Type 0} (f g : A → B) → ((x : A) → f x ≡ g x) → f ≡ g

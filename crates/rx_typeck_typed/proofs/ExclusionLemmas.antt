@@ -53,7 +53,7 @@ module _ (finite : (p : ProgramTree) (D : Declarations) → Fits p D → NoCycle
       one_outcome _ tt e (sym (f.limited.each none s.0 s.1)) (sym (h.each none s.0 s.1))
   fits_or_not p D e f (main_wrong d l h) = one_outcome _ tt e f.has_main h
 
-  declared_or_wrong : (p : ProgramTree) (ns : List ItemNames) (ds : List Decl) (e : DeclareFault) → Declares p ns ds → Wrong p ns e → ⊥
+  pub declared_or_wrong : (p : ProgramTree) (ns : List ItemNames) (ds : List Decl) (e : DeclareFault) → Declares p ns ds → Wrong p ns e → ⊥
   declared_or_wrong p ns ds e d (in_types h) = one_outcome _ ds e d.items h
   declared_or_wrong p ns ds e d (unfit es h u) =
       fits_or_not p (declarations es) e (subst (λ x. Fits p (declarations x)) (ok_is ds es (sym d.items ∙ h)) d.fits) u

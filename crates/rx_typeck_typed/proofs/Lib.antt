@@ -1,2 +1,2 @@
-mod ExclusionLemmas
+pub mod ExclusionLemmas
 mod AlikeLemmas

@@ -7,4 +7,5 @@ pub mod RegionLemmas
 mod FixingLemmas
 pub mod VarianceLemmas
 mod RecordLemmas
+pub mod Polarities
 mod Examples

@@ -1,6 +1,6 @@
 use Rattle.std.proofs.Common.{◌<◌, sym, subst, length, slice_get}
 use Rattle.rx_typed.specs.Types.{Declarations, variants_declared}
-use Rattle.rx_typeck_typed.proofs.TypingLemmas.{same_declared}
+use Rattle.rx_typed_declarations.proofs.Polarities.{same_declared}
 use Rattle.rx_typeck_typed.proofs.laws.typed_declarations_are_finite.Goals as goal
 
 pub returns-clause-finite : goal.returns-clause-finite
