@@ -25,8 +25,6 @@ mod rows;
 #[cfg(test)]
 mod select;
 #[cfg(test)]
-mod selections;
-#[cfg(test)]
 mod stops;
 #[cfg(test)]
 mod streams;
