@@ -25,6 +25,8 @@ mod rows;
 #[cfg(test)]
 mod select;
 #[cfg(test)]
+mod selections;
+#[cfg(test)]
 mod stops;
 #[cfg(test)]
 mod streams;
