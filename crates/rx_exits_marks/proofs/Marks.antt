@@ -142,7 +142,7 @@ block_alike : (t : Bool) (r : Run) (ls : List ℕ) (n : ℕ) (was b : Body) → 
 block_alike true r ls n was b h d f = marked_body_alike r ls was n d f
 block_alike false r ls n was b h d f = h d f
 
-block_keeps : (r : Run) (ls : List ℕ) → Keeps (at_the_block r ls [])
+pub block_keeps : (r : Run) (ls : List ℕ) → Keeps (at_the_block r ls [])
 block_keeps r ls = record {
   jump_mark = λ m l k. refl;
   return_mark = λ e. refl;

@@ -92,11 +92,11 @@ module _ (C : Changes) (K : Keeps C) where
   same_temporary : (e : Exp) → temporary_of (changed C e) ≡ temporary_of e
   same_temporary e = ap (λ (m : Mark). temporary_at m.node 0) (same_mark e)
 
-  same_temporaries : (es : Operands) → temporaries_of (changed_all C es) ≡ temporaries_of es
+  pub same_temporaries : (es : Operands) → temporaries_of (changed_all C es) ≡ temporaries_of es
   same_temporaries no_operand = refl
   same_temporaries (operand_and i e es) = ap (λ t. t ∷ temporaries_of (changed_all C es)) (same_temporary e) ∙ ap (λ l. temporary_of e ∷ l) (same_temporaries es)
 
-  same_fields : (es : Operands) → fields_of (changed_all C es) ≡ fields_of es
+  pub same_fields : (es : Operands) → fields_of (changed_all C es) ≡ fields_of es
   same_fields no_operand = refl
   same_fields (operand_and i e es) = ap (λ l. i ∷ l) (same_fields es)
 

@@ -6,3 +6,4 @@ pub mod Changed
 pub mod Marked
 pub mod Unmarked
 pub mod Through
+pub mod Coming

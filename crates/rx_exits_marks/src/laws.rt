@@ -3,7 +3,7 @@
 ghost use Rattle.std.specs.Prelude.{◌≡◌, ℕ, List as ListOf, [], ◌∷◌, ◌++◌};
 ghost use Rattle.rx_typed.specs.Tree.{Temporary, Body, runs, Function};
 ghost use Rattle.rx_lower_walks.specs.Actions.{Action};
-ghost use Rattle.rx_lower_walks.specs.Orders.{order_body};
+ghost use Rattle.rx_lower_walks.specs.Orders.{Order, order_body, order_function};
 ghost use Rattle.rx_lower_walks.specs.Walks.{Out, stopped, Walk, IsWalk, Among};
 ghost use Rattle.rx_exits_marks.specs.Blocks.{Statement, before};
 ghost use Rattle.rx_exits_marks.specs.Runs.{Run};
@@ -11,6 +11,7 @@ ghost use Rattle.rx_exits_marks.specs.Points.{Point};
 ghost use Rattle.rx_exits_marks.specs.Marked.{mark, shown, marked};
 ghost use Rattle.rx_exits_marks.specs.Unmarked.{unmarked};
 ghost use Rattle.rx_exits_marks.specs.Through.{Through, actions_of};
+ghost use Rattle.rx_exits_marks.specs.Coming.{Into, HasNoMark, RunBlock};
 
 /// In a block, a mark behind some statements is held by the walks that went through these statements, also where nothing is done
 /// there, and by no other: `then_mark` and `mark_then` are such blocks, and so is the run's.
@@ -19,6 +20,16 @@ pub fn marks_are_held_where_walks_come()
         → Walk (order_body (before ss (runs (mark p) b)) n d) (w ++ shown p ∷ []) stopped }
     ensures came { (ss : ListOf Statement) (p : Point) (b : Body) (n : ℕ) (d : Temporary) (u : ListOf Action) (o : Out) → (Among (shown p) (actions_of ss) → ⊥)
         → Walk (order_body (before ss (runs (mark p) b)) n d) u o → Among (shown p) u → (w vs : ListOf Action) × Through ss w × (u ≡ w ++ shown p ∷ vs) }
+{}
+
+/// Where the function has no mark of its own, a walk of the marked function that holds a mark came to the block of the run, and went on
+/// in there to the mark; and a walk that does so holds it.
+pub fn marks_are_in_the_block_of_the_run()
+    ensures came { (f : Function) (r : Run) (ls : ListOf ℕ) (p : Point) (w : ListOf Action) → HasNoMark (order_function f) → IsWalk (marked r ls [] f) (w ++ shown p ∷ [])
+        → (s : Order) × RunBlock r ls s × (front us : ListOf Action) × Into s (order_function (marked r ls [] f)) front × Walk s (us ++ shown p ∷ []) stopped
+        × (w ≡ front ++ us) }
+    ensures held { (f : Function) (r : Run) (ls : ListOf ℕ) (p : Point) (s : Order) (front us : ListOf Action) → Into s (order_function (marked r ls [] f)) front
+        → Walk s (us ++ shown p ∷ []) stopped → IsWalk (marked r ls [] f) ((front ++ us) ++ shown p ∷ []) }
 {}
 
 /// Without marks the walks of a marked function are those of the function, in both directions.

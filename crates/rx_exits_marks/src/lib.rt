@@ -3,4 +3,6 @@
 
 mod laws;
 
-pub use laws::{marks_are_held_where_walks_come, marks_change_no_walk};
+pub use laws::{
+    marks_are_held_where_walks_come, marks_are_in_the_block_of_the_run, marks_change_no_walk,
+};

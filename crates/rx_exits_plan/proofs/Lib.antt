@@ -1,3 +1,4 @@
 pub mod One
+pub mod Every
 pub mod Computing
 pub mod Examples

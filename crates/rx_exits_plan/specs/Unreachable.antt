@@ -46,3 +46,10 @@ pub data Unreachable (A : Asked) : At → Type 0 where
 
 abbrev pub Endless : Asked → Type 0
 Endless A = exits A.run A.home ≡ []
+
+-- of the three
+abbrev pub SameCase : At → At → Type 0
+SameCase first first = Unit {0}
+SameCase last last = Unit {0}
+SameCase (jump n) (jump k) = Unit {0}
+SameCase _ _ = ⊥

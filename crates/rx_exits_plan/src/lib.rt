@@ -3,4 +3,4 @@
 
 mod laws;
 
-pub use laws::plans_are_one;
+pub use laws::{cases_are_one, plans_are_one, variables_are_params_or_locals};

@@ -6,4 +6,4 @@ mod table;
 mod uses;
 
 pub use index::Index;
-pub use table::{LiveTable, live};
+pub use table::{LiveTable, live, live_marked};

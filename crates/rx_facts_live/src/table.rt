@@ -146,13 +146,13 @@ fn effects(alloc: Global, index: &Index, sites: &[Site]) -> Result<Vec<Effect>, 
     Ok(all)
 }
 
-/// Which variables and temporaries are live at each site of a function.
+/// Which variables and temporaries are live at each of at most 65,536 sites: those of a function, and marks.
 ///
 /// # Errors
 ///
 /// Memory runs out.
-pub fn live(alloc: Global, sites: &[Site]) -> Result<LiveTable, AllocError>
-    requires { length sites.now ≤ 16384 }
+pub fn live_marked(alloc: Global, sites: &[Site]) -> Result<LiveTable, AllocError>
+    requires { length sites.now ≤ 65536 }
     ensures index { IfOk result (λ t. tables.IsIndex t.index) }
     ensures lives { IfOk result (λ t. tables.Lives (map plain-Site sites.now) t) }
 {
@@ -164,4 +164,17 @@ pub fn live(alloc: Global, sites: &[Site]) -> Result<LiveTable, AllocError>
         effects,
         ahead,
     })
+}
+
+/// Which variables and temporaries are live at each site of a function.
+///
+/// # Errors
+///
+/// Memory runs out.
+pub fn live(alloc: Global, sites: &[Site]) -> Result<LiveTable, AllocError>
+    requires { length sites.now ≤ 16384 }
+    ensures index { IfOk result (λ t. tables.IsIndex t.index) }
+    ensures lives { IfOk result (λ t. tables.Lives (map plain-Site sites.now) t) }
+{
+    live_marked(alloc, sites)
 }

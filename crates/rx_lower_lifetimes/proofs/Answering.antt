@@ -23,7 +23,7 @@ use Rattle.rx_lower_lifetimes.specs.Positions.{in_variables, in_held, all_own, p
 use Rattle.rx_lower_lifetimes.specs.Numbered.{all_open, all_numbered}
 use Rattle.rx_lower_lifetimes.specs.Held.{held_acts, Notes, all_noted}
 use Rattle.rx_lower_lifetimes.specs.Lowered.{Function, known, actions, temporaries, lifetimes_by}
-use Rattle.rx_lower_lifetimes.specs.Answer.{plain-Lifetimes, IsLowered, Answers, Refuses, Walked}
+use Rattle.rx_lower_lifetimes.specs.Answer.{plain-Lifetimes, IsLoweredWithin, AnswersWithin, RefusesOver, Walked}
 use Rattle.rx_lower_lifetimes.proofs.Gathered.{flow_notes}
 
 pub sum_of_three : (a b c : ℕ) → capped (capped (a + b) + c) ≡ capped (b + (c + a))
@@ -62,35 +62,35 @@ length_plain : (g : List Site) → length (map plain-Site g) ≡ length g
 length_plain [] = refl
 length_plain (s ∷ g) = ap suc (length_plain g)
 
-refused : (F : Function) (m : List Bool) (r : Result Graph LowerFault) (fault : LowerFault) → r ≡ Err fault → Refuses F fault → Answers F m r
-refused F m r fault e h = subst (λ x. Answers F m x) (sym e) h
+refused : (limit : ℕ) (F : Function) (m : List Bool) (r : Result Graph LowerFault) (fault : LowerFault) → r ≡ Err fault → RefusesOver limit F fault → AnswersWithin limit F m r
+refused limit F m r fault e h = subst (λ x. AnswersWithin limit F m x) (sym e) h
 
-pub too_many_sites : (F : Function) (m : List Bool) (f : Flow) (N : Notes) (n k : ℕ) (g : GraphFault) (r : Result Graph LowerFault)
+pub too_many_sites : (limit : ℕ) (F : Function) (m : List Bool) (f : Flow) (N : Notes) (n k : ℕ) (g : GraphFault) (r : Result Graph LowerFault)
     → order_of f ≡ order_function F.body → N ≡ all_noted (known F) (record { held = []; own = 0 }) (held_acts f)
-    → n ≡ capped (in_variables F.variables + (in_held N.held + N.own)) → g ≡ fault.TooLarge k → refusal.Refuses g (part [] (order_of f)).size
-    → r ≡ Err (TooLarge F.item k n) → Answers F m r
-too_many_sites F m f N n k g r o noted n_is g_is h r_is =
+    → n ≡ capped (in_variables F.variables + (in_held N.held + N.own)) → g ≡ fault.TooLarge k → refusal.RefusesOver limit g (part [] (order_of f)).size
+    → r ≡ Err (TooLarge F.item k n) → AnswersWithin limit F m r
+too_many_sites limit F m f N n k g r o noted n_is g_is h r_is =
     let size : length (graph F.body) ≡ (part [] (order_of f)).size = size_is (order_function F.body) ∙ ap (λ p. (part [] p).size) (sym o) in
-    let many = subst (λ x. refusal.Refuses x (part [] (order_of f)).size) g_is h in
-    refused F m r (TooLarge F.item k n) r_is
+    let many = subst (λ x. refusal.RefusesOver limit x (part [] (order_of f)).size) g_is h in
+    refused limit F m r (TooLarge F.item k n) r_is
     (refl, many.0 ∙ ap capped (sym size), counted F N n (stands F f N o noted) n_is, inl (omega (arith, size, many.1)))
 
-pub too_many_positions : (F : Function) (m : List Bool) (f : Flow) (N : Notes) (n k : ℕ) (g : List Site) (r : Result Graph LowerFault)
+pub too_many_positions : (limit : ℕ) (F : Function) (m : List Bool) (f : Flow) (N : Notes) (n k : ℕ) (g : List Site) (r : Result Graph LowerFault)
     → order_of f ≡ order_function F.body → N ≡ all_noted (known F) (record { held = []; own = 0 }) (held_acts f)
-    → n ≡ capped (in_variables F.variables + (in_held N.held + N.own)) → map plain-Site g ≡ graph_of (order_of f) → length g ≤ 16384 → k ≡ length g
-    → 65536 < n → r ≡ Err (TooLarge F.item k n) → Answers F m r
-too_many_positions F m f N n k g r o noted n_is g_is few k_is many r_is =
+    → n ≡ capped (in_variables F.variables + (in_held N.held + N.own)) → map plain-Site g ≡ graph_of (order_of f) → length g ≤ limit → limit < 4294967296
+    → k ≡ length g → 65536 < n → r ≡ Err (TooLarge F.item k n) → AnswersWithin limit F m r
+too_many_positions limit F m f N n k g r o noted n_is g_is few small k_is many r_is =
     let long : length (graph F.body) ≡ length g = ap length (sym (g_is ∙ ap graph_of o)) ∙ length_plain g in
     let p = counted F N n (stands F f N o noted) n_is in
-    refused F m r (TooLarge F.item k n) r_is
-    (refl, omega (arith, long, few, k_is), p, inr (omega (arith, p, many)))
+    refused limit F m r (TooLarge F.item k n) r_is
+    (refl, omega (arith, long, few, small, k_is), p, inr (omega (arith, p, many)))
 
-pub lowered : (F : Function) (m : List Bool) (f : Flow) (N : Notes) (n : ℕ) (g : List Site) (G : Graph)
+pub lowered : (limit : ℕ) (F : Function) (m : List Bool) (f : Flow) (N : Notes) (n : ℕ) (g : List Site) (G : Graph)
     → order_of f ≡ order_function F.body → N ≡ all_noted (known F) (record { held = []; own = 0 }) (held_acts f)
-    → n ≡ capped (in_variables F.variables + (in_held N.held + N.own)) → map plain-Site g ≡ graph_of (order_of f) → length g ≤ 16384
+    → n ≡ capped (in_variables F.variables + (in_held N.held + N.own)) → map plain-Site g ≡ graph_of (order_of f) → length g ≤ limit
     → n ≤ 65536 → G.sites ≡ g → G.mutable ≡ m
-    → plain-Lifetimes G.lifetimes ≡ lifetimes_by F.items F.item F.body.params F.variables N.held (actions_of (map plain-Site g)) → IsLowered F m G
-lowered F m f N n g G o noted n_is g_is few little sites_are m_is l_is =
+    → plain-Lifetimes G.lifetimes ≡ lifetimes_by F.items F.item F.body.params F.variables N.held (actions_of (map plain-Site g)) → IsLoweredWithin limit F m G
+lowered limit F m f N n g G o noted n_is g_is few little sites_are m_is l_is =
     let same : map plain-Site g ≡ graph F.body = g_is ∙ ap graph_of o in
     let long : length (graph F.body) ≡ length g = ap length (sym same) ∙ length_plain g in
     let s = stands F f N o noted in
@@ -106,9 +106,9 @@ lowered F m f N n g G o noted n_is g_is few little sites_are m_is l_is =
 
 -- ---- walks
 
-walked : (F : Function) (m : List Bool) (g : Graph) → IsLowered F m g → Walked F g
-walked F m g h w = subst (λ (s : List graphs.Site). Path s (0 ∷ []) w ↔ IsWalk F.body w) (sym h.sites) (paths_are_walks_of F.body w)
+walked : (limit : ℕ) (F : Function) (m : List Bool) (g : Graph) → IsLoweredWithin limit F m g → Walked F g
+walked limit F m g h w = subst (λ (s : List graphs.Site). Path s (0 ∷ []) w ↔ IsWalk F.body w) (sym h.sites) (paths_are_walks_of F.body w)
 
-pub walks : (F : Function) (m : List Bool) (r : Result Graph LowerFault) → Answers F m r → IfOk r (λ g. Walked F g)
-walks F m (Ok g) h = walked F m g h
-walks F m (Err fault) h = tt
+pub walks : (limit : ℕ) (F : Function) (m : List Bool) (r : Result Graph LowerFault) → AnswersWithin limit F m r → IfOk r (λ g. Walked F g)
+walks limit F m (Ok g) h = walked limit F m g h
+walks limit F m (Err fault) h = tt

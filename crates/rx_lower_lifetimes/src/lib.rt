@@ -19,4 +19,4 @@ pub use laws::filled_temporaries_have_types;
 pub use noted::{HasNode, Noted};
 pub use numbering::Own;
 pub use variables::Told;
-pub use whole::{Graph, Lifetimes, LowerFault, lower_function};
+pub use whole::{Graph, Lifetimes, LowerFault, lower_function, lower_function_within};

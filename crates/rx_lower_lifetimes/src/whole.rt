@@ -15,7 +15,7 @@ ghost use Rattle.rx_lower_lifetimes.specs.Numbered as numbers;
 ghost use Rattle.rx_lower_lifetimes.specs.declared.whole.LowerFault.TheVariants as FaultOf;
 ghost use Rattle.rx_lower_lifetimes.specs.Lowered as lowered;
 ghost use Rattle.rx_lower_lifetimes.specs.Lowered.{function_of};
-ghost use Rattle.rx_lower_lifetimes.specs.Answer.{plain-Lifetimes, Answers, Walked};
+ghost use Rattle.rx_lower_lifetimes.specs.Answer.{plain-Lifetimes, Answers, AnswersWithin, Walked};
 ghost use Rattle.rx_lower_lifetimes.specs.PlainOf.{plain-Open, plain-Held, plain-Notes, plain-Told, known};
 
 use crate::gather::gather;
@@ -27,7 +27,7 @@ use crate::positions::{count_held, count_variables};
 use crate::values::{lifetimes_of, result_type};
 use crate::variables::{Told, open_types};
 use rx_core::{Bound, LetGo, List, Ty, keep};
-use rx_lower_emit::{GraphFault, Site, graph};
+use rx_lower_emit::{GraphFault, Site, graph_within};
 use rx_lower_flow::{Flow, Temporary};
 use rx_lower_order::flow_of;
 use rx_typed::{Decl, Decls};
@@ -66,8 +66,8 @@ pub struct Graph {
 /// Why a function is not lowered.
 #[derive(Drop)]
 pub enum LowerFault {
-    /// The function's item, its sites and its lifetime positions, or 2^64 - 1 where there are more: over 16,384 sites, or over
-    /// 65,536 positions.
+    /// The function's item, its sites and its lifetime positions, or 2^64 - 1 where there are more: over its limit of sites, or
+    /// over 65,536 positions.
     TooLarge {
         function: u32,
         sites: u64,
@@ -263,13 +263,14 @@ fn with_notes(
     variables: &[Open],
     notes: &Notes,
     flow: &Flow,
+    limit: u32,
 ) -> Result<Graph, LowerFault>
     requires flow { order_of (plain-Flow flow.now) ≡ order_function (plain-TypedTree tree.now) }
     requires notes { plain-Notes notes.now ≡ acts.all_noted (known decls.now.items variables.now) (record { held = []; own = 0 }) (acts.held_acts (plain-Flow flow.now)) }
-    ensures { Answers (record { items = decls.now.items; item = item; body = plain-TypedTree tree.now; variables = map plain-Open variables.now }) mutable.now result }
+    ensures { AnswersWithin limit (record { items = decls.now.items; item = item; body = plain-TypedTree tree.now; variables = map plain-Open variables.now }) mutable.now result }
 {
     let positions = positions_of(variables, notes);
-    match graph(alloc, flow) {
+    match graph_within(alloc, flow, limit) {
         Ok(sites) => {
             if positions > 65536 {
                 let size = sites.len() as u64;
@@ -297,13 +298,16 @@ fn with_flow(
     mutable: &[bool],
     variables: &[Open],
     flow: &Flow,
+    limit: u32,
 ) -> Result<Graph, LowerFault>
     requires { order_of (plain-Flow flow.now) ≡ order_function (plain-TypedTree tree.now) }
-    ensures { Answers (record { items = decls.now.items; item = item; body = plain-TypedTree tree.now; variables = map plain-Open variables.now }) mutable.now result }
+    ensures { AnswersWithin limit (record { items = decls.now.items; item = item; body = plain-TypedTree tree.now; variables = map plain-Open variables.now }) mutable.now result }
 {
     match noted(alloc, decls, variables, flow) {
         Ok(notes) => {
-            let answer = with_notes(alloc, decls, item, tree, mutable, variables, &notes, flow);
+            let answer = with_notes(
+                alloc, decls, item, tree, mutable, variables, &notes, flow, limit,
+            );
             notes.let_go();
             answer
         }
@@ -319,12 +323,13 @@ fn with_variables(
     tree: &TypedTree,
     mutable: &[bool],
     variables: &[Open],
+    limit: u32,
 ) -> Result<Graph, LowerFault>
-    ensures { Answers (record { items = decls.now.items; item = item; body = plain-TypedTree tree.now; variables = map plain-Open variables.now }) mutable.now result }
+    ensures { AnswersWithin limit (record { items = decls.now.items; item = item; body = plain-TypedTree tree.now; variables = map plain-Open variables.now }) mutable.now result }
 {
     match flow_of(alloc, tree) {
         Ok(flow) => {
-            let answer = with_flow(alloc, decls, item, tree, mutable, variables, &flow);
+            let answer = with_flow(alloc, decls, item, tree, mutable, variables, &flow, limit);
             flow.let_go();
             answer
         }
@@ -333,8 +338,9 @@ fn with_variables(
 }
 
 /// The graph of a function with its lifetimes: by what is declared, the function's item and typed tree, whether each variable
-/// is declared `mut`, the types of the variables without lifetimes, and those that `let`s write.
-pub fn lower_function(
+/// is declared `mut`, the types of the variables without lifetimes, and those that `let`s write. `limit` is how many sites it
+/// may have.
+pub fn lower_function_within(
     alloc: Global,
     decls: &Decls,
     item: u32,
@@ -342,8 +348,9 @@ pub fn lower_function(
     mutable: &[bool],
     raws: &[Option<Ty>],
     written: &[Told],
+    limit: u32,
 ) -> Result<Graph, LowerFault>
-    ensures answers { Answers (function_of decls.now.items item (plain-TypedTree tree.now) raws.now (map plain-Told written.now)) mutable.now result }
+    ensures answers { AnswersWithin limit (function_of decls.now.items item (plain-TypedTree tree.now) raws.now (map plain-Told written.now)) mutable.now result }
     ensures walked { IfOk result (λ g. Walked (function_of decls.now.items item (plain-TypedTree tree.now) raws.now (map plain-Told written.now)) g) }
 {
     let own = lifetimes_of(decls, item);
@@ -358,10 +365,34 @@ pub fn lower_function(
         raws,
     ) {
         Ok(variables) => {
-            let answer = with_variables(alloc, decls, item, tree, mutable, variables.as_slice());
+            let answer = with_variables(
+                alloc,
+                decls,
+                item,
+                tree,
+                mutable,
+                variables.as_slice(),
+                limit,
+            );
             variables.let_go();
             answer
         }
         Err(_) => Err(LowerFault::OutOfMemory),
     }
+}
+
+/// The same, of a function that may have 16,384 sites.
+pub fn lower_function(
+    alloc: Global,
+    decls: &Decls,
+    item: u32,
+    tree: &TypedTree,
+    mutable: &[bool],
+    raws: &[Option<Ty>],
+    written: &[Told],
+) -> Result<Graph, LowerFault>
+    ensures answers { Answers (function_of decls.now.items item (plain-TypedTree tree.now) raws.now (map plain-Told written.now)) mutable.now result }
+    ensures walked { IfOk result (λ g. Walked (function_of decls.now.items item (plain-TypedTree tree.now) raws.now (map plain-Told written.now)) g) }
+{
+    lower_function_within(alloc, decls, item, tree, mutable, raws, written, 16384)
 }

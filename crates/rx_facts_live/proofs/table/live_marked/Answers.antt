@@ -4,7 +4,7 @@ use Rattle.rx_lower_emit.specs.PlainSite.{plain-Site}
 use Rattle.rx_facts_along.specs.Along.{edges_of}
 use Rattle.rx_facts_along.specs.Tracking.{Foresees}
 use Rattle.rx_facts_live.proofs.Living.{live_exactly, unused}
-use Rattle.rx_facts_live.proofs.table.live.Goals as goal
+use Rattle.rx_facts_live.proofs.table.live_marked.Goals as goal
 
 pub returns-clause-lives : goal.returns-clause-lives
 returns-clause-lives c =
