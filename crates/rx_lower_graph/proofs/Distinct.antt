@@ -58,7 +58,7 @@ mutual
   exp_held K T (numbered.gives n p x v e) scope d f =
       let h = (exp_held K T e scope (temporary_of (value T e)) (fine_under K scope p.number _ _ (fine_under K scope n.number _ _ f))).all in
       act_held K scope _ n.number (p.number ∷ exp_nodes e) (exp_variables e) (most K scope (order.order (value T e) (temporary_of (value T e))))
-      (Write (tree.own x) (temporary_of (value T e)) []) (omega arith) (omega (arith, h)) (λ e. omega (arith, e)) f.node
+      (Write (tree.own x.number) (temporary_of (value T e)) []) (omega arith) (omega (arith, h)) (λ e. omega (arith, e)) f.node
   exp_held K T (numbered.update n o p e) scope d f =
       let g = fine_under K scope n.number (exp_nodes p ++ exp_nodes e) (exp_variables p ++ exp_variables e) f in
       let h = (exp_held K T e scope (temporary_of (value T e)) (fine_right K scope (exp_nodes p) (exp_nodes e) (exp_variables p) (exp_variables e) g)).all in

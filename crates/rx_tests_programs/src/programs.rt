@@ -160,6 +160,8 @@ const RUNS: &str = "\
 9 ; fn f(x: &i64) -> i64 { *x + 1 } fn main() { let mut a = 3i64; let r = &mut a; let b = f(r); *r = b; println!(\"{}\", a); } | 4 Ended
 9 ; struct T { n: i64 } fn eat(t: T) -> i64 { t.n } fn main() { let t = T { n: 6 }; let u = t; println!(\"{}\", eat(u)); } | 6 Ended
 9 ; fn main() { let x; let b = true; if b { x = 2i64; } else { x = 3; } println!(\"{}\", x); } | 2 Ended
+9 ; fn main() { let mut s; s = { s = 1i64; println!(\"{}\", s); s = s + 1; s }; println!(\"{}\", s); } | 1 2 Ended
+9 ; enum E { N(i64), B(i64) } fn g() -> E { let x = 5; if x > 3 { return E::B(x); } E::N(x) } fn main() { let x; loop { x = match g() { E::N(v) => v, E::B(v) => { x = v; break; } }; println!(\"{}\", 0); break; } println!(\"{}\", x); } | 5 Ended
 9 ; fn main() { let x = if false { 1i64 } else { { let y = 4i64; y + 1 } }; println!(\"{}\", x); } | 5 Ended
 9 100 6 ; mod rt; fn main() { let a = rt::next(); println!(\"{}\", a); let q = a / rt::next(); println!(\"{}\", q); } | 100 16 Ended
 9 100 ; mod rt; fn main() { let a = rt::next(); println!(\"{}\", a); let q = a / rt::next(); println!(\"{}\", q); } | 100 DivideByZero

@@ -221,6 +221,28 @@ fn f(r: &i64) { let q = &mut *r; } fn main() {} | Mutability 24 31 5 6
 fn main() { let x; x = 1; let y = x + 1i64; } | Ok / i64 i64
 fn main() { let x; if true { x = 1u8; } else { x = 2; } } | Ok / u8
 fn f(r: &mut i64) { let x; x = r; *x = 1; *r = 2; } fn main() {} | Ok / &mut i64 &mut i64 /
+fn main() { let mut s; s = { s = 1i64; s }; } | Ok / i64
+fn main() { let x; x = { x = 1i64; 2i64 }; } | Ok / i64
+fn main() { let x; x = { x = 1; 2u8 }; let y = x + 3; } | Ok / u8 u8
+fn main() { let mut x; x = { x = { x = 1u8; x }; x }; } | Ok / u8
+enum E { A(i64), B(i64) } fn g() -> E { E::A(1) } fn main() { let x; loop { x = match g() { E::A(v) => v, E::B(v) => { x = v; break; } }; break; } let y = x; } | Ok / / i64 i64 i64 i64
+fn f(b: bool) { let mut x; x = if b { x = 1u8; x } else { 2 }; } fn main() {} | Ok / bool u8 /
+fn f(b: bool) { let mut x; x = if b { 2 } else { x = 1u8; x }; } fn main() {} | Ok / bool u8 /
+fn f(b: bool) { let x; x = { if b { x = 1u8; } 2 }; } fn main() {} | Ok / bool u8 /
+fn f(p: &mut i64) { let mut x; x = { x = p; x }; *x = 1; *p = 2; } fn main() {} | Ok / &mut i64 &mut i64 /
+fn main() { let x; x = { x = return; 1 }; } | Mismatch 29 35 Unclear
+fn main() { let x; loop { x = { x = 1u8; break }; } } | Ok / u8
+fn main() { let x; x = { let y = x; x = 1; 2 }; } | Mismatch 33 34 Unclear
+fn main() { let x; x = { x = x; 2 }; } | Mismatch 29 30 Unclear
+fn main() { let x; x = x + 1; } | Mismatch 23 24 Unclear
+fn main() { let mut x; x = { x += 1; 2 }; } | Mismatch 29 30 Unclear
+fn main() { let mut x; x = { x.0 = 1u8; (2u8, true) }; } | Mismatch 29 30 Unclear
+fn main() { let mut x; x = { x = (1u8, true); x.0 = 2; x }; } | Ok / (u8,bool,)
+fn main() { let a; let b; a = { b = 1i64; b }; } | Ok / i64 i64
+fn main() { let mut a; let b; a = { b = { a = 1i64; a }; b }; } | Ok / i64 i64
+fn main() { let a; let b; a = { b = a; b }; } | Mismatch 36 37 Unclear
+fn main() { let x; x = { x = 1u8; true }; } | Mismatch 23 40 Equal
+fn f(a: &i64, b: &mut i64) { let x; x = { x = a; b }; } fn main() {} | Mismatch 40 52 Equal
 fn f(r: &mut i64) { let x: &i64 = r; } fn main() {} | Ok / &mut i64 &i64 /
 fn g(r: &i64) {} fn f(r: &mut i64) { g(r); g(r); } fn main() {} | Ok / &i64 / &mut i64 /
 fn g(r: &mut i64) {} fn f(r: &mut i64) { g(r); g(r); } fn main() {} | Ok / &mut i64 / &mut i64 /

@@ -196,18 +196,50 @@ impl<'t> Walk<'t> {
         }
     }
 
-    /// What gives a variable its type: its node, the variable, the node of the pattern that declares it, the value.
+    /// An assignment before which its variable waits for its type: its node, that of the variable, the variable behind
+    /// the value, the node of the pattern that declares it where the assignment gives the type, the value.
     pub fn given(
         &mut self,
         node: Node,
         place: Node,
-        variable: u32,
-        pattern: usize,
+        variable: Use,
+        pattern: Option<usize>,
         value: Seen,
     ) -> Result<(), AllocError>
         ensures { OnOk result (self.new ≡ walks.asked (demands.given node place variable pattern value.node value.never) self.old) }
     {
-        let subject = Subject::Variable(variable);
+        match pattern {
+            Some(pattern) => self.given_here(node, place, variable, pattern, value),
+            None => {
+                self.named_at(place, variable)?;
+                self.fits_given(variable.number, value)
+            }
+        }
+    }
+
+    /// A value assigned to a variable whose type an assignment in it gave.
+    fn fits_given(&mut self, variable: u32, value: Seen) -> Result<(), AllocError>
+        ensures { OnOk result (self.new ≡ walks.asked (demands.fits_given variable value.node value.never) self.old) }
+    {
+        if value.never {
+            Ok(())
+        } else {
+            self.ask_alike(value.node, Subject::Variable(variable), type_of(value.node))
+        }
+    }
+
+    /// What gives a variable its type.
+    fn given_here(
+        &mut self,
+        node: Node,
+        place: Node,
+        variable: Use,
+        pattern: usize,
+        value: Seen,
+    ) -> Result<(), AllocError>
+        ensures { OnOk result (self.new ≡ walks.asked (demands.given node place variable (Some pattern) value.node value.never) self.old) }
+    {
+        let subject = Subject::Variable(variable.number);
         self.not_never(value)?;
         self.ask_alike(node, subject, type_of(value.node))?;
         let facts = List::new(self.alloc);

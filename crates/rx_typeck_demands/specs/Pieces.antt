@@ -5,11 +5,10 @@ use Rattle.rx_tree.specs.Plain as plain
 use Rattle.rx_tree.specs.Plain.{PatternTree, Expression, OptionalExpression}
 use Rattle.rx_typed.specs.declared.nodes.Node.{Node}
 use Rattle.rx_typed.specs.declared.nodes.Site.{Site}
-use Rattle.rx_typed.specs.declared.nodes.Stage.{Stage}
 use Rattle.rx_typed.specs.declared.nodes.Use.{Use}
 use Rattle.rx_typed.specs.Named as named
-use Rattle.rx_typed.specs.Named.{Exp, Exps, Else, Arms, Body, Pattern, node_of, never, diverges, any_diverges, all_never, all_diverge, else_never, else_diverges, body_node, body_never, body_diverges, tail_never}
-use Rattle.rx_typed.specs.Naming.{Numbering, give, and_then, set_stage, counted, known_between, passed_on, waits_for, of_pattern, of_expression}
+use Rattle.rx_typed.specs.Named.{Exp, Exps, no_variable, Else, Arms, Body, Pattern, node_of, never, diverges, any_diverges, all_never, all_diverge, else_never, else_diverges, body_node, body_never, body_diverges, tail_never}
+use Rattle.rx_typed.specs.Naming.{Numbering, give, and_then, a_use, gives_here, counted, known_between, passed_on, waits_for, of_pattern, of_expression}
 use Rattle.rx_typeck_solver.specs.declared.facts.Subject.{Subject}
 use Rattle.rx_typeck_solver.specs.declared.facts.Passing.{Passing}
 use Rattle.rx_typeck_solver.specs.declared.facts.Op.TheVariants as op
@@ -74,23 +73,27 @@ of_left f (Some w) q = nothing
 abbrev pub left_told : Exp × Option (ℕ × ℕ) → Left
 left_told r = record { seen = seen_of r.0; waits = r.1 }
 
--- the value of an assignment that gives a variable its type
-abbrev pub numbered_given : ℕ → Expression → Numbering Exp
-numbered_given x e = and_then (set_stage x Stage.Given) (λ _. and_then (of_expression false Site.Reborrows e) (λ e. and_then (set_stage x Stage.Known) (λ _. give e)))
+-- the value of an assignment; of one before which its variable waits for its type also the variable behind the value, and
+-- the pattern that declares it where this assignment gives the type
+abbrev pub Valued : Type 0
+Valued = Exp × Use × Option ℕ
+
+abbrev pub numbered_given : ℕ → Expression → Numbering Valued
+numbered_given x e = and_then (of_expression false Site.Reborrows e) (λ e. and_then (a_use x) (λ u. and_then (gives_here x) (λ d. give (e, u, d))))
 
 -- the value of an assignment, whose left side is a variable that waits for its type, or none
-abbrev pub numbered_value : Option (ℕ × ℕ) → Expression → Numbering Exp
-numbered_value None e = of_expression false Site.Expects e
+abbrev pub numbered_value : Option (ℕ × ℕ) → Expression → Numbering Valued
+numbered_value None e = and_then (of_expression false Site.Expects e) (λ e. give (e, no_variable, None))
 numbered_value (Some w) e = numbered_given w.0 e
 
 -- of the function, the node, the left side and the dereferences that it goes through
-abbrev pub of_value : ℕ → Node → Option (ℕ × ℕ) → Seen → List Passing → Exp → Asking
-of_value f n None s ps e = demands.of_assigned f n s.node s.whole s.root ps e
-of_value f n (Some w) s ps e = demands.of_given f n s.node w.0 w.1 e
+abbrev pub of_value : ℕ → Node → Option (ℕ × ℕ) → Seen → List Passing → Valued → Asking
+of_value f n None s ps v = demands.of_assigned f n s.node s.whole s.root ps v.0
+of_value f n (Some w) s ps v = demands.of_given f n s.node v.1 v.2 v.0
 
-abbrev pub value_told : Node → Option (ℕ × ℕ) → Seen → Exp → Seen
-value_told n None s e = value_seen n false (s.diverges || diverges e)
-value_told n (Some w) s e = value_seen n false (diverges e)
+abbrev pub value_told : Node → Option (ℕ × ℕ) → Seen → Valued → Seen
+value_told n None s v = value_seen n false (s.diverges || diverges v.0)
+value_told n (Some w) s v = value_seen n false (diverges v.0)
 
 -- an operation with assignment: of the node, what is changed and the value, each with whether it is Never, and whether what is
 -- changed is a whole variable, its variable, the dereferences

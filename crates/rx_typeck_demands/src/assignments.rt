@@ -18,7 +18,7 @@ use rx_tree::{Expr, ExprNode};
 use rx_typeck_demand_parts::{Walk, type_of};
 use rx_typeck_numbering::{Seen, value_seen, variable_seen};
 use rx_typeck_solver::Op;
-use rx_typed::{Node, Site, Stage};
+use rx_typed::{Node, Site};
 use std::alloc::AllocError;
 
 /// The left side of an assignment, and where it is a variable that waits for its type, that and the node of the
@@ -75,7 +75,7 @@ pub(crate) fn assign<'t>(
     ensures { walks.Walks (pieces.numbered_value left.waits (plain-Expr value.now)) (pieces.of_value walk.old.item node left.waits left.seen (through_at (plain-Expr place.now) left.seen.node.number)) (pieces.value_told node left.waits left.seen) walk.old result walk.new }
 {
     match left.waits {
-        Some(waits) => gives(walk, node, left.seen.node, waits.0, waits.1, value),
+        Some(waits) => gives(walk, node, left.seen.node, waits.0, value),
         None => assigns(walk, node, left.seen, value, place),
     }
 }
@@ -101,22 +101,21 @@ fn assigns<'t>(
     Ok(value_seen(node, false, diverges))
 }
 
-/// The assignment that gives a variable its type.
+/// An assignment before which its variable waits for its type: it gives the type, unless one in its value did.
 #[cycle(expression)]
 fn gives<'t>(
     walk: &mut Walk<'t>,
     node: Node,
     place: Node,
     variable: u32,
-    pattern: usize,
     value: &'t Expr,
 ) -> Result<Seen, AllocError>
-    ensures { walks.Walks (pieces.numbered_given variable (plain-Expr value.now)) (demands.of_given walk.old.item node place variable pattern) (λ e. seeing.value_seen node false (named.diverges e)) walk.old result walk.new }
+    ensures { walks.Walks (pieces.numbered_given variable (plain-Expr value.now)) (λ v. demands.of_given walk.old.item node place v.1 v.2 v.0) (λ v. seeing.value_seen node false (named.diverges v.0)) walk.old result walk.new }
 {
-    walk.cursor.set_stage(variable, Stage::Given);
     let value = expression(walk, false, Site::Reborrows, value)?;
-    walk.cursor.set_stage(variable, Stage::Known);
-    walk.given(node, place, variable, pattern, value)?;
+    let root = walk.cursor.use_of(variable);
+    let pattern = walk.cursor.gives_here(variable);
+    walk.given(node, place, root, pattern, value)?;
     walk.own(node, Op::Unit, &[])?;
     Ok(value_seen(node, false, value.diverges))
 }

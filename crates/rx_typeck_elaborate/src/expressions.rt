@@ -19,7 +19,7 @@ use rx_core::{LetGo, Place, Span, keep};
 use rx_tree::{BinaryOp, Expr as ExprTree, UpdateOp};
 use rx_typeck_elaborate_parts::{Walk, both, either, is_strict, own};
 use rx_typeck_numbering::{Seen, value_seen};
-use rx_typed::{Node, Site, Stage};
+use rx_typed::{Node, Site};
 use rx_typed_tree::{Expr, Making};
 use std::alloc::AllocError;
 
@@ -153,7 +153,7 @@ pub(crate) fn assign<'t>(
     }
 }
 
-/// An assignment that gives a variable its type; in its right side the variable may not be named.
+/// An assignment before which its variable waits for its type: it gives the type, unless one in its right side did.
 #[cycle(expression)]
 #[tactic(auto, using(rx_tree::proofs::Rules::expression_rules, rx_tree::proofs::Rules::block_rules, rx_tree::proofs::Rules::let_rules, rx_typed_tree::proofs::Rules::typed_tree_rules, rx_typeck_elaborate_parts::proofs::Listed::listed_rules))]
 pub(crate) fn gives<'t>(
@@ -164,9 +164,8 @@ pub(crate) fn gives<'t>(
 ) -> Result<(Expr, Seen), AllocError>
     ensures { walks.Tells plain-Expr (telling.right_side (Some (variable, 0)) (λ t. naming.of_expression false t (plain-ExprTree right.now))) (λ t e. tree.assign (elaborated.mark t node) (tree.own variable) (elaborated.value t e)) (λ e. value_seen node false (named.diverges e)) walk.old result walk.new }
 {
-    walk.cursor.set_stage(variable, Stage::Given);
     let (tree, seen) = expression(walk, false, Site::Reborrows, right)?;
-    walk.cursor.set_stage(variable, Stage::Known);
+    walk.cursor.gives_here(variable);
     let tree = walk
         .given
         .assign(node, own(walk.given.alloc, variable), tree)?;

@@ -5,7 +5,7 @@ use Rattle.rx_tree.specs.declared.tree.TypeText.{TypeText}
 use Rattle.rx_typed.specs.declared.nodes.Site.{Site}
 use Rattle.rx_typed.specs.Named as named
 use Rattle.rx_typed.specs.Named.{Else, body_node, body_never, body_diverges, else_never, else_diverges, all_never, all_diverge}
-use Rattle.rx_typed.specs.Naming.{Cursor, Numbering, and_then, give, passed_on, set_stage, with_stage, branch_site, initialiser_site, counted, known_between, of_expression, of_pattern, of_body, of_optional, of_optional_type}
+use Rattle.rx_typed.specs.Naming.{Cursor, Numbering, and_then, give, passed_on, gives_here, with_stage, branch_site, initialiser_site, counted, known_between, of_expression, of_pattern, of_body, of_optional, of_optional_type}
 use Rattle.rx_tree.specs.Plain.{TypeTree, PatternTree, Expression, OptionalExpression, Body}
 use Rattle.rx_typed.specs.declared.nodes.Node.{Node}
 use Rattle.rx_typed.specs.declared.nodes.Stage.{Stage}
@@ -66,7 +66,7 @@ body_parts T (named.body n ss o) = (statements_listed T ss, elaborated.tail T n 
 -- the right side of an assignment, by the variable that waits for its type
 abbrev pub right_side : Option (ℕ × ℕ) → (Site → Numbering named.Exp) → Numbering named.Exp
 right_side None f = f Site.Expects
-right_side (Some w) f = and_then (set_stage w.0 Stage.Given) (λ _. and_then (f Site.Reborrows) (λ e. and_then (set_stage w.0 Stage.Known) (λ _. give e)))
+right_side (Some w) f = and_then (f Site.Reborrows) (λ e. and_then (gives_here w.0) (λ _. give e))
 
 -- the body of an `if`, and what follows it
 abbrev pub both_ways : Site → Body → OptionalExpression → Numbering (named.Body × Else)

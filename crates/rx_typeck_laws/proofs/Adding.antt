@@ -209,8 +209,13 @@ pub named_adds : (n : Node) (x : Use) (k : Bool) → Adds (rules.named_at n x k)
 named_adds n x true = asks_add n _ _ _
 named_adds n x false = asks_add n _ _ _
 
-pub given_adds : (n p : Node) (x d : ℕ) (e : Node) (v : Bool) → Adds (rules.given n p x d e v)
-given_adds n p x d e v = then_adds _ _ (not_never_adds e v) (then_adds _ _ (asks_add n _ _ _) (asks_add p _ _ _))
+pub fits_given_adds : (x : ℕ) (e : Node) (v : Bool) → Adds (rules.fits_given x e v)
+fits_given_adds x e true = nothing_adds
+fits_given_adds x e false = asks_add e _ _ _
+
+pub given_adds : (n p : Node) (x : Use) (d : Option ℕ) (e : Node) (v : Bool) → Adds (rules.given n p x d e v)
+given_adds n p x (Some d) e v = then_adds _ _ (not_never_adds e v) (then_adds _ _ (asks_add n _ _ _) (asks_add p _ _ _))
+given_adds n p x None e v = then_adds _ _ (named_adds p x x.known) (fits_given_adds x.number e v)
 
 pub returns_add : (f : ℕ) (n : Node) (o : Else) → Adds (rules.returns_unit f n o)
 returns_add f n named.absent = asks_add n _ _ _

@@ -1,10 +1,11 @@
 -- The walk over expressions, blocks and statements.
-use Rattle.std.proofs.Common.{◌≡◌, ℕ, suc, ◌≤◌, ◌<◌, Bool, true, false, ◌&&◌, List, [], ◌∷◌, ◌++◌, length, length-set, slice_set, Option, Some, None, refl, sym, ap, subst, ◌∙◌, append_assoc, ◌⊎◌, inl, inr, ⊎_elim, arith}
+use Rattle.std.proofs.Common.{◌≡◌, ℕ, suc, ◌≤◌, Bool, true, false, ◌&&◌, List, [], ◌∷◌, ◌++◌, length, length-set, Option, Some, None, refl, sym, ap, subst, ◌∙◌, append_assoc, ◌⊎◌, inl, inr, ⊎_elim, arith}
 use Rattle.rx_core.specs.declared.types.Span.{Span}
 use Rattle.rx_tree.specs.Plain as plain
 use Rattle.rx_tree.specs.Plain.{TypeTree, PatternTree, Expression, Expressions, OptionalExpression, OptionalExpressions, FieldExpressions, Statement, Statements}
 use Rattle.rx_typed.specs.declared.nodes.Node.{Node}
 use Rattle.rx_typed.specs.declared.nodes.Site.{Site}
+use Rattle.rx_typed.specs.declared.nodes.Use.{Use}
 use Rattle.rx_typed.specs.declared.nodes.Stage.{Stage}
 use Rattle.rx_typed.specs.declared.nodes.Declaration.{Declaration}
 use Rattle.rx_typed.specs.Named as named
@@ -25,8 +26,8 @@ use Rattle.rx_typeck_rules.specs.Demands.{Listed, members, values, parameters, p
 use Rattle.rx_typeck_laws.specs.Nodes.{unless, type_nodes, pattern_nodes, exp_nodes, exps_nodes, else_nodes, fields_nodes, arms_nodes, body_nodes, statement_nodes, statements_nodes}
 use Rattle.rx_typeck_laws.proofs.Adding
 use Rattle.rx_typeck_laws.proofs.Adding.{Longer, Adds, longer_same, asks_add, exp_adds}
-use Rattle.rx_typeck_laws.proofs.Telling.{Sure, sure_longer, sure_asked, whole_type_told, whole_told, body_sure, exp_sure}
-use Rattle.rx_typeck_laws.proofs.Stages.{stage, Counted, waits_given, waits_within, set_cases, Still, still_then, node_still, entry_still, type_still, pattern_declares}
+use Rattle.rx_typeck_laws.proofs.Telling.{Sure, sure_longer, sure_asked, named_sure, in_left, whole_type_told, whole_told, body_sure, exp_sure}
+use Rattle.rx_typeck_laws.proofs.Stages.{stage, Counted, waits_within, set_cases, Still, still_then, node_still, entry_still, type_still, pattern_declares}
 use Rattle.rx_typeck_laws.proofs.Walks.{Later, Walk, walk_then, still_walk, walk_nodes, walk_more, walk_own, scope_walk, waiting_walk}
 
 -- the site of the elements of a list
@@ -38,22 +39,17 @@ list_site (parts_of i v) = Site.Expects
 
 -- ---- a variable that waits for its type
 
-waiting_is : (x : ℕ) (st : Stage) (k : ℕ × ℕ) → naming.waiting x st ≡ Some k → (s : Span) × (st ≡ Stage.Waits k.1 s) × (x ≡ k.0)
+waiting_is : (x : ℕ) (st : Stage) (k : ℕ × ℕ) → naming.waiting x st ≡ Some k → (s : Span) × (st ≡ Stage.Waits k.1 s)
 waiting_is x (Stage.Waits p s) k e =
     let same : (x, p) ≡ k = cc in
-    (s, ap (λ (k : ℕ × ℕ). Stage.Waits k.1 s) same, ap (λ (k : ℕ × ℕ). k.0) same)
+    (s, ap (λ (k : ℕ × ℕ). Stage.Waits k.1 s) same)
 waiting_is x Stage.Given k e = absurd (cc)
 waiting_is x Stage.Known k e = absurd (cc)
 
 -- only a whole variable waits, and naming it changes none
 waits_cases : (p : Expression) (m : Bool) (t : Site) (c : Cursor)
-    → (Still c (naming.of_expression m t p c).1 × ((k : ℕ × ℕ) → naming.waits_in p (root (naming.of_expression m t p c).0).number (naming.of_expression m t p c).1 ≡ Some k
-    → (s : Span) × (stage (naming.of_expression m t p c).1.variables k.0 ≡ Stage.Waits k.1 s)))
-    ⊎ (naming.waits_in p (root (naming.of_expression m t p c).0).number (naming.of_expression m t p c).1 ≡ None)
-waits_cases (plain.var s x) m t c =
-    let g = an_entry (a_node s t c).1 in
-    let v = naming.first g.0.0 in
-    inl (still_then (node_still s t c) (entry_still (a_node s t c).1), λ k e. let w = waiting_is v (declaration g.1 v).stage k e in (w.0, ap (stage g.1.variables) (sym w.2) ∙ w.1))
+    → Still c (naming.of_expression m t p c).1 ⊎ (naming.waits_in p (root (naming.of_expression m t p c).0).number (naming.of_expression m t p c).1 ≡ None)
+waits_cases (plain.var s x) m t c = inl (still_then (node_still s t c) (entry_still (a_node s t c).1))
 waits_cases _ m t c = inr refl
 
 same_waits : (a b : ℕ) (s q : Span) → Stage.Waits a s ≡ Stage.Waits b q → a ≡ b
@@ -97,43 +93,81 @@ module _ (K : Known) (A : Types) where
       let Y = naming.of_type y c in
       walk_nodes K A (type_nodes Y.0) (λ n i. inr (inl (whole_type_told K A Y.0 ds n i))) (still_walk K A c Y.1 ds (rules.whole_type Y.0 ds) h (type_still y c) (Adding.whole_type_adds Y.0 ds))
 
-  -- ---- an assignment that gives its variable a type
+  -- ---- an assignment before which its variable waits for its type
 
-  gives_walk : (f : ℕ) (n p : Node) (w : ℕ × ℕ) (s : Span) (c : Cursor) (E : Exp × Cursor) (ds : List Demand) → Counted c → stage c.variables w.0 ≡ Stage.Waits w.1 s
-      → Walk K A (naming.set_stage w.0 Stage.Given c).1 ds E.1 (rules.of_exp f E.0 ds) (exp_nodes true E.0)
-      → Walk K A c ds (naming.set_stage w.0 Stage.Known E.1).1 (rules.of_exp f (named.gives n p w.0 w.1 E.0) ds) (n.number ∷ p.number ∷ exp_nodes true E.0)
-  gives_walk f n p w s c E ds counted is e = record {
-    longer = Adding.longer_then ds d1 d3 e.longer l;
-    grows = e.grows;
-    counted = e.counted ∙ sym (length-set E.1.variables w.0 dK);
-    waits = λ x k q h. ⊎_elim (λ a. inr (at_pattern x k q a.0 h)) (λ b. ⊎_elim (λ a. ⊎_elim (λ i. inl (a.1 ∙ i)) (λ t. inr (sure_longer K A l t)) (e.waits x k q (first x a.0 ∙ h))) (λ a. inr (at_pattern x k q a.1 h)) b) (set_cases E.1.variables w.0 dK x);
-    waiting = λ x k q h. ⊎_elim (λ a. known_waits k q (sym a.1 ∙ h)) (λ b. ⊎_elim (λ a. ⊎_elim (λ i. inl (sym (first x a.0) ∙ i)) (λ i. inr i) (e.waiting x k q (sym a.1 ∙ h)))
-        (λ a. absurd (past x a.0 (waits_within (slice_set E.1.variables w.0 dK) x k q h))) b) (set_cases E.1.variables w.0 dK x);
-    known = λ x h. ⊎_elim (λ a. inr (at_variable x a.0)) (λ b. ⊎_elim (λ a. ⊎_elim (λ i. inl (sym (first x a.0) ∙ i)) (λ t. inr (sure_longer K A l t)) (e.known x (sym a.1 ∙ h))) (λ a. inr (at_variable x a.1)) b) (set_cases E.1.variables w.0 dK x);
-    given = λ x i h. ⊎_elim (λ a. known_no_given (sym a.1 ∙ h)) (λ b. ⊎_elim (λ a. let g = e.given x i (sym a.1 ∙ h) in (g.0, sym (first x a.0) ∙ g.1)) (λ a. let u = a.0 in let n = e.counted in absurd (omega (arith, u, i, n))) b) (set_cases E.1.variables w.0 dK x);
-    nodes = λ k i. at k i;
+  -- behind the right side: a variable that waits there is known from here on, and is told with its pattern's node
+  known_walk : (x : ℕ) (w : ℕ × ℕ) (s : Span) (c : Cursor) (d1 d2 : List Demand) → Counted c → stage c.variables x ≡ Stage.Waits w.1 s → Longer d1 d2
+      → Sure K A d2 (subject.Variable x) → Sure K A d2 (subject.Node w.1) → Walk K A c d1 (naming.set_stage x Stage.Known c).1 d2 []
+  known_walk x w s c d1 d2 counted is l variable pattern = record {
+    longer = l;
+    grows = omega arith;
+    counted = counted ∙ sym (length-set c.variables x d);
+    waits = λ y k q h. ⊎_elim (λ a. inr (at_pattern y k q a.0 h)) (λ b. ⊎_elim (λ a. inl (a.1 ∙ h)) (λ a. inr (at_pattern y k q a.1 h)) b) (set_cases c.variables x d y);
+    waiting = λ y k q h. ⊎_elim (λ a. known_waits k q (sym a.1 ∙ h)) (λ b. ⊎_elim (λ a. inl (sym a.1 ∙ h)) (λ a. inl (absurd (past y a.0 a.1))) b) (set_cases c.variables x d y);
+    known = λ y h. ⊎_elim (λ a. inr (at_variable y a.0)) (λ b. ⊎_elim (λ a. inl (sym a.1 ∙ h)) (λ a. inr (at_variable y a.1)) b) (set_cases c.variables x d y);
+    given = λ y i h. ⊎_elim (λ a. known_no_given (sym a.1 ∙ h)) (λ b. ⊎_elim (λ a. (i, sym a.1 ∙ h)) (λ a. absurd (past y a.0 a.1)) b) (set_cases c.variables x d y);
+    nodes = λ k i. absurd i;
   }
     where
-      dG : Declaration
-      dG = record (declaration c w.0) { stage = Stage.Given }
+      d : Declaration
+      d = record (declaration c x) { stage = Stage.Known }
 
-      dK : Declaration
-      dK = record (declaration E.1 w.0) { stage = Stage.Known }
+      at_variable : (y : ℕ) → y ≡ x → Sure K A d2 (subject.Variable y)
+      at_variable y q = subst (λ k. Sure K A d2 (subject.Variable k)) (sym q) variable
+
+      at_pattern : (y k : ℕ) (q : Span) → y ≡ x → stage c.variables y ≡ Stage.Waits k q → Sure K A d2 (subject.Node k)
+      at_pattern y k q i h = subst (λ k. Sure K A d2 (subject.Node k)) (same_waits w.1 k s q (sym is ∙ ap (stage c.variables) (sym i) ∙ h)) pattern
+
+      past : (y : ℕ) → length c.variables ≤ y → y ≡ x → ⊥
+      past y u i = let n = waits_within c.variables x w.1 s is in omega (arith, u, i, n)
+
+  -- the assignment behind its right side; whether the variable waits there still
+  gives_walk : (f : ℕ) (n p : Node) (x : ℕ) (c : Cursor) (E : Exp × Cursor) (ds : List Demand) (o : Option (ℕ × ℕ)) → naming.waiting x (declaration E.1 x).stage ≡ o
+      → Walk K A c ds E.1 (rules.of_exp f E.0 ds) (exp_nodes true E.0)
+      → let r = naming.given_here x o E.1 in Walk K A c ds r.1 (rules.of_exp f (named.gives n p (naming.use_of x (declaration E.1 x)) r.0 E.0) ds) (n.number ∷ p.number ∷ exp_nodes true E.0)
+  gives_walk f n p x c E ds None is e = walk_nodes K A (n.number ∷ p.number ∷ exp_nodes true E.0) (λ k i. at k i) (walk_more K A e (Adding.longer_then d1 d2 d3 (Adding.given_adds n p u None (node_of E.0) (never E.0) d1) (Adding.own_adds n op.Unit [] d2)))
+    where
+      u : Use
+      u = naming.use_of x (declaration E.1 x)
 
       d1 : List Demand
       d1 = rules.of_exp f E.0 ds
 
       d2 : List Demand
-      d2 = rules.given n p w.0 w.1 (node_of E.0) (never E.0) d1
+      d2 = rules.given n p u None (node_of E.0) (never E.0) d1
+
+      d3 : List Demand
+      d3 = rules.own n op.Unit [] d2
+
+      name_told : Sure K A d3 (subject.Node p.number)
+      name_told = sure_longer K A (Adding.own_adds n op.Unit [] d2) (sure_longer K A (Adding.fits_given_adds x (node_of E.0) (never E.0) _) (named_sure K A p u u.known d1))
+
+      at : (k : ℕ) → IsIn k (n.number ∷ p.number ∷ exp_nodes true E.0) → IsIn k (exp_nodes true E.0) ⊎ Later K A E.1 d3 k
+      at k (inl q) = inr (inl (subst (λ k. Sure K A d3 (subject.Node k)) (sym q) (exp_sure K A f (named.gives n p u None E.0) ds refl)))
+      at k (inr (inl q)) = inr (inl (subst (λ k. Sure K A d3 (subject.Node k)) (sym q) name_told))
+      at k (inr (inr i)) = inl i
+  gives_walk f n p x c E ds (Some w) is e = walk_nodes K A (n.number ∷ p.number ∷ exp_nodes true E.0) (λ k i. at k i) (walk_then K A e (known_walk x w waits.0 E.1 d1 d3 e.counted waits.1 l variable_told pattern_told))
+    where
+      u : Use
+      u = naming.use_of x (declaration E.1 x)
+
+      waits : (s : Span) × (stage E.1.variables x ≡ Stage.Waits w.1 s)
+      waits = waiting_is x (declaration E.1 x).stage w is
+
+      d1 : List Demand
+      d1 = rules.of_exp f E.0 ds
+
+      d2 : List Demand
+      d2 = rules.given n p u (Some w.1) (node_of E.0) (never E.0) d1
 
       d3 : List Demand
       d3 = rules.own n op.Unit [] d2
 
       l : Longer d1 d3
-      l = Adding.longer_then d1 d2 d3 (Adding.given_adds n p w.0 w.1 (node_of E.0) (never E.0) d1) (Adding.own_adds n op.Unit [] d2)
+      l = Adding.longer_then d1 d2 d3 (Adding.given_adds n p u (Some w.1) (node_of E.0) (never E.0) d1) (Adding.own_adds n op.Unit [] d2)
 
-      variable_told : Sure K A d3 (subject.Variable w.0)
-      variable_told = sure_longer K A (Adding.own_adds n op.Unit [] d2) (sure_longer K A (asks_add p _ _ _ _) (sure_asked K A n _ _ _ (rules.not_never (node_of E.0) (never E.0) d1) (subject.Variable w.0) (inl refl)))
+      variable_told : Sure K A d3 (subject.Variable x)
+      variable_told = sure_longer K A (Adding.own_adds n op.Unit [] d2) (sure_longer K A (asks_add p _ _ _ _) (sure_asked K A n _ _ _ (rules.not_never (node_of E.0) (never E.0) d1) (subject.Variable x) (inl refl)))
 
       name_told : Sure K A d3 (subject.Node p.number)
       name_told = sure_longer K A (Adding.own_adds n op.Unit [] d2) (sure_asked K A p _ _ _ _ (subject.Node p.number) (inl refl))
@@ -141,38 +175,10 @@ module _ (K : Known) (A : Types) where
       pattern_told : Sure K A d3 (subject.Node w.1)
       pattern_told = sure_longer K A (Adding.own_adds n op.Unit [] d2) (sure_asked K A p _ _ _ _ (subject.Node w.1) (inr (inl refl)))
 
-      at_variable : (x : ℕ) → x ≡ w.0 → Sure K A d3 (subject.Variable x)
-      at_variable x q = subst (λ k. Sure K A d3 (subject.Variable k)) (sym q) variable_told
-
-      at_pattern : (x k : ℕ) (q : Span) → x ≡ w.0 → stage c.variables x ≡ Stage.Waits k q → Sure K A d3 (subject.Node k)
-      at_pattern x k q i h = subst (λ k. Sure K A d3 (subject.Node k)) (same_waits w.1 k s q (sym is ∙ ap (stage c.variables) (sym i) ∙ h)) pattern_told
-
-      inside : w.0 < length c.variables
-      inside = waits_within c.variables w.0 w.1 s is
-
-      -- others are as they were
-      first : (x : ℕ) → (x ≡ w.0 → ⊥) → stage (slice_set c.variables w.0 dG) x ≡ stage c.variables x
-      first x q = ⊎_elim (λ a. absurd (q a.0)) (λ b. ⊎_elim (λ a. a.1) (λ a. absurd (q a.1)) b) (set_cases c.variables w.0 dG x)
-
-      itself : stage (slice_set c.variables w.0 dG) w.0 ≡ Stage.Given
-      itself = ⊎_elim (λ a. a.1) (λ b. ⊎_elim (λ a. absurd (a.0 refl)) (λ a. let u = a.0 in let i = inside in absurd (omega (arith, u, i))) b) (set_cases c.variables w.0 dG w.0)
-
-      past : (x : ℕ) → length E.1.variables ≤ x → x < length (slice_set E.1.variables w.0 dK) → ⊥
-      past x u i = let n = length-set E.1.variables w.0 dK in omega (arith, u, i, n)
-
-      -- the variable itself doesn't wait in its value
-      never_waits : (k : ℕ) (q : Span) → stage E.1.variables w.0 ≡ Stage.Waits k q → ⊥
-      never_waits k q h = ⊎_elim (λ i. waits_given k q (sym itself ∙ i)) (λ i. let u = inside in omega (arith, u, i, counted)) (e.waiting w.0 k q h)
-
-      later : (k : ℕ) → Later K A E.1 d1 k → Later K A (naming.set_stage w.0 Stage.Known E.1).1 d3 k
-      later k (inl t) = inl (sure_longer K A l t)
-      later k (inr h) = ⊎_elim (λ a. absurd (never_waits k h.1 (ap (stage E.1.variables) (sym a.0) ∙ h.2)))
-          (λ b. ⊎_elim (λ a. inr (h.0, h.1, a.1 ∙ h.2)) (λ a. absurd (never_waits k h.1 (ap (stage E.1.variables) (sym a.1) ∙ h.2))) b) (set_cases E.1.variables w.0 dK h.0)
-
-      at : (k : ℕ) → IsIn k (n.number ∷ p.number ∷ exp_nodes true E.0) → Later K A (naming.set_stage w.0 Stage.Known E.1).1 d3 k
-      at k (inl q) = inl (subst (λ k. Sure K A d3 (subject.Node k)) (sym q) (exp_sure K A f (named.gives n p w.0 w.1 E.0) ds refl))
-      at k (inr (inl q)) = inl (subst (λ k. Sure K A d3 (subject.Node k)) (sym q) name_told)
-      at k (inr (inr i)) = later k (e.nodes k i)
+      at : (k : ℕ) → IsIn k (n.number ∷ p.number ∷ exp_nodes true E.0) → IsIn k (exp_nodes true E.0 ++ []) ⊎ Later K A (naming.set_stage x Stage.Known E.1).1 d3 k
+      at k (inl q) = inr (inl (subst (λ k. Sure K A d3 (subject.Node k)) (sym q) (exp_sure K A f (named.gives n p u (Some w.1) E.0) ds refl)))
+      at k (inr (inl q)) = inr (inl (subst (λ k. Sure K A d3 (subject.Node k)) (sym q) name_told))
+      at k (inr (inr i)) = inl (in_left k (exp_nodes true E.0) [] i)
 
   -- ---- pieces of expressions, over what is shown of their parts
 
@@ -180,8 +186,7 @@ module _ (K : Known) (A : Types) where
   assigned_walk : (f : ℕ) (s : Span) (t : Site) (p e : Expression) (c : Cursor) (ds : List Demand) → Counted c
       → ((c : Cursor) (ds : List Demand) → Counted c → Walk K A c ds (naming.of_expression false Site.Place p c).1 (rules.of_exp f (naming.of_expression false Site.Place p c).0 ds) (exp_nodes true (naming.of_expression false Site.Place p c).0))
       → ((u : Site) (c : Cursor) (ds : List Demand) → Counted c → Walk K A c ds (naming.of_expression false u e c).1 (rules.of_exp f (naming.of_expression false u e c).0 ds) (exp_nodes true (naming.of_expression false u e c).0))
-      → (o : Option (ℕ × ℕ)) → (Still (a_node s t c).1 (naming.of_expression false Site.Place p (a_node s t c).1).1
-      × ((k : ℕ × ℕ) → o ≡ Some k → (q : Span) × (stage (naming.of_expression false Site.Place p (a_node s t c).1).1.variables k.0 ≡ Stage.Waits k.1 q))) ⊎ (o ≡ None)
+      → (o : Option (ℕ × ℕ)) → Still (a_node s t c).1 (naming.of_expression false Site.Place p (a_node s t c).1).1 ⊎ (o ≡ None)
       → Walk K A c ds (naming.assigned (a_node s t c).0 (naming.of_expression false Site.Place p (a_node s t c).1).0 o (λ u. naming.of_expression false u e) (naming.of_expression false Site.Place p (a_node s t c).1).1).1
       (rules.of_exp f (naming.assigned (a_node s t c).0 (naming.of_expression false Site.Place p (a_node s t c).1).0 o (λ u. naming.of_expression false u e) (naming.of_expression false Site.Place p (a_node s t c).1).1).0 ds)
       (exp_nodes true (naming.assigned (a_node s t c).0 (naming.of_expression false Site.Place p (a_node s t c).1).0 o (λ u. naming.of_expression false u e) (naming.of_expression false Site.Place p (a_node s t c).1).1).0)
@@ -199,14 +204,9 @@ module _ (K : Known) (A : Types) where
   assigned_walk f s t p e c ds h place value (Some k) (inl i) =
       let n = a_node s t c in
       let q = naming.of_expression false Site.Place p n.1 in
-      let w = i.1 k refl in
-      let a = walk_then K A (node_walk s t c ds h) (moved n.1 q.1 ds i.0 h) in
-      let E = naming.of_expression false Site.Reborrows e (naming.set_stage k.0 Stage.Given q.1).1 in
-      let g = counted_set q.1 k.0 Stage.Given a.counted in
-      walk_then K A a (gives_walk f n.0 (node_of q.0) k w.0 q.1 E ds a.counted w.1 (value Site.Reborrows (naming.set_stage k.0 Stage.Given q.1).1 ds g))
-    where
-      counted_set : (c : Cursor) (x : ℕ) (t : Stage) → Counted c → Counted (naming.set_stage x t c).1
-      counted_set c x t h = h ∙ sym (length-set c.variables x (record (declaration c x) { stage = t }))
+      let a = walk_then K A (node_walk s t c ds h) (moved n.1 q.1 ds i h) in
+      let E = naming.of_expression false Site.Reborrows e q.1 in
+      walk_then K A a (gives_walk f n.0 (node_of q.0) k.0 q.1 E ds (naming.waiting k.0 (declaration E.1 k.0).stage) refl (value Site.Reborrows q.1 ds a.counted))
 
   abbrev EachWalk : ℕ → Expressions → Type 0
   EachWalk f es = (w : Listed) (k : ℕ) (c : Cursor) (ds : List Demand) → Counted c

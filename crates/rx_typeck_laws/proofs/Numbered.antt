@@ -123,6 +123,11 @@ one_node : (p : Expression) (c : Cursor) → OneNode p c (naming.waits_in p (roo
 one_node (plain.var s x) c = inl (covers_then (node_covered false s Site.Place c) (entry_covered _))
 one_node _ c = inr refl
 
+-- an assignment behind its value
+given_here_covered : (x : ℕ) (o : Option (ℕ × ℕ)) (c : Cursor) → Covers c (naming.given_here x o c).1 [] []
+given_here_covered x None c = nothing_covered c c refl refl
+given_here_covered x (Some w) c = nothing_covered c (naming.set_stage x Stage.Known c).1 refl refl
+
 -- the value of an assignment, behind its place
 assigned_covered : (s : Span) (t : Site) (p e : Expression) (c : Cursor) → ExpCovers p → ExpCovers e → (o : Option (ℕ × ℕ)) → OneNode p (a_node s t c).1 o
     → Covers c (naming.assigned (a_node s t c).0 (naming.of_expression false Site.Place p (a_node s t c).1).0 o (λ u. naming.of_expression false u e) (naming.of_expression false Site.Place p (a_node s t c).1).1).1
@@ -132,11 +137,8 @@ assigned_covered s t p e c a b None x = covers_then (node_covered false s t c) (
 assigned_covered s t p e c a b (Some w) (inr none) = absurd (cc)
 assigned_covered s t p e c a b (Some w) (inl x) =
     let q = naming.of_expression false Site.Place p (a_node s t c).1 in
-    let c1 = (naming.set_stage w.0 Stage.Given q.1).1 in
-    let E = b false Site.Reborrows c1 in
-    let i : Covers q.1 c1 [] [] = nothing_covered q.1 c1 refl refl in
-    let j : Covers (naming.of_expression false Site.Reborrows e c1).1 (naming.set_stage w.0 Stage.Known (naming.of_expression false Site.Reborrows e c1).1).1 [] [] = nothing_covered _ _ refl refl in
-    covers_then (node_covered false s t c) (covers_then x (covers_then i (ends_with E j)))
+    let E = (naming.of_expression false Site.Reborrows e q.1).1 in
+    covers_then (node_covered false s t c) (covers_then x (ends_with (b false Site.Reborrows q.1) (given_here_covered w.0 (naming.waiting w.0 (naming.declaration E w.0).stage) E)))
 
 called_covered : (s : Span) (t : Site) (es : Expressions) (c : Cursor) → ((t : Site) (c : Cursor) → Covers c (naming.of_expressions t es c).1 (exps_nodes true (naming.of_expressions t es c).0) (exps_nodes false (naming.of_expressions t es c).0))
     → (k : List ℕ × Bool) → (c1 : Cursor) → Covers (a_node s t c).1 c1 [] []

@@ -257,7 +257,7 @@ module _ (K : Known) (A : Types) where
   operation_sure BinaryOp.Ge n a x b y ds = own_sure n _ _ _
   operation_sure _ n a x b y ds = integer_last n _ _ _ ds refl
 
-  named_sure : (n : Node) (x : Use) (k : Bool) (ds : List Demand) → Sure (rules.named_at n x k ds) (type_of n)
+  pub named_sure : (n : Node) (x : Use) (k : Bool) (ds : List Demand) → Sure (rules.named_at n x k ds) (type_of n)
   named_sure n x true ds = sure_asked n _ _ _ ds (type_of n) (inl refl)
   named_sure n x false ds = sure_refused n _ _ ds (type_of n)
 

@@ -308,6 +308,21 @@ impl<'t> Cursor<'t> {
         put(self.loops.as_mut_slice(), number as usize, true);
     }
 
+    /// Behind the right side of an assignment before which the variable of this number waits for its type: where it
+    /// waits still, the assignment gives the type, which is known from here on; the node of the pattern that declares it.
+    pub fn gives_here(&mut self, variable: u32) -> Option<usize>
+        ensures pattern { result ≡ (naming.gives_here variable self.old).0 }
+        ensures cursor { self.new ≡ (naming.gives_here variable self.old).1 }
+    {
+        match self.waits(variable) {
+            Some((_, pattern)) => {
+                self.set_stage(variable, Stage::Known);
+                Some(pattern)
+            }
+            None => None,
+        }
+    }
+
     /// Whether some `break` led to the loop so far.
     pub fn is_left(&self, number: usize) -> bool
         ensures { result ≡ get_or self.now.loops number false }

@@ -183,21 +183,23 @@ counts_reach : (n : Node) (r : Rule) (t : Test) (ds : List Demand) → Reach ds 
 counts_reach n r t ds = passes_asked n _ t [] [] [] ds known_none passed_none passed_none
 
 -- what an assignment tells that gives its variable a type
-record Gave (ds ds' : List Demand) (x : ℕ) : Type 0 where
-  reach : Reach ds ds'
-  told : Sure ds' (subject.Variable x)
-
-gave_told : (n p : Node) (x d : ℕ) (e : Node) (v : Bool) (t : Site) (ds : List Demand) → ToldIf t v ds e → Gave ds (rules.given n p x d e v ds) x
-gave_told n p x d e v t ds h =
+gave_told : (n p : Node) (u : Use) (d : ℕ) (e : Node) (v : Bool) (t : Site) (ds : List Demand) → ToldIf t v ds e → Tells ds (rules.given n p u (Some d) e v ds) (subject.Variable u.number)
+gave_told n p u d e v t ds h =
+    let x = subject.Variable u.number in
     let a = not_never_told e v t ds h in
-    let b = equals_asked n (broken.Mismatch Rule.Equal) (subject.Variable x) op.Same (type_of e ∷ []) [] (rules.not_never e v ds) (known_one a.told) passed_none in
-    let c = asked p (broken.Mismatch Rule.Equal) false (alike (type_of p) (subject.Variable x) ∷ alike (subject.Node d) (subject.Variable x) ∷ []) _
-    (and_true _ _ (and_true _ _ b.told.is refl) refl, (and_true _ _ (and_true _ _ (or_true (same_subject (subject.Variable x) (type_of p)) _ b.told.is) refl) refl, tt)) (λ g. absurd (cc)) in
+    let b = equals_asked n (broken.Mismatch Rule.Equal) x op.Same (type_of e ∷ []) [] (rules.not_never e v ds) (known_one a.told) passed_none in
+    let c = asked p (broken.Mismatch Rule.Equal) false (alike (type_of p) x ∷ alike (subject.Node d) x ∷ []) _
+    (and_true _ _ (and_true _ _ b.told.is refl) refl, (and_true _ _ (and_true _ _ (or_true (same_subject x (type_of p)) _ b.told.is) refl) refl, tt)) (λ g. absurd (cc)) in
     record { reach = a.reach ⇒ b.reach ⇒ c; told = sure_kept c b.told }
   where
     or_true : (a b : Bool) → IsTrue b → IsTrue (a || b)
     or_true true b h = refl
     or_true false b h = h
+
+-- one behind which its variable is known
+fits_given_reach : (x : ℕ) (e : Node) (v : Bool) (ds : List Demand) → (v ≡ false → Sure ds (type_of e)) → Reach ds (rules.fits_given x e v ds)
+fits_given_reach x e true ds h = stays ds
+fits_given_reach x e false ds h = (equals_asked e (broken.Mismatch Rule.Equal) (subject.Variable x) op.Same (type_of e ∷ []) [] ds (known_one (h refl)) passed_none).reach
 
 agrees_given : (c : Cursor) (x : ℕ) (t : Stage) (ds : List Demand) → (IsTrue (is_known t) → Sure ds (subject.Variable x)) → Agrees c ds → Agrees (naming.set_stage x t c).1 ds
 agrees_given c x t ds h a = record {
@@ -230,6 +232,24 @@ called_at : (n : Node) (ns : List ℕ × Bool) (g : Site → naming.Numbering Ex
 called_at n (ns, true) g c = refl
 called_at n (ns, false) g c = refl
 
+-- an assignment before which its variable waits, behind its right side; whether the variable waits there still
+waited_told : (f : ℕ) (t : Site) (n p : Node) (x : ℕ) (E : Exp × Cursor) (o : Option (ℕ × ℕ)) (ds : List Demand) → Walked f Site.Reborrows E ds → Wanted n.site n ds
+    → let r = naming.given_here x o E.1 in Walked f t (named.gives n p (naming.use_of x (declaration E.1 x)) r.0 E.0, r.1) ds
+waited_told f t n p x E (Some k) ds e w =
+    let y = gave_told n p (naming.use_of x (declaration E.1 x)) k.1 (node_of E.0) (never E.0) Site.Reborrows _ e.told in
+    let z = own_told n op.Unit [] _ known_none (wanted_kept (e.reach ⇒ y.reach) w) in
+    record {
+      reach = e.reach ⇒ y.reach ⇒ z.reach;
+      agrees = agrees_given E.1 x Stage.Known _ (λ b. sure_kept z.reach y.told) (agrees_then (y.reach ⇒ z.reach) e.agrees);
+      told = told_if z.told;
+      passed = passed_none;
+    }
+waited_told f t n p x E None ds e w =
+    let y = named_told (is_known (declaration E.1 x).stage) p (naming.use_of x (declaration E.1 x)) _ (λ i. e.agrees.is x i) in
+    let z = fits_given_reach x (node_of E.0) (never E.0) _ (λ i. sure_kept y.reach (told_sure i e.told)) in
+    let r = e.reach ⇒ y.reach ⇒ z in
+    owns f t _ ds _ r (agrees_then (y.reach ⇒ z) e.agrees) (own_told n op.Unit [] _ known_none (wanted_kept r w)) refl
+
 -- an assignment; `e` is walked at any site
 assigned_told : (f : ℕ) (t : Site) (n : Node) (e : Expression) (q : Exp × Cursor) (w : Option (ℕ × ℕ)) (c : Cursor) (ds : List Demand) → c ≡ q.1 → Walked f Site.Place q ds → Agrees q.1 ds ⊎ (w ≡ None)
     → ((u : Site) (c : Cursor) (ds : List Demand) → Agrees c ds → Wanted u (node_of (naming.of_expression false u e c).0) ds → Walked f u (naming.of_expression false u e c) ds)
@@ -245,18 +265,9 @@ assigned_told f t n e q None c ds i p v h w =
 assigned_told f t n e q (Some k) c ds i p (inr v) h w = absurd (cc)
 assigned_told f t n e q (Some k) c ds i p (inl v) h w =
     let ac = subst (λ (d : Cursor). Agrees d ds) (sym i) v in
-    let g = agrees_given c k.0 Stage.Given ds (λ b. absurd (cc)) ac in
-    let x = h Site.Reborrows (naming.set_stage k.0 Stage.Given c).1 ds g (record { is = tt }) in
-    let E = naming.of_expression false Site.Reborrows e (naming.set_stage k.0 Stage.Given c).1 in
-    let y = gave_told n (node_of q.0) k.0 k.1 (node_of E.0) (never E.0) Site.Reborrows _ x.told in
-    let z = own_told n op.Unit [] _ known_none (wanted_kept (x.reach ⇒ y.reach) w) in
-    let r = x.reach ⇒ y.reach ⇒ z.reach in
-    record {
-      reach = r;
-      agrees = agrees_given E.1 k.0 Stage.Known _ (λ b. sure_kept z.reach y.told) (agrees_then (y.reach ⇒ z.reach) x.agrees);
-      told = told_if z.told;
-      passed = passed_none;
-    }
+    let x = h Site.Reborrows c ds ac (record { is = tt }) in
+    let E = naming.of_expression false Site.Reborrows e c in
+    waited_told f t n (node_of q.0) k.0 E (naming.waiting k.0 (declaration E.1 k.0).stage) ds x w
 
 loop_told : (k : Bool) (n : Node) (ds : List Demand) → Wanted n.site n ds → JoinedAt n.site (not k) ds (rules.loop_given n k ds) n
 loop_told true n ds w = let a = own_told n op.Unit [] ds known_none w in record { reach = a.reach; told = told_if a.told }

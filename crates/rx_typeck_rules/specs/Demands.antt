@@ -381,10 +381,16 @@ abbrev pub named_at : Node → Use → Bool → Asking
 named_at n x true = ask n Rule.Equal (alike (type_of n) (subject.Variable x.number) ∷ [])
 named_at n x false = ask n Rule.Unclear (fact.Never ∷ [])
 
--- `x = e` that gives `x` its type: `e` isn't Never
-abbrev pub given : Node → Node → ℕ → ℕ → Node → Bool → Asking
-given n p x d e v = not_never e v >> ask n Rule.Equal (alike (subject.Variable x) (type_of e) ∷ [])
-    >> ask p Rule.Equal (alike (type_of p) (subject.Variable x) ∷ alike (subject.Node d) (subject.Variable x) ∷ [])
+-- what is assigned to a variable whose type an assignment in it gave: it has this type, where it has one
+abbrev pub fits_given : ℕ → Node → Bool → Asking
+fits_given x e v = when (not v) (ask e Rule.Equal (alike (subject.Variable x) (type_of e) ∷ []))
+
+-- `x = e`, before which `x` waits for its type: it gives the type, and `e` isn't Never; or an assignment in `e` gave it, and
+-- this is one like any other, but that it makes no `&mut T` shared: what stands in `e` before may not know the type
+abbrev pub given : Node → Node → Use → Option ℕ → Node → Bool → Asking
+given n p x (Some d) e v = not_never e v >> ask n Rule.Equal (alike (subject.Variable x.number) (type_of e) ∷ [])
+    >> ask p Rule.Equal (alike (type_of p) (subject.Variable x.number) ∷ alike (subject.Node d) (subject.Variable x.number) ∷ [])
+given n p x None e v = named_at p x x.known >> fits_given x.number e v
 
 -- `return` without a value
 abbrev pub returns_unit : ℕ → Node → Else → Asking
@@ -562,8 +568,9 @@ of_form f e = of_exp f e
 abbrev pub of_assigned : ℕ → Node → Node → Bool → Use → List Passing → Exp → Asking
 of_assigned f n p whole x ps e = expects (node_of e) op.Same (type_of p ∷ []) >> of_exp f e >> assignable_at n whole x ps >> own n op.Unit []
 
--- the value that gives a variable its type: of the node, that of the variable, the variable, the pattern that declares it
-abbrev pub of_given : ℕ → Node → Node → ℕ → ℕ → Exp → Asking
+-- the value of an assignment before which the variable waits for its type: of the node, that of the variable, the variable
+-- behind it, the pattern that declares the variable where the assignment gives the type
+abbrev pub of_given : ℕ → Node → Node → Use → Option ℕ → Exp → Asking
 of_given f n p x d e = of_exp f e >> given n p x d (node_of e) (never e) >> own n op.Unit []
 
 -- the arguments of a call

@@ -135,6 +135,11 @@ one_node : (p : Expression) (c : Cursor) → OneNode p c (naming.waits_in p (roo
 one_node (plain.var s x) c = inl (runs_then (node_runs s Site.Place c) (entry_runs _))
 one_node _ c = inr refl
 
+-- an assignment behind its value
+given_here_runs : (x : ℕ) (o : Option (ℕ × ℕ)) (c : Cursor) → Runs c (naming.given_here x o c).1 [] []
+given_here_runs x None c = nothing_runs c c refl refl refl
+given_here_runs x (Some w) c = nothing_runs c (naming.set_stage x Stage.Known c).1 refl refl refl
+
 -- the value of an assignment, behind its place
 assigned_runs : (s : Span) (t : Site) (p e : Expression) (c : Cursor) → ExpRuns p → ExpRuns e → (o : Option (ℕ × ℕ)) → OneNode p (a_node s t c).1 o
     → Runs c (naming.assigned (a_node s t c).0 (naming.of_expression false Site.Place p (a_node s t c).1).0 o (λ u. naming.of_expression false u e) (naming.of_expression false Site.Place p (a_node s t c).1).1).1
@@ -144,11 +149,8 @@ assigned_runs s t p e c a b None x = runs_then (node_runs s t c) (runs_then (a f
 assigned_runs s t p e c a b (Some w) (inr none) = absurd (cc)
 assigned_runs s t p e c a b (Some w) (inl x) =
     let q = naming.of_expression false Site.Place p (a_node s t c).1 in
-    let c1 = (naming.set_stage w.0 Stage.Given q.1).1 in
-    let E = b false Site.Reborrows c1 in
-    let i : Runs q.1 c1 [] [] = nothing_runs q.1 c1 refl refl refl in
-    let j : Runs (naming.of_expression false Site.Reborrows e c1).1 (naming.set_stage w.0 Stage.Known (naming.of_expression false Site.Reborrows e c1).1).1 [] [] = nothing_runs _ _ refl refl refl in
-    runs_then (node_runs s t c) (runs_then x (runs_then i (ends_with E j)))
+    let E = (naming.of_expression false Site.Reborrows e q.1).1 in
+    runs_then (node_runs s t c) (runs_then x (ends_with (b false Site.Reborrows q.1) (given_here_runs w.0 (naming.waiting w.0 (naming.declaration E w.0).stage) E)))
 
 called_runs : (s : Span) (t : Site) (es : Expressions) (c : Cursor) → ((t : Site) (c : Cursor) → Runs c (naming.of_expressions t es c).1 (exps_nodes (naming.of_expressions t es c).0) (exps_variables (naming.of_expressions t es c).0))
     → (k : List ℕ × Bool) → (c1 : Cursor) → Runs (a_node s t c).1 c1 [] []

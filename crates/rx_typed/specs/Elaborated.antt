@@ -243,7 +243,7 @@ abbrev mutual
   value T (numbered.borrow n m e) = value_of T n (tree.borrow (mark T n) m (place T e))
   value T (numbered.binary n o a b) = operated T n o (value T a) (value T b)
   value T (numbered.assign n p e) = tree.assign (mark T n) (place T p) (value T e)
-  value T (numbered.gives n p x d e) = tree.assign (mark T n) (own x) (value T e)
+  value T (numbered.gives n p x d e) = tree.assign (mark T n) (own x.number) (value T e)
   value T (numbered.update n o p e) = tree.update (mark T n) (operator o) (place T p) (value T e)
   value T (numbered.call n f es) = value_of T n (tree.call (mark T n) f (operands T 0 es))
   -- refused by the rules of types

@@ -59,8 +59,9 @@ mutual
     borrow : Node → Bool → Exp → Exp
     binary : Node → BinaryOp → Exp → Exp → Exp
     assign : Node → Exp → Exp → Exp
-    -- `x = e`, which gives `x` its type: the node of `x`, the variable, the node of the pattern that declares it
-    gives : Node → Node → ℕ → ℕ → Exp → Exp
+    -- `x = e`, before which `x` waits for its type: the node of `x`; `x` behind `e`; where this gives the type, and no
+    -- assignment in `e` did, the node of the pattern that declares `x`
+    gives : Node → Node → Use → Option ℕ → Exp → Exp
     update : Node → UpdateOp → Exp → Exp → Exp
     -- the function's item
     call : Node → ℕ → Exps → Exp

@@ -198,11 +198,25 @@ waits_in _ x c = None
 abbrev pub waits_for : Expression → Exp → Numbering (Option (ℕ × ℕ))
 waits_for p q c = (waits_in p (root q).number c, c)
 
--- `x = e` gives `x` its type where that is not known yet; in `e` it may not be named
+-- a variable where the text has come to
+abbrev pub a_use : ℕ → Numbering Use
+a_use x c = (use_of x (declaration c x), c)
+
+-- a variable behind the right side of an assignment before which it waited: where it waits still, the assignment gives it
+-- its type, which is known from here on; the pattern that declares it
+abbrev pub given_here : ℕ → Option (ℕ × ℕ) → Numbering (Option ℕ)
+given_here x None = give None
+given_here x (Some w) = and_then (set_stage x Stage.Known) (λ _. give (Some w.1))
+
+abbrev pub gives_here : ℕ → Numbering (Option ℕ)
+gives_here x c = given_here x (waiting x (declaration c x).stage) c
+
+-- before `x = e` the type of `x` may not be known yet. Then `x` waits for it in `e` too, where an assignment of `x` may
+-- give it; behind `e` the stage of `x` says whether one did, or `x = e` itself gives it
 abbrev pub assigned : Node → Exp → Option (ℕ × ℕ) → (Site → Numbering Exp) → Numbering Exp
 assigned n p None f = and_then (f Site.Expects) (λ e. give (named.assign n p e))
-assigned n p (Some w) f = and_then (set_stage w.0 Stage.Given) (λ _. and_then (f Site.Reborrows) (λ e.
-    and_then (set_stage w.0 Stage.Known) (λ _. give (named.gives n (node_of p) w.0 w.1 e))))
+assigned n p (Some w) f = and_then (f Site.Reborrows) (λ e. and_then (a_use w.0) (λ x. and_then (gives_here w.0) (λ d.
+    give (named.gives n (node_of p) x d e))))
 
 abbrev pub called : Node → List ℕ × Bool → (Site → Numbering Exps) → Numbering Exp
 called n (ns, true) f = and_then (f Site.Value) (λ es. give (named.hidden_call n es))

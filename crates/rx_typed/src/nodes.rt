@@ -16,7 +16,8 @@ pub enum Site {
     Expects,
     /// The initialiser of a `let` with a type: a coercion site at which a place stays one if it isn't coerced.
     Initialises,
-    /// The right side of the assignment that gives a variable its type: a place of type `&mut T` is reborrowed.
+    /// The right side of an assignment before which the variable waits for its type: it has its own type, and a place of
+    /// type `&mut T` is reborrowed.
     Reborrows,
 }
 
@@ -40,9 +41,9 @@ pub struct Use {
 #[derive(Clone, Copy)]
 pub enum Stage {
     Known,
-    /// The first assignment gives it; the number and span of the pattern that declares the variable.
+    /// The first assignment that ends gives it; the number and span of the pattern that declares the variable.
     Waits(usize, Span),
-    /// It stands in the right side of this assignment.
+    /// Its pattern gives it, by facts that come behind.
     Given,
 }
 

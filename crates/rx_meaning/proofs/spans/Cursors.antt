@@ -1,6 +1,6 @@
 -- Cursors that differ in spans alone, and what each step of the numbering makes of two such.
 use Rattle.std.proofs.Common.{◌≡◌, ℕ, suc, true, false, List, [], ◌∷◌, ◌++◌, map, take, drop, ◌-◌, get_or, refl, sym, ap, ◌∙◌, subst}
-use Rattle.std.specs.Prelude.{slice_set, length, Some}
+use Rattle.std.specs.Prelude.{slice_set, length, Option, Some, None}
 use Rattle.std.proofs.lemmas.List.{map-append, map-set, take-map, drop-map}
 use Rattle.std.proofs.Math.ListN.{get_or-map}
 use Rattle.rx_core.specs.declared.types.Span.{Span}
@@ -10,7 +10,7 @@ use Rattle.rx_resolve_names.specs.declared.resolved.NodeNames.{NodeNames}
 use Rattle.rx_typed.specs.declared.nodes.Site.{Site}
 use Rattle.rx_typed.specs.declared.nodes.Stage.{Stage}
 use Rattle.rx_typed.specs.declared.nodes.Declaration.{Declaration}
-use Rattle.rx_typed.specs.Naming.{Cursor, a_node, an_entry, taken, is_known, not_declared, declaration, use_of, declare, as_known, known_among, known_between, set_stage, leads, a_loop, is_left, waiting, annotates}
+use Rattle.rx_typed.specs.Naming.{Cursor, a_node, an_entry, taken, is_known, not_declared, declaration, use_of, declare, as_known, known_among, known_between, set_stage, leads, a_loop, is_left, waiting, given_here, gives_here, annotates}
 use Rattle.rx_meaning.proofs.spans.Bare.{bare_node}
 
 abbrev pub bare_stage : Stage → Stage
@@ -105,6 +105,16 @@ set_variables x s s' c c' e l =
 
 pub stage_like : (x : ℕ) (s s' : Stage) (c c' : Cursor) → bare_stage s ≡ bare_stage s' → Like c c' → Both itself (set_stage x s c) (set_stage x s' c')
 stage_like x s s' c c' e l = (refl, record { number = l.number; loops = l.loops; declared = l.declared; variables = set_variables x s s' c c' e l; names = l.names })
+
+given_like : (x : ℕ) (w w' : Option (ℕ × ℕ)) (c c' : Cursor) → w ≡ w' → Like c c' → Both itself (given_here x w c) (given_here x w' c')
+given_like x w w' c c' e l = subst (λ o. Both itself (given_here x w c) (given_here x o c')) e (by w)
+  where
+    by : (w : Option (ℕ × ℕ)) → Both itself (given_here x w c) (given_here x w c')
+    by None = (refl, l)
+    by (Some w) = (refl, (stage_like x Stage.Known Stage.Known c c' refl l).1)
+
+pub gives_like : (x : ℕ) (c c' : Cursor) → Like c c' → Both itself (gives_here x c) (gives_here x c')
+gives_like x c c' l = given_like x (waiting x (declaration c x).stage) (waiting x (declaration c' x).stage) c c' (waiting_like x c c' l) l
 
 known_all : (ds : List Declaration) → map bare_declaration (map as_known ds) ≡ map as_known (map bare_declaration ds)
 known_all [] = refl

@@ -13,7 +13,7 @@ use Rattle.rx_typed.specs.Named.{Pattern, Exp, Exps, written_node, pattern_node,
 use Rattle.rx_typed.specs.Naming.{Cursor, Numbering, first, second, lifetime_entry, of_type, of_types, of_optional_type, of_pattern, of_patterns, of_field_patterns, passed_on, waits_in, assigned, called, branch_site, waits_at, waits, waits_if, of_expression, of_expressions, of_optional, of_arguments, of_fields, of_arms, of_body, of_statements, of_statement, declaration, use_of, known_between, leads, is_left}
 use Rattle.rx_meaning.proofs.spans.Bare.{bare_node, bare_pattern, bare_patterns, bare_field_patterns, bare, bare_all, bare_else, bare_fields, bare_arms, bare_body, bare_statement, bare_statements}
 use Rattle.rx_meaning.proofs.spans.Elaborating.{never_bare}
-use Rattle.rx_meaning.proofs.spans.Cursors.{Like, Both, itself, node_like, entry_like, declare_like, use_like, waiting_like, stage_like, known_like, loop_like, leads_like, left_like, annotated_like}
+use Rattle.rx_meaning.proofs.spans.Cursors.{Like, Both, itself, node_like, entry_like, declare_like, use_like, waiting_like, stage_like, gives_like, known_like, loop_like, leads_like, left_like, annotated_like}
 
 pub cong2 : {A B R : Type 0} (f : A → B → R) {a a' : A} {b b' : B} → a ≡ a' → b ≡ b' → f a b ≡ f a' b'
 cong2 f {a' = a'} {b = b} e g = ap (λ x. f x b) e ∙ ap (f a') g
@@ -151,11 +151,10 @@ assigned_by : (n n' : Node) (p p' : Exp) (w : Option (ℕ × ℕ)) (f f' : Site 
     → (c c' : Cursor) → Like c c' → Both bare (assigned n p w f c) (assigned n' p' w f' c')
 assigned_by n n' p p' None f f' en ep k c c' l = let e = k Site.Expects c c' l in (cong3 named.assign en ep e.0, e.1)
 assigned_by n n' p p' (Some w) f f' en ep k c c' l =
-    let a = stage_like w.0 Stage.Given Stage.Given c c' refl l in
-    let e = k Site.Reborrows _ _ a.1 in
-    let b = stage_like w.0 Stage.Known Stage.Known _ _ refl e.1 in
+    let e = k Site.Reborrows c c' l in
+    let b = gives_like w.0 _ _ e.1 in
     let q : bare_node (node_of p) ≡ bare_node (node_of p') = sym (node_of_bare p) ∙ ap node_of ep ∙ node_of_bare p' in
-    (cong3 (λ n m e. named.gives n m w.0 w.1 e) en q e.0, b.1)
+    ((λ i. named.gives (en i) (q i) (use_like w.0 _ _ e.1 i) (b.0 i) (e.0 i)), b.1)
 
 assigned_like : (n n' : Node) (p p' : Exp) (w w' : Option (ℕ × ℕ)) (f f' : Site → Numbering Exp) → w ≡ w' → bare_node n ≡ bare_node n' → bare p ≡ bare p' → Parts f f'
     → (c c' : Cursor) → Like c c' → Both bare (assigned n p w f c) (assigned n' p' w' f' c')

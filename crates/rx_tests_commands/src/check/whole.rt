@@ -29,6 +29,7 @@ fn main() { loop {} }
 fn main() { return; println!(\"{}\", 1); }
 fn f() -> i64 { let x = { return 1; 5i64 }; println!(\"{}\", x); 7 } fn main() {}
 fn main() { let x; { x = 1i64; let x = 2i64; println!(\"{}\", x); } println!(\"{}\", x); }
+enum Exit { Next(i64), Break(i64) } fn g() -> Exit { let x; x = 5i64; if x > 3i64 { return Exit::Break(x); } Exit::Next(x) } fn main() { let x; loop { x = match g() { Exit::Next(out) => out, Exit::Break(out) => { x = out; break; } }; println!(\"{}\", x); break; } println!(\"{}\", x); }
 struct T { n: i64 } fn main() { let p = (T { n: 1 }, T { n: 2 }); let a = p.0; println!(\"{}\", p.1.n); println!(\"{}\", a.n); }
 struct T { n: i64 } fn eat(t: T) {} fn main() { let s = T { n: 1 }; if s.n == 2 { eat(s); return; } println!(\"{}\", s.n); }
 struct State { n: i64 } fn advance(s: State, k: i64) -> State { State { n: s.n + k } } fn main() { let mut s = State { n: 1 }; let v = { s = advance(s, 2); s.n }; println!(\"{}\", s.n + v); }

@@ -64,6 +64,8 @@ struct R<'a> { r: &'a mut i64 } fn f(x: R) { *x.r = 1; eat(x); } fn eat(x: R) {}
 struct R<'a> { r: &'a mut i64 } fn f(x: R) { eat(x); *x.r = 1; } fn eat(x: R) {} fn main() {} | unset x at *x.r = 1
 fn f() { let x; x = 1; x = 2; } fn main() {} | again x at x = 2
 fn f() { let mut x; x = 1; x = 2; } fn main() {} | initialised
+fn f() { let x; x = { x = 1; 2 }; } fn main() {} | again x at x = { x = 1; 2 }
+fn f() { let mut x; x = { x = 1; x }; } fn main() {} | initialised
 fn f() { let x = 1; x = 2; } fn main() {} | again x at x = 2
 fn f(x: i64) { x = 2; } fn main() {} | again x at x = 2
 fn f(mut x: i64) { x = 2; x += 1; } fn main() {} | initialised

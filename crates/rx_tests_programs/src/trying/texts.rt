@@ -84,6 +84,12 @@ const PATTERNS: [Round; 3] = [
     ("let mut x = ", "; match ", " { 1 => {} _ => {} }"),
 ];
 
+/// A variable that waits for its type in the value of its first assignment.
+const WAITING: [Round; 2] = [
+    ("let mut x; x = { x = ", "; ", " };"),
+    ("let mut x; x = if true { ", " } else { x = ", "; x };"),
+];
+
 /// Whether the type that a function has for a subject is this one.
 fn has_type(function: &TypedFn, subject: Subject, number: usize) -> bool {
     let entry = match subject {
@@ -308,6 +314,11 @@ fn assignments_agree(rt: HostRuntime) {
 #[test]
 fn expectations_agree(rt: HostRuntime) {
     all_agree(&rt, rt.alloc(), &EXPECTATIONS);
+}
+
+#[test]
+fn waiting_agrees(rt: HostRuntime) {
+    all_agree(&rt, rt.alloc(), &WAITING);
 }
 
 #[test]
