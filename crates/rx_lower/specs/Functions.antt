@@ -2,6 +2,7 @@
 use Rattle.std.specs.Prelude.{ℕ, ◌+◌, ◌==◌, if◌then◌else◌, List, [], ◌∷◌, map, Option, Some, None}
 use Rattle.rx_typed.specs.declared.declarations.Decl.{Decl}
 use Rattle.rx_typed.specs.Regions.{region-Ty}
+use Rattle.rx_typed.specs.Tree as Tree
 use Rattle.rx_typed_tree.specs.PlainTree.{plain-TypedTree}
 use Rattle.rx_typeck_let_types.specs.declared.variables.AnnotatedVariable.{AnnotatedVariable}
 use Rattle.rx_typeck_typed.specs.declared.typed.TypedFn.{TypedFn}
@@ -30,5 +31,9 @@ last_there (Some t) i n = i + 1
 abbrev pub written : AnnotatedVariable → Written
 written a = record { variable = a.variable; typ = region-Ty a.ty }
 
+-- with this tree; with its own
+abbrev pub with_tree : List Decl → TypedFn → Tree.Function → Function
+with_tree D f t = function_of D f.item t (trimmed f.variables) (map written f.annotations)
+
 abbrev pub function : List Decl → TypedFn → Function
-function D f = function_of D f.item (plain-TypedTree f.tree) (trimmed f.variables) (map written f.annotations)
+function D f = with_tree D f (plain-TypedTree f.tree)

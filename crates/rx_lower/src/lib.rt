@@ -3,18 +3,20 @@
 
 ghost use Rattle.std.specs.Prelude.{◌≡◌, ◌<◌, map, Some as SomeOf, IfOk};
 ghost use Rattle.std.specs.Option.{option_copied, IsSome};
+ghost use Rattle.rx_typed_tree.specs.PlainTree.{plain-TypedTree};
 ghost use Rattle.rx_typeck_typed.specs.declared.typed.TypedFn.{TypedFn as FnOf};
 ghost use Rattle.rx_lower_lifetimes.specs.PlainOf.{plain-Told};
-ghost use Rattle.rx_lower_lifetimes.specs.Answer.{Answers, Walked};
+ghost use Rattle.rx_lower_lifetimes.specs.Answer.{Answers, AnswersWithin, Walked};
 ghost use Rattle.rx_lower.specs.Functions as spec;
-ghost use Rattle.rx_lower.specs.Functions.{function_at, written, function};
+ghost use Rattle.rx_lower.specs.Functions.{function_at, written, function, with_tree};
 
 use rx_core::{LetGo, List, Ty, keep, pushed};
-use rx_lower_lifetimes::{Graph, LowerFault, Told, lower_function};
+use rx_lower_lifetimes::{Graph, LowerFault, Told, lower_function_within};
 use rx_typeck_let_types::AnnotatedVariable;
 use rx_typeck_typed::{Typed, TypedFn};
 use rx_typed::Decls;
 use rx_typed_places::place_type;
+use rx_typed_tree::TypedTree;
 use std::alloc::{AllocError, Global};
 
 /// The function of an item.
@@ -79,6 +81,40 @@ pub fn trimmed(types: &[Option<Ty>]) -> &[Option<Ty>]
     &types[..count]
 }
 
+/// The graph of a function with this tree in place of its own, with its lifetimes. `limit` is how many sites it may have.
+///
+/// # Errors
+///
+/// It has more sites, or over 65,536 lifetime positions: both numbers, each 2^64 - 1 where it is greater. Or memory runs out.
+pub fn lower_tree(
+    alloc: Global,
+    decls: &Decls,
+    typed: &TypedFn,
+    tree: &TypedTree,
+    limit: u32,
+) -> Result<Graph, LowerFault>
+    ensures answers { AnswersWithin limit (with_tree decls.now.items typed.now (plain-TypedTree tree.now)) typed.now.mutable result }
+    ensures walked { IfOk result (λ g. Walked (with_tree decls.now.items typed.now (plain-TypedTree tree.now)) g) }
+{
+    match all_told(alloc, decls, typed.annotations.as_slice()) {
+        Ok(lets) => {
+            let answer = lower_function_within(
+                alloc,
+                decls,
+                typed.item,
+                tree,
+                typed.mutable.as_slice(),
+                trimmed(typed.variables.as_slice()),
+                lets.as_slice(),
+                limit,
+            );
+            lets.let_go();
+            answer
+        }
+        Err(_) => Err(LowerFault::OutOfMemory),
+    }
+}
+
 /// The graph of a function, with its lifetimes.
 ///
 /// # Errors
@@ -88,22 +124,7 @@ pub fn lower_typed(alloc: Global, decls: &Decls, typed: &TypedFn) -> Result<Grap
     ensures answers { Answers (function decls.now.items typed.now) typed.now.mutable result }
     ensures walked { IfOk result (λ g. Walked (function decls.now.items typed.now) g) }
 {
-    match all_told(alloc, decls, typed.annotations.as_slice()) {
-        Ok(lets) => {
-            let answer = lower_function(
-                alloc,
-                decls,
-                typed.item,
-                &typed.tree,
-                typed.mutable.as_slice(),
-                trimmed(typed.variables.as_slice()),
-                lets.as_slice(),
-            );
-            lets.let_go();
-            answer
-        }
-        Err(_) => Err(LowerFault::OutOfMemory),
-    }
+    lower_tree(alloc, decls, typed, &typed.tree, 16384)
 }
 
 /// The graph of the function of an item, with its lifetimes.
