@@ -3,3 +3,4 @@ mod PassLemmas
 mod NameLemmas
 mod ExclusionLemmas
 mod ReaderLemmas
+mod MainLemmas

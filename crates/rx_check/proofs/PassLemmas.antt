@@ -1,7 +1,9 @@
 -- What each pass says is said by the check.
-use Rattle.std.proofs.Common.{◌≢◌, List, Result, Ok, Err}
+use Rattle.std.proofs.Common.{◌≡◌, ◌≢◌, ℕ, List, Result, Ok, Err}
 use Rattle.std.specs.Prelude.{IfErr}
 use Rattle.rx_tree.specs.Plain.{ProgramTree}
+use Rattle.rx_tree.specs.Size.{IsNumbered}
+use Rattle.rx_meaning.specs.Programs.{main_in}
 use Rattle.rx_resolve_names.specs.declared.resolved.ItemNames.{ItemNames}
 use Rattle.rx_resolve_names.specs.declared.resolved.NameFault.{NameFault}
 use Rattle.rx_resolve_names.specs.declared.resolved.NameFault.TheVariants as name_fault
@@ -84,9 +86,11 @@ unstarted t gs (init_fault.Again at v) c h a = (λ e. cc, c, small_all t gs h, a
 unstarted t gs init_fault.OutOfMemory c h a = tt
 
 -- what the passes find of a program
-pub front_of : (p : ProgramTree) (ns : List ItemNames) (t : Typed) (gs : List Lowered) (x : ProgramFacts) → Meant p ns → IsTyped p ns t → FunctionsCovered (declarations t.decls.items) t.functions
-    → AreGraphs t gs → AreFacts t x → IsFrontOf p (record { typed = t; graphs = gs; facts = x })
-front_of p ns t gs x m h c g f = record {
+pub front_of : (p : ProgramTree) (ns : List ItemNames) (t : Typed) (n : ℕ) (gs : List Lowered) (x : ProgramFacts) → IsNumbered p → Meant p ns → IsTyped p ns t → n ≡ main_in p 0
+    → FunctionsCovered (declarations t.decls.items) t.functions → AreGraphs t gs → AreFacts t x → IsFrontOf p (record { typed = t; main = n; graphs = gs; facts = x })
+front_of p ns t n gs x k m h at c g f = record {
+  numbered = k;
+  main = at;
   accepted = record {
     names = ns;
     meant = m;

@@ -131,13 +131,13 @@ AreOne (check_fault.Region i l k) (check_fault.Region j m n) = (i ≡ j) × (l �
 AreOne (check_fault.Loan e) (check_fault.Loan f) = Unit {0}
 AreOne _ _ = ⊥
 
--- ---- what private functions do
-
--- what is answered of functions, one after the other
+-- what is answered of the coverage of functions, one after the other
 abbrev pub FunctionsAnswer : Declarations → List TypedFn → Result (Unit {0}) CoverFault → Type 0
 FunctionsAnswer D fs (Ok u) = FunctionsCovered D fs
 FunctionsAnswer D fs (Err cover_fault.OutOfMemory) = Unit {0}
 FunctionsAnswer D fs (Err e) = FirstUncovered D fs e
+
+-- ---- what private functions do
 
 -- what the passes behind types say of a typed program
 abbrev pub TypedCauses : CheckFault → Typed → Type 0

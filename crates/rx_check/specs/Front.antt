@@ -1,7 +1,9 @@
--- What the passes know of a program: its types, the graphs of its functions, what is live in them, and what may be set and unset;
--- where it is accepted, the least sets of points of their lifetimes, and where loans are in scope.
-use Rattle.std.specs.Prelude.{List}
+-- What the passes know of a program: its types, the item of `main`, the graphs of its functions, what is live in them, and what may
+-- be set and unset; where it is accepted, the least sets of points of their lifetimes, and where loans are in scope.
+use Rattle.std.specs.Prelude.{◌≡◌, ℕ, List}
 use Rattle.rx_tree.specs.Plain.{ProgramTree}
+use Rattle.rx_tree.specs.Size.{IsNumbered}
+use Rattle.rx_meaning.specs.Programs.{main_in}
 use Rattle.rx_typeck_typed.specs.declared.typed.Typed.{Typed}
 use Rattle.rx_facts.specs.declared.lowering.Lowered.{Lowered}
 use Rattle.rx_facts.specs.declared.finding.ProgramFacts.{ProgramFacts}
@@ -13,12 +15,16 @@ use Rattle.rx_check.specs.Passes.{IsFront}
 
 pub record Front : Type 0 where
   pub typed : Typed
+  -- the number of the item `main`
+  pub main : ℕ
   pub graphs : List Lowered
   pub facts : ProgramFacts
 
--- of this program, which the passes up to initialisation accept
+-- of this program, whose items can be numbered in 32 bits, and which the passes up to initialisation accept
 pub record IsFrontOf (p : ProgramTree) (x : Front) : Type 0 where
+  pub numbered : IsNumbered p
   pub accepted : IsFront p x.typed
+  pub main : x.main ≡ main_in p 0
   pub graphs : AreGraphs x.typed x.graphs
   pub facts : AreFacts x.typed x.facts
 

@@ -1,17 +1,25 @@
 //! Programs that the passes accept, with what they found.
 
-ghost use Rattle.std.specs.Prelude.{◌≡◌, ◌<◌, ℕ, List as ListOf, length, slice_get, Some as SomeOf};
-ghost use Rattle.std.specs.Option.{IsSome};
+ghost use Rattle.std.specs.Prelude.{◌≡◌, ◌<◌, ◌≤◌, ◌↔◌, ℕ, true, List as ListOf, length, slice_get, Some as SomeOf};
+ghost use Rattle.std.specs.Option.{IsSome, is_some};
 ghost use Rattle.rx_core.specs.declared.types.Bound.{Bound};
+ghost use Rattle.rx_graph_cycles.specs.Reaches.{NoCycle};
 ghost use Rattle.rx_typed.specs.PlainTypes.{declarations};
 ghost use Rattle.rx_typeck_typed.specs.declared.typed.TypedFn.{TypedFn as FnOf};
+ghost use Rattle.rx_typed_declarations.specs.Held.{held};
 ghost use Rattle.rx_typed_declarations.specs.Sizes.{Sized, told};
+ghost use Rattle.rx_typed_declarations.specs.WellFormed.{WellFormed};
+ghost use Rattle.rx_cover.specs.Finding.{Numbered};
+ghost use Rattle.rx_lower_flow.specs.PlainFlow.{plain-Root, plain-Place};
 ghost use Rattle.rx_facts_parts.specs.Layouts.{plain-Frame, IsSized};
 ghost use Rattle.rx_lower_lifetimes.specs.Answer.{IsLowered};
-ghost use Rattle.rx_facts_live.specs.Tables.{Lives};
+ghost use Rattle.rx_facts_live.specs.Live.{IsLive};
+ghost use Rattle.rx_facts_live.specs.Tables.{Lives, IsIndex};
 ghost use Rattle.rx_facts_init.specs.Answer.{IsTable};
+ghost use Rattle.rx_facts_init.specs.Initialised.{MayBeSet, MayBeUnset};
 ghost use Rattle.rx_lower.specs.Functions as lowered;
-ghost use Rattle.rx_facts.specs.Functions.{sites_of, frame_of, IsInitialised};
+ghost use Rattle.rx_facts.specs.Functions.{IsTypedProgram, sites_of, frame_of};
+ghost use Rattle.rx_facts.specs.Answers.{AreGraphs, AreFacts};
 ghost use Rattle.rx_region_solutions.specs.Solutions.{Sets, AreLeast};
 ghost use Rattle.rx_region.specs.Tables.{sets_of};
 ghost use Rattle.rx_loan.specs.Tables as loans;
@@ -20,21 +28,23 @@ ghost use Rattle.rx_check_loans.specs.Contexts.{AreAsked, context_of};
 
 use rx_check_loans::{FunctionLoans, FunctionRegions};
 use rx_core::{LetGo, List};
-use rx_facts::{FunctionFacts, Lowered, ProgramFacts};
+use rx_facts::{Lowered, ProgramFacts};
 use rx_facts_init::InitTable;
 use rx_facts_live::LiveTable;
 use rx_facts_parts::Frame;
 use rx_loan::LoanTable;
 use rx_lower::trimmed;
+use rx_lower_flow::{Place, Root};
 use rx_lower_lifetimes::Graph;
 use rx_region::Regions;
-use rx_typeck_typed::{Typed, TypedFn};
+use rx_typeck_typed::{Typed, TypedFn, typed_declarations_are_finite};
 use std::marker::Model;
 
 /// What the passes up to initialisation know of a program that they accept.
 #[derive(Drop)]
 pub struct FrontEnd {
     pub(crate) typed: Typed,
+    pub(crate) main: usize,
     pub(crate) graphs: List<Lowered>,
     pub(crate) facts: ProgramFacts,
 }
@@ -50,9 +60,9 @@ impl Model for FrontEnd {
 
     ghost coded = { Prim.hlevel (codes, typed_row.coded, lowered_row.coded, facts_row.coded) };
 
-    ghost view = { λ f. record { typed = f.typed; graphs = f.graphs; facts = f.facts } };
+    ghost view = { λ f. record { typed = f.typed; main = f.main; graphs = f.graphs; facts = f.facts } };
 
-    ghost invariant = { λ f. IsFronted (record { typed = f.typed; graphs = f.graphs; facts = f.facts }) };
+    ghost invariant = { λ f. IsFronted (record { typed = f.typed; main = f.main; graphs = f.graphs; facts = f.facts }) };
 }
 
 /// The place of the function of an item among all; how many there are, where it is none of them.
@@ -67,24 +77,51 @@ fn place_of(functions: &[TypedFn], item: u32) -> usize
     functions.len()
 }
 
+/// Whether one of these is the function of an item.
+fn is_among(functions: &[TypedFn], item: u32) -> bool
+    ensures { result ≡ is_some (lowered.function_at functions.now item) }
+{
+    for i in 0..functions.len() {
+        if functions[i].item == item {
+            return true;
+        }
+    }
+    false
+}
+
 impl FrontEnd {
-    /// The program with its types.
+    /// The program with its types: what is asked of a typed program by the calls that take one.
     pub fn typed(&self) -> &Typed
-        ensures { result.now ≡ self.now.typed }
+        ensures same { result.now ≡ self.now.typed }
+        ensures typed { IsTypedProgram result.now }
+        // Of its declarations no struct or enum reaches itself, each enum has fewer than 2^32 variants, and they are well-formed.
+        ensures finite { NoCycle (held (declarations result.now.decls.items)) }
+        ensures numbered { Numbered (declarations result.now.decls.items) }
+        ensures well_formed { WellFormed result.now.decls.items }
     {
+        typed_declarations_are_finite();
         &self.typed
     }
 
+    /// The number of the item `main`.
+    pub fn main(&self) -> usize
+        ensures { result ≡ self.now.main }
+    {
+        self.main
+    }
+
     /// The graphs of all functions, in order.
-    pub(crate) fn graphs(&self) -> &[Lowered]
-        ensures { result.now ≡ self.now.graphs }
+    pub fn graphs(&self) -> &[Lowered]
+        ensures same { result.now ≡ self.now.graphs }
+        ensures graphs { AreGraphs self.now.typed result.now }
     {
         self.graphs.as_slice()
     }
 
     /// What is found of all functions.
-    pub(crate) fn facts(&self) -> &ProgramFacts
-        ensures { result.now ≡ self.now.facts }
+    pub fn facts(&self) -> &ProgramFacts
+        ensures same { result.now ≡ self.now.facts }
+        ensures facts { AreFacts self.now.typed result.now }
     {
         &self.facts
     }
@@ -97,11 +134,42 @@ impl FrontEnd {
         self.facts.sizes.as_slice()
     }
 
+    /// Whether an item is a function, of which the readers below tell.
+    pub fn is_function(&self, item: u32) -> bool
+        ensures { result ≡ is_some (lowered.function_at self.now.typed.functions item) }
+    {
+        is_among(self.typed.functions.as_slice(), item)
+    }
+
+    /// The function of an item, with its types.
+    pub fn function(&self, function: u32) -> &TypedFn
+        requires { IsSome (lowered.function_at self.now.typed.functions function) }
+        ensures { lowered.function_at self.now.typed.functions function ≡ SomeOf result.now }
+    {
+        let place = place_of(self.typed.functions.as_slice(), function);
+        &self.typed.functions.as_slice()[place]
+    }
+
+    /// What the parts of places are told by in the function of an item.
+    pub fn frame(&self, function: u32) -> Frame<'_>
+        requires { IsSome (lowered.function_at self.now.typed.functions function) }
+        ensures sized { IsSized result }
+        ensures frame { (f : FnOf) → lowered.function_at self.now.typed.functions function ≡ SomeOf f
+            → plain-Frame result ≡ frame_of (declarations self.now.typed.decls.items) (told self.now.facts.sizes) f }
+    {
+        Frame {
+            decls: &self.typed.decls,
+            sizes: self.sizes(),
+            types: trimmed(self.function(function).variables.as_slice()),
+        }
+    }
+
     /// The graph of the function of an item.
     pub fn graph(&self, function: u32) -> &Graph
         requires { IsSome (lowered.function_at self.now.typed.functions function) }
-        ensures { (f : FnOf) → lowered.function_at self.now.typed.functions function ≡ SomeOf f
+        ensures graph { (f : FnOf) → lowered.function_at self.now.typed.functions function ≡ SomeOf f
             → IsLowered (lowered.function self.now.typed.decls.items f) f.mutable result.now }
+        ensures few { length result.now.sites ≤ 16384 }
     {
         let place = place_of(self.typed.functions.as_slice(), function);
         &self.graphs.as_slice()[place].graph
@@ -110,10 +178,21 @@ impl FrontEnd {
     /// What is live in the function of an item.
     pub fn live(&self, function: u32) -> &LiveTable
         requires { IsSome (lowered.function_at self.now.typed.functions function) }
-        ensures { (f : FnOf) → lowered.function_at self.now.typed.functions function ≡ SomeOf f → Lives (sites_of f) result.now }
+        ensures live { (f : FnOf) → lowered.function_at self.now.typed.functions function ≡ SomeOf f → Lives (sites_of f) result.now }
+        ensures index { IsIndex result.now.index }
     {
         let place = place_of(self.typed.functions.as_slice(), function);
         &self.facts.functions.as_slice()[place].live
+    }
+
+    /// Whether a variable or temporary of the function of an item is live at a site: on some walk from there on it is used, and is
+    /// not written as a whole before.
+    pub fn is_live(&self, function: u32, root: Root, site: usize) -> bool
+        requires { IsSome (lowered.function_at self.now.typed.functions function) }
+        ensures { (f : FnOf) → lowered.function_at self.now.typed.functions function ≡ SomeOf f → site < length (sites_of f)
+            → (result ≡ true) ↔ IsLive (sites_of f) (plain-Root root) site }
+    {
+        self.live(function).is_live(root, site)
     }
 
     /// What may be set and unset in the function of an item.
@@ -124,6 +203,26 @@ impl FrontEnd {
     {
         let place = place_of(self.typed.functions.as_slice(), function);
         &self.facts.functions.as_slice()[place].init
+    }
+
+    /// Whether some part of a place is set on some walk of the function of an item that comes to a site.
+    pub fn may_be_set(&self, function: u32, place: &Place, site: usize) -> bool
+        requires { IsSome (lowered.function_at self.now.typed.functions function) }
+        ensures { (f : FnOf) → lowered.function_at self.now.typed.functions function ≡ SomeOf f → site < length (sites_of f)
+            → (result ≡ true) ↔ MayBeSet (frame_of (declarations self.now.typed.decls.items) (told self.now.facts.sizes) f) (sites_of f) (plain-Place place.now) site }
+    {
+        let frame = self.frame(function);
+        self.init(function).may_be_set(&frame, place, site)
+    }
+
+    /// Whether some part of a place is unset on some walk of the function of an item that comes to a site.
+    pub fn may_be_unset(&self, function: u32, place: &Place, site: usize) -> bool
+        requires { IsSome (lowered.function_at self.now.typed.functions function) }
+        ensures { (f : FnOf) → lowered.function_at self.now.typed.functions function ≡ SomeOf f → site < length (sites_of f)
+            → (result ≡ true) ↔ MayBeUnset (frame_of (declarations self.now.typed.decls.items) (told self.now.facts.sizes) f) (sites_of f) (plain-Place place.now) site }
+    {
+        let frame = self.frame(function);
+        self.init(function).may_be_unset(&frame, place, site)
     }
 }
 

@@ -4,9 +4,10 @@
 mod fault;
 mod front_end;
 mod laws;
+mod main_item;
 mod passes;
 
 pub use fault::CheckFault;
 pub use front_end::{Checked, FrontEnd};
 pub use laws::{causes_are_one, passed_or_faulty};
-pub use passes::{check, front};
+pub use passes::{check, covers, front};

@@ -5,10 +5,7 @@ ghost use Rattle.rx_tree.specs.Plain.{ProgramTree};
 ghost use Rattle.rx_tree.specs.PlainOf.{plain-Program};
 ghost use Rattle.rx_tree.specs.Size.{IsNumbered};
 ghost use Rattle.rx_resolve_names.specs.Causes.{Meant};
-ghost use Rattle.rx_graph_cycles.specs.Reaches.{NoCycle};
-ghost use Rattle.rx_typed_declarations.specs.Held.{held};
 ghost use Rattle.rx_typed.specs.PlainTypes.{declarations};
-ghost use Rattle.rx_cover.specs.Finding.{Numbered};
 ghost use Rattle.rx_facts.specs.Functions.{IsTypedProgram};
 ghost use Rattle.rx_facts.specs.Answers.{AreGraphs, AreFacts};
 ghost use Rattle.rx_check_loans.specs.Answers.{AreRegions};
@@ -21,9 +18,10 @@ use crate::fault::{
 };
 use crate::front_end::{Checked, FrontEnd};
 use crate::laws::passed_or_faulty;
+use crate::main_item::main_of;
 use rx_check_loans::{FunctionLoans, FunctionRegions, all_loans, all_regions};
 use rx_core::{LetGo, List, keep};
-use rx_cover::{CoverFault, covers};
+use rx_cover::{CoverFault, covers as covers_function};
 use rx_facts::{Lowered, ProgramFacts, facts, lower_all};
 use rx_resolve::resolve;
 use rx_resolve_names::Resolved;
@@ -32,14 +30,18 @@ use rx_typeck::typecheck;
 use rx_typeck_typed::{Typed, typed_declarations_are_finite};
 use std::alloc::Global;
 
-/// Whether the matches of all functions are covered; else what is wrong with the first that is not, functions in order.
-fn all_covered(alloc: Global, typed: &Typed) -> Result<(), CoverFault>
-    requires finite { NoCycle (held (declarations typed.now.decls.items)) }
-    requires numbered { Numbered (declarations typed.now.decls.items) }
+/// Whether every `match` and `let` of a typed program is covered, and no product of one passes 65,536, functions in order.
+///
+/// # Errors
+///
+/// What is wrong with the first `match` or `let`, in the order of the text, that is not so; or memory runs out.
+pub fn covers(alloc: Global, typed: &Typed) -> Result<(), CoverFault>
+    requires { IsTypedProgram typed.now }
     ensures { FunctionsAnswer (declarations typed.now.decls.items) typed.now.functions result }
 {
+    typed_declarations_are_finite();
     for function in typed.functions.as_slice() {
-        covers(
+        covers_function(
             alloc,
             &typed.decls,
             function.spans.as_slice(),
@@ -88,13 +90,11 @@ fn with_matches(alloc: Global, typed: &Typed) -> Result<Found, CheckFault>
 
 /// The passes behind types.
 fn behind_types(alloc: Global, typed: &Typed) -> Result<Found, CheckFault>
-    requires typed { IsTypedProgram typed.now }
-    requires finite { NoCycle (held (declarations typed.now.decls.items)) }
-    requires numbered { Numbered (declarations typed.now.decls.items) }
+    requires { IsTypedProgram typed.now }
     ensures found { IfOk result (λ x. FoundIn typed.now x) }
     ensures fault { IfErr result (λ e. TypedCauses e typed.now) }
 {
-    match all_covered(alloc, typed) {
+    match covers(alloc, typed) {
         Ok(()) => with_matches(alloc, typed),
         Err(fault) => Err(of_cover(fault)),
     }
@@ -107,11 +107,12 @@ fn fronted(alloc: Global, program: &Program, names: &Resolved) -> Result<FrontEn
     ensures front { IfOk result (λ f. IsFrontOf (plain-Program program.now) f) }
     ensures fault { IfErr result (λ e. PassCauses e (plain-Program program.now)) }
 {
-    typed_declarations_are_finite();
+    let main = main_of(program);
     match typecheck(alloc, program, names) {
         Ok(typed) => match behind_types(alloc, &typed) {
             Ok(found) => Ok(FrontEnd {
                 typed,
+                main,
                 graphs: found.graphs,
                 facts: found.facts,
             }),
@@ -189,7 +190,7 @@ fn behind_front(
 
 /// The passes behind initialisation, of a program that those up to it accept.
 fn with_front(alloc: Global, front: FrontEnd) -> Result<Checked, CheckFault>
-    requires { (p : ProgramTree) × IsNumbered p × IsFrontOf p front }
+    requires { (p : ProgramTree) × IsFrontOf p front }
     ensures checked { IfOk result (λ c. (p : ProgramTree) → IsFrontOf p front → IsCheckedOf p c) }
     ensures fault { IfErr result (λ e. (p : ProgramTree) → IsFrontOf p front → Causes e p) }
 {

@@ -1,10 +1,6 @@
--- The table of functions, item by item.
-use Rattle.std.proofs.Common.{◌≡◌, ℕ, zero, suc, ◌+◌, ◌<◌, ◌≤◌, true, false, if◌then◌else◌, List, [], ◌∷◌, ◌++◌, map, drop, length, get_or, Bor, Option, None, Some, option_map, refl, sym, ap, ◌∙◌, arith}
-use Rattle.rx_tree.specs.declared.tree.Item.{Item}
-use Rattle.rx_tree.specs.PlainOf.{plain-Item}
-use Rattle.rx_tree.specs.Plain.{ItemTree}
-use Rattle.rx_meaning.specs.Programs.{is_main, main_in}
-use Rattle.rx_machine_driver.proofs.BindLemmas.{drop_next, drop_end}
+-- The table of functions, declaration by declaration.
+use Rattle.std.proofs.Common.{◌≡◌, ℕ, zero, suc, ◌+◌, ◌<◌, ◌≤◌, true, List, [], ◌∷◌, ◌++◌, drop, length, get_or, Bor, Option, None, Some, option_map, refl, sym, ap, ◌∙◌, arith}
+use Rattle.rx_typed.specs.Types.{Declared, Declarations}
 use Rattle.rx_typed_tree.specs.declared.tree.TypedTree.{TypedTree}
 use Rattle.rx_typed_tree.specs.PlainTree.{plain-TypedTree}
 use Rattle.rx_typeck_typed.specs.declared.typed.TypedFn.{TypedFn}
@@ -37,7 +33,7 @@ pub behind_past : (fs : List TypedFn) (at : ℕ) → length fs ≤ at → drop a
 behind_past fs at l = drop_past fs at l ∙ ap (behind true) (sym (drop_past fs at l))
 
 -- what is done, in front of what is left, is the whole
-pub one_more : (all : List (Option (Bor TypedTree))) (x : ItemTree) (rest items : List ItemTree) (o : Option (Bor TypedTree)) (now next : List TypedFn) → items ≡ x ∷ rest → option_map (λ t. plain-TypedTree t.now) o ≡ first_of (is_function x) now
+pub one_more : (all : List (Option (Bor TypedTree))) (x : Declared) (rest items : Declarations) (o : Option (Bor TypedTree)) (now next : List TypedFn) → items ≡ x ∷ rest → option_map (λ t. plain-TypedTree t.now) o ≡ first_of (is_function x) now
     → next ≡ behind (is_function x) now → functions_of (all ++ o ∷ []) ++ typed_functions rest next ≡ functions_of all ++ typed_functions items now
 one_more all x rest items o now next e f b = by all ∙ ap (λ l. functions_of all ++ typed_functions l now) (sym e)
   where
@@ -47,17 +43,3 @@ one_more all x rest items o now next e f b = by all ∙ ap (λ l. functions_of a
     by : (all : List (Option (Bor TypedTree))) → functions_of (all ++ o ∷ []) ++ typed_functions rest next ≡ functions_of all ++ typed_functions (x ∷ rest) now
     by [] = tail
     by (a ∷ all) = ap (λ l. option_map (λ t. plain-TypedTree t.now) a ∷ l) (by all)
-
--- ---- the item `main`
-
-pub main_here : (l : List Item) (i : ℕ) (x : Item) → i < length l → x ≡ get_or l i x → is_main (plain-Item x) ≡ true → i ≡ main_in (map plain-Item (drop i l)) i
-main_here l i x k e h = sym (ap (λ m. main_in (map plain-Item m) i) (drop_next l i x k e) ∙ ap (λ b. if b then i else main_in (map plain-Item (drop (i + 1) l)) (suc i)) h)
-
-pub main_next : (l : List Item) (i : ℕ) (x : Item) → i < length l → x ≡ get_or l i x → is_main (plain-Item x) ≡ false → main_in (map plain-Item (drop (i + 1) l)) (i + 1) ≡ main_in (map plain-Item (drop i l)) i
-main_next l i x k e h =
-    let n : i + 1 ≡ suc i = omega arith in
-    ap (λ j. main_in (map plain-Item (drop (i + 1) l)) j) n
-    ∙ sym (ap (λ m. main_in (map plain-Item m) i) (drop_next l i x k e) ∙ ap (λ b. if b then i else main_in (map plain-Item (drop (i + 1) l)) (suc i)) h)
-
-pub main_end : (l : List Item) (i : ℕ) → length l ≤ i → i ≡ main_in (map plain-Item (drop i l)) i
-main_end l i k = ap (λ m. main_in (map plain-Item m) i) (sym (drop_end l i k))

@@ -1,18 +1,19 @@
--- The program that a typed program is, in the terms of the meaning.
-use Rattle.std.specs.Prelude.{true, false, Bool, List, [], ◌∷◌, Option, Some, None}
-use Rattle.rx_tree.specs.Plain as plain
-use Rattle.rx_tree.specs.Plain.{ItemTree, ProgramTree}
+-- The program that a typed program is, in the terms of the meaning: by what is declared, and the typed trees of its functions.
+use Rattle.std.specs.Prelude.{ℕ, true, false, Bool, List, [], ◌∷◌, Option, Some, None}
+use Rattle.rx_typed.specs.Types.{Declared, Declarations, function_declared}
+use Rattle.rx_typed.specs.PlainTypes.{declarations}
 use Rattle.rx_typed.specs.Tree.{Function}
 use Rattle.rx_typed_tree.specs.PlainTree.{plain-TypedTree}
 use Rattle.rx_meaning.specs.Expressions.{Functions}
-use Rattle.rx_meaning.specs.Programs.{Program, main_in}
+use Rattle.rx_meaning.specs.Programs.{Program}
 use Rattle.rx_typeck_typed.specs.declared.typed.TypedFn.{TypedFn}
+use Rattle.rx_typeck_typed.specs.declared.typed.Typed.{Typed}
 
-abbrev pub is_function : ItemTree → Bool
-is_function (plain.function_item s f) = true
+abbrev pub is_function : Declared → Bool
+is_function (function_declared ps t) = true
 is_function _ = false
 
--- the next typed tree, where the item is a function; and those behind it
+-- the next typed tree, where a function is declared; and those behind it
 abbrev pub first_of : Bool → List TypedFn → Option Function
 first_of true (t ∷ ts) = Some (plain-TypedTree t.tree)
 first_of _ ts = None
@@ -21,10 +22,11 @@ abbrev pub behind : Bool → List TypedFn → List TypedFn
 behind true (t ∷ ts) = ts
 behind _ ts = ts
 
--- each function item has the next typed tree
-abbrev pub typed_functions : ProgramTree → List TypedFn → Functions
+-- each function that is declared has the next typed tree
+abbrev pub typed_functions : Declarations → List TypedFn → Functions
 typed_functions [] ts = []
-typed_functions (x ∷ xs) ts = first_of (is_function x) ts ∷ typed_functions xs (behind (is_function x) ts)
+typed_functions (d ∷ ds) ts = first_of (is_function d) ts ∷ typed_functions ds (behind (is_function d) ts)
 
-abbrev pub program_of : ProgramTree → List TypedFn → Program
-program_of P ts = record { functions = typed_functions P ts; main = main_in P 0 }
+-- with the number of the item `main`
+abbrev pub program_of : Typed → ℕ → Program
+program_of t m = record { functions = typed_functions (declarations t.decls.items) t.functions; main = m }

@@ -1,18 +1,17 @@
--- That a typed program runs as the meaning says: its typed trees are those of a valid assignment of types.
+-- That a program, in the terms of the meaning, is that of a text: its typed trees are those of a valid assignment of types.
 use Rattle.std.specs.Prelude.{◌≡◌, ℕ, suc, List, [], ◌∷◌, slice_get}
 use Rattle.rx_tree.specs.Plain as plain
 use Rattle.rx_tree.specs.Plain.{ProgramTree}
 use Rattle.rx_resolve_names.specs.declared.resolved.ItemNames.{ItemNames}
 use Rattle.rx_resolve_names.specs.declared.resolved.NodeNames.{NodeNames}
+use Rattle.rx_resolve_names.specs.Causes.{Meant}
 use Rattle.rx_typed.specs.Naming.{function_named}
 use Rattle.rx_typed.specs.Elaborated.{Assigned}
 use Rattle.rx_typeck_solver.specs.Facts.{Types}
 use Rattle.rx_typeck_solver.specs.Valid.{Valid}
 use Rattle.rx_typeck_rules.specs.Demands.{task}
-use Rattle.rx_meaning.specs.Programs.{typed_program}
-use Rattle.rx_typeck_typed.specs.declared.typed.Typed.{Typed}
+use Rattle.rx_meaning.specs.Programs.{Program, typed_program}
 use Rattle.rx_typeck_typed.specs.Typing.{Given, known_in, assigned, entries}
-use Rattle.rx_machine.specs.Functions.{program_of}
 
 -- the entries of names of each item
 abbrev pub names_of : List ItemNames → ℕ → List NodeNames
@@ -25,8 +24,15 @@ TypesAre G ns i (plain.function_item s f ∷ is) T =
     ((A : Types) × Valid (known_in G) (task (function_named i s f (names_of ns i))) A × (T i ≡ assigned (known_in G) A)) × TypesAre G ns (suc i) is T
 TypesAre G ns i (_ ∷ is) T = TypesAre G ns (suc i) is T
 
-pub record RunsAs (P : ProgramTree) (ns : List ItemNames) (t : Typed) : Type 0 where
+-- this is the program of the text, with the entries of names and, for each function, the types of a valid assignment
+pub record RunsAs (P : ProgramTree) (ns : List ItemNames) (Q : Program) : Type 0 where
   pub given : Given
   pub types : ℕ → Assigned
   pub valid : TypesAre given ns 0 P types
-  pub same : program_of P t.functions ≡ typed_program P (names_of ns) types
+  pub same : Q ≡ typed_program P (names_of ns) types
+
+-- of names that have a meaning
+pub record RunsText (P : ProgramTree) (Q : Program) : Type 0 where
+  pub names : List ItemNames
+  pub meant : Meant P names
+  pub runs : RunsAs P names Q

@@ -1,36 +1,34 @@
 //! The functions of a typed program by their items' numbers.
 
-ghost use Rattle.std.specs.Prelude.{◌≡◌, true, map, option_map, drop, IfOk};
-ghost use Rattle.rx_tree.specs.PlainOf.{plain-Item};
-ghost use Rattle.rx_meaning.specs.Programs.{main_in, is_main as is_main_item};
+ghost use Rattle.std.specs.Prelude.{◌≡◌, true, option_map, drop, IfOk};
+ghost use Rattle.rx_typed.specs.PlainTypes.{plain-Decl, declarations};
 ghost use Rattle.rx_typed_tree.specs.PlainTree.{plain-TypedTree};
 ghost use Rattle.rx_machine_driver.specs.Fitting.{functions_of};
 ghost use Rattle.rx_machine.specs.Functions.{typed_functions, is_function, first_of, behind};
 
-use rx_core::is_same_text;
-use rx_tree::{Item, ItemNode};
 use rx_typeck_typed::TypedFn;
+use rx_typed::Decl;
 use rx_typed_tree::TypedTree;
 use std::alloc::{AllocError, Global};
 
-/// Whether an item is a function.
-fn is_func(item: &Item) -> bool
-    ensures { result ≡ is_function (plain-Item item.now) }
+/// Whether a function is declared.
+fn is_func(decl: &Decl) -> bool
+    ensures { result ≡ is_function (plain-Decl decl.now) }
 {
-    match &item.node {
-        ItemNode::Func(_) => true,
-        ItemNode::Rt(_) => false,
-        ItemNode::Struct(_) => false,
-        ItemNode::Enum(_) => false,
+    match decl {
+        Decl::Func { .. } => true,
+        Decl::Rt => false,
+        Decl::Struct { .. } => false,
+        Decl::Enum { .. } => false,
     }
 }
 
-/// An item's function, which is the next, and where those behind it begin; none of other items.
-fn next_tree<'a>(item: &Item, functions: &'a [TypedFn], at: usize) -> (Option<&'a TypedTree>, usize)
-    ensures first { option_map (λ t. plain-TypedTree t.now) result.0 ≡ first_of (is_function (plain-Item item.now)) (drop at functions.entry.now) }
-    ensures behind { drop result.1 functions.entry.now ≡ behind (is_function (plain-Item item.now)) (drop at functions.entry.now) }
+/// The function that is declared, which is the next, and where those behind it begin; none of other declarations.
+fn next_tree<'a>(decl: &Decl, functions: &'a [TypedFn], at: usize) -> (Option<&'a TypedTree>, usize)
+    ensures first { option_map (λ t. plain-TypedTree t.now) result.0 ≡ first_of (is_function (plain-Decl decl.now)) (drop at functions.entry.now) }
+    ensures behind { drop result.1 functions.entry.now ≡ behind (is_function (plain-Decl decl.now)) (drop at functions.entry.now) }
 {
-    if is_func(item) {
+    if is_func(decl) {
         tree_at(functions, at)
     } else {
         (None, at)
@@ -52,41 +50,17 @@ fn tree_at<'a>(functions: &'a [TypedFn], at: usize) -> (Option<&'a TypedTree>, u
 /// Each item's function, in the order of the items; none of other items.
 pub fn table<'a>(
     alloc: Global,
-    items: &[Item],
+    decls: &[Decl],
     functions: &'a [TypedFn],
 ) -> Result<Vec<Option<&'a TypedTree>>, AllocError>
-    ensures { IfOk result (λ it. functions_of it.items ≡ typed_functions (map plain-Item items.now) functions.entry.now) }
+    ensures { IfOk result (λ it. functions_of it.items ≡ typed_functions (declarations decls.now) functions.entry.now) }
 {
     let mut all = Vec::new(alloc);
     let mut at = 0;
-    for item in items {
-        let (tree, next) = next_tree(item, functions, at);
+    for decl in decls {
+        let (tree, next) = next_tree(decl, functions, at);
         all.push(tree)?;
         at = next;
     }
     Ok(all)
-}
-
-/// Whether an item is the function `main`.
-fn is_main(item: &Item) -> bool
-    ensures { result ≡ is_main_item (plain-Item item.now) }
-{
-    match &item.node {
-        ItemNode::Func(function) => is_same_text(function.name.name.as_str(), "main"),
-        ItemNode::Rt(_) => false,
-        ItemNode::Struct(_) => false,
-        ItemNode::Enum(_) => false,
-    }
-}
-
-/// The number of the item `main`, or how many items there are where it is missing.
-pub fn main_at(items: &[Item]) -> usize
-    ensures { result ≡ main_in (map plain-Item items.now) 0 }
-{
-    for i in 0..items.len() {
-        if is_main(&items[i]) {
-            return i;
-        }
-    }
-    items.len()
 }

@@ -1,6 +1,5 @@
 -- What a program does is one thing, and what is found where a text is run is defined.
 use Rattle.std.proofs.Common.{ℕ, ℤ, ◌≡◌, ◌⊎◌, List, [], ◌∷◌, Option, Some, None, inl, inr, refl, sym, ap, ◌∙◌, subst}
-use Rattle.rx_tree.specs.Plain as plain
 use Rattle.rx_tree.specs.Plain.{ProgramTree}
 use Rattle.rx_lex.specs.declared.lexer.LexFault.TheVariants as lex
 use Rattle.rx_parse_grammar.specs.grammar.Items.{Parses}
@@ -11,6 +10,8 @@ use Rattle.rx_parse.specs.Answer.{IsCause}
 use Rattle.rx_resolve_names.specs.declared.resolved.ItemNames.{ItemNames}
 use Rattle.rx_resolve_names.specs.Causes.{Meant}
 use Rattle.rx_core.proofs.Results.{ok_is}
+use Rattle.rx_typed.specs.Types.{Declarations, rt_declared, struct_declared, enum_declared, function_declared}
+use Rattle.rx_typed.specs.PlainTypes.{declarations}
 use Rattle.rx_typed_tree.specs.PlainTree.{plain-TypedTree}
 use Rattle.rx_typeck_typed.specs.declared.typed.Typed.{Typed}
 use Rattle.rx_typeck_typed.specs.declared.typed.TypedFn.{TypedFn}
@@ -22,6 +23,8 @@ use Rattle.rx_machine.specs.Functions.{typed_functions, program_of}
 use Rattle.rx_check.specs.declared.fault.CheckFault.{CheckFault}
 use Rattle.rx_check.specs.declared.fault.CheckFault.TheVariants as check
 use Rattle.rx_check.specs.Passes.{Accepted}
+use Rattle.rx_check.specs.Front.{IsCheckedOf}
+use Rattle.rx_check.specs.Front as front
 use Rattle.rx_rem_command.specs.declared.status.Status.{Status}
 use Rattle.rx_rem_command.specs.declared.status.Status.TheVariants.{Done, NotAccepted}
 use Rattle.rx_rem_command.specs.Forms.{Command, checks, runs, command_of}
@@ -37,16 +40,21 @@ use Rattle.rx_rem_command.proofs.CheckLemmas.{found_unread, found_faulty, found_
 -- ---- one outcome
 
 -- typed programs that are alike are one program
-same_functions : (p : ProgramTree) (ts us : List TypedFn) → FunctionsAlike ts us → typed_functions p ts ≡ typed_functions p us
+same_functions : (D : Declarations) (ts us : List TypedFn) → FunctionsAlike ts us → typed_functions D ts ≡ typed_functions D us
 same_functions [] ts us h = refl
-same_functions (plain.function_item s f ∷ is) [] [] h = ap (λ l. None ∷ l) (same_functions is [] [] h)
-same_functions (plain.function_item s f ∷ is) [] (u ∷ us) h = absurd h
-same_functions (plain.function_item s f ∷ is) (t ∷ ts) [] h = absurd h
-same_functions (plain.function_item s f ∷ is) (t ∷ ts) (u ∷ us) h =
-    ap (λ x. Some x ∷ typed_functions is ts) h.2 ∙ ap (λ l. Some (plain-TypedTree u.tree) ∷ l) (same_functions is ts us h.3)
-same_functions (plain.rt_item s r ∷ is) ts us h = ap (λ l. None ∷ l) (same_functions is ts us h)
-same_functions (plain.struct_item s d ∷ is) ts us h = ap (λ l. None ∷ l) (same_functions is ts us h)
-same_functions (plain.enum_item s d ∷ is) ts us h = ap (λ l. None ∷ l) (same_functions is ts us h)
+same_functions (function_declared ps r ∷ D) [] [] h = ap (λ l. None ∷ l) (same_functions D [] [] h)
+same_functions (function_declared ps r ∷ D) [] (u ∷ us) h = absurd h
+same_functions (function_declared ps r ∷ D) (t ∷ ts) [] h = absurd h
+same_functions (function_declared ps r ∷ D) (t ∷ ts) (u ∷ us) h =
+    ap (λ x. Some x ∷ typed_functions D ts) h.2 ∙ ap (λ l. Some (plain-TypedTree u.tree) ∷ l) (same_functions D ts us h.3)
+same_functions (rt_declared ∷ D) ts us h = ap (λ l. None ∷ l) (same_functions D ts us h)
+same_functions (struct_declared c l fs ∷ D) ts us h = ap (λ l. None ∷ l) (same_functions D ts us h)
+same_functions (enum_declared c l vs ∷ D) ts us h = ap (λ l. None ∷ l) (same_functions D ts us h)
+
+same_program : (t u : Typed) (m : ℕ) → AreAlike t u → program_of t m ≡ program_of u m
+same_program t u m h =
+    ap (λ F. record { functions = F; main = m })
+    (same_functions (declarations t.decls.items) t.functions u.functions h.functions ∙ ap (λ D. typed_functions D u.functions) h.declared)
 
 -- names have one meaning
 one_meaning : (p : ProgramTree) (ns ms : List ItemNames) → Meant p ns → Meant p ms → ns ≡ ms
@@ -56,12 +64,17 @@ module _ (alike : (p : ProgramTree) (ns : List ItemNames) (t u : Typed) → IsTy
   pub outcome_one : (p : ProgramTree) (turns : ℕ) (input : List ℤ) (o q : Outcome) → Does p turns input o → Does p turns input q → o ≡ q
   outcome_one p turns input o q d e =
       let k : IsTyped p d.names e.types = subst (λ x. IsTyped p x e.types) (one_meaning p e.names d.names e.meant d.meant) e.typed in
-      let same = same_functions p d.types.functions e.types.functions (alike p d.names d.types e.types d.typed k).functions in
-      d.outcome ∙ (ap (λ F. run (record { functions = F; main = main_in p 0 }) input turns) same ∙ sym e.outcome)
+      let same = same_program d.types e.types (main_in p 0) (alike p d.names d.types e.types d.typed k) in
+      d.outcome ∙ (ap (λ P. run P input turns) same ∙ sym e.outcome)
 
 pub outcome_some : (p : ProgramTree) (turns : ℕ) (input : List ℤ) → Accepted p → (o : Outcome) × Does p turns input o
 outcome_some p turns input h = let f = h.1.front in
-    (run (program_of p h.0.functions) input turns, record { names = f.names; meant = f.meant; types = h.0; typed = f.typed; outcome = refl })
+    (run (program_of h.0 (main_in p 0)) input turns, record { names = f.names; meant = f.meant; types = h.0; typed = f.typed; outcome = refl })
+
+-- the outcome of what is checked is that of its program
+pub does : (p : ProgramTree) (x : front.Judged) (turns : ℕ) (input : List ℤ) (o : Outcome) → IsCheckedOf p x → o ≡ run (program_of x.front.typed x.front.main) input turns → Does p turns input o
+does p x turns input o h e = let a = h.front.accepted in
+    record { names = a.names; meant = a.meant; types = x.front.typed; typed = a.typed; outcome = e ∙ ap (λ m. run (program_of x.front.typed m) input turns) h.front.main }
 
 -- ---- what is found
 

@@ -1,6 +1,7 @@
 //! The command `run`: what the program of a text does.
 
 ghost use Rattle.std.specs.Prelude.{◌≤◌, List as ListOf, ℕ, IfOk, length};
+ghost use Rattle.rx_tree.specs.Plain.{ProgramTree};
 ghost use Rattle.rx_tree.specs.PlainOf.{plain-Program};
 ghost use Rattle.rx_tree.specs.Size.{IsNumbered};
 ghost use Rattle.rx_check.specs.Front.{IsCheckedOf};
@@ -18,26 +19,24 @@ use crate::run_line::{line_of_end, status_of_end};
 use crate::status::Status;
 use rx_check::{Checked, check};
 use rx_core::{LetGo, Sink, Text, write_all_of};
-use rx_machine::run as run_typed;
+use rx_machine::run as run_accepted;
 use rx_meaning::Outcome;
 use rx_parse::{parse, parsed_programs_are_numbered};
 use rx_tree::Program;
 use std::alloc::{AllocError, Global};
 
 /// What an accepted program does in so many turns, where these numbers are its input.
+#[tactic(auto, using(crate::proofs::RunLemmas::does))]
 fn run(
     alloc: Global,
-    program: &Program,
     checked: &Checked,
     turns: u64,
     numbers: &[Text],
 ) -> Result<Outcome, AllocError>
-    requires { IsCheckedOf (plain-Program program.now) checked.now }
-    ensures { IfOk result (λ o. Does (plain-Program program.now) turns (integers_among numbers.now) o) }
+    ensures { IfOk result (λ o. (p : ProgramTree) → IsCheckedOf p checked.now → Does p turns (integers_among numbers.now) o) }
 {
     let input = integers(alloc, numbers)?;
-    let typed = checked.front().typed();
-    let outcome = run_typed(alloc, program, typed, input.as_slice(), turns)?;
+    let outcome = run_accepted(alloc, checked, input.as_slice(), turns)?;
     Ok(outcome)
 }
 
@@ -58,17 +57,15 @@ fn run_checked<O: Sink, E: Sink>(
     alloc: Global,
     out: &mut O,
     err: &mut E,
-    program: &Program,
     checked: &Checked,
     turns: u64,
     numbers: &[Text],
 ) -> Status
-    requires { IsCheckedOf (plain-Program program.now) checked.now }
-    ensures { (status : Status) × (outs : ListOf ℕ) × (errs : ListOf ℕ) × FoundRun (plain-Program program.now) turns (integers_among numbers.now) status outs errs
+    ensures { (p : ProgramTree) → IsCheckedOf p checked.now → (status : Status) × (outs : ListOf ℕ) × (errs : ListOf ℕ) × FoundRun p turns (integers_among numbers.now) status outs errs
         × Ending (sink_state O.contents O.faults O.standstills out.old) (sink_state O.contents O.faults O.standstills out.new)
         (sink_state E.contents E.faults E.standstills err.old) (sink_state E.contents E.faults E.standstills err.new) status outs errs result }
 {
-    match run(alloc, program, checked, turns, numbers) {
+    match run(alloc, checked, turns, numbers) {
         Ok(outcome) => tell(out, err, &outcome),
         Err(AllocError) => report_name(err, Status::OutOfMemory),
     }
@@ -90,7 +87,7 @@ fn run_program<O: Sink, E: Sink>(
 {
     match check(alloc, program) {
         Ok(checked) => {
-            let status = run_checked(alloc, out, err, program, &checked, turns, numbers);
+            let status = run_checked(alloc, out, err, &checked, turns, numbers);
             checked.let_go();
             status
         }

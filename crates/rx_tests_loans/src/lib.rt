@@ -14,6 +14,8 @@ mod patterns;
 #[cfg(test)]
 mod places;
 #[cfg(test)]
+mod readers;
+#[cfg(test)]
 mod references;
 #[cfg(test)]
 mod walks;

@@ -1,19 +1,12 @@
 //! What programs print, and how they end.
 
-ghost use Rattle.rx_tree.specs.PlainOf.{plain-Program};
-ghost use Rattle.rx_tree.specs.Size.{IsNumbered};
-ghost use Rattle.rx_resolve_names.specs.Causes.{Meant};
-
 use crate::holding::all_hold;
+use rx_check::{Checked, check};
 use rx_core::LetGo;
 use rx_machine::run;
 use rx_meaning::{End, Trap};
 use rx_parse::{parse, parsed_programs_are_numbered};
-use rx_resolve::resolve;
-use rx_resolve_names::Resolved;
 use rx_tests_tables::{LINES, Outcome};
-use rx_tree::Program;
-use rx_typeck::typecheck;
 use std::alloc::{AllocError, Global};
 
 fn end_name(end: End) -> &'static str {
@@ -27,31 +20,17 @@ fn end_name(end: End) -> &'static str {
 }
 
 /// What is printed, with a blank in place of each line feed, and the end.
-fn ran(
-    alloc: Global,
-    program: &Program,
-    names: &Resolved,
-    input: &[i64],
-    turns: u64,
-) -> Result<String, AllocError>
-    requires numbered { IsNumbered (plain-Program program.now) }
-    requires named { Meant (plain-Program program.now) names.now.items }
-{
-    match typecheck(alloc, program, names) {
-        Ok(typed) => {
-            let outcome = run(alloc, program, &typed, input, turns)?;
-            let mut told = String::new(alloc);
-            for line in outcome.printed.as_str().split("\n") {
-                if !line.is_empty() {
-                    told.push_str(line)?;
-                    told.push_str(" ")?;
-                }
-            }
-            told.push_str(end_name(outcome.end))?;
-            Ok(told)
+fn ran(alloc: Global, program: &Checked, input: &[i64], turns: u64) -> Result<String, AllocError> {
+    let outcome = run(alloc, program, input, turns)?;
+    let mut told = String::new(alloc);
+    for line in outcome.printed.as_str().split("\n") {
+        if !line.is_empty() {
+            told.push_str(line)?;
+            told.push_str(" ")?;
         }
-        Err(_) => String::from_str(alloc, "types"),
     }
+    told.push_str(end_name(outcome.end))?;
+    Ok(told)
 }
 
 /// What a text does.
@@ -62,9 +41,9 @@ fn told(alloc: Global, text: &str, input: &[i64], turns: u64) -> Result<String, 
     match parse(alloc, text.as_bytes()) {
         Ok(program) => {
             parsed_programs_are_numbered();
-            let outcome = match resolve(alloc, &program) {
-                Ok(names) => ran(alloc, &program, &names, input, turns),
-                Err(_) => String::from_str(alloc, "names"),
+            let outcome = match check(alloc, &program) {
+                Ok(checked) => ran(alloc, &checked, input, turns),
+                Err(_) => String::from_str(alloc, "refused"),
             };
             program.let_go();
             outcome

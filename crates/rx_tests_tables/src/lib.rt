@@ -1,6 +1,9 @@
 //! Tables as texts, and texts that repeat a part, for tests. A row has what is given beside what is expected.
 #![tactic(auto)]
 
+mod programs;
+
+pub use programs::BANK;
 use std::alloc::{AllocError, Global};
 
 /// Whether a row holds. Where no memory was found it does not.

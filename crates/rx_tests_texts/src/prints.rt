@@ -1,11 +1,10 @@
 //! Canonical texts, and that they are read back as the same program.
 
-use crate::bank::BANK;
 use crate::holding::{all_hold, hold};
 use rx_core::{LetGo, Text};
 use rx_parse::parse;
 use rx_print::print;
-use rx_tests_tables::{BLOCKS, LINES, Outcome};
+use rx_tests_tables::{BANK, BLOCKS, LINES, Outcome};
 use rx_tree::Program;
 use rx_tree_operations::same;
 use std::alloc::Global;

@@ -20,3 +20,6 @@ returns-in-Err g c =
       )
       | inr r ↦ (OutOfMemory, [], status_line OutOfMemory, no_memory_left, reported _ _ _ OutOfMemory c.refuse_program.result _ r)
     ]
+
+pub returns-in-Ok : goal.returns-in-Ok
+returns-in-Ok g c = c.run_checked-status.ensures (plain-Program c.args.program.now) c.in-Ok.ensures.checked

@@ -1,6 +1,6 @@
 use Rattle.std.proofs.Common.{sym, ◌∙◌, arith}
-use Rattle.rx_machine.proofs.TableLemmas.{main_here, main_next}
-use Rattle.rx_machine.proofs.functions.main_at.Goals as goal
+use Rattle.rx_check.proofs.MainLemmas.{main_here, main_next}
+use Rattle.rx_check.proofs.main_item.main_at.Goals as goal
 
 pub returns-then-is_main : goal.returns-then-is_main
 returns-then-is_main c =
