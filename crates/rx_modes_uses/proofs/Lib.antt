@@ -1,0 +1,4 @@
+pub mod Deciding
+pub mod Table
+pub mod One
+pub mod Planned
