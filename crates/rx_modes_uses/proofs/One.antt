@@ -1,10 +1,12 @@
 -- A variable has one list of uses, so a run has one list of modes: two truth values that decide the same are equal, field by field, and
 -- then param by param. A param without a mode is none that has one.
 use Rattle.std.proofs.Common.{◌≡◌, refl, sym, ◌∙◌, ap, subst, ◌⊎◌, inl, inr, ℕ, Bool, true, List, [], ◌∷◌}
-use Rattle.std.proofs.lemmas.Bool.Decides.{same_from_decides}
+use Rattle.std.proofs.lemmas.Bool.Decides.{same_from_decides, Decides-like}
 use Rattle.rx_lower_walks.specs.Walks.{Among, here, there}
-use Rattle.rx_exits_plan.specs.Asked.{Asked}
-use Rattle.rx_exits_plan.specs.Plan.{Plan}
+use Rattle.rx_exits_marks.specs.Points.{Exit}
+use Rattle.rx_exits_plan.specs.Asked.{Asked, IsLiveAt}
+use Rattle.rx_exits_plan.specs.Plan.{Plan, IsPlan}
+use Rattle.rx_exits_plan.proofs.One.{same_exits, same_params}
 use Rattle.rx_modes_policy.specs.declared.uses.Mode.{Mode}
 use Rattle.rx_modes_policy.specs.declared.uses.Uses.{Uses}
 use Rattle.rx_modes_policy.specs.Allowed.{allowed_by, IsMember, HasMember}
@@ -43,6 +45,40 @@ module _ (A : Asked) (muts : List Bool) (k : Plan) (x : ℕ) where
   pub none_and_one : (choice : Uses → Mode) (m : Mode) → HasNoMode A muts k x → PassedIn A muts k choice x m → ⊥
   none_and_one choice m h p = h.none (subst (λ u. HasMember (allowed_by u)) (one_uses p.uses h.uses p.are_uses h.are_uses) p.some)
 
+pub each_such : {Q R : ℕ → Mode → Type 0} {xs : List ℕ} {ms : List Mode} → ((x : ℕ) (m : Mode) → Q x m → R x m) → Each Q xs ms → Each R xs ms
+each_such f no_more = no_more
+each_such f (with {x = x} {m = m} q c) = with (f x m q) (each_such f c)
+
+-- ---- of two plans of one run, which have the same exits and params
+
+abbrev LiveOut : Asked → List Exit → List ℕ → ℕ → Type 0
+LiveOut A es ps x = (e : Exit) × Among e es × IsLiveAt A ps e x
+
+module _ (A : Asked) (muts : List Bool) (k m : Plan) (es : k.exits ≡ m.exits) (ps : k.params ≡ m.params) where
+  pub uses_of_both : (x : ℕ) (u : Uses) → IsUses A muts m x u → IsUses A muts k x u
+  uses_of_both x u a = record {
+    copy = a.copy;
+    mut_ref = a.mut_ref;
+    moved = a.moved;
+    written = a.written;
+    lent = a.lent;
+    through = a.through;
+    mut_out = a.mut_out;
+    declared_mut = a.declared_mut;
+    live_out = Decides-like u.live_out back forth a.live_out;
+    set_in = a.set_in;
+  }
+    where
+      back : LiveOut A m.exits m.params x → LiveOut A k.exits k.params x
+      back h = subst (λ l. LiveOut A l k.params x) (sym es) (subst (λ l. LiveOut A m.exits l x) (sym ps) h)
+
+      forth : LiveOut A k.exits k.params x → LiveOut A m.exits m.params x
+      forth h = subst (λ l. LiveOut A l m.params x) es (subst (λ l. LiveOut A k.exits l x) ps h)
+
+  modes_of_both : (choice : Uses → Mode) (xs : List ℕ) (ms : List Mode) → Each (PassedIn A muts m choice) xs ms → Each (PassedIn A muts k choice) xs ms
+  modes_of_both choice xs ms c =
+      each_such (λ x n p. record { uses = p.uses; are_uses = uses_of_both x p.uses p.are_uses; some = p.some; chosen = p.chosen }) c
+
 -- ---- modes
 
 -- what is one for each of some variables is one list
@@ -55,15 +91,20 @@ one_each {Q = Q} f (x ∷ xs) (m ∷ ms) (n ∷ ns) (with p c) (with q d) = ap (
 pub one_list_of_modes : (A : Asked) (muts : List Bool) (k : Plan) (choice : Uses → Mode) (ms ns : List Mode) → IsModes A muts k choice ms → IsModes A muts k choice ns → ms ≡ ns
 one_list_of_modes A muts k choice ms ns p q = one_each (λ x m n. one_mode A muts k x choice m n) k.params ms ns p q
 
+pub one_list_of_a_run : (A : Asked) (muts : List Bool) (k m : Plan) (choice : Uses → Mode) (ms ns : List Mode) → IsPlan A k → IsPlan A m
+    → IsModes A muts k choice ms → IsModes A muts m choice ns → ms ≡ ns
+one_list_of_a_run A muts k m choice ms ns a b p q =
+    one_list_of_modes A muts k choice ms ns p (subst (λ xs. Each (PassedIn A muts k choice) xs ns) (sym (same_params A k m a b))
+    (modes_of_both A muts k m (same_exits A k m a b) (same_params A k m a b) choice m.params ns q))
+
+pub one_uses_of_a_run : (A : Asked) (muts : List Bool) (k m : Plan) (x : ℕ) (u v : Uses) → IsPlan A k → IsPlan A m → IsUses A muts k x u → IsUses A muts m x v → u ≡ v
+one_uses_of_a_run A muts k m x u v a b p q = one_uses A muts k x u v p (uses_of_both A muts k m (same_exits A k m a b) (same_params A k m a b) x v q)
+
 -- what holds of each holds of one of them
 at_one : {Q : ℕ → Mode → Type 0} {xs : List ℕ} {ms : List Mode} {x : ℕ} → Each Q xs ms → Among x xs → (m : Mode) × Q x m
 at_one no_more i = elim i [ ]
 at_one (with {m = m} q c) here = (m, q)
 at_one (with q c) (there i) = at_one c i
-
-pub each_such : {Q R : ℕ → Mode → Type 0} {xs : List ℕ} {ms : List Mode} → ((x : ℕ) (m : Mode) → Q x m → R x m) → Each Q xs ms → Each R xs ms
-each_such f no_more = no_more
-each_such f (with {x = x} {m = m} q c) = with (f x m q) (each_such f c)
 
 -- ---- refusals
 

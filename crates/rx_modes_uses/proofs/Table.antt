@@ -53,3 +53,20 @@ moved_is_value u m t h = value_if_any m u.live_out u.declared_mut rest (subst (�
   where
     rest : ModeChoice
     rest = first_row (rows_written u ++ (rows_through u ++ rows_read u))
+
+-- ---- what has no mode, and what has one alone
+
+pub none_has_none : ¬ (HasMember none)
+none_has_none h = by h.0 h.1
+  where
+    by : (m : Mode) → IsMember m none → ⊥
+    by m (inl e) = apart None m e refl
+    by m (inr e) = apart None m e refl
+
+abbrev is_value : Option Mode → Bool
+is_value (Some mode.Value) = true
+is_value _ = false
+
+pub value_is_not_shared : ¬ (IsMember mode.Value (one mode.Shared))
+value_is_not_shared (inl e) = true≢false (sym (ap is_value e))
+value_is_not_shared (inr e) = true≢false (sym (ap is_value e))

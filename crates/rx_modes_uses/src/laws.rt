@@ -15,14 +15,17 @@ ghost use Rattle.rx_modes_uses.specs.Modes.{PassedIn, Each, IsModes};
 ghost use Rattle.rx_modes_uses.specs.NotMut.{NotMut};
 ghost use Rattle.rx_modes_uses.specs.Aliased.{Aliased};
 
-/// Two uses of one variable are equal.
+/// Two uses of one variable are equal, whichever plan of the run they are told by.
 pub fn uses_are_one()
-    ensures { (A : Asked) (muts : ListOf Bool) (k : Plan) (x : ℕ) (u v : Uses) → IsUses A muts k x u → IsUses A muts k x v → u ≡ v }
+    ensures of_a_plan { (A : Asked) (muts : ListOf Bool) (k : Plan) (x : ℕ) (u v : Uses) → IsUses A muts k x u → IsUses A muts k x v → u ≡ v }
+    ensures of_a_run { (A : Asked) (muts : ListOf Bool) (k m : Plan) (x : ℕ) (u v : Uses) → IsPlan A k → IsPlan A m → IsUses A muts k x u → IsUses A muts m x v → u ≡ v }
 {}
 
 /// A policy has one list of modes for a run.
 pub fn modes_are_one()
-    ensures { (A : Asked) (muts : ListOf Bool) (k : Plan) (choice : Uses → Mode) (ms ns : ListOf Mode) → IsModes A muts k choice ms → IsModes A muts k choice ns → ms ≡ ns }
+    ensures of_a_plan { (A : Asked) (muts : ListOf Bool) (k : Plan) (choice : Uses → Mode) (ms ns : ListOf Mode) → IsModes A muts k choice ms → IsModes A muts k choice ns → ms ≡ ns }
+    ensures of_a_run { (A : Asked) (muts : ListOf Bool) (k m : Plan) (choice : Uses → Mode) (ms ns : ListOf Mode) → IsPlan A k → IsPlan A m
+        → IsModes A muts k choice ms → IsModes A muts m choice ns → ms ≡ ns }
 {}
 
 /// Where a policy chooses allowed modes, each param is passed in one that its uses allow.
