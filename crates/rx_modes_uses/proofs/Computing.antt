@@ -7,7 +7,7 @@ use Rattle.std.proofs.lemmas.Bool.{eq-eqb, eqb-true}
 use Rattle.std.proofs.lemmas.Bool.Decides.{Decides-or, Decides-like}
 use Rattle.rx_typed.specs.Tree.{variable, Function, tuple, constant, negation, inversion, operation, lazy, struct, variant_of, temporary_at}
 use Rattle.rx_lower_walks.specs.Actions.{Act, Declare, Dead, Read, Write, Borrow, Test, Call, Build, Input, Print, Give, Action, does}
-use Rattle.rx_lower_walks.specs.Walks.{IsWalk, Among, here, there}
+use Rattle.rx_lower_walks.specs.Walks.{Among, here, there}
 use Rattle.rx_lower_graph.specs.Graph.{Site, site_at, Path, stop, go, Comes, at_hand, along}
 use Rattle.rx_lower_graph.specs.Pieces.{graph}
 use Rattle.rx_lower_graph.proofs.Sites.{paths_are_walks_of, reached}
@@ -18,7 +18,7 @@ use Rattle.rx_exits_marks.specs.Marked.{shown, marked}
 use Rattle.rx_exits_plan.specs.Asked.{Asked, IsLiveAt}
 use Rattle.rx_exits_plan.specs.Plan.{Plan}
 use Rattle.rx_modes_policy.specs.declared.uses.Uses.{Uses}
-use Rattle.rx_modes_uses.specs.Uses.{IsLiveOut, IsSetIn, IsUses}
+use Rattle.rx_modes_uses.specs.Uses.{IsSetIn, IsUses}
 use Rattle.rx_modes_uses.proofs.Deciding.{told, are_uses}
 
 -- ---- rows: a truth value for each site

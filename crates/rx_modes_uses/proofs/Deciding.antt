@@ -17,7 +17,7 @@ use Rattle.rx_modes_uses.specs.Paths.{OwnPath, PathBehind}
 use Rattle.rx_modes_uses.specs.Deeds as deeds
 use Rattle.rx_modes_uses.specs.Deeds.{Done}
 use Rattle.rx_modes_uses.specs.Outside.{in_run, outside_run}
-use Rattle.rx_modes_uses.specs.Uses.{HasType, IsCopy, IsMutableReference, IsDeclaredMut, IsLiveOut, IsSetIn, IsUses}
+use Rattle.rx_modes_uses.specs.Uses.{IsLiveOut, IsSetIn, IsUses}
 
 never : {P : Type 0} → false ≡ true → P
 never e = absurd (true≢false (sym e))

@@ -8,7 +8,7 @@ use Rattle.rx_lower_walks.specs.Actions.{Action}
 use Rattle.rx_lower_walks.specs.Walks.{Among, here, there}
 use Rattle.rx_lower_graph.specs.Graph.{Site, site_at, Path, stop, go}
 use Rattle.rx_lower_graph.proofs.Sites.{paths_are_walks_of}
-use Rattle.rx_facts_parts.specs.Places.{Frame, Located, place_at, spot_parts, is_part}
+use Rattle.rx_facts_parts.specs.Places.{Frame, place_at, spot_parts}
 use Rattle.rx_facts_init.specs.Setting.{is_set, AllSet}
 use Rattle.rx_facts_init.proofs.Numbers.{in_between}
 use Rattle.rx_exits_marks.specs.Points.{enters}

@@ -1,11 +1,10 @@
 -- Uses and modes of variables of small runs: computed, against what was written by hand; and two mistakes that they show. (A run stands in
 -- brackets; its params are those of the plan that is computed for it.)
 use Rattle.std.proofs.Common.{◌≡◌, refl, sym, ap, inl, ℕ, ◌==◌, Bool, true, false, ◌||◌, true≢false, if◌then◌else◌, List, [], ◌∷◌, Option, Some, None}
-use Rattle.rx_core.specs.declared.types.Step.{Step}
 use Rattle.rx_core.specs.declared.types.Step.TheVariants as step
 use Rattle.rx_tree.specs.declared.tree.BinaryOp.{BinaryOp}
 use Rattle.rx_typed.specs.Types.{Typ, tuple_of, no_shape, shape_and, reference, named, unit_shape}
-use Rattle.rx_typed.specs.Tree.{variable, Place, any, bind, exactly, parts, behind, part_and, no_part, by_value, by_reference, truth, operation, struct, Exp, read, borrow, build, assign, call, input, block, choose, loop, give, no_operand, operand_and, of_value, at_place, no_arm, arm_and, Body, ends, runs, lets, Function, own, under}
+use Rattle.rx_typed.specs.Tree.{variable, Place, any, bind, exactly, parts, behind, part_and, no_part, by_value, by_reference, truth, operation, struct, Exp, read, borrow, build, assign, input, block, choose, loop, give, no_operand, operand_and, of_value, at_place, no_arm, arm_and, Body, ends, runs, lets, Function, own, under}
 use Rattle.rx_lower_walks.specs.Actions.{Act, Dead}
 use Rattle.rx_lower_walks.specs.Walks.{here}
 use Rattle.rx_facts_along.specs.Along.{Switch}
@@ -356,5 +355,5 @@ would_be_live = refl
 would_have_none : allowed_by (told eaten (false ∷ []) 0 true true) ≡ none
 would_have_none = refl
 
-pub the_end_is_no_use : (set : Bool) → ¬ (IsUses eaten (false ∷ []) of_x 0 (told eaten (false ∷ []) 0 true set))
+the_end_is_no_use : (set : Bool) → ¬ (IsUses eaten (false ∷ []) of_x 0 (told eaten (false ∷ []) 0 true set))
 the_end_is_no_use set h = true≢false (sym ((out_told eaten (0 ∷ []) 0 refl (next ∷ [])).1 (h.live_out.0 refl)))

@@ -1,6 +1,6 @@
 -- A variable has one list of uses, so a run has one list of modes: two truth values that decide the same are equal, field by field, and
 -- then param by param. A param without a mode is none that has one.
-use Rattle.std.proofs.Common.{◌≡◌, refl, sym, ◌∙◌, ap, subst, ◌⊎◌, inl, inr, ℕ, Bool, true, List, [], ◌∷◌}
+use Rattle.std.proofs.Common.{◌≡◌, refl, sym, ◌∙◌, ap, subst, ◌⊎◌, inl, inr, ℕ, Bool, List, [], ◌∷◌}
 use Rattle.std.proofs.lemmas.Bool.Decides.{same_from_decides, Decides-like}
 use Rattle.rx_lower_walks.specs.Walks.{Among, here, there}
 use Rattle.rx_exits_marks.specs.Points.{Exit}

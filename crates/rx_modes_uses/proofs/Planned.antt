@@ -1,11 +1,11 @@
 -- What uses and plans say of one another: the same list of actions is looked through for moves, so both tests are one; what every walk that
 -- enters the run has set, some walk that enters it has.
-use Rattle.std.proofs.Common.{◌≡◌, refl, sym, ◌∙◌, ap, subst, ℕ, Bool, true, false, ◌||◌, List, [], ◌∷◌}
+use Rattle.std.proofs.Common.{◌≡◌, refl, ◌∙◌, ap, ℕ, Bool, true, false, ◌||◌, List, [], ◌∷◌}
 use Rattle.std.proofs.lemmas.Bool.Decides.{same_from_decides}
 use Rattle.rx_lower_walks.specs.Actions.{Act, Declare, Dead, Read, Write, Borrow, Test, Call, Build, Input, Print, Give, Action}
 use Rattle.rx_lower_walks.specs.Walks.{Among, here, there}
 use Rattle.rx_exits_marks.specs.Points.{enters}
-use Rattle.rx_exits_plan.specs.Asked.{Asked, IsParam}
+use Rattle.rx_exits_plan.specs.Asked.{Asked}
 use Rattle.rx_exits_plan.specs.Plan.{Plan, Chosen, none, taken, left, IsPlan, moves, some_moves, is_moved}
 use Rattle.rx_exits_plan.specs.Unreachable.{SomeComes}
 use Rattle.rx_modes_policy.specs.declared.uses.Mode.{Mode}

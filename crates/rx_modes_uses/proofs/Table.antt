@@ -1,6 +1,6 @@
 -- What the table of modes says: there is a mode or none, told by its two fields; and what is moved has the mode Value alone, by the truth
 -- values that the first rows ask for.
-use Rattle.std.proofs.Common.{◌≡◌, refl, sym, ◌∙◌, ap, ◌⊎◌, inl, inr, Bool, true, false, true≢false, not, ◌&&◌, ◌||◌, if◌then◌else◌, Option, Some, None, ◌++◌, subst}
+use Rattle.std.proofs.Common.{◌≡◌, refl, sym, ◌∙◌, ap, ◌⊎◌, inl, inr, Bool, true, false, true≢false, not, ◌&&◌, if◌then◌else◌, Option, Some, None, ◌++◌, subst}
 use Rattle.rx_modes_policy.specs.declared.uses.Mode.{Mode}
 use Rattle.rx_modes_policy.specs.declared.uses.Mode.TheVariants as mode
 use Rattle.rx_modes_policy.specs.declared.uses.Uses.{Uses}

@@ -1,6 +1,6 @@
 -- What an action does to a place, and that some action of a list does so to a place of some kind, whether or not a walk holds it. That a
 -- variable ends is none of these. (Rust Reference, "Moved and copied types", "Mutability"; RFC 2094, "Access legality".)
-use Rattle.std.specs.Prelude.{◌≡◌, Bool, true, false, List, Option, Some, None}
+use Rattle.std.specs.Prelude.{◌≡◌, true, false, List, Option, Some, None}
 use Rattle.rx_typed.specs.Tree.{Place}
 use Rattle.rx_lower_walks.specs.Actions.{Act, Read, Write, Borrow, Action}
 use Rattle.rx_lower_walks.specs.Walks.{Among}

@@ -1,7 +1,7 @@
 -- The actions of a run, of the rest of its function, and of the whole function, whether or not some walk holds them: those that the
 -- order of actions of the typed tree names. (Rust Reference, "Expressions", "Evaluation order of operands".)
 use Rattle.std.specs.Prelude.{◌==◌, if◌then◌else◌, List}
-use Rattle.rx_typed.specs.Tree.{Exp, unit, jump, Body, ends, Function, mark_of}
+use Rattle.rx_typed.specs.Tree.{unit, jump, Body, ends, Function, mark_of}
 use Rattle.rx_lower_walks.specs.Actions.{Action}
 use Rattle.rx_lower_walks.specs.Orders.{order_function}
 use Rattle.rx_lower_walks.specs.Walks.{actions_in}

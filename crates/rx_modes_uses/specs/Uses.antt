@@ -1,6 +1,6 @@
 -- What is done with a variable by a run and by the rest of its function: the ten truth values by which a new function can take it.
 -- (REM, OOPSLA 2023, "Extract method", the analysis of ownership; Rust Reference, "Moved and copied types", "Mutability".)
-use Rattle.std.specs.Prelude.{◌≡◌, ℕ, Bool, true, List, Option, Some, slice_get}
+use Rattle.std.specs.Prelude.{◌≡◌, ℕ, Bool, true, List, Some, slice_get}
 use Rattle.std.specs.Bool.{Decides}
 use Rattle.rx_typed.specs.Types.{Typ, reference, copies}
 use Rattle.rx_typed.specs.Tree.{own}

@@ -1,4 +1,3 @@
-use Rattle.rx_modes_uses.proofs.Examples.{the_end_is_no_use}
 use Rattle.rx_modes_uses.proofs.Planned.{set_where_entered}
 use Rattle.rx_modes_uses.proofs.laws.params_are_set.Goals as goal
 
