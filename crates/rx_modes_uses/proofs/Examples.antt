@@ -1,5 +1,5 @@
 -- Uses and modes of variables of small runs: computed, against what was written by hand; and two mistakes that they show. (A run stands in
--- brackets; its params are those of the plan that is computed for it.)
+-- brackets; its plan is the one that is computed for it.)
 use Rattle.std.proofs.Common.{◌≡◌, refl, sym, ap, inl, ℕ, ◌==◌, Bool, true, false, ◌||◌, true≢false, if◌then◌else◌, List, [], ◌∷◌, Option, Some, None}
 use Rattle.rx_core.specs.declared.types.Step.TheVariants as step
 use Rattle.rx_tree.specs.declared.tree.BinaryOp.{BinaryOp}
@@ -265,12 +265,18 @@ with_value_s = refl
 abbrev norm : Asked
 norm = asked (whole (let_be 0 num (let_be 1 (times (field 0 0) (field 0 0)) (runs (show (copy 1)) (runs (show (field 0 0)) last))))) (of_block 1 1 1 false) (tag ∷ number ∷ [])
 
-norm_p : seen norm (false ∷ false ∷ []) of_x 0 ≡ sees (LiveOut ∷ SetIn ∷ []) (one mode.Shared)
+norm_planned : shown (planned norm) ≡ shown (plan (next ∷ []) (0 ∷ []) (1 ∷ []))
+norm_planned = refl
+
+norm_p : seen norm (false ∷ false ∷ []) (plan (next ∷ []) (0 ∷ []) (1 ∷ [])) 0 ≡ sees (LiveOut ∷ SetIn ∷ []) (one mode.Shared)
 norm_p = refl
 
 --     let p = ..; [ eat(p.0); ]
 abbrev eaten_part : Asked
 eaten_part = asked (whole (let_be 0 num (runs (eat (read (at 44 tag) true (part 0 0))) last))) (of_block 1 1 1 false) (Some (tuple_of (shape_and (named 0) (shape_and (named 0) no_shape))) ∷ [])
+
+eaten_part_planned : shown (planned eaten_part) ≡ shown of_x
+eaten_part_planned = refl
 
 eaten_part_p : seen eaten_part (false ∷ []) of_x 0 ≡ sees (Moved ∷ SetIn ∷ []) (one mode.Value)
 eaten_part_p = refl
@@ -283,6 +289,9 @@ show_target = show (read (at 97 (Some int)) false (target 0))
 abbrev put_behind : Asked
 put_behind = asked (of_one (runs (put (target 0) num) (runs show_target last))) (of_block 1 0 1 false) (changing ∷ [])
 
+put_behind_planned : shown (planned put_behind) ≡ shown of_x
+put_behind_planned = refl
+
 put_behind_x : seen put_behind (false ∷ []) of_x 0 ≡ sees (MutRef ∷ Through ∷ LiveOut ∷ SetIn ∷ []) (one mode.Reborrow)
 put_behind_x = refl
 
@@ -292,12 +301,18 @@ put_behind_mut_x = refl
 abbrev put_and_lent : Asked
 put_and_lent = asked (of_one (runs (put (target 0) num) (runs (eat (lend false 0)) last))) (of_block 1 0 2 false) (changing ∷ [])
 
+put_and_lent_planned : shown (planned put_and_lent) ≡ shown of_x
+put_and_lent_planned = refl
+
 put_and_lent_x : seen put_and_lent (true ∷ []) of_x 0 ≡ sees (MutRef ∷ Lent ∷ Through ∷ DeclaredMut ∷ SetIn ∷ []) (one mode.Mut)
 put_and_lent_x = refl
 
 --     fn f(x: &mut i64) { [ println!(*x); ] }
 abbrev seen_behind : Asked
 seen_behind = asked (of_one (runs show_target last)) (of_block 1 0 1 false) (changing ∷ [])
+
+seen_behind_planned : shown (planned seen_behind) ≡ shown of_x
+seen_behind_planned = refl
 
 seen_behind_x : seen seen_behind (false ∷ []) of_x 0 ≡ sees (MutRef ∷ SetIn ∷ []) (two mode.View mode.Shared)
 seen_behind_x = refl
@@ -310,6 +325,12 @@ abbrev taken_apart : Bool → Typ → Asked
 taken_apart k t = asked (of_one (lets 41 (behind k (parts (part_and 0 (bind 43 1 (by_reference k)) (part_and 1 (bind 44 2 (by_reference k)) no_part))))
     (at_place (at 42 None) (own 0)) last)) (of_block 1 0 1 false) (Some t ∷ Some (reference k int) ∷ Some (reference k int) ∷ [])
 
+taken_apart_planned : shown (planned (taken_apart true (reference true pair))) ≡ shown of_x
+taken_apart_planned = refl
+
+looked_apart_planned : shown (planned (taken_apart false (reference false pair))) ≡ shown of_x
+looked_apart_planned = refl
+
 bound_mutably : seen (taken_apart true (reference true pair)) (false ∷ false ∷ false ∷ []) of_x 0 ≡ sees (MutRef ∷ Through ∷ SetIn ∷ []) (one mode.Reborrow)
 bound_mutably = refl
 
@@ -320,6 +341,9 @@ abbrev moved_apart : Asked
 moved_apart = asked (of_one (lets 41 (parts (part_and 0 (bind 43 1 (by_value true)) (part_and 1 (bind 44 2 (by_value false)) no_part)))
     (at_place (at 42 None) (own 0)) last)) (of_block 1 0 1 false) (Some (tuple_of (shape_and (named 0) (shape_and int no_shape))) ∷ tag ∷ number ∷ [])
 
+moved_apart_planned : shown (planned moved_apart) ≡ shown of_x
+moved_apart_planned = refl
+
 bound_by_value : seen moved_apart (false ∷ false ∷ false ∷ []) of_x 0 ≡ sees (Moved ∷ SetIn ∷ []) (one mode.Value)
 bound_by_value = refl
 
@@ -328,7 +352,13 @@ abbrev never_eaten : Asked
 never_eaten = asked (whole (let_be 0 num (runs (loop (at 9 None) 0 (braces 10 (runs (when yes (braces 11 (runs (give (at 13 None) done) (runs (eat (move 0)) (ends done))))) (ends done)))) last)))
     (of_block 10 0 1 false) (tag ∷ [])
 
-never_eaten_x : seen never_eaten (false ∷ []) (plan (next ∷ returns ∷ []) (0 ∷ []) (0 ∷ [])) 0 ≡ sees (Moved ∷ LiveOut ∷ SetIn ∷ []) none
+abbrev never_eaten_plan : Plan
+never_eaten_plan = plan (next ∷ returns ∷ []) (0 ∷ []) (0 ∷ [])
+
+never_eaten_planned : shown (planned never_eaten) ≡ shown never_eaten_plan
+never_eaten_planned = refl
+
+never_eaten_x : seen never_eaten (false ∷ []) never_eaten_plan 0 ≡ sees (Moved ∷ LiveOut ∷ SetIn ∷ []) none
 never_eaten_x = refl
 
 -- ---- the end of a variable is no use of it: `let x = ..; [ eat(x); ]`
