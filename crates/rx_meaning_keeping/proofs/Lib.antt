@@ -1,0 +1,7 @@
+pub mod Keeping
+pub mod Choices
+pub mod Reaching
+pub mod Relating
+pub mod Beside
+pub mod Runs
+pub mod Behaving

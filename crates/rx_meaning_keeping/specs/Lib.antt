@@ -1,0 +1,9 @@
+pub mod Pending
+pub mod Using
+pub mod Formed
+pub mod Keeping
+pub mod Following
+pub mod Choices
+pub mod Reaching
+pub mod Relating
+pub mod Beside

@@ -1,0 +1,37 @@
+//! Laws of runs, by any way to act, each the contract of a function that does nothing.
+
+ghost use Rattle.std.specs.Prelude.{◌≡◌, ℕ, ℤ, suc, List as ListOf, []};
+ghost use Rattle.rx_typed.specs.Tree.{Function};
+ghost use Rattle.rx_meaning.specs.Endings.{Ending};
+ghost use Rattle.rx_meaning.specs.Values.{Value, State};
+ghost use Rattle.rx_meaning.specs.Results.{stops};
+ghost use Rattle.rx_meaning.specs.Acting.{Acting, plainly};
+ghost use Rattle.rx_meaning.specs.Telling.{fully};
+ghost use Rattle.rx_meaning.specs.Expressions.{Functions, activation, below_level, called};
+ghost use Rattle.rx_meaning.specs.Programs.{Program, run_by};
+ghost use Rattle.rx_meaning_keeping.specs.Formed.{Any, AllFormed};
+ghost use Rattle.rx_meaning_keeping.specs.Keeping.{IsFunction};
+ghost use Rattle.rx_meaning_keeping.specs.Reaching.{Behaves, Traced, Ends, starting};
+ghost use Rattle.rx_meaning_keeping.specs.Relating.{Related};
+ghost use Rattle.rx_meaning_keeping.specs.Beside.{firsts, seconds, SaidBeside, ValuesBeside, beside};
+
+/// Whichever way an activation acts, where the trees are formed, the actions that it tells are a walk of its function, behind
+/// which a state is reached: what the start of each activation has and each action keeps is so there. And a run ends for the
+/// reasons alone that there are: by an action that was performed where it was reached, or where no action is to be. The plain
+/// way is one that so behaves.
+pub fn runs_are_traced()
+    ensures activations { (A : Acting ℕ) → Behaves A → (P : Functions) → AllFormed P (λ f. Any) → (n f : ℕ) (F : Function) → IsFunction P f F
+        → (vs : ListOf Value) (s : State) → Traced A P f F vs s (activation (fully A) (below_level (fully A) P n) F vs s) }
+    ensures ends { (A : Acting ℕ) → Behaves A → (P : Program) → AllFormed P.functions (λ f. Any) → (F : Function) → IsFunction P.functions P.main F
+        → (given : ListOf ℤ) (n : ℕ) (t : ListOf ℕ) (e : Ending) → run_by A P given (suc n) ≡ stops t e
+        → Ends A P.functions P.main [] (starting P given n) e }
+    ensures plainly { Behaves plainly }
+{}
+
+/// Two ways to act go side by side through the same program: what they give, tell and end with is what the actions gave that
+/// both performed in states that both came to, until an action ends the one alone, or they have parted.
+pub fn runs_go_side_by_side()
+    ensures { (A B : Acting ℕ) (P : Functions) (n f : ℕ) (given : ListOf (Value × Value)) (s s' : State) → s.turns ≡ s'.turns
+        → Related (beside A B given s s') (SaidBeside A B given s s') tt (λ k v v'. ValuesBeside A B given s s' v v')
+        (called A P n f (firsts given) s) (called B P n f (seconds given) s') }
+{}

@@ -1,0 +1,6 @@
+//! What each action keeps, the run keeps; and what each action of two ways to act relates, the runs relate.
+#![tactic(auto)]
+
+mod laws;
+
+pub use laws::{runs_are_traced, runs_go_side_by_side};
