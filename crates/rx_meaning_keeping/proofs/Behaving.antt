@@ -12,7 +12,7 @@ use Rattle.rx_meaning.specs.Acting.{checked, does_plainly, plainly}
 use Rattle.rx_meaning_keeping.specs.Using.{Gives}
 use Rattle.rx_meaning_keeping.specs.Reaching.{Behaves}
 
-abbrev DoneSo : {E : Type 0} → Act → State → Done E → Type 0
+abbrev pub DoneSo : {E : Type 0} → Act → State → Done E → Type 0
 DoneSo a s (gives t v s1) = Gives a s v s1
 DoneSo a s (results.ends t e) = Unit {0}
 

@@ -5,3 +5,13 @@ pub mod Relating
 pub mod Beside
 pub mod Runs
 pub mod Behaving
+pub mod Slots
+pub mod Parts
+pub mod Lost
+pub mod Marks
+pub mod Marking
+pub mod Direct
+pub mod Looking
+pub mod Fewer
+pub mod Blank
+pub mod Alongside

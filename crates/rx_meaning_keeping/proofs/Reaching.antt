@@ -110,3 +110,17 @@ module _ {E : Type 0} (A : Acting E) (Ok : Ending → Type 0) (P : Functions) (C
   reached_is_kept {f = f} {w = w} {K = K} (takes_turn s n e r) k h = let F = function_of r in (laws.steps f F.0 F.1 k).turns w s n K e (reached_is_kept r k h)
   reached_is_kept {f = f} {w = w} {s = s} (gets_unit {K = K} d u r) k h = let F = function_of r in (laws.steps f F.0 F.1 k).units w s d K u (reached_is_kept r k h)
   reached_is_kept {f = f} {w = w} {s = s} (lets_go {K = K} {K' = K'} t r) k h = let F = function_of r in (laws.steps f F.0 F.1 k).drops w s K K' t (reached_is_kept r k h)
+
+  -- each activation of a run has a world, whose invariant holds at its start
+  pub active_has_world : {f0 : ℕ} {vs0 : List Value} {s0 : State} {f : ℕ} {vs : List Value} {s : State} → Active A P f0 vs0 s0 f vs s → (k0 : W) → ((F : Function) → IsFunction P f0 F → J f0 k0 [] s0 (arguments F.params vs0))
+      → (k : W) × ((F : Function) → IsFunction P f F → J f k [] s (arguments F.params vs))
+  active_has_world first k0 h = (k0, h)
+  active_has_world (called f vs s1 w s K F G n g ts d us act q un pr is r e) k0 h = of_call (active_has_world act k0 h)
+    where
+      of_call : ((k : W) × ((H : Function) → IsFunction P f H → J f k [] s1 (arguments H.params vs))) → (k : W) × ((H : Function) → IsFunction P g H → J g k [] (record s { frame = new_frame g }) (arguments H.params us))
+      of_call i = entry (laws.enters f F i.0 w n g ts d us s K (record { caller = q; fills = un; arguments = pr; begins = is; kept = reached_is_kept r i.0 i.1 }) G e)
+        where
+          entry : ((k : W) × J g k [] (record s { frame = new_frame g }) (arguments G.params us)
+              × ((o : List Action) (m : ℕ) (s2 : State) (v : Value) → Walk (order_function G) o (walk.leaves (returns m)) → J g k o s2 ((None, v) ∷ []) → J f i.0 (w ++ does n (Call g ts d) ∷ []) (record s2 { frame = s.frame }) (holds d v K)))
+              → (k : W) × ((H : Function) → IsFunction P g H → J g k [] (record s { frame = new_frame g }) (arguments H.params us))
+          entry c = (c.0, λ H x. subst (λ z. J g c.0 [] (record s { frame = new_frame g }) (arguments z.params us)) (same_function P g G H e x) c.1)

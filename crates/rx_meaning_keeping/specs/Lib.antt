@@ -7,3 +7,7 @@ pub mod Choices
 pub mod Reaching
 pub mod Relating
 pub mod Beside
+pub mod Strict
+pub mod Ready
+pub mod Lacking
+pub mod Behind

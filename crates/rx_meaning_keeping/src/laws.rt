@@ -1,8 +1,9 @@
 //! Laws of runs, by any way to act, each the contract of a function that does nothing.
 
-ghost use Rattle.std.specs.Prelude.{◌≡◌, ℕ, ℤ, suc, List as ListOf, []};
+ghost use Rattle.std.specs.Prelude.{◌≡◌, ℕ, ℤ, suc, Bool, List as ListOf, []};
 ghost use Rattle.rx_typed.specs.Tree.{Function};
-ghost use Rattle.rx_meaning.specs.Endings.{Ending};
+ghost use Rattle.rx_facts_parts.specs.Places.{Frame};
+ghost use Rattle.rx_meaning.specs.Endings.{Ending, wrong, lacks};
 ghost use Rattle.rx_meaning.specs.Values.{Value, State};
 ghost use Rattle.rx_meaning.specs.Results.{stops};
 ghost use Rattle.rx_meaning.specs.Acting.{Acting, plainly};
@@ -14,6 +15,9 @@ ghost use Rattle.rx_meaning_keeping.specs.Keeping.{IsFunction};
 ghost use Rattle.rx_meaning_keeping.specs.Reaching.{Behaves, Traced, Ends, starting};
 ghost use Rattle.rx_meaning_keeping.specs.Relating.{Related};
 ghost use Rattle.rx_meaning_keeping.specs.Beside.{firsts, seconds, SaidBeside, ValuesBeside, beside};
+ghost use Rattle.rx_meaning_keeping.specs.Strict.{strictly};
+ghost use Rattle.rx_meaning_keeping.specs.Ready.{IsInitial};
+ghost use Rattle.rx_meaning_keeping.specs.Behind.{LacksBehind, NeverBehind, SameRun, SameButLacks};
 
 /// Whichever way an activation acts, where the trees are formed, the actions that it tells are a walk of its function, behind
 /// which a state is reached: what the start of each activation has and each action keeps is so there. And a run ends for the
@@ -34,4 +38,21 @@ pub fn runs_go_side_by_side()
     ensures { (A B : Acting ℕ) (P : Functions) (n f : ℕ) (given : ListOf (Value × Value)) (s s' : State) → s.turns ≡ s'.turns
         → Related (beside A B given s s') (SaidBeside A B given s s') tt (λ k v v'. ValuesBeside A B given s s' v v')
         (called A P n f (firsts given) s) (called B P n f (seconds given) s') }
+{}
+
+/// The strict meaning marks what is moved and what has ended, and to look at what lacks a value is Wrong. A strict run of a program
+/// whose functions are initialised ends so behind a reference alone: the action that it ended with goes through a dereference.
+pub fn lacks_are_behind_references()
+    ensures { (P : Program) (Fs : ℕ → Frame) (muts : ℕ → ListOf Bool) → IsInitial P.functions Fs muts → (F : Function) → IsFunction P.functions P.main F
+        → (given : ListOf ℤ) (n : ℕ) (t : ListOf ℕ) → run_by strictly P given (suc n) ≡ stops t (wrong lacks)
+        → LacksBehind strictly P.functions P.main [] (starting P given n) }
+{}
+
+/// A strict run prints what the plain one does, gives the same value and ends as it does, with the same cause where that is Wrong,
+/// unless it ends for a lack; and so it does where no action of an initialised program goes behind a reference.
+pub fn strict_runs_are_plain()
+    ensures each { (P : Program) (given : ListOf ℤ) (n : ℕ) → SameButLacks (run_by strictly P given n) (run_by plainly P given n) }
+    ensures without_references { (P : Program) (Fs : ℕ → Frame) (muts : ℕ → ListOf Bool) → IsInitial P.functions Fs muts → (F : Function)
+        → IsFunction P.functions P.main F → NeverBehind P.functions → (given : ListOf ℤ) (n : ℕ)
+        → SameRun (run_by strictly P given (suc n)) (run_by plainly P given (suc n)) }
 {}
