@@ -3,8 +3,8 @@
 use Rattle.std.proofs.Common.{◌≡◌, ℕ, suc, ℤ, Bool, true, false, List, [], ◌∷◌, ◌++◌, Option, Some, None, ◌⊎◌, inl, inr, refl, sym, ap, subst, ◌∙◌, if◌then◌else◌}
 use Rattle.rx_core.specs.declared.types.Step.{Step}
 use Rattle.rx_typed.specs.Tree.{Place, Root, variable, temporary, Function}
-use Rattle.rx_lower_walks.specs.Actions.{Act, Declare, Dead, Read, Write, Borrow, Test, Call, Build, Input, Print, Give, Action}
-use Rattle.rx_meaning.specs.Endings.{Cause, Ending, wrong, lacks, astray}
+use Rattle.rx_lower_walks.specs.Actions.{Act, Declare, Dead, Read, Write, Borrow, Test, Call, Build, Input, Print, Give}
+use Rattle.rx_meaning.specs.Endings.{Cause, wrong, lacks, astray}
 use Rattle.rx_meaning.specs.Straying.{why_no_part, why_not_found, why_not_written, why_not_checked}
 use Rattle.rx_meaning.specs.Values.{Lack, moved, unset, Value, number, truth, whole, tagged, pointer, lacking, unit_value, and_then, get, put, element, slot_of, State, with_memory, with_turns, new_frame, Frame as MeaningFrame}
 use Rattle.rx_meaning.specs.Values as values

@@ -1,6 +1,6 @@
 -- An action that goes behind no reference does not end a run for a lack, where what it looks at is set on the walk and what it
 -- writes a part of is there as a whole: a lack on the way is lost on the walk, and held values have none.
-use Rattle.std.proofs.Common.{◌≡◌, ℕ, Bool, true, false, not, ◌&&◌, nat_eq, List, [], ◌∷◌, ◌++◌, Option, Some, None, refl, sym, ap, subst, ◌∙◌, if◌then◌else◌, append-nil, append_assoc, true≢false}
+use Rattle.std.proofs.Common.{◌≡◌, ℕ, Bool, true, false, ◌&&◌, nat_eq, List, [], ◌∷◌, ◌++◌, Option, Some, None, refl, sym, ap, subst, ◌∙◌, if◌then◌else◌, append-nil, append_assoc, true≢false}
 use Rattle.std.proofs.lemmas.Bool.Decides.{Decides-eqb}
 use Rattle.rx_core.specs.declared.types.Step.{Step}
 use Rattle.rx_typed.specs.Tree.{Place, Root, Temporary, variable, temporary, own}
@@ -31,7 +31,7 @@ use Rattle.rx_meaning_keeping.specs.Behind.{goes_behind}
 use Rattle.rx_meaning_keeping.proofs.Parts.{Parted}
 use Rattle.rx_meaning_keeping.proofs.Slots as slots
 use Rattle.rx_meaning_keeping.proofs.Slots.{lacks, blocked, front_of, no_front, blocked_where, Near, below, above, lacks_where, set_not_lacking, part_set, way_is_plain, some_is}
-use Rattle.rx_meaning_keeping.proofs.Lost.{follow_plain, spot_plain, none_of}
+use Rattle.rx_meaning_keeping.proofs.Lost.{follow_plain, spot_plain}
 
 -- ---- where a lack is the cause, there is one on the way
 

@@ -15,3 +15,6 @@ pub mod Looking
 pub mod Fewer
 pub mod Blank
 pub mod Alongside
+pub mod Binding
+pub mod Elaborating
+pub mod Example

@@ -1,15 +1,14 @@
 -- A strict run of an initialised program ends for a lack behind a reference alone: of the reasons for which it ends, an action is the
 -- only one with this cause; what is marked holds where it was performed, so it goes behind a reference.
-use Rattle.std.proofs.Common.{◌≡◌, ℕ, suc, ℤ, Bool, true, false, List, [], ◌∷◌, ◌++◌, Some, refl, subst, if◌then◌else◌}
-use Rattle.rx_typed.specs.Tree.{Function, Arms, Parameter}
-use Rattle.rx_lower_walks.specs.Actions.{Act, Declare, Dead, Read, Write, Borrow, Test, Call, Build, Input, Print, Give, Action, Subject}
+use Rattle.std.proofs.Common.{◌≡◌, ℕ, suc, ℤ, Bool, true, false, List, [], ◌∷◌, ◌++◌, refl, subst, if◌then◌else◌}
+use Rattle.rx_typed.specs.Tree.{Function, Parameter}
+use Rattle.rx_lower_walks.specs.Actions.{Act, Declare, Dead, Read, Write, Borrow, Test, Call, Build, Input, Print, Give, Action}
 use Rattle.rx_lower_walks.specs.Walks.{IsWalk}
 use Rattle.rx_meaning.specs.Endings.{Ending, wrong, lacks}
 use Rattle.rx_meaning.specs.Values.{Value, State}
 use Rattle.rx_meaning.specs.Results as results
 use Rattle.rx_meaning.specs.Results.{Done, gives, stops}
 use Rattle.rx_meaning.specs.Acting.{does_plainly}
-use Rattle.rx_meaning.specs.Expressions.{Functions}
 use Rattle.rx_meaning.specs.Programs.{Program, begins, run_by}
 use Rattle.rx_facts_parts.specs.Places.{Frame}
 use Rattle.rx_meaning_keeping.specs.Pending.{Pending, arguments}

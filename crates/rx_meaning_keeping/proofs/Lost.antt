@@ -1,12 +1,12 @@
 -- What is lost on a walk stays so behind an action that does not set it, and is so behind one that moves or ends it.
-use Rattle.std.proofs.Common.{◌≡◌, ℕ, Bool, true, false, not, ◌&&◌, ◌||◌, ◌==◌, nat_eq, List, [], ◌∷◌, ◌++◌, Option, Some, None, refl, sym, ap, subst, ◌∙◌, eqb-true, true≢false, append-nil, append_assoc}
+use Rattle.std.proofs.Common.{◌≡◌, ℕ, Bool, true, false, not, ◌&&◌, ◌||◌, ◌==◌, nat_eq, List, [], ◌∷◌, ◌++◌, Option, Some, None, refl, sym, subst, ◌∙◌, eqb-true, true≢false, append-nil, append_assoc}
 use Rattle.std.proofs.lemmas.Bool.{eqb-false}
 use Rattle.std.proofs.lemmas.Bool.Decides.{Decides-eqb}
 use Rattle.rx_core.specs.declared.types.Step.{Step}
 use Rattle.rx_typed.specs.Tree.{Place, Root, variable, temporary, Temporary}
 use Rattle.rx_typed.specs.Places.{is_front}
 use Rattle.rx_lower_walks.specs.Actions.{Write, Action, does}
-use Rattle.rx_meaning.specs.Values.{Value, is_set, slot_of, and_then, Frame as MeaningFrame}
+use Rattle.rx_meaning.specs.Values.{Value, slot_of, and_then, Frame as MeaningFrame}
 use Rattle.rx_meaning.specs.Places.{Spot, in_slot, follow, start}
 use Rattle.rx_facts_along.specs.Along.{Switch, behind, after}
 use Rattle.rx_facts_parts.specs.Places.{Frame, is_part}

@@ -1,14 +1,14 @@
 -- Each action of the strict way keeps that what lacks a value is lost on the walk, and so do calls: the law, of what is marked.
-use Rattle.std.proofs.Common.{◌≡◌, ℕ, ◌≤◌, ◌<◌, ℤ, Bool, true, false, List, [], ◌∷◌, ◌++◌, length, Option, Some, None, refl, sym, ap, subst, if◌then◌else◌, arith, le_refl}
+use Rattle.std.proofs.Common.{◌≡◌, ℕ, ℤ, Bool, true, false, List, [], ◌∷◌, ◌++◌, Option, Some, None, refl, sym, ap, subst, if◌then◌else◌, arith, le_refl}
 use Rattle.std.proofs.lemmas.Bool.Decides.{Decides-eqb}
 use Rattle.rx_core.specs.declared.types.Step.{Step}
 use Rattle.rx_typed.specs.Tree as tree
 use Rattle.rx_typed.specs.Tree.{Place, Root, variable, temporary, Temporary, Parameter, Function, Arms, own, held, under}
-use Rattle.rx_lower_walks.specs.Actions.{Act, Declare, Dead, Read, Write, Borrow, Test, Call, Build, Input, Print, Give, Action, does, Subject}
+use Rattle.rx_lower_walks.specs.Actions.{Act, Dead, Read, Write, Borrow, Test, Call, Build, Input, Print, Give, Action, does}
 use Rattle.rx_lower_walks.specs.Walks.{IsWalk}
 use Rattle.rx_meaning.specs.Endings.{Cause, Ending, wrong, lacks, astray}
 use Rattle.rx_meaning.specs.Straying.{why_no_part, why_not_found, why_not_written, why_not_checked}
-use Rattle.rx_meaning.specs.Values.{Lack, moved, ended, Value, truth, unit_value, is_set, get, put, element, with_element, slot_of, and_then, new_frame, State, with_memory}
+use Rattle.rx_meaning.specs.Values.{moved, ended, Value, truth, unit_value, is_set, get, put, element, with_element, slot_of, and_then, new_frame, State, with_memory}
 use Rattle.rx_meaning.specs.Results as results
 use Rattle.rx_meaning.specs.Results.{Done, gives, or_ends}
 use Rattle.rx_meaning.specs.Places.{Spot, in_slot, in_value, spot, found, whole_value, reference_to, after_write}
@@ -19,14 +19,14 @@ use Rattle.rx_meaning.specs.Expressions.{Functions}
 use Rattle.rx_facts_parts.specs.Places.{Frame}
 use Rattle.rx_facts_init.specs.Setting.{is_behind, sets}
 use Rattle.rx_facts_init.specs.Wholes.{placed, regains}
-use Rattle.rx_meaning_keeping.specs.Pending.{Pending, Thin, holds, pushes, Paired, arguments}
+use Rattle.rx_meaning_keeping.specs.Pending.{Pending, holds, pushes, arguments}
 use Rattle.rx_meaning_keeping.specs.Using.{Does, Gives}
 use Rattle.rx_meaning_keeping.specs.Using as using
 use Rattle.rx_meaning_keeping.specs.Formed.{Any}
-use Rattle.rx_meaning_keeping.specs.Keeping.{IsFunction, Kept, Law, Laws}
-use Rattle.rx_meaning_keeping.specs.Strict.{looks_at_lack, marked_slot, marked_at, marked, then_marks, does_strictly, strictly}
+use Rattle.rx_meaning_keeping.specs.Keeping.{Kept, Law, Laws}
+use Rattle.rx_meaning_keeping.specs.Strict.{looks_at_lack, marked_slot, marked_at, marked, then_marks, strictly}
 use Rattle.rx_meaning_keeping.specs.Ready.{HasPart, AllHere, Ready, IsInitial}
-use Rattle.rx_meaning_keeping.specs.Lacking.{World, Here, Marks, Marked}
+use Rattle.rx_meaning_keeping.specs.Lacking.{World, Here, Marked}
 use Rattle.rx_meaning_keeping.proofs.Parts.{Parted, parted}
 use Rattle.rx_meaning_keeping.proofs.Slots.{front_self, get_set, some_is}
 use Rattle.rx_meaning_keeping.proofs.Lost.{here_thin, here_split}

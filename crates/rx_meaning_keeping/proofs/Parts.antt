@@ -1,16 +1,15 @@
 -- The laws of the parts of places.
-use Rattle.std.proofs.Common.{◌≡◌, ℕ, zero, suc, ◌+◌, ◌≤◌, ◌<◌, Bool, true, false, ◌&&◌, nat_le, nat_lt, nat_eq, List, [], ◌∷◌, ◌++◌, Option, Some, None, slice_get, refl, sym, ap, subst, ◌∙◌, arith, ◌⊎◌, inl, inr, true≢false}
-use Rattle.std.proofs.lemmas.Bool.{leb-true, le-leb, eqb-true, eqb-false}
+use Rattle.std.proofs.Common.{◌≡◌, ℕ, zero, suc, ◌+◌, ◌≤◌, ◌<◌, Bool, true, false, ◌&&◌, nat_le, nat_lt, List, [], ◌∷◌, ◌++◌, Option, slice_get, refl, sym, ap, ◌∙◌, arith, true≢false}
+use Rattle.std.proofs.lemmas.Bool.{leb-true, le-leb}
 use Rattle.std.proofs.lemmas.Bool.Decides.{Decides-ltb}
 use Rattle.rx_core.specs.declared.types.Step.{Step}
 use Rattle.rx_core.specs.declared.types.Step.TheVariants as step
-use Rattle.rx_core.specs.declared.types.Kind.{Kind}
 use Rattle.rx_typed.specs.Types.{Typ, integer, boolean, tuple_of, reference, named, shapes_of, shapes_listed, parts, sum_of_parts, Declarations, VariantDeclared, variants_declared}
 use Rattle.rx_typed_declarations.specs.Sizes.{Sized}
 use Rattle.rx_facts_parts.specs.Places.{Spot, whole, fields, nowhere, Located, at, spot_parts, nth_field, nth_variant, struct_fields, field_of, variant_of, located, typed_spot, nth_variable, Frame, is_part, spans}
 use Rattle.rx_facts_init.specs.Wholes.{placed}
-use Rattle.rx_meaning_keeping.specs.Lacking.{Plain, Off, off_field, off_under}
-use Rattle.rx_facts_parts.proofs.Within.{Ends, step_field, step_variant, steps_within}
+use Rattle.rx_meaning_keeping.specs.Lacking.{Off, off_field, off_under}
+use Rattle.rx_facts_parts.proofs.Within.{steps_within}
 
 -- a part is of what is there
 abbrev In : (ℕ → ℕ) → Located → ℕ → Type 0

@@ -2,7 +2,7 @@
 use Rattle.std.specs.Prelude.{◌≡◌, ℕ, Bool, true, false, List, [], ◌∷◌, ◌++◌, Some}
 use Rattle.rx_core.specs.declared.types.Step.{Step}
 use Rattle.rx_typed.specs.Tree.{Temporary, Making, Function}
-use Rattle.rx_lower_walks.specs.Actions.{Act, Declare, Dead, Build, Action, does}
+use Rattle.rx_lower_walks.specs.Actions.{Declare, Dead, Build, Action, does}
 use Rattle.rx_lower_walks.specs.Walks.{IsWalk}
 use Rattle.rx_meaning.specs.Values.{Value, is_set}
 use Rattle.rx_meaning.specs.Operators as operators

@@ -1,9 +1,9 @@
 -- The strict way to act: what was moved and what has ended is marked in memory, and to look at what lacks a value is Wrong.
 -- (Rust Reference, "Expressions", "Moved and copied types"; "Variables"; "Destructors"; "Behavior considered undefined".)
-use Rattle.std.specs.Prelude.{ℕ, Bool, true, false, not, ◌&&◌, List, [], ◌∷◌, Option, Some, None, if◌then◌else◌}
+use Rattle.std.specs.Prelude.{ℕ, Bool, true, false, not, ◌&&◌, List, [], Option, Some, None, if◌then◌else◌}
 use Rattle.rx_core.specs.declared.types.Step.{Step}
-use Rattle.rx_typed.specs.Tree.{Root, variable, temporary, Place}
-use Rattle.rx_lower_walks.specs.Actions.{Act, Declare, Dead, Read, Write, Borrow, Test, Call, Build, Input, Print, Give}
+use Rattle.rx_typed.specs.Tree.{Root, variable, temporary}
+use Rattle.rx_lower_walks.specs.Actions.{Act, Dead, Read, Write, Borrow, Test}
 use Rattle.rx_meaning.specs.Endings.{wrong, lacks}
 use Rattle.rx_meaning.specs.Values.{Lack, moved, ended, Value, lacking, is_set, and_then, put, element, with_element, slot_of, State, with_memory}
 use Rattle.rx_meaning.specs.Results as results

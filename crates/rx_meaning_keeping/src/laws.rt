@@ -1,7 +1,12 @@
 //! Laws of runs, by any way to act, each the contract of a function that does nothing.
 
 ghost use Rattle.std.specs.Prelude.{◌≡◌, ℕ, ℤ, suc, Bool, List as ListOf, []};
-ghost use Rattle.rx_typed.specs.Tree.{Function};
+ghost use Rattle.rx_core.specs.declared.types.Span.{Span};
+ghost use Rattle.rx_tree.specs.Plain.{Function as FunctionTree};
+ghost use Rattle.rx_resolve_names.specs.declared.resolved.NodeNames.{NodeNames};
+ghost use Rattle.rx_typed.specs.Naming.{function_named};
+ghost use Rattle.rx_typed.specs.Tree.{Function, temporary_of};
+ghost use Rattle.rx_typed.specs.Elaborated.{Assigned, elaborated};
 ghost use Rattle.rx_facts_parts.specs.Places.{Frame};
 ghost use Rattle.rx_meaning.specs.Endings.{Ending, wrong, lacks};
 ghost use Rattle.rx_meaning.specs.Values.{Value, State};
@@ -10,7 +15,7 @@ ghost use Rattle.rx_meaning.specs.Acting.{Acting, plainly};
 ghost use Rattle.rx_meaning.specs.Telling.{fully};
 ghost use Rattle.rx_meaning.specs.Expressions.{Functions, activation, below_level, called};
 ghost use Rattle.rx_meaning.specs.Programs.{Program, run_by};
-ghost use Rattle.rx_meaning_keeping.specs.Formed.{Any, AllFormed};
+ghost use Rattle.rx_meaning_keeping.specs.Formed.{Any, Formed, AllFormed};
 ghost use Rattle.rx_meaning_keeping.specs.Keeping.{IsFunction};
 ghost use Rattle.rx_meaning_keeping.specs.Reaching.{Behaves, Traced, Ends, starting};
 ghost use Rattle.rx_meaning_keeping.specs.Relating.{Related};
@@ -18,6 +23,8 @@ ghost use Rattle.rx_meaning_keeping.specs.Beside.{firsts, seconds, SaidBeside, V
 ghost use Rattle.rx_meaning_keeping.specs.Strict.{strictly};
 ghost use Rattle.rx_meaning_keeping.specs.Ready.{IsInitial};
 ghost use Rattle.rx_meaning_keeping.specs.Behind.{LacksBehind, NeverBehind, SameRun, SameButLacks};
+
+use rx_typed::numbers_stand_in_order;
 
 /// Whichever way an activation acts, where the trees are formed, the actions that it tells are a walk of its function, behind
 /// which a state is reached: what the start of each activation has and each action keeps is so there. And a run ends for the
@@ -39,6 +46,14 @@ pub fn runs_go_side_by_side()
         → Related (beside A B given s s') (SaidBeside A B given s s') tt (λ k v v'. ValuesBeside A B given s s' v v')
         (called A P n f (firsts given) s) (called B P n f (seconds given) s') }
 {}
+
+/// No temporary of a tree that is elaborated is filled while its value is pending.
+pub fn elaborated_trees_are_formed()
+    ensures { (A : Assigned) (i : ℕ) (s : Span) (f : FunctionTree) (ns : ListOf NodeNames)
+        → Formed Any [] (elaborated A (function_named i s f ns)).body (temporary_of (elaborated A (function_named i s f ns)).body) }
+{
+    numbers_stand_in_order();
+}
 
 /// The strict meaning marks what is moved and what has ended, and to look at what lacks a value is Wrong. A strict run of a program
 /// whose functions are initialised ends so behind a reference alone: the action that it ended with goes through a dereference.

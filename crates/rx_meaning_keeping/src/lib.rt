@@ -4,5 +4,6 @@
 mod laws;
 
 pub use laws::{
-    lacks_are_behind_references, runs_are_traced, runs_go_side_by_side, strict_runs_are_plain,
+    elaborated_trees_are_formed, lacks_are_behind_references, runs_are_traced,
+    runs_go_side_by_side, strict_runs_are_plain,
 };
