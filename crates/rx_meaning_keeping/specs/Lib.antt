@@ -1,0 +1,13 @@
+pub mod Pending
+pub mod Using
+pub mod Formed
+pub mod Keeping
+pub mod Following
+pub mod Choices
+pub mod Reaching
+pub mod Relating
+pub mod Beside
+pub mod Strict
+pub mod Ready
+pub mod Lacking
+pub mod Behind
