@@ -1,0 +1,9 @@
+pub mod Asked
+pub mod Observed
+pub mod Imposed
+pub mod OtherBounds
+pub mod Deciding
+pub mod Living
+pub mod Existing
+pub mod Accepting
+pub mod Lists

@@ -1,0 +1,4 @@
+pub mod Bounded
+pub mod Calls
+pub mod LeastBounds
+pub mod Asking
