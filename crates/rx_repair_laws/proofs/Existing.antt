@@ -20,21 +20,21 @@ use Rattle.rx_repair_laws.proofs.Living.{lies_ahead_or}
 
 -- ---- what is decided
 
-both_or : {A B : Type 0} → Decided A → Decided B → Decided (A × B)
+pub both_or : {A B : Type 0} → Decided A → Decided B → Decided (A × B)
 both_or (inl a) (inl b) = inl (a, b)
 both_or (inl a) (inr n) = inr (λ c. n c.1)
 both_or (inr n) b = inr (λ c. n c.0)
 
-less_or : (a b : ℕ) → Decided (a < b)
+pub less_or : (a b : ℕ) → Decided (a < b)
 less_or a zero = inr (λ w. omega (arith, w))
 less_or zero (suc b) = inl (omega arith)
 less_or (suc a) (suc b) = elim (less_or a b) [ inl w ↦ inl (omega (arith, w)) | inr n ↦ inr (λ w. n (omega (arith, w))) ]
 
-abbrev says : {A : Type 0} → Decided A → Bool
+abbrev pub says : {A : Type 0} → Decided A → Bool
 says (inl a) = true
 says (inr n) = false
 
-said : {A : Type 0} (d : Decided A) → (says d ≡ true) ↔ A
+pub said : {A : Type 0} (d : Decided A) → (says d ≡ true) ↔ A
 said (inl a) = (λ e. a, λ b. refl)
 said (inr n) = (λ e. absurd (true≢false (sym e)), λ a. absurd (n a))
 
@@ -164,6 +164,9 @@ module _ (C : Context) (g : List Site) where
   point_least : (l : ℕ) (x : Point) → HoldsPoint l x → Least C g l x
   point_least l (site p) h = holds_least l p h
   point_least l (end k) h = least_along C g l k h.1 (end k) (ends h.0)
+
+  pub least_or : (l : ℕ) (x : Point) → Decided (Least C g l x)
+  least_or l x = elim (point_or l x) [ inl h ↦ inl (point_least l x h) | inr n ↦ inr (λ h. n (least_holds l x h l itself)) ]
 
   pub least_sets : Sets
   least_sets l x = says (point_or l x)

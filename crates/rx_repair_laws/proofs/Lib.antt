@@ -7,3 +7,6 @@ pub mod Living
 pub mod Existing
 pub mod Accepting
 pub mod Lists
+pub mod Listing
+pub mod Renamed
+pub mod Callers

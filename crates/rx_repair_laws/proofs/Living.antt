@@ -66,7 +66,7 @@ module _ (g : List Site) (s : Switch) where
   ways_back : (n m q : ℕ) → HasPair (passing n) m q → Leads m q
   ways_back zero m q h = absurd h
   ways_back (suc n) m q h = elim (has_either (leaving n (site_at g n)) (passing n) m q h) [
-    inl a ↦ (let r = leaving_back n (site_at g n) refl m q a in subst (λ k. Leads k q) r.0 r.1)
+    | inl a ↦ (let r = leaving_back n (site_at g n) refl m q a in subst (λ k. Leads k q) r.0 r.1)
     | inr b ↦ ways_back n m q b
   ]
 
@@ -75,14 +75,14 @@ module _ (g : List Site) (s : Switch) where
   here_there p q (Some x) e l =
       let is : l.site ≡ x = some_same l.site x (sym l.stands ∙ e) in
       opens (s.kills x.action) (sym (ap (λ (y : Site). s.kills y.action) is) ∙ l.stays) (subst (λ (y : Site). Among q y.next) is l.next) where
-    opens : (b : Bool) → b ≡ false → Among q x.next → HasPair (if b then [] else pairs_from p x.next) p q
-    opens true e m = absurd (true≢false e)
-    opens false e m = pairs_there p q x.next m
+        opens : (b : Bool) → b ≡ false → Among q x.next → HasPair (if b then [] else pairs_from p x.next) p q
+        opens true e m = absurd (true≢false e)
+        opens false e m = pairs_there p q x.next m
 
   ways_below : (n p q : ℕ) → p < n → Leads p q → HasPair (passing n) p q
   ways_below zero p q w l = absurd (omega (arith, w))
   ways_below (suc n) p q w l = elim (same_or p n) [
-    inl e ↦ has_front (leaving n (site_at g n)) (passing n) p q (subst (λ k. HasPair (leaving k (site_at g k)) p q) e (here_there p q (site_at g p) refl l))
+    | inl e ↦ has_front (leaving n (site_at g n)) (passing n) p q (subst (λ k. HasPair (leaving k (site_at g k)) p q) e (here_there p q (site_at g p) refl l))
     | inr ne ↦ has_behind (leaving n (site_at g n)) (passing n) p q (ways_below n p q (omega (arith, w, ne)) l)
   ]
 
@@ -141,7 +141,7 @@ module _ (g : List Site) (s : Switch) where
 
   pub lies_ahead_or : (p : ℕ) → Decided (LiesAhead g s (p ∷ []))
   lies_ahead_or p = elim (any_below (Makes p) (λ q. makes_or p q (site_at g q) refl) (length g)) [
-    inl b ↦ inl (ahead_made p b.number b.holds.way b.holds.site b.holds.stands b.holds.gives (p ∷ []) walks.here)
+    | inl b ↦ inl (ahead_made p b.number b.holds.way b.holds.site b.holds.stands b.holds.gives (p ∷ []) walks.here)
     | inr never ↦ inr (λ l. let r = makes_ahead (p ∷ []) l.0 l.1 l.2 in let t = r.2 in
         never (record { number = t.0; below = site_within g t.0 t.1.site t.1.stands; holds = subst (λ k. Makes k t.0) (only p r.0 r.1) t.1 }))
   ]

@@ -1,11 +1,13 @@
 //! Laws of bounds, each the contract of a function that does nothing.
 
-ghost use Rattle.std.specs.Prelude.{◌≡◌, ◌↔◌, ◌<◌, ◌++◌, ℕ, List, [], length, slice_get};
+ghost use Rattle.std.specs.Prelude.{◌≡◌, ◌≢◌, ◌↔◌, ◌<◌, ◌++◌, ℕ, Bool, List, [], length, slice_get};
 ghost use Rattle.rx_core.specs.declared.types.Bound.{Bound};
 ghost use Rattle.rx_typed.specs.declared.declarations.Decl.{Decl};
 ghost use Rattle.rx_typeck_typed.specs.declared.typed.TypedFn.{TypedFn};
 ghost use Rattle.rx_lower_graph.specs.Graph.{Site};
 ghost use Rattle.rx_lower_graph.specs.Text.{actions_of};
+ghost use Rattle.rx_graph_closure.specs.Listing.{pairs_below};
+ghost use Rattle.rx_region_outlives.specs.Implied.{HasPair};
 ghost use Rattle.rx_region_solutions.specs.Constraints.{Context};
 ghost use Rattle.rx_region_solutions.specs.Solutions.{Point, Sets, Solution, Least, AreLeast};
 ghost use Rattle.rx_region_solutions.specs.Known.{Missing};
@@ -19,7 +21,8 @@ ghost use Rattle.rx_check_loans.specs.Functions.{Borrows};
 ghost use Rattle.rx_repair_laws.specs.Asking.{AsksNoMore};
 ghost use Rattle.rx_repair_laws.specs.Bounded.{with_bounds, IsFunction};
 ghost use Rattle.rx_repair_laws.specs.Calls.{CallsNotItself};
-ghost use Rattle.rx_repair_laws.specs.LeastBounds.{by_types, IsLeastBound, AreLeastBounds};
+ghost use Rattle.rx_repair_laws.specs.Signatures.{signature_says};
+ghost use Rattle.rx_repair_laws.specs.LeastBounds.{by_types, IsLeastBound, InOrder, AreLeastBounds};
 
 /// There are least sets.
 pub fn least_sets_exist()
@@ -47,10 +50,13 @@ pub fn own_bounds_ask_nothing()
         → IsLeastBound (context_of D P f) (sites_of f) l k ↔ IsLeastBound (context_of (with_bounds D f.item bs) P f) (sites_of f) l k }
 {}
 
-/// A function has one list of least bounds. Where it declares no bounds, they are the pairs that are missing.
+/// A function has one list of least bounds. Where it declares no bounds, they are the pairs that are missing. Pairs below a number are
+/// listed in the order of least bounds.
 pub fn least_bounds_are_missing()
+    ensures exist { (C : Context) (g : List Site) → (bs : List Bound) × AreLeastBounds C g bs }
     ensures one { (C : Context) (g : List Site) (bs cs : List Bound) → AreLeastBounds C g bs → AreLeastBounds C g cs → bs ≡ cs }
-    ensures missing { (C : Context) (g : List Site) (R : Sets) → C.lifetimes.bounds ≡ [] → AreLeast C g R → (l k : ℕ) → IsLeastBound C g l k ↔ Missing C g l k }
+    ensures missing { (C : Context) (g : List Site) → C.lifetimes.bounds ≡ [] → (l k : ℕ) → IsLeastBound C g l k ↔ Missing C g l k }
+    ensures in_order { (f : ℕ → ℕ → Bool) (n : ℕ) → InOrder (pairs_below f n) }
 {}
 
 /// A function that isn't called in its own body, and in which no access meets a conflicting loan in scope under the least sets, is
@@ -66,4 +72,11 @@ pub fn accepted_where_least_bounds_follow()
     ensures fewest { (D : List Decl) (P : ℕ → List Bound) (f : TypedFn) (bs least : List Bound) (R : Sets) → CallsNotItself f → IsFunction (slice_get D f.item)
         → AreLeast (context_of D P f) (sites_of f) R → AreLeastBounds (context_of D P f) (sites_of f) least
         → Borrows (with_bounds D f.item bs) P f → Borrows (with_bounds D f.item least) P f }
+{}
+
+/// Where the new bounds of a function follow from what its signature says, each other function that is accepted is so still: a call asks
+/// no more than it did.
+pub fn callers_are_accepted()
+    ensures { (D : List Decl) (P : ℕ → List Bound) (i : ℕ) (bs : List Bound) → ((l k : ℕ) → HasPair bs l k → Follows (signature_says P (slice_get D i)) l k)
+        → (f : TypedFn) → f.item ≢ i → Borrows D P f → Borrows (with_bounds D i bs) P f }
 {}

@@ -4,6 +4,6 @@
 mod laws;
 
 pub use laws::{
-    accepted_where_least_bounds_follow, fewer_pairs_ask_less, least_bounds_are_missing,
-    least_sets_exist, own_bounds_ask_nothing,
+    accepted_where_least_bounds_follow, callers_are_accepted, fewer_pairs_ask_less,
+    least_bounds_are_missing, least_sets_exist, own_bounds_ask_nothing,
 };
