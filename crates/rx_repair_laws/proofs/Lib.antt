@@ -10,3 +10,7 @@ pub mod Lists
 pub mod Listing
 pub mod Renamed
 pub mod Callers
+pub mod Parameters
+pub mod Saying
+pub mod Typings
+pub mod Programs

@@ -5,5 +5,5 @@ mod laws;
 
 pub use laws::{
     accepted_where_least_bounds_follow, callers_are_accepted, fewer_pairs_ask_less,
-    least_bounds_are_missing, least_sets_exist, own_bounds_ask_nothing,
+    least_bounds_are_missing, least_bounds_serve, least_sets_exist, own_bounds_ask_nothing,
 };
