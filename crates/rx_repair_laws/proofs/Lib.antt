@@ -1,0 +1,16 @@
+pub mod Asked
+pub mod Observed
+pub mod Imposed
+pub mod OtherBounds
+pub mod Deciding
+pub mod Living
+pub mod Existing
+pub mod Accepting
+pub mod Lists
+pub mod Listing
+pub mod Renamed
+pub mod Callers
+pub mod Parameters
+pub mod Saying
+pub mod Typings
+pub mod Programs

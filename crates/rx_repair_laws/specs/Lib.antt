@@ -1,0 +1,5 @@
+pub mod Bounded
+pub mod Calls
+pub mod Signatures
+pub mod LeastBounds
+pub mod Asking
