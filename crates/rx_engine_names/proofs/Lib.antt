@@ -1,0 +1,4 @@
+pub mod SideBySide
+pub mod Scoped
+pub mod Fitting
+pub mod CopiedPatterns

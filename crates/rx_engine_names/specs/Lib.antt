@@ -1,0 +1,3 @@
+pub mod Renaming
+pub mod LikeNamed
+pub mod Within

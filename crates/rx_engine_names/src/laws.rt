@@ -1,0 +1,10 @@
+//! Laws of names, each as the contract of a function that does nothing.
+
+ghost use Rattle.std.specs.Prelude.{⊤};
+ghost use Rattle.rx_engine_names.specs.LikeNamed.{LikeFunction};
+
+/// Trial.
+#[tactic(auto, using(crate::proofs::CopiedPatterns::pattern_binds))]
+pub fn trial()
+    ensures { ⊤ }
+{}
