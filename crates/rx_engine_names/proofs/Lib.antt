@@ -2,3 +2,4 @@ pub mod SideBySide
 pub mod Scoped
 pub mod Fitting
 pub mod CopiedPatterns
+pub mod Standing

@@ -4,7 +4,7 @@ ghost use Rattle.std.specs.Prelude.{⊤};
 ghost use Rattle.rx_engine_names.specs.LikeNamed.{LikeFunction};
 
 /// Trial.
-#[tactic(auto, using(crate::proofs::CopiedPatterns::pattern_binds))]
+#[tactic(auto, using(crate::proofs::Standing::led_test))]
 pub fn trial()
     ensures { ⊤ }
 {}
