@@ -3,3 +3,4 @@ pub mod Scoped
 pub mod Fitting
 pub mod CopiedPatterns
 pub mod Standing
+pub mod CopiedExpressions
