@@ -4,3 +4,4 @@ pub mod Fitting
 pub mod CopiedPatterns
 pub mod Standing
 pub mod CopiedExpressions
+pub mod KeptItems

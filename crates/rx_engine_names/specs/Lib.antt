@@ -1,3 +1,4 @@
 pub mod Renaming
 pub mod LikeNamed
 pub mod Within
+pub mod Insertion
