@@ -5,3 +5,5 @@ pub mod CopiedPatterns
 pub mod Standing
 pub mod CopiedExpressions
 pub mod KeptItems
+pub mod NoClaims
+pub mod WholeFunctions
