@@ -6,4 +6,6 @@ pub mod Standing
 pub mod CopiedExpressions
 pub mod KeptItems
 pub mod NoClaims
-pub mod WholeFunctions
+pub mod PlainPlaces
+pub mod Parameters
+pub mod ChangedFunctions

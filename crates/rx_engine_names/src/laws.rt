@@ -4,7 +4,7 @@ ghost use Rattle.std.specs.Prelude.{⊤};
 ghost use Rattle.rx_engine_names.specs.LikeNamed.{LikeFunction};
 
 /// Trial.
-#[tactic(auto, using(crate::proofs::WholeFunctions::parameter_names))]
+#[tactic(auto, using(crate::proofs::ChangedFunctions::function_item_alike))]
 pub fn trial()
     ensures { ⊤ }
 {}

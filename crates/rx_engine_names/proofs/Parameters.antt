@@ -1,5 +1,4 @@
--- A function of which only the body is changed, where variables, jumps and returns stay what they are, has like trees in both
--- programs: by the walk along its body. Literals, types of `let`s and blocks may change.
+-- The entry of a function and its parameters, in both: by induction on the parameters. A parameter has the number of its place.
 use Rattle.std.proofs.Common.{◌≡◌, ℕ, zero, suc, Bool, true, false, not, ◌&&◌, ◌||◌, List, [], ◌∷◌, ◌++◌, length, map, Option, Some, None, Ok, Err, refl, sym, ap, ◌∙◌, subst, append_assoc, append-nil}
 use Rattle.rx_core.specs.declared.types.Span.{Span}
 use Rattle.rx_tree.specs.declared.tree.Ident.{Ident}
@@ -37,93 +36,6 @@ use Rattle.rx_engine_names.proofs.Standing.{AnnotationNumbers, later, ExpNumbers
 use Rattle.rx_engine_names.proofs.CopiedExpressions.{body_alike}
 use Rattle.rx_engine_names.proofs.NoClaims.{no_claims, body_within}
 
--- ---- what is kept
-
--- literals, types of `let`s and blocks become something else
-abbrev pub keeping : (Span → Option kinds.Kind → Option kinds.Kind) → (PatternTree → Option TypeTree → Option TypeTree) → (Body → Body → Body) → Changes
-keeping i l b = record kept { at_int = i; at_let = l; at_block = b }
-
-abbrev pub whole : (L : Frame) (H : Holes) (I I' : Inside) → Fits L.items I I' → Changes → Names → Setting
-whole L H I I' F C known = record { L = L; H = H; I = I; I' = I'; fits = F; N = no_claims; C = C; behind = []; stars = []; left = λ n k. ⊥; known = known }
-
--- ---- the special places
-
-pub known_ok : (o o' : Option ℕ) (s : Span) (V : ℕ → ℕ → Bool → Type 0) (b f : Bool) → AtName V b f o o' → (n : ℕ) → known o s ≡ Ok n → (m : ℕ) × (known o' s ≡ Ok m) × V n m b
-known_ok None None s V b f h n e = absurd (cc)
-known_ok (Some k) (Some l) s V b f h n e = (l, refl, subst (λ (z : ℕ). V z l b) (the_same k n e) h)
-known_ok None (Some l) s V b f h n e = absurd h
-known_ok (Some k) None s V b f h n e = absurd h
-
--- a variable that stays one
-pub plain_variable : (K : Setting) (M : Made) (at at' : List ℕ) (s : Span) (x : List ℕ) (f : Bool) (o o' : Option ℕ) (t t' u : ItemNames) → AtName (Corresponds K.behind M) false f o o' → names K.I at (one (known o s)) t ≡ Ok t' → Reached K.L M t u
-    → Part K.L M t t' u (λ G v. names K.I' at' (one (known o' s)) u ≡ Ok v) (ExpNumbers K.H t u (plain.var s x) (plain.var s x) t')
-plain_variable K M at at' s x f o o' t t' u h e q =
-    let A = names_one K.L M K.I K.I' at at' t t' u (known o s) (known o' s) (λ n m. Has M.variables n m) (known_ok o o' s (Corresponds K.behind M) false f h) e q in
-    restated A.part (λ z. z) (λ R sv k m m' i i'. numbers_node s i i' (λ n n' g. numbers_last k (λ a a' r. var_numbers n n' g a a'
-    (at_entries (λ y z. R.variable (first y.0) (first z.0) ≡ true) (A.first ∷ []) (A.second ∷ []) false false a a' r (sv.variables A.first A.second (A.part.grows.variables A.first A.second A.fits))))))
-  where
-    var_numbers : {H : Holes} {R : Renaming} {t u : ItemNames} (n n' : Node) → SameSpan n n' → (a a' : List ℕ × Bool) → R.variable (first a.0) (first a'.0) ≡ true
-        → Numbers (LikeExp H R) t u t u [] [] (λ c. (named.var n (use_of (first a.0) (declaration c (first a.0))), c)) (λ c. (named.var n' (use_of (first a'.0) (declaration c (first a'.0))), c))
-    var_numbers n n' g a a' v = record { holds = λ c c' rest rest' q e e'. record { like = like_var g v; cursors = q; left = e; left' = e' } }
-
-pub led_ok : (s : Span) (l : Option Ident) (a : Target) (n : ℕ) → led s l a ≡ Ok n → a ≡ to_loop n
-led_ok s l (to_loop m) n e = ap to_loop (the_same m n e)
-led_ok s l out_of_test n e = absurd (cc)
-led_ok s None nowhere n e = absurd (cc)
-led_ok s (Some x) nowhere n e = absurd (cc)
-
-abbrev LedTo : Made → Span → Option Ident → Target → ℕ → Type 0
-LedTo M s l a n = (m : ℕ) × (led s l a ≡ Ok m) × Has M.loops n m
-
-goes_stays : (M : Made) (s : Span) (l : Option Ident) (o : Option ℕ) (n : ℕ) (a : Target) → Goes (λ n k. ⊥) M o n a → LedTo M s l a n
-goes_stays M s l None n a g = (g.0, ap (led s l) g.1, g.2)
-goes_stays M s l (Some k) n a g = absurd g
-
-jump_fits : (M : Made) (s : Span) (l : Option Ident) (ls m ls' : List Around) → Led (λ n k. ⊥) M ls m ls' → (n : ℕ) → led s l (target l ls) ≡ Ok n → LedTo M s l (target l ls') n
-jump_fits M s l ls m ls' h n e = goes_stays M s l (leaves l m) n (target l ls') (h l n (led_ok s l (target l ls) n e))
-
--- a `break` and a `continue` that stay what they are
-pub plain_break : (K : Setting) (M : Made) (own : Names) (m : List Around) (w : Stand K M own m) (at at' : List ℕ) (s : Span) (l : Option Ident) (t t' u : ItemNames)
-    → ((n : ℕ) → led s l (target l w.ls) ≡ Ok n → LedTo M s l (target l w.ls') n) → names K.I at (one (led s l (target l w.ls))) t ≡ Ok t' → Reached K.L M t u
-    → ExpPart K M own m w at' (plain.break s l) (plain.break s l) t t' u
-plain_break K M own m w at at' s l t t' u f e q =
-    let A = names_one K.L M K.I K.I' at at' t t' u (led s l (target l w.ls)) (led s l (target l w.ls')) (λ n m. Has M.loops n m) f e q in
-    restated A.part (λ z. z) (λ R sv k m m' i i'. numbers_node s i i' (λ n n' g. numbers_last k (λ x y r. numbers_both (keeps_leads (first x.0)) (keeps_leads (first y.0)) (λ _ _. numbers_give (named.break n (first x.0)) (named.break n' (first y.0))
-    (at_entries (λ x y. LikeExp K.H R (named.break n (first x.0)) (named.break n' (first y.0))) (A.first ∷ []) (A.second ∷ []) false false x y r (like_break g (sv.loops A.first A.second (A.part.grows.loops A.first A.second A.fits))))))))
-
-pub plain_continue : (K : Setting) (M : Made) (own : Names) (m : List Around) (w : Stand K M own m) (at at' : List ℕ) (s : Span) (l : Option Ident) (t t' u : ItemNames)
-    → ((n : ℕ) → led s l (target l w.ls) ≡ Ok n → LedTo M s l (target l w.ls') n) → names K.I at (one (led s l (target l w.ls))) t ≡ Ok t' → Reached K.L M t u
-    → ExpPart K M own m w at' (plain.continue s l) (plain.continue s l) t t' u
-plain_continue K M own m w at at' s l t t' u f e q =
-    let A = names_one K.L M K.I K.I' at at' t t' u (led s l (target l w.ls)) (led s l (target l w.ls')) (λ n m. Has M.loops n m) f e q in
-    restated A.part (λ z. z) (λ R sv k m m' i i'. numbers_node s i i' (λ n n' g. numbers_map (λ x. named.continue n (first x.0)) (λ y. named.continue n' (first y.0)) k (λ x y r.
-    at_entries (λ x y. LikeExp K.H R (named.continue n (first x.0)) (named.continue n' (first y.0))) (A.first ∷ []) (A.second ∷ []) false false x y r (like_continue g (sv.loops A.first A.second (A.part.grows.loops A.first A.second A.fits))))))
-
-none_starred : (b : Bool) → (b && false) ≡ false
-none_starred true = refl
-none_starred false = refl
-
--- what is asked of literals, of types of `let`s and of blocks
-pub record Becomes (L : Frame) (H : Holes) (I I' : Inside) (F : Fits L.items I I') (C : Changes) (known : Names) : Type 0 where
-  pub suffix : (R : Renaming) (s : Span) (n n' : Node) (b b' : Bool) (v : ℕ) (k : Option kinds.Kind) → SameSpan n n' → LikeExp H R (named.int n b v k) (named.int n' b' v (C.at_int s k))
-  pub annotated : (M : Made) (at at' : List ℕ) (p : PatternTree) (y : Option TypeTree) (t t' u : ItemNames) → in_optional_type I at y t ≡ Ok t' → Reached L M t u
-      → Part L M t t' u (λ G v. in_optional_type I' at' (C.at_let p y) u ≡ Ok v) (AnnotationNumbers H t u y (C.at_let p y) t')
-  pub blocks : (M : Made) (own : Names) (m : List Around) (w : Stand (whole L H I I' F C known) M own m) (at at' : List ℕ) (b done : Body) (t t' u : ItemNames) → in_block I w.sc w.ls at b t ≡ Ok t' → Reached L M t u
-      → BodyPart (whole L H I I' F C known) M own m w at' b done t t' u → BodyPart (whole L H I I' F C known) M own m w at' b (C.at_block b done) t t' u
-
-pub special : (L : Frame) (H : Holes) (I I' : Inside) (F : Fits L.items I I') (i : Span → Option kinds.Kind → Option kinds.Kind) (l : PatternTree → Option TypeTree → Option TypeTree) (b : Body → Body → Body) (known : Names)
-    → Becomes L H I I' F (keeping i l b) known → Special (whole L H I I' F (keeping i l b) known)
-special L H I I' F i l b known B = let K = whole L H I I' F (keeping i l b) known in record {
-  variable = λ M own m w at at' s x t t' u n e q. plain_variable K M at at' s x _ (variable_named w.sc x) (variable_named w.sc' x) t t' u
-      (subst (λ (z : Bool). AtName (Corresponds [] M) z (is_among x own || is_among x known) (variable_named w.sc x) (variable_named w.sc' x)) (none_starred (not (is_among x own))) (w.scopes.callees x tt)) e q;
-  broken = λ M own m w at at' s l t t' u n e q. plain_break K M own m w at at' s l t t' u (jump_fits M s l w.ls m w.ls' w.led) e q;
-  continued = λ M own m w at at' s l t t' u n e q. plain_continue K M own m w at at' s l t t' u (jump_fits M s l w.ls m w.ls' w.led) e q;
-  returned = λ M own m w at at' s o o' t t' u n f h q. restated (h (child at' 0) u q) (λ z. z) (λ R sv k m m' i i'. numbers_node s i i' (λ n n' g. numbers_map (named.return n) (named.return n') (k Site.Expects Site.Expects) (λ _ _ r. like_return g r)));
-  suffix = B.suffix;
-  annotated = B.annotated;
-  blocks = B.blocks;
-}
-
 -- ---- the entry of a function
 
 both_ok : (a b : Outcome (List ℕ)) (ns : List ℕ) → both a b ≡ Ok ns → (as' : List ℕ) × (bs : List ℕ) × (a ≡ Ok as') × (b ≡ Ok bs) × (ns ≡ as' ++ bs)
@@ -157,15 +69,15 @@ numbers_entry_of : (n : ℕ) (xs : List Parameter) → is_nothing (numbers_from 
 numbers_entry_of n [] = refl
 numbers_entry_of n (x ∷ xs) = refl
 
-function_entry : (I : Inside) (f : Function) (ns : List ℕ) → lifetimes_of I [] 0 f.lifetimes ≡ Ok ns → not (is_nothing (ns ++ numbers_from 0 f.params)) ≡ has_entry f
+pub function_entry : (I : Inside) (f : Function) (ns : List ℕ) → lifetimes_of I [] 0 f.lifetimes ≡ Ok ns → not (is_nothing (ns ++ numbers_from 0 f.params)) ≡ has_entry f
 function_entry I f ns e =
     nothing_append ns (numbers_from 0 f.params) ∙ ap (λ (b : Bool). b || not (is_nothing (numbers_from 0 f.params))) (lifetimes_entry I [] 0 f.lifetimes ns e)
     ∙ ap (λ (b : Bool). has_bounds f.lifetimes || not b) (numbers_entry_of 0 f.params)
 
-abbrev EntryIf : ItemNames → ItemNames → Bool → ItemNames → Kind
+abbrev pub EntryIf : ItemNames → ItemNames → Bool → ItemNames → Kind
 EntryIf t u b t' R u' es es' = Numbers (λ x y. Unit {0}) t u t' u' es es' (entry_if b) (entry_if b)
 
-entry_alike : (L : Frame) (M : Made) (I I' : Inside) (at at' ks : List ℕ) (t t' u : ItemNames) → numbered I at ks t ≡ Ok t' → Reached L M t u → Part L M t t' u (λ G v. numbered I' at' ks u ≡ Ok v) (EntryIf t u (not (is_nothing ks)) t')
+pub entry_alike : (L : Frame) (M : Made) (I I' : Inside) (at at' ks : List ℕ) (t t' u : ItemNames) → numbered I at ks t ≡ Ok t' → Reached L M t u → Part L M t t' u (λ G v. numbered I' at' ks u ≡ Ok v) (EntryIf t u (not (is_nothing ks)) t')
 entry_alike L M I I' at at' [] t t' u e q = unchanged L M t t' u (λ G v. Ok u ≡ Ok v) (EntryIf t u false) e q refl (λ R. numbers_give numbering.no_names numbering.no_names tt)
 entry_alike L M I I' at at' (k ∷ ks) t t' u e q =
     restated (names_alike L M I I' at at' t t' u k k ks ks (Ok (k ∷ ks)) (Ok (k ∷ ks)) refl refl e q) (λ z. z) (λ R sv h. numbers_map (λ z. z) (λ z. z) h (λ a b r. tt))
@@ -194,13 +106,13 @@ pub next_place : (i : ℕ) (t t' : ItemNames) → AtPlace i t → length t'.vars
 next_place i t t' p e = ap (λ z. number (suc z)) p ∙ number_next (length t.vars) ∙ ap number (sym e)
 
 -- types make no variables
-abbrev NoMore : ItemNames → ItemNames → Type 0
+abbrev pub NoMore : ItemNames → ItemNames → Type 0
 NoMore t t' = length t'.vars ≡ length t.vars
 
 same_vars : (t t' : ItemNames) → ◌≡◌ {A = Outcome ItemNames} (Ok t) (Ok t') → NoMore t t'
 same_vars t t' e = ap (λ (z : ItemNames). length z.vars) (sym (the_same t t' e))
 
-names_no_more : (I : Inside) (at : List ℕ) (r : Outcome (List ℕ)) (t t' : ItemNames) → names I at r t ≡ Ok t' → NoMore t t'
+pub names_no_more : (I : Inside) (at : List ℕ) (r : Outcome (List ℕ)) (t t' : ItemNames) → names I at r t ≡ Ok t' → NoMore t t'
 names_no_more I at (Err x) t t' e = absurd (cc)
 names_no_more I at (Ok []) t t' e = same_vars t t' e
 names_no_more I at (Ok (n ∷ ns)) t t' e = ap (λ (z : ItemNames). length z.vars) (sym (the_same (with_names (entry I at (n ∷ ns)) t) t' e))
@@ -225,7 +137,7 @@ mutual
       let a = named_ok (in_type I (child at i) y t) (in_types I at (next i) ys) t' e in
       types_no_more I at (next i) ys a.0 t' a.2 ∙ type_no_more I (child at i) y t a.0 a.1
 
-abbrev ParametersNumbers : ItemNames → ItemNames → List Parameter → ItemNames → Kind
+abbrev pub ParametersNumbers : ItemNames → ItemNames → List Parameter → ItemNames → Kind
 ParametersNumbers t u xs t' R u' es es' = Numbers (LikeParameters R) t u t' u' es es' (of_parameters xs) (of_parameters xs)
 
 parameter_numbers : (R : Renaming) (t u : ItemNames) {t1 u1 t2 u2 : ItemNames} {es es' fs fs' : List NodeNames} (x : Parameter) (xs : List Parameter) → R.variable (length t.vars) (length u.vars) ≡ true
@@ -239,7 +151,7 @@ placed : (ps : Pairs) (i n m : ℕ) → i ≡ number n → i ≡ number m → Ha
 placed ps i n m a b = inl (inr (ap number a ∙ number_twice n, ap number b ∙ number_twice m))
 
 module _ (L : Frame) (I I' : Inside) (F : Fits L.items I I') where
-  parameters_alike : (M : Made) (at at' : List ℕ) (i : ℕ) (xs : List Parameter) (b b1 b' : Bound) → in_parameters I at i xs b ≡ Ok b1 → Reached L M b.tables b'.tables → BoundAlike M b.bindings b'.bindings
+  pub parameters_alike : (M : Made) (at at' : List ℕ) (i : ℕ) (xs : List Parameter) (b b1 b' : Bound) → in_parameters I at i xs b ≡ Ok b1 → Reached L M b.tables b'.tables → BoundAlike M b.bindings b'.bindings
       → AtPlace i b.tables → AtPlace i b'.tables → BindingPart L M (in_parameters I' at' i xs) b b1 b' (ParametersNumbers b.tables b'.tables xs b1.tables)
   parameters_alike M at at' i [] b b1 b' e q h p p' =
       subst (λ (v : Bound). BindingPart L M (λ b. Ok b) b v b' (ParametersNumbers b.tables b'.tables [] v.tables)) (the_same b b1 e)
@@ -283,7 +195,7 @@ abbrev pub parameter_names : List Parameter → Names
 parameter_names [] = []
 parameter_names (x ∷ xs) = x.name.name ∷ parameter_names xs
 
-parameters_bind : (I : Inside) (at : List ℕ) (i : ℕ) (xs : List Parameter) (b b1 : Bound) → in_parameters I at i xs b ≡ Ok b1 → declared_names b1.bindings ≡ declared_names b.bindings ++ parameter_names xs
+pub parameters_bind : (I : Inside) (at : List ℕ) (i : ℕ) (xs : List Parameter) (b b1 : Bound) → in_parameters I at i xs b ≡ Ok b1 → declared_names b1.bindings ≡ declared_names b.bindings ++ parameter_names xs
 parameters_bind I at i [] b b1 e = ap (λ (v : Bound). declared_names v.bindings) (sym (the_same b b1 e)) ∙ sym (append-nil (declared_names b.bindings))
 parameters_bind I at i (x ∷ xs) b b1 e =
     let X = named_ok (in_parameter I at i x b) (in_parameters I at (next i) xs) b1 e in
