@@ -9,3 +9,5 @@ pub mod NoClaims
 pub mod PlainPlaces
 pub mod Parameters
 pub mod ChangedFunctions
+pub mod KeptPrograms
+pub mod NoDoubles

@@ -4,7 +4,7 @@ ghost use Rattle.std.specs.Prelude.{⊤};
 ghost use Rattle.rx_engine_names.specs.LikeNamed.{LikeFunction};
 
 /// Trial.
-#[tactic(auto, using(crate::proofs::ChangedFunctions::function_item_alike))]
+#[tactic(auto, using(crate::proofs::NoDoubles::program_resolves))]
 pub fn trial()
     ensures { ⊤ }
 {}
