@@ -11,3 +11,4 @@ pub mod Parameters
 pub mod ChangedFunctions
 pub mod KeptPrograms
 pub mod NoDoubles
+pub mod ExtractionItems

@@ -1,6 +1,6 @@
 -- Names of new items that differ from those of the other items (Rust Reference, "Namespaces"): an enum that may be missing, and behind
 -- it a function.
-use Rattle.std.specs.Prelude.{◌≡◌, false, List, [], ◌∷◌, ◌++◌, ℕ, Option, Some, None}
+use Rattle.std.specs.Prelude.{◌≡◌, ◌≢◌, ⊤, true, false, List, [], ◌∷◌, ◌++◌, ℕ, Option, Some, None}
 use Rattle.std.specs.Str.{bytes_eq}
 use Rattle.rx_core.specs.declared.types.Span.{Span}
 use Rattle.rx_tree.specs.declared.tree.Ident.{Ident}
@@ -9,6 +9,7 @@ use Rattle.rx_tree.specs.Plain as plain
 use Rattle.rx_tree.specs.Plain.{Enumeration, Function, ItemTree, ProgramTree}
 use Rattle.rx_resolve_names.specs.Meant.{type_name, function_name}
 use Rattle.rx_hoist_extraction.specs.Names.{Names, is_among}
+use Rattle.rx_hoist_extraction.specs.Plan.{Plan, has_enum, enum_name}
 
 abbrev pub Avoids : Names → Option Ident → Type 0
 Avoids X None = Unit {0}
@@ -38,3 +39,15 @@ EnumDiffers (Some e) o = Differs e.1.name.name o
 
 abbrev pub AllDiffer : Option (Span × Enumeration) → Function → ProgramTree → Type 0
 AllDiffer q g is = Every (λ i. EnumDiffers q (type_name i) × Differs g.name.name (function_name i)) is
+
+-- ---- the names of an extraction
+
+-- the name that an item has, if it has one, is another
+abbrev pub Other : List ℕ → Option Ident → Type 0
+Other x None = ⊤
+Other x (Some y) = x ≢ y.name
+
+-- no item of the program has the name of the new function, nor that of the enum of exits, where there is one
+pub record AreFree (P : ProgramTree) (pl : Plan) : Type 0 where
+  pub function : Every (λ i. Other pl.name (function_name i)) P
+  pub exits : has_enum pl.exits ≡ true → Every (λ i. Other (enum_name pl) (type_name i)) P
