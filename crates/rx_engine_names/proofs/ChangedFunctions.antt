@@ -1,46 +1,35 @@
 -- A function of which only the body is changed has like trees in both programs: its entry, its parameters and its result are the same,
 -- and the walk goes along its body.
-use Rattle.std.proofs.Common.{◌≡◌, ℕ, zero, suc, Bool, true, false, not, ◌&&◌, ◌||◌, List, [], ◌∷◌, ◌++◌, length, map, Option, Some, None, Ok, Err, refl, sym, ap, ◌∙◌, subst, append_assoc, append-nil}
+use Rattle.std.proofs.Common.{◌≡◌, ℕ, suc, Bool, true, false, not, ◌&&◌, ◌||◌, List, [], ◌∷◌, ◌++◌, length, map, Option, Ok, Err, refl, sym, ap, ◌∙◌, subst, append-nil}
 use Rattle.rx_core.specs.declared.types.Span.{Span}
 use Rattle.rx_tree.specs.declared.tree.Ident.{Ident}
 use Rattle.rx_tree.specs.declared.tree.BoundLifetime.{BoundLifetime}
 use Rattle.rx_tree.specs.Plain as plain
 use Rattle.rx_tree.specs.Plain.{TypeTree, TypeTrees, PatternTree, Expression, OptionalExpression, Body, Parameter, Function, ItemTree, ProgramTree}
-use Rattle.rx_resolve_scope.specs.Scopes.{Declared, Variables, variable_named, entered}
+use Rattle.rx_resolve_scope.specs.Scopes.{Declared, variable_named, entered}
 use Rattle.rx_resolve_names.specs.declared.resolved.ItemNames.{ItemNames}
 use Rattle.rx_resolve_names.specs.declared.resolved.NodeNames.{NodeNames}
-use Rattle.rx_resolve_names.specs.Meant.{number, number_in, firsts, lifetimes_declared, Around, Target, to_loop, out_of_test, nowhere, target}
-use Rattle.rx_resolve_names.specs.Steps.{Outcome, and_then, Naming, ◌>>◌, Inside, known, one, both, declare, led, child, next, with_variable, entry, with_names, numbered, names}
-use Rattle.rx_resolve_names.specs.Names.{lifetime_in, lifetimes_in, type_in, written, in_lifetime, in_types, in_type, in_optional_type, Bound, Binding, in_expression, in_optional, in_block}
-use Rattle.rx_resolve_names.specs.Items.{bounds_in, lifetimes_of, in_parameter, in_parameters, numbers_from, body_at, in_function, in_item}
+use Rattle.rx_resolve_names.specs.Meant.{number, number_in, firsts, lifetimes_declared, to_loop, nowhere}
+use Rattle.rx_resolve_names.specs.Steps.{Outcome, and_then, Naming, ◌>>◌, Inside, known, one, both, declare, child, numbered}
+use Rattle.rx_resolve_names.specs.Names.{in_optional_type, Bound, in_block}
+use Rattle.rx_resolve_names.specs.Items.{bounds_in, lifetimes_of, in_parameters, numbers_from, body_at, in_function, in_item}
 use Rattle.rx_typed.specs.declared.nodes.Site.{Site}
-use Rattle.rx_typed.specs.declared.nodes.Stage.{Stage}
-use Rattle.rx_typed.specs.Named as named
 use Rattle.rx_typed.specs.Naming as numbering
 use Rattle.rx_typed.specs.Naming.{Numbering, give, an_entry, first, use_of, declaration, of_expression, of_type, of_parameter, of_parameters, of_function, begins, function_named, entry_if, is_nothing, has_bounds, has_entry}
-use Rattle.std.proofs.Math.Nat.{min-eq_left, min-eq_right, min-le_right}
-use Rattle.std.proofs.lemmas.Bool.{leb-true, leb-false}
-use Rattle.std.proofs.Common.{◌≤◌, ◌<◌, arith, nat_le, min, ◌⊎◌, inl, inr}
 use Rattle.rx_core.specs.declared.types.Kind as kinds
-use Rattle.rx_typed.specs.declared.nodes.Node.{Node}
 use Rattle.rx_hoist_extraction.specs.Names.{Names, is_among}
-use Rattle.rx_hoist_extraction.specs.Changed.{Changes, kept, changed, changed_body}
-use Rattle.rx_hoist_extraction.specs.Moved.{leaves}
-use Rattle.rx_engine_names.specs.Renaming.{Renaming, Pairs, Has, Made, Serves}
-use Rattle.rx_engine_names.specs.LikeNamed.{Holes, SameSpan, LikeWritten, LikeOptionalWritten, LikeExp, LikeBody, LikeParameters, LikeFunction, like_var, like_break, like_continue, like_return, like_no_parameter, like_more_parameters}
-use Rattle.rx_engine_names.specs.Within.{BodyWithin}
-use Rattle.rx_engine_names.proofs.SideBySide.{one_more, named_ok, then_ok, and_ok, the_same, Frame, Reached, Grows, grows_not, grows_on, serves_before, Kind, Cursors, Numbered, Numbers, numbers_then, numbers_last, numbers_give, numbers_map, numbers_node, numbers_both, numbers_left, numbers_right, numbers_entry, numbers_declare, with_pair, grows_pair, newest, newest_kept, variable_reached, Keeps, AreEntries, at_entries, Part, in_turn, in_turn4, restated, unchanged, names_alike}
-use Rattle.rx_engine_names.proofs.Scoped.{Corresponds, AtName, Both, Scopes, scopes_later, BoundAlike, bound_later, Declares, declares_alike, declared_more, declared_names, scopes_entered}
-use Rattle.rx_engine_names.proofs.Fitting.{Fits}
-use Rattle.rx_engine_names.proofs.CopiedPatterns.{One, names_one, type_alike, optional_type_alike, OptionalTypeNumbers, TypeNumbers, BindingPart}
-use Rattle.rx_engine_names.proofs.Standing.{AnnotationNumbers, later, ExpNumbers, ElseNumbers, BodyNumbers, keeps_leads, Goes, Led, Setting, Stand, ExpPart, ElsePart, BodyPart, Special}
+use Rattle.rx_hoist_extraction.specs.Changed.{Changes, changed_body}
+use Rattle.rx_engine_names.specs.Renaming.{Renaming, Made, Serves}
+use Rattle.rx_engine_names.specs.LikeNamed.{Holes, LikeFunction}
+use Rattle.rx_engine_names.proofs.SideBySide.{named_ok, then_ok, and_ok, Frame, Reached, Kind, Numbers, numbers_then, numbers_last, numbers_give, numbers_node, numbers_both, Keeps, Part, in_turn4}
+use Rattle.rx_engine_names.proofs.Scoped.{Corresponds, AtName, Both, Scopes, scopes_later, BoundAlike, declared_names, scopes_entered}
+use Rattle.rx_engine_names.proofs.CopiedPatterns.{optional_type_alike, OptionalTypeNumbers}
+use Rattle.rx_engine_names.proofs.Standing.{BodyNumbers, Led, Stand}
 use Rattle.rx_engine_names.proofs.CopiedExpressions.{body_alike}
 use Rattle.rx_engine_names.proofs.NoClaims.{no_claims, body_within}
-use Rattle.rx_engine_names.specs.Alike.{AlikeFunctions, same_numbers, with_body}
-use Rattle.rx_engine_names.specs.Renaming.{InOrder}
-use Rattle.rx_tree.specs.Lists.{Every}
+use Rattle.rx_engine_names.specs.Alike.{with_body}
 use Rattle.rx_engine_names.proofs.PlainPlaces.{keeping, whole, none_starred, Becomes, special}
-use Rattle.rx_engine_names.proofs.Parameters.{function_entry, EntryIf, entry_alike, AtPlace, NoMore, names_no_more, ParametersNumbers, parameters_alike, parameter_names, parameters_bind}
+use Rattle.rx_engine_names.proofs.Parameters.{function_entry, EntryIf, entry_alike, AtPlace, names_no_more, ParametersNumbers, parameters_alike, parameter_names, parameters_bind}
 use Rattle.rx_engine_names.proofs.KeptItems.{Keeps as KeepsItems, keeps_fits}
 
 -- ---- lifetimes
@@ -59,7 +48,6 @@ lifetimes_same P Q a b L ds n (l ∷ ls) = by (declare ds l.name n) (λ ds. life
     by (Err x) h = refl
     by (Ok ds) h = ap (λ (o : Outcome (List ℕ)). both (bounds_in (record { program = P; item = a; lifetimes = L }) l.bounds) o) (h ds)
         ∙ ap (λ (o : Outcome (List ℕ)). both o (lifetimes_of (record { program = Q; item = b; lifetimes = L }) ds (suc n) ls)) (bounds_same P Q a b L l.bounds)
-
 
 -- ---- where a body begins
 

@@ -1,5 +1,5 @@
 -- Expressions, statements and blocks that are copied resolve alike, and their trees with numbers are alike, where the special places are.
-use Rattle.std.proofs.Common.{◌≡◌, ℕ, zero, suc, Bool, true, false, not, ◌&&◌, List, [], ◌∷◌, ◌++◌, length, Option, Some, None, Ok, Err, refl, sym, ap, ◌∙◌, subst, codes}
+use Rattle.std.proofs.Common.{◌≡◌, ℕ, Bool, true, false, ◌&&◌, List, [], ◌∷◌, ◌++◌, length, Option, Some, None, Ok, refl, ap, ◌∙◌, subst}
 use Rattle.rx_core.specs.declared.types.Span.{Span}
 use Rattle.rx_core.specs.declared.types.Position.{Position}
 use Rattle.rx_tree.specs.declared.tree.Ident.{Ident}
@@ -9,9 +9,9 @@ use Rattle.rx_tree.specs.Plain.{TypeTree, PatternTree, Expression, Expressions, 
 use Rattle.rx_resolve_scope.specs.Scopes.{Declared, Variables, variable_named, entered}
 use Rattle.rx_resolve_names.specs.declared.resolved.ItemNames.{ItemNames}
 use Rattle.rx_resolve_names.specs.declared.resolved.NodeNames.{NodeNames}
-use Rattle.rx_resolve_names.specs.Meant.{number, type_name, function_name, item_named, as_rt, as_function, Around, a_loop, a_test}
-use Rattle.rx_resolve_names.specs.Steps.{Outcome, and_then, Naming, ◌>>◌, nothing, Inside, known, one, child, next, with_loop, with_names, position, entry, numbered, names}
-use Rattle.rx_resolve_names.specs.Names.{variant_in, struct_in, Bound, in_pattern, pattern_then, callee, rt_span, in_loop, in_optional_type, initialiser_at, Scoped, in_expression, in_expressions, in_optional, in_arguments, in_fields, in_arms, in_block, in_statements, in_statement}
+use Rattle.rx_resolve_names.specs.Meant.{number, Around, a_loop, a_test}
+use Rattle.rx_resolve_names.specs.Steps.{Outcome, and_then, Naming, ◌>>◌, one, child, next, with_loop, with_names, position, numbered, names}
+use Rattle.rx_resolve_names.specs.Names.{variant_in, struct_in, Bound, in_pattern, pattern_then, callee, rt_span, in_optional_type, initialiser_at, Scoped, in_expression, in_expressions, in_optional, in_arguments, in_fields, in_arms, in_block, in_statements, in_statement}
 use Rattle.rx_typed.specs.declared.nodes.Node.{Node}
 use Rattle.rx_typed.specs.declared.nodes.Site.{Site}
 use Rattle.rx_typed.specs.declared.nodes.Stage.{Stage}
@@ -19,16 +19,16 @@ use Rattle.rx_typed.specs.Named as named
 use Rattle.rx_typed.specs.Named.{Exp, Exps}
 use Rattle.rx_typed.specs.Naming as numbering
 use Rattle.rx_typed.specs.Naming.{Numbering, give, an_entry, first, second, of_expression}
-use Rattle.rx_engine_names.specs.Renaming.{Renaming, Made, Has, Serves}
-use Rattle.rx_engine_names.specs.LikeNamed.{Holes, SameSpan, LikeAnnotation, LikeExp, LikeExps, LikeElse, LikeFields, LikeArms, LikeBody, LikeStatement, LikeStatements, like_bool, like_tuple, like_field, like_part, like_deref, like_negate, like_invert, like_borrow, like_binary, like_assign, like_gives, like_given, like_giving, like_update, like_call, like_hidden, like_input, like_variant, like_make, like_print, like_block, like_if, like_if_let, like_match, like_loop, like_while, like_while_let, like_no_exp, like_more_exps, like_absent, like_present, like_no_field, like_more_fields, like_no_arm, like_more_arms, like_body, like_declares, like_lets, like_evaluates, like_no_statement, like_more_statements}
+use Rattle.rx_engine_names.specs.Renaming.{Renaming, Made, Has}
+use Rattle.rx_engine_names.specs.LikeNamed.{Holes, SameSpan, LikeExp, LikeExps, LikeElse, LikeStatement, like_bool, like_tuple, like_field, like_part, like_deref, like_negate, like_invert, like_borrow, like_binary, like_assign, like_gives, like_given, like_giving, like_update, like_call, like_hidden, like_input, like_variant, like_make, like_print, like_block, like_if, like_if_let, like_match, like_loop, like_while, like_while_let, like_no_exp, like_more_exps, like_absent, like_present, like_no_field, like_more_fields, like_no_arm, like_more_arms, like_body, like_declares, like_lets, like_evaluates, like_no_statement, like_more_statements}
 use Rattle.rx_hoist_extraction.specs.Names.{Names, bound, bound_by, behind_all}
 use Rattle.rx_hoist_extraction.specs.Changed.{Changes, changed, changed_all, changed_optional, changed_arguments, changed_fields, changed_arms, changed_body, changed_statement, changed_statements}
-use Rattle.rx_engine_names.specs.Within.{Claims, Within, AllWithin, OptionalWithin, ArgumentsWithin, FieldsWithin, ArmsWithin, BodyWithin, StatementWithin, StatementsWithin}
-use Rattle.rx_engine_names.proofs.SideBySide.{named_ok, then_ok, and_ok, the_same, Frame, Reached, Grows, grows_not, grows_on, Kind, Numbers, numbers_then, numbers_last, numbers_give, numbers_map, numbers_node, numbers_made, Keeps, numbers_left, numbers_right, numbers_both, AreEntries, at_entries, numbers_entry, numbers_loop, with_loops, grows_loops, newest, newest_kept, loop_reached, Part, in_turn, in_turn3, in_turn4, restated, unchanged, EntryNumbers, names_alike}
-use Rattle.rx_engine_names.proofs.Scoped.{Corresponds, AtName, Scopes, scopes_later, BoundAlike, declared_names, scopes_entered}
-use Rattle.rx_engine_names.proofs.Fitting.{Fits, function_in, rt_in}
-use Rattle.rx_engine_names.proofs.CopiedPatterns.{One, names_one, BindingPart, PatternNumbers, pattern_alike, pattern_binds}
-use Rattle.rx_engine_names.proofs.Standing.{AnnotationNumbers, later, ExpNumbers, AllNumbers, ElseNumbers, ArgumentsNumbers, FieldsNumbers, ArmsNumbers, BodyNumbers, StatementNumbers, StatementsNumbers, keeps_counted, keeps_between, keeps_annotates, keeps_stage, keeps_waits, keeps_leads, keeps_is_left, keeps_waits_for, Setting, Stand, with_bindings, in_the_loop, in_the_test, in_scope, SameForm, ExpPart, ElsePart, Special}
+use Rattle.rx_engine_names.specs.Within.{Within, AllWithin, OptionalWithin, ArgumentsWithin, FieldsWithin, ArmsWithin, BodyWithin, StatementWithin, StatementsWithin}
+use Rattle.rx_engine_names.proofs.SideBySide.{named_ok, then_ok, and_ok, the_same, Reached, Grows, grows_not, grows_on, Kind, Numbers, numbers_then, numbers_last, numbers_give, numbers_map, numbers_node, numbers_made, numbers_left, numbers_right, numbers_both, at_entries, numbers_entry, numbers_loop, with_loops, grows_loops, newest, newest_kept, loop_reached, Part, in_turn, in_turn3, in_turn4, restated, unchanged, names_alike}
+use Rattle.rx_engine_names.proofs.Scoped.{Corresponds, AtName, Scopes, scopes_later, scopes_entered}
+use Rattle.rx_engine_names.proofs.Fitting.{function_in, rt_in}
+use Rattle.rx_engine_names.proofs.CopiedPatterns.{names_one, PatternNumbers, pattern_alike, pattern_binds}
+use Rattle.rx_engine_names.proofs.Standing.{AnnotationNumbers, later, ExpNumbers, AllNumbers, ElseNumbers, ArgumentsNumbers, FieldsNumbers, ArmsNumbers, BodyNumbers, StatementNumbers, StatementsNumbers, keeps_counted, keeps_between, keeps_annotates, keeps_stage, keeps_waits, keeps_is_left, keeps_waits_for, Setting, Stand, with_bindings, in_the_loop, in_the_test, in_scope, SameForm, ExpPart, ElsePart, Special}
 
 -- ---- an assignment, which may give a variable its type
 

@@ -1,5 +1,5 @@
 -- Types and patterns that are copied resolve alike, and their trees with numbers are alike.
-use Rattle.std.proofs.Common.{◌≡◌, ℕ, suc, Bool, true, false, List, [], ◌∷◌, ◌++◌, length, map, Option, Some, None, Ok, Err, refl, sym, ap, ◌∙◌, subst, append_assoc, append-nil}
+use Rattle.std.proofs.Common.{◌≡◌, ℕ, Bool, false, List, [], ◌∷◌, ◌++◌, length, Option, Some, None, Ok, refl, sym, ap, ◌∙◌, subst, append_assoc, append-nil}
 use Rattle.rx_core.specs.declared.types.Span.{Span}
 use Rattle.rx_tree.specs.declared.tree.Ident.{Ident}
 use Rattle.rx_tree.specs.Plain as plain
@@ -16,10 +16,10 @@ use Rattle.rx_typed.specs.Naming as numbering
 use Rattle.rx_typed.specs.Naming.{Numbering, give, an_entry, first, second, lifetime_entry, of_type, of_types, of_optional_type, of_pattern, of_patterns, of_field_patterns}
 use Rattle.rx_typed.specs.Named as named
 use Rattle.rx_engine_names.specs.Renaming.{Renaming, Made, Serves}
-use Rattle.rx_engine_names.specs.LikeNamed.{SameSpan, LikeWritten, LikeWrittens, LikeOptionalWritten, LikePattern, LikePatterns, LikeFieldPatterns, like_kind, like_bool_type, like_tuple_type, like_reference, like_item, like_no_type, like_more_types, like_no_annotation, like_annotation, like_wild, like_bind, like_whole_number, like_truth, like_tuple_pattern, like_variant_pattern, like_struct_pattern, like_no_pattern, like_more_patterns, like_no_field_pattern, like_more_field_patterns}
+use Rattle.rx_engine_names.specs.LikeNamed.{LikeWritten, LikeWrittens, LikeOptionalWritten, LikePattern, LikePatterns, LikeFieldPatterns, like_kind, like_bool_type, like_tuple_type, like_reference, like_item, like_no_type, like_more_types, like_no_annotation, like_annotation, like_wild, like_bind, like_whole_number, like_truth, like_tuple_pattern, like_variant_pattern, like_struct_pattern, like_no_pattern, like_more_patterns, like_no_field_pattern, like_more_field_patterns}
 use Rattle.rx_hoist_extraction.specs.Names.{Names, bound, all_bound, fields_bound}
-use Rattle.rx_engine_names.proofs.SideBySide.{named_ok, then_ok, and_ok, the_same, Frame, Reached, Grows, grows_not, Kind, Numbers, numbers_then, numbers_last, numbers_give, numbers_map, numbers_node, numbers_made, numbers_entry, with_pair, grows_pair, newest, newest_kept, variable_reached, numbers_declare, Part, in_turn, restated, unchanged, AreEntries, EntryNumbers, at_entries, names_alike}
-use Rattle.rx_engine_names.proofs.Scoped.{declared_names, BoundAlike, bound_later, Declares, declares_alike, declared_more}
+use Rattle.rx_engine_names.proofs.SideBySide.{named_ok, then_ok, and_ok, the_same, Frame, Reached, grows_not, Kind, Numbers, numbers_then, numbers_give, numbers_map, numbers_node, numbers_made, numbers_entry, with_pair, grows_pair, newest, newest_kept, variable_reached, numbers_declare, Part, in_turn, restated, unchanged, AreEntries, EntryNumbers, at_entries, names_alike}
+use Rattle.rx_engine_names.proofs.Scoped.{declared_names, BoundAlike, bound_later, declares_alike, declared_more}
 use Rattle.rx_engine_names.proofs.Fitting.{Fits}
 
 -- ---- an entry of one name

@@ -1,7 +1,7 @@
 -- The extraction is a program with new items behind a function, and its names have meanings where those of the program have, those of
 -- the changed function and those of the new items. By induction on the items for what is free.
 use Rattle.std.proofs.lemmas.Slice.Eq.{bytes_eq-Decides}
-use Rattle.std.proofs.Common.{◌≡◌, ◌≢◌, ℕ, zero, suc, ◌+◌, Bool, true, false, ◌||◌, if◌then◌else◌, List, [], ◌∷◌, ◌++◌, length, take, drop, Option, Some, None, Ok, refl, sym, ap, ◌∙◌, subst, bytes_eq, ◌⊎◌, inl, inr}
+use Rattle.std.proofs.Common.{◌≡◌, ◌≢◌, ℕ, zero, suc, Bool, true, false, ◌||◌, if◌then◌else◌, List, [], ◌∷◌, ◌++◌, length, take, drop, Option, Some, None, Ok, refl, sym, ap, ◌∙◌, subst, bytes_eq}
 use Rattle.rx_core.specs.declared.types.Span.{Span}
 use Rattle.rx_tree.specs.declared.tree.Ident.{Ident}
 use Rattle.rx_tree.specs.Lists.{Every, nth}
@@ -15,10 +15,10 @@ use Rattle.rx_hoist_extraction.specs.Plan.{Bounds, Plan, has_enum, enum_name}
 use Rattle.rx_hoist_extraction.specs.Pinned.{pinned_function}
 use Rattle.rx_hoist_extraction.specs.NewEnum.{new_enum}
 use Rattle.rx_hoist_extraction.specs.NewFunction.{new_function}
-use Rattle.rx_hoist_extraction.specs.Extraction.{with_call, made_function, made_enum, new_items, in_two, added, extraction}
+use Rattle.rx_hoist_extraction.specs.Extraction.{with_call, made_function, made_enum, new_items, added, extraction}
 use Rattle.rx_hoist_extraction.proofs.NewItemsAt.{items_are}
 use Rattle.rx_engine_names.specs.Insertion.{NotNamed, Inserted, past, number_there}
-use Rattle.rx_engine_names.specs.NewNames.{Avoids, AvoidAll, enum_first, enum_names, Differs, EnumDiffers, AllDiffer, Other, AreFree}
+use Rattle.rx_engine_names.specs.NewNames.{Avoids, AvoidAll, enum_names, Differs, AllDiffer, Other, AreFree}
 use Rattle.rx_engine_names.proofs.NoDoubles.{program_resolves}
 
 -- ---- names that are not the same

@@ -1,6 +1,6 @@
 -- Two programs, each with an item in which names of items, variants and lifetimes mean what corresponds: an item of the first has
 -- the number in the second that a map tells; a variant has the same number in both.
-use Rattle.std.proofs.Common.{◌≡◌, ℕ, List, [], ◌∷◌, Option, Some, None, Ok, Err, codes}
+use Rattle.std.proofs.Common.{◌≡◌, ℕ, List, [], ◌∷◌, Ok, codes}
 use Rattle.rx_core.specs.declared.types.Span.{Span}
 use Rattle.rx_tree.specs.declared.tree.Ident.{Ident}
 use Rattle.rx_resolve_names.specs.Meant.{type_name, function_name, item_named, as_function, as_rt}

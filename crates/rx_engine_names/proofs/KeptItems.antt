@@ -1,19 +1,17 @@
 -- Items of a program are found in another that has new items behind one function: behind these they have greater numbers. By
 -- induction on the items in front.
 use Rattle.std.proofs.lemmas.Bool.{le-leb, lt-leb}
-use Rattle.std.proofs.Common.{◌≡◌, ℕ, zero, suc, ◌+◌, ◌≤◌, ◌<◌, arith, length, Bool, true, false, if◌then◌else◌, List, [], ◌∷◌, ◌++◌, Option, Some, None, Ok, Err, refl, sym, ap, ◌∙◌, subst, ◌⊎◌, inl, inr, codes}
+use Rattle.std.proofs.Common.{◌≡◌, ℕ, suc, ◌+◌, ◌≤◌, ◌<◌, arith, length, Bool, true, false, if◌then◌else◌, List, [], ◌∷◌, ◌++◌, Option, Some, None, Ok, refl, sym, ap, ◌∙◌, ◌⊎◌, inl, inr, codes}
 use Rattle.rx_core.specs.declared.types.Span.{Span}
 use Rattle.rx_tree.specs.declared.tree.Ident.{Ident}
 use Rattle.rx_tree.specs.Plain as plain
 use Rattle.rx_tree.specs.Plain.{Function, ItemTree, ProgramTree}
-use Rattle.rx_tree.specs.Lists.{Every}
 use Rattle.rx_resolve_scope.specs.Scopes.{Declared}
 use Rattle.rx_resolve_names.specs.Meant.{type_name, function_name, has_name, item_named, as_type, as_struct, as_enum, as_rt, as_function, variants_of, number_in}
-use Rattle.rx_resolve_names.specs.Steps.{Outcome, and_then, Inside, known, one, both}
-use Rattle.rx_resolve_names.specs.Names.{lifetime_in, type_in, variant_in, struct_in}
+use Rattle.rx_resolve_names.specs.Steps.{Outcome, and_then, known, one, both}
 use Rattle.rx_engine_names.specs.Insertion.{NotNamed, Inserted, past, number_there}
 use Rattle.rx_engine_names.proofs.SideBySide.{named_ok, the_same}
-use Rattle.rx_engine_names.proofs.Fitting.{function_in, rt_in, Fits}
+use Rattle.rx_engine_names.proofs.Fitting.{Fits}
 
 -- ---- what is found
 

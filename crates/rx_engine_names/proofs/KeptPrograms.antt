@@ -1,6 +1,6 @@
 -- The items of a program that stay have meanings in a program with new items; with those of the items that are new or changed, all
 -- items have. A function that stays has the same tree but for the numbers of items.
-use Rattle.std.proofs.Common.{◌≡◌, ℕ, zero, suc, ◌+◌, Bool, true, false, List, [], ◌∷◌, ◌++◌, length, map, Option, Some, None, Ok, Err, refl, sym, ap, ◌∙◌, subst, add-zero, add-suc, suc-add, zero-add}
+use Rattle.std.proofs.Common.{◌≡◌, ℕ, suc, ◌+◌, true, List, [], ◌∷◌, ◌++◌, length, map, Ok, refl, sym, ap, ◌∙◌, subst, add-zero, add-suc, suc-add, zero-add}
 use Rattle.rx_core.specs.declared.types.Span.{Span}
 use Rattle.rx_tree.specs.declared.tree.Ident.{Ident}
 use Rattle.rx_tree.specs.Plain as plain
@@ -8,25 +8,22 @@ use Rattle.rx_tree.specs.Plain.{FieldOf, VariantOf, Function, ItemTree, ProgramT
 use Rattle.rx_resolve_scope.specs.Scopes.{Declared}
 use Rattle.rx_resolve_names.specs.declared.resolved.ItemNames.{ItemNames}
 use Rattle.rx_resolve_names.specs.Meant.{number, firsts, lifetimes_declared}
-use Rattle.rx_resolve_names.specs.Steps.{Outcome, and_then, Naming, ◌>>◌, Inside, declare, child, next}
+use Rattle.rx_resolve_names.specs.Steps.{Outcome, and_then, ◌>>◌, Inside, declare, child, next}
 use Rattle.rx_resolve_names.specs.Names.{in_type, in_types, behind}
-use Rattle.rx_resolve_names.specs.Items.{distinct, in_declared, in_variants, in_form, in_item, in_items}
+use Rattle.rx_resolve_names.specs.Items.{distinct, in_declared, in_variants, in_item, in_items}
 use Rattle.std.specs.Prelude.{◌==◌}
-use Rattle.std.proofs.Common.{◌⊎◌, inl, inr, eq-eqb}
-use Rattle.rx_core.specs.declared.types.Kind as kinds
+use Rattle.std.proofs.Common.{inl, inr, eq-eqb}
 use Rattle.rx_tree.specs.Lists.{Every}
 use Rattle.rx_tree.specs.Plain.{PatternTree, TypeTree, Body}
 use Rattle.rx_typed.specs.Naming.{function_named}
-use Rattle.rx_hoist_extraction.specs.Changed.{kept, changed_body}
 use Rattle.rx_hoist_extraction.proofs.Unchanged.{same_body}
-use Rattle.rx_engine_names.specs.Renaming.{Renaming, Pairs, Has, Made, Serves}
+use Rattle.rx_engine_names.specs.Renaming.{Pairs, Has, Made, Serves}
 use Rattle.rx_engine_names.specs.LikeNamed.{LikeFunction, no_holes, like_int, like_typed}
 use Rattle.rx_engine_names.specs.Insertion.{Inserted, number_there}
 use Rattle.rx_engine_names.specs.Alike.{same_numbers}
-use Rattle.rx_engine_names.proofs.SideBySide.{named_ok, then_ok, and_ok, the_same, Frame, Reached, Part, restated, numbers_map}
+use Rattle.rx_engine_names.proofs.SideBySide.{named_ok, then_ok, and_ok, the_same, Frame, Reached, restated, numbers_map}
 use Rattle.rx_engine_names.proofs.CopiedPatterns.{type_alike, types_alike, optional_type_alike}
 use Rattle.rx_engine_names.proofs.KeptItems.{Keeps, keeps_fits, inserted_keeps}
-use Rattle.rx_engine_names.proofs.PlainPlaces.{Becomes}
 use Rattle.rx_engine_names.proofs.ChangedFunctions.{function_item_alike}
 
 -- ---- variables and loops keep their numbers

@@ -1,5 +1,5 @@
 -- Where nothing is claimed, every part is within the claims: by induction on it.
-use Rattle.std.proofs.Common.{ℕ, List, ◌∷◌, ◌++◌}
+use Rattle.std.proofs.Common.{List, ◌∷◌, ◌++◌}
 use Rattle.rx_tree.specs.Plain as plain
 use Rattle.rx_tree.specs.Plain.{Expression, Expressions, OptionalExpression, OptionalExpressions, FieldExpressions, Arms, Body, Statement, Statements}
 use Rattle.rx_resolve_names.specs.Meant.{Around, a_loop, a_test}

@@ -1,16 +1,15 @@
 -- No list of names of a program has one twice where new items stand behind a function: what is declared in the first covers what is
 -- declared in the second. By induction on the items.
-use Rattle.std.proofs.Common.{◌≡◌, ℕ, zero, suc, ◌+◌, Bool, true, false, not, ◌||◌, if◌then◌else◌, List, [], ◌∷◌, ◌++◌, length, Option, Some, None, Ok, Err, refl, sym, ap, ◌∙◌, subst, bytes_eq, append_assoc}
+use Rattle.std.proofs.Common.{◌≡◌, ℕ, suc, Bool, true, false, ◌||◌, if◌then◌else◌, List, [], ◌∷◌, ◌++◌, length, Option, Some, None, Ok, refl, sym, ap, ◌∙◌, subst, bytes_eq}
 use Rattle.rx_core.specs.declared.types.Span.{Span}
 use Rattle.rx_tree.specs.declared.tree.Ident.{Ident}
-use Rattle.rx_tree.specs.Lists.{Every}
 use Rattle.rx_tree.specs.Plain as plain
 use Rattle.rx_tree.specs.Plain.{Function, Enumeration, ItemTree, ProgramTree}
 use Rattle.rx_resolve_scope.specs.declared.table.Known.{Known}
 use Rattle.rx_resolve_scope.specs.Scopes.{Declared, declared_as}
 use Rattle.rx_resolve_names.specs.declared.resolved.ItemNames.{ItemNames}
-use Rattle.rx_resolve_names.specs.Meant.{number, type_name, function_name, item_named}
-use Rattle.rx_resolve_names.specs.Steps.{Outcome, and_then, declare, declared_behind}
+use Rattle.rx_resolve_names.specs.Meant.{number, type_name, function_name}
+use Rattle.rx_resolve_names.specs.Steps.{and_then, declare, declared_behind}
 use Rattle.rx_resolve_names.specs.Items.{in_item, in_items, in_program, Lists, declared_in, apart}
 use Rattle.rx_hoist_extraction.specs.Names.{Names, is_among}
 use Rattle.rx_engine_names.specs.Insertion.{Inserted}

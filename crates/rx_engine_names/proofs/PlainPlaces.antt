@@ -1,40 +1,30 @@
 -- Variables, jumps and returns that stay what they are resolve alike, where no loop is left.
-use Rattle.std.proofs.Common.{◌≡◌, ℕ, zero, suc, Bool, true, false, not, ◌&&◌, ◌||◌, List, [], ◌∷◌, ◌++◌, length, map, Option, Some, None, Ok, Err, refl, sym, ap, ◌∙◌, subst, append_assoc, append-nil}
+use Rattle.std.proofs.Common.{◌≡◌, ℕ, Bool, true, false, not, ◌&&◌, ◌||◌, List, [], ◌∷◌, Option, Some, None, Ok, refl, ap, subst}
 use Rattle.rx_core.specs.declared.types.Span.{Span}
 use Rattle.rx_tree.specs.declared.tree.Ident.{Ident}
-use Rattle.rx_tree.specs.declared.tree.BoundLifetime.{BoundLifetime}
 use Rattle.rx_tree.specs.Plain as plain
 use Rattle.rx_tree.specs.Plain.{TypeTree, TypeTrees, PatternTree, Expression, OptionalExpression, Body, Parameter, Function, ItemTree, ProgramTree}
-use Rattle.rx_resolve_scope.specs.Scopes.{Declared, Variables, variable_named, entered}
+use Rattle.rx_resolve_scope.specs.Scopes.{variable_named}
 use Rattle.rx_resolve_names.specs.declared.resolved.ItemNames.{ItemNames}
-use Rattle.rx_resolve_names.specs.declared.resolved.NodeNames.{NodeNames}
-use Rattle.rx_resolve_names.specs.Meant.{number, number_in, firsts, lifetimes_declared, Around, Target, to_loop, out_of_test, nowhere, target}
-use Rattle.rx_resolve_names.specs.Steps.{Outcome, and_then, Naming, ◌>>◌, Inside, known, one, both, declare, led, child, next, with_variable, entry, with_names, numbered, names}
-use Rattle.rx_resolve_names.specs.Names.{lifetime_in, lifetimes_in, type_in, written, in_lifetime, in_types, in_type, in_optional_type, Bound, Binding, in_expression, in_optional, in_block}
-use Rattle.rx_resolve_names.specs.Items.{bounds_in, lifetimes_of, in_parameter, in_parameters, numbers_from, body_at, in_function, in_item}
+use Rattle.rx_resolve_names.specs.Meant.{Around, Target, to_loop, out_of_test, nowhere, target}
+use Rattle.rx_resolve_names.specs.Steps.{Inside, known, one, led, child, names}
+use Rattle.rx_resolve_names.specs.Names.{in_optional_type, in_block}
 use Rattle.rx_typed.specs.declared.nodes.Site.{Site}
-use Rattle.rx_typed.specs.declared.nodes.Stage.{Stage}
 use Rattle.rx_typed.specs.Named as named
-use Rattle.rx_typed.specs.Naming as numbering
-use Rattle.rx_typed.specs.Naming.{Numbering, give, an_entry, first, use_of, declaration, of_expression, of_type, of_parameter, of_parameters, of_function, begins, function_named, entry_if, is_nothing, has_bounds, has_entry}
-use Rattle.std.proofs.Math.Nat.{min-eq_left, min-eq_right, min-le_right}
-use Rattle.std.proofs.lemmas.Bool.{leb-true, leb-false}
-use Rattle.std.proofs.Common.{◌≤◌, ◌<◌, arith, nat_le, min, ◌⊎◌, inl, inr}
+use Rattle.rx_typed.specs.Naming.{first, use_of, declaration}
 use Rattle.rx_core.specs.declared.types.Kind as kinds
 use Rattle.rx_typed.specs.declared.nodes.Node.{Node}
 use Rattle.rx_hoist_extraction.specs.Names.{Names, is_among}
-use Rattle.rx_hoist_extraction.specs.Changed.{Changes, kept, changed, changed_body}
+use Rattle.rx_hoist_extraction.specs.Changed.{Changes, kept}
 use Rattle.rx_hoist_extraction.specs.Moved.{leaves}
-use Rattle.rx_engine_names.specs.Renaming.{Renaming, Pairs, Has, Made, Serves}
-use Rattle.rx_engine_names.specs.LikeNamed.{Holes, SameSpan, LikeWritten, LikeOptionalWritten, LikeExp, LikeBody, LikeParameters, LikeFunction, like_var, like_break, like_continue, like_return, like_no_parameter, like_more_parameters}
-use Rattle.rx_engine_names.specs.Within.{BodyWithin}
-use Rattle.rx_engine_names.proofs.SideBySide.{one_more, named_ok, then_ok, and_ok, the_same, Frame, Reached, Grows, grows_not, grows_on, serves_before, Kind, Cursors, Numbered, Numbers, numbers_then, numbers_last, numbers_give, numbers_map, numbers_node, numbers_both, numbers_left, numbers_right, numbers_entry, numbers_declare, with_pair, grows_pair, newest, newest_kept, variable_reached, Keeps, AreEntries, at_entries, Part, in_turn, in_turn4, restated, unchanged, names_alike}
-use Rattle.rx_engine_names.proofs.Scoped.{Corresponds, AtName, Both, Scopes, scopes_later, BoundAlike, bound_later, Declares, declares_alike, declared_more, declared_names, scopes_entered}
+use Rattle.rx_engine_names.specs.Renaming.{Renaming, Has, Made}
+use Rattle.rx_engine_names.specs.LikeNamed.{Holes, SameSpan, LikeExp, like_var, like_break, like_continue, like_return}
+use Rattle.rx_engine_names.proofs.SideBySide.{the_same, Frame, Reached, Numbers, numbers_last, numbers_give, numbers_map, numbers_node, numbers_both, at_entries, Part, restated}
+use Rattle.rx_engine_names.proofs.Scoped.{Corresponds, AtName}
 use Rattle.rx_engine_names.proofs.Fitting.{Fits}
-use Rattle.rx_engine_names.proofs.CopiedPatterns.{One, names_one, type_alike, optional_type_alike, OptionalTypeNumbers, TypeNumbers, BindingPart}
-use Rattle.rx_engine_names.proofs.Standing.{AnnotationNumbers, later, ExpNumbers, ElseNumbers, BodyNumbers, keeps_leads, Goes, Led, Setting, Stand, ExpPart, ElsePart, BodyPart, Special}
-use Rattle.rx_engine_names.proofs.CopiedExpressions.{body_alike}
-use Rattle.rx_engine_names.proofs.NoClaims.{no_claims, body_within}
+use Rattle.rx_engine_names.proofs.CopiedPatterns.{names_one}
+use Rattle.rx_engine_names.proofs.Standing.{AnnotationNumbers, ExpNumbers, keeps_leads, Goes, Led, Setting, Stand, ExpPart, BodyPart, Special}
+use Rattle.rx_engine_names.proofs.NoClaims.{no_claims}
 
 -- ---- what is kept
 

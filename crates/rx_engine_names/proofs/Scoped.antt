@@ -1,10 +1,10 @@
 -- Scopes of two resolvings in which names mean variables that correspond, and what patterns bind in them.
-use Rattle.std.proofs.Common.{◌≡◌, ℕ, suc, Bool, true, false, not, ◌&&◌, ◌||◌, if◌then◌else◌, List, [], ◌∷◌, ◌++◌, map, Option, Some, None, Ok, Err, refl, sym, ap, ◌∙◌, subst, bytes_eq, append_assoc}
+use Rattle.std.proofs.Common.{◌≡◌, ℕ, Bool, true, false, not, ◌&&◌, ◌||◌, if◌then◌else◌, List, [], ◌∷◌, ◌++◌, map, Option, Some, None, Ok, refl, sym, ap, ◌∙◌, subst, bytes_eq}
 use Rattle.rx_tree.specs.declared.tree.Ident.{Ident}
 use Rattle.rx_resolve_scope.specs.declared.table.Known.{Known}
 use Rattle.rx_resolve_scope.specs.Scopes.{Declared, declared_as, Variables, variable_named, entered}
 use Rattle.rx_resolve_names.specs.Meant.{number}
-use Rattle.rx_resolve_names.specs.Steps.{Outcome, and_then, declare, declared_behind}
+use Rattle.rx_resolve_names.specs.Steps.{declare, declared_behind}
 use Rattle.rx_engine_names.specs.Renaming.{Pairs, Has, Made}
 use Rattle.rx_hoist_extraction.specs.Names.{Names, is_among}
 use Rattle.rx_engine_names.specs.Within.{Claims}

@@ -1,12 +1,11 @@
 -- Where a part that is copied stands: the scopes of both sides, and the loops round it.
-use Rattle.std.proofs.Common.{◌≡◌, ℕ, zero, suc, Bool, true, false, not, ◌&&◌, if◌then◌else◌, List, [], ◌∷◌, ◌++◌, length, Option, Some, None, Ok, Err, refl, sym, ap, ◌∙◌, subst, length-set}
+use Rattle.std.proofs.Common.{◌≡◌, ℕ, Bool, true, false, if◌then◌else◌, List, ◌∷◌, ◌++◌, Option, Some, None, Ok, refl, subst, length-set}
 use Rattle.rx_core.specs.declared.types.Span.{Span}
 use Rattle.rx_tree.specs.declared.tree.Ident.{Ident}
 use Rattle.rx_tree.specs.Plain as plain
 use Rattle.rx_tree.specs.Plain.{TypeTree, PatternTree, Expression, Expressions, OptionalExpression, OptionalExpressions, FieldExpressions, Arms, Body, Statement, Statements}
-use Rattle.rx_resolve_scope.specs.Scopes.{Declared, Variables, variable_named, entered}
+use Rattle.rx_resolve_scope.specs.Scopes.{Declared, Variables, entered}
 use Rattle.rx_resolve_names.specs.declared.resolved.ItemNames.{ItemNames}
-use Rattle.rx_resolve_names.specs.declared.resolved.NodeNames.{NodeNames}
 use Rattle.rx_resolve_names.specs.Meant.{Around, a_loop, a_test, Target, to_loop, out_of_test, nowhere, through_test, is_meant, target}
 use Rattle.rx_resolve_names.specs.Steps.{Inside}
 use Rattle.rx_resolve_names.specs.Names.{in_expression, in_optional, in_block, in_optional_type}
@@ -19,7 +18,7 @@ use Rattle.rx_typed.specs.Naming.{of_optional_type, of_expression, of_expression
 use Rattle.rx_core.specs.declared.types.Kind as kinds
 use Rattle.rx_engine_names.specs.Renaming.{Renaming, Pairs, Has, Made}
 use Rattle.rx_engine_names.specs.LikeNamed.{Holes, SameSpan, LikeAnnotation, LikeExp, LikeExps, LikeElse, LikeFields, LikeArms, LikeBody, LikeStatement, LikeStatements}
-use Rattle.rx_hoist_extraction.specs.Names.{Names, bound}
+use Rattle.rx_hoist_extraction.specs.Names.{Names}
 use Rattle.rx_hoist_extraction.specs.Changed.{Changes}
 use Rattle.rx_hoist_extraction.specs.Moved.{beyond, leaves}
 use Rattle.rx_engine_names.specs.Within.{Claims}

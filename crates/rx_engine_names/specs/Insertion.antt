@@ -1,6 +1,6 @@
 -- A program with new items behind one of its functions, which keeps its name (Rust Reference, "Items", "Namespaces"), and the numbers
 -- that the other items have there.
-use Rattle.std.specs.Prelude.{◌≡◌, ℕ, ◌+◌, nat_le, Bool, false, if◌then◌else◌, List, ◌∷◌, ◌++◌, length, Option, Some}
+use Rattle.std.specs.Prelude.{◌≡◌, ℕ, ◌+◌, nat_le, false, if◌then◌else◌, List, ◌∷◌, ◌++◌, length, Option, Some}
 use Rattle.rx_core.specs.declared.types.Span.{Span}
 use Rattle.rx_tree.specs.declared.tree.Ident.{Ident}
 use Rattle.rx_tree.specs.Lists.{Every}

@@ -2,7 +2,7 @@
 -- numbers of nodes, variables, loops and items. The spans of nodes that correspond are equal. The relation goes through all forms;
 -- where something else stands in the second, that is a hole: a parameter says what may stand there. What a place makes of its
 -- value, what is known of a variable where it is used, and whether an assignment gives a type, may differ.
-use Rattle.std.specs.Prelude.{◌≡◌, ℕ, Bool, true, false, List, [], ◌∷◌, Option, Some, None}
+use Rattle.std.specs.Prelude.{◌≡◌, ℕ, Bool, true, List, [], ◌∷◌, Option, Some, None}
 use Rattle.rx_core.specs.declared.types.Kind.{Kind}
 use Rattle.rx_tree.specs.declared.tree.BinaryOp.{BinaryOp}
 use Rattle.rx_tree.specs.declared.tree.UpdateOp.{UpdateOp}

@@ -1,6 +1,6 @@
 -- Names of new items that differ from those of the other items (Rust Reference, "Namespaces"): an enum that may be missing, and behind
 -- it a function.
-use Rattle.std.specs.Prelude.{◌≡◌, ◌≢◌, ⊤, true, false, List, [], ◌∷◌, ◌++◌, ℕ, Option, Some, None}
+use Rattle.std.specs.Prelude.{◌≡◌, ◌≢◌, ⊤, true, false, List, [], ◌∷◌, ℕ, Option, Some, None}
 use Rattle.std.specs.Str.{bytes_eq}
 use Rattle.rx_core.specs.declared.types.Span.{Span}
 use Rattle.rx_tree.specs.declared.tree.Ident.{Ident}

@@ -1,6 +1,6 @@
 -- Which variables, loops and items of one function correspond to which of another (Rust Reference, "Scopes", "Loop labels",
 -- "Items"): pairs of numbers, as two walks side by side make them.
-use Rattle.std.specs.Prelude.{◌≡◌, ◌⊎◌, ℕ, Bool, true, List, [], ◌∷◌, ◌<◌}
+use Rattle.std.specs.Prelude.{◌≡◌, ◌⊎◌, ℕ, Bool, true, List, [], ◌∷◌}
 use Rattle.rx_resolve_names.specs.Meant.{number}
 
 -- items of the second are told by those of the first; of a variable or loop it is told whether two correspond
@@ -31,10 +31,3 @@ pub record Serves (items : ℕ → ℕ) (M : Made) (R : Renaming) : Type 0 where
   pub variables : (n m : ℕ) → Has M.variables n m → R.variable n m ≡ true
   pub loops : (n m : ℕ) → Has M.loops n m → R.loop n m ≡ true
   pub items_are : (n : ℕ) → R.item n ≡ items n
-
--- ---- the numbers of a renaming by pairs are one to one
-
--- each is below the next of its function, and above those that were made before
-abbrev pub InOrder : Pairs → ℕ → ℕ → Type 0
-InOrder [] n m = Unit {0}
-InOrder (p ∷ ps) n m = (p.0 < n) × (p.1 < m) × InOrder ps p.0 p.1
