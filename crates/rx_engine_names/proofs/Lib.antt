@@ -1,0 +1,14 @@
+pub mod SideBySide
+pub mod Scoped
+pub mod Fitting
+pub mod CopiedPatterns
+pub mod Standing
+pub mod CopiedExpressions
+pub mod KeptItems
+pub mod NoClaims
+pub mod PlainPlaces
+pub mod Parameters
+pub mod ChangedFunctions
+pub mod KeptPrograms
+pub mod NoDoubles
+pub mod ExtractionItems
