@@ -1,0 +1,6 @@
+//! Facts at sites, told over the walks of a function.
+#![tactic(auto)]
+
+mod laws;
+
+pub use laws::{arrivals_are_walks, live_is_told_by_walks, may_be_is_told_by_walks};
