@@ -3,4 +3,7 @@
 
 mod laws;
 
-pub use laws::{arrivals_are_walks, live_is_told_by_walks, may_be_is_told_by_walks};
+pub use laws::{
+    arrivals_are_walks, faults_exclude_initialised, live_is_told_by_walks, may_be_is_told_by_walks,
+    typed_actions_are_distinct,
+};
