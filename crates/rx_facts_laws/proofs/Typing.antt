@@ -1,5 +1,5 @@
 -- Each function of a typed program has the typed tree of a function with numbers, so no two of its sites have the same action.
-use Rattle.std.proofs.Common.{◌≡◌, ℕ, suc, List, [], ◌∷◌, sym, subst}
+use Rattle.std.proofs.Common.{ℕ, suc, List, [], ◌∷◌, sym, subst}
 use Rattle.rx_core.specs.declared.types.Span.{Span}
 use Rattle.rx_tree.specs.Plain as plain
 use Rattle.rx_tree.specs.Plain.{ProgramTree}
