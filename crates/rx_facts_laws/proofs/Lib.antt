@@ -1,0 +1,4 @@
+pub mod Arriving
+pub mod Living
+pub mod Excluding
+pub mod Typing

@@ -1,0 +1,2 @@
+pub mod LiveOnWalks
+pub mod SetOnWalks

@@ -1,0 +1,2 @@
+pub mod ScopesOnWalks
+pub mod Borrows
