@@ -1,0 +1,17 @@
+pub mod Told
+pub mod Values
+pub mod States
+pub mod Memory
+pub mod Keeping
+pub mod Declaring
+pub mod Spots
+pub mod Results
+pub mod Acts
+pub mod Borrows
+pub mod Writes
+pub mod Parts
+pub mod Patterns
+pub mod Calls
+pub mod Congruence
+pub mod Histories
+pub mod Whole
