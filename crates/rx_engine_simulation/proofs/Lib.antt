@@ -5,6 +5,7 @@ pub mod Memory
 pub mod Keeping
 pub mod Declaring
 pub mod Spots
+pub mod Positions
 pub mod Results
 pub mod Acts
 pub mod Borrows
@@ -15,3 +16,4 @@ pub mod Calls
 pub mod Congruence
 pub mod Histories
 pub mod Whole
+pub mod Examples

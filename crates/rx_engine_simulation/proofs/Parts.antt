@@ -4,13 +4,14 @@ use Rattle.rx_meaning.specs.declared.outcome.End.{End}
 use Rattle.rx_typed.specs.Tree.{Function}
 use Rattle.rx_lower_walks.specs.Actions.{Act, Declare, Dead, Action, does}
 use Rattle.rx_lower_walks.specs.Orders.{Exit, exit_node}
+use Rattle.rx_lower_walks.specs.Walks.{Passed, by_end}
 use Rattle.rx_meaning.specs.Values.{Value, truth, unit_value, Frame, State, with_turns, with_variable}
 use Rattle.rx_meaning.specs.Results.{Result, on, jumps, stops, after, bind, result_of}
 use Rattle.rx_meaning.specs.Acting.{performed, plainly}
 use Rattle.rx_meaning.specs.Patterns.{decided, closed}
 use Rattle.rx_meaning.specs.Expressions.{turn_at, take_turn, passed}
 use Rattle.rx_meaning.specs.Programs.{IsFront}
-use Rattle.rx_meaning.specs.Telling.{told_by}
+use Rattle.rx_meaning.specs.Telling.{told_by, out_of}
 use Rattle.rx_meaning.proofs.Sequences.{after_nothing, closed_is}
 use Rattle.rx_meaning.proofs.Fronts.{front_self, front_closed, front_passed, told_after}
 use Rattle.rx_engine_simulation.proofs.Told.{Told, says, did, said, onto, noted, followed, said_append, onto_append, front_said, front_trans}
@@ -121,13 +122,13 @@ module _ (V : Facts) (d : Direction) (R : Renaming) (Z Z' : Frozen) (J : Jumping
   passed_of : (c l k : ℕ) (h : List Action) (j : List Pair) (s s' : State) (r : Result (Told ℕ) Value) (r' : Result ℕ Value) (go : State → Result (Told ℕ) Value) (go' : State → Result ℕ Value)
       → ((n : ℕ) → loop_of J.loops n ≡ Some k → ⊥) → J.leaving l true ≡ None → J.leaving l false ≡ None
       → ResultsAlike V d R Z Z' (in_loop J l k) Given c h j s s' r r'
-      → ((h1 : List Action) (j1 : List Pair) (t t' : State) → Reached V d R Z Z' c h1 j s s' j1 t t' → DoAlike V d R Z Z' J Given c h1 j1 t t' (go t) (go' t'))
+      → ((j1 : List Pair) (t t' : State) → Passed l (out_of r) → Reached V d R Z Z' c (onto (told_by r) h) j s s' j1 t t' → DoAlike V d R Z Z' J Given c (onto (told_by r) h) j1 t t' (go t) (go' t'))
       → DoAlike V d R Z Z' J Given c h j s s' (passed l r go) (passed k r' go')
   unfolding passed
   passed_of c l k h j s s' r r' go go' apart none none' (both_on {o = o} {o' = o'} {t = t} {t' = t'} j1 f w z) next = λ good.
-      alike_prefix V d R Z Z' J Given c h j j1 s s' t t' o o' (go t) (go' t') f z.grown (next (onto o h) j1 t t' z (subst V.Good (ap (λ w. onto w h) (told_after o (go t)) ∙ onto_append o (told_by (go t)) h) good))
+      alike_prefix V d R Z Z' J Given c h j j1 s s' t t' o o' (go t) (go' t') f z.grown (next j1 t t' by_end z (subst V.Good (ap (λ w. onto w h) (told_after o (go t)) ∙ onto_append o (told_by (go t)) h) good))
   passed_of c l k h j s s' r r' go go' apart none none' (both_jump {o = o} {o' = o'} {x = x} {y = y} {v = v} {w = w} {t = t} {t' = t'} j1 f e z) next =
-      alike_jump_by V d R Z Z' J Given c l k h j j1 s s' t t' o o' x y v w go go' apart none none' (wholes no_values, refl) f e z (next (onto o h) j1 t t' z)
+      alike_jump_by V d R Z Z' J Given c l k h j j1 s s' t t' o o' x y v w go go' apart none none' (wholes no_values, refl) f e z (λ p. next j1 t t' p z)
   passed_of c l k h j s s' r r' go go' apart none none' (both_stop f q0) next = λ good. both_stop f q0
   passed_of c l k h j s s' r r' go go' apart none none' (text_cut {o = o} m f) next = λ good. text_cut m (front_passed k (said o) r' go' f)
   passed_of c l k h j s s' r r' go go' apart none none' (answer_cut {o' = o'} m f) next = λ good. answer_cut m (front_trans o' (said (told_by r)) _ f (front_said (told_by r) _ (front_passed l (told_by r) r go (front_self _))))
@@ -135,7 +136,7 @@ module _ (V : Facts) (d : Direction) (R : Renaming) (Z Z' : Frozen) (J : Jumping
   pub passed_alike : (c l k : ℕ) (h : List Action) (j : List Pair) (s s' : State) (r : Result (Told ℕ) Value) (r' : Result ℕ Value) (go : State → Result (Told ℕ) Value) (go' : State → Result ℕ Value)
       → ((n : ℕ) → loop_of J.loops n ≡ Some k → ⊥) → J.leaving l true ≡ None → J.leaving l false ≡ None
       → DoAlike V d R Z Z' (in_loop J l k) Given c h j s s' r r'
-      → ((h1 : List Action) (j1 : List Pair) (t t' : State) → Reached V d R Z Z' c h1 j s s' j1 t t' → DoAlike V d R Z Z' J Given c h1 j1 t t' (go t) (go' t'))
+      → ((j1 : List Pair) (t t' : State) → Passed l (out_of r) → Reached V d R Z Z' c (onto (told_by r) h) j s s' j1 t t' → DoAlike V d R Z Z' J Given c (onto (told_by r) h) j1 t t' (go t) (go' t'))
       → DoAlike V d R Z Z' J Given c h j s s' (passed l r go) (passed k r' go')
   passed_alike c l k h j s s' r r' go go' apart none none' f next good =
       passed_of c l k h j s s' r r' go go' apart none none' (f (good_front V (told_by r) _ h (front_passed l (told_by r) r go (front_self _)) good)) next good

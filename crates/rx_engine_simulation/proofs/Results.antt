@@ -3,7 +3,9 @@ use Rattle.std.proofs.Common.{◌≡◌, ◌≢◌, ℕ, zero, suc, ◌<◌, ◌
 use Rattle.std.proofs.lemmas.Bool.{eqb-false}
 use Rattle.rx_meaning.specs.declared.outcome.End.{End}
 use Rattle.rx_lower_walks.specs.Actions.{Action}
-use Rattle.rx_lower_walks.specs.Orders.{Exit, breaks, continues, returns}
+use Rattle.rx_lower_walks.specs.Orders.{Order, Exit, breaks, continues, returns}
+use Rattle.rx_lower_walks.specs.Walks as walks
+use Rattle.rx_lower_walks.specs.Walks.{Passed, by_continue}
 use Rattle.rx_meaning.specs.Values.{Value, tagged, unit_value, Values, no_value, value_and, are_set, element, slot_of, State, with_turns}
 use Rattle.rx_meaning.specs.Results.{Result, on, jumps, stops, after, bind}
 use Rattle.rx_meaning.specs.Expressions.{turn_at, take_turn, passed_by, passed}
@@ -11,6 +13,7 @@ use Rattle.rx_meaning.specs.Programs.{IsFront}
 use Rattle.rx_meaning.specs.Telling.{told_by}
 use Rattle.rx_meaning.proofs.Fronts.{front_self, front_behind, front_bind, front_passed, told_after}
 use Rattle.rx_engine_simulation.proofs.Told.{Told, says, did, said, onto, said_append, onto_append, front_said, front_trans}
+use Rattle.rx_engine_simulation.proofs.Positions.{Walked, IsWalked, walked}
 use Rattle.rx_engine_simulation.proofs.Values.{Hold, Pair, In, LikeValue, More, Given, given_more, numbers, wholes, no_values}
 use Rattle.rx_engine_simulation.proofs.States.{Direction, Turns, TextMayStop, AnswerMayStop, weaken, TurnCase, text_out, answer_out, both_turn, turn_case, Facts, Renaming, Frozen, StatesAlike, Grown, grown_refl, grown_trans}
 pub use Rattle.rx_engine_simulation.specs.Results.{Outs, no_outs, out_and, LikeExit, stays_break, stays_continue, gives_back, packs_break, packs_continue, packs_value, packs_unit, Reached, ResultsAlike, both_on, both_jump, both_stop, text_cut, answer_cut, DoAlike}
@@ -65,11 +68,11 @@ module _ (V : Facts) (d : Direction) (R : Renaming) (Z Z' : Frozen) (J : Jumping
 
   alike_bound : {A B C D : Type 0} (W : List Pair → A → B → Type 0) (X : List Pair → C → D → Type 0) (c e : ℕ) (h : List Action) (j : List Pair) (s s' : State) (r : Result (Told ℕ) A) (r' : Result ℕ B) (go : A → State → Result (Told ℕ) C) (go' : B → State → Result ℕ D) → e ≤ c
       → ResultsAlike V d R Z Z' J W c h j s s' r r'
-      → ((h1 : List Action) (j1 : List Pair) (a : A) (b : B) (t t' : State) → W j1 a b → Reached V d R Z Z' c h1 j s s' j1 t t' → DoAlike V d R Z Z' J X e h1 j1 t t' (go a t) (go' b t'))
+      → ((o : List (Told ℕ)) (j1 : List Pair) (a : A) (b : B) (t t' : State) → r ≡ on o a t → W j1 a b → Reached V d R Z Z' c (onto o h) j s s' j1 t t' → DoAlike V d R Z Z' J X e (onto o h) j1 t t' (go a t) (go' b t'))
       → DoAlike V d R Z Z' J X e h j s s' (bind r go) (bind r' go')
   unfolding bind
   alike_bound W X c e h j s s' r r' go go' le (both_on {o = o} {o' = o'} {a = a} {b = b} {t = t} {t' = t'} j1 f w z) l g =
-      alike_prefix X e h j j1 s s' t t' o o' _ _ f z.grown (l (onto o h) j1 a b t t' w z (subst V.Good (ap (λ w. onto w h) (told_after o (go a t)) ∙ onto_append o (told_by (go a t)) h) g))
+      alike_prefix X e h j j1 s s' t t' o o' _ _ f z.grown (l o j1 a b t t' refl w z (subst V.Good (ap (λ w. onto w h) (told_after o (go a t)) ∙ onto_append o (told_by (go a t)) h) g))
   alike_bound W X c e h j s s' r r' go go' le (both_jump j1 f x z) l g = both_jump j1 f x (record { inv = z.inv; grown = z.grown; turns = weaken d c e _ _ le z.turns })
   alike_bound W X c e h j s s' r r' go go' le (both_stop f q0) l g = both_stop f q0
   alike_bound W X c e h j s s' r r' go go' le (text_cut {o = o} m f) l g = text_cut m (front_bind (said o) r' go' f)
@@ -82,12 +85,21 @@ module _ (V : Facts) (d : Direction) (R : Renaming) (Z Z' : Frozen) (J : Jumping
       → ((h1 : List Action) (j1 : List Pair) (a : A) (b : B) (t t' : State) → W j1 a b → Reached V d R Z Z' c h1 j s s' j1 t t' → DoAlike V d R Z Z' J X e h1 j1 t t' (go a t) (go' b t'))
       → DoAlike V d R Z Z' J X e h j s s' (bind r go) (bind r' go')
   alike_bind W X c e h j s s' r r' go go' le k l good =
-      alike_bound W X c e h j s s' r r' go go' le (k (good_front V (told_by r) _ h (front_bind (told_by r) r go (front_self _)) good)) l good
+      alike_bound W X c e h j s s' r r' go go' le (k (good_front V (told_by r) _ h (front_bind (told_by r) r go (front_self _)) good)) (λ o j1 a b t t' q. l (onto o h) j1 a b t t') good
+
+  -- where the part's run is a walk, what follows stands behind that walk
+  pub alike_bind_at : {A B C D : Type 0} (W : List Pair → A → B → Type 0) (X : List Pair → C → D → Type 0) (c e : ℕ) (h : List Action) (j : List Pair) (s s' : State) (r : Result (Told ℕ) A) (r' : Result ℕ B) (go : A → State → Result (Told ℕ) C) (go' : B → State → Result ℕ D) → e ≤ c
+      → (part : Order) → IsWalked part r → DoAlike V d R Z Z' J W c h j s s' r r'
+      → ((h1 : List Action) (j1 : List Pair) (a : A) (b : B) (t t' : State) → Walked part h h1 → W j1 a b → Reached V d R Z Z' c h1 j s s' j1 t t' → DoAlike V d R Z Z' J X e h1 j1 t t' (go a t) (go' b t'))
+      → DoAlike V d R Z Z' J X e h j s s' (bind r go) (bind r' go')
+  alike_bind_at W X c e h j s s' r r' go go' le part goes k l good =
+      alike_bound W X c e h j s s' r r' go go' le (k (good_front V (told_by r) _ h (front_bind (told_by r) r go (front_self _)) good))
+      (λ o j1 a b t t' q. l (onto o h) j1 a b t t' (walked part h o r a t q goes)) good
 
   pub alike_jump_by : (W : List Pair → Value → Value → Type 0) (c l k : ℕ) (h : List Action) (j j1 : List Pair) (s s' t t' : State) (o : List (Told ℕ)) (o' : List ℕ) (x y : Exit) (v w : Value) (go : State → Result (Told ℕ) Value) (go' : State → Result ℕ Value)
       → ((n : ℕ) → loop_of J.loops n ≡ Some k → ⊥) → J.leaving l true ≡ None → J.leaving l false ≡ None
       → W j1 unit_value unit_value → said o ≡ o' → LikeExit (in_loop J l k) j1 t x v y w → Reached V d R Z Z' c (onto o h) j s s' j1 t t'
-      → DoAlike V d R Z Z' J W c (onto o h) j1 t t' (go t) (go' t')
+      → (Passed l (walks.leaves x) → DoAlike V d R Z Z' J W c (onto o h) j1 t t' (go t) (go' t'))
       → DoAlike V d R Z Z' J W c h j s s' (passed_by l o x v t go) (passed_by k o' y w t' go')
   alike_jump_by W c l k h j j1 s s' t t' o o' x y v w go go' apart none none' unit e (gives_back f g) z next = λ good. both_jump j1 e (gives_back f g) z
   alike_jump_by W c l k h j j1 s s' t t' o o' x y v w go go' apart none none' unit e (packs_value f g) z next = λ good. both_jump j1 e (packs_value f g) z
@@ -112,5 +124,5 @@ module _ (V : Facts) (d : Direction) (R : Renaming) (Z Z' : Frozen) (J : Jumping
       by : (b : Bool) → nat_eq i l ≡ b → (if b then Some k else loop_of J.loops i) ≡ Some i' → DoAlike V d R Z Z' J W c h j s s' (if b then after o (go t) else jumps o (continues n i) unit_value t) (if nat_eq i' k then after o' (go' t') else jumps o' (continues m i') unit_value t')
       by true q f good =
           subst (λ q0. ResultsAlike V d R Z Z' J W c h j s s' (after o (go t)) (if q0 then after o' (go' t') else jumps o' (continues m i') unit_value t')) (sym (same i' k (sym (some_is f))))
-          (alike_prefix W c h j j1 s s' t t' o o' (go t) (go' t') e z.grown (next (subst V.Good (ap (λ w. onto w h) (told_after o (go t)) ∙ onto_append o (told_by (go t)) h) good)))
+          (alike_prefix W c h j j1 s s' t t' o o' (go t) (go' t') e z.grown (next (by_continue (eqb-true i l q)) (subst V.Good (ap (λ w. onto w h) (told_after o (go t)) ∙ onto_append o (told_by (go t)) h) good)))
       by false q f good = subst (λ q0. ResultsAlike V d R Z Z' J W c h j s s' (jumps o (continues n i) unit_value t) (if q0 then after o' (go' t') else jumps o' (continues m i') unit_value t')) (sym (other i' k (λ g. apart i (subst (λ n. loop_of J.loops i ≡ Some n) g f)))) (both_jump j1 e (stays_continue f) z)

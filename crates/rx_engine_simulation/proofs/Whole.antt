@@ -73,7 +73,7 @@ nothing_frozen = record { kept = λ i v. ⊥; anchored = λ x i. ⊥ }
 
 -- nothing is known of what calls `main`
 abbrev no_facts : Facts
-no_facts = record { Good = λ h. Unit {0}; older = λ a h g. tt; Special = λ x. ⊥; Asked = λ x h. ⊥; untouched = λ a h x e g w t. e }
+no_facts = record { Good = λ h. Unit {0}; older = λ a h g. tt; Comes = λ q h. Unit {0}; within = λ i k. tt; Special = λ x. ⊥; Asked = λ x h. ⊥; untouched = λ a h x e g w t. e }
 
 none_some : {A : Type 0} {a : A} → None ≡ Some a → ⊥
 none_some e = cc

@@ -4,6 +4,8 @@ use Rattle.std.specs.Prelude.{◌≡◌, ℕ, List, [], ◌∷◌, ◌⊎◌}
 use Rattle.rx_core.specs.declared.types.Step.{Step}
 use Rattle.rx_core.specs.declared.types.Step.TheVariants as step
 use Rattle.rx_typed.specs.Tree.{Root, variable, temporary}
+use Rattle.rx_lower_walks.specs.Orders.{Order}
+use Rattle.rx_exits_marks.specs.Coming.{Into}
 use Rattle.rx_lower_walks.specs.Actions.{Act, Declare, Read, Write, Borrow, Test, Action}
 
 abbrev pub IsRoot : Root → ℕ → Type 0
@@ -57,14 +59,22 @@ abbrev pub Borrowed : List Action → ℕ → Type 0
 Borrowed [] x = ⊥
 Borrowed (a ∷ h) x = BorrowsOwn a.act x ⊎ ((Declares a.act x → ⊥) × Borrowed h x)
 
+-- actions that were done then, put on a history
+abbrev pub put : List Action → List Action → List Action
+put [] h = h
+put (a ∷ w) h = put w (a ∷ h)
+
 -- what is known of an activation of the text
 pub record Facts : Type 1 where
   -- the histories of its walks
   pub Good : List Action → Type 0
   pub older : (a : Action) (h : List Action) → Good (a ∷ h) → Good h
+  -- the histories with which its walks come to a part, and from there to a part of that
+  pub Comes : Order → List Action → Type 0
+  pub within : {q s : Order} {w h : List Action} → Into q s w → Comes s h → Comes q (put w h)
   -- variables that may be elsewhere in the answer for a while
   pub Special : ℕ → Type 0
-  -- variables that the new function is given count as used where the run is entered
+  -- variables that are used, besides, where such a history has come to
   pub Asked : ℕ → List Action → Type 0
   -- a special variable's own storage is not written once it was borrowed
   pub untouched : (a : Action) (h : List Action) (x : ℕ) → Special x → Good (a ∷ h) → WritesOwn a.act x → Borrowed h x → ⊥

@@ -2,12 +2,13 @@
 use Rattle.std.specs.Prelude.{◌≡◌, ℕ, List, [], ◌∷◌, Option, Some, None}
 use Rattle.rx_typed.specs.Tree.{Function}
 use Rattle.rx_lower_walks.specs.Actions.{Action}
-use Rattle.rx_lower_walks.specs.Orders.{order_function}
+use Rattle.rx_lower_walks.specs.Orders.{Order, order_function}
 use Rattle.rx_lower_walks.specs.Walks.{Out, Walk}
+use Rattle.rx_exits_marks.specs.Coming.{Into}
 use Rattle.rx_meaning.specs.Values.{element}
 use Rattle.rx_meaning.specs.Expressions.{Functions}
 use Rattle.rx_meaning.specs.Programs.{Program}
-use Rattle.rx_engine_simulation.specs.Histories.{Facts, WritesOwn, Borrowed}
+use Rattle.rx_engine_simulation.specs.Histories.{put, Facts, WritesOwn, Borrowed}
 use Rattle.rx_engine_simulation.specs.Sights.{In, Renaming}
 use Rattle.rx_engine_simulation.specs.Binders.{LikeParams}
 use Rattle.rx_engine_simulation.specs.Jumps.{as_return, Jumping}
@@ -30,12 +31,16 @@ IsHistory g h = (rest : List Action) × (o : Out) × Walk (order_function g) (ba
 pub record About : Type 0 where
   -- the variables that may be elsewhere in the answer for a while
   pub special : List ℕ
-  -- variables that are used, besides, where this node's action was the last
-  pub asked : List (ℕ × ℕ)
+  -- variables that are used, besides, where a walk comes to such a part
+  pub asked : List (ℕ × Order)
 
-abbrev pub IsAsked : List (ℕ × ℕ) → ℕ → List Action → Type 0
-IsAsked l x [] = ⊥
-IsAsked l x (a ∷ h) = In (x, a.node) l
+-- with this history a walk of the function comes to a part, directly or by way of others
+pub data ComesTo (g : Function) : Order → List Action → Type 0 where
+  begins : ComesTo g (order_function g) []
+  goes : {q s : Order} {w h : List Action} → Into q s w → ComesTo g s h → ComesTo g q (put w h)
+
+abbrev pub IsAsked : Function → List (ℕ × Order) → ℕ → List Action → Type 0
+IsAsked g l x h = (q : Order) × In (x, q) l × ComesTo g q h
 
 -- a special variable's own storage is not written once it was borrowed
 abbrev pub Untouched : Function → About → Type 0
@@ -45,8 +50,10 @@ abbrev pub facts_of : (g : Function) (K : About) → Untouched g K → Facts
 facts_of g K u = record {
   Good = λ h. IsHistory g h;
   older = λ a h k. (a ∷ k.0, k.1, k.2);
+  Comes = λ q h. ComesTo g q h;
+  within = λ i k. goes i k;
   Special = λ x. In x K.special;
-  Asked = λ x h. IsAsked K.asked x h;
+  Asked = λ x h. IsAsked g K.asked x h;
   untouched = u;
 }
 
