@@ -1,4 +1,4 @@
--- What actions do alike.
+-- What actions do alike: reads, tests, calls, input, output and what is made, by what is found at the places and in the operands.
 use Rattle.std.proofs.Common.{◌≡◌, ℕ, zero, suc, ◌<◌, ◌≤◌, Bool, true, false, ◌&&◌, nat_eq, List, [], ◌∷◌, ◌++◌, length, Option, Some, None, refl, sym, ap, ap₂, ◌∙◌, subst, arith, le_refl, ◌⊎◌, inl, inr, ⊎_elim, ℤ, if◌then◌else◌, eqb-true}
 use Rattle.std.proofs.lemmas.Bool.{eqb-false}
 use Rattle.rx_core.specs.declared.types.Step.{Step}

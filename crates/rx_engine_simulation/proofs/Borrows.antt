@@ -1,4 +1,4 @@
--- Borrows do alike: a special variable's slots become a pair, to which nothing is written any more.
+-- Borrows do alike: the slots of a special variable become a pair, to which nothing is written any more.
 use Rattle.std.proofs.Common.{◌≡◌, ℕ, zero, suc, ◌<◌, ◌≤◌, Bool, true, false, ◌&&◌, List, [], ◌∷◌, ◌++◌, length, Option, Some, None, refl, sym, ap, ◌∙◌, subst, arith, le_refl, ◌⊎◌, inl, inr, ⊎_elim}
 use Rattle.rx_core.specs.declared.types.Step.{Step}
 use Rattle.rx_typed.specs.Tree.{Temporary, Place}

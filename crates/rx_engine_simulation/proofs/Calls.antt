@@ -1,4 +1,4 @@
--- A call does alike: what the caller's variables hold is kept while the other function runs.
+-- A call does alike: what the special variables of the caller hold is frozen while the other function runs, so all is as it was behind it.
 use Rattle.std.proofs.Common.{◌≡◌, ℕ, zero, suc, ◌<◌, ◌≤◌, Bool, true, false, nat_eq, List, [], ◌∷◌, ◌++◌, length, Option, Some, None, refl, sym, ap, ◌∙◌, subst, arith, le_refl, ◌⊎◌, inl, inr, ⊎_elim}
 use Rattle.rx_meaning.specs.declared.outcome.End.{End}
 use Rattle.rx_lower_walks.specs.Actions.{Action}

@@ -29,7 +29,7 @@ use Rattle.rx_engine_simulation.proofs.Parts.{Ready, go_on, less, stay, decided_
 use Rattle.rx_engine_simulation.proofs.Patterns.{begun_alike, bound_alike, tested_alike, arguments_alike}
 use Rattle.rx_engine_simulation.proofs.Calls.{whole_jumps, Kept, Kept', in_item, states_enter, returned_alike}
 use Rattle.rx_engine_simulation.proofs.Histories.{activation_history}
-use Rattle.rx_engine_simulation.specs.Openings.{Openings}
+use Rattle.rx_engine_simulation.specs.Openings.{Openings, no_openings}
 use Rattle.rx_engine_simulation.specs.Like.{LikeExp, opens, LikeAll, LikeMatched, LikeArms, LikeBody, opens_in, reads, borrows, shares, builds, units, lazies, assigns, updates, calls, inputs, prints, blocks, chooses, loops, stays, gives, no_operands, operands_and, at_places, of_values, no_arms, arms_and, ends_in, runs_on, declares_all, lets_in}
 use Rattle.rx_engine_simulation.specs.Programs.{LikeFunction, LikeFunctions, LikeEntry, functions, neither, IsNone, begins, facts_of}
 
@@ -238,3 +238,7 @@ module _ (items : ℕ → ℕ) (P Q : Functions) (d : Direction) where
         by : CallsUpTo n → (b : Bool) → nat_eq i (suc n) ≡ b → CallsAlike i
         by low true e = subst CallsAlike (sym (eqb-true i (suc n) e)) (calls_at like (suc n) (level_alike open_alike n low))
         by low false e = low i (omega (arith, eqb-false i (suc n) e))
+
+-- without an opening, nothing is asked
+pub nothing_opens : (items : ℕ → ℕ) (P Q : Functions) (d : Direction) → OpensAlike items P Q d no_openings
+nothing_opens items P Q d = record { expression = λ n k o. absurd o; statements = λ n k o. absurd o }

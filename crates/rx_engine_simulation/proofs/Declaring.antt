@@ -1,4 +1,4 @@
--- What both states keep, where both have a new variable.
+-- What both states keep, where both have a new variable: its slots are new, so no pair and no frozen slot leads there.
 use Rattle.std.proofs.Common.{◌≡◌, ℕ, zero, suc, ◌<◌, ◌≤◌, Bool, true, false, nat_eq, List, [], ◌∷◌, ◌++◌, length, Option, Some, None, refl, sym, ap, ◌∙◌, subst, arith, le_refl, ◌⊎◌, inl, inr, ⊎_elim, if◌then◌else◌, eqb-true}
 use Rattle.std.proofs.lemmas.Bool.{eqb-false}
 use Rattle.rx_lower_walks.specs.Actions.{Act, Declare, Action, does}

@@ -1,5 +1,7 @@
--- A program and the same with other numbers of nodes, items, loops and variables: it is renamed.
+-- A program and the same with other numbers of nodes, items, loops and variables: it is renamed, and both runs are computed.
 use Rattle.std.proofs.Common.{◌≡◌, ℕ, zero, suc, ℤ, pos, false, List, [], ◌∷◌, Option, Some, None, refl, arith}
+use Rattle.std.specs.Prelude.{codes}
+use Rattle.std.specs.Fmt.{digits}
 use Rattle.rx_core.specs.declared.types.Kind.{Kind}
 use Rattle.rx_meaning.specs.declared.outcome.End.{End}
 use Rattle.rx_typed.specs.Tree as tree
@@ -21,16 +23,22 @@ m n = record { node = n; typ = None }
 
 -- fn main() { let y = 7; loop { show(y); break } }
 abbrev main_text : Function
-main_text = record { params = []; body = tree.block (m 1) (tree.lets 2 (tree.bind 3 0 (tree.by_value false)) (tree.of_value (tree.build (m 4) (tree.constant (tree.whole_number Kind.I64 (pos 7))) tree.no_operand))
-    (tree.runs (tree.loop (m 5) 0 (tree.block (m 6) (tree.runs (tree.call (m 7) 1 (tree.operand_and 0 (tree.read (m 8) false (own 0)) tree.no_operand)) (tree.ends (tree.jump (m 9) 0 false))))) (tree.ends (tree.give (m 1) (tree.unit (m 1)))))) }
+main_text = record {
+  params = [];
+  body = tree.block (m 1) (tree.lets 2 (tree.bind 3 0 (tree.by_value false)) (tree.of_value (tree.build (m 4) (tree.constant (tree.whole_number Kind.I64 (pos 7))) tree.no_operand))
+      (tree.runs (tree.loop (m 5) 0 (tree.block (m 6) (tree.runs (tree.call (m 7) 1 (tree.operand_and 0 (tree.read (m 8) false (own 0)) tree.no_operand)) (tree.ends (tree.jump (m 9) 0 false))))) (tree.ends (tree.give (m 1) (tree.unit (m 1))))));
+}
 
 -- fn show(x: i64) { println!("{}", x); }
 abbrev show_text : Function
 show_text = record { params = record { node = 1; variable = 0 } ∷ []; body = tree.block (m 2) (tree.runs (tree.print (m 3) (tree.read (m 4) false (own 0))) (tree.ends (tree.give (m 2) (tree.unit (m 2))))) }
 
 abbrev main_answer : Function
-main_answer = record { params = []; body = tree.block (m 11) (tree.lets 12 (tree.bind 13 5 (tree.by_value false)) (tree.of_value (tree.build (m 14) (tree.constant (tree.whole_number Kind.I64 (pos 7))) tree.no_operand))
-    (tree.runs (tree.loop (m 15) 4 (tree.block (m 16) (tree.runs (tree.call (m 17) 0 (tree.operand_and 0 (tree.read (m 18) false (own 5)) tree.no_operand)) (tree.ends (tree.jump (m 19) 4 false))))) (tree.ends (tree.give (m 11) (tree.unit (m 11)))))) }
+main_answer = record {
+  params = [];
+  body = tree.block (m 11) (tree.lets 12 (tree.bind 13 5 (tree.by_value false)) (tree.of_value (tree.build (m 14) (tree.constant (tree.whole_number Kind.I64 (pos 7))) tree.no_operand))
+      (tree.runs (tree.loop (m 15) 4 (tree.block (m 16) (tree.runs (tree.call (m 17) 0 (tree.operand_and 0 (tree.read (m 18) false (own 5)) tree.no_operand)) (tree.ends (tree.jump (m 19) 4 false))))) (tree.ends (tree.give (m 11) (tree.unit (m 11))))));
+}
 
 abbrev show_answer : Function
 show_answer = record { params = record { node = 21; variable = 3 } ∷ []; body = tree.block (m 22) (tree.runs (tree.print (m 23) (tree.read (m 24) false (own 3))) (tree.ends (tree.give (m 22) (tree.unit (m 22))))) }
@@ -82,3 +90,11 @@ entries (suc (suc f)) = neither tt tt
 
 pub is_renamed : Renamed text answer
 is_renamed = record { items = items; alike = record { all = entries; mains = refl } }
+
+text_run : run text [] 3 ≡ record { printed = codes "7\n"; end = End.Ended }
+unfolding value below_level digits after bind result_of decided tested closed took bound begun take_turn passed returned with_arguments
+text_run = refl
+
+answer_run : run answer [] 3 ≡ record { printed = codes "7\n"; end = End.Ended }
+unfolding value below_level digits after bind result_of decided tested closed took bound begun take_turn passed returned with_arguments
+answer_run = refl

@@ -1,4 +1,4 @@
--- How what both states keep goes on: behind an action, a write, a new variable.
+-- How what both states keep goes on behind an action, a write, a turn: pair by pair, and variable by variable.
 use Rattle.std.proofs.Common.{◌≡◌, ℕ, zero, suc, ◌<◌, ◌≤◌, Bool, true, false, nat_eq, List, [], ◌∷◌, ◌++◌, length, Option, Some, None, refl, sym, ap, ◌∙◌, subst, arith, le_refl, ◌⊎◌, inl, inr, ⊎_elim, ℤ, if◌then◌else◌, eqb-true}
 use Rattle.std.proofs.lemmas.Bool.{eqb-false}
 use Rattle.rx_lower_walks.specs.Actions.{Act, Declare, Action, does}

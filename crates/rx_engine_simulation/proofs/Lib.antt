@@ -16,4 +16,9 @@ pub mod Calls
 pub mod Congruence
 pub mod Histories
 pub mod Whole
+pub mod Entry
+pub mod Leaving
+pub mod Given
+pub mod Called
 pub mod Examples
+pub mod ExamplesOfCalls

@@ -1,4 +1,4 @@
--- The memory: what writes and new slots leave.
+-- What writes and new slots leave of the memory: by recursion on its slots.
 use Rattle.std.proofs.Common.{◌≡◌, ℕ, zero, suc, ◌<◌, List, [], ◌∷◌, ◌++◌, length, Option, Some, None, refl, ap, arith}
 use Rattle.rx_meaning.specs.Values.{Value, element, with_element}
 

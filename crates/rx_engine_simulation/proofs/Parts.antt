@@ -1,4 +1,4 @@
--- Parts of a meaning, one behind another, do alike.
+-- Scopes, turns and passes of loops do alike where what stands in them does: by cases on what that gave.
 use Rattle.std.proofs.Common.{◌≡◌, ℕ, zero, suc, ◌+◌, ◌<◌, ◌≤◌, Bool, true, false, nat_eq, List, [], ◌∷◌, ◌++◌, length, Option, Some, None, refl, sym, ap, ap₂, ◌∙◌, subst, arith, le_refl, ◌⊎◌, inl, inr, ⊎_elim, append-nil}
 use Rattle.rx_meaning.specs.declared.outcome.End.{End}
 use Rattle.rx_typed.specs.Tree.{Function}

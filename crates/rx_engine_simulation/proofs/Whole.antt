@@ -16,7 +16,7 @@ use Rattle.rx_engine_simulation.proofs.Values.{Pair, Given, none_given}
 use Rattle.rx_engine_simulation.proofs.States.{Direction, shorter, longer, gain, Turns, Facts, Renaming, Frozen, StatesAlike}
 use Rattle.rx_engine_simulation.proofs.Results.{Jumping, ResultsAlike, both_on, both_jump, both_stop, text_cut, answer_cut}
 use Rattle.rx_engine_simulation.proofs.Calls.{whole_jumps}
-use Rattle.rx_engine_simulation.proofs.Congruence.{OpensAlike, calls_up_to}
+use Rattle.rx_engine_simulation.proofs.Congruence.{OpensAlike, nothing_opens, calls_up_to}
 use Rattle.rx_engine_simulation.specs.Openings.{Openings, no_openings}
 use Rattle.rx_engine_simulation.specs.Programs.{LikePrograms, Renamed}
 
@@ -113,9 +113,6 @@ module _ (items : ℕ → ℕ) (O : Openings) (P Q : Program) where
 
 -- ---- without an opening
 
-no_open_alike : (items : ℕ → ℕ) (P Q : Program) (d : Direction) → OpensAlike items P.functions Q.functions d no_openings
-no_open_alike items P Q d = record { expression = λ n k o. absurd o; statements = λ n k o. absurd o }
-
 no_turns : (n : ℕ) → n + n * 0 ≡ n
 no_turns n = omega arith
 
@@ -140,5 +137,5 @@ both_ways a b (inr f) (inr g) =
 
 pub renamed_alike : (P Q : Program) → Renamed P Q → (given : List ℤ) (n : ℕ) → run Q given n ≡ run P given n
 renamed_alike P Q r given n =
-    both_ways (run Q given n) (run P given n) (answer_up_to_text r.items no_openings P Q 0 (no_open_alike r.items P Q (shorter 0)) r.alike given n)
-    (subst (λ k. UpTo (run P given n) (run Q given k)) (no_turns n) (text_up_to_answer r.items no_openings P Q 0 (no_open_alike r.items P Q (longer 0)) r.alike given n))
+    both_ways (run Q given n) (run P given n) (answer_up_to_text r.items no_openings P Q 0 (nothing_opens r.items P.functions Q.functions (shorter 0)) r.alike given n)
+    (subst (λ k. UpTo (run P given n) (run Q given k)) (no_turns n) (text_up_to_answer r.items no_openings P Q 0 (nothing_opens r.items P.functions Q.functions (longer 0)) r.alike given n))

@@ -12,3 +12,4 @@ pub mod Results
 pub mod Openings
 pub mod Like
 pub mod Programs
+pub mod Called

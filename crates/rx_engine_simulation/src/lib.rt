@@ -3,4 +3,4 @@
 
 mod laws;
 
-pub use laws::renamed_programs_run_alike;
+pub use laws::{calls_run_as_what_they_stand_for, renamed_programs_run_alike};
