@@ -1,26 +1,22 @@
 -- What actions do alike: reads, tests, calls, input, output and what is made, by what is found at the places and in the operands.
-use Rattle.std.proofs.Common.{◌≡◌, ℕ, zero, suc, ◌<◌, ◌≤◌, Bool, true, false, ◌&&◌, nat_eq, List, [], ◌∷◌, ◌++◌, length, Option, Some, None, refl, sym, ap, ap₂, ◌∙◌, subst, arith, le_refl, ◌⊎◌, inl, inr, ⊎_elim, ℤ, if◌then◌else◌, eqb-true}
-use Rattle.std.proofs.lemmas.Bool.{eqb-false}
-use Rattle.rx_core.specs.declared.types.Step.{Step}
+use Rattle.std.proofs.Common.{◌≡◌, ℕ, Bool, true, false, List, [], ◌∷◌, Option, Some, None, refl, sym, subst, ⊎_elim, ℤ, if◌then◌else◌}
 use Rattle.rx_meaning.specs.Endings.{Cause, Ending, end_of}
-use Rattle.rx_typed.specs.Tree.{Root, variable, temporary, Temporary, Place, Making, own}
+use Rattle.rx_typed.specs.Tree.{Temporary, Place, Making}
 use Rattle.rx_lower_walks.specs.Matching.{Check}
-use Rattle.rx_lower_walks.specs.Actions.{Act, Declare, Dead, Read, Write, Borrow, Test, Call, Build, Input, Print, Give, Action, does}
-use Rattle.rx_meaning.specs.Values.{Value, number, truth, pointer, unit_value, is_set, and_then, get, put, element, with_element, Frame, slot_of, State, with_memory, with_variable}
+use Rattle.rx_lower_walks.specs.Actions.{Act, Read, Test, Call, Build, Input, Print, Give, Action, does}
+use Rattle.rx_meaning.specs.Values.{Value, truth, unit_value, is_set, State}
 use Rattle.rx_meaning.specs.Results as results
 use Rattle.rx_meaning.specs.Results.{Done, gives, or_ends, Result, on, jumps, stops, after, bind, result_of}
-use Rattle.rx_meaning.specs.Places.{Spot, in_slot, in_value, content, spot, found, whole_value, reference_to, after_write}
-use Rattle.rx_meaning.specs.Operators as operators
+use Rattle.rx_meaning.specs.Places.{Spot, found}
 use Rattle.rx_meaning.specs.Operators.{Computed, make, shown}
-use Rattle.rx_meaning.specs.Acting.{Acting, performed, checked, computed, next_input, does_plainly, plainly}
+use Rattle.rx_meaning.specs.Acting.{performed, checked, computed, next_input, does_plainly, plainly}
 use Rattle.rx_meaning.specs.Telling.{told_by}
-use Rattle.rx_engine_simulation.proofs.Told.{Told, says, did, said, onto, saying, noted, followed, said_saying, onto_saying, onto_append}
-use Rattle.rx_meaning.proofs.Fronts.{told_after}
-use Rattle.rx_engine_simulation.proofs.Values.{Hold, fixed, shut, free, NotFixed, Pair, pair, In, LikeValue, numbers, truths, wholes, no_values, pointers, More, like_more, LikeOption, nones, somes, like_then, set_same, get_like, put_like, get_set, put_set, checked_same, shown_same, Given, AllGiven, none_given, more_given, LikeComputed, both_give, both_trap, neither_computes, Sized, Fitting, make_like}
-use Rattle.rx_engine_simulation.proofs.States.{Direction, Turns, IsRoot, IsOwn, IsWhole, Declares, WritesWhole, WritesOwn, BorrowsOwn, Uses, Kills, Written, Borrowed, Facts, Living, now, later, How, plain, special, through, copied, viewed, Sight, sight, Renaming, sight_of, Frozen, Thawed, SameAt, IsPlain, IsThrough, IsSpecial, Binding, Paired, Framed, IsSetAt, StatesAlike, Grown, grown_refl}
-use Rattle.rx_engine_simulation.proofs.Keeping.{same_to, binding_to, KillsNone, touched_later, states_step, states_input, states_write, grown_write}
-use Rattle.rx_engine_simulation.proofs.Results.{Jumping, Reached, ResultsAlike, both_on, both_stop, DoAlike, alike_prefix}
-use Rattle.rx_engine_simulation.proofs.Spots.{LikeSpot, owned, lent, holds, content_like, Use, looking, sharing, changing, writing, IsFull, LikePlace, Specially, Owns, spot_like}
+use Rattle.rx_engine_simulation.proofs.Told.{onto, noted, followed, said_saying, onto_saying}
+use Rattle.rx_engine_simulation.proofs.Values.{Pair, LikeValue, numbers, truths, wholes, no_values, LikeOption, nones, somes, like_then, set_same, checked_same, shown_same, Given, AllGiven, LikeComputed, both_give, both_trap, neither_computes, Sized, Fitting, make_like}
+use Rattle.rx_engine_simulation.proofs.States.{Direction, Turns, IsRoot, IsOwn, Facts, Living, now, Renaming, Frozen, StatesAlike, grown_refl}
+use Rattle.rx_engine_simulation.proofs.Keeping.{KillsNone, states_step, states_input}
+use Rattle.rx_engine_simulation.proofs.Results.{Jumping, Reached, ResultsAlike, both_on, both_stop, DoAlike}
+use Rattle.rx_engine_simulation.proofs.Spots.{LikeSpot, content_like, Use, looking, IsFull, LikePlace, Owns, spot_like}
 
 -- what an action gives on both sides
 pub data LikeDone (V : Facts) (d : Direction) (R : Renaming) (Z Z' : Frozen) (W : List Pair → Value → Value → Type 0) (c : ℕ) (a : Action) (h : List Action) (j : List Pair) (s s' : State) : Done ℕ → Done ℕ → Type 0 where

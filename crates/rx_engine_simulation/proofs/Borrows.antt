@@ -1,22 +1,21 @@
 -- Borrows do alike: the slots of a special variable become a pair, to which nothing is written any more.
-use Rattle.std.proofs.Common.{◌≡◌, ℕ, zero, suc, ◌<◌, ◌≤◌, Bool, true, false, ◌&&◌, List, [], ◌∷◌, ◌++◌, length, Option, Some, None, refl, sym, ap, ◌∙◌, subst, arith, le_refl, ◌⊎◌, inl, inr, ⊎_elim}
+use Rattle.std.proofs.Common.{◌≡◌, ℕ, Bool, true, false, ◌&&◌, List, [], ◌∷◌, Some, refl, sym, ap, ◌∙◌, subst, le_refl, inl, inr, ⊎_elim}
 use Rattle.rx_core.specs.declared.types.Step.{Step}
 use Rattle.rx_typed.specs.Tree.{Temporary, Place}
 use Rattle.rx_lower_walks.specs.Actions.{Borrow, Action, does}
 use Rattle.rx_meaning.specs.Values.{Value, pointer, slot_of, State}
 use Rattle.rx_meaning.specs.Results.{gives}
-use Rattle.rx_meaning.specs.Places.{Spot, in_slot, in_value, reference_to, found}
+use Rattle.rx_meaning.specs.Places.{Spot, reference_to}
 use Rattle.rx_meaning.specs.Endings.{astray}
 use Rattle.rx_meaning.specs.Acting.{performed, plainly}
-use Rattle.rx_meaning.specs.Results as results
 use Rattle.rx_meaning.specs.Results.{or_ends}
 use Rattle.rx_engine_simulation.proofs.Told.{followed}
-use Rattle.rx_engine_simulation.proofs.Values.{Hold, fixed, free, NotFixed, Pair, pair, In, LikeValue, pointers, like_more, More, Given, AllGiven}
-use Rattle.rx_engine_simulation.proofs.States.{Direction, Turns, IsRoot, IsOwn, BorrowsOwn, Kills, Borrowed, Facts, Living, now, later, How, special, Sight, sight, Renaming, sight_of, Frozen, Thawed, SameAt, IsSpecial, Binding, StatesAlike, Grown, grown_refl}
-use Rattle.rx_engine_simulation.proofs.Keeping.{same_to, binding_to, touched_later, states_step}
-use Rattle.rx_engine_simulation.proofs.Results.{Jumping, Reached, DoAlike}
-use Rattle.rx_engine_simulation.proofs.Spots.{LikeSpot, owned, lent, holds, Use, looking, sharing, changing, writing, LikePlace, Specially, Owns}
-use Rattle.rx_engine_simulation.proofs.Acts.{LikeDone, both_gave, both_ended, act_alike, or_like, found_like, stays, Found}
+use Rattle.rx_engine_simulation.proofs.Values.{fixed, free, NotFixed, Pair, pair, In, pointers, Given, AllGiven}
+use Rattle.rx_engine_simulation.proofs.States.{Direction, Turns, IsRoot, IsOwn, BorrowsOwn, Kills, Borrowed, Facts, now, later, How, special, sight, Renaming, sight_of, Frozen, SameAt, IsSpecial, Binding, StatesAlike, Grown}
+use Rattle.rx_engine_simulation.proofs.Keeping.{same_to, binding_to, touched_later}
+use Rattle.rx_engine_simulation.proofs.Results.{Jumping, DoAlike}
+use Rattle.rx_engine_simulation.proofs.Spots.{LikeSpot, owned, lent, holds, sharing, changing, LikePlace, Specially, Owns}
+use Rattle.rx_engine_simulation.proofs.Acts.{LikeDone, both_gave, both_ended, act_alike, or_like, found_like, stays}
 pub use Rattle.rx_engine_simulation.specs.Places.{use_of}
 
 some_same : {A : Type 0} {a b : A} → Some a ≡ Some b → a ≡ b

@@ -1,18 +1,17 @@
 -- An expression beside the call that stands in its place: the text stays in its frame, the answer enters one of its own, with what it
 -- is given, and leaves it with the value; what both states keep is the same in both frames but for variables.
-use Rattle.std.proofs.Common.{◌≡◌, ℕ, zero, suc, ◌+◌, ◌*◌, ◌≤◌, Bool, true, false, List, [], ◌∷◌, ◌++◌, length, Option, Some, None, refl, sym, ap, ◌∙◌, subst, arith, le_refl, inl, inr, ℤ}
+use Rattle.std.proofs.Common.{◌≡◌, ℕ, zero, suc, ◌+◌, ◌*◌, ◌≤◌, List, [], ◌∷◌, Some, None, refl, sym, ap, ◌∙◌, subst, arith, inr, ℤ}
 use Rattle.std.proofs.lemmas.List.{append-nil}
 use Rattle.rx_typed.specs.Tree as tree
 use Rattle.rx_typed.specs.Tree.{Mark, Exp, Operands, Function, Temporary, mark_of, temporary_of, temporaries_of}
 use Rattle.rx_lower_walks.specs.Actions.{Action, Call, Give, at_mark}
 use Rattle.rx_lower_walks.specs.Orders.{order, returns}
 use Rattle.rx_meaning.specs.Endings.{running}
-use Rattle.rx_meaning.specs.Values.{Value, element, Frame, slot_of, State, with_turns}
+use Rattle.rx_meaning.specs.Values.{Value, element, State, with_turns}
 use Rattle.rx_meaning.specs.Results.{Result, on, jumps, stops, after, bind, result_of}
 use Rattle.rx_meaning.specs.Acting.{performed, plainly}
-use Rattle.rx_meaning.specs.Telling.{told_by}
 use Rattle.rx_meaning.specs.Expressions.{Functions, Meaning, found, turn_at, take_turn, returned, with_arguments, activation, entered, value, values, below_level}
-use Rattle.rx_meaning.specs.Programs.{Program, run, IsFront, UpTo}
+use Rattle.rx_meaning.specs.Programs.{Program, run, UpTo}
 use Rattle.rx_meaning.proofs.Sequences.{after_nothing}
 use Rattle.rx_meaning.proofs.Fronts.{front_bind, told_returned}
 use Rattle.rx_engine_simulation.specs.Openings.{no_openings}
@@ -20,7 +19,7 @@ use Rattle.rx_engine_simulation.specs.Like.{LikeExp}
 use Rattle.rx_engine_simulation.specs.Called.{New, Passing, Absents, inner_jumps, NoneSpecial, Covers, body_giving, BecomesCall, becomes_call, calls_of, WithCall}
 use Rattle.rx_engine_simulation.proofs.Told.{Told, said, followed}
 use Rattle.rx_engine_simulation.proofs.Values.{In, Pair, Given, shut}
-use Rattle.rx_engine_simulation.proofs.States.{Direction, shorter, longer, gain, Turns, weaken, EntryCase, cut_off, extra, entry_case, plain, special, Sight, sight, Renaming, sight_of, Facts, Frozen, StatesAlike, Grown}
+use Rattle.rx_engine_simulation.proofs.States.{Direction, shorter, longer, gain, Turns, weaken, EntryCase, cut_off, extra, entry_case, plain, special, Sight, sight, Renaming, sight_of, Facts, Frozen, StatesAlike}
 use Rattle.rx_engine_simulation.proofs.Results.{Jumping, Reached, stays_break, stays_continue, gives_back, packs_break, packs_continue, packs_value, packs_unit, ResultsAlike, both_on, both_jump, both_stop, text_cut, answer_cut, DoAlike}
 use Rattle.rx_engine_simulation.proofs.Parts.{Ready}
 use Rattle.rx_engine_simulation.proofs.Calls.{in_item, in_frame}

@@ -1,21 +1,19 @@
 -- A call does alike: what the special variables of the caller hold is frozen while the other function runs, so all is as it was behind it.
-use Rattle.std.proofs.Common.{◌≡◌, ℕ, zero, suc, ◌<◌, ◌≤◌, Bool, true, false, nat_eq, List, [], ◌∷◌, ◌++◌, length, Option, Some, None, refl, sym, ap, ◌∙◌, subst, arith, le_refl, ◌⊎◌, inl, inr, ⊎_elim}
-use Rattle.rx_meaning.specs.declared.outcome.End.{End}
+use Rattle.std.proofs.Common.{◌≡◌, ℕ, ◌≤◌, List, [], length, Some, None, refl, sym, ap, ◌∙◌, subst, arith, ◌⊎◌, inl, inr, ⊎_elim}
 use Rattle.rx_lower_walks.specs.Actions.{Action}
 use Rattle.rx_meaning.specs.Values.{Value, element, Frame, new_frame, slot_of, State}
-use Rattle.rx_meaning.specs.Results.{Result, on, jumps, stops}
+use Rattle.rx_meaning.specs.Results.{Result}
 use Rattle.rx_meaning.specs.Acting.{plainly}
 use Rattle.rx_meaning.specs.Expressions.{returned}
 use Rattle.rx_meaning.specs.Programs.{IsFront}
 use Rattle.rx_meaning.specs.Telling.{told_by}
 use Rattle.rx_meaning.proofs.Fronts.{told_returned}
 use Rattle.rx_engine_simulation.proofs.Told.{Told, said, onto, saying, followed, said_saying, onto_saying}
-use Rattle.rx_engine_simulation.proofs.Memory.{at_below}
-use Rattle.rx_engine_simulation.proofs.Values.{Hold, fixed, free, Pair, pair, In, LikeValue, like_more, More, Given}
+use Rattle.rx_engine_simulation.proofs.Values.{fixed, free, Pair, In, like_more, Given}
 use Rattle.rx_engine_simulation.proofs.States as worlds
 use Rattle.rx_engine_simulation.proofs.States.{Direction, Turns, Facts, Living, Borrowed, Written, How, special, Sight, sight, Renaming, sight_of, Frozen, Thawed, SameAt, IsSpecial, Paired, Framed, IsSetAt, StatesAlike, Grown}
-use Rattle.rx_engine_simulation.proofs.Keeping.{same_to, binding_to}
-use Rattle.rx_engine_simulation.proofs.Results.{Pack, Returning, as_return, Jumping, LikeExit, gives_back, stays_break, stays_continue, packs_break, packs_continue, packs_value, packs_unit, Reached, ResultsAlike, both_on, both_jump, both_stop, text_cut, answer_cut}
+use Rattle.rx_engine_simulation.proofs.Keeping.{same_to}
+use Rattle.rx_engine_simulation.proofs.Results.{Jumping, gives_back, stays_break, stays_continue, packs_break, packs_continue, packs_value, packs_unit, Reached, ResultsAlike, both_on, both_jump, both_stop, text_cut, answer_cut}
 pub use Rattle.rx_engine_simulation.specs.Programs.{whole_jumps}
 
 none_some : {A : Type 0} {a : A} → None ≡ Some a → ⊥

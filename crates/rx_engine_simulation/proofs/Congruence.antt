@@ -1,11 +1,11 @@
 -- Whole parts do alike: by induction on the levels of the answer, then on what makes the parts alike. What an opening does is a
 -- premise, which may use that calls do alike, at this level of the answer and at those below.
-use Rattle.std.proofs.Common.{◌≡◌, ℕ, zero, suc, ◌+◌, ◌<◌, ◌≤◌, Bool, true, false, List, [], ◌∷◌, length, Option, Some, None, refl, sym, ap, ◌∙◌, subst, arith, le_refl, nat_eq, eqb-true}
+use Rattle.std.proofs.Common.{◌≡◌, ℕ, zero, suc, ◌+◌, ◌<◌, ◌≤◌, Bool, true, false, List, [], ◌∷◌, length, Option, Some, None, refl, sym, ap, subst, arith, le_refl, nat_eq, eqb-true}
 use Rattle.std.proofs.lemmas.Bool.{eqb-false}
 use Rattle.rx_core.specs.declared.types.Step.TheVariants as step
 use Rattle.rx_typed.specs.Tree as tree
 use Rattle.rx_typed.specs.Tree.{Temporary, Mark, Exp, Operands, Scrutinee, Arms, Body, Function, own, mark_of, temporary_at, temporary_of, temporaries_of, fields_of, held, under, operation, lazy}
-use Rattle.rx_lower_walks.specs.Matching.{equals, tests, bindings}
+use Rattle.rx_lower_walks.specs.Matching.{equals, bindings}
 use Rattle.rx_lower_walks.specs.Actions.{Action, Test, Build, at_mark, subject}
 use Rattle.rx_lower_walks.specs.Orders as orders
 use Rattle.rx_lower_walks.specs.Orders.{order, order_all, order_scrutinee, order_arms, order_body, binding}
@@ -17,10 +17,10 @@ use Rattle.rx_meaning.specs.Expressions.{Functions, found, take_turn, entered, v
 use Rattle.rx_meaning.specs.Telling.{told_by}
 use Rattle.rx_engine_simulation.proofs.Told.{Told, followed, onto}
 use Rattle.rx_engine_simulation.proofs.Positions.{first_at, next_at, one_at, arm_at, next_arm_at, pass_at, later_at, below_walk, value_walk, act_walk, matched_walk}
-use Rattle.rx_engine_simulation.proofs.Values.{In, Pair, More, Given, AllGiven, none_given, more_given, given_more, all_more, wholes, no_values, sized}
+use Rattle.rx_engine_simulation.proofs.Values.{Pair, Given, AllGiven, none_given, more_given, given_more, all_more, wholes, no_values, sized}
 use Rattle.rx_engine_simulation.proofs.States.{Direction, gain, Turns, weaken, Facts, Sight, Renaming, sight_of, Frozen, StatesAlike}
-use Rattle.rx_engine_simulation.proofs.Results.{Jumping, in_loop, as_return, stays_break, stays_continue, gives_back, Reached, both_on, both_jump, both_stop, DoAlike, alike_bind, alike_bind_at}
-use Rattle.rx_engine_simulation.proofs.Spots.{no_steps, derefs, of_temporary, LikePlace, looking}
+use Rattle.rx_engine_simulation.proofs.Results.{Jumping, in_loop, stays_break, stays_continue, gives_back, both_on, both_jump, both_stop, DoAlike, alike_bind, alike_bind_at}
+use Rattle.rx_engine_simulation.proofs.Spots.{no_steps, derefs, of_temporary}
 use Rattle.rx_engine_simulation.proofs.Acts.{read_alike, test_alike, call_alike, input_alike, print_alike, give_alike, build_alike}
 use Rattle.rx_engine_simulation.proofs.Borrows.{borrow_alike}
 use Rattle.rx_engine_simulation.proofs.Writes.{write_alike}

@@ -1,12 +1,12 @@
 -- What both states keep, where both have a new variable: its slots are new, so no pair and no frozen slot leads there.
-use Rattle.std.proofs.Common.{◌≡◌, ℕ, zero, suc, ◌<◌, ◌≤◌, Bool, true, false, nat_eq, List, [], ◌∷◌, ◌++◌, length, Option, Some, None, refl, sym, ap, ◌∙◌, subst, arith, le_refl, ◌⊎◌, inl, inr, ⊎_elim, if◌then◌else◌, eqb-true}
+use Rattle.std.proofs.Common.{◌≡◌, ℕ, ◌<◌, ◌≤◌, Bool, true, false, nat_eq, List, [], ◌∷◌, ◌++◌, length, Some, None, refl, sym, ap, ◌∙◌, subst, arith, le_refl, ◌⊎◌, inl, inr, ⊎_elim, if◌then◌else◌, eqb-true}
 use Rattle.std.proofs.lemmas.Bool.{eqb-false}
-use Rattle.rx_lower_walks.specs.Actions.{Act, Declare, Action, does}
+use Rattle.rx_lower_walks.specs.Actions.{Declare, Action, does}
 use Rattle.rx_meaning.specs.Values.{Value, lacking, unset, element, Frame, slot_of, State, with_variable}
 use Rattle.rx_engine_simulation.proofs.Memory.{at_end, at_before, at_below, length_more}
-use Rattle.rx_engine_simulation.proofs.Values.{Hold, free, NotFixed, Pair, pair, In, LikeValue, lacks, like_more, More}
-use Rattle.rx_engine_simulation.proofs.States.{Facts, later, Declares, Kills, Written, Borrowed, How, plain, special, through, copied, viewed, Sight, sight, Renaming, sight_of, Frozen, Thawed, SameAt, IsSpecial, IsPlain, Binding, Paired, Framed, IsSetAt, StatesAlike, Grown}
-use Rattle.rx_engine_simulation.proofs.Keeping.{same_to, Stays, binding_to, touched_later}
+use Rattle.rx_engine_simulation.proofs.Values.{Hold, free, NotFixed, Pair, pair, In, lacks, More}
+use Rattle.rx_engine_simulation.proofs.States.{Facts, later, Written, How, plain, special, Sight, sight, Renaming, sight_of, Frozen, Thawed, SameAt, IsSpecial, IsPlain, Binding, Framed, IsSetAt, StatesAlike, Grown}
+use Rattle.rx_engine_simulation.proofs.Keeping.{same_to, binding_to, touched_later}
 pub use Rattle.rx_engine_simulation.specs.Sights.{IsNew}
 
 some_same : {A : Type 0} {a b : A} → Some a ≡ Some b → a ≡ b

@@ -1,11 +1,10 @@
 -- The new function has slots of its own for what it is given, while the text stands still: variable by variable.
-use Rattle.std.proofs.Common.{◌≡◌, ℕ, zero, suc, ◌<◌, ◌≤◌, Bool, true, false, nat_eq, List, [], ◌∷◌, ◌++◌, length, Option, Some, None, refl, sym, ap, ◌∙◌, subst, arith, le_refl, ◌⊎◌, inl, inr, ⊎_elim, if◌then◌else◌, eqb-true}
-use Rattle.std.proofs.lemmas.Bool.{eqb-false}
+use Rattle.std.proofs.Common.{◌≡◌, ℕ, ◌<◌, ◌≤◌, Bool, true, false, nat_eq, List, [], ◌∷◌, ◌++◌, length, Some, None, refl, sym, ap, ◌∙◌, subst, arith, le_refl, ◌⊎◌, inl, inr, ⊎_elim, if◌then◌else◌, eqb-true}
 use Rattle.rx_lower_walks.specs.Actions.{Action}
-use Rattle.rx_meaning.specs.Values.{Value, pointer, element, Frame, new_frame, slot_of, State, with_turns}
+use Rattle.rx_meaning.specs.Values.{Value, pointer, element, slot_of, State, with_turns}
 use Rattle.rx_engine_simulation.proofs.Memory.{at_end, at_before, at_below, length_more}
-use Rattle.rx_engine_simulation.proofs.Values.{Hold, fixed, shut, free, NotFixed, Pair, pair, In, LikeValue, like_more}
-use Rattle.rx_engine_simulation.proofs.States.{Facts, Living, Borrowed, How, plain, special, through, copied, viewed, absent, Sight, sight, Renaming, sight_of, Frozen, Thawed, SameAt, IsPlain, IsThrough, IsCopied, IsViewed, IsSpecial, Binding, Paired, Framed, StatesAlike, Grown}
+use Rattle.rx_engine_simulation.proofs.Values.{Hold, shut, free, Pair, pair, In, LikeValue}
+use Rattle.rx_engine_simulation.proofs.States.{Facts, Living, How, plain, special, through, copied, viewed, absent, Sight, sight, Renaming, sight_of, Frozen, Thawed, SameAt, IsPlain, IsSpecial, Binding, StatesAlike}
 use Rattle.rx_engine_simulation.proofs.Keeping.{same_to, states_turns}
 use Rattle.rx_engine_simulation.proofs.Declaring.{IsNew, framed_new, new_slot, old_slot}
 use Rattle.rx_engine_simulation.proofs.Calls.{Kept', in_item}

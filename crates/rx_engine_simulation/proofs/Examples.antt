@@ -1,5 +1,5 @@
 -- A program and the same with other numbers of nodes, items, loops and variables: it is renamed, and both runs are computed.
-use Rattle.std.proofs.Common.{◌≡◌, ℕ, zero, suc, ℤ, pos, false, List, [], ◌∷◌, Option, Some, None, refl, arith}
+use Rattle.std.proofs.Common.{◌≡◌, ℕ, zero, suc, pos, false, [], ◌∷◌, Some, None, refl, arith}
 use Rattle.std.specs.Prelude.{codes}
 use Rattle.std.specs.Fmt.{digits}
 use Rattle.rx_core.specs.declared.types.Kind.{Kind}
@@ -11,7 +11,7 @@ use Rattle.rx_meaning.specs.Results.{bind, after, result_of}
 use Rattle.rx_meaning.specs.Patterns.{decided, tested, closed, bound, took, begun}
 use Rattle.rx_meaning.specs.Expressions.{value, take_turn, passed, returned, with_arguments, below_level}
 use Rattle.rx_meaning.specs.Programs.{Program, run}
-use Rattle.rx_engine_simulation.specs.Sights.{shut, plain, sight, Renaming, IsNew}
+use Rattle.rx_engine_simulation.specs.Sights.{shut, plain, sight, IsNew}
 use Rattle.rx_engine_simulation.specs.Places.{direct, no_steps}
 use Rattle.rx_engine_simulation.specs.Binders.{new_plain, no_param, param_and, takes_none, no_binding, binding_and}
 use Rattle.rx_engine_simulation.specs.Openings.{no_openings}

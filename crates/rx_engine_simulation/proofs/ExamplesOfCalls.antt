@@ -1,5 +1,5 @@
 -- A program, and one in which a call that lends a variable stands for an expression of it; both runs are computed.
-use Rattle.std.proofs.Common.{◌≡◌, ℕ, zero, suc, pos, Bool, true, false, nat_eq, if◌then◌else◌, List, [], ◌∷◌, Option, Some, None, refl, ap, arith}
+use Rattle.std.proofs.Common.{◌≡◌, ℕ, zero, suc, pos, Bool, true, false, nat_eq, if◌then◌else◌, [], ◌∷◌, Some, None, refl, ap, arith}
 use Rattle.std.specs.Prelude.{codes}
 use Rattle.std.specs.Fmt.{digits}
 use Rattle.rx_core.specs.declared.types.Kind.{Kind}

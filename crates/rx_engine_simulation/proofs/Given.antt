@@ -1,24 +1,24 @@
 -- What the new function is given: the answer reads or lends its variables, and has a slot for each parameter then, while the text
 -- stands still. Each step of the answer is computed.
-use Rattle.std.proofs.Common.{◌≡◌, ℕ, zero, suc, ◌≤◌, Bool, true, false, ◌&&◌, List, [], ◌∷◌, ◌++◌, length, Option, Some, None, refl, sym, ap, ◌∙◌, subst, le_refl, if◌then◌else◌}
+use Rattle.std.proofs.Common.{◌≡◌, ℕ, Bool, true, false, ◌&&◌, List, [], ◌∷◌, ◌++◌, length, Some, None, refl, sym, ap, ◌∙◌, if◌then◌else◌}
 use Rattle.rx_typed.specs.Tree as tree
 use Rattle.rx_typed.specs.Tree.{Mark, Exp, Operands, Parameter, Temporary, own, temporary_of}
-use Rattle.rx_lower_walks.specs.Actions.{Act, Read, Write, Borrow, Declare, Action, does, at_mark}
-use Rattle.rx_lower_walks.specs.Orders.{Order, argument, declared_parameter, written_parameter}
+use Rattle.rx_lower_walks.specs.Actions.{Write, Action, does}
+use Rattle.rx_lower_walks.specs.Orders.{Order, argument, written_parameter}
 use Rattle.rx_meaning.specs.Endings.{lacks, astray}
 use Rattle.rx_meaning.specs.Straying.{why_not_found, why_not_written}
 use Rattle.rx_meaning.specs.Values.{Value, pointer, lacking, unset, unit_value, is_set, and_then, get, put, element, with_element, slot_of, State, with_memory, with_variable}
 use Rattle.rx_meaning.specs.Results as results
 use Rattle.rx_meaning.specs.Results.{Done, or_ends, Result, on, bind, after, result_of}
-use Rattle.rx_meaning.specs.Places.{Spot, in_slot, content, spot, found, whole_value, reference_to, after_write}
+use Rattle.rx_meaning.specs.Places.{in_slot, content, found, whole_value, reference_to, after_write}
 use Rattle.rx_meaning.specs.Acting.{performed, plainly}
 use Rattle.rx_meaning.specs.Patterns.{closed}
 use Rattle.rx_meaning.specs.Expressions.{Functions, Meaning, with_arguments, value, values}
 use Rattle.rx_meaning.proofs.Sequences.{after_nothing, bind_on, closed_is}
 use Rattle.rx_engine_simulation.specs.Called.{Passing, passes_none, passes_copy, passes_reference, Absents, none_absent, absent_and}
 use Rattle.rx_engine_simulation.proofs.Memory.{at_end}
-use Rattle.rx_engine_simulation.proofs.Values.{Hold, shut, Pair, set_same}
-use Rattle.rx_engine_simulation.proofs.States.{Facts, plain, Sight, sight, Renaming, sight_of, Frozen, IsPlain, StatesAlike}
+use Rattle.rx_engine_simulation.proofs.Values.{shut, Pair, set_same}
+use Rattle.rx_engine_simulation.proofs.States.{Facts, plain, sight, Renaming, Frozen, IsPlain, StatesAlike}
 use Rattle.rx_engine_simulation.proofs.Declaring.{new_slot}
 use Rattle.rx_engine_simulation.proofs.Writes.{spot_own}
 use Rattle.rx_engine_simulation.proofs.Parts.{declare_answer}

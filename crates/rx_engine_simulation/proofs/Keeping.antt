@@ -1,11 +1,11 @@
 -- How what both states keep goes on behind an action, a write, a turn: pair by pair, and variable by variable.
-use Rattle.std.proofs.Common.{◌≡◌, ℕ, zero, suc, ◌<◌, ◌≤◌, Bool, true, false, nat_eq, List, [], ◌∷◌, ◌++◌, length, Option, Some, None, refl, sym, ap, ◌∙◌, subst, arith, le_refl, ◌⊎◌, inl, inr, ⊎_elim, ℤ, if◌then◌else◌, eqb-true}
+use Rattle.std.proofs.Common.{◌≡◌, ℕ, Bool, true, false, nat_eq, List, ◌∷◌, Option, Some, None, refl, sym, ap, ◌∙◌, subst, arith, le_refl, ◌⊎◌, inl, inr, ⊎_elim, ℤ, if◌then◌else◌, eqb-true}
 use Rattle.std.proofs.lemmas.Bool.{eqb-false}
-use Rattle.rx_lower_walks.specs.Actions.{Act, Declare, Action, does}
-use Rattle.rx_meaning.specs.Values.{Value, lacking, unset, is_set, element, with_element, Frame, slot_of, State, with_memory, with_turns, with_variable}
-use Rattle.rx_engine_simulation.proofs.Memory.{put_same, put_other, length_put, at_end, at_before, at_below, length_more}
-use Rattle.rx_engine_simulation.proofs.Values.{Hold, fixed, shut, free, NotFixed, Pair, pair, In, LikeValue, lacks, like_more, More}
-use Rattle.rx_engine_simulation.proofs.States.{Facts, Living, later, Declares, WritesWhole, Kills, Written, Borrowed, How, plain, special, through, copied, viewed, absent, Sight, sight, Renaming, sight_of, Frozen, Thawed, SameAt, IsPlain, IsThrough, IsCopied, IsViewed, IsSpecial, Binding, Paired, Framed, IsSetAt, StatesAlike, Grown, grown_refl}
+use Rattle.rx_lower_walks.specs.Actions.{Action}
+use Rattle.rx_meaning.specs.Values.{Value, is_set, element, with_element, Frame, slot_of, State, with_memory, with_turns}
+use Rattle.rx_engine_simulation.proofs.Memory.{put_same, put_other, length_put}
+use Rattle.rx_engine_simulation.proofs.Values.{Pair, In, LikeValue, like_more, More}
+use Rattle.rx_engine_simulation.proofs.States.{Facts, later, Declares, WritesWhole, Kills, Borrowed, How, plain, special, through, copied, viewed, absent, Sight, sight, Renaming, sight_of, Frozen, Thawed, SameAt, IsSpecial, Binding, IsSetAt, StatesAlike, Grown}
 
 pub same_to : {j j1 : List Pair} {M M' N N' : List Value} {i k : ℕ} → More j j1 → element N i ≡ element M i → element N' k ≡ element M' k → SameAt j M M' i k → SameAt j1 N N' i k
 same_to f e e' a = record { text = a.text; answer = a.answer; at_text = e ∙ a.at_text; at_answer = e' ∙ a.at_answer; like = like_more f a.like }

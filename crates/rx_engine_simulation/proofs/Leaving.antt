@@ -1,12 +1,11 @@
 -- The new function is left: what both states keep inside is kept outside, since its own slots are new and the caller's were frozen.
-use Rattle.std.proofs.Common.{◌≡◌, ℕ, zero, suc, ◌<◌, ◌≤◌, Bool, true, false, List, [], ◌∷◌, ◌++◌, length, Option, Some, None, refl, sym, ap, ◌∙◌, subst, arith, le_refl, ◌⊎◌, inl, inr, ⊎_elim}
+use Rattle.std.proofs.Common.{◌≡◌, ℕ, ◌<◌, ◌≤◌, List, length, Some, refl, sym, ◌∙◌, arith, ◌⊎◌, inl, inr}
 use Rattle.rx_lower_walks.specs.Actions.{Action}
 use Rattle.rx_meaning.specs.Values.{Value, element, Frame, slot_of, State}
-use Rattle.rx_engine_simulation.proofs.Memory.{at_below}
-use Rattle.rx_engine_simulation.proofs.Values.{Hold, fixed, Pair, pair, In, LikeValue, like_more, More}
-use Rattle.rx_engine_simulation.proofs.States.{Facts, Living, Borrowed, How, plain, special, through, copied, viewed, absent, Sight, sight, Renaming, sight_of, Frozen, Thawed, SameAt, IsSpecial, Binding, StatesAlike, Grown}
+use Rattle.rx_engine_simulation.proofs.Values.{fixed, Pair, In, like_more}
+use Rattle.rx_engine_simulation.proofs.States.{Facts, Living, Borrowed, How, plain, special, through, copied, viewed, absent, Sight, sight, Renaming, sight_of, Frozen, SameAt, IsSpecial, Binding, StatesAlike, Grown}
 use Rattle.rx_engine_simulation.proofs.Keeping.{same_to}
-use Rattle.rx_engine_simulation.proofs.Entry.{IsCold, Zt, Za, Going}
+use Rattle.rx_engine_simulation.proofs.Entry.{IsCold, Zt, Going}
 
 some_same : {A : Type 0} {a b : A} → Some a ≡ Some b → a ≡ b
 some_same e = cc

@@ -1,5 +1,5 @@
 -- What writes and new slots leave of the memory: by recursion on its slots.
-use Rattle.std.proofs.Common.{◌≡◌, ℕ, zero, suc, ◌<◌, List, [], ◌∷◌, ◌++◌, length, Option, Some, None, refl, ap, arith}
+use Rattle.std.proofs.Common.{◌≡◌, ℕ, zero, suc, ◌<◌, List, [], ◌∷◌, ◌++◌, length, Some, refl, ap, arith}
 use Rattle.rx_meaning.specs.Values.{Value, element, with_element}
 
 pub put_same : (m : List Value) (i : ℕ) (v w : Value) → element m i ≡ Some v → element (with_element m i w) i ≡ Some w

@@ -1,25 +1,21 @@
 -- Scopes, turns and passes of loops do alike where what stands in them does: by cases on what that gave.
-use Rattle.std.proofs.Common.{◌≡◌, ℕ, zero, suc, ◌+◌, ◌<◌, ◌≤◌, Bool, true, false, nat_eq, List, [], ◌∷◌, ◌++◌, length, Option, Some, None, refl, sym, ap, ap₂, ◌∙◌, subst, arith, le_refl, ◌⊎◌, inl, inr, ⊎_elim, append-nil}
-use Rattle.rx_meaning.specs.declared.outcome.End.{End}
-use Rattle.rx_typed.specs.Tree.{Function}
-use Rattle.rx_lower_walks.specs.Actions.{Act, Declare, Dead, Action, does}
-use Rattle.rx_lower_walks.specs.Orders.{Exit, exit_node}
+use Rattle.std.proofs.Common.{◌≡◌, ℕ, ◌+◌, ◌<◌, ◌≤◌, true, false, List, [], ◌∷◌, ◌++◌, Some, None, refl, sym, ap, ◌∙◌, subst, arith, le_refl, inl, ⊎_elim, append-nil}
+use Rattle.rx_lower_walks.specs.Actions.{Declare, Dead, Action, does}
+use Rattle.rx_lower_walks.specs.Orders.{exit_node}
 use Rattle.rx_lower_walks.specs.Walks.{Passed, by_end}
-use Rattle.rx_meaning.specs.Values.{Value, truth, unit_value, Frame, State, with_turns, with_variable}
-use Rattle.rx_meaning.specs.Results.{Result, on, jumps, stops, after, bind, result_of}
+use Rattle.rx_meaning.specs.Values.{Value, unit_value, State, with_turns, with_variable}
+use Rattle.rx_meaning.specs.Results.{Result, after, bind, result_of}
 use Rattle.rx_meaning.specs.Acting.{performed, plainly}
 use Rattle.rx_meaning.specs.Patterns.{decided, closed}
 use Rattle.rx_meaning.specs.Expressions.{turn_at, take_turn, passed}
-use Rattle.rx_meaning.specs.Programs.{IsFront}
 use Rattle.rx_meaning.specs.Telling.{told_by, out_of}
 use Rattle.rx_meaning.proofs.Sequences.{after_nothing, closed_is}
 use Rattle.rx_meaning.proofs.Fronts.{front_self, front_closed, front_passed, told_after}
-use Rattle.rx_engine_simulation.proofs.Told.{Told, says, did, said, onto, noted, followed, said_append, onto_append, front_said, front_trans}
-use Rattle.rx_engine_simulation.proofs.Values.{Hold, NotFixed, Pair, LikeValue, numbers, truths, wholes, taggeds, pointers, lacks, no_values, More, Given}
-use Rattle.rx_engine_simulation.proofs.States.{Direction, gain, Turns, weaken, TurnCase, text_out, answer_out, both_turn, turn_case, Facts, plain, special, Sight, sight, Renaming, sight_of, Frozen, StatesAlike, Grown, grown_refl}
-use Rattle.rx_engine_simulation.proofs.Keeping.{states_step, states_turns, states_drop}
-use Rattle.rx_engine_simulation.proofs.Declaring.{IsNew, states_plain, grown_plain, states_special, grown_special}
-use Rattle.rx_engine_simulation.proofs.Results.{Jumping, in_loop, loop_of, LikeExit, Reached, ResultsAlike, both_on, both_jump, both_stop, text_cut, answer_cut, DoAlike, good_front, alike_prefix, alike_jump_by}
+use Rattle.rx_engine_simulation.proofs.Told.{Told, did, said, onto, noted, followed, said_append, onto_append, front_said, front_trans}
+use Rattle.rx_engine_simulation.proofs.Values.{Pair, LikeValue, numbers, truths, wholes, taggeds, pointers, lacks, no_values, Given}
+use Rattle.rx_engine_simulation.proofs.States.{Direction, gain, Turns, weaken, TurnCase, text_out, answer_out, both_turn, turn_case, Facts, Sight, Renaming, sight_of, Frozen, StatesAlike, Grown, grown_refl}
+use Rattle.rx_engine_simulation.proofs.Keeping.{states_step, states_drop}
+use Rattle.rx_engine_simulation.proofs.Results.{Jumping, in_loop, loop_of, Reached, ResultsAlike, both_on, both_jump, both_stop, text_cut, answer_cut, DoAlike, good_front, alike_prefix, alike_jump_by}
 
 -- what a part needs to begin with, at levels m and n
 pub record Ready (V : Facts) (d : Direction) (R : Renaming) (Z Z' : Frozen) (c m n : ℕ) (h : List Action) (j : List Pair) (s s' : State) : Type 0 where

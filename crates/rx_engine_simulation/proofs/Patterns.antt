@@ -1,25 +1,23 @@
 -- Patterns, new variables and parameters do alike, and what follows them: one binding, test or variable at a time.
-use Rattle.std.proofs.Common.{◌≡◌, ℕ, zero, suc, ◌<◌, ◌≤◌, Bool, true, false, nat_eq, List, [], ◌∷◌, ◌++◌, length, Option, Some, None, refl, sym, ap, ◌∙◌, subst, arith, le_refl, ◌⊎◌, inl, inr, ⊎_elim, if◌then◌else◌}
-use Rattle.rx_meaning.specs.declared.outcome.End.{End}
-use Rattle.rx_core.specs.declared.types.Step.{Step}
-use Rattle.rx_typed.specs.Tree.{Place, Temporary, Parameter, own}
+use Rattle.std.proofs.Common.{◌≡◌, ℕ, ◌≤◌, nat_eq, List, [], ◌∷◌, length, Option, Some, None, refl, sym, ap, ◌∙◌, subst, le_refl, if◌then◌else◌}
+use Rattle.rx_typed.specs.Tree.{Parameter, own}
 use Rattle.rx_lower_walks.specs.Matching.{PartTest, Binding}
-use Rattle.rx_lower_walks.specs.Actions.{Act, Declare, Read, Write, Borrow, Test, Action, does, Subject, part, test_of, taken, declared, written, source_of}
+use Rattle.rx_lower_walks.specs.Actions.{Act, Declare, Test, Action, does, Subject, part, test_of, taken, declared, written, source_of}
 use Rattle.rx_lower_walks.specs.Orders as order
 use Rattle.rx_lower_walks.specs.Orders.{Order, argument, perhaps, binding, declaring, testing, beginning, declared_parameter, written_parameter}
-use Rattle.rx_meaning.specs.Values.{Value, unit_value, Frame, State, with_variable}
-use Rattle.rx_meaning.specs.Results.{Result, on, jumps, stops, after, bind}
+use Rattle.rx_meaning.specs.Values.{Value, State, with_variable}
+use Rattle.rx_meaning.specs.Results.{Result, bind}
 use Rattle.rx_meaning.specs.Acting.{performed, plainly}
-use Rattle.rx_meaning.specs.Patterns.{decided, tested, closed, took, bound, begun}
+use Rattle.rx_meaning.specs.Patterns.{decided, tested, took, bound, begun}
 use Rattle.rx_meaning.specs.Expressions.{with_arguments}
 use Rattle.rx_engine_simulation.proofs.Told.{Told, followed}
-use Rattle.rx_engine_simulation.proofs.Values.{Hold, NotFixed, Pair, pair, More, Given, AllGiven, none_given, more_given, all_more, given_more}
-use Rattle.rx_engine_simulation.proofs.States.{Direction, Turns, Facts, How, plain, special, Sight, sight, Renaming, sight_of, Frozen, StatesAlike, Grown}
+use Rattle.rx_engine_simulation.proofs.Values.{Pair, pair, More, Given, AllGiven, none_given, more_given, all_more, given_more}
+use Rattle.rx_engine_simulation.proofs.States.{Direction, Facts, How, plain, special, Sight, sight, Renaming, sight_of, Frozen, Grown}
 use Rattle.rx_engine_simulation.proofs.Declaring.{IsNew, eq_self, ne_false, states_plain, grown_plain, states_special, grown_special}
-use Rattle.rx_engine_simulation.proofs.Results.{Jumping, Reached, both_on, both_stop, DoAlike, alike_bind, alike_bind_at}
-use Rattle.rx_engine_simulation.proofs.Spots.{LikeSteps, no_steps, Use, looking, writing, LikePlace, direct}
+use Rattle.rx_engine_simulation.proofs.Results.{Jumping, both_on, both_stop, DoAlike, alike_bind, alike_bind_at}
+use Rattle.rx_engine_simulation.proofs.Spots.{no_steps, writing, LikePlace, direct}
 use Rattle.rx_engine_simulation.proofs.Acts.{read_alike, test_alike}
-use Rattle.rx_engine_simulation.proofs.Borrows.{use_of, borrow_alike}
+use Rattle.rx_engine_simulation.proofs.Borrows.{borrow_alike}
 use Rattle.rx_engine_simulation.proofs.Writes.{write_alike, write_all_alike}
 use Rattle.rx_engine_simulation.proofs.Positions.{Failed, acted_one, fails_now, fails_later, next_at, one_at, scope_at, act_walk, took_walk}
 use Rattle.rx_engine_simulation.proofs.Parts.{Ready, go_on, stay, alike_drop, alike_closed, declared_then, decided_alike}

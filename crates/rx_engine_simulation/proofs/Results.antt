@@ -1,21 +1,20 @@
 -- Parts that do alike, one behind another, do alike; jumps out of a pass of a loop: by cases on what the first part gave.
-use Rattle.std.proofs.Common.{◌≡◌, ◌≢◌, ℕ, zero, suc, ◌<◌, ◌≤◌, Bool, true, false, nat_eq, List, [], ◌∷◌, ◌++◌, length, Option, Some, None, refl, sym, ap, ap₂, ◌∙◌, subst, arith, le_refl, ◌⊎◌, inl, inr, ⊎_elim, ℤ, if◌then◌else◌, append_assoc, eqb-true}
+use Rattle.std.proofs.Common.{◌≡◌, ℕ, ◌≤◌, Bool, true, false, nat_eq, List, [], ◌∷◌, ◌++◌, Some, None, refl, sym, ap, ap₂, ◌∙◌, subst, if◌then◌else◌, append_assoc, eqb-true}
 use Rattle.std.proofs.lemmas.Bool.{eqb-false}
-use Rattle.rx_meaning.specs.declared.outcome.End.{End}
 use Rattle.rx_lower_walks.specs.Actions.{Action}
 use Rattle.rx_lower_walks.specs.Orders.{Order, Exit, breaks, continues, returns}
 use Rattle.rx_lower_walks.specs.Walks as walks
 use Rattle.rx_lower_walks.specs.Walks.{Passed, by_continue}
-use Rattle.rx_meaning.specs.Values.{Value, tagged, unit_value, Values, no_value, value_and, are_set, element, slot_of, State, with_turns}
-use Rattle.rx_meaning.specs.Results.{Result, on, jumps, stops, after, bind}
-use Rattle.rx_meaning.specs.Expressions.{turn_at, take_turn, passed_by, passed}
+use Rattle.rx_meaning.specs.Values.{Value, tagged, unit_value, State}
+use Rattle.rx_meaning.specs.Results.{Result, on, jumps, after, bind}
+use Rattle.rx_meaning.specs.Expressions.{passed_by}
 use Rattle.rx_meaning.specs.Programs.{IsFront}
 use Rattle.rx_meaning.specs.Telling.{told_by}
-use Rattle.rx_meaning.proofs.Fronts.{front_self, front_behind, front_bind, front_passed, told_after}
+use Rattle.rx_meaning.proofs.Fronts.{front_self, front_behind, front_bind, told_after}
 use Rattle.rx_engine_simulation.proofs.Told.{Told, says, did, said, onto, said_append, onto_append, front_said, front_trans}
 use Rattle.rx_engine_simulation.proofs.Positions.{Walked, IsWalked, walked}
-use Rattle.rx_engine_simulation.proofs.Values.{Hold, Pair, In, LikeValue, More, Given, given_more, numbers, wholes, no_values}
-use Rattle.rx_engine_simulation.proofs.States.{Direction, Turns, TextMayStop, AnswerMayStop, weaken, TurnCase, text_out, answer_out, both_turn, turn_case, Facts, Renaming, Frozen, StatesAlike, Grown, grown_refl, grown_trans}
+use Rattle.rx_engine_simulation.proofs.Values.{Pair}
+use Rattle.rx_engine_simulation.proofs.States.{Direction, weaken, Facts, Renaming, Frozen, Grown, grown_trans}
 pub use Rattle.rx_engine_simulation.specs.Results.{Outs, no_outs, out_and, LikeExit, stays_break, stays_continue, gives_back, packs_break, packs_continue, packs_value, packs_unit, Reached, ResultsAlike, both_on, both_jump, both_stop, text_cut, answer_cut, DoAlike}
 pub use Rattle.rx_engine_simulation.specs.Jumps.{Pack, Returning, as_return, with_value, with_unit, no_return, Jumping, loop_of, in_loop}
 

@@ -1,13 +1,13 @@
 -- Where places that are alike lead: step by step, from the slots of a variable as it is seen, or from a value that is held.
-use Rattle.std.proofs.Common.{◌≡◌, ℕ, zero, suc, ◌<◌, Bool, true, false, ◌&&◌, List, [], ◌∷◌, ◌++◌, length, Option, Some, None, refl, sym, ap, ◌∙◌, subst, arith, ◌⊎◌, inl, inr, ⊎_elim}
+use Rattle.std.proofs.Common.{◌≡◌, ℕ, Bool, true, false, ◌&&◌, List, [], ◌∷◌, Option, Some, refl, sym, ap, subst, ◌⊎◌, inl, inr}
 use Rattle.rx_core.specs.declared.types.Step.{Step}
 use Rattle.rx_core.specs.declared.types.Step.TheVariants as step
-use Rattle.rx_typed.specs.Tree.{Root, variable, temporary, Temporary, Place}
+use Rattle.rx_typed.specs.Tree.{Temporary, Place}
 use Rattle.rx_lower_walks.specs.Actions.{Action}
-use Rattle.rx_meaning.specs.Values.{Value, pointer, and_then, part, get, element, Frame, slot_of, State}
-use Rattle.rx_meaning.specs.Places.{Spot, in_slot, in_value, content, deeper, may_write, pointed, follow, first_held, start, spot, found}
+use Rattle.rx_meaning.specs.Values.{Value, and_then, get, element, slot_of, State}
+use Rattle.rx_meaning.specs.Places.{Spot, in_slot, in_value, content, deeper, may_write, pointed, follow, spot}
 use Rattle.rx_engine_simulation.proofs.Values.{Hold, fixed, shut, free, NotFixed, Pair, pair, In, LikeValue, numbers, truths, wholes, taggeds, pointers, lacks, LikeOption, nones, somes, like_then, part_like, get_like, AllGiven, none_given, more_given}
-use Rattle.rx_engine_simulation.proofs.States.{IsRoot, IsOwn, IsWhole, Facts, Living, How, plain, special, through, copied, viewed, absent, Sight, sight, Renaming, sight_of, Frozen, Thawed, SameAt, IsPlain, IsThrough, IsCopied, IsViewed, IsSpecial, Binding, Paired, Framed, StatesAlike}
+use Rattle.rx_engine_simulation.proofs.States.{IsRoot, IsOwn, Facts, Living, How, plain, special, through, copied, viewed, absent, sight, Renaming, sight_of, Frozen, Thawed, SameAt, IsPlain, IsThrough, IsCopied, IsViewed, IsSpecial, Binding, Paired, StatesAlike}
 pub use Rattle.rx_engine_simulation.specs.Places.{LikeSteps, no_steps, fields, variants, derefs, Use, looking, sharing, changing, writing, NotCopied, IsFreed, IsMutable, Allowed, IsDirect, at_variable, at_temporary, LikePlace, direct, behind, shared, of_temporary}
 
 pub data LikeSpot (j : List Pair) (M M' : List Value) (full : Bool) (O : ℕ → ℕ → Type 0) : Spot → Spot → Type 0 where

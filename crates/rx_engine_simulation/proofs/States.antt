@@ -1,19 +1,8 @@
 -- What a turn of both can be, by the turns that each has left; a pair of states that grew, and grew again, has grown.
-use Rattle.std.proofs.Common.{◌≡◌, ℕ, zero, suc, ◌+◌, ◌*◌, ◌<◌, ◌≤◌, Bool, true, false, nat_eq, List, [], ◌∷◌, ◌++◌, length, Option, Some, None, refl, sym, ap, ◌∙◌, subst, arith, le_refl, ◌⊎◌, inl, inr, ⊎_elim, ℤ, if◌then◌else◌}
+use Rattle.std.proofs.Common.{◌≡◌, ℕ, zero, suc, ◌+◌, ◌*◌, ◌≤◌, List, length, Some, subst, arith, le_refl, ◌⊎◌, inl, inr, ⊎_elim}
 use Rattle.std.proofs.Math.Nat.{suc-mul}
-use Rattle.rx_core.specs.declared.types.Step.{Step}
-use Rattle.rx_core.specs.declared.types.Step.TheVariants as step
-use Rattle.rx_meaning.specs.declared.outcome.End.{End}
-use Rattle.rx_typed.specs.Tree.{Root, variable, temporary, Place}
-use Rattle.rx_lower_walks.specs.Actions.{Act, Declare, Dead, Read, Write, Borrow, Test, Call, Build, Input, Print, Give, Action}
-use Rattle.rx_lower_walks.specs.Orders.{Exit, breaks, continues, returns}
-use Rattle.rx_meaning.specs.Values.{Value, pointer, is_set, element, Frame, slot_of, State}
-use Rattle.rx_meaning.specs.Results.{Result, on, jumps, stops, after, bind}
-use Rattle.rx_meaning.specs.Programs.{IsFront}
-use Rattle.rx_meaning.specs.Telling.{told_by}
-use Rattle.rx_meaning.proofs.Fronts.{front_self, front_behind, front_bind, told_after}
-use Rattle.rx_engine_simulation.proofs.Told.{Told, said, onto, said_append, onto_append, front_said, front_trans}
-use Rattle.rx_engine_simulation.proofs.Values.{Hold, fixed, shut, free, NotFixed, Pair, pair, In, LikeValue, like_more, More}
+use Rattle.rx_meaning.specs.Values.{slot_of, State}
+use Rattle.rx_engine_simulation.proofs.Values.{Pair, In}
 pub use Rattle.rx_engine_simulation.specs.Turns.{Direction, shorter, longer, Turns, TextMayStop, AnswerMayStop, gain}
 pub use Rattle.rx_engine_simulation.specs.States.{Frozen, Thawed, SameAt, IsPlain, IsThrough, IsCopied, IsViewed, IsSpecial, Binding, Paired, Framed, IsSetAt, StatesAlike, Grown}
 pub use Rattle.rx_engine_simulation.specs.Sights.{How, plain, special, through, copied, viewed, absent, Sight, sight, Renaming, sight_of}

@@ -10,7 +10,7 @@ use Rattle.rx_meaning.specs.declared.outcome.Trap.{Trap}
 use Rattle.rx_typed.specs.Tree as tree
 use Rattle.rx_typed.specs.Tree.{Constant, whole_number, Making}
 use Rattle.rx_lower_walks.specs.Matching.{Check, has_tag, equals}
-use Rattle.rx_meaning.specs.Values.{Lack, Value, number, truth, whole, tagged, pointer, lacking, unset, Values, no_value, value_and, is_set, are_set, and_then, field, with_field, part, with_part, get, put}
+use Rattle.rx_meaning.specs.Values.{Value, number, truth, whole, tagged, pointer, lacking, Values, no_value, value_and, is_set, are_set, and_then, field, with_field, part, with_part, get, put}
 use Rattle.rx_meaning.specs.Operators as operators
 use Rattle.rx_meaning.specs.Operators.{Computed, operate, compute, fitting, divided, value_of, for_field, arranged, make, shown}
 use Rattle.rx_meaning.specs.Acting.{checked}

@@ -1,5 +1,5 @@
 -- Whole programs: the calls of the two mains do alike, in either direction; what is told has the bytes that are printed.
-use Rattle.std.proofs.Common.{◌≡◌, ℕ, zero, suc, ◌+◌, ◌*◌, ◌≤◌, List, [], ◌∷◌, ◌++◌, length, Option, Some, None, refl, sym, ap, ◌∙◌, subst, arith, le_refl, ◌⊎◌, inl, inr, ℤ}
+use Rattle.std.proofs.Common.{◌≡◌, ℕ, ◌+◌, ◌*◌, ◌≤◌, List, [], ◌∷◌, ◌++◌, Some, None, refl, sym, ap, ◌∙◌, subst, arith, le_refl, inl, inr, ℤ}
 use Rattle.std.proofs.lemmas.List.{append-nil}
 use Rattle.rx_meaning.specs.declared.outcome.End.{End}
 use Rattle.rx_meaning.specs.declared.outcome.Outcome.{Outcome}
@@ -9,7 +9,7 @@ use Rattle.rx_meaning.specs.Results.{Result, on, jumps, stops}
 use Rattle.rx_meaning.specs.Acting.{plainly}
 use Rattle.rx_meaning.specs.Expressions.{called}
 use Rattle.rx_meaning.specs.Telling.{told_by, Alike, alike_on, alike_jump, alike_stop, SameSaid}
-use Rattle.rx_meaning.specs.Programs.{Program, outcome_of, begins, run_by, run, IsFront, UpTo}
+use Rattle.rx_meaning.specs.Programs.{Program, outcome_of, begins, run_by, run, UpTo}
 use Rattle.rx_meaning.proofs.Told.{runs_say}
 use Rattle.rx_engine_simulation.proofs.Told.{Told, said, followed}
 use Rattle.rx_engine_simulation.proofs.Values.{Pair, Given, none_given}

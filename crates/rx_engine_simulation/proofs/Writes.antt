@@ -1,22 +1,22 @@
 -- A write of like values does alike: nothing else leads to the slots that are written, so all other slots stay as they are.
-use Rattle.std.proofs.Common.{◌≡◌, ℕ, zero, suc, ◌<◌, ◌≤◌, Bool, true, false, ◌&&◌, nat_eq, List, [], ◌∷◌, ◌++◌, length, Option, Some, None, refl, sym, ap, ◌∙◌, subst, arith, le_refl, ◌⊎◌, inl, inr, ⊎_elim, eqb-true}
+use Rattle.std.proofs.Common.{◌≡◌, ℕ, zero, suc, ◌<◌, Bool, true, false, nat_eq, List, [], ◌∷◌, length, Option, Some, refl, sym, ap, ◌∙◌, subst, arith, ◌⊎◌, inl, inr, ⊎_elim, eqb-true}
 use Rattle.std.proofs.lemmas.Bool.{eqb-false}
 use Rattle.rx_core.specs.declared.types.Step.{Step}
 use Rattle.rx_core.specs.declared.types.Step.TheVariants as step
 use Rattle.rx_typed.specs.Tree.{Temporary, Place}
 use Rattle.rx_lower_walks.specs.Actions.{Write, Action, does}
 use Rattle.rx_meaning.specs.Values.{Value, unit_value, is_set, and_then, get, put, element, with_element, slot_of, State, with_memory}
-use Rattle.rx_meaning.specs.Results.{Done, gives, or_ends}
+use Rattle.rx_meaning.specs.Results.{gives, or_ends}
 use Rattle.rx_meaning.specs.Endings.{Cause}
-use Rattle.rx_meaning.specs.Straying.{why_no_part, why_not_found, why_not_written}
-use Rattle.rx_meaning.specs.Places.{Spot, in_slot, in_value, content, follow, pointed, spot, after_write}
+use Rattle.rx_meaning.specs.Straying.{why_not_found, why_not_written}
+use Rattle.rx_meaning.specs.Places.{Spot, in_slot, follow, pointed, spot, after_write}
 use Rattle.rx_meaning.specs.Acting.{performed, plainly}
 use Rattle.rx_engine_simulation.proofs.Told.{followed}
 use Rattle.rx_engine_simulation.proofs.Memory.{put_same}
-use Rattle.rx_engine_simulation.proofs.Values.{Hold, fixed, free, NotFixed, Pair, pair, In, LikeValue, numbers, truths, wholes, taggeds, pointers, lacks, no_values, like_more, More, LikeOption, nones, somes, like_then, part_like, get_like, put_like, get_set, put_set, Given, AllGiven, none_given, more_given}
-use Rattle.rx_engine_simulation.proofs.States.{Direction, Turns, IsRoot, IsOwn, IsWhole, WritesWhole, WritesOwn, Kills, Borrowed, Facts, Living, now, How, plain, special, through, copied, viewed, absent, Sight, sight, Renaming, sight_of, Frozen, Thawed, SameAt, IsPlain, IsThrough, IsSpecial, Binding, IsSetAt, StatesAlike}
-use Rattle.rx_engine_simulation.proofs.Keeping.{Aside, states_write, grown_write}
-use Rattle.rx_engine_simulation.proofs.Results.{Jumping, Reached, DoAlike}
+use Rattle.rx_engine_simulation.proofs.Values.{Hold, NotFixed, Pair, pair, In, LikeValue, numbers, truths, wholes, taggeds, pointers, lacks, no_values, LikeOption, nones, somes, like_then, part_like, put_like, get_set, put_set, Given, AllGiven, none_given, more_given}
+use Rattle.rx_engine_simulation.proofs.States.{Direction, Turns, IsRoot, IsOwn, IsWhole, WritesWhole, Kills, Borrowed, Facts, now, How, plain, special, through, copied, viewed, absent, Sight, sight, Renaming, sight_of, Frozen, Thawed, IsPlain, IsThrough, IsSpecial, Binding, IsSetAt, StatesAlike}
+use Rattle.rx_engine_simulation.proofs.Keeping.{states_write, grown_write}
+use Rattle.rx_engine_simulation.proofs.Results.{Jumping, DoAlike}
 use Rattle.rx_engine_simulation.proofs.Spots as spots
 use Rattle.rx_engine_simulation.proofs.Spots.{LikeSteps, no_steps, fields, variants, derefs, LikeSpot, owned, lent, holds, writing, LikePlace, direct, behind, shared, of_temporary, at_variable, Specially, Owns, spot_like}
 use Rattle.rx_engine_simulation.proofs.Acts.{LikeDone, both_gave, both_ended, act_alike, or_like}

@@ -1,12 +1,10 @@
 -- New variables that are alike (Rust Reference, "Patterns", "let statements", "Function parameters").
 use Rattle.std.specs.Prelude.{◌≡◌, ℕ, Bool, List, [], ◌∷◌, Option, Some, None}
-use Rattle.rx_core.specs.declared.types.Step.{Step}
-use Rattle.rx_core.specs.declared.types.Step.TheVariants as step
 use Rattle.rx_typed.specs.Tree.{Temporary, Place, Parameter}
 use Rattle.rx_lower_walks.specs.Matching.{PartTest, Binding}
 use Rattle.rx_lower_walks.specs.Actions.{Act, Read, Borrow, Subject, part, taken, source_of}
 use Rattle.rx_engine_simulation.specs.Histories.{Facts}
-use Rattle.rx_engine_simulation.specs.Sights.{Hold, NotFixed, How, plain, special, Sight, sight, Renaming, sight_of, IsNew}
+use Rattle.rx_engine_simulation.specs.Sights.{Hold, NotFixed, How, plain, special, sight, Renaming, sight_of, IsNew}
 use Rattle.rx_engine_simulation.specs.Places.{looking, LikePlace, LikeSteps, use_of}
 
 -- how a new variable may be seen

@@ -1,7 +1,7 @@
 -- Typed parts of two programs that are alike: congruence over the forms of the typed tree (Rust Reference, "Expressions",
 -- "Statements"), with openings for what is special. The numbers of nodes, items, loops and variables are renamed; types are not
 -- looked at, nor is whether a read moves.
-use Rattle.std.specs.Prelude.{◌≡◌, ℕ, ◌+◌, ◌≤◌, Bool, true, false, List, [], Option, Some, None}
+use Rattle.std.specs.Prelude.{◌≡◌, ℕ, ◌+◌, ◌≤◌, Bool, true, false, List, [], Some, None}
 use Rattle.rx_tree.specs.declared.tree.BinaryOp.{BinaryOp}
 use Rattle.rx_typed.specs.Tree as tree
 use Rattle.rx_typed.specs.Tree.{Place, Pattern, Mark, Making, Exp, Operands, Scrutinee, Arms, Body, fields_of}

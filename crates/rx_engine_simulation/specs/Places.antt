@@ -2,9 +2,9 @@
 use Rattle.std.specs.Prelude.{◌≡◌, ℕ, Bool, true, false, List, [], ◌∷◌, Some}
 use Rattle.rx_core.specs.declared.types.Step.{Step}
 use Rattle.rx_core.specs.declared.types.Step.TheVariants as step
-use Rattle.rx_typed.specs.Tree.{Root, variable, temporary, Temporary, Place}
+use Rattle.rx_typed.specs.Tree.{variable, temporary, Temporary, Place}
 use Rattle.rx_engine_simulation.specs.Histories.{IsOwn}
-use Rattle.rx_engine_simulation.specs.Sights.{Hold, fixed, shut, free, How, plain, special, through, copied, viewed, absent, Sight, sight, Renaming, sight_of}
+use Rattle.rx_engine_simulation.specs.Sights.{Hold, free, How, plain, through, copied, viewed, absent, sight, Renaming, sight_of}
 
 -- the same way, but for what is said of references
 pub data LikeSteps : List Step → List Step → Type 0 where

@@ -1,6 +1,6 @@
 -- When two parts do alike: both go on, both jump, or both end the run, having told the same bytes, from states that are alike to
 -- states that are alike; or one of them, which may, was cut off on the way there. Why an end is Wrong is not compared.
-use Rattle.std.specs.Prelude.{◌≡◌, ℕ, ◌≤◌, true, false, List, [], ◌∷◌, Option, Some}
+use Rattle.std.specs.Prelude.{◌≡◌, ℕ, true, false, List, [], ◌∷◌, Some}
 use Rattle.rx_lower_walks.specs.Actions.{Action}
 use Rattle.rx_lower_walks.specs.Orders.{Exit, breaks, continues, returns}
 use Rattle.rx_meaning.specs.Endings.{Ending, running, end_of}
@@ -11,7 +11,7 @@ use Rattle.rx_meaning.specs.Telling.{Told, said, told_by}
 use Rattle.rx_engine_simulation.specs.Turns.{Direction, Turns, TextMayStop, AnswerMayStop}
 use Rattle.rx_engine_simulation.specs.Followed.{onto}
 use Rattle.rx_engine_simulation.specs.Histories.{Facts}
-use Rattle.rx_engine_simulation.specs.Sights.{In, Renaming}
+use Rattle.rx_engine_simulation.specs.Sights.{Renaming}
 use Rattle.rx_engine_simulation.specs.Values.{Pair, LikeValue, Given}
 use Rattle.rx_engine_simulation.specs.Jumps.{Pack, as_return, with_value, with_unit, Jumping, loop_of}
 use Rattle.rx_engine_simulation.specs.States.{Frozen, StatesAlike, Grown}

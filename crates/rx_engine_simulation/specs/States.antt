@@ -1,5 +1,5 @@
 -- Two states side by side: how variables correspond, what is frozen, what both states keep, and how a pair of states grows.
-use Rattle.std.specs.Prelude.{◌≡◌, ℕ, ◌<◌, ◌≤◌, Bool, true, false, List, [], length, Option, Some, ◌⊎◌}
+use Rattle.std.specs.Prelude.{◌≡◌, ℕ, ◌<◌, ◌≤◌, Bool, true, false, List, [], length, Some, ◌⊎◌}
 use Rattle.rx_core.specs.declared.types.Step.{Step}
 use Rattle.rx_lower_walks.specs.Actions.{Action}
 use Rattle.rx_meaning.specs.Values.{Value, pointer, is_set, element, Frame, slot_of, State}
