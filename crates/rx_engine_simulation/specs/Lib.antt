@@ -1,0 +1,15 @@
+pub mod Turns
+pub mod Followed
+pub mod Histories
+pub mod Sights
+pub mod Places
+pub mod Fits
+pub mod Values
+pub mod States
+pub mod Binders
+pub mod Jumps
+pub mod Results
+pub mod Openings
+pub mod Like
+pub mod Programs
+pub mod Called
