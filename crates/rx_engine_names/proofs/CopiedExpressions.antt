@@ -28,7 +28,7 @@ use Rattle.rx_engine_names.proofs.SideBySide.{named_ok, then_ok, and_ok, the_sam
 use Rattle.rx_engine_names.proofs.Scoped.{Corresponds, AtName, Scopes, scopes_later, scopes_entered}
 use Rattle.rx_engine_names.proofs.Fitting.{function_in, rt_in}
 use Rattle.rx_engine_names.proofs.CopiedPatterns.{names_one, PatternNumbers, pattern_alike, pattern_binds}
-use Rattle.rx_engine_names.proofs.Standing.{AnnotationNumbers, later, ExpNumbers, AllNumbers, ElseNumbers, ArgumentsNumbers, FieldsNumbers, ArmsNumbers, BodyNumbers, StatementNumbers, StatementsNumbers, keeps_counted, keeps_between, keeps_annotates, keeps_stage, keeps_waits, keeps_is_left, keeps_waits_for, Setting, Stand, with_bindings, in_the_loop, in_the_test, in_scope, SameForm, ExpPart, ElsePart, Special}
+use Rattle.rx_engine_names.proofs.Standing.{AnnotationNumbers, later, ExpNumbers, AllNumbers, ElseNumbers, ArgumentsNumbers, FieldsNumbers, ArmsNumbers, BodyNumbers, StatementNumbers, StatementsNumbers, keeps_counted, keeps_between, keeps_annotates, keeps_a_use, keeps_gives_here, keeps_waits, keeps_is_left, keeps_waits_for, Setting, Stand, with_bindings, in_the_loop, in_the_test, in_scope, SameForm, ExpPart, ElsePart, Special}
 
 -- ---- an assignment, which may give a variable its type
 
@@ -36,12 +36,15 @@ assigned_alike : {H : Holes} {R : Renaming} {t u t' u' : ItemNames} {es es' : Li
     → ((k k' : Site) → Numbers (LikeExp H R) t u t' u' es es' (f k) (f' k')) → Numbers (LikeExp H R) t u t' u' es es' (numbering.assigned n p w f) (numbering.assigned n' p' w' f')
 assigned_alike n n' p p' None None f f' g h k = numbers_map (named.assign n p) (named.assign n' p') (k Site.Expects Site.Expects) (λ a b l. like_assign g h l)
 assigned_alike n n' p p' None (Some w') f f' g h k =
-    numbers_right (keeps_stage w'.0 Stage.Given) (λ x. numbers_last (k Site.Expects Site.Reborrows) (λ a b l. numbers_right (keeps_stage w'.0 Stage.Known) (λ x. numbers_give (named.assign n p a) (named.gives n' (named.node_of p') w'.0 w'.1 b) (like_giving g l))))
+    numbers_last (k Site.Expects Site.Reborrows) (λ a b l. numbers_right (keeps_a_use w'.0) (λ x. numbers_right (keeps_gives_here w'.0) (λ d.
+    numbers_give (named.assign n p a) (named.gives n' (named.node_of p') x d b) (like_giving g l))))
 assigned_alike n n' p p' (Some w) None f f' g h k =
-    numbers_left (keeps_stage w.0 Stage.Given) (λ x. numbers_last (k Site.Reborrows Site.Expects) (λ a b l. numbers_left (keeps_stage w.0 Stage.Known) (λ x. numbers_give (named.gives n (named.node_of p) w.0 w.1 a) (named.assign n' p' b) (like_given g l))))
+    numbers_last (k Site.Reborrows Site.Expects) (λ a b l. numbers_left (keeps_a_use w.0) (λ x. numbers_left (keeps_gives_here w.0) (λ d.
+    numbers_give (named.gives n (named.node_of p) x d a) (named.assign n' p' b) (like_given g l))))
 assigned_alike n n' p p' (Some w) (Some w') f f' g h k =
-    numbers_both (keeps_stage w.0 Stage.Given) (keeps_stage w'.0 Stage.Given) (λ x y. numbers_last (k Site.Reborrows Site.Reborrows) (λ a b l.
-    numbers_both (keeps_stage w.0 Stage.Known) (keeps_stage w'.0 Stage.Known) (λ x y. numbers_give (named.gives n (named.node_of p) w.0 w.1 a) (named.gives n' (named.node_of p') w'.0 w'.1 b) (like_gives g l))))
+    numbers_last (k Site.Reborrows Site.Reborrows) (λ a b l. numbers_both (keeps_a_use w.0) (keeps_a_use w'.0) (λ x y.
+    numbers_both (keeps_gives_here w.0) (keeps_gives_here w'.0) (λ d e.
+    numbers_give (named.gives n (named.node_of p) x d a) (named.gives n' (named.node_of p') y e b) (like_gives g l))))
 
 -- ---- a callee
 

@@ -73,6 +73,20 @@ keeps_annotates p (Some y) = record { names = λ c. refl; declared = λ c. refl;
 pub keeps_stage : (x : ℕ) (s : Stage) → Keeps (numbering.set_stage x s)
 keeps_stage x s = record { names = λ c. refl; declared = λ c. refl; loops = λ c. refl }
 
+pub keeps_a_use : (x : ℕ) → Keeps (numbering.a_use x)
+keeps_a_use x = record { names = λ c. refl; declared = λ c. refl; loops = λ c. refl }
+
+keeps_given_here : (x : ℕ) (o : Option (ℕ × ℕ)) → Keeps (numbering.given_here x o)
+keeps_given_here x None = record { names = λ c. refl; declared = λ c. refl; loops = λ c. refl }
+keeps_given_here x (Some w) = record { names = λ c. refl; declared = λ c. refl; loops = λ c. refl }
+
+pub keeps_gives_here : (x : ℕ) → Keeps (numbering.gives_here x)
+keeps_gives_here x = record {
+  names = λ c. (keeps_given_here x (numbering.waiting x (numbering.declaration c x).stage)).names c;
+  declared = λ c. (keeps_given_here x (numbering.waiting x (numbering.declaration c x).stage)).declared c;
+  loops = λ c. (keeps_given_here x (numbering.waiting x (numbering.declaration c x).stage)).loops c;
+}
+
 keeps_waits_at : (n : _) (o : Option ℕ) → Keeps (numbering.waits_at n o)
 keeps_waits_at n None = record { names = λ c. refl; declared = λ c. refl; loops = λ c. refl }
 keeps_waits_at n (Some x) = keeps_stage x (Stage.Waits n.number n.span)

@@ -86,10 +86,10 @@ mutual
     like_borrow : {n n' : Node} {m : Bool} {e e' : Exp} → SameSpan n n' → LikeExp H R e e' → LikeExp H R (named.borrow n m e) (named.borrow n' m e')
     like_binary : {n n' : Node} {o : BinaryOp} {a a' b b' : Exp} → SameSpan n n' → LikeExp H R a a' → LikeExp H R b b' → LikeExp H R (named.binary n o a b) (named.binary n' o a' b')
     like_assign : {n n' : Node} {a a' b b' : Exp} → SameSpan n n' → LikeExp H R a a' → LikeExp H R b b' → LikeExp H R (named.assign n a b) (named.assign n' a' b')
-    -- an assignment that gives a variable its type, in both or in one
-    like_gives : {n n' p p' : Node} {x x' d d' : ℕ} {b b' : Exp} → SameSpan n n' → LikeExp H R b b' → LikeExp H R (named.gives n p x d b) (named.gives n' p' x' d' b')
-    like_given : {n n' p : Node} {x d : ℕ} {a' b b' : Exp} → SameSpan n n' → LikeExp H R b b' → LikeExp H R (named.gives n p x d b) (named.assign n' a' b')
-    like_giving : {n n' p' : Node} {x' d' : ℕ} {a b b' : Exp} → SameSpan n n' → LikeExp H R b b' → LikeExp H R (named.assign n a b) (named.gives n' p' x' d' b')
+    -- an assignment before which a variable waits for its type, in both or in one
+    like_gives : {n n' p p' : Node} {x x' : Use} {d d' : Option ℕ} {b b' : Exp} → SameSpan n n' → LikeExp H R b b' → LikeExp H R (named.gives n p x d b) (named.gives n' p' x' d' b')
+    like_given : {n n' p : Node} {x : Use} {d : Option ℕ} {a' b b' : Exp} → SameSpan n n' → LikeExp H R b b' → LikeExp H R (named.gives n p x d b) (named.assign n' a' b')
+    like_giving : {n n' p' : Node} {x' : Use} {d' : Option ℕ} {a b b' : Exp} → SameSpan n n' → LikeExp H R b b' → LikeExp H R (named.assign n a b) (named.gives n' p' x' d' b')
     like_update : {n n' : Node} {o : UpdateOp} {a a' b b' : Exp} → SameSpan n n' → LikeExp H R a a' → LikeExp H R b b' → LikeExp H R (named.update n o a b) (named.update n' o a' b')
     like_call : {n n' : Node} {f f' : ℕ} {es es' : Exps} → SameSpan n n' → R.item f ≡ f' → LikeExps H R es es' → LikeExp H R (named.call n f es) (named.call n' f' es')
     like_hidden : {n n' : Node} {es es' : Exps} → SameSpan n n' → LikeExps H R es es' → LikeExp H R (named.hidden_call n es) (named.hidden_call n' es')
