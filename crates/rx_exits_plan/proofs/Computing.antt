@@ -39,7 +39,7 @@ turned s start g row q (x ∷ xs) = (((q == 0) && start) || arriving s q g row) 
 
 abbrev rounds : ℕ → Switch → Bool → List Site → List Bool → List Bool
 rounds zero s start g row = row
-rounds (suc n) s start g row = rounds n s start g (turned s start g row 0 g)
+rounds (suc n) s start g held = rounds n s start g (turned s start g held 0 g)
 
 abbrev nowhere : List Site → List Bool
 nowhere [] = []

@@ -122,13 +122,13 @@ result_at P pl s n false = joined_names P pl s n (types_of (next_values pl))
 
 pub signature_names : (P : ProgramTree) (pl : Plan) (bs : Bounds) (s : Span) (ls : List Around) (p : Parts)
     → in_signature (new_function P pl bs s ls p) ≡ some_of (lifetimes_from s (fresh_lifetime pl.lifetimes) 0 (signature_positions P pl))
-signature_names P pl bs s ls p = let row = fresh_lifetime pl.lifetimes in
+signature_names P pl bs s ls p = let names = fresh_lifetime pl.lifetimes in
     let m = parameter_positions P pl in
     let k = result_positions P pl in
     let none : m ≡ 0 + m = omega arith in
     ap₂ (λ a b. a ++ b) (parameters_names P pl s 0 pl.params) (result_at P pl s m (has_enum pl.exits))
-    ∙ ap (λ n. some_of (lifetimes_from s row 0 m) ++ some_of (lifetimes_from s row n k)) none
-    ∙ joined_rows s row 0 m k
+    ∙ ap (λ n. some_of (lifetimes_from s names 0 m) ++ some_of (lifetimes_from s names n k)) none
+    ∙ joined_rows s names 0 m k
 
 -- ---- what is declared
 
