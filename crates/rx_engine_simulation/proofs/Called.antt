@@ -62,19 +62,19 @@ activation_is Q n0 g mb mg e given sa at_end is h =
 
 -- ---- in, and out again
 
-module _ (V : Facts) (R R1 : Renaming) (Z Z' : Frozen) (Cold : ℕ → Type 0) (h : List Action) (j : List Pair) (s s' : State) (inv : StatesAlike V R Z Z' h j s s') (cold : (x : ℕ) → Cold x → IsCold R x)
-    (known : (x i : ℕ) → Z.anchored x i → (e : Sight) × (sight_of R x ≡ Some e)) (none : NoneSpecial R) (Zf : Frozen) (sa : State) (going : Going V R Z Z' Cold h j s s' inv cold R1 Zf sa) (fewer : sa.turns ≤ s'.turns) (d : Direction) (J : Jumping) (c : ℕ) where
-  abbrev specials : (x y : ℕ) → sight_of R x ≡ Some (sight y special) → (z : ℕ) × (sight_of R1 x ≡ Some (sight z special))
+module _ (V : Facts) (R Ra : Renaming) (Z Z' : Frozen) (Cold : ℕ → Type 0) (h : List Action) (j : List Pair) (s s' : State) (inv : StatesAlike V R Z Z' h j s s') (cold : (x : ℕ) → Cold x → IsCold R x)
+    (known : (x i : ℕ) → Z.anchored x i → (e : Sight) × (sight_of R x ≡ Some e)) (none : NoneSpecial R) (Zf : Frozen) (sa : State) (going : Going V R Z Z' Cold h j s s' inv cold Ra Zf sa) (fewer : sa.turns ≤ s'.turns) (d : Direction) (J : Jumping) (c : ℕ) where
+  abbrev specials : (x y : ℕ) → sight_of R x ≡ Some (sight y special) → (z : ℕ) × (sight_of Ra x ≡ Some (sight z special))
   specials x y seen = absurd (none x y seen)
 
-  back : (h1 : List Action) (j1 : List Pair) (t t' : State) → Reached V d R1 (Zt V R Z Z' Cold h j s s' inv cold) Zf c h1 j s sa j1 t t' → Reached V d R Z Z' c h1 j s s' j1 t (in_frame t' s'.frame)
+  back : (h1 : List Action) (j1 : List Pair) (t t' : State) → Reached V d Ra (Zt V R Z Z' Cold h j s s' inv cold) Zf c h1 j s sa j1 t t' → Reached V d R Z Z' c h1 j s s' j1 t (in_frame t' s'.frame)
   back h1 j1 t t' z = record {
-    inv = states_leave V R Z Z' Cold h j s s' inv cold known R1 R1 Zf sa going specials h1 j1 t t' z.inv z.grown t'.memory (λ n. ⊥) refl (λ n f. refl) (λ q m k. k) (λ i v w k. k) (λ x y seen b l. absurd (none x y seen));
-    grown = grown_leave V R Z Z' Cold h j s s' inv cold known R1 R1 Zf sa going specials h1 j1 t t' z.inv z.grown t'.memory (λ n. ⊥) refl (λ n f. refl) (λ q m k. k) (λ i v w k. k) (λ x y seen b l. absurd (none x y seen)) fewer;
+    inv = states_leave V R Z Z' Cold h j s s' inv cold known Ra Ra Zf sa going specials h1 j1 t t' z.inv z.grown t'.memory (λ n. ⊥) refl (λ n f. refl) (λ q m k. k) (λ i v w k. k) (λ x y seen b l. absurd (none x y seen));
+    grown = grown_leave V R Z Z' Cold h j s s' inv cold known Ra Ra Zf sa going specials h1 j1 t t' z.inv z.grown t'.memory (λ n. ⊥) refl (λ n f. refl) (λ q m k. k) (λ i v w k. k) (λ x y seen b l. absurd (none x y seen)) fewer;
     turns = z.turns;
   }
 
-  comes_back : (mg : Mark) (tg : Temporary) (r : Result (Told ℕ) Value) (r' : Result ℕ Value) → ResultsAlike V d R1 (Zt V R Z Z' Cold h j s s' inv cold) Zf inner_jumps Given c h j s sa r r' → ResultsAlike V d R Z Z' J Given c h j s s' r (returned plainly s'.frame (given_back mg tg r'))
+  comes_back : (mg : Mark) (tg : Temporary) (r : Result (Told ℕ) Value) (r' : Result ℕ Value) → ResultsAlike V d Ra (Zt V R Z Z' Cold h j s s' inv cold) Zf inner_jumps Given c h j s sa r r' → ResultsAlike V d R Z Z' J Given c h j s s' r (returned plainly s'.frame (given_back mg tg r'))
   unfolding returned bind after result_of
   comes_back mg tg r r' (both_on {o' = o'} {t = t} {t' = t'} j1 f w z) = both_on j1 (f ∙ sym (append-nil o')) w (back _ j1 t t' z)
   comes_back mg tg r r' (both_jump j1 f (stays_break e) z) = absurd (none_some e)
@@ -93,8 +93,8 @@ module _ (V : Facts) (R R1 : Renaming) (Z Z' : Frozen) (Cold : ℕ → Type 0) (
 -- ---- the call
 
 module _ (items : ℕ → ℕ) (P Q : Functions) (d : Direction) (N : New) (stands : element Q N.number ≡ Some (Some N.function)) where
-  module _ (V : Facts) (J : Jumping) (R Rp R1 : Renaming) (Z Z' : Frozen) (cold : List ℕ) (e e' : Exp) (es : Operands) (mb mg : Mark) (is : N.function.body ≡ body_giving mb mg e') (none : NoneSpecial R) (is_cold : (x : ℕ) → In x cold → (y : ℕ) × (sight_of R x ≡ Some (sight y (plain shut))))
-      (absents : Absents Rp R1) (covers : Covers R R1) (m b c : ℕ) (le : c ≤ b) (t : Temporary) (passing : Passing V R (order e t) (λ x. In x cold) [] es N.function.params Rp) (h : List Action) (j : List Pair) (s s' : State) (at : V.Comes (order e t) h)
+  module _ (V : Facts) (J : Jumping) (R Rp Ra : Renaming) (Z Z' : Frozen) (cold : List ℕ) (e e' : Exp) (es : Operands) (mb mg : Mark) (is : N.function.body ≡ body_giving mb mg e') (none : NoneSpecial R) (is_cold : (x : ℕ) → In x cold → (y : ℕ) × (sight_of R x ≡ Some (sight y (plain shut))))
+      (absents : Absents Rp Ra) (covers : Covers R Ra) (m b c : ℕ) (le : c ≤ b) (t : Temporary) (passing : Passing V R (order e t) (λ x. In x cold) [] es N.function.params Rp) (h : List Action) (j : List Pair) (s s' : State) (at : V.Comes (order e t) h)
       (inv : StatesAlike V R Z Z' h j s s') (known : (x i : ℕ) → Z.anchored x i → (e : Sight) × (sight_of R x ≡ Some e)) (low : s.turns ≤ m) where
     abbrev chilled : (x : ℕ) → In x cold → IsCold R x
     chilled x k = ((is_cold x k).0, inr (is_cold x k).1)
@@ -114,15 +114,15 @@ module _ (items : ℕ → ℕ) (P Q : Functions) (d : Direction) (N : New) (stan
     text_does = value followed P (below_level followed P m) e t s
 
     -- its activation, from the turn of the call
-    level_entered : (n0 u : ℕ) → suc u ≡ s'.turns → s'.turns ≤ suc n0 → CallsUpTo items P Q d (suc n0) → LikeExp items no_openings (gain d) V 0 inner_jumps R1 e e' → Turns d b s.turns u
+    level_entered : (n0 u : ℕ) → suc u ≡ s'.turns → s'.turns ≤ suc n0 → CallsUpTo items P Q d (suc n0) → LikeExp items no_openings (gain d) V 0 inner_jumps Ra e e' → Turns d b s.turns u
         → DoAlike V d R Z Z' J Given c h j s s' text_does (entered plainly (below_level plainly Q (suc n0)) N.number N.function (passed_at (suc n0) u).given (with_turns s' u))
     level_entered n0 u eu low' calls l k =
         let p = passed_at (suc n0) u in
         let going = absent_all Q (below_level plainly Q (suc n0)) V (order e t) R Z Z' (λ x. In x cold) h at j s s' inv chilled absents p.frozen p.at_end p.going in
         let same_turns : p.at_end.turns ≡ u = p.turns in
         subst (λ q. DoAlike V d R Z Z' J Given c h j s s' text_does (returned plainly s'.frame q)) (sym (activation_is Q n0 N.function mb mg e' p.given (entry u) p.at_end is p.entered))
-        (λ good. comes_back V R R1 Z Z' (λ x. In x cold) h j s s' inv chilled known none p.frozen p.at_end going (omega (arith, same_turns, eu)) d J c mg (temporary_of e') text_does (value plainly Q (below_level plainly Q n0) e' (temporary_of e') p.at_end)
-        ((level_alike items P Q d no_openings (nothing_opens items P Q d) n0 (λ i le. calls i (omega arith))).exp_all V m 0 c inner_jumps R1 Zs p.frozen e e' l t (temporary_of e') h j s p.at_end
+        (λ good. comes_back V R Ra Z Z' (λ x. In x cold) h j s s' inv chilled known none p.frozen p.at_end going (omega (arith, same_turns, eu)) d J c mg (temporary_of e') text_does (value plainly Q (below_level plainly Q n0) e' (temporary_of e') p.at_end)
+        ((level_alike items P Q d no_openings (nothing_opens items P Q d) n0 (λ i le. calls i (omega arith))).exp_all V m 0 c inner_jumps Ra Zs p.frozen e e' l t (temporary_of e') h j s p.at_end
         (record {
           inv = going.states_now;
           turns = subst (λ u. Turns d (0 + c) s.turns u) (sym same_turns) (weaken d b (0 + c) _ _ (omega arith) k);
@@ -131,7 +131,7 @@ module _ (items : ℕ → ℕ) (P Q : Functions) (d : Direction) (N : New) (stan
           known = λ x i a. covers x a.0 a.1;
         }) at good))
 
-    level : (n u : ℕ) → suc u ≡ s'.turns → s'.turns ≤ n → CallsUpTo items P Q d n → LikeExp items no_openings (gain d) V 0 inner_jumps R1 e e' → Turns d b s.turns u
+    level : (n u : ℕ) → suc u ≡ s'.turns → s'.turns ≤ n → CallsUpTo items P Q d n → LikeExp items no_openings (gain d) V 0 inner_jumps Ra e e' → Turns d b s.turns u
         → DoAlike V d R Z Z' J Given c h j s s' text_does (entered plainly (below_level plainly Q n) N.number N.function (passed_at n u).given (with_turns s' u))
     level zero u eu low' calls l k = absurd (omega (arith, low', eu))
     level (suc n0) u eu low' calls l k = level_entered n0 u eu low' calls l k
@@ -139,7 +139,7 @@ module _ (items : ℕ → ℕ) (P Q : Functions) (d : Direction) (N : New) (stan
     call_by : (n : ℕ) (mc : Mark) (t' : Temporary) (u : ℕ) → value plainly Q (below_level plainly Q n) (tree.call mc N.number es) t' s' ≡ take_turn s' (λ s3. entered plainly (below_level plainly Q n) N.number N.function (passed_at n u).given s3)
     call_by n mc t' u = call_is Q (below_level plainly Q n) mc N.number N.function es (passed_at n u).given t' s' stands (passed_at n u).arguments
 
-    cases : (n : ℕ) (mc : Mark) (t' : Temporary) → s'.turns ≤ n → CallsUpTo items P Q d n → LikeExp items no_openings (gain d) V 0 inner_jumps R1 e e' → (v : ℕ) → v ≡ s'.turns → EntryCase d b s.turns v
+    cases : (n : ℕ) (mc : Mark) (t' : Temporary) → s'.turns ≤ n → CallsUpTo items P Q d n → LikeExp items no_openings (gain d) V 0 inner_jumps Ra e e' → (v : ℕ) → v ≡ s'.turns → EntryCase d b s.turns v
         → DoAlike V d R Z Z' J Given c h j s s' text_does (value plainly Q (below_level plainly Q n) (tree.call mc N.number es) t' s')
     cases n mc t' low' calls l v ev (cut_off a) =
         subst (λ q. DoAlike V d R Z Z' J Given c h j s s' text_does q) (sym (call_by n mc t' zero ∙ turned_out s' ev (λ s3. entered plainly (below_level plainly Q n) N.number N.function (passed_at n zero).given s3))) (λ good. answer_cut a (_, refl))
@@ -148,8 +148,8 @@ module _ (items : ℕ → ℕ) (P Q : Functions) (d : Direction) (N : New) (stan
 
   becomes_alike : (n : ℕ) → CallsUpTo items P Q d n → {V : Facts} {a : ℕ} {J : Jumping} {R : Renaming} {f f' : Exp → Exp} → BecomesCall items (gain d) N V a J R f f' → (Z Z' : Frozen) (m b c : ℕ) → c ≤ b → (x x' : Exp) (t t' : Temporary) (h : List Action) (j : List Pair) (s s' : State)
       → Ready V d R Z Z' (a + b) m n h j s s' → V.Comes (order (f x) t) h → DoAlike V d R Z Z' J Given c h j s s' (value followed P (below_level followed P m) (f x) t s) (value plainly Q (below_level plainly Q n) (f' x') t' s')
-  becomes_alike n calls {V} {a} {J} {R} (becomes_call {e = e} {e' = e'} {es = es} {mc = mc} {mb = mb} {mg = mg} cold Rp R1 is none is_cold passing absents covers l) Z Z' m b c le x x' t t' h j s s' r at =
-      cases V J R Rp R1 Z Z' cold e e' es mb mg is none is_cold absents covers m b c le t (passing t) h j s s' at r.inv r.known r.low n mc t' r.low' calls l s'.turns refl (entry_case d b s.turns s'.turns (weaken d (1 + b) (suc b) _ _ (omega arith) r.turns))
+  becomes_alike n calls {V} {a} {J} {R} (becomes_call {e = e} {e' = e'} {es = es} {mc = mc} {mb = mb} {mg = mg} cold Rp Ra is none is_cold passing absents covers l) Z Z' m b c le x x' t t' h j s s' r at =
+      cases V J R Rp Ra Z Z' cold e e' es mb mg is none is_cold absents covers m b c le t (passing t) h j s s' at r.inv r.known r.low n mc t' r.low' calls l s'.turns refl (entry_case d b s.turns s'.turns (weaken d (1 + b) (suc b) _ _ (omega arith) r.turns))
 
   pub calls_open_alike : OpensAlike items P Q d (calls_of items (gain d) N)
   calls_open_alike = record {

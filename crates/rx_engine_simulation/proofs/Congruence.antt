@@ -71,9 +71,9 @@ module _ (items : ℕ → ℕ) (P Q : Functions) (d : Direction) where
       pub expression : (n : ℕ) → CallsUpTo n → {V : Facts} {a : ℕ} {J : Jumping} {R : Renaming} {f f' : Exp → Exp} → O.expression V a J R f f' → (Z Z' : Frozen) (m b c : ℕ) → c ≤ b → (e e' : Exp)
           → ((t t' : Temporary) (h : List Action) (j : List Pair) (s s' : State) → Ready V d R Z Z' b m n h j s s' → V.Comes (order e t) h → DoAlike V d R Z Z' J Given c h j s s' (in_text m e t s) (in_answer n e' t' s'))
           → (t t' : Temporary) (h : List Action) (j : List Pair) (s s' : State) → Ready V d R Z Z' (a + b) m n h j s s' → V.Comes (order (f e) t) h → DoAlike V d R Z Z' J Given c h j s s' (in_text m (f e) t s) (in_answer n (f' e') t' s')
-      pub statements : (n : ℕ) → CallsUpTo n → {V : Facts} {a : ℕ} {J : Jumping} {R R1 : Renaming} {f f' : Body → Body} → O.statements V a J R R1 f f' → (Z Z' : Frozen) (m b c : ℕ) → c ≤ b → (e e' : Body) (i i' : ℕ) (t t' : Temporary)
-          → ((h : List Action) (j : List Pair) (s s' : State) → Ready V d R1 Z Z' b m n h j s s' → V.Comes (order_body e i t) h
-          → DoAlike V d R1 Z Z' J Given c h j s s' (body followed P (below_level followed P m) e i t s) (body plainly Q (below_level plainly Q n) e' i' t' s'))
+      pub statements : (n : ℕ) → CallsUpTo n → {V : Facts} {a : ℕ} {J : Jumping} {R Ra : Renaming} {f f' : Body → Body} → O.statements V a J R Ra f f' → (Z Z' : Frozen) (m b c : ℕ) → c ≤ b → (e e' : Body) (i i' : ℕ) (t t' : Temporary)
+          → ((h : List Action) (j : List Pair) (s s' : State) → Ready V d Ra Z Z' b m n h j s s' → V.Comes (order_body e i t) h
+          → DoAlike V d Ra Z Z' J Given c h j s s' (body followed P (below_level followed P m) e i t s) (body plainly Q (below_level plainly Q n) e' i' t' s'))
           → (h : List Action) (j : List Pair) (s s' : State) → Ready V d R Z Z' (a + b) m n h j s s' → V.Comes (order_body (f e) i t) h
           → DoAlike V d R Z Z' J Given c h j s s' (body followed P (below_level followed P m) (f e) i t s) (body plainly Q (below_level plainly Q n) (f' e') i' t' s')
 
@@ -200,7 +200,7 @@ module _ (items : ℕ → ℕ) (P Q : Functions) (d : Direction) where
         arms_alike : {V : Facts} {k : ℕ} {J : Jumping} {R : Renaming} {a b : Scrutinee} {l l' : Arms} → LikeArms items O (gain d) V k J R a b l l' → (Z Z' : Frozen) (m c : ℕ) (vs vs' : List Value) (t t' : Temporary) (h : List Action) (j : List Pair) (s s' : State) → AllGiven j vs vs' → Ready V d R Z Z' (k + c) m n h j s s' → V.Comes (order_arms (subject a) l t) h
             → DoAlike V d R Z Z' J Given c h j s s' (arms followed P (below_level followed P m) (subject a) vs l t s) (arms plainly Q (below_level plainly Q n) (subject b) vs' l' t' s')
         arms_alike {V} {k} {J} {R} no_arms Z Z' m c vs vs' t t' h j s s' g r at = λ good. both_stop refl refl
-        arms_alike {V} {k} {J} {R} {a} (arms_and {q = q} {e = e} {e' = e'} R1 lt lb la ls) Z Z' m c vs vs' t t' h j s s' g r at =
+        arms_alike {V} {k} {J} {R} {a} (arms_and {q = q} {e = e} {e' = e'} Ra lt lb la ls) Z Z' m c vs vs' t t' h j s s' g r at =
             tested_alike V d Z Z' J (k + c) c m n (omega arith) lt (binding (subject a) (bindings [] q) (mark_of e).node (order e t)) _ _ _ _ vs vs' h j s s' g r (arm_at V at)
             (λ h1 j1 u u' f r1 at1. bound_alike V d Z Z' J (k + c) c m n (omega arith) lb (mark_of e).node (mark_of e').node (order e t) _ _ (λ h2 j2 x x' r2 at2. exp_alike la Z Z' m c t t' h2 j2 x x' r2 at2) vs vs' h1 j1 u u' (all_more f g) r1 at1)
             (λ h1 j1 u u' f r1 x. arms_alike ls Z Z' m c vs vs' t t' h1 j1 u u' (all_more f g) r1 (next_arm_at V at x))
@@ -211,11 +211,11 @@ module _ (items : ℕ → ℕ) (P Q : Functions) (d : Direction) where
         body_alike {V} {k} {J} {R} (runs_on {e = e} a b le la lb) Z Z' m c i i' t t' h j s s' r at =
             alike_bind_at V d R Z Z' J Given Given (b + c) c h j s s' _ _ _ _ (omega arith) (order e (temporary_of e)) (value_walk P m e s) (exp_alike la Z Z' m (b + c) _ _ h j s s' (less V d R Z Z' (a + (b + c)) (omega arith) r) (first_at V at)) (λ h1 j1 v v' u u' k1 g z.
             body_alike lb Z Z' m c i i' t t' h1 j1 u u' (go_on V d R Z Z' r z) (next_at V at k1))
-        body_alike {V} {k} {J} {R} (declares_all {s = n0} {s' = n0'} {b = b0} R1 ld lb) Z Z' m c i i' t t' h j s s' r at =
+        body_alike {V} {k} {J} {R} (declares_all {s = n0} {s' = n0'} {b = b0} Ra ld lb) Z Z' m c i i' t t' h j s s' r at =
             begun_alike V d Z Z' J (k + c) c m n (omega arith) ld n0 n0' i i' (order_body b0 i t) _ _ (λ h1 j1 u u' r1 at1. body_alike lb Z Z' m c i i' t t' h1 j1 u u' r1 at1) h j s s' r at
         body_alike {V} {k} {J} {R} (opens_in {b = b} {b' = b'} a i0 le o l) Z Z' m c i i' t t' h j s s' r at =
             open_alike.statements n calls_alike o Z Z' m (i0 + c) c (omega arith) b b' i i' t t' (λ h j s s' r at. body_alike l Z Z' m c i i' t t' h j s s' r at) h j s s' (less V d R Z Z' (a + (i0 + c)) (omega arith) r) at
-        body_alike {V} {k} {J} {R} (lets_in {c = sc} {b = b0} R1 a b le lc lp lb) Z Z' m c i i' t t' h j s s' r at =
+        body_alike {V} {k} {J} {R} (lets_in {c = sc} {b = b0} Ra a b le lc lp lb) Z Z' m c i i' t t' h j s s' r at =
             alike_bind_at V d R Z Z' J AllGiven Given (b + c) c h j s s' _ _ _ _ (omega arith) (order_scrutinee sc) (matched_walk P m sc s) (matched_alike lc Z Z' m (b + c) h j s s' (less V d R Z Z' (a + (b + c)) (omega arith) r) (first_at V at)) (λ h1 j1 vs vs' u u' k1 g z.
             bound_alike V d Z Z' J (b + c) c m n (omega arith) lp i i' (order_body b0 i t) _ _ (λ h2 j2 x x' r2 at2. body_alike lb Z Z' m c i i' t t' h2 j2 x x' r2 at2) vs vs' h1 j1 u u' g (go_on V d R Z Z' r z) (next_at V at k1))
 

@@ -14,8 +14,8 @@ abbrev pub with_memory_in : State → Frame → List Value → State
 with_memory_in t F M = record t { frame = F; memory = M }
 
 module _ (V : Facts) (R : Renaming) (Z Z' : Frozen) (Cold : ℕ → Type 0) (h : List Action) (j : List Pair) (s s' : State) (inv : StatesAlike V R Z Z' h j s s') (cold : (x : ℕ) → Cold x → IsCold R x) (known : (x i : ℕ) → Z.anchored x i → (e : Sight) × (sight_of R x ≡ Some e))
-    (Rf R2 : Renaming) (Zf : Frozen) (sa : State) (going : Going V R Z Z' Cold h j s s' inv cold Rf Zf sa) (specials : (x y : ℕ) → sight_of R x ≡ Some (sight y special) → (z : ℕ) × (sight_of R2 x ≡ Some (sight z special)))
-    (h1 : List Action) (j1 : List Pair) (t t' : State) (end : StatesAlike V R2 (Zt V R Z Z' Cold h j s s' inv cold) Zf h1 j1 t t') (grown : Grown j s sa j1 t t') where
+    (Rf Rb : Renaming) (Zf : Frozen) (sa : State) (going : Going V R Z Z' Cold h j s s' inv cold Rf Zf sa) (specials : (x y : ℕ) → sight_of R x ≡ Some (sight y special) → (z : ℕ) × (sight_of Rb x ≡ Some (sight z special)))
+    (h1 : List Action) (j1 : List Pair) (t t' : State) (end : StatesAlike V Rb (Zt V R Z Z' Cold h j s s' inv cold) Zf h1 j1 t t') (grown : Grown j s sa j1 t t') where
   -- a variable's slot is what it was
   pub same_slot : (x i : ℕ) (e : Sight) → sight_of R x ≡ Some e → slot_of s.frame.slots x ≡ Some i → slot_of t.frame.slots x ≡ Some i
   same_slot x i e seen f = end.anchors x i (e, seen, f)
@@ -46,7 +46,7 @@ module _ (V : Facts) (R : Renaming) (Z Z' : Frozen) (Cold : ℕ → Type 0) (h :
       touched' = λ q m e. b.touched' q (old_right q m (let k = inv.framed'.below y b.right b.at_answer in omega arith)) e;
     }
       where
-        touched_by : (q : Pair) → In q j1 → q.left ≡ b.left → (z : ℕ) × (sight_of R2 x ≡ Some (sight z special)) → (q.hold ≡ fixed) × Borrowed h1 x
+        touched_by : (q : Pair) → In q j1 → q.left ≡ b.left → (z : ℕ) × (sight_of Rb x ≡ Some (sight z special)) → (q.hold ≡ fixed) × Borrowed h1 x
         touched_by q m e (z, f) =
             let b2 : IsSpecial V (Zt V R Z Z' Cold h j s s' inv cold) Zf h1 j1 t.frame t'.frame t.memory t'.memory x z = end.binds x (sight z special) f in
             b2.touched q m (e ∙ some_same (sym (same_slot x b.left (sight y special) seen b.at_text) ∙ b2.at_text))

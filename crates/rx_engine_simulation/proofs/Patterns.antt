@@ -34,9 +34,9 @@ own_like V R x y w (new_plain k n) = direct (plain k) (seen_new x _ R) tt (λ o.
 own_like V R x y w (new_special k) = direct special (seen_new x _ R) tt (λ o. tt, tt) no_steps
 
 -- both with a new variable
-pub record Newly (V : Facts) (d : Direction) (R1 : Renaming) (Z Z' : Frozen) (c m n : ℕ) (h1 : List Action) (j : List Pair) (s s' t t' : State) : Type 0 where
+pub record Newly (V : Facts) (d : Direction) (Ra : Renaming) (Z Z' : Frozen) (c m n : ℕ) (h1 : List Action) (j : List Pair) (s s' t t' : State) : Type 0 where
   pub pairs : List Pair
-  pub ready : Ready V d R1 Z Z' c m n h1 pairs t t'
+  pub ready : Ready V d Ra Z Z' c m n h1 pairs t t'
   pub grown : Grown j s s' pairs t t'
 
 none_is : {A : Type 0} {a : A} → None ≡ Some a → ⊥
@@ -68,7 +68,7 @@ abbrev pub Follow : Facts → Direction → Renaming → Frozen → Frozen → J
 Follow V d R Z Z' J c e m n o go go' = (h : List Action) (j : List Pair) (s s' : State) → Ready V d R Z Z' c m n h j s s' → V.Comes o h → DoAlike V d R Z Z' J Given e h j s s' (go s) (go' s')
 
 module _ (V : Facts) (d : Direction) (Z Z' : Frozen) (J : Jumping) (c e m n : ℕ) (le : e ≤ c) where
-  pub begun_alike : {R R1 : Renaming} {xs ys : List ℕ} → LikeDeclared V R xs ys R1 → (i i' b b' : ℕ) (o : Order) (go : State → Result (Told ℕ) Value) (go' : State → Result ℕ Value) → Follow V d R1 Z Z' J c e m n o go go'
+  pub begun_alike : {R Ra : Renaming} {xs ys : List ℕ} → LikeDeclared V R xs ys Ra → (i i' b b' : ℕ) (o : Order) (go : State → Result (Told ℕ) Value) (go' : State → Result ℕ Value) → Follow V d Ra Z Z' J c e m n o go go'
       → Follow V d R Z Z' J c e m n (declaring i xs b o) (λ s. begun followed i xs b go s) (λ s. begun plainly i' ys b' go' s)
   unfolding begun
   begun_alike none_new i i' b b' o go go' k h j s s' r at = k h j s s' r at
@@ -86,7 +86,7 @@ module _ (V : Facts) (d : Direction) (Z Z' : Frozen) (J : Jumping) (c e m n : �
   took_alike {R} (takes_borrow {k = i} {p = p} {p' = p'} {t = t} {t' = t'} l) k k' vs vs' h j s s' g r =
       alike_bind V d R Z Z' J Given AllGiven c c h j s s' _ _ _ _ (le_refl c) (borrow_alike V d R Z Z' J c h j s s' r.inv r.turns k k' i p p' t t' vs vs' l g) (λ h1 j1 a b t t' q w good. both_on j1 refl (more_given q none_given) (stay V d R Z Z' (go_on V d R Z Z' r w)))
 
-  pub bound_alike : {S S' : Subject} {R R1 : Renaming} {bs bs' : List Binding} → LikeBindings V S S' R bs bs' R1 → (b b' : ℕ) (o : Order) (go : State → Result (Told ℕ) Value) (go' : State → Result ℕ Value) → Follow V d R1 Z Z' J c e m n o go go'
+  pub bound_alike : {S S' : Subject} {R Ra : Renaming} {bs bs' : List Binding} → LikeBindings V S S' R bs bs' Ra → (b b' : ℕ) (o : Order) (go : State → Result (Told ℕ) Value) (go' : State → Result ℕ Value) → Follow V d Ra Z Z' J c e m n o go go'
       → (vs vs' : List Value) (h : List Action) (j : List Pair) (s s' : State) → AllGiven j vs vs' → Ready V d R Z Z' c m n h j s s' → V.Comes (binding S bs b o) h
       → DoAlike V d R Z Z' J Given e h j s s' (bound followed S vs bs b go s) (bound plainly S' vs' bs' b' go' s')
   unfolding bound
@@ -97,13 +97,13 @@ module _ (V : Facts) (d : Direction) (Z Z' : Frozen) (J : Jumping) (c e m n : �
       let fresh = newly V d R Z Z' c m n a.node a.variable a'.variable w h1 j1 t t' f none u r1 in
       let g1 = all_more z.grown.more g in
       let at1 = next_at V (next_at V at k1) (acted_one (declared a) h1) in
-      let R2 = (a.variable, sight a'.variable w) ∷ R in
+      let Rb = (a.variable, sight a'.variable w) ∷ R in
       declared_then V d R Z Z' J Given e h1 j1 fresh.pairs t t' a.node a'.node a.variable a'.variable _ _ fresh.grown
       (alike_drop V d R Z Z' J Given e _ fresh.pairs _ _ a.variable (sight a'.variable w) _ _ none
-      (alike_bind_at V d R2 Z Z' J Given Given c e _ fresh.pairs _ _ _ _ _ _ le (order.act (written S a)) (act_walk (written S a) ws (with_variable a.variable t))
-      (write_all_alike V d R2 Z Z' J c _ fresh.pairs _ _ fresh.ready.inv fresh.ready.turns a.node a'.node (source_of S a).0 (source_of S' a').0 (source_of S a).1 (source_of S' a').1 (own a.variable) (own a'.variable) (own_like V R a.variable a'.variable w f) way ws ws' (all_more fresh.grown.more q)) (λ h2 j2 v v' t2 t2' k2 q2 z2.
-      alike_closed V d R2 Z Z' J Given e h2 j2 t2 t2' b b' a.variable a'.variable _ _
-      (bound_alike rest b b' o go go' k vs vs' h2 j2 t2 t2' (all_more z2.grown.more (all_more fresh.grown.more g1)) (go_on V d R2 Z Z' fresh.ready z2) (scope_at V (next_at V at1 k2)))))))
+      (alike_bind_at V d Rb Z Z' J Given Given c e _ fresh.pairs _ _ _ _ _ _ le (order.act (written S a)) (act_walk (written S a) ws (with_variable a.variable t))
+      (write_all_alike V d Rb Z Z' J c _ fresh.pairs _ _ fresh.ready.inv fresh.ready.turns a.node a'.node (source_of S a).0 (source_of S' a').0 (source_of S a).1 (source_of S' a').1 (own a.variable) (own a'.variable) (own_like V R a.variable a'.variable w f) way ws ws' (all_more fresh.grown.more q)) (λ h2 j2 v v' t2 t2' k2 q2 z2.
+      alike_closed V d Rb Z Z' J Given e h2 j2 t2 t2' b b' a.variable a'.variable _ _
+      (bound_alike rest b b' o go go' k vs vs' h2 j2 t2 t2' (all_more z2.grown.more (all_more fresh.grown.more g1)) (go_on V d Rb Z Z' fresh.ready z2) (scope_at V (next_at V at1 k2)))))))
 
   pub tested_alike : {S S' : Subject} {R : Renaming} {ts ts' : List PartTest} → LikeTests R S S' ts ts' → (o : Order) (go other : State → Result (Told ℕ) Value) (go' other' : State → Result ℕ Value) → (vs vs' : List Value) (h : List Action) (j : List Pair) (s s' : State) → AllGiven j vs vs' → Ready V d R Z Z' c m n h j s s' → V.Comes (testing S ts o) h
       → ((h1 : List Action) (j1 : List Pair) (t t' : State) → More j j1 → Ready V d R Z Z' c m n h1 j1 t t' → V.Comes o h1 → DoAlike V d R Z Z' J Given e h1 j1 t t' (go t) (go' t'))
@@ -120,7 +120,7 @@ module _ (V : Facts) (d : Direction) (Z Z' : Frozen) (J : Jumping) (c e m n : �
       (λ h2 j2 u u' f r2 x. l h2 j2 u u' (λ p i. f p (z.grown.more p i)) r2 (fails_later k1 x)))
       (l h1 j1 t t' z.grown.more r1 (fails_now k1))))
 
-  pub arguments_alike : {R R1 : Renaming} {ps qs : List Parameter} → LikeParams V R ps qs R1 → (b b' : ℕ) (o : Order) (go : State → Result (Told ℕ) Value) (go' : State → Result ℕ Value) → Follow V d R1 Z Z' J c e m n o go go'
+  pub arguments_alike : {R Ra : Renaming} {ps qs : List Parameter} → LikeParams V R ps qs Ra → (b b' : ℕ) (o : Order) (go : State → Result (Told ℕ) Value) (go' : State → Result ℕ Value) → Follow V d Ra Z Z' J c e m n o go go'
       → (vs vs' : List Value) (h : List Action) (j : List Pair) (s s' : State) → AllGiven j vs vs' → Ready V d R Z Z' c m n h j s s' → V.Comes (beginning ps b o) h
       → DoAlike V d R Z Z' J Given e h j s s' (with_arguments followed ps b vs go s) (with_arguments plainly qs b' vs' go' s')
   unfolding with_arguments
@@ -130,9 +130,9 @@ module _ (V : Facts) (d : Direction) (Z Z' : Frozen) (J : Jumping) (c e m n : �
   arguments_alike {R} (param_and {p = p} {q = q} w f none u l) b b' o go go' k vs vs' h j s s' (more_given {v = v} {w = v'} {vs = us} {ws = us'} g gs) r at =
       let fresh = newly V d R Z Z' c m n p.node p.variable q.variable w h j s s' f none u r in
       let at1 = next_at V at (acted_one (declared_parameter p) h) in
-      let R2 = (p.variable, sight q.variable w) ∷ R in
+      let Rb = (p.variable, sight q.variable w) ∷ R in
       declared_then V d R Z Z' J Given e h j fresh.pairs s s' p.node q.node p.variable q.variable _ _ fresh.grown
       (alike_drop V d R Z Z' J Given e _ fresh.pairs _ _ p.variable (sight q.variable w) _ _ none
-      (alike_bind_at V d R2 Z Z' J Given Given c e _ fresh.pairs _ _ _ _ _ _ le (order.act (written_parameter p)) (act_walk (written_parameter p) (v ∷ []) (with_variable p.variable s))
-      (write_alike V d R2 Z Z' J c _ fresh.pairs _ _ fresh.ready.inv fresh.ready.turns p.node q.node (argument p) (argument q) [] [] (own p.variable) (own q.variable) (own_like V R p.variable q.variable w f) no_steps v v' (given_more fresh.grown.more g)) (λ h2 j2 x x' t2 t2' k2 q2 z2.
-      alike_closed V d R2 Z Z' J Given e h2 j2 t2 t2' b b' p.variable q.variable _ _ (arguments_alike l b b' o go go' k us us' h2 j2 t2 t2' (all_more z2.grown.more (all_more fresh.grown.more gs)) (go_on V d R2 Z Z' fresh.ready z2) (scope_at V (next_at V at1 k2))))))
+      (alike_bind_at V d Rb Z Z' J Given Given c e _ fresh.pairs _ _ _ _ _ _ le (order.act (written_parameter p)) (act_walk (written_parameter p) (v ∷ []) (with_variable p.variable s))
+      (write_alike V d Rb Z Z' J c _ fresh.pairs _ _ fresh.ready.inv fresh.ready.turns p.node q.node (argument p) (argument q) [] [] (own p.variable) (own q.variable) (own_like V R p.variable q.variable w f) no_steps v v' (given_more fresh.grown.more g)) (λ h2 j2 x x' t2 t2' k2 q2 z2.
+      alike_closed V d Rb Z Z' J Given e h2 j2 t2 t2' b b' p.variable q.variable _ _ (arguments_alike l b b' o go go' k us us' h2 j2 t2 t2' (all_more z2.grown.more (all_more fresh.grown.more gs)) (go_on V d Rb Z Z' fresh.ready z2) (scope_at V (next_at V at1 k2))))))

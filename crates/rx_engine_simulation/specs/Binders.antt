@@ -15,11 +15,11 @@ pub data NewHow (V : Facts) (x : ℕ) : How → Type 0 where
 -- new variables of both, and the renaming then
 pub data LikeDeclared (V : Facts) : Renaming → List ℕ → List ℕ → Renaming → Type 0 where
   none_new : {R : Renaming} → LikeDeclared V R [] [] R
-  new_and : {R R1 : Renaming} {x y : ℕ} {xs ys : List ℕ} (w : How) → NewHow V x w → sight_of R x ≡ None → IsNew R y → LikeDeclared V ((x, sight y w) ∷ R) xs ys R1 → LikeDeclared V R (x ∷ xs) (y ∷ ys) R1
+  new_and : {R Ra : Renaming} {x y : ℕ} {xs ys : List ℕ} (w : How) → NewHow V x w → sight_of R x ≡ None → IsNew R y → LikeDeclared V ((x, sight y w) ∷ R) xs ys Ra → LikeDeclared V R (x ∷ xs) (y ∷ ys) Ra
 
 pub data LikeParams (V : Facts) : Renaming → List Parameter → List Parameter → Renaming → Type 0 where
   no_param : {R : Renaming} → LikeParams V R [] [] R
-  param_and : {R R1 : Renaming} {p q : Parameter} {ps qs : List Parameter} (w : How) → NewHow V p.variable w → sight_of R p.variable ≡ None → IsNew R q.variable → LikeParams V ((p.variable, sight q.variable w) ∷ R) ps qs R1 → LikeParams V R (p ∷ ps) (q ∷ qs) R1
+  param_and : {R Ra : Renaming} {p q : Parameter} {ps qs : List Parameter} (w : How) → NewHow V p.variable w → sight_of R p.variable ≡ None → IsNew R q.variable → LikeParams V ((p.variable, sight q.variable w) ∷ R) ps qs Ra → LikeParams V R (p ∷ ps) (q ∷ qs) Ra
 
 -- what a binding reads or borrows
 pub data LikeTaken (R : Renaming) : Option Act → Option Act → Type 0 where
@@ -29,8 +29,8 @@ pub data LikeTaken (R : Renaming) : Option Act → Option Act → Type 0 where
 
 pub data LikeBindings (V : Facts) (S S' : Subject) : Renaming → List Binding → List Binding → Renaming → Type 0 where
   no_binding : {R : Renaming} → LikeBindings V S S' R [] [] R
-  binding_and : {R R1 : Renaming} {b b' : Binding} {bs bs' : List Binding} (w : How) → LikeTaken R (taken S b) (taken S' b') → LikeSteps (source_of S b).1 (source_of S' b').1
-      → NewHow V b.variable w → sight_of R b.variable ≡ None → IsNew R b'.variable → LikeBindings V S S' ((b.variable, sight b'.variable w) ∷ R) bs bs' R1 → LikeBindings V S S' R (b ∷ bs) (b' ∷ bs') R1
+  binding_and : {R Ra : Renaming} {b b' : Binding} {bs bs' : List Binding} (w : How) → LikeTaken R (taken S b) (taken S' b') → LikeSteps (source_of S b).1 (source_of S' b').1
+      → NewHow V b.variable w → sight_of R b.variable ≡ None → IsNew R b'.variable → LikeBindings V S S' ((b.variable, sight b'.variable w) ∷ R) bs bs' Ra → LikeBindings V S S' R (b ∷ bs) (b' ∷ bs') Ra
 
 pub data LikeTests (R : Renaming) (S S' : Subject) : List PartTest → List PartTest → Type 0 where
   no_test : LikeTests R S S' [] []

@@ -45,7 +45,7 @@ abbrev pub NoneSpecial : Renaming → Type 0
 NoneSpecial R = (x y : ℕ) → sight_of R x ≡ Some (sight y special) → ⊥
 
 abbrev pub Covers : Renaming → Renaming → Type 0
-Covers R R1 = (x : ℕ) (e : Sight) → sight_of R x ≡ Some e → (f : Sight) × (sight_of R1 x ≡ Some f)
+Covers R Ra = (x : ℕ) (e : Sight) → sight_of R x ≡ Some e → (f : Sight) × (sight_of Ra x ≡ Some f)
 
 -- the body of the new function
 abbrev pub body_giving : Mark → Mark → Exp → Exp
@@ -53,10 +53,10 @@ body_giving mb mg e = tree.block mb (tree.ends (tree.give mg e))
 
 -- the call takes one turn
 pub data BecomesCall (items : ℕ → ℕ) (gain : ℕ) (N : New) (V : Facts) : ℕ → Jumping → Renaming → (Exp → Exp) → (Exp → Exp) → Type 0 where
-  becomes_call : {J : Jumping} {R : Renaming} {e e' : Exp} {es : Operands} {mc mb mg : Mark} (cold : List ℕ) (Rp R1 : Renaming) → N.function.body ≡ body_giving mb mg e' → NoneSpecial R
+  becomes_call : {J : Jumping} {R : Renaming} {e e' : Exp} {es : Operands} {mc mb mg : Mark} (cold : List ℕ) (Rp Ra : Renaming) → N.function.body ≡ body_giving mb mg e' → NoneSpecial R
       → ((x : ℕ) → In x cold → (y : ℕ) × (sight_of R x ≡ Some (sight y (plain shut))))
-      → ((t : Temporary) → Passing V R (order e t) (λ x. In x cold) [] es N.function.params Rp) → Absents Rp R1 → Covers R R1
-      → LikeExp items no_openings gain V 0 inner_jumps R1 e e' → BecomesCall items gain N V 1 J R (λ f. e) (λ f. tree.call mc N.number es)
+      → ((t : Temporary) → Passing V R (order e t) (λ x. In x cold) [] es N.function.params Rp) → Absents Rp Ra → Covers R Ra
+      → LikeExp items no_openings gain V 0 inner_jumps Ra e e' → BecomesCall items gain N V 1 J R (λ f. e) (λ f. tree.call mc N.number es)
 
 abbrev pub calls_of : (ℕ → ℕ) → ℕ → New → Openings
 calls_of items gain N = record { expression = λ V a J R f g. BecomesCall items gain N V a J R f g; statements = λ V a J R S f g. ⊥ }

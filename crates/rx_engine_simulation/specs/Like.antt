@@ -51,16 +51,16 @@ mutual
 
   pub data LikeArms (items : ℕ → ℕ) (O : Openings) (gain : ℕ) (V : Facts) : ℕ → Jumping → Renaming → Scrutinee → Scrutinee → Arms → Arms → Type 0 where
     no_arms : {k : ℕ} {J : Jumping} {R : Renaming} {c c' : Scrutinee} → LikeArms items O gain V k J R c c' tree.no_arm tree.no_arm
-    arms_and : {k : ℕ} {J : Jumping} {R : Renaming} {c c' : Scrutinee} {q q' : Pattern} {e e' : Exp} {l l' : Arms} (R1 : Renaming) → LikeTests R (subject c) (subject c') (tests [] q) (tests [] q')
-        → LikeBindings V (subject c) (subject c') R (bindings [] q) (bindings [] q') R1 → LikeExp items O gain V k J R1 e e' → LikeArms items O gain V k J R c c' l l'
+    arms_and : {k : ℕ} {J : Jumping} {R : Renaming} {c c' : Scrutinee} {q q' : Pattern} {e e' : Exp} {l l' : Arms} (Ra : Renaming) → LikeTests R (subject c) (subject c') (tests [] q) (tests [] q')
+        → LikeBindings V (subject c) (subject c') R (bindings [] q) (bindings [] q') Ra → LikeExp items O gain V k J Ra e e' → LikeArms items O gain V k J R c c' l l'
         → LikeArms items O gain V k J R c c' (tree.arm_and q e l) (tree.arm_and q' e' l')
 
   pub data LikeBody (items : ℕ → ℕ) (O : Openings) (gain : ℕ) (V : Facts) : ℕ → Jumping → Renaming → Body → Body → Type 0 where
-    opens_in : {k : ℕ} {J : Jumping} {R R1 : Renaming} {b b' : Body} {f f' : Body → Body} (a i : ℕ) → a + i ≤ k → O.statements V a J R R1 f f' → LikeBody items O gain V i J R1 b b' → LikeBody items O gain V k J R (f b) (f' b')
+    opens_in : {k : ℕ} {J : Jumping} {R Ra : Renaming} {b b' : Body} {f f' : Body → Body} (a i : ℕ) → a + i ≤ k → O.statements V a J R Ra f f' → LikeBody items O gain V i J Ra b b' → LikeBody items O gain V k J R (f b) (f' b')
     ends_in : {k : ℕ} {J : Jumping} {R : Renaming} {e e' : Exp} → LikeExp items O gain V k J R e e' → LikeBody items O gain V k J R (tree.ends e) (tree.ends e')
     runs_on : {k : ℕ} {J : Jumping} {R : Renaming} {e e' : Exp} {b b' : Body} (i j : ℕ) → i + j ≤ k → LikeExp items O gain V i J R e e' → LikeBody items O gain V j J R b b'
         → LikeBody items O gain V k J R (tree.runs e b) (tree.runs e' b')
-    declares_all : {k s s' : ℕ} {J : Jumping} {R : Renaming} {xs ys : List ℕ} {b b' : Body} (R1 : Renaming) → LikeDeclared V R xs ys R1 → LikeBody items O gain V k J R1 b b'
+    declares_all : {k s s' : ℕ} {J : Jumping} {R : Renaming} {xs ys : List ℕ} {b b' : Body} (Ra : Renaming) → LikeDeclared V R xs ys Ra → LikeBody items O gain V k J Ra b b'
         → LikeBody items O gain V k J R (tree.declares s xs b) (tree.declares s' ys b')
-    lets_in : {k s s' : ℕ} {J : Jumping} {R : Renaming} {q q' : Pattern} {c c' : Scrutinee} {b b' : Body} (R1 : Renaming) (i j : ℕ) → i + j ≤ k → LikeMatched items O gain V i J R c c'
-        → LikeBindings V (subject c) (subject c') R (bindings [] q) (bindings [] q') R1 → LikeBody items O gain V j J R1 b b' → LikeBody items O gain V k J R (tree.lets s q c b) (tree.lets s' q' c' b')
+    lets_in : {k s s' : ℕ} {J : Jumping} {R : Renaming} {q q' : Pattern} {c c' : Scrutinee} {b b' : Body} (Ra : Renaming) (i j : ℕ) → i + j ≤ k → LikeMatched items O gain V i J R c c'
+        → LikeBindings V (subject c) (subject c') R (bindings [] q) (bindings [] q') Ra → LikeBody items O gain V j J Ra b b' → LikeBody items O gain V k J R (tree.lets s q c b) (tree.lets s' q' c' b')
