@@ -143,7 +143,7 @@ fn is_told(alloc: Global, want: &str) -> Outcome {
     Ok(told(alloc)?.as_str() == want)
 }
 
-/// The answers were found by the rules, before the readers were asked but for those of sites. `Command` has a tag and five fields; the
+/// The answers were printed first, and then checked against the rules by hand. `Command` has a tag and five fields; the
 /// loan of what `pick` returns lasts up to its end, at site 11, and that of the bank up to the call of `serve`, at site 12.
 const TOLD: &str =
     "4 5 6 7 2 5 6 4 7 4 4 covered; 5 2 1 false true false false; 5 2 1 true false true true; 6 13 1 true false true true; \
