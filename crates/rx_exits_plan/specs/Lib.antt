@@ -7,3 +7,4 @@ pub mod Unreachable
 pub mod MixedInit
 pub mod PartlyMoved
 pub mod Shadowed
+pub mod PlainPlan

@@ -2,5 +2,7 @@
 #![tactic(auto)]
 
 mod laws;
+mod plan;
 
 pub use laws::{cases_are_one, plans_are_one, variables_are_params_or_locals};
+pub use plan::{Exit, ExitOuts, ExitPlan, Run};
