@@ -1,0 +1,9 @@
+//! How many levels the canonical text of a tree has.
+#![tactic(auto)]
+
+mod counting;
+mod expressions;
+mod items;
+mod types;
+
+pub use items::levels_of;
