@@ -1,0 +1,12 @@
+use Rattle.std.proofs.Common.{map, refl}
+use Rattle.rx_lower_emit.specs.PlainSite.{plain-Site}
+use Rattle.rx_facts_along.specs.Along.{edges_of}
+use Rattle.rx_facts_parts.specs.Layouts.{plain-Frame}
+use Rattle.rx_facts_init.proofs.Exact.{all_tell}
+use Rattle.rx_exits_points.specs.Facts.{switches}
+use Rattle.rx_exits_points.proofs.facts.table.Goals as goal
+
+pub returns : goal.returns
+returns c = all_tell (edges_of (map plain-Site c.args.sites.now)) c.as_slice.result.now c.args.start c.args.bound (map plain-Site c.args.sites.now)
+    (switches (plain-Frame c.args.setup.now.frame.now) c.args.kind) c.along.result refl
+    c.in_ok-effects.effects.items c.as_slice.ensures.value c.in_ok-effects.ensures c.along.ensures
