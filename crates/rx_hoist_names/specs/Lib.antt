@@ -1,0 +1,3 @@
+pub mod Words
+pub mod NameTest
+pub mod DeclaredNames
