@@ -1,0 +1,11 @@
+pub mod Steps
+pub mod Numbers
+pub mod Extracting
+pub mod Unbounded
+pub mod Numbering
+pub mod Outcomes
+pub mod Asking
+pub mod Alike
+pub mod Bounds
+pub mod Once
+pub mod Written

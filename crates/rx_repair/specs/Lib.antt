@@ -1,0 +1,3 @@
+pub mod Repaired
+pub mod Named
+pub mod Lacking
