@@ -1,0 +1,4 @@
+pub mod Seen
+pub mod PlainSought
+pub mod Broken
+pub mod ExitsBy

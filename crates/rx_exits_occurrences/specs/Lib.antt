@@ -1,0 +1,2 @@
+pub mod PlainOccurrence
+pub mod Wanted

@@ -1,0 +1,4 @@
+pub mod BoundLemmas
+pub mod StatementLemmas
+pub mod Turns
+pub mod AroundLemmas

@@ -1,0 +1,2 @@
+pub mod PlainSyntax
+pub mod Bound
