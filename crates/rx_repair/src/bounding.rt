@@ -1,7 +1,7 @@
 //! Bounds written into the lifetime list of a function.
 
 ghost use Rattle.std.specs.Prelude.{◌≡◌, ◌≤◌, ◌++◌, ◌∷◌, [], length, IfOk};
-ghost use Rattle.core.specs.List.{insert};
+ghost use Rattle.std.specs.Prelude.{insert};
 ghost use Rattle.rx_tree.specs.PlainOf.{plain-Item, plain-Program, plain-Func};
 ghost use Rattle.rx_repair.specs.Repaired as spec;
 

@@ -1,5 +1,5 @@
 use Rattle.std.proofs.Common.{◌≡◌, ◌∙◌, map, sym, ap, subst, arith, get_or, Ok, IfOk}
-use Rattle.core.specs.List.{insert, remove}
+use Rattle.std.specs.Prelude.{insert, remove}
 use Rattle.rx_tree.specs.declared.tree.Item.{Item}
 use Rattle.rx_tree.specs.PlainOf.{plain-Item}
 use Rattle.rx_repair.specs.Repaired.{repaired_item}
