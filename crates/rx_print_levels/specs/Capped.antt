@@ -1,5 +1,5 @@
--- A number in 64 bits: itself, or the greatest one where it is greater.
+-- A number kept in 64 bits: what is more is the greatest number of 64 bits.
 use Rattle.std.specs.Prelude.{ℕ, min}
 
-abbrev pub capped : ℕ → ℕ
+unfoldable pub capped : ℕ → ℕ
 capped n = min n 18446744073709551615

@@ -1,0 +1,4 @@
+pub mod LevelLemmas
+pub mod PartLemmas
+pub mod LimitLemmas
+pub mod SiteLemmas
