@@ -11,10 +11,10 @@ use crate::breaking::breaks;
 use rx_core::Boxed;
 use rx_typed_tree::{Arm, Expr, Form, Mark, Matched, Operand, Stmt};
 
-/// Whether an expression never goes on.
+/// Whether an expression never goes on, by its syntax (Rust Reference, "Never type").
 #[cycle(diverging)]
 #[tactic(auto, using(rx_typed_tree::proofs::Rules::typed_tree_rules, crate::proofs::BrokenLemmas::diverging_rules))]
-pub(crate) fn diverges(expr: &Expr) -> bool
+pub fn diverges(expr: &Expr) -> bool
     ensures { result ≡ diverging.diverges (plain-Expr expr.now) }
 {
     match &expr.form {

@@ -8,5 +8,6 @@ mod leaving;
 mod seeing;
 mod sought;
 
+pub use diverging::diverges;
 pub use finding::home_of;
 pub use leaving::{end_scope, exits, jumps};

@@ -1,0 +1,9 @@
+pub mod Listing
+pub mod ChoosingLemmas
+pub mod MovingLemmas
+pub mod ReachingLemmas
+pub mod Values
+pub mod PlanningLemmas
+pub mod RefusingLemmas
+pub mod AnsweringLemmas
+pub mod FactsLemmas

@@ -1,0 +1,2 @@
+pub mod PartsOf
+pub mod Standing
