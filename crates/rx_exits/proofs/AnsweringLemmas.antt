@@ -79,4 +79,5 @@ module _ (A : Asked) (f : Facts) (p : Planned) (es : List ExitOuts) (F : IsFacts
     mixed = none;
     partly = partly;
     shadowed = none_shadowed A (plan_of A p.plan) names es js end P.plan.plan exits_same outs_same (j ∙ F.jumps) (n ∙ F.end) (λ x i. h x (subst (λ l. Among x l) (sym (a ∙ F.all)) i));
+    agree = P.agree;
   }

@@ -11,6 +11,7 @@ use Rattle.rx_exits_plan.specs.Shadowed.{Shadowed}
 use Rattle.rx_modes_uses.specs.First.{First}
 use Rattle.rx_exits.specs.declared.answering.ExitFault.{ExitFault}
 use Rattle.rx_exits.specs.declared.planning.Planned.{Planned}
+use Rattle.rx_exits.specs.Planning.{OutsAgree}
 
 -- whether two variables have one name, by the names of the variables
 abbrev pub same_names : Option (List ℕ) → Option (List ℕ) → Bool
@@ -55,3 +56,4 @@ pub record Answers (A : Asked) (same : ℕ → ℕ → Bool) (p : Planned) : Typ
   pub mixed : NoneMixed A
   pub partly : NonePartly A (plan_of A p.plan)
   pub shadowed : NoneShadowed A (plan_of A p.plan) same
+  pub agree : OutsAgree p.plan.exits

@@ -1,0 +1,4 @@
+pub mod Ends
+pub mod SignatureLemmas
+pub mod CallLemmas
+pub mod ReceivedLemmas

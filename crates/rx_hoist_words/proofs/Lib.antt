@@ -1,0 +1,16 @@
+pub mod Claims
+pub mod Steps
+pub mod Types
+pub mod Expressions
+pub mod Good
+pub mod Renamed
+pub mod Occurring
+pub mod Asked
+pub mod Functions
+pub mod Declaring
+pub mod Programs
+pub mod Runs
+pub mod Wording
+pub mod Counting
+pub mod Plans
+pub mod Pinned
