@@ -1,0 +1,17 @@
+pub mod Starting
+pub mod Forming
+pub mod Outcomes
+pub mod Finishing
+pub mod Calling
+pub mod Asking
+pub mod Placing
+pub mod Stopping
+pub mod Ends
+pub mod Answering
+pub mod Moving
+pub mod Seating
+pub mod FewItems
+pub mod Bare
+pub mod Planning
+pub mod Spans
+pub mod Worded

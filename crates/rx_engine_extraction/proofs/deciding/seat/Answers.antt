@@ -1,0 +1,21 @@
+use Rattle.std.proofs.Common.{subst, sym}
+use Rattle.std.specs.Prelude.{MatchOption, Option}
+use Rattle.rx_typed_tree.specs.PlainTree.{plain-TypedTree}
+use Rattle.rx_exits_marks.specs.Runs as runs
+use Rattle.rx_exits_marks.specs.Runs.{Sits}
+use Rattle.rx_exits_syntax.specs.declared.parts.Home.{Home}
+use Rattle.rx_exits_syntax.specs.PlainSyntax.{plain-Home}
+use Rattle.rx_exits_plan.specs.PlainPlan.{plain-Run}
+use Rattle.rx_engine_extraction.proofs.deciding.seat.Goals as goal
+
+pub returns-in-Ok-Some-clause-found : goal.returns-in-Ok-Some-clause-found
+returns-in-Ok-Some-clause-found c =
+    let t = plain-TypedTree c.args.function.now.tree in let q = plain-Run c.in-Ok.run' in let h = c.in-Ok-Some.home in
+    let sits : Sits t q (plain-Home h) = subst (λ (o : Option Home). MatchOption o ((x : runs.Home) → Sits t q x → ⊥) (λ x. Sits t q (plain-Home x))) c.in-Ok-Some.field-0-is c.in-Ok-Some.ensures.sits in
+    (c.in-Ok.ensures, subst (λ (r : runs.Run). Sits t r (plain-Home h)) c.in-Ok.ensures sits)
+
+pub unreachable-requires : goal.unreachable-requires
+unreachable-requires c =
+    let t = plain-TypedTree c.args.function.now.tree in let q = plain-Run c.in-Ok.run' in
+    let none : (x : runs.Home) → Sits t q x → ⊥ = subst (λ (o : Option Home). MatchOption o ((x : runs.Home) → Sits t q x → ⊥) (λ x. Sits t q (plain-Home x))) c.in-Ok-None.field-0-is c.in-Ok-None.ensures.sits in
+    none c.requires.0 (subst (λ (r : runs.Run). Sits t r c.requires.0) (sym c.in-Ok.ensures) c.requires.1)

@@ -1,0 +1,113 @@
+-- What the parts of the end of an extraction answer: of the program with the call, and of that with bounds.
+use Rattle.std.specs.Prelude.{◌≡◌, ◌≢◌, ◌≤◌, ◌<◌, ◌⊎◌, ℕ, nat_lt, if◌then◌else◌, List, length, Result, Ok, Err}
+use Rattle.rx_core.specs.declared.types.Bound.{Bound}
+use Rattle.rx_core.specs.declared.types.Which.TheVariants as which
+use Rattle.rx_tree.specs.Plain.{ProgramTree}
+use Rattle.rx_print_spelling.specs.Items.{print_program}
+use Rattle.rx_check.specs.declared.fault.CheckFault.{CheckFault}
+use Rattle.rx_check.specs.declared.fault.CheckFault.TheVariants as check_fault
+use Rattle.rx_check.specs.Causes.{Causes, PassCauses}
+use Rattle.rx_check.specs.Passes.{Accepted}
+use Rattle.rx_check_loans.specs.declared.loans.LoanFault.TheVariants as loan_fault
+use Rattle.rx_lower_lifetimes.specs.declared.whole.LowerFault.TheVariants as lower_fault
+use Rattle.rx_engine_extraction.specs.declared.refusal.Answer.{Answer}
+use Rattle.rx_engine_extraction.specs.declared.refusal.Fault.{Fault}
+use Rattle.rx_engine_extraction.specs.declared.refusal.Fault.TheVariants as fault
+use Rattle.rx_engine_extraction.specs.declared.refusal.Refusal.{Refusal}
+use Rattle.rx_engine_extraction.specs.declared.refusal.Refusal.TheVariants as refusal
+use Rattle.rx_engine_extraction.specs.Failing.{HasLarge}
+use Rattle.rx_typeck_typed.specs.declared.typed.Typed.{Typed}
+use Rattle.rx_typeck_typed.specs.declared.typed.TypedFn.{TypedFn}
+use Rattle.rx_repair.specs.Repaired.{repaired}
+use Rattle.rx_engine_extraction.specs.Meeting.{most_sites, most_bytes, IsUnfit, Fits}
+
+-- ---- faults as those of the extraction
+
+abbrev pub too_large : ℕ → ℕ → Refusal
+too_large s l = if nat_lt most_sites s then refusal.Limit which.Sites s else refusal.Limit which.Positions l
+
+abbrev pub of_front : CheckFault → Fault
+of_front check_fault.OutOfMemory = fault.OutOfMemory
+of_front (check_fault.Lower (lower_fault.TooLarge f s l)) = fault.Refused (too_large s l)
+of_front (check_fault.Lower lower_fault.OutOfMemory) = fault.OutOfMemory
+of_front e = fault.Refused (refusal.Unfit e)
+
+abbrev pub of_check : CheckFault → Fault
+of_check check_fault.OutOfMemory = fault.OutOfMemory
+of_check (check_fault.Region i l k) = fault.Refused (refusal.Region i l k)
+of_check (check_fault.Loan (loan_fault.Loan a b)) = fault.Refused (refusal.Loan a b)
+of_check (check_fault.Loan loan_fault.OutOfMemory) = fault.OutOfMemory
+of_check e = fault.Refused (refusal.Unfit e)
+
+-- ---- the program with the call
+
+-- a graph passes its limit: of sites, else of positions
+abbrev pub IsPastLimit : ProgramTree → Refusal → Type 0
+IsPastLimit p (refusal.Limit which.Sites n) = (l : ℕ) × (most_sites < n) × HasLarge p n l
+IsPastLimit p (refusal.Limit which.Positions n) = (s : ℕ) × (s ≤ most_sites) × HasLarge p s n
+IsPastLimit p (refusal.Unfit e) = IsUnfit e × PassCauses e p
+IsPastLimit p _ = ⊥
+
+abbrev pub IsUnfronted : ProgramTree → Fault → Type 0
+IsUnfronted p (fault.Refused r) = IsPastLimit p r
+IsUnfronted p fault.OutOfMemory = Unit {0}
+IsUnfronted p _ = ⊥
+
+-- ---- with bounds
+
+abbrev pub IsMisfit : ProgramTree → Refusal → Type 0
+IsMisfit p (refusal.Unfit e) = (e ≢ check_fault.OutOfMemory) × PassCauses e p
+IsMisfit p (refusal.Region i l k) = Causes (check_fault.Region i l k) p
+IsMisfit p (refusal.Loan a b) = Causes (check_fault.Loan (loan_fault.Loan a b)) p
+IsMisfit p _ = ⊥
+
+abbrev pub IsUnchecked : ProgramTree → Fault → Type 0
+IsUnchecked p (fault.Refused r) = IsMisfit p r
+IsUnchecked p fault.OutOfMemory = Unit {0}
+IsUnchecked p _ = ⊥
+
+pub record IsPrinted (p : ProgramTree) (bs : List Bound) (a : Answer) : Type 0 where
+  pub text : a.text ≡ print_program p
+  pub bounds : a.bounds ≡ bs
+  pub short : length (print_program p) ≤ most_bytes
+
+abbrev pub IsTooLong : ProgramTree → Fault → Type 0
+IsTooLong p (fault.Refused (refusal.Limit which.Bytes n)) = (n ≡ length (print_program p)) × (most_bytes < n)
+IsTooLong p fault.OutOfMemory = Unit {0}
+IsTooLong p _ = ⊥
+
+pub record IsAnswered (p : ProgramTree) (bs : List Bound) (a : Answer) : Type 0 where
+  pub accepted : Accepted p
+  pub printed : IsPrinted p bs a
+
+-- it is not accepted, or is accepted and too long
+abbrev pub IsKept : ProgramTree → Refusal → Type 0
+IsKept p (refusal.Limit which.Bytes n) = Accepted p × (n ≡ length (print_program p)) × (most_bytes < n)
+IsKept p r = IsMisfit p r
+
+abbrev pub IsUnanswered : ProgramTree → Fault → Type 0
+IsUnanswered p (fault.Refused r) = IsKept p r
+IsUnanswered p fault.OutOfMemory = Unit {0}
+IsUnanswered p _ = ⊥
+
+-- ---- the whole end: of the program with the call, and the number of the new function's item
+
+pub record IsEnded (p : ProgramTree) (n : ℕ) (a : Answer) : Type 0 where
+  pub types : Typed
+  pub made : TypedFn
+  pub bounds : List Bound
+  pub fits : Fits p n types made bounds
+  pub answered : IsAnswered (repaired p n bounds) bounds a
+
+pub record IsBounded (p : ProgramTree) (n : ℕ) (r : Refusal) : Type 0 where
+  pub types : Typed
+  pub made : TypedFn
+  pub bounds : List Bound
+  pub fits : Fits p n types made bounds
+  pub kept : IsKept (repaired p n bounds) r
+
+abbrev pub IsFinished : ProgramTree → ℕ → Result Answer Fault → Type 0
+IsFinished p n (Ok a) = IsEnded p n a
+IsFinished p n (Err (fault.Refused r)) = IsPastLimit p r ⊎ IsBounded p n r
+IsFinished p n (Err fault.OutOfMemory) = Unit {0}
+IsFinished p n (Err _) = ⊥

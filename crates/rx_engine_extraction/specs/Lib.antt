@@ -1,0 +1,14 @@
+pub mod Source
+pub mod Case
+pub mod Undecided
+pub mod Made
+pub mod Conditions
+pub mod Meeting
+pub mod Failing
+pub mod Promise
+pub mod Verdict
+pub mod Ending
+pub mod Beginning
+pub mod Deciding
+pub mod Hoisting
+pub mod Moving

@@ -1,0 +1,138 @@
+//! The extraction over texts.
+
+ghost use Rattle.std.specs.Prelude.{◌≤◌, length, IfOk, IfErr};
+ghost use Rattle.rx_lex.specs.Tok.{toks};
+ghost use Rattle.rx_tree.specs.PlainOf.{plain-Program};
+ghost use Rattle.rx_parse_grammar.specs.grammar.Items.{Parses};
+ghost use Rattle.rx_select.specs.OneText.{OneText};
+ghost use Rattle.rx_check.specs.Front.{IsFrontOf};
+ghost use Rattle.rx_engine_extraction.specs.Deciding.{text_of};
+ghost use Rattle.rx_engine_extraction.specs.Hoisting as spec;
+ghost use Rattle.rx_engine_extraction.specs.Verdict.{Answers};
+
+use crate::beginning::{checked, chosen, read, tokens_of};
+use crate::deciding::decided;
+use crate::ending::finished;
+use crate::given::{Given, Request};
+use crate::hoisting::{NewProgram, moved};
+use crate::laws::calls_are_formed;
+use crate::refusal::{Answer, Fault, Selection};
+use rx_check::{FrontEnd, causes_are_one, passed_or_faulty};
+use rx_core::LetGo;
+use rx_hoist_naming_laws::runs_sit;
+use rx_modes_policy::Policy;
+use rx_parse::parsed_programs_are_numbered;
+use rx_print_spelling::print_parses;
+use rx_tree::Program;
+use std::alloc::Global;
+
+/// The program with the call, of an accepted text.
+fn hoisted_by<P: Policy>(
+    alloc: Global,
+    given: &Given<'_, '_>,
+    request: &Request<'_>,
+    policy: &P,
+) -> Result<NewProgram, Fault>
+    requires one_text { OneText (toks given.now.tokens.now.list) given.now.tokens.now.length (plain-Program given.now.program.now) }
+    requires short { given.now.tokens.now.length ≤ 1048576 }
+    requires front { IsFrontOf (plain-Program given.now.program.now) given.now.front.now }
+    ensures found { IfOk result (λ m. spec.IsHoisted (text_of given.now)
+        (record { start = request.now.selection.start; end = request.now.selection.end; name = request.now.name.now; choice = P.choice policy.now }) (plain-Program m.program) m.new_fn) }
+    ensures fault { IfErr result (λ f. spec.IsStopped (text_of given.now)
+        (record { start = request.now.selection.start; end = request.now.selection.end; name = request.now.name.now; choice = P.choice policy.now }) f) }
+{
+    runs_sit();
+    calls_are_formed();
+    let run = match chosen(
+        alloc,
+        given.tokens,
+        given.program,
+        request.selection,
+        request.name,
+    ) {
+        Ok(run) => run,
+        Err(fault) => return Err(fault),
+    };
+    let plan = match decided(alloc, given, &run, request.name, policy) {
+        Ok(plan) => plan,
+        Err(fault) => return Err(fault),
+    };
+    match moved(alloc, given, &run, &plan) {
+        Ok(moved) => Ok(moved),
+        Err(fault) => Err(fault),
+    }
+}
+
+/// The program with the call, by the text of an accepted program and what the passes know of it.
+fn hoisted_in<P: Policy>(
+    alloc: Global,
+    text: &[u8],
+    program: &Program,
+    front: &FrontEnd,
+    request: &Request<'_>,
+    policy: &P,
+) -> Result<NewProgram, Fault>
+    requires short { length text.now ≤ 1048576 }
+    requires parses { Parses text.now (plain-Program program.now) }
+    requires front { IsFrontOf (plain-Program program.now) front.now }
+    ensures found { IfOk result (λ m. spec.IsFound text.now (plain-Program program.now) front.now
+        (record { start = request.now.selection.start; end = request.now.selection.end; name = request.now.name.now; choice = P.choice policy.now }) (plain-Program m.program) m.new_fn) }
+    ensures fault { IfErr result (λ f. spec.IsNotFound text.now (plain-Program program.now) front.now
+        (record { start = request.now.selection.start; end = request.now.selection.end; name = request.now.name.now; choice = P.choice policy.now }) f) }
+{
+    let tokens = match tokens_of(alloc, text) {
+        Ok(tokens) => tokens,
+        Err(fault) => return Err(fault),
+    };
+    let given = Given {
+        tokens: &tokens,
+        program,
+        front,
+    };
+    match hoisted_by(alloc, &given, request, policy) {
+        Ok(moved) => Ok(moved),
+        Err(fault) => Err(fault),
+    }
+}
+
+/// Moves the statements that a range of bytes selects into a new function of this name, directly behind the enclosing one, and puts a
+/// call in their place. How each variable is passed the policy chooses, among the ways that its uses allow.
+///
+/// # Errors
+///
+/// The first of: the text is not read, is not accepted, and the refusals in their order.
+pub fn extract<P: Policy>(
+    alloc: Global,
+    text: &[u8],
+    selection: Selection,
+    name: &str,
+    policy: &P,
+) -> Result<Answer, Fault>
+    requires { length text.now ≤ 1048576 }
+    // An answer keeps its promise; a fault has its cause, and a refusal tells the first condition that is not met.
+    ensures verdict { Answers text.now (record { start = selection.start; end = selection.end; name = name.now; choice = P.choice policy.now }) result }
+{
+    parsed_programs_are_numbered();
+    passed_or_faulty();
+    causes_are_one();
+    print_parses();
+    let program = match read(alloc, text) {
+        Ok(program) => program,
+        Err(fault) => return Err(fault),
+    };
+    let checked = match checked(alloc, &program) {
+        Ok(checked) => checked,
+        Err(fault) => {
+            program.let_go();
+            return Err(fault);
+        }
+    };
+    let request = Request { selection, name };
+    let outcome = hoisted_in(alloc, text, &program, checked.front(), &request, policy);
+    checked.let_go();
+    program.let_go();
+    match outcome {
+        Ok(NewProgram { program, new_fn }) => finished(alloc, program, new_fn),
+        Err(fault) => Err(fault),
+    }
+}

@@ -1,0 +1,15 @@
+//! The extraction over the texts of the whole language.
+#![tactic(auto)]
+
+mod beginning;
+mod deciding;
+mod ending;
+mod extraction;
+mod given;
+mod hoisting;
+mod laws;
+mod names;
+mod refusal;
+
+pub use extraction::extract;
+pub use refusal::{Answer, Fault, Refusal, Selection};
