@@ -26,9 +26,9 @@ use Rattle.rx_engine.proofs.RefusalLemmas.{one_tree}
 use Rattle.rx_engine.proofs.OneFault.{one_fault, answer_excludes, read_one, unread_none}
 use Rattle.rx_rem_command.specs.declared.status.Status.{Status}
 use Rattle.rx_rem_command.specs.declared.status.Status.TheVariants.{Done, NotAccepted, OutOfMemory}
-use Rattle.rx_rem_command.specs.Forms.{Command, extracts, checks, runs, command_of}
+use Rattle.rx_rem_command.specs.Forms.{Preference, by_copy, Command, extracts, checks, runs, command_of}
 use Rattle.rx_rem_command.specs.Lines.{fault_status, fault_line}
-use Rattle.rx_rem_command.specs.Defined.{Defined, AnswersTo, IsAccepted, Judged, passed, faulty, Checked, no_program, program, Obtained, Drawn, unaccepted, drawn, result_status, result_bytes, result_line, SaysTooDeep, SaysStop, AreOneLine, AreFaultLines, AreLines}
+use Rattle.rx_rem_command.specs.Defined.{Defined, AnswersTo, IsAccepted, Judged, passed, faulty, Checked, no_program, program, Obtained, IsLeft, IsMoved, Drawn, unaccepted, drawn, moved, result_status, result_bytes, result_line, is_built, SaysTooDeep, SaysStop, AreOneLine, AreFaultLines, AreLines}
 use Rattle.rx_rem_command.proofs.RunLemmas.{outcome_one, runs_agree}
 
 -- ---- lines
@@ -161,35 +161,56 @@ module _ (excluded : (p : ProgramTree) (e : CheckFault) → Accepted p → Cause
       done_or_not : Done ≡ NotAccepted → ⊥
       done_or_not e = cc
 
-  drawn_agree : (text name : List ℕ) (start end : ℕ) (s t : Status) (a b c d : List ℕ) → Drawn text name start end s a b → Drawn text name start end t c d
+  drawn_agree : (text name : List ℕ) (start end : ℕ) (w v : Preference) (s t : Status) (a b c d : List ℕ) → (IsAccepted text × IsLeft w text start end name → ⊥)
+      → (IsAccepted text × IsLeft v text start end name → ⊥) → Drawn text name start end w s a b → Drawn text name start end v t c d
       → (s ≡ t) × (a ≡ c) × (AreOneLine b d ⊎ AreFaultLines text b d)
-  drawn_agree text name start end _ _ a b c d (unaccepted x) (unaccepted y) = checks_agree text NotAccepted NotAccepted a b c d x y
-  drawn_agree text name start end _ t a b c d (unaccepted x) (drawn p y h o) = absurd (accepted_or_checked text p y h a b x)
-  drawn_agree text name start end s _ a b c d (drawn p x h o) (unaccepted y) = absurd (accepted_or_checked text p x h c d y)
-  drawn_agree text name start end s t a b c d (drawn p x h o) (drawn q y k u) = let r = obtained_agree text name start end s t a b c d o u in (r.0, r.1, inl r.2)
+  drawn_agree text name start end w v _ _ a b c d n m (unaccepted x) (unaccepted y) = checks_agree text NotAccepted NotAccepted a b c d x y
+  drawn_agree text name start end w _ _ t a b c d n m (unaccepted x) (drawn p y h o i) = absurd (accepted_or_checked text p y h a b x)
+  drawn_agree text name start end _ v s _ a b c d n m (drawn p x h o i) (unaccepted y) = absurd (accepted_or_checked text p x h c d y)
+  drawn_agree text name start end _ _ s t a b c d n m (drawn p x h o i) (drawn q y k u j) = let r = obtained_agree text name start end s t a b c d o u in (r.0, r.1, inl r.2)
+  drawn_agree text name start end w v s t a b c d n m (moved p x h l o) y = absurd (n (record { program = p; parses = x; accepted = h }, l))
+  drawn_agree text name start end w v s t a b c d n m x (moved q y k l u) = absurd (m (record { program = q; parses = y; accepted = k }, l))
 
-  answers_agree : (q : Option Command) (text : List ℕ) (s t : Status) (a b c d : List ℕ) → AnswersTo q text s a b
+  answers_agree : (q : Option Command) (text : List ℕ) (s t : Status) (a b c d : List ℕ) → (IsMoved q text → ⊥) → AnswersTo q text s a b
       → AnswersTo q text t c d → (s ≡ t) × (a ≡ c) × AreLines q text b d
-  answers_agree None text s t a b c d x y = (x.0 ∙ sym y.0, x.1 ∙ sym y.1, inl (x.2 ∙ sym y.2))
-  answers_agree (Some (extracts name start end)) text s t a b c d x y = drawn_agree text name start end s t a b c d x y
-  answers_agree (Some checks) text s t a b c d x y = checks_agree text s t a b c d x y
-  answers_agree (Some (runs turns input)) text s t a b c d x y =
+  answers_agree None text s t a b c d n x y = (x.0 ∙ sym y.0, x.1 ∙ sym y.1, inl (x.2 ∙ sym y.2))
+  answers_agree (Some (extracts name start end w)) text s t a b c d n x y = drawn_agree text name start end w w s t a b c d n n x y
+  answers_agree (Some checks) text s t a b c d n x y = checks_agree text s t a b c d x y
+  answers_agree (Some (runs turns input)) text s t a b c d n x y =
       runs_agree text turns input (checks_agree text) (λ p o q. outcome_one alike p turns input o q) s t a b c d x y
 
   pub defined_agree : (words : List (List ℕ)) (text : List ℕ) (s t : Status) (a b c d : List ℕ)
-      → Defined words text s a b → Defined words text t c d
+      → (IsMoved (command_of words) text → ⊥) → Defined words text s a b → Defined words text t c d
       → (s ≡ t) × (a ≡ c) × AreLines (command_of words) text b d
-  defined_agree words text s t a b c d x y = answers_agree (command_of words) text s t a b c d x y
+  defined_agree words text s t a b c d n x y = answers_agree (command_of words) text s t a b c d n x y
 
 -- where no condition fails, the extraction is the defined answer
 pub extraction_defined : (words : List (List ℕ)) (text name : List ℕ) (start end : ℕ) (p q : ProgramTree)
-    → command_of words ≡ Some (extracts name start end)
+    → command_of words ≡ Some (extracts name start end by_copy)
     → Accepted p → IsExtraction text start end name p q → Defined words text Done (print_program q) []
 extraction_defined words text name start end p q e accepted x =
     let k = keeps text start end name (print_program q) p q x.run x.names x.moves refl x.short in
     let a : Answer = record { text = print_program q; bounds = [] } in
     subst (λ (c : Option Command). AnswersTo c text Done (print_program q) []) (sym e)
-    (drawn p x.names.selects.accepts.parses accepted (record { result = Ok a; extracts = (k, refl); found = λ m. cc; status_is = refl; out_is = refl; err_is = refl }))
+    (drawn p x.names.selects.accepts.parses accepted (record { result = Ok a; extracts = (k, refl); found = λ m. cc; status_is = refl; out_is = refl; err_is = refl }) refl)
+
+-- such a text has no fault, so it is not left
+unbuilt : (f : Fault) → is_built (Err f) ≡ false → f ≡ fault.OutOfMemory → ⊥
+unbuilt f b e = let t : is_built (Err f) ≡ true = ap (λ (g : Fault). is_built (Err g)) e in cc
+
+left_excluded : (text name : List ℕ) (start end : ℕ) (p q : ProgramTree) → IsExtraction text start end name p q → (r : Result Answer Fault)
+    → Extracts text start end name r → is_built r ≡ false → ⊥
+left_excluded text name start end p q x (Ok a) y b = cc
+left_excluded text name start end p q x (Err f) y b =
+    let k = keeps text start end name (print_program q) p q x.run x.names x.moves refl x.short in
+    let a : Answer = record { text = print_program q; bounds = [] } in
+    unbuilt f b (answer_excludes text start end name a f (k, refl) y)
+
+pub extraction_kept : (words : List (List ℕ)) (text name : List ℕ) (start end : ℕ) (p q : ProgramTree)
+    → command_of words ≡ Some (extracts name start end by_copy)
+    → IsExtraction text start end name p q → IsMoved (command_of words) text → ⊥
+extraction_kept words text name start end p q e x m =
+    let l = subst (λ (c : Option Command). IsMoved c text) e m in left_excluded text name start end p q x l.1.0 l.1.1 l.1.2
 
 -- an accepted text has the defined answer of a check, and no other text has it
 pub acceptance_defined : (words : List (List ℕ)) (text : List ℕ) → command_of words ≡ Some checks → IsAccepted text

@@ -12,7 +12,7 @@ use Rattle.rx_check.specs.declared.fault.CheckFault.TheVariants as check
 use Rattle.rx_check.specs.Causes.{Causes}
 use Rattle.rx_engine.specs.Verdict.{IsUnread}
 use Rattle.rx_rem_command.specs.declared.status.Status.{Status}
-use Rattle.rx_rem_command.specs.Forms.{checks, extracts}
+use Rattle.rx_rem_command.specs.Forms.{Preference, checks, extracts}
 use Rattle.rx_rem_command.specs.Lines.{syntax_status, syntax_line}
 use Rattle.rx_rem_command.specs.CheckLines.{line_of_check, status_of_check}
 use Rattle.rx_rem_command.specs.Defined.{faulty, no_program, program, unaccepted}
@@ -48,21 +48,21 @@ found_program text p _ _ _ parses no_space = no_room
 
 -- ---- of an extraction, what is found where the text is not accepted
 
-pub found_unread_too : (text name : List ℕ) (start end : ℕ) (f : SyntaxFault) → IsCause f text → Found (extracts name start end) text (syntax_status f) [] (syntax_line f)
-found_unread_too text name start end (syntax.Lex (lex.NotText at)) c = defined (unaccepted (no_program (syntax.Lex (lex.NotText at)) (unread text (syntax.Lex (lex.NotText at)) (λ e. cc) c)))
-found_unread_too text name start end (syntax.Lex (lex.BadToken at)) c = defined (unaccepted (no_program (syntax.Lex (lex.BadToken at)) (unread text (syntax.Lex (lex.BadToken at)) (λ e. cc) c)))
-found_unread_too text name start end (syntax.Lex lex.OutOfMemory) c = absurd (c.0 refl)
-found_unread_too text name start end (syntax.Syntax at) c = defined (unaccepted (no_program (syntax.Syntax at) (unread text (syntax.Syntax at) (λ e. cc) c)))
-found_unread_too text name start end (syntax.TooDeep at) c = defined (unaccepted (no_program (syntax.TooDeep at) (unread text (syntax.TooDeep at) (λ e. cc) c)))
-found_unread_too text name start end syntax.OutOfMemory c = no_room
+pub found_unread_too : (text name : List ℕ) (start end : ℕ) (w : Preference) (f : SyntaxFault) → IsCause f text → Found (extracts name start end w) text (syntax_status f) [] (syntax_line f)
+found_unread_too text name start end w (syntax.Lex (lex.NotText at)) c = defined (unaccepted (no_program (syntax.Lex (lex.NotText at)) (unread text (syntax.Lex (lex.NotText at)) (λ e. cc) c)))
+found_unread_too text name start end w (syntax.Lex (lex.BadToken at)) c = defined (unaccepted (no_program (syntax.Lex (lex.BadToken at)) (unread text (syntax.Lex (lex.BadToken at)) (λ e. cc) c)))
+found_unread_too text name start end w (syntax.Lex lex.OutOfMemory) c = absurd (c.0 refl)
+found_unread_too text name start end w (syntax.Syntax at) c = defined (unaccepted (no_program (syntax.Syntax at) (unread text (syntax.Syntax at) (λ e. cc) c)))
+found_unread_too text name start end w (syntax.TooDeep at) c = defined (unaccepted (no_program (syntax.TooDeep at) (unread text (syntax.TooDeep at) (λ e. cc) c)))
+found_unread_too text name start end w syntax.OutOfMemory c = no_room
 
-pub found_refused : (text name : List ℕ) (start end : ℕ) (p : ProgramTree) (f : CheckFault) → Parses text p → Causes f p
-    → Found (extracts name start end) text (status_of_check f) [] (line_of_check p f)
-found_refused text name start end p (check.Name e) x c = defined (unaccepted (program p x (faulty (check.Name e) (λ e. cc) c)))
-found_refused text name start end p (check.Types e) x c = defined (unaccepted (program p x (faulty (check.Types e) (λ e. cc) c)))
-found_refused text name start end p (check.Cover e) x c = defined (unaccepted (program p x (faulty (check.Cover e) (λ e. cc) c)))
-found_refused text name start end p (check.Lower e) x c = defined (unaccepted (program p x (faulty (check.Lower e) (λ e. cc) c)))
-found_refused text name start end p (check.Init e) x c = defined (unaccepted (program p x (faulty (check.Init e) (λ e. cc) c)))
-found_refused text name start end p (check.Region i l k) x c = defined (unaccepted (program p x (faulty (check.Region i l k) (λ e. cc) c)))
-found_refused text name start end p (check.Loan e) x c = defined (unaccepted (program p x (faulty (check.Loan e) (λ e. cc) c)))
-found_refused text name start end p check.OutOfMemory x c = no_room
+pub found_refused : (text name : List ℕ) (start end : ℕ) (w : Preference) (p : ProgramTree) (f : CheckFault) → Parses text p → Causes f p
+    → Found (extracts name start end w) text (status_of_check f) [] (line_of_check p f)
+found_refused text name start end w p (check.Name e) x c = defined (unaccepted (program p x (faulty (check.Name e) (λ e. cc) c)))
+found_refused text name start end w p (check.Types e) x c = defined (unaccepted (program p x (faulty (check.Types e) (λ e. cc) c)))
+found_refused text name start end w p (check.Cover e) x c = defined (unaccepted (program p x (faulty (check.Cover e) (λ e. cc) c)))
+found_refused text name start end w p (check.Lower e) x c = defined (unaccepted (program p x (faulty (check.Lower e) (λ e. cc) c)))
+found_refused text name start end w p (check.Init e) x c = defined (unaccepted (program p x (faulty (check.Init e) (λ e. cc) c)))
+found_refused text name start end w p (check.Region i l k) x c = defined (unaccepted (program p x (faulty (check.Region i l k) (λ e. cc) c)))
+found_refused text name start end w p (check.Loan e) x c = defined (unaccepted (program p x (faulty (check.Loan e) (λ e. cc) c)))
+found_refused text name start end w p check.OutOfMemory x c = no_room

@@ -4,4 +4,4 @@ pub mod Replies
 pub mod CheckLemmas
 pub mod RunLemmas
 pub mod Agreement
-mod NotBuilt
+mod Left

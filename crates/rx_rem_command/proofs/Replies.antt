@@ -1,5 +1,6 @@
 -- A reply follows from what is due and how far it was written, by cases on both.
-use Rattle.std.proofs.Common.{ℕ, ℤ, ◌≡◌, ◌≤◌, ◌<◌, ◌⊎◌, inl, inr, List, [], length, take, Option, Some, None, Result, Ok, Err, refl, sym, ap, ◌∙◌, subst, arith, append-nil, length-append}
+use Rattle.std.specs.Prelude.{not}
+use Rattle.std.proofs.Common.{Bool, true, false, ℕ, ℤ, ◌≡◌, ◌≤◌, ◌<◌, ◌⊎◌, inl, inr, List, [], length, take, Option, Some, None, Result, Ok, Err, refl, sym, ap, ◌∙◌, subst, arith, append-nil, length-append}
 use Rattle.std.proofs.lemmas.Bool.{cases_lt}
 use Rattle.rx_core.specs.Streams.{Rose, Told, Gone, Grown}
 use Rattle.rx_core.specs.declared.write.WriteFail.{WriteFail}
@@ -17,12 +18,20 @@ use Rattle.rx_rem_command.specs.declared.status.Status.{Status}
 use Rattle.rx_rem_command.specs.declared.status.Status.TheVariants.{Done, Usage, NotAccepted, Refused, ReadFault, WriteFault, OutOfMemory, TooLong, StillRunning, Wrong, Trapped}
 use Rattle.rx_tree.specs.Plain.{ProgramTree}
 use Rattle.rx_engine.specs.Verdict.{Extracts}
+use Rattle.rx_check.specs.declared.fault.CheckFault.{CheckFault}
+use Rattle.rx_check.specs.declared.fault.CheckFault.TheVariants as check
+use Rattle.rx_engine_extraction.specs.declared.refusal.Answer as whole_answer
+use Rattle.rx_engine_extraction.specs.declared.refusal.Fault as whole_fault
+use Rattle.rx_engine_extraction.specs.declared.refusal.Fault.TheVariants as whole
+use Rattle.rx_engine_extraction.specs.Verdict.{Answers}
 use Rattle.rx_parse_grammar.specs.grammar.Items.{Parses}
 use Rattle.rx_check.specs.Passes.{Accepted}
-use Rattle.rx_rem_command.specs.Forms.{Command, extracts, checks, runs, command_of}
+use Rattle.rx_rem_command.specs.Forms.{Preference, by_copy, Command, extracts, checks, runs, command_of}
 use Rattle.rx_rem_command.specs.Lines.{status_line, fault_line, lex_line, syntax_line, fault_status, lex_status, syntax_status}
 use Rattle.rx_rem_command.specs.RunLines.{end_status}
-use Rattle.rx_rem_command.specs.Defined.{Defined, AnswersTo, Judged, passed, faulty, Checked, no_program, program, Drawn, unaccepted, drawn, Ran, refused, ran, result_status, result_bytes, result_line}
+use Rattle.rx_rem_command.specs.Defined.{Defined, AnswersTo, Judged, passed, faulty, Checked, no_program, program, is_built, wish, IsLeft, extraction_status, extraction_bytes, extraction_line, Drawn, unaccepted, drawn, moved, Ran, refused, ran, result_status, result_bytes, result_line}
+use Rattle.rx_rem_command.specs.CheckLines.{line_of_check, status_of_check}
+use Rattle.rx_rem_command.specs.ExtractionLines.{line_of_extraction, status_of_extraction}
 use Rattle.rx_rem_command.specs.Replies.{Stream, IsForm, HasFailed, IsSound, HasAll, IsCut, IsRead, TakesAtMost, TakesOneMore, Due, answered, not_read, too_long, no_memory, Ending, whole, out_cut, both_cut, err_cut, IsComplete, Replies, Reports, Delivers, Found, defined, no_room}
 
 -- the statuses that a text's answer has
@@ -73,14 +82,32 @@ ran_answers : (text : List ℕ) (turns : ℕ) (input : List ℤ) (status : Statu
 ran_answers text turns input _ _ _ (refused c) = tt
 ran_answers text turns input _ _ _ (ran p x h o d) = end_answers o.end
 
-drawn_answers : (text name : List ℕ) (start end : ℕ) (status : Status) (outs errs : List ℕ) → Drawn text name start end status outs errs → IsAnswer status
-drawn_answers text name start end _ _ _ (unaccepted c) = tt
-drawn_answers text name start end status outs errs (drawn p x a o) = subst IsAnswer (sym o.status_is) (result_answers o.result)
+check_answers : (f : CheckFault) → IsAnswer (status_of_check f)
+check_answers check.OutOfMemory = tt
+check_answers (check.Name f) = tt
+check_answers (check.Types f) = tt
+check_answers (check.Cover f) = tt
+check_answers (check.Lower f) = tt
+check_answers (check.Init f) = tt
+check_answers (check.Region i l k) = tt
+check_answers (check.Loan f) = tt
+
+extraction_answers : (r : Result whole_answer.Answer whole_fault.Fault) → IsAnswer (extraction_status r)
+extraction_answers (Ok a) = tt
+extraction_answers (Err (whole.Syntax f)) = syntax_answers f
+extraction_answers (Err (whole.NotAccepted f)) = check_answers f
+extraction_answers (Err (whole.Refused r)) = tt
+extraction_answers (Err whole.OutOfMemory) = tt
+
+drawn_answers : (text name : List ℕ) (start end : ℕ) (w : Preference) (status : Status) (outs errs : List ℕ) → Drawn text name start end w status outs errs → IsAnswer status
+drawn_answers text name start end w _ _ _ (unaccepted c) = tt
+drawn_answers text name start end _ status outs errs (drawn p x a o b) = subst IsAnswer (sym o.status_is) (result_answers o.result)
+drawn_answers text name start end w status outs errs (moved p x a l m) = subst IsAnswer (sym m.status_is) (extraction_answers m.result)
 
 asked_answers : (q : Option Command) (text : List ℕ) (status : Status) (outs errs : List ℕ)
     → AnswersTo q text status outs errs → IsAnswer status
 asked_answers None text status outs errs a = subst IsAnswer (sym a.0) tt
-asked_answers (Some (extracts name start end)) text status outs errs a = drawn_answers text name start end status outs errs a
+asked_answers (Some (extracts name start end w)) text status outs errs a = drawn_answers text name start end w status outs errs a
 asked_answers (Some checks) text status outs errs a = checked_answers text status outs errs a
 asked_answers (Some (runs turns input)) text status outs errs a = ran_answers text turns input status outs errs a
 
@@ -247,20 +274,20 @@ fault_memory (fault.NotAccepted f) e = absurd (cc)
 fault_memory (fault.Refused r) e = absurd (cc)
 fault_memory fault.OutOfMemory e = refl
 
-found_no_room : (text name : List ℕ) (start end : ℕ) (status : Status) (line : List ℕ) → status ≡ OutOfMemory
+found_no_room : (text name : List ℕ) (start end : ℕ) (w : Preference) (status : Status) (line : List ℕ) → status ≡ OutOfMemory
     → line ≡ status_line OutOfMemory
-    → Found (extracts name start end) text status [] line
-found_no_room text name start end status line e l =
-    let command = extracts name start end in
+    → Found (extracts name start end w) text status [] line
+found_no_room text name start end w status line e l =
+    let command = extracts name start end w in
     subst (λ (s : Status). Found command text s [] line) (sym e)
     (subst (λ (b : List ℕ). Found command text OutOfMemory [] b) (sym l) no_room)
 
 pub found_fault : (text name : List ℕ) (start end : ℕ) (r : Result Answer Fault) (f : Fault) (p : ProgramTree) → Parses text p → Accepted p
-    → Extracts text start end name r → r ≡ Err f
-    → Found (extracts name start end) text (fault_status f) [] (fault_line f)
-found_fault text name start end r f p parses accepted x e =
+    → Extracts text start end name r → r ≡ Err f → is_built (Err f) ≡ true
+    → Found (extracts name start end by_copy) text (fault_status f) [] (fault_line f)
+found_fault text name start end r f p parses accepted x e built =
     elim (status_memory (fault_status f)) [
-      | inl m ↦ found_no_room text name start end (fault_status f) (fault_line f) m (fault_memory f m)
+      | inl m ↦ found_no_room text name start end by_copy (fault_status f) (fault_line f) m (fault_memory f m)
       | inr n ↦ defined (drawn p parses accepted (record {
         result = r;
         extracts = x;
@@ -269,12 +296,12 @@ found_fault text name start end r f p parses accepted x e =
         out_is =
             ap result_bytes (sym e);
         err_is = ap result_line (sym e);
-      }))
+      }) (subst (λ (q : Result Answer Fault). is_built q ≡ true) (sym e) built))
     ]
 
 pub found_answer : (text name : List ℕ) (start end : ℕ) (r : Result Answer Fault) (a : Answer) (bytes : List ℕ) (p : ProgramTree) → Parses text p → Accepted p
     → Extracts text start end name r → r ≡ Ok a → bytes ≡ a.text
-    → Found (extracts name start end) text Done bytes []
+    → Found (extracts name start end by_copy) text Done bytes []
 found_answer text name start end r a bytes p parses accepted x e b =
     defined (drawn p parses accepted (record {
       result = r;
@@ -284,6 +311,70 @@ found_answer text name start end r a bytes p parses accepted x e b =
       out_is = b
           ∙ ap result_bytes (sym e);
       err_is = ap result_line (sym e);
+    }) (subst (λ (q : Result Answer Fault). is_built q ≡ true) (sym e) refl))
+
+-- ---- whether it is left
+
+not_true : (b : Bool) → not b ≡ true → b ≡ false
+not_true true e = absurd (cc)
+not_true false e = refl
+
+not_false : (b : Bool) → not b ≡ false → b ≡ true
+not_false true e = refl
+not_false false e = absurd (cc)
+
+pub left_of : (text name : List ℕ) (start end : ℕ) (r : Result Answer Fault) (f : Fault) → Extracts text start end name r → r ≡ Err f → not (is_built (Err f)) ≡ true
+    → IsLeft by_copy text start end name
+left_of text name start end r f x e b = (r, x, ap is_built e ∙ not_true (is_built (Err f)) b)
+
+pub kept_of : (f : Fault) → not (is_built (Err f)) ≡ false → is_built (Err f) ≡ true
+kept_of f b = not_false (is_built (Err f)) b
+
+-- ---- the same of the extraction over the whole language
+
+check_memory : (p : ProgramTree) (f : CheckFault) → status_of_check f ≡ OutOfMemory → line_of_check p f ≡ status_line OutOfMemory
+check_memory p check.OutOfMemory e = refl
+check_memory p (check.Name f) e = absurd (cc)
+check_memory p (check.Types f) e = absurd (cc)
+check_memory p (check.Cover f) e = absurd (cc)
+check_memory p (check.Lower f) e = absurd (cc)
+check_memory p (check.Init f) e = absurd (cc)
+check_memory p (check.Region i l k) e = absurd (cc)
+check_memory p (check.Loan f) e = absurd (cc)
+
+extraction_memory : (p : ProgramTree) (f : whole_fault.Fault) → status_of_extraction f ≡ OutOfMemory → line_of_extraction p f ≡ status_line OutOfMemory
+extraction_memory p (whole.Syntax f) e = syntax_memory f e
+extraction_memory p (whole.NotAccepted f) e = check_memory p f e
+extraction_memory p (whole.Refused r) e = absurd (cc)
+extraction_memory p whole.OutOfMemory e = refl
+
+pub found_move_fault : (text name : List ℕ) (start end : ℕ) (w : Preference) (r : Result whole_answer.Answer whole_fault.Fault) (f : whole_fault.Fault) (p : ProgramTree)
+    → Parses text p → Accepted p → IsLeft w text start end name → Answers text (wish name start end w) r → r ≡ Err f
+    → Found (extracts name start end w) text (status_of_extraction f) [] (line_of_extraction p f)
+found_move_fault text name start end w r f p parses accepted left x e =
+    elim (status_memory (status_of_extraction f)) [
+      | inl m ↦ found_no_room text name start end w (status_of_extraction f) (line_of_extraction p f) m (extraction_memory p f m)
+      | inr n ↦ defined (moved p parses accepted left (record {
+        result = r;
+        answers = x;
+        found = n;
+        status_is = ap extraction_status (sym e);
+        out_is = ap extraction_bytes (sym e);
+        err_is = ap (extraction_line p) (sym e);
+      }))
+    ]
+
+pub found_move_answer : (text name : List ℕ) (start end : ℕ) (w : Preference) (r : Result whole_answer.Answer whole_fault.Fault) (a : whole_answer.Answer) (bytes : List ℕ) (p : ProgramTree)
+    → Parses text p → Accepted p → IsLeft w text start end name → Answers text (wish name start end w) r → r ≡ Ok a → bytes ≡ a.text
+    → Found (extracts name start end w) text Done bytes []
+found_move_answer text name start end w r a bytes p parses accepted left x e b =
+    defined (moved p parses accepted left (record {
+      result = r;
+      answers = x;
+      found = λ m. cc;
+      status_is = ap extraction_status (sym e);
+      out_is = b ∙ ap extraction_bytes (sym e);
+      err_is = ap (extraction_line p) (sym e);
     }))
 
 -- what is found for the text that was read is due

@@ -3,17 +3,25 @@ use Rattle.std.specs.Prelude.{ℕ, ℤ, if◌then◌else◌, List, [], ◌∷◌
 use Rattle.rx_core.specs.Bytes.{same_bytes}
 use Rattle.rx_rem_command.specs.Numbers.{number_of, integers_of}
 
+-- which of the modes that the uses of a variable allow is taken: the first or the last, so a copy or a reference
+pub data Preference : Type 0 where
+  by_copy : Preference
+  by_reference : Preference
+
 -- what may be asked for
 pub data Command : Type 0 where
-  -- a name and two numbers
-  extracts : List ℕ → ℕ → ℕ → Command
+  -- a name, two numbers, and how variables are passed where their uses leave that open
+  extracts : List ℕ → ℕ → ℕ → Preference → Command
   checks : Command
   -- a number of turns, and the input of the program
   runs : ℕ → List ℤ → Command
 
-abbrev pub extracts_of : List ℕ → Option ℕ → Option ℕ → Option Command
-extracts_of name (Some start) (Some end) = Some (extracts name start end)
-extracts_of name _ _ = None
+abbrev pub preference_of : List ℕ → Option Preference
+preference_of word = if same_bytes word (codes "copy") then Some by_copy else (if same_bytes word (codes "ref") then Some by_reference else None)
+
+abbrev pub extracts_of : List ℕ → Option ℕ → Option ℕ → Option Preference → Option Command
+extracts_of name (Some start) (Some end) (Some w) = Some (extracts name start end w)
+extracts_of name _ _ _ = None
 
 abbrev pub runs_of : Option ℕ → Option (List ℤ) → Option Command
 runs_of (Some turns) (Some input) = Some (runs turns input)
@@ -25,7 +33,8 @@ check_of [] = Some checks
 check_of _ = None
 
 abbrev pub extract_of : List (List ℕ) → Option Command
-extract_of (name ∷ start ∷ end ∷ []) = extracts_of name (number_of start) (number_of end)
+extract_of (name ∷ start ∷ end ∷ []) = extracts_of name (number_of start) (number_of end) (Some by_copy)
+extract_of (name ∷ start ∷ end ∷ word ∷ []) = extracts_of name (number_of start) (number_of end) (preference_of word)
 extract_of _ = None
 
 abbrev pub run_of : List (List ℕ) → Option Command

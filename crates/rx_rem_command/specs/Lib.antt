@@ -1,6 +1,7 @@
 pub mod Asked
 pub mod CheckLines
 pub mod Defined
+pub mod ExtractionLines
 pub mod Forms
 pub mod Lines
 pub mod Numbers

@@ -5,14 +5,12 @@ ghost use Rattle.rx_rem_command.specs.declared.status.Status.{Status};
 ghost use Rattle.rx_print_spelling.specs.Items.{print_program};
 ghost use Rattle.rx_first_check.specs.FirstGrammar.{is_first_program};
 ghost use Rattle.rx_first_select.specs.Run.{Run};
-ghost use Rattle.rx_engine.specs.declared.extraction.Refusal.{Refusal};
 ghost use Rattle.rx_engine.specs.Promise.{IsExtraction, Names};
 ghost use Rattle.rx_engine.specs.Verdict.{IsNotBuilt};
-ghost use Rattle.rx_rem_command.specs.Lines.{refusal_line};
-ghost use Rattle.rx_rem_command.specs.Forms.{command_of, extracts, checks, runs};
+ghost use Rattle.rx_rem_command.specs.Forms.{by_copy, command_of, extracts, checks, runs};
 ghost use Rattle.rx_rem_command.specs.RunLines.{end_status, end_line};
 ghost use Rattle.rx_rem_command.specs.Runs.{Does};
-ghost use Rattle.rx_rem_command.specs.Defined.{Defined, IsAccepted, AreLines};
+ghost use Rattle.rx_rem_command.specs.Defined.{Defined, IsAccepted, IsLeft, IsMoved, AreLines};
 ghost use Rattle.rx_tree.specs.Plain.{ProgramTree};
 ghost use Rattle.rx_parse_grammar.specs.grammar.Items.{Parses};
 ghost use Rattle.rx_check.specs.Passes.{Accepted};
@@ -23,10 +21,11 @@ use rx_check::{causes_are_one, passed_or_faulty};
 use rx_parse::parsed_programs_are_numbered;
 use rx_typeck_typed::one_typed_program;
 
-/// Two defined answers of the same words on the same text have one status and one output. They have one line, but for the places
-/// where the tokens of the text stop because of their depth; or each line says a fault of the program, and both are of one pass.
+/// Two defined answers of the same words on the same text have one status and one output, unless the text is accepted and left to
+/// the extraction over the whole language. They have one line, but for the places where the tokens of the text stop because of their
+/// depth; or each line says a fault of the program, and both are of one pass.
 pub fn one_answer()
-    ensures { (words : List (List ℕ)) (text : List ℕ) (s t : Status) (a b c d : List ℕ) → Defined words text s a b → Defined words text t c d
+    ensures { (words : List (List ℕ)) (text : List ℕ) (s t : Status) (a b c d : List ℕ) → (IsMoved (command_of words) text → ⊥) → Defined words text s a b → Defined words text t c d
         → (s ≡ t) × (a ≡ c) × AreLines (command_of words) text b d }
 {
     passed_or_faulty();
@@ -34,18 +33,21 @@ pub fn one_answer()
     one_typed_program();
 }
 
-/// Where the text is accepted and no condition of the extraction fails, its canonical text is the defined answer.
+/// Where the text is accepted, copies are preferred and no condition of the extraction over the first grammar fails, its canonical text
+/// is the defined answer; the text is not left to the extraction over the whole language.
 pub fn extraction_is_defined()
-    ensures { (words : List (List ℕ)) (text name : List ℕ) (start end : ℕ) (p q : ProgramTree) → command_of words ≡ Some (extracts name start end)
+    ensures answer { (words : List (List ℕ)) (text name : List ℕ) (start end : ℕ) (p q : ProgramTree) → command_of words ≡ Some (extracts name start end by_copy)
         → Accepted p → IsExtraction text start end name p q → Defined words text Status.Done (print_program q) [] }
+    ensures kept { (words : List (List ℕ)) (text name : List ℕ) (start end : ℕ) (p q : ProgramTree) → command_of words ≡ Some (extracts name start end by_copy)
+        → IsExtraction text start end name p q → IsMoved (command_of words) text → ⊥ }
 {}
 
-/// `NotBuilt` is the defined answer exactly where the text is accepted and some item isn't of the first grammar, or the run
-/// that the range selects, under a name that it may have, is of a form that isn't built.
-pub fn not_built_exactly()
-    ensures { (words : List (List ℕ)) (text name : List ℕ) (start end : ℕ) → command_of words ≡ Some (extracts name start end) → length text ≤ 1048576
-        → Defined words text Status.Refused [] (refusal_line Refusal.NotBuilt)
-        ↔ ((p : ProgramTree) × Parses text p × Accepted p × ((is_first_program p ≡ false) ⊎ ((r : Run) × Names text start end name p r × IsNotBuilt p r))) }
+/// Of accepted texts, those are left to the extraction over the whole language of which some item isn't of the first grammar, or the
+/// run that the range selects, under a name that it may have, is of a form that the extraction over the first grammar doesn't build;
+/// and where references are wanted each is.
+pub fn left_exactly()
+    ensures { (text name : List ℕ) (start end : ℕ) (p : ProgramTree) → length text ≤ 1048576 → Parses text p → Accepted p
+        → IsLeft by_copy text start end name ↔ ((is_first_program p ≡ false) ⊎ ((r : Run) × Names text start end name p r × IsNotBuilt p r)) }
 {
     parsed_programs_are_numbered();
     typed_are_accepted();

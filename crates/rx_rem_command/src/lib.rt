@@ -4,6 +4,7 @@
 mod check_line;
 mod checking;
 mod extracting;
+mod extraction_line;
 mod laws;
 mod line;
 mod numbers;
@@ -15,7 +16,7 @@ mod tool;
 mod words;
 
 pub use crate::laws::{
-    acceptance_is_defined, extraction_is_defined, not_built_exactly, one_answer, one_outcome,
+    acceptance_is_defined, extraction_is_defined, left_exactly, one_answer, one_outcome,
     runs_are_defined,
 };
 pub use crate::reply::report_name;

@@ -25,7 +25,8 @@ pub fn line(alloc: Global, words: &str, numbers: &[u64], rest: &str) -> Result<T
     Ok(line)
 }
 
-fn limit_words(which: Which) -> &'static str
+/// The words of a limit that is passed.
+pub fn limit_words(which: Which) -> &'static str
     ensures { result.now ≡ which_words which }
 {
     match which {

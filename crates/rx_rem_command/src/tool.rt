@@ -31,9 +31,11 @@ fn answer<O: Sink, E: Sink>(
         (sink_state E.contents E.faults E.standstills err.old) (sink_state E.contents E.faults E.standstills err.new) status outs errs result }
 {
     match command {
-        Command::Extract { name, selection } => {
-            extract_text(alloc, out, err, text, selection, name)
-        }
+        Command::Extract {
+            name,
+            selection,
+            preference,
+        } => extract_text(alloc, out, err, text, selection, name, preference),
         Command::Check => check_text(alloc, out, err, text),
         Command::Run { turns, numbers } => run_text(alloc, out, err, text, turns, numbers),
     }

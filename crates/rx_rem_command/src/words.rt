@@ -2,22 +2,36 @@
 
 ghost use Rattle.std.specs.Prelude.{◌≡◌, ◌∷◌, option_map};
 ghost use Rattle.rx_rem_command.specs.Numbers.{integers_of};
-ghost use Rattle.rx_rem_command.specs.Forms.{command_of, check_of, extract_of, run_of, runs_of};
-ghost use Rattle.rx_rem_command.specs.Asked.{asked};
+ghost use Rattle.rx_rem_command.specs.Forms.{command_of, check_of, extract_of, extracts_of, preference_of, run_of, runs_of};
+ghost use Rattle.rx_rem_command.specs.Asked.{asked, preferred};
 
 use crate::numbers::{are_integers, number};
 use rx_core::Text;
 use rx_engine::Selection;
 
+/// Which of the modes that the uses of a variable allow is taken: the first or the last, so a copy or a reference.
+#[derive(Clone, Copy)]
+pub enum Preference {
+    Copy,
+    Reference,
+}
+
 /// What the words ask for.
 #[derive(Clone, Copy)]
 pub enum Command<'w> {
     /// The run that a range of bytes selects becomes a function of this name.
-    Extract { name: &'w str, selection: Selection },
+    Extract {
+        name: &'w str,
+        selection: Selection,
+        preference: Preference,
+    },
     /// Whether the text is accepted.
     Check,
     /// What its program does in so many turns, where these integers are its input.
-    Run { turns: u64, numbers: &'w [Text] },
+    Run {
+        turns: u64,
+        numbers: &'w [Text],
+    },
 }
 
 fn check_words<'w>(words: &'w [Text]) -> Option<Command<'w>>
@@ -30,22 +44,53 @@ fn check_words<'w>(words: &'w [Text]) -> Option<Command<'w>>
     }
 }
 
+fn read_preference(word: &str) -> Option<Preference>
+    ensures { option_map preferred result ≡ preference_of word.now }
+{
+    if word == "copy" {
+        Some(Preference::Copy)
+    } else if word == "ref" {
+        Some(Preference::Reference)
+    } else {
+        None
+    }
+}
+
+/// An extraction, where both numbers and the preference are told.
+fn extract_with<'w>(
+    name: &'w str,
+    start: Option<u64>,
+    end: Option<u64>,
+    preference: Option<Preference>,
+) -> Option<Command<'w>>
+    ensures { option_map asked result ≡ extracts_of name.entry.now start end (option_map preferred preference) }
+{
+    match (start, end, preference) {
+        (Some(start), Some(end), Some(preference)) => Some(Command::Extract {
+            name,
+            selection: Selection { start, end },
+            preference,
+        }),
+        _ => None,
+    }
+}
+
 fn extract_words<'w>(words: &'w [Text]) -> Option<Command<'w>>
     ensures { option_map asked result ≡ extract_of words.entry.now }
 {
     match words {
-        [name, start, end] => {
-            match (
-                number(start.as_str().as_bytes()),
-                number(end.as_str().as_bytes()),
-            ) {
-                (Some(start), Some(end)) => Some(Command::Extract {
-                    name: name.as_str(),
-                    selection: Selection { start, end },
-                }),
-                _ => None,
-            }
-        }
+        [name, start, end] => extract_with(
+            name.as_str(),
+            number(start.as_str().as_bytes()),
+            number(end.as_str().as_bytes()),
+            Some(Preference::Copy),
+        ),
+        [name, start, end, word] => extract_with(
+            name.as_str(),
+            number(start.as_str().as_bytes()),
+            number(end.as_str().as_bytes()),
+            read_preference(word.as_str()),
+        ),
         _ => None,
     }
 }

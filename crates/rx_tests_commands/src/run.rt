@@ -3,7 +3,7 @@
 mod forms;
 mod large;
 mod programs;
-mod said;
+pub mod said;
 mod scalars;
 mod sinks;
 mod whole;

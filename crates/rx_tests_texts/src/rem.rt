@@ -158,6 +158,8 @@ const TIMES_REFUSED: &str = "\
 extract times 52 52: TIMES | 1 error: Refused NotARun
 extract times 52 65: TIMES | 1 error: Refused NotARun
 extract times 66 52: TIMES | 1 error: Refused NotARun
+extract times 52 65 copy: TIMES | 1 error: Refused NotARun
+extract times 52 65 ref: TIMES | 1 error: Refused NotARun
 extract times 52 93: TIMES | 1 error: Refused NotARun
 extract a 52 66: TIMES | 1 error: Refused NameTaken
 extract fn 52 66: TIMES | 1 error: Refused BadName
@@ -207,31 +209,13 @@ fn a_text_has_128_levels(rt: HostRuntime) {
     hold(&rt, above, "127");
 }
 
-const TWO_OUTS: &str = r#"fn main() {
-    let a = 2i64;
-    let b = a + 1i64;
-    let c = a * b;
-    println!("{}", b);
-    println!("{}", c);
-}
-"#;
-
-#[test]
-fn two_variables_handed_out_are_not_built(rt: HostRuntime) {
-    let want = "1 error: Refused NotBuilt";
-    hold(
-        &rt,
-        replies(rt.alloc(), "extract two 34 70", TWO_OUTS.as_bytes(), want),
-        want,
-    );
-}
-
 /// Other words are usage.
 const USAGE: &str = "\
 extract f 1: fn main() {} | 2 error: Usage
 : fn main() {} | 2 error: Usage
 extract f 1 2 mut: fn main() {} | 2 error: Usage
-extract f 1 2 copy: fn main() {} | 2 error: Usage
+extract f 1 2 copy ref: fn main() {} | 2 error: Usage
+extract f 1 2 Ref: fn main() {} | 2 error: Usage
 extract f -1 2: fn main() {} | 2 error: Usage
 extract f 1 12345678901234567890: fn main() {} | 2 error: Usage
 checks: fn main() {} | 2 error: Usage

@@ -168,11 +168,6 @@ fn main() {
 "#;
 
 const UNITS_REFUSED: &str = "\
-extract f 159 169: UNITS | 1 error: Refused NotBuilt
-extract f 138 154: UNITS | 1 error: Refused NotBuilt
-extract f 174 199: UNITS | 1 error: Refused NotBuilt
-extract f 88 100: UNITS | 1 error: Refused NotBuilt
-extract f 73 100: UNITS | 1 error: Refused NotBuilt
 extract f 89 99: UNITS | 1 error: Refused NotARun
 extract f 88 99: UNITS | 1 error: Refused NotARun
 extract f 73 90: UNITS | 1 error: Refused NotARun
@@ -180,7 +175,7 @@ extract f 101 115: UNITS | 1 error: Refused NotARun
 extract f 73 102: UNITS | 1 error: Refused NotARun";
 
 #[test]
-fn units_tails_parts_and_two_outs_are_refused(rt: HostRuntime) {
+fn parts_of_statements_and_tails_are_refused(rt: HostRuntime) {
     all_hold(&rt, rt.alloc(), UNITS_REFUSED, LINES, replies_to);
 }
 
@@ -227,8 +222,8 @@ extract f 0 0: fn f() -> i64 { 9223372036854775808i64 } fn main() {} | 3 error: 
 extract f 0 0: fn main() { let x = 9223372036854775808i64; y(); } | 3 error: NotAccepted Unknown 44 45
 extract f 0 0: fn f() { 9223372036854775808i64 } fn g() {} | 3 error: NotAccepted Mismatch 0 43 Main
 extract f 0 0: fn u() {} fn main() { let x = 1i64; let x = u(); println!("{}", x); } | 3 error: NotAccepted Mismatch 64 65 KindOf
-extract f 0 0: fn main() { if true {} } | 1 error: Refused NotBuilt
-extract f 0 0: mod rt; fn main() {} | 1 error: Refused NotBuilt
+extract f 0 0: fn main() { if true {} } | 1 error: Refused NotARun
+extract f 0 0: mod rt; fn main() {} | 1 error: Refused NotARun
 extract f 0 0: fn f() {} fn f() {} struct S { a: i64 } fn main() { y(); } | 3 error: NotAccepted Twice 3 4 13 14"#;
 
 #[test]

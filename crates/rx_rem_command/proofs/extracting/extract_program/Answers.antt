@@ -13,11 +13,7 @@ pub check-requires : goal.check-requires
 check-requires g c = c.parsed_programs_are_numbered.ensures c.args.text.now (plain-Program c.args.program.now) c.requires.parses c.requires.short
 
 pub extract_run-requires-clause-accepted : goal.extract_run-requires-clause-accepted
-extract_run-requires-clause-accepted g c = (
-  plain-Program c.args.program.now,
-  c.requires.parses,
-  (c.in-Ok.checked.front.typed, record { front = c.in-Ok.ensures.checked.front.accepted; borrows = c.in-Ok.ensures.checked.borrows }),
-)
+extract_run-requires-clause-accepted g c = (c.in-Ok.checked.front.typed, record { front = c.in-Ok.ensures.checked.front.accepted; borrows = c.in-Ok.ensures.checked.borrows })
 
 pub returns-in-Err : goal.returns-in-Err
 returns-in-Err g c = let p = plain-Program c.args.program.now in
@@ -26,7 +22,7 @@ returns-in-Err g c = let p = plain-Program c.args.program.now in
         status_of_check c.in-Err.fault,
         [],
         line_of_check p c.in-Err.fault,
-        found_refused _ _ _ _ p c.in-Err.fault c.requires.parses c.in-Err.ensures.fault,
+        found_refused _ _ _ _ _ p c.in-Err.fault c.requires.parses c.in-Err.ensures.fault,
         reported _ _ _ _ c.refuse_program.result _ r,
       )
       | inr r ↦ (OutOfMemory, [], status_line OutOfMemory, no_room, reported _ _ _ OutOfMemory c.refuse_program.result _ r)

@@ -14,7 +14,7 @@ returns-in-Err g c =
         syntax_status c.in-Err.fault,
         [],
         syntax_line c.in-Err.fault,
-        found_unread_too _ _ _ _ c.in-Err.fault c.in-Err.ensures.fault,
+        found_unread_too _ _ _ _ _ c.in-Err.fault c.in-Err.ensures.fault,
         reported _ _ _ _ c.refuse_text.result _ r,
       )
       | inr r ↦ (OutOfMemory, [], status_line OutOfMemory, no_room, reported _ _ _ OutOfMemory c.refuse_text.result _ r)

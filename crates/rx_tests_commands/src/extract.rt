@@ -1,0 +1,5 @@
+//! The command `extract`: what becomes of texts, and why others are refused.
+
+mod others;
+mod said;
+mod worked;

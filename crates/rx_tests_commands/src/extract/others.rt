@@ -1,0 +1,162 @@
+//! Texts of the first grammar that its extraction leaves to that over the whole language: runs with tails, with units, with several
+//! variables handed out; and the words `copy` and `ref`.
+
+use crate::extract::said::all_made;
+
+const OTHERS: &str = r#"extract f 41 51
+fn show() {} fn main() { let u = show(); let v = u; }
+====
+0
+fn show() {}
+
+fn main() {
+    let u = show();
+    f(u);
+}
+
+fn f(u: ()) {
+    let v = u;
+}
+----
+extract f 45 61
+fn show(x: i64) {} fn main() { let a = 2i64; let u = show(a); let v = u; }
+====
+0
+fn show(x: i64) {}
+
+fn main() {
+    let a = 2i64;
+    let u = f(a);
+    let v = u;
+}
+
+fn f(a: i64) -> () {
+    let u = show(a);
+    u
+}
+----
+extract two 26 58
+fn main() { let a = 2i64; let b = a + 1i64; let c = a * b; println!("{}", b); println!("{}", c); }
+====
+0
+fn main() {
+    let a = 2i64;
+    let (b, c) = two(a);
+    println!("{}", b);
+    println!("{}", c);
+}
+
+fn two(a: i64) -> (i64, i64) {
+    let b = a + 1i64;
+    let c = a * b;
+    (b, c)
+}
+----
+extract f 36 48
+fn last(x: i64) -> i64 { let y = x; (y + (1i64)) } fn main() {}
+====
+0
+fn last(x: i64) -> i64 {
+    let y = x;
+    f(y)
+}
+
+fn f(y: i64) -> i64 {
+    y + 1i64
+}
+
+fn main() {}
+----
+extract f 25 48
+fn last(x: i64) -> i64 { let y = x; (y + (1i64)) } fn main() {}
+====
+0
+fn last(x: i64) -> i64 {
+    f(x)
+}
+
+fn f(x: i64) -> i64 {
+    let y = x;
+    y + 1i64
+}
+
+fn main() {}
+----
+extract times 40 54 copy
+fn main() { let a = 2i64; let b = 3i64; let c = a * b; println!("{}", c); }
+====
+0
+fn main() {
+    let a = 2i64;
+    let b = 3i64;
+    let c = times(a, b);
+    println!("{}", c);
+}
+
+fn times(a: i64, b: i64) -> i64 {
+    let c = a * b;
+    c
+}
+----
+extract times 40 54 ref
+fn main() { let a = 2i64; let b = 3i64; let c = a * b; println!("{}", c); }
+====
+0
+fn main() {
+    let a = 2i64;
+    let b = 3i64;
+    let c = times(&a, &b);
+    println!("{}", c);
+}
+
+fn times<'r0, 'r1>(a: &'r0 i64, b: &'r1 i64) -> i64 {
+    let c = *a * *b;
+    c
+}
+----
+extract f 26 47
+fn main() { let a = 2i64; let c = { a + 1i64 }; println!("{}", c); }
+====
+0
+fn main() {
+    let a = 2i64;
+    let c = f(a);
+    println!("{}", c);
+}
+
+fn f(a: i64) -> i64 {
+    let c = {
+        a + 1i64
+    };
+    c
+}
+----
+extract g 34 43
+fn f(x: i64) -> i64 { if x == 0 { return 1; } x } fn main() { println!("{}", f(3)); }
+====
+0
+fn f(x: i64) -> i64 {
+    if x == 0 {
+        match g() {
+            Exit_g::Return(out_0) => return out_0,
+        };
+    }
+    x
+}
+
+enum Exit_g {
+    Return(i64),
+}
+
+fn g() -> Exit_g {
+    return Exit_g::Return(1);
+}
+
+fn main() {
+    println!("{}", f(3));
+}"#;
+
+#[test]
+fn what_is_left_is_made(rt: HostRuntime) {
+    all_made(&rt, rt.alloc(), OTHERS);
+}
