@@ -51,7 +51,7 @@ use Rattle.rx_engine_extraction.proofs.Ends.{block_function, all_named, pass_cau
 some_none : {A : Type 0} (a : A) → ◌≡◌ {A = Option A} (Some a) None → ⊥
 some_none a e = cc
 
-last_within : (limit : ℕ) (xs : List ℕ) (n : ℕ) → first_past limit (xs ++ n ∷ []) ≡ None → n ≤ limit
+pub last_within : (limit : ℕ) (xs : List ℕ) (n : ℕ) → first_past limit (xs ++ n ∷ []) ≡ None → n ≤ limit
 last_within limit [] n e = by (nat_lt limit n) refl e
   where
     by : (b : Bool) → nat_lt limit n ≡ b → (if b then Some n else None) ≡ None → n ≤ limit

@@ -15,3 +15,15 @@ pub mod Bare
 pub mod Planning
 pub mod Spans
 pub mod Worded
+pub mod Orders
+pub mod AgreeingPlans
+pub mod AgreeingTypes
+pub mod AgreeingNames
+pub mod AgreeingPairs
+pub mod AgreeingBounds
+pub mod Agreeing
+pub mod Standing
+pub mod Clashing
+pub mod Telling
+pub mod AgreeingTexts
+pub mod Keeping

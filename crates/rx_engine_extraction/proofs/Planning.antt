@@ -119,6 +119,6 @@ module _ (T : Text) (r : RunPos) (f : TypedFn) (h : Home) (seated : Seated T r f
     moved = m.moved;
     planned = p;
     passable = a.each_has_one;
-    unmoved = (a.none_is_aliased, record { listed = p.listed; plan = refl; are_modes = a.modes; are_moved = a.moved });
+    unmoved = (a.none_is_aliased, record { listed = p.listed; agree = p.agree; plan = refl; are_modes = a.modes; are_moved = a.moved });
     named = e;
   }

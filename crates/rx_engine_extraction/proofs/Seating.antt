@@ -16,7 +16,10 @@ use Rattle.rx_facts.specs.Functions.{body}
 use Rattle.rx_lower_walks.specs.Walks.{Among}
 use Rattle.rx_lower_walks.specs.Walks as walks
 use Rattle.rx_select.specs.RunOf.{RunOf}
-use Rattle.rx_exits_marks.specs.Runs.{Home, Sits}
+use Rattle.rx_typed.specs.Tree.{Function}
+use Rattle.rx_exits_marks.specs.Runs.{Run, Home, Sits}
+use Rattle.rx_exits_jumps.specs.Seen.{first_home}
+use Rattle.rx_exits_jumps.proofs.HomeLemmas.{sits_first, sits_nowhere}
 use Rattle.rx_hoist_nodes.specs.TypedRun.{typed_run}
 use Rattle.rx_engine_extraction.specs.Source.{Text}
 use Rattle.rx_engine_extraction.specs.Meeting.{Seated}
@@ -40,6 +43,14 @@ found (t ∷ fs) n f w e = by (t.item == n) refl (λ v. found fs n f v e)
     by true h r = (t, refl, walks.here, (Decides-eqb t.item n).0 h)
     by false h r = let x = r (behind f t fs n e w h) in (x.0, x.1, walks.there x.2, x.3)
 
+-- the first block that has a run, where there is one
+first_seat : (q : Run) (f : Function) (h : Home) → Sits f q h → (k : Home) × Sits f q k × (first_home q f ≡ Some k)
+first_seat q f h sits = by (first_home q f) refl
+  where
+    by : (o : Option Home) → first_home q f ≡ o → (k : Home) × Sits f q k × (first_home q f ≡ Some k)
+    by None e = absurd (sits_nowhere q f e h sits)
+    by (Some k) e = (k, sits_first q f k e, e)
+
 pub seat_of : (function : (p : ProgramTree) (names : List ItemNames) (t : Typed) (bytes : ℕ) (ts : List Tok) (start end : ℕ) (r : RunPos) → IsTyped p names t → RunOf bytes ts p start end r
     → (f : TypedFn) × Among f t.functions × (f.item ≡ r.function))
     → (sits : (p : ProgramTree) (names : List ItemNames) (t : Typed) (bytes : ℕ) (ts : List Tok) (start end : ℕ) (r : RunPos) → IsTyped p names t → RunOf bytes ts p start end r
@@ -49,7 +60,8 @@ seat_of function sits T names typed start end r is =
     let f = function T.program names T.types T.length T.tokens start end r typed is in
     let g = found T.types.functions r.function f.0 f.1 f.2 in
     let h = sits T.program names T.types T.length T.tokens start end r typed is g.0 g.2 g.3 in
-    (g.0, h.0, record { function = g.1; sits = h.1 })
+    let k = first_seat (typed_run T.program r) (plain-TypedTree g.0.tree) h.0 h.1 in
+    (g.0, k.0, record { function = g.1; sits = k.1; first = k.2 })
 
 same_function : (f g : TypedFn) → ◌≡◌ {A = Option TypedFn} (Some f) (Some g) → f ≡ g
 same_function f g e = cc

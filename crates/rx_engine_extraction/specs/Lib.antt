@@ -12,3 +12,4 @@ pub mod Beginning
 pub mod Deciding
 pub mod Hoisting
 pub mod Moving
+pub mod Alike

@@ -11,6 +11,7 @@ use Rattle.rx_typeck_typed.specs.declared.typed.TypedFn.{TypedFn}
 use Rattle.rx_select.specs.RunOf.{RunOf}
 use Rattle.rx_facts.specs.Functions.{body}
 use Rattle.rx_exits_marks.specs.Runs.{Home, Sits}
+use Rattle.rx_exits_jumps.specs.Seen.{first_home}
 use Rattle.rx_exits_plan.specs.MixedInit.{MixedInit}
 use Rattle.rx_exits_plan.specs.PartlyMoved.{PartlyMoved}
 use Rattle.rx_exits_plan.specs.Asked.{Asked}
@@ -34,6 +35,7 @@ use Rattle.rx_hoist_naming.specs.NamedPlan.{names_in}
 use Rattle.rx_hoist_names.specs.NameTest.{is_taken}
 use Rattle.rx_hoist_nodes.specs.TypedRun.{typed_run}
 use Rattle.rx_hoist_names.specs.Words.{identifiers}
+use Rattle.rx_hoist_words.specs.Words.{OutsAgree}
 use Rattle.rx_print_spelling.specs.Items.{print_program}
 use Rattle.rx_print_spelling.specs.Levels.{levels_of}
 use Rattle.rx_check.specs.declared.fault.CheckFault.{CheckFault}
@@ -74,18 +76,20 @@ most_bytes = 1048576
 abbrev pub Selects : Text → Wish → Case → Type 0
 Selects T w d = RunOf T.length T.tokens T.program w.start w.end d.run
 
--- its function, and its block there
+-- its function, and its block there: the first that has it
 pub record Seated (T : Text) (r : RunPos) (f : TypedFn) (h : Home) : Type 0 where
   pub function : function_at T.types.functions r.function ≡ Some f
   pub sits : Sits (body f) (typed_run T.program r) h
+  pub first : first_home (typed_run T.program r) (body f) ≡ Some h
 
 -- two variables of the function have one name
 abbrev pub same_name : Text → Wish → Case → ℕ → ℕ → Bool
 same_name T w d = same_name_in (names_in (told T w d))
 
--- the plan, as lists too, and how its params are passed
+-- the plan, as lists too, where an exit that is listed again hands out the same; and how its params are passed
 pub record Passes (A : Asked) (f : TypedFn) (choice : Uses → Mode) (k : Plan) (list : ExitPlan) (modes : List Mode) (moved : List Bool) : Type 0 where
   pub listed : IsExitPlan A list
+  pub agree : OutsAgree list.exits
   pub plan : k ≡ plan_of A list
   pub are_modes : IsModes A f.mutable k choice modes
   pub are_moved : moved ≡ map (is_moved A) k.params

@@ -7,6 +7,7 @@ ghost use Rattle.rx_exits.specs.Asking.{plain-At};
 ghost use Rattle.rx_facts.specs.Functions.{body};
 ghost use Rattle.rx_exits_marks.specs.Runs as runs;
 ghost use Rattle.rx_exits_marks.specs.Runs.{Sits};
+ghost use Rattle.rx_exits_jumps.specs.Seen.{first_home};
 ghost use Rattle.rx_exits_plan.specs.PlainPlan.{plain-Run, IsExitPlan};
 ghost use Rattle.rx_exits_syntax.specs.PlainSyntax.{plain-Home};
 ghost use Rattle.rx_hoist_nodes.specs.TypedRun.{typed_run as typed_run_of};
@@ -44,6 +45,7 @@ fn seat<'t>(
     requires { (h : runs.Home) × Sits (body function.now) (typed_run_of (plain-Program program.now) run.now) h }
     ensures found { IfOk result (λ s. (plain-Run s.run ≡ typed_run_of (plain-Program program.now) run.now)
         × Sits (body function.now) (typed_run_of (plain-Program program.now) run.now) (plain-Home s.home)) }
+    ensures first { IfOk result (λ s. first_home (typed_run_of (plain-Program program.now) run.now) (body function.now) ≡ SomeOf (plain-Home s.home)) }
     ensures fault { IfErr result (λ f. f ≡ Fault.OutOfMemory) }
 {
     let run = match typed_run(alloc, program, run) {

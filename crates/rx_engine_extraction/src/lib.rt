@@ -12,4 +12,5 @@ mod names;
 mod refusal;
 
 pub use extraction::extract;
+pub use laws::{answers_are_one, conditions_are_one, extractions_are_answers, refusals_are_one};
 pub use refusal::{Answer, Fault, Refusal, Selection};

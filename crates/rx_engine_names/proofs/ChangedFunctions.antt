@@ -22,7 +22,7 @@ use Rattle.rx_hoist_extraction.specs.Changed.{Changes, changed_body}
 use Rattle.rx_engine_names.specs.Renaming.{Renaming, Made, Serves}
 use Rattle.rx_engine_names.specs.LikeNamed.{Holes, LikeFunction}
 use Rattle.rx_engine_names.proofs.SideBySide.{named_ok, then_ok, and_ok, Frame, Reached, Kind, Numbers, numbers_then, numbers_last, numbers_give, numbers_node, numbers_both, Keeps, Part, in_turn4}
-use Rattle.rx_engine_names.proofs.Scoped.{Corresponds, AtName, Both, Scopes, scopes_later, BoundAlike, declared_names, scopes_entered}
+use Rattle.rx_engine_names.proofs.Scoped.{Outer, Corresponds, AtName, Both, Scopes, scopes_later, BoundAlike, declared_names, scopes_entered}
 use Rattle.rx_engine_names.proofs.CopiedPatterns.{optional_type_alike, OptionalTypeNumbers}
 use Rattle.rx_engine_names.proofs.Standing.{BodyNumbers, Led, Stand}
 use Rattle.rx_engine_names.proofs.CopiedExpressions.{body_alike}
@@ -61,11 +61,16 @@ or_false : (b : Bool) → (b || false) ≡ b
 or_false true = refl
 or_false false = refl
 
-scopes_begin : (M : Made) (known : Names) (ds es : Declared) → BoundAlike M ds es → declared_names ds ≡ known → Scopes [] M no_claims [] known [] (entered [] ds) (entered [] es)
+-- nothing is known of them
+abbrev pub untold : Names → Outer
+untold known = record { names = known; tells = λ x o. Unit {0} }
+
+scopes_begin : (M : Made) (known : Names) (ds es : Declared) → BoundAlike M ds es → declared_names ds ≡ known → Scopes [] M no_claims [] (untold known) [] (entered [] ds) (entered [] es)
 scopes_begin M known ds es b d =
-    let h = scopes_entered [] M no_claims [] [] [] known ds es [] [] b d (record { callees = λ x n. refl; variables = λ x e. absurd (cc) }) in record {
+    let h = scopes_entered [] M no_claims [] (untold []) [] known ds es [] [] b d (record { callees = λ x n. refl; variables = λ x e. absurd (cc); outer = λ x e k. tt }) in record {
       callees = λ x a. by x (is_among x (known ++ [])) (ap (is_among x) (append-nil known)) (h.callees x a);
       variables = λ x e. both x (is_among x (known ++ [])) (ap (is_among x) (append-nil known)) (h.variables x) e;
+      outer = λ x e k. tt;
     }
   where
     by : (x : List ℕ) (b : Bool) → b ≡ is_among x known → AtName (Corresponds [] M) (not b && false) (b || false) (variable_named (entered [] ds) x) (variable_named (entered [] es) x)
@@ -104,13 +109,13 @@ module _ (L : Frame) (H : Holes) (P Q : ProgramTree) (k : KeepsItems L.items P Q
   C = keeping i l b
 
   abbrev Fine : ℕ → ℕ → Declared → Function → Type 0
-  Fine a a' ls f = Becomes L H (here a ls) (there a' ls) (keeps_fits L.items P Q k a a' ls) C (parameter_names f.params)
+  Fine a a' ls f = Becomes L H (here a ls) (there a' ls) (keeps_fits L.items P Q k a a' ls).items_fit C (untold (parameter_names f.params))
 
   function_alike : (a a' : ℕ) (ls : Declared) (s : Span) (f : Function) → Fine a a' ls f → (M : Made) (t t' u : ItemNames) → in_function (here a ls) [] [] [] f t ≡ Ok t' → Reached L M t u → AtPlace 0 t → AtPlace 0 u
       → Part L M t t' u (λ G v. in_function (there a' ls) [] [] [] (with_body (changed_body C [] [] f.body) f) u ≡ Ok v) (FunctionNumbers H s f (with_body (changed_body C [] [] f.body) f) t u t')
   function_alike a a' ls s f fine M t t' u e q p p' =
       let I = here a ls in let I' = there a' ls in let F = keeps_fits L.items P Q k a a' ls in
-      let known = parameter_names f.params in let new = changed_body C [] [] f.body in
+      let known = untold (parameter_names f.params) in let new = changed_body C [] [] f.body in
       let at1 = child [] (number (length f.params)) in let at2 = child [] (body_at (number (length f.params)) f.result) in
       let inner : Bound → Outcome ItemNames = λ b. (in_optional_type I at1 f.result >> in_block I (entered [] b.bindings) [] at2 f.body) b.tables in
       let inner' : Bound → Outcome ItemNames = λ b. (in_optional_type I' at1 f.result >> in_block I' (entered [] b.bindings) [] at2 new) b.tables in
@@ -125,16 +130,16 @@ module _ (L : Frame) (H : Holes) (P Q : ProgramTree) (k : KeepsItems L.items P Q
       let A = parameters_alike L I I' F E.made [] [] 0 f.params (record { bindings = []; tables = Y.0 }) Z.0 (record { bindings = []; tables = E.table }) Z.1 E.reached tt
       (p ∙ ap number (sym (names_no_more I [] (Ok ks) t Y.0 Y.1))) (p' ∙ ap number (sym (names_no_more I' [] (Ok ks) u E.table E.answer))) in
       let T = optional_type_alike L A.made I I' F at1 at1 f.result Z.0.tables W.0 A.table W.1 A.reached in
-      let w : Stand (whole L H I I' F C known) T.made [] [] = record {
+      let w : Stand (whole L H I I' F.items_fit C known) T.made [] [] = record {
         sc = entered [] Z.0.bindings;
         sc' = entered [] A.answer.0;
         ls = [];
         ls' = [];
         scopes = scopes_later [] A.made T.made no_claims [] known [] (entered [] Z.0.bindings) (entered [] A.answer.0) T.grows
-            (scopes_begin A.made known Z.0.bindings A.answer.0 A.answer.2 (parameters_bind I [] 0 f.params (record { bindings = []; tables = Y.0 }) Z.0 Z.1));
+            (scopes_begin A.made known.names Z.0.bindings A.answer.0 A.answer.2 (parameters_bind I [] 0 f.params (record { bindings = []; tables = Y.0 }) Z.0 Z.1));
         led = no_loops T.made;
       } in
-      let B = body_alike (whole L H I I' F C known) (special L H I I' F i l b known fine) T.made [] [] w at2 at2 f.body (body_within [] [] f.body) W.0 t' T.table W.2 T.reached in
+      let B = body_alike (whole L H I I' F.items_fit C known) (special L H I I' F.items_fit i l b known fine) T.made [] [] w at2 at2 f.body (body_within [] [] f.body) W.0 t' T.table W.2 T.reached in
       in_turn4 E A T B
       (λ x y z v. and_ok (lifetimes_of I' [] 0 f.lifetimes) X.0 (λ ns. and_then (numbered I' [] (ns ++ numbers_from 0 f.params) u) middle') (Ok B.table) (sym (lifetimes_same P Q a a' ls [] 0 f.lifetimes) ∙ X.1)
       (and_ok (numbered I' [] ks u) E.table middle' (Ok B.table) x

@@ -1,10 +1,11 @@
 -- Expressions, statements and blocks that are copied resolve alike, and their trees with numbers are alike, where the special places are.
-use Rattle.std.proofs.Common.{◌≡◌, ℕ, Bool, true, false, ◌&&◌, List, [], ◌∷◌, ◌++◌, length, Option, Some, None, Ok, refl, ap, ◌∙◌, subst}
+use Rattle.std.proofs.Common.{◌≡◌, ℕ, Bool, true, false, ◌&&◌, List, [], ◌∷◌, ◌++◌, length, Option, Some, None, Ok, refl, sym, ap, ◌∙◌, subst}
 use Rattle.rx_core.specs.declared.types.Span.{Span}
 use Rattle.rx_core.specs.declared.types.Position.{Position}
 use Rattle.rx_tree.specs.declared.tree.Ident.{Ident}
 use Rattle.rx_tree.specs.Lists.{listed}
 use Rattle.rx_tree.specs.Plain as plain
+use Rattle.rx_tree.specs.Spans.{pattern_span}
 use Rattle.rx_tree.specs.Plain.{TypeTree, PatternTree, Expression, Expressions, OptionalExpression, OptionalExpressions, FieldExpressions, Arms, Body, Statement, Statements}
 use Rattle.rx_resolve_scope.specs.Scopes.{Declared, Variables, variable_named, entered}
 use Rattle.rx_resolve_names.specs.declared.resolved.ItemNames.{ItemNames}
@@ -14,17 +15,16 @@ use Rattle.rx_resolve_names.specs.Steps.{Outcome, and_then, Naming, ◌>>◌, on
 use Rattle.rx_resolve_names.specs.Names.{variant_in, struct_in, Bound, in_pattern, pattern_then, callee, rt_span, in_optional_type, initialiser_at, Scoped, in_expression, in_expressions, in_optional, in_arguments, in_fields, in_arms, in_block, in_statements, in_statement}
 use Rattle.rx_typed.specs.declared.nodes.Node.{Node}
 use Rattle.rx_typed.specs.declared.nodes.Site.{Site}
-use Rattle.rx_typed.specs.declared.nodes.Stage.{Stage}
 use Rattle.rx_typed.specs.Named as named
 use Rattle.rx_typed.specs.Named.{Exp, Exps}
 use Rattle.rx_typed.specs.Naming as numbering
 use Rattle.rx_typed.specs.Naming.{Numbering, give, an_entry, first, second, of_expression}
 use Rattle.rx_engine_names.specs.Renaming.{Renaming, Made, Has}
-use Rattle.rx_engine_names.specs.LikeNamed.{Holes, SameSpan, LikeExp, LikeExps, LikeElse, LikeStatement, like_bool, like_tuple, like_field, like_part, like_deref, like_negate, like_invert, like_borrow, like_binary, like_assign, like_gives, like_given, like_giving, like_update, like_call, like_hidden, like_input, like_variant, like_make, like_print, like_block, like_if, like_if_let, like_match, like_loop, like_while, like_while_let, like_no_exp, like_more_exps, like_absent, like_present, like_no_field, like_more_fields, like_no_arm, like_more_arms, like_body, like_declares, like_lets, like_evaluates, like_no_statement, like_more_statements}
+use Rattle.rx_engine_names.specs.LikeNamed.{Holes, SameSpan, LikeAnnotation, LikeExp, LikeExps, LikeElse, LikeStatement, like_bool, like_tuple, like_field, like_part, like_deref, like_negate, like_invert, like_borrow, like_binary, like_assign, like_gives, like_given, like_giving, like_update, like_call, like_hidden, like_input, like_variant, like_make, like_print, like_block, like_if, like_if_let, like_match, like_loop, like_while, like_while_let, like_no_exp, like_more_exps, like_absent, like_present, like_no_field, like_more_fields, like_no_arm, like_more_arms, like_body, like_declares, like_lets, like_evaluates, like_no_statement, like_more_statements}
 use Rattle.rx_hoist_extraction.specs.Names.{Names, bound, bound_by, behind_all}
 use Rattle.rx_hoist_extraction.specs.Changed.{Changes, changed, changed_all, changed_optional, changed_arguments, changed_fields, changed_arms, changed_body, changed_statement, changed_statements}
 use Rattle.rx_engine_names.specs.Within.{Within, AllWithin, OptionalWithin, ArgumentsWithin, FieldsWithin, ArmsWithin, BodyWithin, StatementWithin, StatementsWithin}
-use Rattle.rx_engine_names.proofs.SideBySide.{named_ok, then_ok, and_ok, the_same, Reached, Grows, grows_not, grows_on, Kind, Numbers, numbers_then, numbers_last, numbers_give, numbers_map, numbers_node, numbers_made, numbers_left, numbers_right, numbers_both, at_entries, numbers_entry, numbers_loop, with_loops, grows_loops, newest, newest_kept, loop_reached, Part, in_turn, in_turn3, in_turn4, restated, unchanged, names_alike}
+use Rattle.rx_engine_names.proofs.SideBySide.{named_ok, then_ok, and_ok, the_same, Reached, Grows, grows_not, grows_on, Kind, Numbers, numbers_then, numbers_last, numbers_give, numbers_map, numbers_node, numbers_made, numbers_made_at, numbers_also, numbers_left, numbers_right, numbers_both, at_entries, numbers_entry, numbers_loop, with_loops, grows_loops, newest, newest_kept, loop_reached, Part, in_turn, in_turn3, in_turn4, restated, unchanged, names_alike}
 use Rattle.rx_engine_names.proofs.Scoped.{Corresponds, AtName, Scopes, scopes_later, scopes_entered}
 use Rattle.rx_engine_names.proofs.Fitting.{function_in, rt_in}
 use Rattle.rx_engine_names.proofs.CopiedPatterns.{names_one, PatternNumbers, pattern_alike, pattern_binds}
@@ -117,17 +117,33 @@ pub initialiser : {H : Holes} {R : Renaming} {t u t' u' : ItemNames} {es es' : L
     → Numbers (LikeExp H R) t u t' u' es es' (of_expression false k x) (of_expression false k' x')
 initialiser x x' k k' n = record { holds = λ c c' rest rest' q e e'. let z = n.holds c c' rest rest' q e e' in record { like = else_exp z.like; cursors = z.cursors; left = z.left; left' = z.left' } }
 
+-- the node of a pattern has its span
+abbrev AtSpan : Span → named.Pattern → Type 0
+AtSpan s p = (named.pattern_node p).span ≡ s
+
+span_of : (p : PatternTree) (c : numbering.Cursor) → AtSpan (pattern_span p) (numbering.of_pattern p c).0
+span_of (plain.wild s) c = refl
+span_of (plain.bind s x m) c = refl
+span_of (plain.int_pattern s g v k) c = refl
+span_of (plain.bool_pattern s b) c = refl
+span_of (plain.tuple_pattern s ps) c = refl
+span_of (plain.variant_pattern s a v ps) c = refl
+span_of (plain.make_pattern s x fs) c = refl
+
+at_span : {H : Holes} {R : Renaming} (p : named.Pattern) {s : Span} {y y' : Option named.Written} → AtSpan s p → LikeAnnotation H R s y y' → LikeAnnotation H R (named.pattern_node p).span y y'
+at_span {H = H} {R = R} p {y = y} {y' = y'} e h = subst (λ (z : Span). LikeAnnotation H R z y y') (sym e) h
+
 let_numbers : {H : Holes} {R : Renaming} {t u t1 u1 t2 u2 t3 u3 : ItemNames} {es es' fs fs' hs hs' : List NodeNames} (s : Span) (p : PatternTree) (y y' : Option TypeTree) (o o' : OptionalExpression) → SameForm o o'
-    → PatternNumbers t u p t1 R u1 es es' → AnnotationNumbers H t1 u1 y y' t2 R u2 fs fs' → ElseNumbers H t2 u2 o o' t3 R u3 hs hs'
+    → PatternNumbers t u p t1 R u1 es es' → AnnotationNumbers H (pattern_span p) t1 u1 y y' t2 R u2 fs fs' → ElseNumbers H t2 u2 o o' t3 R u3 hs hs'
     → Numbers (LikeStatement H R) t u t3 u3 (es ++ (fs ++ hs)) (es' ++ (fs' ++ hs')) (numbering.of_statement (plain.let_statement s p y o)) (numbering.of_statement (plain.let_statement s p y' o'))
 let_numbers s p y y' plain.absent plain.absent f k l n =
     numbers_node s Site.Value Site.Value (λ i i' g. numbers_both (keeps_annotates p y) (keeps_annotates p y') (λ _ _. numbers_both keeps_counted keeps_counted (λ i0 i0'.
-    numbers_then k (λ c c' v. numbers_both keeps_counted keeps_counted (λ j0 j0'. numbers_then l (λ z z' h. numbers_last (n Site.Value Site.Value) (λ _ _ _.
-    numbers_both (keeps_between i0 j0) (keeps_between i0' j0') (λ _ _. numbers_both (keeps_waits (numbering.has_no_type z) c) (keeps_waits (numbering.has_no_type z') c') (λ _ _. numbers_give (named.declares i c z) (named.declares i' c' z') (like_declares g v h))))))))))
+    numbers_then (numbers_also {W = AtSpan (pattern_span p)} k (span_of p)) (λ c c' v. numbers_both keeps_counted keeps_counted (λ j0 j0'. numbers_then l (λ z z' h. numbers_last (n Site.Value Site.Value) (λ _ _ _.
+    numbers_both (keeps_between i0 j0) (keeps_between i0' j0') (λ _ _. numbers_both (keeps_waits (numbering.has_no_type z) c) (keeps_waits (numbering.has_no_type z') c') (λ _ _. numbers_give (named.declares i c z) (named.declares i' c' z') (like_declares g v.1 (at_span c v.0 h)))))))))))
 let_numbers s p y y' (plain.present x) (plain.present x') f k l n =
     numbers_node s Site.Value Site.Value (λ i i' g. numbers_both (keeps_annotates p y) (keeps_annotates p y') (λ _ _. numbers_both keeps_counted keeps_counted (λ i0 i0'.
-    numbers_then k (λ c c' v. numbers_both keeps_counted keeps_counted (λ j0 j0'. numbers_then l (λ z z' h. numbers_last (initialiser x x' (numbering.initialiser_site z) (numbering.initialiser_site z') (n (numbering.initialiser_site z) (numbering.initialiser_site z'))) (λ a a' d.
-    numbers_both (keeps_between i0 j0) (keeps_between i0' j0') (λ _ _. numbers_both (keeps_waits (numbering.has_no_type z && named.never a) c) (keeps_waits (numbering.has_no_type z' && named.never a') c') (λ _ _. numbers_give (named.lets i c z a) (named.lets i' c' z' a') (like_lets g v h d))))))))))
+    numbers_then (numbers_also {W = AtSpan (pattern_span p)} k (span_of p)) (λ c c' v. numbers_both keeps_counted keeps_counted (λ j0 j0'. numbers_then l (λ z z' h. numbers_last (initialiser x x' (numbering.initialiser_site z) (numbering.initialiser_site z') (n (numbering.initialiser_site z) (numbering.initialiser_site z'))) (λ a a' d.
+    numbers_both (keeps_between i0 j0) (keeps_between i0' j0') (λ _ _. numbers_both (keeps_waits (numbering.has_no_type z && named.never a) c) (keeps_waits (numbering.has_no_type z' && named.never a') c') (λ _ _. numbers_give (named.lets i c z a) (named.lets i' c' z' a') (like_lets g v.1 (at_span c v.0 h) d))))))))))
 let_numbers s p y y' plain.absent (plain.present x') f k l n = absurd f
 let_numbers s p y y' (plain.present x) plain.absent f k l n = absurd f
 
@@ -135,12 +151,12 @@ let_numbers s p y y' (plain.present x) plain.absent f k l n = absurd f
 abbrev pub ScopedPart : (K : Setting) (M : Made) (own : Names) (t : ItemNames) (r : Scoped) (u : ItemNames) → Outcome Scoped → Kind → Type 0
 ScopedPart K M own t r u o J = Part K.L M t r.tables u (λ G v. (sc1 : Variables) × (o ≡ Ok (record { scope = sc1; tables = v })) × Scopes K.behind G K.N K.stars K.known own r.scope sc1) J
 
-let_alike : (K : Setting) → Special K → (M : Made) (own : Names) (m : List Around) (w : Stand K M own m) (at at' : List ℕ) (s : Span) (p : PatternTree) (y : Option TypeTree) (o o' : OptionalExpression) (t : ItemNames) (r : Scoped) (u : ItemNames)
+let_alike : (K : Setting) → Special K → (M : Made) (own : Names) (m : List Around) (w : Stand K M own m) (at at' : List ℕ) (s : Span) (p : PatternTree) (y : Option TypeTree) (o o' : OptionalExpression) (t : ItemNames) (r : Scoped) (u : ItemNames) → K.N.annotation y
     → ((G : Made) (g : Grows M G) (at1 at2 : List ℕ) (t1 t2 v : ItemNames) → in_optional K.I w.sc w.ls at1 o t1 ≡ Ok t2 → Reached K.L G t1 v → ElsePart K G own m (later K M G own m w g) at2 o o' t1 t2 v) → SameForm o o'
     → in_statement K.I w.sc w.ls at (plain.let_statement s p y o) t ≡ Ok r → Reached K.L M t u
     → ScopedPart K M (bound p ++ own) t r u (in_statement K.I' w.sc' w.ls' at' (plain.let_statement s p (K.C.at_let p y) o') u)
     (StatementNumbers K.H t u (plain.let_statement s p y o) (plain.let_statement s p (K.C.at_let p y) o') r.tables)
-let_alike K S M own m w at at' s p y o o' t r u h f e q =
+let_alike K S M own m w at at' s p y o o' t r u n h f e q =
     let b0 : Bound = record { bindings = []; tables = t } in let b0' : Bound = record { bindings = []; tables = u } in
     let y' = K.C.at_let p y in
     let i = initialiser_at y in let i' = initialiser_at y' in
@@ -151,7 +167,7 @@ let_alike K S M own m w at at' s p y o o' t r u h f e q =
     let Y = named_ok ((g >> k) Z.0.tables) (λ t. Ok (to Z.0.bindings t)) r Z.2 in
     let X = named_ok (g Z.0.tables) k Y.0 Y.1 in
     let P = pattern_alike K.L M K.I K.I' K.fits (child at 0) (child at' 0) p b0 Z.0 b0' Z.1 q tt in
-    let T = S.annotated P.made (child at 1) (child at' 1) p y Z.0.tables X.0 P.table X.1 P.reached in
+    let T = S.annotated P.made (child at 1) (child at' 1) p y Z.0.tables X.0 P.table n X.1 P.reached in
     let D = h T.made (grows_on P.grows T.grows) (child at i) (child at' i') X.0 Y.0 T.table X.2 T.reached in
     let es = P.answer.0 in
     let w1 = later K M P.made own m w P.grows in
@@ -175,7 +191,7 @@ mutual
       → ExpPart K M own m w at' e (changed K.C own m e) t t' u
   expression_alike K S M own m w at at' (plain.int s v k) a t t' u e q =
       unchanged K.L M t t' u (λ G v. Ok u ≡ Ok v) (ExpNumbers K.H t u (plain.int s v k) (plain.int s v (K.C.at_int s k))) e q refl
-      (λ R b b' i i'. numbers_made s i i' (λ n. named.int n b v k) (λ n. named.int n b' v (K.C.at_int s k)) (λ n n' g. S.suffix R s n n' b b' v k g))
+      (λ R b b' i i'. numbers_made_at s i i' (λ n. named.int n b v k) (λ n. named.int n b' v (K.C.at_int s k)) (λ n n' h g. S.suffix R s n n' b b' v k h g))
   expression_alike K S M own m w at at' (plain.bool s x) a t t' u e q =
       unchanged K.L M t t' u (λ G v. Ok u ≡ Ok v) (ExpNumbers K.H t u (plain.bool s x) (plain.bool s x)) e q refl (λ R. λ b b' i i'. numbers_made s i i' (λ n. named.bool n x) (λ n. named.bool n x) (λ n n' g. like_bool g))
   expression_alike K S M own m w at at' (plain.tuple s es) a t t' u e q =
@@ -406,8 +422,8 @@ mutual
 
   pub statement_alike : (K : Setting) → Special K → (M : Made) (own : Names) (m : List Around) (w : Stand K M own m) (at at' : List ℕ) (e : Statement) → StatementWithin K.N own m e → (t : ItemNames) (r : Scoped) (u : ItemNames) → in_statement K.I w.sc w.ls at e t ≡ Ok r → Reached K.L M t u
       → Part K.L M t r.tables u (λ G v. (sc1 : Variables) × (in_statement K.I' w.sc' w.ls' at' (changed_statement K.C own m e) u ≡ Ok (record { scope = sc1; tables = v })) × Scopes K.behind G K.N K.stars K.known (bound_by e ++ own) r.scope sc1) (StatementNumbers K.H t u e (changed_statement K.C own m e) r.tables)
-  statement_alike K S M own m w at at' (plain.let_statement s p y o) a t r u e q = let_alike K S M own m w at at' s p y o (changed_optional K.C own m o) t r u
-      (λ G g at1 at2 t1 t2 v e q. optional_alike K S G own m (later K M G own m w g) at1 at2 o a t1 t2 v e q) (kept_form K.C own m o) e q
+  statement_alike K S M own m w at at' (plain.let_statement s p y o) a t r u e q = let_alike K S M own m w at at' s p y o (changed_optional K.C own m o) t r u a.0
+      (λ G g at1 at2 t1 t2 v e q. optional_alike K S G own m (later K M G own m w g) at1 at2 o a.1 t1 t2 v e q) (kept_form K.C own m o) e q
   statement_alike K S M own m w at at' (plain.expression_statement s x b) a t r u e q =
       let X = named_ok (in_expression K.I w.sc w.ls (child at 0) x t) (λ t. Ok (record { scope = w.sc; tables = t })) r e in
       let A = expression_alike K S M own m w (child at 0) (child at' 0) x a t X.0 u X.1 q in

@@ -20,7 +20,8 @@ use Rattle.rx_engine_names.specs.LikeNamed.{LikeWritten, LikeWrittens, LikeOptio
 use Rattle.rx_hoist_extraction.specs.Names.{Names, bound, all_bound, fields_bound}
 use Rattle.rx_engine_names.proofs.SideBySide.{named_ok, then_ok, and_ok, the_same, Frame, Reached, grows_not, Kind, Numbers, numbers_then, numbers_give, numbers_map, numbers_node, numbers_made, numbers_entry, with_pair, grows_pair, newest, newest_kept, variable_reached, numbers_declare, Part, in_turn, restated, unchanged, AreEntries, EntryNumbers, at_entries, names_alike}
 use Rattle.rx_engine_names.proofs.Scoped.{declared_names, BoundAlike, bound_later, declares_alike, declared_more}
-use Rattle.rx_engine_names.proofs.Fitting.{Fits}
+use Rattle.rx_engine_names.specs.NamedLifetimes.{OptionalFits, ListFits, TypeFits, TypesFit, AnnotationFits}
+use Rattle.rx_engine_names.proofs.Fitting.{FitItems, Fits, type_fits, types_fit, annotation_fits}
 
 -- ---- an entry of one name
 
@@ -47,46 +48,46 @@ TypesNumbers t u ys t' R u' es es' = Numbers (LikeWrittens R) t u t' u' es es' (
 abbrev LifetimeNumbers : ItemNames → ItemNames → Option Ident → ItemNames → Kind
 LifetimeNumbers t u l t' R u' es es' = Numbers (λ a b. Unit {0}) t u t' u' es es' (lifetime_entry l) (lifetime_entry l)
 
-lifetime_alike : (L : Frame) (M : Made) (I I' : Inside) → Fits L.items I I' → (at at' : List ℕ) (l : Option Ident) (t t' u : ItemNames) → in_lifetime I at l t ≡ Ok t' → Reached L M t u
+lifetime_alike : (L : Frame) (M : Made) (I I' : Inside) (at at' : List ℕ) (l : Option Ident) → OptionalFits I I' l → (t t' u : ItemNames) → in_lifetime I at l t ≡ Ok t' → Reached L M t u
     → Part L M t t' u (λ G v. in_lifetime I' at' l u ≡ Ok v) (LifetimeNumbers t u l t')
-lifetime_alike L M I I' F at at' None t t' u e q = unchanged L M t t' u (λ G v. Ok u ≡ Ok v) (LifetimeNumbers t u None) e q refl (λ R. numbers_give numbering.no_names numbering.no_names tt)
-lifetime_alike L M I I' F at at' (Some l) t t' u e q =
-    let x = names_one L M I I' at at' t t' u (lifetime_in I l) (lifetime_in I' l) (λ n m. Unit {0}) (F.lifetimes l) e q in
+lifetime_alike L M I I' at at' None h t t' u e q = unchanged L M t t' u (λ G v. Ok u ≡ Ok v) (LifetimeNumbers t u None) e q refl (λ R. numbers_give numbering.no_names numbering.no_names tt)
+lifetime_alike L M I I' at at' (Some l) h t t' u e q =
+    let x = names_one L M I I' at at' t t' u (lifetime_in I l) (lifetime_in I' l) (λ n m. Unit {0}) h e q in
     restated x.part (λ a. a) (λ R sv k. numbers_quiet k)
   where
     numbers_quiet : {ns ns' : List ℕ} {t u t' u' : ItemNames} {es es' : List NodeNames} → Numbers (AreEntries ns false ns' false) t u t' u' es es' an_entry an_entry → Numbers (λ a b. Unit {0}) t u t' u' es es' an_entry an_entry
     numbers_quiet k = numbers_map (λ a. a) (λ a. a) k (λ a b h. tt)
 
 -- a list of lifetimes
-lifetimes_alike : (L : Frame) (I I' : Inside) → Fits L.items I I' → (ls : List (Option Ident)) (ns : List ℕ) → lifetimes_in I ls ≡ Ok ns → (ms : List ℕ) × (lifetimes_in I' ls ≡ Ok ms)
-lifetimes_alike L I I' F [] ns e = ([], refl)
-lifetimes_alike L I I' F (None ∷ ls) ns e = lifetimes_alike L I I' F ls ns e
-lifetimes_alike L I I' F (Some l ∷ ls) ns e =
+lifetimes_alike : (I I' : Inside) (ls : List (Option Ident)) → ListFits I I' ls → (ns : List ℕ) → lifetimes_in I ls ≡ Ok ns → (ms : List ℕ) × (lifetimes_in I' ls ≡ Ok ms)
+lifetimes_alike I I' [] h ns e = ([], refl)
+lifetimes_alike I I' (None ∷ ls) h ns e = lifetimes_alike I I' ls h.1 ns e
+lifetimes_alike I I' (Some l ∷ ls) h ns e =
     let a = named_ok (one (lifetime_in I l)) (λ ns. and_then (lifetimes_in I ls) (λ ms. Ok (ns ++ ms))) ns e in
-    let b = named_ok (lifetime_in I l) (λ n. Ok (n ∷ [])) a.0 a.1 in let f = F.lifetimes l b.0 b.1 in
-    let c = named_ok (lifetimes_in I ls) (λ ms. Ok (a.0 ++ ms)) ns a.2 in let g = lifetimes_alike L I I' F ls c.0 c.1 in
+    let b = named_ok (lifetime_in I l) (λ n. Ok (n ∷ [])) a.0 a.1 in let f = h.0 b.0 b.1 in
+    let c = named_ok (lifetimes_in I ls) (λ ms. Ok (a.0 ++ ms)) ns a.2 in let g = lifetimes_alike I I' ls h.1 c.0 c.1 in
     (f.0 ∷ g.0, and_ok (one (lifetime_in I' l)) (f.0 ∷ []) (λ ns. and_then (lifetimes_in I' ls) (λ ms. Ok (ns ++ ms))) (Ok (f.0 ∷ g.0)) (ap one f.1) (ap (λ (r : Outcome (List ℕ)). and_then r (λ ms. Ok (f.0 ∷ ms))) g.1))
 
 mutual
-  pub type_alike : (L : Frame) (M : Made) (I I' : Inside) → Fits L.items I I' → (at at' : List ℕ) (y : TypeTree) (t t' u : ItemNames) → in_type I at y t ≡ Ok t' → Reached L M t u
+  named_type_alike : (L : Frame) (M : Made) (I I' : Inside) → FitItems L.items I I' → (at at' : List ℕ) (y : TypeTree) → TypeFits I I' y → (t t' u : ItemNames) → in_type I at y t ≡ Ok t' → Reached L M t u
       → Part L M t t' u (λ G v. in_type I' at' y u ≡ Ok v) (TypeNumbers t u y t')
-  type_alike L M I I' F at at' (plain.kind_type s k) t t' u e q =
+  named_type_alike L M I I' F at at' (plain.kind_type s k) h t t' u e q =
       unchanged L M t t' u (λ G v. Ok u ≡ Ok v) (TypeNumbers t u (plain.kind_type s k)) e q refl (λ R. numbers_made s Site.Value Site.Value (λ n. named.a_kind n k) (λ n. named.a_kind n k) (λ n m g. like_kind g))
-  type_alike L M I I' F at at' (plain.bool_type s) t t' u e q =
+  named_type_alike L M I I' F at at' (plain.bool_type s) h t t' u e q =
       unchanged L M t t' u (λ G v. Ok u ≡ Ok v) (TypeNumbers t u (plain.bool_type s)) e q refl (λ R. numbers_made s Site.Value Site.Value named.a_bool named.a_bool (λ n m g. like_bool_type g))
-  type_alike L M I I' F at at' (plain.tuple_type s ts) t t' u e q =
-      restated (types_alike L M I I' F at at' 0 0 ts t t' u e q) (λ a. a) (λ R sv k. numbers_node s Site.Value Site.Value (λ n m g. numbers_map (named.a_tuple n) (named.a_tuple m) k (λ a b h. like_tuple_type g h)))
-  type_alike L M I I' F at at' (plain.ref_type s l b y) t t' u e q =
+  named_type_alike L M I I' F at at' (plain.tuple_type s ts) h t t' u e q =
+      restated (named_types_alike L M I I' F at at' 0 0 ts h t t' u e q) (λ a. a) (λ R sv k. numbers_node s Site.Value Site.Value (λ n m g. numbers_map (named.a_tuple n) (named.a_tuple m) k (λ a b h. like_tuple_type g h)))
+  named_type_alike L M I I' F at at' (plain.ref_type s l b y) h t t' u e q =
       let a = named_ok (in_lifetime I at l t) (in_type I (child at 0) y) t' e in
-      let A = lifetime_alike L M I I' F at at' l t a.0 u a.1 q in
-      let B = type_alike L A.made I I' F (child at 0) (child at' 0) y a.0 t' A.table a.2 A.reached in
+      let A = lifetime_alike L M I I' at at' l h.0 t a.0 u a.1 q in
+      let B = named_type_alike L A.made I I' F (child at 0) (child at' 0) y h.1 a.0 t' A.table a.2 A.reached in
       in_turn A B (λ x z. then_ok (in_lifetime I' at' l) (in_type I' (child at' 0) y) u A.table B.table x z)
       (λ R sv k h. numbers_node s Site.Value Site.Value (λ n m g. numbers_then k (λ c d x. numbers_map (named.a_reference n b) (named.a_reference m b) h (λ c d x. like_reference g x))))
-  type_alike L M I I' F at at' (plain.named_type s x ls) t t' u e q =
+  named_type_alike L M I I' F at at' (plain.named_type s x ls) h t t' u e q =
       let a = named_ok (both (one (type_in I x)) (lifetimes_in I (written ls))) (λ ns. numbered I at ns t) t' e in
       let b = named_ok (one (type_in I x)) (λ ns. and_then (lifetimes_in I (written ls)) (λ ms. Ok (ns ++ ms))) a.0 a.1 in
       let c = named_ok (type_in I x) (λ n. Ok (n ∷ [])) b.0 b.1 in let f = F.types x c.0 c.1 in
-      let d = named_ok (lifetimes_in I (written ls)) (λ ms. Ok (b.0 ++ ms)) a.0 b.2 in let l = lifetimes_alike L I I' F (written ls) d.0 d.1 in
+      let d = named_ok (lifetimes_in I (written ls)) (λ ms. Ok (b.0 ++ ms)) a.0 b.2 in let l = lifetimes_alike I I' (written ls) h d.0 d.1 in
       let r : both (one (type_in I x)) (lifetimes_in I (written ls)) ≡ Ok (c.0 ∷ d.0) =
       and_ok (one (type_in I x)) (c.0 ∷ []) (λ ns. and_then (lifetimes_in I (written ls)) (λ ms. Ok (ns ++ ms))) (Ok (c.0 ∷ d.0)) (ap one c.1) (ap (λ (r : Outcome (List ℕ)). and_then r (λ ms. Ok (c.0 ∷ ms))) d.1) in
       let r' : both (one (type_in I' x)) (lifetimes_in I' (written ls)) ≡ Ok (f.0 ∷ l.0) =
@@ -95,25 +96,37 @@ mutual
       (λ R sv k. numbers_node s Site.Value Site.Value (λ n m g. numbers_map (λ ns. named.an_item n (first ns.0) (numbering.lifetimes_written ls)) (λ ns. named.an_item m (first ns.0) (numbering.lifetimes_written ls)) k
       (λ v w h. like_item g (subst (λ (z : List ℕ × Bool). R.item (first z.0) ≡ first w.0) (sym h.0) (subst (λ (z : List ℕ × Bool). R.item c.0 ≡ first z.0) (sym h.1) (sv.items_are c.0 ∙ f.2))))))
 
-  pub types_alike : (L : Frame) (M : Made) (I I' : Inside) → Fits L.items I I' → (at at' : List ℕ) (i i' : ℕ) (ys : TypeTrees) (t t' u : ItemNames) → in_types I at i ys t ≡ Ok t' → Reached L M t u
+  named_types_alike : (L : Frame) (M : Made) (I I' : Inside) → FitItems L.items I I' → (at at' : List ℕ) (i i' : ℕ) (ys : TypeTrees) → TypesFit I I' ys → (t t' u : ItemNames) → in_types I at i ys t ≡ Ok t' → Reached L M t u
       → Part L M t t' u (λ G v. in_types I' at' i' ys u ≡ Ok v) (TypesNumbers t u ys t')
-  types_alike L M I I' F at at' i i' plain.no_type t t' u e q =
+  named_types_alike L M I I' F at at' i i' plain.no_type h t t' u e q =
       unchanged L M t t' u (λ G v. Ok u ≡ Ok v) (TypesNumbers t u plain.no_type) e q refl (λ R. numbers_give named.no_written named.no_written like_no_type)
-  types_alike L M I I' F at at' i i' (plain.type_and y ys) t t' u e q =
+  named_types_alike L M I I' F at at' i i' (plain.type_and y ys) h t t' u e q =
       let a = named_ok (in_type I (child at i) y t) (in_types I at (next i) ys) t' e in
-      let A = type_alike L M I I' F (child at i) (child at' i') y t a.0 u a.1 q in
-      let B = types_alike L A.made I I' F at at' (next i) (next i') ys a.0 t' A.table a.2 A.reached in
+      let A = named_type_alike L M I I' F (child at i) (child at' i') y h.0 t a.0 u a.1 q in
+      let B = named_types_alike L A.made I I' F at at' (next i) (next i') ys h.1 a.0 t' A.table a.2 A.reached in
       in_turn A B (λ x z. then_ok (in_type I' (child at' i') y) (in_types I' at' (next i') ys) u A.table B.table x z)
       (λ R sv k h. numbers_then k (λ c d x. numbers_map (named.written_and c) (named.written_and d) h (λ c d z. like_more_types x z)))
+
+pub type_alike : (L : Frame) (M : Made) (I I' : Inside) → Fits L.items I I' → (at at' : List ℕ) (y : TypeTree) (t t' u : ItemNames) → in_type I at y t ≡ Ok t' → Reached L M t u
+    → Part L M t t' u (λ G v. in_type I' at' y u ≡ Ok v) (TypeNumbers t u y t')
+type_alike L M I I' F at at' y t t' u e q = named_type_alike L M I I' F.items_fit at at' y (type_fits I I' F.lifetimes y) t t' u e q
+
+pub types_alike : (L : Frame) (M : Made) (I I' : Inside) → Fits L.items I I' → (at at' : List ℕ) (i i' : ℕ) (ys : TypeTrees) (t t' u : ItemNames) → in_types I at i ys t ≡ Ok t' → Reached L M t u
+    → Part L M t t' u (λ G v. in_types I' at' i' ys u ≡ Ok v) (TypesNumbers t u ys t')
+types_alike L M I I' F at at' i i' ys t t' u e q = named_types_alike L M I I' F.items_fit at at' i i' ys (types_fit I I' F.lifetimes ys) t t' u e q
 
 abbrev pub OptionalTypeNumbers : ItemNames → ItemNames → Option TypeTree → ItemNames → Kind
 OptionalTypeNumbers t u y t' R u' es es' = Numbers (LikeOptionalWritten R) t u t' u' es es' (of_optional_type y) (of_optional_type y)
 
+pub annotation_alike : (L : Frame) (M : Made) (I I' : Inside) → FitItems L.items I I' → (at at' : List ℕ) (y : Option TypeTree) → AnnotationFits I I' y → (t t' u : ItemNames) → in_optional_type I at y t ≡ Ok t' → Reached L M t u
+    → Part L M t t' u (λ G v. in_optional_type I' at' y u ≡ Ok v) (OptionalTypeNumbers t u y t')
+annotation_alike L M I I' F at at' None h t t' u e q = unchanged L M t t' u (λ G v. Ok u ≡ Ok v) (OptionalTypeNumbers t u None) e q refl (λ R. numbers_give None None like_no_annotation)
+annotation_alike L M I I' F at at' (Some y) h t t' u e q =
+    restated (named_type_alike L M I I' F at at' y h t t' u e q) (λ a. a) (λ R sv k. numbers_map (λ z. Some z) (λ z. Some z) k (λ a b h. like_annotation h))
+
 pub optional_type_alike : (L : Frame) (M : Made) (I I' : Inside) → Fits L.items I I' → (at at' : List ℕ) (y : Option TypeTree) (t t' u : ItemNames) → in_optional_type I at y t ≡ Ok t' → Reached L M t u
     → Part L M t t' u (λ G v. in_optional_type I' at' y u ≡ Ok v) (OptionalTypeNumbers t u y t')
-optional_type_alike L M I I' F at at' None t t' u e q = unchanged L M t t' u (λ G v. Ok u ≡ Ok v) (OptionalTypeNumbers t u None) e q refl (λ R. numbers_give None None like_no_annotation)
-optional_type_alike L M I I' F at at' (Some y) t t' u e q =
-    restated (type_alike L M I I' F at at' y t t' u e q) (λ a. a) (λ R sv k. numbers_map (λ z. Some z) (λ z. Some z) k (λ a b h. like_annotation h))
+optional_type_alike L M I I' F at at' y t t' u e q = annotation_alike L M I I' F.items_fit at at' y (annotation_fits I I' F.lifetimes y) t t' u e q
 
 -- ---- patterns
 
@@ -176,7 +189,7 @@ bind_alike L M I I' at at' s x w b b1 b' e q a =
     })
 
 mutual
-  pub pattern_alike : (L : Frame) (M : Made) (I I' : Inside) → Fits L.items I I' → (at at' : List ℕ) (p : PatternTree) (b b1 b' : Bound) → in_pattern I at p b ≡ Ok b1 → Reached L M b.tables b'.tables → BoundAlike M b.bindings b'.bindings
+  pub pattern_alike : (L : Frame) (M : Made) (I I' : Inside) → FitItems L.items I I' → (at at' : List ℕ) (p : PatternTree) (b b1 b' : Bound) → in_pattern I at p b ≡ Ok b1 → Reached L M b.tables b'.tables → BoundAlike M b.bindings b'.bindings
       → BindingPart L M (in_pattern I' at' p) b b1 b' (PatternNumbers b.tables b'.tables p b1.tables)
   pattern_alike L M I I' F at at' (plain.wild s) b b1 b' e q a =
       bound_unchanged L M b b1 b' (PatternNumbers b.tables b'.tables (plain.wild s)) e q a (λ R. numbers_made s Site.Value Site.Value named.wild named.wild (λ n m g. like_wild g))
@@ -204,7 +217,7 @@ mutual
       (λ R sv k l. numbers_node s Site.Value Site.Value (λ n m g. numbers_then k (λ y z h. numbers_map (named.struct_pattern n (first y.0)) (named.struct_pattern m (first z.0)) l (λ fs fs' w.
       at_entries (λ y z. LikePattern R (named.struct_pattern n (first y.0) fs) (named.struct_pattern m (first z.0) fs')) (A.first ∷ []) (A.second ∷ []) false false y z h (like_struct_pattern g (sv.items_are A.first ∙ A.fits) w)))))
 
-  pub patterns_alike : (L : Frame) (M : Made) (I I' : Inside) → Fits L.items I I' → (at at' : List ℕ) (i i' : ℕ) (ps : PatternTrees) (b b1 b' : Bound) → in_patterns I at i ps b ≡ Ok b1 → Reached L M b.tables b'.tables → BoundAlike M b.bindings b'.bindings
+  pub patterns_alike : (L : Frame) (M : Made) (I I' : Inside) → FitItems L.items I I' → (at at' : List ℕ) (i i' : ℕ) (ps : PatternTrees) (b b1 b' : Bound) → in_patterns I at i ps b ≡ Ok b1 → Reached L M b.tables b'.tables → BoundAlike M b.bindings b'.bindings
       → BindingPart L M (in_patterns I' at' i' ps) b b1 b' (PatternsNumbers b.tables b'.tables ps b1.tables)
   patterns_alike L M I I' F at at' i i' plain.no_pattern b b1 b' e q a =
       bound_unchanged L M b b1 b' (PatternsNumbers b.tables b'.tables plain.no_pattern) e q a (λ R. numbers_give named.no_pattern named.no_pattern like_no_pattern)
@@ -216,7 +229,7 @@ mutual
       in_turn A B (λ y z. (z.0, and_ok (in_pattern I' (child at' i') p b') v (in_patterns I' at' (next i') ps) (Ok (record { bindings = z.0; tables = B.table })) A.answer.1 z.1, z.2))
       (λ R sv k l. numbers_then k (λ c d h. numbers_map (named.pattern_and c) (named.pattern_and d) l (λ y z w. like_more_patterns h w)))
 
-  pub field_patterns_alike : (L : Frame) (M : Made) (I I' : Inside) → Fits L.items I I' → (at at' : List ℕ) (i i' : ℕ) (fs : FieldPatterns) (b b1 b' : Bound) → in_field_patterns I at i fs b ≡ Ok b1 → Reached L M b.tables b'.tables → BoundAlike M b.bindings b'.bindings
+  pub field_patterns_alike : (L : Frame) (M : Made) (I I' : Inside) → FitItems L.items I I' → (at at' : List ℕ) (i i' : ℕ) (fs : FieldPatterns) (b b1 b' : Bound) → in_field_patterns I at i fs b ≡ Ok b1 → Reached L M b.tables b'.tables → BoundAlike M b.bindings b'.bindings
       → BindingPart L M (in_field_patterns I' at' i' fs) b b1 b' (FieldPatternsNumbers b.tables b'.tables fs b1.tables)
   field_patterns_alike L M I I' F at at' i i' plain.no_field_pattern b b1 b' e q a =
       bound_unchanged L M b b1 b' (FieldPatternsNumbers b.tables b'.tables plain.no_field_pattern) e q a (λ R. numbers_give named.no_field_pattern named.no_field_pattern like_no_field_pattern)

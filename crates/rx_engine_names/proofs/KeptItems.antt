@@ -11,7 +11,7 @@ use Rattle.rx_resolve_names.specs.Meant.{type_name, function_name, has_name, ite
 use Rattle.rx_resolve_names.specs.Steps.{Outcome, and_then, known, one, both}
 use Rattle.rx_engine_names.specs.Insertion.{NotNamed, Inserted, past, number_there}
 use Rattle.rx_engine_names.proofs.SideBySide.{named_ok, the_same}
-use Rattle.rx_engine_names.proofs.Fitting.{Fits}
+use Rattle.rx_engine_names.proofs.Fitting.{FitItems, Fits}
 
 -- ---- what is found
 
@@ -103,14 +103,20 @@ variants_fit f P Q k a v ns e =
       refl,
     )
 
--- what is kept tells what names mean in both, in an item with the same lifetimes
-pub keeps_fits : (f : ℕ → ℕ) (P Q : ProgramTree) → Keeps f P Q → (a b : ℕ) (ls : Declared) → Fits f (record { program = P; item = a; lifetimes = ls }) (record { program = Q; item = b; lifetimes = ls })
-keeps_fits f P Q k a b ls = record {
+-- what is kept tells what names of items mean in both
+pub items_keep : (f : ℕ → ℕ) (P Q : ProgramTree) → Keeps f P Q → (a b : ℕ) (ls ms : Declared) → FitItems f (record { program = P; item = a; lifetimes = ls }) (record { program = Q; item = b; lifetimes = ms })
+items_keep f P Q k a b ls ms = record {
   types = λ x n e. type_fits f P Q k as_type type_tells x.name x.span n e;
   structs = λ x n e. type_fits f P Q k as_struct struct_tells x.name x.span n e;
   variants = λ a v ns e. variants_fit f P Q k a v ns e;
   functions = λ x n e. function_fits f P Q k x.name x.span n e;
   input = λ s n e. type_fits f P Q k as_rt rt_tells (codes "rt") s n e;
+}
+
+-- what is kept tells what names mean in both, in an item with the same lifetimes
+pub keeps_fits : (f : ℕ → ℕ) (P Q : ProgramTree) → Keeps f P Q → (a b : ℕ) (ls : Declared) → Fits f (record { program = P; item = a; lifetimes = ls }) (record { program = Q; item = b; lifetimes = ls })
+keeps_fits f P Q k a b ls = record {
+  items_fit = items_keep f P Q k a b ls ls;
   lifetimes = λ l n e. (n, e, tt);
 }
 

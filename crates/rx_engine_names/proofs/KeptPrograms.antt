@@ -44,7 +44,7 @@ same_pairs (p ∷ ps) h n m (inr x) = same_pairs ps h.1 n m x
 is_itself : (n m : ℕ) → n ≡ m → (n == m) ≡ true
 is_itself n m e = eq-eqb n m e
 
-same_serve : (items : ℕ → ℕ) (G : Made) (t u : ItemNames) → Reached (lockstep items) G t u → Serves items G (same_numbers items)
+pub same_serve : (items : ℕ → ℕ) (G : Made) (t u : ItemNames) → Reached (lockstep items) G t u → Serves items G (same_numbers items)
 same_serve items G t u q = record {
   variables = λ n m h. is_itself n m (same_pairs G.variables q.vars.1 n m h);
   loops = λ n m h. is_itself n m (same_pairs G.loops q.loops.1 n m h);
@@ -61,7 +61,7 @@ module _ (items : ℕ → ℕ) (P Q : ProgramTree) (k : Keeps items P Q) where
       → (U : ItemNames) × (in_item Q m (plain.function_item s f) ≡ Ok U) × LikeFunction no_holes (same_numbers items) (function_named n s f T.names) (function_named m s f U.names)
   same_function n m s f T e =
       let A = function_item_alike frame no_holes P Q k (λ s k. k) (λ p t. t) (λ b c. c) (refl, tt) n m s f (record {
-        suffix = λ R s n n' b b' v k g. like_int g;
+        suffix = λ R s n n' b b' v k h g. like_int g;
         annotated = λ M at at' p y t t' u e q. restated (optional_type_alike frame M _ _ (keeps_fits items P Q k _ _ _) at at' y t t' u e q) (λ z. z) (λ R sv h. numbers_map (λ z. z) (λ z. z) h (λ a b r. like_typed r));
         blocks = λ M own m w at at' b c t t' u e q h. h;
       }) T e in

@@ -12,3 +12,16 @@ pub mod ChangedFunctions
 pub mod KeptPrograms
 pub mod NoDoubles
 pub mod ExtractionItems
+pub mod FoundTypes
+pub mod PinnedPlaces
+pub mod PinnedFunctions
+pub mod OneSided
+pub mod MadePlaces
+pub mod MovedPlaces
+pub mod MovedReturns
+pub mod MovedStatements
+pub mod Alone
+pub mod MadeCalls
+pub mod CopiedParts
+pub mod ReplacedBlocks
+pub mod StandingCalls

@@ -31,7 +31,7 @@ none_push (c ∷ ds) d x e f = by (bytes_eq x c.0) e (none_push ds d x)
     by true e h = absurd (cc)
     by false e h = h e f
 
-none_pop : (ds : Declared) (d : List ℕ × Known) (x : List ℕ) → declared_as (ds ++ d ∷ []) x ≡ None → (declared_as ds x ≡ None) × (bytes_eq x d.0 ≡ false)
+pub none_pop : (ds : Declared) (d : List ℕ × Known) (x : List ℕ) → declared_as (ds ++ d ∷ []) x ≡ None → (declared_as ds x ≡ None) × (bytes_eq x d.0 ≡ false)
 none_pop [] d x e = (refl, by (bytes_eq x d.0) e)
   where
     by : (b : Bool) → (if b then Some d.1 else None) ≡ None → b ≡ false
@@ -43,7 +43,7 @@ none_pop (c ∷ ds) d x e = by (bytes_eq x c.0) e (none_pop ds d x)
     by true e h = absurd (cc)
     by false e h = h e
 
-behind_none : (ds new : Declared) (x : Ident) (n : ℕ) (o : Option Known) → declared_behind ds x n o ≡ Ok new → (o ≡ None) × (new ≡ ds ++ (x.name, record { number = number n; span = x.span }) ∷ [])
+pub behind_none : (ds new : Declared) (x : Ident) (n : ℕ) (o : Option Known) → declared_behind ds x n o ≡ Ok new → (o ≡ None) × (new ≡ ds ++ (x.name, record { number = number n; span = x.span }) ∷ [])
 behind_none ds new x n None e = (refl, sym (the_same _ _ e))
 behind_none ds new x n (Some k) e = absurd (cc)
 

@@ -3,6 +3,7 @@ use Rattle.std.proofs.Common.{◌≡◌, ℕ, Bool, true, false, not, ◌&&◌, 
 use Rattle.rx_core.specs.declared.types.Span.{Span}
 use Rattle.rx_tree.specs.declared.tree.Ident.{Ident}
 use Rattle.rx_tree.specs.Plain as plain
+use Rattle.rx_tree.specs.Spans.{pattern_span}
 use Rattle.rx_tree.specs.Plain.{TypeTree, TypeTrees, PatternTree, Expression, OptionalExpression, Body, Parameter, Function, ItemTree, ProgramTree}
 use Rattle.rx_resolve_scope.specs.Scopes.{variable_named}
 use Rattle.rx_resolve_names.specs.declared.resolved.ItemNames.{ItemNames}
@@ -20,8 +21,8 @@ use Rattle.rx_hoist_extraction.specs.Moved.{leaves}
 use Rattle.rx_engine_names.specs.Renaming.{Renaming, Has, Made}
 use Rattle.rx_engine_names.specs.LikeNamed.{Holes, SameSpan, LikeExp, like_var, like_break, like_continue, like_return}
 use Rattle.rx_engine_names.proofs.SideBySide.{the_same, Frame, Reached, Numbers, numbers_last, numbers_give, numbers_map, numbers_node, numbers_both, at_entries, Part, restated}
-use Rattle.rx_engine_names.proofs.Scoped.{Corresponds, AtName}
-use Rattle.rx_engine_names.proofs.Fitting.{Fits}
+use Rattle.rx_engine_names.proofs.Scoped.{Outer, Corresponds, AtName}
+use Rattle.rx_engine_names.proofs.Fitting.{FitItems}
 use Rattle.rx_engine_names.proofs.CopiedPatterns.{names_one}
 use Rattle.rx_engine_names.proofs.Standing.{AnnotationNumbers, ExpNumbers, keeps_leads, Goes, Led, Setting, Stand, ExpPart, BodyPart, Special}
 use Rattle.rx_engine_names.proofs.NoClaims.{no_claims}
@@ -32,7 +33,7 @@ use Rattle.rx_engine_names.proofs.NoClaims.{no_claims}
 abbrev pub keeping : (Span → Option kinds.Kind → Option kinds.Kind) → (PatternTree → Option TypeTree → Option TypeTree) → (Body → Body → Body) → Changes
 keeping i l b = record kept { at_int = i; at_let = l; at_block = b }
 
-abbrev pub whole : (L : Frame) (H : Holes) (I I' : Inside) → Fits L.items I I' → Changes → Names → Setting
+abbrev pub whole : (L : Frame) (H : Holes) (I I' : Inside) → FitItems L.items I I' → Changes → Outer → Setting
 whole L H I I' F C known = record { L = L; H = H; I = I; I' = I'; fits = F; N = no_claims; C = C; behind = []; stars = []; left = λ n k. ⊥; known = known }
 
 -- ---- the special places
@@ -68,7 +69,7 @@ goes_stays : (M : Made) (s : Span) (l : Option Ident) (o : Option ℕ) (n : ℕ)
 goes_stays M s l None n a g = (g.0, ap (led s l) g.1, g.2)
 goes_stays M s l (Some k) n a g = absurd g
 
-jump_fits : (M : Made) (s : Span) (l : Option Ident) (ls m ls' : List Around) → Led (λ n k. ⊥) M ls m ls' → (n : ℕ) → led s l (target l ls) ≡ Ok n → LedTo M s l (target l ls') n
+pub jump_fits : (M : Made) (s : Span) (l : Option Ident) (ls m ls' : List Around) → Led (λ n k. ⊥) M ls m ls' → (n : ℕ) → led s l (target l ls) ≡ Ok n → LedTo M s l (target l ls') n
 jump_fits M s l ls m ls' h n e = goes_stays M s l (leaves l m) n (target l ls') (h l n (led_ok s l (target l ls) n e))
 
 -- a `break` and a `continue` that stay what they are
@@ -93,22 +94,22 @@ none_starred true = refl
 none_starred false = refl
 
 -- what is asked of literals, of types of `let`s and of blocks
-pub record Becomes (L : Frame) (H : Holes) (I I' : Inside) (F : Fits L.items I I') (C : Changes) (known : Names) : Type 0 where
-  pub suffix : (R : Renaming) (s : Span) (n n' : Node) (b b' : Bool) (v : ℕ) (k : Option kinds.Kind) → SameSpan n n' → LikeExp H R (named.int n b v k) (named.int n' b' v (C.at_int s k))
+pub record Becomes (L : Frame) (H : Holes) (I I' : Inside) (F : FitItems L.items I I') (C : Changes) (known : Outer) : Type 0 where
+  pub suffix : (R : Renaming) (s : Span) (n n' : Node) (b b' : Bool) (v : ℕ) (k : Option kinds.Kind) → n.span ≡ s → SameSpan n n' → LikeExp H R (named.int n b v k) (named.int n' b' v (C.at_int s k))
   pub annotated : (M : Made) (at at' : List ℕ) (p : PatternTree) (y : Option TypeTree) (t t' u : ItemNames) → in_optional_type I at y t ≡ Ok t' → Reached L M t u
-      → Part L M t t' u (λ G v. in_optional_type I' at' (C.at_let p y) u ≡ Ok v) (AnnotationNumbers H t u y (C.at_let p y) t')
+      → Part L M t t' u (λ G v. in_optional_type I' at' (C.at_let p y) u ≡ Ok v) (AnnotationNumbers H (pattern_span p) t u y (C.at_let p y) t')
   pub blocks : (M : Made) (own : Names) (m : List Around) (w : Stand (whole L H I I' F C known) M own m) (at at' : List ℕ) (b done : Body) (t t' u : ItemNames) → in_block I w.sc w.ls at b t ≡ Ok t' → Reached L M t u
       → BodyPart (whole L H I I' F C known) M own m w at' b done t t' u → BodyPart (whole L H I I' F C known) M own m w at' b (C.at_block b done) t t' u
 
-pub special : (L : Frame) (H : Holes) (I I' : Inside) (F : Fits L.items I I') (i : Span → Option kinds.Kind → Option kinds.Kind) (l : PatternTree → Option TypeTree → Option TypeTree) (b : Body → Body → Body) (known : Names)
+pub special : (L : Frame) (H : Holes) (I I' : Inside) (F : FitItems L.items I I') (i : Span → Option kinds.Kind → Option kinds.Kind) (l : PatternTree → Option TypeTree → Option TypeTree) (b : Body → Body → Body) (known : Outer)
     → Becomes L H I I' F (keeping i l b) known → Special (whole L H I I' F (keeping i l b) known)
 special L H I I' F i l b known B = let K = whole L H I I' F (keeping i l b) known in record {
   variable = λ M own m w at at' s x t t' u n e q. plain_variable K M at at' s x _ (variable_named w.sc x) (variable_named w.sc' x) t t' u
-      (subst (λ (z : Bool). AtName (Corresponds [] M) z (is_among x own || is_among x known) (variable_named w.sc x) (variable_named w.sc' x)) (none_starred (not (is_among x own))) (w.scopes.callees x tt)) e q;
+      (subst (λ (z : Bool). AtName (Corresponds [] M) z (is_among x own || is_among x known.names) (variable_named w.sc x) (variable_named w.sc' x)) (none_starred (not (is_among x own))) (w.scopes.callees x tt)) e q;
   broken = λ M own m w at at' s l t t' u n e q. plain_break K M own m w at at' s l t t' u (jump_fits M s l w.ls m w.ls' w.led) e q;
   continued = λ M own m w at at' s l t t' u n e q. plain_continue K M own m w at at' s l t t' u (jump_fits M s l w.ls m w.ls' w.led) e q;
   returned = λ M own m w at at' s o o' t t' u n f h q. restated (h (child at' 0) u q) (λ z. z) (λ R sv k m m' i i'. numbers_node s i i' (λ n n' g. numbers_map (named.return n) (named.return n') (k Site.Expects Site.Expects) (λ _ _ r. like_return g r)));
   suffix = B.suffix;
-  annotated = B.annotated;
+  annotated = λ M at at' p y t t' u n e q. B.annotated M at at' p y t t' u e q;
   blocks = B.blocks;
 }

@@ -32,28 +32,39 @@ Both V b o o' = (n : ℕ) × (m : ℕ) × (o ≡ Some n) × (o' ≡ Some m) × V
 pub at_both : (V : ℕ → ℕ → Bool → Type 0) (b f : Bool) (o o' : Option ℕ) → Both V b o o' → AtName V b f o o'
 at_both V b f o o' h = subst (λ (z : Option ℕ). AtName V b f z o') (sym h.2) (subst (λ (z : Option ℕ). AtName V b f (Some h.0) z) (sym h.3) h.4)
 
+-- the names that are in scope from the beginning, and what is known of the variables of the first that they mean there
+pub record Outer : Type 1 where
+  pub names : Names
+  pub tells : List ℕ → Option ℕ → Type 0
+
 -- The names of `known`, and those that are bound since, mean variables that correspond: behind references are those of `stars` that are
 -- not bound since. The names of callees mean such variables, or none in both; other names may mean anything.
-pub record Scopes (B : Pairs) (M : Made) (N : Claims) (stars known own : Names) (sc sc' : Variables) : Type 0 where
-  pub callees : (x : List ℕ) → N.name x → AtName (Corresponds B M) (not (is_among x own) && is_among x stars) (is_among x own || is_among x known) (variable_named sc x) (variable_named sc' x)
-  pub variables : (x : List ℕ) → (is_among x own || is_among x known) ≡ true → Both (Corresponds B M) (not (is_among x own) && is_among x stars) (variable_named sc x) (variable_named sc' x)
+pub record Scopes (B : Pairs) (M : Made) (N : Claims) (stars : Names) (known : Outer) (own : Names) (sc sc' : Variables) : Type 0 where
+  pub callees : (x : List ℕ) → N.name x → AtName (Corresponds B M) (not (is_among x own) && is_among x stars) (is_among x own || is_among x known.names) (variable_named sc x) (variable_named sc' x)
+  pub variables : (x : List ℕ) → (is_among x own || is_among x known.names) ≡ true → Both (Corresponds B M) (not (is_among x own) && is_among x stars) (variable_named sc x) (variable_named sc' x)
+  pub outer : (x : List ℕ) → is_among x own ≡ false → is_among x known.names ≡ true → known.tells x (variable_named sc x)
 
-scopes_one : (B : Pairs) (M : Made) (N : Claims) (stars known own : Names) (y : List ℕ) (n m : ℕ) (sc sc' : Variables) → Has M.variables n m → Scopes B M N stars known own sc sc'
+scopes_one : (B : Pairs) (M : Made) (N : Claims) (stars : Names) (known : Outer) (own : Names) (y : List ℕ) (n m : ℕ) (sc sc' : Variables) → Has M.variables n m → Scopes B M N stars known own sc sc'
     → Scopes B M N stars known (y ∷ own) (record { name = y; number = n } ∷ sc) (record { name = y; number = m } ∷ sc')
 scopes_one B M N stars known own y n m sc sc' v h = record {
   callees = λ x a. by x (h.callees x a) (bytes_eq x y);
   variables = λ x. both x (h.variables x) (bytes_eq x y);
+  outer = λ x. told x (h.outer x) (bytes_eq x y);
 }
   where
-    by : (x : List ℕ) → AtName (Corresponds B M) (not (is_among x own) && is_among x stars) (is_among x own || is_among x known) (variable_named sc x) (variable_named sc' x)
-        → (b : Bool) → AtName (Corresponds B M) (not (b || is_among x own) && is_among x stars) ((b || is_among x own) || is_among x known) (if b then Some n else variable_named sc x) (if b then Some m else variable_named sc' x)
+    by : (x : List ℕ) → AtName (Corresponds B M) (not (is_among x own) && is_among x stars) (is_among x own || is_among x known.names) (variable_named sc x) (variable_named sc' x)
+        → (b : Bool) → AtName (Corresponds B M) (not (b || is_among x own) && is_among x stars) ((b || is_among x own) || is_among x known.names) (if b then Some n else variable_named sc x) (if b then Some m else variable_named sc' x)
     by x h true = v
     by x h false = h
 
-    both : (x : List ℕ) → ((is_among x own || is_among x known) ≡ true → Both (Corresponds B M) (not (is_among x own) && is_among x stars) (variable_named sc x) (variable_named sc' x))
-        → (b : Bool) → ((b || is_among x own) || is_among x known) ≡ true → Both (Corresponds B M) (not (b || is_among x own) && is_among x stars) (if b then Some n else variable_named sc x) (if b then Some m else variable_named sc' x)
+    both : (x : List ℕ) → ((is_among x own || is_among x known.names) ≡ true → Both (Corresponds B M) (not (is_among x own) && is_among x stars) (variable_named sc x) (variable_named sc' x))
+        → (b : Bool) → ((b || is_among x own) || is_among x known.names) ≡ true → Both (Corresponds B M) (not (b || is_among x own) && is_among x stars) (if b then Some n else variable_named sc x) (if b then Some m else variable_named sc' x)
     both x h true e = (n, m, refl, refl, v)
     both x h false e = h e
+
+    told : (x : List ℕ) → (is_among x own ≡ false → is_among x known.names ≡ true → known.tells x (variable_named sc x)) → (b : Bool) → (b || is_among x own) ≡ false → is_among x known.names ≡ true → known.tells x (if b then Some n else variable_named sc x)
+    told x h true e k = absurd (cc)
+    told x h false e k = h e k
 
 -- ---- more was made
 
@@ -67,10 +78,11 @@ at_later B M M' g b f (Some n) (Some m) h = corresponds_later B M M' g n m b h
 at_later B M M' g b f None (Some m) h = h
 at_later B M M' g b f (Some n) None h = h
 
-pub scopes_later : (B : Pairs) (M M' : Made) (N : Claims) (stars known own : Names) (sc sc' : Variables) → Grows M M' → Scopes B M N stars known own sc sc' → Scopes B M' N stars known own sc sc'
+pub scopes_later : (B : Pairs) (M M' : Made) (N : Claims) (stars : Names) (known : Outer) (own : Names) (sc sc' : Variables) → Grows M M' → Scopes B M N stars known own sc sc' → Scopes B M' N stars known own sc sc'
 scopes_later B M M' N stars known own sc sc' g h = record {
   callees = λ x a. at_later B M M' g _ _ (variable_named sc x) (variable_named sc' x) (h.callees x a);
   variables = λ x e. let z = h.variables x e in (z.0, z.1, z.2, z.3, corresponds_later B M M' g z.0 z.1 (not (is_among x own) && is_among x stars) z.4);
+  outer = h.outer;
 }
 
 -- ---- bindings
@@ -89,7 +101,7 @@ abbrev piled : Names → Declared → Names
 piled own [] = own
 piled own (d ∷ ds) = piled (d.0 ∷ own) ds
 
-scopes_piled : (B : Pairs) (M : Made) (N : Claims) (stars known own : Names) (ds es : Declared) (sc sc' : Variables) → BoundAlike M ds es → Scopes B M N stars known own sc sc' → Scopes B M N stars known (piled own ds) (entered sc ds) (entered sc' es)
+scopes_piled : (B : Pairs) (M : Made) (N : Claims) (stars : Names) (known : Outer) (own : Names) (ds es : Declared) (sc sc' : Variables) → BoundAlike M ds es → Scopes B M N stars known own sc sc' → Scopes B M N stars known (piled own ds) (entered sc ds) (entered sc' es)
 scopes_piled B M N stars known own [] [] sc sc' b h = h
 scopes_piled B M N stars known own (d ∷ ds) (e ∷ es) sc sc' b h =
     scopes_piled B M N stars known (d.0 ∷ own) ds es (record { name = d.0; number = d.1.number } ∷ sc) (record { name = e.0; number = e.1.number } ∷ sc') b.2
@@ -118,13 +130,14 @@ among_piled x own (d ∷ ds) =
     ∙ ap (λ (b : Bool). bytes_eq x d.0 || b) (sym (among_append x (declared_names ds) own))
 
 -- what a pattern binds hides what was named so before
-pub scopes_entered : (B : Pairs) (M : Made) (N : Claims) (stars known own names : Names) (ds es : Declared) (sc sc' : Variables) → BoundAlike M ds es → declared_names ds ≡ names
+pub scopes_entered : (B : Pairs) (M : Made) (N : Claims) (stars : Names) (known : Outer) (own names : Names) (ds es : Declared) (sc sc' : Variables) → BoundAlike M ds es → declared_names ds ≡ names
     → Scopes B M N stars known own sc sc' → Scopes B M N stars known (names ++ own) (entered sc ds) (entered sc' es)
 scopes_entered B M N stars known own names ds es sc sc' b e h = let k = scopes_piled B M N stars known own ds es sc sc' b h in record {
-  callees = λ x a. subst (λ (y : Bool). AtName (Corresponds B M) (not y && is_among x stars) (y || is_among x known) (variable_named (entered sc ds) x) (variable_named (entered sc' es) x))
+  callees = λ x a. subst (λ (y : Bool). AtName (Corresponds B M) (not y && is_among x stars) (y || is_among x known.names) (variable_named (entered sc ds) x) (variable_named (entered sc' es) x))
       (among_piled x own ds ∙ ap (λ (l : Names). is_among x (l ++ own)) e) (k.callees x a);
-  variables = λ x. subst (λ (y : Bool). (y || is_among x known) ≡ true → Both (Corresponds B M) (not y && is_among x stars) (variable_named (entered sc ds) x) (variable_named (entered sc' es) x))
+  variables = λ x. subst (λ (y : Bool). (y || is_among x known.names) ≡ true → Both (Corresponds B M) (not y && is_among x stars) (variable_named (entered sc ds) x) (variable_named (entered sc' es) x))
       (among_piled x own ds ∙ ap (λ (l : Names). is_among x (l ++ own)) e) (k.variables x);
+  outer = λ x. subst (λ (y : Bool). y ≡ false → is_among x known.names ≡ true → known.tells x (variable_named (entered sc ds) x)) (among_piled x own ds ∙ ap (λ (l : Names). is_among x (l ++ own)) e) (k.outer x);
 }
 
 pub bound_later : (M M' : Made) → Grows M M' → (ds es : Declared) → BoundAlike M ds es → BoundAlike M' ds es

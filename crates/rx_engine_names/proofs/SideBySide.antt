@@ -130,6 +130,23 @@ numbers_made s i i' h h' K = record {
   };
 }
 
+-- a node alone, with its span
+pub numbers_made_at : {B B' : Type 0} {T : B → B' → Type 0} {t u : ItemNames} (s : Span) (i i' : Site) (h : Node → B) (h' : Node → B')
+    → ((n n' : Node) → n.span ≡ s → SameSpan n n' → T (h n) (h' n')) → Numbers T t u t u [] [] (numbering.and_then (a_node s i) (λ n. give (h n))) (numbering.and_then (a_node s i') (λ n. give (h' n)))
+numbers_made_at s i i' h h' K = record {
+  holds = λ c c' rest rest' q e e'. record {
+    like = K (a_node s i c).0 (a_node s i' c').0 refl refl;
+    cursors = record { declared = q.declared; declared' = q.declared'; loops = q.loops; loops' = q.loops' };
+    left = e;
+    left' = e';
+  };
+}
+
+-- what each numbering of the first gives
+pub numbers_also : {A A' : Type 0} {S : A → A' → Type 0} {W : A → Type 0} {t u t1 u1 : ItemNames} {es es' : List NodeNames} {m : Numbering A} {m' : Numbering A'}
+    → Numbers S t u t1 u1 es es' m m' → ((c : Cursor) → W (m c).0) → Numbers (λ a a'. W a × S a a') t u t1 u1 es es' m m'
+numbers_also N w = record { holds = λ c c' rest rest' q e e'. let x = N.holds c c' rest rest' q e e' in record { like = (w c, x.like); cursors = x.cursors; left = x.left; left' = x.left' } }
+
 -- ---- steps that touch no names
 
 pub record Keeps {A : Type 0} (m : Numbering A) : Type 0 where

@@ -3,6 +3,7 @@ use Rattle.std.proofs.Common.{◌≡◌, ℕ, Bool, true, false, if◌then◌els
 use Rattle.rx_core.specs.declared.types.Span.{Span}
 use Rattle.rx_tree.specs.declared.tree.Ident.{Ident}
 use Rattle.rx_tree.specs.Plain as plain
+use Rattle.rx_tree.specs.Spans.{pattern_span}
 use Rattle.rx_tree.specs.Plain.{TypeTree, PatternTree, Expression, Expressions, OptionalExpression, OptionalExpressions, FieldExpressions, Arms, Body, Statement, Statements}
 use Rattle.rx_resolve_scope.specs.Scopes.{Declared, Variables, entered}
 use Rattle.rx_resolve_names.specs.declared.resolved.ItemNames.{ItemNames}
@@ -23,8 +24,8 @@ use Rattle.rx_hoist_extraction.specs.Changed.{Changes}
 use Rattle.rx_hoist_extraction.specs.Moved.{beyond, leaves}
 use Rattle.rx_engine_names.specs.Within.{Claims}
 use Rattle.rx_engine_names.proofs.SideBySide.{Frame, Reached, Grows, Kind, Numbers, Keeps, Part}
-use Rattle.rx_engine_names.proofs.Scoped.{Scopes, scopes_later, BoundAlike, declared_names, scopes_entered}
-use Rattle.rx_engine_names.proofs.Fitting.{Fits}
+use Rattle.rx_engine_names.proofs.Scoped.{Outer, Scopes, scopes_later, BoundAlike, declared_names, scopes_entered}
+use Rattle.rx_engine_names.proofs.Fitting.{FitItems}
 
 -- ---- numberings of each kind of part. What a place makes of a value may differ
 
@@ -55,8 +56,8 @@ StatementNumbers H t u e e' t' R u' es es' = Numbers (LikeStatement H R) t u t' 
 abbrev pub StatementsNumbers : Holes → ItemNames → ItemNames → Statements → Statements → ItemNames → Kind
 StatementsNumbers H t u e e' t' R u' es es' = Numbers (LikeStatements H R) t u t' u' es es' (of_statements e) (of_statements e')
 
-abbrev pub AnnotationNumbers : Holes → ItemNames → ItemNames → Option TypeTree → Option TypeTree → ItemNames → Kind
-AnnotationNumbers H t u y y' t' R u' es es' = Numbers (LikeAnnotation H R) t u t' u' es es' (of_optional_type y) (of_optional_type y')
+abbrev pub AnnotationNumbers : Holes → Span → ItemNames → ItemNames → Option TypeTree → Option TypeTree → ItemNames → Kind
+AnnotationNumbers H s t u y y' t' R u' es es' = Numbers (LikeAnnotation H R s) t u t' u' es es' (of_optional_type y) (of_optional_type y')
 
 -- ---- steps of numbering that touch no names
 
@@ -146,7 +147,7 @@ pub record Setting : Type 1 where
   pub H : Holes
   pub I : Inside
   pub I' : Inside
-  pub fits : Fits L.items I I'
+  pub fits : FitItems L.items I I'
   pub N : Claims
   pub C : Changes
   -- variables of which the second stands behind a reference, and the names that mean them where they are not bound since
@@ -154,8 +155,8 @@ pub record Setting : Type 1 where
   pub stars : Names
   -- loops of the first that jumps leave, with the numbers by which the changes know them
   pub left : ℕ → ℕ → Type 0
-  -- the names that are in scope from the beginning
-  pub known : Names
+  -- the names that are in scope from the beginning, and what is known of them
+  pub known : Outer
 
 pub record Stand (K : Setting) (M : Made) (own : Names) (m : List Around) : Type 0 where
   pub sc : Variables
@@ -231,9 +232,9 @@ pub record Special (K : Setting) : Type 0 where
   -- the operand is alike wherever it stands
   pub returned : (M : Made) (own : Names) (m : List Around) (w : Stand K M own m) (at at' : List ℕ) (s : Span) (o o' : OptionalExpression) (t t' u : ItemNames) → K.N.returned → SameForm o o'
       → ((at' : List ℕ) (v : ItemNames) → Reached K.L M t v → ElsePart K M own m w at' o o' t t' v) → Reached K.L M t u → ExpPart K M own m w at' (plain.return s o) (K.C.at_return s o') t t' u
-  pub suffix : (R : Renaming) (s : Span) (n n' : Node) (b b' : Bool) (v : ℕ) (k : Option kinds.Kind) → SameSpan n n' → LikeExp K.H R (named.int n b v k) (named.int n' b' v (K.C.at_int s k))
-  pub annotated : (M : Made) (at at' : List ℕ) (p : PatternTree) (y : Option TypeTree) (t t' u : ItemNames) → in_optional_type K.I at y t ≡ Ok t' → Reached K.L M t u
-      → Part K.L M t t' u (λ G v. in_optional_type K.I' at' (K.C.at_let p y) u ≡ Ok v) (AnnotationNumbers K.H t u y (K.C.at_let p y) t')
+  pub suffix : (R : Renaming) (s : Span) (n n' : Node) (b b' : Bool) (v : ℕ) (k : Option kinds.Kind) → n.span ≡ s → SameSpan n n' → LikeExp K.H R (named.int n b v k) (named.int n' b' v (K.C.at_int s k))
+  pub annotated : (M : Made) (at at' : List ℕ) (p : PatternTree) (y : Option TypeTree) (t t' u : ItemNames) → K.N.annotation y → in_optional_type K.I at y t ≡ Ok t' → Reached K.L M t u
+      → Part K.L M t t' u (λ G v. in_optional_type K.I' at' (K.C.at_let p y) u ≡ Ok v) (AnnotationNumbers K.H (pattern_span p) t u y (K.C.at_let p y) t')
   -- a block: with its parts done it is alike
   pub blocks : (M : Made) (own : Names) (m : List Around) (w : Stand K M own m) (at at' : List ℕ) (b done : Body) (t t' u : ItemNames) → in_block K.I w.sc w.ls at b t ≡ Ok t' → Reached K.L M t u
       → BodyPart K M own m w at' b done t t' u → BodyPart K M own m w at' b (K.C.at_block b done) t t' u

@@ -4,3 +4,8 @@ pub mod Within
 pub mod Insertion
 pub mod NewNames
 pub mod Alike
+pub mod WrittenOut
+pub mod NamedLifetimes
+pub mod Moves
+pub mod Calls
+pub mod Replaced

@@ -3,6 +3,7 @@
 -- where something else stands in the second, that is a hole: a parameter says what may stand there. What a place makes of its
 -- value, what is known of a variable where it is used, and whether an assignment gives a type, may differ.
 use Rattle.std.specs.Prelude.{◌≡◌, ℕ, Bool, true, List, [], ◌∷◌, Option, Some, None}
+use Rattle.rx_core.specs.declared.types.Span.{Span}
 use Rattle.rx_core.specs.declared.types.Kind.{Kind}
 use Rattle.rx_tree.specs.declared.tree.BinaryOp.{BinaryOp}
 use Rattle.rx_tree.specs.declared.tree.UpdateOp.{UpdateOp}
@@ -18,14 +19,14 @@ pub record Holes : Type 1 where
   pub expression : Renaming → Exp → Exp → Type 0
   -- for a return with this node, whose operand has become this one
   pub returned : Renaming → Node → Else → Exp → Type 0
-  -- for the type of a `let`
-  pub annotation : Option Written → Option Written → Type 0
+  -- for the type of a `let` whose pattern has this span
+  pub annotation : Renaming → Span → Option Written → Option Written → Type 0
   -- for a block
   pub block : Renaming → Body → Body → Type 0
 
 -- nothing else
 abbrev pub no_holes : Holes
-no_holes = record { expression = λ R e e'. ⊥; returned = λ R n o e'. ⊥; annotation = λ t t'. ⊥; block = λ R b b'. ⊥ }
+no_holes = record { expression = λ R e e'. ⊥; returned = λ R n o e'. ⊥; annotation = λ R s t t'. ⊥; block = λ R b b'. ⊥ }
 
 abbrev pub SameSpan : Node → Node → Type 0
 SameSpan n n' = n.span ≡ n'.span
@@ -64,10 +65,10 @@ mutual
     like_no_field_pattern : LikeFieldPatterns R named.no_field_pattern named.no_field_pattern
     like_more_field_patterns : {x : List ℕ} {p p' : Pattern} {fs fs' : FieldPatterns} → LikePattern R p p' → LikeFieldPatterns R fs fs' → LikeFieldPatterns R (named.field_pattern_and x p fs) (named.field_pattern_and x p' fs')
 
--- the type of a `let`
-pub data LikeAnnotation (H : Holes) (R : Renaming) : Option Written → Option Written → Type 0 where
-  like_typed : {t t' : Option Written} → LikeOptionalWritten R t t' → LikeAnnotation H R t t'
-  like_other_type : {t t' : Option Written} → H.annotation t t' → LikeAnnotation H R t t'
+-- the type of a `let` whose pattern has this span
+pub data LikeAnnotation (H : Holes) (R : Renaming) (s : Span) : Option Written → Option Written → Type 0 where
+  like_typed : {t t' : Option Written} → LikeOptionalWritten R t t' → LikeAnnotation H R s t t'
+  like_other_type : {t t' : Option Written} → H.annotation R s t t' → LikeAnnotation H R s t t'
 
 mutual
   pub data LikeExp (H : Holes) (R : Renaming) : Exp → Exp → Type 0 where
@@ -129,8 +130,8 @@ mutual
     like_body : {n n' : Node} {ss ss' : Statements} {o o' : Else} → SameSpan n n' → LikeStatements H R ss ss' → LikeElse H R o o' → LikeBody H R (named.body n ss o) (named.body n' ss' o')
 
   pub data LikeStatement (H : Holes) (R : Renaming) : Statement → Statement → Type 0 where
-    like_declares : {n n' : Node} {p p' : Pattern} {t t' : Option Written} → SameSpan n n' → LikePattern R p p' → LikeAnnotation H R t t' → LikeStatement H R (named.declares n p t) (named.declares n' p' t')
-    like_lets : {n n' : Node} {p p' : Pattern} {t t' : Option Written} {e e' : Exp} → SameSpan n n' → LikePattern R p p' → LikeAnnotation H R t t' → LikeExp H R e e' → LikeStatement H R (named.lets n p t e) (named.lets n' p' t' e')
+    like_declares : {n n' : Node} {p p' : Pattern} {t t' : Option Written} → SameSpan n n' → LikePattern R p p' → LikeAnnotation H R (named.pattern_node p).span t t' → LikeStatement H R (named.declares n p t) (named.declares n' p' t')
+    like_lets : {n n' : Node} {p p' : Pattern} {t t' : Option Written} {e e' : Exp} → SameSpan n n' → LikePattern R p p' → LikeAnnotation H R (named.pattern_node p).span t t' → LikeExp H R e e' → LikeStatement H R (named.lets n p t e) (named.lets n' p' t' e')
     like_evaluates : {n n' : Node} {e e' : Exp} {b : Bool} → SameSpan n n' → LikeExp H R e e' → LikeStatement H R (named.evaluates n e b) (named.evaluates n' e' b)
 
   pub data LikeStatements (H : Holes) (R : Renaming) : Statements → Statements → Type 0 where

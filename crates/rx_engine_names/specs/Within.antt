@@ -2,7 +2,7 @@
 use Rattle.std.specs.Prelude.{ℕ, List, ◌∷◌, ◌++◌, Option}
 use Rattle.rx_tree.specs.declared.tree.Ident.{Ident}
 use Rattle.rx_tree.specs.Plain as plain
-use Rattle.rx_tree.specs.Plain.{Expression, Expressions, OptionalExpression, OptionalExpressions, FieldExpressions, Arms, Body, Statement, Statements}
+use Rattle.rx_tree.specs.Plain.{TypeTree, Expression, Expressions, OptionalExpression, OptionalExpressions, FieldExpressions, Arms, Body, Statement, Statements}
 use Rattle.rx_resolve_names.specs.Meant.{Around, a_loop, a_test}
 use Rattle.rx_hoist_extraction.specs.Names.{Names, bound, bound_by, behind_all}
 
@@ -16,6 +16,8 @@ pub record Claims : Type 1 where
   pub continued : Names → List Around → Option Ident → Type 0
   -- of a `return`
   pub returned : Type 0
+  -- of the type of a `let`
+  pub annotation : Option TypeTree → Type 0
 
 abbrev mutual
   pub Within : Claims → Names → List Around → Expression → Type 0
@@ -72,7 +74,7 @@ abbrev mutual
   BodyWithin N own ls (plain.body s ss o) = StatementsWithin N own ls ss × OptionalWithin N (behind_all own ss) ls o
 
   pub StatementWithin : Claims → Names → List Around → Statement → Type 0
-  StatementWithin N own ls (plain.let_statement s p y o) = OptionalWithin N own ls o
+  StatementWithin N own ls (plain.let_statement s p y o) = N.annotation y × OptionalWithin N own ls o
   StatementWithin N own ls (plain.expression_statement s e b) = Within N own ls e
 
   pub StatementsWithin : Claims → Names → List Around → Statements → Type 0

@@ -4,22 +4,24 @@ use Rattle.std.proofs.Common.{◌≡◌, ℕ, zero, suc, ◌+◌, ◌*◌, ◌�
 use Rattle.std.proofs.lemmas.List.{append-nil}
 use Rattle.rx_typed.specs.Tree as tree
 use Rattle.rx_typed.specs.Tree.{Mark, Exp, Operands, Function, Temporary, mark_of, temporary_of, temporaries_of}
-use Rattle.rx_lower_walks.specs.Actions.{Action, Call, Give, at_mark}
+use Rattle.rx_lower_walks.specs.Actions.{Action, Give, at_mark}
 use Rattle.rx_lower_walks.specs.Orders.{order, returns}
-use Rattle.rx_meaning.specs.Endings.{running}
 use Rattle.rx_meaning.specs.Values.{Value, element, State, with_turns}
-use Rattle.rx_meaning.specs.Results.{Result, on, jumps, stops, after, bind, result_of}
+use Rattle.rx_meaning.specs.Results.{Result, jumps, after, bind, result_of, on}
 use Rattle.rx_meaning.specs.Acting.{performed, plainly}
-use Rattle.rx_meaning.specs.Expressions.{Functions, Meaning, found, turn_at, take_turn, returned, with_arguments, activation, entered, value, values, below_level}
+use Rattle.rx_meaning.specs.Expressions.{Functions, take_turn, returned, with_arguments, activation, entered, value, below_level}
 use Rattle.rx_meaning.specs.Programs.{Program, run, UpTo}
-use Rattle.rx_meaning.proofs.Sequences.{after_nothing}
 use Rattle.rx_meaning.proofs.Fronts.{front_bind, told_returned}
+use Rattle.rx_engine_simulation.specs.Statements.{Specials, Elsewhere}
 use Rattle.rx_engine_simulation.specs.Openings.{no_openings}
 use Rattle.rx_engine_simulation.specs.Like.{LikeExp}
-use Rattle.rx_engine_simulation.specs.Called.{New, Passing, Absents, inner_jumps, NoneSpecial, Covers, body_giving, BecomesCall, becomes_call, calls_of, WithCall}
-use Rattle.rx_engine_simulation.proofs.Told.{Told, said, followed}
+use Rattle.rx_engine_simulation.specs.Passing.{New, Passing, Absents, inner_jumps, Covers}
+use Rattle.rx_engine_simulation.specs.Called.{body_giving, BecomesCall, becomes_call, calls_of, WithCall}
+use Rattle.rx_engine_simulation.proofs.Locals.{call_is, turned_out, turned_on, all_moved, all_dead}
+use Rattle.rx_engine_simulation.proofs.Statements.{statements_alike}
+use Rattle.rx_engine_simulation.proofs.Told.{Told, said, followed, onto}
 use Rattle.rx_engine_simulation.proofs.Values.{In, Pair, Given, shut}
-use Rattle.rx_engine_simulation.proofs.States.{Direction, shorter, longer, gain, Turns, weaken, EntryCase, cut_off, extra, entry_case, plain, special, Sight, sight, Renaming, sight_of, Facts, Frozen, StatesAlike}
+use Rattle.rx_engine_simulation.proofs.States.{Direction, shorter, longer, gain, Turns, weaken, EntryCase, cut_off, extra, entry_case, plain, special, Sight, sight, Renaming, sight_of, Facts, Frozen, StatesAlike, Living}
 use Rattle.rx_engine_simulation.proofs.Results.{Jumping, Reached, stays_break, stays_continue, gives_back, packs_break, packs_continue, packs_value, packs_unit, ResultsAlike, both_on, both_jump, both_stop, text_cut, answer_cut, DoAlike}
 use Rattle.rx_engine_simulation.proofs.Parts.{Ready}
 use Rattle.rx_engine_simulation.proofs.Calls.{in_item, in_frame}
@@ -31,23 +33,6 @@ use Rattle.rx_engine_simulation.proofs.Whole.{answer_up_to_text, text_up_to_answ
 
 none_some : {A : Type 0} {a : A} → None ≡ Some a → ⊥
 none_some e = cc
-
--- ---- what the parts of a call compute to
-
-call_is : (Q : Functions) (low : Meaning ℕ) (m : Mark) (f : ℕ) (g : Function) (es : Operands) (vs : List Value) (t : Temporary) (s : State) → element Q f ≡ Some (Some g) → values plainly Q low es s ≡ on [] vs s
-    → value plainly Q low (tree.call m f es) t s ≡ take_turn s (λ s3. entered plainly low f g vs s3)
-unfolding value bind result_of
-call_is Q low m f g es vs t s e h =
-    ap (λ r. bind r (λ vs s1. bind (performed plainly (at_mark m (Call f (temporaries_of es) t)) vs s1) (λ u s2. found (element Q f) (λ g. take_turn s2 (λ s3. entered plainly low f g vs s3))))) h
-    ∙ after_nothing _ ∙ after_nothing _ ∙ ap (λ o. found o (λ g. take_turn s (λ s3. entered plainly low f g vs s3))) e
-
-turned_out : (s : State) → zero ≡ s.turns → (go : State → Result ℕ Value) → take_turn s go ≡ stops [] running
-unfolding take_turn
-turned_out s e go = ap (λ n. turn_at n s go) (sym e)
-
-turned_on : (s : State) (u : ℕ) → suc u ≡ s.turns → (go : State → Result ℕ Value) → take_turn s go ≡ go (with_turns s u)
-unfolding take_turn
-turned_on s u e go = ap (λ n. turn_at n s go) (sym e)
 
 -- what the new function's body does with its value
 abbrev given_back : Mark → Temporary → Result ℕ Value → Result ℕ Value
@@ -63,37 +48,34 @@ activation_is Q n0 g mb mg e given sa at_end is h =
 -- ---- in, and out again
 
 module _ (V : Facts) (R Ra : Renaming) (Z Z' : Frozen) (Cold : ℕ → Type 0) (h : List Action) (j : List Pair) (s s' : State) (inv : StatesAlike V R Z Z' h j s s') (cold : (x : ℕ) → Cold x → IsCold R x)
-    (known : (x i : ℕ) → Z.anchored x i → (e : Sight) × (sight_of R x ≡ Some e)) (none : NoneSpecial R) (Zf : Frozen) (sa : State) (going : Going V R Z Z' Cold h j s s' inv cold Ra Zf sa) (fewer : sa.turns ≤ s'.turns) (d : Direction) (J : Jumping) (c : ℕ) where
-  abbrev specials : (x y : ℕ) → sight_of R x ≡ Some (sight y special) → (z : ℕ) × (sight_of Ra x ≡ Some (sight z special))
-  specials x y seen = absurd (none x y seen)
-
-  back : (h1 : List Action) (j1 : List Pair) (t t' : State) → Reached V d Ra (Zt V R Z Z' Cold h j s s' inv cold) Zf c h1 j s sa j1 t t' → Reached V d R Z Z' c h1 j s s' j1 t (in_frame t' s'.frame)
-  back h1 j1 t t' z = record {
-    inv = states_leave V R Z Z' Cold h j s s' inv cold known Ra Ra Zf sa going specials h1 j1 t t' z.inv z.grown t'.memory (λ n. ⊥) refl (λ n f. refl) (λ q m k. k) (λ i v w k. k) (λ x y seen b l. absurd (none x y seen));
-    grown = grown_leave V R Z Z' Cold h j s s' inv cold known Ra Ra Zf sa going specials h1 j1 t t' z.inv z.grown t'.memory (λ n. ⊥) refl (λ n f. refl) (λ q m k. k) (λ i v w k. k) (λ x y seen b l. absurd (none x y seen)) fewer;
+    (known : (x i : ℕ) → Z.anchored x i → (e : Sight) × (sight_of R x ≡ Some e)) (specials : Specials R Ra) (Zf : Frozen) (sa : State) (going : Going V R Z Z' Cold h j s s' inv cold Ra Zf sa) (fewer : sa.turns ≤ s'.turns) (d : Direction) (J : Jumping) (c : ℕ) where
+  back : (h1 : List Action) (j1 : List Pair) (t t' : State) → ((x y : ℕ) → sight_of R x ≡ Some (sight y special) → Living V x h1 → ⊥) → Reached V d Ra (Zt V R Z Z' Cold h j s s' inv cold) Zf c h1 j s sa j1 t t' → Reached V d R Z Z' c h1 j s s' j1 t (in_frame t' s'.frame)
+  back h1 j1 t t' dead z = record {
+    inv = states_leave V R Z Z' Cold h j s s' inv cold known Ra Ra Zf sa going specials h1 j1 t t' z.inv z.grown R (λ x e f. f) t'.memory (λ n. ⊥) refl (λ n f. refl) (λ q m k. k) (λ i v w k. k) (λ x y seen b l. absurd (dead x y seen l));
+    grown = grown_leave V R Z Z' Cold h j s s' inv cold known Ra Ra Zf sa going specials h1 j1 t t' z.inv z.grown R (λ x e f. f) t'.memory (λ n. ⊥) refl (λ n f. refl) (λ q m k. k) (λ i v w k. k) (λ x y seen b l. absurd (dead x y seen l)) fewer;
     turns = z.turns;
   }
 
-  comes_back : (mg : Mark) (tg : Temporary) (r : Result (Told ℕ) Value) (r' : Result ℕ Value) → ResultsAlike V d Ra (Zt V R Z Z' Cold h j s s' inv cold) Zf inner_jumps Given c h j s sa r r' → ResultsAlike V d R Z Z' J Given c h j s s' r (returned plainly s'.frame (given_back mg tg r'))
+  comes_back : (mg : Mark) (tg : Temporary) (r : Result (Told ℕ) Value) (r' : Result ℕ Value) → ((o : List (Told ℕ)) (v : Value) (t : State) → r ≡ on o v t → (x y : ℕ) → sight_of R x ≡ Some (sight y special) → Living V x (onto o h) → ⊥) → ResultsAlike V d Ra (Zt V R Z Z' Cold h j s s' inv cold) Zf inner_jumps Given c h j s sa r r' → ResultsAlike V d R Z Z' J Given c h j s s' r (returned plainly s'.frame (given_back mg tg r'))
   unfolding returned bind after result_of
-  comes_back mg tg r r' (both_on {o' = o'} {t = t} {t' = t'} j1 f w z) = both_on j1 (f ∙ sym (append-nil o')) w (back _ j1 t t' z)
-  comes_back mg tg r r' (both_jump j1 f (stays_break e) z) = absurd (none_some e)
-  comes_back mg tg r r' (both_jump j1 f (stays_continue e) z) = absurd (none_some e)
-  comes_back mg tg r r' (both_jump j1 f (gives_back e k) z) = absurd (cc)
-  comes_back mg tg r r' (both_jump j1 f (packs_break p e us k) z) = absurd (none_some e)
-  comes_back mg tg r r' (both_jump j1 f (packs_continue p e us k) z) = absurd (none_some e)
-  comes_back mg tg r r' (both_jump j1 f (packs_value e k) z) = absurd (cc)
-  comes_back mg tg r r' (both_jump j1 f (packs_unit e k) z) = absurd (cc)
-  comes_back mg tg r r' (both_stop f q) = both_stop f q
-  comes_back mg tg r r' (text_cut {o = o} m f) =
+  comes_back mg tg r r' ends (both_on {o = o} {o' = o'} {a = a} {t = t} {t' = t'} j1 f w z) = both_on j1 (f ∙ sym (append-nil o')) w (back _ j1 t t' (ends o a t refl) z)
+  comes_back mg tg r r' ends (both_jump j1 f (stays_break e) z) = absurd (none_some e)
+  comes_back mg tg r r' ends (both_jump j1 f (stays_continue e) z) = absurd (none_some e)
+  comes_back mg tg r r' ends (both_jump j1 f (gives_back e k) z) = absurd (cc)
+  comes_back mg tg r r' ends (both_jump j1 f (packs_break p e us k dead) z) = absurd (none_some e)
+  comes_back mg tg r r' ends (both_jump j1 f (packs_continue p e us k dead) z) = absurd (none_some e)
+  comes_back mg tg r r' ends (both_jump j1 f (packs_value e k dead) z) = absurd (cc)
+  comes_back mg tg r r' ends (both_jump j1 f (packs_unit e k dead) z) = absurd (cc)
+  comes_back mg tg r r' ends (both_stop f q) = both_stop f q
+  comes_back mg tg r r' ends (text_cut {o = o} m f) =
       let k = front_bind (said o) r' (λ v s1. bind (performed plainly (at_mark mg (Give tg)) (v ∷ []) s1) (λ w s2. jumps [] (returns mg.node) w s2)) f in
       text_cut m (k.0, told_returned plainly s'.frame (given_back mg tg r') ∙ k.1)
-  comes_back mg tg r r' (answer_cut m f) = answer_cut m f
+  comes_back mg tg r r' ends (answer_cut m f) = answer_cut m f
 
 -- ---- the call
 
 module _ (items : ℕ → ℕ) (P Q : Functions) (d : Direction) (N : New) (stands : element Q N.number ≡ Some (Some N.function)) where
-  module _ (V : Facts) (J : Jumping) (R Rp Ra : Renaming) (Z Z' : Frozen) (cold : List ℕ) (e e' : Exp) (es : Operands) (mb mg : Mark) (is : N.function.body ≡ body_giving mb mg e') (none : NoneSpecial R) (is_cold : (x : ℕ) → In x cold → (y : ℕ) × (sight_of R x ≡ Some (sight y (plain shut))))
+  module _ (V : Facts) (J : Jumping) (R Rp Ra : Renaming) (Z Z' : Frozen) (cold : List ℕ) (e e' : Exp) (es : Operands) (mb mg : Mark) (is : N.function.body ≡ body_giving mb mg e') (elsewhere : Elsewhere V R Ra e) (is_cold : (x : ℕ) → In x cold → (y : ℕ) × (sight_of R x ≡ Some (sight y (plain shut))))
       (absents : Absents Rp Ra) (covers : Covers R Ra) (m b c : ℕ) (le : c ≤ b) (t : Temporary) (passing : Passing V R (order e t) (λ x. In x cold) [] es N.function.params Rp) (h : List Action) (j : List Pair) (s s' : State) (at : V.Comes (order e t) h)
       (inv : StatesAlike V R Z Z' h j s s') (known : (x i : ℕ) → Z.anchored x i → (e : Sight) × (sight_of R x ≡ Some e)) (low : s.turns ≤ m) where
     abbrev chilled : (x : ℕ) → In x cold → IsCold R x
@@ -121,7 +103,7 @@ module _ (items : ℕ → ℕ) (P Q : Functions) (d : Direction) (N : New) (stan
         let going = absent_all Q (below_level plainly Q (suc n0)) V (order e t) R Z Z' (λ x. In x cold) h at j s s' inv chilled absents p.frozen p.at_end p.going in
         let same_turns : p.at_end.turns ≡ u = p.turns in
         subst (λ q. DoAlike V d R Z Z' J Given c h j s s' text_does (returned plainly s'.frame q)) (sym (activation_is Q n0 N.function mb mg e' p.given (entry u) p.at_end is p.entered))
-        (λ good. comes_back V R Ra Z Z' (λ x. In x cold) h j s s' inv chilled known none p.frozen p.at_end going (omega (arith, same_turns, eu)) d J c mg (temporary_of e') text_does (value plainly Q (below_level plainly Q n0) e' (temporary_of e') p.at_end)
+        (λ good. comes_back V R Ra Z Z' (λ x. In x cold) h j s s' inv chilled known (all_moved elsewhere) p.frozen p.at_end going (omega (arith, same_turns, eu)) d J c mg (temporary_of e') text_does (value plainly Q (below_level plainly Q n0) e' (temporary_of e') p.at_end) (λ o v t1 same. all_dead P m t h s at elsewhere o v t1 same)
         ((level_alike items P Q d no_openings (nothing_opens items P Q d) n0 (λ i le. calls i (omega arith))).exp_all V m 0 c inner_jumps Ra Zs p.frozen e e' l t (temporary_of e') h j s p.at_end
         (record {
           inv = going.states_now;
@@ -148,13 +130,13 @@ module _ (items : ℕ → ℕ) (P Q : Functions) (d : Direction) (N : New) (stan
 
   becomes_alike : (n : ℕ) → CallsUpTo items P Q d n → {V : Facts} {a : ℕ} {J : Jumping} {R : Renaming} {f f' : Exp → Exp} → BecomesCall items (gain d) N V a J R f f' → (Z Z' : Frozen) (m b c : ℕ) → c ≤ b → (x x' : Exp) (t t' : Temporary) (h : List Action) (j : List Pair) (s s' : State)
       → Ready V d R Z Z' (a + b) m n h j s s' → V.Comes (order (f x) t) h → DoAlike V d R Z Z' J Given c h j s s' (value followed P (below_level followed P m) (f x) t s) (value plainly Q (below_level plainly Q n) (f' x') t' s')
-  becomes_alike n calls {V} {a} {J} {R} (becomes_call {e = e} {e' = e'} {es = es} {mc = mc} {mb = mb} {mg = mg} cold Rp Ra is none is_cold passing absents covers l) Z Z' m b c le x x' t t' h j s s' r at =
-      cases V J R Rp Ra Z Z' cold e e' es mb mg is none is_cold absents covers m b c le t (passing t) h j s s' at r.inv r.known r.low n mc t' r.low' calls l s'.turns refl (entry_case d b s.turns s'.turns (weaken d (1 + b) (suc b) _ _ (omega arith) r.turns))
+  becomes_alike n calls {V} {a} {J} {R} (becomes_call {e = e} {e' = e'} {es = es} {mc = mc} {mb = mb} {mg = mg} cold Rp Ra is elsewhere is_cold passing absents covers l) Z Z' m b c le x x' t t' h j s s' r at =
+      cases V J R Rp Ra Z Z' cold e e' es mb mg is elsewhere is_cold absents covers m b c le t (passing t) h j s s' at r.inv r.known r.low n mc t' r.low' calls l s'.turns refl (entry_case d b s.turns s'.turns (weaken d (1 + b) (suc b) _ _ (omega arith) r.turns))
 
   pub calls_open_alike : OpensAlike items P Q d (calls_of items (gain d) N)
   calls_open_alike = record {
     expression = λ n calls o Z Z' m b c le x x' part t t' h j s s' r at. becomes_alike n calls o Z Z' m b c le x x' t t' h j s s' r at;
-    statements = λ n calls o. absurd o;
+    statements = λ n calls o Z Z' m b c le e' i i' t t' go h j s s' r at. statements_alike items P Q d N stands n calls o Z Z' m b c le e' i i' t t' go h j s s' r at;
   }
 
 -- ---- whole programs

@@ -71,7 +71,7 @@ module _ (items : ℕ → ℕ) (P Q : Functions) (d : Direction) where
       pub expression : (n : ℕ) → CallsUpTo n → {V : Facts} {a : ℕ} {J : Jumping} {R : Renaming} {f f' : Exp → Exp} → O.expression V a J R f f' → (Z Z' : Frozen) (m b c : ℕ) → c ≤ b → (e e' : Exp)
           → ((t t' : Temporary) (h : List Action) (j : List Pair) (s s' : State) → Ready V d R Z Z' b m n h j s s' → V.Comes (order e t) h → DoAlike V d R Z Z' J Given c h j s s' (in_text m e t s) (in_answer n e' t' s'))
           → (t t' : Temporary) (h : List Action) (j : List Pair) (s s' : State) → Ready V d R Z Z' (a + b) m n h j s s' → V.Comes (order (f e) t) h → DoAlike V d R Z Z' J Given c h j s s' (in_text m (f e) t s) (in_answer n (f' e') t' s')
-      pub statements : (n : ℕ) → CallsUpTo n → {V : Facts} {a : ℕ} {J : Jumping} {R Ra : Renaming} {f f' : Body → Body} → O.statements V a J R Ra f f' → (Z Z' : Frozen) (m b c : ℕ) → c ≤ b → (e e' : Body) (i i' : ℕ) (t t' : Temporary)
+      pub statements : (n : ℕ) → CallsUpTo n → {V : Facts} {a : ℕ} {J : Jumping} {R Ra : Renaming} {e : Body} {f f' : Body → Body} → O.statements V a J R Ra e f f' → (Z Z' : Frozen) (m b c : ℕ) → c ≤ b → (e' : Body) (i i' : ℕ) (t t' : Temporary)
           → ((h : List Action) (j : List Pair) (s s' : State) → Ready V d Ra Z Z' b m n h j s s' → V.Comes (order_body e i t) h
           → DoAlike V d Ra Z Z' J Given c h j s s' (body followed P (below_level followed P m) e i t s) (body plainly Q (below_level plainly Q n) e' i' t' s'))
           → (h : List Action) (j : List Pair) (s s' : State) → Ready V d R Z Z' (a + b) m n h j s s' → V.Comes (order_body (f e) i t) h
@@ -214,7 +214,7 @@ module _ (items : ℕ → ℕ) (P Q : Functions) (d : Direction) where
         body_alike {V} {k} {J} {R} (declares_all {s = n0} {s' = n0'} {b = b0} Ra ld lb) Z Z' m c i i' t t' h j s s' r at =
             begun_alike V d Z Z' J (k + c) c m n (omega arith) ld n0 n0' i i' (order_body b0 i t) _ _ (λ h1 j1 u u' r1 at1. body_alike lb Z Z' m c i i' t t' h1 j1 u u' r1 at1) h j s s' r at
         body_alike {V} {k} {J} {R} (opens_in {b = b} {b' = b'} a i0 le o l) Z Z' m c i i' t t' h j s s' r at =
-            open_alike.statements n calls_alike o Z Z' m (i0 + c) c (omega arith) b b' i i' t t' (λ h j s s' r at. body_alike l Z Z' m c i i' t t' h j s s' r at) h j s s' (less V d R Z Z' (a + (i0 + c)) (omega arith) r) at
+            open_alike.statements n calls_alike o Z Z' m (i0 + c) c (omega arith) b' i i' t t' (λ h j s s' r at. body_alike l Z Z' m c i i' t t' h j s s' r at) h j s s' (less V d R Z Z' (a + (i0 + c)) (omega arith) r) at
         body_alike {V} {k} {J} {R} (lets_in {c = sc} {b = b0} Ra a b le lc lp lb) Z Z' m c i i' t t' h j s s' r at =
             alike_bind_at V d R Z Z' J AllGiven Given (b + c) c h j s s' _ _ _ _ (omega arith) (order_scrutinee sc) (matched_walk P m sc s) (matched_alike lc Z Z' m (b + c) h j s s' (less V d R Z Z' (a + (b + c)) (omega arith) r) (first_at V at)) (λ h1 j1 vs vs' u u' k1 g z.
             bound_alike V d Z Z' J (b + c) c m n (omega arith) lp i i' (order_body b0 i t) _ _ (λ h2 j2 x x' r2 at2. body_alike lb Z Z' m c i i' t t' h2 j2 x x' r2 at2) vs vs' h1 j1 u u' g (go_on V d R Z Z' r z) (next_at V at k1))

@@ -17,7 +17,9 @@ use Rattle.rx_engine_simulation.specs.Places.{behind, no_steps}
 use Rattle.rx_engine_simulation.specs.Binders.{no_param, new_plain, takes_none, no_binding, binding_and}
 use Rattle.rx_engine_simulation.specs.Like.{opens, reads, builds, units, prints, blocks, gives, no_operands, of_values, ends_in, runs_on, lets_in}
 use Rattle.rx_engine_simulation.specs.Programs.{LikeFunction, LikeEntry, functions, neither}
-use Rattle.rx_engine_simulation.specs.Called.{New, passes_none, passes_reference, none_absent, becomes_call, calls_of, WithCall}
+use Rattle.rx_engine_simulation.specs.Passing.{New, passes_none, passes_reference, none_absent}
+use Rattle.rx_engine_simulation.specs.Statements.{none_elsewhere}
+use Rattle.rx_engine_simulation.specs.Called.{becomes_call, calls_of, WithCall}
 
 abbrev m : ℕ → Mark
 m n = record { node = n; typ = None }
@@ -72,7 +74,7 @@ main_alike = record {
       (binding_and (plain shut) takes_none no_steps (new_plain shut tt) refl (none_seen 0) no_binding)
       (runs_on 1 0 (omega arith)
       (prints (opens {e = tree.unit (m 1)} {e' = tree.unit (m 1)} {f = λ x. tree.read (m 6) false (own 0)} {f' = λ x. call_answer} 1 0 (omega arith)
-      (becomes_call [] ((0, sight 5 (through shut false)) ∷ []) ((0, sight 5 (through shut false)) ∷ []) refl none_special (λ x i. absurd i)
+      (becomes_call [] ((0, sight 5 (through shut false)) ∷ []) ((0, sight 5 (through shut false)) ∷ []) refl (none_elsewhere none_special) (λ x i. absurd i)
       (λ t. passes_reference shut refl (λ e. absurd (cc)) refl (none_seen 5) passes_none) none_absent covers (reads (behind shut false refl tt no_steps))) units))
       (ends_in (gives refl units))));
 }

@@ -15,14 +15,14 @@ use Rattle.rx_meaning.specs.Acting.{performed, plainly}
 use Rattle.rx_meaning.specs.Patterns.{closed}
 use Rattle.rx_meaning.specs.Expressions.{Functions, Meaning, with_arguments, value, values}
 use Rattle.rx_meaning.proofs.Sequences.{after_nothing, bind_on, closed_is}
-use Rattle.rx_engine_simulation.specs.Called.{Passing, passes_none, passes_copy, passes_reference, Absents, none_absent, absent_and}
+use Rattle.rx_engine_simulation.specs.Passing.{Passing, passes_none, passes_move, passes_copy, passes_reference, Absents, none_absent, absent_and}
 use Rattle.rx_engine_simulation.proofs.Memory.{at_end}
 use Rattle.rx_engine_simulation.proofs.Values.{shut, Pair, set_same}
-use Rattle.rx_engine_simulation.proofs.States.{Facts, plain, sight, Renaming, Frozen, IsPlain, StatesAlike}
+use Rattle.rx_engine_simulation.proofs.States.{Facts, plain, special, sight, Renaming, Frozen, IsPlain, IsSpecial, StatesAlike}
 use Rattle.rx_engine_simulation.proofs.Declaring.{new_slot}
 use Rattle.rx_engine_simulation.proofs.Writes.{spot_own}
 use Rattle.rx_engine_simulation.proofs.Parts.{declare_answer}
-use Rattle.rx_engine_simulation.proofs.Entry.{with_value, IsCold, Going, Zn, pass_copied, pass_through, pass_absent}
+use Rattle.rx_engine_simulation.proofs.Entry.{with_value, IsCold, Going, Zn, pass_special, pass_copied, pass_through, pass_absent}
 
 set_there : (u v : Value) → Some u ≡ Some v → is_set u ≡ true → is_set v ≡ true
 set_there u v e k = ap is_set (sym (same e)) ∙ k
@@ -37,7 +37,7 @@ found_own y i v s e f =
     ap (λ o. and_then o (λ at. and_then (content s.memory at) (λ v. Some (at, v)))) (spot_own y i s e)
     ∙ ap (λ o. and_then (and_then o (λ v. get [] v)) (λ v. Some (in_slot i [] true, v))) f
 
-read_is : (Q : Functions) (low : Meaning ℕ) (m : Mark) (moves : Bool) (y i : ℕ) (t : Temporary) (v : Value) (s : State) → slot_of s.frame.slots y ≡ Some i → element s.memory i ≡ Some v → is_set v ≡ true
+pub read_is : (Q : Functions) (low : Meaning ℕ) (m : Mark) (moves : Bool) (y i : ℕ) (t : Temporary) (v : Value) (s : State) → slot_of s.frame.slots y ≡ Some i → element s.memory i ≡ Some v → is_set v ≡ true
     → value plainly Q low (tree.read m moves (own y)) t s ≡ on [] v s
 unfolding value result_of
 read_is Q low m moves y i t v s e f set =
@@ -55,7 +55,7 @@ borrow_is Q low m k y i t v s e f =
     ap (λ o. result_of (or_ends (why_not_found (own y) [] s) o (λ g. or_ends astray (reference_to k g.0) (λ v. results.gives [] v s)))) (found_own y i v s e f)
     ∙ ap (λ b. on [] (pointer i [] b) s) (and_itself k)
 
-values_are : (Q : Functions) (low : Meaning ℕ) (i : ℕ) (e : Exp) (es : Operands) (v : Value) (vs : List Value) (s : State) → value plainly Q low e (temporary_of e) s ≡ on [] v s → values plainly Q low es s ≡ on [] vs s
+pub values_are : (Q : Functions) (low : Meaning ℕ) (i : ℕ) (e : Exp) (es : Operands) (v : Value) (vs : List Value) (s : State) → value plainly Q low e (temporary_of e) s ≡ on [] v s → values plainly Q low es s ≡ on [] vs s
     → values plainly Q low (tree.operand_and i e es) s ≡ on [] (v ∷ vs) s
 unfolding value
 values_are Q low i e es v vs s h k =
@@ -67,7 +67,7 @@ write_end : (M : List Value) (u v : Value) → with_element (M ++ u ∷ []) (len
 write_end [] u v = refl
 write_end (a ∷ M) u v = ap (λ l. a ∷ l) (write_end M u v)
 
-write_is : (n z : ℕ) (t : Temporary) (v : Value) (s : State) → performed plainly (does n (Write (own z) t [])) (v ∷ []) (with_variable z s) ≡ on [] unit_value (with_value z v s)
+pub write_is : (n z : ℕ) (t : Temporary) (v : Value) (s : State) → performed plainly (does n (Write (own z) t [])) (v ∷ []) (with_variable z s) ≡ on [] unit_value (with_value z v s)
 unfolding result_of
 write_is n z t v s =
     ap (λ o. result_of (or_ends (why_not_found (own z) [] (with_variable z s)) o (λ at. or_ends (why_not_written (with_variable z s).memory at) (after_write v (with_variable z s).memory at) (λ M. results.gives [] unit_value (with_memory (with_variable z s) M)))))
@@ -107,6 +107,21 @@ module _ (Q : Functions) (low : Meaning ℕ) (V : Facts) (part : Order) (R : Ren
 
   pub pass_all : {Rp Rf : Renaming} {es : Operands} {ps : List Parameter} → Passing V R part Cold Rp es ps Rf → (Zp : Frozen) (sa : State) → Going V R Z Z' Cold h j s s' inv cold Rp Zp sa → Passed Rf es ps sa
   pass_all passes_none Zp sa going = record { given = []; arguments = none_given s'; frozen = Zp; at_end = sa; entered = λ n go. none_entered n go sa; going = going; turns = refl }
+  pass_all {Rp} (passes_move {x = x} {y = y} {i = i} {m = m} {moves = moves} {p = p} {es = es} {ps = ps} seen warm living written hid new rest) Zp sa going =
+      let b : IsSpecial V Z Z' h j s.frame s'.frame s.memory s'.memory x y = inv.binds x (sight y special) seen in
+      let a = b.same (living h at) in
+      let w = inv.written x b.left b.at_text (written h at) in
+      let set : is_set a.answer ≡ true = sym (set_same a.like) ∙ set_there w.0 a.text (sym w.1 ∙ a.at_text) w.2 in
+      let next = pass_all rest Zp (with_value p.variable a.answer sa) (pass_special V R Z Z' Cold h j s s' inv cold Rp Zp sa going x p.variable a.answer new hid y seen warm b (λ l. (a.text, a.at_text, a.like))) in
+      record {
+        given = a.answer ∷ next.given;
+        arguments = values_are Q low i (tree.read m moves (own y)) es a.answer next.given s' (read_is Q low m moves y b.right (temporary_of (tree.read m moves (own y))) a.answer s' b.at_answer a.at_answer set) next.arguments;
+        frozen = next.frozen;
+        at_end = next.at_end;
+        entered = λ n go. argument_is p ps n a.answer next.given go sa ∙ next.entered n go;
+        going = next.going;
+        turns = next.turns;
+      }
   pass_all {Rp} (passes_copy {x = x} {y = y} {i = i} {m = m} {moves = moves} {p = p} {es = es} {ps = ps} seen chilled written hid new rest) Zp sa going =
       let b : IsPlain Z Z' j s.frame s'.frame x y shut = inv.binds x (sight y (plain shut)) seen in
       let a = inv.paired.same _ b.is_in in

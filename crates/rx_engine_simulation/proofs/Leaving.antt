@@ -4,6 +4,7 @@ use Rattle.rx_lower_walks.specs.Actions.{Action}
 use Rattle.rx_meaning.specs.Values.{Value, element, Frame, slot_of, State}
 use Rattle.rx_engine_simulation.proofs.Values.{fixed, Pair, In, like_more}
 use Rattle.rx_engine_simulation.proofs.States.{Facts, Living, Borrowed, How, plain, special, through, copied, viewed, absent, Sight, sight, Renaming, sight_of, Frozen, SameAt, IsSpecial, Binding, StatesAlike, Grown}
+use Rattle.rx_engine_simulation.specs.Statements.{Within}
 use Rattle.rx_engine_simulation.proofs.Keeping.{same_to}
 use Rattle.rx_engine_simulation.proofs.Entry.{IsCold, Zt, Going}
 
@@ -29,37 +30,38 @@ module _ (V : Facts) (R : Renaming) (Z Z' : Frozen) (Cold : ℕ → Type 0) (h :
       by (inr (inl k)) = absurd (omega (arith, k, l, going.long))
       by (inr (inr e)) = let k = going.slots e.0 q.right e.1 in absurd (omega arith)
 
-  module _ (N' : List Value) (Changed : ℕ → Type 0) (same_length : length N' ≡ length t'.memory) (unchanged : (n : ℕ) → (Changed n → ⊥) → element N' n ≡ element t'.memory n)
+  -- of these variables, which may be fewer
+  module _ (R0 : Renaming) (within : Within R0 R) (N' : List Value) (Changed : ℕ → Type 0) (same_length : length N' ≡ length t'.memory) (unchanged : (n : ℕ) → (Changed n → ⊥) → element N' n ≡ element t'.memory n)
       (no_pair : (q : Pair) → In q j1 → Changed q.right → ⊥) (not_frozen : (i : ℕ) (v : Value) → Z'.kept i v → Changed i → ⊥)
-      (same : (x y : ℕ) → sight_of R x ≡ Some (sight y special) → (b : IsSpecial V Z Z' h j s.frame s'.frame s.memory s'.memory x y) → Living V x h1 → SameAt j1 t.memory N' b.left b.right) where
-    special_back : (x y : ℕ) → sight_of R x ≡ Some (sight y special) → IsSpecial V Z Z' h j s.frame s'.frame s.memory s'.memory x y → IsSpecial V Z Z' h1 j1 t.frame s'.frame t.memory N' x y
-    special_back x y seen b = record {
+      (same : (x y : ℕ) → sight_of R0 x ≡ Some (sight y special) → (b : IsSpecial V Z Z' h j s.frame s'.frame s.memory s'.memory x y) → Living V x h1 → SameAt j1 t.memory N' b.left b.right) where
+    special_back : (x y : ℕ) → sight_of R0 x ≡ Some (sight y special) → IsSpecial V Z Z' h j s.frame s'.frame s.memory s'.memory x y → IsSpecial V Z Z' h1 j1 t.frame s'.frame t.memory N' x y
+    special_back x y seen0 b = record {
       left = b.left;
       right = b.right;
-      at_text = same_slot x b.left (sight y special) seen b.at_text;
+      at_text = same_slot x b.left (sight y special) (within x (sight y special) seen0) b.at_text;
       at_answer = b.at_answer;
       is_one = b.is_one;
       thawed = b.thawed;
       thawed' = b.thawed';
-      same = λ l. same x y seen b l;
-      touched = λ q m e. touched_by q m e (specials x y seen);
+      same = λ l. same x y seen0 b l;
+      touched = λ q m e. touched_by q m e (specials x y (within x (sight y special) seen0));
       touched' = λ q m e. b.touched' q (old_right q m (let k = inv.framed'.below y b.right b.at_answer in omega arith)) e;
     }
       where
         touched_by : (q : Pair) → In q j1 → q.left ≡ b.left → (z : ℕ) × (sight_of Rb x ≡ Some (sight z special)) → (q.hold ≡ fixed) × Borrowed h1 x
         touched_by q m e (z, f) =
             let b2 : IsSpecial V (Zt V R Z Z' Cold h j s s' inv cold) Zf h1 j1 t.frame t'.frame t.memory t'.memory x z = end.binds x (sight z special) f in
-            b2.touched q m (e ∙ some_same (sym (same_slot x b.left (sight y special) seen b.at_text) ∙ b2.at_text))
+            b2.touched q m (e ∙ some_same (sym (same_slot x b.left (sight y special) (within x (sight y special) seen0) b.at_text) ∙ b2.at_text))
 
-    bind_back : (x y : ℕ) (w : How) → sight_of R x ≡ Some (sight y w) → Binding V Z Z' h j s.frame s'.frame s.memory s'.memory x y w → Binding V Z Z' h1 j1 t.frame s'.frame t.memory N' x y w
+    bind_back : (x y : ℕ) (w : How) → sight_of R0 x ≡ Some (sight y w) → Binding V Z Z' h j s.frame s'.frame s.memory s'.memory x y w → Binding V Z Z' h1 j1 t.frame s'.frame t.memory N' x y w
     bind_back x y special seen b = special_back x y seen b
-    bind_back x y (plain w) seen b = record { left = b.left; right = b.right; is_in = grown.more _ b.is_in; at_text = same_slot x b.left (sight y (plain w)) seen b.at_text; at_answer = b.at_answer; not_fixed = b.not_fixed; thawed = b.thawed; thawed' = b.thawed' }
-    bind_back x y (through w m) seen b = record { left = b.left; right = b.right; by = b.by; is_in = grown.more _ b.is_in; at_text = same_slot x b.left (sight y (through w m)) seen b.at_text; at_answer = b.at_answer; reference = b.reference; not_fixed = b.not_fixed; thawed = b.thawed; thawed' = b.thawed' }
-    bind_back x y copied seen b = record { left = b.left; right = b.right; text = b.text; answer = b.answer; at_text = same_slot x b.left (sight y copied) seen b.at_text; at_answer = b.at_answer; held = b.held; held' = b.held'; like = like_more grown.more b.like }
-    bind_back x y viewed seen b = record { left = b.left; right = b.right; target = b.target; steps = b.steps; flag = b.flag; at_text = same_slot x b.left (sight y viewed) seen b.at_text; at_answer = b.at_answer; held = b.held; held' = b.held'; is_in = grown.more _ b.is_in; is_free = b.is_free }
+    bind_back x y (plain w) seen b = record { left = b.left; right = b.right; is_in = grown.more _ b.is_in; at_text = same_slot x b.left (sight y (plain w)) (within x (sight y (plain w)) seen) b.at_text; at_answer = b.at_answer; not_fixed = b.not_fixed; thawed = b.thawed; thawed' = b.thawed' }
+    bind_back x y (through w m) seen b = record { left = b.left; right = b.right; by = b.by; is_in = grown.more _ b.is_in; at_text = same_slot x b.left (sight y (through w m)) (within x (sight y (through w m)) seen) b.at_text; at_answer = b.at_answer; reference = b.reference; not_fixed = b.not_fixed; thawed = b.thawed; thawed' = b.thawed' }
+    bind_back x y copied seen b = record { left = b.left; right = b.right; text = b.text; answer = b.answer; at_text = same_slot x b.left (sight y copied) (within x (sight y copied) seen) b.at_text; at_answer = b.at_answer; held = b.held; held' = b.held'; like = like_more grown.more b.like }
+    bind_back x y viewed seen b = record { left = b.left; right = b.right; target = b.target; steps = b.steps; flag = b.flag; at_text = same_slot x b.left (sight y viewed) (within x (sight y viewed) seen) b.at_text; at_answer = b.at_answer; held = b.held; held' = b.held'; is_in = grown.more _ b.is_in; is_free = b.is_free }
     bind_back x y absent seen b = tt
 
-    pub states_leave : StatesAlike V R Z Z' h1 j1 t (with_memory_in t' s'.frame N')
+    pub states_leave : StatesAlike V R0 Z Z' h1 j1 t (with_memory_in t' s'.frame N')
     states_leave = record {
       input = end.input;
       paired = record {
@@ -73,8 +75,8 @@ module _ (V : Facts) (R : Renaming) (Z Z' : Frozen) (Cold : ℕ → Type 0) (h :
       };
       framed = end.framed;
       framed' = record { below = λ x i e. let k = inv.framed'.below x i e in omega (arith, k, going.long, grown.long', same_length); apart = inv.framed'.apart };
-      names = inv.names;
-      binds = λ x e f. bind_back x e.to e.how f (inv.binds x e f);
+      names = λ x y e f a b g. inv.names x y e f (within x e a) (within y f b) g;
+      binds = λ x e f. bind_back x e.to e.how f (inv.binds x e (within x e f));
       written = end.written;
       anchors = λ x i k. let e = known x i k in same_slot x i e.0 e.1 (inv.anchors x i k);
     }

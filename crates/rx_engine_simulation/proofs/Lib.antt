@@ -19,6 +19,17 @@ pub mod Whole
 pub mod Entry
 pub mod Leaving
 pub mod Given
+pub mod Contexts
+pub mod Stretches
+pub mod Locals
+pub mod Variants
+pub mod Handed
+pub mod Several
+pub mod Statements
 pub mod Called
 pub mod Examples
 pub mod ExamplesOfCalls
+pub mod ExamplesOfStatements
+pub mod ExamplesOfJumps
+pub mod ExamplesOfTuples
+pub mod ExamplesOfReturns

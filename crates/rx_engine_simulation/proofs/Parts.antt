@@ -1,7 +1,7 @@
 -- Scopes, turns and passes of loops do alike where what stands in them does: by cases on what that gave.
 use Rattle.std.proofs.Common.{◌≡◌, ℕ, ◌+◌, ◌<◌, ◌≤◌, true, false, List, [], ◌∷◌, ◌++◌, Some, None, refl, sym, ap, ◌∙◌, subst, arith, le_refl, inl, ⊎_elim, append-nil}
 use Rattle.rx_lower_walks.specs.Actions.{Declare, Dead, Action, does}
-use Rattle.rx_lower_walks.specs.Orders.{exit_node}
+use Rattle.rx_lower_walks.specs.Orders.{Exit, exit_node}
 use Rattle.rx_lower_walks.specs.Walks.{Passed, by_end}
 use Rattle.rx_meaning.specs.Values.{Value, unit_value, State, with_turns, with_variable}
 use Rattle.rx_meaning.specs.Results.{Result, after, bind, result_of}
@@ -15,7 +15,7 @@ use Rattle.rx_engine_simulation.proofs.Told.{Told, did, said, onto, noted, follo
 use Rattle.rx_engine_simulation.proofs.Values.{Pair, LikeValue, numbers, truths, wholes, taggeds, pointers, lacks, no_values, Given}
 use Rattle.rx_engine_simulation.proofs.States.{Direction, gain, Turns, weaken, TurnCase, text_out, answer_out, both_turn, turn_case, Facts, Sight, Renaming, sight_of, Frozen, StatesAlike, Grown, grown_refl}
 use Rattle.rx_engine_simulation.proofs.Keeping.{states_step, states_drop}
-use Rattle.rx_engine_simulation.proofs.Results.{Jumping, in_loop, loop_of, Reached, ResultsAlike, both_on, both_jump, both_stop, text_cut, answer_cut, DoAlike, good_front, alike_prefix, alike_jump_by}
+use Rattle.rx_engine_simulation.proofs.Results.{LikeExit, exit_later, Jumping, in_loop, loop_of, Reached, ResultsAlike, both_on, both_jump, both_stop, text_cut, answer_cut, DoAlike, good_front, alike_prefix, alike_jump_by}
 
 -- what a part needs to begin with, at levels m and n
 pub record Ready (V : Facts) (d : Direction) (R : Renaming) (Z Z' : Frozen) (c m n : ℕ) (h : List Action) (j : List Pair) (s s' : State) : Type 0 where
@@ -53,11 +53,14 @@ module _ (V : Facts) (d : Direction) (R : Renaming) (Z Z' : Frozen) (J : Jumping
       subst (λ h1. Reached V d R Z Z' c h1 j s s' j1 t t') (sym (onto_append o (did (does a (Dead x)) ∷ []) h))
       (record { inv = states_step V R Z Z' (does a (Dead x)) (onto o h) j1 t t' (λ y k. ⊎_elim (λ e. e) (λ e. e) k) z.inv; grown = z.grown; turns = z.turns })
 
+  exit_dead : {j1 : List Pair} {t : State} {y z : Exit} {v w : Value} (a x : ℕ) (o : List (Told ℕ)) (h : List Action) → LikeExit V J (onto o h) j1 t y v z w → LikeExit V J (onto (o ++ did (does a (Dead x)) ∷ []) h) j1 t y v z w
+  exit_dead {j1} {t} {y} {z} {v} {w} a x o h e = subst (λ h1. LikeExit V J h1 j1 t y v z w) (sym (onto_append o (did (does a (Dead x)) ∷ []) h)) (exit_later (does a (Dead x)) (λ y k. ⊎_elim (λ e. e) (λ e. e) k) e)
+
   -- a variable ends
   closed_of : (W : List Pair → Value → Value → Type 0) (c : ℕ) (h : List Action) (j : List Pair) (s s' : State) (n x : ℕ) (r : Result (Told ℕ) Value) (r' : Result ℕ Value) → ResultsAlike V d R Z Z' J W c h j s s' r r' → ResultsAlike V d R Z Z' J W c h j s s' (closed followed n x r) r'
   unfolding closed bind after result_of noted
   closed_of W c h j s s' n x r r' (both_on {o = o} {t = t} {t' = t'} j1 f w z) = both_on j1 (said_append o _ ∙ append-nil (said o) ∙ f) w (dead_world c o n x h j j1 s s' t t' z)
-  closed_of W c h j s s' n x r r' (both_jump {o = o} {x = y} {t = t} {t' = t'} j1 f w z) = both_jump j1 (said_append o _ ∙ append-nil (said o) ∙ f) w (dead_world c o (exit_node y) x h j j1 s s' t t' z)
+  closed_of W c h j s s' n x r r' (both_jump {o = o} {x = y} {t = t} {t' = t'} j1 f w z) = both_jump j1 (said_append o _ ∙ append-nil (said o) ∙ f) (exit_dead (exit_node y) x o h w) (dead_world c o (exit_node y) x h j j1 s s' t t' z)
   closed_of W c h j s s' n x r r' (both_stop f q0) = both_stop f q0
   closed_of W c h j s s' n x r r' (text_cut m f) = text_cut m f
   closed_of W c h j s s' n x r r' (answer_cut {o' = o'} m f) = answer_cut m (front_trans o' (said (told_by r)) _ f (front_said (told_by r) _ (front_closed followed n x (told_by r) r (front_self _))))

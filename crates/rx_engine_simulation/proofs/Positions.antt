@@ -1,7 +1,7 @@
 -- Where a history has come to: a part of a part is come to by what was done in front of it, and what a run did there is a walk.
 use Rattle.std.proofs.Common.{◌≡◌, ℕ, suc, List, [], ◌∷◌, ◌++◌, Option, Some, None, refl, sym, ap, ◌∙◌, subst}
 use Rattle.std.proofs.lemmas.List.{append-nil}
-use Rattle.rx_typed.specs.Tree.{Exp, Scrutinee, at_place, of_value, temporary_of}
+use Rattle.rx_typed.specs.Tree.{Exp, Scrutinee, at_place, of_value, temporary_of, Temporary, block, ends}
 use Rattle.rx_lower_walks.specs.Actions.{Act, Action, does}
 use Rattle.rx_lower_walks.specs.Orders as order
 use Rattle.rx_lower_walks.specs.Orders.{Order, perhaps, order_scrutinee}
@@ -27,7 +27,7 @@ Walked s h h1 = (w : List Action) × (h1 ≡ put w h) × Walk s w walk.on
 abbrev pub Failed : Order → List Action → List Action → Type 0
 Failed s h h1 = (w : List Action) × (h1 ≡ put w h) × Walk s w walk.fails
 
-put_append : (u v h : List Action) → put (u ++ v) h ≡ put v (put u h)
+pub put_append : (u v h : List Action) → put (u ++ v) h ≡ put v (put u h)
 put_append [] v h = refl
 put_append (a ∷ u) v h = put_append u v (a ∷ h)
 
@@ -94,6 +94,17 @@ below_walk P m e s = fully_walks plainly P m (record { params = []; body = e }) 
 pub value_walk : (P : Functions) (m : ℕ) (e : Exp) (s : State) → IsWalked (order.order e (temporary_of e)) (value followed P (below_level followed P m) e (temporary_of e) s)
 unfolding below_level
 value_walk P m e s = below_walk P (suc m) e s
+
+abbrev temporary_in : ℕ → ℕ → Temporary
+temporary_in n i = record { node = n; which = i }
+
+walk_in_block : (P : Functions) (m : ℕ) (e : Exp) (n : ℕ) (s : State) → IsWalked (order.order e (temporary_in n 0)) (value followed P (below_level followed P m) e (temporary_in n 0) s)
+unfolding value
+walk_in_block P m e n s = value_walk P m (block (record { node = n; typ = None }) (ends e)) s
+
+-- to another temporary of an operand
+pub value_walk_to : (P : Functions) (m : ℕ) (e : Exp) (t : Temporary) (s : State) → t.which ≡ 0 → IsWalked (order.order e t) (value followed P (below_level followed P m) e t s)
+value_walk_to P m e t s e0 = subst (λ n. IsWalked (order.order e (temporary_in t.node n)) (value followed P (below_level followed P m) e (temporary_in t.node n) s)) (sym e0) (walk_in_block P m e t.node s)
 
 noted_walk : (a : Action) (d : Done ℕ) → IsWalked (order.act a) (result_of (noted a d))
 unfolding noted result_of

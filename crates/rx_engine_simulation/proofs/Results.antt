@@ -14,9 +14,19 @@ use Rattle.rx_meaning.proofs.Fronts.{front_self, front_behind, front_bind, told_
 use Rattle.rx_engine_simulation.proofs.Told.{Told, says, did, said, onto, said_append, onto_append, front_said, front_trans}
 use Rattle.rx_engine_simulation.proofs.Positions.{Walked, IsWalked, walked}
 use Rattle.rx_engine_simulation.proofs.Values.{Pair}
-use Rattle.rx_engine_simulation.proofs.States.{Direction, weaken, Facts, Renaming, Frozen, Grown, grown_trans}
-pub use Rattle.rx_engine_simulation.specs.Results.{Outs, no_outs, out_and, LikeExit, stays_break, stays_continue, gives_back, packs_break, packs_continue, packs_value, packs_unit, Reached, ResultsAlike, both_on, both_jump, both_stop, text_cut, answer_cut, DoAlike}
+use Rattle.rx_engine_simulation.proofs.States.{Direction, weaken, Kills, later, Facts, Renaming, Frozen, Grown, grown_trans}
+pub use Rattle.rx_engine_simulation.specs.Results.{AllDead, Outs, no_outs, out_and, LikeExit, stays_break, stays_continue, gives_back, packs_break, packs_continue, packs_value, packs_unit, Reached, ResultsAlike, both_on, both_jump, both_stop, text_cut, answer_cut, DoAlike}
 pub use Rattle.rx_engine_simulation.specs.Jumps.{Pack, Returning, as_return, with_value, with_unit, no_return, Jumping, loop_of, in_loop}
+
+-- an action that kills nothing
+pub exit_later : {V : Facts} {J : Jumping} {h : List Action} {j : List Pair} {t : State} {x y : Exit} {v w : Value} (a : Action) → ((x : ℕ) → Kills a.act x → ⊥) → LikeExit V J h j t x v y w → LikeExit V J (a ∷ h) j t x v y w
+exit_later a n (stays_break e) = stays_break e
+exit_later a n (stays_continue e) = stays_continue e
+exit_later a n (gives_back e g) = gives_back e g
+exit_later a n (packs_break p e us g dead) = packs_break p e us g (λ x i l. dead x i (later a (n x) l))
+exit_later a n (packs_continue p e us g dead) = packs_continue p e us g (λ x i l. dead x i (later a (n x) l))
+exit_later a n (packs_value e g dead) = packs_value e g (λ x i l. dead x i (later a (n x) l))
+exit_later a n (packs_unit e g dead) = packs_unit e g (λ x i l. dead x i (later a (n x) l))
 
 pub good_older : (V : Facts) (w : List (Told ℕ)) (h : List Action) → V.Good (onto w h) → V.Good h
 good_older V [] h g = g
@@ -58,8 +68,8 @@ module _ (V : Facts) (d : Direction) (R : Renaming) (Z Z' : Frozen) (J : Jumping
   unfolding after
   alike_prefix W c h j j1 s s' t t' o o' r r' e g (both_on {o = p} {o' = p'} {t = u} {t' = u'} j2 f w z) =
       both_on j2 (said_append o p ∙ ap₂ (λ a b. a ++ b) e f) w (world_before c _ j j1 j2 s s' t t' u u' g (subst (λ h1. Reached V d R Z Z' c h1 j1 t t' j2 u u') (sym (onto_append o p h)) z))
-  alike_prefix W c h j j1 s s' t t' o o' r r' e g (both_jump {o = p} {o' = p'} {t = u} {t' = u'} j2 f x z) =
-      both_jump j2 (said_append o p ∙ ap₂ (λ a b. a ++ b) e f) x (world_before c _ j j1 j2 s s' t t' u u' g (subst (λ h1. Reached V d R Z Z' c h1 j1 t t' j2 u u') (sym (onto_append o p h)) z))
+  alike_prefix W c h j j1 s s' t t' o o' r r' e g (both_jump {o = p} {o' = p'} {x = x1} {y = y1} {v = v1} {w = w1} {t = u} {t' = u'} j2 f x z) =
+      both_jump j2 (said_append o p ∙ ap₂ (λ a b. a ++ b) e f) (subst (λ h1. LikeExit V J h1 j2 u x1 v1 y1 w1) (sym (onto_append o p h)) x) (world_before c _ j j1 j2 s s' t t' u u' g (subst (λ h1. Reached V d R Z Z' c h1 j1 t t' j2 u u') (sym (onto_append o p h)) z))
   alike_prefix W c h j j1 s s' t t' o o' r r' e g (both_stop {o = p} f q0) = both_stop (said_append o p ∙ ap₂ (λ a b. a ++ b) e f) q0
   alike_prefix W c h j j1 s s' t t' o o' r r' e g (text_cut {o = p} m f) =
       text_cut m (subst (λ w. IsFront w (told_by (after o' r'))) (ap (λ w. w ++ said p) (sym e) ∙ sym (said_append o p)) (front_behind o' (said p) r' f))
@@ -97,22 +107,22 @@ module _ (V : Facts) (d : Direction) (R : Renaming) (Z Z' : Frozen) (J : Jumping
 
   pub alike_jump_by : (W : List Pair → Value → Value → Type 0) (c l k : ℕ) (h : List Action) (j j1 : List Pair) (s s' t t' : State) (o : List (Told ℕ)) (o' : List ℕ) (x y : Exit) (v w : Value) (go : State → Result (Told ℕ) Value) (go' : State → Result ℕ Value)
       → ((n : ℕ) → loop_of J.loops n ≡ Some k → ⊥) → J.leaving l true ≡ None → J.leaving l false ≡ None
-      → W j1 unit_value unit_value → said o ≡ o' → LikeExit (in_loop J l k) j1 t x v y w → Reached V d R Z Z' c (onto o h) j s s' j1 t t'
+      → W j1 unit_value unit_value → said o ≡ o' → LikeExit V (in_loop J l k) (onto o h) j1 t x v y w → Reached V d R Z Z' c (onto o h) j s s' j1 t t'
       → (Passed l (walks.leaves x) → DoAlike V d R Z Z' J W c (onto o h) j1 t t' (go t) (go' t'))
       → DoAlike V d R Z Z' J W c h j s s' (passed_by l o x v t go) (passed_by k o' y w t' go')
   alike_jump_by W c l k h j j1 s s' t t' o o' x y v w go go' apart none none' unit e (gives_back f g) z next = λ good. both_jump j1 e (gives_back f g) z
-  alike_jump_by W c l k h j j1 s s' t t' o o' x y v w go go' apart none none' unit e (packs_value f g) z next = λ good. both_jump j1 e (packs_value f g) z
-  alike_jump_by W c l k h j j1 s s' t t' o o' x y v w go go' apart none none' unit e (packs_unit f g) z next = λ good. both_jump j1 e (packs_unit f g) z
-  alike_jump_by W c l k h j j1 s s' t t' o o' x y v w go go' apart none none' unit e (packs_break {n = n} {m = m} {l = i} {ws = ws} P f us g) z next = by (nat_eq i l) refl
+  alike_jump_by W c l k h j j1 s s' t t' o o' x y v w go go' apart none none' unit e (packs_value f g dead) z next = λ good. both_jump j1 e (packs_value f g dead) z
+  alike_jump_by W c l k h j j1 s s' t t' o o' x y v w go go' apart none none' unit e (packs_unit f g dead) z next = λ good. both_jump j1 e (packs_unit f g dead) z
+  alike_jump_by W c l k h j j1 s s' t t' o o' x y v w go go' apart none none' unit e (packs_break {n = n} {m = m} {l = i} {ws = ws} P f us g dead) z next = by (nat_eq i l) refl
     where
       by : (b : Bool) → nat_eq i l ≡ b → DoAlike V d R Z Z' J W c h j s s' (if b then on o unit_value t else jumps o (breaks n i) unit_value t) (jumps o' (returns m) (tagged P.variant ws) t')
       by true q good = absurd (some_none P (sym f ∙ ap (λ n. J.leaving n false) (eqb-true i l q) ∙ none'))
-      by false q good = both_jump j1 e (packs_break P f us g) z
-  alike_jump_by W c l k h j j1 s s' t t' o o' x y v w go go' apart none none' unit e (packs_continue {n = n} {m = m} {l = i} {ws = ws} P f us g) z next = by (nat_eq i l) refl
+      by false q good = both_jump j1 e (packs_break P f us g dead) z
+  alike_jump_by W c l k h j j1 s s' t t' o o' x y v w go go' apart none none' unit e (packs_continue {n = n} {m = m} {l = i} {ws = ws} P f us g dead) z next = by (nat_eq i l) refl
     where
       by : (b : Bool) → nat_eq i l ≡ b → DoAlike V d R Z Z' J W c h j s s' (if b then after o (go t) else jumps o (continues n i) unit_value t) (jumps o' (returns m) (tagged P.variant ws) t')
       by true q good = absurd (some_none P (sym f ∙ ap (λ n. J.leaving n true) (eqb-true i l q) ∙ none))
-      by false q good = both_jump j1 e (packs_continue P f us g) z
+      by false q good = both_jump j1 e (packs_continue P f us g dead) z
   alike_jump_by W c l k h j j1 s s' t t' o o' x y v w go go' apart none none' unit e (stays_break {n = n} {m = m} {l = i} {k = i'} f) z next = by (nat_eq i l) refl f
     where
       by : (b : Bool) → nat_eq i l ≡ b → (if b then Some k else loop_of J.loops i) ≡ Some i' → DoAlike V d R Z Z' J W c h j s s' (if b then on o unit_value t else jumps o (breaks n i) unit_value t) (if nat_eq i' k then on o' unit_value t' else jumps o' (breaks m i') unit_value t')

@@ -21,6 +21,8 @@ pub record Jumping : Type 0 where
   pub loops : List (ℕ × ℕ)
   pub leaving : ℕ → Bool → Option Pack
   pub returning : Returning
+  -- variables that nothing needs behind such a jump
+  pub dead : List ℕ
 
 abbrev pub loop_of : List (ℕ × ℕ) → ℕ → Option ℕ
 loop_of [] l = None

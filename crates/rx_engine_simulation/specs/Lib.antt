@@ -12,4 +12,7 @@ pub mod Results
 pub mod Openings
 pub mod Like
 pub mod Programs
+pub mod Passing
+pub mod Variants
+pub mod Statements
 pub mod Called

@@ -56,7 +56,7 @@ mutual
         → LikeArms items O gain V k J R c c' (tree.arm_and q e l) (tree.arm_and q' e' l')
 
   pub data LikeBody (items : ℕ → ℕ) (O : Openings) (gain : ℕ) (V : Facts) : ℕ → Jumping → Renaming → Body → Body → Type 0 where
-    opens_in : {k : ℕ} {J : Jumping} {R Ra : Renaming} {b b' : Body} {f f' : Body → Body} (a i : ℕ) → a + i ≤ k → O.statements V a J R Ra f f' → LikeBody items O gain V i J Ra b b' → LikeBody items O gain V k J R (f b) (f' b')
+    opens_in : {k : ℕ} {J : Jumping} {R Ra : Renaming} {b b' : Body} {f f' : Body → Body} (a i : ℕ) → a + i ≤ k → O.statements V a J R Ra b f f' → LikeBody items O gain V i J Ra b b' → LikeBody items O gain V k J R (f b) (f' b')
     ends_in : {k : ℕ} {J : Jumping} {R : Renaming} {e e' : Exp} → LikeExp items O gain V k J R e e' → LikeBody items O gain V k J R (tree.ends e) (tree.ends e')
     runs_on : {k : ℕ} {J : Jumping} {R : Renaming} {e e' : Exp} {b b' : Body} (i j : ℕ) → i + j ≤ k → LikeExp items O gain V i J R e e' → LikeBody items O gain V j J R b b'
         → LikeBody items O gain V k J R (tree.runs e b) (tree.runs e' b')

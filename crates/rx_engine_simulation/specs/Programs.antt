@@ -17,7 +17,7 @@ use Rattle.rx_engine_simulation.specs.Like.{LikeExp}
 
 -- the jumps of a whole function
 abbrev pub whole_jumps : Jumping
-whole_jumps = record { loops = []; leaving = λ l again. None; returning = as_return }
+whole_jumps = record { loops = []; leaving = λ l again. None; returning = as_return; dead = [] }
 
 -- a history, the newest action first, and what comes then
 abbrev pub back : List Action → List Action → List Action

@@ -128,7 +128,7 @@ named_plan A = record {
   params = named_params (names_in A) A.function A.plan.params A.modes A.moved;
   locals = named_variables (names_in A) A.function A.plan.locals;
   redeclared = named_variables (names_in A) A.function A.plan.redeclared;
-  pins = pins_if A.plan.loose A.function A.diverging (nodes_of (item_of A));
+  pins = pins_if A.plan.loose A.function A.run.span A.diverging (nodes_of (item_of A));
   identifiers = identifiers A.tokens;
   lifetimes = lifetimes A.tokens;
 }

@@ -4,6 +4,7 @@ ghost use Rattle.std.specs.Prelude.{◌≡◌, ◌<◌, ◌^◌, ◌++◌, lengt
 ghost use Rattle.std.specs.Option.{option_copied};
 ghost use Rattle.rx_tree.specs.PlainOf.{plain-Expr, plain-Stmt, optional_of};
 ghost use Rattle.rx_tree.specs.Positions.{an_expression, a_statement};
+ghost use Rattle.rx_tree.specs.Spans.{expression_span};
 ghost use Rattle.rx_tree_operations.specs.NodeOf.{plain-Node};
 ghost use Rattle.rx_typed.specs.Elaborated.{kind_in};
 ghost use Rattle.rx_typed.specs.PlainTypes.{plain-Ty};
@@ -120,26 +121,41 @@ fn has_number(number: usize, numbers: &[usize]) -> bool
     false
 }
 
-/// Whether no value tells the type of a `let`.
-fn is_open(diverging: &[usize], number: usize, init: &Option<Expr>) -> bool
-    ensures { result ≡ spec.is_open diverging.now number (optional_of (option_map plain-Expr init.now)) }
+/// Whether a part of the text stands in another.
+fn stands_in(part: Span, whole: Span) -> bool
+    ensures { result ≡ spec.stands_in part whole }
+{
+    whole.start <= part.start && part.end <= whole.end
+}
+
+/// Whether a run stands in an expression.
+#[tactic(auto, using(rx_typeck_numbering::proofs::Next::span_is))]
+fn is_round(run: Span, expr: &Expr) -> bool
+    ensures { result ≡ spec.stands_in run (expression_span (plain-Expr expr.now)) }
+{
+    stands_in(run, expr.span)
+}
+
+/// Whether no value tells the type of a `let`, and its initialiser is not round the run.
+fn is_open(run: Span, diverging: &[usize], number: usize, init: &Option<Expr>) -> bool
+    ensures { result ≡ spec.is_open run diverging.now number (optional_of (option_map plain-Expr init.now)) }
 {
     match init {
-        Some(_) => has_number(number, diverging),
+        Some(init) => has_number(number, diverging) && !is_round(run, init),
         None => true,
     }
 }
 
 /// Where the pattern of a `let` stands that has no type and is open.
 #[tactic(auto, using(rx_tree::proofs::Rules::statement_rules, rx_typeck_numbering::proofs::Next::pattern_span_is))]
-fn open_pattern(diverging: &[usize], number: usize, stmt: &Stmt) -> Option<Span>
-    ensures { result ≡ spec.open_pattern diverging.now number (a_statement (plain-Stmt stmt.now)) }
+fn open_pattern(run: Span, diverging: &[usize], number: usize, stmt: &Stmt) -> Option<Span>
+    ensures { result ≡ spec.open_pattern run diverging.now number (a_statement (plain-Stmt stmt.now)) }
 {
     match &stmt.node {
         StmtNode::Let(pattern, typ, init) => match typ {
             Some(_) => None,
             None => {
-                if is_open(diverging, number, init) {
+                if is_open(run, diverging, number, init) {
                     Some(pattern.span)
                 } else {
                     None
@@ -150,11 +166,11 @@ fn open_pattern(diverging: &[usize], number: usize, stmt: &Stmt) -> Option<Span>
     }
 }
 
-fn pattern_at(diverging: &[usize], number: usize, node: Node<'_>) -> Option<Span>
-    ensures { result ≡ spec.open_pattern diverging.now number (plain-Node node.entry) }
+fn pattern_at(run: Span, diverging: &[usize], number: usize, node: Node<'_>) -> Option<Span>
+    ensures { result ≡ spec.open_pattern run diverging.now number (plain-Node node.entry) }
 {
     match node {
-        Node::Stmt(stmt) => open_pattern(diverging, number, stmt),
+        Node::Stmt(stmt) => open_pattern(run, diverging, number, stmt),
         Node::Item(_) => None,
         Node::TypeText(_) => None,
         Node::Block(_) => None,
@@ -186,15 +202,16 @@ fn add_type(
 fn type_pins(
     alloc: Global,
     function: &TypedFn,
+    run: Span,
     diverging: &[usize],
     nodes: &[Node<'_>],
 ) -> Result<List<TypePin>, AllocError>
     requires { length nodes.now < 2 ^ 63 }
-    ensures { IfOk result (λ all. map (λ (t : TypePinOf). (t.span, plain-Ty t.ty)) all ≡ spec.type_pins function.now diverging.now 0 (map plain-Node nodes.now)) }
+    ensures { IfOk result (λ all. map (λ (t : TypePinOf). (t.span, plain-Ty t.ty)) all ≡ spec.type_pins function.now run diverging.now 0 (map plain-Node nodes.now)) }
 {
     let mut pins = Vec::new(alloc);
     for number in 0..nodes.len() {
-        let place = pattern_at(diverging, number, nodes[number]);
+        let place = pattern_at(run, diverging, number, nodes[number]);
         add_type(alloc, function, number, place, &mut pins)?;
     }
     Ok(List::from_vec(pins))
@@ -204,14 +221,15 @@ fn type_pins(
 fn pins(
     alloc: Global,
     function: &TypedFn,
+    run: Span,
     diverging: &[usize],
     nodes: &[Node<'_>],
 ) -> Result<Pins, AllocError>
     requires { length nodes.now < 2 ^ 63 }
-    ensures { IfOk result (λ it. plain-Pins it ≡ spec.pins function.now diverging.now (map plain-Node nodes.now)) }
+    ensures { IfOk result (λ it. plain-Pins it ≡ spec.pins function.now run diverging.now (map plain-Node nodes.now)) }
 {
     let kinds = kind_pins(alloc, function, nodes)?;
-    let types = type_pins(alloc, function, diverging, nodes)?;
+    let types = type_pins(alloc, function, run, diverging, nodes)?;
     Ok(Pins { kinds, types })
 }
 
@@ -220,14 +238,15 @@ pub(crate) fn pins_if(
     alloc: Global,
     loose: &[u32],
     function: &TypedFn,
+    run: Span,
     diverging: &[usize],
     nodes: &[Node<'_>],
 ) -> Result<Option<Pins>, AllocError>
     requires { length nodes.now < 2 ^ 63 }
-    ensures { IfOk result (λ it. option_map plain-Pins it ≡ spec.pins_if loose.now function.now diverging.now (map plain-Node nodes.now)) }
+    ensures { IfOk result (λ it. option_map plain-Pins it ≡ spec.pins_if loose.now function.now run diverging.now (map plain-Node nodes.now)) }
 {
     match loose {
         [] => Ok(None),
-        [_, ..] => Ok(Some(pins(alloc, function, diverging, nodes)?)),
+        [_, ..] => Ok(Some(pins(alloc, function, run, diverging, nodes)?)),
     }
 }

@@ -213,7 +213,7 @@ fn parts(
     ensures redeclared { let names = declared_names_of (slice_get (plain-Program source.now.program.now) source.now.function.now.item) in
         IfOk result (λ b. map plain-Variable b.0.redeclared ≡ spec.named_variables names source.now.function.now decided.now.plan.now.redeclared) }
     ensures pins { IfOk result (λ b. option_map plain-Pins b.1
-        ≡ pins_if_of decided.now.plan.now.loose source.now.function.now source.now.diverging.now (nodes_of (slice_get (plain-Program source.now.program.now) source.now.function.now.item))) }
+        ≡ pins_if_of decided.now.plan.now.loose source.now.function.now decided.now.run.now.span source.now.diverging.now (nodes_of (slice_get (plain-Program source.now.program.now) source.now.function.now.item))) }
 {
     let function = source.function;
     let item = function.item as usize;
@@ -223,6 +223,7 @@ fn parts(
         alloc,
         decided.plan.loose.as_slice(),
         function,
+        decided.run.span,
         source.diverging,
         nodes.as_slice(),
     )?;

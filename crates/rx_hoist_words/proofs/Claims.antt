@@ -3,6 +3,7 @@
 use Rattle.std.proofs.Common.{◌≡◌, ℕ, List, [], ◌∷◌, Option, Some, None}
 use Rattle.rx_typed.specs.declared.nodes.Site.{Site}
 use Rattle.rx_typed.specs.Named as named
+use Rattle.rx_typed.specs.Naming.{initialiser_site}
 use Rattle.rx_typed.specs.Named.{Written, WrittenTypes, Pattern, Patterns, FieldPatterns, Exp, Exps, Else, Fields, Arms, Body, Statement, Statements, node_of}
 
 pub record Claims : Type 1 where
@@ -102,7 +103,7 @@ abbrev mutual
 
   pub OfStatement : Claims → Statement → Type 0
   OfStatement C (named.declares n p t) = OfPattern C p × OfAnnotation C t
-  OfStatement C (named.lets n p t e) = OfPattern C p × OfAnnotation C t × OfExp C e
+  OfStatement C (named.lets n p t e) = OfPattern C p × OfAnnotation C t × OfExp C e × ((node_of e).site ≡ initialiser_site t)
   OfStatement C (named.evaluates n e b) = OfExp C e
 
   pub OfStatements : Claims → Statements → Type 0

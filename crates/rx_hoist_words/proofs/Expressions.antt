@@ -1,6 +1,6 @@
 -- Expressions, statements and blocks whose names have a meaning: what resolving adds of them numbering takes, and their trees with
 -- numbers name structs and enums, and variables that there are.
-use Rattle.std.proofs.Common.{◌≡◌, ℕ, Bool, true, false, ◌&&◌, List, [], ◌∷◌, ◌++◌, length, Option, Some, None, Ok, refl, sym, ap, ◌∙◌, subst, append-nil, arith, codes}
+use Rattle.std.proofs.Common.{◌≡◌, ℕ, zero, suc, ◌-◌, Bool, true, false, ◌&&◌, List, [], ◌∷◌, ◌++◌, length, map, take, drop, slice_set, Option, Some, None, Ok, refl, sym, ap, ◌∙◌, subst, append-nil, arith, codes}
 use Rattle.rx_core.specs.declared.types.Span.{Span}
 use Rattle.rx_tree.specs.declared.tree.Ident.{Ident}
 use Rattle.rx_tree.specs.Lists.{listed}
@@ -17,6 +17,7 @@ use Rattle.rx_resolve_names.specs.Names.{variant_in, struct_in, Bound, in_patter
 use Rattle.rx_typed.specs.declared.nodes.Node.{Node}
 use Rattle.rx_typed.specs.declared.nodes.Site.{Site}
 use Rattle.rx_typed.specs.declared.nodes.Stage.{Stage}
+use Rattle.rx_typed.specs.declared.nodes.Declaration.{Declaration}
 use Rattle.rx_typed.specs.declared.nodes.Use.{Use}
 use Rattle.rx_typed.specs.Named as named
 use Rattle.rx_typed.specs.Named.{Exp, Exps, node_of, root}
@@ -31,28 +32,45 @@ use Rattle.rx_hoist_words.proofs.Types.{no_result_binds, ScopeBelow, scope_later
 abbrev Any : {A : Type 0} → A → Type 0
 Any a = Unit {0}
 
+among_length : (i k : ℕ) (ds : List Declaration) → length (numbering.known_among i k ds) ≡ length ds
+among_length zero k ds = first_length k ds
+  where
+    first_length : (k : ℕ) (ds : List Declaration) → length (map numbering.as_known (take k ds) ++ drop k ds) ≡ length ds
+    first_length zero ds = refl
+    first_length (suc k) [] = refl
+    first_length (suc k) (d ∷ ds) = ap suc (first_length k ds)
+among_length (suc i) zero [] = refl
+among_length (suc i) (suc k) [] = refl
+among_length (suc i) k (d ∷ ds) = ap suc (among_length i k ds)
+
+set_length : (ds : List Declaration) (x : ℕ) (d : Declaration) → length (slice_set ds x d) ≡ length ds
+set_length [] zero d = refl
+set_length [] (suc x) d = refl
+set_length (e ∷ ds) zero d = refl
+set_length (e ∷ ds) (suc x) d = ap suc (set_length ds x d)
+
 quiet_counted : Quiet Any numbering.counted
-quiet_counted = record { fits = λ c. tt; names = λ c. refl; declared = λ c. refl }
+quiet_counted = record { fits = λ c. tt; names = λ c. refl; declared = λ c. (refl, refl) }
 
 quiet_between : (i j : ℕ) → Quiet Any (numbering.known_between i j)
-quiet_between i j = record { fits = λ c. tt; names = λ c. refl; declared = λ c. refl }
+quiet_between i j = record { fits = λ c. tt; names = λ c. refl; declared = λ c. (refl, among_length i (j - i) c.variables) }
 
 quiet_annotates : (p : PatternTree) (y : Option TypeTree) → Quiet Any (numbering.annotates p y)
-quiet_annotates p None = record { fits = λ c. tt; names = λ c. refl; declared = λ c. refl }
-quiet_annotates p (Some y) = record { fits = λ c. tt; names = λ c. refl; declared = λ c. refl }
+quiet_annotates p None = record { fits = λ c. tt; names = λ c. refl; declared = λ c. (refl, refl) }
+quiet_annotates p (Some y) = record { fits = λ c. tt; names = λ c. refl; declared = λ c. (refl, refl) }
 
 quiet_loop : Quiet Any numbering.a_loop
-quiet_loop = record { fits = λ c. tt; names = λ c. refl; declared = λ c. refl }
+quiet_loop = record { fits = λ c. tt; names = λ c. refl; declared = λ c. (refl, refl) }
 
 quiet_leads : (l : ℕ) → Quiet Any (numbering.leads l)
-quiet_leads l = record { fits = λ c. tt; names = λ c. refl; declared = λ c. refl }
+quiet_leads l = record { fits = λ c. tt; names = λ c. refl; declared = λ c. (refl, refl) }
 
 quiet_is_left : (l : ℕ) → Quiet Any (numbering.is_left l)
-quiet_is_left l = record { fits = λ c. tt; names = λ c. refl; declared = λ c. refl }
+quiet_is_left l = record { fits = λ c. tt; names = λ c. refl; declared = λ c. (refl, refl) }
 
 quiet_given_here : (x : ℕ) (o : Option (ℕ × ℕ)) → Quiet Any (numbering.given_here x o)
-quiet_given_here x None = record { fits = λ c. tt; names = λ c. refl; declared = λ c. refl }
-quiet_given_here x (Some w) = record { fits = λ c. tt; names = λ c. refl; declared = λ c. refl }
+quiet_given_here x None = record { fits = λ c. tt; names = λ c. refl; declared = λ c. (refl, refl) }
+quiet_given_here x (Some w) = record { fits = λ c. tt; names = λ c. refl; declared = λ c. (refl, set_length c.variables x (record (numbering.declaration c x) { stage = Stage.Known })) }
 
 quiet_gives_here : (x : ℕ) → Quiet Any (numbering.gives_here x)
 quiet_gives_here x = record {
@@ -62,15 +80,15 @@ quiet_gives_here x = record {
 }
 
 quiet_waits_at : (n : Node) (o : Option ℕ) → Quiet Any (numbering.waits_at n o)
-quiet_waits_at n None = record { fits = λ c. tt; names = λ c. refl; declared = λ c. refl }
-quiet_waits_at n (Some x) = record { fits = λ c. tt; names = λ c. refl; declared = λ c. refl }
+quiet_waits_at n None = record { fits = λ c. tt; names = λ c. refl; declared = λ c. (refl, refl) }
+quiet_waits_at n (Some x) = record { fits = λ c. tt; names = λ c. refl; declared = λ c. (refl, set_length c.variables x (record (numbering.declaration c x) { stage = Stage.Waits n.number n.span })) }
 
 quiet_waits : (b : Bool) (p : named.Pattern) → Quiet Any (numbering.waits_if b p)
 quiet_waits true p = quiet_waits_at (named.pattern_node p) (named.whole_binding p)
-quiet_waits false p = record { fits = λ c. tt; names = λ c. refl; declared = λ c. refl }
+quiet_waits false p = record { fits = λ c. tt; names = λ c. refl; declared = λ c. (refl, refl) }
 
 quiet_use : (V : ℕ → Type 0) (x : ℕ) → V x → Quiet (λ (u : Use). V u.number) (numbering.a_use x)
-quiet_use V x v = record { fits = λ c. v; names = λ c. refl; declared = λ c. refl }
+quiet_use V x v = record { fits = λ c. v; names = λ c. refl; declared = λ c. (refl, refl) }
 
 -- the variable that is the whole of a place
 abbrev RootHas : Claims → Expression → Exp → Type 0
@@ -118,7 +136,7 @@ waits_has C (plain.continue s l) q c h = tt
 waits_has C (plain.return s o) q c h = tt
 
 quiet_waits_for : (C : Claims) (p : Expression) (q : Exp) → RootHas C p q → Quiet (Waits C) (numbering.waits_for p q)
-quiet_waits_for C p q h = record { fits = λ c. waits_has C p q c h; names = λ c. refl; declared = λ c. refl }
+quiet_waits_for C p q h = record { fits = λ c. waits_has C p q c h; names = λ c. refl; declared = λ c. (refl, refl) }
 
 -- ---- of an expression where it stands
 
@@ -135,6 +153,14 @@ AllTaken C N es t t' = Part N t t' (binds (within_expressions es)) (λ fs. (i : 
 
 abbrev pub OptionalTaken : Claims → ℕ → OptionalExpression → ItemNames → ItemNames → Type 0
 OptionalTaken C N o t t' = Part N t t' (binds (within_optional o)) (λ fs. (i : Site) → Takes (OfElse C) t t' fs (numbering.of_optional i o))
+
+-- an initialiser, at its place
+abbrev OfSited : Claims → Site → named.Else → Type 0
+OfSited C i named.absent = Unit {0}
+OfSited C i (named.present a) = OfExp C a × ((node_of a).site ≡ i)
+
+abbrev pub InitialiserTaken : Claims → ℕ → OptionalExpression → ItemNames → ItemNames → Type 0
+InitialiserTaken C N o t t' = Part N t t' (binds (within_optional o)) (λ fs. (i : Site) → Takes (OfSited C i) t t' fs (numbering.of_optional i o))
 
 abbrev pub ArgumentsTaken : Claims → ℕ → OptionalExpressions → ItemNames → ItemNames → Type 0
 ArgumentsTaken C N o t t' = Part N t t' (binds (within_arguments o)) (λ fs. Takes (OfExps C) t t' fs (numbering.of_arguments o))
@@ -185,21 +211,21 @@ module _ (C : Claims) (I : Inside) (N : ℕ) (S : Sees C I N) where
       subst (λ (v : ItemNames). CalleeTaken t v) (the_same (with_names X t) t' e)
       (record { added = X ∷ []; grown = refl; count = omega arith; numbers = λ _. takes_map (λ a. a) (takes_entry X) (λ a h. tt) })
 
-  initialiser : {t t' : ItemNames} {es : List NodeNames} (x : Expression) (k : Site) → Takes (OfElse C) t t' es (numbering.of_optional k (plain.present x)) → Takes (OfExp C) t t' es (of_expression false k x)
+  initialiser : {t t' : ItemNames} {es : List NodeNames} (x : Expression) (k : Site) → Takes (OfSited C k) t t' es (numbering.of_optional k (plain.present x)) → Takes (λ a. OfExp C a × ((node_of a).site ≡ k)) t t' es (of_expression false k x)
   initialiser x k n = record { holds = λ c rest d e. let z = n.holds c rest d e in record { fits = z.fits; declared = z.declared; left = z.left } }
 
   let_taken : {t t1 t2 t3 : ItemNames} {es fs gs : List NodeNames} (s : Span) (p : PatternTree) (y : Option TypeTree) (o : OptionalExpression)
-      → Takes (OfPattern C) t t1 es (numbering.of_pattern p) → Takes (OfAnnotation C) t1 t2 fs (numbering.of_optional_type y) → ((i : Site) → Takes (OfElse C) t2 t3 gs (numbering.of_optional i o))
+      → Takes (OfPattern C) t t1 es (numbering.of_pattern p) → Takes (OfAnnotation C) t1 t2 fs (numbering.of_optional_type y) → ((i : Site) → Takes (OfSited C i) t2 t3 gs (numbering.of_optional i o))
       → Takes (OfStatement C) t t3 (es ++ (fs ++ gs)) (numbering.of_statement (plain.let_statement s p y o))
   let_taken s p y plain.absent k l m =
       takes_node s Site.Value (λ n q. takes_quiet (quiet_annotates p y) (λ _ _. takes_quiet quiet_counted (λ i _. takes_then k (λ c v. takes_quiet quiet_counted (λ j _. takes_then l (λ z h.
       takes_last (m Site.Value) (λ _ _. takes_quiet (quiet_between i j) (λ _ _. takes_quiet (quiet_waits (numbering.has_no_type z) c) (λ _ _. takes_give (named.declares n c z) (v, h))))))))))
   let_taken s p y (plain.present x) k l m =
       takes_node s Site.Value (λ n q. takes_quiet (quiet_annotates p y) (λ _ _. takes_quiet quiet_counted (λ i _. takes_then k (λ c v. takes_quiet quiet_counted (λ j _. takes_then l (λ z h.
-      takes_last (initialiser x (numbering.initialiser_site z) (m (numbering.initialiser_site z))) (λ a d. takes_quiet (quiet_between i j) (λ _ _. takes_quiet (quiet_waits (numbering.has_no_type z && named.never a) c) (λ _ _. takes_give (named.lets n c z a) (v, h, d))))))))))
+      takes_last (initialiser x (numbering.initialiser_site z) (m (numbering.initialiser_site z))) (λ a d. takes_quiet (quiet_between i j) (λ _ _. takes_quiet (quiet_waits (numbering.has_no_type z && named.never a) c) (λ _ _. takes_give (named.lets n c z a) (v, h, d.0, d.1))))))))))
 
   let_part : (at : List ℕ) (s : Span) (p : PatternTree) (y : Option TypeTree) (o : OptionalExpression) (sc : Variables) (ls : List Around) (t : ItemNames) (r : Scoped) → ScopeBelow (length t.vars) sc
-      → ((at : List ℕ) (t t' : ItemNames) → ScopeBelow (length t.vars) sc → in_optional I sc ls at o t ≡ Ok t' → OptionalTaken C N o t t')
+      → ((at : List ℕ) (t t' : ItemNames) → ScopeBelow (length t.vars) sc → in_optional I sc ls at o t ≡ Ok t' → InitialiserTaken C N o t t')
       → in_statement I sc ls at (plain.let_statement s p y o) t ≡ Ok r → StatementTaken C N (plain.let_statement s p y o) t r
   let_part at s p y o sc ls t r w h e =
       let b0 : Bound = record { bindings = []; tables = t } in
@@ -435,8 +461,8 @@ module _ (C : Claims) (I : Inside) (N : ℕ) (S : Sees C I N) where
         record { scope = B.scope; part = in_turn A.part B.part (binds_append (below_statement a) (within_statements ss)) (λ _ _ k l. takes_then k (λ c g. takes_map (named.statement_and c) l (λ d h. (g, h)))) }
 
     statement_taken : (sc : Variables) (ls : List Around) (at : List ℕ) (a : Statement) (t : ItemNames) (r : Scoped) → ScopeBelow (length t.vars) sc → in_statement I sc ls at a t ≡ Ok r → StatementTaken C N a t r
-    statement_taken sc ls at (plain.let_statement s p y plain.absent) t r w e = let_part at s p y plain.absent sc ls t r w (λ at t t' w e. optional_taken sc ls at plain.absent t t' w e) e
-    statement_taken sc ls at (plain.let_statement s p y (plain.present x)) t r w e = let_part at s p y (plain.present x) sc ls t r w (λ at t t' w e. optional_taken sc ls at (plain.present x) t t' w e) e
+    statement_taken sc ls at (plain.let_statement s p y plain.absent) t r w e = let_part at s p y plain.absent sc ls t r w (λ at t t' w e. unchanged N t t' (λ u fs. (i : Site) → Takes (OfSited C i) t u fs (numbering.of_optional i plain.absent)) e (λ i. takes_give named.absent tt)) e
+    statement_taken sc ls at (plain.let_statement s p y (plain.present x)) t r w e = let_part at s p y (plain.present x) sc ls t r w (λ at t t' w e. restated (expression_taken sc ls at x t t' w e) refl (λ es k i. takes_map (λ z. named.present z) (k false i) (λ c h. (h.claims, h.site)))) e
     statement_taken sc ls at (plain.expression_statement s x b) t r w e =
         let X = named_ok (in_expression I sc ls (child at 0) x t) (λ t. Ok (record { scope = sc; tables = t })) r e in
         let A = expression_taken sc ls (child at 0) x t X.0 w X.1 in

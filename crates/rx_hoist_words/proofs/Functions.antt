@@ -20,10 +20,10 @@ use Rattle.rx_typed.specs.declared.nodes.Site.{Site}
 use Rattle.rx_typed.specs.declared.nodes.Stage.{Stage}
 use Rattle.rx_typed.specs.Named as named
 use Rattle.rx_typed.specs.Naming as numbering
-use Rattle.rx_typed.specs.Naming.{Cursor, Numbering, function_named, is_nothing, has_bounds, has_entry, entry_if}
+use Rattle.rx_typed.specs.Naming.{Cursor, Numbering, function_named, function_variables, is_nothing, has_bounds, has_entry, entry_if}
 use Rattle.rx_hoist_names.specs.DeclaredNames.{declared_names, parameter_names, names_bound}
 use Rattle.rx_hoist_words.proofs.Claims.{Claims, OfWritten, OfAnnotation, OfBody, OfParameters, OfFunction}
-use Rattle.rx_hoist_words.proofs.Steps.{named_ok, the_same, binds, binds_append, Takes, takes_then, takes_give, takes_map, takes_declare, one_more, Part, in_turn, in_turn4, restated, unchanged, entry_part}
+use Rattle.rx_hoist_words.proofs.Steps.{Counts, named_ok, the_same, binds, binds_append, Takes, takes_then, takes_give, takes_map, takes_declare, one_more, Part, in_turn, in_turn4, restated, unchanged, entry_part}
 use Rattle.rx_hoist_words.proofs.Types.{no_type_binds, no_result_binds, ScopeBelow, scope_entered, DeclaredBelow, declared_later, declare_below, Sees, type_taken, optional_type_taken, Binds}
 use Rattle.rx_hoist_words.proofs.Expressions.{body_taken, on}
 
@@ -117,11 +117,16 @@ module _ (C : Claims) (I : Inside) (N : ℕ) (S : Sees C I N) where
 pub record FunctionTaken (C : Claims) (i : ℕ) (s : Span) (f : Function) (t : ItemNames) : Type 0 where
   pub claims : OfFunction C (function_named i s f t.names)
   pub count : length t.vars ≡ length (declared_names (Some (plain.function_item s f)))
+  pub variables : length (function_variables s f t.names) ≡ length t.vars
 
 module _ (C : Claims) (I : Inside) (s : Span) (f : Function) (i : ℕ) where
+  -- the tree with numbers, and how many variables it declares
+  abbrev Told : ItemNames → Cursor → Type 0
+  Told t c = OfFunction C (numbering.of_function i s f c).0 × (length (numbering.of_function i s f c).1.variables ≡ length t.vars)
+
   numbered_function : (t t0 : ItemNames) (es fs gs hs : List NodeNames) (t1 t2 t3 : ItemNames) (c : Cursor) (rest : List NodeNames)
       → Takes (λ a. Unit {0}) t t1 es (entry_if (has_entry f)) → Takes (OfParameters C) t1 t2 fs (numbering.of_parameters f.params) → Takes (OfAnnotation C) t2 t3 gs (numbering.of_optional_type f.result)
-      → Takes (OfBody C) t3 t0 hs (numbering.of_body Site.Expects f.body) → c.declared ≡ length t.vars → c.names ≡ es ++ (fs ++ (gs ++ hs)) → OfFunction C (numbering.of_function i s f c).0
+      → Takes (OfBody C) t3 t0 hs (numbering.of_body Site.Expects f.body) → Counts c t → c.names ≡ es ++ (fs ++ (gs ++ hs)) → Told t0 c
   numbered_function t t0 es fs gs hs t1 t2 t3 c rest E P R B d e =
       let c1 = (numbering.a_node s Site.Value c).1 in
       let x = E.holds c1 (fs ++ (gs ++ hs)) d e in
@@ -131,7 +136,7 @@ module _ (C : Claims) (I : Inside) (s : Span) (f : Function) (i : ℕ) where
       let r = R.holds c3 hs p.declared p.left in
       let c4 = (numbering.of_optional_type f.result c3).1 in
       let b = B.holds c4 [] r.declared (r.left ∙ sym (append-nil hs)) in
-      record { params = p.fits; result = r.fits; body = b.fits }
+      (record { params = p.fits; result = r.fits; body = b.fits }, b.declared.1)
 
   pub function_taken : (sc : Variables) (ls : List Around) (at : List ℕ) (t0 t : ItemNames) → t0.names ≡ [] → t0.vars ≡ [] → ScopeBelow 0 sc → Sees C I (length t.vars) → in_function I sc ls at f t0 ≡ Ok t → FunctionTaken C i s f t
   function_taken sc ls at t0 t no_names no_vars w S e =
@@ -153,14 +158,16 @@ module _ (C : Claims) (I : Inside) (s : Span) (f : Function) (i : ℕ) where
       let w2 = scope_entered (length b1.0.tables.vars) sc b1.0.bindings w1 P.below in
       let B = body_taken C I N S (entered sc b1.0.bindings) ls (child at (body_at (number (length f.params)) f.result)) f.body t3.0 t (on (entered sc b1.0.bindings) R w2) t3.2 in
       let cb = B.count in
-      let all : Part N t0 t (length f.params + binds (below_block f.body)) (λ es. OfFunction C (numbering.of_function i s f (numbering.begins es)).0) =
-      in_turn4 E P.part R B (omega arith) (λ es fs gs hs x p r b. numbered_function t0 t es fs gs hs t1.0 b1.0.tables t3.0 (numbering.begins (es ++ (fs ++ (gs ++ hs)))) [] x p r (b Site.Expects) (sym z) refl) in
+      let all : Part N t0 t (length f.params + binds (below_block f.body)) (λ es. Told t (numbering.begins es)) =
+      in_turn4 E P.part R B (omega arith) (λ es fs gs hs x p r b. numbered_function t0 t es fs gs hs t1.0 b1.0.tables t3.0 (numbering.begins (es ++ (fs ++ (gs ++ hs)))) [] x p r (b Site.Expects) (sym z, sym z) refl) in
+      let told = subst (λ (l : List NodeNames). Told t (numbering.begins l)) (sym (all.grown ∙ ap (λ (l : List NodeNames). l ++ all.added) no_names)) (all.numbers (omega arith)) in
       let n1 = binds_append (within_parameters f.params) (within_type f.result ++ (a_block f.body ∷ below_block f.body)) in
       let n2 = binds_append (within_type f.result) (a_block f.body ∷ below_block f.body) in
       let n3 = no_parameters_bind f.params in let n4 = no_result_binds f.result in
       let n5 = length-append (parameter_names (Some (plain.function_item s f))) (names_bound (within_parameters f.params ++ (within_type f.result ++ (a_block f.body ∷ below_block f.body)))) in
       let n6 = length-map f.params (λ (x : Parameter). x.name.name) in
       record {
-        claims = subst (λ (l : List NodeNames). OfFunction C (function_named i s f l)) (sym (all.grown ∙ ap (λ (l : List NodeNames). l ++ all.added) no_names)) (all.numbers (omega arith));
+        claims = told.0;
+        variables = told.1;
         count = let ca = all.count in omega (arith, ca, z, n1, n2, n3, n4, n5, n6);
       }

@@ -148,13 +148,13 @@ module _ (P : ProgramTree) (t : TypedFn) (ns : names.Names) (words : Every Spell
   pin_spells n None = tt
   pin_spells n (Some s) = (types (subject.Node (suc n)), tt)
 
-  pins_spell : (ds : List ℕ) (n : ℕ) (xs : List NodeTree) → Every (λ (p : Span × Typ). TypeSpells P p.1) (type_pins t ds n xs)
-  pins_spell ds n [] = tt
-  pins_spell ds n (x ∷ xs) = every_append (λ (p : Span × Typ). TypeSpells P p.1) (type_pin t n (open_pattern ds n x)) (type_pins t ds (suc n) xs) (pin_spells n (open_pattern ds n x)) (pins_spell ds (suc n) xs)
+  pins_spell : (r : Span) (ds : List ℕ) (n : ℕ) (xs : List NodeTree) → Every (λ (p : Span × Typ). TypeSpells P p.1) (type_pins t r ds n xs)
+  pins_spell r ds n [] = tt
+  pins_spell r ds n (x ∷ xs) = every_append (λ (p : Span × Typ). TypeSpells P p.1) (type_pin t n (open_pattern r ds n x)) (type_pins t r ds (suc n) xs) (pin_spells n (open_pattern r ds n x)) (pins_spell r ds (suc n) xs)
 
-  pins_if_spell : (ls ds : List ℕ) (xs : List NodeTree) → PinsSpell P (pins_if ls t ds xs)
-  pins_if_spell [] ds xs = tt
-  pins_if_spell (l ∷ ls) ds xs = pins_spell ds 0 xs
+  pins_if_spell : (ls : List ℕ) (r : Span) (ds : List ℕ) (xs : List NodeTree) → PinsSpell P (pins_if ls t r ds xs)
+  pins_if_spell [] r ds xs = tt
+  pins_if_spell (l ∷ ls) r ds xs = pins_spell r ds 0 xs
 
 result_spells : (P : ProgramTree) (o : Option Typ) → ((u : Typ) → o ≡ Some u → TypeSpells P u) → TypeSpells P (result_of o)
 result_spells P None f = tt
@@ -233,7 +233,7 @@ module _ (A : Told) (bytes : List ℕ) (lexed : Lexes bytes A.tokens) (short : l
         params = params_spell P t own words spelled A.plan.params A.modes A.moved params.below;
         locals = variables_spell P t own words spelled A.plan.locals locals.below;
         redeclared = variables_spell P t own words spelled A.plan.redeclared redeclared.below;
-        pins = pins_if_spell P t own words spelled A.plan.loose A.diverging (nodes_of (item_of A));
+        pins = pins_if_spell P t own words spelled A.plan.loose A.run.span A.diverging (nodes_of (item_of A));
         fresh_lifetimes = omega (arith, l, k, short, positions);
         fresh_variable = omega (arith, i, k, short);
         fresh_variables = each_few (length own) pl (length (identifiers A.tokens)) pl.exits leaving (omega (arith, i, k, short, n, b));

@@ -79,12 +79,12 @@ each_at G ns i (plain.function_item s f ∷ is) (_ ∷ ts) h t here = record {
 each_at G ns i (plain.function_item s f ∷ is) (_ ∷ ts) h t (there x) = later G ns i _ is t (each_at G ns (suc i) is ts h.1 t x)
 
 -- the names of an item
-record TableAt (p : ProgramTree) (ns : List ItemNames) (n j : ℕ) (i : ItemTree) : Type 0 where
-  table : ItemNames
-  stands : slice_get ns j ≡ Some table
-  named : in_item p (n + j) i ≡ Ok table
+pub record TableAt (p : ProgramTree) (ns : List ItemNames) (n j : ℕ) (i : ItemTree) : Type 0 where
+  pub table : ItemNames
+  pub stands : slice_get ns j ≡ Some table
+  pub named : in_item p (n + j) i ≡ Ok table
 
-table_at : (p : ProgramTree) (n : ℕ) (is : ProgramTree) (ns : List ItemNames) (j : ℕ) (i : ItemTree) → in_items p n is ≡ Ok ns → slice_get is j ≡ Some i → TableAt p ns n j i
+pub table_at : (p : ProgramTree) (n : ℕ) (is : ProgramTree) (ns : List ItemNames) (j : ℕ) (i : ItemTree) → in_items p n is ≡ Ok ns → slice_get is j ≡ Some i → TableAt p ns n j i
 table_at p n [] ns j i e s = absurd (cc)
 table_at p n (x ∷ is) ns zero i e s =
     let a = named_ok (in_item p n x) (λ x. and_then (in_items p (suc n) is) (λ xs. Ok (x ∷ xs))) ns e in
@@ -119,7 +119,7 @@ mutual
   all_unnumbered_erased D no_shape = refl
   all_unnumbered_erased D (shape_and t ts) = ap (λ (x : Typ). shape_and x (all_erased (all_unnumbered D ts))) (unnumbered_erased D t) ∙ ap (λ (x : Shapes Kind). shape_and t x) (all_unnumbered_erased D ts)
 
-same_typ : (D : Declarations) (t : Ty) (a : Typ) → region-Ty t ≡ unnumbered D a → a ≡ plain-Ty t
+pub same_typ : (D : Declarations) (t : Ty) (a : Typ) → region-Ty t ≡ unnumbered D a → a ≡ plain-Ty t
 same_typ D t a e = sym (unnumbered_erased D a) ∙ ap erased (sym e) ∙ is_erased t
 
 mutual
@@ -187,25 +187,47 @@ module _ (p : ProgramTree) (ns : List ItemNames) (t : Typed) (few : IsNumbered p
       let F = function_named i s f ms in
       subst (λ (z : tree.Function). Every (λ (o : Occurrence). the_variable o < N) (occurrences z.body)) (sym h.tree) (function_occurs (of_program D N) K h.types F c h.valid.prefers.typed)
 
+  -- the text of a function, and that its tree with numbers names variables that there are
+  pub record Text (g : TypedFn) : Type 0 where
+    pub number : ℕ
+    pub span : Span
+    pub function : Function
+    pub table : ItemNames
+    pub at : slice_get p number ≡ Some (plain.function_item span function)
+    pub checked : FunctionTyped G number span function table.names table.vars g
+    pub taken : FunctionTaken (of_program D (length table.vars)) number span function table
+
+  pub text : (g : TypedFn) → Among g t.functions → Text g
+  text g a =
+      let x = each_at G ns 0 p t.functions typed.functions g a in
+      let T = table_at p 0 p ns x.number (plain.function_item x.span x.function) (named_ok {A = Unit {0}} (apart (record { types = []; functions = [] }) 0 p) (λ _. in_items p 0 p) ns meant.names_are).2 x.at in
+      let zero : 0 + x.number ≡ x.number = omega arith in
+      let there : slice_get ns (0 + x.number) ≡ Some T.table = ap (λ (n : ℕ). slice_get ns n) zero ∙ T.stands in
+      let h : FunctionTyped G (0 + x.number) x.span x.function T.table.names T.table.vars g =
+      subst (λ (o : Option ItemNames). FunctionTyped G (0 + x.number) x.span x.function (entries o) (variables_at o) g) there x.typed in
+      record {
+        number = 0 + x.number;
+        span = x.span;
+        function = x.function;
+        table = T.table;
+        at = ap (λ (n : ℕ). slice_get p n) zero ∙ x.at;
+        checked = h;
+        taken = taken (0 + x.number) x.span x.function T.table T.named;
+      }
+
   record Whole (g : TypedFn) : Type 0 where
     types : (x : Subject) → NamesTypes p (shape_of (type_at g x))
     names : HasNames p g
 
   whole : (g : TypedFn) → Among g t.functions → Whole g
   whole g a =
-      let x = each_at G ns 0 p t.functions typed.functions g a in
-      let T = table_at p 0 p ns x.number (plain.function_item x.span x.function) (named_ok {A = Unit {0}} (apart (record { types = []; functions = [] }) 0 p) (λ _. in_items p 0 p) ns meant.names_are).2 x.at in
-      let N = length T.table.vars in
-      let F = taken (0 + x.number) x.span x.function T.table T.named in
-      let zero : 0 + x.number ≡ x.number = omega arith in
-      let there : slice_get ns (0 + x.number) ≡ Some T.table = ap (λ (n : ℕ). slice_get ns n) zero ∙ T.stands in
-      let h : FunctionTyped G (0 + x.number) x.span x.function T.table.names T.table.vars g =
-      subst (λ (o : Option ItemNames). FunctionTyped G (0 + x.number) x.span x.function (entries o) (variables_at o) g) there x.typed in
-      let item : slice_get p g.item ≡ Some (plain.function_item x.span x.function) = ap (λ (n : ℕ). slice_get p n) (h.item ∙ zero) ∙ x.at in
+      let x = text g a in
+      let N = length x.table.vars in
+      let item : slice_get p g.item ≡ Some (plain.function_item x.span x.function) = ap (λ (n : ℕ). slice_get p n) x.checked.item ∙ x.at in
       record {
-        types = λ y. type_names (0 + x.number) x.span x.function T.table.names T.table.vars g N h F.claims y (type_at g y) (h.found y);
+        types = λ y. type_names x.number x.span x.function x.table.names x.table.vars g N x.checked x.taken.claims y (type_at g y) (x.checked.found y);
         names = subst (λ (o : Option ItemTree). Every (λ (o' : Occurrence). the_variable o' < length (declared_names o)) (occurrences (plain-TypedTree g.tree).body)) (sym item)
-            (subst (λ (n : ℕ). Every (λ (o : Occurrence). the_variable o < n) (occurrences (plain-TypedTree g.tree).body)) F.count (names_at (0 + x.number) x.span x.function T.table.names T.table.vars g N h F.claims));
+            (subst (λ (n : ℕ). Every (λ (o : Occurrence). the_variable o < n) (occurrences (plain-TypedTree g.tree).body)) x.taken.count (names_at x.number x.span x.function x.table.names x.table.vars g N x.checked x.taken.claims));
       }
 
   pub types_are_named : (g : TypedFn) → Among g t.functions → (x : Subject) → NamesTypes p (shape_of (type_at g x))

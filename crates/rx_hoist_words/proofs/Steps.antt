@@ -36,13 +36,17 @@ binds_append a b = ap length (bound_append a b) ∙ length-append (names_bound a
 
 -- ---- a numbering that takes these entries from the first tables to the second, and of what it gives
 
+-- as many variables were declared as these tables have
+abbrev pub Counts : Cursor → ItemNames → Type 0
+Counts c t = (c.declared ≡ length t.vars) × (length c.variables ≡ length t.vars)
+
 pub record Kept {A : Type 0} (S : A → Type 0) (t : ItemNames) (rest : List NodeNames) (r : A × Cursor) : Type 0 where
   pub fits : S r.0
-  pub declared : r.1.declared ≡ length t.vars
+  pub declared : Counts r.1 t
   pub left : r.1.names ≡ rest
 
 pub record Takes {A : Type 0} (S : A → Type 0) (t t' : ItemNames) (es : List NodeNames) (m : Numbering A) : Type 0 where
-  pub holds : (c : Cursor) (rest : List NodeNames) → c.declared ≡ length t.vars → c.names ≡ es ++ rest → Kept S t' rest (m c)
+  pub holds : (c : Cursor) (rest : List NodeNames) → Counts c t → c.names ≡ es ++ rest → Kept S t' rest (m c)
 
 pub takes_then : {A B : Type 0} {S : A → Type 0} {T : B → Type 0} {t t1 t2 : ItemNames} {es fs : List NodeNames} {m : Numbering A} {k : A → Numbering B}
     → Takes S t t1 es m → ((a : A) → S a → Takes T t1 t2 fs (k a)) → Takes T t t2 (es ++ fs) (numbering.and_then m k)
@@ -82,14 +86,21 @@ takes_made s i h K = record { holds = λ c rest d e. record { fits = K (a_node s
 
 -- ---- steps that touch no names
 
+-- it declares none
+abbrev pub Still : Cursor → Cursor → Type 0
+Still c c' = (c'.declared ≡ c.declared) × (length c'.variables ≡ length c.variables)
+
+pub still_counts : (c c' : Cursor) (t : ItemNames) → Still c c' → Counts c t → Counts c' t
+still_counts c c' t s d = (s.0 ∙ d.0, s.1 ∙ d.1)
+
 pub record Quiet {A : Type 0} (S : A → Type 0) (m : Numbering A) : Type 0 where
   pub fits : (c : Cursor) → S (m c).0
   pub names : (c : Cursor) → (m c).1.names ≡ c.names
-  pub declared : (c : Cursor) → (m c).1.declared ≡ c.declared
+  pub declared : (c : Cursor) → Still c (m c).1
 
 pub takes_quiet : {A B : Type 0} {S : A → Type 0} {T : B → Type 0} {t t1 : ItemNames} {es : List NodeNames} {m : Numbering A} {k : A → Numbering B}
     → Quiet S m → ((a : A) → S a → Takes T t t1 es (k a)) → Takes T t t1 es (numbering.and_then m k)
-takes_quiet {m = m} q K = record { holds = λ c rest d e. (K (m c).0 (q.fits c)).holds (m c).1 rest (q.declared c ∙ d) (q.names c ∙ e) }
+takes_quiet {t = t} {m = m} q K = record { holds = λ c rest d e. (K (m c).0 (q.fits c)).holds (m c).1 rest (still_counts c (m c).1 t (q.declared c) d) (q.names c ∙ e) }
 
 -- ---- entries and variables
 
@@ -99,15 +110,15 @@ taken_first x rest c e = ap (λ (l : List NodeNames). (taken l c).0) e
 taken_names : (x : NodeNames) (rest : List NodeNames) (c : Cursor) → c.names ≡ x ∷ rest → (an_entry c).1.names ≡ rest
 taken_names x rest c e = ap (λ (l : List NodeNames). (taken l c).1.names) e
 
-taken_declared : (x : NodeNames) (rest : List NodeNames) (c : Cursor) → c.names ≡ x ∷ rest → (an_entry c).1.declared ≡ c.declared
-taken_declared x rest c e = ap (λ (l : List NodeNames). (taken l c).1.declared) e
+taken_declared : (x : NodeNames) (rest : List NodeNames) (c : Cursor) → c.names ≡ x ∷ rest → Still c (an_entry c).1
+taken_declared x rest c e = (ap (λ (l : List NodeNames). (taken l c).1.declared) e, ap (λ (l : List NodeNames). length (taken l c).1.variables) e)
 
 abbrev pub IsEntry : List ℕ → Bool → (List ℕ × Bool) → Type 0
 IsEntry ns h a = a ≡ (ns, h)
 
 pub takes_entry : (x : NodeNames) {t : ItemNames} → Takes (IsEntry x.numbers x.hidden) t (with_names x t) (x ∷ []) an_entry
-takes_entry x = record {
-  holds = λ c rest d e. record { fits = taken_first x rest c e; declared = taken_declared x rest c e ∙ d; left = taken_names x rest c e };
+takes_entry x {t = t} = record {
+  holds = λ c rest d e. record { fits = taken_first x rest c e; declared = still_counts c (an_entry c).1 t (taken_declared x rest c e) d; left = taken_names x rest c e };
 }
 
 -- what holds of the entry that was added holds of the one that is taken
@@ -119,13 +130,13 @@ one_more xs x = length-append xs (x ∷ []) ∙ add-one (length xs)
 
 pub takes_declare : (t : ItemNames) (s : Span) (d : Declaration) (V : ℕ → Type 0) → V (length t.vars) → Takes V t (with_variable s t) [] (declare d)
 takes_declare t s d V v = record {
-  holds = λ c rest q e. record { fits = subst V (sym q) v; declared = ap suc q ∙ sym (one_more t.vars s); left = e };
+  holds = λ c rest q e. record { fits = subst V (sym q.0) v; declared = (ap suc q.0 ∙ sym (one_more t.vars s), one_more c.variables d ∙ ap suc q.1 ∙ sym (one_more t.vars s)); left = e };
 }
 
 -- a variable that is counted by the second tables
 pub takes_new : (t t' : ItemNames) (d : Declaration) (V : ℕ → Type 0) → length t'.vars ≡ suc (length t.vars) → V (length t.vars) → Takes V t t' [] (declare d)
 takes_new t t' d V m v = record {
-  holds = λ c rest q e. record { fits = subst V (sym q) v; declared = ap suc q ∙ sym m; left = e };
+  holds = λ c rest q e. record { fits = subst V (sym q.0) v; declared = (ap suc q.0 ∙ sym m, one_more c.variables d ∙ ap suc q.1 ∙ sym m); left = e };
 }
 
 -- ---- parts: what resolving adds from the first tables to the second, so many variables, and how numbering takes it where there are at most N variables

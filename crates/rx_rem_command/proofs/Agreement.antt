@@ -1,4 +1,5 @@
--- Two defined answers agree: a text has one fault but for the place where its tokens stop because of their depth, and an answer excludes faults.
+-- Two defined answers agree: a text has one fault but for the place where its tokens stop because of their depth, and an answer excludes faults. Of the
+-- two extractions one answers.
 use Rattle.std.specs.Prelude.{◌≢◌, codes}
 use Rattle.std.proofs.Common.{ℕ, ◌≡◌, Bool, true, false, ◌&&◌, ◌||◌, List, [], Option, Some, None, Result, Ok, Err, ◌⊎◌, inl, inr, refl, sym, ap, ◌∙◌, subst}
 use Rattle.std.proofs.lemmas.Bool.{and_parts}
@@ -24,12 +25,20 @@ use Rattle.rx_engine.specs.Verdict.{IsUnread, Extracts, is_stop, is_too_deep, Ar
 use Rattle.rx_engine.proofs.AnswerLemmas.{keeps, whole}
 use Rattle.rx_engine.proofs.RefusalLemmas.{one_tree}
 use Rattle.rx_engine.proofs.OneFault.{one_fault, answer_excludes, read_one, unread_none}
+use Rattle.rx_core.specs.declared.types.Bound.{Bound}
+use Rattle.rx_engine_extraction.specs.declared.refusal.Refusal.{Refusal}
+use Rattle.rx_engine_extraction.specs.Alike.{AreOne as AreOneRefusal}
+use Rattle.rx_engine_extraction.specs.Source.{Wish}
+use Rattle.rx_engine_extraction.specs.Promise.{Keeps, Extracts as Meets}
+use Rattle.rx_engine_extraction.specs.Verdict.{IsRefused}
 use Rattle.rx_rem_command.specs.declared.status.Status.{Status}
 use Rattle.rx_rem_command.specs.declared.status.Status.TheVariants.{Done, NotAccepted, OutOfMemory}
 use Rattle.rx_rem_command.specs.Forms.{Preference, by_copy, Command, extracts, checks, runs, command_of}
 use Rattle.rx_rem_command.specs.Lines.{fault_status, fault_line}
-use Rattle.rx_rem_command.specs.Defined.{Defined, AnswersTo, IsAccepted, Judged, passed, faulty, Checked, no_program, program, Obtained, IsLeft, IsMoved, Drawn, unaccepted, drawn, moved, result_status, result_bytes, result_line, is_built, SaysTooDeep, SaysStop, AreOneLine, AreFaultLines, AreLines}
+use Rattle.rx_rem_command.specs.Defined.{Defined, AnswersTo, IsAccepted, Judged, passed, faulty, Checked, no_program, program, Obtained, wish, Moved, IsLeft, IsMoved, Drawn, unaccepted, drawn, moved, result_status, result_bytes, result_line, is_built, SaysTooDeep, SaysStop, AreOneLine, AreFaultLines, AreExtractionLines, AreLines}
+use Rattle.rx_rem_command.specs.ExtractionLines.{AreRefusalLines}
 use Rattle.rx_rem_command.proofs.RunLemmas.{outcome_one, runs_agree}
+use Rattle.rx_rem_command.proofs.Moves.{moves_agree}
 
 -- ---- lines
 
@@ -105,6 +114,32 @@ results_agree bytes start end name (Err f) (Err g) x y n m =
     let o = one_fault bytes start end name f g (known f n) (known g m) x y in
     (statuses_one f g o (stop_status f) (stop_status g), refl, lines_one f g o)
 
+-- what is left to the extraction over the whole language is not built, so it is not answered by that over the first grammar
+unbuilt : (f : Fault) → is_built (Err f) ≡ false → f ≡ fault.OutOfMemory → ⊥
+unbuilt f b e = let t : is_built (Err f) ≡ true = ap (λ (g : Fault). is_built (Err g)) e in cc
+
+stops_are_built : (f : Fault) → is_stop f ≡ true → is_built (Err f) ≡ true
+stops_are_built (fault.Syntax (syntax.Syntax at)) e = refl
+stops_are_built (fault.Syntax (syntax.TooDeep at)) e = refl
+stops_are_built _ e = absurd (cc)
+
+true_false : (b : Bool) → b ≡ true → b ≡ false → ⊥
+true_false b e f = let t : true ≡ false = sym e ∙ f in cc
+
+one_built : (f g : Fault) → AreOne f g → is_built (Err f) ≡ true → is_built (Err g) ≡ false → ⊥
+one_built f g (inl e) b n = true_false (is_built (Err g)) (ap (λ (h : Fault). is_built (Err h)) (sym e) ∙ b) n
+one_built f g (inr e) b n =
+    let u = and_parts (is_stop f && is_stop g) (is_too_deep f || is_too_deep g) e in
+    true_false (is_built (Err g)) (stops_are_built g (and_parts (is_stop f) (is_stop g) u.0).1) n
+
+built_or_left : (bytes : List ℕ) (start end : ℕ) (name : List ℕ) (r s : Result Answer Fault) → Extracts bytes start end name r
+    → Extracts bytes start end name s → IsKnown (result_status r) → is_built r ≡ true → is_built s ≡ false → ⊥
+built_or_left bytes start end name (Ok a) (Ok b) x y n h l = cc
+built_or_left bytes start end name (Ok a) (Err g) x y n h l = unbuilt g l (answer_excludes bytes start end name a g x y)
+built_or_left bytes start end name (Err f) (Ok b) x y n h l = cc
+built_or_left bytes start end name (Err f) (Err g) x y n h l =
+    one_built f g (one_fault bytes start end name f g (known f n) (unbuilt g l) x y) h l
+
 -- ---- two checks, by what is known of faults, and two runs, by what is known of types
 
 module _ (excluded : (p : ProgramTree) (e : CheckFault) → Accepted p → Causes e p → e ≡ check.OutOfMemory)
@@ -161,28 +196,54 @@ module _ (excluded : (p : ProgramTree) (e : CheckFault) → Accepted p → Cause
       done_or_not : Done ≡ NotAccepted → ⊥
       done_or_not e = cc
 
-  drawn_agree : (text name : List ℕ) (start end : ℕ) (w v : Preference) (s t : Status) (a b c d : List ℕ) → (IsAccepted text × IsLeft w text start end name → ⊥)
-      → (IsAccepted text × IsLeft v text start end name → ⊥) → Drawn text name start end w s a b → Drawn text name start end v t c d
-      → (s ≡ t) × (a ≡ c) × (AreOneLine b d ⊎ AreFaultLines text b d)
-  drawn_agree text name start end w v _ _ a b c d n m (unaccepted x) (unaccepted y) = checks_agree text NotAccepted NotAccepted a b c d x y
-  drawn_agree text name start end w _ _ t a b c d n m (unaccepted x) (drawn p y h o i) = absurd (accepted_or_checked text p y h a b x)
-  drawn_agree text name start end _ v s _ a b c d n m (drawn p x h o i) (unaccepted y) = absurd (accepted_or_checked text p x h c d y)
-  drawn_agree text name start end _ _ s t a b c d n m (drawn p x h o i) (drawn q y k u j) = let r = obtained_agree text name start end s t a b c d o u in (r.0, r.1, inl r.2)
-  drawn_agree text name start end w v s t a b c d n m (moved p x h l o) y = absurd (n (record { program = p; parses = x; accepted = h }, l))
-  drawn_agree text name start end w v s t a b c d n m x (moved q y k l u) = absurd (m (record { program = q; parses = y; accepted = k }, l))
+  module _ (none : (bytes : List ℕ) (w : Wish) (r : Refusal) → IsRefused bytes w r → Meets bytes w → ⊥)
+      (one_refusal : (bytes : List ℕ) (w : Wish) (r q : Refusal) → IsRefused bytes w r → IsRefused bytes w q → AreOneRefusal r q)
+      (one_answer : (bytes : List ℕ) (w : Wish) (text other : List ℕ) (bs cs : List Bound) → Keeps bytes w text bs → Keeps bytes w other cs → (text ≡ other) × (bs ≡ cs)) where
+    left_or_drawn : (text name : List ℕ) (start end : ℕ) (w : Preference) (s : Status) (a b : List ℕ) → w ≡ by_copy → (o : Obtained text name start end s a b)
+        → is_built o.result ≡ true → IsLeft w text start end name → ⊥
+    left_or_drawn text name start end w s a b e o h l =
+        let k = subst (λ (v : Preference). IsLeft v text start end name) e l in
+        built_or_left text start end name o.result k.0 o.extracts k.1 (λ q. o.found (o.status_is ∙ q)) h k.2
 
-  answers_agree : (q : Option Command) (text : List ℕ) (s t : Status) (a b c d : List ℕ) → (IsMoved q text → ⊥) → AnswersTo q text s a b
-      → AnswersTo q text t c d → (s ≡ t) × (a ≡ c) × AreLines q text b d
-  answers_agree None text s t a b c d n x y = (x.0 ∙ sym y.0, x.1 ∙ sym y.1, inl (x.2 ∙ sym y.2))
-  answers_agree (Some (extracts name start end w)) text s t a b c d n x y = drawn_agree text name start end w w s t a b c d n n x y
-  answers_agree (Some checks) text s t a b c d n x y = checks_agree text s t a b c d x y
-  answers_agree (Some (runs turns input)) text s t a b c d n x y =
-      runs_agree text turns input (checks_agree text) (λ p o q. outcome_one alike p turns input o q) s t a b c d x y
+    moved_lines : (text : List ℕ) (w : Wish) (b d : List ℕ) → (b ≡ d) ⊎ AreRefusalLines text w b d → AreExtractionLines text w b d
+    moved_lines text w b d (inl e) = inl (inl e)
+    moved_lines text w b d (inr x) = inr (inr x)
 
-  pub defined_agree : (words : List (List ℕ)) (text : List ℕ) (s t : Status) (a b c d : List ℕ)
-      → (IsMoved (command_of words) text → ⊥) → Defined words text s a b → Defined words text t c d
-      → (s ≡ t) × (a ≡ c) × AreLines (command_of words) text b d
-  defined_agree words text s t a b c d n x y = answers_agree (command_of words) text s t a b c d n x y
+    check_lines : (text : List ℕ) (w : Wish) (b d : List ℕ) → AreOneLine b d ⊎ AreFaultLines text b d → AreExtractionLines text w b d
+    check_lines text w b d (inl e) = inl e
+    check_lines text w b d (inr x) = inr (inl x)
+
+    moved_agree : (text : List ℕ) (w : Wish) (p q : ProgramTree) → Parses text p → Accepted p → Parses text q → (s t : Status) (a b c d : List ℕ)
+        → Moved p text w s a b → Moved q text w t c d → (s ≡ t) × (a ≡ c) × AreExtractionLines text w b d
+    moved_agree text w p q x h y s t a b c d o u =
+        let k = moves_agree excluded none one_refusal one_answer text w p x h s t a b c d o (subst (λ (r : ProgramTree). Moved r text w t c d) (one_text text q p y x) u) in
+        (k.0, k.1, moved_lines text w b d k.2)
+
+    drawn_agree : (text name : List ℕ) (start end : ℕ) (w v : Preference) (s t : Status) (a b c d : List ℕ) → w ≡ v
+        → Drawn text name start end w s a b → Drawn text name start end v t c d → (s ≡ t) × (a ≡ c) × AreExtractionLines text (wish name start end w) b d
+    drawn_agree text name start end w v _ _ a b c d e (unaccepted x) (unaccepted y) =
+        let k = checks_agree text NotAccepted NotAccepted a b c d x y in (k.0, k.1, check_lines text (wish name start end w) b d k.2)
+    drawn_agree text name start end w _ _ t a b c d e (unaccepted x) (drawn p y h o i) = absurd (accepted_or_checked text p y h a b x)
+    drawn_agree text name start end w v _ t a b c d e (unaccepted x) (moved p y h l o) = absurd (accepted_or_checked text p y h a b x)
+    drawn_agree text name start end _ v s _ a b c d e (drawn p x h o i) (unaccepted y) = absurd (accepted_or_checked text p x h c d y)
+    drawn_agree text name start end _ _ s t a b c d e (drawn p x h o i) (drawn q y k u j) = let r = obtained_agree text name start end s t a b c d o u in (r.0, r.1, inl r.2)
+    drawn_agree text name start end _ v s t a b c d e (drawn p x h o i) (moved q y k l u) = absurd (left_or_drawn text name start end v s a b (sym e) o i l)
+    drawn_agree text name start end w v s _ a b c d e (moved p x h l o) (unaccepted y) = absurd (accepted_or_checked text p x h c d y)
+    drawn_agree text name start end w _ s t a b c d e (moved p x h l o) (drawn q y k u j) = absurd (left_or_drawn text name start end w t c d e u j l)
+    drawn_agree text name start end w v s t a b c d e (moved p x h l o) (moved q y k m u) =
+        moved_agree text (wish name start end w) p q x h y s t a b c d o (subst (λ (z : Preference). Moved q text (wish name start end z) t c d) (sym e) u)
+
+    answers_agree : (q : Option Command) (text : List ℕ) (s t : Status) (a b c d : List ℕ) → AnswersTo q text s a b
+        → AnswersTo q text t c d → (s ≡ t) × (a ≡ c) × AreLines q text b d
+    answers_agree None text s t a b c d x y = (x.0 ∙ sym y.0, x.1 ∙ sym y.1, inl (x.2 ∙ sym y.2))
+    answers_agree (Some (extracts name start end w)) text s t a b c d x y = drawn_agree text name start end w w s t a b c d refl x y
+    answers_agree (Some checks) text s t a b c d x y = checks_agree text s t a b c d x y
+    answers_agree (Some (runs turns input)) text s t a b c d x y =
+        runs_agree text turns input (checks_agree text) (λ p o q. outcome_one alike p turns input o q) s t a b c d x y
+
+    pub defined_agree : (words : List (List ℕ)) (text : List ℕ) (s t : Status) (a b c d : List ℕ) → Defined words text s a b → Defined words text t c d
+        → (s ≡ t) × (a ≡ c) × AreLines (command_of words) text b d
+    defined_agree words text s t a b c d x y = answers_agree (command_of words) text s t a b c d x y
 
 -- where no condition fails, the extraction is the defined answer
 pub extraction_defined : (words : List (List ℕ)) (text name : List ℕ) (start end : ℕ) (p q : ProgramTree)
@@ -195,9 +256,6 @@ extraction_defined words text name start end p q e accepted x =
     (drawn p x.names.selects.accepts.parses accepted (record { result = Ok a; extracts = (k, refl); found = λ m. cc; status_is = refl; out_is = refl; err_is = refl }) refl)
 
 -- such a text has no fault, so it is not left
-unbuilt : (f : Fault) → is_built (Err f) ≡ false → f ≡ fault.OutOfMemory → ⊥
-unbuilt f b e = let t : is_built (Err f) ≡ true = ap (λ (g : Fault). is_built (Err g)) e in cc
-
 left_excluded : (text name : List ℕ) (start end : ℕ) (p q : ProgramTree) → IsExtraction text start end name p q → (r : Result Answer Fault)
     → Extracts text start end name r → is_built r ≡ false → ⊥
 left_excluded text name start end p q x (Ok a) y b = cc

@@ -26,7 +26,7 @@ use Rattle.rx_rem_command.specs.declared.status.Status.TheVariants.{Done, Usage,
 use Rattle.rx_rem_command.specs.Forms.{Preference, by_copy, by_reference, Command, extracts, checks, runs, command_of}
 use Rattle.rx_rem_command.specs.Lines.{status_line, fault_status, syntax_line, fault_line}
 use Rattle.rx_rem_command.specs.CheckLines.{line_of_check}
-use Rattle.rx_rem_command.specs.ExtractionLines.{line_of_extraction, status_of_extraction}
+use Rattle.rx_rem_command.specs.ExtractionLines.{line_of_extraction, status_of_extraction, AreRefusalLines}
 use Rattle.rx_rem_command.specs.RunLines.{end_status, end_line}
 use Rattle.rx_rem_command.specs.Runs.{Does}
 
@@ -161,7 +161,12 @@ abbrev pub IsMoved : Option Command → List ℕ → Type 0
 IsMoved (Some (extracts name start end w)) text = IsAccepted text × IsLeft w text start end name
 IsMoved _ text = ⊥
 
+-- the lines of two answers of an extraction
+abbrev pub AreExtractionLines : List ℕ → Wish → List ℕ → List ℕ → Type 0
+AreExtractionLines text w a b = AreOneLine a b ⊎ (AreFaultLines text a b ⊎ AreRefusalLines text w a b)
+
 -- the lines of two defined answers
 abbrev pub AreLines : Option Command → List ℕ → List ℕ → List ℕ → Type 0
 AreLines None text a b = AreOneLine a b
+AreLines (Some (extracts name start end w)) text a b = AreExtractionLines text (wish name start end w) a b
 AreLines _ text a b = AreOneLine a b ⊎ AreFaultLines text a b

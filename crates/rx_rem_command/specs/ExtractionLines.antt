@@ -1,10 +1,12 @@
--- The line of each refusal of the extraction over the whole language.
-use Rattle.std.specs.Prelude.{ℕ, List, [], ◌∷◌, codes}
+-- The line of each refusal of the extraction over the whole language, and where the lines of two refusals of one text differ.
+use Rattle.std.specs.Prelude.{◌≡◌, ℕ, List, [], ◌∷◌, codes}
 use Rattle.rx_tree.specs.Plain.{ProgramTree}
 use Rattle.rx_engine_extraction.specs.declared.refusal.Refusal.{Refusal}
 use Rattle.rx_engine_extraction.specs.declared.refusal.Refusal.TheVariants as refusal
 use Rattle.rx_engine_extraction.specs.declared.refusal.Fault.{Fault}
 use Rattle.rx_engine_extraction.specs.declared.refusal.Fault.TheVariants as fault
+use Rattle.rx_engine_extraction.specs.Source.{Wish}
+use Rattle.rx_engine_extraction.specs.Verdict.{IsRefused}
 use Rattle.rx_rem_command.specs.declared.status.Status.{Status}
 use Rattle.rx_rem_command.specs.declared.status.Status.TheVariants.{Refused, OutOfMemory}
 use Rattle.rx_rem_command.specs.Lines.{line_of, with_numbers, with_span, which_words, syntax_line, syntax_status}
@@ -38,3 +40,19 @@ status_of_extraction (fault.Syntax f) = syntax_status f
 status_of_extraction (fault.NotAccepted f) = status_of_check f
 status_of_extraction (fault.Refused r) = Refused
 status_of_extraction fault.OutOfMemory = OutOfMemory
+
+-- both refusals are of a run that is not reached, or of a loan that is met: a text may show each in several places
+abbrev pub AreOfPlaces : Refusal → Refusal → Type 0
+AreOfPlaces (refusal.Unreachable s) (refusal.Unreachable t) = Unit {0}
+AreOfPlaces (refusal.Loan a b) (refusal.Loan c d) = Unit {0}
+AreOfPlaces _ _ = ⊥
+
+-- two lines say such refusals of one text, each with its cause
+pub record AreRefusalLines (text : List ℕ) (w : Wish) (a b : List ℕ) : Type 0 where
+  pub one : Refusal
+  pub other : Refusal
+  pub refused_one : IsRefused text w one
+  pub refused_other : IsRefused text w other
+  pub alike : AreOfPlaces one other
+  pub line_one : a ≡ line_of_refusal one
+  pub line_other : b ≡ line_of_refusal other

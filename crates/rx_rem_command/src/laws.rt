@@ -7,10 +7,11 @@ ghost use Rattle.rx_first_check.specs.FirstGrammar.{is_first_program};
 ghost use Rattle.rx_first_select.specs.Run.{Run};
 ghost use Rattle.rx_engine.specs.Promise.{IsExtraction, Names};
 ghost use Rattle.rx_engine.specs.Verdict.{IsNotBuilt};
-ghost use Rattle.rx_rem_command.specs.Forms.{by_copy, command_of, extracts, checks, runs};
+ghost use Rattle.rx_engine_extraction.specs.Promise.{Extracts, program_of};
+ghost use Rattle.rx_rem_command.specs.Forms.{Preference, by_copy, command_of, extracts, checks, runs};
 ghost use Rattle.rx_rem_command.specs.RunLines.{end_status, end_line};
 ghost use Rattle.rx_rem_command.specs.Runs.{Does};
-ghost use Rattle.rx_rem_command.specs.Defined.{Defined, IsAccepted, IsLeft, IsMoved, AreLines};
+ghost use Rattle.rx_rem_command.specs.Defined.{Defined, IsAccepted, IsLeft, IsMoved, AreLines, wish};
 ghost use Rattle.rx_tree.specs.Plain.{ProgramTree};
 ghost use Rattle.rx_parse_grammar.specs.grammar.Items.{Parses};
 ghost use Rattle.rx_check.specs.Passes.{Accepted};
@@ -18,29 +19,40 @@ ghost use Rattle.rx_meaning.specs.declared.outcome.Outcome.{Outcome};
 
 use rx_agreement::typed_are_accepted;
 use rx_check::{causes_are_one, passed_or_faulty};
+use rx_engine_extraction::{
+    answers_are_one, conditions_are_one, extractions_are_answers, refusals_are_one,
+};
 use rx_parse::parsed_programs_are_numbered;
 use rx_typeck_typed::one_typed_program;
 
-/// Two defined answers of the same words on the same text have one status and one output, unless the text is accepted and left to
-/// the extraction over the whole language. They have one line, but for the places where the tokens of the text stop because of their
-/// depth; or each line says a fault of the program, and both are of one pass.
+/// Two defined answers of the same words on the same text have one status and one output. They have one line, but for the places where
+/// the tokens of the text stop because of their depth; or each line says a fault of the program, and both are of one pass; or each says
+/// a place where the run is not reached, or each a loan that is met.
 pub fn one_answer()
-    ensures { (words : List (List ℕ)) (text : List ℕ) (s t : Status) (a b c d : List ℕ) → (IsMoved (command_of words) text → ⊥) → Defined words text s a b → Defined words text t c d
+    ensures { (words : List (List ℕ)) (text : List ℕ) (s t : Status) (a b c d : List ℕ) → Defined words text s a b → Defined words text t c d
         → (s ≡ t) × (a ≡ c) × AreLines (command_of words) text b d }
 {
     passed_or_faulty();
     causes_are_one();
     one_typed_program();
+    conditions_are_one();
+    refusals_are_one();
+    answers_are_one();
 }
 
 /// Where the text is accepted, copies are preferred and no condition of the extraction over the first grammar fails, its canonical text
-/// is the defined answer; the text is not left to the extraction over the whole language.
+/// is the defined answer; the text is not left to the extraction over the whole language. Where a text is left to that, and each of its
+/// conditions is met, its canonical text is the defined answer.
 pub fn extraction_is_defined()
     ensures answer { (words : List (List ℕ)) (text name : List ℕ) (start end : ℕ) (p q : ProgramTree) → command_of words ≡ Some (extracts name start end by_copy)
         → Accepted p → IsExtraction text start end name p q → Defined words text Status.Done (print_program q) [] }
     ensures kept { (words : List (List ℕ)) (text name : List ℕ) (start end : ℕ) (p q : ProgramTree) → command_of words ≡ Some (extracts name start end by_copy)
         → IsExtraction text start end name p q → IsMoved (command_of words) text → ⊥ }
-{}
+    ensures whole { (words : List (List ℕ)) (text name : List ℕ) (start end : ℕ) (w : Preference) → command_of words ≡ Some (extracts name start end w) → length text ≤ 1048576
+        → IsLeft w text start end name → (x : Extracts text (wish name start end w)) → Defined words text Status.Done (print_program (program_of x)) [] }
+{
+    extractions_are_answers();
+}
 
 /// Of accepted texts, those are left to the extraction over the whole language of which some item isn't of the first grammar, or the
 /// run that the range selects, under a name that it may have, is of a form that the extraction over the first grammar doesn't build;

@@ -1,4 +1,4 @@
-//! Tests of what is found of functions: their graphs, initialisation and liveness, lifetimes and closed sets.
+//! Tests of what is found of functions: their graphs, initialisation and liveness, lifetimes and closed sets; and of the modes that uses allow.
 #![tactic(auto)]
 
 #[cfg(test)]
@@ -9,5 +9,7 @@ mod facts;
 mod holding;
 #[cfg(test)]
 mod lifetimes;
+#[cfg(test)]
+mod modes;
 #[cfg(test)]
 mod sites;

@@ -1,5 +1,5 @@
 //! Texts of the first grammar that its extraction leaves to that over the whole language: runs with tails, with units, with several
-//! variables handed out; and the words `copy` and `ref`.
+//! variables handed out; the words `copy` and `ref`; and runs in the initialiser of a `let` that never goes on.
 
 use crate::extract::said::all_made;
 
@@ -154,6 +154,45 @@ fn g() -> Exit_g {
 
 fn main() {
     println!("{}", f(3));
+}
+----
+extract took 29 35
+fn main() { let c; let x = { c = 3; return; }; x = 5; }
+====
+0
+fn main() {
+    let c: i32;
+    let x = {
+        took();
+        return;
+    };
+    x = 5;
+}
+
+fn took() {
+    let c: i32;
+    c = 3;
+}
+----
+extract took 48 54
+fn show(x: u64) {} fn main() { let c; let x = { c = 3; return; }; x = c; show(c); }
+====
+0
+fn show(x: u64) {}
+
+fn main() {
+    let c: u64;
+    let x = {
+        took();
+        return;
+    };
+    x = c;
+    show(c);
+}
+
+fn took() {
+    let c: u64;
+    c = 3u64;
 }"#;
 
 #[test]

@@ -22,11 +22,22 @@ pub fn replied(
     out_room: usize,
     err_room: usize,
 ) -> Result<Reply, AllocError> {
+    replied_to(alloc, line, text.as_bytes(), out_room, err_room)
+}
+
+/// That of a text by its bytes.
+pub fn replied_to(
+    alloc: Global,
+    line: &str,
+    text: &[u8],
+    out_room: usize,
+    err_room: usize,
+) -> Result<Reply, AllocError> {
     let mut words = List::new(alloc);
     for word in line.split(" ") {
         words.push(Text::new(alloc, word)?)?;
     }
-    let mut source = NeverSource::new(List::from_slice(alloc, text.as_bytes())?);
+    let mut source = NeverSource::new(List::from_slice(alloc, text)?);
     let mut out = NeverSink::new(alloc, out_room)?;
     let mut err = NeverSink::new(alloc, err_room)?;
     let status = rem(alloc, &words, &mut source, &mut out, &mut err).code();
@@ -34,6 +45,16 @@ pub fn replied(
 }
 
 impl Reply {
+    /// What is printed.
+    pub fn printed(&self) -> &[u8] {
+        self.out.held()
+    }
+
+    /// Whether the status and what is printed are those of another.
+    pub fn is_as(&self, other: &Reply) -> bool {
+        self.status == other.status && self.out.held() == other.out.held()
+    }
+
     /// Whether it is this status, and exactly these bytes are in the sinks.
     pub fn is(&self, status: u8, out: &str, err: &str) -> bool {
         self.status == status

@@ -23,7 +23,7 @@ pub decided_at-requires-clause-run : goal.decided_at-requires-clause-run
 decided_at-requires-clause-run g c = c.in-Ok.ensures.found.0
 
 pub decided_at-requires-clause-seated : goal.decided_at-requires-clause-seated
-decided_at-requires-clause-seated g c = record { function = c.function-function.ensures; sits = c.in-Ok.ensures.found.1 }
+decided_at-requires-clause-seated g c = record { function = c.function-function.ensures; sits = c.in-Ok.ensures.found.1; first = c.in-Ok.ensures.first }
 
 pub returns-clause-found : goal.returns-clause-found
 returns-clause-found g c =

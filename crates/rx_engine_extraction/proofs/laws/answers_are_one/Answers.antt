@@ -1,0 +1,10 @@
+use Rattle.rx_engine_extraction.proofs.AgreeingBounds.{one_bounds}
+use Rattle.rx_engine_extraction.proofs.AgreeingTexts.{answers_alike}
+use Rattle.rx_engine_extraction.proofs.laws.answers_are_one.Goals as goal
+
+pub returns : goal.returns
+returns c =
+    answers_alike c.one_token_list.ensures c.one_tree.ensures c.one_typing.ensures c.declared_are_finite.ensures c.typed_declarations_are_finite.ensures.finite
+    c.one_size_each.ensures.some c.one_size_each.ensures.one
+    (one_bounds c.one_typing.ensures c.typed_declarations_are_finite.ensures.finite c.functions_without_bounds_declare_none.ensures.none
+    c.least_bounds_are_missing.ensures.missing c.least_bounds_are_missing.ensures.one)

@@ -1,0 +1,10 @@
+pub mod Holding
+pub mod Making
+pub mod Placed
+pub mod Facts
+pub mod Asking
+pub mod Having
+pub mod Fields
+pub mod Calls
+pub mod Finding
+pub mod Programs
