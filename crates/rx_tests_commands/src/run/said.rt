@@ -50,6 +50,11 @@ impl Reply {
         self.out.held()
     }
 
+    /// Whether it is this status.
+    pub fn ends(&self, status: u8) -> bool {
+        self.status == status
+    }
+
     /// Whether the status and what is printed are those of another.
     pub fn is_as(&self, other: &Reply) -> bool {
         self.status == other.status && self.out.held() == other.out.held()

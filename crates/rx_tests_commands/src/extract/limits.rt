@@ -1,0 +1,79 @@
+//! Limits of an extraction, at their borders.
+
+use crate::run::said::{Reply, hold, replied};
+use std::alloc::{AllocError, Global};
+
+/// What is made of a run in a text: what is in front of it, the run, and what is behind.
+fn made(alloc: Global, front: &str, run: &str, behind: &str) -> Result<Reply, AllocError> {
+    let mut text = String::from_str(alloc, front)?;
+    let start = text.len();
+    text.push_str(run)?;
+    let end = text.len();
+    text.push_str(behind)?;
+    let words = format!(in alloc; "extract moved {start} {end}")?;
+    replied(alloc, words.as_str(), text.as_str(), 100000, 100)
+}
+
+/// A function that is given 42 structs of three lifetimes each, and so many references, and names each once.
+fn lent(alloc: Global, references: u32) -> Result<Reply, AllocError> {
+    let mut front = String::from_str(
+        alloc,
+        "struct R<'a, 'b, 'c> { p: &'a i64, q: &'b i64, r: &'c i64 } fn f(",
+    )?;
+    let mut run = String::new(alloc);
+    for number in 0..42u32 {
+        let parameter = format!(in alloc; "x{number}: R, ")?;
+        let named = format!(in alloc; "let z{number} = x{number}; ")?;
+        front.push_str(parameter.as_str())?;
+        run.push_str(named.as_str())?;
+    }
+    for number in 0..references {
+        let parameter = format!(in alloc; "y{number}: &i64, ")?;
+        let named = format!(in alloc; "let w{number} = y{number}; ")?;
+        front.push_str(parameter.as_str())?;
+        run.push_str(named.as_str())?;
+    }
+    front.push_str(") { ")?;
+    made(alloc, front.as_str(), run.as_str(), "} fn main() {}")
+}
+
+/// A function that is given two structs of 2,048 parts and a number, and hands these statements' variables on.
+fn large(alloc: Global, run: &str, behind: &str) -> Result<Reply, AllocError> {
+    let mut front = String::from_str(alloc, "struct S { ")?;
+    for number in 0..2048u32 {
+        let field = format!(in alloc; "f{number}: i64, ")?;
+        front.push_str(field.as_str())?;
+    }
+    front.push_str("} fn take(d: S, e: S, g: i64) {} fn f(a: S, b: S, c: i64) { ")?;
+    made(alloc, front.as_str(), run, behind)
+}
+
+#[test]
+fn a_signature_has_at_most_128_lifetimes(rt: HostRuntime) {
+    let within = lent(rt.alloc(), 2).map(|reply| reply.ends(0));
+    hold(&rt, within, "128");
+    let past = lent(rt.alloc(), 3).map(|reply| reply.is(
+        1,
+        "",
+        "error: Refused Limit Lifetimes 129\n",
+    ));
+    hold(&rt, past, "129");
+}
+
+#[test]
+fn what_is_handed_out_has_at_most_4096_parts(rt: HostRuntime) {
+    let within = large(
+        rt.alloc(),
+        "let d = a; let e = b; ",
+        "let g = c; take(d, e, g); } fn main() {}",
+    )
+    .map(|reply| reply.ends(0));
+    hold(&rt, within, "4096");
+    let past = large(
+        rt.alloc(),
+        "let d = a; let e = b; let g = c; ",
+        "take(d, e, g); } fn main() {}",
+    )
+    .map(|reply| reply.is(1, "", "error: Refused Limit Parts 4097\n"));
+    hold(&rt, past, "4097");
+}
