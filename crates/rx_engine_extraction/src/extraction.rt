@@ -5,7 +5,7 @@ ghost use Rattle.rx_lex.specs.Tok.{toks};
 ghost use Rattle.rx_tree.specs.PlainOf.{plain-Program};
 ghost use Rattle.rx_parse_grammar.specs.grammar.Items.{Parses};
 ghost use Rattle.rx_select.specs.OneText.{OneText};
-ghost use Rattle.rx_check.specs.Front.{IsFrontOf};
+ghost use Rattle.rx_check.specs.Front.{IsCheckedOf, IsFrontOf};
 ghost use Rattle.rx_engine_extraction.specs.Deciding.{text_of};
 ghost use Rattle.rx_engine_extraction.specs.Hoisting as spec;
 ghost use Rattle.rx_engine_extraction.specs.Verdict.{Answers};
@@ -17,7 +17,7 @@ use crate::given::{Given, Request};
 use crate::hoisting::{NewProgram, moved};
 use crate::laws::calls_are_formed;
 use crate::refusal::{Answer, Fault, Selection};
-use rx_check::{FrontEnd, causes_are_one, passed_or_faulty};
+use rx_check::{Checked, FrontEnd, causes_are_one, passed_or_faulty};
 use rx_core::LetGo;
 use rx_hoist_naming_laws::runs_sit;
 use rx_modes_policy::Policy;
@@ -96,7 +96,38 @@ fn hoisted_in<P: Policy>(
 }
 
 /// Moves the statements that a range of bytes selects into a new function of this name, directly behind the enclosing one, and puts a
-/// call in their place. How each variable is passed the policy chooses, among the ways that its uses allow.
+/// call in their place; of a text with this program, which passed all passes. How each variable is passed the policy chooses, among the
+/// ways that its uses allow.
+///
+/// # Errors
+///
+/// The first of the refusals, in their order; or memory runs out.
+pub fn extract_checked<P: Policy>(
+    alloc: Global,
+    text: &[u8],
+    program: &Program,
+    checked: &Checked,
+    selection: Selection,
+    name: &str,
+    policy: &P,
+) -> Result<Answer, Fault>
+    requires short { length text.now ≤ 1048576 }
+    requires parses { Parses text.now (plain-Program program.now) }
+    requires checked { IsCheckedOf (plain-Program program.now) checked.now }
+    // An answer keeps its promise; a refusal tells the first condition that is not met.
+    ensures verdict { Answers text.now (record { start = selection.start; end = selection.end; name = name.now; choice = P.choice policy.now }) result }
+{
+    passed_or_faulty();
+    causes_are_one();
+    print_parses();
+    let request = Request { selection, name };
+    match hoisted_in(alloc, text, program, checked.front(), &request, policy) {
+        Ok(NewProgram { program, new_fn }) => finished(alloc, program, new_fn),
+        Err(fault) => Err(fault),
+    }
+}
+
+/// The same of any text: it is read and checked first.
 ///
 /// # Errors
 ///
@@ -113,9 +144,6 @@ pub fn extract<P: Policy>(
     ensures verdict { Answers text.now (record { start = selection.start; end = selection.end; name = name.now; choice = P.choice policy.now }) result }
 {
     parsed_programs_are_numbered();
-    passed_or_faulty();
-    causes_are_one();
-    print_parses();
     let program = match read(alloc, text) {
         Ok(program) => program,
         Err(fault) => return Err(fault),
@@ -127,12 +155,8 @@ pub fn extract<P: Policy>(
             return Err(fault);
         }
     };
-    let request = Request { selection, name };
-    let outcome = hoisted_in(alloc, text, &program, checked.front(), &request, policy);
+    let answer = extract_checked(alloc, text, &program, &checked, selection, name, policy);
     checked.let_go();
     program.let_go();
-    match outcome {
-        Ok(NewProgram { program, new_fn }) => finished(alloc, program, new_fn),
-        Err(fault) => Err(fault),
-    }
+    answer
 }

@@ -11,6 +11,6 @@ mod laws;
 mod names;
 mod refusal;
 
-pub use extraction::extract;
+pub use extraction::{extract, extract_checked};
 pub use laws::{answers_are_one, conditions_are_one, extractions_are_answers, refusals_are_one};
 pub use refusal::{Answer, Fault, Refusal, Selection};

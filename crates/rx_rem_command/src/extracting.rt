@@ -3,6 +3,7 @@
 ghost use Rattle.std.specs.Prelude.{◌≡◌, ◌≤◌, ◌⊎◌, List as ListOf, ℕ, not, length, Err};
 ghost use Rattle.rx_tree.specs.PlainOf.{plain-Program};
 ghost use Rattle.rx_parse_grammar.specs.grammar.Items.{Parses};
+ghost use Rattle.rx_check.specs.Front.{IsCheckedOf};
 ghost use Rattle.rx_check.specs.Passes.{Accepted};
 ghost use Rattle.rx_rem_command.specs.Lines.{fault_line, fault_status, status_line};
 ghost use Rattle.rx_engine_extraction.specs.Verdict.{Answers};
@@ -18,9 +19,10 @@ use crate::line::{line_of_fault, status_of_fault};
 use crate::reply::{deliver, report, report_name};
 use crate::status::Status;
 use crate::words::Preference;
-use rx_check::check;
+use rx_check::{Checked, check};
 use rx_core::{LetGo, Sink};
 use rx_engine::{Fault, Refusal, Selection, extract};
+use rx_engine_extraction::extract_checked;
 use rx_modes_policy::{ByCopy, ByReference};
 use rx_parse::{parse, parsed_programs_are_numbered};
 use rx_tree::Program;
@@ -52,11 +54,15 @@ fn is_left(fault: &Fault) -> bool
 fn moved(
     alloc: Global,
     text: &[u8],
+    program: &Program,
+    checked: &Checked,
     selection: Selection,
     name: &str,
     preference: Preference,
 ) -> Result<rx_engine_extraction::Answer, rx_engine_extraction::Fault>
-    requires { length text.now ≤ 1048576 }
+    requires short { length text.now ≤ 1048576 }
+    requires parses { Parses text.now (plain-Program program.now) }
+    requires checked { IsCheckedOf (plain-Program program.now) checked.now }
     ensures { Answers text.now (wish name.now selection.start selection.end (preferred preference)) result }
 {
     let selection = rx_engine_extraction::Selection {
@@ -64,9 +70,11 @@ fn moved(
         end: selection.end,
     };
     match preference {
-        Preference::Copy => { rx_engine_extraction::extract(alloc, text, selection, name, &ByCopy) }
+        Preference::Copy => {
+            extract_checked(alloc, text, program, checked, selection, name, &ByCopy)
+        }
         Preference::Reference => {
-            rx_engine_extraction::extract(alloc, text, selection, name, &ByReference)
+            extract_checked(alloc, text, program, checked, selection, name, &ByReference)
         }
     }
 }
@@ -94,6 +102,7 @@ fn move_run<O: Sink, E: Sink>(
     out: &mut O,
     err: &mut E,
     program: &Program,
+    checked: &Checked,
     text: &[u8],
     selection: Selection,
     name: &str,
@@ -101,13 +110,14 @@ fn move_run<O: Sink, E: Sink>(
 ) -> Status
     requires short { length text.now ≤ 1048576 }
     requires parses { Parses text.now (plain-Program program.now) }
+    requires checked { IsCheckedOf (plain-Program program.now) checked.now }
     requires accepted { Accepted (plain-Program program.now) }
     requires left { IsLeft (preferred preference) text.now selection.start selection.end name.now }
     ensures { (status : Status) × (outs : ListOf ℕ) × (errs : ListOf ℕ) × Found (extracts name.now selection.start selection.end (preferred preference)) text.now status outs errs
         × Ending (sink_state O.contents O.faults O.standstills out.old) (sink_state O.contents O.faults O.standstills out.new)
         (sink_state E.contents E.faults E.standstills err.old) (sink_state E.contents E.faults E.standstills err.new) status outs errs result }
 {
-    match moved(alloc, text, selection, name, preference) {
+    match moved(alloc, text, program, checked, selection, name, preference) {
         Ok(answer) => deliver(out, err, answer.text.as_str()),
         Err(fault) => refuse_extraction(alloc, err, program, &fault),
     }
@@ -119,12 +129,14 @@ fn extract_copying<O: Sink, E: Sink>(
     out: &mut O,
     err: &mut E,
     program: &Program,
+    checked: &Checked,
     text: &[u8],
     selection: Selection,
     name: &str,
 ) -> Status
     requires short { length text.now ≤ 1048576 }
     requires parses { Parses text.now (plain-Program program.now) }
+    requires checked { IsCheckedOf (plain-Program program.now) checked.now }
     requires accepted { Accepted (plain-Program program.now) }
     ensures { (status : Status) × (outs : ListOf ℕ) × (errs : ListOf ℕ) × Found (extracts name.now selection.start selection.end by_copy) text.now status outs errs
         × Ending (sink_state O.contents O.faults O.standstills out.old) (sink_state O.contents O.faults O.standstills out.new)
@@ -139,6 +151,7 @@ fn extract_copying<O: Sink, E: Sink>(
                     out,
                     err,
                     program,
+                    checked,
                     text,
                     selection,
                     name,
@@ -157,6 +170,7 @@ fn extract_run<O: Sink, E: Sink>(
     out: &mut O,
     err: &mut E,
     program: &Program,
+    checked: &Checked,
     text: &[u8],
     selection: Selection,
     name: &str,
@@ -164,16 +178,19 @@ fn extract_run<O: Sink, E: Sink>(
 ) -> Status
     requires short { length text.now ≤ 1048576 }
     requires parses { Parses text.now (plain-Program program.now) }
+    requires checked { IsCheckedOf (plain-Program program.now) checked.now }
     requires accepted { Accepted (plain-Program program.now) }
     ensures { (status : Status) × (outs : ListOf ℕ) × (errs : ListOf ℕ) × Found (extracts name.now selection.start selection.end (preferred preference)) text.now status outs errs
         × Ending (sink_state O.contents O.faults O.standstills out.old) (sink_state O.contents O.faults O.standstills out.new)
         (sink_state E.contents E.faults E.standstills err.old) (sink_state E.contents E.faults E.standstills err.new) status outs errs result }
 {
     match preference {
-        Preference::Copy => extract_copying(alloc, out, err, program, text, selection, name),
-        Preference::Reference => {
-            move_run(alloc, out, err, program, text, selection, name, preference)
+        Preference::Copy => {
+            extract_copying(alloc, out, err, program, checked, text, selection, name)
         }
+        Preference::Reference => move_run(
+            alloc, out, err, program, checked, text, selection, name, preference,
+        ),
     }
 }
 
@@ -197,8 +214,11 @@ fn extract_program<O: Sink, E: Sink>(
     parsed_programs_are_numbered();
     match check(alloc, program) {
         Ok(checked) => {
+            let status = extract_run(
+                alloc, out, err, program, &checked, text, selection, name, preference,
+            );
             checked.let_go();
-            extract_run(alloc, out, err, program, text, selection, name, preference)
+            status
         }
         Err(fault) => refuse_program(alloc, err, program, &fault),
     }

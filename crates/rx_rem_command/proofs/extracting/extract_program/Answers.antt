@@ -12,8 +12,8 @@ use Rattle.rx_rem_command.proofs.extracting.extract_program.Goals as goal
 pub check-requires : goal.check-requires
 check-requires g c = c.parsed_programs_are_numbered.ensures c.args.text.now (plain-Program c.args.program.now) c.requires.parses c.requires.short
 
-pub extract_run-requires-clause-accepted : goal.extract_run-requires-clause-accepted
-extract_run-requires-clause-accepted g c = (c.in-Ok.checked.front.typed, record { front = c.in-Ok.ensures.checked.front.accepted; borrows = c.in-Ok.ensures.checked.borrows })
+pub extract_run-status-requires-clause-accepted : goal.extract_run-status-requires-clause-accepted
+extract_run-status-requires-clause-accepted g c = (c.in-Ok.checked.front.typed, record { front = c.in-Ok.ensures.checked.front.accepted; borrows = c.in-Ok.ensures.checked.borrows })
 
 pub returns-in-Err : goal.returns-in-Err
 returns-in-Err g c = let p = plain-Program c.args.program.now in
