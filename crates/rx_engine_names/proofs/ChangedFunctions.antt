@@ -1,6 +1,6 @@
 -- A function of which only the body is changed has like trees in both programs: its entry, its parameters and its result are the same,
 -- and the walk goes along its body.
-use Rattle.std.proofs.Common.{◌≡◌, ℕ, suc, Bool, true, false, not, ◌&&◌, ◌||◌, List, [], ◌∷◌, ◌++◌, length, map, Option, Ok, Err, refl, sym, ap, ◌∙◌, subst, append-nil}
+use Rattle.std.proofs.Common.{◌≡◌, ℕ, suc, Bool, true, false, not, ◌&&◌, ◌||◌, List, [], ◌∷◌, ◌++◌, length, map, Option, Ok, Err, refl, sym, ap, ◌∙◌, subst, append-nil, None}
 use Rattle.rx_core.specs.declared.types.Span.{Span}
 use Rattle.rx_tree.specs.declared.tree.Ident.{Ident}
 use Rattle.rx_tree.specs.declared.tree.BoundLifetime.{BoundLifetime}
@@ -24,12 +24,14 @@ use Rattle.rx_engine_names.specs.LikeNamed.{Holes, LikeFunction}
 use Rattle.rx_engine_names.proofs.SideBySide.{named_ok, then_ok, and_ok, Frame, Reached, Kind, Numbers, numbers_then, numbers_last, numbers_give, numbers_node, numbers_both, Keeps, Part, in_turn4}
 use Rattle.rx_engine_names.proofs.Scoped.{Outer, Corresponds, AtName, Both, Scopes, scopes_later, BoundAlike, declared_names, scopes_entered}
 use Rattle.rx_engine_names.proofs.CopiedPatterns.{optional_type_alike, OptionalTypeNumbers}
-use Rattle.rx_engine_names.proofs.Standing.{BodyNumbers, Led, Stand}
+use Rattle.rx_engine_names.specs.Within.{Claims, BodyWithin}
+use Rattle.rx_engine_names.proofs.Standing.{BodyNumbers, Led, Rounds, any_rounds, Stand, Special}
 use Rattle.rx_engine_names.proofs.CopiedExpressions.{body_alike}
 use Rattle.rx_engine_names.proofs.NoClaims.{no_claims, body_within}
 use Rattle.rx_engine_names.specs.Alike.{with_body}
-use Rattle.rx_engine_names.proofs.PlainPlaces.{keeping, whole, none_starred, Becomes, special}
-use Rattle.rx_engine_names.proofs.Parameters.{function_entry, EntryIf, entry_alike, AtPlace, names_no_more, ParametersNumbers, parameters_alike, parameter_names, parameters_bind}
+use Rattle.rx_engine_names.proofs.PlainPlaces.{keeping, whole_in, none_starred, Becomes, special}
+use Rattle.rx_engine_names.proofs.Parameters.{function_entry, EntryIf, entry_alike, AtPlace, names_no_more, ParametersNumbers, parameters_alike, parameters_bind}
+use Rattle.rx_engine_names.specs.ParameterNames.{parameter_names}
 use Rattle.rx_engine_names.proofs.KeptItems.{Keeps as KeepsItems, keeps_fits}
 
 -- ---- lifetimes
@@ -61,16 +63,16 @@ or_false : (b : Bool) → (b || false) ≡ b
 or_false true = refl
 or_false false = refl
 
--- nothing is known of them
+-- another that is not bound since means nothing
 abbrev pub untold : Names → Outer
-untold known = record { names = known; tells = λ x o. Unit {0} }
+untold known = record { names = known; tells = λ x o. is_among x known ≡ false → o ≡ None }
 
-scopes_begin : (M : Made) (known : Names) (ds es : Declared) → BoundAlike M ds es → declared_names ds ≡ known → Scopes [] M no_claims [] (untold known) [] (entered [] ds) (entered [] es)
-scopes_begin M known ds es b d =
-    let h = scopes_entered [] M no_claims [] (untold []) [] known ds es [] [] b d (record { callees = λ x n. refl; variables = λ x e. absurd (cc); outer = λ x e k. tt }) in record {
-      callees = λ x a. by x (is_among x (known ++ [])) (ap (is_among x) (append-nil known)) (h.callees x a);
+scopes_begin : (N : Claims) (M : Made) (known : Names) (ds es : Declared) → BoundAlike M ds es → declared_names ds ≡ known → Scopes [] M N [] (untold known) [] (entered [] ds) (entered [] es)
+scopes_begin N M known ds es b d =
+    let h = scopes_entered [] M no_claims [] (untold []) [] known ds es [] [] b d (record { callees = λ x n. refl; variables = λ x e. absurd (cc); outer = λ x e k. refl }) in record {
+      callees = λ x a. by x (is_among x (known ++ [])) (ap (is_among x) (append-nil known)) (h.callees x tt);
       variables = λ x e. both x (is_among x (known ++ [])) (ap (is_among x) (append-nil known)) (h.variables x) e;
-      outer = λ x e k. tt;
+      outer = λ x e k. h.outer x (ap (is_among x) (append-nil known) ∙ k) refl;
     }
   where
     by : (x : List ℕ) (b : Bool) → b ≡ is_among x known → AtName (Corresponds [] M) (not b && false) (b || false) (variable_named (entered [] ds) x) (variable_named (entered [] es) x)
@@ -82,7 +84,7 @@ scopes_begin M known ds es b d =
         → is_among x known ≡ true → Both (Corresponds [] M) false (variable_named (entered [] ds) x) (variable_named (entered [] es) x)
     both x b e h k = subst (λ (z : Bool). Both (Corresponds [] M) z (variable_named (entered [] ds) x) (variable_named (entered [] es) x)) (none_starred (not b)) (h (or_false b ∙ e ∙ k))
 
-keeps_waiting : Keeps numbering.left_waiting
+pub keeps_waiting : Keeps numbering.left_waiting
 keeps_waiting = record { names = λ c. refl; declared = λ c. refl; loops = λ c. refl }
 
 -- ---- the whole function
@@ -98,7 +100,7 @@ function_numbers {R = R} {t = t} {u = u} {t1 = t1} {u1 = u1} {es = es} {es' = es
     numbers_both keeps_waiting keeps_waiting (λ ws ws'. numbers_give (record { item = n; params = ps; result = y; body = b; never_given = ws }) (record { item = n'; params = ps'; result = y'; body = b'; never_given = ws' })
     (record { params = h; result = g; body = d })))))))
 
-module _ (L : Frame) (H : Holes) (P Q : ProgramTree) (k : KeepsItems L.items P Q) (i : Span → Option kinds.Kind → Option kinds.Kind) (l : PatternTree → Option TypeTree → Option TypeTree) (b : Body → Body → Body) where
+module _ (L : Frame) (H : Holes) (P Q : ProgramTree) (k : KeepsItems L.items P Q) (i : Span → Option kinds.Kind → Option kinds.Kind) (l : PatternTree → Option TypeTree → Option TypeTree) (b : Body → Body → Body) (N : Claims) (rounds : Rounds) (round : rounds.holds [] []) where
   abbrev here : ℕ → Declared → Inside
   here a ls = record { program = P; item = a; lifetimes = ls }
 
@@ -108,12 +110,13 @@ module _ (L : Frame) (H : Holes) (P Q : ProgramTree) (k : KeepsItems L.items P Q
   abbrev C : Changes
   C = keeping i l b
 
-  abbrev Fine : ℕ → ℕ → Declared → Function → Type 0
-  Fine a a' ls f = Becomes L H (here a ls) (there a' ls) (keeps_fits L.items P Q k a a' ls).items_fit C (untold (parameter_names f.params))
+  -- the special places are alike, and the body is within the claims
+  abbrev Along : ℕ → ℕ → Declared → Function → Type 0
+  Along a a' ls f = Special (whole_in N rounds L H (here a ls) (there a' ls) (keeps_fits L.items P Q k a a' ls).items_fit C (untold (parameter_names f.params))) × BodyWithin N [] [] f.body
 
-  function_alike : (a a' : ℕ) (ls : Declared) (s : Span) (f : Function) → Fine a a' ls f → (M : Made) (t t' u : ItemNames) → in_function (here a ls) [] [] [] f t ≡ Ok t' → Reached L M t u → AtPlace 0 t → AtPlace 0 u
+  function_along : (a a' : ℕ) (ls : Declared) (s : Span) (f : Function) → Along a a' ls f → (M : Made) (t t' u : ItemNames) → in_function (here a ls) [] [] [] f t ≡ Ok t' → Reached L M t u → AtPlace 0 t → AtPlace 0 u
       → Part L M t t' u (λ G v. in_function (there a' ls) [] [] [] (with_body (changed_body C [] [] f.body) f) u ≡ Ok v) (FunctionNumbers H s f (with_body (changed_body C [] [] f.body) f) t u t')
-  function_alike a a' ls s f fine M t t' u e q p p' =
+  function_along a a' ls s f fine M t t' u e q p p' =
       let I = here a ls in let I' = there a' ls in let F = keeps_fits L.items P Q k a a' ls in
       let known = untold (parameter_names f.params) in let new = changed_body C [] [] f.body in
       let at1 = child [] (number (length f.params)) in let at2 = child [] (body_at (number (length f.params)) f.result) in
@@ -130,16 +133,17 @@ module _ (L : Frame) (H : Holes) (P Q : ProgramTree) (k : KeepsItems L.items P Q
       let A = parameters_alike L I I' F E.made [] [] 0 f.params (record { bindings = []; tables = Y.0 }) Z.0 (record { bindings = []; tables = E.table }) Z.1 E.reached tt
       (p ∙ ap number (sym (names_no_more I [] (Ok ks) t Y.0 Y.1))) (p' ∙ ap number (sym (names_no_more I' [] (Ok ks) u E.table E.answer))) in
       let T = optional_type_alike L A.made I I' F at1 at1 f.result Z.0.tables W.0 A.table W.1 A.reached in
-      let w : Stand (whole L H I I' F.items_fit C known) T.made [] [] = record {
+      let w : Stand (whole_in N rounds L H I I' F.items_fit C known) T.made [] [] = record {
         sc = entered [] Z.0.bindings;
         sc' = entered [] A.answer.0;
         ls = [];
         ls' = [];
-        scopes = scopes_later [] A.made T.made no_claims [] known [] (entered [] Z.0.bindings) (entered [] A.answer.0) T.grows
-            (scopes_begin A.made known.names Z.0.bindings A.answer.0 A.answer.2 (parameters_bind I [] 0 f.params (record { bindings = []; tables = Y.0 }) Z.0 Z.1));
+        scopes = scopes_later [] A.made T.made N [] known [] (entered [] Z.0.bindings) (entered [] A.answer.0) T.grows
+            (scopes_begin N A.made known.names Z.0.bindings A.answer.0 A.answer.2 (parameters_bind I [] 0 f.params (record { bindings = []; tables = Y.0 }) Z.0 Z.1));
         led = no_loops T.made;
+        round = round;
       } in
-      let B = body_alike (whole L H I I' F.items_fit C known) (special L H I I' F.items_fit i l b known fine) T.made [] [] w at2 at2 f.body (body_within [] [] f.body) W.0 t' T.table W.2 T.reached in
+      let B = body_alike (whole_in N rounds L H I I' F.items_fit C known) fine.0 T.made [] [] w at2 at2 f.body fine.1 W.0 t' T.table W.2 T.reached in
       in_turn4 E A T B
       (λ x y z v. and_ok (lifetimes_of I' [] 0 f.lifetimes) X.0 (λ ns. and_then (numbered I' [] (ns ++ numbers_from 0 f.params) u) middle') (Ok B.table) (sym (lifetimes_same P Q a a' ls [] 0 f.lifetimes) ∙ X.1)
       (and_ok (numbered I' [] ks u) E.table middle' (Ok B.table) x
@@ -148,14 +152,14 @@ module _ (L : Frame) (H : Holes) (P Q : ProgramTree) (k : KeepsItems L.items P Q
       (λ R sv k l m r. function_numbers s f new (not (is_nothing ks)) (function_entry I f X.0 X.1) k l m r)
 
   -- an item, whatever its number is
-  pub function_item_alike : L.holds [] 0 0 → (n m : ℕ) (s : Span) (f : Function) → Fine (number n) (number m) (firsts [] 0 (lifetimes_declared (plain.function_item s f))) f → (T : ItemNames) → in_item P n (plain.function_item s f) ≡ Ok T
+  pub function_item_along : L.holds [] 0 0 → (n m : ℕ) (s : Span) (f : Function) → Along (number n) (number m) (firsts [] 0 (lifetimes_declared (plain.function_item s f))) f → (T : ItemNames) → in_item P n (plain.function_item s f) ≡ Ok T
       → (U : ItemNames) × (in_item Q m (plain.function_item s (with_body (changed_body C [] [] f.body) f)) ≡ Ok U) × (G : Made) × Reached L G T U
       × ((R : Renaming) → Serves L.items G R → LikeFunction H R (function_named n s f T.names) (function_named m s (with_body (changed_body C [] [] f.body) f) U.names))
-  function_item_alike start n m s f fine T e =
+  function_item_along start n m s f fine T e =
       let ls = firsts [] 0 (lifetimes_declared (plain.function_item s f)) in
       let t : ItemNames = record { vars = []; lifetimes = map (λ (l : Ident). l.span) (lifetimes_declared (plain.function_item s f)); loops = []; names = [] } in
       let none : Made = record { variables = []; loops = [] } in
-      let A = function_alike (number n) (number m) ls s f fine none t T t e (record { vars = start; loops = start }) refl refl in (
+      let A = function_along (number n) (number m) ls s f fine none t T t e (record { vars = start; loops = start }) refl refl in (
         A.table,
         A.answer,
         A.made,
@@ -164,3 +168,16 @@ module _ (L : Frame) (H : Holes) (P Q : ProgramTree) (k : KeepsItems L.items P Q
             ((A.numbers R sv n m).holds (begins T.names) (begins A.table.names) [] [] (record { declared = refl; declared' = refl; loops = refl; loops' = refl })
             (A.grown ∙ sym (append-nil A.added)) (A.grown' ∙ sym (append-nil A.added'))).like,
       )
+
+-- ---- where nothing is claimed
+module _ (L : Frame) (H : Holes) (P Q : ProgramTree) (k : KeepsItems L.items P Q) (i : Span → Option kinds.Kind → Option kinds.Kind) (l : PatternTree → Option TypeTree → Option TypeTree) (b : Body → Body → Body) where
+  abbrev Fine : ℕ → ℕ → Declared → Function → Type 0
+  Fine a a' ls f = Becomes L H (record { program = P; item = a; lifetimes = ls }) (record { program = Q; item = a'; lifetimes = ls }) (keeps_fits L.items P Q k a a' ls).items_fit (keeping i l b) (untold (parameter_names f.params))
+
+  pub function_item_alike : L.holds [] 0 0 → (n m : ℕ) (s : Span) (f : Function) → Fine (number n) (number m) (firsts [] 0 (lifetimes_declared (plain.function_item s f))) f → (T : ItemNames) → in_item P n (plain.function_item s f) ≡ Ok T
+      → (U : ItemNames) × (in_item Q m (plain.function_item s (with_body (changed_body (keeping i l b) [] [] f.body) f)) ≡ Ok U) × (G : Made) × Reached L G T U
+      × ((R : Renaming) → Serves L.items G R → LikeFunction H R (function_named n s f T.names) (function_named m s (with_body (changed_body (keeping i l b) [] [] f.body) f) U.names))
+  function_item_alike start n m s f fine T e =
+      let ls = firsts [] 0 (lifetimes_declared (plain.function_item s f)) in
+      function_item_along L H P Q k i l b no_claims any_rounds tt start n m s f
+      (special L H (record { program = P; item = number n; lifetimes = ls }) (record { program = Q; item = number m; lifetimes = ls }) (keeps_fits L.items P Q k (number n) (number m) ls).items_fit i l b (untold (parameter_names f.params)) fine, body_within [] [] f.body) T e

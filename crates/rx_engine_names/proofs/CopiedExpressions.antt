@@ -15,16 +15,18 @@ use Rattle.rx_resolve_names.specs.Steps.{Outcome, and_then, Naming, ◌>>◌, on
 use Rattle.rx_resolve_names.specs.Names.{variant_in, struct_in, Bound, in_pattern, pattern_then, callee, rt_span, in_optional_type, initialiser_at, Scoped, in_expression, in_expressions, in_optional, in_arguments, in_fields, in_arms, in_block, in_statements, in_statement}
 use Rattle.rx_typed.specs.declared.nodes.Node.{Node}
 use Rattle.rx_typed.specs.declared.nodes.Site.{Site}
+use Rattle.rx_typed.specs.declared.nodes.Stage.{Stage}
+use Rattle.rx_typed.specs.declared.nodes.Use.{Use}
 use Rattle.rx_typed.specs.Named as named
 use Rattle.rx_typed.specs.Named.{Exp, Exps}
 use Rattle.rx_typed.specs.Naming as numbering
-use Rattle.rx_typed.specs.Naming.{Numbering, give, an_entry, first, second, of_expression}
+use Rattle.rx_typed.specs.Naming.{Cursor, Numbering, give, an_entry, first, second, of_expression}
 use Rattle.rx_engine_names.specs.Renaming.{Renaming, Made, Has}
 use Rattle.rx_engine_names.specs.LikeNamed.{Holes, SameSpan, LikeAnnotation, LikeExp, LikeExps, LikeElse, LikeStatement, like_bool, like_tuple, like_field, like_part, like_deref, like_negate, like_invert, like_borrow, like_binary, like_assign, like_gives, like_given, like_giving, like_update, like_call, like_hidden, like_input, like_variant, like_make, like_print, like_block, like_if, like_if_let, like_match, like_loop, like_while, like_while_let, like_no_exp, like_more_exps, like_absent, like_present, like_no_field, like_more_fields, like_no_arm, like_more_arms, like_body, like_declares, like_lets, like_evaluates, like_no_statement, like_more_statements}
 use Rattle.rx_hoist_extraction.specs.Names.{Names, bound, bound_by, behind_all}
 use Rattle.rx_hoist_extraction.specs.Changed.{Changes, changed, changed_all, changed_optional, changed_arguments, changed_fields, changed_arms, changed_body, changed_statement, changed_statements}
 use Rattle.rx_engine_names.specs.Within.{Within, AllWithin, OptionalWithin, ArgumentsWithin, FieldsWithin, ArmsWithin, BodyWithin, StatementWithin, StatementsWithin}
-use Rattle.rx_engine_names.proofs.SideBySide.{named_ok, then_ok, and_ok, the_same, Reached, Grows, grows_not, grows_on, Kind, Numbers, numbers_then, numbers_last, numbers_give, numbers_map, numbers_node, numbers_made, numbers_made_at, numbers_also, numbers_left, numbers_right, numbers_both, at_entries, numbers_entry, numbers_loop, with_loops, grows_loops, newest, newest_kept, loop_reached, Part, in_turn, in_turn3, in_turn4, restated, unchanged, names_alike}
+use Rattle.rx_engine_names.proofs.SideBySide.{named_ok, then_ok, and_ok, the_same, Reached, Grows, grows_not, grows_on, Kind, Numbers, numbers_then, numbers_last, numbers_give, numbers_map, numbers_node, numbers_made, numbers_made_at, numbers_also, numbers_left, numbers_right, numbers_both, at_entries, numbers_entry, numbers_loop, with_loops, grows_loops, newest, newest_kept, loop_reached, Part, in_turn, in_turn3, in_turn4, restated, unchanged, names_alike, Keeps}
 use Rattle.rx_engine_names.proofs.Scoped.{Corresponds, AtName, Scopes, scopes_later, scopes_entered}
 use Rattle.rx_engine_names.proofs.Fitting.{function_in, rt_in}
 use Rattle.rx_engine_names.proofs.CopiedPatterns.{names_one, PatternNumbers, pattern_alike, pattern_binds}
@@ -32,19 +34,61 @@ use Rattle.rx_engine_names.proofs.Standing.{AnnotationNumbers, later, ExpNumbers
 
 -- ---- an assignment, which may give a variable its type
 
-assigned_alike : {H : Holes} {R : Renaming} {t u t' u' : ItemNames} {es es' : List NodeNames} (n n' : Node) (p p' : Exp) (w w' : Option (ℕ × ℕ)) (f f' : Site → Numbering Exp) → SameSpan n n' → LikeExp H R p p'
+numbers_left_told : {A B B' : Type 0} {W : A → Type 0} {T : B → B' → Type 0} {t u t1 u1 : ItemNames} {es es' : List NodeNames} {m : Numbering A} {k : A → Numbering B} {m' : Numbering B'}
+    → Keeps m → ((c : Cursor) → W (m c).0) → ((a : A) → W a → Numbers T t u t1 u1 es es' (k a) m') → Numbers T t u t1 u1 es es' (numbering.and_then m k) m'
+numbers_left_told {m = m} h w K = record {
+  holds = λ c c' rest rest' q e e'.
+      (K (m c).0 (w c)).holds (m c).1 c' rest rest'
+      (record { declared = h.declared c ∙ q.declared; declared' = q.declared'; loops = h.loops c ∙ q.loops; loops' = q.loops' }) (h.names c ∙ e) e';
+}
+
+numbers_right_told : {A B B' : Type 0} {W : A → Type 0} {T : B → B' → Type 0} {t u t1 u1 : ItemNames} {es es' : List NodeNames} {m : Numbering B} {m' : Numbering A} {k : A → Numbering B'}
+    → Keeps m' → ((c : Cursor) → W (m' c).0) → ((a : A) → W a → Numbers T t u t1 u1 es es' m (k a)) → Numbers T t u t1 u1 es es' m (numbering.and_then m' k)
+numbers_right_told {m' = m'} h w K = record {
+  holds = λ c c' rest rest' q e e'.
+      (K (m' c').0 (w c')).holds c (m' c').1 rest rest'
+      (record { declared = q.declared; declared' = h.declared c' ∙ q.declared'; loops = q.loops; loops' = h.loops c' ∙ q.loops' }) e (h.names c' ∙ e');
+}
+
+-- what each side does in front is told
+numbers_told : {A A' B B' : Type 0} {W : A → Type 0} {W' : A' → Type 0} {T : B → B' → Type 0} {t u t1 u1 : ItemNames} {es es' : List NodeNames} {m : Numbering A} {m' : Numbering A'} {k : A → Numbering B} {k' : A' → Numbering B'}
+    → Keeps m → Keeps m' → ((c : Cursor) → W (m c).0) → ((c : Cursor) → W' (m' c).0) → ((a : A) (a' : A') → W a → W' a' → Numbers T t u t1 u1 es es' (k a) (k' a')) → Numbers T t u t1 u1 es es' (numbering.and_then m k) (numbering.and_then m' k')
+numbers_told {m = m} {m' = m'} h h' w w' K = record {
+  holds = λ c c' rest rest' q e e'.
+      (K (m c).0 (m' c').0 (w c) (w' c')).holds (m c).1 (m' c').1 rest rest'
+      (record { declared = h.declared c ∙ q.declared; declared' = h'.declared c' ∙ q.declared'; loops = h.loops c ∙ q.loops; loops' = h'.loops c' ∙ q.loops' }) (h.names c ∙ e) (h'.names c' ∙ e');
+}
+
+-- a variable that waits is that of the left side
+abbrev Waits : Exp → Option (ℕ × ℕ) → Type 0
+Waits p None = Unit {0}
+Waits p (Some w) = (named.root p).number ≡ w.0
+
+waits_told : (x : Expression) (p : Exp) (c : Cursor) → Waits p (numbering.waits_in x (named.root p).number c)
+waits_told (plain.var s y) p c = go (numbering.declaration c (named.root p).number).stage
+  where
+    go : (s : Stage) → Waits p (numbering.waiting (named.root p).number s)
+    go (Stage.Waits m z) = refl
+    go Stage.Known = tt
+    go Stage.Given = tt
+waits_told _ p c = tt
+
+abbrev IsUse : ℕ → Use → Type 0
+IsUse w x = w ≡ x.number
+
+assigned_alike : {H : Holes} {R : Renaming} {t u t' u' : ItemNames} {es es' : List NodeNames} (n n' : Node) (p p' : Exp) (w w' : Option (ℕ × ℕ)) (f f' : Site → Numbering Exp) → Waits p w → Waits p' w' → SameSpan n n' → LikeExp H R p p'
     → ((k k' : Site) → Numbers (LikeExp H R) t u t' u' es es' (f k) (f' k')) → Numbers (LikeExp H R) t u t' u' es es' (numbering.assigned n p w f) (numbering.assigned n' p' w' f')
-assigned_alike n n' p p' None None f f' g h k = numbers_map (named.assign n p) (named.assign n' p') (k Site.Expects Site.Expects) (λ a b l. like_assign g h l)
-assigned_alike n n' p p' None (Some w') f f' g h k =
-    numbers_last (k Site.Expects Site.Reborrows) (λ a b l. numbers_right (keeps_a_use w'.0) (λ x. numbers_right (keeps_gives_here w'.0) (λ d.
-    numbers_give (named.assign n p a) (named.gives n' (named.node_of p') x d b) (like_giving g l))))
-assigned_alike n n' p p' (Some w) None f f' g h k =
-    numbers_last (k Site.Reborrows Site.Expects) (λ a b l. numbers_left (keeps_a_use w.0) (λ x. numbers_left (keeps_gives_here w.0) (λ d.
-    numbers_give (named.gives n (named.node_of p) x d a) (named.assign n' p' b) (like_given g l))))
-assigned_alike n n' p p' (Some w) (Some w') f f' g h k =
-    numbers_last (k Site.Reborrows Site.Reborrows) (λ a b l. numbers_both (keeps_a_use w.0) (keeps_a_use w'.0) (λ x y.
-    numbers_both (keeps_gives_here w.0) (keeps_gives_here w'.0) (λ d e.
-    numbers_give (named.gives n (named.node_of p) x d a) (named.gives n' (named.node_of p') y e b) (like_gives g l))))
+assigned_alike n n' p p' None None f f' v v' g h k = numbers_map (named.assign n p) (named.assign n' p') (k Site.Expects Site.Expects) (λ a b l. like_assign g h l)
+assigned_alike n n' p p' None (Some w') f f' v v' g h k =
+    numbers_last (k Site.Expects Site.Reborrows) (λ a b l. numbers_right_told {W = IsUse w'.0} (keeps_a_use w'.0) (λ c. refl) (λ x e. numbers_right (keeps_gives_here w'.0) (λ d.
+    numbers_give (named.assign n p a) (named.gives n' (named.node_of p') x d b) (like_giving g h (record { node = refl; variable = v' ∙ e }) l))))
+assigned_alike n n' p p' (Some w) None f f' v v' g h k =
+    numbers_last (k Site.Reborrows Site.Expects) (λ a b l. numbers_left_told {W = IsUse w.0} (keeps_a_use w.0) (λ c. refl) (λ x e. numbers_left (keeps_gives_here w.0) (λ d.
+    numbers_give (named.gives n (named.node_of p) x d a) (named.assign n' p' b) (like_given g h (record { node = refl; variable = v ∙ e }) l))))
+assigned_alike n n' p p' (Some w) (Some w') f f' v v' g h k =
+    numbers_last (k Site.Reborrows Site.Reborrows) (λ a b l. numbers_told {W = IsUse w.0} {W' = IsUse w'.0} (keeps_a_use w.0) (keeps_a_use w'.0) (λ c. refl) (λ c. refl) (λ x y e e'.
+    numbers_both (keeps_gives_here w.0) (keeps_gives_here w'.0) (λ d d'.
+    numbers_give (named.gives n (named.node_of p) x d a) (named.gives n' (named.node_of p') y d' b) (like_gives g h (record { node = refl; variable = v ∙ e }) (record { node = refl; variable = v' ∙ e' }) l))))
 
 -- ---- a callee
 
@@ -226,8 +270,8 @@ mutual
       let A = expression_alike K S M own m w (child at 0) (child at' 0) x a.0 t X.0 u X.1 q in
       let B = expression_alike K S A.made own m (later K M A.made own m w A.grows) (child at 1) (child at' 1) y a.1 X.0 t' A.table X.2 A.reached in
       in_turn A B (λ c d. then_ok (in_expression K.I' w.sc' w.ls' (child at' 0) (changed K.C own m x)) (in_expression K.I' w.sc' w.ls' (child at' 1) (changed K.C own m y)) u A.table B.table c d)
-      (λ R sv k l b b' i i'. numbers_node s i i' (λ n n' g. numbers_then (k false false Site.Place Site.Place) (λ c d h. numbers_both (keeps_waits_for x c) (keeps_waits_for (changed K.C own m x) d) (λ z z'.
-      assigned_alike n n' c d z z' (λ i. of_expression false i y) (λ i. of_expression false i (changed K.C own m y)) g h (λ i i'. l false false i i')))))
+      (λ R sv k l b b' i i'. numbers_node s i i' (λ n n' g. numbers_then (k false false Site.Place Site.Place) (λ c d h. numbers_told {W = Waits c} {W' = Waits d} (keeps_waits_for x c) (keeps_waits_for (changed K.C own m x) d) (waits_told x c) (waits_told (changed K.C own m x) d) (λ z z' v v'.
+      assigned_alike n n' c d z z' (λ i. of_expression false i y) (λ i. of_expression false i (changed K.C own m y)) v v' g h (λ i i'. l false false i i')))))
   expression_alike K S M own m w at at' (plain.update s o x y) a t t' u e q =
       let X = named_ok (in_expression K.I w.sc w.ls (child at 0) x t) (in_expression K.I w.sc w.ls (child at 1) y) t' e in
       let A = expression_alike K S M own m w (child at 0) (child at' 0) x a.0 t X.0 u X.1 q in
@@ -412,10 +456,10 @@ mutual
   body_alike K S M own m w at at' (plain.body s ss o) a t t' u e q =
       let k = number (length (listed ss)) in let k' = number (length (listed (changed_statements K.C own m ss))) in
       let X = named_ok (in_statements K.I w.sc w.ls at 0 ss t) (λ r. in_optional K.I r.scope w.ls (child at k) o r.tables) t' e in
-      let A = statements_alike K S M own m w at at' 0 0 ss a.0 t X.0 u X.1 q in
+      let A = statements_alike K S M own m w at at' 0 0 ss a.1 t X.0 u X.1 q in
       let w1 = in_scope K A.made own (behind_all own ss) m (later K M A.made own m w A.grows) X.0.scope A.answer.0 A.answer.2 in
-      let B = optional_alike K S A.made (behind_all own ss) m w1 (child at k) (child at' k') o a.1 X.0.tables t' A.table X.2 A.reached in
-      S.blocks M own m w at at' (plain.body s ss o) (plain.body s (changed_statements K.C own m ss) (changed_optional K.C (behind_all own ss) m o)) t t' u e q (
+      let B = optional_alike K S A.made (behind_all own ss) m w1 (child at k) (child at' k') o a.2 X.0.tables t' A.table X.2 A.reached in
+      S.blocks M own m w at at' (plain.body s ss o) (plain.body s (changed_statements K.C own m ss) (changed_optional K.C (behind_all own ss) m o)) t t' u a.0 e q (
       in_turn A B (λ y z. and_ok (in_statements K.I' w.sc' w.ls' at' 0 (changed_statements K.C own m ss) u) (record { scope = A.answer.0; tables = A.table })
       (λ r. in_optional K.I' r.scope w.ls' (child at' k') (changed_optional K.C (behind_all own ss) m o) r.tables) (Ok B.table) A.answer.1 z)
       (λ R sv k l i i'. numbers_node s i i' (λ n n' g. numbers_then k (λ c d h. numbers_map (named.body n c) (named.body n' d) (l i i') (λ _ _ z. like_body g h z)))))

@@ -20,15 +20,14 @@ use Rattle.rx_engine_names.specs.Renaming.{Renaming, Pairs, Has, Made}
 use Rattle.rx_engine_names.specs.LikeNamed.{no_holes, like_int, like_typed, like_return}
 use Rattle.rx_engine_names.specs.Replaced.{NamesAlike, LoopsAlike, only}
 use Rattle.rx_engine_names.proofs.SideBySide.{numbers_node, numbers_map, restated}
-use Rattle.rx_engine_names.proofs.Scoped.{Corresponds, AtName, Both, at_both}
+use Rattle.rx_engine_names.proofs.Scoped.{unknown, Corresponds, AtName, Both, at_both}
 use Rattle.rx_engine_names.proofs.Fitting.{Fits}
 use Rattle.rx_engine_names.proofs.CopiedPatterns.{optional_type_alike}
-use Rattle.rx_engine_names.proofs.Standing.{Setting, Stand, Special}
+use Rattle.rx_engine_names.proofs.Standing.{any_rounds, Setting, Stand, Special}
 use Rattle.rx_engine_names.proofs.CopiedExpressions.{optional_alike, statements_alike}
 use Rattle.rx_engine_names.proofs.PlainPlaces.{none_starred, whole, plain_variable, jump_fits, plain_break, plain_continue, special}
 use Rattle.rx_engine_names.proofs.NoClaims.{statements_within, optional_within}
 use Rattle.rx_engine_names.proofs.KeptItems.{keeps_itself, keeps_fits}
-use Rattle.rx_engine_names.proofs.ChangedFunctions.{untold}
 use Rattle.rx_engine_names.proofs.MovedPlaces.{loose}
 use Rattle.rx_engine_names.proofs.Alone.{Alone}
 
@@ -61,7 +60,8 @@ module _ (items : ℕ → ℕ) (I I' : Inside) (F : Fits items I I') (xs : Names
     behind = [];
     stars = [];
     left = λ n k. ⊥;
-    known = untold [];
+    known = unknown;
+    rounds = any_rounds;
   }
 
   variable_both : (M : Made) (own : Names) (x : List ℕ) (o o' : Option ℕ) → Both (Corresponds [] M) (not (is_among x own) && false) o o' → AtName (Corresponds [] M) false true o o'
@@ -79,7 +79,7 @@ module _ (items : ℕ → ℕ) (I I' : Inside) (F : Fits items I I') (xs : Names
     returned = λ M own m w at at' s o o' t t' u n f h q. restated (h (child at' 0) u q) (λ z. z) (λ R sv k m m' i i'. numbers_node s i i' (λ n n' g. numbers_map (named.return n) (named.return n') (k Site.Expects Site.Expects) (λ _ _ r. like_return g r)));
     suffix = λ R s n n' b b' v k h g. like_int g;
     annotated = λ M at at' p y t t' u n e q. restated (optional_type_alike (loose items) M I I' F at at' y t t' u e q) (λ z. z) (λ R sv h. numbers_map (λ z. z) (λ z. z) h (λ a b r. like_typed r));
-    blocks = λ M own m w at at' b c t t' u e q h. h;
+    blocks = λ M own m w at at' b c t t' u n e q h. h;
   }
 
   unfoldable pub copied_stand : (M : Made) (ls ls' : List Around) → NamesAlike M xs start start' → LoopsAlike M ls ls' → Stand Copying M xs []
@@ -88,8 +88,9 @@ module _ (items : ℕ → ℕ) (I I' : Inside) (F : Fits items I I') (xs : Names
     sc' = start';
     ls = ls;
     ls' = ls';
-    scopes = record { callees = λ x a. callee x a (is_among x xs) refl; variables = λ x e. both x (is_among x xs) refl e; outer = λ x e k. tt };
+    scopes = record { callees = λ x a. callee x a (is_among x xs) refl; variables = λ x e. both x (is_among x xs) refl e; outer = λ x e. tt };
     led = λ l n e. g l n e;
+    round = tt;
   }
     where
       means : (x : List ℕ) → is_among x xs ≡ true → Both (Corresponds [] M) false (variable_named start x) (variable_named start' x)
@@ -160,11 +161,11 @@ module _ (P : ProgramTree) (a : ℕ) (L : Declared) where
   here = record { program = P; item = a; lifetimes = L }
 
   abbrev Same : Setting
-  Same = whole (loose (λ n. n)) no_holes here here (keeps_fits (λ n. n) P P (keeps_itself P) a a L).items_fit kept (untold [])
+  Same = whole (loose (λ n. n)) no_holes here here (keeps_fits (λ n. n) P P (keeps_itself P) a a L).items_fit kept unknown
 
   -- the text beside itself, for a scope and what stands round it
   itself_special : Special Same
-  itself_special = special (loose (λ n. n)) no_holes here here (keeps_fits (λ n. n) P P (keeps_itself P) a a L).items_fit (λ s k. k) (λ p y. y) (λ b c. c) (untold []) (record {
+  itself_special = special (loose (λ n. n)) no_holes here here (keeps_fits (λ n. n) P P (keeps_itself P) a a L).items_fit (λ s k. k) (λ p y. y) (λ b c. c) unknown (record {
     suffix = λ R s n n' b b' v k h g. like_int g;
     annotated = λ M at at' p y t t' u e q. restated (optional_type_alike (loose (λ n. n)) M here here (keeps_fits (λ n. n) P P (keeps_itself P) a a L) at at' y t t' u e q) (λ z. z) (λ R sv h. numbers_map (λ z. z) (λ z. z) h (λ a b r. like_typed r));
     blocks = λ M own m w at at' b c t t' u e q h. h;
@@ -186,8 +187,9 @@ module _ (P : ProgramTree) (a : ℕ) (L : Declared) where
     sc' = sc;
     ls = ls;
     ls' = ls;
-    scopes = record { callees = λ x z. itself sc ls x (variable_named sc x) refl; variables = λ x z. absurd (no_name z); outer = λ x z k. tt };
+    scopes = record { callees = λ x z. itself sc ls x (variable_named sc x) refl; variables = λ x z. absurd (no_name z); outer = λ x z. tt };
     led = λ l n h. (n, h, own_target ls l n h);
+    round = tt;
   }
 
   pub text_alone : (sc : Variables) (ls : List Around) (at : List ℕ) (i : ℕ) (ss : Statements) (t : ItemNames) (r : Scoped) → in_statements here sc ls at i ss t ≡ Ok r → Text t r ss

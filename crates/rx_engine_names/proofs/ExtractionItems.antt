@@ -61,16 +61,16 @@ avoids_none (Some y) = refl
 
 -- ---- items before and behind
 
-parts_of : {A : Type 0} (xs : List A) (n : ℕ) (x : A) → nth xs n ≡ Some x → (xs ≡ take n xs ++ (x ∷ drop (suc n) xs)) × (length (take n xs) ≡ n)
+pub parts_of : {A : Type 0} (xs : List A) (n : ℕ) (x : A) → nth xs n ≡ Some x → (xs ≡ take n xs ++ (x ∷ drop (suc n) xs)) × (length (take n xs) ≡ n)
 parts_of [] n x e = absurd (cc)
 parts_of (y ∷ ys) zero x e = let h : y ≡ x = cc in (ap (λ z. z ∷ ys) h, refl)
 parts_of (y ∷ ys) (suc n) x e = let r = parts_of ys n x e in (ap (λ z. y ∷ z) r.0, ap suc r.1)
 
-every_front : {A : Type 0} (P : A → Type 0) (xs ys : List A) → Every P (xs ++ ys) → Every P xs × Every P ys
+pub every_front : {A : Type 0} (P : A → Type 0) (xs ys : List A) → Every P (xs ++ ys) → Every P xs × Every P ys
 every_front P [] ys h = (tt, h)
 every_front P (x ∷ xs) ys h = let r = every_front P xs ys h.1 in ((h.0, r.0), r.1)
 
-every_join : {A : Type 0} (P : A → Type 0) (xs ys : List A) → Every P xs → Every P ys → Every P (xs ++ ys)
+pub every_join : {A : Type 0} (P : A → Type 0) (xs ys : List A) → Every P xs → Every P ys → Every P (xs ++ ys)
 every_join P [] ys h k = k
 every_join P (x ∷ xs) ys h k = (h.0, every_join P xs ys h.1 k)
 
@@ -175,6 +175,11 @@ module _ (P : ProgramTree) (r : Run) (pl : Plan) (bs : Bounds) (s : Span) (f : F
       by false has one more =
           let d = differ_all None h refl (λ e is. absurd (cc)) in
           program_resolves P (extraction P r pl bs) extraction_inserted None r.span h (ap (λ (b : Bool). if b then made_enum P r pl ∷ made_function P r pl bs g ∷ [] else made_function P r pl bs g ∷ []) has) d.0 d.1 ts e t ns one more
+
+  -- the function of the run is the one that changes, at its number
+  pub function_inserted : (extraction_inserted.old ≡ f) × (extraction_inserted.changed ≡ with_call P r pl g) × (extraction_inserted.place ≡ s) × (length extraction_inserted.before ≡ r.item)
+  unfolding extraction_inserted
+  function_inserted = (refl, refl, refl, (parts_of P r.item (plain.function_item s f) there).1)
 
   -- so many items are new, behind the function of the run
   pub numbers_there : (n : ℕ) → number_there extraction_inserted n ≡ past r.item (added pl) n

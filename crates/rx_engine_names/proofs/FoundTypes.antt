@@ -17,6 +17,7 @@ use Rattle.rx_typed.specs.Types as types
 use Rattle.rx_typed.specs.Types.{Typ, Shape, Shapes, integer, boolean, tuple_of, reference, no_shape, shape_and}
 use Rattle.rx_hoist_extraction.specs.Made.{ident}
 use Rattle.rx_hoist_extraction.specs.WrittenTypes.{item_name, name_of}
+use Rattle.rx_hoist_extraction.specs.Plan.{Variable}
 use Rattle.rx_hoist_words.specs.Words.{is_type_item, NamesTypes, NameTypes}
 use Rattle.rx_engine_names.proofs.SideBySide.{named_ok, the_same}
 use Rattle.rx_engine_names.proofs.NoDoubles.{none_pop, behind_none}
@@ -107,3 +108,7 @@ module _ (P : ProgramTree) (ts : List ItemNames) (e : in_program P ≡ Ok ts) (a
   pub each_finds : (xs : List (Span × Typ)) → Every (λ (x : Span × Typ). NamesTypes P x.1) xs → Every (λ (x : Span × Typ). Finds here P x.1) xs
   each_finds [] h = tt
   each_finds (x ∷ xs) h = (type_finds x.1 h.0, each_finds xs h.1)
+
+  pub all_find : (vs : List Variable) → Every (λ (v : Variable). NamesTypes P v.typ) vs → Every (λ (v : Variable). Finds here P v.typ) vs
+  all_find [] h = tt
+  all_find (v ∷ vs) h = (type_finds v.typ h.0, all_find vs h.1)

@@ -22,7 +22,7 @@ pub record Keeps (items : ℕ → ℕ) (P Q : ProgramTree) : Type 0 where
 
 -- ---- kinds of items
 
-known_some : (o : Option ℕ) (s : Span) (n : ℕ) → known o s ≡ Ok n → o ≡ Some n
+pub known_some : (o : Option ℕ) (s : Span) (n : ℕ) → known o s ≡ Ok n → o ≡ Some n
 known_some None s n e = absurd (cc)
 known_some (Some m) s n e = ap (λ (z : ℕ). Some z) (the_same m n e)
 

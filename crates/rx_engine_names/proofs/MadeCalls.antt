@@ -32,7 +32,7 @@ abbrev pub ExpsAlone : (Renaming → Exps → Type 0) → ItemNames → Expressi
 ExpsAlone P u e R u' es = (k : Site) → Alone (P R) u u' es (of_expressions k e)
 
 module _ (items : ℕ → ℕ) (C : Calls) (I' : Inside) (sc' : Variables) (ls' : List Around) (M : Made) where
-  abbrev Meant : List ℕ → Type 0
+  abbrev pub Meant : List ℕ → Type 0
   Meant x = (n : ℕ) × (m : ℕ) × (variable_named C.scope x ≡ Some n) × (variable_named sc' x ≡ Some m) × Has M.variables n m
 
   variable_alone : (R : Renaming) (x : List ℕ) (j m : ℕ) (n : Node) → n.span ≡ C.place → variable_named C.scope x ≡ Some j → R.variable j m ≡ true → (u u' : ItemNames) (es : List NodeNames) → Alone (λ a. a ≡ (m ∷ [], false)) u u' es an_entry
@@ -41,7 +41,7 @@ module _ (items : ℕ → ℕ) (C : Calls) (I' : Inside) (sc' : Variables) (ls' 
     holds = λ c rest q e. let y = N.holds c rest q e in record { like = passed_on g s (ap (λ (a : List ℕ × Bool). R.variable j (first a.0)) y.like ∙ v); stands = y.stands; left = y.left };
   }
 
-  made_variable : (at' : List ℕ) (x : List ℕ) → Meant x → (u : ItemNames) → Makes items M u (λ v. in_expression I' sc' ls' at' (plain.var C.place x) u ≡ Ok v) (ExpAlone (λ R b. Passed C R x b) u (plain.var C.place x))
+  pub made_variable : (at' : List ℕ) (x : List ℕ) → Meant x → (u : ItemNames) → Makes items M u (λ v. in_expression I' sc' ls' at' (plain.var C.place x) u ≡ Ok v) (ExpAlone (λ R b. Passed C R x b) u (plain.var C.place x))
   made_variable at' x h u =
       let A = makes_entry {items = items} {M = M} I' at' u h.1 [] (one (known (variable_named sc' x) C.place)) (ap (λ (o : Option ℕ). one (known o C.place)) h.3) in
       makes_map A (λ a. a) (λ R sv N m k. alone_node C.place k (λ n g. variable_alone R x h.0 h.1 n g h.2 (sv.variables h.0 h.1 h.4) u A.table A.added N))

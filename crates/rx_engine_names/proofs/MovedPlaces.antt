@@ -27,7 +27,7 @@ use Rattle.rx_engine_names.proofs.SideBySide.{named_ok, the_same, Frame, Reached
 use Rattle.rx_engine_names.proofs.Scoped.{Corresponds, Both, at_both}
 use Rattle.rx_engine_names.proofs.Fitting.{FitItems}
 use Rattle.rx_engine_names.proofs.CopiedPatterns.{names_one}
-use Rattle.rx_engine_names.proofs.Standing.{ExpNumbers, keeps_leads, Goes, Setting, Stand, ExpPart}
+use Rattle.rx_engine_names.proofs.Standing.{ExpNumbers, keeps_leads, Goes, any_rounds, Setting, Stand, ExpPart}
 use Rattle.rx_engine_names.proofs.PlainPlaces.{known_ok, plain_variable, led_ok, plain_break, plain_continue}
 use Rattle.rx_engine_names.proofs.PinnedPlaces.{keeps_node}
 use Rattle.rx_engine_names.proofs.OneSided.{second_node, second_map, first_entry, first_first, first_gives}
@@ -51,7 +51,8 @@ module _ (items : ℕ → ℕ) (V : Moves) (I I' : Inside) (start : Variables) (
     behind = V.behind;
     stars = referred V.plan.params;
     left = IsRound V;
-    known = record { names = V.known; tells = λ x o. o ≡ variable_named V.scope x };
+    known = record { names = V.known; tells = λ x o. is_among x V.known ≡ true → o ≡ variable_named V.scope x };
+    rounds = any_rounds;
   }
 
   -- ---- variables

@@ -46,10 +46,10 @@ round_by i (a_loop x m ∷ ls) l n e = by (is_meant l x) e (round_by (suc i) ls 
     by false e f = let r = f e in (suc r.0, r.1 ∙ ap (λ z. to_loop (suc z)) (suc-add i r.0 ∙ sym (add-suc i r.0)), r.2)
 
 module _ (items : ℕ → ℕ) (V : Moves) (I I' : Inside) (start : Variables) (F : FitItems items I I') (E : ExitsNamed V I') where
-  abbrev J : Setting
+  abbrev pub J : Setting
   J = K items V I I' start F E
 
-  moved_special : Special J
+  pub moved_special : Special J
   moved_special = record {
     variable = λ M own m w at at' s x t t' u n e q. moved_var items V I I' start F E M own m w at at' s x t t' u n e q;
     broken = λ M own m w at at' s l t t' u n e q. moved_jump items V I I' start F E M own m w at at' s l t t' u n e q;
@@ -57,15 +57,15 @@ module _ (items : ℕ → ℕ) (V : Moves) (I I' : Inside) (start : Variables) (
     returned = λ M own m w at at' s o o' t t' u n f h q. moved_returned items V I I' start F E M own m w at' s o o' t t' u n f h q;
     suffix = λ R s n n' b b' v k h g. like_int g;
     annotated = λ M at at' p y t t' u n e q. restated (annotation_alike (loose items) M I I' F at at' y n t t' u e q) (λ z. z) (λ R sv h. numbers_map (λ z. z) (λ z. z) h (λ a b r. like_typed r));
-    blocks = λ M own m w at at' b c t t' u e q h. h;
+    blocks = λ M own m w at at' b c t t' u n e q h. h;
   }
 
-  led_round : (M : Made) → Led (IsRound V) M V.loops (rounds V) []
+  pub led_round : (M : Made) → Led (IsRound V) M V.loops (rounds V) []
   led_round M l n e =
       let r = round_by 0 V.loops l n e in
       subst (λ (o : Option ℕ). Goes (IsRound V) M o n (target l [])) (sym (ap beyond (r.1 ∙ ap (λ z. to_loop (suc z)) (zero-add r.0)))) r.2
 
-  begins : (M : Made) → StartsAlike V M start → Stand J M [] (rounds V)
+  unfoldable pub begins : (M : Made) → StartsAlike V M start → Stand J M [] (rounds V)
   begins M h = record {
     sc = V.scope;
     sc' = start;
@@ -77,6 +77,7 @@ module _ (items : ℕ → ℕ) (V : Moves) (I I' : Inside) (start : Variables) (
       outer = λ x e k. refl;
     };
     led = led_round M;
+    round = tt;
   }
     where
       paired : (b : Bool) (n m : ℕ) → Paired V.behind M b n m → Corresponds V.behind M n m b
@@ -98,7 +99,7 @@ module _ (items : ℕ → ℕ) (V : Moves) (I I' : Inside) (start : Variables) (
   pairs G false n m h = h
 
   -- what a name means behind the statements
-  names : (G : Made) (sc sc' : Variables) (b : Bool) (x : List ℕ) → Both (Corresponds V.behind G) b (variable_named sc x) (variable_named sc' x)
+  pub names : (G : Made) (sc sc' : Variables) (b : Bool) (x : List ℕ) → Both (Corresponds V.behind G) b (variable_named sc x) (variable_named sc' x)
       → (n : ℕ) × (m : ℕ) × (variable_named sc x ≡ Some n) × (variable_named sc' x ≡ Some m) × Paired V.behind G b n m
   names G sc sc' b x z = (z.0, z.1, z.2, z.3, pairs G b z.0 z.1 z.4)
 
@@ -117,12 +118,12 @@ module _ (items : ℕ → ℕ) (V : Moves) (I I' : Inside) (start : Variables) (
         alike = λ R sv k k' c c' rest rest' q q' n n'. ((A.numbers R sv k k').holds c c' rest rest' (record { declared = q.0; declared' = q'.0; loops = q.1; loops' = q'.1 }) n n').like;
       }
 
-  pub moved_run : (M : Made) → StartsAlike V M start → (at at' : List ℕ) (ss : Statements) → StatementsWithin (asked V I I' start) [] (rounds V) ss
-      → (t u : ItemNames) (r : Scoped) → in_statements I V.scope V.loops at 0 ss t ≡ Ok r → RunAlike items V I I' start M at' ss t u r
+  pub moved_run : (M : Made) → StartsAlike V M start → (at at' : List ℕ) (i i' : ℕ) (ss : Statements) → StatementsWithin (asked V I I' start) [] (rounds V) ss
+      → (t u : ItemNames) (r : Scoped) → in_statements I V.scope V.loops at i ss t ≡ Ok r → RunAlike items V I I' start M at' i' ss t u r
   unfolding begins
-  moved_run M h at at' ss within t u r e =
+  moved_run M h at at' i i' ss within t u r e =
       let w = begins M h in
-      let A = statements_alike J moved_special M [] (rounds V) w at at' 0 0 ss within t r u e (record { vars = tt; loops = tt }) in
+      let A = statements_alike J moved_special M [] (rounds V) w at at' i i' ss within t r u e (record { vars = tt; loops = tt }) in
       let own = behind_all [] ss in
       let w1 = in_scope J A.made [] own (rounds V) (later J M A.made [] (rounds V) w A.grows) r.scope A.answer.0 A.answer.2 in record {
         statements = record {

@@ -8,7 +8,7 @@ use Rattle.rx_engine_names.specs.Within.{Claims, Within, AllWithin, OptionalWith
 
 -- where nothing is claimed
 abbrev pub no_claims : Claims
-no_claims = record { name = λ x. Unit {0}; variable = λ own x. Unit {0}; broken = λ own ls l. Unit {0}; continued = λ own ls l. Unit {0}; returned = Unit {0}; annotation = λ y. Unit {0} }
+no_claims = record { name = λ x. Unit {0}; variable = λ own x. Unit {0}; broken = λ own ls l. Unit {0}; continued = λ own ls l. Unit {0}; returned = Unit {0}; annotation = λ y. Unit {0}; block = λ own ls b. Unit {0} }
 
 mutual
   pub exp_within : (own : Names) (ls : List Around) (e : Expression) → Within no_claims own ls e
@@ -62,7 +62,7 @@ mutual
   arms_within own ls (plain.arm_and p e l) = (exp_within (bound p ++ own) ls e, arms_within own ls l)
 
   pub body_within : (own : Names) (ls : List Around) (e : Body) → BodyWithin no_claims own ls e
-  body_within own ls (plain.body s ss o) = (statements_within own ls ss, optional_within (behind_all own ss) ls o)
+  body_within own ls (plain.body s ss o) = (tt, statements_within own ls ss, optional_within (behind_all own ss) ls o)
 
   pub statement_within : (own : Names) (ls : List Around) (e : Statement) → StatementWithin no_claims own ls e
   statement_within own ls (plain.let_statement s p y o) = (tt, optional_within own ls o)

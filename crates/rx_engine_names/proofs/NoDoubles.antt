@@ -23,7 +23,7 @@ use Rattle.rx_engine_names.proofs.KeptPrograms.{all_items}
 abbrev Covers : Names → Declared → Declared → Type 0
 Covers X ds es = (x : List ℕ) → is_among x X ≡ false → declared_as ds x ≡ None → declared_as es x ≡ None
 
-none_push : (ds : Declared) (d : List ℕ × Known) (x : List ℕ) → declared_as ds x ≡ None → bytes_eq x d.0 ≡ false → declared_as (ds ++ d ∷ []) x ≡ None
+pub none_push : (ds : Declared) (d : List ℕ × Known) (x : List ℕ) → declared_as ds x ≡ None → bytes_eq x d.0 ≡ false → declared_as (ds ++ d ∷ []) x ≡ None
 none_push [] d x e f = ap (λ (b : Bool). if b then Some d.1 else None) f
 none_push (c ∷ ds) d x e f = by (bytes_eq x c.0) e (none_push ds d x)
   where

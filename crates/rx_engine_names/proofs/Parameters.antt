@@ -21,6 +21,7 @@ use Rattle.std.proofs.Common.{◌≤◌, ◌<◌, arith, nat_le, inl, inr}
 use Rattle.rx_hoist_extraction.specs.Names.{Names}
 use Rattle.rx_engine_names.specs.Renaming.{Renaming, Pairs, Has, Made}
 use Rattle.rx_engine_names.specs.LikeNamed.{LikeWritten, LikeParameters, like_no_parameter, like_more_parameters}
+pub use Rattle.rx_engine_names.specs.ParameterNames.{parameter_names}
 use Rattle.rx_engine_names.proofs.SideBySide.{one_more, named_ok, and_ok, the_same, Frame, Reached, grows_not, grows_on, serves_before, Kind, Numbers, numbers_then, numbers_give, numbers_map, numbers_declare, with_pair, grows_pair, newest, variable_reached, Part, restated, unchanged, names_alike}
 use Rattle.rx_engine_names.proofs.Scoped.{BoundAlike, bound_later, declares_alike, declared_more, declared_names}
 use Rattle.rx_engine_names.proofs.Fitting.{Fits}
@@ -74,10 +75,10 @@ entry_alike L M I I' at at' (k ∷ ks) t t' u e q =
 
 -- ---- parameters. The number that each is declared with is its place, and the next variable has that too
 
-number_twice : (n : ℕ) → number (number n) ≡ number n
+pub number_twice : (n : ℕ) → number (number n) ≡ number n
 number_twice n = min-eq_left (min-le_right n 4294967295)
 
-number_next : (n : ℕ) → number (suc (number n)) ≡ number (suc n)
+pub number_next : (n : ℕ) → number (suc (number n)) ≡ number (suc n)
 number_next n = by (nat_le n 4294967295) refl
   where
     by : (b : Bool) → nat_le n 4294967295 ≡ b → number (suc (number n)) ≡ number (suc n)
@@ -112,7 +113,7 @@ lifetime_no_more I at None t t' e = same_vars t t' e
 lifetime_no_more I at (Some l) t t' e = names_no_more I at (one (lifetime_in I l)) t t' e
 
 mutual
-  type_no_more : (I : Inside) (at : List ℕ) (y : TypeTree) (t t' : ItemNames) → in_type I at y t ≡ Ok t' → NoMore t t'
+  pub type_no_more : (I : Inside) (at : List ℕ) (y : TypeTree) (t t' : ItemNames) → in_type I at y t ≡ Ok t' → NoMore t t'
   type_no_more I at (plain.kind_type s k) t t' e = same_vars t t' e
   type_no_more I at (plain.bool_type s) t t' e = same_vars t t' e
   type_no_more I at (plain.tuple_type s ts) t t' e = types_no_more I at 0 ts t t' e
@@ -181,10 +182,6 @@ module _ (L : Frame) (I I' : Inside) (F : Fits L.items I I') where
       }
 
 -- the names of parameters
-abbrev pub parameter_names : List Parameter → Names
-parameter_names [] = []
-parameter_names (x ∷ xs) = x.name.name ∷ parameter_names xs
-
 pub parameters_bind : (I : Inside) (at : List ℕ) (i : ℕ) (xs : List Parameter) (b b1 : Bound) → in_parameters I at i xs b ≡ Ok b1 → declared_names b1.bindings ≡ declared_names b.bindings ++ parameter_names xs
 parameters_bind I at i [] b b1 e = ap (λ (v : Bound). declared_names v.bindings) (sym (the_same b b1 e)) ∙ sym (append-nil (declared_names b.bindings))
 parameters_bind I at i (x ∷ xs) b b1 e =

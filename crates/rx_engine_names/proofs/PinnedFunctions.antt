@@ -13,7 +13,7 @@ use Rattle.rx_engine_names.specs.LikeNamed.{LikeFunction}
 use Rattle.rx_engine_names.specs.Alike.{same_numbers}
 use Rattle.rx_engine_names.specs.WrittenOut.{written_out, PinsName}
 use Rattle.rx_engine_names.proofs.KeptItems.{Keeps, keeps_fits}
-use Rattle.rx_engine_names.proofs.Parameters.{parameter_names}
+use Rattle.rx_engine_names.specs.ParameterNames.{parameter_names}
 use Rattle.rx_engine_names.proofs.ChangedFunctions.{untold, function_item_alike}
 use Rattle.rx_engine_names.proofs.KeptPrograms.{lockstep, same_serve, same_function}
 use Rattle.rx_engine_names.proofs.FoundTypes.{each_finds}

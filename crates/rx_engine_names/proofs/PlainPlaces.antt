@@ -24,7 +24,8 @@ use Rattle.rx_engine_names.proofs.SideBySide.{the_same, Frame, Reached, Numbers,
 use Rattle.rx_engine_names.proofs.Scoped.{Outer, Corresponds, AtName}
 use Rattle.rx_engine_names.proofs.Fitting.{FitItems}
 use Rattle.rx_engine_names.proofs.CopiedPatterns.{names_one}
-use Rattle.rx_engine_names.proofs.Standing.{AnnotationNumbers, ExpNumbers, keeps_leads, Goes, Led, Setting, Stand, ExpPart, BodyPart, Special}
+use Rattle.rx_engine_names.proofs.Standing.{AnnotationNumbers, ExpNumbers, keeps_leads, Goes, Led, Rounds, any_rounds, Setting, Stand, ExpPart, BodyPart, Special}
+use Rattle.rx_engine_names.specs.Within.{Claims}
 use Rattle.rx_engine_names.proofs.NoClaims.{no_claims}
 
 -- ---- what is kept
@@ -33,8 +34,12 @@ use Rattle.rx_engine_names.proofs.NoClaims.{no_claims}
 abbrev pub keeping : (Span → Option kinds.Kind → Option kinds.Kind) → (PatternTree → Option TypeTree → Option TypeTree) → (Body → Body → Body) → Changes
 keeping i l b = record kept { at_int = i; at_let = l; at_block = b }
 
+abbrev pub whole_in : Claims → Rounds → (L : Frame) (H : Holes) (I I' : Inside) → FitItems L.items I I' → Changes → Outer → Setting
+whole_in N rounds L H I I' F C known = record { L = L; H = H; I = I; I' = I'; fits = F; N = N; C = C; behind = []; stars = []; left = λ n k. ⊥; known = known; rounds = rounds }
+
+-- nothing is claimed
 abbrev pub whole : (L : Frame) (H : Holes) (I I' : Inside) → FitItems L.items I I' → Changes → Outer → Setting
-whole L H I I' F C known = record { L = L; H = H; I = I; I' = I'; fits = F; N = no_claims; C = C; behind = []; stars = []; left = λ n k. ⊥; known = known }
+whole L H I I' F C known = whole_in no_claims any_rounds L H I I' F C known
 
 -- ---- the special places
 
@@ -111,5 +116,5 @@ special L H I I' F i l b known B = let K = whole L H I I' F (keeping i l b) know
   returned = λ M own m w at at' s o o' t t' u n f h q. restated (h (child at' 0) u q) (λ z. z) (λ R sv k m m' i i'. numbers_node s i i' (λ n n' g. numbers_map (named.return n) (named.return n') (k Site.Expects Site.Expects) (λ _ _ r. like_return g r)));
   suffix = B.suffix;
   annotated = λ M at at' p y t t' u n e q. B.annotated M at at' p y t t' u e q;
-  blocks = B.blocks;
+  blocks = λ M own m w at at' b done t t' u n e q h. B.blocks M own m w at at' b done t t' u e q h;
 }

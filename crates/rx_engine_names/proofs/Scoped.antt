@@ -42,7 +42,7 @@ pub record Outer : Type 1 where
 pub record Scopes (B : Pairs) (M : Made) (N : Claims) (stars : Names) (known : Outer) (own : Names) (sc sc' : Variables) : Type 0 where
   pub callees : (x : List ℕ) → N.name x → AtName (Corresponds B M) (not (is_among x own) && is_among x stars) (is_among x own || is_among x known.names) (variable_named sc x) (variable_named sc' x)
   pub variables : (x : List ℕ) → (is_among x own || is_among x known.names) ≡ true → Both (Corresponds B M) (not (is_among x own) && is_among x stars) (variable_named sc x) (variable_named sc' x)
-  pub outer : (x : List ℕ) → is_among x own ≡ false → is_among x known.names ≡ true → known.tells x (variable_named sc x)
+  pub outer : (x : List ℕ) → is_among x own ≡ false → known.tells x (variable_named sc x)
 
 scopes_one : (B : Pairs) (M : Made) (N : Claims) (stars : Names) (known : Outer) (own : Names) (y : List ℕ) (n m : ℕ) (sc sc' : Variables) → Has M.variables n m → Scopes B M N stars known own sc sc'
     → Scopes B M N stars known (y ∷ own) (record { name = y; number = n } ∷ sc) (record { name = y; number = m } ∷ sc')
@@ -62,9 +62,13 @@ scopes_one B M N stars known own y n m sc sc' v h = record {
     both x h true e = (n, m, refl, refl, v)
     both x h false e = h e
 
-    told : (x : List ℕ) → (is_among x own ≡ false → is_among x known.names ≡ true → known.tells x (variable_named sc x)) → (b : Bool) → (b || is_among x own) ≡ false → is_among x known.names ≡ true → known.tells x (if b then Some n else variable_named sc x)
-    told x h true e k = absurd (cc)
-    told x h false e k = h e k
+    told : (x : List ℕ) → (is_among x own ≡ false → known.tells x (variable_named sc x)) → (b : Bool) → (b || is_among x own) ≡ false → known.tells x (if b then Some n else variable_named sc x)
+    told x h true e = absurd (cc)
+    told x h false e = h e
+
+-- nothing is known of any
+abbrev pub unknown : Outer
+unknown = record { names = []; tells = λ x o. Unit {0} }
 
 -- ---- more was made
 
@@ -97,7 +101,7 @@ BoundAlike M (d ∷ ds) (e ∷ es) = (e.0 ≡ d.0) × Has M.variables d.1.number
 BoundAlike M [] (e ∷ es) = ⊥
 BoundAlike M (d ∷ ds) [] = ⊥
 
-abbrev piled : Names → Declared → Names
+abbrev pub piled : Names → Declared → Names
 piled own [] = own
 piled own (d ∷ ds) = piled (d.0 ∷ own) ds
 
@@ -115,7 +119,7 @@ or_swap true true c = refl
 or_swap true false c = refl
 or_swap false b c = refl
 
-among_append : (x : List ℕ) (ys zs : Names) → is_among x (ys ++ zs) ≡ (is_among x ys || is_among x zs)
+pub among_append : (x : List ℕ) (ys zs : Names) → is_among x (ys ++ zs) ≡ (is_among x ys || is_among x zs)
 among_append x [] zs = refl
 among_append x (y ∷ ys) zs = ap (λ (b : Bool). bytes_eq x y || b) (among_append x ys zs) ∙ or_assoc (bytes_eq x y) (is_among x ys) (is_among x zs)
   where
@@ -123,7 +127,7 @@ among_append x (y ∷ ys) zs = ap (λ (b : Bool). bytes_eq x y || b) (among_appe
     or_assoc true b c = refl
     or_assoc false b c = refl
 
-among_piled : (x : List ℕ) (own : Names) (ds : Declared) → is_among x (piled own ds) ≡ is_among x (declared_names ds ++ own)
+pub among_piled : (x : List ℕ) (own : Names) (ds : Declared) → is_among x (piled own ds) ≡ is_among x (declared_names ds ++ own)
 among_piled x own [] = refl
 among_piled x own (d ∷ ds) =
     among_piled x (d.0 ∷ own) ds ∙ among_append x (declared_names ds) (d.0 ∷ own) ∙ or_swap (is_among x (declared_names ds)) (bytes_eq x d.0) (is_among x own)
@@ -137,7 +141,7 @@ scopes_entered B M N stars known own names ds es sc sc' b e h = let k = scopes_p
       (among_piled x own ds ∙ ap (λ (l : Names). is_among x (l ++ own)) e) (k.callees x a);
   variables = λ x. subst (λ (y : Bool). (y || is_among x known.names) ≡ true → Both (Corresponds B M) (not y && is_among x stars) (variable_named (entered sc ds) x) (variable_named (entered sc' es) x))
       (among_piled x own ds ∙ ap (λ (l : Names). is_among x (l ++ own)) e) (k.variables x);
-  outer = λ x. subst (λ (y : Bool). y ≡ false → is_among x known.names ≡ true → known.tells x (variable_named (entered sc ds) x)) (among_piled x own ds ∙ ap (λ (l : Names). is_among x (l ++ own)) e) (k.outer x);
+  outer = λ x. subst (λ (y : Bool). y ≡ false → known.tells x (variable_named (entered sc ds) x)) (among_piled x own ds ∙ ap (λ (l : Names). is_among x (l ++ own)) e) (k.outer x);
 }
 
 pub bound_later : (M M' : Made) → Grows M M' → (ds es : Declared) → BoundAlike M ds es → BoundAlike M' ds es
@@ -167,7 +171,7 @@ bound_more M (d ∷ ds) (e ∷ es) x k l b v = (b.0, b.1, bound_more M ds es x k
 bound_more M [] (e ∷ es) x k l b v = absurd b
 bound_more M (d ∷ ds) [] x k l b v = absurd b
 
-names_more : (ds : Declared) (x : List ℕ) (k : Known) → declared_names (ds ++ (x, k) ∷ []) ≡ declared_names ds ++ x ∷ []
+pub names_more : (ds : Declared) (x : List ℕ) (k : Known) → declared_names (ds ++ (x, k) ∷ []) ≡ declared_names ds ++ x ∷ []
 names_more [] x k = refl
 names_more (d ∷ ds) x k = ap (λ (l : Names). d.0 ∷ l) (names_more ds x k)
 

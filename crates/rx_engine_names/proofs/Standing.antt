@@ -1,5 +1,5 @@
 -- Where a part that is copied stands: the scopes of both sides, and the loops round it.
-use Rattle.std.proofs.Common.{◌≡◌, ℕ, Bool, true, false, if◌then◌else◌, List, ◌∷◌, ◌++◌, Option, Some, None, Ok, refl, subst, length-set}
+use Rattle.std.proofs.Common.{◌≡◌, ℕ, Bool, true, false, if◌then◌else◌, List, ◌∷◌, ◌++◌, Option, Some, None, Ok, refl, ap, subst, length-set}
 use Rattle.rx_core.specs.declared.types.Span.{Span}
 use Rattle.rx_tree.specs.declared.tree.Ident.{Ident}
 use Rattle.rx_tree.specs.Plain as plain
@@ -23,6 +23,7 @@ use Rattle.rx_hoist_extraction.specs.Names.{Names}
 use Rattle.rx_hoist_extraction.specs.Changed.{Changes}
 use Rattle.rx_hoist_extraction.specs.Moved.{beyond, leaves}
 use Rattle.rx_engine_names.specs.Within.{Claims}
+use Rattle.rx_engine_names.specs.Moves.{labels_of}
 use Rattle.rx_engine_names.proofs.SideBySide.{Frame, Reached, Grows, Kind, Numbers, Keeps, Part}
 use Rattle.rx_engine_names.proofs.Scoped.{Outer, Scopes, scopes_later, BoundAlike, declared_names, scopes_entered}
 use Rattle.rx_engine_names.proofs.Fitting.{FitItems}
@@ -140,6 +141,25 @@ led_loop left M ls m ls' l n n' h r x j e = by (is_meant x l) e
 pub led_test : (left : ℕ → ℕ → Type 0) (M : Made) (ls m ls' : List Around) → Led left M (a_test ∷ ls) (a_test ∷ m) (a_test ∷ ls')
 led_test left M ls m ls' x j e = absurd (not_through (target x ls) j e)
 
+-- ---- what is known of what stands round a part: in the first, and by which it is changed
+
+pub record Rounds : Type 1 where
+  pub holds : List Around → List Around → Type 0
+  pub in_loop : (ls m : List Around) (l : Option Ident) (n : ℕ) → holds ls m → holds (a_loop l n ∷ ls) (a_loop l 0 ∷ m)
+  pub in_test : (ls m : List Around) → holds ls m → holds (a_test ∷ ls) (a_test ∷ m)
+
+-- nothing is
+abbrev pub any_rounds : Rounds
+any_rounds = record { holds = λ ls m. Unit {0}; in_loop = λ ls m l n h. tt; in_test = λ ls m h. tt }
+
+-- the loops have the same labels
+abbrev pub same_labels : Rounds
+same_labels = record {
+  holds = λ ls m. labels_of ls ≡ labels_of m;
+  in_loop = λ ls m l n h. ap (λ (ys : List (Option Ident)). l ∷ ys) h;
+  in_test = λ ls m h. h;
+}
+
 -- ---- what is copied, and how
 
 pub record Setting : Type 1 where
@@ -157,6 +177,7 @@ pub record Setting : Type 1 where
   pub left : ℕ → ℕ → Type 0
   -- the names that are in scope from the beginning, and what is known of them
   pub known : Outer
+  pub rounds : Rounds
 
 pub record Stand (K : Setting) (M : Made) (own : Names) (m : List Around) : Type 0 where
   pub sc : Variables
@@ -165,6 +186,7 @@ pub record Stand (K : Setting) (M : Made) (own : Names) (m : List Around) : Type
   pub ls' : List Around
   pub scopes : Scopes K.behind M K.N K.stars K.known own sc sc'
   pub led : Led K.left M ls m ls'
+  pub round : K.rounds.holds ls m
 
 -- where more was made
 abbrev pub later : (K : Setting) (M M' : Made) (own : Names) (m : List Around) → Stand K M own m → Grows M M' → Stand K M' own m
@@ -175,6 +197,7 @@ later K M M' own m w g = record {
   ls' = w.ls';
   scopes = scopes_later K.behind M M' K.N K.stars K.known own w.sc w.sc' g w.scopes;
   led = led_later K.left M M' g w.ls m w.ls' w.led;
+  round = w.round;
 }
 
 abbrev pub with_bindings : (K : Setting) (M : Made) (own : Names) (m : List Around) (w : Stand K M own m) (names : Names) (ds es : Declared) → BoundAlike M ds es → declared_names ds ≡ names → Stand K M (names ++ own) m
@@ -185,6 +208,7 @@ with_bindings K M own m w names ds es b e = record {
   ls' = w.ls';
   scopes = scopes_entered K.behind M K.N K.stars K.known own names ds es w.sc w.sc' b e w.scopes;
   led = w.led;
+  round = w.round;
 }
 
 abbrev pub in_the_loop : (K : Setting) (M : Made) (own : Names) (m : List Around) (w : Stand K M own m) (l : Option Ident) (n n' : ℕ) → Has M.loops n n' → Stand K M own (a_loop l 0 ∷ m)
@@ -195,14 +219,15 @@ in_the_loop K M own m w l n n' r = record {
   ls' = a_loop l n' ∷ w.ls';
   scopes = w.scopes;
   led = led_loop K.left M w.ls m w.ls' l n n' w.led r;
+  round = K.rounds.in_loop w.ls m l n w.round;
 }
 
 abbrev pub in_the_test : (K : Setting) (M : Made) (own : Names) (m : List Around) (w : Stand K M own m) → Stand K M own (a_test ∷ m)
-in_the_test K M own m w = record { sc = w.sc; sc' = w.sc'; ls = a_test ∷ w.ls; ls' = a_test ∷ w.ls'; scopes = w.scopes; led = led_test K.left M w.ls m w.ls' }
+in_the_test K M own m w = record { sc = w.sc; sc' = w.sc'; ls = a_test ∷ w.ls; ls' = a_test ∷ w.ls'; scopes = w.scopes; led = led_test K.left M w.ls m w.ls'; round = K.rounds.in_test w.ls m w.round }
 
 -- another scope, behind statements
 abbrev pub in_scope : (K : Setting) (M : Made) (own own' : Names) (m : List Around) (w : Stand K M own m) (sc sc' : Variables) → Scopes K.behind M K.N K.stars K.known own' sc sc' → Stand K M own' m
-in_scope K M own own' m w sc sc' h = record { sc = sc; sc' = sc'; ls = w.ls; ls' = w.ls'; scopes = h; led = w.led }
+in_scope K M own own' m w sc sc' h = record { sc = sc; sc' = sc'; ls = w.ls; ls' = w.ls'; scopes = h; led = w.led; round = w.round }
 
 -- ---- the special places
 
@@ -236,5 +261,5 @@ pub record Special (K : Setting) : Type 0 where
   pub annotated : (M : Made) (at at' : List ℕ) (p : PatternTree) (y : Option TypeTree) (t t' u : ItemNames) → K.N.annotation y → in_optional_type K.I at y t ≡ Ok t' → Reached K.L M t u
       → Part K.L M t t' u (λ G v. in_optional_type K.I' at' (K.C.at_let p y) u ≡ Ok v) (AnnotationNumbers K.H (pattern_span p) t u y (K.C.at_let p y) t')
   -- a block: with its parts done it is alike
-  pub blocks : (M : Made) (own : Names) (m : List Around) (w : Stand K M own m) (at at' : List ℕ) (b done : Body) (t t' u : ItemNames) → in_block K.I w.sc w.ls at b t ≡ Ok t' → Reached K.L M t u
+  pub blocks : (M : Made) (own : Names) (m : List Around) (w : Stand K M own m) (at at' : List ℕ) (b done : Body) (t t' u : ItemNames) → K.N.block own m b → in_block K.I w.sc w.ls at b t ≡ Ok t' → Reached K.L M t u
       → BodyPart K M own m w at' b done t t' u → BodyPart K M own m w at' b (K.C.at_block b done) t t' u

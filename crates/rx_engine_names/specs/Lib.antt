@@ -1,4 +1,6 @@
 pub mod Renaming
+pub mod ParameterNames
+pub mod Apart
 pub mod LikeNamed
 pub mod Within
 pub mod Insertion
@@ -9,3 +11,14 @@ pub mod NamedLifetimes
 pub mod Moves
 pub mod Calls
 pub mod Replaced
+pub mod Placed
+pub mod HandedOut
+pub mod HandsOver
+pub mod CalledRuns
+pub mod NewBody
+pub mod NewFunction
+pub mod NewPlan
+pub mod Extractions
+pub mod Reached
+pub mod KeptWays
+pub mod SelectedRuns

@@ -70,6 +70,11 @@ pub data LikeAnnotation (H : Holes) (R : Renaming) (s : Span) : Option Written �
   like_typed : {t t' : Option Written} → LikeOptionalWritten R t t' → LikeAnnotation H R s t t'
   like_other_type : {t t' : Option Written} → H.annotation R s t t' → LikeAnnotation H R s t t'
 
+-- the left side of an assignment that gives its variable a type: its node and its variable
+pub record IsLeftSide (a : Exp) (p : Node) (x : Use) : Type 0 where
+  pub node : named.node_of a ≡ p
+  pub variable : (named.root a).number ≡ x.number
+
 mutual
   pub data LikeExp (H : Holes) (R : Renaming) : Exp → Exp → Type 0 where
     -- something else stands there
@@ -88,9 +93,9 @@ mutual
     like_binary : {n n' : Node} {o : BinaryOp} {a a' b b' : Exp} → SameSpan n n' → LikeExp H R a a' → LikeExp H R b b' → LikeExp H R (named.binary n o a b) (named.binary n' o a' b')
     like_assign : {n n' : Node} {a a' b b' : Exp} → SameSpan n n' → LikeExp H R a a' → LikeExp H R b b' → LikeExp H R (named.assign n a b) (named.assign n' a' b')
     -- an assignment before which a variable waits for its type, in both or in one
-    like_gives : {n n' p p' : Node} {x x' : Use} {d d' : Option ℕ} {b b' : Exp} → SameSpan n n' → LikeExp H R b b' → LikeExp H R (named.gives n p x d b) (named.gives n' p' x' d' b')
-    like_given : {n n' p : Node} {x : Use} {d : Option ℕ} {a' b b' : Exp} → SameSpan n n' → LikeExp H R b b' → LikeExp H R (named.gives n p x d b) (named.assign n' a' b')
-    like_giving : {n n' p' : Node} {x' : Use} {d' : Option ℕ} {a b b' : Exp} → SameSpan n n' → LikeExp H R b b' → LikeExp H R (named.assign n a b) (named.gives n' p' x' d' b')
+    like_gives : {n n' p p' : Node} {x x' : Use} {d d' : Option ℕ} {a a' b b' : Exp} → SameSpan n n' → LikeExp H R a a' → IsLeftSide a p x → IsLeftSide a' p' x' → LikeExp H R b b' → LikeExp H R (named.gives n p x d b) (named.gives n' p' x' d' b')
+    like_given : {n n' p : Node} {x : Use} {d : Option ℕ} {a a' b b' : Exp} → SameSpan n n' → LikeExp H R a a' → IsLeftSide a p x → LikeExp H R b b' → LikeExp H R (named.gives n p x d b) (named.assign n' a' b')
+    like_giving : {n n' p' : Node} {x' : Use} {d' : Option ℕ} {a a' b b' : Exp} → SameSpan n n' → LikeExp H R a a' → IsLeftSide a' p' x' → LikeExp H R b b' → LikeExp H R (named.assign n a b) (named.gives n' p' x' d' b')
     like_update : {n n' : Node} {o : UpdateOp} {a a' b b' : Exp} → SameSpan n n' → LikeExp H R a a' → LikeExp H R b b' → LikeExp H R (named.update n o a b) (named.update n' o a' b')
     like_call : {n n' : Node} {f f' : ℕ} {es es' : Exps} → SameSpan n n' → R.item f ≡ f' → LikeExps H R es es' → LikeExp H R (named.call n f es) (named.call n' f' es')
     like_hidden : {n n' : Node} {es es' : Exps} → SameSpan n n' → LikeExps H R es es' → LikeExp H R (named.hidden_call n es) (named.hidden_call n' es')

@@ -117,6 +117,7 @@ asked V I I' sc' = record {
   continued = λ own ls l. (k : ℕ) → leaves l ls ≡ Some k → HandsOut V own (to_continue k);
   returned = has_exit to_return V.plan.exits ≡ true;
   annotation = AnnotationFits I I';
+  block = λ own ls b. Unit {0};
 }
 
 -- the enum of exits has a variant for each exit of the plan, where one is not Next
@@ -145,10 +146,10 @@ StandsAt t c = (c.declared ≡ length t.vars) × (length c.loops ≡ length t.lo
 
 -- Statements that resolve to r from the tables t, and what becomes of them from the tables u: these resolve too, names mean variables that
 -- correspond behind both, and the trees are alike for each renaming in which all correspond that were made.
-pub record StatementsAlike (items : ℕ → ℕ) (V : Moves) (I' : Inside) (start : Variables) (M : Made) (at' : List ℕ) (ss ss' : Statements) (t u : ItemNames) (r : Scoped) : Type 0 where
+pub record StatementsAlike (items : ℕ → ℕ) (V : Moves) (I' : Inside) (start : Variables) (M : Made) (at' : List ℕ) (i' : ℕ) (ss ss' : Statements) (t u : ItemNames) (r : Scoped) : Type 0 where
   pub scope : Variables
   pub tables : ItemNames
-  pub resolves : in_statements I' start [] at' 0 ss' u ≡ Ok (record { scope = scope; tables = tables })
+  pub resolves : in_statements I' start [] at' i' ss' u ≡ Ok (record { scope = scope; tables = tables })
   pub made : Made
   pub stays : (n m : ℕ) → Has M.variables n m → Has made.variables n m
   pub names : (x : List ℕ) → (is_among x (behind_all [] ss) || is_among x V.known) ≡ true
@@ -174,7 +175,7 @@ pub record TailAlike (items : ℕ → ℕ) (V : Moves) (I' : Inside) (scope : Va
       → LikeElse (moved V) R (of_optional k o c).0 (of_optional k' o' c').0
 
 -- statements of a run, and a tail behind them wherever it stands in the new function
-pub record RunAlike (items : ℕ → ℕ) (V : Moves) (I I' : Inside) (start : Variables) (M : Made) (at' : List ℕ) (ss : Statements) (t u : ItemNames) (r : Scoped) : Type 0 where
-  pub statements : StatementsAlike items V I' start M at' ss (changed_statements (moving V.plan V.place) [] (rounds V) ss) t u r
+pub record RunAlike (items : ℕ → ℕ) (V : Moves) (I I' : Inside) (start : Variables) (M : Made) (at' : List ℕ) (i' : ℕ) (ss : Statements) (t u : ItemNames) (r : Scoped) : Type 0 where
+  pub statements : StatementsAlike items V I' start M at' i' ss (changed_statements (moving V.plan V.place) [] (rounds V) ss) t u r
   pub tail : (o : OptionalExpression) → OptionalWithin (asked V I I' start) (behind_all [] ss) (rounds V) o → (at at' : List ℕ) (t' v : ItemNames) → in_optional I r.scope V.loops at o r.tables ≡ Ok t'
       → TailAlike items V I' statements.scope statements.made at' o (changed_optional (moving V.plan V.place) (behind_all [] ss) (rounds V) o) r.tables t' v

@@ -26,8 +26,8 @@ abbrev pub joined : named.Statements → named.Statements → named.Statements
 joined named.no_statement ys = ys
 joined (named.statement_and x xs) ys = named.statement_and x (joined xs ys)
 
-pub data Replaced (R : Renaming) (P : named.Statements → Type 0) : named.Body → named.Body → Type 0 where
-  replaced : {n n' : Node} {o o' : Else} (a a' x y b b' : named.Statements) → SameSpan n n' → LikeStatements no_holes R a a' → P y → LikeStatements no_holes R b b' → LikeElse no_holes R o o'
+pub data Replaced (R : Renaming) (P : named.Statements → named.Statements → Type 0) : named.Body → named.Body → Type 0 where
+  replaced : {n n' : Node} {o o' : Else} (a a' x y b b' : named.Statements) → SameSpan n n' → LikeStatements no_holes R a a' → P x y → LikeStatements no_holes R b b' → LikeElse no_holes R o o'
       → Replaced R P (named.body n (joined a (joined x b)) o) (named.body n' (joined a' (joined y b')) o')
 
 -- these names mean variables that correspond, and jumps lead to loops that do
@@ -46,6 +46,7 @@ only xs sc sc' = record {
   continued = λ own ls l. Unit {0};
   returned = Unit {0};
   annotation = λ y. Unit {0};
+  block = λ own ls b. Unit {0};
 }
 
 pub record Keeps (M M' : Made) : Type 0 where
@@ -65,37 +66,42 @@ pub record Stands (I' : Inside) (ls' : List Around) (M : Made) (sc' : Variables)
   pub follows : StatementsWithin (only names sc scope) names [] (as_statements behind)
   pub ends : OptionalWithin (only names sc scope) (behind_all names (as_statements behind)) [] o
 
--- the tree of such statements: their numbering where the front has been come to
-pub record NumberedBehind (I' : Inside) (sc' : Variables) (ls' : List Around) (at' : List ℕ) (front call : List Statement) (u : ItemNames) (y : named.Statements) : Type 0 where
+-- the tree of statements behind those in front: their numbering where these have been come to
+pub record NumberedBehind (I : Inside) (sc : Variables) (ls : List Around) (at : List ℕ) (front run : List Statement) (t : ItemNames) (x : named.Statements) : Type 0 where
   pub middle : Scoped
-  pub comes : in_statements I' sc' ls' at' 0 (as_statements front) u ≡ Ok middle
+  pub comes : in_statements I sc ls at 0 (as_statements front) t ≡ Ok middle
   pub place : ℕ
   pub end : Scoped
-  pub goes : in_statements I' middle.scope ls' at' place (as_statements call) middle.tables ≡ Ok end
+  pub goes : in_statements I middle.scope ls at place (as_statements run) middle.tables ≡ Ok end
   pub added : List NodeNames
   pub grown : end.tables.names ≡ middle.tables.names ++ added
   pub cursor : Cursor
   pub rest : List NodeNames
   pub stands : StandsAt middle.tables cursor
   pub names : cursor.names ≡ added ++ rest
-  pub is : y ≡ (of_statements (as_statements call) cursor).0
+  pub is : x ≡ (of_statements (as_statements run) cursor).0
+
+-- statements of the text in a block, and those that stand for them
+abbrev pub BothBehind : Inside → Inside → Variables → Variables → List Around → List Around → List ℕ → List ℕ → List Statement → List Statement → List Statement → ItemNames → ItemNames → named.Statements → named.Statements → Type 0
+BothBehind I I' sc sc' ls ls' at at' front run call t u x y = NumberedBehind I sc ls at front run t x × NumberedBehind I' sc' ls' at' front call u y
 
 -- a block that resolves, and one with other statements in it, which does too; their trees are alike but for these
-pub record BlocksAlike (items : ℕ → ℕ) (I' : Inside) (sc' : Variables) (ls' : List Around) (at' : List ℕ) (b b' : Body) (front call : List Statement) (t t' u : ItemNames) : Type 0 where
+pub record BlocksAlike (items : ℕ → ℕ) (I I' : Inside) (M : Made) (sc sc' : Variables) (ls ls' : List Around) (at at' : List ℕ) (b b' : Body) (front run call : List Statement) (t t' u : ItemNames) : Type 0 where
   pub tables : ItemNames
   pub resolves : in_block I' sc' ls' at' b' u ≡ Ok tables
   pub made : Made
+  pub stays : Keeps M made
   pub added : List NodeNames
   pub added' : List NodeNames
   pub grown : t'.names ≡ t.names ++ added
   pub grown' : tables.names ≡ u.names ++ added'
   pub alike : (R : Renaming) → Serves items made R → (k k' : Site) (c c' : Cursor) (rest rest' : List NodeNames) → StandsAt t c → StandsAt u c' → c.names ≡ added ++ rest → c'.names ≡ added' ++ rest'
-      → Replaced R (NumberedBehind I' sc' ls' at' front call u) (of_body k b c).0 (of_body k' b' c').0
+      → Replaced R (BothBehind I I' sc sc' ls ls' at at' front run call t u) (of_body k b c).0 (of_body k' b' c').0
 
 -- ---- where the tail is replaced too
 
-pub data EndReplaced (R : Renaming) (P : named.Statements → Else → Type 0) : named.Body → named.Body → Type 0 where
-  end_replaced : {n n' : Node} {o o' : Else} (a a' x y : named.Statements) → SameSpan n n' → LikeStatements no_holes R a a' → P y o' → EndReplaced R P (named.body n (joined a x) o) (named.body n' (joined a' y) o')
+pub data EndReplaced (R : Renaming) (P : named.Statements → Else → named.Statements → Else → Type 0) : named.Body → named.Body → Type 0 where
+  end_replaced : {n n' : Node} {o o' : Else} (a a' x y : named.Statements) → SameSpan n n' → LikeStatements no_holes R a a' → P x o y o' → EndReplaced R P (named.body n (joined a x) o) (named.body n' (joined a' y) o')
 
 -- statements and a tail that resolve
 pub record StandsLast (I' : Inside) (ls' : List Around) (sc' : Variables) (at' : List ℕ) (i' : ℕ) (last : List ℕ) (call : List Statement) (o' : OptionalExpression) (u : ItemNames) : Type 0 where
@@ -105,12 +111,12 @@ pub record StandsLast (I' : Inside) (ls' : List Around) (sc' : Variables) (at' :
   pub ends : in_optional I' end.scope ls' last o' end.tables ≡ Ok tables
 
 -- the trees of both: their numbering where the front has been come to
-pub record NumberedLast (I' : Inside) (sc' : Variables) (ls' : List Around) (at' : List ℕ) (front call : List Statement) (last : OptionalExpression) (u : ItemNames) (y : named.Statements) (z : Else) : Type 0 where
+pub record NumberedLast (I : Inside) (sc : Variables) (ls : List Around) (at : List ℕ) (front run : List Statement) (tail : OptionalExpression) (t : ItemNames) (x : named.Statements) (z : Else) : Type 0 where
   pub middle : Scoped
-  pub comes : in_statements I' sc' ls' at' 0 (as_statements front) u ≡ Ok middle
+  pub comes : in_statements I sc ls at 0 (as_statements front) t ≡ Ok middle
   pub place : ℕ
   pub way : List ℕ
-  pub resolves : StandsLast I' ls' middle.scope at' place way call last middle.tables
+  pub resolves : StandsLast I ls middle.scope at place way run tail middle.tables
   pub added : List NodeNames
   pub grown : resolves.tables.names ≡ middle.tables.names ++ added
   pub cursor : Cursor
@@ -118,16 +124,20 @@ pub record NumberedLast (I' : Inside) (sc' : Variables) (ls' : List Around) (at'
   pub stands : StandsAt middle.tables cursor
   pub names : cursor.names ≡ added ++ rest
   pub site : Site
-  pub is : y ≡ (of_statements (as_statements call) cursor).0
-  pub is_last : z ≡ (of_optional site last (of_statements (as_statements call) cursor).1).0
+  pub is : x ≡ (of_statements (as_statements run) cursor).0
+  pub is_last : z ≡ (of_optional site tail (of_statements (as_statements run) cursor).1).0
 
-pub record EndsAlike (items : ℕ → ℕ) (I' : Inside) (sc' : Variables) (ls' : List Around) (at' : List ℕ) (b b' : Body) (front call : List Statement) (last : OptionalExpression) (t t' u : ItemNames) : Type 0 where
+abbrev pub BothLast : Inside → Inside → Variables → Variables → List Around → List Around → List ℕ → List ℕ → List Statement → List Statement → List Statement → OptionalExpression → OptionalExpression → ItemNames → ItemNames → named.Statements → Else → named.Statements → Else → Type 0
+BothLast I I' sc sc' ls ls' at at' front run call tail last t u x o y o' = NumberedLast I sc ls at front run tail t x o × NumberedLast I' sc' ls' at' front call last u y o'
+
+pub record EndsAlike (items : ℕ → ℕ) (I I' : Inside) (M : Made) (sc sc' : Variables) (ls ls' : List Around) (at at' : List ℕ) (b b' : Body) (front run call : List Statement) (tail last : OptionalExpression) (t t' u : ItemNames) : Type 0 where
   pub tables : ItemNames
   pub resolves : in_block I' sc' ls' at' b' u ≡ Ok tables
   pub made : Made
+  pub stays : Keeps M made
   pub added : List NodeNames
   pub added' : List NodeNames
   pub grown : t'.names ≡ t.names ++ added
   pub grown' : tables.names ≡ u.names ++ added'
   pub alike : (R : Renaming) → Serves items made R → (k k' : Site) (c c' : Cursor) (rest rest' : List NodeNames) → StandsAt t c → StandsAt u c' → c.names ≡ added ++ rest → c'.names ≡ added' ++ rest'
-      → EndReplaced R (NumberedLast I' sc' ls' at' front call last u) (of_body k b c).0 (of_body k' b' c').0
+      → EndReplaced R (BothLast I I' sc sc' ls ls' at at' front run call tail last t u) (of_body k b c).0 (of_body k' b' c').0

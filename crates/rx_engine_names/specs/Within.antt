@@ -18,6 +18,8 @@ pub record Claims : Type 1 where
   pub returned : Type 0
   -- of the type of a `let`
   pub annotation : Option TypeTree → Type 0
+  -- of a block, where these names are bound round it and these loops and tests stand round it
+  pub block : Names → List Around → Body → Type 0
 
 abbrev mutual
   pub Within : Claims → Names → List Around → Expression → Type 0
@@ -71,7 +73,7 @@ abbrev mutual
   ArmsWithin N own ls (plain.arm_and p e rest) = Within N (bound p ++ own) ls e × ArmsWithin N own ls rest
 
   pub BodyWithin : Claims → Names → List Around → Body → Type 0
-  BodyWithin N own ls (plain.body s ss o) = StatementsWithin N own ls ss × OptionalWithin N (behind_all own ss) ls o
+  BodyWithin N own ls (plain.body s ss o) = N.block own ls (plain.body s ss o) × StatementsWithin N own ls ss × OptionalWithin N (behind_all own ss) ls o
 
   pub StatementWithin : Claims → Names → List Around → Statement → Type 0
   StatementWithin N own ls (plain.let_statement s p y o) = N.annotation y × OptionalWithin N own ls o

@@ -46,27 +46,27 @@ module _ (C : Claims) (K : Known) (A : Types) where
     pub good : GoodDemands C.item more
     pub gives : MeetsEach K A more → R
 
-  abbrev U : Asking → Type 0
+  abbrev pub U : Asking → Type 0
   U a = Asks (Unit {0}) a
 
-  met_front : (x y : List Demand) → MeetsEach K A (x ++ y) → MeetsEach K A x
+  pub met_front : (x y : List Demand) → MeetsEach K A (x ++ y) → MeetsEach K A x
   met_front [] y h = tt
   met_front (d ∷ x) y h = (h.0, met_front x y h.1)
 
-  met_behind : (x y : List Demand) → MeetsEach K A (x ++ y) → MeetsEach K A y
+  pub met_behind : (x y : List Demand) → MeetsEach K A (x ++ y) → MeetsEach K A y
   met_behind [] y h = h
   met_behind (d ∷ x) y h = met_behind x y h.1
 
-  asks_map : {R S : Type 0} {a : Asking} → (R → S) → Asks R a → Asks S a
+  pub asks_map : {R S : Type 0} {a : Asking} → (R → S) → Asks R a → Asks S a
   asks_map f x = record { more = x.more; adds = x.adds; good = x.good; gives = λ h. f (x.gives h) }
 
-  quietly : {R : Type 0} {a : Asking} → Asks R a → U a
+  pub quietly : {R : Type 0} {a : Asking} → Asks R a → U a
   quietly x = record { more = x.more; adds = x.adds; good = x.good; gives = λ h. tt }
 
-  none : U nothing
+  pub none : U nothing
   none = record { more = []; adds = λ ds. sym (append-nil ds); good = tt; gives = λ h. tt }
 
-  both : {R S : Type 0} {a b : Asking} → Asks R a → Asks S b → Asks (R × S) (a >> b)
+  pub both : {R S : Type 0} {a b : Asking} → Asks R a → Asks S b → Asks (R × S) (a >> b)
   both {a = a} {b = b} x y = record {
     more = x.more ++ y.more;
     adds = λ ds. y.adds (a ds) ∙ ap (λ (l : List Demand). l ++ y.more) (x.adds ds) ∙ append_assoc ds x.more y.more;
@@ -75,31 +75,31 @@ module _ (C : Claims) (K : Known) (A : Types) where
   }
 
   -- the first, the second, or none of what they give
-  then_first : {R S : Type 0} {a b : Asking} → Asks R a → Asks S b → Asks R (a >> b)
+  pub then_first : {R S : Type 0} {a b : Asking} → Asks R a → Asks S b → Asks R (a >> b)
   then_first x y = asks_map (λ h. h.0) (both x y)
 
-  then_second : {R S : Type 0} {a b : Asking} → Asks R a → Asks S b → Asks S (a >> b)
+  pub then_second : {R S : Type 0} {a b : Asking} → Asks R a → Asks S b → Asks S (a >> b)
   then_second x y = asks_map (λ h. h.1) (both x y)
 
-  then_u : {R S : Type 0} {a b : Asking} → Asks R a → Asks S b → U (a >> b)
+  pub then_u : {R S : Type 0} {a b : Asking} → Asks R a → Asks S b → U (a >> b)
   then_u x y = quietly (both x y)
 
-  one_asked : (n : Node) (b : Broken) (o : Bool) (fs : List Fact) → Every (GoodFact C.item) fs → Asks (MeetsAll K A fs) (asks n b o fs)
+  pub one_asked : (n : Node) (b : Broken) (o : Bool) (fs : List Fact) → Every (GoodFact C.item) fs → Asks (MeetsAll K A fs) (asks n b o fs)
   one_asked n b o fs g = record { more = record { node = n.number; span = n.span; broken = b; unsuffixed = o; facts = fs } ∷ []; adds = λ ds. refl; good = (g, tt); gives = λ h. h.0 }
 
   -- one fact, that asks for no item
-  asked : (n : Node) (b : Broken) (o : Bool) (f : Fact) → GoodFact C.item f → U (asks n b o (f ∷ []))
+  pub asked : (n : Node) (b : Broken) (o : Bool) (f : Fact) → GoodFact C.item f → U (asks n b o (f ∷ []))
   asked n b o f g = quietly (one_asked n b o (f ∷ []) (g, tt))
 
-  when_u : (b : Bool) (a : Asking) → U a → U (when b a)
+  pub when_u : (b : Bool) (a : Asking) → U a → U (when b a)
   when_u true a x = x
   when_u false a x = none
 
-  typed_good : (b : Bool) (f : Fact) → GoodFact C.item f → Every (GoodFact C.item) (typed b f)
+  pub typed_good : (b : Bool) (f : Fact) → GoodFact C.item f → Every (GoodFact C.item) (typed b f)
   typed_good true f g = tt
   typed_good false f g = (g, tt)
 
-  two_good : (fs gs : List Fact) → Every (GoodFact C.item) fs → Every (GoodFact C.item) gs → Every (GoodFact C.item) (fs ++ gs)
+  pub two_good : (fs gs : List Fact) → Every (GoodFact C.item) fs → Every (GoodFact C.item) gs → Every (GoodFact C.item) (fs ++ gs)
   two_good fs gs x y = every_append (GoodFact C.item) fs gs x y
 
   -- ---- types
@@ -120,12 +120,12 @@ module _ (C : Claims) (K : Known) (A : Types) where
     types_u named.no_written h = none
     types_u (named.written_and t ts) h = then_u (type_u t h.0) (types_u ts h.1)
 
-  whole_type_u : (t : Written) → OfWritten C t → U (rules.whole_type t)
+  pub whole_type_u : (t : Written) → OfWritten C t → U (rules.whole_type t)
   whole_type_u t h = then_u (type_u t h) (asked (written_node t) _ _ _ tt)
 
   -- ---- places and sites
 
-  place_u : (n : Node) (x : ℕ) (ps : List Passing) (t : Site) → U (rules.place_in n x ps t)
+  pub place_u : (n : Node) (x : ℕ) (ps : List Passing) (t : Site) → U (rules.place_in n x ps t)
   place_u n x ps Site.Value = asked n _ _ _ tt
   place_u n x ps Site.Place = none
   place_u n x ps Site.Scrutinee = none
@@ -134,13 +134,13 @@ module _ (C : Claims) (K : Known) (A : Types) where
   place_u n x ps Site.Reborrows = then_u (asked n _ _ _ tt) (then_u (asked n _ _ _ tt) (asked n _ _ _ tt))
 
   -- no place is wanted there
-  abbrev NoPlace : Site → Type 0
+  abbrev pub NoPlace : Site → Type 0
   NoPlace t = t ≡ Site.Place → ⊥
 
-  refused : (n : Node) (b : Broken) → Asks ⊥ (asks n b false (fact.Never ∷ []))
+  pub refused : (n : Node) (b : Broken) → Asks ⊥ (asks n b false (fact.Never ∷ []))
   refused n b = asks_map (λ h. h.0) (one_asked n b false (fact.Never ∷ []) (tt, tt))
 
-  value_asks : (n : Node) (t : Site) → Asks (NoPlace t) (rules.value_in n t)
+  pub value_asks : (n : Node) (t : Site) → Asks (NoPlace t) (rules.value_in n t)
   value_asks n Site.Place = asks_map (λ h e. h) (refused n _)
   value_asks n Site.Expects = asks_map (λ h e. cc) (asked n _ _ _ tt)
   value_asks n Site.Initialises = asks_map (λ h e. cc) (asked n _ _ _ tt)
@@ -148,7 +148,7 @@ module _ (C : Claims) (K : Known) (A : Types) where
   value_asks n Site.Value = asks_map (λ h e. cc) none
   value_asks n Site.Scrutinee = asks_map (λ h e. cc) none
 
-  never_asks : (n : Node) (t : Site) → Asks (NoPlace t) (rules.never_in n t)
+  pub never_asks : (n : Node) (t : Site) → Asks (NoPlace t) (rules.never_in n t)
   never_asks n Site.Place = asks_map (λ h e. h) (refused n _)
   never_asks n Site.Value = asks_map (λ h e. cc) none
   never_asks n Site.Scrutinee = asks_map (λ h e. cc) none
@@ -156,7 +156,7 @@ module _ (C : Claims) (K : Known) (A : Types) where
   never_asks n Site.Initialises = asks_map (λ h e. cc) none
   never_asks n Site.Reborrows = asks_map (λ h e. cc) none
 
-  joins_asks : (n : Node) (t : Site) → Asks (NoPlace t) (rules.joins n t)
+  pub joins_asks : (n : Node) (t : Site) → Asks (NoPlace t) (rules.joins n t)
   joins_asks n Site.Place = asks_map (λ h e. h) (refused n _)
   joins_asks n Site.Value = asks_map (λ h e. cc) none
   joins_asks n Site.Scrutinee = asks_map (λ h e. cc) none
@@ -164,17 +164,17 @@ module _ (C : Claims) (K : Known) (A : Types) where
   joins_asks n Site.Expects = asks_map (λ h e. cc) (asked n _ _ _ tt)
   joins_asks n Site.Initialises = asks_map (λ h e. cc) (asked n _ _ _ tt)
 
-  join_asks : (n : Node) (v : Bool) → Asks (NoPlace n.site) (rules.join n v)
+  pub join_asks : (n : Node) (v : Bool) → Asks (NoPlace n.site) (rules.join n v)
   join_asks n true = never_asks n n.site
   join_asks n false = joins_asks n n.site
 
-  own_asks : (n : Node) (o : Op) (xs : List Subject) → GoodOp C.item o → Asks (NoPlace n.site) (rules.own n o xs)
+  pub own_asks : (n : Node) (o : Op) (xs : List Subject) → GoodOp C.item o → Asks (NoPlace n.site) (rules.own n o xs)
   own_asks n o xs g = then_second (asked n _ _ _ g) (value_asks n n.site)
 
-  assignable_u : (n : Node) (w : Bool) (x : Use) (ps : List Passing) → U (rules.assignable_at n w x ps)
+  pub assignable_u : (n : Node) (w : Bool) (x : Use) (ps : List Passing) → U (rules.assignable_at n w x ps)
   assignable_u n w x ps = when_u (not w) _ (asked n _ _ _ tt)
 
-  borrowed_asks : (n : Node) (m : Bool) (e : Node) (x : Use) (ps : List Passing) → Asks (NoPlace n.site) (rules.borrowed n m e x ps)
+  pub borrowed_asks : (n : Node) (m : Bool) (e : Node) (x : Use) (ps : List Passing) → Asks (NoPlace n.site) (rules.borrowed n m e x ps)
   borrowed_asks n m e x ps = then_second (asked n _ _ _ tt) (then_second (asked n _ _ _ tt) (then_second (when_u m _ (asked n _ _ _ tt)) (value_asks n n.site)))
 
   -- ---- patterns
@@ -212,15 +212,15 @@ module _ (C : Claims) (K : Known) (A : Types) where
     field_patterns_u s anc i named.no_field_pattern h = none
     field_patterns_u s anc i (named.field_pattern_and x p fs) h = then_u (asked (pattern_node p) _ _ _ tt) (then_u (pattern_u s anc p h.0) (field_patterns_u s anc i fs h.1))
 
-  whole_u : (s : rules.Matched) (x : Subject) (p : Pattern) → OfPattern C p → U (rules.whole_pattern s x p)
+  pub whole_u : (s : rules.Matched) (x : Subject) (p : Pattern) → OfPattern C p → U (rules.whole_pattern s x p)
   whole_u s x p h = then_u (asked (pattern_node p) _ _ _ tt) (pattern_u s [] p h)
 
   -- ---- pieces of expressions
 
-  part_u : (n : Node) (v : Bool) (m : Node) → U (rules.as_part n v m)
+  pub part_u : (n : Node) (v : Bool) (m : Node) → U (rules.as_part n v m)
   part_u n v m = when_u (not v) _ (asked n _ _ _ tt)
 
-  before_u : (n : Node) (t : Site) (m : Node) → U (rules.part_before n t m)
+  pub before_u : (n : Node) (t : Site) (m : Node) → U (rules.part_before n t m)
   before_u n Site.Expects m = asked m _ _ _ tt
   before_u n Site.Initialises m = asked m _ _ _ tt
   before_u n Site.Value m = none
@@ -228,7 +228,7 @@ module _ (C : Claims) (K : Known) (A : Types) where
   before_u n Site.Scrutinee m = none
   before_u n Site.Reborrows m = none
 
-  after_u : (n : Node) (t : Site) (v : Bool) (m : Node) → U (rules.part_after n t v m)
+  pub after_u : (n : Node) (t : Site) (v : Bool) (m : Node) → U (rules.part_after n t v m)
   after_u n Site.Expects v m = none
   after_u n Site.Initialises v m = none
   after_u n Site.Value v m = part_u n v m
@@ -236,16 +236,16 @@ module _ (C : Claims) (K : Known) (A : Types) where
   after_u n Site.Scrutinee v m = part_u n v m
   after_u n Site.Reborrows v m = part_u n v m
 
-  tested_u : (n : Node) (v : Bool) → U (rules.tested n v)
+  pub tested_u : (n : Node) (v : Bool) → U (rules.tested n v)
   tested_u n v = when_u (not v) _ (asked n _ _ _ tt)
 
-  printed_u : (n : Node) (v : Bool) → U (rules.printed n v)
+  pub printed_u : (n : Node) (v : Bool) → U (rules.printed n v)
   printed_u n v = when_u (not v) _ (asked n _ _ _ tt)
 
-  unit_u : (n : Node) (v : Bool) → U (rules.nothing_given n v)
+  pub unit_u : (n : Node) (v : Bool) → U (rules.nothing_given n v)
   unit_u n v = when_u (not v) _ (asked n _ _ _ tt)
 
-  not_never_u : (n : Node) (v : Bool) → U (rules.not_never n v)
+  pub not_never_u : (n : Node) (v : Bool) → U (rules.not_never n v)
   not_never_u n v = when_u v _ (asked n _ _ _ tt)
 
   equality_asks : (n a : Node) (x : Bool) (b : Node) (y : Bool) → Asks (NoPlace n.site) (rules.equality n a x b y)
@@ -263,7 +263,7 @@ module _ (C : Claims) (K : Known) (A : Types) where
   arithmetic_asks n a x b y = then_second (one_asked n _ _ _ (two_good (rules.own_operand n a x ++ rules.own_operand n b y) (fact.Integer n.number _ ∷ [])
       (two_good (rules.own_operand n a x) (rules.own_operand n b y) (typed_good x _ tt) (typed_good y _ tt)) (tt, tt))) (value_asks n n.site)
 
-  operation_asks : (o : BinaryOp) (n a : Node) (x : Bool) (b : Node) (y : Bool) → Asks (NoPlace n.site) (rules.operation o n a x b y)
+  pub operation_asks : (o : BinaryOp) (n a : Node) (x : Bool) (b : Node) (y : Bool) → Asks (NoPlace n.site) (rules.operation o n a x b y)
   operation_asks BinaryOp.Or n a x b y = lazy_asks n a x b y
   operation_asks BinaryOp.And n a x b y = lazy_asks n a x b y
   operation_asks BinaryOp.Eq n a x b y = equality_asks n a x b y
@@ -274,17 +274,17 @@ module _ (C : Claims) (K : Known) (A : Types) where
   operation_asks BinaryOp.Ge n a x b y = order_asks n a x b y
   operation_asks _ n a x b y = arithmetic_asks n a x b y
 
-  updated_u : (n a : Node) (x : Bool) (b : Node) (y : Bool) → U (rules.updated n a x b y)
+  pub updated_u : (n a : Node) (x : Bool) (b : Node) (y : Bool) → U (rules.updated n a x b y)
   updated_u n a x b y = quietly (one_asked n _ _ _ (two_good (rules.integer_operand a x ++ rules.integer_operand b y) (rules.same_operands a x b y)
       (two_good (rules.integer_operand a x) (rules.integer_operand b y) (typed_good x _ tt) (typed_good y _ tt)) (typed_good (x || y) _ tt)))
 
-  negated_asks : (n a : Node) (x : Bool) → Asks (NoPlace n.site) (rules.negated n a x)
+  pub negated_asks : (n a : Node) (x : Bool) → Asks (NoPlace n.site) (rules.negated n a x)
   negated_asks n a x = then_second (one_asked n _ _ _ (two_good (rules.own_operand n a x) (fact.Integer n.number _ ∷ []) (typed_good x _ tt) (tt, tt))) (value_asks n n.site)
 
-  inverted_asks : (n a : Node) (x : Bool) → Asks (NoPlace n.site) (rules.inverted n a x)
+  pub inverted_asks : (n a : Node) (x : Bool) → Asks (NoPlace n.site) (rules.inverted n a x)
   inverted_asks n a x = then_second (one_asked n _ _ _ (typed_good x _ tt)) (own_asks n op.Truth [] tt)
 
-  named_u : (n : Node) (x : Use) (k : Bool) → U (rules.named_at n x k)
+  pub named_u : (n : Node) (x : Use) (k : Bool) → U (rules.named_at n x k)
   named_u n x true = asked n _ _ _ tt
   named_u n x false = asked n _ _ _ tt
 
@@ -292,48 +292,48 @@ module _ (C : Claims) (K : Known) (A : Types) where
   fits_given_u x e true = none
   fits_given_u x e false = asked e _ _ _ tt
 
-  given_u : (n p : Node) (x : Use) (d : Option ℕ) (e : Node) (v : Bool) → U (rules.given n p x d e v)
+  pub given_u : (n p : Node) (x : Use) (d : Option ℕ) (e : Node) (v : Bool) → U (rules.given n p x d e v)
   given_u n p x (Some d) e v = then_u (not_never_u e v) (then_u (asked n _ _ _ tt) (quietly (one_asked p _ _ _ (tt, (tt, tt)))))
   given_u n p x None e v = then_u (named_u p x x.known) (fits_given_u x.number e v)
 
-  returns_u : (f : ℕ) (n : Node) (o : Else) → U (rules.returns_unit f n o)
+  pub returns_u : (f : ℕ) (n : Node) (o : Else) → U (rules.returns_unit f n o)
   returns_u f n named.absent = asked n _ _ _ tt
   returns_u f n (named.present e) = asked (node_of e) _ _ _ tt
 
-  branch_before_u : (n : Node) (o : Else) (b : Body) → U (rules.branch_before n o b)
+  pub branch_before_u : (n : Node) (o : Else) (b : Body) → U (rules.branch_before n o b)
   branch_before_u n named.absent b = none
   branch_before_u n (named.present e) b = before_u n n.site (body_node b)
 
   -- an `if` is no place, whether it has one branch or two
-  abbrev OnePart : Node → Else → Type 0
+  abbrev pub OnePart : Node → Else → Type 0
   OnePart n named.absent = NoPlace n.site
   OnePart n (named.present e) = Unit {0}
 
-  abbrev TwoParts : Node → Else → Type 0
+  abbrev pub TwoParts : Node → Else → Type 0
   TwoParts n named.absent = Unit {0}
   TwoParts n (named.present e) = NoPlace n.site
 
-  branch_after_asks : (n : Node) (o : Else) (b : Body) → Asks (OnePart n o) (rules.branch_after n o b)
+  pub branch_after_asks : (n : Node) (o : Else) (b : Body) → Asks (OnePart n o) (rules.branch_after n o b)
   branch_after_asks n named.absent b = then_second (unit_u (body_node b) (body_never b)) (own_asks n op.Unit [] tt)
   branch_after_asks n (named.present e) b = after_u n n.site (body_never b) (body_node b)
 
-  if_joins_asks : (n : Node) (o : Else) (v : Bool) → Asks (TwoParts n o) (rules.if_joins n o v)
+  pub if_joins_asks : (n : Node) (o : Else) (v : Bool) → Asks (TwoParts n o) (rules.if_joins n o v)
   if_joins_asks n named.absent v = none
   if_joins_asks n (named.present e) v = join_asks n v
 
-  no_if_place : (n : Node) (o : Else) → OnePart n o → TwoParts n o → NoPlace n.site
+  pub no_if_place : (n : Node) (o : Else) → OnePart n o → TwoParts n o → NoPlace n.site
   no_if_place n named.absent a b = a
   no_if_place n (named.present e) a b = b
 
-  one_variable_u : (n : Node) (o : Option ℕ) → U (rules.one_variable_at n o)
+  pub one_variable_u : (n : Node) (o : Option ℕ) → U (rules.one_variable_at n o)
   one_variable_u n (Some x) = none
   one_variable_u n None = asked n _ _ _ tt
 
-  declared_u : (p : Pattern) (t : Option Written) → OfPattern C p → OfAnnotation C t → U (rules.declared p t)
+  pub declared_u : (p : Pattern) (t : Option Written) → OfPattern C p → OfAnnotation C t → U (rules.declared p t)
   declared_u p None h g = one_variable_u (pattern_node p) (whole_binding p)
   declared_u p (Some t) h g = then_u (whole_type_u t g) (whole_u rules.a_value _ p h)
 
-  typed_before_u : (t : Option Written) (e : Exp) → OfAnnotation C t → U (rules.typed_before t e)
+  pub typed_before_u : (t : Option Written) (e : Exp) → OfAnnotation C t → U (rules.typed_before t e)
   typed_before_u None e g = none
   typed_before_u (Some t) e g = then_u (whole_type_u t g) (asked (node_of e) _ _ _ tt)
 
@@ -341,39 +341,39 @@ module _ (C : Claims) (K : Known) (A : Types) where
   initialised_by_u true p s n h = one_variable_u (pattern_node p) (whole_binding p)
   initialised_by_u false p s n h = whole_u s _ p h
 
-  initialised_u : (p : Pattern) (t : Option Written) (e : Exp) → OfPattern C p → U (rules.initialised p t e)
+  pub initialised_u : (p : Pattern) (t : Option Written) (e : Exp) → OfPattern C p → U (rules.initialised p t e)
   initialised_u p None e h = initialised_by_u (never e) p (rules.matched e) (node_of e) h
   initialised_u p (Some t) e h = whole_u (rules.matched e) _ p h
 
-  evaluated_u : (s : Bool) (n : Node) (v : Bool) → U (rules.evaluated s n v)
+  pub evaluated_u : (s : Bool) (n : Node) (v : Bool) → U (rules.evaluated s n v)
   evaluated_u true n v = none
   evaluated_u false n v = unit_u n v
 
-  tail_before_u : (n : Node) (o : Else) → U (rules.tail_before n o)
+  pub tail_before_u : (n : Node) (o : Else) → U (rules.tail_before n o)
   tail_before_u n named.absent = none
   tail_before_u n (named.present e) = before_u n n.site (node_of e)
 
-  tail_after_u : (n : Node) (d : Bool) (o : Else) → U (rules.tail_after n d o)
+  pub tail_after_u : (n : Node) (d : Bool) (o : Else) → U (rules.tail_after n d o)
   tail_after_u n d named.absent = unit_u n d
   tail_after_u n d (named.present e) = after_u n n.site (never e) (node_of e)
 
-  loop_asks : (n : Node) (k : Bool) → Asks (NoPlace n.site) (rules.loop_given n k)
+  pub loop_asks : (n : Node) (k : Bool) → Asks (NoPlace n.site) (rules.loop_given n k)
   loop_asks n true = own_asks n op.Unit [] tt
   loop_asks n false = never_asks n n.site
 
-  each_before_u : (w : rules.Listed) (k : ℕ) (n : Node) → U (rules.each_before w k n)
+  pub each_before_u : (w : rules.Listed) (k : ℕ) (n : Node) → U (rules.each_before w k n)
   each_before_u rules.members k n = none
   each_before_u rules.values k n = none
   each_before_u (rules.parameters g) k n = asked n _ _ _ tt
   each_before_u (rules.parts_of i v) k n = asked n _ _ _ tt
 
-  each_after_u : (w : rules.Listed) (e : Exp) → U (rules.each_after w e)
+  pub each_after_u : (w : rules.Listed) (e : Exp) → U (rules.each_after w e)
   each_after_u rules.members e = not_never_u (node_of e) (never e)
   each_after_u rules.values e = none
   each_after_u (rules.parameters g) e = none
   each_after_u (rules.parts_of i v) e = none
 
-  integer_asks : (n : Node) (m : Bool) (v : ℕ) (k : Option Kind) → Asks (NoPlace n.site) (rules.integer_at n m v k)
+  pub integer_asks : (n : Node) (m : Bool) (v : ℕ) (k : Option Kind) → Asks (NoPlace n.site) (rules.integer_at n m v k)
   integer_asks n m v k = then_second (asked n _ _ _ tt) (then_second (asked n _ _ _ tt) (value_asks n n.site))
 
   -- ---- what expressions give
@@ -552,15 +552,15 @@ module _ (C : Claims) (K : Known) (A : Types) where
 
   -- ---- functions
 
-  never_given_u : (ns : List Node) → U (rules.of_never_given ns)
+  pub never_given_u : (ns : List Node) → U (rules.of_never_given ns)
   never_given_u [] = none
   never_given_u (n ∷ ns) = then_u (asked n _ _ _ tt) (never_given_u ns)
 
-  parameters_u : (xs : List Parameter) → OfParameters C xs → U (rules.of_parameters xs)
+  pub parameters_u : (xs : List Parameter) → OfParameters C xs → U (rules.of_parameters xs)
   parameters_u [] h = none
   parameters_u (x ∷ xs) h = then_u (then_u (whole_type_u x.typ h.0.1) (asked (written_node x.typ) _ _ _ tt)) (parameters_u xs h.1)
 
-  result_u : (t : Option Written) → OfAnnotation C t → U (rules.of_result t)
+  pub result_u : (t : Option Written) → OfAnnotation C t → U (rules.of_result t)
   result_u None h = none
   result_u (Some t) h = whole_type_u t h
 

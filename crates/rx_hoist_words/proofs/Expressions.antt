@@ -29,7 +29,7 @@ use Rattle.rx_hoist_words.proofs.Types.{no_result_binds, ScopeBelow, scope_later
 
 -- ---- steps of numbering that touch no names
 
-abbrev Any : {A : Type 0} → A → Type 0
+abbrev pub Any : {A : Type 0} → A → Type 0
 Any a = Unit {0}
 
 among_length : (i k : ℕ) (ds : List Declaration) → length (numbering.known_among i k ds) ≡ length ds
@@ -49,30 +49,30 @@ set_length [] (suc x) d = refl
 set_length (e ∷ ds) zero d = refl
 set_length (e ∷ ds) (suc x) d = ap suc (set_length ds x d)
 
-quiet_counted : Quiet Any numbering.counted
+pub quiet_counted : Quiet Any numbering.counted
 quiet_counted = record { fits = λ c. tt; names = λ c. refl; declared = λ c. (refl, refl) }
 
-quiet_between : (i j : ℕ) → Quiet Any (numbering.known_between i j)
+pub quiet_between : (i j : ℕ) → Quiet Any (numbering.known_between i j)
 quiet_between i j = record { fits = λ c. tt; names = λ c. refl; declared = λ c. (refl, among_length i (j - i) c.variables) }
 
-quiet_annotates : (p : PatternTree) (y : Option TypeTree) → Quiet Any (numbering.annotates p y)
+pub quiet_annotates : (p : PatternTree) (y : Option TypeTree) → Quiet Any (numbering.annotates p y)
 quiet_annotates p None = record { fits = λ c. tt; names = λ c. refl; declared = λ c. (refl, refl) }
 quiet_annotates p (Some y) = record { fits = λ c. tt; names = λ c. refl; declared = λ c. (refl, refl) }
 
-quiet_loop : Quiet Any numbering.a_loop
+pub quiet_loop : Quiet Any numbering.a_loop
 quiet_loop = record { fits = λ c. tt; names = λ c. refl; declared = λ c. (refl, refl) }
 
-quiet_leads : (l : ℕ) → Quiet Any (numbering.leads l)
+pub quiet_leads : (l : ℕ) → Quiet Any (numbering.leads l)
 quiet_leads l = record { fits = λ c. tt; names = λ c. refl; declared = λ c. (refl, refl) }
 
-quiet_is_left : (l : ℕ) → Quiet Any (numbering.is_left l)
+pub quiet_is_left : (l : ℕ) → Quiet Any (numbering.is_left l)
 quiet_is_left l = record { fits = λ c. tt; names = λ c. refl; declared = λ c. (refl, refl) }
 
 quiet_given_here : (x : ℕ) (o : Option (ℕ × ℕ)) → Quiet Any (numbering.given_here x o)
 quiet_given_here x None = record { fits = λ c. tt; names = λ c. refl; declared = λ c. (refl, refl) }
 quiet_given_here x (Some w) = record { fits = λ c. tt; names = λ c. refl; declared = λ c. (refl, set_length c.variables x (record (numbering.declaration c x) { stage = Stage.Known })) }
 
-quiet_gives_here : (x : ℕ) → Quiet Any (numbering.gives_here x)
+pub quiet_gives_here : (x : ℕ) → Quiet Any (numbering.gives_here x)
 quiet_gives_here x = record {
   fits = λ c. tt;
   names = λ c. (quiet_given_here x (numbering.waiting x (numbering.declaration c x).stage)).names c;
@@ -83,20 +83,20 @@ quiet_waits_at : (n : Node) (o : Option ℕ) → Quiet Any (numbering.waits_at n
 quiet_waits_at n None = record { fits = λ c. tt; names = λ c. refl; declared = λ c. (refl, refl) }
 quiet_waits_at n (Some x) = record { fits = λ c. tt; names = λ c. refl; declared = λ c. (refl, set_length c.variables x (record (numbering.declaration c x) { stage = Stage.Waits n.number n.span })) }
 
-quiet_waits : (b : Bool) (p : named.Pattern) → Quiet Any (numbering.waits_if b p)
+pub quiet_waits : (b : Bool) (p : named.Pattern) → Quiet Any (numbering.waits_if b p)
 quiet_waits true p = quiet_waits_at (named.pattern_node p) (named.whole_binding p)
 quiet_waits false p = record { fits = λ c. tt; names = λ c. refl; declared = λ c. (refl, refl) }
 
-quiet_use : (V : ℕ → Type 0) (x : ℕ) → V x → Quiet (λ (u : Use). V u.number) (numbering.a_use x)
+pub quiet_use : (V : ℕ → Type 0) (x : ℕ) → V x → Quiet (λ (u : Use). V u.number) (numbering.a_use x)
 quiet_use V x v = record { fits = λ c. v; names = λ c. refl; declared = λ c. (refl, refl) }
 
 -- the variable that is the whole of a place
-abbrev RootHas : Claims → Expression → Exp → Type 0
+abbrev pub RootHas : Claims → Expression → Exp → Type 0
 RootHas C (plain.var s x) a = C.variable (root a).number
 RootHas C _ a = Unit {0}
 
 -- the one that waits for its type
-abbrev Waits : Claims → Option (ℕ × ℕ) → Type 0
+abbrev pub Waits : Claims → Option (ℕ × ℕ) → Type 0
 Waits C None = Unit {0}
 Waits C (Some w) = C.variable w.0
 
@@ -135,7 +135,7 @@ waits_has C (plain.break s l) q c h = tt
 waits_has C (plain.continue s l) q c h = tt
 waits_has C (plain.return s o) q c h = tt
 
-quiet_waits_for : (C : Claims) (p : Expression) (q : Exp) → RootHas C p q → Quiet (Waits C) (numbering.waits_for p q)
+pub quiet_waits_for : (C : Claims) (p : Expression) (q : Exp) → RootHas C p q → Quiet (Waits C) (numbering.waits_for p q)
 quiet_waits_for C p q h = record { fits = λ c. waits_has C p q c h; names = λ c. refl; declared = λ c. (refl, refl) }
 
 -- ---- of an expression where it stands

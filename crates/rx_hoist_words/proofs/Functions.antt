@@ -60,21 +60,21 @@ numbers_entry_of : (n : ℕ) (xs : List Parameter) → is_nothing (numbers_from 
 numbers_entry_of n [] = refl
 numbers_entry_of n (x ∷ xs) = refl
 
-function_entry : (I : Inside) (f : Function) (ns : List ℕ) → lifetimes_of I [] 0 f.lifetimes ≡ Ok ns → not (is_nothing (ns ++ numbers_from 0 f.params)) ≡ has_entry f
+pub function_entry : (I : Inside) (f : Function) (ns : List ℕ) → lifetimes_of I [] 0 f.lifetimes ≡ Ok ns → not (is_nothing (ns ++ numbers_from 0 f.params)) ≡ has_entry f
 function_entry I f ns e =
     nothing_append ns (numbers_from 0 f.params) ∙ ap (λ (b : Bool). b || not (is_nothing (numbers_from 0 f.params))) (lifetimes_entry I [] 0 f.lifetimes ns e)
     ∙ ap (λ (b : Bool). has_bounds f.lifetimes || not b) (numbers_entry_of 0 f.params)
 
-abbrev EntryTaken : ℕ → Bool → ItemNames → ItemNames → Type 0
+abbrev pub EntryTaken : ℕ → Bool → ItemNames → ItemNames → Type 0
 EntryTaken N b t t' = Part N t t' 0 (λ es. Takes (λ a. Unit {0}) t t' es (entry_if b))
 
-entry_taken : (N : ℕ) (I : Inside) (at ks : List ℕ) (t t' : ItemNames) → numbered I at ks t ≡ Ok t' → EntryTaken N (not (is_nothing ks)) t t'
+pub entry_taken : (N : ℕ) (I : Inside) (at ks : List ℕ) (t t' : ItemNames) → numbered I at ks t ≡ Ok t' → EntryTaken N (not (is_nothing ks)) t t'
 entry_taken N I at [] t t' e = unchanged N t t' (λ v es. Takes (λ a. Unit {0}) t v es (entry_if false)) e (takes_give numbering.no_names tt)
 entry_taken N I at (k ∷ ks) t t' e = restated (entry_part N I at t t' k ks (Ok (k ∷ ks)) refl e) refl (λ es h. takes_map (λ z. z) h (λ a r. tt))
 
 -- ---- types bind nothing
 
-no_parameters_bind : (xs : List Parameter) → binds (within_parameters xs) ≡ 0
+pub no_parameters_bind : (xs : List Parameter) → binds (within_parameters xs) ≡ 0
 no_parameters_bind [] = refl
 no_parameters_bind (x ∷ xs) = let a = binds_append (a_type x.typ ∷ below_type x.typ) (within_parameters xs) in let b = no_type_binds x.typ in let d = no_parameters_bind xs in omega (arith, a, b, d)
 

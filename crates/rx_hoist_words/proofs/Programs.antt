@@ -194,6 +194,7 @@ module _ (p : ProgramTree) (ns : List ItemNames) (t : Typed) (few : IsNumbered p
     pub function : Function
     pub table : ItemNames
     pub at : slice_get p number ≡ Some (plain.function_item span function)
+    pub named : in_item p number (plain.function_item span function) ≡ Ok table
     pub checked : FunctionTyped G number span function table.names table.vars g
     pub taken : FunctionTaken (of_program D (length table.vars)) number span function table
 
@@ -211,6 +212,7 @@ module _ (p : ProgramTree) (ns : List ItemNames) (t : Typed) (few : IsNumbered p
         function = x.function;
         table = T.table;
         at = ap (λ (n : ℕ). slice_get p n) zero ∙ x.at;
+        named = T.named;
         checked = h;
         taken = taken (0 + x.number) x.span x.function T.table T.named;
       }

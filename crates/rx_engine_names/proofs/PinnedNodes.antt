@@ -1,0 +1,154 @@
+-- Blocks keep their places, and patterns stay, where kinds and types are written out, since no type has any. By induction over all forms.
+use Rattle.std.proofs.Common.{◌≡◌, ℕ, List, [], ◌∷◌, ◌++◌, Option, Some, None, refl, sym, ap, ◌∙◌}
+use Rattle.rx_core.specs.declared.types.Span.{Span}
+use Rattle.rx_tree.specs.Plain as plain
+use Rattle.rx_tree.specs.Plain.{TypeTree, TypeTrees, PatternTree, Expression, Expressions, OptionalExpression, OptionalExpressions, FieldExpressions, Arms, Body, Statement, Statements, ProgramTree}
+use Rattle.rx_tree.specs.Spans.{body_span}
+use Rattle.rx_tree.specs.Positions.{NodeTree, an_item, a_type, a_block, a_statement, an_expression, a_pattern}
+use Rattle.rx_tree.specs.Nodes.{below_type, within_types, below_pattern, below_expression, within_expressions, within_optional, within_arguments, within_fields, within_arms, below_block, below_statement, within_statements, within_type}
+use Rattle.rx_resolve_names.specs.Meant.{Around, a_loop, a_test}
+use Rattle.rx_hoist_extraction.specs.Names.{Names, bound, bound_by, behind_all}
+use Rattle.rx_hoist_extraction.specs.Plan.{Pins}
+use Rattle.rx_hoist_extraction.specs.Changed.{Changes, changed, changed_all, changed_optional, changed_arguments, changed_fields, changed_arms, changed_body, changed_statement, changed_statements}
+use Rattle.rx_hoist_extraction.specs.Pinned.{pinning, pinned_type}
+
+-- ---- what is told of blocks, by their spans, and of patterns; all else is told nothing of
+
+module _ (A : Type 0) (of_block : Span → List A) (of_pattern : PatternTree → List A) where
+  abbrev pub tag : NodeTree → List A
+  tag (an_item i) = []
+  tag (a_type t) = []
+  tag (a_block b) = of_block (body_span b)
+  tag (a_statement a) = []
+  tag (an_expression e) = []
+  tag (a_pattern p) = of_pattern p
+
+  abbrev pub tags : List NodeTree → List A
+  tags [] = []
+  tags (n ∷ ns) = tag n ++ tags ns
+
+  apart : (xs ys zs : List A) → (xs ++ ys) ++ zs ≡ xs ++ (ys ++ zs)
+  apart [] ys zs = refl
+  apart (x ∷ xs) ys zs = ap (λ l. x ∷ l) (apart xs ys zs)
+
+  tags_both : (xs ys : List NodeTree) → tags (xs ++ ys) ≡ tags xs ++ tags ys
+  tags_both [] ys = refl
+  tags_both (x ∷ xs) ys = ap (λ l. tag x ++ l) (tags_both xs ys) ∙ sym (apart (tag x) (tags xs) (tags ys))
+
+  abbrev both_none : (xs ys : List NodeTree) → tags xs ≡ [] → tags ys ≡ [] → tags (xs ++ ys) ≡ []
+  both_none xs ys e f = tags_both xs ys ∙ (ap (λ l. l ++ tags ys) e ∙ f)
+
+  mutual
+    type_untagged : (t : TypeTree) → tags (below_type t) ≡ []
+    type_untagged (plain.kind_type s k) = refl
+    type_untagged (plain.bool_type s) = refl
+    type_untagged (plain.tuple_type s ts) = types_untagged ts
+    type_untagged (plain.ref_type s l m t) = type_untagged t
+    type_untagged (plain.named_type s n ls) = refl
+
+    types_untagged : (ts : TypeTrees) → tags (within_types ts) ≡ []
+    types_untagged plain.no_type = refl
+    types_untagged (plain.type_and t ts) = both_none (below_type t) (within_types ts) (type_untagged t) (types_untagged ts)
+
+  abbrev both_same : (xs ys xs' ys' : List NodeTree) → tags xs ≡ tags xs' → tags ys ≡ tags ys' → tags (xs ++ ys) ≡ tags (xs' ++ ys')
+  both_same xs ys xs' ys' e f = tags_both xs ys ∙ (ap (λ l. l ++ tags ys) e ∙ ap (λ l. tags xs' ++ l) f) ∙ sym (tags_both xs' ys')
+
+  type_same : (y z : Option TypeTree) → tags (within_type y) ≡ tags (within_type z)
+  type_same y z = by y ∙ sym (by z)
+    where
+      by : (y : Option TypeTree) → tags (within_type y) ≡ []
+      by None = refl
+      by (Some t) = type_untagged t
+
+  module _ (P : ProgramTree) (place : Span) (pins : Pins) where
+    abbrev C : Changes
+    C = pinning P place pins
+
+    mutual
+      same : (own : Names) (ls : List Around) (e : Expression) → tags (below_expression (changed C own ls e)) ≡ tags (below_expression e)
+      same own ls (plain.int s v k) = refl
+      same own ls (plain.bool s b) = refl
+      same own ls (plain.tuple s es) = same_all own ls es
+      same own ls (plain.var s x) = refl
+      same own ls (plain.field s e x) = same own ls e
+      same own ls (plain.part s e i) = same own ls e
+      same own ls (plain.deref s e) = same own ls e
+      same own ls (plain.negate s e) = same own ls e
+      same own ls (plain.invert s e) = same own ls e
+      same own ls (plain.borrow s m e) = same own ls e
+      same own ls (plain.binary s o a b) =
+          both_same (below_expression (changed C own ls a)) (an_expression (changed C own ls b) ∷ below_expression (changed C own ls b)) (below_expression a) (an_expression b ∷ below_expression b) (same own ls a) (same own ls b)
+      same own ls (plain.assign s a b) =
+          both_same (below_expression (changed C own ls a)) (an_expression (changed C own ls b) ∷ below_expression (changed C own ls b)) (below_expression a) (an_expression b ∷ below_expression b) (same own ls a) (same own ls b)
+      same own ls (plain.update s o a b) =
+          both_same (below_expression (changed C own ls a)) (an_expression (changed C own ls b) ∷ below_expression (changed C own ls b)) (below_expression a) (an_expression b ∷ below_expression b) (same own ls a) (same own ls b)
+      same own ls (plain.call s f es) = same_all own ls es
+      same own ls (plain.next_input s) = refl
+      same own ls (plain.variant s a v plain.no_list) = refl
+      same own ls (plain.variant s a v (plain.a_list es)) = same_all own ls es
+      same own ls (plain.make s x fs) = same_fields own ls fs
+      same own ls (plain.print s e) = same own ls e
+      same own ls (plain.block s b) = same_body own ls b
+      same own ls (plain.if s c b o) =
+          let b' = changed_body C own ls b in
+          let o' = changed_optional C own ls o in
+          both_same (below_expression (changed C own ls c)) (a_block b' ∷ (below_block b' ++ within_optional o')) (below_expression c) (a_block b ∷ (below_block b ++ within_optional o)) (same own ls c)
+          (both_same (a_block b' ∷ below_block b') (within_optional o') (a_block b ∷ below_block b) (within_optional o) (same_body own ls b) (same_optional own ls o))
+      same own ls (plain.if_let s p e b o) =
+          let e' = changed C own ls e in
+          let b' = changed_body C (bound p ++ own) ls b in
+          let o' = changed_optional C own ls o in
+          ap (λ l. of_pattern p ++ l) (both_same (below_pattern p) (an_expression e' ∷ (below_expression e' ++ (a_block b' ∷ (below_block b' ++ within_optional o')))) (below_pattern p) (an_expression e ∷ (below_expression e ++ (a_block b ∷ (below_block b ++ within_optional o)))) refl
+          (both_same (below_expression e') (a_block b' ∷ (below_block b' ++ within_optional o')) (below_expression e) (a_block b ∷ (below_block b ++ within_optional o)) (same own ls e)
+          (both_same (a_block b' ∷ below_block b') (within_optional o') (a_block b ∷ below_block b) (within_optional o) (same_body (bound p ++ own) ls b) (same_optional own ls o))))
+      same own ls (plain.match s e arms) = both_same (below_expression (changed C own ls e)) (within_arms (changed_arms C own ls arms)) (below_expression e) (within_arms arms) (same own ls e) (same_arms own ls arms)
+      same own ls (plain.loop s l b) = same_body own (a_loop l 0 ∷ ls) b
+      same own ls (plain.while s l c b) =
+          let c' = changed C own (a_test ∷ a_loop l 0 ∷ ls) c in
+          let b' = changed_body C own (a_loop l 0 ∷ ls) b in
+          both_same (below_expression c') (a_block b' ∷ below_block b') (below_expression c) (a_block b ∷ below_block b) (same own (a_test ∷ a_loop l 0 ∷ ls) c) (same_body own (a_loop l 0 ∷ ls) b)
+      same own ls (plain.while_let s l p e b) =
+          let e' = changed C own (a_test ∷ a_loop l 0 ∷ ls) e in
+          let b' = changed_body C (bound p ++ own) (a_loop l 0 ∷ ls) b in
+          ap (λ l. of_pattern p ++ l) (both_same (below_pattern p) (an_expression e' ∷ (below_expression e' ++ (a_block b' ∷ below_block b'))) (below_pattern p) (an_expression e ∷ (below_expression e ++ (a_block b ∷ below_block b))) refl
+          (both_same (below_expression e') (a_block b' ∷ below_block b') (below_expression e) (a_block b ∷ below_block b) (same own (a_test ∷ a_loop l 0 ∷ ls) e) (same_body (bound p ++ own) (a_loop l 0 ∷ ls) b)))
+      same own ls (plain.break s l) = refl
+      same own ls (plain.continue s l) = refl
+      same own ls (plain.return s o) = same_optional own ls o
+
+      same_all : (own : Names) (ls : List Around) (es : Expressions) → tags (within_expressions (changed_all C own ls es)) ≡ tags (within_expressions es)
+      same_all own ls plain.no_expression = refl
+      same_all own ls (plain.expression_and e es) = both_same (below_expression (changed C own ls e)) (within_expressions (changed_all C own ls es)) (below_expression e) (within_expressions es) (same own ls e) (same_all own ls es)
+
+      same_optional : (own : Names) (ls : List Around) (o : OptionalExpression) → tags (within_optional (changed_optional C own ls o)) ≡ tags (within_optional o)
+      same_optional own ls plain.absent = refl
+      same_optional own ls (plain.present e) = same own ls e
+
+      same_fields : (own : Names) (ls : List Around) (fs : FieldExpressions) → tags (within_fields (changed_fields C own ls fs)) ≡ tags (within_fields fs)
+      same_fields own ls plain.no_field = refl
+      same_fields own ls (plain.field_and x e fs) = both_same (below_expression (changed C own ls e)) (within_fields (changed_fields C own ls fs)) (below_expression e) (within_fields fs) (same own ls e) (same_fields own ls fs)
+
+      same_arms : (own : Names) (ls : List Around) (arms : Arms) → tags (within_arms (changed_arms C own ls arms)) ≡ tags (within_arms arms)
+      same_arms own ls plain.no_arm = refl
+      same_arms own ls (plain.arm_and p e rest) =
+          let e' = changed C (bound p ++ own) ls e in
+          let rest' = changed_arms C own ls rest in
+          ap (λ l. of_pattern p ++ l) (both_same (below_pattern p) (an_expression e' ∷ (below_expression e' ++ within_arms rest')) (below_pattern p) (an_expression e ∷ (below_expression e ++ within_arms rest)) refl
+          (both_same (below_expression e') (within_arms rest') (below_expression e) (within_arms rest) (same (bound p ++ own) ls e) (same_arms own ls rest)))
+
+      pub same_body : (own : Names) (ls : List Around) (b : Body) → tags (a_block (changed_body C own ls b) ∷ below_block (changed_body C own ls b)) ≡ tags (a_block b ∷ below_block b)
+      same_body own ls (plain.body s ss o) =
+          ap (λ l. of_block s ++ l) (both_same (within_statements (changed_statements C own ls ss)) (within_optional (changed_optional C (behind_all own ss) ls o)) (within_statements ss) (within_optional o) (same_statements own ls ss) (same_optional (behind_all own ss) ls o))
+
+      same_statement : (own : Names) (ls : List Around) (a : Statement) → tags (below_statement (changed_statement C own ls a)) ≡ tags (below_statement a)
+      same_statement own ls (plain.let_statement s p y o) =
+          let y' = pinned_type P place pins p y in
+          let o' = changed_optional C own ls o in
+          ap (λ l. of_pattern p ++ l) (both_same (below_pattern p) (within_type y' ++ within_optional o') (below_pattern p) (within_type y ++ within_optional o) refl
+          (both_same (within_type y') (within_optional o') (within_type y) (within_optional o) (type_same y' y) (same_optional own ls o)))
+      same_statement own ls (plain.expression_statement s e b) = same own ls e
+
+      same_statements : (own : Names) (ls : List Around) (ss : Statements) → tags (within_statements (changed_statements C own ls ss)) ≡ tags (within_statements ss)
+      same_statements own ls plain.no_statement = refl
+      same_statements own ls (plain.statement_and a ss) = both_same (below_statement (changed_statement C own ls a)) (within_statements (changed_statements C (bound_by a ++ own) ls ss)) (below_statement a) (within_statements ss) (same_statement own ls a)
+          (same_statements (bound_by a ++ own) ls ss)

@@ -1,0 +1,7 @@
+mod Scopes
+mod NamedPatterns
+mod NamedExpressions
+mod NamedFunctions
+mod TypedNames
+mod Programs
+mod Plans

@@ -1,0 +1,4 @@
+pub mod Ways
+mod Rows
+mod Parts
+mod Forms

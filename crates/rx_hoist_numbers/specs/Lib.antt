@@ -1,0 +1,2 @@
+pub mod NumberedNodes
+pub mod Counting

@@ -1,0 +1,4 @@
+mod Meaning
+mod Outs
+mod Blocks
+mod Runs
