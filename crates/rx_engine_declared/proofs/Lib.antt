@@ -1,0 +1,9 @@
+pub mod Growing
+pub mod Reading
+pub mod Items
+pub mod Comparing
+pub mod Sizes
+pub mod Stands
+pub mod Knowing
+pub mod MadeItems
+pub mod Extractions

@@ -1,0 +1,7 @@
+mod Asking
+mod Around
+mod Rounds
+mod Returned
+mod Tails
+mod Sited
+mod Initialised

@@ -1,0 +1,5 @@
+pub mod Special
+pub mod Run
+pub mod Returned
+pub mod Tail
+pub mod Sited

@@ -1,0 +1,92 @@
+//! Laws of what is asked at special places, each as the contract of a function that does nothing.
+
+ghost use Rattle.std.specs.Prelude.{◌≡◌, ◌++◌, ◌||◌, false, Bool, ℕ, List as ListOf, []};
+ghost use Rattle.rx_core.specs.declared.types.Span.{Span};
+ghost use Rattle.rx_typed.specs.declared.nodes.Node.{Node};
+ghost use Rattle.rx_typed.specs.declared.nodes.Site.{Site};
+ghost use Rattle.rx_typed.specs.Named.{else_diverges, some_diverges, is_place, node_of, tail_never, Body, Else, Exp, Function, Statements};
+ghost use Rattle.rx_typeck_solver.specs.declared.facts.Demand.{Demand};
+ghost use Rattle.rx_typeck_solver.specs.Facts.{Known, MeetsEach, Types};
+ghost use Rattle.rx_typeck_rules.specs.Demands.{demands, hands_on, of_body, of_exp, of_statements};
+ghost use Rattle.rx_engine_blocks.specs.Renumbering.{node_at, Renumbering};
+ghost use Rattle.rx_engine_blocks.specs.DemandsLike.{DemandsLike, Is};
+ghost use Rattle.rx_engine_blocks.specs.Knows.{Knows};
+ghost use Rattle.rx_engine_blocks.specs.Along.{none_viewed, PartialInverse, Viewed};
+ghost use Rattle.rx_engine_blocks.specs.Blocks.{none_behind, AllReferences, Behind, ToldIn};
+ghost use Rattle.rx_engine_blocks.specs.Around.{Round};
+ghost use Rattle.rx_engine_blocks.specs.Parts.{StandsFor};
+ghost use Rattle.rx_engine_typing.specs.Renumbered.{RenumberedBody, RenumberedExp, RenumberedFunction, RenumberedStatements};
+ghost use Rattle.rx_engine_holes.specs.Returned.{returned_holes};
+ghost use Rattle.rx_engine_holes.specs.Run.{with_run};
+ghost use Rattle.rx_engine_holes.specs.Sited.{at_site};
+ghost use Rattle.rx_engine_holes.specs.Special.{special_holes};
+ghost use Rattle.rx_engine_holes.specs.Tail.{of_end, with_tail};
+
+/// What is asked of a body in which some variables are behind references, some literals have suffixes, and
+/// jumps are returns, stands for what the text's asks.
+pub fn special_bodies_ask_alike()
+    ensures { (r : Renumbering) (u : PartialInverse r) (view : Viewed) (behind : Behind) (q : Renumbering) (elsewhere : Behind) (fs : ListOf Demand) (D E : Known) → Knows r D E
+        → (A V : Types) (es : ListOf Demand) → AllReferences r u view behind E A es → MeetsEach E V es → (loops : ℕ → ℕ) (f : ℕ) (b b' : Body)
+        → RenumberedBody r loops (special_holes r u view behind A V) b b'
+        → DemandsLike r (StandsFor r u view behind (ToldIn q elsewhere fs) D E A V es) (of_body f b []) (of_body (r.items f) b' []) }
+{}
+
+/// The same of statements.
+pub fn special_statements_ask_alike()
+    ensures { (r : Renumbering) (u : PartialInverse r) (view : Viewed) (behind : Behind) (q : Renumbering) (elsewhere : Behind) (fs : ListOf Demand) (D E : Known) → Knows r D E
+        → (A V : Types) (es : ListOf Demand) → AllReferences r u view behind E A es → MeetsEach E V es → (loops : ℕ → ℕ) (f : ℕ) (ss ss' : Statements)
+        → RenumberedStatements r loops (special_holes r u view behind A V) ss ss'
+        → DemandsLike r (StandsFor r u view behind (ToldIn q elsewhere fs) D E A V es) (of_statements f ss []) (of_statements (r.items f) ss' []) }
+{}
+
+/// The same of a whole function.
+pub fn special_functions_ask_alike()
+    ensures { (r : Renumbering) (u : PartialInverse r) (view : Viewed) (behind : Behind) (q : Renumbering) (elsewhere : Behind) (fs : ListOf Demand) (D E : Known) → Knows r D E
+        → (A V : Types) (es : ListOf Demand) → AllReferences r u view behind E A es → MeetsEach E V es → (loops : ℕ → ℕ) (f g : Function)
+        → RenumberedFunction r loops (special_holes r u view behind A V) f g
+        → DemandsLike r (StandsFor r u view behind (ToldIn q elsewhere fs) D E A V es) (demands f) (demands g) }
+{}
+
+/// In a function of the answer, a block has other statements for a run of the text's; elsewhere it is the text's function but for literals with
+/// suffixes. What is asked of both is the same, but for what is asked of the run and of the others.
+pub fn functions_round_a_run_ask_alike()
+    ensures { (q : Renumbering) (w : PartialInverse q) (r : Renumbering) (behind : Behind) (es fs : ListOf Demand) (D E : Known) → Knows q D E
+        → (A W : Types) → AllReferences q w none_viewed none_behind E A fs → MeetsEach E W fs → (loops : ℕ → ℕ) (run call : Statements) (asked given : ListOf Demand) → Is (some_diverges run) (some_diverges call)
+        → (f g : Function) → ((ds : ListOf Demand) → of_statements f.item run ds ≡ ds ++ asked) → ((ds : ListOf Demand) → of_statements (q.items f.item) call ds ≡ ds ++ given)
+        → RenumberedFunction q loops (with_run q loops (special_holes q w none_viewed none_behind A W) run call) f g
+        → DemandsLike q (Round (StandsFor q w none_viewed none_behind (ToldIn r behind es) D E A W fs) asked given) (demands f) (demands g) }
+{}
+
+/// What is asked of statements that are copied into another function, where what they return is returned as a value of a variant, stands for
+/// what the text's ask.
+pub fn moved_statements_ask_alike()
+    ensures { (r : Renumbering) (u : PartialInverse r) (view : Viewed) (behind : Behind) (q : Renumbering) (elsewhere : Behind) (fs : ListOf Demand) (D E : Known) → Knows r D E
+        → (A V : Types) (es : ListOf Demand) → AllReferences r u view behind E A es → MeetsEach E V es → (loops : ℕ → ℕ) (f g k : ℕ) (ss ss' : Statements)
+        → RenumberedStatements r loops (returned_holes r u view behind D E A V loops f k) ss ss'
+        → DemandsLike r (StandsFor r u view behind (ToldIn q elsewhere fs) D E A V es) (of_statements f ss []) (of_statements g ss' []) }
+{}
+
+/// In a function of the answer, a block has other last statements and another tail, for a run that holds the tail of its block.
+pub fn functions_round_a_tail_ask_alike()
+    ensures { (q : Renumbering) (w : PartialInverse q) (r : Renumbering) (behind : Behind) (es fs : ListOf Demand) (D E : Known) → Knows q D E
+        → (A W : Types) → AllReferences q w none_viewed none_behind E A fs → MeetsEach E W fs → (loops : ℕ → ℕ) (n : Node) (s : Span) (d : Bool) (run : Statements) (o : Else) (call : Statements) (p : Else)
+        → (asked given : ListOf Demand) → Is (some_diverges run || else_diverges o) (some_diverges call || else_diverges p)
+        → Is (tail_never (d || some_diverges run) o) (tail_never (d || some_diverges call) p)
+        → (f g : Function) → ((ds : ListOf Demand) → of_end f.item n d run o ds ≡ ds ++ asked) → ((ds : ListOf Demand) → of_end (q.items f.item) (node_at q n s) d call p ds ≡ ds ++ given)
+        → RenumberedFunction q loops (with_tail q loops (special_holes q w none_viewed none_behind A W) n s d run o call p) f g
+        → DemandsLike q (Round (StandsFor q w none_viewed none_behind (ToldIn r behind es) D E A W fs) asked given) (demands f) (demands g) }
+{}
+
+/// A value that is no place asks as an initialiser with a type what it asks at any coercion site.
+pub fn initialisers_ask_alike()
+    ensures { (g : ℕ) (e : Exp) → is_place e ≡ false → (node_of e).site ≡ Site.Expects → (ds : ListOf Demand) → of_exp g (at_site Site.Initialises e) ds ≡ of_exp g e ds }
+{}
+
+/// The same of statements and of a tail behind them, which hands on what is expected of the block.
+pub fn moved_tails_ask_alike()
+    ensures { (r : Renumbering) (u : PartialInverse r) (view : Viewed) (behind : Behind) (q : Renumbering) (elsewhere : Behind) (fs : ListOf Demand) (D E : Known) → Knows r D E
+        → (A V : Types) (es : ListOf Demand) → AllReferences r u view behind E A es → MeetsEach E V es → (loops : ℕ → ℕ) (f g k : ℕ) (n : Node) (s : Span) (ss ss' : Statements) (e e' : Exp)
+        → RenumberedStatements r loops (returned_holes r u view behind D E A V loops f k) ss ss' → RenumberedExp r loops (returned_holes r u view behind D E A V loops f k) e e'
+        → DemandsLike r (StandsFor r u view behind (ToldIn q elsewhere fs) D E A V es) (of_exp f e (hands_on n (node_of e) (of_statements f ss [])))
+        (of_exp g e' (hands_on (node_at r n s) (node_of e') (of_statements g ss' []))) }
+{}

@@ -1,0 +1,8 @@
+use Rattle.rx_engine_blocks.specs.DemandsLike.{NoSpecial}
+use Rattle.rx_engine_typing.specs.Renumbered.{no_holes}
+use Rattle.rx_engine_typing.proofs.Forms.{function_like}
+use Rattle.rx_engine_typing.proofs.Holes.{no_fits, no_asks}
+use Rattle.rx_engine_typing.proofs.laws.renumbered_functions_ask_alike.Goals as goal
+
+pub returns : goal.returns
+returns c r loops f g h = function_like r loops no_holes NoSpecial (no_fits r loops) (no_asks r loops) h

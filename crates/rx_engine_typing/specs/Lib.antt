@@ -1,0 +1,4 @@
+pub mod Renumbered
+pub mod Scoped
+pub mod Counted
+pub mod Corresponding
