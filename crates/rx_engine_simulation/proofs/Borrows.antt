@@ -89,6 +89,7 @@ module _ (V : Facts) (R : Renaming) (Z Z' : Frozen) (a : Action) (h : List Actio
     names = inv.names;
     binds = λ x e f. bind_on x e.to e.how f (inv.binds x e f);
     written = λ x n e w. ⊎_elim (λ g. absurd (none x (inr g))) (λ g. inv.written x n e g.1) w;
+    slotted = λ x w. ⊎_elim (λ g. absurd (none x (inr g))) (λ g. inv.slotted x g.1) w;
     anchors = inv.anchors;
   }
 

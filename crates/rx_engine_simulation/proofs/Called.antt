@@ -12,12 +12,14 @@ use Rattle.rx_meaning.specs.Acting.{performed, plainly}
 use Rattle.rx_meaning.specs.Expressions.{Functions, take_turn, returned, with_arguments, activation, entered, value, below_level}
 use Rattle.rx_meaning.specs.Programs.{Program, run, UpTo}
 use Rattle.rx_meaning.proofs.Fronts.{front_bind, told_returned}
-use Rattle.rx_engine_simulation.specs.Statements.{Specials, Elsewhere}
+use Rattle.rx_engine_simulation.specs.Arrivals.{Specials}
+use Rattle.rx_engine_simulation.specs.Statements.{Elsewhere}
+use Rattle.rx_engine_simulation.specs.Units.{UnitFunctions}
 use Rattle.rx_engine_simulation.specs.Openings.{no_openings}
 use Rattle.rx_engine_simulation.specs.Like.{LikeExp}
 use Rattle.rx_engine_simulation.specs.Passing.{New, Passing, Absents, inner_jumps, Covers}
-use Rattle.rx_engine_simulation.specs.Called.{body_giving, BecomesCall, becomes_call, calls_of, WithCall}
-use Rattle.rx_engine_simulation.proofs.Locals.{call_is, turned_out, turned_on, all_moved, all_dead}
+use Rattle.rx_engine_simulation.specs.Called.{body_giving, BecomesCall, becomes_call, calls_of, a_turn, WithCall}
+use Rattle.rx_engine_simulation.proofs.Locals.{call_is, call_strays, turned_out, turned_on, all_moved, all_dead}
 use Rattle.rx_engine_simulation.proofs.Statements.{statements_alike}
 use Rattle.rx_engine_simulation.proofs.Told.{Told, said, followed, onto}
 use Rattle.rx_engine_simulation.proofs.Values.{In, Pair, Given, shut}
@@ -26,10 +28,11 @@ use Rattle.rx_engine_simulation.proofs.Results.{Jumping, Reached, stays_break, s
 use Rattle.rx_engine_simulation.proofs.Parts.{Ready}
 use Rattle.rx_engine_simulation.proofs.Calls.{in_item, in_frame}
 use Rattle.rx_engine_simulation.proofs.Entry.{IsCold, Zt, Za, Going, begins}
-use Rattle.rx_engine_simulation.proofs.Given.{Passed, pass_all, absent_all}
+use Rattle.rx_engine_simulation.proofs.Given.{Passed, Tries, passes, strays, pass_all, absent_all}
 use Rattle.rx_engine_simulation.proofs.Leaving.{states_leave, grown_leave}
 use Rattle.rx_engine_simulation.proofs.Congruence.{CallsUpTo, OpensAlike, nothing_opens, level_alike}
 use Rattle.rx_engine_simulation.proofs.Whole.{answer_up_to_text, text_up_to_answer}
+use Rattle.rx_engine_simulation.specs.Astray.{OrAstray}
 
 none_some : {A : Type 0} {a : A} → None ≡ Some a → ⊥
 none_some e = cc
@@ -76,7 +79,7 @@ module _ (V : Facts) (R Ra : Renaming) (Z Z' : Frozen) (Cold : ℕ → Type 0) (
 
 module _ (items : ℕ → ℕ) (P Q : Functions) (d : Direction) (N : New) (stands : element Q N.number ≡ Some (Some N.function)) where
   module _ (V : Facts) (J : Jumping) (R Rp Ra : Renaming) (Z Z' : Frozen) (cold : List ℕ) (e e' : Exp) (es : Operands) (mb mg : Mark) (is : N.function.body ≡ body_giving mb mg e') (elsewhere : Elsewhere V R Ra e) (is_cold : (x : ℕ) → In x cold → (y : ℕ) × (sight_of R x ≡ Some (sight y (plain shut))))
-      (absents : Absents Rp Ra) (covers : Covers R Ra) (m b c : ℕ) (le : c ≤ b) (t : Temporary) (passing : Passing V R (order e t) (λ x. In x cold) [] es N.function.params Rp) (h : List Action) (j : List Pair) (s s' : State) (at : V.Comes (order e t) h)
+      (absents : Absents Rp Ra) (covers : Covers R Ra) (m b c : ℕ) (le : c ≤ b) (t : Temporary) (passing : Passing (gain d).strays V R (order e t) (λ x. In x cold) [] es N.function.params Rp) (h : List Action) (j : List Pair) (s s' : State) (at : V.Comes (order e t) h)
       (inv : StatesAlike V R Z Z' h j s s') (known : (x i : ℕ) → Z.anchored x i → (e : Sight) × (sight_of R x ≡ Some e)) (low : s.turns ≤ m) where
     abbrev chilled : (x : ℕ) → In x cold → IsCold R x
     chilled x k = ((is_cold x k).0, inr (is_cold x k).1)
@@ -87,7 +90,13 @@ module _ (items : ℕ → ℕ) (P Q : Functions) (d : Direction) (N : New) (stan
     abbrev entry : ℕ → State
     entry u = in_item (with_turns s' u) N.number
 
-    passed_at : (n u : ℕ) → Passed Q (below_level plainly Q n) V (order e t) R Z Z' (λ x. In x cold) h at j s s' inv chilled Rp es N.function.params (entry u)
+    abbrev Tried : ℕ → ℕ → Type 1
+    Tried n u = Tries Q (below_level plainly Q n) V (order e t) R Z Z' (λ x. In x cold) h at j s s' inv chilled (gain d).strays Rp es N.function.params (entry u)
+
+    abbrev Entered : ℕ → ℕ → Type 1
+    Entered n u = Passed Q (below_level plainly Q n) V (order e t) R Z Z' (λ x. In x cold) h at j s s' inv chilled Rp es N.function.params (entry u)
+
+    passed_at : (n u : ℕ) → Tried n u
     passed_at n u =
         pass_all Q (below_level plainly Q n) V (order e t) R Z Z' (λ x. In x cold) h at j s s' inv chilled passing (Za V R Z Z' (λ x. In x cold) h j s s' inv chilled) (entry u)
         (begins V R Z Z' (λ x. In x cold) h j s s' inv chilled N.number u)
@@ -96,10 +105,9 @@ module _ (items : ℕ → ℕ) (P Q : Functions) (d : Direction) (N : New) (stan
     text_does = value followed P (below_level followed P m) e t s
 
     -- its activation, from the turn of the call
-    level_entered : (n0 u : ℕ) → suc u ≡ s'.turns → s'.turns ≤ suc n0 → CallsUpTo items P Q d (suc n0) → LikeExp items no_openings (gain d) V 0 inner_jumps Ra e e' → Turns d b s.turns u
-        → DoAlike V d R Z Z' J Given c h j s s' text_does (entered plainly (below_level plainly Q (suc n0)) N.number N.function (passed_at (suc n0) u).given (with_turns s' u))
-    level_entered n0 u eu low' calls l k =
-        let p = passed_at (suc n0) u in
+    level_entered : (n0 u : ℕ) (p : Entered (suc n0) u) → suc u ≡ s'.turns → s'.turns ≤ suc n0 → CallsUpTo items P Q d (suc n0) → LikeExp items no_openings (gain d) V 0 inner_jumps Ra e e' → Turns d b s.turns u
+        → DoAlike V d R Z Z' J Given c h j s s' text_does (entered plainly (below_level plainly Q (suc n0)) N.number N.function p.given (with_turns s' u))
+    level_entered n0 u p eu low' calls l k =
         let going = absent_all Q (below_level plainly Q (suc n0)) V (order e t) R Z Z' (λ x. In x cold) h at j s s' inv chilled absents p.frozen p.at_end p.going in
         let same_turns : p.at_end.turns ≡ u = p.turns in
         subst (λ q. DoAlike V d R Z Z' J Given c h j s s' text_does (returned plainly s'.frame q)) (sym (activation_is Q n0 N.function mb mg e' p.given (entry u) p.at_end is p.entered))
@@ -113,40 +121,48 @@ module _ (items : ℕ → ℕ) (P Q : Functions) (d : Direction) (N : New) (stan
           known = λ x i a. covers x a.0 a.1;
         }) at good))
 
-    level : (n u : ℕ) → suc u ≡ s'.turns → s'.turns ≤ n → CallsUpTo items P Q d n → LikeExp items no_openings (gain d) V 0 inner_jumps Ra e e' → Turns d b s.turns u
-        → DoAlike V d R Z Z' J Given c h j s s' text_does (entered plainly (below_level plainly Q n) N.number N.function (passed_at n u).given (with_turns s' u))
-    level zero u eu low' calls l k = absurd (omega (arith, low', eu))
-    level (suc n0) u eu low' calls l k = level_entered n0 u eu low' calls l k
+    level : (n u : ℕ) (p : Entered n u) → suc u ≡ s'.turns → s'.turns ≤ n → CallsUpTo items P Q d n → LikeExp items no_openings (gain d) V 0 inner_jumps Ra e e' → Turns d b s.turns u
+        → DoAlike V d R Z Z' J Given c h j s s' text_does (entered plainly (below_level plainly Q n) N.number N.function p.given (with_turns s' u))
+    level zero u p eu low' calls l k = absurd (omega (arith, low', eu))
+    level (suc n0) u p eu low' calls l k = level_entered n0 u p eu low' calls l k
 
-    call_by : (n : ℕ) (mc : Mark) (t' : Temporary) (u : ℕ) → value plainly Q (below_level plainly Q n) (tree.call mc N.number es) t' s' ≡ take_turn s' (λ s3. entered plainly (below_level plainly Q n) N.number N.function (passed_at n u).given s3)
-    call_by n mc t' u = call_is Q (below_level plainly Q n) mc N.number N.function es (passed_at n u).given t' s' stands (passed_at n u).arguments
+    call_by : (n : ℕ) (mc : Mark) (t' : Temporary) (u : ℕ) (p : Entered n u) → value plainly Q (below_level plainly Q n) (tree.call mc N.number es) t' s' ≡ take_turn s' (λ s3. entered plainly (below_level plainly Q n) N.number N.function p.given s3)
+    call_by n mc t' u p = call_is Q (below_level plainly Q n) mc N.number N.function es p.given t' s' stands p.arguments
 
     cases : (n : ℕ) (mc : Mark) (t' : Temporary) → s'.turns ≤ n → CallsUpTo items P Q d n → LikeExp items no_openings (gain d) V 0 inner_jumps Ra e e' → (v : ℕ) → v ≡ s'.turns → EntryCase d b s.turns v
         → DoAlike V d R Z Z' J Given c h j s s' text_does (value plainly Q (below_level plainly Q n) (tree.call mc N.number es) t' s')
-    cases n mc t' low' calls l v ev (cut_off a) =
-        subst (λ q. DoAlike V d R Z Z' J Given c h j s s' text_does q) (sym (call_by n mc t' zero ∙ turned_out s' ev (λ s3. entered plainly (below_level plainly Q n) N.number N.function (passed_at n zero).given s3))) (λ good. answer_cut a (_, refl))
-    cases n mc t' low' calls l v ev (extra {t' = u} k) =
-        subst (λ q. DoAlike V d R Z Z' J Given c h j s s' text_does q) (sym (call_by n mc t' u ∙ turned_on s' u ev (λ s3. entered plainly (below_level plainly Q n) N.number N.function (passed_at n u).given s3))) (level n u ev low' calls l k)
+    cases n mc t' low' calls l v ev (cut_off a) = by (passed_at n zero)
+      where
+        by : Tried n zero → DoAlike V d R Z Z' J Given c h j s s' text_does (value plainly Q (below_level plainly Q n) (tree.call mc N.number es) t' s')
+        by (passes p) = subst (λ q. DoAlike V d R Z Z' J Given c h j s s' text_does q) (sym (call_by n mc t' zero p ∙ turned_out s' ev (λ s3. entered plainly (below_level plainly Q n) N.number N.function p.given s3))) (λ good. answer_cut a (_, refl))
+        by (strays why is can k) = subst (λ q. DoAlike V d R Z Z' J Given c h j s s' text_does q) (sym (call_strays Q (below_level plainly Q n) mc N.number es t' s' why k)) (λ good. answer_cut (can, is) (_, refl))
+    cases n mc t' low' calls l v ev (extra {t' = u} k) = by (passed_at n u)
+      where
+        by : Tried n u → DoAlike V d R Z Z' J Given c h j s s' text_does (value plainly Q (below_level plainly Q n) (tree.call mc N.number es) t' s')
+        by (passes p) = subst (λ q. DoAlike V d R Z Z' J Given c h j s s' text_does q) (sym (call_by n mc t' u p ∙ turned_on s' u ev (λ s3. entered plainly (below_level plainly Q n) N.number N.function p.given s3))) (level n u p ev low' calls l k)
+        by (strays why is can f) = subst (λ q. DoAlike V d R Z Z' J Given c h j s s' text_does q) (sym (call_strays Q (below_level plainly Q n) mc N.number es t' s' why f)) (λ good. answer_cut (can, is) (_, refl))
 
   becomes_alike : (n : ℕ) → CallsUpTo items P Q d n → {V : Facts} {a : ℕ} {J : Jumping} {R : Renaming} {f f' : Exp → Exp} → BecomesCall items (gain d) N V a J R f f' → (Z Z' : Frozen) (m b c : ℕ) → c ≤ b → (x x' : Exp) (t t' : Temporary) (h : List Action) (j : List Pair) (s s' : State)
       → Ready V d R Z Z' (a + b) m n h j s s' → V.Comes (order (f x) t) h → DoAlike V d R Z Z' J Given c h j s s' (value followed P (below_level followed P m) (f x) t s) (value plainly Q (below_level plainly Q n) (f' x') t' s')
   becomes_alike n calls {V} {a} {J} {R} (becomes_call {e = e} {e' = e'} {es = es} {mc = mc} {mb = mb} {mg = mg} cold Rp Ra is elsewhere is_cold passing absents covers l) Z Z' m b c le x x' t t' h j s s' r at =
       cases V J R Rp Ra Z Z' cold e e' es mb mg is elsewhere is_cold absents covers m b c le t (passing t) h j s s' at r.inv r.known r.low n mc t' r.low' calls l s'.turns refl (entry_case d b s.turns s'.turns (weaken d (1 + b) (suc b) _ _ (omega arith) r.turns))
 
-  pub calls_open_alike : OpensAlike items P Q d (calls_of items (gain d) N)
-  calls_open_alike = record {
-    expression = λ n calls o Z Z' m b c le x x' part t t' h j s s' r at. becomes_alike n calls o Z Z' m b c le x x' t t' h j s s' r at;
-    statements = λ n calls o Z Z' m b c le e' i i' t t' go h j s s' r at. statements_alike items P Q d N stands n calls o Z Z' m b c le e' i i' t t' go h j s s' r at;
+  pub calls_open_alike : (U : List ℕ) → UnitFunctions P U → OpensAlike items P Q d (calls_of items (gain d) U N)
+  calls_open_alike U units = record {
+    expression = λ n calls {V} {a} {J} {R} {e} o Z Z' m b c le x' part t t' h j s s' r at. becomes_alike n calls o Z Z' m b c le e x' t t' h j s s' r at;
+    statements = λ n calls o Z Z' m b c le e' i i' t t' go h j s s' r at. statements_alike items P Q d N stands U units n calls o Z Z' m b c le e' i i' t t' go h j s s' r at;
   }
 
 -- ---- whole programs
 
-pub answer_to_text : (P Q : Program) (N : New) → WithCall P Q N → (given : List ℤ) (n : ℕ) → UpTo (run Q given n) (run P given n)
-answer_to_text P Q N w given n = answer_up_to_text w.items (calls_of w.items 1 N) P Q 1 (calls_open_alike w.items P.functions Q.functions (shorter 1) N w.stands) w.alike given n
+pub answer_to_text : (P Q : Program) (N : New) (w : WithCall P Q N) → (given : List ℤ) (n : ℕ) → OrAstray w.strays P Q given n n (UpTo (run Q given n) (run P given n))
+answer_to_text P Q N w given n =
+    answer_up_to_text w.items (calls_of w.items (a_turn w.strays) w.units N) P Q (a_turn w.strays) (calls_open_alike w.items P.functions Q.functions (shorter (a_turn w.strays)) N w.stands w.units w.are_units) w.alike given n
 
 twice : (n : ℕ) → n + n * 1 ≡ 2 * n
 twice n = omega arith
 
-pub text_to_answer : (P Q : Program) (N : New) → WithCall P Q N → (given : List ℤ) (n : ℕ) → UpTo (run P given n) (run Q given (2 * n))
+pub text_to_answer : (P Q : Program) (N : New) (w : WithCall P Q N) → (given : List ℤ) (n : ℕ) → OrAstray w.strays P Q given n (2 * n) (UpTo (run P given n) (run Q given (2 * n)))
 text_to_answer P Q N w given n =
-    subst (λ k. UpTo (run P given n) (run Q given k)) (twice n) (text_up_to_answer w.items (calls_of w.items 1 N) P Q 1 (calls_open_alike w.items P.functions Q.functions (longer 1) N w.stands) w.alike given n)
+    subst (λ k. OrAstray w.strays P Q given n k (UpTo (run P given n) (run Q given k))) (twice n)
+    (text_up_to_answer w.items (calls_of w.items (a_turn w.strays) w.units N) P Q (a_turn w.strays) (calls_open_alike w.items P.functions Q.functions (longer (a_turn w.strays)) N w.stands w.units w.are_units) w.alike given n)

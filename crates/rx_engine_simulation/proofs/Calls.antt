@@ -67,6 +67,7 @@ module _ (V : Facts) (R : Renaming) (Z Z' : Frozen) (h : List Action) (j : List 
     names = λ x y e f g. absurd (none_some g);
     binds = λ x e f. absurd (none_some f);
     written = λ x n e. absurd (none_some e);
+    slotted = λ x w. absurd w;
     anchors = λ x n e. absurd e;
   }
 
@@ -123,6 +124,7 @@ module _ (V : Facts) (R : Renaming) (Z Z' : Frozen) (h : List Action) (j : List 
       names = inv.names;
       binds = λ x e f. bind_back x e.to e.how f (inv.binds x e f);
       written = λ x n e w. g.sets n (inv.written x n e w);
+      slotted = inv.slotted;
       anchors = inv.anchors;
     }
 

@@ -10,7 +10,7 @@ use Rattle.rx_lower_walks.specs.Actions.{Action, Test, Build, at_mark, subject}
 use Rattle.rx_lower_walks.specs.Orders as orders
 use Rattle.rx_lower_walks.specs.Orders.{order, order_all, order_scrutinee, order_arms, order_body, binding}
 use Rattle.rx_meaning.specs.Endings.{wrong, missing_function}
-use Rattle.rx_meaning.specs.Values.{Value, element, State, with_turns}
+use Rattle.rx_meaning.specs.Values.{Value, pointer, element, State, with_turns}
 use Rattle.rx_meaning.specs.Results.{Result, stops}
 use Rattle.rx_meaning.specs.Acting.{performed, plainly}
 use Rattle.rx_meaning.specs.Expressions.{Functions, found, take_turn, entered, value, values, matched, arms, body, below_level}
@@ -18,7 +18,7 @@ use Rattle.rx_meaning.specs.Telling.{told_by}
 use Rattle.rx_engine_simulation.proofs.Told.{Told, followed, onto}
 use Rattle.rx_engine_simulation.proofs.Positions.{first_at, next_at, one_at, arm_at, next_arm_at, pass_at, later_at, below_walk, value_walk, act_walk, matched_walk}
 use Rattle.rx_engine_simulation.proofs.Values.{Pair, Given, AllGiven, none_given, more_given, given_more, all_more, wholes, no_values, sized}
-use Rattle.rx_engine_simulation.proofs.States.{Direction, gain, Turns, weaken, Facts, Sight, Renaming, sight_of, Frozen, StatesAlike}
+use Rattle.rx_engine_simulation.proofs.States.{Direction, Allowance, gain, Turns, weaken, Facts, viewed, Sight, sight, Renaming, sight_of, Frozen, IsViewed, StatesAlike}
 use Rattle.rx_engine_simulation.proofs.Results.{Jumping, in_loop, stays_break, stays_continue, gives_back, both_on, both_jump, both_stop, DoAlike, alike_bind, alike_bind_at}
 use Rattle.rx_engine_simulation.proofs.Spots.{no_steps, derefs, of_temporary}
 use Rattle.rx_engine_simulation.proofs.Acts.{read_alike, test_alike, call_alike, input_alike, print_alike, give_alike, build_alike}
@@ -29,11 +29,13 @@ use Rattle.rx_engine_simulation.proofs.Parts.{Ready, go_on, less, stay, decided_
 use Rattle.rx_engine_simulation.proofs.Patterns.{begun_alike, bound_alike, tested_alike, arguments_alike}
 use Rattle.rx_engine_simulation.proofs.Calls.{whole_jumps, Kept, Kept', in_item, states_enter, returned_alike}
 use Rattle.rx_engine_simulation.proofs.Histories.{activation_history}
+use Rattle.rx_engine_simulation.proofs.Views.{view_alike, place_body_is}
+use Rattle.rx_engine_simulation.proofs.Behind.{behind_body_is}
 use Rattle.rx_engine_simulation.specs.Openings.{Openings, no_openings}
-use Rattle.rx_engine_simulation.specs.Like.{LikeExp, opens, LikeAll, LikeMatched, LikeArms, LikeBody, opens_in, reads, borrows, shares, builds, units, lazies, assigns, updates, calls, inputs, prints, blocks, chooses, loops, stays, gives, no_operands, operands_and, at_places, of_values, no_arms, arms_and, ends_in, runs_on, declares_all, lets_in}
+use Rattle.rx_engine_simulation.specs.Like.{LikeExp, opens, LikeAll, LikeMatched, LikeArms, LikeBody, opens_in, reads, borrows, views, shares, builds, builds_structs, builds_variants, units, lazies, assigns, updates, calls, inputs, prints, blocks, chooses, loops, stays, gives, no_operands, operands_and, at_places, of_values, no_arms, arms_and, ends_in, runs_on, declares_all, lets_in, reads_place, looks_behind}
 use Rattle.rx_engine_simulation.specs.Programs.{LikeFunction, LikeFunctions, LikeEntry, functions, neither, IsNone, begins, facts_of}
 
-abbrev facts_in : {items : ℕ → ℕ} {O : Openings} {i : ℕ} {g g' : Function} → LikeFunction items O i g g' → Facts
+abbrev facts_in : {items : ℕ → ℕ} {O : Openings} {i : Allowance} {g g' : Function} → LikeFunction items O i g g' → Facts
 facts_in {g = g} l = facts_of g l.about l.untouched
 
 abbrev pub Known : Frozen → Renaming → Type 0
@@ -68,7 +70,7 @@ module _ (items : ℕ → ℕ) (P Q : Functions) (d : Direction) where
   module _ (O : Openings) where
     -- what is put in place of special parts does alike where what stands in it does; both from where the text's history has come to
     pub record OpensAlike : Type 1 where
-      pub expression : (n : ℕ) → CallsUpTo n → {V : Facts} {a : ℕ} {J : Jumping} {R : Renaming} {f f' : Exp → Exp} → O.expression V a J R f f' → (Z Z' : Frozen) (m b c : ℕ) → c ≤ b → (e e' : Exp)
+      pub expression : (n : ℕ) → CallsUpTo n → {V : Facts} {a : ℕ} {J : Jumping} {R : Renaming} {e : Exp} {f f' : Exp → Exp} → O.expression V a J R e f f' → (Z Z' : Frozen) (m b c : ℕ) → c ≤ b → (e' : Exp)
           → ((t t' : Temporary) (h : List Action) (j : List Pair) (s s' : State) → Ready V d R Z Z' b m n h j s s' → V.Comes (order e t) h → DoAlike V d R Z Z' J Given c h j s s' (in_text m e t s) (in_answer n e' t' s'))
           → (t t' : Temporary) (h : List Action) (j : List Pair) (s s' : State) → Ready V d R Z Z' (a + b) m n h j s s' → V.Comes (order (f e) t) h → DoAlike V d R Z Z' J Given c h j s s' (in_text m (f e) t s) (in_answer n (f' e') t' s')
       pub statements : (n : ℕ) → CallsUpTo n → {V : Facts} {a : ℕ} {J : Jumping} {R Ra : Renaming} {e : Body} {f f' : Body → Body} → O.statements V a J R Ra e f f' → (Z Z' : Frozen) (m b c : ℕ) → c ≤ b → (e' : Body) (i i' : ℕ) (t t' : Temporary)
@@ -95,12 +97,12 @@ module _ (items : ℕ → ℕ) (P Q : Functions) (d : Direction) where
 
     -- a function's activation, from a call
     entered_alike : (V : Facts) (m n c f f' : ℕ) (J : Jumping) (R : Renaming) (Z Z' : Frozen) (g g' : Function) → AllBelow n → LikeFunction items O (gain d) g g' → (vs vs' : List Value) (h : List Action) (j : List Pair) (s s' : State) → AllGiven j vs vs'
-        → s.turns < m → s'.turns < n → StatesAlike V R Z Z' h j s s' → Turns d (gain d + c) s.turns s'.turns
+        → s.turns < m → s'.turns < n → StatesAlike V R Z Z' h j s s' → Turns d ((gain d).turns + c) s.turns s'.turns
         → DoAlike V d R Z Z' J Given c h j s s' (entered followed (below_level followed P m) f g vs s) (entered plainly (below_level plainly Q n) f' g' vs' s')
     entered_alike V m n c f f' J R Z Z' g g' all l vs vs' h j s s' given lo lo' i u good =
         returned_alike V R Z Z' h j s s' i (facts_in l) d J c f f' _ _
-        (arguments_alike (facts_in l) d (Kept R Z Z' s s') (Kept' R Z Z' s s') whole_jumps (gain d + c) c s.turns s'.turns (omega arith) l.params (mark_of g.body).node (mark_of g'.body).node (order g.body (temporary_of g.body)) _ _
-        (λ h1 j1 t t' r at. below_alike (facts_in l) m n (gain d) c whole_jumps l.inside (Kept R Z Z' s s') (Kept' R Z Z' s s') g.body g'.body all l.body (temporary_of g.body) (temporary_of g'.body) h1 j1 t t' (omega (arith, r.low)) (omega (arith, r.low')) r.inv r.known r.turns at)
+        (arguments_alike (facts_in l) d (Kept R Z Z' s s') (Kept' R Z Z' s s') whole_jumps ((gain d).turns + c) c s.turns s'.turns (omega arith) l.params (mark_of g.body).node (mark_of g'.body).node (order g.body (temporary_of g.body)) _ _
+        (λ h1 j1 t t' r at. below_alike (facts_in l) m n (gain d).turns c whole_jumps l.inside (Kept R Z Z' s s') (Kept' R Z Z' s s') g.body g'.body all l.body (temporary_of g.body) (temporary_of g'.body) h1 j1 t t' (omega (arith, r.low)) (omega (arith, r.low')) r.inv r.known r.turns at)
         vs vs' [] j (in_item s f) (in_item s' f') given (record { inv = states_enter V R Z Z' h j s s' i (facts_in l) f f'; turns = u; low = le_refl _; low' = le_refl _; known = λ x i e. absurd e }) begins (activation_history P m g vs (in_item s f)))
 
     entry_alike : (n : ℕ) → AllBelow n → (V : Facts) (m c f f' : ℕ) (J : Jumping) (R : Renaming) (Z Z' : Frozen) (o o' : Option (Option Function)) → LikeEntry items O (gain d) o o' → (vs vs' : List Value) (h : List Action) (j : List Pair) (s s' : State) → AllGiven j vs vs' → Ready V d R Z Z' c m n h j s s'
@@ -129,6 +131,8 @@ module _ (items : ℕ → ℕ) (P Q : Functions) (d : Direction) where
             let q = less V d R Z Z' c (omega arith) r in read_alike V d R Z Z' J c h j s s' q.inv q.turns w.node w'.node v v' p p' t t' [] [] l none_given
         exp_alike {V} {k} {J} {R} (borrows {m = w} {m' = w'} {b = b} {p = p} {p' = p'} l) Z Z' m c t t' h j s s' r at =
             let q = less V d R Z Z' c (omega arith) r in borrow_alike V d R Z Z' J c h j s s' q.inv q.turns w.node w'.node b p p' t t' [] [] l none_given
+        exp_alike {V} {k} {J} {R} (views {x = x} {y = y} {m = w} {m' = w'} {n = b} {moves = b'} can seen) Z Z' m c t t' h j s s' r at =
+            let q = less V d R Z Z' c (omega arith) r in view_alike V d R Z Z' J c h j s s' q.inv q.turns can Q (below_level plainly Q n) w.node w' b' b x y t t' seen
         exp_alike {V} {k} {J} {R} (shares {m = w} {m' = w'} l) Z Z' m c t t' h j s s' r at =
             alike_bind V d R Z Z' J Given Given c c h j s s' _ _ _ _ (le_refl c) (exp_alike l Z Z' m c _ _ h j s s' r (first_at V at)) (λ h1 j1 v v' u u' g z.
             borrow_alike V d R Z Z' J c h1 j1 u u' z.inv z.turns w.node w'.node false (under (held (temporary_at w.node 1)) (step.Deref true ∷ [])) (under (held (temporary_at w'.node 1)) (step.Deref true ∷ [])) t t' (v ∷ []) (v' ∷ []) (of_temporary (derefs no_steps)) (more_given g none_given))
@@ -136,6 +140,14 @@ module _ (items : ℕ → ℕ) (P Q : Functions) (d : Direction) where
             alike_bind V d R Z Z' J (Operanded es) Given c c h j s s' _ _ _ _ (le_refl c) (all_alike ls Z Z' m c h j s s' r (first_at V at)) (λ h1 j1 vs vs' u u' g z.
             subst (λ js. DoAlike V d R Z Z' J Given c h1 j1 u u' (performed followed (at_mark w (Build b (fields_of es) (temporaries_of es) t)) vs u) (performed plainly (at_mark w' (Build b js (temporaries_of es') t')) vs' u')) (fields_same ls)
             (build_alike V d R Z Z' J c h1 j1 u u' z.inv z.turns w.node w'.node b (fields_of es) (temporaries_of es) (temporaries_of es') t t' vs vs' g.0 (sized b (fields_of es) vs g.1) f))
+        exp_alike {V} {k} {J} {R} (builds_structs {n = i} {n' = i'} {m = w} {m' = w'} {es = es} {es' = es'} f ls) Z Z' m c t t' h j s s' r at =
+            alike_bind V d R Z Z' J (Operanded es) Given c c h j s s' _ _ _ _ (le_refl c) (all_alike ls Z Z' m c h j s s' r (first_at V at)) (λ h1 j1 vs vs' u u' g z.
+            subst (λ js. DoAlike V d R Z Z' J Given c h1 j1 u u' (performed followed (at_mark w (Build (tree.struct i) (fields_of es) (temporaries_of es) t)) vs u) (performed plainly (at_mark w' (Build (tree.struct i') js (temporaries_of es') t')) vs' u')) (fields_same ls)
+            (build_alike V d R Z Z' J c h1 j1 u u' z.inv z.turns w.node w'.node (tree.struct i) (fields_of es) (temporaries_of es) (temporaries_of es') t t' vs vs' g.0 (sized (tree.struct i) (fields_of es) vs g.1) f))
+        exp_alike {V} {k} {J} {R} (builds_variants {n = i} {n' = i'} {v = v} {m = w} {m' = w'} {es = es} {es' = es'} f ls) Z Z' m c t t' h j s s' r at =
+            alike_bind V d R Z Z' J (Operanded es) Given c c h j s s' _ _ _ _ (le_refl c) (all_alike ls Z Z' m c h j s s' r (first_at V at)) (λ h1 j1 vs vs' u u' g z.
+            subst (λ js. DoAlike V d R Z Z' J Given c h1 j1 u u' (performed followed (at_mark w (Build (tree.variant_of i v) (fields_of es) (temporaries_of es) t)) vs u) (performed plainly (at_mark w' (Build (tree.variant_of i' v) js (temporaries_of es') t')) vs' u')) (fields_same ls)
+            (build_alike V d R Z Z' J c h1 j1 u u' z.inv z.turns w.node w'.node (tree.variant_of i v) (fields_of es) (temporaries_of es) (temporaries_of es') t t' vs vs' g.0 (sized (tree.variant_of i v) (fields_of es) vs g.1) f))
         exp_alike {V} {k} {J} {R} units Z Z' m c t t' h j s s' r at = λ good. both_on j refl (wholes no_values, refl) (stay V d R Z Z' (less V d R Z Z' c (omega arith) r))
         exp_alike {V} {k} {J} {R} (lazies {m = w} {m' = w'} {b = b} {e = e} {f = f} {e' = e'} {f' = f'} i i2 le la lb) Z Z' m c t t' h j s s' r at =
             alike_bind_at V d R Z Z' J Given Given (i2 + c) c h j s s' _ _ _ _ (omega arith) (order e (temporary_of e)) (value_walk P m e s) (exp_alike la Z Z' m (i2 + c) _ _ h j s s' (less V d R Z Z' (i + (i2 + c)) (omega arith) r) (first_at V at)) (λ h1 j1 v v' u u' k1 g z.
@@ -170,13 +182,13 @@ module _ (items : ℕ → ℕ) (P Q : Functions) (d : Direction) where
             let q = less V d R Z Z' c (omega arith) r in
             turn_alike V d R Z Z' J Given c h j s s' _ _ q.turns (λ u u' lo lo' k.
             passed_alike V d R Z Z' J c l l' h j (with_turns s u) (with_turns s' u') _ _ _ _ apart none none'
-            (below_alike V m n (gain d) c (in_loop J l l') R Z Z' e e' all la (temporary_of e) (temporary_of e') h j (with_turns s u) (with_turns s' u') (omega (arith, r.low)) (omega (arith, r.low')) (states_turns V R Z Z' h j s s' u u' r.inv) r.known k (pass_at V at))
+            (below_alike V m n (gain d).turns c (in_loop J l l') R Z Z' e e' all la (temporary_of e) (temporary_of e') h j (with_turns s u) (with_turns s' u') (omega (arith, r.low)) (omega (arith, r.low')) (states_turns V R Z Z' h j s s' u u' r.inv) r.known k (pass_at V at))
             (λ j1 x x' p z. below_alike V m n 0 c J R Z Z' (tree.loop w l e) (tree.loop w' l' e') all (loops apart none none' la) t t' (onto (told_by (below_level followed P m e (temporary_of e) (with_turns s u))) h) j1 x x' (omega (arith, r.low, z.grown.fewer)) (omega (arith, r.low', z.grown.fewer')) z.inv r.known (weaken d c (0 + c) _ _ (omega arith) z.turns)
             (later_at V at (told_by (below_level followed P m e (temporary_of e) (with_turns s u))) (below_walk P m e (with_turns s u)) p)))
         exp_alike {V} {k} {J} {R} (stays {again = true} f) Z Z' m c t t' h j s s' r at = λ good. both_jump j refl (stays_continue f) (stay V d R Z Z' (less V d R Z Z' c (omega arith) r))
         exp_alike {V} {k} {J} {R} (stays {again = false} f) Z Z' m c t t' h j s s' r at = λ good. both_jump j refl (stays_break f) (stay V d R Z Z' (less V d R Z Z' c (omega arith) r))
         exp_alike {V} {k} {J} {R} (opens {e = e} {e' = e'} a i le o l) Z Z' m c t t' h j s s' r at =
-            open_alike.expression n calls_alike o Z Z' m (i + c) c (omega arith) e e' (λ t t' h j s s' r at. exp_alike l Z Z' m c t t' h j s s' r at) t t' h j s s' (less V d R Z Z' (a + (i + c)) (omega arith) r) at
+            open_alike.expression n calls_alike o Z Z' m (i + c) c (omega arith) e' (λ t t' h j s s' r at. exp_alike l Z Z' m c t t' h j s s' r at) t t' h j s s' (less V d R Z Z' (a + (i + c)) (omega arith) r) at
         exp_alike {V} {k} {J} {R} (gives {m = w} {m' = w'} {e = e} {e' = e'} f la) Z Z' m c t t' h j s s' r at =
             alike_bind V d R Z Z' J Given Given c c h j s s' _ _ _ _ (le_refl c) (exp_alike la Z Z' m c _ _ h j s s' r (first_at V at)) (λ h1 j1 v v' u u' g z.
             alike_bind V d R Z Z' J Given Given c c h1 j1 u u' _ _ _ _ (le_refl c) (give_alike V d R Z Z' J c h1 j1 u u' z.inv z.turns w.node w'.node (temporary_of e) (temporary_of e') v v' g) (λ h2 j2 x x' u2 u2' g2 z2.
@@ -215,6 +227,12 @@ module _ (items : ℕ → ℕ) (P Q : Functions) (d : Direction) where
             begun_alike V d Z Z' J (k + c) c m n (omega arith) ld n0 n0' i i' (order_body b0 i t) _ _ (λ h1 j1 u u' r1 at1. body_alike lb Z Z' m c i i' t t' h1 j1 u u' r1 at1) h j s s' r at
         body_alike {V} {k} {J} {R} (opens_in {b = b} {b' = b'} a i0 le o l) Z Z' m c i i' t t' h j s s' r at =
             open_alike.statements n calls_alike o Z Z' m (i0 + c) c (omega arith) b' i i' t t' (λ h j s s' r at. body_alike l Z Z' m c i i' t t' h j s s' r at) h j s s' (less V d R Z Z' (a + (i0 + c)) (omega arith) r) at
+        body_alike {V} {k} {J} {R} {b} (reads_place {s' = n0'} {n = kb} {z = z} {y = y} {m = w} {m' = w'} {v = v} {w = mv} {b' = b0'} l) Z Z' m c i i' t t' h j s s' r at =
+            subst (λ q. DoAlike V d R Z Z' J Given c h j s s' (body followed P (below_level followed P m) b i t s) q) (sym (place_body_is Q (below_level plainly Q n) kb z y v b0' i' t' n0' w w' mv s')) (body_alike l Z Z' m c i i' t t' h j s s' r at)
+        body_alike {V} {k} {J} {R} {b} (looks_behind {s' = n0'} {y = y} {m = w} {m' = w'} {w = mv} {q' = q'} {b' = b0'} x seen behind l) Z Z' m c i i' t t' h j s s' r at =
+            let e : IsViewed Z Z' j s.frame s'.frame x y = r.inv.binds x (sight y viewed) seen in
+            subst (λ q. DoAlike V d R Z Z' J Given c h j s s' (body followed P (below_level followed P m) b i t s) q) (sym (behind_body_is Q (below_level plainly Q n) n0' q' w w' mv y e.right (pointer e.target.right e.steps false) b0' i' t' s' behind e.at_answer (r.inv.paired.frozen' e.right (pointer e.target.right e.steps false) e.held') refl))
+            (body_alike l Z Z' m c i i' t t' h j s s' r at)
         body_alike {V} {k} {J} {R} (lets_in {c = sc} {b = b0} Ra a b le lc lp lb) Z Z' m c i i' t t' h j s s' r at =
             alike_bind_at V d R Z Z' J AllGiven Given (b + c) c h j s s' _ _ _ _ (omega arith) (order_scrutinee sc) (matched_walk P m sc s) (matched_alike lc Z Z' m (b + c) h j s s' (less V d R Z Z' (a + (b + c)) (omega arith) r) (first_at V at)) (λ h1 j1 vs vs' u u' k1 g z.
             bound_alike V d Z Z' J (b + c) c m n (omega arith) lp i i' (order_body b0 i t) _ _ (λ h2 j2 x x' r2 at2. body_alike lb Z Z' m c i i' t t' h2 j2 x x' r2 at2) vs vs' h1 j1 u u' g (go_on V d R Z Z' r z) (next_at V at k1))

@@ -163,6 +163,7 @@ module _ (V : Facts) (R : Renaming) (Z Z' : Frozen) (n x y : ℕ) (h : List Acti
       names = λ z v e f p q. names_on z v e f (nat_eq z x) (nat_eq v x) refl refl p q;
       binds = λ z e f. binds_on z e (nat_eq z x) refl f;
       written = λ z i e k. ⊎_elim (λ f. absurd f) (λ f. written_on z i (nat_eq z x) refl e f) k;
+      slotted = λ z k. ⊎_elim (λ f. absurd f) (λ f. let b = inv.slotted z f.1 in (b.0, old_slot x (length s.memory) z s.frame.slots f.0 ∙ b.1)) k;
       anchors = λ z i k. old_slot x (length s.memory) z s.frame.slots (λ e. unanchored i (subst (λ z. Z.anchored z i) e k)) ∙ inv.anchors z i k;
     }
 

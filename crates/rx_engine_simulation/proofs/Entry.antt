@@ -1,5 +1,6 @@
 -- The new function has slots of its own for what it is given, while the text stands still: variable by variable.
 use Rattle.std.proofs.Common.{◌≡◌, ℕ, ◌<◌, ◌≤◌, Bool, true, false, nat_eq, List, [], ◌∷◌, ◌++◌, length, Some, None, refl, sym, ap, ◌∙◌, subst, arith, le_refl, ◌⊎◌, inl, inr, ⊎_elim, if◌then◌else◌, eqb-true}
+use Rattle.rx_core.specs.declared.types.Step.{Step}
 use Rattle.rx_lower_walks.specs.Actions.{Action}
 use Rattle.rx_meaning.specs.Values.{Value, pointer, element, slot_of, State, with_turns}
 use Rattle.rx_engine_simulation.proofs.Memory.{at_end, at_before, at_below, length_more}
@@ -89,6 +90,7 @@ module _ (V : Facts) (R : Renaming) (Z Z' : Frozen) (x z : ℕ) (v : Value) (h :
       names = λ y u e f p q. names_on y u e f (nat_eq y x) (nat_eq u x) refl refl p q;
       binds = λ y e f. binds_on y e (nat_eq y x) refl f;
       written = inv.written;
+      slotted = inv.slotted;
       anchors = inv.anchors;
     }
 
@@ -143,6 +145,7 @@ module _ (V : Facts) (R : Renaming) (Z Z' : Frozen) (Cold : ℕ → Type 0) (h :
     names = λ x y e f g. absurd (none_some g);
     binds = λ x e f. absurd (none_some f);
     written = inv.written;
+    slotted = inv.slotted;
     anchors = λ x i k. k.2;
   }
 
@@ -219,6 +222,28 @@ module _ (V : Facts) (R : Renaming) (Z Z' : Frozen) (Cold : ℕ → Type 0) (h :
       slots = λ u i e. slots_on u i (nat_eq u z) e;
     }
 
+    -- a shared reference to what the text's leads to, where the text's doesn't change
+    pub pass_viewed : (y : ℕ) → sight_of R x ≡ Some (sight y (plain shut)) → Cold x → (b : IsPlain Z Z' j s.frame s'.frame x y shut) → (p : Pair) (ss : List Step) (m : Bool) → element s.memory b.left ≡ Some (pointer p.left ss m) → In p j → (m ≡ true → p.hold ≡ free) → v ≡ pointer p.right ss false → Going ((x, sight z viewed) ∷ Rp) Zn ta
+    pass_viewed y seen n b p ss m e i f g = record {
+      states_now = states_given V Rp Zt Zp x z v h j s sa going.states_now unused hidden Zn (λ k w q. inl q) (λ k w q. q) viewed (record {
+        left = b.left;
+        right = length sa.memory;
+        target = p;
+        steps = ss;
+        flag = m;
+        at_text = b.at_text;
+        at_answer = new_slot z (length sa.memory) sa.frame.slots;
+        held = inr (x, n, b.at_text, e);
+        held' = inr (refl, sym g);
+        is_in = i;
+        is_free = f;
+      });
+      old = thawed_new;
+      wider = λ k w q. inl (going.wider k w q);
+      long = omega (arith, going.long, length_more sa.memory v);
+      slots = λ u i e. slots_on u i (nat_eq u z) e;
+    }
+
     not_special : (y : ℕ) (w : Hold) (b : IsPlain Z Z' j s.frame s'.frame x y w) → sight_of R x ≡ Some (sight y (plain w)) → Thawed Za b.right
     not_special y w b seen u (inl q) = b.thawed' u q
     not_special y w b seen u (inr q) =
@@ -260,6 +285,7 @@ module _ (V : Facts) (R : Renaming) (Z Z' : Frozen) (Cold : ℕ → Type 0) (h :
       names = λ y u e f p q. names_on y u e f (nat_eq y x) (nat_eq u x) refl refl p q;
       binds = λ y e f. binds_on y e (nat_eq y x) f;
       written = going.states_now.written;
+      slotted = going.states_now.slotted;
       anchors = going.states_now.anchors;
     };
     old = going.old;

@@ -61,7 +61,7 @@ none_some e = cc
 none_seen : (y : ℕ) → IsNew [] y
 none_seen y z e f g = none_some f
 
-main_alike : LikeFunction items no_openings 0 main_text main_answer
+main_alike : LikeFunction items no_openings (record { turns = 0; strays = false }) main_text main_answer
 main_alike = record {
   about = record { special = []; asked = [] };
   untouched = λ a h x i. absurd i;
@@ -74,7 +74,7 @@ main_alike = record {
       (ends_in (gives refl units))));
 }
 
-show_alike : LikeFunction items no_openings 0 show_text show_answer
+show_alike : LikeFunction items no_openings (record { turns = 0; strays = false }) show_text show_answer
 show_alike = record {
   about = record { special = []; asked = [] };
   untouched = λ a h x i. absurd i;
@@ -83,7 +83,7 @@ show_alike = record {
   body = blocks (runs_on 0 0 (omega arith) (prints (reads (direct (plain shut) refl tt tt no_steps))) (ends_in (gives refl units)));
 }
 
-entries : (f : ℕ) → LikeEntry items no_openings 0 (element text.functions f) (element answer.functions (items f))
+entries : (f : ℕ) → LikeEntry items no_openings (record { turns = 0; strays = false }) (element text.functions f) (element answer.functions (items f))
 entries zero = functions main_alike
 entries (suc zero) = functions show_alike
 entries (suc (suc f)) = neither tt tt

@@ -19,7 +19,7 @@ use Rattle.rx_engine_simulation.specs.Like.{opens, reads, builds, units, prints,
 use Rattle.rx_engine_simulation.specs.Programs.{LikeFunction, LikeEntry, functions, neither}
 use Rattle.rx_engine_simulation.specs.Passing.{New, passes_none, passes_reference, none_absent}
 use Rattle.rx_engine_simulation.specs.Statements.{none_elsewhere}
-use Rattle.rx_engine_simulation.specs.Called.{becomes_call, calls_of, WithCall}
+use Rattle.rx_engine_simulation.specs.Called.{becomes_call, calls_of, a_turn, WithCall}
 
 abbrev m : ℕ → Mark
 m n = record { node = n; typ = None }
@@ -64,7 +64,7 @@ not_special e = cc
 none_seen : (y : ℕ) → IsNew [] y
 none_seen y z e f g = none_some f
 
-main_alike : LikeFunction items (calls_of items 1 new) 1 main_text main_answer
+main_alike : LikeFunction items (calls_of items (a_turn false) [] new) (a_turn false) main_text main_answer
 main_alike = record {
   about = record { special = []; asked = [] };
   untouched = λ a h x i. absurd i;
@@ -93,12 +93,12 @@ main_alike = record {
         by true f = (sight 5 (through shut false), refl)
         by false f = absurd (none_some f)
 
-entries : (f : ℕ) → LikeEntry items (calls_of items 1 new) 1 (element text.functions f) (element answer.functions (items f))
+entries : (f : ℕ) → LikeEntry items (calls_of items (a_turn false) [] new) (a_turn false) (element text.functions f) (element answer.functions (items f))
 entries zero = functions main_alike
 entries (suc f) = neither tt tt
 
 pub is_with_call : WithCall text answer new
-is_with_call = record { items = items; alike = record { all = entries; mains = refl }; stands = refl }
+is_with_call = record { items = items; strays = false; units = []; are_units = λ f i. absurd i; alike = record { all = entries; mains = refl }; stands = refl }
 
 text_run : run text [] 1 ≡ record { printed = codes "7\n"; end = End.Ended }
 unfolding value below_level digits after bind result_of decided tested closed took bound begun take_turn passed returned with_arguments

@@ -16,11 +16,17 @@ use Rattle.rx_engine_simulation.specs.Binders.{no_param, no_binding, no_test, te
 use Rattle.rx_engine_simulation.specs.Jumps.{with_value, Jumping}
 use Rattle.rx_engine_simulation.specs.Like.{opens, opens_in, builds, units, calls, prints, blocks, chooses, gives, no_operands, of_values, no_arms, arms_and, ends_in, runs_on}
 use Rattle.rx_engine_simulation.specs.Programs.{LikeFunction, LikeEntry, functions, neither}
-use Rattle.rx_engine_simulation.specs.Variants.{leaves_value, picks_here, value_here, value_later}
+use Rattle.rx_engine_simulation.specs.Variants.{leaves_value, value_arm}
 use Rattle.rx_engine_simulation.specs.Passing.{New, passes_none, no_local, none_absent}
-use Rattle.rx_engine_simulation.specs.Statements.{Stretch, done, does_then, before, body_of, both_done, both_do, hands_jumps, statements_become_call}
-use Rattle.rx_engine_simulation.specs.Called.{calls_of, WithCall}
-use Rattle.rx_engine_simulation.proofs.ExamplesOfStatements.{m, number, none_some, none_seen}
+use Rattle.rx_engine_simulation.specs.Arrivals.{none_ready}
+use Rattle.rx_engine_simulation.specs.Packing.{takes_read, takes_none, gives_variant, gives_unit, receives_none, receives_and, picks_here, picks_later}
+use Rattle.rx_engine_simulation.specs.Handing.{drops, redeclares_none}
+use Rattle.rx_engine_simulation.specs.Blocks.{Stretch, done, does_then, before}
+use Rattle.rx_engine_simulation.specs.Stretches.{both_done, both_do}
+use Rattle.rx_engine_simulation.specs.Endings.{none_left, end_gives}
+use Rattle.rx_engine_simulation.specs.Statements.{body_of, enters, matches, goes_on, hands_on, statements_become_call}
+use Rattle.rx_engine_simulation.specs.Called.{calls_of, a_turn, WithCall}
+use Rattle.rx_engine_simulation.proofs.ExamplesOfStatements.{not_tail, m, number, none_some, none_seen}
 
 -- if true { .. }
 abbrev stretch : Exp → Stretch
@@ -56,7 +62,7 @@ find_answer = find_with (matched rest)
 abbrev new : New
 new = record {
   number = 2;
-  function = record { params = []; body = body_of (m 19) [] (stretch (tree.give (m 5) (tree.build (m 8) (tree.variant_of 2 1) (tree.operand_and 0 (number 7 7) tree.no_operand)))) (m 19) (tree.build (m 14) (tree.variant_of 2 0) tree.no_operand) };
+  function = record { params = []; body = body_of (m 19) [] (stretch (tree.give (m 5) (tree.build (m 8) (tree.variant_of 2 1) (tree.operand_and 0 (number 7 7) tree.no_operand)))) (tree.ends (tree.give (m 19) (tree.build (m 14) (tree.variant_of 2 0) tree.no_operand))) };
 }
 
 abbrev text : Program
@@ -73,7 +79,7 @@ items (suc (suc f)) = suc (suc (suc f))
 abbrev jumps_inside : Jumping
 jumps_inside = record { loops = []; leaving = λ l again. None; returning = with_value 1; dead = [] }
 
-main_alike : LikeFunction items (calls_of items 1 new) 1 main main
+main_alike : LikeFunction items (calls_of items (a_turn false) [] new) (a_turn false) main main
 main_alike = record {
   about = record { special = []; asked = [] };
   untouched = λ a h x i. absurd i;
@@ -82,33 +88,34 @@ main_alike = record {
   body = blocks (runs_on 0 0 (omega arith) (prints (calls no_operands)) (ends_in (gives refl units)));
 }
 
-find_alike : LikeFunction items (calls_of items 1 new) 1 find_text find_answer
+find_alike : LikeFunction items (calls_of items (a_turn false) [] new) (a_turn false) find_text find_answer
 find_alike = record {
   about = record { special = []; asked = [] };
   untouched = λ a h x i. absurd i;
   inside = [];
   params = no_param;
-  body = blocks (opens_in {b = rest} {b' = rest} {f = λ b. before (stretch (tree.give (m 5) (number 7 7))) b} {f' = matched} 1 0 (omega arith)
-      (statements_become_call {mc = m 13} [] [] [] [] [] (m 19) (m 19) [] refl (λ x i. absurd i) (λ i t. passes_none) (λ i t. no_local) none_absent (λ x e f. absurd (none_some f)) (λ x y e. absurd (none_some e))
+  body = blocks (opens_in {Ra = []} {b = rest} {b' = rest} {f = λ b. before (stretch (tree.give (m 5) (number 7 7))) b} {f' = matched} 1 0 (omega arith)
+      (statements_become_call {l = none_left} {mc = m 13} [] [] (m 19) [] refl (enters [] [] [] (λ x i. absurd i) (λ i t. passes_none) (λ i t. no_local) none_absent (λ x e f. absurd (none_some f)) (λ x y e. absurd (none_some e)))
       (both_do (chooses 0 0 (omega arith) (of_values (builds tt no_operands)) (arms_and [] (test_and (of_temporary no_steps) refl no_test) no_binding
       (opens {e = number 7 7} {e' = number 7 7} {f = λ e. tree.give (m 5) e} {f' = λ e. tree.give (m 5) (tree.build (m 8) (tree.variant_of 2 1) (tree.operand_and 0 e tree.no_operand))} 0 0 (omega arith) (leaves_value refl (λ k h c x i. absurd i)) (builds tt no_operands))
       (arms_and [] no_test no_binding units no_arms))) both_done)
-      (hands_jumps jumps_inside picks_here (record {
+      (end_gives none_ready (gives_variant takes_none)) (λ e f. absurd (not_tail e f)) (matches {Ji = jumps_inside} (record {
         all_dead = λ x y e. absurd (none_some e);
         no_loops = refl;
         jumps_on = λ n again p e. absurd (none_some e);
-        returns_on = record { returns_it = refl; arm_node = m 12; read_node = m 21; moves = true; variable = 8; unused = none_seen 8; other = 0; none = refl; picks = value_later refl value_here };
-      }) (λ x y e. absurd (none_some e))))
+        returns_on = (refl, value_arm (none_seen 8) (receives_and receives_none) takes_read (picks_later refl picks_here));
+      }) picks_here receives_none tt gives_unit refl)
+      (hands_on [] [] [] (λ x e f. absurd (none_some f)) (λ x y e. absurd (none_some e)) drops redeclares_none goes_on (λ x e f. f) (λ x e f. f)))
       (ends_in (gives refl (builds tt no_operands))));
 }
 
-entries : (f : ℕ) → LikeEntry items (calls_of items 1 new) 1 (element text.functions f) (element answer.functions (items f))
+entries : (f : ℕ) → LikeEntry items (calls_of items (a_turn false) [] new) (a_turn false) (element text.functions f) (element answer.functions (items f))
 entries zero = functions main_alike
 entries (suc zero) = functions find_alike
 entries (suc (suc f)) = neither tt tt
 
 pub is_with_call : WithCall text answer new
-is_with_call = record { items = items; alike = record { all = entries; mains = refl }; stands = refl }
+is_with_call = record { items = items; strays = false; units = []; are_units = λ f i. absurd i; alike = record { all = entries; mains = refl }; stands = refl }
 
 text_run : run text [] 2 ≡ record { printed = codes "7\n"; end = End.Ended }
 unfolding value below_level digits after bind result_of decided tested closed took bound begun take_turn passed returned with_arguments

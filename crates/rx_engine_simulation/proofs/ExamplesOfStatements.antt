@@ -1,6 +1,6 @@
 -- A program, and one in which the call of a new function stands for a statement of it: a variable moves into the function, and back. What
 -- is asked of the text's histories is shown from its walks; both runs are computed.
-use Rattle.std.proofs.Common.{◌≡◌, ℕ, zero, suc, pos, Bool, true, false, nat_eq, if◌then◌else◌, List, [], ◌∷◌, ◌++◌, Some, None, refl, sym, ap, ap₂, ◌∙◌, subst, arith, inl, inr, eqb-true}
+use Rattle.std.proofs.Common.{◌≡◌, ℕ, zero, suc, pos, Bool, true, false, nat_eq, if◌then◌else◌, List, [], ◌∷◌, ◌++◌, Some, None, refl, sym, ap, ap₂, ◌∙◌, subst, arith, inl, inr}
 use Rattle.std.specs.Prelude.{codes}
 use Rattle.std.specs.Fmt.{digits}
 use Rattle.rx_core.specs.declared.types.Kind.{Kind}
@@ -19,16 +19,23 @@ use Rattle.rx_meaning.specs.Results.{bind, after, result_of}
 use Rattle.rx_meaning.specs.Patterns.{decided, tested, closed, bound, took, begun}
 use Rattle.rx_meaning.specs.Expressions.{value, take_turn, passed, returned, with_arguments, below_level}
 use Rattle.rx_meaning.specs.Programs.{Program, run}
-use Rattle.rx_engine_simulation.specs.Histories.{put, Facts, Written, Borrowed, BorrowsOwn, asked}
+use Rattle.rx_engine_simulation.specs.Histories.{put, Facts, Living, Written, Borrowed, BorrowsOwn, asked}
 use Rattle.rx_engine_simulation.specs.Sights.{special, Sight, sight, Renaming, sight_of, IsNew}
 use Rattle.rx_engine_simulation.specs.Places.{direct, no_steps}
 use Rattle.rx_engine_simulation.specs.Binders.{no_param, new_special, takes_none, no_binding, binding_and}
 use Rattle.rx_engine_simulation.specs.Like.{opens_in, reads, builds, updates, units, prints, blocks, gives, no_operands, of_values, ends_in, runs_on, lets_in}
 use Rattle.rx_engine_simulation.specs.Programs.{whole_jumps, About, Untouched, ComesTo, facts_of, LikeFunction, LikeEntry, functions, neither}
 use Rattle.rx_engine_simulation.specs.Passing.{New, passes_none, passes_move, no_local, none_absent}
-use Rattle.rx_engine_simulation.specs.Statements.{Stretch, done, does_then, before, body_of, both_done, both_do, hands_back, StatementsBecomeCall, statements_become_call}
-use Rattle.rx_engine_simulation.specs.Called.{calls_of, WithCall}
+use Rattle.rx_engine_simulation.specs.Arrivals.{to_rest, Arrives, none_ready, ready_and}
+use Rattle.rx_engine_simulation.specs.Packing.{takes_read, gives_one}
+use Rattle.rx_engine_simulation.specs.Handing.{assigns, redeclares_none}
+use Rattle.rx_engine_simulation.specs.Blocks.{Stretch, done, does_then, before}
+use Rattle.rx_engine_simulation.specs.Stretches.{both_done, both_do}
+use Rattle.rx_engine_simulation.specs.Endings.{none_left, a_tail, end_gives}
+use Rattle.rx_engine_simulation.specs.Statements.{body_of, enters, calls_alone, goes_on, hands_on, StatementsBecomeCall, statements_become_call}
+use Rattle.rx_engine_simulation.specs.Called.{calls_of, a_turn, WithCall}
 use Rattle.rx_engine_simulation.proofs.Histories.{came, never_borrowed}
+use Rattle.rx_engine_simulation.proofs.Blocks.{arrives_comes}
 
 abbrev pub m : ℕ → Mark
 m n = record { node = n; typ = None }
@@ -57,7 +64,7 @@ main_answer = record {
 
 -- fn next(mut a: i64) -> i64 { a += 1; a }
 abbrev new : New
-new = record { number = 1; function = record { params = record { node = 12; variable = 5 } ∷ []; body = body_of (m 13) [] (adding 5) (m 13) (tree.read (m 14) true (own 5)) } }
+new = record { number = 1; function = record { params = record { node = 12; variable = 5 } ∷ []; body = body_of (m 13) [] (adding 5) (tree.ends (tree.give (m 13) (tree.read (m 14) true (own 5)))) } }
 
 abbrev text : Program
 text = record { functions = Some main_text ∷ []; main = 0 }
@@ -234,12 +241,11 @@ unlent h c b = by (subst (λ h. Borrowed h 0) (at_part c) b)
     by (inr (n, inl e)) = e
     by (inr (n, inr (k, e))) = k refl
 
-dead : (x y : ℕ) → sight_of outside x ≡ Some (sight y special) → (x ≡ 0 → ⊥) → ⊥
-dead x y e n = by (nat_eq x 0) refl e
-  where
-    by : (b : Bool) → nat_eq x 0 ≡ b → (if b then Some (sight 0 special) else None) ≡ Some (sight y special) → ⊥
-    by true f g = n (eqb-true x 0 f)
-    by false f g = none_some g
+ready_behind : (h : List Action) → Arrives V (to_rest (before (adding 0) rest) (adding 0)) h → Living V 0 h × Written h 0
+ready_behind h a = let c = (arrives_comes (adding 0) rest a).2 in (asked (behind, inr (inl refl), c), written_behind h c)
+
+pub not_tail : (e : Exp) → none_left ≡ a_tail e → ⊥
+not_tail e f = cc
 
 covers : (x : ℕ) (e : Sight) → sight_of outside x ≡ Some e → (f : Sight) × (sight_of inside x ≡ Some f)
 covers x e f = by (nat_eq x 0) f
@@ -262,14 +268,15 @@ items (suc f) = suc (suc f)
 abbrev call_answer : Body → Body
 call_answer b = tree.runs (tree.assign (m 9) (own 0) (tree.call (m 10) 1 (tree.operand_and 0 (tree.read (m 11) true (own 0)) tree.no_operand))) b
 
-becomes : StatementsBecomeCall items 1 new V 1 whole_jumps outside outside rest (λ b. before (adding 0) b) call_answer
+becomes : StatementsBecomeCall items (a_turn false) [] new V 1 whole_jumps outside outside rest (λ b. before (adding 0) b) call_answer
 becomes =
-    statements_become_call {mc = m 10} [] inside inside inside inside (m 13) (m 13) [] refl (λ x i. absurd i)
-    (λ i t. passes_move refl (λ k. k) (λ h c. asked (part, inl refl, c)) written_part refl (none_seen 5) passes_none) (λ i t. no_local) none_absent covers moved
+    statements_become_call {l = none_left} {mc = m 10} inside inside (m 13) [] refl (enters [] inside inside (λ x i. absurd i)
+    (λ i t. passes_move refl (λ k. k) (λ h c. asked (part, inl refl, c)) written_part refl (none_seen 5) passes_none) (λ i t. no_local) none_absent covers moved)
     (both_do (updates (direct special refl tt tt no_steps) (direct special refl tt ((λ o. tt), tt) no_steps) (builds tt no_operands)) both_done)
-    (hands_back refl refl (λ i t h c. (asked (behind, inr (inl refl), c), written_behind h c)) (λ i t h c. unlent h c) (λ x y e n i t h c l. dead x y e n))
+    (end_gives (ready_and refl ready_behind none_ready) (gives_one takes_read)) (λ e f. absurd (not_tail e f)) calls_alone
+    (hands_on [] outside outside (λ x e f. absurd (none_some f)) (λ x y e. absurd (none_some e)) (assigns refl (none_seen 0) refl (λ i t h c. unlent h c)) redeclares_none goes_on (λ x e f. f) (λ x e f. f))
 
-main_alike : LikeFunction items (calls_of items 1 new) 1 main_text main_answer
+main_alike : LikeFunction items (calls_of items (a_turn false) [] new) (a_turn false) main_text main_answer
 main_alike = record {
   about = about;
   untouched = untouched;
@@ -281,12 +288,12 @@ main_alike = record {
       (runs_on 0 0 (omega arith) (prints (reads (direct special refl tt tt no_steps))) (ends_in (gives refl units)))));
 }
 
-entries : (f : ℕ) → LikeEntry items (calls_of items 1 new) 1 (element text.functions f) (element answer.functions (items f))
+entries : (f : ℕ) → LikeEntry items (calls_of items (a_turn false) [] new) (a_turn false) (element text.functions f) (element answer.functions (items f))
 entries zero = functions main_alike
 entries (suc f) = neither tt tt
 
 pub is_with_call : WithCall text answer new
-is_with_call = record { items = items; alike = record { all = entries; mains = refl }; stands = refl }
+is_with_call = record { items = items; strays = false; units = []; are_units = λ f i. absurd i; alike = record { all = entries; mains = refl }; stands = refl }
 
 text_run : run text [] 1 ≡ record { printed = codes "8\n"; end = End.Ended }
 unfolding value below_level digits after bind result_of decided tested closed took bound begun take_turn passed returned with_arguments

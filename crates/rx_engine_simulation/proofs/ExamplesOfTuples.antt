@@ -18,14 +18,22 @@ use Rattle.rx_meaning.specs.Programs.{Program, run}
 use Rattle.rx_engine_simulation.specs.Histories.{put, Facts, Living, Written, Borrowed, BorrowsOwn, asked}
 use Rattle.rx_engine_simulation.specs.Sights.{special, Sight, sight, Renaming, sight_of, IsNew}
 use Rattle.rx_engine_simulation.specs.Places.{direct, no_steps}
-use Rattle.rx_engine_simulation.specs.Binders.{no_param, new_special, takes_none, no_binding, binding_and}
+use Rattle.rx_engine_simulation.specs.Binders as binders
+use Rattle.rx_engine_simulation.specs.Binders.{no_param, new_special, no_binding, binding_and}
 use Rattle.rx_engine_simulation.specs.Like.{opens_in, reads, builds, updates, units, prints, blocks, gives, no_operands, of_values, ends_in, runs_on, lets_in}
 use Rattle.rx_engine_simulation.specs.Programs.{whole_jumps, About, Untouched, ComesTo, facts_of, LikeFunction, LikeEntry, functions, neither}
 use Rattle.rx_engine_simulation.specs.Passing.{New, passes_none, passes_move, no_local, none_absent}
-use Rattle.rx_engine_simulation.specs.Statements.{Stretch, lets_then, before, body_of, both_done, both_do, both_let, Within, receives_none, receives_and, puts_none, puts_and, hands_several, StatementsBecomeCall, statements_become_call}
-use Rattle.rx_engine_simulation.specs.Called.{calls_of, WithCall}
+use Rattle.rx_engine_simulation.specs.Arrivals.{to_rest, Arrives, Within, none_ready, ready_and}
+use Rattle.rx_engine_simulation.specs.Packing.{takes_read, takes_none, takes_and, gives_tuple, receives_none, receives_and}
+use Rattle.rx_engine_simulation.specs.Handing.{received_none, received_and, puts_none, stays_there, puts_and, spreads, redeclares_none}
+use Rattle.rx_engine_simulation.specs.Blocks.{Stretch, lets_then, before}
+use Rattle.rx_engine_simulation.specs.Stretches.{both_done, both_do, both_let}
+use Rattle.rx_engine_simulation.specs.Endings.{none_left, end_gives}
+use Rattle.rx_engine_simulation.specs.Statements.{body_of, enters, calls_alone, goes_on, hands_on, StatementsBecomeCall, statements_become_call}
+use Rattle.rx_engine_simulation.specs.Called.{calls_of, a_turn, WithCall}
 use Rattle.rx_engine_simulation.proofs.Histories.{came, never_borrowed}
-use Rattle.rx_engine_simulation.proofs.ExamplesOfStatements.{m, number, adding, line, line_is, not_act, not_nothing, not_leave, none_some, none_seen, front, adds}
+use Rattle.rx_engine_simulation.proofs.Blocks.{arrives_comes}
+use Rattle.rx_engine_simulation.proofs.ExamplesOfStatements.{not_tail, m, number, adding, line, line_is, not_act, not_nothing, not_leave, none_some, none_seen, front, adds}
 
 -- let b = 5; a += 1;
 abbrev stretch : ℕ → ℕ → Stretch
@@ -57,7 +65,7 @@ new = record {
   number = 1;
   function = record {
     params = record { node = 13; variable = 5 } ∷ [];
-    body = body_of (m 14) [] (stretch 5 6) (m 14) (tree.build (m 35) tree.tuple (tree.operand_and 0 (tree.read (m 36) true (own 6)) (tree.operand_and 1 (tree.read (m 37) true (own 5)) tree.no_operand)));
+    body = body_of (m 14) [] (stretch 5 6) (tree.ends (tree.give (m 14) (tree.build (m 35) tree.tuple (tree.operand_and 0 (tree.read (m 36) true (own 6)) (tree.operand_and 1 (tree.read (m 37) true (own 5)) tree.no_operand)))));
   };
 }
 
@@ -235,6 +243,12 @@ unlent b h c l = by (subst (λ h. Borrowed h 0) (at_part c).1 l)
     by (inr (n, inl e)) = e
     by (inr (n, inr (k, e))) = k refl
 
+ready_old : (h : List Action) → Arrives V (to_rest (before (stretch 0 1) rest) (stretch 0 1)) h → Living V 0 h × Written h 0
+ready_old h a = let c = (arrives_comes (stretch 0 1) rest a).2 in (asked (behind, inr (inl refl), c), written_behind h c)
+
+ready_new : (h : List Action) → Arrives V (to_rest (before (stretch 0 1) rest) (stretch 0 1)) h → Living V 1 h × Written h 1
+ready_new h a = let c = (arrives_comes (stretch 0 1) rest a).2 in (asked (behind, inr (inr (inl refl)), c), written_new h c)
+
 covers : (x : ℕ) (e : Sight) → sight_of outside x ≡ Some e → (f : Sight) × (sight_of inside x ≡ Some f)
 covers x e f = by (nat_eq x 0) f
   where
@@ -268,36 +282,36 @@ abbrev items : ℕ → ℕ
 items zero = 0
 items (suc f) = suc (suc f)
 
-becomes : StatementsBecomeCall items 1 new V 1 whole_jumps outside then_seen rest (λ b. before (stretch 0 1) b) handing
+becomes : StatementsBecomeCall items (a_turn false) [] new V 1 whole_jumps outside then_seen rest (λ b. before (stretch 0 1) b) handing
 becomes =
-    statements_become_call {mc = m 11} [] inside inside inside at_end (m 14) (m 14) [] refl (λ x i. absurd i)
-    (λ i t. passes_move refl (λ k. k) (λ h c. living_part i h c) (λ h c. written_part i h c) refl (none_seen 5) passes_none) (λ i t. no_local) none_absent covers moved
-    (both_let (of_values (builds tt no_operands)) (binding_and special takes_none no_steps (new_special (inr (inl refl))) refl (new_and_not [] 0 5 6 (none_seen 6) (λ e. absurd (cc))) no_binding)
+    statements_become_call {l = none_left} {mc = m 11} inside at_end (m 14) [] refl (enters [] inside inside (λ x i. absurd i)
+    (λ i t. passes_move refl (λ k. k) (λ h c. living_part i h c) (λ h c. written_part i h c) refl (none_seen 5) passes_none) (λ i t. no_local) none_absent covers moved)
+    (both_let (of_values (builds tt no_operands)) (binding_and special binders.takes_none no_steps (new_special (inr (inl refl))) refl (new_and_not [] 0 5 6 (none_seen 6) (λ e. absurd (cc))) no_binding)
     (both_do (updates (direct special refl tt tt no_steps) (direct special refl tt ((λ o. tt), tt) no_steps) (builds tt no_operands)) both_done))
-    (hands_several [] received put_back (λ x e f. absurd (none_some f)) (λ x y e. absurd (none_some e))
-    (receives_and refl (none_seen 1) refl (λ i t h c. (asked (behind, inr (inr (inl refl)), c), written_new h c))
-    (receives_and refl (new_and_not [] 1 1 2 (none_seen 2) (λ e. absurd (cc))) refl (λ i t h c. (asked (behind, inr (inl refl), c), written_behind h c)) receives_none))
-    (puts_and refl refl (new_and_not ((1, sight 1 special) ∷ []) 0 2 0 (new_and_not [] 1 1 0 (none_seen 0) (λ e. absurd (cc))) (λ e. absurd (cc))) (new_and_not ((1, sight 1 special) ∷ []) 0 2 0 (new_and_not [] 1 1 0 (none_seen 0) (λ e. absurd (cc))) (λ e. absurd (cc)))
-    (λ i t h c. (asked (behind, inr (inl refl), c), written_behind h c)) (λ i t h c. unlent i h c) puts_none) all_there outer)
+    (end_gives (ready_and refl ready_new (ready_and refl ready_old none_ready)) (gives_tuple (takes_and takes_read (takes_and takes_read takes_none)))) (λ e f. absurd (not_tail e f)) calls_alone
+    (hands_on [] put_back put_back (λ x e f. absurd (none_some f)) (λ x y e. absurd (none_some e))
+    (spreads (received_and refl (new_and_not [] 0 0 1 (none_seen 1) (λ e. absurd (cc))) (none_seen 1) (received_and refl (new_and_not [] 0 0 2 (none_seen 2) (λ e. absurd (cc))) (new_and_not [] 1 1 2 (none_seen 2) (λ e. absurd (cc))) received_none)) (receives_and (receives_and receives_none))
+    (stays_there (puts_and refl (new_and_not ((1, sight 1 special) ∷ []) 0 2 0 (new_and_not [] 1 1 0 (none_seen 0) (λ e. absurd (cc))) (λ e. absurd (cc))) (λ i t h c. unlent i h c) takes_read puts_none)))
+    redeclares_none goes_on all_there outer)
 
-main_alike : LikeFunction items (calls_of items 1 new) 1 main_text main_answer
+main_alike : LikeFunction items (calls_of items (a_turn false) [] new) (a_turn false) main_text main_answer
 main_alike = record {
   about = about;
   untouched = untouched;
   inside = [];
   params = no_param;
   body = blocks (lets_in outside 0 1 (omega arith) (of_values (builds tt no_operands))
-      (binding_and special takes_none no_steps (new_special (inl refl)) refl (none_seen 0) no_binding)
+      (binding_and special binders.takes_none no_steps (new_special (inl refl)) refl (none_seen 0) no_binding)
       (opens_in {b = rest} {b' = rest} {f = λ b. before (stretch 0 1) b} {f' = handing} 1 0 (omega arith) becomes
       (runs_on 0 0 (omega arith) (prints (reads (direct special refl tt tt no_steps))) (runs_on 0 0 (omega arith) (prints (reads (direct special refl tt tt no_steps))) (ends_in (gives refl units))))));
 }
 
-entries : (f : ℕ) → LikeEntry items (calls_of items 1 new) 1 (element text.functions f) (element answer.functions (items f))
+entries : (f : ℕ) → LikeEntry items (calls_of items (a_turn false) [] new) (a_turn false) (element text.functions f) (element answer.functions (items f))
 entries zero = functions main_alike
 entries (suc f) = neither tt tt
 
 pub is_with_call : WithCall text answer new
-is_with_call = record { items = items; alike = record { all = entries; mains = refl }; stands = refl }
+is_with_call = record { items = items; strays = false; units = []; are_units = λ f i. absurd i; alike = record { all = entries; mains = refl }; stands = refl }
 
 text_run : run text [] 1 ≡ record { printed = codes "5\n8\n"; end = End.Ended }
 unfolding value below_level digits after bind result_of decided tested closed took bound begun take_turn passed returned with_arguments

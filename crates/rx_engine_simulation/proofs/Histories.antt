@@ -46,7 +46,7 @@ pub came : {g : Function} {q : Order} {h : List Action} → ComesTo g q h → (w
 came begins = ([], refl, all)
 came (goes {w = w} i k) = let a = came k in (a.0 ++ w, ap (λ h. put w h) a.1 ∙ sym (put_append a.0 w []), into_trans a.2 i)
 
-among_back : (h r : List Action) (a : Action) → Among a h ⊎ Among a r → Among a (back h r)
+pub among_back : (h r : List Action) (a : Action) → Among a h ⊎ Among a r → Among a (back h r)
 among_back [] r a (inl k) = elim k [ ]
 among_back [] r a (inr k) = k
 among_back (b ∷ h) r a (inl here) = among_back h (b ∷ r) a (inr here)

@@ -50,14 +50,15 @@ module _ (V : Facts) (R : Renaming) (Z Z' : Frozen) where
       touched' = b.touched';
     }) (i.binds x e f);
     written = λ x k e w. ⊎_elim (λ g. absurd (n x (inr g))) (λ g. i.written x k e g.1) w;
+    slotted = λ x w. ⊎_elim (λ g. absurd (n x (inr g))) (λ g. i.slotted x g.1) w;
     anchors = i.anchors;
   }
 
   pub states_turns : (h : List Action) (j : List Pair) (s s' : State) (u u' : ℕ) → StatesAlike V R Z Z' h j s s' → StatesAlike V R Z Z' h j (with_turns s u) (with_turns s' u')
-  states_turns h j s s' u u' i = record { input = i.input; paired = i.paired; framed = i.framed; framed' = i.framed'; names = i.names; binds = i.binds; written = i.written; anchors = i.anchors }
+  states_turns h j s s' u u' i = record { input = i.input; paired = i.paired; framed = i.framed; framed' = i.framed'; names = i.names; binds = i.binds; written = i.written; slotted = i.slotted; anchors = i.anchors }
 
   pub states_input : (h : List Action) (j : List Pair) (s s' : State) (l : List ℤ) → StatesAlike V R Z Z' h j s s' → StatesAlike V R Z Z' h j (record s { input = l }) (record s' { input = l })
-  states_input h j s s' l i = record { input = refl; paired = i.paired; framed = i.framed; framed' = i.framed'; names = i.names; binds = i.binds; written = i.written; anchors = i.anchors }
+  states_input h j s s' l i = record { input = refl; paired = i.paired; framed = i.framed; framed' = i.framed'; names = i.names; binds = i.binds; written = i.written; slotted = i.slotted; anchors = i.anchors }
 
   -- the newest variable is no more known
   if_other : {A : Type 0} (b : Bool) (a : A) (o : Option A) (c : A) → b ≡ false → o ≡ Some c → (if b then Some a else o) ≡ Some c
@@ -83,6 +84,7 @@ module _ (V : Facts) (R : Renaming) (Z Z' : Frozen) where
     names = λ y z f g a b c. i.names y z f g (hidden x y e f n a) (hidden x z e g n b) c;
     binds = λ y f a. i.binds y f (hidden x y e f n a);
     written = i.written;
+    slotted = i.slotted;
     anchors = i.anchors;
   }
 
@@ -117,7 +119,7 @@ module _ (V : Facts) (R : Renaming) (Z Z' : Frozen) (h : List Action) (j : List 
       by false q = (w.0, put_other s.memory i m v (eqb-false m i q) ∙ w.1, w.2)
 
   module _ (left_one : (q : Pair) → In q j → q.left ≡ i → q.right ≡ k) (right_one : (q : Pair) → In q j → q.right ≡ k → q.left ≡ i) (thawed : Thawed Z i) (thawed' : Thawed Z' k) (aside : (x y : ℕ) → sight_of R x ≡ Some (sight y special) → Aside x y)
-      (not_new : (x : ℕ) → Declares a.act x → ⊥) (whole : (x n : ℕ) → WritesWhole a.act x → slot_of s.frame.slots x ≡ Some n → IsSetAt N n) where
+      (not_new : (x : ℕ) → Declares a.act x → ⊥) (whole : (x n : ℕ) → WritesWhole a.act x → slot_of s.frame.slots x ≡ Some n → IsSetAt N n) (has : (x : ℕ) → WritesWhole a.act x → (n : ℕ) × (slot_of s.frame.slots x ≡ Some n)) where
     paired_same : (q : Pair) → In q j → (b c : Bool) → nat_eq q.left i ≡ b → nat_eq q.right k ≡ c → SameAt j N N' q.left q.right
     paired_same q m true c e f =
         let l : q.left ≡ i = eqb-true q.left i e in
@@ -164,6 +166,7 @@ module _ (V : Facts) (R : Renaming) (Z Z' : Frozen) (h : List Action) (j : List 
       names = inv.names;
       binds = λ x e f. bind_to x e.to e.how f (inv.binds x e f);
       written = λ x n e w. ⊎_elim (λ g. whole x n g e) (λ g. set_at n (inv.written x n e g.1)) w;
+      slotted = λ x w. ⊎_elim (λ g. has x g) (λ g. inv.slotted x g.1) w;
       anchors = inv.anchors;
     }
 

@@ -4,7 +4,7 @@ use Rattle.rx_lower_walks.specs.Actions.{Action}
 use Rattle.rx_meaning.specs.Values.{Value, element, Frame, slot_of, State}
 use Rattle.rx_engine_simulation.proofs.Values.{fixed, Pair, In, like_more}
 use Rattle.rx_engine_simulation.proofs.States.{Facts, Living, Borrowed, How, plain, special, through, copied, viewed, absent, Sight, sight, Renaming, sight_of, Frozen, SameAt, IsSpecial, Binding, StatesAlike, Grown}
-use Rattle.rx_engine_simulation.specs.Statements.{Within}
+use Rattle.rx_engine_simulation.specs.Arrivals.{Within}
 use Rattle.rx_engine_simulation.proofs.Keeping.{same_to}
 use Rattle.rx_engine_simulation.proofs.Entry.{IsCold, Zt, Going}
 
@@ -78,6 +78,7 @@ module _ (V : Facts) (R : Renaming) (Z Z' : Frozen) (Cold : ℕ → Type 0) (h :
       names = λ x y e f a b g. inv.names x y e f (within x e a) (within y f b) g;
       binds = λ x e f. bind_back x e.to e.how f (inv.binds x e (within x e f));
       written = end.written;
+      slotted = end.slotted;
       anchors = λ x i k. let e = known x i k in same_slot x i e.0 e.1 (inv.anchors x i k);
     }
 

@@ -5,7 +5,7 @@ use Rattle.rx_typed.specs.Tree as tree
 use Rattle.rx_typed.specs.Tree.{Mark, Exp, Operands, Body, Function, Temporary, temporary_of, temporaries_of}
 use Rattle.rx_lower_walks.specs.Actions.{Action, Call, Give, at_mark}
 use Rattle.rx_lower_walks.specs.Orders.{Order, breaks, continues, returns, order}
-use Rattle.rx_meaning.specs.Endings.{running}
+use Rattle.rx_meaning.specs.Endings.{Cause, running, wrong}
 use Rattle.rx_meaning.specs.Values.{Value, lacking, unset, element, Frame, State, with_turns}
 use Rattle.rx_meaning.specs.Results.{Result, on, jumps, stops, after, bind, result_of}
 use Rattle.rx_meaning.specs.Acting.{performed, plainly}
@@ -16,7 +16,9 @@ use Rattle.rx_meaning.proofs.Fronts.{front_bind, told_returned}
 use Rattle.rx_engine_simulation.proofs.Positions.{walked, value_walk_to}
 use Rattle.rx_engine_simulation.proofs.Told.{Told, followed, onto}
 use Rattle.rx_engine_simulation.specs.Passing.{Local, no_local, local_and}
-use Rattle.rx_engine_simulation.specs.Statements.{with_locals, Elsewhere, none_elsewhere, moved_in, Specials}
+use Rattle.rx_engine_simulation.specs.Arrivals.{Specials}
+use Rattle.rx_engine_simulation.specs.Blocks.{with_locals}
+use Rattle.rx_engine_simulation.specs.Statements.{Elsewhere, none_elsewhere, moved_in}
 use Rattle.rx_engine_simulation.proofs.Values.{Pair}
 use Rattle.rx_engine_simulation.proofs.States.{Facts, special, sight, Renaming, Frozen, IsSpecial, StatesAlike, Living, sight_of}
 use Rattle.rx_engine_simulation.proofs.Parts.{declare_answer}
@@ -31,6 +33,11 @@ unfolding value bind result_of
 call_is Q low m f g es vs t s e h =
     ap (λ r. bind r (λ vs s1. bind (performed plainly (at_mark m (Call f (temporaries_of es) t)) vs s1) (λ u s2. found (element Q f) (λ g. take_turn s2 (λ s3. entered plainly low f g vs s3))))) h
     ∙ after_nothing _ ∙ after_nothing _ ∙ ap (λ o. found o (λ g. take_turn s (λ s3. entered plainly low f g vs s3))) e
+
+-- where an operand ends the run
+pub call_strays : (Q : Functions) (low : Meaning ℕ) (m : Mark) (f : ℕ) (es : Operands) (t : Temporary) (s : State) (c : Cause) → values plainly Q low es s ≡ stops [] (wrong c) → value plainly Q low (tree.call m f es) t s ≡ stops [] (wrong c)
+unfolding value bind
+call_strays Q low m f es t s c h = ap (λ r. bind r (λ vs s1. bind (performed plainly (at_mark m (Call f (temporaries_of es) t)) vs s1) (λ u s2. found (element Q f) (λ g. take_turn s2 (λ s3. entered plainly low f g vs s3))))) h
 
 pub turned_out : (s : State) → zero ≡ s.turns → (go : State → Result ℕ Value) → take_turn s go ≡ stops [] running
 unfolding take_turn
@@ -90,7 +97,7 @@ all_dead {V} {R} {Ra} {e} P m t h s at (moved_in moved to dead) o v t1 same x y 
 
 -- ---- variables without a value
 
-one_local : (n z i : ℕ) (go : State → Result ℕ Value) (s : State) → begun plainly n (z ∷ []) i go s ≡ go (with_value z (lacking unset) s)
+pub one_local : (n z i : ℕ) (go : State → Result ℕ Value) (s : State) → begun plainly n (z ∷ []) i go s ≡ go (with_value z (lacking unset) s)
 unfolding begun
 one_local n z i go s = declare_answer n z s (λ u s1. closed plainly i z (begun plainly n [] i go s1)) ∙ after_nothing _ ∙ closed_is i z _
 

@@ -107,14 +107,14 @@ module _ (V : Facts) (d : Direction) (R : Renaming) (Z Z' : Frozen) (J : Jumping
   alike_from W c h j j1 s s' t t' r r' g k = subst (λ q. ResultsAlike V d R Z Z' J W c h j s s' q r') (after_nothing r) (subst (λ q. ResultsAlike V d R Z Z' J W c h j s s' (after [] r) q) (after_nothing r') (alike_prefix V d R Z Z' J W c h j j1 s s' t t' [] [] r r' refl g k))
 
   turn_cases : {A B : Type 0} (W : List Pair → A → B → Type 0) (c : ℕ) (h : List Action) (j : List Pair) (s s' : State) (go : State → Result (Told ℕ) A) (go' : State → Result ℕ B) (t t' : ℕ) → t ≡ s.turns → t' ≡ s'.turns → TurnCase d c t t'
-      → ((u u' : ℕ) → u < s.turns → u' < s'.turns → Turns d (gain d + c) u u' → DoAlike V d R Z Z' J W c h j (with_turns s u) (with_turns s' u') (go (with_turns s u)) (go' (with_turns s' u'))) → DoAlike V d R Z Z' J W c h j s s' (turn_at t s go) (turn_at t' s' go')
+      → ((u u' : ℕ) → u < s.turns → u' < s'.turns → Turns d ((gain d).turns + c) u u' → DoAlike V d R Z Z' J W c h j (with_turns s u) (with_turns s' u') (go (with_turns s u)) (go' (with_turns s' u'))) → DoAlike V d R Z Z' J W c h j s s' (turn_at t s go) (turn_at t' s' go')
   turn_cases W c h j s s' go go' t t' e e' (text_out m) k = λ good. text_cut m (_, refl)
   turn_cases W c h j s s' go go' t t' e e' (answer_out m) k = λ good. answer_cut m (_, refl)
   turn_cases W c h j s s' go go' t t' e e' (both_turn {t = u} {t' = u'} f) k = λ good.
       alike_from W c h j j s s' _ _ _ _ (turned j s s' u u' (omega arith) (omega arith)) (k u u' (omega arith) (omega arith) f good)
 
   pub turn_alike : {A B : Type 0} (W : List Pair → A → B → Type 0) (c : ℕ) (h : List Action) (j : List Pair) (s s' : State) (go : State → Result (Told ℕ) A) (go' : State → Result ℕ B) → Turns d c s.turns s'.turns
-      → ((u u' : ℕ) → u < s.turns → u' < s'.turns → Turns d (gain d + c) u u' → DoAlike V d R Z Z' J W c h j (with_turns s u) (with_turns s' u') (go (with_turns s u)) (go' (with_turns s' u'))) → DoAlike V d R Z Z' J W c h j s s' (take_turn s go) (take_turn s' go')
+      → ((u u' : ℕ) → u < s.turns → u' < s'.turns → Turns d ((gain d).turns + c) u u' → DoAlike V d R Z Z' J W c h j (with_turns s u) (with_turns s' u') (go (with_turns s u)) (go' (with_turns s' u'))) → DoAlike V d R Z Z' J W c h j s s' (take_turn s go) (take_turn s' go')
   unfolding take_turn
   turn_alike W c h j s s' go go' f k = turn_cases W c h j s s' go go' s.turns s'.turns refl refl (turn_case d c s.turns s'.turns f) k
 

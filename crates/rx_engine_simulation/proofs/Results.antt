@@ -23,10 +23,10 @@ pub exit_later : {V : Facts} {J : Jumping} {h : List Action} {j : List Pair} {t 
 exit_later a n (stays_break e) = stays_break e
 exit_later a n (stays_continue e) = stays_continue e
 exit_later a n (gives_back e g) = gives_back e g
-exit_later a n (packs_break p e us g dead) = packs_break p e us g (λ x i l. dead x i (later a (n x) l))
-exit_later a n (packs_continue p e us g dead) = packs_continue p e us g (λ x i l. dead x i (later a (n x) l))
-exit_later a n (packs_value e g dead) = packs_value e g (λ x i l. dead x i (later a (n x) l))
-exit_later a n (packs_unit e g dead) = packs_unit e g (λ x i l. dead x i (later a (n x) l))
+exit_later a n (packs_break p e us g dead) = packs_break p e us g (λ x i k l. dead x i k (later a (n x) l))
+exit_later a n (packs_continue p e us g dead) = packs_continue p e us g (λ x i k l. dead x i k (later a (n x) l))
+exit_later a n (packs_value e g dead) = packs_value e g (λ x i k l. dead x i k (later a (n x) l))
+exit_later a n (packs_unit e g dead) = packs_unit e g (λ x i k l. dead x i k (later a (n x) l))
 
 pub good_older : (V : Facts) (w : List (Told ℕ)) (h : List Action) → V.Good (onto w h) → V.Good h
 good_older V [] h g = g
@@ -104,6 +104,15 @@ module _ (V : Facts) (d : Direction) (R : Renaming) (Z Z' : Frozen) (J : Jumping
   alike_bind_at W X c e h j s s' r r' go go' le part goes k l good =
       alike_bound W X c e h j s s' r r' go go' le (k (good_front V (told_by r) _ h (front_bind (told_by r) r go (front_self _)) good))
       (λ o j1 a b t t' q. l (onto o h) j1 a b t t' (walked part h o r a t q goes)) good
+
+  -- the same, with what the part gave
+  pub alike_bind_is : {A B C D : Type 0} (W : List Pair → A → B → Type 0) (X : List Pair → C → D → Type 0) (c e : ℕ) (h : List Action) (j : List Pair) (s s' : State) (r : Result (Told ℕ) A) (r' : Result ℕ B) (go : A → State → Result (Told ℕ) C) (go' : B → State → Result ℕ D) → e ≤ c
+      → (part : Order) → IsWalked part r → DoAlike V d R Z Z' J W c h j s s' r r'
+      → ((o : List (Told ℕ)) (j1 : List Pair) (a : A) (b : B) (t t' : State) → r ≡ on o a t → Walked part h (onto o h) → W j1 a b → Reached V d R Z Z' c (onto o h) j s s' j1 t t' → DoAlike V d R Z Z' J X e (onto o h) j1 t t' (go a t) (go' b t'))
+      → DoAlike V d R Z Z' J X e h j s s' (bind r go) (bind r' go')
+  alike_bind_is W X c e h j s s' r r' go go' le part goes k l good =
+      alike_bound W X c e h j s s' r r' go go' le (k (good_front V (told_by r) _ h (front_bind (told_by r) r go (front_self _)) good))
+      (λ o j1 a b t t' q. l o j1 a b t t' q (walked part h o r a t q goes)) good
 
   pub alike_jump_by : (W : List Pair → Value → Value → Type 0) (c l k : ℕ) (h : List Action) (j j1 : List Pair) (s s' t t' : State) (o : List (Told ℕ)) (o' : List ℕ) (x y : Exit) (v w : Value) (go : State → Result (Told ℕ) Value) (go' : State → Result ℕ Value)
       → ((n : ℕ) → loop_of J.loops n ≡ Some k → ⊥) → J.leaving l true ≡ None → J.leaving l false ≡ None

@@ -3,14 +3,14 @@ use Rattle.std.proofs.Common.{◌≡◌, ℕ, zero, suc, ◌+◌, ◌*◌, ◌�
 use Rattle.std.proofs.Math.Nat.{suc-mul}
 use Rattle.rx_meaning.specs.Values.{slot_of, State}
 use Rattle.rx_engine_simulation.proofs.Values.{Pair, In}
-pub use Rattle.rx_engine_simulation.specs.Turns.{Direction, shorter, longer, Turns, TextMayStop, AnswerMayStop, gain}
+pub use Rattle.rx_engine_simulation.specs.Turns.{Direction, shorter, longer, Turns, TextMayStop, AnswerMayStop, MayStray, IsNotFound, TextMayEnd, AnswerMayEnd, Allowance, gain}
 pub use Rattle.rx_engine_simulation.specs.States.{Frozen, Thawed, SameAt, IsPlain, IsThrough, IsCopied, IsViewed, IsSpecial, Binding, Paired, Framed, IsSetAt, StatesAlike, Grown}
 pub use Rattle.rx_engine_simulation.specs.Sights.{How, plain, special, through, copied, viewed, absent, Sight, sight, Renaming, sight_of}
 pub use Rattle.rx_engine_simulation.specs.Histories.{IsRoot, IsOwn, IsWhole, Declares, WritesWhole, WritesOwn, BorrowsOwn, Uses, Kills, Written, Borrowed, Facts, Living, asked, now, later}
 
 pub weaken : (d : Direction) (c e t t' : ℕ) → e ≤ c → Turns d c t t' → Turns d e t t'
 weaken (shorter g) c e t t' le h = h
-weaken (longer g) c e t t' le h = less (t * g) h
+weaken (longer g) c e t t' le h = less (t * g.turns) h
   where
     less : (x : ℕ) → t + x + c ≤ t' → t + x + e ≤ t'
     less x h = omega arith
@@ -19,7 +19,7 @@ weaken (longer g) c e t t' le h = less (t * g) h
 pub data TurnCase (d : Direction) (c : ℕ) : ℕ → ℕ → Type 0 where
   text_out : {t' : ℕ} → TextMayStop d → TurnCase d c zero t'
   answer_out : {t : ℕ} → AnswerMayStop d → TurnCase d c t zero
-  both_turn : {t t' : ℕ} → Turns d (gain d + c) t t' → TurnCase d c (suc t) (suc t')
+  both_turn : {t t' : ℕ} → Turns d ((gain d).turns + c) t t' → TurnCase d c (suc t) (suc t')
 
 pub turn_case : (d : Direction) (c t t' : ℕ) → Turns d c t t' → TurnCase d c t t'
 turn_case (shorter g) c t zero h = answer_out tt
@@ -27,9 +27,9 @@ turn_case (shorter g) c zero (suc t') h = absurd (omega arith)
 turn_case (shorter g) c (suc t) (suc t') h = both_turn (omega arith)
 turn_case (longer g) c zero t' h = text_out tt
 turn_case (longer g) c (suc t) zero h = absurd (omega arith)
-turn_case (longer g) c (suc t) (suc t') h = both_turn (gained (t * g) (subst (λ x. suc t + x + c ≤ suc t') (suc-mul t g) h))
+turn_case (longer g) c (suc t) (suc t') h = both_turn (gained (t * g.turns) (subst (λ x. suc t + x + c ≤ suc t') (suc-mul t g.turns) h))
   where
-    gained : (x : ℕ) → suc t + (x + g) + c ≤ suc t' → t + x + (g + c) ≤ t'
+    gained : (x : ℕ) → suc t + (x + g.turns) + c ≤ suc t' → t + x + (g.turns + c) ≤ t'
     gained x h = omega arith
 
 -- what a turn of the answer alone can be
@@ -41,7 +41,7 @@ pub entry_case : (d : Direction) (c t t' : ℕ) → Turns d (suc c) t t' → Ent
 entry_case (shorter g) c t zero h = cut_off tt
 entry_case (shorter g) c t (suc t') h = extra (omega arith)
 entry_case (longer g) c t zero h = absurd (omega arith)
-entry_case (longer g) c t (suc t') h = extra (fewer (t * g) h)
+entry_case (longer g) c t (suc t') h = extra (fewer (t * g.turns) h)
   where
     fewer : (x : ℕ) → t + x + suc c ≤ suc t' → t + x + c ≤ t'
     fewer x h = omega arith

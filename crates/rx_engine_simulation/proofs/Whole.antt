@@ -1,24 +1,25 @@
 -- Whole programs: the calls of the two mains do alike, in either direction; what is told has the bytes that are printed.
-use Rattle.std.proofs.Common.{◌≡◌, ℕ, ◌+◌, ◌*◌, ◌≤◌, List, [], ◌∷◌, ◌++◌, Some, None, refl, sym, ap, ◌∙◌, subst, arith, le_refl, inl, inr, ℤ}
+use Rattle.std.proofs.Common.{◌≡◌, ℕ, ◌+◌, ◌*◌, ◌≤◌, Bool, true, false, List, [], ◌∷◌, ◌++◌, Some, None, refl, sym, ap, ◌∙◌, subst, arith, le_refl, ◌⊎◌, inl, inr, ℤ}
 use Rattle.std.proofs.lemmas.List.{append-nil}
 use Rattle.rx_meaning.specs.declared.outcome.End.{End}
 use Rattle.rx_meaning.specs.declared.outcome.Outcome.{Outcome}
-use Rattle.rx_meaning.specs.Endings.{finished, wrong, missing_value, end_of}
+use Rattle.rx_meaning.specs.Endings.{Ending, finished, trapped, running, wrong, missing_value, end_of}
 use Rattle.rx_meaning.specs.Values.{Value, State}
 use Rattle.rx_meaning.specs.Results.{Result, on, jumps, stops}
 use Rattle.rx_meaning.specs.Acting.{plainly}
 use Rattle.rx_meaning.specs.Expressions.{called}
 use Rattle.rx_meaning.specs.Telling.{told_by, Alike, alike_on, alike_jump, alike_stop, SameSaid}
-use Rattle.rx_meaning.specs.Programs.{Program, outcome_of, begins, run_by, run, UpTo}
+use Rattle.rx_meaning.specs.Programs.{Program, ending_of, outcome_of, begins, run_by, run, ending, IsFront, UpTo}
 use Rattle.rx_meaning.proofs.Told.{runs_say}
 use Rattle.rx_engine_simulation.proofs.Told.{Told, said, followed}
 use Rattle.rx_engine_simulation.proofs.Values.{Pair, Given, none_given}
-use Rattle.rx_engine_simulation.proofs.States.{Direction, shorter, longer, gain, Turns, Facts, Renaming, Frozen, StatesAlike}
+use Rattle.rx_engine_simulation.proofs.States.{Direction, shorter, longer, TextMayEnd, AnswerMayEnd, Allowance, gain, Turns, Facts, Renaming, Frozen, StatesAlike}
 use Rattle.rx_engine_simulation.proofs.Results.{Jumping, ResultsAlike, both_on, both_jump, both_stop, text_cut, answer_cut}
 use Rattle.rx_engine_simulation.proofs.Calls.{whole_jumps}
 use Rattle.rx_engine_simulation.proofs.Congruence.{OpensAlike, nothing_opens, calls_up_to}
 use Rattle.rx_engine_simulation.specs.Openings.{Openings, no_openings}
 use Rattle.rx_engine_simulation.specs.Programs.{LikePrograms, Renamed}
+use Rattle.rx_engine_simulation.specs.Astray.{WentAstray, OrAstray}
 
 -- ---- outcomes
 
@@ -34,6 +35,14 @@ same_outcome _ _ (alike_stop {e = e} t) = ap (λ w. record { printed = w; end = 
 
 told_is_printed : (P : Program) (given : List ℤ) (n : ℕ) → outcome_by (run_by followed P given n) ≡ run P given n
 told_is_printed P given n = same_outcome _ _ (runs_say plainly P given n)
+
+same_ending : (r' : Result ℕ Value) (r : Result (Told ℕ) Value) → Alike SameSaid r' r → ending_of r ≡ ending_of r'
+same_ending _ _ (alike_on t) = refl
+same_ending _ _ (alike_jump t) = refl
+same_ending _ _ (alike_stop t) = refl
+
+told_ends : (P : Program) (given : List ℤ) (n : ℕ) → ending_of (run_by followed P given n) ≡ ending P given n
+told_ends P given n = same_ending _ _ (runs_say plainly P given n)
 
 printed_by : (r : Result (Told ℕ) Value) → said (told_by r) ≡ (outcome_by r).printed
 printed_by (on w v s) = refl
@@ -51,20 +60,48 @@ outcome w e = record { printed = w; end = e }
 ended : (w w' : List ℕ) (e e' : End) → w ≡ w' → e ≡ e' → outcome w e ≡ outcome w' e'
 ended w w' e e' p q = cc
 
-module _ (V : Facts) (g : ℕ) (R : Renaming) (Z Z' : Frozen) (J : Jumping) (W : List Pair → Value → Value → Type 0) (c : ℕ) (j : List Pair) (s s' : State) where
-  longer_outcome : (r : Result (Told ℕ) Value) (r' : Result ℕ Value) → ResultsAlike V (longer g) R Z Z' J W c [] j s s' r r' → UpTo (outcome_by r) (outcome_of r')
-  longer_outcome r r' (both_on j1 f w z) = inl (ended _ _ _ _ f refl)
-  longer_outcome r r' (both_jump j1 f w z) = inl (ended _ _ _ _ f refl)
-  longer_outcome r r' (both_stop f e) = inl (ended _ _ _ _ f e)
-  longer_outcome r r' (text_cut m f) = inr (refl, (f.0, sym (printed_of r') ∙ f.1))
-  longer_outcome r r' (answer_cut m f) = absurd m
+-- where they may, one went astray
+abbrev Unless : Bool → Result (Told ℕ) Value → Result ℕ Value → Type 0 → Type 0
+Unless may r r' A = A ⊎ WentAstray may (outcome_of r') (outcome_by r) (ending_of r') ⊎ WentAstray may (outcome_by r) (outcome_of r') (ending_of r)
 
-  shorter_outcome : (r : Result (Told ℕ) Value) (r' : Result ℕ Value) → ResultsAlike V (shorter g) R Z Z' J W c [] j s s' r r' → UpTo (outcome_of r') (outcome_by r)
-  shorter_outcome r r' (both_on j1 f w z) = inl (ended _ _ _ _ (sym f) refl)
-  shorter_outcome r r' (both_jump j1 f w z) = inl (ended _ _ _ _ (sym f) refl)
-  shorter_outcome r r' (both_stop f e) = inl (ended _ _ _ _ (sym f) (sym e))
-  shorter_outcome r r' (text_cut m f) = absurd m
-  shorter_outcome r r' (answer_cut m f) = inr (refl, (f.0, sym (printed_by r) ∙ f.1))
+module _ (V : Facts) (g : Allowance) (R : Renaming) (Z Z' : Frozen) (J : Jumping) (W : List Pair → Value → Value → Type 0) (c : ℕ) (j : List Pair) (s s' : State) where
+  longer_ended : (r : Result (Told ℕ) Value) (o' : List ℕ) (e : Ending) → AnswerMayEnd (longer g) e → IsFront o' (said (told_by r)) → Unless g.strays r (stops o' e) (UpTo (outcome_by r) (outcome_of (stops o' e)))
+  longer_ended r o' running m f = absurd m
+  longer_ended r o' (wrong w) m f = inr (inl (record { can = m.0; cause = w; is_cause = m.1; ends = refl; front = (f.0, sym (printed_by r) ∙ f.1) }))
+  longer_ended r o' finished m f = absurd m
+  longer_ended r o' (trapped t) m f = absurd m
+
+  text_longer : (o : List (Told ℕ)) (e : Ending) (r' : Result ℕ Value) → TextMayEnd (longer g) e → IsFront (said o) (told_by r') → Unless g.strays (stops o e) r' (UpTo (outcome_by (stops o e)) (outcome_of r'))
+  text_longer o running r' m f = inl (inr (refl, (f.0, sym (printed_of r') ∙ f.1)))
+  text_longer o (wrong w) r' m f = inr (inr (record { can = m.0; cause = w; is_cause = m.1; ends = refl; front = (f.0, sym (printed_of r') ∙ f.1) }))
+  text_longer o finished r' m f = absurd m
+  text_longer o (trapped t) r' m f = absurd m
+
+  longer_outcome : (r : Result (Told ℕ) Value) (r' : Result ℕ Value) → ResultsAlike V (longer g) R Z Z' J W c [] j s s' r r' → Unless g.strays r r' (UpTo (outcome_by r) (outcome_of r'))
+  longer_outcome r r' (both_on j1 f w z) = inl (inl (ended _ _ _ _ f refl))
+  longer_outcome r r' (both_jump j1 f w z) = inl (inl (ended _ _ _ _ f refl))
+  longer_outcome r r' (both_stop f e) = inl (inl (ended _ _ _ _ f e))
+  longer_outcome r r' (text_cut {o = o} {e = e} m f) = text_longer o e r' m f
+  longer_outcome r r' (answer_cut {o' = o'} {e = e} m f) = longer_ended r o' e m f
+
+  shorter_ended : (r : Result (Told ℕ) Value) (o' : List ℕ) (e : Ending) → AnswerMayEnd (shorter g) e → IsFront o' (said (told_by r)) → Unless g.strays r (stops o' e) (UpTo (outcome_of (stops o' e)) (outcome_by r))
+  shorter_ended r o' running m f = inl (inr (refl, (f.0, sym (printed_by r) ∙ f.1)))
+  shorter_ended r o' (wrong w) m f = inr (inl (record { can = m.0; cause = w; is_cause = m.1; ends = refl; front = (f.0, sym (printed_by r) ∙ f.1) }))
+  shorter_ended r o' finished m f = absurd m
+  shorter_ended r o' (trapped t) m f = absurd m
+
+  text_shorter : (o : List (Told ℕ)) (e : Ending) (r' : Result ℕ Value) → TextMayEnd (shorter g) e → IsFront (said o) (told_by r') → Unless g.strays (stops o e) r' (UpTo (outcome_of r') (outcome_by (stops o e)))
+  text_shorter o running r' m f = absurd m
+  text_shorter o (wrong w) r' m f = inr (inr (record { can = m.0; cause = w; is_cause = m.1; ends = refl; front = (f.0, sym (printed_of r') ∙ f.1) }))
+  text_shorter o finished r' m f = absurd m
+  text_shorter o (trapped t) r' m f = absurd m
+
+  shorter_outcome : (r : Result (Told ℕ) Value) (r' : Result ℕ Value) → ResultsAlike V (shorter g) R Z Z' J W c [] j s s' r r' → Unless g.strays r r' (UpTo (outcome_of r') (outcome_by r))
+  shorter_outcome r r' (both_on j1 f w z) = inl (inl (ended _ _ _ _ (sym f) refl))
+  shorter_outcome r r' (both_jump j1 f w z) = inl (inl (ended _ _ _ _ (sym f) refl))
+  shorter_outcome r r' (both_stop f e) = inl (inl (ended _ _ _ _ (sym f) (sym e)))
+  shorter_outcome r r' (text_cut {o = o} {e = e} m f) = text_shorter o e r' m f
+  shorter_outcome r r' (answer_cut {o' = o'} {e = e} m f) = shorter_ended r o' e m f
 
 -- ---- the runs
 
@@ -87,6 +124,7 @@ states_begin given n n' = record {
   names = λ x y e f g. absurd (none_some g);
   binds = λ x e f. absurd (none_some f);
   written = λ x i e. absurd (none_some e);
+  slotted = λ x w. absurd w;
   anchors = λ x i e. absurd e;
 }
 
@@ -98,15 +136,22 @@ module _ (items : ℕ → ℕ) (O : Openings) (P Q : Program) where
       ((calls_up_to items P.functions Q.functions d O like.all open_alike n' n' (le_refl n')).call_all no_facts n 0 P.main whole_jumps [] nothing_frozen nothing_frozen [] [] [] [] (begins given n) (begins given n') none_given
       (record { inv = states_begin given n n'; turns = t; low = le_refl n; low' = le_refl n'; known = λ x i e. absurd e }) tt)
 
-  -- where what is put in place of special parts does alike, the answer is up to the text, and the text to the answer with more turns
-  pub answer_up_to_text : (g : ℕ) → OpensAlike items P.functions Q.functions (shorter g) O → LikePrograms items O g P Q → (given : List ℤ) (n : ℕ) → UpTo (run Q given n) (run P given n)
-  answer_up_to_text g open_alike like given n =
-      subst (λ o. UpTo (run Q given n) o) (told_is_printed P given n) (shorter_outcome no_facts g [] nothing_frozen nothing_frozen whole_jumps Given 0 [] _ _ _ _ (mains_alike (shorter g) open_alike like given n n (le_refl n)))
+  -- the text's run, without what it tells of its actions
+  plain_text : (may : Bool) (given : List ℤ) (n n' : ℕ) (A : Outcome → Type 0) → A (outcome_by (run_by followed P given n)) ⊎ WentAstray may (run Q given n') (outcome_by (run_by followed P given n)) (ending Q given n') ⊎ WentAstray may (outcome_by (run_by followed P given n)) (run Q given n') (ending_of (run_by followed P given n))
+      → OrAstray may P Q given n n' (A (run P given n))
+  plain_text may given n n' A u =
+      subst (λ o. A o ⊎ WentAstray may (run Q given n') o (ending Q given n') ⊎ WentAstray may o (run Q given n') (ending P given n)) (told_is_printed P given n)
+      (subst (λ e. A (outcome_by (run_by followed P given n)) ⊎ WentAstray may (run Q given n') (outcome_by (run_by followed P given n)) (ending Q given n') ⊎ WentAstray may (outcome_by (run_by followed P given n)) (run Q given n') e) (told_ends P given n) u)
 
-  pub text_up_to_answer : (g : ℕ) → OpensAlike items P.functions Q.functions (longer g) O → LikePrograms items O g P Q → (given : List ℤ) (n : ℕ) → UpTo (run P given n) (run Q given (n + n * g))
+  -- where what is put in place of special parts does alike, the answer is up to the text, and the text to the answer with more turns
+  pub answer_up_to_text : (g : Allowance) → OpensAlike items P.functions Q.functions (shorter g) O → LikePrograms items O g P Q → (given : List ℤ) (n : ℕ) → OrAstray g.strays P Q given n n (UpTo (run Q given n) (run P given n))
+  answer_up_to_text g open_alike like given n =
+      plain_text g.strays given n n (λ o. UpTo (run Q given n) o) (shorter_outcome no_facts g [] nothing_frozen nothing_frozen whole_jumps Given 0 [] _ _ _ _ (mains_alike (shorter g) open_alike like given n n (le_refl n)))
+
+  pub text_up_to_answer : (g : Allowance) → OpensAlike items P.functions Q.functions (longer g) O → LikePrograms items O g P Q → (given : List ℤ) (n : ℕ) → OrAstray g.strays P Q given n (n + n * g.turns) (UpTo (run P given n) (run Q given (n + n * g.turns)))
   text_up_to_answer g open_alike like given n =
-      subst (λ o. UpTo o (run Q given (n + n * g))) (told_is_printed P given n)
-      (longer_outcome no_facts g [] nothing_frozen nothing_frozen whole_jumps Given 0 [] _ _ _ _ (mains_alike (longer g) open_alike like given n (n + n * g) (same (n * g))))
+      plain_text g.strays given n (n + n * g.turns) (λ o. UpTo o (run Q given (n + n * g.turns)))
+      (longer_outcome no_facts g [] nothing_frozen nothing_frozen whole_jumps Given 0 [] _ _ _ _ (mains_alike (longer g) open_alike like given n (n + n * g.turns) (same (n * g.turns))))
     where
       same : (x : ℕ) → n + x + 0 ≤ n + x
       same x = omega arith
@@ -135,7 +180,26 @@ both_ways a b (inr f) (inr g) =
     ended_alike : f.1.0 ≡ [] → a ≡ b
     ended_alike e = ended a.printed b.printed a.end b.end (sym (f.1.1 ∙ ap (λ x. a.printed ++ x) e ∙ append-nil a.printed)) (f.0 ∙ sym g.0)
 
+-- neither may go astray
+never_astray : {A : Type 0} {o o' u u' : Outcome} {e e' : Ending} → A ⊎ WentAstray false o o' e ⊎ WentAstray false u u' e' → A
+never_astray (inl a) = a
+never_astray (inr (inl w)) = absurd (false_true w.can)
+  where
+    false_true : false ≡ true → ⊥
+    false_true e = cc
+never_astray (inr (inr w)) = absurd (false_true w.can)
+  where
+    false_true : false ≡ true → ⊥
+    false_true e = cc
+
+abbrev alone : Allowance
+alone = record { turns = 0; strays = false }
+
+-- in both directions, without turns of its own and without going astray, it is the text
+pub alike_alone : (items : ℕ → ℕ) (O : Openings) (P Q : Program) → ((d : Direction) → OpensAlike items P.functions Q.functions d O) → LikePrograms items O alone P Q → (given : List ℤ) (n : ℕ) → run Q given n ≡ run P given n
+alike_alone items O P Q open_alike alike given n =
+    both_ways (run Q given n) (run P given n) (never_astray (answer_up_to_text items O P Q alone (open_alike (shorter alone)) alike given n))
+    (subst (λ k. UpTo (run P given n) (run Q given k)) (no_turns n) (never_astray (text_up_to_answer items O P Q alone (open_alike (longer alone)) alike given n)))
+
 pub renamed_alike : (P Q : Program) → Renamed P Q → (given : List ℤ) (n : ℕ) → run Q given n ≡ run P given n
-renamed_alike P Q r given n =
-    both_ways (run Q given n) (run P given n) (answer_up_to_text r.items no_openings P Q 0 (nothing_opens r.items P.functions Q.functions (shorter 0)) r.alike given n)
-    (subst (λ k. UpTo (run P given n) (run Q given k)) (no_turns n) (text_up_to_answer r.items no_openings P Q 0 (nothing_opens r.items P.functions Q.functions (longer 0)) r.alike given n))
+renamed_alike P Q r given n = alike_alone r.items no_openings P Q (λ d. nothing_opens r.items P.functions Q.functions d) r.alike given n

@@ -96,8 +96,8 @@ module _ (V : Facts) (d : Direction) (R : Renaming) (Z Z' : Frozen) (J : Jumping
 
   -- a write of like values
   put_done : (why why' : Cause) (i k : ℕ) (ss : List Step) (u u' old old' : Value) → element s.memory i ≡ Some old → element s'.memory k ≡ Some old' → LikeOption (LikeValue j) (put ss u old) (put ss u' old') → is_set u ≡ true
-      → Site V R Z Z' a h j s s' inv i k → ((x m : ℕ) → WritesWhole a.act x → slot_of s.frame.slots x ≡ Some m → (m ≡ i) × IsWhole ss) → Puts why why' u u' (in_slot i ss true) (in_slot k ss true)
-  put_done why why' i k ss u u' old old' e e' l set site mine =
+      → Site V R Z Z' a h j s s' inv i k → ((x m : ℕ) → WritesWhole a.act x → slot_of s.frame.slots x ≡ Some m → (m ≡ i) × IsWhole ss) → ((x : ℕ) → WritesWhole a.act x → (m : ℕ) × (slot_of s.frame.slots x ≡ Some m)) → Puts why why' u u' (in_slot i ss true) (in_slot k ss true)
+  put_done why why' i k ss u u' old old' e e' l set site mine has =
       subst (λ o. LikeDone V d R Z Z' Given c a h j s s' (or_ends why (and_then o (λ w. and_then (put ss u w) (λ x. Some (with_element s.memory i x)))) (λ M. gives [] unit_value (with_memory s M))) (or_ends why' (and_then (element s'.memory k) (λ w. and_then (put ss u' w) (λ x. Some (with_element s'.memory k x)))) (λ M. gives [] unit_value (with_memory s' M)))) (sym e)
       (subst (λ o. LikeDone V d R Z Z' Given c a h j s s' (or_ends why (and_then (put ss u old) (λ x. Some (with_element s.memory i x))) (λ M. gives [] unit_value (with_memory s M))) (or_ends why' (and_then o (λ w. and_then (put ss u' w) (λ x. Some (with_element s'.memory k x)))) (λ M. gives [] unit_value (with_memory s' M)))) (sym e')
       (by (put ss u old) (put ss u' old') refl l))
@@ -112,8 +112,8 @@ module _ (V : Facts) (d : Direction) (R : Renaming) (Z Z' : Frozen) (J : Jumping
           let sets : is_set old ≡ true → is_set v ≡ true = λ g. put_set ss u old v set g f in
           let whole : (x m : ℕ) → WritesWhole a.act x → slot_of s.frame.slots x ≡ Some m → IsSetAt (with_element s.memory i v) m = λ x m w g. (v, subst (λ n. element (with_element s.memory i v) n ≡ Some v) (sym (mine x m w g).0) (put_same s.memory i old v e), whole_is ss v (mine x m w g).1 f) in
           both_gave j (wholes no_values, refl) (record {
-            inv = states_write V R Z Z' h j s s' inv a i k old old' v v' e e' m sets site.left_one site.right_one site.thawed site.thawed' site.aside not_new whole;
-            grown = grown_write V R Z Z' h j s s' inv a i k old old' v v' e e' m sets site.left_one site.right_one site.thawed site.thawed' site.aside not_new whole;
+            inv = states_write V R Z Z' h j s s' inv a i k old old' v v' e e' m sets site.left_one site.right_one site.thawed site.thawed' site.aside not_new whole has;
+            grown = grown_write V R Z Z' h j s s' inv a i k old old' v v' e e' m sets site.left_one site.right_one site.thawed site.thawed' site.aside not_new whole has;
             turns = turns;
           })
 
@@ -128,18 +128,18 @@ module _ (V : Facts) (d : Direction) (R : Renaming) (Z Z' : Frozen) (J : Jumping
         subst (λ w. Puts why why' u u' (in_slot q.left ss true) (in_slot q.right ss w)) (g refl)
         (put_done why why' q.left q.right ss u u' b.text b.answer b.at_text b.at_answer (put_like ss l b.like) set
         (site_paired V R Z Z' a h j s s' inv q.left q.right q.hold m (subst NotFixed (sym free_one) tt) (inv.paired.thawed q m free_one) (inv.paired.thawed' q m free_one) (λ x y seen k. ⊎_elim (λ e. e) (λ e. part e.1) k))
-        (λ x m w e. absurd (part w.1)))
+        (λ x m w e. absurd (part w.1)) (λ x w. absurd (part w.1)))
     at_spot why why' u u' l set part at at' (lent {ss = ss} {w = false} q m f g) = subst (λ w. Puts why why' u u' (in_slot q.left ss false) (in_slot q.right ss w)) (g refl) (both_ended refl)
     at_spot why why' u u' l set part at at' (owned {i = i} {k = k} {ss = ss} (inl o) b f) =
         subst (λ w. Puts why why' u u' (in_slot i ss true) (in_slot k ss w)) (sym (f refl))
         (put_done why why' i k ss u u' b.text b.answer b.at_text b.at_answer (put_like ss l b.like) set
         (site_paired V R Z Z' a h j s s' inv i k o.0 o.1 o.2 o.3 o.4 (λ x y seen k. ⊎_elim (λ e. e) (λ e. part e.1) k))
-        (λ x m w e. absurd (part w.1)))
+        (λ x m w e. absurd (part w.1)) (λ x w. absurd (part w.1)))
     at_spot why why' u u' l set part at at' (owned {i = i} {k = k} {ss = ss} (inr o) b f) =
         subst (λ w. Puts why why' u u' (in_slot i ss true) (in_slot k ss w)) (sym (f refl))
         (put_done why why' i k ss u u' b.text b.answer b.at_text b.at_answer (put_like ss l b.like) set
         (site_special V R Z Z' a h j s s' inv i k o.0 (λ t. V.untouched a h o.0.text o.0.is_special.is_one good o.1 t) (λ x k. ⊎_elim (λ e. absurd e) (λ e. absurd (part e.1)) k))
-        (λ x m w e. absurd (part w.1)))
+        (λ x m w e. absurd (part w.1)) (λ x w. absurd (part w.1)))
     at_spot why why' u u' l set part at at' (holds m) = both_ended refl
 
     part_put : (p' : Place) → LikePlace R writing p p' → (IsWhole p.steps → ⊥) → (u u' : Value) → LikeValue j u u' → is_set u ≡ true → LikeDone V d R Z Z' Given c a h j s s' (or_ends (why_not_found p [] s) (spot p [] s) (λ at. or_ends (why_not_written s.memory at) (after_write u s.memory at) (λ M. gives [] unit_value (with_memory s M)))) (or_ends (why_not_found p' [] s') (spot p' [] s') (λ at. or_ends (why_not_written s'.memory at) (after_write u' s'.memory at) (λ M. gives [] unit_value (with_memory s' M))))
@@ -171,6 +171,9 @@ module _ (V : Facts) (d : Direction) (R : Renaming) (Z Z' : Frozen) (J : Jumping
   mine : (i : ℕ) → slot_of s.frame.slots x ≡ Some i → (z m : ℕ) → WritesWhole b.act z → slot_of s.frame.slots z ≡ Some m → (m ≡ i) × IsWhole []
   mine i e z m w f = (some_same (sym f ∙ ap (λ x. slot_of s.frame.slots x) w.0 ∙ e), tt)
 
+  has_slot : (i : ℕ) → slot_of s.frame.slots x ≡ Some i → (z : ℕ) → WritesWhole b.act z → (m : ℕ) × (slot_of s.frame.slots z ≡ Some m)
+  has_slot i e z w = (i, ap (λ x. slot_of s.frame.slots x) w.0 ∙ e)
+
   killed : (z : ℕ) → Kills b.act z → z ≡ x
   killed z k = ⊎_elim (λ e. absurd e) (λ e. e.0) k
 
@@ -187,7 +190,7 @@ module _ (V : Facts) (d : Direction) (R : Renaming) (Z Z' : Frozen) (J : Jumping
       (subst (λ a. Whole why why' u u' (Some (in_slot e.left [] true)) a) (sym (spot_own y e.right s' e.at_answer))
       (put_done V d R Z Z' J c h j s s' inv turns n q t way (why_not_written s.memory (in_slot e.left [] true)) (why_not_written s'.memory (in_slot e.right [] true)) e.left e.right [] u u' o.text o.answer o.at_text o.at_answer (somes l) set
       (site_paired V R Z Z' b h j s s' inv e.left e.right w e.is_in e.not_fixed e.thawed e.thawed' (λ z v f k. none_special V d R Z Z' J c h j s s' inv turns n q t way x y (plain w) seen (not_plain w) z v (killed z k) f))
-      (mine e.left e.at_text)))
+      (mine e.left e.at_text) (has_slot e.left e.at_text)))
 
   whole_special : (why why' : Cause) → V.Good (b ∷ h) → (y : ℕ) → sight_of R x ≡ Some (sight y special) → IsSpecial V Z Z' h j s.frame s'.frame s.memory s'.memory x y → (u u' : Value) → LikeValue j u u' → is_set u ≡ true → Whole why why' u u' (spot q [] s) (spot (at_variable y []) [] s')
   whole_special why why' good y seen e u u' l set =
@@ -197,7 +200,7 @@ module _ (V : Facts) (d : Direction) (R : Renaming) (Z Z' : Frozen) (J : Jumping
       (subst (λ a. Whole why why' u u' (Some (in_slot e.left [] true)) a) (sym (spot_own y e.right s' e.at_answer))
       (put_done V d R Z Z' J c h j s s' inv turns n q t way (why_not_written s.memory (in_slot e.left [] true)) (why_not_written s'.memory (in_slot e.right [] true)) e.left e.right [] u u' o.0 o'.0 o.1 o'.1 (somes l) set
       (site_special V R Z Z' b h j s s' inv e.left e.right (record { text = x; answer = y; seen = seen; is_special = e; is_left = refl; is_right = refl }) (λ f. V.untouched b h x e.is_one good (refl, tt) f) killed)
-      (mine e.left e.at_text)))
+      (mine e.left e.at_text) (has_slot e.left e.at_text)))
 
   whole_behind : (why why' : Cause) → (y : ℕ) (r : Bool) (w : Hold) → sight_of R x ≡ Some (sight y (through w true)) → IsThrough Z Z' j s.frame s'.frame x y w true → (u u' : Value) → LikeValue j u u' → is_set u ≡ true → Whole why why' u u' (spot q [] s) (spot (at_variable y (step.Deref r ∷ [])) [] s')
   whole_behind why why' y r w seen e u u' l set =
@@ -206,7 +209,7 @@ module _ (V : Facts) (d : Direction) (R : Renaming) (Z Z' : Frozen) (J : Jumping
       (subst (λ a. Whole why why' u u' (Some (in_slot e.left [] true)) a) (sym (spot_behind y e.by e.right true r e.at_answer e.reference))
       (put_done V d R Z Z' J c h j s s' inv turns n q t way (why_not_written s.memory (in_slot e.left [] true)) (why_not_written s'.memory (in_slot e.right [] true)) e.left e.right [] u u' o.text o.answer o.at_text o.at_answer (somes l) set
       (site_paired V R Z Z' b h j s s' inv e.left e.right w e.is_in e.not_fixed (e.thawed refl) (e.thawed' refl) (λ z v f k. none_special V d R Z Z' J c h j s s' inv turns n q t way x y (through w true) seen (not_through w true) z v (killed z k) f))
-      (mine e.left e.at_text)))
+      (mine e.left e.at_text) (has_slot e.left e.at_text)))
 
 module _ (V : Facts) (d : Direction) (R : Renaming) (Z Z' : Frozen) (J : Jumping) (c : ℕ) (h : List Action) (j : List Pair) (s s' : State) (inv : StatesAlike V R Z Z' h j s s') (turns : Turns d c s.turns s'.turns) (n n' : ℕ) (t t' : Temporary) (way way' : List Step) where
   abbrev Written : Place → Place → Value → Value → Type 0

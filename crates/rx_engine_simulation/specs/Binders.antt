@@ -1,6 +1,8 @@
 -- New variables that are alike (Rust Reference, "Patterns", "let statements", "Function parameters").
 use Rattle.std.specs.Prelude.{◌≡◌, ℕ, Bool, List, [], ◌∷◌, Option, Some, None}
-use Rattle.rx_typed.specs.Tree.{Temporary, Place, Parameter}
+use Rattle.rx_core.specs.declared.types.Step.{Step}
+use Rattle.rx_core.specs.declared.types.Step.TheVariants as step
+use Rattle.rx_typed.specs.Tree.{Temporary, Place, Parameter, Mode, by_reference}
 use Rattle.rx_lower_walks.specs.Matching.{PartTest, Binding}
 use Rattle.rx_lower_walks.specs.Actions.{Act, Read, Borrow, Subject, part, taken, source_of}
 use Rattle.rx_engine_simulation.specs.Histories.{Facts}
@@ -31,6 +33,16 @@ pub data LikeBindings (V : Facts) (S S' : Subject) : Renaming → List Binding �
   no_binding : {R : Renaming} → LikeBindings V S S' R [] [] R
   binding_and : {R Ra : Renaming} {b b' : Binding} {bs bs' : List Binding} (w : How) → LikeTaken R (taken S b) (taken S' b') → LikeSteps (source_of S b).1 (source_of S' b').1
       → NewHow V b.variable w → sight_of R b.variable ≡ None → IsNew R b'.variable → LikeBindings V S S' ((b.variable, sight b'.variable w) ∷ R) bs bs' Ra → LikeBindings V S S' R (b ∷ bs) (b' ∷ bs') Ra
+
+-- a binding that borrows from behind a reference
+abbrev pub GoesBehind : Mode → List Step → Type 0
+GoesBehind (by_reference k) (step.Deref n ∷ ss) = Unit {0}
+GoesBehind _ _ = ⊥
+
+-- all do, and none is of this variable
+abbrev pub AreBehind : ℕ → List Binding → Type 0
+AreBehind y [] = Unit {0}
+AreBehind y (b ∷ bs) = GoesBehind b.mode b.steps × (b.variable ≡ y → ⊥) × AreBehind y bs
 
 pub data LikeTests (R : Renaming) (S S' : Subject) : List PartTest → List PartTest → Type 0 where
   no_test : LikeTests R S S' [] []

@@ -7,11 +7,11 @@ use Rattle.rx_engine_simulation.specs.Sights.{Renaming}
 use Rattle.rx_engine_simulation.specs.Jumps.{Jumping}
 
 pub record Openings : Type 1 where
-  -- with how many further turns of the answer, under which jumps and variables: an expression around another
-  pub expression : Facts → ℕ → Jumping → Renaming → (Exp → Exp) → (Exp → Exp) → Type 0
+  -- with how many further turns of the answer, under which jumps and variables: an expression around another, which is the text's
+  pub expression : Facts → ℕ → Jumping → Renaming → Exp → (Exp → Exp) → (Exp → Exp) → Type 0
   -- the same for statements in front of the rest of a block, and the variables of that rest, which is the text's
   pub statements : Facts → ℕ → Jumping → Renaming → Renaming → Body → (Body → Body) → (Body → Body) → Type 0
 
 -- no part is special
 abbrev pub no_openings : Openings
-no_openings = record { expression = λ V a J R f g. ⊥; statements = λ V a J R S b f g. ⊥ }
+no_openings = record { expression = λ V a J R e f g. ⊥; statements = λ V a J R S b f g. ⊥ }

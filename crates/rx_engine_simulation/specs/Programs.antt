@@ -1,5 +1,5 @@
 -- Programs whose functions are alike (Rust Reference, "Items", "Functions").
-use Rattle.std.specs.Prelude.{◌≡◌, ℕ, List, [], ◌∷◌, Option, Some, None}
+use Rattle.std.specs.Prelude.{◌≡◌, ℕ, false, List, [], ◌∷◌, Option, Some, None}
 use Rattle.rx_typed.specs.Tree.{Function}
 use Rattle.rx_lower_walks.specs.Actions.{Action}
 use Rattle.rx_lower_walks.specs.Orders.{Order, order_function}
@@ -8,6 +8,7 @@ use Rattle.rx_exits_marks.specs.Coming.{Into}
 use Rattle.rx_meaning.specs.Values.{element}
 use Rattle.rx_meaning.specs.Expressions.{Functions}
 use Rattle.rx_meaning.specs.Programs.{Program}
+use Rattle.rx_engine_simulation.specs.Turns.{Allowance}
 use Rattle.rx_engine_simulation.specs.Histories.{put, Facts, WritesOwn, Borrowed}
 use Rattle.rx_engine_simulation.specs.Sights.{In, Renaming}
 use Rattle.rx_engine_simulation.specs.Binders.{LikeParams}
@@ -58,30 +59,30 @@ facts_of g K u = record {
 }
 
 -- a function of the text, and the answer's for it; each activation has the credit of the turn of its call
-pub record LikeFunction (items : ℕ → ℕ) (O : Openings) (gain : ℕ) (g g' : Function) : Type 0 where
+pub record LikeFunction (items : ℕ → ℕ) (O : Openings) (gain : Allowance) (g g' : Function) : Type 0 where
   pub about : About
   pub untouched : Untouched g about
   pub inside : Renaming
   pub params : LikeParams (facts_of g about untouched) [] g.params g'.params inside
-  pub body : LikeExp items O gain (facts_of g about untouched) gain whole_jumps inside g.body g'.body
+  pub body : LikeExp items O gain (facts_of g about untouched) gain.turns whole_jumps inside g.body g'.body
 
 abbrev pub IsNone : Option (Option Function) → Type 0
 IsNone (Some (Some g)) = ⊥
 IsNone _ = Unit {0}
 
-pub data LikeEntry (items : ℕ → ℕ) (O : Openings) (gain : ℕ) : Option (Option Function) → Option (Option Function) → Type 0 where
+pub data LikeEntry (items : ℕ → ℕ) (O : Openings) (gain : Allowance) : Option (Option Function) → Option (Option Function) → Type 0 where
   functions : {g g' : Function} → LikeFunction items O gain g g' → LikeEntry items O gain (Some (Some g)) (Some (Some g'))
   neither : {o o' : Option (Option Function)} → IsNone o → IsNone o' → LikeEntry items O gain o o'
 
 -- of each item of the text; the answer may have further functions
-abbrev pub LikeFunctions : (items : ℕ → ℕ) → Openings → ℕ → Functions → Functions → Type 0
+abbrev pub LikeFunctions : (items : ℕ → ℕ) → Openings → Allowance → Functions → Functions → Type 0
 LikeFunctions items O gain P Q = (f : ℕ) → LikeEntry items O gain (element P f) (element Q (items f))
 
-pub record LikePrograms (items : ℕ → ℕ) (O : Openings) (gain : ℕ) (P Q : Program) : Type 0 where
+pub record LikePrograms (items : ℕ → ℕ) (O : Openings) (gain : Allowance) (P Q : Program) : Type 0 where
   pub all : LikeFunctions items O gain P.functions Q.functions
   pub mains : Q.main ≡ items P.main
 
 -- without an opening: the answer is the text, but for the numbers of nodes, items, loops and variables, and for its types
 pub record Renamed (P Q : Program) : Type 0 where
   pub items : ℕ → ℕ
-  pub alike : LikePrograms items no_openings 0 P Q
+  pub alike : LikePrograms items no_openings (record { turns = 0; strays = false }) P Q

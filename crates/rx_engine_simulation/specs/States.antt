@@ -121,6 +121,7 @@ pub record StatesAlike (V : Facts) (R : Renaming) (Z Z' : Frozen) (h : List Acti
   pub names : (x y : ℕ) (e f : Sight) → sight_of R x ≡ Some e → sight_of R y ≡ Some f → e.to ≡ f.to → x ≡ y
   pub binds : (x : ℕ) (e : Sight) → sight_of R x ≡ Some e → Binding V Z Z' h j s.frame s'.frame s.memory s'.memory x e.to e.how
   pub written : (x i : ℕ) → slot_of s.frame.slots x ≡ Some i → Written h x → IsSetAt s.memory i
+  pub slotted : (x : ℕ) → Written h x → (i : ℕ) × (slot_of s.frame.slots x ≡ Some i)
   pub anchors : (x i : ℕ) → Z.anchored x i → slot_of s.frame.slots x ≡ Some i
 
 -- a pair of states that led to another

@@ -1,22 +1,31 @@
 -- Which of two runs may be cut off, by how many turns each has left. The text is the program that was there first, the answer the
--- one that was made from it. A turn is a call of a function or a pass of a loop.
-use Rattle.std.specs.Prelude.{ℕ, ◌+◌, ◌*◌, ◌≤◌}
+-- one that was made from it. A turn is a call of a function or a pass of a loop. And whether they may go astray, where one asks
+-- for a reference again.
+use Rattle.std.specs.Prelude.{◌≡◌, ℕ, Bool, true, ◌+◌, ◌*◌, ◌≤◌}
+use Rattle.rx_meaning.specs.Endings.{Cause, lacks, astray, Ending, running, wrong}
+
+-- what the answer is allowed
+pub record Allowance : Type 0 where
+  -- so many further turns for each of the text
+  pub turns : ℕ
+  -- to go astray, and the text too: where one asks for a reference again
+  pub strays : Bool
 
 pub data Direction : Type 0 where
   -- the answer has no more turns than the text, and is the one that may be cut off
-  shorter : ℕ → Direction
-  -- it has this many further turns for each of the text, which may be cut off
-  longer : ℕ → Direction
+  shorter : Allowance → Direction
+  -- it has the further turns, and the text may be cut off
+  longer : Allowance → Direction
 
--- the credit that each turn of both gives
-abbrev pub gain : Direction → ℕ
+-- also the credit that each turn of both gives
+abbrev pub gain : Direction → Allowance
 gain (shorter g) = g
 gain (longer g) = g
 
 -- The credit is the number of turns that the answer may take, besides, before the next turn of both.
 abbrev pub Turns : Direction → ℕ → ℕ → ℕ → Type 0
 Turns (shorter g) credit text answer = answer ≤ text
-Turns (longer g) credit text answer = text + text * g + credit ≤ answer
+Turns (longer g) credit text answer = text + text * g.turns + credit ≤ answer
 
 abbrev pub TextMayStop : Direction → Type 0
 TextMayStop (shorter g) = ⊥
@@ -25,3 +34,23 @@ TextMayStop (longer g) = Unit {0}
 abbrev pub AnswerMayStop : Direction → Type 0
 AnswerMayStop (shorter g) = Unit {0}
 AnswerMayStop (longer g) = ⊥
+
+abbrev pub MayStray : Direction → Type 0
+MayStray d = (gain d).strays ≡ true
+
+-- why nothing is found where a place leads
+abbrev pub IsNotFound : Cause → Type 0
+IsNotFound lacks = Unit {0}
+IsNotFound astray = Unit {0}
+IsNotFound _ = ⊥
+
+-- how the text may end where the answer goes on, and the answer where the text does
+abbrev pub TextMayEnd : Direction → Ending → Type 0
+TextMayEnd d running = TextMayStop d
+TextMayEnd d (wrong c) = MayStray d × IsNotFound c
+TextMayEnd d _ = ⊥
+
+abbrev pub AnswerMayEnd : Direction → Ending → Type 0
+AnswerMayEnd d running = AnswerMayStop d
+AnswerMayEnd d (wrong c) = MayStray d × IsNotFound c
+AnswerMayEnd d _ = ⊥

@@ -142,9 +142,6 @@ module _ {K : Known} {A : Types} where
   pub own_asks : (n : Node) (o : Op) (xs : List Subject) → Asks K A (NoPlace n.site) (rules.own n o xs)
   own_asks n o xs = then_second (quiet n _ _ _) (value_asks n n.site)
 
-  pub assignable_u : (n : Node) (w : Bool) (x : Use) (ps : List Passing) → U K A (rules.assignable_at n w x ps)
-  assignable_u n w x ps = when_u (not w) _ (quiet n _ _ _)
-
   pub borrowed_asks : (n : Node) (m : Bool) (e : Node) (x : Use) (ps : List Passing) → Asks K A (NoPlace n.site) (rules.borrowed n m e x ps)
   borrowed_asks n m e x ps = then_second (quiet n _ _ _) (then_second (quiet n _ _ _) (then_second (when_u m _ (quiet n _ _ _)) (value_asks n n.site)))
 

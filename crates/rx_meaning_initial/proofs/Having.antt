@@ -23,7 +23,7 @@ use Rattle.rx_lower_walks.specs.Matching.{PartTest, Binding, tests, tests_in, ta
 use Rattle.rx_lower_walks.specs.Actions.{Act, Declare, Dead, Read, Write, Borrow, Test, Call, Build, Input, Print, Give, in_place, in_temporary}
 use Rattle.rx_lower_walks.specs.Actions as actions
 use Rattle.rx_lower_walks.specs.Orders as order
-use Rattle.rx_lower_walks.specs.Walks.{IsWalk}
+use Rattle.rx_lower_walks.specs.Walks.{actions_in, Among, IsWalk}
 use Rattle.rx_lower_walks.specs.Orders.{Order, order_all, order_scrutinee, order_arms, order_body, order_function, testing, binding, declaring, beginning}
 use Rattle.rx_typed_declarations.specs.Sizes.{Sized}
 use Rattle.rx_facts_parts.specs.Places.{Frame}
@@ -38,18 +38,22 @@ use Rattle.rx_typeck_solver.specs.declared.facts.Demand.{Demand}
 use Rattle.rx_typeck_solver.specs.Facts.{MeetsAll, Types, Known, coerced, field_of, part_of, pointee, names_of, exactly, MeetsEach}
 use Rattle.rx_typeck_rules.specs.Asking.{Asking, asks}
 use Rattle.rx_typeck_rules.specs.Demands as rules
-use Rattle.rx_hoist_words.proofs.Claims.{Claims, OfPattern, OfPatterns, OfFieldPatterns, IsPlaced, OfExp, OfExps, OfElse, OfFields, OfArms, OfBody, OfStatement, OfStatements, OfParameters, OfFunction}
+use Rattle.rx_hoist_words.proofs.Claims.{Claims, OfPattern, OfPatterns, OfFieldPatterns, IsPlaced, OfParameters}
 use Rattle.rx_facts_init.specs.Setting.{looked_at}
 use Rattle.rx_facts_init.specs.Wholes.{placed}
 use Rattle.rx_meaning_keeping.specs.Ready.{HasPart, Ready}
-use Rattle.rx_meaning_initial.proofs.Holding.{Holds, of_walk}
+use Rattle.rx_meaning_initial.proofs.Holding.{Holds, of_walk, of_among}
+use Rattle.rx_exits_marks.specs.Unmarked.{makes_mark, is_mark}
+use Rattle.rx_exits_marks.specs.Coming.{HasNoMark}
 use Rattle.rx_meaning_initial.proofs.Making as making
 use Rattle.rx_meaning_initial.proofs.Making.{Has, Complete, Makes}
 use Rattle.rx_meaning_initial.proofs.Placed as placing
 use Rattle.rx_meaning_initial.proofs.Facts.{CallFits, call_fits, arguments_count, some_same, fixed_same, item_of, same_if_plain, fields_complete, operands_complete, every_both, NamedApart}
-use Rattle.rx_meaning_initial.proofs.Asking.{value_asks, Asks, NoPlace, no_if_place, asks_map, none, both, then_first, then_second, then_u, one_asked, quiet, whole_type_u, refused, never_asks, join_asks, own_asks, assignable_u, borrowed_asks, bound_u, literal_u, before_u, after_u, tested_u, printed_u, unit_u, not_never_u, operation_asks, updated_u, negated_asks, inverted_asks, given_u, returns_u, branch_before_u, branch_after_asks, if_joins_asks, one_variable_u, evaluated_u, tail_before_u, tail_after_u, loop_asks, each_before_u, each_after_u, integer_asks, never_given_u, parameters_u, result_u}
+use Rattle.rx_meaning_initial.proofs.Uses.{UsedExp, UsedExps, UsedElse, UsedFields, UsedArms, UsedBody, UsedStatement, UsedStatements, UsedFunction}
+use Rattle.rx_meaning_initial.proofs.Writing.{PartFits, whole_fits, assignable_asks, written_fits}
+use Rattle.rx_meaning_initial.proofs.Asking.{value_asks, Asks, NoPlace, no_if_place, asks_map, none, both, then_first, then_second, then_u, one_asked, quiet, whole_type_u, refused, never_asks, join_asks, own_asks, borrowed_asks, bound_u, literal_u, before_u, after_u, tested_u, printed_u, unit_u, not_never_u, operation_asks, updated_u, negated_asks, inverted_asks, given_u, returns_u, branch_before_u, branch_after_asks, if_joins_asks, one_variable_u, evaluated_u, tail_before_u, tail_after_u, loop_asks, each_before_u, each_after_u, integer_asks, never_given_u, parameters_u, result_u}
 
-module _ (C : Claims) (K : Known) (A : Types) (P : ℕ → ℕ) (ts : List (Option Typ)) (Z : Sized K.items P) (apart : (i : ℕ) → NamedApart (fields_declared (slice_get K.items i)))
+module _ (C : Claims) (M : ℕ → Type 0) (K : Known) (A : Types) (P : ℕ → ℕ) (ts : List (Option Typ)) (Z : Sized K.items P) (apart : (i : ℕ) → NamedApart (fields_declared (slice_get K.items i)))
     (variables : (x : ℕ) → C.variable x → slice_get ts x ≡ Some (Some (A (subject.Variable x)))) where
   abbrev pub T : Assigned
   T = record { items = K.items; typ = λ n. A (subject.Node n); expected = λ n. A (subject.Expected n) }
@@ -70,8 +74,9 @@ module _ (C : Claims) (K : Known) (A : Types) (P : ℕ → ℕ) (ts : List (Opti
   Able (Read m p d) = Looked p
   Able (Borrow k p d) = Looked p
   Able (Test p c) = Looked p
-  Able (Build m js ts d) = Makes m js ts
+  Able (Build m js ts d) = Makes m js ts × (makes_mark m js ts ≡ false)
   Able (Call g ts d) = CallFits K.items g ts
+  Able (Write p t ss) = PartFits M p
   Able _ = Unit {0}
 
   abbrev pub H : Order → Type 0
@@ -108,7 +113,7 @@ module _ (C : Claims) (K : Known) (A : Types) (P : ℕ → ℕ) (ts : List (Opti
   -- ---- variables and places
 
   has : (x : ℕ) → C.variable x → HasPart F x []
-  has x h = placing.looked F Z (tree.own x) (A (subject.Variable x)) (placing.variable_is F Z x (A (subject.Variable x)) (variables x h)) x [] refl refl
+  has x h = placing.looked F Z (tree.own x) (A (subject.Variable x)) (placing.variable_is F Z x (A (subject.Variable x)) (variables x h)) x [] refl
 
   looks : (p : Place) (t : Typ) → At p t → Looked p
   looks p t h = placing.looked F Z p t h
@@ -117,7 +122,7 @@ module _ (C : Claims) (K : Known) (A : Types) (P : ℕ → ℕ) (ts : List (Opti
   held_looks t ss = placing.nowhere_looked F Z (tree.under (tree.held t) ss) t refl
 
   stays : (p : Place) (t : Typ) → At p t → At (tree.under p []) t
-  stays p t h = placing.goes F Z p [] t t h (λ b n. refl)
+  stays p t h = placing.goes F Z p [] t t h (placing.leads F Z [] t t (λ n. refl))
 
   part_step : (p : Place) (t : Typ) (k : ℕ) (u : Typ) → At p t → part_of k t ≡ Some u → At (tree.under p (step.Field k ∷ [])) u
   part_step p (integer k) i u h e = absurd (cc)
@@ -317,7 +322,7 @@ module _ (C : Claims) (K : Known) (A : Types) (P : ℕ → ℕ) (ts : List (Opti
 
   binding_holds : (S : actions.Subject) (bs : List Binding) (n : ℕ) (rest : Order) → Every (BindingFine S) bs → H rest → H (binding S bs n rest)
   binding_holds S [] n rest h g = g
-  binding_holds S (b ∷ bs) n rest h g = (perhaps_holds S b h.0.1 b.mode refl, (h.0.0, (tt, (h.0.0, binding_holds S bs n rest h.1 g))))
+  binding_holds S (b ∷ bs) n rest h g = (perhaps_holds S b h.0.1 b.mode refl, (h.0.0, (whole_fits M (tree.own b.variable) refl, (h.0.0, binding_holds S bs n rest h.1 g))))
 
   declaring_holds : (s : ℕ) (xs : List ℕ) (n : ℕ) (rest : Order) → Every (λ (x : ℕ). HasPart F x []) xs → H rest → H (declaring s xs n rest)
   declaring_holds s [] n rest h g = g
@@ -358,8 +363,8 @@ module _ (C : Claims) (K : Known) (A : Types) (P : ℕ → ℕ) (ts : List (Opti
   passes_on n elaborated.reborrow x h d = h d
   passes_on n elaborated.share x h d = (h (tree.temporary_at n.number 1), held_looks (tree.temporary_at n.number 1) (step.Deref true ∷ []))
 
-  simple : (m : tree.Making) (js : List ℕ) (ts : List Temporary) → making.IsSimple m → Makes m js ts
-  simple m js ts s = making.simple_makes m js ts s
+  simple : (m : tree.Making) (js : List ℕ) (ts : List Temporary) → making.IsSimple m → Makes m js ts × (makes_mark m js ts ≡ false)
+  simple m js ts s = (making.simple_makes m js ts s, making.simple_no_mark m js ts s)
 
   two : (n : Node) (o : BinaryOp) (a b : tree.Exp) → Whole a → Whole b → Whole (tree.build (elaborated.mark T n) (tree.operation o) (tree.operand_and 0 a (tree.operand_and 1 b tree.no_operand)))
   two n o a b g h d = ((g (temporary_of a), (h (temporary_of b), tt)), simple (tree.operation o) (0 ∷ 1 ∷ []) (temporary_of a ∷ temporary_of b ∷ []) tt)
@@ -384,7 +389,7 @@ module _ (C : Claims) (K : Known) (A : Types) (P : ℕ → ℕ) (ts : List (Opti
 
   tuples : (n : Node) (es : tree.Operands) → Complete (fields_of es) → H (order_all es) → Whole (elaborated.tuple_of T n es)
   tuples n tree.no_operand c h d = tt
-  tuples n (tree.operand_and i e es) c h d = (h, making.tuple_makes (fields_of (tree.operand_and i e es)) (temporaries_of (tree.operand_and i e es)) c (making.as_many (tree.operand_and i e es)))
+  tuples n (tree.operand_and i e es) c h d = (h, (making.tuple_makes (fields_of (tree.operand_and i e es)) (temporaries_of (tree.operand_and i e es)) c (making.as_many (tree.operand_and i e es)), refl))
 
   one : (m : tree.Mark) (w : tree.Making) (e : tree.Exp) → making.IsSimple w → Whole e → Whole (tree.build m w (elaborated.one_operand e))
   one m w e s h d = ((h (temporary_of e), tt), simple w _ _ s)
@@ -501,22 +506,22 @@ module _ (C : Claims) (K : Known) (A : Types) (P : ℕ → ℕ) (ts : List (Opti
   calls g n es c r = call_fits K.items g (rules.argument_count es) (A (subject.Node n.number)) (temporaries_of (elaborated.operands T 0 es)) c r.0 (arguments_count T 0 es)
 
   made_of : (n : Node) (i : ℕ) (fs : Fields) → exactly (names_of (fields_declared (slice_get K.items i))) (rules.names_given fs) ≡ true → H (order_all (elaborated.fields T i fs)) → Whole (tree.build (elaborated.mark T n) (tree.struct i) (elaborated.fields T i fs))
-  made_of n i fs e h d = (h, making.struct_makes i (fields_of (elaborated.fields T i fs)) (temporaries_of (elaborated.fields T i fs)) (fields_complete T i fs (apart i) e) (making.as_many (elaborated.fields T i fs)))
+  made_of n i fs e h d = (h, (making.struct_makes i (fields_of (elaborated.fields T i fs)) (temporaries_of (elaborated.fields T i fs)) (fields_complete T i fs (apart i) e) (making.as_many (elaborated.fields T i fs)), refl))
 
   varied : (n : Node) (i v : ℕ) (es : Exps) → H (order_all (elaborated.operands T 0 es)) → Whole (tree.build (elaborated.mark T n) (tree.variant_of i v) (elaborated.operands T 0 es))
-  varied n i v es h d = (h, making.variant_makes i v (fields_of (elaborated.operands T 0 es)) (temporaries_of (elaborated.operands T 0 es)) (operands_complete T es) (making.as_many (elaborated.operands T 0 es)))
+  varied n i v es h d = (h, (making.variant_makes i v (fields_of (elaborated.operands T 0 es)) (temporaries_of (elaborated.operands T 0 es)) (operands_complete T es) (making.as_many (elaborated.operands T 0 es)), refl))
 
-  updates : (n : Node) (o : BinaryOp) (p : Place) (e : tree.Exp) (t : Typ) → At p t → Whole e → Whole (tree.update (elaborated.mark T n) o p e)
-  updates n o p e t h g d = (g (temporary_of e), (looks p t h, (simple (tree.operation o) [] _ tt, tt)))
+  updates : (n : Node) (o : BinaryOp) (p : Place) (e : tree.Exp) (t : Typ) → At p t → PartFits M p → Whole e → Whole (tree.update (elaborated.mark T n) o p e)
+  updates n o p e t h w g d = (g (temporary_of e), (looks p t h, (simple (tree.operation o) [] _ tt, w)))
 
   mutual
-    exp_asks : (f : ℕ) (e : Exp) → OfExp C e → Wants (Gives e) (rules.of_exp f e)
+    exp_asks : (f : ℕ) (e : Exp) → UsedExp C M e → Wants (Gives e) (rules.of_exp f e)
     exp_asks f (named.int n m v k) h = asks_map (λ p. no_place (named.int n m v k) refl p (λ d. (tt, simple (tree.constant (tree.whole_number (elaborated.kind_in (A (subject.Node n.number))) (pos v))) [] [] tt))) (integer_asks n m v k)
     exp_asks f (named.bool n b) h = asks_map (λ p. no_place (named.bool n b) refl p (λ d. (tt, simple (tree.constant (tree.truth b)) [] [] tt))) (own_asks n op.Truth [])
     exp_asks f (named.tuple n es) h =
         asks_map (λ g. no_place (named.tuple n es) refl g.1.0 (tuples n (elaborated.operands T 0 es) (operands_complete T es) g.0))
         (both (each_asks f rules.members 0 es h) (both (own_asks n op.Tuple _) (quiet n _ _ _)))
-    exp_asks f (named.var n x) h = asks_map (λ g. a_place (named.var n x) n refl refl refl (variable_at n x h g.0) g.1) (both (named_asks n x x.known) (place_asks n _ _ n.site))
+    exp_asks f (named.var n x) h = asks_map (λ g. a_place (named.var n x) n refl refl refl (variable_at n x h.0 g.0) g.1) (both (named_asks n x x.known) (place_asks n _ _ n.site))
     exp_asks f (named.field n e x) h =
         asks_map (λ g. a_place (named.field n e x) n refl refl refl
         (peeled_step (elaborated.place T e) (A (subject.Node (node_of e).number)) _ (A (subject.Node n.number)) (root_of e h.1 g.0) (λ q. field_step (tree.under (elaborated.place T e) (elaborated.dereferences (A (subject.Node (node_of e).number)))) (peeled (A (subject.Node (node_of e).number))) x (A (subject.Node n.number)) q g.1.0.0)) g.1.1)
@@ -537,14 +542,15 @@ module _ (C : Claims) (K : Known) (A : Types) (P : ℕ → ℕ) (ts : List (Opti
         asks_map (λ g. no_place (named.binary n o a b) refl g.1.1 (operates n o (elaborated.value T a) (elaborated.value T b) g.0.value g.1.0.value))
         (both (exp_asks f a h.0) (both (exp_asks f b h.1) (operation_asks o n (node_of a) (never a) (node_of b) (never b))))
     exp_asks f (named.assign n p e) h =
-        asks_map (λ g. no_place (named.assign n p e) refl g.1.1.1 (λ d. (g.1.1.0.value (temporary_of (elaborated.value T e)), tt)))
-        (both (exp_asks f p h.0.0) (both (quiet (node_of e) _ _ _) (both (exp_asks f e h.1) (then_second (assignable_u n (is_variable p) (root p) _) (own_asks n op.Unit [])))))
+        asks_map (λ g. no_place (named.assign n p e) refl g.1.1.1.1 (λ d. (g.1.1.0.value (temporary_of (elaborated.value T e)), written_fits K A C M p h.0.0 g.1.1.1.0)))
+        (both (exp_asks f p h.0.0) (both (quiet (node_of e) _ _ _) (both (exp_asks f e h.1) (both (assignable_asks K A n (is_variable p) (root p) (rules.through p)) (own_asks n op.Unit [])))))
     exp_asks f (named.gives n p x d e) h =
-        asks_map (λ g. no_place (named.gives n p x d e) refl g.1 (λ d. (g.0.value (temporary_of (elaborated.value T e)), tt)))
+        asks_map (λ g. no_place (named.gives n p x d e) refl g.1 (λ d. (g.0.value (temporary_of (elaborated.value T e)), whole_fits M (tree.own x.number) refl)))
         (both (exp_asks f e h.1) (then_second (given_u n p x d (node_of e) (never e)) (own_asks n op.Unit [])))
     exp_asks f (named.update n o p e) h =
-        asks_map (λ g. no_place (named.update n o p e) refl g.1.1 (updates n (elaborated.operator o) (elaborated.place T p) (elaborated.value T e) (A (subject.Node (node_of p).number)) (root_of p h.0.1 g.0) g.1.0.value))
-        (both (exp_asks f p h.0.0) (both (exp_asks f e h.1) (then_second (updated_u n (node_of p) (never p) (node_of e) (never e)) (then_second (assignable_u n (is_variable p) (root p) _) (own_asks n op.Unit [])))))
+        asks_map (λ g. no_place (named.update n o p e) refl g.1.1.1 (updates n (elaborated.operator o) (elaborated.place T p) (elaborated.value T e) (A (subject.Node (node_of p).number)) (root_of p h.0.1 g.0)
+        (written_fits K A C M p h.0.0 g.1.1.0) g.1.0.value))
+        (both (exp_asks f p h.0.0) (both (exp_asks f e h.1) (then_second (updated_u n (node_of p) (never p) (node_of e) (never e)) (both (assignable_asks K A n (is_variable p) (root p) (rules.through p)) (own_asks n op.Unit [])))))
     exp_asks f (named.call n g es) h =
         asks_map (λ x. no_place (named.call n g es) refl x.1.1.1 (passes_on n (elaborated.coercion_at T n) (tree.call (elaborated.mark T n) g (elaborated.operands T 0 es)) (λ d. (x.1.0, calls g n es x.0 x.1.1.0))))
         (both (takes_asks n _ g (rules.argument_count es)) (both (each_asks f (rules.parameters g) 0 es h) (both (one_asked n _ _ _) (value_asks n n.site))))
@@ -592,39 +598,39 @@ module _ (C : Claims) (K : Known) (A : Types) (P : ℕ → ℕ) (ts : List (Opti
     exp_asks f (named.return n o) h =
         asks_map (λ g. no_place (named.return n o) refl g.1 (returned_gives n o g.0)) (then_second (returns_u f n o) (both (returned_asks f o h) (never_asks n n.site)))
 
-    each_asks : (f : ℕ) (w : rules.Listed) (k : ℕ) (es : Exps) → OfExps C es → Wants (H (order_all (elaborated.operands T k es))) (rules.of_each f w k es)
+    each_asks : (f : ℕ) (w : rules.Listed) (k : ℕ) (es : Exps) → UsedExps C M es → Wants (H (order_all (elaborated.operands T k es))) (rules.of_each f w k es)
     each_asks f w k named.no_exp h = none
     each_asks f w k (named.exp_and e es) h =
         asks_map (λ g. (g.0.value (temporary_of (elaborated.value T e)), g.1))
         (then_second (each_before_u w k (node_of e)) (both (exp_asks f e h.0) (then_second (each_after_u w e) (each_asks f w (suc k) es h.1))))
 
-    fields_asks : (f i : ℕ) (fs : Fields) → OfFields C fs → Wants (H (order_all (elaborated.fields T i fs))) (rules.of_fields f i fs)
+    fields_asks : (f i : ℕ) (fs : Fields) → UsedFields C M fs → Wants (H (order_all (elaborated.fields T i fs))) (rules.of_fields f i fs)
     fields_asks f i named.no_field h = none
     fields_asks f i (named.field_and x e fs) h =
         asks_map (λ g. (g.0.value (temporary_of (elaborated.value T e)), g.1))
         (then_second (quiet (node_of e) _ _ _) (both (exp_asks f e h.0) (fields_asks f i fs h.1)))
 
-    else_asks : (f : ℕ) (n : Node) (o : Else) → OfElse C o → Wants (GivesElse o) (rules.of_else f n o)
+    else_asks : (f : ℕ) (n : Node) (o : Else) → UsedElse C M o → Wants (GivesElse o) (rules.of_else f n o)
     else_asks f n named.absent h = none
     else_asks f n (named.present e) h = asks_map (λ g. g.value) (then_second (before_u n n.site (node_of e)) (then_first (exp_asks f e h) (after_u n n.site (never e) (node_of e))))
 
-    returned_asks : (f : ℕ) (o : Else) → OfElse C o → Wants (GivesElse o) (rules.of_returned f o)
+    returned_asks : (f : ℕ) (o : Else) → UsedElse C M o → Wants (GivesElse o) (rules.of_returned f o)
     returned_asks f named.absent h = none
     returned_asks f (named.present e) h = asks_map (λ g. g.value) (exp_asks f e h)
 
-    arms_asks : (f : ℕ) (n : Node) (s : rules.Matched) (m : Node) (l : Arms) → OfArms C l → Wants (GivesArms m l) (rules.of_arms f n s m l)
+    arms_asks : (f : ℕ) (n : Node) (s : rules.Matched) (m : Node) (l : Arms) → UsedArms C M l → Wants (GivesArms m l) (rules.of_arms f n s m l)
     arms_asks f n s m named.no_arm h = asks_map (λ _ S g d. tt) none
     arms_asks f n s m (named.arm_and p e l) h =
         asks_map (λ g S k d. (arm S (elaborated.pattern T None p) (elaborated.value T e) d (g.0 S k) g.1.0.value, g.1.1 S k d))
         (both (whole_asks s _ p h.0) (then_second (before_u n n.site (node_of e)) (both (exp_asks f e h.1) (then_second (after_u n n.site (never e) (node_of e)) (arms_asks f n s m l h.2)))))
 
-    pub body_asks : (f : ℕ) (b : Body) → OfBody C b → Wants (GivesBody b) (rules.of_body f b)
+    pub body_asks : (f : ℕ) (b : Body) → UsedBody C M b → Wants (GivesBody b) (rules.of_body f b)
     body_asks f (named.body n ss o) h =
         asks_map (λ g. record { value = g.0 (elaborated.tail T n o) (tail_gives n o g.1) n.number; whole = g.0 (tree.give (elaborated.no_mark n) (elaborated.tail T n o)) (given_tail n o g.1) n.number })
         (both (statements_asks f ss h.0) (then_second (tail_before_u n o) (then_first (returned_asks f o h.1)
         (then_u (tail_after_u n (some_diverges ss) o) (join_asks n (named.tail_never (some_diverges ss) o))))))
 
-    statement_asks : (f : ℕ) (x : Statement) → OfStatement C x → Wants (GivesStatement x) (rules.of_statement f x)
+    statement_asks : (f : ℕ) (x : Statement) → UsedStatement C M x → Wants (GivesStatement x) (rules.of_statement f x)
     statement_asks f (named.declares n p t) h =
         asks_map (λ _ rest r m d. declaring_holds n.number (elaborated.variables p) m (order_body rest m d) (begins p h.0) (r m d)) (declared_u p t h.0)
     statement_asks f (named.lets n p t e) h =
@@ -632,20 +638,20 @@ module _ (C : Claims) (K : Known) (A : Types) (P : ℕ → ℕ) (ts : List (Opti
         (both (typed_before_asks t e) (both (exp_asks f e h.2) (initialised_asks p t e h.0 h.3)))
     statement_asks f (named.evaluates n e s) h = asks_map (λ g rest r m d. (g.value (temporary_of (elaborated.value T e)), r m d)) (then_first (exp_asks f e h) (evaluated_u s (node_of e) (never e)))
 
-    statements_asks : (f : ℕ) (ss : Statements) → OfStatements C ss → Wants (GivesStatements ss) (rules.of_statements f ss)
+    statements_asks : (f : ℕ) (ss : Statements) → UsedStatements C M ss → Wants (GivesStatements ss) (rules.of_statements f ss)
     statements_asks f named.no_statement h = asks_map (λ _ last r m d. r d) none
     statements_asks f (named.statement_and a ss) h = asks_map (λ g last r. g.0 (elaborated.nested T ss last) (g.1 last r)) (both (statement_asks f a h.0) (statements_asks f ss h.1))
 
   -- ---- functions
 
-  function_asks : (f : Function) → OfFunction C f → Wants (GivesBody f.body) (rules.of_function f)
+  function_asks : (f : Function) → UsedFunction C M f → Wants (GivesBody f.body) (rules.of_function f)
   function_asks f h = then_second (parameters_u f.params) (then_second (result_u f.result) (then_second (quiet (body_node f.body) _ _ _) (then_first (body_asks f.item f.body h.body) (never_given_u f.never_given))))
 
   begin_holds : (xs : List Parameter) (n : ℕ) (rest : Order) → OfParameters C xs → H rest → H (beginning (elaborated.parameters xs) n rest)
   begin_holds [] n rest h g = g
-  begin_holds (x ∷ xs) n rest h g = (has x.variable h.0.0, (tt, (has x.variable h.0.0, begin_holds xs n rest h.1 g)))
+  begin_holds (x ∷ xs) n rest h g = (has x.variable h.0.0, (whole_fits M (tree.own x.variable) refl, (has x.variable h.0.0, begin_holds xs n rest h.1 g)))
 
-  pub function_holds : (f : Function) → OfFunction C f → MeetsEach K A (rules.demands f) → H (order_function (elaborated.elaborated T f))
+  pub function_holds : (f : Function) → UsedFunction C M f → MeetsEach K A (rules.demands f) → H (order_function (elaborated.elaborated T f))
   function_holds f h met =
       let x = function_asks f h in
       begin_holds f.params _ _ h.params ((x.gives (subst (λ (l : List Demand). MeetsEach K A l) (x.adds []) met)).whole (temporary_of (elaborated.function_body T f.body)))
@@ -669,9 +675,37 @@ module _ (C : Claims) (K : Known) (A : Types) (P : ℕ → ℕ) (ts : List (Opti
   ready_if f h = record {
     begins = λ w n x is. of_walk Able f h w (actions.does n (Declare x)) is;
     ends = λ w n x is. of_walk Able f h w (actions.does n (Dead x)) is;
-    places = λ w a x ss is e b. seen a.act (placed x ss) (of_walk Able f h w a is) e x ss refl b;
-    makes = λ w n m js ts d is vs v pr s e. of_walk Able f h w (actions.does n (Build m js ts d)) is vs v pr s e;
+    places = λ w a x ss is e b. seen a.act (placed x ss) (of_walk Able f h w a is) e x ss refl;
+    makes = λ w n m js ts d is vs v pr s e. (of_walk Able f h w (actions.does n (Build m js ts d)) is).0 vs v pr s e;
   }
+
+  -- also where it is behind a reference
+  pub places_have_parts : (f : tree.Function) → H (order_function f) → (w : List actions.Action) (a : actions.Action) (x : ℕ) (ss : List Step) → IsWalk f (w ++ a ∷ [])
+      → looked_at a.act ≡ Some (placed x ss) → HasPart F x ss
+  places_have_parts f h w a x ss is e = seen a.act (placed x ss) (of_walk Able f h w a is) e x ss refl
+
+  -- what is built is no tuple of nothing: the unit is no action
+  unmarked : (a : Act) → Able a → is_mark a ≡ false
+  unmarked (Build m js ts d) h = h.1
+  unmarked (Read m q d) h = refl
+  unmarked (Borrow k q d) h = refl
+  unmarked (Test q c) h = refl
+  unmarked (Declare x) h = refl
+  unmarked (Dead x) h = refl
+  unmarked (Write q t ss) h = refl
+  unmarked (Call g ts d) h = refl
+  unmarked (Input d) h = refl
+  unmarked (Print t) h = refl
+  unmarked (Give t) h = refl
+
+  pub no_mark : (f : tree.Function) → H (order_function f) → HasNoMark (order_function f)
+  no_mark f h = record { none = λ a i. unmarked a.act (of_among Able (order_function f) h a i) }
+
+  pub parts_fit : (f : tree.Function) → H (order_function f) → (a : actions.Action) (p : Place) (t : Temporary) (ss : List Step) → Among a (actions_in (order_function f)) → a.act ≡ Write p t ss → PartFits M p
+  parts_fit f h a p t ss i e = subst Able e (of_among Able (order_function f) h a i)
+
+  pub variable_has : (x : ℕ) → C.variable x → HasPart F x []
+  variable_has x h = has x h
 
   pub calls_fit : (f : tree.Function) → H (order_function f) → (w : List actions.Action) (n g : ℕ) (us : List Temporary) (d : Temporary) → IsWalk f (w ++ actions.does n (Call g us d) ∷ []) → CallFits K.items g us
   calls_fit f h w n g us d is = of_walk Able f h w (actions.does n (Call g us d)) is

@@ -4,7 +4,7 @@ use Rattle.rx_tree.specs.Lists.{Every}
 use Rattle.rx_lower_walks.specs.Actions.{Act, Dead, Action, does}
 use Rattle.rx_lower_walks.specs.Orders as order
 use Rattle.rx_lower_walks.specs.Orders.{Order, perhaps, order_function}
-use Rattle.rx_lower_walks.specs.Walks.{Out, Walk, rests, stops, nothing, acts, both, first, one, other, leave, fail, holds, next, ends, jumps, halts, last, more, IsWalk}
+use Rattle.rx_lower_walks.specs.Walks.{actions_in, Among, here, there, Out, Walk, rests, stops, nothing, acts, both, first, one, other, leave, fail, holds, next, ends, jumps, halts, last, more, IsWalk}
 use Rattle.rx_typed.specs.Tree.{Function}
 
 module _ (Q : Act → Type 0) where
@@ -52,3 +52,22 @@ module _ (Q : Act → Type 0) where
 
   pub of_walk : (f : Function) → Holds (order_function f) → (w : List Action) (a : Action) → IsWalk f (w ++ a ∷ []) → Q a.act
   of_walk f k w a h = last_of w a h.0 (held h.2 k)
+
+  -- so also of what no walk comes to
+  one_of : (l m : List Action) (a : Action) → (Among a l → OfAction a) → (Among a m → OfAction a) → Among a (l ++ m) → OfAction a
+  one_of [] m a f g i = g i
+  one_of (b ∷ l) m a f g here = f here
+  one_of (b ∷ l) m a f g (there i) = one_of l m a (λ j. f (there j)) g i
+
+  pub of_among : (s : Order) → Holds s → (a : Action) → Among a (actions_in s) → Q a.act
+  of_among order.nothing h a i = elim i [ ]
+  of_among order.nowhere h a i = elim i [ ]
+  of_among (order.act b) h _ here = h
+  of_among (order.act b) h a (there i) = elim i [ ]
+  of_among (order.then s t) h a i = one_of (actions_in s) (actions_in t) a (of_among s h.0 a) (of_among t h.1 a) i
+  of_among (order.or s t) h a i = one_of (actions_in s) (actions_in t) a (of_among s h.0 a) (of_among t h.1 a) i
+  of_among (order.leave x) h a i = elim i [ ]
+  of_among order.fail h a i = elim i [ ]
+  of_among (order.otherwise s t) h a i = one_of (actions_in s) (actions_in t) a (of_among s h.0 a) (of_among t h.1 a) i
+  of_among (order.ending n x s) h a i = of_among s h.1 a i
+  of_among (order.passes l s) h a i = of_among s h a i

@@ -8,3 +8,7 @@ pub mod Fields
 pub mod Calls
 pub mod Finding
 pub mod Programs
+pub mod Uses
+pub mod Declared
+pub mod Mutable
+pub mod Writing

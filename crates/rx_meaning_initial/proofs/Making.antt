@@ -12,6 +12,7 @@ use Rattle.rx_meaning.specs.Operators as operators
 use Rattle.rx_meaning.specs.Operators.{Computed, is_in, fitting, divided, compute, operate, value_of, for_field, arranged, fields, make}
 use Rattle.rx_meaning_keeping.specs.Pending.{Paired, no_pair, pair_and}
 use Rattle.rx_meaning_keeping.specs.Ready.{AllHere}
+use Rattle.rx_exits_marks.specs.Unmarked.{makes_mark}
 
 -- a list has a number among those up to a length
 pub data Has (i : ℕ) : List ℕ → Type 0 where
@@ -120,6 +121,12 @@ given_set c v h e = subst SetIfGiven e h
 
 pub simple_makes : (m : Making) (js : List ℕ) (ts : List Temporary) → IsSimple m → Makes m js ts
 simple_makes m js ts s vs v p h e = given_set (make m js vs) v (set_simple m js vs s h) e
+
+pub simple_no_mark : (m : Making) (js : List ℕ) (ts : List Temporary) → IsSimple m → makes_mark m js ts ≡ false
+simple_no_mark tuple js ts s = absurd s
+simple_no_mark (struct i) js ts s = absurd s
+simple_no_mark (variant_of i v) js ts s = absurd s
+simple_no_mark _ js ts s = refl
 
 pub tuple_makes : (js : List ℕ) (ts : List Temporary) → Complete js → length js ≡ length ts → Makes tuple js ts
 tuple_makes js ts c l vs v p h e = given_set (make tuple js vs) v (set_fields js ts vs c l p h) e

@@ -1,4 +1,5 @@
--- Places by their types: where the steps of a place lead to what has a type, it has a part.
+-- Places by their types: where the steps of a place lead to what has a type, it has a part. A place behind a dereference is told by the
+-- reference that it goes through first, which has a type too.
 use Rattle.std.proofs.Common.{◌≡◌, ℕ, zero, suc, ◌+◌, ◌<◌, Bool, true, false, nat_le, nat_lt, List, [], ◌∷◌, ◌++◌, Option, Some, None, slice_get, refl, sym, ap, ◌∙◌, subst, append_assoc, arith}
 use Rattle.std.specs.Prelude.{if◌then◌else◌}
 use Rattle.std.specs.Str.{bytes_eq}
@@ -35,6 +36,19 @@ two_ways D P [] b n s h = refl
 two_ways D P (step.Field i ∷ a) b n s h = two_ways D P a b (field_of D P i n s).first (field_of D P i n s).spot h
 two_ways D P (step.Variant v ∷ a) b n s h = two_ways D P a b (variant_of D P v n s).first (variant_of D P v n s).spot h
 two_ways D P (step.Deref m ∷ a) b n s h = absurd (true≢false h)
+
+-- behind a dereference no step leads on
+one_way : (D : Declarations) (P : ℕ → ℕ) (a b : List Step) (n : ℕ) (s : Spot) → is_behind a ≡ true → located D P (a ++ b) n s ≡ located D P a n s
+one_way D P [] b n s h = absurd (true≢false (sym h))
+one_way D P (step.Field i ∷ a) b n s h = one_way D P a b (field_of D P i n s).first (field_of D P i n s).spot h
+one_way D P (step.Variant v ∷ a) b n s h = one_way D P a b (variant_of D P v n s).first (variant_of D P v n s).spot h
+one_way D P (step.Deref m ∷ a) b n s h = refl
+
+behind_too : (a b : List Step) → is_behind a ≡ true → is_behind (a ++ b) ≡ true
+behind_too [] b h = absurd (true≢false (sym h))
+behind_too (step.Field i ∷ a) b h = behind_too a b h
+behind_too (step.Variant v ∷ a) b h = behind_too a b h
+behind_too (step.Deref m ∷ a) b h = refl
 
 -- a field is there
 nth_is : (P : ℕ → ℕ) (ts : List Typ) (i n : ℕ) (u : Typ) → slice_get ts i ≡ Some u → (nth_field P ts i n).spot ≡ whole u
@@ -88,13 +102,17 @@ module _ (F : Frame) (Z : Sized F.declared F.sizes) where
   abbrev P : ℕ → ℕ
   P = F.sizes
 
-  -- a place of a variable, behind no reference, leads to what has this type
+  -- what is there has a type, and this one where no step is a dereference
+  abbrev pub IsSpot : Bool → Spot → Typ → Type 0
+  IsSpot b s t = (u : Typ) × (s ≡ whole u) × (b ≡ false → u ≡ t)
+
+  -- a place of a variable leads to what has a type, to this one if it is behind no reference
   abbrev pub IsAt : Place → Typ → Type 0
-  IsAt p t = (x : ℕ) → p.root ≡ variable x → is_behind p.steps ≡ false → (place_at F p).spot ≡ whole t
+  IsAt p t = (x : ℕ) → p.root ≡ variable x → IsSpot (is_behind p.steps) (place_at F p).spot t
 
   -- it has a part
   abbrev pub Looked : Place → Type 0
-  Looked p = (x : ℕ) (ss : List Step) → p ≡ placed x ss → is_behind ss ≡ false → HasPart F x ss
+  Looked p = (x : ℕ) (ss : List Step) → p ≡ placed x ss → HasPart F x ss
 
   spanned : (l : Located) (t : Typ) → l.spot ≡ whole t → spans P l l.first ≡ true
   spanned l t e =
@@ -102,39 +120,52 @@ module _ (F : Frame) (Z : Sized F.declared F.sizes) where
       and_from (nat_le l.first l.first) (nat_lt l.first (l.first + spot_parts P l.spot)) (le-leb l.first l.first (omega arith)) (lt-ltb l.first (l.first + spot_parts P l.spot) (omega (arith, z, q)))
 
   pub looked : (p : Place) (t : Typ) → IsAt p t → Looked p
-  looked p t h x ss e b =
-      ((place_at F (placed x ss)).first, spanned (place_at F (placed x ss)) t (subst (λ (q : Place). IsAt q t) e h x refl b))
+  looked p t h x ss e =
+      let g = subst (λ (q : Place). IsAt q t) e h x refl in
+      ((place_at F (placed x ss)).first, spanned (place_at F (placed x ss)) g.0 g.1)
 
   pub nowhere_looked : (p : Place) → (t : Temporary) → p.root ≡ temporary t → Looked p
-  nowhere_looked p t h x ss e b = let q : p.root ≡ variable x = ap (λ (r : Place). r.root) e in cc
+  nowhere_looked p t h x ss e = let q : p.root ≡ variable x = ap (λ (r : Place). r.root) e in cc
 
   pub held_is : (t : Temporary) (ss : List Step) (u : Typ) → IsAt (under (held t) ss) u
-  held_is t ss u x e b = cc
+  held_is t ss u x e = cc
 
   -- further steps
-  pub goes : (p : Place) (ss : List Step) (t u : Typ) → IsAt p t → (is_behind ss ≡ false → (n : ℕ) → (located D P ss n (whole t)).spot ≡ whole u) → IsAt (under p ss) u
-  goes p ss t u h g x e b =
-      let r = root_at F p.root in let c = rest_of_behind p.steps ss b in let a = front_of_behind p.steps ss b in
-      ap (λ (l : Located). l.spot) (two_ways D P p.steps ss r.first r.spot a) ∙ ap (λ (s : Spot). (located D P ss (place_at F p).first s).spot) (h x e a) ∙ g c (place_at F p).first
+  abbrev Leads : List Step → Typ → Typ → Type 0
+  Leads ss t u = (n : ℕ) → IsSpot (is_behind ss) (located D P ss n (whole t)).spot u
+
+  further_spot : (b : Bool) (a ss : List Step) (n : ℕ) (s : Spot) (t u : Typ) → is_behind a ≡ b → IsSpot b (located D P a n s).spot t → Leads ss t u → IsSpot (is_behind (a ++ ss)) (located D P (a ++ ss) n s).spot u
+  further_spot true a ss n s t u e h g =
+      (h.0, ap (λ (l : Located). l.spot) (one_way D P a ss n s e) ∙ h.1, λ f. absurd (true≢false (sym (behind_too a ss e) ∙ f)))
+  further_spot false a ss n s t u e h g =
+      let l = located D P a n s in let z = g l.first in
+      (z.0, ap (λ (k : Located). k.spot) (two_ways D P a ss n s e) ∙ (ap (λ (k : Spot). (located D P ss l.first k).spot) (h.1 ∙ ap whole (h.2 refl)) ∙ z.1), λ f. z.2 (rest_of_behind a ss f))
+
+  pub goes : (p : Place) (ss : List Step) (t u : Typ) → IsAt p t → Leads ss t u → IsAt (under p ss) u
+  goes p ss t u h g x e = let r = root_at F p.root in further_spot (is_behind p.steps) p.steps ss r.first r.spot t u refl (h x e) g
+
+  -- to the type itself
+  pub leads : (ss : List Step) (t u : Typ) → ((n : ℕ) → (located D P ss n (whole t)).spot ≡ whole u) → Leads ss t u
+  leads ss t u h n = (u, h n, λ _. refl)
 
   pub peels : (p : Place) (t : Typ) → IsAt p t → IsAt (under p (dereferences t)) (peeled t)
-  peels p (integer k) h = goes p [] (integer k) (integer k) h (λ b n. refl)
-  peels p boolean h = goes p [] boolean boolean h (λ b n. refl)
-  peels p (tuple_of ts) h = goes p [] (tuple_of ts) (tuple_of ts) h (λ b n. refl)
-  peels p (reference m t) h = goes p (dereferences (reference m t)) (reference m t) (peeled t) h (λ b n. absurd (true≢false b))
-  peels p (named i) h = goes p [] (named i) (named i) h (λ b n. refl)
+  peels p (integer k) h = goes p [] (integer k) (integer k) h (leads [] (integer k) (integer k) (λ n. refl))
+  peels p boolean h = goes p [] boolean boolean h (leads [] boolean boolean (λ n. refl))
+  peels p (tuple_of ts) h = goes p [] (tuple_of ts) (tuple_of ts) h (leads [] (tuple_of ts) (tuple_of ts) (λ n. refl))
+  peels p (reference m t) h = goes p (dereferences (reference m t)) (reference m t) (peeled t) h (λ n. (reference m t, refl, λ b. absurd (true≢false b)))
+  peels p (named i) h = goes p [] (named i) (named i) h (leads [] (named i) (named i) (λ n. refl))
 
   pub through : (p : Place) (m : Bool) (ss : List Step) (t u : Typ) → IsAt p t → IsAt (under p (step.Deref m ∷ ss)) u
-  through p m ss t u h = goes p (step.Deref m ∷ ss) t u h (λ b n. absurd (true≢false b))
+  through p m ss t u h = goes p (step.Deref m ∷ ss) t u h (λ n. (t, refl, λ b. absurd (true≢false b)))
 
   pub at_field : (p : Place) (i : ℕ) (x : List ℕ) (u : Typ) → IsAt p (named i) → field_typ (fields_declared (slice_get D i)) x ≡ Some u → IsAt (under p (step.Field (field_in D (named i) x) ∷ [])) u
-  at_field p i x u h e = goes p _ (named i) u h (λ b n. field_is P (fields_declared (slice_get D i)) x n u e)
+  at_field p i x u h e = goes p (step.Field (field_in D (named i) x) ∷ []) (named i) u h (leads (step.Field (field_in D (named i) x) ∷ []) (named i) u (λ n. field_is P (fields_declared (slice_get D i)) x n u e))
 
   pub at_part : (p : Place) (ts : Shapes Kind) (k : ℕ) (u : Typ) → IsAt p (tuple_of ts) → slice_get (shapes_listed ts) k ≡ Some u → IsAt (under p (step.Field k ∷ [])) u
-  at_part p ts k u h e = goes p _ (tuple_of ts) u h (λ b n. nth_is P (shapes_listed ts) k n u e)
+  at_part p ts k u h e = goes p (step.Field k ∷ []) (tuple_of ts) u h (leads (step.Field k ∷ []) (tuple_of ts) u (λ n. nth_is P (shapes_listed ts) k n u e))
 
   pub at_variant : (p : Place) (i v k : ℕ) (u : Typ) → IsAt p (named i) → slice_get (variant_parts D i v) k ≡ Some u → IsAt (under p (step.Variant v ∷ step.Field k ∷ [])) u
-  at_variant p i v k u h e = goes p _ (named i) u h (λ b n. part_is P (variants_declared (slice_get D i)) v k (suc n) u e D)
+  at_variant p i v k u h e = goes p (step.Variant v ∷ step.Field k ∷ []) (named i) u h (leads (step.Variant v ∷ step.Field k ∷ []) (named i) u (λ n. part_is P (variants_declared (slice_get D i)) v k (suc n) u e D))
 
   -- of a variable with a type
   nth_variable_is : (ts : List (Option Typ)) (x n : ℕ) (t : Typ) → slice_get ts x ≡ Some (Some t) → (nth_variable P ts x n).spot ≡ whole t
@@ -144,7 +175,7 @@ module _ (F : Frame) (Z : Sized F.declared F.sizes) where
   nth_variable_is (a ∷ ts) (suc x) n t e = nth_variable_is ts x (n + spot_parts P (typed_spot a)) t e
 
   pub variable_is : (x : ℕ) (t : Typ) → slice_get F.types x ≡ Some (Some t) → IsAt (own x) t
-  variable_is x t e y q b = nth_variable_is F.types x 0 t e
+  variable_is x t e y q = (t, nth_variable_is F.types x 0 t e, λ _. refl)
 
   -- the same steps put together otherwise
   pub regrouped : (p : Place) (a b : List Step) (t : Typ) → IsAt (under (under p a) b) t → IsAt (under p (a ++ b)) t

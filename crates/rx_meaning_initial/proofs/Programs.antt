@@ -13,14 +13,14 @@ use Rattle.rx_typed.specs.Types.{Typ, Declarations}
 use Rattle.rx_typed.specs.PlainTypes.{plain-Ty, declarations}
 use Rattle.rx_typed.specs.Naming.{function_named, function_variables}
 use Rattle.rx_typed.specs.Elaborated.{Assigned, elaborated}
-use Rattle.rx_typed.specs.Tree.{Temporary, Function, temporary_of}
+use Rattle.rx_typed.specs.Tree.{Place, variable, Temporary, Function, temporary_of}
 use Rattle.rx_typed_tree.specs.PlainTree.{plain-TypedTree}
 use Rattle.rx_typed_declarations.specs.WellFormed.{WellSigned}
 use Rattle.rx_typed_declarations.specs.Sizes.{Sized, told}
 use Rattle.rx_typed_declarations.proofs.Polarities.{same_declared}
 use Rattle.rx_lower.specs.Functions.{trimmed, trimmed_and}
-use Rattle.rx_lower_walks.specs.Actions.{Call, Action, does}
-use Rattle.rx_lower_walks.specs.Walks.{Among, here, there, IsWalk}
+use Rattle.rx_lower_walks.specs.Actions.{Call, Write, Action, does}
+use Rattle.rx_lower_walks.specs.Walks.{actions_in, Among, here, there, IsWalk}
 use Rattle.rx_facts_init.specs.Initialised.{Initialised}
 use Rattle.rx_facts.specs.Passing.{AllAre}
 use Rattle.rx_facts.specs.Functions.{frame_of, IsInitialised}
@@ -35,13 +35,22 @@ use Rattle.rx_meaning.specs.Values.{element}
 use Rattle.rx_machine.specs.Functions.{is_function, first_of, behind, typed_functions}
 use Rattle.rx_meaning_keeping.specs.Formed.{Any, Formed, AllFormed}
 use Rattle.rx_meaning_keeping.specs.Keeping.{IsFunction}
-use Rattle.rx_meaning_keeping.specs.Ready.{Ready, IsInitial}
+use Rattle.rx_meaning_keeping.specs.Ready.{HasPart, Ready, IsInitial}
+use Rattle.rx_core.specs.declared.types.Step.{Step}
+use Rattle.rx_lower_walks.specs.Orders.{order_function}
+use Rattle.rx_facts_parts.specs.Places.{Frame}
+use Rattle.rx_facts_init.specs.Setting.{is_behind, looked_at}
+use Rattle.rx_facts_init.specs.Wholes.{is_all, placed}
+use Rattle.rx_exits_marks.specs.Coming.{HasNoMark}
 use Rattle.rx_hoist_words.proofs.Declaring.{of_program}
 use Rattle.rx_hoist_words.proofs.Programs as words
 use Rattle.rx_hoist_words.proofs.Programs.{same_typ}
 use Rattle.rx_meaning_initial.specs.Frames.{next_of, functions_at, frame_by, mutable_by, frames, mutables}
 use Rattle.rx_meaning_initial.proofs.Facts.{CallFits}
-use Rattle.rx_meaning_initial.proofs.Having.{function_holds, ready_if, calls_fit}
+use Rattle.rx_meaning_initial.proofs.Having.{function_holds, ready_if, calls_fit, places_have_parts, no_mark, variable_has, parts_fit}
+use Rattle.rx_meaning_initial.proofs.Uses.{both_function}
+use Rattle.rx_meaning_initial.proofs.Declared.{IsMutable, listed_mutable}
+use Rattle.rx_meaning_initial.proofs.Mutable.{uses_fit}
 use Rattle.rx_meaning_initial.proofs.Fields.{fields_apart}
 use Rattle.rx_meaning_initial.proofs.Calls.{called_is}
 
@@ -105,14 +114,58 @@ module _ (p : ProgramTree) (ns : List ItemNames) (t : Typed) (few : IsNumbered p
       let N = length x.table.vars in
       let F = function_named x.number x.span x.function x.table.names in
       let A = x.checked.types in
+      let M = IsMutable (function_variables x.span x.function x.table.names) in
+      let claims = both_function (of_program K.items N) M F x.taken.claims (uses_fit x.number x.span x.function x.table.names) in
       let ts = map (option_map plain-Ty) (trimmed g.variables) in
       let apart = fields_apart p ns typed.declared meant typed.declares.items in
       let vars = variable_typed g a x.number x.span x.function x.table.names x.table.vars x.checked x.taken.variables in
       subst (λ (f : Function). Ready (frame_of (declarations typed.declared) P g) f) (sym x.checked.tree)
-      (ready_if (of_program K.items N) K A P ts Z apart vars (elaborated (assigned K A) F) (function_holds (of_program K.items N) K A P ts Z apart vars F x.taken.claims x.checked.valid.prefers.typed))
+      (ready_if (of_program K.items N) M K A P ts Z apart vars (elaborated (assigned K A) F) (function_holds (of_program K.items N) M K A P ts Z apart vars F claims x.checked.valid.prefers.typed))
 
   pub functions_ready : (P : ℕ → ℕ) → Sized (declarations t.decls.items) P → (g : TypedFn) → Among g t.functions → Ready (frame_of (declarations t.decls.items) P g) (plain-TypedTree g.tree)
   functions_ready P Z g a = subst (λ (D : Declarations). Ready (frame_of D P g) (plain-TypedTree g.tree)) (sym same) (ready_here P (subst (λ (D : Declarations). Sized D P) same Z) g a)
+
+  -- places behind references have parts too, variables have some, and no action is a mark
+  pub record Standing (F : Frame) (muts : List Bool) (f : Function) : Type 0 where
+    pub places : (w : List Action) (a : Action) (x : ℕ) (ss : List Step) → IsWalk f (w ++ a ∷ []) → looked_at a.act ≡ Some (placed x ss) → HasPart F x ss
+    pub variables : (x : ℕ) → x < length muts → HasPart F x []
+    pub unmarked : HasNoMark (order_function f)
+    pub writes : (a : Action) (p : Place) (t : Temporary) (ss : List Step) → Among a (actions_in (order_function f)) → a.act ≡ Write p t ss
+        → (x : ℕ) → p.root ≡ variable x → is_behind p.steps ≡ false → is_all p.steps ≡ false → slice_get muts x ≡ Some true
+
+  abbrev StandingOf : Declarations → (ℕ → ℕ) → TypedFn → Type 0
+  StandingOf D P g = Standing (frame_of D P g) g.mutable (plain-TypedTree g.tree)
+
+  standing_here : (P : ℕ → ℕ) → Sized (declarations typed.declared) P → (g : TypedFn) → Among g t.functions → StandingOf (declarations typed.declared) P g
+  standing_here P Z g a =
+      let x = words.text p ns t few meant typed signed sized g a in
+      let N = length x.table.vars in
+      let F = function_named x.number x.span x.function x.table.names in
+      let A = x.checked.types in
+      let M = IsMutable (function_variables x.span x.function x.table.names) in
+      let claims = both_function (of_program K.items N) M F x.taken.claims (uses_fit x.number x.span x.function x.table.names) in
+      let ts = map (option_map plain-Ty) (trimmed g.variables) in
+      let apart = fields_apart p ns typed.declared meant typed.declares.items in
+      let vars = variable_typed g a x.number x.span x.function x.table.names x.table.vars x.checked x.taken.variables in
+      let h = function_holds (of_program K.items N) M K A P ts Z apart vars F claims x.checked.valid.prefers.typed in
+      let size : length g.mutable ≡ N = ap (λ (l : List Bool). length l) x.checked.mutable ∙ length-map (function_variables x.span x.function x.table.names) is_mutable ∙ x.taken.variables in
+      subst (λ (f : Function). Standing (frame_of (declarations typed.declared) P g) g.mutable f) (sym x.checked.tree) (record {
+        places = places_have_parts (of_program K.items N) M K A P ts Z apart vars (elaborated (assigned K A) F) h;
+        variables = λ y l. variable_has (of_program K.items N) M K A P ts Z apart vars y (omega (arith, l, size));
+        writes = λ a q u us i e y r b w. ap (λ (l : List Bool). slice_get l y) x.checked.mutable ∙ listed_mutable (function_variables x.span x.function x.table.names) y
+            (parts_fit (of_program K.items N) M K A P ts Z apart vars (elaborated (assigned K A) F) h a q u us i e y r b w);
+        unmarked = no_mark (of_program K.items N) M K A P ts Z apart vars (elaborated (assigned K A) F) h;
+      })
+
+  pub functions_stand : (P : ℕ → ℕ) → Sized (declarations t.decls.items) P → (g : TypedFn) → Among g t.functions → StandingOf (declarations t.decls.items) P g
+  functions_stand P Z g a = subst (λ (D : Declarations). StandingOf D P g) (sym same) (standing_here P (subst (λ (D : Declarations). Sized D P) same Z) g a)
+
+  pub writes_here : (g : TypedFn) → Among g t.functions → (a : Action) (q : Place) (u : Temporary) (us : List Step) → Among a (actions_in (order_function (plain-TypedTree g.tree))) → a.act ≡ Write q u us
+      → (x : ℕ) → q.root ≡ variable x → is_behind q.steps ≡ false → is_all q.steps ≡ false → slice_get g.mutable x ≡ Some true
+  writes_here g a = (standing_here (told typed.sizes) sized g a).writes
+
+  pub unmarked_here : (g : TypedFn) → Among g t.functions → HasNoMark (order_function (plain-TypedTree g.tree))
+  unmarked_here g a = (standing_here (told typed.sizes) sized g a).unmarked
 
   -- what it calls is declared as a function, with as many parameters as arguments
   calls_here : (g : TypedFn) → Among g t.functions → (w : List Action) (n h : ℕ) (us : List Temporary) (d : Temporary) → IsWalk (plain-TypedTree g.tree) (w ++ does n (Call h us d) ∷ []) → CallFits K.items h us
@@ -121,11 +174,13 @@ module _ (p : ProgramTree) (ns : List ItemNames) (t : Typed) (few : IsNumbered p
       let N = length x.table.vars in
       let F = function_named x.number x.span x.function x.table.names in
       let A = x.checked.types in
+      let M = IsMutable (function_variables x.span x.function x.table.names) in
+      let claims = both_function (of_program K.items N) M F x.taken.claims (uses_fit x.number x.span x.function x.table.names) in
       let ts = map (option_map plain-Ty) (trimmed g.variables) in
       let apart = fields_apart p ns typed.declared meant typed.declares.items in
       let vars = variable_typed g a x.number x.span x.function x.table.names x.table.vars x.checked x.taken.variables in
       subst (λ (f : Function). (w : List Action) (n h : ℕ) (us : List Temporary) (d : Temporary) → IsWalk f (w ++ does n (Call h us d) ∷ []) → CallFits K.items h us) (sym x.checked.tree)
-      (calls_fit (of_program K.items N) K A (told typed.sizes) ts sized apart vars (elaborated (assigned K A) F) (function_holds (of_program K.items N) K A (told typed.sizes) ts sized apart vars F x.taken.claims x.checked.valid.prefers.typed))
+      (calls_fit (of_program K.items N) M K A (told typed.sizes) ts sized apart vars (elaborated (assigned K A) F) (function_holds (of_program K.items N) M K A (told typed.sizes) ts sized apart vars F claims x.checked.valid.prefers.typed))
 
   pub functions_call : (g : TypedFn) → Among g t.functions → (w : List Action) (n h : ℕ) (us : List Temporary) (d : Temporary) → IsWalk (plain-TypedTree g.tree) (w ++ does n (Call h us d) ∷ [])
       → (G : Function) × IsFunction (typed_functions (declarations t.decls.items) t.functions) h G × (length us ≡ length G.params)

@@ -1,20 +1,25 @@
 //! Laws, each the contract of a function that does nothing.
 
-ghost use Rattle.std.specs.Prelude.{◌≡◌, ℕ, ℤ, suc, List as ListOf, [], ◌∷◌, ◌++◌, length};
+ghost use Rattle.std.specs.Prelude.{◌≡◌, ◌<◌, ℕ, ℤ, suc, List as ListOf, [], ◌∷◌, ◌++◌, length, true, false, Some, slice_get};
+ghost use Rattle.rx_core.specs.declared.types.Step.{Step};
 ghost use Rattle.rx_tree.specs.Plain.{ProgramTree};
 ghost use Rattle.rx_tree.specs.Size.{IsNumbered};
 ghost use Rattle.rx_resolve_names.specs.declared.resolved.ItemNames.{ItemNames};
 ghost use Rattle.rx_resolve_names.specs.Causes.{Meant};
-ghost use Rattle.rx_typed.specs.Tree.{Temporary, Function};
+ghost use Rattle.rx_typed.specs.Tree.{Place, variable, Temporary, Function};
 ghost use Rattle.rx_typed.specs.PlainTypes.{declarations};
 ghost use Rattle.rx_typed_tree.specs.PlainTree.{plain-TypedTree};
 ghost use Rattle.rx_typed_declarations.specs.Sizes.{Sized};
 ghost use Rattle.rx_typeck_typed.specs.declared.typed.Typed.{Typed};
 ghost use Rattle.rx_typeck_typed.specs.declared.typed.TypedFn.{TypedFn};
 ghost use Rattle.rx_typeck_typed.specs.Typing.{IsTyped};
-ghost use Rattle.rx_lower_walks.specs.Actions.{Call, Action, does};
-ghost use Rattle.rx_lower_walks.specs.Walks.{Among, IsWalk};
+ghost use Rattle.rx_lower_walks.specs.Actions.{Call, Write, Action, does};
+ghost use Rattle.rx_lower_walks.specs.Walks.{actions_in, Among, IsWalk};
+ghost use Rattle.rx_lower_walks.specs.Orders.{order_function};
+ghost use Rattle.rx_facts_init.specs.Setting.{is_behind, looked_at};
+ghost use Rattle.rx_facts_init.specs.Wholes.{is_all, placed};
 ghost use Rattle.rx_facts.specs.Functions.{frame_of};
+ghost use Rattle.rx_exits_marks.specs.Coming.{HasNoMark};
 ghost use Rattle.rx_check.specs.Passes.{IsFront};
 ghost use Rattle.rx_meaning.specs.Endings.{wrong, lacks, missing_function};
 ghost use Rattle.rx_meaning.specs.Results.{stops};
@@ -24,7 +29,7 @@ ghost use Rattle.rx_machine.specs.Functions.{program_of};
 ghost use Rattle.rx_meaning_keeping.specs.Keeping.{IsFunction};
 ghost use Rattle.rx_meaning_keeping.specs.Reaching.{starting};
 ghost use Rattle.rx_meaning_keeping.specs.Strict.{strictly};
-ghost use Rattle.rx_meaning_keeping.specs.Ready.{Ready, IsInitial};
+ghost use Rattle.rx_meaning_keeping.specs.Ready.{HasPart, Ready, IsInitial};
 ghost use Rattle.rx_meaning_keeping.specs.Behind.{LacksBehind, NeverBehind, SameRun};
 ghost use Rattle.rx_meaning_initial.specs.Frames.{frames, mutables};
 
@@ -39,6 +44,25 @@ use rx_typeck_laws::{all_have_types, signatures_are_well_formed, sizes_are_sized
 pub fn typed_functions_are_ready()
     ensures { (p : ProgramTree) (names : ListOf ItemNames) (t : Typed) → IsNumbered p → Meant p names → IsTyped p names t → (P : ℕ → ℕ) → Sized (declarations t.decls.items) P
         → (f : TypedFn) → Among f t.functions → Ready (frame_of (declarations t.decls.items) P f) (plain-TypedTree f.tree) }
+{
+    all_have_types();
+    signatures_are_well_formed();
+    sizes_are_sized();
+}
+
+/// Also a place that is behind a reference has a part, that of the reference; so has each variable; no action of their orders is a mark,
+/// since no tuple of nothing is made; and where they write a part of a variable's own storage, the variable is declared `mut`.
+pub fn typed_functions_stand()
+    ensures places { (p : ProgramTree) (names : ListOf ItemNames) (t : Typed) → IsNumbered p → Meant p names → IsTyped p names t → (P : ℕ → ℕ) → Sized (declarations t.decls.items) P
+        → (f : TypedFn) → Among f t.functions → (w : ListOf Action) (a : Action) (x : ℕ) (ss : ListOf Step) → IsWalk (plain-TypedTree f.tree) (w ++ a ∷ [])
+        → looked_at a.act ≡ Some (placed x ss) → HasPart (frame_of (declarations t.decls.items) P f) x ss }
+    ensures variables { (p : ProgramTree) (names : ListOf ItemNames) (t : Typed) → IsNumbered p → Meant p names → IsTyped p names t → (P : ℕ → ℕ) → Sized (declarations t.decls.items) P
+        → (f : TypedFn) → Among f t.functions → (x : ℕ) → x < length f.mutable → HasPart (frame_of (declarations t.decls.items) P f) x [] }
+    ensures unmarked { (p : ProgramTree) (names : ListOf ItemNames) (t : Typed) → IsNumbered p → Meant p names → IsTyped p names t → (f : TypedFn) → Among f t.functions
+        → HasNoMark (order_function (plain-TypedTree f.tree)) }
+    ensures writes { (p : ProgramTree) (names : ListOf ItemNames) (t : Typed) → IsNumbered p → Meant p names → IsTyped p names t → (f : TypedFn) → Among f t.functions
+        → (a : Action) (q : Place) (u : Temporary) (us : ListOf Step) → Among a (actions_in (order_function (plain-TypedTree f.tree))) → a.act ≡ Write q u us
+        → (x : ℕ) → q.root ≡ variable x → is_behind q.steps ≡ false → is_all q.steps ≡ false → slice_get f.mutable x ≡ Some true }
 {
     all_have_types();
     signatures_are_well_formed();

@@ -6,5 +6,5 @@ mod laws;
 pub use laws::{
     accepted_lacks_are_behind_references, accepted_programs_are_initial,
     accepted_strict_runs_are_plain, typed_calls_fit, typed_functions_are_ready,
-    typed_runs_find_functions,
+    typed_functions_stand, typed_runs_find_functions,
 };
