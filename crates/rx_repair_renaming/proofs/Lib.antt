@@ -1,0 +1,13 @@
+mod Types
+mod Places
+mod Asking
+mod Verdicts
+mod Having
+mod Holding
+mod Annotated
+mod LetsMet
+mod Noting
+mod LetTypes
+mod Typed
+mod Filling
+mod Building
