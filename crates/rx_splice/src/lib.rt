@@ -1,0 +1,6 @@
+//! Edits of a text.
+#![tactic(auto)]
+
+mod splicing;
+
+pub use splicing::splice;

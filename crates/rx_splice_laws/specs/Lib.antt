@@ -1,0 +1,10 @@
+pub mod Edits
+pub mod EditsOf
+pub mod Places
+pub mod Indent
+pub mod Moving
+pub mod MovedBy
+pub mod SplicedRun
+pub mod PinnedBody
+pub mod RunEnd
+pub mod SplicedText
