@@ -68,25 +68,33 @@ impl Reply {
     }
 }
 
-/// Bytes with a blank in place of each line feed.
-fn push_lines(told: &mut String, bytes: &[u8]) -> Result<(), AllocError> {
+/// Bytes with one blank in place of the blanks and line feeds between two words, and one behind the last word.
+pub fn push_words(told: &mut String, bytes: &[u8]) -> Result<(), AllocError> {
+    let mut apart = false;
     for byte in bytes {
-        told.push(if *byte == b'\n' {
-            ' '
+        if *byte == b' ' || *byte == b'\n' {
+            apart = true;
         } else {
-            char::from(*byte)
-        })?;
+            if apart {
+                told.push(' ')?;
+            }
+            apart = false;
+            told.push(char::from(*byte))?;
+        }
+    }
+    if apart {
+        told.push(' ')?;
     }
     Ok(())
 }
 
-/// The status, what is printed, a slash and the line, with a blank behind each.
+/// The status, what is printed, a slash and the line, with a blank behind each and blanks alone between words.
 fn told(alloc: Global, line: &str, text: &str) -> Result<String, AllocError> {
     let reply = replied(alloc, line, text, 4000, 100)?;
     let mut told = format!(in alloc; "{} ", reply.status)?;
-    push_lines(&mut told, reply.out.held())?;
+    push_words(&mut told, reply.out.held())?;
     told.push_str("/ ")?;
-    push_lines(&mut told, reply.err.held())?;
+    push_words(&mut told, reply.err.held())?;
     Ok(told)
 }
 
