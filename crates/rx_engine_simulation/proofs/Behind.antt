@@ -7,12 +7,12 @@ use Rattle.rx_typed.specs.Tree as tree
 use Rattle.rx_typed.specs.Tree.{Mark, Mode, by_reference, Body, Pattern, Temporary, own, held, under}
 use Rattle.rx_lower_walks.specs.Matching.{Binding, bindings}
 use Rattle.rx_lower_walks.specs.Actions.{Declare, Write, Borrow, Subject, in_place, in_temporary, part, does}
-use Rattle.rx_meaning.specs.Endings.{Cause, Ending, astray, wrong}
+use Rattle.rx_meaning.specs.Endings.{Cause, Ending, astray, missing_reference, wrong}
 use Rattle.rx_meaning.specs.Straying.{where_some, unlike, why_no_part, why_not_followed, why_not_found}
 use Rattle.rx_meaning.specs.Values.{Value, unit_value, is_set, and_then, get, element, slot_of, State}
 use Rattle.rx_meaning.specs.Results as results
 use Rattle.rx_meaning.specs.Results.{Result, Done, or_ends, on, stops, bind, result_of}
-use Rattle.rx_meaning.specs.Places.{Spot, in_slot, content, pointed, follow, reference_to, found}
+use Rattle.rx_meaning.specs.Places.{Spot, in_slot, pointed, follow, spot, reference_to}
 use Rattle.rx_meaning.specs.Acting.{performed, plainly, does_plainly}
 use Rattle.rx_meaning.specs.Patterns.{took, bound, closed}
 use Rattle.rx_meaning.specs.Expressions.{Functions, Meaning, value, body}
@@ -62,13 +62,13 @@ module _ (S : Subject) (vs : List Value) (n z : ℕ) (ss : List Step) (k : Bool)
 -- ---- what is borrowed
 
 -- it gives a reference, and changes nothing; or ends the run
-borrow_cases : (k : Bool) (c : Cause) (o : Option (Spot × Value)) (s : State) (D : Done ℕ) → D ≡ or_ends c o (λ f. or_ends astray (reference_to k f.0) (λ w. results.gives [] w s))
+borrow_cases : (k : Bool) (c : Cause) (o : Option Spot) (s : State) (D : Done ℕ) → D ≡ or_ends c o (λ at. or_ends astray (reference_to k at) (λ w. results.gives [] w s))
     → ((u : Value) × (result_of D ≡ on [] u s)) ⊎ ((e : Ending) × (result_of D ≡ stops [] e))
 unfolding result_of
 borrow_cases k c None s D h = inr (wrong c, ap (λ r. result_of r) h)
-borrow_cases k c (Some f) s D h = by (reference_to k f.0) refl
+borrow_cases k c (Some at) s D h = by (reference_to k at) refl
   where
-    by : (o : Option Value) → reference_to k f.0 ≡ o → ((u : Value) × (result_of D ≡ on [] u s)) ⊎ ((e : Ending) × (result_of D ≡ stops [] e))
+    by : (o : Option Value) → reference_to k at ≡ o → ((u : Value) × (result_of D ≡ on [] u s)) ⊎ ((e : Ending) × (result_of D ≡ stops [] e))
     by None e = inr (wrong astray, ap (λ r. result_of r) (h ∙ ap (λ o. or_ends astray o (λ w. results.gives [] w s)) e))
     by (Some u) e = inl (u, ap (λ r. result_of r) (h ∙ ap (λ o. or_ends astray o (λ w. results.gives [] w s)) e))
 
@@ -79,8 +79,8 @@ module _ (y r : ℕ) (v : Value) (p : Temporary) where
 
   same_borrow : (k n : Bool) (ss : List Step) (d : Temporary) (s : State) → Holds s → does_plainly (Borrow k (under (own y) (step.Deref n ∷ ss)) d) [] s ≡ does_plainly (Borrow k (under (held p) (step.Deref n ∷ ss)) d) (v ∷ []) s
   same_borrow k n ss d s h =
-      ap (λ o. or_ends {A = Spot × Value} (where_some (and_then o (λ i. Some (in_slot i [] true))) astray (λ at. why_not_followed s.memory (step.Deref n ∷ ss) at)) (and_then (and_then (and_then o (λ i. Some (in_slot i [] true))) (λ at. follow s.memory (step.Deref n ∷ ss) at)) (λ at. and_then (content s.memory at) (λ u. Some (at, u)))) (λ f. or_ends astray (reference_to k f.0) (λ w. results.gives [] w s))) h.0
-      ∙ ap (λ o. or_ends {A = Spot × Value} (where_some (and_then o (λ u. get [] u)) (where_some o astray (λ u. why_no_part [] u)) (λ u. where_some (pointed true u) (unlike astray u) (λ to. why_not_followed s.memory ss to))) (and_then (and_then (and_then o (λ u. get [] u)) (λ u. and_then (pointed true u) (λ to. follow s.memory ss to))) (λ at. and_then (content s.memory at) (λ u. Some (at, u)))) (λ f. or_ends astray (reference_to k f.0) (λ w. results.gives [] w s))) h.1
+      ap (λ o. or_ends {A = Spot} (where_some (and_then o (λ i. Some (in_slot i [] true))) astray (λ at. why_not_followed s.memory (step.Deref n ∷ ss) at)) (and_then (and_then o (λ i. Some (in_slot i [] true))) (λ at. follow s.memory (step.Deref n ∷ ss) at)) (λ at. or_ends astray (reference_to k at) (λ w. results.gives [] w s))) h.0
+      ∙ ap (λ o. or_ends {A = Spot} (where_some (and_then o (λ u. get [] u)) (where_some o astray (λ u. why_no_part [] u)) (λ u. where_some (pointed true u) (unlike missing_reference u) (λ to. why_not_followed s.memory ss to))) (and_then (and_then o (λ u. get [] u)) (λ u. and_then (pointed true u) (λ to. follow s.memory ss to))) (λ at. or_ends astray (reference_to k at) (λ w. results.gives [] w s))) h.1
 
   holds_on : (z : ℕ) (u : Value) (s : State) → (z ≡ y → ⊥) → Holds s → Holds (with_value z u s)
   holds_on z u s n h = (old_slot z (length s.memory) y s.frame.slots (λ e. n (sym e)) ∙ h.0, at_before s.memory u r (at_below s.memory r v h.1) ∙ h.1)
@@ -91,7 +91,7 @@ module _ (y r : ℕ) (v : Value) (p : Temporary) where
 
     one_same : (n z : ℕ) (ss : List Step) (m : Mode) (bs : List Binding) → GoesBehind m ss → (z ≡ y → ⊥) → ((s : State) → Holds s → Same bs s) → (s : State) → Holds s → Same (record { node = n; variable = z; steps = ss; mode = m } ∷ bs) s
     one_same n z (step.Deref w ∷ ss) (by_reference k) bs g other rest s h =
-        by (borrow_cases k (why_not_found (under (own y) (step.Deref w ∷ ss)) [] s) (found (under (own y) (step.Deref w ∷ ss)) [] s) s (does_plainly (Borrow k (under (own y) (step.Deref w ∷ ss)) (tree.temporary_at n 0)) [] s) refl)
+        by (borrow_cases k (why_not_found (under (own y) (step.Deref w ∷ ss)) [] s) (spot (under (own y) (step.Deref w ∷ ss)) [] s) s (does_plainly (Borrow k (under (own y) (step.Deref w ∷ ss)) (tree.temporary_at n 0)) [] s) refl)
       where
         same : performed plainly (does n (Borrow k (under (held p) (step.Deref w ∷ ss)) (tree.temporary_at n 0))) (v ∷ []) s ≡ performed plainly (does n (Borrow k (under (own y) (step.Deref w ∷ ss)) (tree.temporary_at n 0))) [] s
         same = ap (λ r. result_of r) (sym (same_borrow k w ss (tree.temporary_at n 0) s h))

@@ -14,8 +14,8 @@ use Rattle.rx_engine_simulation.proofs.Values.{fixed, free, NotFixed, Pair, pair
 use Rattle.rx_engine_simulation.proofs.States.{Direction, Turns, IsRoot, IsOwn, BorrowsOwn, Kills, Borrowed, Facts, now, later, How, special, sight, Renaming, sight_of, Frozen, SameAt, IsSpecial, Binding, StatesAlike, Grown}
 use Rattle.rx_engine_simulation.proofs.Keeping.{same_to, binding_to, touched_later}
 use Rattle.rx_engine_simulation.proofs.Results.{Jumping, DoAlike}
-use Rattle.rx_engine_simulation.proofs.Spots.{LikeSpot, owned, lent, holds, sharing, changing, LikePlace, Specially, Owns}
-use Rattle.rx_engine_simulation.proofs.Acts.{LikeDone, both_gave, both_ended, act_alike, or_like, found_like, stays}
+use Rattle.rx_engine_simulation.proofs.Spots.{LikeSpot, owned, lent, holds, sharing, changing, LikePlace, Specially, Owns, spot_like}
+use Rattle.rx_engine_simulation.proofs.Acts.{LikeDone, both_gave, both_ended, act_alike, or_like, stays}
 pub use Rattle.rx_engine_simulation.specs.Places.{use_of}
 
 some_same : {A : Type 0} {a b : A} → Some a ≡ Some b → a ≡ b
@@ -141,6 +141,6 @@ module _ (V : Facts) (d : Direction) (R : Renaming) (Z Z' : Frozen) (J : Jumping
 
   pub borrow_alike : (n n' : ℕ) (k : Bool) (p p' : Place) (t t' : Temporary) (vs vs' : List Value) → LikePlace R (use_of k) p p' → AllGiven j vs vs' → DoAlike V d R Z Z' J Given c h j s s' (performed followed (does n (Borrow k p t)) vs s) (performed plainly (does n' (Borrow k p' t')) vs' s')
   borrow_alike n n' true p p' t t' vs vs' l g = act_alike V d R Z Z' J c h j s s' Given (does n (Borrow true p t)) (does n' (Borrow true p' t')) vs vs' (λ good.
-      or_like V d R Z Z' J c h j s s' Given _ _ _ _ _ _ _ (found_like V d R Z Z' J c h j s s' inv turns changing p p' l (λ x r. now (does n (Borrow true p t)) good r) vs vs' g) (λ f f' m. referred n true p t (λ x. IsRoot p.root x × IsOwn p.steps) (λ x r. r) f.0 f'.0 m.0))
+      or_like V d R Z Z' J c h j s s' Given _ _ _ _ _ _ _ (spot_like V R Z Z' h j s s' inv {u = changing} l (λ x r. now (does n (Borrow true p t)) good r) vs vs' g) (λ at at' m. referred n true p t (λ x. IsRoot p.root x × IsOwn p.steps) (λ x r. r) at at' m))
   borrow_alike n n' false p p' t t' vs vs' l g = act_alike V d R Z Z' J c h j s s' Given (does n (Borrow false p t)) (does n' (Borrow false p' t')) vs vs' (λ good.
-      or_like V d R Z Z' J c h j s s' Given _ _ _ _ _ _ _ (found_like V d R Z Z' J c h j s s' inv turns sharing p p' l (λ x r. now (does n (Borrow false p t)) good r) vs vs' g) (λ f f' m. referred n false p t (λ x. IsRoot p.root x × IsOwn p.steps) (λ x r. r) f.0 f'.0 m.0))
+      or_like V d R Z Z' J c h j s s' Given _ _ _ _ _ _ _ (spot_like V R Z Z' h j s s' inv {u = sharing} l (λ x r. now (does n (Borrow false p t)) good r) vs vs' g) (λ at at' m. referred n false p t (λ x. IsRoot p.root x × IsOwn p.steps) (λ x r. r) at at' m))

@@ -6,6 +6,7 @@ use Rattle.rx_typed.specs.Tree as tree
 use Rattle.rx_typed.specs.Tree.{Mark, Exp, Operands, Function, Temporary, mark_of, temporary_of, temporaries_of}
 use Rattle.rx_lower_walks.specs.Actions.{Action, Give, at_mark}
 use Rattle.rx_lower_walks.specs.Orders.{order, returns}
+use Rattle.rx_meaning.specs.Endings.{missing_reference}
 use Rattle.rx_meaning.specs.Values.{Value, element, State, with_turns}
 use Rattle.rx_meaning.specs.Results.{Result, jumps, after, bind, result_of, on}
 use Rattle.rx_meaning.specs.Acting.{performed, plainly}
@@ -135,12 +136,12 @@ module _ (items : ℕ → ℕ) (P Q : Functions) (d : Direction) (N : New) (stan
       where
         by : Tried n zero → DoAlike V d R Z Z' J Given c h j s s' text_does (value plainly Q (below_level plainly Q n) (tree.call mc N.number es) t' s')
         by (passes p) = subst (λ q. DoAlike V d R Z Z' J Given c h j s s' text_does q) (sym (call_by n mc t' zero p ∙ turned_out s' ev (λ s3. entered plainly (below_level plainly Q n) N.number N.function p.given s3))) (λ good. answer_cut a (_, refl))
-        by (strays why is can k) = subst (λ q. DoAlike V d R Z Z' J Given c h j s s' text_does q) (sym (call_strays Q (below_level plainly Q n) mc N.number es t' s' why k)) (λ good. answer_cut (can, is) (_, refl))
+        by (strays can f) = subst (λ q. DoAlike V d R Z Z' J Given c h j s s' text_does q) (sym (call_strays Q (below_level plainly Q n) mc N.number es t' s' missing_reference f)) (λ good. answer_cut can (_, refl))
     cases n mc t' low' calls l v ev (extra {t' = u} k) = by (passed_at n u)
       where
         by : Tried n u → DoAlike V d R Z Z' J Given c h j s s' text_does (value plainly Q (below_level plainly Q n) (tree.call mc N.number es) t' s')
         by (passes p) = subst (λ q. DoAlike V d R Z Z' J Given c h j s s' text_does q) (sym (call_by n mc t' u p ∙ turned_on s' u ev (λ s3. entered plainly (below_level plainly Q n) N.number N.function p.given s3))) (level n u p ev low' calls l k)
-        by (strays why is can f) = subst (λ q. DoAlike V d R Z Z' J Given c h j s s' text_does q) (sym (call_strays Q (below_level plainly Q n) mc N.number es t' s' why f)) (λ good. answer_cut (can, is) (_, refl))
+        by (strays can f) = subst (λ q. DoAlike V d R Z Z' J Given c h j s s' text_does q) (sym (call_strays Q (below_level plainly Q n) mc N.number es t' s' missing_reference f)) (λ good. answer_cut can (_, refl))
 
   becomes_alike : (n : ℕ) → CallsUpTo items P Q d n → {V : Facts} {a : ℕ} {J : Jumping} {R : Renaming} {f f' : Exp → Exp} → BecomesCall items (gain d) N V a J R f f' → (Z Z' : Frozen) (m b c : ℕ) → c ≤ b → (x x' : Exp) (t t' : Temporary) (h : List Action) (j : List Pair) (s s' : State)
       → Ready V d R Z Z' (a + b) m n h j s s' → V.Comes (order (f x) t) h → DoAlike V d R Z Z' J Given c h j s s' (value followed P (below_level followed P m) (f x) t s) (value plainly Q (below_level plainly Q n) (f' x') t' s')

@@ -131,8 +131,8 @@ module _ (items : ℕ → ℕ) (P Q : Functions) (d : Direction) where
             let q = less V d R Z Z' c (omega arith) r in read_alike V d R Z Z' J c h j s s' q.inv q.turns w.node w'.node v v' p p' t t' [] [] l none_given
         exp_alike {V} {k} {J} {R} (borrows {m = w} {m' = w'} {b = b} {p = p} {p' = p'} l) Z Z' m c t t' h j s s' r at =
             let q = less V d R Z Z' c (omega arith) r in borrow_alike V d R Z Z' J c h j s s' q.inv q.turns w.node w'.node b p p' t t' [] [] l none_given
-        exp_alike {V} {k} {J} {R} (views {x = x} {y = y} {m = w} {m' = w'} {n = b} {moves = b'} can seen) Z Z' m c t t' h j s s' r at =
-            let q = less V d R Z Z' c (omega arith) r in view_alike V d R Z Z' J c h j s s' q.inv q.turns can Q (below_level plainly Q n) w.node w' b' b x y t t' seen
+        exp_alike {V} {k} {J} {R} (views {x = x} {y = y} {m = w} {m' = w'} {n = b} {moves = b'} seen) Z Z' m c t t' h j s s' r at =
+            let q = less V d R Z Z' c (omega arith) r in view_alike V d R Z Z' J c h j s s' q.inv q.turns Q (below_level plainly Q n) w.node w' b' b x y t t' seen
         exp_alike {V} {k} {J} {R} (shares {m = w} {m' = w'} l) Z Z' m c t t' h j s s' r at =
             alike_bind V d R Z Z' J Given Given c c h j s s' _ _ _ _ (le_refl c) (exp_alike l Z Z' m c _ _ h j s s' r (first_at V at)) (λ h1 j1 v v' u u' g z.
             borrow_alike V d R Z Z' J c h1 j1 u u' z.inv z.turns w.node w'.node false (under (held (temporary_at w.node 1)) (step.Deref true ∷ [])) (under (held (temporary_at w'.node 1)) (step.Deref true ∷ [])) t t' (v ∷ []) (v' ∷ []) (of_temporary (derefs no_steps)) (more_given g none_given))

@@ -1,27 +1,34 @@
 -- A program, and one in which a call stands for an assignment of it: the reference in one variable is asked for again there, and what the
 -- one in another leads to is seen through a shared reference. Both runs are computed; and that of the answer with the first one read.
-use Rattle.std.proofs.Common.{◌≡◌, ℕ, zero, suc, pos, Bool, true, false, nat_eq, if◌then◌else◌, [], ◌∷◌, Some, None, refl, ap, ◌∙◌, arith, inl, inr}
+use Rattle.std.proofs.Common.{◌≡◌, ℕ, zero, suc, pos, Bool, true, false, nat_eq, if◌then◌else◌, List, [], ◌∷◌, ◌++◌, Some, None, refl, sym, ap, ap₂, ◌∙◌, subst, arith, inl, inr}
 use Rattle.std.specs.Prelude.{codes, ℤ}
 use Rattle.std.specs.Fmt.{digits}
 use Rattle.rx_core.specs.declared.types.Kind.{Kind}
 use Rattle.rx_core.specs.declared.types.Step.{Step}
 use Rattle.rx_meaning.specs.declared.outcome.End.{End}
 use Rattle.rx_typed.specs.Tree as tree
-use Rattle.rx_typed.specs.Tree.{Mark, Exp, Body, Function, own, under}
+use Rattle.rx_typed.specs.Tree.{Mark, Exp, Body, Function, Temporary, own, under}
+use Rattle.rx_lower_walks.specs.Actions.{Declare, Write, Action, does}
+use Rattle.rx_lower_walks.specs.Orders as orders
+use Rattle.rx_lower_walks.specs.Orders.{Exit, Order, order, order_body, order_function}
+use Rattle.rx_exits_marks.specs.Coming.{Into, all, in_first, in_second, in_scope}
 use Rattle.rx_meaning.specs.Values.{element}
 use Rattle.rx_meaning.specs.Results.{bind, after, result_of}
 use Rattle.rx_meaning.specs.Patterns.{decided, tested, closed, bound, took, begun}
 use Rattle.rx_meaning.specs.Expressions.{value, take_turn, passed, returned, with_arguments, below_level}
 use Rattle.rx_meaning.specs.Programs.{Program, run}
+use Rattle.rx_engine_simulation.specs.Histories.{put, Written}
 use Rattle.rx_engine_simulation.specs.Sights.{shut, free, In, How, plain, special, copied, viewed, absent, Sight, sight, Renaming, sight_of, IsNew}
 use Rattle.rx_engine_simulation.specs.Places.{direct, no_steps, derefs}
 use Rattle.rx_engine_simulation.specs.Binders.{no_param, param_and, new_plain, takes_none, no_binding, binding_and}
 use Rattle.rx_engine_simulation.specs.Like.{opens, reads, borrows, views, builds, units, prints, assigns, calls, blocks, gives, no_operands, operands_and, of_values, ends_in, runs_on, lets_in}
-use Rattle.rx_engine_simulation.specs.Programs.{LikeFunction, LikeEntry, functions, neither}
+use Rattle.rx_engine_simulation.specs.Programs.{ComesTo, LikeFunction, LikeEntry, functions, neither}
 use Rattle.rx_engine_simulation.specs.Passing.{New, reborrow_of, passes_none, passes_reborrow, passes_view, none_absent, absent_and}
 use Rattle.rx_engine_simulation.specs.Statements.{none_elsewhere}
 use Rattle.rx_engine_simulation.specs.Rereads.{is_read, same_borrow, in_call, in_block, in_operand, in_none, in_value_of, in_run, in_let, RereadsEntry, no_function, in_function, RereadsProgram}
 use Rattle.rx_engine_simulation.proofs.Rereads.{self_exp, self_body}
+use Rattle.rx_engine_simulation.proofs.Histories.{came}
+use Rattle.rx_engine_simulation.proofs.ExamplesOfStatements.{IsLine, line, line_is}
 use Rattle.rx_engine_simulation.specs.Called.{becomes_call, calls_of, a_turn, WithCall}
 
 abbrev m : ℕ → Mark
@@ -155,6 +162,79 @@ covers x e = by (nat_eq x 3) (nat_eq x 2) (nat_eq x 1) (nat_eq x 0)
     by false true false false f = (sight 5 copied, refl)
     by false false false false f = absurd (none_some f)
 
+-- ---- where the text comes to the assignment, both references were written
+
+abbrev main_text : Function
+main_text = main_with assigned
+
+abbrev part : Order
+part = order assigned (tree.temporary_at 0 0)
+
+not_act : {a : Action} {w : List Action} → Into part (orders.act a) w → ⊥
+not_act i = elim i [ ]
+
+not_nothing : {w : List Action} → Into part orders.nothing w → ⊥
+not_nothing i = elim i [ ]
+
+not_leave : {x : Exit} {w : List Action} → Into part (orders.leave x) w → ⊥
+not_leave i = elim i [ ]
+
+not_in_number : {n : ℕ} {z : ℤ} {t : Temporary} {w : List Action} → Into part (order (number n z) t) w → ⊥
+not_in_number (in_first i) = not_nothing i
+not_in_number (in_second k i) = not_act i
+
+-- behind a `let`
+behind_let : {s rest : Order} {d e : Action} {n x : ℕ} {f : List Action} → IsLine s → ((w : List Action) → Into part s w → ⊥) → ((w : List Action) → Into part rest w → w ≡ f) → {w : List Action}
+    → Into part (orders.then s (orders.then orders.nothing (orders.then (orders.act d) (orders.then (orders.act e) (orders.ending n x rest))))) w → w ≡ line s ++ d ∷ e ∷ f
+behind_let l none go (in_first i) = absurd (none _ i)
+behind_let l none go (in_second k (in_first i)) = absurd (not_nothing i)
+behind_let l none go (in_second k (in_second o (in_first i))) = absurd (not_act i)
+behind_let l none go (in_second k (in_second o (in_second p (in_first i)))) = absurd (not_act i)
+behind_let {d = d} {e = e} l none go (in_second k (in_second o (in_second p (in_second q (in_scope i))))) =
+    ap₂ (λ a b. a ++ b) (line_is l k) (ap₂ (λ a b. a ++ b) (line_is tt o) (ap₂ (λ a b. a ++ b) (line_is {s = orders.act d} tt p) (ap₂ (λ a b. a ++ b) (line_is {s = orders.act e} tt q) (go _ i))))
+
+in_part : {w : List Action} → Into part part w → w ≡ []
+in_part all = refl
+in_part (in_first (in_first (in_first i))) = absurd (not_act i)
+in_part (in_first (in_first (in_second k i))) = absurd (not_nothing i)
+in_part (in_first (in_second k i)) = absurd (not_act i)
+in_part (in_second k i) = absurd (not_act i)
+
+not_behind : {w : List Action} → Into part (order_body (tree.runs (tree.print (m 19) (deref 2)) (tree.ends (tree.give (m 1) (tree.unit (m 1))))) 1 (tree.temporary_at 1 0)) w → ⊥
+not_behind (in_first (in_first i)) = not_act i
+not_behind (in_first (in_second k i)) = not_act i
+not_behind (in_second k (in_first i)) = not_nothing i
+not_behind (in_second k (in_second l (in_first i))) = not_act i
+not_behind (in_second k (in_second l (in_second e i))) = not_leave i
+
+in_statement : {w : List Action} → Into part (order_body (tree.runs assigned (tree.runs (tree.print (m 19) (deref 2)) (tree.ends (tree.give (m 1) (tree.unit (m 1)))))) 1 (tree.temporary_at 1 0)) w → w ≡ []
+in_statement (in_first i) = in_part i
+in_statement (in_second k i) = absurd (not_behind i)
+
+-- what is done in front of it
+abbrev begins_with : ℕ → ℕ → ℕ → List Action → List Action
+begins_with n x k w = does n (Declare x) ∷ does n (Write (own x) (tree.temporary_at k 0) []) ∷ w
+
+abbrev front : List Action
+front =
+    line (order (number 4 (pos 7)) (tree.temporary_at 4 0)) ++ begins_with 3 0 4
+    (line (order (number 7 (pos 0)) (tree.temporary_at 7 0)) ++ begins_with 6 1 7
+    (line (order (tree.borrow (m 10) true (own 1)) (tree.temporary_at 10 0)) ++ begins_with 9 2 10
+    (line (order (tree.borrow (m 13) true (own 0)) (tree.temporary_at 13 0)) ++ begins_with 12 3 13 [])))
+
+in_main : {w : List Action} → Into part (order_function main_text) w → w ≡ front
+in_main i =
+    behind_let (tt, tt) (λ w i. not_in_number i) (λ w i. behind_let (tt, tt) (λ w i. not_in_number i) (λ w i. behind_let tt (λ w i. not_act i) (λ w i. behind_let tt (λ w i. not_act i) (λ w i. in_statement i) i) i) i) i
+
+at_part : {h : List Action} → ComesTo main_text part h → h ≡ put front []
+at_part c = let k = came c in k.1 ∙ ap (λ w. put w []) (in_main k.2)
+
+first_written : (h : List Action) → ComesTo main_text part h → Written h 2
+first_written h c = subst (λ h. Written h 2) (sym (at_part c)) (inr ((λ e. e), inr ((λ e. absurd (cc)), inr ((λ e. e), inl (refl, tt)))))
+
+second_written : (h : List Action) → ComesTo main_text part h → Written h 3
+second_written h c = subst (λ h. Written h 3) (sym (at_part c)) (inl (refl, tt))
+
 -- ---- the programs
 
 main_alike : LikeFunction items (calls_of items (a_turn true) [] new) (a_turn true) (main_with assigned) (main_with call_answer)
@@ -171,9 +251,9 @@ main_alike = record {
       (runs_on 1 0 (omega arith)
       (opens {e = tree.unit (m 1)} {e' = tree.unit (m 1)} {f = λ x. assigned} {f' = λ x. call_answer} 1 0 (omega arith)
       (becomes_call (2 ∷ 3 ∷ []) given inside refl (none_elsewhere none_special) shuts
-      (λ t. passes_reborrow refl refl (inl refl) refl (none_seen 5) (passes_view refl refl (inr (inl refl)) refl (new_and [] 2 5 copied 6 (none_seen 6) (λ e. absurd (cc))) passes_none))
+      (λ t. passes_reborrow refl refl (inl refl) first_written refl (none_seen 5) (passes_view refl refl (inr (inl refl)) second_written refl (new_and [] 2 5 copied 6 (none_seen 6) (λ e. absurd (cc))) passes_none))
       (absent_and {x = 1} {z = 7} refl (new_given 7 (λ e. absurd (cc)) (λ e. absurd (cc))) (absent_and {x = 0} {z = 8} refl (new_and given 1 7 absent 8 (new_given 8 (λ e. absurd (cc)) (λ e. absurd (cc))) (λ e. absurd (cc))) none_absent)) covers
-      (assigns (direct copied refl tt ((λ o. o), tt) (derefs no_steps)) (calls (operands_and 0 0 (omega arith) (views refl refl) no_operands)))) units)
+      (assigns (direct copied refl tt ((λ o. o), tt) (derefs no_steps)) (calls (operands_and 0 0 (omega arith) (views refl) no_operands)))) units)
       (runs_on 0 0 (omega arith) (prints (reads (direct (plain shut) refl tt tt (derefs no_steps)))) (ends_in (gives refl units))))))));
 }
 

@@ -6,7 +6,7 @@ use Rattle.rx_typed.specs.Tree as tree
 use Rattle.rx_typed.specs.Tree.{Mark, Exp, Operands, Parameter, Temporary, own, temporary_of}
 use Rattle.rx_lower_walks.specs.Actions.{Write, Action, does}
 use Rattle.rx_lower_walks.specs.Orders.{Order, argument, written_parameter}
-use Rattle.rx_meaning.specs.Endings.{Cause, Ending, lacks, astray, wrong}
+use Rattle.rx_meaning.specs.Endings.{Cause, Ending, lacks, astray, missing_reference, wrong}
 use Rattle.rx_meaning.specs.Straying.{why_not_found, why_not_written}
 use Rattle.rx_meaning.specs.Values.{Value, pointer, lacking, unset, unit_value, is_set, and_then, get, put, element, with_element, slot_of, State, with_memory, with_variable}
 use Rattle.rx_meaning.specs.Results as results
@@ -19,12 +19,12 @@ use Rattle.rx_meaning.proofs.Sequences.{after_nothing, bind_on, closed_is}
 use Rattle.rx_engine_simulation.specs.Passing.{Passing, passes_none, passes_move, passes_copy, passes_reference, passes_again, passes_reborrow, passes_view, reborrow_of, Absents, none_absent, absent_and}
 use Rattle.rx_engine_simulation.proofs.Memory.{at_end}
 use Rattle.rx_engine_simulation.proofs.Values.{shut, free, Pair, In, LikeValue, pointers, set_same}
-use Rattle.rx_engine_simulation.proofs.States.{IsNotFound, Facts, plain, special, sight, Renaming, Frozen, IsPlain, IsSpecial, StatesAlike}
+use Rattle.rx_engine_simulation.proofs.States.{Facts, plain, special, sight, Renaming, Frozen, IsPlain, IsSpecial, StatesAlike}
 use Rattle.rx_engine_simulation.proofs.Declaring.{new_slot}
 use Rattle.rx_engine_simulation.proofs.Writes.{spot_own}
 use Rattle.rx_engine_simulation.proofs.Parts.{declare_answer}
 use Rattle.rx_engine_simulation.proofs.Entry.{with_value, IsCold, Going, Zn, pass_special, pass_copied, pass_viewed, pass_through, pass_absent}
-use Rattle.rx_engine_simulation.proofs.Again.{asking, Asked, leads, nowhere, asked_again}
+use Rattle.rx_engine_simulation.proofs.Again.{asking, Asked, leads, is_none, asked_again}
 
 set_there : (u v : Value) → Some u ≡ Some v → is_set u ≡ true → is_set v ≡ true
 set_there u v e k = ap is_set (sym (same e)) ∙ k
@@ -50,11 +50,10 @@ and_itself : (k : Bool) → k && true ≡ k
 and_itself true = refl
 and_itself false = refl
 
-borrow_is : (Q : Functions) (low : Meaning ℕ) (m : Mark) (k : Bool) (y i : ℕ) (t : Temporary) (v : Value) (s : State) → slot_of s.frame.slots y ≡ Some i → element s.memory i ≡ Some v
-    → value plainly Q low (tree.borrow m k (own y)) t s ≡ on [] (pointer i [] k) s
+borrow_is : (Q : Functions) (low : Meaning ℕ) (m : Mark) (k : Bool) (y i : ℕ) (t : Temporary) (s : State) → slot_of s.frame.slots y ≡ Some i → value plainly Q low (tree.borrow m k (own y)) t s ≡ on [] (pointer i [] k) s
 unfolding value result_of
-borrow_is Q low m k y i t v s e f =
-    ap (λ o. result_of (or_ends (why_not_found (own y) [] s) o (λ g. or_ends astray (reference_to k g.0) (λ v. results.gives [] v s)))) (found_own y i v s e f)
+borrow_is Q low m k y i t s e =
+    ap (λ o. result_of (or_ends (why_not_found (own y) [] s) o (λ at. or_ends astray (reference_to k at) (λ v. results.gives [] v s)))) (spot_own y i s e)
     ∙ ap (λ b. on [] (pointer i [] b) s) (and_itself k)
 
 pub values_are : (Q : Functions) (low : Meaning ℕ) (i : ℕ) (e : Exp) (es : Operands) (v : Value) (vs : List Value) (s : State) → value plainly Q low e (temporary_of e) s ≡ on [] v s → values plainly Q low es s ≡ on [] vs s
@@ -142,10 +141,10 @@ module _ (Q : Functions) (low : Meaning ℕ) (V : Facts) (part : Order) (R : Ren
   unfolding with_arguments
   none_entered n go sa = refl
 
-  -- or a reference that is asked for again leads nowhere
+  -- or what is asked again for a reference is none
   pub data Tries (may : Bool) (Rf : Renaming) (es : Operands) (ps : List Parameter) (sa : State) : Type 1 where
     passes : Passed Rf es ps sa → Tries may Rf es ps sa
-    strays : (c : Cause) → IsNotFound c → may ≡ true → values plainly Q low es s' ≡ stops [] (wrong c) → Tries may Rf es ps sa
+    strays : may ≡ true → values plainly Q low es s' ≡ stops [] (wrong missing_reference) → Tries may Rf es ps sa
 
   -- one more
   and_more : (may : Bool) (Rf : Renaming) (i : ℕ) (e : Exp) (es : Operands) (v : Value) (p : Parameter) (ps : List Parameter) (sa : State) → value plainly Q low e (temporary_of e) s' ≡ on [] v s' → Tries may Rf es ps (with_value p.variable v sa) → Tries may Rf (tree.operand_and i e es) (p ∷ ps) sa
@@ -158,16 +157,16 @@ module _ (Q : Functions) (low : Meaning ℕ) (V : Facts) (part : Order) (R : Ren
     going = next.going;
     turns = next.turns;
   })
-  and_more may Rf i e es v p ps sa is (strays c why can k) = strays c why can (stray_behind Q low i e es v c s' is k)
+  and_more may Rf i e es v p ps sa is (strays can k) = strays can (stray_behind Q low i e es v missing_reference s' is k)
 
   -- and a reference that is asked for again
-  again_more : (may : Bool) → may ≡ true → (Rf : Renaming) (i : ℕ) (m : Mark) (k : Bool) (y : ℕ) (n : Bool) (es : Operands) (p : Parameter) (ps : List Parameter) (sa : State) (r : ℕ) (v : Value) → slot_of s'.frame.slots y ≡ Some r → element s'.memory r ≡ Some v
+  again_more : (may : Bool) → may ≡ true → (Rf : Renaming) (i : ℕ) (m : Mark) (k : Bool) (y : ℕ) (n : Bool) (es : Operands) (p : Parameter) (ps : List Parameter) (sa : State) (r : ℕ) (v : Value) → slot_of s'.frame.slots y ≡ Some r → element s'.memory r ≡ Some v → is_set v ≡ true
       → ((q : ℕ) (ss : List Step) (f : Bool) → v ≡ pointer q ss f → Tries may Rf es ps (with_value p.variable (pointer q ss (k && f)) sa)) → Tries may Rf (tree.operand_and i (reborrow_of m k y n) es) (p ∷ ps) sa
-  again_more may can Rf i m k y n es p ps sa r v e f next = by (asked_again k y n r (temporary_of (reborrow_of m k y n)) s' v e f)
+  again_more may can Rf i m k y n es p ps sa r v e f set next = by (asked_again k y n r (temporary_of (reborrow_of m k y n)) s' v e f set)
     where
       by : Asked k y n r (temporary_of (reborrow_of m k y n)) s' v → Tries may Rf (tree.operand_and i (reborrow_of m k y n) es) (p ∷ ps) sa
       by (leads q ss b g is) = and_more may Rf i (reborrow_of m k y n) es (pointer q ss (k && b)) p ps sa (again_gives Q low m k y n r (temporary_of (reborrow_of m k y n)) (pointer q ss (k && b)) s' is) (next q ss b g)
-      by (nowhere c why is) = strays c why can (stray_first Q low i (reborrow_of m k y n) es c s' (again_ends Q low m k y n r (temporary_of (reborrow_of m k y n)) c s' is))
+      by (is_none is) = strays can (stray_first Q low i (reborrow_of m k y n) es missing_reference s' (again_ends Q low m k y n r (temporary_of (reborrow_of m k y n)) missing_reference s' is))
 
   pub pass_all : {may : Bool} {Rp Rf : Renaming} {es : Operands} {ps : List Parameter} → Passing may V R part Cold Rp es ps Rf → (Zp : Frozen) (sa : State) → Going V R Z Z' Cold h j s s' inv cold Rp Zp sa → Tries may Rf es ps sa
   pass_all passes_none Zp sa going = passes (record { given = []; arguments = none_given s'; frozen = Zp; at_end = sa; entered = λ n go. none_entered n go sa; going = going; turns = refl })
@@ -189,24 +188,30 @@ module _ (Q : Functions) (low : Meaning ℕ) (V : Facts) (part : Order) (R : Ren
   pass_all {may} {Rp} {Rf} (passes_reference {x = x} {y = y} {i = i} {m = m} {k = k} {p = p} {es = es} {ps = ps} w seen warm hid new rest) Zp sa going =
       let b : IsPlain Z Z' j s.frame s'.frame x y w = inv.binds x (sight y (plain w)) seen in
       let a = inv.paired.same _ b.is_in in
-      and_more may Rf i (tree.borrow m k (own y)) es (pointer b.right [] k) p ps sa (borrow_is Q low m k y b.right (temporary_of (tree.borrow m k (own y))) a.answer s' b.at_answer a.at_answer)
+      and_more may Rf i (tree.borrow m k (own y)) es (pointer b.right [] k) p ps sa (borrow_is Q low m k y b.right (temporary_of (tree.borrow m k (own y))) s' b.at_answer)
       (pass_all rest (Zn V R Z Z' Cold h j s s' inv cold Rp Zp sa going x p.variable (pointer b.right [] k) new hid) (with_value p.variable (pointer b.right [] k) sa)
       (pass_through V R Z Z' Cold h j s s' inv cold Rp Zp sa going x p.variable (pointer b.right [] k) new hid y w k seen warm b refl))
-  pass_all {may} {Rp} {Rf} (passes_again {x = x} {y = y} {i = i} {m = m} {n = n} {p = p} {es = es} {ps = ps} can seen warm living hid new rest) Zp sa going =
+  pass_all {may} {Rp} {Rf} (passes_again {x = x} {y = y} {i = i} {m = m} {n = n} {p = p} {es = es} {ps = ps} can seen warm living written hid new rest) Zp sa going =
       let b : IsSpecial V Z Z' h j s.frame s'.frame s.memory s'.memory x y = inv.binds x (sight y special) seen in
       let a = b.same (living h at) in
-      again_more may can Rf i m true y n es p ps sa b.right a.answer b.at_answer a.at_answer (λ q ss f e.
+      let w = inv.written x b.left b.at_text (written h at) in
+      let set : is_set a.answer ≡ true = sym (set_same a.like) ∙ set_there w.0 a.text (sym w.1 ∙ a.at_text) w.2 in
+      again_more may can Rf i m true y n es p ps sa b.right a.answer b.at_answer a.at_answer set (λ q ss f e.
       pass_all rest Zp (with_value p.variable (pointer q ss f) sa) (pass_special V R Z Z' Cold h j s s' inv cold Rp Zp sa going x p.variable (pointer q ss f) new hid y seen warm b (λ l. (a.text, a.at_text, subst (λ v. LikeValue j a.text v) e a.like))))
-  pass_all {may} {Rp} {Rf} (passes_reborrow {x = x} {y = y} {i = i} {m = m} {n = n} {p = p} {es = es} {ps = ps} can seen chilled hid new rest) Zp sa going =
+  pass_all {may} {Rp} {Rf} (passes_reborrow {x = x} {y = y} {i = i} {m = m} {n = n} {p = p} {es = es} {ps = ps} can seen chilled written hid new rest) Zp sa going =
       let b : IsPlain Z Z' j s.frame s'.frame x y shut = inv.binds x (sight y (plain shut)) seen in
       let a = inv.paired.same _ b.is_in in
-      again_more may can Rf i m true y n es p ps sa b.right a.answer b.at_answer a.at_answer (λ q ss f e.
+      let w = inv.written x b.left b.at_text (written h at) in
+      let set : is_set a.answer ≡ true = sym (set_same a.like) ∙ set_there w.0 a.text (sym w.1 ∙ a.at_text) w.2 in
+      again_more may can Rf i m true y n es p ps sa b.right a.answer b.at_answer a.at_answer set (λ q ss f e.
       pass_all rest (Zn V R Z Z' Cold h j s s' inv cold Rp Zp sa going x p.variable (pointer q ss f) new hid) (with_value p.variable (pointer q ss f) sa)
       (pass_copied V R Z Z' Cold h j s s' inv cold Rp Zp sa going x p.variable (pointer q ss f) new hid y seen chilled b a.text a.at_text (subst (λ v. LikeValue j a.text v) e a.like)))
-  pass_all {may} {Rp} {Rf} (passes_view {x = x} {y = y} {i = i} {m = m} {n = n} {p = p} {es = es} {ps = ps} can seen chilled hid new rest) Zp sa going =
+  pass_all {may} {Rp} {Rf} (passes_view {x = x} {y = y} {i = i} {m = m} {n = n} {p = p} {es = es} {ps = ps} can seen chilled written hid new rest) Zp sa going =
       let b : IsPlain Z Z' j s.frame s'.frame x y shut = inv.binds x (sight y (plain shut)) seen in
       let a = inv.paired.same _ b.is_in in
-      again_more may can Rf i m false y n es p ps sa b.right a.answer b.at_answer a.at_answer (λ q ss f e.
+      let w = inv.written x b.left b.at_text (written h at) in
+      let set : is_set a.answer ≡ true = sym (set_same a.like) ∙ set_there w.0 a.text (sym w.1 ∙ a.at_text) w.2 in
+      again_more may can Rf i m false y n es p ps sa b.right a.answer b.at_answer a.at_answer set (λ q ss f e.
       let g = pointer_like (subst (λ v. LikeValue j a.text v) e a.like) in
       pass_all rest (Zn V R Z Z' Cold h j s s' inv cold Rp Zp sa going x p.variable (pointer q ss false) new hid) (with_value p.variable (pointer q ss false) sa)
       (pass_viewed V R Z Z' Cold h j s s' inv cold Rp Zp sa going x p.variable (pointer q ss false) new hid y seen chilled b g.target ss f (a.at_text ∙ ap Some g.text) g.is_in g.is_free (ap (λ k. pointer k ss false) (sym g.right))))

@@ -4,7 +4,7 @@ use Rattle.rx_meaning.specs.Programs.{Program, run, UpTo}
 use Rattle.rx_engine_simulation.specs.Marked.{Marked}
 use Rattle.rx_engine_simulation.specs.Passing.{New}
 use Rattle.rx_engine_simulation.specs.Called.{WithCall}
-use Rattle.rx_engine_simulation.specs.Astray.{OrAstray, IsNotWrong}
+use Rattle.rx_engine_simulation.specs.Astray.{OrAstray, FindsReferences}
 use Rattle.rx_engine_simulation.specs.Rereads.{RereadsProgram}
 use Rattle.rx_engine_simulation.specs.Marks.{marks}
 use Rattle.rx_engine_simulation.proofs.Whole.{alike_alone}
@@ -21,10 +21,8 @@ marked_answer P T Q N k w given n = subst (λ o. OrAstray w.strays T Q given n n
 pub marked_text : (P T Q : Program) (N : New) → Marked T P → (w : WithCall T Q N) → (given : List ℤ) (n : ℕ) → OrAstray w.strays T Q given n (2 * n) (UpTo (run P given n) (run Q given (2 * n)))
 marked_text P T Q N k w given n = subst (λ o. OrAstray w.strays T Q given n (2 * n) (UpTo o (run Q given (2 * n)))) (marked_alike T P k given n) (text_to_answer T Q N w given n)
 
-pub marked_right_answer : (P T Q M : Program) (N : New) → Marked T P → WithCall T M N → RereadsProgram Q M → (given : List ℤ) (n : ℕ) → IsNotWrong (run P given n) → IsNotWrong (run Q given n) → UpTo (run Q given n) (run P given n)
-marked_right_answer P T Q M N k w r given n right right' =
-    subst (λ o. UpTo (run Q given n) o) (marked_alike T P k given n) (answer_runs_so T Q M N w r given n (subst IsNotWrong (sym (marked_alike T P k given n)) right) right')
+pub marked_found_answer : (P T Q M : Program) (N : New) → Marked T P → WithCall T M N → RereadsProgram Q M → (given : List ℤ) (n : ℕ) → FindsReferences Q given n → UpTo (run Q given n) (run P given n)
+marked_found_answer P T Q M N k w r given n q = subst (λ o. UpTo (run Q given n) o) (marked_alike T P k given n) (answer_runs_so T Q M N w r given n q)
 
-pub marked_right_text : (P T Q M : Program) (N : New) → Marked T P → WithCall T M N → RereadsProgram Q M → (given : List ℤ) (n : ℕ) → IsNotWrong (run P given n) → IsNotWrong (run Q given (2 * n)) → UpTo (run P given n) (run Q given (2 * n))
-marked_right_text P T Q M N k w r given n right right' =
-    subst (λ o. UpTo o (run Q given (2 * n))) (marked_alike T P k given n) (text_runs_so T Q M N w r given n (subst IsNotWrong (sym (marked_alike T P k given n)) right) right')
+pub marked_found_text : (P T Q M : Program) (N : New) → Marked T P → WithCall T M N → RereadsProgram Q M → (given : List ℤ) (n : ℕ) → FindsReferences Q given (2 * n) → UpTo (run P given n) (run Q given (2 * n))
+marked_found_text P T Q M N k w r given n q = subst (λ o. UpTo o (run Q given (2 * n))) (marked_alike T P k given n) (text_runs_so T Q M N w r given n q)

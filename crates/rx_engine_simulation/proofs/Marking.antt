@@ -88,7 +88,7 @@ module _ (items : ℕ → ℕ) (g : Allowance) (V W : Facts) (too : (x : ℕ) �
     exp_like (opens a i le o l) m = absurd o
     exp_like (reads p) (in_front ps m_read) = front ps (reads p)
     exp_like (borrows p) (in_front ps m_borrow) = front ps (borrows p)
-    exp_like (views s seen) (in_front ps m_borrow) = front ps (views s seen)
+    exp_like (views seen) (in_front ps m_borrow) = front ps (views seen)
     exp_like (shares l) (in_front ps (m_share m)) = front ps (shares (exp_like l m))
     exp_like (builds {w = w} f l) (in_front ps (m_build m)) = front ps (builds (subst (λ fs. Fitting w fs) (sym (fields_same m)) f) (all_like l m))
     exp_like (builds_structs c l) (in_front ps (m_build m)) = front ps (builds_structs (subst (λ fs. Complete fs) (sym (fields_same m)) c) (all_like l m))

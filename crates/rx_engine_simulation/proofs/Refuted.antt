@@ -17,7 +17,7 @@ use Rattle.rx_meaning.specs.Programs.{Program, run, UpTo}
 use Rattle.rx_engine_simulation.specs.Passing.{New}
 use Rattle.rx_engine_simulation.specs.Called.{WithCall}
 use Rattle.rx_engine_simulation.proofs.Called.{answer_to_text, text_to_answer}
-use Rattle.rx_engine_simulation.proofs.Astray.{neither_wrong}
+use Rattle.rx_engine_simulation.proofs.Astray.{right_finds, never_strays}
 use Rattle.rx_engine_simulation.proofs.ExamplesOfStatements.{m, number}
 
 abbrev printing : List ℕ → End → Outcome
@@ -86,7 +86,7 @@ not_assigned_run = refl
 pub an_out_is_assigned : WithCall (alone adding) (beside not_assigned next) next → ⊥
 an_out_is_assigned w =
     printed_otherwise (codes "7\n") (codes "8\n") End.Ended End.Ended (λ c e. let f : 56 ≡ 55 = ap first_of e in absurd (omega (arith, f)))
-    (subst (λ o. UpTo o (printing (codes "8\n") End.Ended)) not_assigned_run (subst (λ o. UpTo (run (beside not_assigned next) [] 2) o) adding_run (neither_wrong w.strays (alone adding) (beside not_assigned next) [] 2 2 (not_wrong ended_apart not_assigned_run) (not_wrong ended_apart adding_run) (answer_to_text (alone adding) (beside not_assigned next) next w [] 2))))
+    (subst (λ o. UpTo o (printing (codes "8\n") End.Ended)) not_assigned_run (subst (λ o. UpTo (run (beside not_assigned next) [] 2) o) adding_run (never_strays w.strays (alone adding) (beside not_assigned next) [] 2 2 (right_finds (beside not_assigned next) [] 2 (not_wrong ended_apart not_assigned_run)) (answer_to_text (alone adding) (beside not_assigned next) next w [] 2))))
 
 -- ---- `continue` became the end
 
@@ -125,7 +125,7 @@ going_on_run = refl
 pub a_continue_is_no_end : WithCall (alone continuing) (beside going_on step) step → ⊥
 a_continue_is_no_end w =
     printed_otherwise (codes "7\n") [] End.Running End.Running (λ c e. let f : 0 ≡ suc (suc (length c)) = ap length e in absurd (omega (arith, f)))
-    (subst (λ o. UpTo o (printing [] End.Running)) going_on_run (subst (λ o. UpTo (run (beside going_on step) [] 3) o) continuing_run (neither_wrong w.strays (alone continuing) (beside going_on step) [] 3 3 (not_wrong running_apart going_on_run) (not_wrong running_apart continuing_run) (answer_to_text (alone continuing) (beside going_on step) step w [] 3))))
+    (subst (λ o. UpTo o (printing [] End.Running)) going_on_run (subst (λ o. UpTo (run (beside going_on step) [] 3) o) continuing_run (never_strays w.strays (alone continuing) (beside going_on step) [] 3 3 (right_finds (beside going_on step) [] 3 (not_wrong running_apart going_on_run)) (answer_to_text (alone continuing) (beside going_on step) step w [] 3))))
 
 -- ---- one argument for another
 
@@ -153,7 +153,7 @@ pub an_argument_is_its_own : WithCall (alone (two (tree.read (m 8) false (own 0)
 an_argument_is_its_own w =
     printed_otherwise (codes "8\n") (codes "7\n") End.Ended End.Ended (λ c e. let f : 55 ≡ 56 = ap first_of e in absurd (omega (arith, f)))
     (subst (λ o. UpTo o (printing (codes "7\n") End.Ended)) other_run
-    (subst (λ o. UpTo (run (beside (two other_argument) same) [] 2) o) two_run (neither_wrong w.strays (alone (two (tree.read (m 8) false (own 0)))) (beside (two other_argument) same) [] 2 2 (not_wrong ended_apart other_run) (not_wrong ended_apart two_run) (answer_to_text (alone (two (tree.read (m 8) false (own 0)))) (beside (two other_argument) same) same w [] 2))))
+    (subst (λ o. UpTo (run (beside (two other_argument) same) [] 2) o) two_run (never_strays w.strays (alone (two (tree.read (m 8) false (own 0)))) (beside (two other_argument) same) [] 2 2 (right_finds (beside (two other_argument) same) [] 2 (not_wrong ended_apart other_run)) (answer_to_text (alone (two (tree.read (m 8) false (own 0)))) (beside (two other_argument) same) same w [] 2))))
 
 -- ---- a pass has two calls
 
@@ -180,4 +180,4 @@ idling_run = refl
 pub a_pass_has_one_call : WithCall (alone passing) (beside idling idle) idle → ⊥
 a_pass_has_one_call w =
     printed_otherwise (codes "7\n7\n7\n") (codes "7\n7\n") End.Running End.Running (λ c e. let f : 4 ≡ suc (suc (suc (suc (suc (suc (length c)))))) = ap length e in absurd (omega (arith, f)))
-    (subst (λ o. UpTo o (printing (codes "7\n7\n") End.Running)) passing_run (subst (λ o. UpTo (run (alone passing) [] 4) o) idling_run (neither_wrong w.strays (alone passing) (beside idling idle) [] 4 8 (not_wrong running_apart idling_run) (not_wrong running_apart passing_run) (text_to_answer (alone passing) (beside idling idle) idle w [] 4))))
+    (subst (λ o. UpTo o (printing (codes "7\n7\n") End.Running)) passing_run (subst (λ o. UpTo (run (alone passing) [] 4) o) idling_run (never_strays w.strays (alone passing) (beside idling idle) [] 4 8 (right_finds (beside idling idle) [] 8 (not_wrong running_apart idling_run)) (text_to_answer (alone passing) (beside idling idle) idle w [] 4))))

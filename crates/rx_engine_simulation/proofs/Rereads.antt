@@ -1,4 +1,4 @@
--- A program runs as the one in which references are read that it asks for again, unless one leads nowhere.
+-- A program runs as the one in which references are read that it asks for again, unless a value that it asks is none.
 use Rattle.std.proofs.Common.{◌≡◌, ℕ, zero, suc, Bool, true, false, nat_eq, List, [], ◌∷◌, Option, Some, None, refl, sym, ap, ◌∙◌, subst, ◌⊎◌, inl, inr, ℤ, if◌then◌else◌}
 use Rattle.rx_core.specs.declared.types.Step.TheVariants as step
 use Rattle.rx_typed.specs.Tree as tree
@@ -6,12 +6,12 @@ use Rattle.rx_typed.specs.Tree.{Mark, Exp, Operands, Scrutinee, Arms, Body, Para
 use Rattle.rx_lower_walks.specs.Matching.{PartTest, Binding, tests, bindings}
 use Rattle.rx_lower_walks.specs.Actions.{Build, Subject, in_temporary, subject, does}
 use Rattle.rx_lower_walks.specs.Orders.{breaks, continues, returns}
-use Rattle.rx_meaning.specs.Endings.{Cause, astray, wrong, missing_function}
-use Rattle.rx_meaning.specs.Straying.{why_not_found}
-use Rattle.rx_meaning.specs.Values.{Value, number, truth, whole, tagged, pointer, lacking, is_set, and_then, get, element, slot_of, Frame, State, with_turns, new_frame}
+use Rattle.rx_meaning.specs.Endings.{lacks, astray, missing_reference, missing_function, wrong}
+use Rattle.rx_meaning.specs.Straying.{where_some, unlike, why_no_part, why_no_content, why_not_followed}
+use Rattle.rx_meaning.specs.Values.{Value, number, truth, whole, tagged, pointer, lacking, and_then, get, element, slot_of, Frame, State, with_turns, new_frame}
 use Rattle.rx_meaning.specs.Results as results
-use Rattle.rx_meaning.specs.Results.{Result, or_ends, on, jumps, stops, after, bind, result_of}
-use Rattle.rx_meaning.specs.Places.{Spot, in_slot, content, pointed, follow, found, reference_to}
+use Rattle.rx_meaning.specs.Results.{Result, Done, or_ends, on, jumps, stops, after, bind, result_of}
+use Rattle.rx_meaning.specs.Places.{Spot, in_slot, content, pointed, follow, whole_value, reference_to}
 use Rattle.rx_meaning.specs.Acting.{performed, plainly}
 use Rattle.rx_meaning.specs.Patterns.{decided, tested, closed, bound, begun}
 use Rattle.rx_meaning.specs.Expressions as meaning
@@ -20,23 +20,20 @@ use Rattle.rx_meaning.specs.Programs.{Program, IsFront, begins, run, ending, end
 use Rattle.rx_meaning.specs.Telling.{told_by}
 use Rattle.rx_meaning.proofs.Sequences.{closed_is}
 use Rattle.rx_meaning.proofs.Fronts.{front_behind, front_bind, front_passed, told_returned}
-use Rattle.rx_engine_simulation.specs.Turns.{IsNotFound}
 use Rattle.rx_engine_simulation.specs.Astray.{WentAstray}
 use Rattle.rx_engine_simulation.specs.Rereads.{Rereads, is_read, same_read, same_borrow, same_unit, same_input, same_jump, in_share, in_build, in_lazily, in_assign, in_update, in_call, in_print, in_block, in_choose, in_loop, in_give, RereadsAll, in_none, in_operand, RereadsMatched, in_place_of, in_value_of, RereadsArms, in_no_arm, in_arm, RereadsBody, in_end, in_run, in_declare, in_let, IsNoFunction, RereadsEntry, no_function, in_function, RereadsProgram}
-use Rattle.rx_engine_simulation.proofs.Again.{Asked, leads, nowhere, asked_again, not_found_is}
-use Rattle.rx_engine_simulation.proofs.Given.{read_is, again_gives, again_ends}
 
 -- the first is the second, or went astray on the way
 data RunsAs {A : Type 0} : Result ℕ A → Result ℕ A → Type 0 where
   the_same : {r : Result ℕ A} → RunsAs r r
-  went_astray : {o : List ℕ} {c : Cause} {r : Result ℕ A} → IsNotFound c → IsFront o (told_by r) → RunsAs (stops o (wrong c)) r
+  went_astray : {o : List ℕ} {r : Result ℕ A} → IsFront o (told_by r) → RunsAs (stops o (wrong missing_reference)) r
 
 -- ---- parts one behind another
 
 as_after : {A : Type 0} (o : List ℕ) (r r' : Result ℕ A) → RunsAs r r' → RunsAs (after o r) (after o r')
 unfolding after
 as_after o r r' the_same = the_same
-as_after o r r' (went_astray {o = p} n f) = went_astray n (front_behind o p r' f)
+as_after o r r' (went_astray {o = p} f) = went_astray (front_behind o p r' f)
 
 same_bind : {A B : Type 0} (r : Result ℕ A) (go go' : A → State → Result ℕ B) → ((a : A) (s : State) → RunsAs (go a s) (go' a s)) → RunsAs (bind r go) (bind r go')
 unfolding bind
@@ -47,7 +44,7 @@ same_bind (stops o e) go go' k = the_same
 as_bind : {A B : Type 0} (r r' : Result ℕ A) (go go' : A → State → Result ℕ B) → RunsAs r r' → ((a : A) (s : State) → RunsAs (go a s) (go' a s)) → RunsAs (bind r go) (bind r' go')
 unfolding bind
 as_bind r r' go go' the_same k = same_bind r go go' k
-as_bind r r' go go' (went_astray {o = o} n f) k = went_astray n (front_bind o r' go' f)
+as_bind r r' go go' (went_astray {o = o} f) k = went_astray (front_bind o r' go' f)
 
 as_if : {A : Type 0} (b : Bool) (r q r' q' : Result ℕ A) → RunsAs r r' → RunsAs q q' → RunsAs (if b then r else q) (if b then r' else q')
 as_if true r q r' q' h k = h
@@ -64,7 +61,7 @@ same_passed l (stops o e) go go' k = the_same
 as_passed : (l : ℕ) (r r' : Result ℕ Value) (go go' : State → Result ℕ Value) → RunsAs r r' → ((s : State) → RunsAs (go s) (go' s)) → RunsAs (passed l r go) (passed l r' go')
 unfolding passed
 as_passed l r r' go go' the_same k = same_passed l r go go' k
-as_passed l r r' go go' (went_astray {o = o} n f) k = went_astray n (front_passed l o r' go' f)
+as_passed l r r' go go' (went_astray {o = o} f) k = went_astray (front_passed l o r' go' f)
 
 as_turn_at : {A : Type 0} (n : ℕ) (s : State) (go go' : State → Result ℕ A) → ((s : State) → RunsAs (go s) (go' s)) → RunsAs (turn_at n s go) (turn_at n s go')
 as_turn_at zero s go go' k = the_same
@@ -77,7 +74,7 @@ as_turn s go go' k = as_turn_at s.turns s go go' k
 as_returned : (F : Frame) (r r' : Result ℕ Value) → RunsAs r r' → RunsAs (returned plainly F r) (returned plainly F r')
 unfolding returned
 as_returned F r r' the_same = the_same
-as_returned F r r' (went_astray {o = o} n f) = went_astray n (subst (λ w. IsFront o w) (sym (told_returned plainly F r')) f)
+as_returned F r r' (went_astray {o = o} f) = went_astray (subst (λ w. IsFront o w) (sym (told_returned plainly F r')) f)
 
 as_closed : (n n' x : ℕ) (r r' : Result ℕ Value) → RunsAs r r' → RunsAs (closed plainly n x r) (closed plainly n' x r')
 as_closed n n' x r r' k = subst (λ q. RunsAs q (closed plainly n' x r')) (sym (closed_is n x r)) (subst (λ q. RunsAs r q) (sym (closed_is n' x r')) k)
@@ -116,38 +113,45 @@ as_arguments (p ∷ ps) n n' (v ∷ vs) go go' s k = same_bind _ _ _ (λ u s1. s
 
 -- ---- where the reference is read
 
-module _ (P Q : Functions) (low low' : Meaning ℕ) (m : Mark) (z : ℕ) (n w : Bool) (t t' : Temporary) (s : State) where
-  abbrev asks : Result ℕ Value
-  asks = value plainly P low (tree.borrow m true (under (own z) (step.Deref n ∷ []))) t s
+-- by what stands in the variable's slot: where it lacks a value, both end the run for that
+module _ (s : State) where
+  abbrev asked_of : Option Value → Done ℕ
+  asked_of o =
+      or_ends (where_some (and_then o (λ u. get [] u)) (where_some o astray (λ u. why_no_part [] u)) (λ u. where_some (pointed true u) (unlike missing_reference u) (λ to. why_no_content s.memory to)))
+      (and_then (and_then o (λ u. get [] u)) (λ u. and_then (pointed true u) (λ to. Some to))) (λ at. or_ends astray (reference_to true at) (λ v. results.gives [] v s))
 
-  abbrev reads : Result ℕ Value
-  reads = value plainly Q low' (tree.read m w (own z)) t' s
+  abbrev read_of : ℕ → Option Value → Done ℕ
+  read_of i o = or_ends {A = Spot × Value} (where_some o astray (λ u. why_no_part [] u)) (and_then (and_then o (λ u. get [] u)) (λ u. Some (in_slot i [] true, u))) (λ f. or_ends lacks (whole_value f) (λ v. results.gives [] v s))
 
-  none_found : found (under (own z) (step.Deref n ∷ [])) [] s ≡ None → RunsAs asks reads
-  unfolding value result_of
-  none_found e =
-      subst (λ (o : Option (Spot × Value)). RunsAs (result_of (or_ends (why_not_found (under (own z) (step.Deref n ∷ [])) [] s) o (λ f. or_ends astray (reference_to true f.0) (λ v. results.gives [] v s)))) reads) (sym e)
-      (went_astray (not_found_is (under (own z) (step.Deref n ∷ [])) [] s) (_, refl))
+  by_content : (i : ℕ) (o : Option Value) → RunsAs (result_of (asked_of o)) (result_of (read_of i o))
+  unfolding result_of
+  by_content i None = the_same
+  by_content i (Some (pointer q ss b)) = the_same
+  by_content i (Some (lacking l)) = the_same
+  by_content i (Some (number k z)) = went_astray (_, refl)
+  by_content i (Some (truth b)) = went_astray (_, refl)
+  by_content i (Some (whole vs)) = went_astray (_, refl)
+  by_content i (Some (tagged k vs)) = went_astray (_, refl)
 
-  by_value : (i : ℕ) (v : Value) → slot_of s.frame.slots z ≡ Some i → element s.memory i ≡ Some v → Asked true z n i t s v → RunsAs asks reads
-  by_value i v e f (leads q ss b g is) =
-      let set : is_set v ≡ true = ap is_set g in
-      subst (λ r. RunsAs r reads) (sym (again_gives P low m true z n i t (pointer q ss b) s is))
-      (subst (λ r. RunsAs (on [] (pointer q ss b) s) r) (sym (read_is Q low' m w z i t' v s e f set ∙ ap (λ v. on [] v s) g)) the_same)
-  by_value i v e f (nowhere c why is) = subst (λ r. RunsAs r reads) (sym (again_ends P low m true z n i t c s is)) (went_astray why (_, refl))
+  -- by its slot
+  abbrev asked_at : Bool → Option ℕ → Done ℕ
+  asked_at n o =
+      or_ends (where_some (and_then o (λ i. Some (in_slot i [] true))) astray (λ at. why_not_followed s.memory (step.Deref n ∷ []) at)) (and_then (and_then o (λ i. Some (in_slot i [] true))) (λ at. follow s.memory (step.Deref n ∷ []) at))
+      (λ at. or_ends astray (reference_to true at) (λ v. results.gives [] v s))
 
-  at_slot : (i : ℕ) → slot_of s.frame.slots z ≡ Some i → (o : Option Value) → element s.memory i ≡ o → RunsAs asks reads
-  at_slot i e None f = none_found
-      (ap (λ o. and_then (and_then (and_then o (λ i. Some (in_slot i [] true))) (λ at. follow s.memory (step.Deref n ∷ []) at)) (λ at. and_then (content s.memory at) (λ u. Some (at, u)))) e
-      ∙ ap (λ o. and_then (and_then (and_then o (λ u. get [] u)) (λ u. and_then (pointed true u) (λ to. Some to))) (λ at. and_then (content s.memory at) (λ u. Some (at, u)))) f)
-  at_slot i e (Some v) f = by_value i v e f (asked_again true z n i t s v e f)
+  abbrev read_at : Option ℕ → Done ℕ
+  read_at o =
+      or_ends {A = Spot × Value} (where_some (and_then o (λ i. Some (in_slot i [] true))) astray (λ at. why_no_content s.memory at)) (and_then (and_then (and_then o (λ i. Some (in_slot i [] true))) (λ at. Some at)) (λ at. and_then (content s.memory at) (λ u. Some (at, u))))
+      (λ f. or_ends lacks (whole_value f) (λ v. results.gives [] v s))
 
-  at_variable : (o : Option ℕ) → slot_of s.frame.slots z ≡ o → RunsAs asks reads
-  at_variable None e = none_found (ap (λ o. and_then (and_then (and_then o (λ i. Some (in_slot i [] true))) (λ at. follow s.memory (step.Deref n ∷ []) at)) (λ at. and_then (content s.memory at) (λ u. Some (at, u)))) e)
-  at_variable (Some i) e = at_slot i e (element s.memory i) refl
+  by_slot : (n : Bool) (o : Option ℕ) → RunsAs (result_of (asked_at n o)) (result_of (read_at o))
+  unfolding result_of
+  by_slot n None = the_same
+  by_slot n (Some i) = by_content i (element s.memory i)
 
-  read_again : RunsAs asks reads
-  read_again = at_variable (slot_of s.frame.slots z) refl
+read_again : (P Q : Functions) (low low' : Meaning ℕ) (m : Mark) (z : ℕ) (n w : Bool) (t t' : Temporary) (s : State) → RunsAs (value plainly P low (tree.borrow m true (under (own z) (step.Deref n ∷ []))) t s) (value plainly Q low' (tree.read m w (own z)) t' s)
+unfolding value result_of
+read_again P Q low low' m z n w t t' s = by_slot s n (slot_of s.frame.slots z)
 
 -- ---- whole parts
 
@@ -305,7 +309,7 @@ told_outcome (stops w e) = refl
 
 as_outcome : (r r' : Result ℕ Value) → RunsAs r r' → ((outcome_of r ≡ outcome_of r') × (ending_of r ≡ ending_of r')) ⊎ WentAstray true (outcome_of r) (outcome_of r') (ending_of r)
 as_outcome r r' the_same = inl (refl, refl)
-as_outcome r r' (went_astray {c = c} n f) = inr (record { can = refl; cause = c; is_cause = n; ends = refl; front = (f.0, sym (told_outcome r') ∙ f.1) })
+as_outcome r r' (went_astray f) = inr (record { can = refl; ends = refl; front = (f.0, sym (told_outcome r') ∙ f.1) })
 
 pub rereads_run_as : (P Q : Program) → RereadsProgram P Q → (given : List ℤ) (n : ℕ) → ((run P given n ≡ run Q given n) × (ending P given n ≡ ending Q given n)) ⊎ WentAstray true (run P given n) (run Q given n) (ending P given n)
 rereads_run_as P Q w given n =

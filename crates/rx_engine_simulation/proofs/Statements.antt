@@ -7,7 +7,7 @@ use Rattle.rx_lower_walks.specs.Actions.{Action}
 use Rattle.rx_lower_walks.specs.Orders.{order_body}
 use Rattle.rx_meaning.specs.Values.{Value, element, State, with_turns}
 use Rattle.rx_meaning.specs.Results.{Result, stops, bind}
-use Rattle.rx_meaning.specs.Endings.{Cause, wrong}
+use Rattle.rx_meaning.specs.Endings.{missing_reference, wrong}
 use Rattle.rx_meaning.specs.Acting.{plainly}
 use Rattle.rx_meaning.specs.Expressions.{Functions, take_turn, entered, activation, with_arguments, value, values, body, below_level}
 use Rattle.rx_meaning.proofs.Sequences.{bind_bind}
@@ -24,7 +24,7 @@ use Rattle.rx_engine_simulation.specs.Endings.{Last, a_tail, with_last, aim_of, 
 use Rattle.rx_engine_simulation.specs.Statements.{body_of, enters, Calling, Handing, count, StatementsBecomeCall, statements_become_call}
 use Rattle.rx_engine_simulation.proofs.Told.{Told, followed}
 use Rattle.rx_engine_simulation.proofs.Values.{Pair, In, Given}
-use Rattle.rx_engine_simulation.proofs.States.{Direction, Allowance, MayStray, IsNotFound, gain, Turns, weaken, EntryCase, cut_off, extra, entry_case, special, Sight, sight, Renaming, sight_of, Facts, Frozen, StatesAlike, grown_refl}
+use Rattle.rx_engine_simulation.proofs.States.{Direction, Allowance, MayStray, gain, Turns, weaken, EntryCase, cut_off, extra, entry_case, special, Sight, sight, Renaming, sight_of, Facts, Frozen, StatesAlike, grown_refl}
 use Rattle.rx_engine_simulation.proofs.Results.{Jumping, answer_cut, DoAlike}
 use Rattle.rx_engine_simulation.proofs.Parts.{Ready}
 use Rattle.rx_engine_simulation.proofs.Calls.{in_item}
@@ -122,11 +122,11 @@ module _ (items : ℕ → ℕ) (P Q : Functions) (d : Direction) (N : New) (stan
     call_by : (n : ℕ) (mc : Mark) (t : Temporary) (u : ℕ) (p : Admitted n u) → value plainly Q (below_level plainly Q n) (tree.call mc N.number es) t s' ≡ take_turn s' (λ s3. entered plainly (below_level plainly Q n) N.number N.function p.given s3)
     call_by n mc t u p = call_is Q (below_level plainly Q n) mc N.number N.function es p.given t s' stands p.arguments
 
-    -- a reference that is asked for again leads nowhere
-    strayed : (n : ℕ) (mc : Mark) (tc : Temporary) (hand : Value → State → Result ℕ Value) (why : Cause) → IsNotFound why → MayStray d → values plainly Q (below_level plainly Q n) es s' ≡ stops [] (wrong why)
+    -- what is asked again for a reference is none
+    strayed : (n : ℕ) (mc : Mark) (tc : Temporary) (hand : Value → State → Result ℕ Value) → MayStray d → values plainly Q (below_level plainly Q n) es s' ≡ stops [] (wrong missing_reference)
         → DoAlike V d R Z Z' J Given c h j s s' text_does (bind (value plainly Q (below_level plainly Q n) (tree.call mc N.number es) tc s') hand)
     unfolding bind
-    strayed n mc tc hand why is can f = subst (λ q. DoAlike V d R Z Z' J Given c h j s s' text_does (bind q hand)) (sym (call_strays Q (below_level plainly Q n) mc N.number es tc s' why f)) (λ good. answer_cut (can, is) (_, refl))
+    strayed n mc tc hand can f = subst (λ q. DoAlike V d R Z Z' J Given c h j s s' text_does (bind q hand)) (sym (call_strays Q (below_level plainly Q n) mc N.number es tc s' missing_reference f)) (λ good. answer_cut can (_, refl))
 
     cases : (n : ℕ) (mc : Mark) (tc : Temporary) → s'.turns ≤ n → CallsUpTo items P Q d n → (hand : Value → State → Result ℕ Value) → Ends hand n → Outs hand n → (v : ℕ) → v ≡ s'.turns → EntryCase d c1 s.turns v
         → DoAlike V d R Z Z' J Given c h j s s' text_does (bind (value plainly Q (below_level plainly Q n) (tree.call mc N.number es) tc s') hand)
@@ -134,12 +134,12 @@ module _ (items : ℕ → ℕ) (P Q : Functions) (d : Direction) (N : New) (stan
       where
         by : Tried n zero → DoAlike V d R Z Z' J Given c h j s s' text_does (bind (value plainly Q (below_level plainly Q n) (tree.call mc N.number es) tc s') hand)
         by (passes p) = subst (λ q. DoAlike V d R Z Z' J Given c h j s s' text_does q) (sym (ap (λ r. bind r hand) (call_by n mc tc zero p ∙ turned_out s' ev (λ s3. entered plainly (below_level plainly Q n) N.number N.function p.given s3)) ∙ stops_bind hand)) (λ good. answer_cut a (_, refl))
-        by (strays why is can f) = strayed n mc tc hand why is can f
+        by (strays can f) = strayed n mc tc hand can f
     cases n mc tc low' calls hand ends outs v ev (extra {t' = u} k) = by (passed_at n u)
       where
         by : Tried n u → DoAlike V d R Z Z' J Given c h j s s' text_does (bind (value plainly Q (below_level plainly Q n) (tree.call mc N.number es) tc s') hand)
         by (passes p) = subst (λ q. DoAlike V d R Z Z' J Given c h j s s' text_does (bind q hand)) (sym (call_by n mc tc u p ∙ turned_on s' u ev (λ s3. entered plainly (below_level plainly Q n) N.number N.function p.given s3))) (level n u p ev low' calls k hand ends outs)
-        by (strays why is can f) = strayed n mc tc hand why is can f
+        by (strays can f) = strayed n mc tc hand can f
 
   module _ (V : Facts) (J : Jumping) (R Rp Rl Ra Rb Rn : Renaming) (Z Z' : Frozen) (cold : List ℕ) (r r' : Stretch) (la : Last) (rest end : Body) (es : Operands) (mb : Mark) (ls : List (ℕ × ℕ)) (is_cold : AreShut R cold) (absents : Absents Rl Ra)
       (covers : Covers R Ra) (moved : Specials R Ra) (m c c1 : ℕ) (i : ℕ) (t0 : Temporary) (passing : Passing (gain d).strays V R (order_body (before r (with_last la rest)) i t0) (λ x. In x cold) [] es N.function.params Rp) (local : Local V R (order_body (before r (with_last la rest)) i t0) (λ x. In x cold) Rp ls Rl)

@@ -3,7 +3,7 @@ use Rattle.std.proofs.Common.{◌≡◌, ℕ, zero, suc, ◌+◌, ◌*◌, ◌�
 use Rattle.std.proofs.Math.Nat.{suc-mul}
 use Rattle.rx_meaning.specs.Values.{slot_of, State}
 use Rattle.rx_engine_simulation.proofs.Values.{Pair, In}
-pub use Rattle.rx_engine_simulation.specs.Turns.{Direction, shorter, longer, Turns, TextMayStop, AnswerMayStop, MayStray, IsNotFound, TextMayEnd, AnswerMayEnd, Allowance, gain}
+pub use Rattle.rx_engine_simulation.specs.Turns.{Direction, shorter, longer, Turns, TextMayStop, AnswerMayStop, MayStray, TextMayEnd, AnswerMayEnd, Allowance, gain}
 pub use Rattle.rx_engine_simulation.specs.States.{Frozen, Thawed, SameAt, IsPlain, IsThrough, IsCopied, IsViewed, IsSpecial, Binding, Paired, Framed, IsSetAt, StatesAlike, Grown}
 pub use Rattle.rx_engine_simulation.specs.Sights.{How, plain, special, through, copied, viewed, absent, Sight, sight, Renaming, sight_of}
 pub use Rattle.rx_engine_simulation.specs.Histories.{IsRoot, IsOwn, IsWhole, Declares, WritesWhole, WritesOwn, BorrowsOwn, Uses, Kills, Written, Borrowed, Facts, Living, asked, now, later}

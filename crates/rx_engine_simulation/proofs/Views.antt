@@ -9,17 +9,17 @@ use Rattle.rx_meaning.specs.Values.{Value, pointer, State}
 use Rattle.rx_meaning.specs.Results.{Result, gives, on, bind, result_of}
 use Rattle.rx_meaning.specs.Patterns.{took, bound, closed}
 use Rattle.rx_meaning.proofs.Sequences.{bind_on, bind_same}
+use Rattle.rx_meaning.proofs.Reborrows.{reborrow_is}
 use Rattle.rx_meaning.specs.Acting.{performed, plainly}
 use Rattle.rx_meaning.specs.Expressions.{Functions, Meaning, value, body}
 use Rattle.rx_engine_simulation.proofs.Told.{noted, followed}
 use Rattle.rx_engine_simulation.proofs.Values.{Pair, pointers, Given}
-use Rattle.rx_engine_simulation.proofs.States.{Direction, Turns, MayStray, Facts, viewed, sight, Renaming, sight_of, Frozen, IsViewed, StatesAlike}
-use Rattle.rx_engine_simulation.proofs.Results.{Jumping, ResultsAlike, both_on, text_cut, DoAlike}
+use Rattle.rx_engine_simulation.proofs.States.{Direction, Turns, Facts, viewed, sight, Renaming, sight_of, Frozen, IsViewed, StatesAlike}
+use Rattle.rx_engine_simulation.proofs.Results.{Jumping, ResultsAlike, both_on, DoAlike}
 use Rattle.rx_engine_simulation.proofs.Acts.{stays}
-use Rattle.rx_engine_simulation.proofs.Again.{AskedReference, leads_there, leads_nowhere, asked_reference}
 use Rattle.rx_engine_simulation.proofs.Given.{read_is}
 
-module _ (V : Facts) (d : Direction) (R : Renaming) (Z Z' : Frozen) (J : Jumping) (c : ℕ) (h : List Action) (j : List Pair) (s s' : State) (inv : StatesAlike V R Z Z' h j s s') (turns : Turns d c s.turns s'.turns) (can : MayStray d) where
+module _ (V : Facts) (d : Direction) (R : Renaming) (Z Z' : Frozen) (J : Jumping) (c : ℕ) (h : List Action) (j : List Pair) (s s' : State) (inv : StatesAlike V R Z Z' h j s s') (turns : Turns d c s.turns s'.turns) where
   module _ (Q : Functions) (low : Meaning ℕ) (n : ℕ) (m : Mark) (moves r : Bool) (x y : ℕ) (t t' : Temporary) (b : IsViewed Z Z' j s.frame s'.frame x y) where
     abbrev a : Action
     a = does n (Borrow false (under (own x) (step.Deref r ∷ [])) t)
@@ -33,17 +33,12 @@ module _ (V : Facts) (d : Direction) (R : Renaming) (Z Z' : Frozen) (J : Jumping
     reads : answer ≡ on [] (pointer b.target.right b.steps false) s'
     reads = read_is Q low m moves y b.right t' (pointer b.target.right b.steps false) s' b.at_answer (inv.paired.frozen' b.right (pointer b.target.right b.steps false) b.held') refl
 
-    by : AskedReference false x r b.left t s b.target.left b.steps b.flag → ResultsAlike V d R Z Z' J Given c h j s s' (performed followed a [] s) answer
+    viewed_alike : DoAlike V d R Z Z' J Given c h j s s' (performed followed a [] s) answer
     unfolding result_of noted
-    by (leads_there is) =
-        subst (λ q. ResultsAlike V d R Z Z' J Given c h j s s' (result_of (noted a q)) answer) (sym is)
+    viewed_alike good =
+        subst (λ q. ResultsAlike V d R Z Z' J Given c h j s s' (result_of (noted a q)) answer) (sym (reborrow_is x b.left b.target.left b.steps false r b.flag t s b.at_text (inv.paired.frozen b.left (pointer b.target.left b.steps b.flag) b.held)))
         (subst (λ q. ResultsAlike V d R Z Z' J Given c h j s s' (result_of (noted a (gives [] (pointer b.target.left b.steps false) s))) q) (sym reads)
         (both_on j refl (pointers b.target b.is_in (λ e. absurd (false_true e)), refl) (stays V d R Z Z' J c h j s s' inv turns a (λ z k. ⊎_elim (λ e. e) (λ e. e) k))))
-    by (leads_nowhere w why is) =
-        subst (λ q. ResultsAlike V d R Z Z' J Given c h j s s' (result_of (noted a q)) answer) (sym is) (text_cut (can, why) (_, refl))
-
-    viewed_alike : DoAlike V d R Z Z' J Given c h j s s' (performed followed a [] s) answer
-    viewed_alike good = by (asked_reference false x r b.left t s b.target.left b.steps b.flag b.at_text (inv.paired.frozen b.left (pointer b.target.left b.steps b.flag) b.held))
 
   pub view_alike : (Q : Functions) (low : Meaning ℕ) (n : ℕ) (m : Mark) (moves r : Bool) (x y : ℕ) (t t' : Temporary) → sight_of R x ≡ Some (sight y viewed)
       → DoAlike V d R Z Z' J Given c h j s s' (performed followed (does n (Borrow false (under (own x) (step.Deref r ∷ [])) t)) [] s) (value plainly Q low (tree.read m moves (own y)) t' s')

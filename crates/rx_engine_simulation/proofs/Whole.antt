@@ -3,7 +3,7 @@ use Rattle.std.proofs.Common.{◌≡◌, ℕ, ◌+◌, ◌*◌, ◌≤◌, Bool,
 use Rattle.std.proofs.lemmas.List.{append-nil}
 use Rattle.rx_meaning.specs.declared.outcome.End.{End}
 use Rattle.rx_meaning.specs.declared.outcome.Outcome.{Outcome}
-use Rattle.rx_meaning.specs.Endings.{Ending, finished, trapped, running, wrong, missing_value, end_of}
+use Rattle.rx_meaning.specs.Endings.{Ending, finished, trapped, running, wrong, missing_reference, missing_value, end_of}
 use Rattle.rx_meaning.specs.Values.{Value, State}
 use Rattle.rx_meaning.specs.Results.{Result, on, jumps, stops}
 use Rattle.rx_meaning.specs.Acting.{plainly}
@@ -36,14 +36,6 @@ same_outcome _ _ (alike_stop {e = e} t) = ap (λ w. record { printed = w; end = 
 told_is_printed : (P : Program) (given : List ℤ) (n : ℕ) → outcome_by (run_by followed P given n) ≡ run P given n
 told_is_printed P given n = same_outcome _ _ (runs_say plainly P given n)
 
-same_ending : (r' : Result ℕ Value) (r : Result (Told ℕ) Value) → Alike SameSaid r' r → ending_of r ≡ ending_of r'
-same_ending _ _ (alike_on t) = refl
-same_ending _ _ (alike_jump t) = refl
-same_ending _ _ (alike_stop t) = refl
-
-told_ends : (P : Program) (given : List ℤ) (n : ℕ) → ending_of (run_by followed P given n) ≡ ending P given n
-told_ends P given n = same_ending _ _ (runs_say plainly P given n)
-
 printed_by : (r : Result (Told ℕ) Value) → said (told_by r) ≡ (outcome_by r).printed
 printed_by (on w v s) = refl
 printed_by (jumps w x v s) = refl
@@ -60,20 +52,21 @@ outcome w e = record { printed = w; end = e }
 ended : (w w' : List ℕ) (e e' : End) → w ≡ w' → e ≡ e' → outcome w e ≡ outcome w' e'
 ended w w' e e' p q = cc
 
--- where they may, one went astray
+-- where it may, the answer went astray
 abbrev Unless : Bool → Result (Told ℕ) Value → Result ℕ Value → Type 0 → Type 0
-Unless may r r' A = A ⊎ WentAstray may (outcome_of r') (outcome_by r) (ending_of r') ⊎ WentAstray may (outcome_by r) (outcome_of r') (ending_of r)
+Unless may r r' A = A ⊎ WentAstray may (outcome_of r') (outcome_by r) (ending_of r')
 
 module _ (V : Facts) (g : Allowance) (R : Renaming) (Z Z' : Frozen) (J : Jumping) (W : List Pair → Value → Value → Type 0) (c : ℕ) (j : List Pair) (s s' : State) where
   longer_ended : (r : Result (Told ℕ) Value) (o' : List ℕ) (e : Ending) → AnswerMayEnd (longer g) e → IsFront o' (said (told_by r)) → Unless g.strays r (stops o' e) (UpTo (outcome_by r) (outcome_of (stops o' e)))
   longer_ended r o' running m f = absurd m
-  longer_ended r o' (wrong w) m f = inr (inl (record { can = m.0; cause = w; is_cause = m.1; ends = refl; front = (f.0, sym (printed_by r) ∙ f.1) }))
+  longer_ended r o' (wrong missing_reference) m f = inr (record { can = m; ends = refl; front = (f.0, sym (printed_by r) ∙ f.1) })
+  longer_ended r o' (wrong w) m f = absurd m
   longer_ended r o' finished m f = absurd m
   longer_ended r o' (trapped t) m f = absurd m
 
   text_longer : (o : List (Told ℕ)) (e : Ending) (r' : Result ℕ Value) → TextMayEnd (longer g) e → IsFront (said o) (told_by r') → Unless g.strays (stops o e) r' (UpTo (outcome_by (stops o e)) (outcome_of r'))
   text_longer o running r' m f = inl (inr (refl, (f.0, sym (printed_of r') ∙ f.1)))
-  text_longer o (wrong w) r' m f = inr (inr (record { can = m.0; cause = w; is_cause = m.1; ends = refl; front = (f.0, sym (printed_of r') ∙ f.1) }))
+  text_longer o (wrong w) r' m f = absurd m
   text_longer o finished r' m f = absurd m
   text_longer o (trapped t) r' m f = absurd m
 
@@ -86,13 +79,14 @@ module _ (V : Facts) (g : Allowance) (R : Renaming) (Z Z' : Frozen) (J : Jumping
 
   shorter_ended : (r : Result (Told ℕ) Value) (o' : List ℕ) (e : Ending) → AnswerMayEnd (shorter g) e → IsFront o' (said (told_by r)) → Unless g.strays r (stops o' e) (UpTo (outcome_of (stops o' e)) (outcome_by r))
   shorter_ended r o' running m f = inl (inr (refl, (f.0, sym (printed_by r) ∙ f.1)))
-  shorter_ended r o' (wrong w) m f = inr (inl (record { can = m.0; cause = w; is_cause = m.1; ends = refl; front = (f.0, sym (printed_by r) ∙ f.1) }))
+  shorter_ended r o' (wrong missing_reference) m f = inr (record { can = m; ends = refl; front = (f.0, sym (printed_by r) ∙ f.1) })
+  shorter_ended r o' (wrong w) m f = absurd m
   shorter_ended r o' finished m f = absurd m
   shorter_ended r o' (trapped t) m f = absurd m
 
   text_shorter : (o : List (Told ℕ)) (e : Ending) (r' : Result ℕ Value) → TextMayEnd (shorter g) e → IsFront (said o) (told_by r') → Unless g.strays (stops o e) r' (UpTo (outcome_of r') (outcome_by (stops o e)))
   text_shorter o running r' m f = absurd m
-  text_shorter o (wrong w) r' m f = inr (inr (record { can = m.0; cause = w; is_cause = m.1; ends = refl; front = (f.0, sym (printed_of r') ∙ f.1) }))
+  text_shorter o (wrong w) r' m f = absurd m
   text_shorter o finished r' m f = absurd m
   text_shorter o (trapped t) r' m f = absurd m
 
@@ -137,11 +131,9 @@ module _ (items : ℕ → ℕ) (O : Openings) (P Q : Program) where
       (record { inv = states_begin given n n'; turns = t; low = le_refl n; low' = le_refl n'; known = λ x i e. absurd e }) tt)
 
   -- the text's run, without what it tells of its actions
-  plain_text : (may : Bool) (given : List ℤ) (n n' : ℕ) (A : Outcome → Type 0) → A (outcome_by (run_by followed P given n)) ⊎ WentAstray may (run Q given n') (outcome_by (run_by followed P given n)) (ending Q given n') ⊎ WentAstray may (outcome_by (run_by followed P given n)) (run Q given n') (ending_of (run_by followed P given n))
+  plain_text : (may : Bool) (given : List ℤ) (n n' : ℕ) (A : Outcome → Type 0) → A (outcome_by (run_by followed P given n)) ⊎ WentAstray may (run Q given n') (outcome_by (run_by followed P given n)) (ending Q given n')
       → OrAstray may P Q given n n' (A (run P given n))
-  plain_text may given n n' A u =
-      subst (λ o. A o ⊎ WentAstray may (run Q given n') o (ending Q given n') ⊎ WentAstray may o (run Q given n') (ending P given n)) (told_is_printed P given n)
-      (subst (λ e. A (outcome_by (run_by followed P given n)) ⊎ WentAstray may (run Q given n') (outcome_by (run_by followed P given n)) (ending Q given n') ⊎ WentAstray may (outcome_by (run_by followed P given n)) (run Q given n') e) (told_ends P given n) u)
+  plain_text may given n n' A u = subst (λ o. A o ⊎ WentAstray may (run Q given n') o (ending Q given n')) (told_is_printed P given n) u
 
   -- where what is put in place of special parts does alike, the answer is up to the text, and the text to the answer with more turns
   pub answer_up_to_text : (g : Allowance) → OpensAlike items P.functions Q.functions (shorter g) O → LikePrograms items O g P Q → (given : List ℤ) (n : ℕ) → OrAstray g.strays P Q given n n (UpTo (run Q given n) (run P given n))
@@ -180,14 +172,10 @@ both_ways a b (inr f) (inr g) =
     ended_alike : f.1.0 ≡ [] → a ≡ b
     ended_alike e = ended a.printed b.printed a.end b.end (sym (f.1.1 ∙ ap (λ x. a.printed ++ x) e ∙ append-nil a.printed)) (f.0 ∙ sym g.0)
 
--- neither may go astray
-never_astray : {A : Type 0} {o o' u u' : Outcome} {e e' : Ending} → A ⊎ WentAstray false o o' e ⊎ WentAstray false u u' e' → A
+-- it may not go astray
+never_astray : {A : Type 0} {o o' : Outcome} {e : Ending} → A ⊎ WentAstray false o o' e → A
 never_astray (inl a) = a
-never_astray (inr (inl w)) = absurd (false_true w.can)
-  where
-    false_true : false ≡ true → ⊥
-    false_true e = cc
-never_astray (inr (inr w)) = absurd (false_true w.can)
+never_astray (inr w) = absurd (false_true w.can)
   where
     false_true : false ≡ true → ⊥
     false_true e = cc

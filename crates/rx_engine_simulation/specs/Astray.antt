@@ -1,22 +1,20 @@
--- What is said of two runs, unless one goes astray: a reference that is asked for again leads nowhere (Rust Reference, "Behavior
--- considered undefined", on dangling references). It has printed then what the other begins with.
+-- What is said of two runs, unless the answer goes astray: it asks again for the reference in a variable, and what was written there
+-- is none (Rust Reference, "The dereference operator"). It has printed then what the other begins with. That a reference leads
+-- somewhere is not asked: one that dangles is that reference again.
 use Rattle.std.specs.Prelude.{◌≡◌, ℕ, ℤ, Bool, true, List, ◌⊎◌}
-use Rattle.rx_meaning.specs.declared.outcome.End.{End}
 use Rattle.rx_meaning.specs.declared.outcome.Outcome.{Outcome}
-use Rattle.rx_meaning.specs.Endings.{Cause, Ending, wrong}
+use Rattle.rx_meaning.specs.Endings.{missing_reference, Ending, wrong}
 use Rattle.rx_meaning.specs.Programs.{Program, run, ending, IsFront}
-use Rattle.rx_engine_simulation.specs.Turns.{IsNotFound}
 
 pub record WentAstray (may : Bool) (o other : Outcome) (e : Ending) : Type 0 where
   pub can : may ≡ true
-  pub cause : Cause
-  pub is_cause : IsNotFound cause
-  pub ends : e ≡ wrong cause
+  pub ends : e ≡ wrong missing_reference
   pub front : IsFront o.printed other.printed
 
--- with so many turns each: the answer, or the text
+-- with so many turns each
 abbrev pub OrAstray : Bool → Program → Program → List ℤ → ℕ → ℕ → Type 0 → Type 0
-OrAstray may P Q given n k A = A ⊎ WentAstray may (run Q given k) (run P given n) (ending Q given k) ⊎ WentAstray may (run P given n) (run Q given k) (ending P given n)
+OrAstray may P Q given n k A = A ⊎ WentAstray may (run Q given k) (run P given n) (ending Q given k)
 
-abbrev pub IsNotWrong : Outcome → Type 0
-IsNotWrong o = o.end ≡ End.Wrong → ⊥
+-- with these turns a run does not follow what is no reference
+abbrev pub FindsReferences : Program → List ℤ → ℕ → Type 0
+FindsReferences P given n = ending P given n ≡ wrong missing_reference → ⊥

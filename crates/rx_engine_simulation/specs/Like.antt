@@ -25,7 +25,7 @@ mutual
     reads : {k : ℕ} {J : Jumping} {R : Renaming} {m m' : Mark} {v v' : Bool} {p p' : Place} → LikePlace R looking p p' → LikeExp items O gain V k J R (tree.read m v p) (tree.read m' v' p')
     borrows : {k : ℕ} {J : Jumping} {R : Renaming} {m m' : Mark} {b : Bool} {p p' : Place} → LikePlace R (use_of b) p p' → LikeExp items O gain V k J R (tree.borrow m b p) (tree.borrow m' b p')
     -- a reference asked for again, where the answer has a shared one
-    views : {k x y : ℕ} {J : Jumping} {R : Renaming} {m m' : Mark} {n moves : Bool} → gain.strays ≡ true → sight_of R x ≡ Some (sight y viewed) → LikeExp items O gain V k J R (tree.borrow m false (under (own x) (step.Deref n ∷ []))) (tree.read m' moves (own y))
+    views : {k x y : ℕ} {J : Jumping} {R : Renaming} {m m' : Mark} {n moves : Bool} → sight_of R x ≡ Some (sight y viewed) → LikeExp items O gain V k J R (tree.borrow m false (under (own x) (step.Deref n ∷ []))) (tree.read m' moves (own y))
     shares : {k : ℕ} {J : Jumping} {R : Renaming} {m m' : Mark} {e e' : Exp} → LikeExp items O gain V k J R e e' → LikeExp items O gain V k J R (tree.share m e) (tree.share m' e')
     builds : {k : ℕ} {J : Jumping} {R : Renaming} {m m' : Mark} {w : Making} {es es' : Operands} → Fitting w (fields_of es) → LikeAll items O gain V k J R es es' → LikeExp items O gain V k J R (tree.build m w es) (tree.build m' w es')
     -- a value doesn't say which item its struct or enum is

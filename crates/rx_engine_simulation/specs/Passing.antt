@@ -25,7 +25,8 @@ abbrev pub AreShut : Renaming → List ℕ → Type 0
 AreShut R cold = (x : ℕ) → In x cold → (y : ℕ) × (sight_of R x ≡ Some (sight y (plain shut)))
 
 -- The operands of the call, the parameters, and how the new function has the text's variables then: from those so far to all. What
--- is moved is asked to be needed where a walk of the text comes to the part; and to be written, as what is copied.
+-- is moved is asked to be needed where a walk of the text comes to the part; and to be written, as what is copied, and a variable whose
+-- reference is asked for again.
 pub data Passing (may : Bool) (V : Facts) (R : Renaming) (part : Order) (Cold : ℕ → Type 0) : Renaming → Operands → List Parameter → Renaming → Type 0 where
   passes_none : {Rp : Renaming} → Passing may V R part Cold Rp tree.no_operand [] Rp
   passes_move : {Rp Rf : Renaming} {x y i : ℕ} {m : Mark} {moves : Bool} {p : Parameter} {es : Operands} {ps : List Parameter} → sight_of R x ≡ Some (sight y special) → (Cold x → ⊥)
@@ -39,14 +40,14 @@ pub data Passing (may : Bool) (V : Facts) (R : Renaming) (part : Order) (Cold : 
       → Passing may V R part Cold ((x, sight p.variable (through w k)) ∷ Rp) es ps Rf → Passing may V R part Cold Rp (tree.operand_and i (tree.borrow m k (own y)) es) (p ∷ ps) Rf
   -- the reference that moves
   passes_again : {Rp Rf : Renaming} {x y i : ℕ} {m : Mark} {n : Bool} {p : Parameter} {es : Operands} {ps : List Parameter} → may ≡ true → sight_of R x ≡ Some (sight y special) → (Cold x → ⊥)
-      → ((h : List Action) → V.Comes part h → Living V x h) → sight_of Rp x ≡ None → IsNew Rp p.variable
+      → ((h : List Action) → V.Comes part h → Living V x h) → ((h : List Action) → V.Comes part h → Written h x) → sight_of Rp x ≡ None → IsNew Rp p.variable
       → Passing may V R part Cold ((x, sight p.variable special) ∷ Rp) es ps Rf → Passing may V R part Cold Rp (tree.operand_and i (reborrow_of m true y n) es) (p ∷ ps) Rf
   -- one that stays: only what it leads to is written, or looked at
   passes_reborrow : {Rp Rf : Renaming} {x y i : ℕ} {m : Mark} {n : Bool} {p : Parameter} {es : Operands} {ps : List Parameter} → may ≡ true → sight_of R x ≡ Some (sight y (plain shut)) → Cold x
-      → sight_of Rp x ≡ None → IsNew Rp p.variable
+      → ((h : List Action) → V.Comes part h → Written h x) → sight_of Rp x ≡ None → IsNew Rp p.variable
       → Passing may V R part Cold ((x, sight p.variable copied) ∷ Rp) es ps Rf → Passing may V R part Cold Rp (tree.operand_and i (reborrow_of m true y n) es) (p ∷ ps) Rf
   passes_view : {Rp Rf : Renaming} {x y i : ℕ} {m : Mark} {n : Bool} {p : Parameter} {es : Operands} {ps : List Parameter} → may ≡ true → sight_of R x ≡ Some (sight y (plain shut)) → Cold x
-      → sight_of Rp x ≡ None → IsNew Rp p.variable
+      → ((h : List Action) → V.Comes part h → Written h x) → sight_of Rp x ≡ None → IsNew Rp p.variable
       → Passing may V R part Cold ((x, sight p.variable viewed) ∷ Rp) es ps Rf → Passing may V R part Cold Rp (tree.operand_and i (reborrow_of m false y n) es) (p ∷ ps) Rf
 
 -- variables of the new function without a value, by their statements' nodes: variables of the text that nothing needs at the part

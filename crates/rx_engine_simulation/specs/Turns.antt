@@ -1,14 +1,14 @@
 -- Which of two runs may be cut off, by how many turns each has left. The text is the program that was there first, the answer the
--- one that was made from it. A turn is a call of a function or a pass of a loop. And whether they may go astray, where one asks
--- for a reference again.
+-- one that was made from it. A turn is a call of a function or a pass of a loop. And whether the answer may go astray, where it
+-- asks again for the reference in a variable.
 use Rattle.std.specs.Prelude.{◌≡◌, ℕ, Bool, true, ◌+◌, ◌*◌, ◌≤◌}
-use Rattle.rx_meaning.specs.Endings.{Cause, lacks, astray, Ending, running, wrong}
+use Rattle.rx_meaning.specs.Endings.{missing_reference, Ending, running, wrong}
 
 -- what the answer is allowed
 pub record Allowance : Type 0 where
   -- so many further turns for each of the text
   pub turns : ℕ
-  -- to go astray, and the text too: where one asks for a reference again
+  -- to go astray: to ask again for the reference in a variable whose value is none
   pub strays : Bool
 
 pub data Direction : Type 0 where
@@ -38,19 +38,12 @@ AnswerMayStop (longer g) = ⊥
 abbrev pub MayStray : Direction → Type 0
 MayStray d = (gain d).strays ≡ true
 
--- why nothing is found where a place leads
-abbrev pub IsNotFound : Cause → Type 0
-IsNotFound lacks = Unit {0}
-IsNotFound astray = Unit {0}
-IsNotFound _ = ⊥
-
 -- how the text may end where the answer goes on, and the answer where the text does
 abbrev pub TextMayEnd : Direction → Ending → Type 0
 TextMayEnd d running = TextMayStop d
-TextMayEnd d (wrong c) = MayStray d × IsNotFound c
 TextMayEnd d _ = ⊥
 
 abbrev pub AnswerMayEnd : Direction → Ending → Type 0
 AnswerMayEnd d running = AnswerMayStop d
-AnswerMayEnd d (wrong c) = MayStray d × IsNotFound c
+AnswerMayEnd d (wrong missing_reference) = MayStray d
 AnswerMayEnd d _ = ⊥

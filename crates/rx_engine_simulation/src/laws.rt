@@ -16,7 +16,7 @@ ghost use Rattle.rx_engine_simulation.specs.Arrivals.{to_rest, Arrives};
 ghost use Rattle.rx_engine_simulation.specs.Marks.{closed_by};
 ghost use Rattle.rx_engine_simulation.specs.Endings.{a_marked, an_end, with_last, aim_of};
 ghost use Rattle.rx_engine_simulation.specs.Variants.{at_marked};
-ghost use Rattle.rx_engine_simulation.specs.Astray.{WentAstray, OrAstray, IsNotWrong};
+ghost use Rattle.rx_engine_simulation.specs.Astray.{WentAstray, OrAstray, FindsReferences};
 ghost use Rattle.rx_engine_simulation.specs.Rereads.{RereadsProgram};
 
 /// A program that is the text but for the numbers of nodes, items, loops and variables has the text's runs.
@@ -26,8 +26,9 @@ pub fn renamed_programs_run_alike()
 
 /// A program in which calls of a new function stand for expressions or statements of the text does what the text does, with as many
 /// turns up to where it is cut off; and the text is up to it with twice as many. Variables move into the function, are copied or lent;
-/// values of some are handed back, and a jump out of the statements is a variant of the result. Where references are asked for again, in
-/// the call or in the text, this is so unless one goes astray there: it is Wrong, having printed what the other begins with.
+/// values of some are handed back, and a jump out of the statements is a variant of the result. Where the call asks again for the
+/// reference in a variable, this is so unless the value there is no reference: then the answer is Wrong for that, having printed what the
+/// text begins with.
 pub fn calls_run_as_what_they_stand_for()
     ensures answer { (P Q : Program) (N : New) (w : WithCall P Q N) → (given : ListOf ℤ) (n : ℕ)
         → OrAstray w.strays P Q given n n (UpTo (run Q given n) (run P given n)) }
@@ -36,19 +37,20 @@ pub fn calls_run_as_what_they_stand_for()
 {}
 
 /// A program runs as the one in which the references that variables hold are read where it asks for them again, as a coercion does;
-/// unless one leads nowhere there: then it is Wrong, having printed what the other begins with.
+/// wherever they lead, unless a value there is no reference: then it is Wrong for that, having printed what the other begins with.
 pub fn reborrows_run_as_reads()
     ensures { (P Q : Program) → RereadsProgram P Q → (given : ListOf ℤ) (n : ℕ)
         → ((run P given n ≡ run Q given n) × (ending P given n ≡ ending Q given n)) ⊎ WentAstray true (run P given n) (run Q given n) (ending P given n) }
 {}
 
-/// So where a text and its answer are not Wrong on an input, with these turns, they do the same up to the turns: the answer has calls of
-/// a new function for expressions or statements of the text, if the references that it asks for again are read.
-pub fn right_runs_are_alike()
-    ensures answer { (P Q M : Program) (N : New) → WithCall P M N → RereadsProgram Q M → (given : ListOf ℤ) (n : ℕ) → IsNotWrong (run P given n)
-        → IsNotWrong (run Q given n) → UpTo (run Q given n) (run P given n) }
-    ensures text { (P Q M : Program) (N : New) → WithCall P M N → RereadsProgram Q M → (given : ListOf ℤ) (n : ℕ) → IsNotWrong (run P given n)
-        → IsNotWrong (run Q given (2 * n)) → UpTo (run P given n) (run Q given (2 * n)) }
+/// So where the answer follows nothing that is no reference, on an input and with these turns, text and answer do the same up to the
+/// turns, Wrong or not: the answer has calls of a new function for expressions or statements of the text, if the references that it asks
+/// for again are read.
+pub fn runs_with_references_are_alike()
+    ensures answer { (P Q M : Program) (N : New) → WithCall P M N → RereadsProgram Q M → (given : ListOf ℤ) (n : ℕ) → FindsReferences Q given n
+        → UpTo (run Q given n) (run P given n) }
+    ensures text { (P Q M : Program) (N : New) → WithCall P M N → RereadsProgram Q M → (given : ListOf ℤ) (n : ℕ) → FindsReferences Q given (2 * n)
+        → UpTo (run P given n) (run Q given (2 * n)) }
 {}
 
 /// A text with marks at the points of runs, and reads where runs are entered, of variables that were written there, has the text's runs.
@@ -63,16 +65,16 @@ pub fn marked_trees_are_marked()
 {}
 
 /// So where calls of a new function stand for expressions or statements of a text with marks, the answer does what the text without them does,
-/// up to the turns; or one goes astray, the answer or the text with marks.
+/// up to the turns; or the answer goes astray.
 pub fn marked_calls_run_as_the_text()
     ensures answer { (P T Q : Program) (N : New) → Marked T P → (w : WithCall T Q N) → (given : ListOf ℤ) (n : ℕ)
         → OrAstray w.strays T Q given n n (UpTo (run Q given n) (run P given n)) }
     ensures text { (P T Q : Program) (N : New) → Marked T P → (w : WithCall T Q N) → (given : ListOf ℤ) (n : ℕ)
         → OrAstray w.strays T Q given n (2 * n) (UpTo (run P given n) (run Q given (2 * n))) }
-    ensures right_answer { (P T Q M : Program) (N : New) → Marked T P → WithCall T M N → RereadsProgram Q M → (given : ListOf ℤ) (n : ℕ) → IsNotWrong (run P given n)
-        → IsNotWrong (run Q given n) → UpTo (run Q given n) (run P given n) }
-    ensures right_text { (P T Q M : Program) (N : New) → Marked T P → WithCall T M N → RereadsProgram Q M → (given : ListOf ℤ) (n : ℕ) → IsNotWrong (run P given n)
-        → IsNotWrong (run Q given (2 * n)) → UpTo (run P given n) (run Q given (2 * n)) }
+    ensures found_answer { (P T Q M : Program) (N : New) → Marked T P → WithCall T M N → RereadsProgram Q M → (given : ListOf ℤ) (n : ℕ) → FindsReferences Q given n
+        → UpTo (run Q given n) (run P given n) }
+    ensures found_text { (P T Q M : Program) (N : New) → Marked T P → WithCall T M N → RereadsProgram Q M → (given : ListOf ℤ) (n : ℕ) → FindsReferences Q given (2 * n)
+        → UpTo (run P given n) (run Q given (2 * n)) }
 {}
 
 /// Where a history arrives behind a mark of the text (behind statements, behind a last one, or in front of a jump), or behind what the

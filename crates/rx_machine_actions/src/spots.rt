@@ -1,7 +1,6 @@
 //! Where places lead, and what is read, borrowed and written there.
 
-ghost use Rattle.std.specs.Prelude.{◌≡◌, [], ◌∷◌, true, false, IfOk, option_map};
-ghost use Rattle.rx_core.specs.declared.types.Step.TheVariants.{Deref};
+ghost use Rattle.std.specs.Prelude.{◌≡◌, [], true, false, IfOk, option_map};
 ghost use Rattle.rx_meaning.specs.Values.{and_then};
 ghost use Rattle.rx_meaning.specs.Places as places;
 ghost use Rattle.rx_meaning.specs.Places.{in_slot, in_value, whole_value, reference_to as plain_reference};
@@ -223,23 +222,7 @@ fn reference_to(alloc: Global, at: Spot, mutable: bool) -> Result<Option<Value>,
     }
 }
 
-/// A reference to a place at which something stands.
-fn reference(
-    alloc: Global,
-    memory: &Memory,
-    at: Spot,
-    mutable: bool,
-) -> Result<Option<Value>, AllocError>
-    ensures { IfOk result (λ it. option_map plain-Value it
-        ≡ and_then (places.content (plain-Memory memory.now) (plain-Spot at.entry)) (λ v. plain_reference mutable (plain-Spot at.entry))) }
-{
-    match content(memory, &at) {
-        Some(_) => reference_to(alloc, at, mutable),
-        None => Ok(None),
-    }
-}
-
-/// A reference to where the steps lead; none where that is Wrong.
+/// A reference to where the steps lead, whatever stands there; none where that is Wrong.
 pub fn borrow(
     alloc: Global,
     memory: &Memory,
@@ -248,10 +231,10 @@ pub fn borrow(
     mutable: bool,
 ) -> Result<Option<Value>, AllocError>
     ensures { IfOk result (λ it. option_map plain-Value it
-        ≡ and_then (found_from (plain-Memory memory.now) (plain-Spot from.entry) steps.now) (λ f. plain_reference mutable f.0)) }
+        ≡ and_then (places.follow (plain-Memory memory.now) steps.now (plain-Spot from.entry)) (λ at. plain_reference mutable at)) }
 {
     match followed(alloc, memory, from, steps)? {
-        Some(at) => reference(alloc, memory, at, mutable),
+        Some(at) => reference_to(alloc, at, mutable),
         None => Ok(None),
     }
 }
@@ -340,31 +323,21 @@ pub fn write(
 }
 
 #[tactic(auto, using(rx_machine_values::proofs::ValueRules::value_rules))]
-fn share_pointer(memory: &Memory, pointer: Box<Pointer>) -> Option<Value>
-    ensures { option_map plain-Value result
-        ≡ and_then (found_from (plain-Memory memory.now) (in_value (plain-Pointer pointer.value)) (Deref true ∷ [])) (λ f. plain_reference false f.0) }
+fn share_pointer(pointer: Box<Pointer>) -> Option<Value>
+    ensures { option_map plain-Value result ≡ and_then (places.pointed true (plain-Pointer pointer.value)) (λ at. plain_reference false at) }
 {
-    match memory.content(pointer.slot, pointer.path.as_slice()) {
-        Some(_) => {
-            let mut pointer = pointer;
-            pointer.mutable = false;
-            Some(Value::Pointer(pointer))
-        }
-        None => {
-            Value::Pointer(pointer).let_go();
-            None
-        }
-    }
+    let mut pointer = pointer;
+    pointer.mutable = false;
+    Some(Value::Pointer(pointer))
 }
 
-/// A mutable reference as a shared one; none where nothing stands where it leads.
+/// A mutable reference as a shared one; none where the value is no reference.
 #[tactic(auto, using(rx_machine_values::proofs::ValueRules::value_rules))]
-pub fn share(memory: &Memory, value: Value) -> Option<Value>
-    ensures { option_map plain-Value result
-        ≡ and_then (found_from (plain-Memory memory.now) (in_value (plain-Value value)) (Deref true ∷ [])) (λ f. plain_reference false f.0) }
+pub fn share(value: Value) -> Option<Value>
+    ensures { option_map plain-Value result ≡ and_then (places.pointed true (plain-Value value)) (λ at. plain_reference false at) }
 {
     match value {
-        Value::Pointer(pointer) => share_pointer(memory, pointer),
+        Value::Pointer(pointer) => share_pointer(pointer),
         Value::Number(_) | Value::Truth(_) | Value::Unit | Value::Lacking(_) => None,
         Value::Whole(parts) => {
             Value::Whole(parts).let_go();

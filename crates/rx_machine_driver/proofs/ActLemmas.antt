@@ -14,7 +14,7 @@ use Rattle.rx_lower_walks.specs.Actions.{Read, Borrow, Write, Print, Input, Buil
 use Rattle.rx_meaning.specs.declared.outcome.End.{End}
 use Rattle.rx_meaning.specs.Values as values
 use Rattle.rx_meaning.specs.Values.{and_then, slot_of, State, with_memory}
-use Rattle.rx_meaning.specs.Places.{Spot, in_slot, in_value, found, follow, content, whole_value, reference_to, after_write}
+use Rattle.rx_meaning.specs.Places.{Spot, in_slot, pointed, spot, found, follow, content, whole_value, reference_to, after_write}
 use Rattle.rx_meaning.specs.Endings.{Cause}
 use Rattle.rx_meaning.specs.Straying.{why_not_found, why_not_written, why_not_checked}
 use Rattle.rx_meaning.specs.Results.{Done, gives, or_ends}
@@ -35,7 +35,7 @@ use Rattle.rx_machine_driver.specs.declared.data.Step.{Step}
 use Rattle.rx_machine_driver.specs.declared.data.Step.TheVariants as step_to
 use Rattle.rx_machine_direct.specs.Direct.{recorded}
 use Rattle.rx_machine_driver.specs.Fitting.{Fits, plain-Turn}
-use Rattle.rx_machine_driver.specs.Running.{found_at, IsGiven, IsMade, IsDone, IsWrittenBack, IsModified, IsDecided, Follows, Leads}
+use Rattle.rx_machine_driver.specs.Running.{spot_at, found_at, IsGiven, IsMade, IsDone, IsWrittenBack, IsModified, IsDecided, Follows, Leads}
 
 -- ---- the same machine, or with other memory or input
 
@@ -48,6 +48,15 @@ leads_as old x y new to e h = subst (λ z. Leads old z new to) (sym e) h
 -- ---- places
 
 -- where a place of the text leads
+pub spot_is : (m : Machine) (t : ℕ) (K : List Around) (s : State) (x : ℕ) (ss : List PlaceStep) → Fits m t K s → spot (record { root = tree.variable x; steps = ss }) [] s ≡ spot_at m x ss
+spot_is m t K s x ss f = by_slot (slot_of s.frame.slots x) ∙ ap (λ o. and_then o (λ i. follow s.memory ss (in_slot i [] true))) (f.slots x)
+    ∙ ap (λ M. and_then (recorded m.slots.table.items x) (λ i. follow M ss (in_slot i [] true))) (sym f.memory)
+  where
+    by_slot : (o : Option ℕ) → and_then (and_then o (λ i. Some (in_slot i [] true))) (λ at. follow s.memory ss at) ≡ and_then o (λ i. follow s.memory ss (in_slot i [] true))
+    by_slot None = refl
+    by_slot (Some i) = refl
+
+-- and what stands there
 pub found_is : (m : Machine) (t : ℕ) (K : List Around) (s : State) (x : ℕ) (ss : List PlaceStep) → Fits m t K s → found (record { root = tree.variable x; steps = ss }) [] s ≡ found_at m x ss
 found_is m t K s x ss f = by_slot (slot_of s.frame.slots x) ∙ ap (λ o. and_then o (λ i. found_from s.memory (in_slot i [] true) ss)) (f.slots x)
     ∙ ap (λ M. and_then (recorded m.slots.table.items x) (λ i. found_from M (in_slot i [] true) ss)) (sym f.memory)
@@ -68,11 +77,11 @@ given_follows m t K s x c None (step_to.Turn u) f g = absurd g
 given_follows m t K s x c None (step_to.End e) f g = (g, nothing_more m)
 
 -- what stands at a place, or a reference to it, comes next
-found_follows : (m : Machine) (t : ℕ) (K : List Around) (s : State) (x : frames.Next) (c : Cause) (p q : Option (Spot × values.Value)) (d : Cause) (h : Spot × values.Value → Option values.Value) (to : Step) → Fits m t K s → p ≡ q
+found_follows : {A : Type 0} (m : Machine) (t : ℕ) (K : List Around) (s : State) (x : frames.Next) (c : Cause) (p q : Option A) (d : Cause) (h : A → Option values.Value) (to : Step) → Fits m t K s → p ≡ q
     → IsGiven (and_then q h) to → Follows t m x K s (done K (or_ends c p (λ f. or_ends d (h f) (λ v. gives [] v s)))) m to
-found_follows m t K s x c p q d h to f e g = by p (subst (λ o. IsGiven (and_then o h) to) (sym e) g)
+found_follows {A = A} m t K s x c p q d h to f e g = by p (subst (λ o. IsGiven (and_then o h) to) (sym e) g)
   where
-    by : (p : Option (Spot × values.Value)) → IsGiven (and_then p h) to → Follows t m x K s (done K (or_ends c p (λ f. or_ends d (h f) (λ v. gives [] v s)))) m to
+    by : (p : Option A) → IsGiven (and_then p h) to → Follows t m x K s (done K (or_ends c p (λ f. or_ends d (h f) (λ v. gives [] v s)))) m to
     by None g = given_follows m t K s x c None to f g
     by (Some a) g = given_follows m t K s x d (h a) to f g
 
@@ -80,14 +89,18 @@ pub reads_lead : (m : Machine) (b : Bool) (p : Place) (to : Step) → IsGiven (a
     → Leads m (frames.performs (Read b (plain-Place p) nowhere) []) m to
 reads_lead m b p to g = λ t K s f. found_follows m t K s _ _ _ _ _ (λ f. whole_value f) to f (found_is m t K s p.var p.steps f) g
 
-pub borrows_lead : (m : Machine) (k : Bool) (p : Place) (to : Step) → IsGiven (and_then (found_at m p.var p.steps) (λ f. reference_to k f.0)) to
+pub borrows_lead : (m : Machine) (k : Bool) (p : Place) (to : Step) → IsGiven (and_then (spot_at m p.var p.steps) (λ at. reference_to k at)) to
     → Leads m (frames.performs (Borrow k (plain-Place p) nowhere) []) m to
-borrows_lead m k p to g = λ t K s f. found_follows m t K s _ _ _ _ _ (λ f. reference_to k f.0) to f (found_is m t K s p.var p.steps f) g
+borrows_lead m k p to g = λ t K s f. found_follows m t K s _ _ _ _ _ (λ at. reference_to k at) to f (spot_is m t K s p.var p.steps f) g
 
 -- a value that is held
-pub shares_lead : (m : Machine) (v : values.Value) (to : Step) → IsGiven (and_then (found_from (plain-Memory m.memory) (in_value v) (PlaceStep.Deref true ∷ [])) (λ f. reference_to false f.0)) to
+pub shares_lead : (m : Machine) (v : values.Value) (to : Step) → IsGiven (and_then (pointed true v) (λ at. reference_to false at)) to
     → Leads m (frames.performs (Borrow false (tree.under (tree.held nowhere) (PlaceStep.Deref true ∷ [])) nowhere) (v ∷ [])) m to
-shares_lead m v to g = λ t K s f. found_follows m t K s _ _ _ _ _ (λ f. reference_to false f.0) to f (ap (λ M. found_from M (in_value v) (PlaceStep.Deref true ∷ [])) (sym f.memory)) g
+shares_lead m v to g = λ t K s f. found_follows m t K s _ _ _ _ _ (λ at. reference_to false at) to f (by (pointed true v)) g
+  where
+    by : (o : Option Spot) → and_then o (λ at. Some at) ≡ o
+    by None = refl
+    by (Some at) = refl
 
 -- ---- what leaves the frames and the variables
 

@@ -14,7 +14,6 @@ use Rattle.rx_machine_values.specs.PlainMemory.{plain-Memory}
 use Rattle.rx_machine_values.specs.PlainValues.{plain-Value}
 use Rattle.rx_machine_values.specs.Reaching.{stepped, reached}
 use Rattle.rx_machine_values.proofs.ReachLemmas.{led, none_there, reached_is}
-use Rattle.rx_machine_actions.specs.PlainActs.{found_from}
 use Rattle.rx_machine_actions.specs.Matching as matching
 use Rattle.rx_machine_actions.specs.Matching.{deeper}
 use Rattle.rx_machine_frames.specs.Choosing.{both, holds, all_hold, if_holds, first_arm, takes}
@@ -26,7 +25,7 @@ use Rattle.rx_machine_driver.specs.declared.data.Machine.{Machine}
 use Rattle.rx_machine_direct.specs.Direct.{recorded}
 use Rattle.rx_machine_driver.specs.Fitting.{Fits}
 use Rattle.rx_machine_driver.specs.Binding.{taken_of, seen_at, arm_of}
-use Rattle.rx_machine_driver.proofs.ActLemmas.{found_is}
+use Rattle.rx_machine_driver.proofs.ActLemmas.{spot_is, found_is}
 
 -- ---- what stands where steps lead
 
@@ -154,7 +153,7 @@ arm_is m t K s S l f =
     first_is (plain-Subject S) (held_of S) s l ∙ ap (λ o. arm_of s.memory o l) (seen_is m t K s S f) ∙ ap (λ M. arm_of M (seen_at m S) l) (sym f.memory)
 
 pub taken_is : (m : Machine) (t : ℕ) (K : List Around) (s : State) (d : Mode) (S : Subject) (ss : List PlaceStep) → Fits m t K s → takes d (plain-Subject S) ss (held_of S) s ≡ taken_of m d S ss
-taken_is m t K s (by_reference k) (subject.Place p) ss f = ap (λ o. and_then o (λ f. reference_to k f.0)) (found_is m t K s p.now.var (p.now.steps ++ ss) f)
-taken_is m t K s (by_reference k) (subject.Held n v) ss f = ap (λ M. and_then (found_from M (in_value (plain-Value v)) ss) (λ f. reference_to k f.0)) (sym f.memory)
+taken_is m t K s (by_reference k) (subject.Place p) ss f = ap (λ o. and_then o (λ at. reference_to k at)) (spot_is m t K s p.now.var (p.now.steps ++ ss) f)
+taken_is m t K s (by_reference k) (subject.Held n v) ss f = ap (λ M. and_then (follow M ss (in_value (plain-Value v))) (λ at. reference_to k at)) (sym f.memory)
 taken_is m t K s (by_value b) (subject.Place p) ss f = ap (λ o. and_then o (λ f. whole_value f)) (found_is m t K s p.now.var (p.now.steps ++ ss) f)
 taken_is m t K s (by_value b) (subject.Held n v) ss f = refl

@@ -12,7 +12,6 @@ use Rattle.rx_meaning.specs.Places.{in_slot, in_value, follow, content, whole_va
 use Rattle.rx_machine_values.specs.declared.value.Value.{Value}
 use Rattle.rx_machine_values.specs.PlainValues.{plain-Value}
 use Rattle.rx_machine_values.specs.PlainMemory.{plain-Memory}
-use Rattle.rx_machine_actions.specs.PlainActs.{found_from}
 use Rattle.rx_machine_actions.specs.Matching as matching
 use Rattle.rx_machine_frames.specs.Choosing.{if_holds, bind_all}
 use Rattle.rx_machine_frames.specs.Frames as frames
@@ -23,12 +22,12 @@ use Rattle.rx_machine_driver.specs.declared.data.Machine.{Machine}
 use Rattle.rx_machine_driver.specs.declared.data.Step.{Step}
 use Rattle.rx_machine_driver.specs.declared.data.Step.TheVariants as step_to
 use Rattle.rx_machine_direct.specs.Direct.{recorded}
-use Rattle.rx_machine_driver.specs.Running.{found_at, Changes}
+use Rattle.rx_machine_driver.specs.Running.{spot_at, found_at, Changes}
 
 -- what a binding takes of what is matched
 abbrev pub taken_of : Machine → Mode → Subject → List PlaceStep → Option values.Value
-taken_of m (by_reference k) (subject.Place p) ss = and_then (found_at m p.now.var (p.now.steps ++ ss)) (λ f. reference_to k f.0)
-taken_of m (by_reference k) (subject.Held n v) ss = and_then (found_from (plain-Memory m.memory) (in_value (plain-Value v)) ss) (λ f. reference_to k f.0)
+taken_of m (by_reference k) (subject.Place p) ss = and_then (spot_at m p.now.var (p.now.steps ++ ss)) (λ at. reference_to k at)
+taken_of m (by_reference k) (subject.Held n v) ss = and_then (follow (plain-Memory m.memory) ss (in_value (plain-Value v))) (λ at. reference_to k at)
 taken_of m (by_value b) (subject.Place p) ss = and_then (found_at m p.now.var (p.now.steps ++ ss)) (λ f. whole_value f)
 taken_of m (by_value b) (subject.Held n v) ss = get ss (plain-Value v)
 

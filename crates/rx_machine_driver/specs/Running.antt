@@ -40,7 +40,11 @@ use Rattle.rx_machine_driver.specs.declared.data.Paused.TheVariants as paused
 use Rattle.rx_machine_direct.specs.Direct.{recorded}
 use Rattle.rx_machine_driver.specs.Fitting.{Fits, plain-Turn}
 
--- where a place of the text leads, and what stands there
+-- where a place of the text leads
+abbrev pub spot_at : Machine → ℕ → List PlaceStep → Option places.Spot
+spot_at m x ss = and_then (recorded m.slots.table.items x) (λ i. places.follow (plain-Memory m.memory) ss (in_slot i [] true))
+
+-- and what stands there
 abbrev pub found_at : Machine → ℕ → List PlaceStep → Option (places.Spot × values.Value)
 found_at m x ss = and_then (recorded m.slots.table.items x) (λ i. found_from (plain-Memory m.memory) (in_slot i [] true) ss)
 

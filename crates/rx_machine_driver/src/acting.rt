@@ -90,7 +90,7 @@ impl<'a> Machine<'a> {
     pub fn shares(&self, value: Value) -> Step<'a>
         ensures { Leads self.now (plain-Next (next.Shares value)) self.now result }
     {
-        given(share(&self.memory, value))
+        given(share(value))
     }
 
     /// A place is written.

@@ -4,7 +4,7 @@ ghost use Rattle.std.specs.Prelude.{◌≡◌, true, [], IfOk, option_map};
 ghost use Rattle.rx_meaning.specs.Values.{and_then};
 ghost use Rattle.rx_meaning.specs.Places.{in_slot, whole_value, reference_to};
 ghost use Rattle.rx_machine_values.specs.PlainValues.{plain-Value};
-ghost use Rattle.rx_machine_driver.specs.Running.{found_at, IsGiven};
+ghost use Rattle.rx_machine_driver.specs.Running.{spot_at, found_at, IsGiven};
 
 use crate::data::{Machine, Step};
 use rx_core::{List, Step as PlaceStep};
@@ -43,7 +43,7 @@ impl<'a> Machine<'a> {
         }
     }
 
-    /// A reference to a place; none where that is Wrong.
+    /// A reference to a place, whatever stands there; none where that is Wrong.
     pub fn reference_at(
         &self,
         alloc: Global,
@@ -51,7 +51,7 @@ impl<'a> Machine<'a> {
         steps: &[PlaceStep],
         mutable: bool,
     ) -> Result<Option<Value>, AllocError>
-        ensures { IfOk result (λ it. option_map plain-Value it ≡ and_then (found_at self.now variable steps.now) (λ f. reference_to mutable f.0)) }
+        ensures { IfOk result (λ it. option_map plain-Value it ≡ and_then (spot_at self.now variable steps.now) (λ at. reference_to mutable at)) }
     {
         match self.slots.get(variable as usize) {
             Some(slot) => {

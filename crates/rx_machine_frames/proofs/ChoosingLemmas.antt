@@ -152,10 +152,10 @@ one_bound : (S : Subject) (vs : List Value) (b : Binding) (m : Mode) (s : State)
     ≡ or_stops c (takes m S b.steps vs s) (λ u. go (with_value b.variable u s)))
 unfolding took bind result_of
 one_bound S vs b (by_reference k) s go =
-    let f = flat (why_not_found (part S b.steps) vs s) (found (part S b.steps) vs s) (λ f. astray) (λ f. reference_to k f.0) (λ v. gives [] v s) in (
+    let f = flat (why_not_found (part S b.steps) vs s) (spot (part S b.steps) vs s) (λ at. astray) (λ at. reference_to k at) (λ v. gives [] v s) in (
       f.0,
       ap (λ d. bind (bind (result_of d) (λ v s1. on [] (v ∷ []) s1)) (written_from b.variable (temporary_at b.node 0) go)) f.1
-          ∙ takes_it f.0 (and_then (found (part S b.steps) vs s) (λ f. reference_to k f.0)) b.variable (temporary_at b.node 0) s go,
+          ∙ takes_it f.0 (and_then (spot (part S b.steps) vs s) (λ at. reference_to k at)) b.variable (temporary_at b.node 0) s go,
     )
 one_bound (in_place p) vs b (by_value m) s go =
     let f = flat (why_not_found (under p b.steps) vs s) (found (under p b.steps) vs s) (λ f. lacks) (λ f. whole_value f) (λ v. gives [] v s) in (

@@ -6,7 +6,7 @@ use Rattle.rx_typed.specs.Tree.{Pattern, Exp, Arms, no_arm, arm_and, Mode, by_va
 use Rattle.rx_lower_walks.specs.Matching.{PartTest, Binding, tests}
 use Rattle.rx_lower_walks.specs.Actions.{Subject, in_place, in_temporary, part}
 use Rattle.rx_meaning.specs.Values.{Value, and_then, get, State, with_variable}
-use Rattle.rx_meaning.specs.Places.{found, whole_value, reference_to}
+use Rattle.rx_meaning.specs.Places.{spot, found, whole_value, reference_to}
 use Rattle.rx_meaning.specs.Acting.{checked}
 
 -- ---- arms
@@ -45,7 +45,7 @@ with_value x v s = record s {
 
 -- what a binding takes: a reference to the part, the value there, or the part of what is held
 abbrev pub takes : Mode → Subject → List Step → List Value → State → Option Value
-takes (by_reference k) S ss vs s = and_then (found (part S ss) vs s) (λ f. reference_to k f.0)
+takes (by_reference k) S ss vs s = and_then (spot (part S ss) vs s) (λ at. reference_to k at)
 takes (by_value m) (in_place p) ss vs s = and_then (found (under p ss) vs s) (λ f. whole_value f)
 takes (by_value m) (in_temporary t) ss (v ∷ []) s = get ss v
 takes (by_value m) (in_temporary t) ss _ s = None

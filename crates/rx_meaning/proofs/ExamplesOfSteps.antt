@@ -9,7 +9,7 @@ use Rattle.rx_typed.specs.Tree.{Temporary, Place, negation, own, under, temporar
 use Rattle.rx_lower_walks.specs.Matching.{has_tag}
 use Rattle.rx_lower_walks.specs.Actions.{Read, Write, Borrow, Test}
 use Rattle.rx_meaning.specs.declared.outcome.Trap.{Trap}
-use Rattle.rx_meaning.specs.Endings.{wrong, lacks, astray, immutable, mistyped}
+use Rattle.rx_meaning.specs.Endings.{wrong, lacks, astray, immutable, mistyped, missing_reference}
 use Rattle.rx_meaning.specs.Values.{Value, number, truth, whole, tagged, pointer, lacking, unset, no_value, value_and, unit_value, State}
 use Rattle.rx_meaning.specs.Results.{gives, ends}
 use Rattle.rx_meaning.specs.Operators.{traps, least, greatest, compute, make, shown}
@@ -101,8 +101,23 @@ borrowed = refl
 nothing_tested : does_plainly (Test (own 0) (has_tag 0)) [] (having (lacking unset ∷ [])) ≡ ends [] (wrong lacks)
 nothing_tested = refl
 
-into_nothing : does_plainly (Borrow false (first_of (step.Field 0 ∷ [])) into) [] (having (lacking unset ∷ [])) ≡ ends [] (wrong lacks)
+-- also one into what was never written, and one to where a reference leads that leads nowhere
+into_nothing : does_plainly (Borrow false (first_of (step.Field 0 ∷ [])) into) [] (having (lacking unset ∷ [])) ≡ gives [] (pointer 0 (step.Field 0 ∷ []) false) (having (lacking unset ∷ []))
 into_nothing = refl
+
+nothing_there : does_plainly (Borrow true (first_of (step.Deref true ∷ [])) into) [] (having (pointer 1 (step.Variant 1 ∷ step.Field 0 ∷ []) true ∷ tagged 0 no_value ∷ []))
+    ≡ gives [] (pointer 1 (step.Variant 1 ∷ step.Field 0 ∷ []) true) (having (pointer 1 (step.Variant 1 ∷ step.Field 0 ∷ []) true ∷ tagged 0 no_value ∷ []))
+nothing_there = refl
+
+-- what leads there is looked at: it may not be read, and through what was never written nothing is followed
+read_there : does_plainly (Read false (first_of (step.Deref true ∷ [])) into) [] (having (pointer 1 (step.Variant 1 ∷ step.Field 0 ∷ []) true ∷ tagged 0 no_value ∷ [])) ≡ ends [] (wrong astray)
+read_there = refl
+
+borrowed_behind_nothing : does_plainly (Borrow true (first_of (step.Deref true ∷ [])) into) [] (having (lacking unset ∷ [])) ≡ ends [] (wrong lacks)
+borrowed_behind_nothing = refl
+
+borrowed_behind_a_number : does_plainly (Borrow true (first_of (step.Deref true ∷ [])) into) [] (having (one ∷ [])) ≡ ends [] (wrong missing_reference)
+borrowed_behind_a_number = refl
 
 other_part_written : does_plainly (Read false (first_of (step.Field 0 ∷ [])) into) [] (having (half_set ∷ [])) ≡ gives [] one (having (half_set ∷ []))
 unfolding half_set
@@ -123,7 +138,7 @@ tag_of_a_number = refl
 behind_a_reference : does_plainly (Read false (first_of (step.Deref false ∷ [])) into) [] (having (pointer 1 [] false ∷ lacking unset ∷ [])) ≡ ends [] (wrong lacks)
 behind_a_reference = refl
 
-behind_a_number : does_plainly (Read false (first_of (step.Deref false ∷ [])) into) [] (having (one ∷ [])) ≡ ends [] (wrong astray)
+behind_a_number : does_plainly (Read false (first_of (step.Deref false ∷ [])) into) [] (having (one ∷ [])) ≡ ends [] (wrong missing_reference)
 behind_a_number = refl
 
 tag_tested : does_plainly (Test (own 0) (has_tag 1)) [] (having (tagged 0 no_value ∷ [])) ≡ gives [] (truth false) (having (tagged 0 no_value ∷ []))

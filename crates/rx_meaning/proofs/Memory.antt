@@ -59,7 +59,7 @@ module _ (n : ℕ) where
   does_has (Write p t ss) (v ∷ []) s h =
       or_has _ (get ss v) _ (λ u e. or_has _ (spot p [] s) _ (λ at e. or_has _ (after_write u s.memory at) _ (λ M e. subst (λ k. n ≤ k) (sym (written_length u s.memory M at e)) h)))
   does_has (Write p t ss) (v ∷ w ∷ vs) s h = tt
-  does_has (Borrow k p d) vs s h = or_has _ (found p vs s) _ (λ f e. or_has _ (reference_to k f.0) _ (λ v e. h))
+  does_has (Borrow k p d) vs s h = or_has _ (spot p vs s) _ (λ at e. or_has _ (reference_to k at) _ (λ v e. h))
   does_has (Test p c) vs s h = or_has _ (found p vs s) _ (λ f e. or_has _ (checked c f.1) _ (λ b e. h))
   does_has (Call f ts d) vs s h = h
   does_has (Build w js ts d) vs s h = computed_has (make w js vs) s h

@@ -48,7 +48,8 @@ does_plainly (Dead x) vs s = gives [] unit_value s
 does_plainly (Read moves p d) vs s = or_ends (why_not_found p vs s) (found p vs s) (λ f. or_ends lacks (whole_value f) (λ v. gives [] v s))
 does_plainly (Write p t ss) (v ∷ []) s = or_ends (why_no_part ss v) (get ss v) (λ u. or_ends (why_not_found p [] s) (spot p [] s) (λ at.
     or_ends (why_not_written s.memory at) (after_write u s.memory at) (λ M. gives [] unit_value (with_memory s M))))
-does_plainly (Borrow k p d) vs s = or_ends (why_not_found p vs s) (found p vs s) (λ f. or_ends astray (reference_to k f.0) (λ v. gives [] v s))
+-- A reference is made whatever stands at the place, also nothing; only what is followed on the way there is looked at.
+does_plainly (Borrow k p d) vs s = or_ends (why_not_found p vs s) (spot p vs s) (λ at. or_ends astray (reference_to k at) (λ v. gives [] v s))
 does_plainly (Test p c) vs s = or_ends (why_not_found p vs s) (found p vs s) (λ f. or_ends (why_not_checked f.1) (checked c f.1) (λ b. gives [] (truth b) s))
 does_plainly (Call f ts d) vs s = gives [] unit_value s
 does_plainly (Build w js ts d) vs s = computed (make w js vs) s

@@ -7,13 +7,15 @@ use Rattle.rx_meaning.specs.declared.outcome.Trap.{Trap}
 pub data Cause : Type 0 where
   -- what was looked at, or lies on the way there, lacks a value: it was never written
   lacks : Cause
-  -- a place leads nowhere: to a part that its value doesn't have, as those of another variant, from what is no reference,
-  -- from a variable that has no slot; or a reference was to lead into a temporary
+  -- a place leads nowhere: to a part that its value doesn't have, as those of another variant, or from a variable that has no
+  -- slot; or a reference was to lead into a temporary
   astray : Cause
   -- something was written behind a shared reference, or in a temporary
   immutable : Cause
   -- operands, of an operator, a test, a print, a condition or a call, that are of other types or another number than it takes
   mistyped : Cause
+  -- what was followed as a reference is a value that is none
+  missing_reference : Cause
   -- what was called is no function
   missing_function : Cause
   -- no arm of a match took the value

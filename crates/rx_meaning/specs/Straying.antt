@@ -1,9 +1,10 @@
--- Why nothing is found where a place leads, or it can't be written (Rust Reference, "Place expressions and value expressions"):
--- the way there is walked to where it ends, which lacks a value or has one of another form.
+-- Why a place leads nowhere, or nothing is found where it leads, or it can't be written (Rust Reference, "Place expressions and
+-- value expressions", "The dereference operator"): the way there is walked to where it ends, which lacks a value or has one of
+-- another form.
 use Rattle.std.specs.Prelude.{true, List, [], ◌∷◌, Option, Some, None}
 use Rattle.rx_core.specs.declared.types.Step.{Step}
 use Rattle.rx_typed.specs.Tree.{Place}
-use Rattle.rx_meaning.specs.Endings.{Cause, lacks, astray, immutable, mistyped}
+use Rattle.rx_meaning.specs.Endings.{Cause, lacks, astray, immutable, mistyped, missing_reference}
 use Rattle.rx_meaning.specs.Values.{Value, lacking, part, element, State}
 use Rattle.rx_meaning.specs.Places.{Spot, in_slot, in_value, content, deeper, may_write, pointed, start}
 
@@ -30,7 +31,7 @@ why_no_content M (in_value v) = unlike astray v
 abbrev pub why_not_followed : List Value → List Step → Spot → Cause
 why_not_followed M [] at = why_no_content M at
 why_not_followed M (Step.Deref m ∷ ss) at =
-    where_some (content M at) (why_no_content M at) (λ v. where_some (pointed (may_write at) v) (unlike astray v) (λ to. why_not_followed M ss to))
+    where_some (content M at) (why_no_content M at) (λ v. where_some (pointed (may_write at) v) (unlike missing_reference v) (λ to. why_not_followed M ss to))
 why_not_followed M (s ∷ ss) at = where_some (deeper s at) (why_no_content M at) (λ to. why_not_followed M ss to)
 
 abbrev pub why_not_found : Place → List Value → State → Cause

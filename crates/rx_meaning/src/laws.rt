@@ -1,6 +1,6 @@
 //! Laws of runs, each the contract of a function that does nothing.
 
-ghost use Rattle.std.specs.Prelude.{◌≡◌, ◌≤◌, ℕ, ℤ, Bool, true, List as ListOf, [], ◌∷◌, length, Some};
+ghost use Rattle.std.specs.Prelude.{◌≡◌, ◌≤◌, ℕ, ℤ, Bool, true, false, List as ListOf, [], ◌∷◌, length, Some};
 ghost use Rattle.rx_core.specs.declared.types.Step.{Step};
 ghost use Rattle.rx_core.specs.declared.types.Step.TheVariants as StepTo;
 ghost use Rattle.rx_tree.specs.Plain.{ProgramTree};
@@ -15,7 +15,6 @@ ghost use Rattle.rx_meaning.specs.declared.outcome.Outcome.{Outcome as OutcomeOf
 ghost use Rattle.rx_meaning.specs.Endings.{end_of};
 ghost use Rattle.rx_meaning.specs.Values.{Value, pointer, element, slot_of, State};
 ghost use Rattle.rx_meaning.specs.Results.{Leaves, gives};
-ghost use Rattle.rx_meaning.specs.Places.{in_slot, content};
 ghost use Rattle.rx_meaning.specs.Acting.{Acting, does_plainly, plainly};
 ghost use Rattle.rx_meaning.specs.Expressions.{Functions, activation, below_level, called};
 ghost use Rattle.rx_meaning.specs.Programs.{Program, run, run_by, ending, UpTo, typed_program};
@@ -73,11 +72,15 @@ pub fn memory_only_grows()
         → Leaves (λ s1. length s.memory ≤ length s1.memory) (activation plainly (below_level plainly P n) f vs s) }
 {}
 
-/// A mutable reference that is asked for to where the reference in a variable leads is that reference, shared or mutable.
-pub fn reborrows_are_copies()
-    ensures { (x i j : ℕ) (q : ListOf Step) (b m : Bool) (v : Value) (d : Temporary) (s : State)
-        → slot_of s.frame.slots x ≡ Some i → element s.memory i ≡ Some (pointer j q m) → content s.memory (in_slot j q m) ≡ Some v
+/// A reference that is asked for to where the reference in a variable leads, whatever stands there: a mutable one is that reference,
+/// which may be shared, and a shared one is that one, shared.
+pub fn reborrows_are_the_reference()
+    ensures mutable { (x i j : ℕ) (q : ListOf Step) (b m : Bool) (d : Temporary) (s : State)
+        → slot_of s.frame.slots x ≡ Some i → element s.memory i ≡ Some (pointer j q m)
         → does_plainly (Borrow true (under (own x) (StepTo.Deref b ∷ [])) d) [] s ≡ gives [] (pointer j q m) s }
+    ensures shared { (x i j : ℕ) (q : ListOf Step) (b m : Bool) (d : Temporary) (s : State)
+        → slot_of s.frame.slots x ≡ Some i → element s.memory i ≡ Some (pointer j q m)
+        → does_plainly (Borrow false (under (own x) (StepTo.Deref b ∷ [])) d) [] s ≡ gives [] (pointer j q false) s }
 {}
 
 /// Programs that are equal apart from spans have the same runs, with the same names and types.

@@ -8,7 +8,7 @@ mod outcome;
 pub use compare::compare_runs;
 pub use laws::{
     level_is_free, memory_only_grows, more_turns_go_on, outcomes_forget_causes,
-    reborrows_are_copies, runs_follow_walks, runs_ignore_spans, telling_changes_nothing,
+    reborrows_are_the_reference, runs_follow_walks, runs_ignore_spans, telling_changes_nothing,
     up_to_is_an_order,
 };
 pub use outcome::{End, Outcome, Trap};

@@ -5,7 +5,7 @@ use Rattle.rx_core.specs.declared.types.Step.{Step}
 use Rattle.rx_typed.specs.Tree.{Temporary, Place, Function}
 use Rattle.rx_lower_walks.specs.Actions.{Act, Declare, Dead, Read, Write, Borrow, Test, Call, Build, Input, Print, Give, Action, does}
 use Rattle.rx_lower_walks.specs.Walks.{IsWalk}
-use Rattle.rx_meaning.specs.Endings.{Cause, lacks, astray, mistyped, missing_function, missing_arm, missing_value, Ending, wrong}
+use Rattle.rx_meaning.specs.Endings.{Cause, lacks, astray, mistyped, missing_reference, missing_function, missing_arm, missing_value, Ending, wrong}
 use Rattle.rx_meaning.specs.Straying.{where_some, unlike, why_no_part, why_no_content, why_not_followed, why_not_found, why_not_written, why_not_checked}
 use Rattle.rx_meaning.specs.Values.{Value, lacking, unit_value, part, element, get, State, with_memory}
 use Rattle.rx_meaning.specs.Results.{Done, gives, ends, or_ends}
@@ -44,8 +44,8 @@ content_cause M (in_value v) = unlike_cause astray v tt
 followed_cause : (M : List Value) (ss : List Step) (at : Spot) → OfAction (why_not_followed M ss at)
 followed_cause M [] at = content_cause M at
 followed_cause M (Step.Deref m ∷ ss) at =
-    some_cause (content M at) (why_no_content M at) (λ v. where_some (pointed (may_write at) v) (unlike astray v) (λ to. why_not_followed M ss to)) (content_cause M at)
-    (λ v. some_cause (pointed (may_write at) v) (unlike astray v) (λ to. why_not_followed M ss to) (unlike_cause astray v tt) (λ to. followed_cause M ss to))
+    some_cause (content M at) (why_no_content M at) (λ v. where_some (pointed (may_write at) v) (unlike missing_reference v) (λ to. why_not_followed M ss to)) (content_cause M at)
+    (λ v. some_cause (pointed (may_write at) v) (unlike missing_reference v) (λ to. why_not_followed M ss to) (unlike_cause missing_reference v tt) (λ to. followed_cause M ss to))
 followed_cause M (Step.Field i ∷ ss) at = some_cause (deeper (Step.Field i) at) (why_no_content M at) (λ to. why_not_followed M ss to) (content_cause M at) (λ to. followed_cause M ss to)
 followed_cause M (Step.Variant i ∷ ss) at = some_cause (deeper (Step.Variant i) at) (why_no_content M at) (λ to. why_not_followed M ss to) (content_cause M at) (λ to. followed_cause M ss to)
 
@@ -93,7 +93,7 @@ act_well (Read m p d) vs s = or_well (why_not_found p vs s) (found p vs s) _ (fo
 act_well (Write p t ss) [] s = tt
 act_well (Write p t ss) (v ∷ []) s = write_well p ss v s
 act_well (Write p t ss) (v ∷ w ∷ vs) s = tt
-act_well (Borrow k p d) vs s = or_well (why_not_found p vs s) (found p vs s) _ (found_cause p vs s) (λ f. or_well astray (reference_to k f.0) _ tt (λ v. tt))
+act_well (Borrow k p d) vs s = or_well (why_not_found p vs s) (spot p vs s) _ (found_cause p vs s) (λ at. or_well astray (reference_to k at) _ tt (λ v. tt))
 act_well (Test p c) vs s = or_well (why_not_found p vs s) (found p vs s) _ (found_cause p vs s) (λ f. or_well (why_not_checked f.1) (checked c f.1) _ (unlike_cause mistyped f.1 tt) (λ b. tt))
 act_well (Call f ts d) vs s = tt
 act_well (Build w js ts d) vs s = computed_well (make w js vs) s

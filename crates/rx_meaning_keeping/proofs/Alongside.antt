@@ -111,10 +111,10 @@ plain_same (Read m p d) vs s N b =
       or_same (Read m p d) lacks lacks (whole_value f) _ (λ v. gives [] v s) _ (λ e1. inl refl) (λ v e1. (v, whole_same f g.0 v g.3 e1, gave tt refl tt refl (move_same m p d s N b))),
     ))
 plain_same (Borrow m p d) vs s N b =
-    or_same (Borrow m p d) (why_not_found p vs s) (why_not_found p vs (with_memory s N)) (found p vs s) _ (λ f. or_ends astray (reference_to m f.0) (λ v. gives [] v s)) _ (found_fails p vs s N b) (λ f e. let g = found_same p vs s N f b e in (
-      g.0,
-      g.1,
-      or_same (Borrow m p d) astray astray (reference_to m f.0) _ (λ v. gives [] v s) _ (λ e1. inr (subst (λ z. reference_to m z ≡ None) g.2 e1, refl)) (λ v e1. (v, subst (λ z. reference_to m z ≡ Some v) g.2 e1, gave tt refl tt refl (N, refl, b))),
+    or_same (Borrow m p d) (why_not_found p vs s) (why_not_found p vs (with_memory s N)) (spot p vs s) _ (λ at. or_ends astray (reference_to m at) (λ v. gives [] v s)) _ (spot_fails p vs s N b) (λ at e. (
+      at,
+      spot_same p vs s N at b e,
+      or_same (Borrow m p d) astray astray (reference_to m at) (reference_to m at) (λ v. gives [] v s) _ (alike astray (reference_to m at)) (λ v e1. (v, e1, gave tt refl tt refl (N, refl, b))),
     ))
 plain_same (Test p c) vs s N b =
     or_same (Test p c) (why_not_found p vs s) (why_not_found p vs (with_memory s N)) (found p vs s) _ (λ f. or_ends (why_not_checked f.1) (checked c f.1) (λ t. gives [] (truth t) s)) _ (found_fails p vs s N b) (λ f e. let g = found_same p vs s N f b e in (

@@ -4,7 +4,7 @@ use Rattle.std.proofs.lemmas.Bool.{eqb-false}
 use Rattle.rx_lower_walks.specs.Actions.{Action}
 use Rattle.rx_lower_walks.specs.Walks.{Among, here, there}
 use Rattle.rx_meaning.specs.declared.outcome.Trap.{Trap}
-use Rattle.rx_meaning.specs.Endings.{Cause, lacks, astray, immutable, mistyped, missing_function, missing_arm, missing_value, Ending, finished, trapped, running, wrong}
+use Rattle.rx_meaning.specs.Endings.{Cause, lacks, astray, immutable, mistyped, missing_reference, missing_function, missing_arm, missing_value, Ending, finished, trapped, running, wrong}
 use Rattle.rx_meaning.specs.Straying.{why_not_checked}
 use Rattle.rx_meaning.specs.Values.{Value, number, truth, whole, tagged, pointer, lacking, State}
 use Rattle.rx_meaning.specs.Results as results
@@ -22,18 +22,20 @@ of_cause lacks = 0
 of_cause astray = 1
 of_cause immutable = 2
 of_cause mistyped = 3
-of_cause missing_function = 4
-of_cause missing_arm = 5
-of_cause missing_value = 6
+of_cause missing_reference = 4
+of_cause missing_function = 5
+of_cause missing_arm = 6
+of_cause missing_value = 7
 
 abbrev cause_numbered : ℕ → Cause
 cause_numbered zero = lacks
 cause_numbered (suc zero) = astray
 cause_numbered (suc (suc zero)) = immutable
 cause_numbered (suc (suc (suc zero))) = mistyped
-cause_numbered (suc (suc (suc (suc zero)))) = missing_function
-cause_numbered (suc (suc (suc (suc (suc zero))))) = missing_arm
-cause_numbered (suc (suc (suc (suc (suc (suc n)))))) = missing_value
+cause_numbered (suc (suc (suc (suc zero)))) = missing_reference
+cause_numbered (suc (suc (suc (suc (suc zero))))) = missing_function
+cause_numbered (suc (suc (suc (suc (suc (suc zero)))))) = missing_arm
+cause_numbered (suc (suc (suc (suc (suc (suc (suc n))))))) = missing_value
 
 abbrev number_of : Ending → ℕ
 number_of finished = 0
@@ -58,6 +60,7 @@ number_again (wrong lacks) = refl
 number_again (wrong astray) = refl
 number_again (wrong immutable) = refl
 number_again (wrong mistyped) = refl
+number_again (wrong missing_reference) = refl
 number_again (wrong missing_function) = refl
 number_again (wrong missing_arm) = refl
 number_again (wrong missing_value) = refl

@@ -5,7 +5,7 @@ use Rattle.rx_core.specs.declared.types.Step.{Step}
 use Rattle.rx_typed.specs.Tree as tree
 use Rattle.rx_typed.specs.Tree.{Place, whole_number}
 use Rattle.rx_lower_walks.specs.Matching.{Check, has_tag, equals}
-use Rattle.rx_meaning.specs.Endings.{Cause, astray}
+use Rattle.rx_meaning.specs.Endings.{Cause, astray, missing_reference}
 use Rattle.rx_meaning.specs.Straying.{unlike, where_some, why_no_part, why_no_content, why_not_followed, why_not_found, why_not_written, why_not_checked}
 use Rattle.rx_meaning.specs.Values.{Value, is_set, and_then, get, put, element, with_element, State, with_memory}
 use Rattle.rx_meaning.specs.Places.{Spot, in_slot, in_value, content, deeper, may_write, pointed, follow, start, spot, found, whole_value, after_write}
@@ -190,7 +190,7 @@ content_fails M N (in_slot i p w) b e = by (element M i) refl e
     by None q e = inr (rw (blank_none M N i b q) refl)
     by (Some v) q e = let r = blank_slot M N i b v q in there v r.0 r.1 (get_fails p v r.0 r.2 e)
 
-point_fails : (w : Bool) (v u : Value) → Fewer v u → pointed w v ≡ None → IsLack (unlike astray v) ⊎ (pointed w u ≡ None)
+point_fails : (w : Bool) (v u : Value) → Fewer v u → pointed w v ≡ None → IsLack (unlike missing_reference v) ⊎ (pointed w u ≡ None)
 point_fails w _ _ lacks e = inl refl
 point_fails w _ _ same_pointer e = cc
 point_fails w _ _ same_number e = inr refl
@@ -219,7 +219,7 @@ why_followed_same M N (Step.Variant i ∷ ss) at b = by (deeper (Step.Variant i)
 why_followed_same M N (Step.Deref m ∷ ss) at b = by (content M at) refl (λ to. why_followed_same M N ss to b)
   where
     Why : Option Value → Cause
-    Why o = where_some o (why_no_content M at) (λ v. where_some (pointed (may_write at) v) (unlike astray v) (λ to. why_not_followed M ss to))
+    Why o = where_some o (why_no_content M at) (λ v. where_some (pointed (may_write at) v) (unlike missing_reference v) (λ to. why_not_followed M ss to))
 
     Answer : Option Value → Type 0
     Answer o = IsLack (Why o) ⊎ (Why o ≡ why_not_followed N (Step.Deref m ∷ ss) at)
@@ -229,7 +229,7 @@ why_followed_same M N (Step.Deref m ∷ ss) at b = by (content M at) refl (λ to
     ends_too (inr p) (inl l) = inl l
     ends_too (inr p) (inr q) = inr (rw p q)
 
-    no_pointer : (v u : Value) → content N at ≡ Some u → pointed (may_write at) v ≡ None → IsLack (unlike astray v) ⊎ (pointed (may_write at) u ≡ None) → IsLack (unlike astray v) ⊎ (unlike astray v ≡ unlike astray u) → Answer (Some v)
+    no_pointer : (v u : Value) → content N at ≡ Some u → pointed (may_write at) v ≡ None → IsLack (unlike missing_reference v) ⊎ (pointed (may_write at) u ≡ None) → IsLack (unlike missing_reference v) ⊎ (unlike missing_reference v ≡ unlike missing_reference u) → Answer (Some v)
     no_pointer v u e p (inl l) k = inl (rw p l)
     no_pointer v u e p (inr q) (inl l) = inl (rw p l)
     no_pointer v u e p (inr q) (inr r) = inr (rw p (rw e (rw q r)))
@@ -239,7 +239,7 @@ why_followed_same M N (Step.Deref m ∷ ss) at b = by (content M at) refl (λ to
     goes_too v u to e p q (inr r) = inr (rw p (rw e (rw q r)))
 
     inner : (v u : Value) → content N at ≡ Some u → Fewer v u → (o : Option Spot) → pointed (may_write at) v ≡ o → ((to : Spot) → StraysToo M N ss to) → Answer (Some v)
-    inner v u e h None p rec = no_pointer v u e p (point_fails (may_write at) v u h p) (unlike_same astray v u h)
+    inner v u e h None p rec = no_pointer v u e p (point_fails (may_write at) v u h p) (unlike_same missing_reference v u h)
     inner v u e h (Some to) p rec = goes_too v u to e p (point_same (may_write at) v u to h p) (rec to)
 
     by : (o : Option Value) → content M at ≡ o → ((to : Spot) → StraysToo M N ss to) → Answer o
@@ -267,13 +267,13 @@ follow_fails M N (Step.Variant i ∷ ss) at b e = by (deeper (Step.Variant i) at
 follow_fails M N (Step.Deref m ∷ ss) at b e = by (content M at) refl e (λ to. follow_fails M N ss to b)
   where
     Answer : Option Value → Type 0
-    Answer o = IsLack (where_some o (why_no_content M at) (λ v. where_some (pointed (may_write at) v) (unlike astray v) (λ to. why_not_followed M ss to))) ⊎ (follow N (Step.Deref m ∷ ss) at ≡ None)
+    Answer o = IsLack (where_some o (why_no_content M at) (λ v. where_some (pointed (may_write at) v) (unlike missing_reference v) (λ to. why_not_followed M ss to))) ⊎ (follow N (Step.Deref m ∷ ss) at ≡ None)
 
     ends_too : IsLack (why_no_content M at) ⊎ (content N at ≡ None) → Answer None
     ends_too (inl l) = inl l
     ends_too (inr p) = inr (rw p refl)
 
-    no_pointer : (v u : Value) → content N at ≡ Some u → pointed (may_write at) v ≡ None → IsLack (unlike astray v) ⊎ (pointed (may_write at) u ≡ None) → Answer (Some v)
+    no_pointer : (v u : Value) → content N at ≡ Some u → pointed (may_write at) v ≡ None → IsLack (unlike missing_reference v) ⊎ (pointed (may_write at) u ≡ None) → Answer (Some v)
     no_pointer v u e p (inl l) = inl (rw p l)
     no_pointer v u e p (inr q) = inr (rw e (rw q refl))
 
@@ -306,12 +306,12 @@ follow_why M (Step.Variant i ∷ ss) at to e = by (deeper (Step.Variant i) at) e
     by (Some x) e rec = rec x e
 follow_why M (Step.Deref m ∷ ss) at to e = by (content M at) e (λ x f. follow_why M ss x to f)
   where
-    inner : (v : Value) (o : Option Spot) → and_then o (λ x. follow M ss x) ≡ Some to → ((x : Spot) → follow M ss x ≡ Some to → why_not_followed M ss x ≡ why_no_content M to) → where_some o (unlike astray v) (λ x. why_not_followed M ss x) ≡ why_no_content M to
+    inner : (v : Value) (o : Option Spot) → and_then o (λ x. follow M ss x) ≡ Some to → ((x : Spot) → follow M ss x ≡ Some to → why_not_followed M ss x ≡ why_no_content M to) → where_some o (unlike missing_reference v) (λ x. why_not_followed M ss x) ≡ why_no_content M to
     inner v None e rec = cc
     inner v (Some x) e rec = rec x e
 
     by : (o : Option Value) → and_then o (λ v. and_then (pointed (may_write at) v) (λ x. follow M ss x)) ≡ Some to → ((x : Spot) → follow M ss x ≡ Some to → why_not_followed M ss x ≡ why_no_content M to)
-        → where_some o (why_no_content M at) (λ v. where_some (pointed (may_write at) v) (unlike astray v) (λ x. why_not_followed M ss x)) ≡ why_no_content M to
+        → where_some o (why_no_content M at) (λ v. where_some (pointed (may_write at) v) (unlike missing_reference v) (λ x. why_not_followed M ss x)) ≡ why_no_content M to
     by None e rec = cc
     by (Some v) e rec = inner v (pointed (may_write at) v) e rec
 

@@ -24,7 +24,7 @@ use Rattle.rx_facts_init.specs.Initialised.{InOrder}
 use Rattle.rx_meaning_keeping.specs.Pending.{Pending, holds}
 use Rattle.rx_meaning_keeping.specs.Using.{Does}
 use Rattle.rx_meaning_keeping.specs.Using as using
-use Rattle.rx_meaning_keeping.specs.Strict.{lacks_there, looks_at_lack, then_marks, does_strictly}
+use Rattle.rx_meaning_keeping.specs.Strict.{lacks_there, is_lack, lacks_on_the_way, looks_at_lack, then_marks, does_strictly}
 use Rattle.rx_meaning_keeping.specs.Ready.{HasPart, Ready}
 use Rattle.rx_meaning_keeping.specs.Lacking.{Lost, World, Marked}
 use Rattle.rx_meaning_keeping.specs.Behind.{goes_behind}
@@ -269,6 +269,17 @@ whole_not_lacking p vs s h = by (found p vs s) (h.1)
     by None k = refl
     by (Some f) k = rw (k f refl) refl
 
+not_lack : (c : Cause) → (IsLack c → ⊥) → is_lack c ≡ false
+not_lack ending.lacks g = absurd (g refl)
+not_lack c g = refl
+
+way_not_lacking : (p : Place) (vs : List Value) (s : State) → Whole p vs s → lacks_on_the_way (why_not_found p vs s) (found p vs s) ≡ false
+way_not_lacking p vs s h = by (found p vs s) h.0 h.1
+  where
+    by : (o : Option (Spot × Value)) → (o ≡ None → IsLack (why_not_found p vs s) → ⊥) → ((f : Spot × Value) → o ≡ Some f → is_set f.1 ≡ true) → lacks_on_the_way (why_not_found p vs s) o ≡ false
+    by None g k = not_lack (why_not_found p vs s) (g refl)
+    by (Some f) g k = rw (k f refl) refl
+
 unless_looks : (a : Act) (vs : List Value) (s : State) → looks_at_lack a vs s ≡ false → NoLack (does_plainly a vs s) → NoLack (does_strictly a vs s)
 unless_looks a vs s e h = by (looks_at_lack a vs s) e
   where
@@ -287,7 +298,8 @@ read_whole m p d vs s h = unless_looks (Read m p d) vs s (whole_not_lacking p vs
         by false g n = true≢false (sym g)
 
 borrow_whole : (m : Bool) (p : Place) (d : Temporary) (vs : List Value) (s : State) → Whole p vs s → NoLack (does_strictly (Borrow m p d) vs s)
-borrow_whole m p d vs s h = unless_looks (Borrow m p d) vs s (whole_not_lacking p vs s h) (or_no (why_not_found p vs s) (found p vs s) _ h.0 (λ f e. or_no astray (reference_to m f.0) _ (λ n g. no_astray g) (λ v q. tt)))
+borrow_whole m p d vs s h = unless_looks (Borrow m p d) vs s (way_not_lacking p vs s h)
+    (or_no (why_not_found p vs s) (spot p vs s) _ (λ e. h.0 (ap (λ o. and_then o (λ at. standing s.memory at)) e)) (λ at e. or_no astray (reference_to m at) _ (λ n g. no_astray g) (λ v q. tt)))
 
 test_whole : (p : Place) (c : _) (vs : List Value) (s : State) → Whole p vs s → NoLack (does_strictly (Test p c) vs s)
 test_whole p c vs s h = unless_looks (Test p c) vs s (whole_not_lacking p vs s h) (or_no (why_not_found p vs s) (found p vs s) _ h.0 (λ f e. or_no (why_not_checked f.1) (checked c f.1) _ (λ n g. set_unlike mistyped f.1 (h.1 f e) no_mistyped g) (λ v q. tt)))
@@ -384,7 +396,7 @@ module _ (F : Frame) (parts : Parted F) (k : World) (f : _) (ready : Ready F f) 
   direct_lacks_not muts w n _ _ s _ _ (using.tests_held {t = t} {ss = ss} {c = c} {v = v} {K = K}) is o i b = test_whole (record { root = temporary t; steps = ss }) c (v ∷ []) s (whole_held t ss v s b i.here.0)
   direct_lacks_not muts w n _ _ s _ _ (using.writes {p = p} {t = t} {v = v} {K = K}) is o i b = write_whole p t [] v s i.here.0 b (whole_is_clear F parts k w s (holds t v K) i p (λ x qs e. o.enters x qs e))
   direct_lacks_not muts w n _ _ s _ _ (using.writes_part {x = x} {t = t} {ss = ss} {v = v} {K = K}) is o i b = write_whole (own x) t ss v s i.here.0 b (whole_is_clear F parts k w s (holds t v K) i (own x) (λ y qs e. o.enters y qs e))
-  direct_lacks_not muts w n _ _ s _ _ (using.builds {w = m} {js = js} {ts = ts} {vs = vs} {d = d} K pr u) is o i b = unless_looks (Build m js ts d) vs s refl (computed_no (make m js vs) s)
+  direct_lacks_not muts w n _ _ s _ _ (using.builds {w = m} {js = js} {ts = ts} {vs = vs} {d = d} K pr lz u) is o i b = unless_looks (Build m js ts d) vs s refl (computed_no (make m js vs) s)
   direct_lacks_not muts w n _ _ s _ _ (using.joins {t = t} {u = u} {x = x} {v = v} {d = d} {K = K} am un) is o i b = tt
   direct_lacks_not muts w n _ _ s K _ (using.inputs {d = d} u) is o i b = unless_looks (Input d) [] s refl (input_no s.input s)
   direct_lacks_not muts w n _ _ s _ _ (using.prints {t = t} {v = v} {K = K}) is o i b = unless_looks (Print t) (v ∷ []) s refl (or_no (why_not_checked v) (shown v) _ (λ e g. set_unlike mistyped v i.here.0 no_mistyped g) (λ x e. tt))

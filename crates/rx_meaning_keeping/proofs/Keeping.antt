@@ -1,8 +1,8 @@
 -- What each action keeps, the run keeps: by recursion on the typed tree and on the turns, each part follows its order with what it tells.
-use Rattle.std.proofs.Common.{◌≡◌, ℕ, zero, suc, Bool, true, false, nat_eq, List, [], ◌∷◌, ◌++◌, Option, Some, None, refl, sym, ap, subst, eqb-true, if◌then◌else◌, append_assoc, append-nil, ◌∙◌}
+use Rattle.std.proofs.Common.{◌≡◌, ℕ, zero, suc, Bool, true, false, nat_eq, List, [], ◌∷◌, ◌++◌, length, Option, Some, None, refl, sym, ap, subst, eqb-true, if◌then◌else◌, append_assoc, append-nil, ◌∙◌, ◌⊎◌, inl, inr}
 use Rattle.std.proofs.lemmas.Bool.{eqb-false}
 use Rattle.rx_core.specs.declared.types.Step.{Step}
-use Rattle.rx_typed.specs.Tree.{Temporary, Mode, by_value, by_reference, Exp, read, borrow, share, build, unit, lazily, assign, update, call, input, print, block, choose, loop, jump, give, Operands, no_operand, operand_and, Scrutinee, at_place, of_value, Arms, no_arm, arm_and, Body, ends, runs, lets, Parameter, Function, own, held, under, mark_of, temporary_at, temporary_of, temporaries_of}
+use Rattle.rx_typed.specs.Tree.{Temporary, Mode, by_value, by_reference, Exp, read, borrow, share, build, unit, lazily, assign, update, call, input, print, block, choose, loop, jump, give, Operands, no_operand, operand_and, Scrutinee, at_place, of_value, Arms, no_arm, arm_and, Body, ends, runs, lets, Parameter, Function, own, held, under, mark_of, temporary_at, temporary_of, temporaries_of, fields_of}
 use Rattle.rx_typed.specs.Tree as tree
 use Rattle.rx_lower_walks.specs.Matching.{PartTest, Binding, bindings}
 use Rattle.rx_lower_walks.specs.Matching as matching
@@ -21,6 +21,7 @@ use Rattle.rx_meaning.specs.Expressions.{Functions, Meaning, turn_at, take_turn,
 use Rattle.rx_meaning.specs.Telling.{Told, did, said, acted, saying, noted, fully}
 use Rattle.rx_meaning.proofs.Told.{acted_append, acted_saying}
 use Rattle.rx_meaning_keeping.specs.Pending.{Pending, Paired, no_pair, pair_and, holds, landing, pushes, ids, Unheld, Thin, none, keeps, skips, swaps, holding, Fits, of_place, of_held, arguments, AsMany, one_more}
+use Rattle.rx_meaning_keeping.specs.Units.{FillsUnit, OperandsFill, ScrutineeFills, ArmsFill, BodyFills, IsUnitOf}
 use Rattle.rx_meaning_keeping.specs.Using.{Does, reads, borrows, borrows_held, tests, tests_held, writes, writes_part, builds, joins, inputs, prints, gives_up, dies, Gives}
 use Rattle.rx_meaning_keeping.specs.Using as using
 use Rattle.rx_meaning_keeping.specs.Formed.{with_subject, Apart, Formed, FormedAll, FormedScrutinee, FormedArms, FormedBody, AllFormed}
@@ -56,6 +57,10 @@ thin_landing : (x : Exit) (v : Value) (K K' : Pending) → Thin K K' → Thin (l
 thin_landing (breaks n l) v K K' h = h
 thin_landing (continues n l) v K K' h = h
 thin_landing (returns n) v K K' h = keeps h
+
+as_many_fields : (es : Operands) → length (fields_of es) ≡ length (temporaries_of es)
+as_many_fields no_operand = refl
+as_many_fields (operand_and i e es) = ap suc (as_many_fields es)
 
 module _ {E : Type 0} (Ok : Ending → Type 0) (Leap : List Action → Exit → Value → State → Type 0) where
   -- what was done before comes first
@@ -140,7 +145,7 @@ test_fails h = walk.next (walk.both walk.acts (walk.other walk.fail)) h
 
 -- ---- one activation
 
-module _ {E : Type 0} (A : Acting E) (Ok : Ending → Type 0) (Is : List Action → Type 0) (I : Invariant) (law : Law A Ok Is I) (no_turn : Ok running) where
+module _ {E : Type 0} (A : Acting E) (Ok : Ending → Type 0) (Is : List Action → Type 0) (Us : Temporary → Type 0) (I : Invariant) (law : Law A Ok Is Us I) (no_turn : Ok running) where
   abbrev Good : {B : Type 0} → (B → Pending) → List Action → B → State → Type 0
   Good K1 w v s = I w s (K1 v)
 
@@ -152,6 +157,9 @@ module _ {E : Type 0} (A : Acting E) (Ok : Ending → Type 0) (Is : List Action 
 
   abbrev Ctx : Order → List Action → Type 0
   Ctx V w = Context Is V w
+
+  abbrev GivesUnit : Pending → List Action → Value → State → Type 0
+  GivesUnit K w v s = (v ≡ unit_value) × I w s K
 
   abbrev GoodAll : List Temporary → Pending → List Action → List Value → State → Type 0
   GoodAll ts K w vs s = Paired ts vs × I w s (pushes ts vs K)
@@ -174,11 +182,16 @@ module _ {E : Type 0} (A : Acting E) (Ok : Ending → Type 0) (Is : List Action 
       → FineAt K K1 (order.act a) w (performed (fully A) a vs s)
   fine_one w a vs s K K0 K1 d c i = fine_post Ok (Leap K) (Good K1) _ (order.act a) w _ (λ l v s1 p. p.1) (fine_act w a vs s K K0 K1 d c i)
 
-  -- an action that gives the unit, and its value
-  fine_unit : (w : List Action) (a : Action) (vs : List Value) (s : State) (K K0 : Pending) (d : Temporary) → Does a.act vs K0 (λ u. K) → ((v : Value) (s1 : State) → Gives a.act s v s1 → v ≡ unit_value)
-      → Unheld d (ids K) → Ctx (order.act a) w → I w s K0 → FineAt K (λ v. holds d v K) (order.act a) w (performed (fully A) a vs s)
-  fine_unit w a vs s K K0 d h g n c i = fine_post Ok (Leap K) (Good (λ v. holds d v K)) _ (order.act a) w _
-      (λ l v s1 p. subst (λ y. I l s1 (holds d y K)) (sym (g v s1 p.0)) (law.units l s1 d K n p.1)) (fine_act w a vs s K K0 (λ u. K) h c i)
+  -- an action that gives the unit
+  fine_unit : (w : List Action) (a : Action) (vs : List Value) (s : State) (K K0 : Pending) → Does a.act vs K0 (λ u. K) → ((v : Value) (s1 : State) → Gives a.act s v s1 → v ≡ unit_value)
+      → Ctx (order.act a) w → I w s K0 → Follows Ok (GivesUnit K) (Leap K) (order.act a) w (performed (fully A) a vs s)
+  fine_unit w a vs s K K0 h g c i = fine_post Ok (Leap K) (GivesUnit K) _ (order.act a) w _ (λ l v s1 p. (g v s1 p.0, p.1)) (fine_act w a vs s K K0 (λ u. K) h c i)
+
+  -- the unit comes into a temporary where a part goes on
+  fine_fill : (d : Temporary) (K : Pending) (V : Order) (w : List Action) (r : Result (Told E) Value) → ((o : List Action) → Walk V o walk.on → Us d) → Unheld d (ids K) → Follows Ok (GivesUnit K) (Leap K) V w r → FineAt K (λ v. holds d v K) V w r
+  fine_fill d K V w _ u n (goes {s = s} o e h p) = goes o e h (subst (λ y. I (w ++ o) s (holds d y K)) (sym p.0) (law.units (w ++ o) s d K (u o h) n p.1))
+  fine_fill d K V w _ u n (leaps o e h p) = leaps o e h p
+  fine_fill d K V w _ u n (halts o e h p) = halts o e h p
 
   -- a variable that ends
   fine_closed : (K : Pending) (K1 : Value → Pending) (V : Order) (n x : ℕ) (w : List Action) (r : Result (Told E) Value) → Ctx (order.ending n x V) w → FineAt K K1 V w r → FineAt K K1 (order.ending n x V) w (closed (fully A) n x r)
@@ -332,25 +345,25 @@ module _ {E : Type 0} (A : Acting E) (Ok : Ending → Type 0) (Is : List Action 
       by zero e = halts [] refl walk.rests no_turn
       by (suc t) e = k w (with_turns s t) c (law.turns w s t K e i)
 
-  fine_passed : (l : ℕ) (t d : Temporary) (K : Pending) (V : Order) (w : List Action) (r : Result (Told E) Value) (again : State → Result (Told E) Value) → Unheld d (ids K) → Ctx (order.passes l V) w
+  fine_passed : (l : ℕ) (t d : Temporary) (K : Pending) (V : Order) (w : List Action) (r : Result (Told E) Value) (again : State → Result (Told E) Value) → ((o : List Action) → Walk (order.passes l V) o walk.on → Us d) → Unheld d (ids K) → Ctx (order.passes l V) w
       → FineAt K (λ v. holds t v K) V w r → Goes K K (λ v. holds d v K) (order.passes l V) again → FineAt K (λ v. holds d v K) (order.passes l V) w (passed l r again)
   unfolding passed
-  fine_passed l t d K V w _ again n c (goes {t = u} {a = a} {s = s} o g h p) k =
+  fine_passed l t d K V w _ again f n c (goes {t = u} {a = a} {s = s} o g h p) k =
       fine_after Ok (Leap K) (Good (λ v. holds d v K)) (order.passes l V) (order.passes l V) w o u _ g (λ v x y. walk.more h walk.by_end y)
       (k (w ++ o) s (context_more Is l w o walk.on c h walk.by_end) (law.drops _ s K _ (skips (thin_all K)) p))
-  fine_passed l t d K V w _ again n c (leaps {t = u} {x = returns m} {v = v} {s = s} o g h p) k = leaps o g (walk.last h walk.by_return) p
-  fine_passed l t d K V w _ again n c (leaps {t = u} {x = breaks m j} {v = v} {s = s} o g h p) k = by (nat_eq j l) refl
+  fine_passed l t d K V w _ again f n c (leaps {t = u} {x = returns m} {v = v} {s = s} o g h p) k = leaps o g (walk.last h walk.by_return) p
+  fine_passed l t d K V w _ again f n c (leaps {t = u} {x = breaks m j} {v = v} {s = s} o g h p) k = by (nat_eq j l) refl
     where
       by : (b : Bool) → nat_eq j l ≡ b → FineAt K (λ v. holds d v K) (order.passes l V) w (if b then on u unit_value s else jumps u (breaks m j) v s)
-      by true e = goes o g (walk.last h (walk.by_break (eqb-true j l e))) (law.units _ s d K n p)
+      by true e = let last = walk.last h (walk.by_break (eqb-true j l e)) in goes o g last (law.units _ s d K (f o last) n p)
       by false e = leaps o g (walk.last h (walk.by_outer_break (eqb-false j l e))) p
-  fine_passed l t d K V w _ again n c (leaps {t = u} {x = continues m j} {v = v} {s = s} o g h p) k = by (nat_eq j l) refl
+  fine_passed l t d K V w _ again f n c (leaps {t = u} {x = continues m j} {v = v} {s = s} o g h p) k = by (nat_eq j l) refl
     where
       by : (b : Bool) → nat_eq j l ≡ b → FineAt K (λ v. holds d v K) (order.passes l V) w (if b then after u (again s) else jumps u (continues m j) v s)
       by true e = fine_after Ok (Leap K) (Good (λ v. holds d v K)) (order.passes l V) (order.passes l V) w o u _ g (λ v x y. walk.more h (walk.by_continue (eqb-true j l e)) y)
           (k (w ++ o) s (context_more Is l w o (walk.leaves (continues m j)) c h (walk.by_continue (eqb-true j l e))) p)
       by false e = leaps o g (walk.last h (walk.by_outer_continue (eqb-false j l e))) p
-  fine_passed l t d K V w _ again n c (halts o g h p) k = halts o g (walk.last h walk.by_stop) p
+  fine_passed l t d K V w _ again f n c (halts o g h p) k = halts o g (walk.last h walk.by_stop) p
 
   -- ---- either way
 
@@ -407,8 +420,12 @@ module _ {E : Type 0} (A : Acting E) (Ok : Ending → Type 0) (Is : List Action 
 
   -- ---- expressions
 
+  -- the temporaries that get the unit
+  abbrev Fills : (Temporary → Type 0) → Type 0
+  Fills N = (t : Temporary) → N t → Us t
+
   AllFine : (Subject → Arms → Type 0) → Meaning (Told E) → Type 0
-  AllFine C low = (e : Exp) (d : Temporary) (w : List Action) (s : State) (K : Pending) → Formed C (ids K) e d → Ctx (order.order e d) w → I w s K → FineAt K (λ v. holds d v K) (order.order e d) w (low e d s)
+  AllFine C low = (e : Exp) (d : Temporary) (w : List Action) (s : State) (K : Pending) → Formed C (ids K) e d → Fills (FillsUnit e d) → Ctx (order.order e d) w → I w s K → FineAt K (λ v. holds d v K) (order.order e d) w (low e d s)
 
   Callee : Functions → Meaning (Told E) → Type 0
   Callee P low = (w : List Action) (n g : ℕ) (ts : List Temporary) (d : Temporary) (vs : List Value) (s : State) (K : Pending) → Unheld d (ids K) → Paired ts vs → Is (w ++ does n (Call g ts d) ∷ [])
@@ -421,90 +438,93 @@ module _ {E : Type 0} (A : Acting E) (Ok : Ending → Type 0) (Is : List Action 
     mutual
       unfolding value AllFine Callee NoArm
 
-      value_fine : (e : Exp) (d : Temporary) (w : List Action) (s : State) (K : Pending) → Formed C (ids K) e d → Ctx (order.order e d) w → I w s K → FineAt K (λ v. holds d v K) (order.order e d) w (value (fully A) P low e d s)
-      value_fine (read m v p) d w s K h c i = fine_one w _ [] s K K _ (reads h) c i
-      value_fine (borrow m k p) d w s K h c i = fine_one w _ [] s K K _ (borrows h) c i
-      value_fine (share m e) d w s K h c i =
-          fine_then Is Ok (Leap K) (Good (λ v. holds (temporary_at m.node 1) v K)) (Good (λ v. holds d v K)) w _ _ c (value_fine e _ w s K h.0 (context_first Is w c) i) (λ w1 v s1 c1 i1.
+      value_fine : (e : Exp) (d : Temporary) (w : List Action) (s : State) (K : Pending) → Formed C (ids K) e d → Fills (FillsUnit e d) → Ctx (order.order e d) w → I w s K → FineAt K (λ v. holds d v K) (order.order e d) w (value (fully A) P low e d s)
+      value_fine (read m v p) d w s K h fu c i = fine_one w _ [] s K K _ (reads h) c i
+      value_fine (borrow m k p) d w s K h fu c i = fine_one w _ [] s K K _ (borrows h) c i
+      value_fine (share m e) d w s K h fu c i =
+          fine_then Is Ok (Leap K) (Good (λ v. holds (temporary_at m.node 1) v K)) (Good (λ v. holds d v K)) w _ _ c (value_fine e _ w s K h.0 fu (context_first Is w c) i) (λ w1 v s1 c1 i1.
           fine_post Ok (Leap K) (Good (λ u. holds d u K)) (Good (λ u. holds d u (holds (temporary_at m.node 1) v K))) _ w1 _ (λ l u s2 i2. law.drops l s2 _ _ (keeps (skips (thin_all K))) i2)
           (fine_one w1 _ (v ∷ []) s1 K _ _ (borrows_held h.1) c1 i1))
-      value_fine (build m y es) d w s K h c i =
-          fine_then Is Ok (Leap K) (GoodAll (temporaries_of es) K) (Good (λ v. holds d v K)) w _ _ c (values_fine es w s K h.0 (context_first Is w c) i)
-          (λ w1 vs s1 c1 q. fine_one w1 _ vs s1 K _ _ (builds K q.0 h.1) c1 q.1)
-      value_fine (unit m) d w s K h c i = goes [] refl walk.nothing (subst (λ l. I l s (holds d unit_value K)) (sym (append-nil w)) (law.units w s d K h i))
-      value_fine (lazily m b e f) d w s K h c i =
+      value_fine (build m y es) d w s K h fu c i =
+          fine_then Is Ok (Leap K) (GoodAll (temporaries_of es) K) (Good (λ v. holds d v K)) w _ _ c (values_fine es w s K h.0 fu (context_first Is w c) i)
+          (λ w1 vs s1 c1 q. fine_one w1 _ vs s1 K _ _ (builds K q.0 (λ z. as_many_fields es) h.1) c1 q.1)
+      value_fine (unit m) d w s K h fu c i = goes [] refl walk.nothing (subst (λ l. I l s (holds d unit_value K)) (sym (append-nil w)) (law.units w s d K (fu d (refl, ([], walk.nothing))) h i))
+      value_fine (lazily m b e f) d w s K h fu c i =
           let te = temporary_of e in let tf = temporary_of f in
-          fine_then Is Ok (Leap K) (Good (λ v. holds te v K)) (Good (λ v. holds d v K)) w _ _ c (value_fine e te w s K h.0 (context_first Is w c) i) (λ w1 v s1 c1 i1.
+          fine_then Is Ok (Leap K) (Good (λ v. holds te v K)) (Good (λ v. holds d v K)) w _ _ c (value_fine e te w s K h.0 (λ t x. fu t (inl x)) (context_first Is w c) i) (λ w1 v s1 c1 i1.
           fine_then Is Ok (Leap K) (λ l t s2. ((s2 ≡ s1) × (x : Bool) × (t ≡ truth x)) × I l s2 (holds te v K)) (Good (λ v. holds d v K)) w1 _ _ c1
           (fine_act w1 _ (v ∷ []) s1 K (holds te v K) (λ u. holds te v K) (tests_held {ss = []}) (context_first Is w1 c1) i1) (λ w2 t s2 c2 q.
           fine_then Is Ok (Leap K) (λ l y s3. (x : Temporary) × Among x (te ∷ tf ∷ []) × I l s3 (holds x y K)) (Good (λ v. holds d v K)) w2 _ _ c2
           (fine_decided t s1 s2 (order.order f tf) order.nothing (holds te v K) K _ w2 _ _ q.0 (context_first Is w2 c2) q.1
-          (λ w3 s3 c3 i3. fine_post Ok (Leap K) _ (Good (λ y. holds tf y K)) _ w3 _ (λ l y s4 i4. (tf, walk.there walk.here, i4)) (value_fine f tf w3 s3 K h.1 c3 (law.drops w3 s3 _ _ (skips (thin_all K)) i3)))
+          (λ w3 s3 c3 i3. fine_post Ok (Leap K) _ (Good (λ y. holds tf y K)) _ w3 _ (λ l y s4 i4. (tf, walk.there walk.here, i4)) (value_fine f tf w3 s3 K h.1 (λ t x. fu t (inr x)) c3 (law.drops w3 s3 _ _ (skips (thin_all K)) i3)))
           (λ w3 s3 c3 i3. goes [] refl walk.nothing (te, walk.here, subst (λ l. I l s3 (holds te v K)) (sym (append-nil w3)) i3)))
           (λ w4 y s4 c4 r. fine_one w4 _ (y ∷ []) s4 K (holds r.0 y K) _ (joins r.1 h.2) c4 r.2)))
-      value_fine (assign m p e) d w s K h c i =
-          fine_then Is Ok (Leap K) (Good (λ v. holds (temporary_of e) v K)) (Good (λ v. holds d v K)) w _ _ c (value_fine e _ w s K h.0 (context_first Is w c) i)
-          (λ w1 v s1 c1 i1. fine_unit w1 _ (v ∷ []) s1 K _ d writes (λ u s2 g. g) h.1 c1 i1)
-      value_fine (update m o p e) d w s K h c i =
+      value_fine (assign m p e) d w s K h fu c i =
+          fine_fill d K (order.order (assign m p e) d) w _ (λ o x. fu d (inr (refl, (o, x)))) h.1
+          (fine_then Is Ok (Leap K) (Good (λ v. holds (temporary_of e) v K)) (GivesUnit K) w _ _ c (value_fine e _ w s K h.0 (λ t x. fu t (inl x)) (context_first Is w c) i)
+          (λ w1 v s1 c1 i1. fine_unit w1 _ (v ∷ []) s1 K _ writes (λ u s2 g. g) c1 i1))
+      value_fine (update m o p e) d w s K h fu c i =
           let te = temporary_of e in let t1 = temporary_at m.node 1 in let t2 = temporary_at m.node 2 in
-          fine_then Is Ok (Leap K) (Good (λ v. holds te v K)) (Good (λ v. holds d v K)) w _ _ c (value_fine e te w s K h.0 (context_first Is w c) i) (λ w1 v s1 c1 i1.
-          fine_then Is Ok (Leap K) (Good (λ u. holds t1 u (holds te v K))) (Good (λ v. holds d v K)) w1 _ _ c1 (fine_one w1 _ [] s1 K (holds te v K) _ (reads h.1) (context_first Is w1 c1) i1) (λ w2 u s2 c2 i2.
-          fine_then Is Ok (Leap K) (Good (λ y. holds t2 y K)) (Good (λ v. holds d v K)) w2 _ _ c2
-          (fine_one w2 _ (u ∷ v ∷ []) s2 K _ _ (builds K (pair_and (pair_and no_pair)) h.2) (context_first Is w2 c2) (law.drops w2 s2 _ _ (swaps (thin_all K)) i2)) (λ w3 y s3 c3 i3.
-          fine_unit w3 _ (y ∷ []) s3 K _ d writes (λ z s4 g. g) h.3 c3 i3)))
-      value_fine (call m g es) d w s K h c i =
-          fine_then Is Ok (Leap K) (GoodAll (temporaries_of es) K) (Good (λ v. holds d v K)) w _ _ c (values_fine es w s K h.0 (context_first Is w c) i) (λ w1 vs s1 c1 q.
+          fine_fill d K (order.order (update m o p e) d) w _ (λ v x. fu d (inr (refl, (v, x)))) h.3
+          (fine_then Is Ok (Leap K) (Good (λ v. holds te v K)) (GivesUnit K) w _ _ c (value_fine e te w s K h.0 (λ t x. fu t (inl x)) (context_first Is w c) i) (λ w1 v s1 c1 i1.
+          fine_then Is Ok (Leap K) (Good (λ u. holds t1 u (holds te v K))) (GivesUnit K) w1 _ _ c1 (fine_one w1 _ [] s1 K (holds te v K) _ (reads h.1) (context_first Is w1 c1) i1) (λ w2 u s2 c2 i2.
+          fine_then Is Ok (Leap K) (Good (λ y. holds t2 y K)) (GivesUnit K) w2 _ _ c2
+          (fine_one w2 _ (u ∷ v ∷ []) s2 K _ _ (builds K (pair_and (pair_and no_pair)) (λ z. absurd (cc)) h.2) (context_first Is w2 c2) (law.drops w2 s2 _ _ (swaps (thin_all K)) i2)) (λ w3 y s3 c3 i3.
+          fine_unit w3 _ (y ∷ []) s3 K _ writes (λ z s4 g. g) c3 i3))))
+      value_fine (call m g es) d w s K h fu c i =
+          fine_then Is Ok (Leap K) (GoodAll (temporaries_of es) K) (Good (λ v. holds d v K)) w _ _ c (values_fine es w s K h.0 fu (context_first Is w c) i) (λ w1 vs s1 c1 q.
           let a = at_mark m (Call g (temporaries_of es) d) in let K0 = pushes (temporaries_of es) vs K in
           fine_calling w1 a s1 K0 K d _ _ (law.performs w1 a vs s1 K0 (λ u. K0) (using.calls K q.0 h.1) (c1 (a ∷ []) walk.on walk.acts) q.1)
           (λ u s2 i2. callee w1 m.node g (temporaries_of es) d vs s2 K h.1 q.0 (c1 (a ∷ []) walk.on walk.acts) i2))
-      value_fine (input m) d w s K h c i = fine_one w _ [] s K K _ (inputs h) c i
-      value_fine (print m e) d w s K h c i =
-          fine_then Is Ok (Leap K) (Good (λ v. holds (temporary_of e) v K)) (Good (λ v. holds d v K)) w _ _ c (value_fine e _ w s K h.0 (context_first Is w c) i)
-          (λ w1 v s1 c1 i1. fine_unit w1 _ (v ∷ []) s1 K _ d prints (λ u s2 g. g) h.1 c1 i1)
-      value_fine (block m b) d w s K h c i = body_fine b m.node d w s K h c i
-      value_fine (choose m x l) d w s K h c i =
-          fine_then Is Ok (Leap K) (λ l1 vs s1. Fits (subject x) vs × I l1 s1 (holding (subject x) vs K)) (Good (λ v. holds d v K)) w _ _ c (matched_fine x w s K h.0 (context_first Is w c) i)
-          (λ w1 vs s1 c1 q. arms_fine (subject x) vs l d w1 s1 K q.0 h.2 c1 q.1 (λ f. no_arm_left (subject x) l w1 vs s1 K h.1 q.0 q.1 f))
-      value_fine (loop m l e) d w s K h c i =
+      value_fine (input m) d w s K h fu c i = fine_one w _ [] s K K _ (inputs h) c i
+      value_fine (print m e) d w s K h fu c i =
+          fine_fill d K (order.order (print m e) d) w _ (λ o x. fu d (inr (refl, (o, x)))) h.1
+          (fine_then Is Ok (Leap K) (Good (λ v. holds (temporary_of e) v K)) (GivesUnit K) w _ _ c (value_fine e _ w s K h.0 (λ t x. fu t (inl x)) (context_first Is w c) i)
+          (λ w1 v s1 c1 i1. fine_unit w1 _ (v ∷ []) s1 K _ prints (λ u s2 g. g) c1 i1))
+      value_fine (block m b) d w s K h fu c i = body_fine b m.node d w s K h fu c i
+      value_fine (choose m x l) d w s K h fu c i =
+          fine_then Is Ok (Leap K) (λ l1 vs s1. Fits (subject x) vs × I l1 s1 (holding (subject x) vs K)) (Good (λ v. holds d v K)) w _ _ c (matched_fine x w s K h.0 (λ t x. fu t (inl x)) (context_first Is w c) i)
+          (λ w1 vs s1 c1 q. arms_fine (subject x) vs l d w1 s1 K q.0 h.2 (λ t x. fu t (inr x)) c1 q.1 (λ f. no_arm_left (subject x) l w1 vs s1 K h.1 q.0 q.1 f))
+      value_fine (loop m l e) d w s K h fu c i =
           fine_turn K (λ v. holds d v K) (order.passes l (order.order e (temporary_of e))) w s _ c i (λ w1 s1 c1 i1.
-          fine_passed l (temporary_of e) d K _ w1 _ _ h.1 c1 (all e (temporary_of e) w1 s1 K h.0 (context_pass Is l w1 c1) i1) (λ w2 s2 c2 i2. all (loop m l e) d w2 s2 K h c2 i2))
-      value_fine (jump m l true) d w s K h c i = leaps [] refl walk.leave (subst (λ u. I u s K) (sym (append-nil w)) i)
-      value_fine (jump m l false) d w s K h c i = leaps [] refl walk.leave (subst (λ u. I u s K) (sym (append-nil w)) i)
-      value_fine (give m e) d w s K h c i =
-          fine_then Is Ok (Leap K) (Good (λ v. holds (temporary_of e) v K)) (Good (λ v. holds d v K)) w _ _ c (value_fine e _ w s K h (context_first Is w c) i) (λ w1 v s1 c1 i1.
+          fine_passed l (temporary_of e) d K _ w1 _ _ (λ o x. fu d (inr (refl, (o, x)))) h.1 c1 (all e (temporary_of e) w1 s1 K h.0 (λ t x. fu t (inl x)) (context_pass Is l w1 c1) i1) (λ w2 s2 c2 i2. all (loop m l e) d w2 s2 K h fu c2 i2))
+      value_fine (jump m l true) d w s K h fu c i = leaps [] refl walk.leave (subst (λ u. I u s K) (sym (append-nil w)) i)
+      value_fine (jump m l false) d w s K h fu c i = leaps [] refl walk.leave (subst (λ u. I u s K) (sym (append-nil w)) i)
+      value_fine (give m e) d w s K h fu c i =
+          fine_then Is Ok (Leap K) (Good (λ v. holds (temporary_of e) v K)) (Good (λ v. holds d v K)) w _ _ c (value_fine e _ w s K h fu (context_first Is w c) i) (λ w1 v s1 c1 i1.
           fine_then Is Ok (Leap K) (λ l u s2. I l s2 ((None, u) ∷ K)) (Good (λ v. holds d v K)) w1 _ _ c1 (fine_one w1 _ (v ∷ []) s1 K _ _ gives_up (context_first Is w1 c1) i1)
           (λ w2 u s2 c2 i2. leaps [] refl walk.leave (subst (λ l. I l s2 ((None, u) ∷ K)) (sym (append-nil w2)) i2)))
 
-      values_fine : (es : Operands) (w : List Action) (s : State) (K : Pending) → FormedAll C (ids K) es → Ctx (order_all es) w → I w s K → Follows Ok (GoodAll (temporaries_of es) K) (Leap K) (order_all es) w (values (fully A) P low es s)
-      values_fine no_operand w s K h c i = goes [] refl walk.nothing (no_pair, subst (λ l. I l s K) (sym (append-nil w)) i)
-      values_fine (operand_and j e es) w s K h c i =
+      values_fine : (es : Operands) (w : List Action) (s : State) (K : Pending) → FormedAll C (ids K) es → Fills (OperandsFill es) → Ctx (order_all es) w → I w s K → Follows Ok (GoodAll (temporaries_of es) K) (Leap K) (order_all es) w (values (fully A) P low es s)
+      values_fine no_operand w s K h fu c i = goes [] refl walk.nothing (no_pair, subst (λ l. I l s K) (sym (append-nil w)) i)
+      values_fine (operand_and j e es) w s K h fu c i =
           let te = temporary_of e in
-          fine_then Is Ok (Leap K) (Good (λ v. holds te v K)) (GoodAll (te ∷ temporaries_of es) K) w _ _ c (value_fine e te w s K h.0 (context_first Is w c) i) (λ w1 v s1 c1 i1.
+          fine_then Is Ok (Leap K) (Good (λ v. holds te v K)) (GoodAll (te ∷ temporaries_of es) K) w _ _ c (value_fine e te w s K h.0 (λ t x. fu t (inl x)) (context_first Is w c) i) (λ w1 v s1 c1 i1.
           fine_map Ok (Leap K) (GoodAll (temporaries_of es) (holds te v K)) (GoodAll (te ∷ temporaries_of es) K) (order_all es) w1 (λ vs. v ∷ vs) _ (λ l vs s2 q. (pair_and q.0, q.1))
-          (fine_drop K (holds te v K) (GoodAll (temporaries_of es) (holds te v K)) (order_all es) w1 _ (skips (thin_all K)) (values_fine es w1 s1 (holds te v K) h.1 c1 i1)))
+          (fine_drop K (holds te v K) (GoodAll (temporaries_of es) (holds te v K)) (order_all es) w1 _ (skips (thin_all K)) (values_fine es w1 s1 (holds te v K) h.1 (λ t x. fu t (inr x)) c1 i1)))
 
-      matched_fine : (x : Scrutinee) (w : List Action) (s : State) (K : Pending) → FormedScrutinee C (ids K) x → Ctx (order_scrutinee x) w → I w s K
+      matched_fine : (x : Scrutinee) (w : List Action) (s : State) (K : Pending) → FormedScrutinee C (ids K) x → Fills (ScrutineeFills x) → Ctx (order_scrutinee x) w → I w s K
           → Follows Ok (λ l vs s1. Fits (subject x) vs × I l s1 (holding (subject x) vs K)) (Leap K) (order_scrutinee x) w (matched (fully A) P low x s)
-      matched_fine (at_place m p) w s K h c i = goes [] refl walk.nothing (of_place, subst (λ l. I l s K) (sym (append-nil w)) i)
-      matched_fine (of_value e) w s K h c i = fine_map Ok (Leap K) (Good (λ v. holds (temporary_of e) v K)) _ _ w (λ v. v ∷ []) _ (λ l v s1 q. (of_held, q)) (value_fine e _ w s K h c i)
+      matched_fine (at_place m p) w s K h fu c i = goes [] refl walk.nothing (of_place, subst (λ l. I l s K) (sym (append-nil w)) i)
+      matched_fine (of_value e) w s K h fu c i = fine_map Ok (Leap K) (Good (λ v. holds (temporary_of e) v K)) _ _ w (λ v. v ∷ []) _ (λ l v s1 q. (of_held, q)) (value_fine e _ w s K h fu c i)
 
-      arms_fine : (S : Subject) (vs : List Value) (l : Arms) (d : Temporary) (w : List Action) (s : State) (K : Pending) → Fits S vs → FormedArms C (ids K) S l d → Ctx (order_arms S l d) w → I w s (holding S vs K)
+      arms_fine : (S : Subject) (vs : List Value) (l : Arms) (d : Temporary) (w : List Action) (s : State) (K : Pending) → Fits S vs → FormedArms C (ids K) S l d → Fills (ArmsFill l d) → Ctx (order_arms S l d) w → I w s (holding S vs K)
           → (AllFail A S vs s l → Ok (wrong missing_arm)) → FineAt K (λ v. holds d v K) (order_arms S l d) w (arms (fully A) P low S vs l d s)
-      arms_fine S vs no_arm d w s K f h c i k = halts [] refl walk.rests (k tt)
-      arms_fine S vs (arm_and p e rest) d w s K f h c i k =
+      arms_fine S vs no_arm d w s K f h fu c i k = halts [] refl walk.rests (k tt)
+      arms_fine S vs (arm_and p e rest) d w s K f h fu c i k =
           fine_tested S vs (matching.tests [] p) K (λ v. holds d v K) (binding S (bindings [] p) (mark_of e).node (order.order e d)) (order_arms S rest d) w s _ _ f c i
-          (λ w1 s1 c1 i1. fine_bound S vs (bindings [] p) (mark_of e).node K (λ v. holds d v K) (order.order e d) w1 s1 _ f h.0 c1 i1 (λ w2 s2 c2 i2. value_fine e d w2 s2 K h.1 c2 i2))
-          (λ w1 q c1 i1. arms_fine S vs rest d w1 s K f h.2 c1 i1 (λ r. k (q, r)))
+          (λ w1 s1 c1 i1. fine_bound S vs (bindings [] p) (mark_of e).node K (λ v. holds d v K) (order.order e d) w1 s1 _ f h.0 c1 i1 (λ w2 s2 c2 i2. value_fine e d w2 s2 K h.1 (λ t x. fu t (inl x)) c2 i2))
+          (λ w1 q c1 i1. arms_fine S vs rest d w1 s K f h.2 (λ t x. fu t (inr x)) c1 i1 (λ r. k (q, r)))
 
-      body_fine : (b : Body) (n : ℕ) (d : Temporary) (w : List Action) (s : State) (K : Pending) → FormedBody C (ids K) b d → Ctx (order_body b n d) w → I w s K → FineAt K (λ v. holds d v K) (order_body b n d) w (body (fully A) P low b n d s)
-      body_fine (ends e) n d w s K h c i = value_fine e d w s K h c i
-      body_fine (runs e rest) n d w s K h c i =
-          fine_then Is Ok (Leap K) (Good (λ v. holds (temporary_of e) v K)) (Good (λ v. holds d v K)) w _ _ c (value_fine e _ w s K h.0 (context_first Is w c) i)
-          (λ w1 v s1 c1 i1. body_fine rest n d w1 s1 K h.1 c1 (law.drops w1 s1 _ _ (skips (thin_all K)) i1))
-      body_fine (tree.declares j xs rest) n d w s K h c i = fine_begun j xs n K (λ v. holds d v K) (order_body rest n d) w s _ c i (λ w1 s1 c1 i1. body_fine rest n d w1 s1 K h c1 i1)
-      body_fine (lets j p x rest) n d w s K h c i =
-          fine_then Is Ok (Leap K) (λ l1 vs s1. Fits (subject x) vs × I l1 s1 (holding (subject x) vs K)) (Good (λ v. holds d v K)) w _ _ c (matched_fine x w s K h.0 (context_first Is w c) i)
-          (λ w1 vs s1 c1 q. fine_bound (subject x) vs (bindings [] p) n K (λ v. holds d v K) (order_body rest n d) w1 s1 _ q.0 h.1 c1 q.1 (λ w2 s2 c2 i2. body_fine rest n d w2 s2 K h.2 c2 i2))
+      body_fine : (b : Body) (n : ℕ) (d : Temporary) (w : List Action) (s : State) (K : Pending) → FormedBody C (ids K) b d → Fills (BodyFills b d) → Ctx (order_body b n d) w → I w s K → FineAt K (λ v. holds d v K) (order_body b n d) w (body (fully A) P low b n d s)
+      body_fine (ends e) n d w s K h fu c i = value_fine e d w s K h fu c i
+      body_fine (runs e rest) n d w s K h fu c i =
+          fine_then Is Ok (Leap K) (Good (λ v. holds (temporary_of e) v K)) (Good (λ v. holds d v K)) w _ _ c (value_fine e _ w s K h.0 (λ t x. fu t (inl x)) (context_first Is w c) i)
+          (λ w1 v s1 c1 i1. body_fine rest n d w1 s1 K h.1 (λ t x. fu t (inr x)) c1 (law.drops w1 s1 _ _ (skips (thin_all K)) i1))
+      body_fine (tree.declares j xs rest) n d w s K h fu c i = fine_begun j xs n K (λ v. holds d v K) (order_body rest n d) w s _ c i (λ w1 s1 c1 i1. body_fine rest n d w1 s1 K h fu c1 i1)
+      body_fine (lets j p x rest) n d w s K h fu c i =
+          fine_then Is Ok (Leap K) (λ l1 vs s1. Fits (subject x) vs × I l1 s1 (holding (subject x) vs K)) (Good (λ v. holds d v K)) w _ _ c (matched_fine x w s K h.0 (λ t x. fu t (inl x)) (context_first Is w c) i)
+          (λ w1 vs s1 c1 q. fine_bound (subject x) vs (bindings [] p) n K (λ v. holds d v K) (order_body rest n d) w1 s1 _ q.0 h.1 c1 q.1 (λ w2 s2 c2 i2. body_fine rest n d w2 s2 K h.2 (λ t x. fu t (inr x)) c2 i2))
 
 -- ---- programs
 
@@ -520,7 +540,7 @@ differs y G p q h = subst IsNone q (subst IsNone (sym p) h)
 
 module _ {E : Type 0} (A : Acting E) (Ok : Ending → Type 0) (P : Functions) (C : ℕ → Subject → Arms → Type 0) (W : Type 0) (I : ℕ → W → Invariant) (laws : Laws A Ok P C W I) (formed : AllFormed P C) where
   AllLow : Meaning (Told E) → Type 0
-  AllLow low = (f : ℕ) (F : Function) (q : IsFunction P f F) (k : W) (e : Exp) (d : Temporary) (w : List Action) (s : State) (K : Pending) → Formed (C f) (ids K) e d → Context (IsWalk F) (order.order e d) w → I f k w s K
+  AllLow low = (f : ℕ) (F : Function) (q : IsFunction P f F) (k : W) (e : Exp) (d : Temporary) (w : List Action) (s : State) (K : Pending) → Formed (C f) (ids K) e d → ((t : Temporary) → FillsUnit e d t → IsUnitOf F t) → Context (IsWalk F) (order.order e d) w → I f k w s K
       → Follows Ok (λ l v s1. I f k l s1 (holds d v K)) (λ l x v s1. I f k l s1 (landing x v K)) (order.order e d) w (low e d s)
 
   -- what an activation does
@@ -530,8 +550,8 @@ module _ {E : Type 0} (A : Acting E) (Ok : Ending → Type 0) (P : Functions) (C
   activation_fine : (low : Meaning (Told E)) → AllLow low → (f : ℕ) (F : Function) (q : IsFunction P f F) (k : W) (vs : List Value) (s : State) → ((AsMany F.params vs → ⊥) → Ok (wrong mistyped)) → I f k [] s (arguments F.params vs) → Activated f F k (activation (fully A) low F vs s)
   unfolding AllLow
   activation_fine low all f F q k vs s m i =
-      fine_arguments A Ok (IsWalk F) (I f k) (laws.steps f F q k) laws.runs_on F.params (mark_of F.body).node vs (λ v. holds (temporary_of F.body) v []) (order.order F.body (temporary_of F.body)) [] s _ m (whole_context F) i
-      (λ w1 s1 c1 i1. all f F q k F.body (temporary_of F.body) w1 s1 [] (formed f F q) c1 i1)
+      fine_arguments A Ok (IsWalk F) (IsUnitOf F) (I f k) (laws.steps f F q k) laws.runs_on F.params (mark_of F.body).node vs (λ v. holds (temporary_of F.body) v []) (order.order F.body (temporary_of F.body)) [] s _ m (whole_context F) i
+      (λ w1 s1 c1 i1. all f F q k F.body (temporary_of F.body) w1 s1 [] (formed f F q) (λ t x. x) c1 i1)
 
   -- a call: it comes back with what the body gave, or it has ended the run; the actions of the callee are not told
   pub data Comes (f : ℕ) (F : Function) (k : W) (G : Frame) : Result (Told E) Value → Type 0 where
@@ -546,12 +566,12 @@ module _ {E : Type 0} (A : Acting E) (Ok : Ending → Type 0) (P : Functions) (C
   returned_comes f F q k G _ (leaps {t = t} {x = continues m l} o g h p) = ends_all (sym (acted_saying (A.inner (said t)))) (laws.no_answer f F q o _ h tt)
   returned_comes f F q k G _ (halts {t = t} o g h e) = ends_all (sym (acted_saying (A.inner (said t)))) e
 
-  callee_fine : (low : Meaning (Told E)) → AllLow low → (f : ℕ) (F : Function) (q : IsFunction P f F) (k : W) → Callee A Ok (IsWalk F) (I f k) (laws.steps f F q k) laws.runs_on P low
+  callee_fine : (low : Meaning (Told E)) → AllLow low → (f : ℕ) (F : Function) (q : IsFunction P f F) (k : W) → Callee A Ok (IsWalk F) (IsUnitOf F) (I f k) (laws.steps f F q k) laws.runs_on P low
   unfolding Callee
   callee_fine low all f F q k w n g ts d vs s K u pr is i = by (element P g) refl
     where
       Answer : Result (Told E) Value → Type 0
-      Answer r = Back A Ok (IsWalk F) (I f k) (laws.steps f F q k) laws.runs_on (w ++ does n (Call g ts d) ∷ []) K d r
+      Answer r = Back A Ok (IsWalk F) (IsUnitOf F) (I f k) (laws.steps f F q k) laws.runs_on (w ++ does n (Call g ts d) ∷ []) K d r
 
       at : (s1 : State) → I f k (w ++ does n (Call g ts d) ∷ []) s1 (pushes ts vs K) → Calling P I f F k w n g ts d vs s1 K
       at s1 i1 = record { caller = q; fills = u; arguments = pr; begins = is; kept = i1 }
@@ -571,16 +591,16 @@ module _ {E : Type 0} (A : Acting E) (Ok : Ending → Type 0) (P : Functions) (C
       by : (o : Option (Option Function)) → element P g ≡ o → Answer (found o (λ G. take_turn s (λ s1. entered (fully A) low g G vs s1)))
       by None e = ended refl (lost (λ G e1. absurd (differs None G e e1 tt)))
       by (Some None) e = ended refl (lost (λ G e1. absurd (differs (Some None) G e e1 tt)))
-      by (Some (Some G)) e = turn_back A Ok (IsWalk F) (I f k) (laws.steps f F q k) laws.runs_on (w ++ does n (Call g ts d) ∷ []) K (pushes ts vs K) d s _ i (λ s1 i1. come G e s1 i1)
+      by (Some (Some G)) e = turn_back A Ok (IsWalk F) (IsUnitOf F) (I f k) (laws.steps f F q k) laws.runs_on (w ++ does n (Call g ts d) ∷ []) K (pushes ts vs K) d s _ i (λ s1 i1. come G e s1 i1)
 
   levels_fine : (n : ℕ) → AllLow (below_level (fully A) P n)
   unfolding below_level AllLow AllFine NoArm
-  levels_fine zero f F q k e d w s K h c i = halts [] refl walk.rests laws.runs_on
-  levels_fine (suc n) f F q k e d w s K h c i =
-      value_fine A Ok (IsWalk F) (I f k) (laws.steps f F q k) laws.runs_on P (C f) (below_level (fully A) P n) (λ e1 d1 w1 s1 K0. levels_fine n f F q k e1 d1 w1 s1 K0)
-      (callee_fine (below_level (fully A) P n) (levels_fine n) f F q k) (no_arm f F q k) e d w s K h c i
+  levels_fine zero f F q k e d w s K h fu c i = halts [] refl walk.rests laws.runs_on
+  levels_fine (suc n) f F q k e d w s K h fu c i =
+      value_fine A Ok (IsWalk F) (IsUnitOf F) (I f k) (laws.steps f F q k) laws.runs_on P (C f) (below_level (fully A) P n) (λ e1 d1 w1 s1 K0. levels_fine n f F q k e1 d1 w1 s1 K0)
+      (callee_fine (below_level (fully A) P n) (levels_fine n) f F q k) (no_arm f F q k) e d w s K h fu c i
     where
-      no_arm : (f : ℕ) (F : Function) (q : IsFunction P f F) (k : W) → NoArm A Ok (IsWalk F) (I f k) (laws.steps f F q k) laws.runs_on (C f)
+      no_arm : (f : ℕ) (F : Function) (q : IsFunction P f F) (k : W) → NoArm A Ok (IsWalk F) (IsUnitOf F) (I f k) (laws.steps f F q k) laws.runs_on (C f)
       no_arm f F q k = laws.no_arm_left f F q k
 
   -- What each action keeps, an activation keeps: the actions that it tells are a walk, and it ends the run as is said alone.

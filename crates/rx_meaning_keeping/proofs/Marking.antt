@@ -20,6 +20,7 @@ use Rattle.rx_facts_parts.specs.Places.{Frame}
 use Rattle.rx_facts_init.specs.Setting.{is_behind, sets}
 use Rattle.rx_facts_init.specs.Wholes.{placed, regains}
 use Rattle.rx_meaning_keeping.specs.Pending.{Pending, holds, pushes, arguments}
+use Rattle.rx_meaning_keeping.specs.Units.{IsUnitOf}
 use Rattle.rx_meaning_keeping.specs.Using.{Does, Gives}
 use Rattle.rx_meaning_keeping.specs.Using as using
 use Rattle.rx_meaning_keeping.specs.Formed.{Any}
@@ -118,11 +119,11 @@ module _ (F : Frame) (parts : Parted F) (k : World) (f : Function) (ready : Read
       or_keeps F parts k w n (Read m p d) s (λ v. holds d v K) (why_not_found p [] s) (found p [] s) (λ x. or_ends lacks (whole_value x) (λ v. gives [] v s)) (λ x e. or_keeps F parts k w n (Read m p d) s (λ v. holds d v K) lacks (whole_value x) (λ v. gives [] v s) (λ v e1.
       (tt, inv_read F parts k w n m p d s K (holds d v K) (λ y r b. ready.places w (does n (Read m p d)) y p.steps is (ap (λ z. Some (record { root = z; steps = p.steps })) r) b) i (whole_set F parts k w n x v e1, i.here))))
   plainly_keeps w n _ _ s K _ (using.borrows {m = m} {p = p} {d = d} u) is i =
-      or_keeps F parts k w n (Borrow m p d) s (λ v. holds d v K) (why_not_found p [] s) (found p [] s) (λ x. or_ends astray (reference_to m x.0) (λ v. gives [] v s)) (λ x e. or_keeps F parts k w n (Borrow m p d) s (λ v. holds d v K) astray (reference_to m x.0) (λ v. gives [] v s) (λ v e1.
-      (tt, inv_more F parts k w (does n (Borrow m p d)) s.memory s.frame.slots K (holds d v K) (λ z. refl) (λ y rs. refl) i (pointer_set m x.0 v e1, i.here))))
+      or_keeps F parts k w n (Borrow m p d) s (λ v. holds d v K) (why_not_found p [] s) (spot p [] s) (λ x. or_ends astray (reference_to m x) (λ v. gives [] v s)) (λ x e. or_keeps F parts k w n (Borrow m p d) s (λ v. holds d v K) astray (reference_to m x) (λ v. gives [] v s) (λ v e1.
+      (tt, inv_more F parts k w (does n (Borrow m p d)) s.memory s.frame.slots K (holds d v K) (λ z. refl) (λ y rs. refl) i (pointer_set m x v e1, i.here))))
   plainly_keeps w n _ _ s _ _ (using.borrows_held {m = m} {t = t} {d = d} {ss = ss} {v = y} {K = K} u) is i =
-      or_keeps F parts k w n (Borrow m (under (held t) ss) d) s (λ v. holds d v (holds t y K)) (why_not_found (under (held t) ss) (y ∷ []) s) (found (under (held t) ss) (y ∷ []) s) (λ x. or_ends astray (reference_to m x.0) (λ v. gives [] v s)) (λ x e. or_keeps F parts k w n (Borrow m (under (held t) ss) d) s (λ v. holds d v (holds t y K)) astray (reference_to m x.0) (λ v. gives [] v s) (λ v e1.
-      (tt, inv_more F parts k w (does n (Borrow m (under (held t) ss) d)) s.memory s.frame.slots (holds t y K) (holds d v (holds t y K)) (λ z. refl) (λ y rs. refl) i (pointer_set m x.0 v e1, i.here))))
+      or_keeps F parts k w n (Borrow m (under (held t) ss) d) s (λ v. holds d v (holds t y K)) (why_not_found (under (held t) ss) (y ∷ []) s) (spot (under (held t) ss) (y ∷ []) s) (λ x. or_ends astray (reference_to m x) (λ v. gives [] v s)) (λ x e. or_keeps F parts k w n (Borrow m (under (held t) ss) d) s (λ v. holds d v (holds t y K)) astray (reference_to m x) (λ v. gives [] v s) (λ v e1.
+      (tt, inv_more F parts k w (does n (Borrow m (under (held t) ss) d)) s.memory s.frame.slots (holds t y K) (holds d v (holds t y K)) (λ z. refl) (λ y rs. refl) i (pointer_set m x v e1, i.here))))
   plainly_keeps w n _ _ s K _ (using.tests {p = p} {c = c}) is i =
       or_keeps F parts k w n (Test p c) s (λ v. K) (why_not_found p [] s) (found p [] s) (λ x. or_ends (why_not_checked x.1) (checked c x.1) (λ b. gives [] (truth b) s)) (λ x e. or_keeps F parts k w n (Test p c) s (λ v. K) (why_not_checked x.1) (checked c x.1) (λ b. gives [] (truth b) s) (λ b e1.
       ((refl, b, refl), inv_more F parts k w (does n (Test p c)) s.memory s.frame.slots K K (λ z. refl) (λ y rs. refl) i i.here)))
@@ -132,7 +133,7 @@ module _ (F : Frame) (parts : Parted F) (k : World) (f : Function) (ready : Read
   plainly_keeps w n _ _ s _ _ (using.writes {p = p} {t = t} {v = v} {K = K}) is i = write_keeps F parts k w n p t [] s v (holds t v K) K i.here.0 i i.here.1
   plainly_keeps w n _ _ s _ _ (using.writes_part {x = x} {t = t} {ss = ss} {v = v} {K = K}) is i =
       or_keeps F parts k w n (Write (own x) t ss) s (λ u. holds t v K) (why_no_part ss v) (get ss v) (λ u. or_ends (why_not_found (own x) [] s) (spot (own x) [] s) (λ at. or_ends (why_not_written s.memory at) (after_write u s.memory at) (λ M. gives [] unit_value (with_memory s M)))) (λ u e. write_keeps F parts k w n (own x) t ss s u (holds t v K) (holds t v K) (get_set ss v u i.here.0 e) i i.here)
-  plainly_keeps w n _ _ s _ _ (using.builds {w = m} {js = js} {ts = ts} {vs = vs} {d = d} K pr u) is i =
+  plainly_keeps w n _ _ s _ _ (using.builds {w = m} {js = js} {ts = ts} {vs = vs} {d = d} K pr lz u) is i =
       let h = here_split ts vs K pr i.here in
       build_keeps w n (Build m js ts d) s d (pushes ts vs K) K (make m js vs) (λ v s1. tt) (λ z. refl) (λ y rs. refl) refl (λ v e. ready.makes w n m js ts d is vs v pr h.0 e) h.1 i
   plainly_keeps w n _ _ s _ _ (using.joins {t = t} {u = u} {x = x} {v = v} {d = d} {K = K} am un) is i =
@@ -144,10 +145,10 @@ module _ (F : Frame) (parts : Parted F) (k : World) (f : Function) (ready : Read
   plainly_keeps w n _ _ s _ _ (using.calls {f = g} {ts = ts} {vs = vs} {d = d} K pr u) is i = (tt, inv_more F parts k w (does n (Call g ts d)) s.memory s.frame.slots (pushes ts vs K) _ (λ z. refl) (λ y rs. refl) i i.here)
 
   -- and the strict way
-  pub law_of : Law strictly AnyEnd (IsWalk f) (Marked F k)
+  pub law_of : Law strictly AnyEnd (IsWalk f) (IsUnitOf f) (Marked F k)
   law_of = record {
     drops = λ w s K K1 t i. with_pending w s K1 K i (here_thin K K1 t i.here);
-    units = λ w s d K u i. with_pending w s K (holds d unit_value K) i (refl, i.here);
+    units = λ w s d K g u i. with_pending w s K (holds d unit_value K) i (refl, i.here);
     turns = λ w s n K e i. i;
     performs = λ w a vs s K K1 d is i. unless w a s K1 (looks_at_lack a.act vs s) (then_marks a.act (does_plainly a.act vs s)) (plainly_keeps w a.node a.act vs s K K1 d is i);
   }

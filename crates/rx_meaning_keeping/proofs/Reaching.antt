@@ -42,7 +42,7 @@ module _ {E : Type 0} (A : Acting E) (behaves : Behaves A) (P : Functions) (f0 :
   reaching = record {
     steps = λ f F q k. record {
       drops = λ w s K K' t i. (i.0, lets_go t i.1);
-      units = λ w s d K u i. (i.0, gets_unit d u i.1);
+      units = λ w s d K g u i. (i.0, gets_unit d F q g u i.1);
       turns = λ w s n K e i. (i.0, takes_turn s n e i.1);
       performs = λ w a vs s K K1 d is i. acted f F q k w a vs s K K1 d is i (A.perform a vs s) refl;
     };
@@ -82,7 +82,7 @@ function_of (starts F q) = (F, q)
 function_of (performs w s K F a us K1 t u s1 q d is r e) = (F, q)
 function_of (comes_back w s K F G n g ts d us o m s1 v q un pr is r e wk b) = (F, q)
 function_of (takes_turn s n e r) = function_of r
-function_of (gets_unit d u r) = function_of r
+function_of (gets_unit d F q g u r) = (F, q)
 function_of (lets_go t r) = function_of r
 
 same_function : (P : Functions) (g : ℕ) (G H : Function) → IsFunction P g G → IsFunction P g H → G ≡ H
@@ -108,7 +108,7 @@ module _ {E : Type 0} (A : Acting E) (Ok : Ending → Type 0) (P : Functions) (C
           → J f k (w ++ does n (Call g ts d) ∷ []) (record s1 { frame = s.frame }) (holds d v K)
       back c go = c.2 o m s1 v wk (go c.0 (λ H x. subst (λ z. J g c.0 [] (record s { frame = new_frame g }) (arguments z.params us)) (same_function P g G H e x) c.1))
   reached_is_kept {f = f} {w = w} {K = K} (takes_turn s n e r) k h = let F = function_of r in (laws.steps f F.0 F.1 k).turns w s n K e (reached_is_kept r k h)
-  reached_is_kept {f = f} {w = w} {s = s} (gets_unit {K = K} d u r) k h = let F = function_of r in (laws.steps f F.0 F.1 k).units w s d K u (reached_is_kept r k h)
+  reached_is_kept {f = f} {w = w} {s = s} (gets_unit {K = K} d F q g u r) k h = (laws.steps f F q k).units w s d K g u (reached_is_kept r k h)
   reached_is_kept {f = f} {w = w} {s = s} (lets_go {K = K} {K' = K'} t r) k h = let F = function_of r in (laws.steps f F.0 F.1 k).drops w s K K' t (reached_is_kept r k h)
 
   -- each activation of a run has a world, whose invariant holds at its start

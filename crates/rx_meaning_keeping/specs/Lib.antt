@@ -1,4 +1,5 @@
 pub mod Pending
+pub mod Units
 pub mod Using
 pub mod Formed
 pub mod Keeping

@@ -15,6 +15,7 @@ use Rattle.rx_meaning.specs.Telling.{Told}
 use Rattle.rx_meaning.specs.Expressions.{Functions}
 use Rattle.rx_meaning.specs.Programs.{Program, begins}
 use Rattle.rx_meaning_keeping.specs.Pending.{Pending, Paired, holds, landing, pushes, ids, Unheld, Thin, holding, Fits, arguments, AsMany}
+use Rattle.rx_meaning_keeping.specs.Units.{IsUnitOf}
 use Rattle.rx_meaning_keeping.specs.Using.{Does, Gives}
 use Rattle.rx_meaning_keeping.specs.Choices.{HasChoice}
 use Rattle.rx_meaning_keeping.specs.Keeping.{IsFunction, IsNoAnswer, AllFail}
@@ -36,7 +37,7 @@ pub data Reached {E : Type 0} (A : Acting E) (P : Functions) : ℕ → List Valu
       → Reached A P f vs s0 (w ++ does n (Call g ts d) ∷ []) (record s1 { frame = s.frame }) (holds d v K)
   -- without an action: a turn, the unit in a temporary, and temporaries that are not used any more
   takes_turn : {f : ℕ} {vs : List Value} {s0 : State} {w : List Action} (s : State) {K : Pending} (n : ℕ) → s.turns ≡ suc n → Reached A P f vs s0 w s K → Reached A P f vs s0 w (with_turns s n) K
-  gets_unit : {f : ℕ} {vs : List Value} {s0 : State} {w : List Action} {s : State} {K : Pending} (d : Temporary) → Unheld d (ids K) → Reached A P f vs s0 w s K → Reached A P f vs s0 w s (holds d unit_value K)
+  gets_unit : {f : ℕ} {vs : List Value} {s0 : State} {w : List Action} {s : State} {K : Pending} (d : Temporary) (F : Function) → IsFunction P f F → IsUnitOf F d → Unheld d (ids K) → Reached A P f vs s0 w s K → Reached A P f vs s0 w s (holds d unit_value K)
   lets_go : {f : ℕ} {vs : List Value} {s0 : State} {w : List Action} {s : State} {K K' : Pending} → Thin K K' → Reached A P f vs s0 w s K' → Reached A P f vs s0 w s K
 
 -- the activations of a run that starts with this one

@@ -4,7 +4,8 @@ use Rattle.std.specs.Prelude.{ℕ, Bool, true, false, not, ◌&&◌, List, [], O
 use Rattle.rx_core.specs.declared.types.Step.{Step}
 use Rattle.rx_typed.specs.Tree.{Root, variable, temporary}
 use Rattle.rx_lower_walks.specs.Actions.{Act, Dead, Read, Write, Borrow, Test}
-use Rattle.rx_meaning.specs.Endings.{wrong, lacks}
+use Rattle.rx_meaning.specs.Endings.{Cause, wrong, lacks}
+use Rattle.rx_meaning.specs.Straying.{why_not_found}
 use Rattle.rx_meaning.specs.Values.{Lack, moved, ended, Value, lacking, is_set, and_then, put, element, with_element, slot_of, State, with_memory}
 use Rattle.rx_meaning.specs.Results as results
 use Rattle.rx_meaning.specs.Results.{Done, gives}
@@ -17,11 +18,21 @@ abbrev pub lacks_there : Option (Spot × Value) → Bool
 lacks_there None = false
 lacks_there (Some f) = not (is_set f.1)
 
--- Whether an action looks at a lack: reads, borrows or tests what has one inside, or writes to one behind a reference. (A
--- variable, or a part of it, is written for the first time, or again, where it lacks a value; below a lack nothing can be written.)
+abbrev pub is_lack : Cause → Bool
+is_lack lacks = true
+is_lack _ = false
+
+-- the same, or the way there ends for this cause, at a lack
+abbrev pub lacks_on_the_way : Cause → Option (Spot × Value) → Bool
+lacks_on_the_way c None = is_lack c
+lacks_on_the_way c (Some f) = not (is_set f.1)
+
+-- Whether an action looks at a lack: reads, borrows or tests what has one inside, borrows a part of one, or writes to one behind a
+-- reference. (To read or to test a part of a lack is Wrong for it anyhow. A variable, or a part of it, is written for the first
+-- time, or again, where it lacks a value; below a lack nothing can be written.)
 abbrev pub looks_at_lack : Act → List Value → State → Bool
 looks_at_lack (Read m p d) vs s = lacks_there (found p vs s)
-looks_at_lack (Borrow k p d) vs s = lacks_there (found p vs s)
+looks_at_lack (Borrow k p d) vs s = lacks_on_the_way (why_not_found p vs s) (found p vs s)
 looks_at_lack (Test p c) vs s = lacks_there (found p vs s)
 looks_at_lack (Write p t ss) vs s = is_behind p.steps && lacks_there (found p [] s)
 looks_at_lack _ vs s = false

@@ -1,5 +1,5 @@
 -- What an action uses and fills: its values, what is pending before it and behind it, and what it gives.
-use Rattle.std.specs.Prelude.{◌≡◌, ℕ, Bool, List, [], ◌∷◌, None}
+use Rattle.std.specs.Prelude.{◌≡◌, ℕ, Bool, List, [], ◌∷◌, length, None}
 use Rattle.rx_core.specs.declared.types.Step.{Step}
 use Rattle.rx_typed.specs.Tree.{Temporary, Place, held, under}
 use Rattle.rx_typed.specs.Tree as tree
@@ -21,7 +21,8 @@ pub data Does : Act → List Value → Pending → (Value → Pending) → Type 
   writes : {p : Place} {t : Temporary} {v : Value} {K : Pending} → Does (Write p t []) (v ∷ []) (holds t v K) (λ u. K)
   -- a new variable, from a part of what a pattern is matched against
   writes_part : {x : ℕ} {t : Temporary} {ss : List Step} {v : Value} {K : Pending} → Does (Write (tree.own x) t ss) (v ∷ []) (holds t v K) (λ u. holds t v K)
-  builds : {w : _} {js : List ℕ} {ts : List Temporary} {vs : List Value} {d : Temporary} (K : Pending) → Paired ts vs → Unheld d (ids K) → Does (Build w js ts d) vs (pushes ts vs K) (λ v. holds d v K)
+  -- (each operand is there: of `&&` and `||`, whose operands have no fields, one is)
+  builds : {w : _} {js : List ℕ} {ts : List Temporary} {vs : List Value} {d : Temporary} (K : Pending) → Paired ts vs → (w ≡ tree.lazy → length js ≡ length ts) → Unheld d (ids K) → Does (Build w js ts d) vs (pushes ts vs K) (λ v. holds d v K)
   -- `&&`, `||`: one of two operands
   joins : {t u x : Temporary} {v : Value} {d : Temporary} {K : Pending} → Among x (t ∷ u ∷ []) → Unheld d (ids K)
       → Does (Build tree.lazy [] (t ∷ u ∷ []) d) (v ∷ []) (holds x v K) (λ y. holds d y K)
