@@ -1,0 +1,11 @@
+pub mod Parts
+pub mod Straying
+pub mod Stores
+pub mod Referring
+pub mod Making
+pub mod Acting
+pub mod Typing
+pub mod Strictly
+pub mod Shapes
+pub mod Unreferring
+pub mod Examples
