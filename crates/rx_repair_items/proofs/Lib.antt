@@ -1,0 +1,17 @@
+pub mod Sites
+pub mod Entries
+pub mod Places
+pub mod Settling
+pub mod Asking
+pub mod Pieces
+pub mod Patterns
+pub mod Acting
+pub mod Erasing
+pub mod Making
+pub mod Writing
+pub mod Letting
+pub mod LetsMet
+pub mod Noting
+pub mod Bound
+pub mod Lets
+pub mod Programs
