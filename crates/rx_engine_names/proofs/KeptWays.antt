@@ -16,11 +16,11 @@ use Rattle.rx_select.proofs.Ways.{no_block}
 use Rattle.rx_engine_names.specs.KeptWays.{KeepsMaybe, KeepsWay, StaysUntyped}
 
 module _ (P : ProgramTree) (place : Span) (pins : Pins) where
-  abbrev C : Changes
+  abbrev pub C : Changes
   C = pinning P place pins
 
   -- a node, and what becomes of it
-  abbrev Becomes : NodeTree → NodeTree → Type 0
+  abbrev pub Becomes : NodeTree → NodeTree → Type 0
   Becomes (an_item i) m = ⊥
   Becomes (a_type t) m = Unit {0}
   Becomes (a_block b) m = (own : Names) × (ls : List Around) × (m ≡ a_block (changed_body C own ls b))
@@ -28,7 +28,7 @@ module _ (P : ProgramTree) (place : Span) (pins : Pins) where
   Becomes (an_expression e) m = (own : Names) × (ls : List Around) × (m ≡ an_expression (changed C own ls e))
   Becomes (a_pattern p) m = Unit {0}
 
-  abbrev AllBecome : List NodeTree → List NodeTree → Type 0
+  abbrev pub AllBecome : List NodeTree → List NodeTree → Type 0
   AllBecome [] ms = Unit {0}
   AllBecome (n ∷ ns) [] = ⊥
   AllBecome (n ∷ ns) (m ∷ ms) = Becomes n m × AllBecome ns ms
@@ -101,7 +101,7 @@ module _ (P : ProgramTree) (place : Span) (pins : Pins) where
   body_become : (own : Names) (ls : List Around) (b : Body) → AllBecome (children (a_block b)) (children (a_block (changed_body C own ls b)))
   body_become own ls (plain.body s ss o) = statements_become own (behind_all own ss) ls ss o
 
-  node_become : (n m : NodeTree) → Becomes n m → StaysUntyped pins n → ((t : TypeTree) → n ≡ a_type t → ⊥) → ((p : PatternTree) → n ≡ a_pattern p → ⊥) → AllBecome (children n) (children m)
+  pub node_become : (n m : NodeTree) → Becomes n m → StaysUntyped pins n → ((t : TypeTree) → n ≡ a_type t → ⊥) → ((p : PatternTree) → n ≡ a_pattern p → ⊥) → AllBecome (children n) (children m)
   node_become (an_item i) m h u no_type no_pattern = absurd h
   node_become (a_type t) m h u no_type no_pattern = absurd (no_type t refl)
   node_become (a_block b) m h u no_type no_pattern = subst (λ (m : NodeTree). AllBecome (children (a_block b)) (children m)) (sym h.2) (body_become h.0 h.1 b)
@@ -109,7 +109,7 @@ module _ (P : ProgramTree) (place : Span) (pins : Pins) where
   node_become (an_expression e) m h u no_type no_pattern = subst (λ (m : NodeTree). AllBecome (children (an_expression e)) (children m)) (sym h.2) (expression_become h.0 h.1 e)
   node_become (a_pattern p) m h u no_type no_pattern = absurd (no_pattern p refl)
 
-  child_becomes : (ns ms : List NodeTree) (k : ℕ) (c : NodeTree) → AllBecome ns ms → slice_get ns k ≡ Some c → (d : NodeTree) × (slice_get ms k ≡ Some d) × Becomes c d
+  pub child_becomes : (ns ms : List NodeTree) (k : ℕ) (c : NodeTree) → AllBecome ns ms → slice_get ns k ≡ Some c → (d : NodeTree) × (slice_get ms k ≡ Some d) × Becomes c d
   child_becomes [] ms k c h e = absurd (cc)
   child_becomes (n ∷ ns) [] k c h e = absurd h
   child_becomes (n ∷ ns) (m ∷ ms) zero c h e = let q : n ≡ c = cc in (m, refl, subst (λ (x : NodeTree). Becomes x m) q h.0)

@@ -1,0 +1,14 @@
+mod Alone
+mod Words
+mod Received
+mod Found
+mod Telling
+mod Unnamed
+mod Called
+mod Weaker
+mod Behind
+mod Tied
+mod WrittenOut
+mod Together
+mod Ended
+mod NotLive
