@@ -1,5 +1,5 @@
 -- The tokens that items and programs are spelled with are derived as them, within their levels: by the parts of each item.
-use Rattle.std.proofs.Common.{◌≡◌, ℕ, ◌+◌, Bool, false, List, [], ◌∷◌, ◌++◌, Option, Some, None, codes, length, map, refl, ap, subst, ◌∙◌}
+use Rattle.std.proofs.Common.{◌≡◌, ℕ, ◌+◌, Bool, false, List, [], ◌∷◌, ◌++◌, Option, Some, None, codes, length, map, max, refl, ap, subst, ◌∙◌, append_assoc, append-nil}
 use Rattle.std.specs.Prelude.{option_map}
 use Rattle.rx_core.specs.declared.types.Span.{Span}
 use Rattle.rx_tree.specs.declared.tree.Ident.{Ident}
@@ -16,6 +16,7 @@ use Rattle.rx_lex.specs.Tok.{Tok}
 use Rattle.rx_lex.specs.Tokens.{token_at}
 use Rattle.rx_parse_grammar.specs.grammar.Words.{IsListOf, last_element, element}
 use Rattle.rx_parse_grammar.specs.grammar.Types.{AreTypes}
+use Rattle.rx_parse_grammar.specs.grammar.Expressions.{IsBlock}
 use Rattle.rx_parse_grammar.specs.grammar.Items as g
 use Rattle.rx_parse_grammar.specs.grammar.Items.{IsDerivedName, AreDerives, IsLifetimeParameter, AreLifetimes, AreBounds, IsBoundLifetime, AreBoundLifetimes, IsStructField, IsVariant, IsParameter, IsResult, IsItem, IsFile}
 use Rattle.rx_print_spelling.specs.Pieces.{Piece, mark, keyword, name, space, line, separated, entries, entries_of, mutable_pieces}
@@ -24,6 +25,7 @@ use Rattle.rx_print_spelling.specs.Expressions.{block}
 use Rattle.rx_print_spelling.specs.Items.{derive_pieces, derives_pieces, in_angles, one_lifetime, bounds_pieces, bound_pieces, field_pieces, structure_pieces, variant_pieces, enumeration_pieces, parameter_pieces, result_pieces, function_pieces, item_pieces, after_item, program_pieces}
 use Rattle.rx_print_spelling.specs.Levels.{deepest, written_levels, field_levels, variant_levels, parameter_levels, item_levels, levels_of}
 use Rattle.rx_print_spelling.specs.Formed.{Lasting, IsSome, WrittenType, FormedTypes, FormedBound, FormedField, FormedVariant, FormedParameter, FormedItem, FormedProgram}
+use Rattle.rx_print_spelling.proofs.Headers.{header_pieces}
 use Rattle.rx_print_spelling.proofs.Pieces.{places, past, places-append}
 use Rattle.rx_print_spelling.proofs.Derives.{Derives, mark_at, closed, arguments_places}
 use Rattle.rx_print_spelling.proofs.TypesRead.{type_reads, types_read, mutable_reads, AsTypes}
@@ -221,7 +223,7 @@ result_reads (Some t) f at =
 
 -- ---- items
 
-abbrev AsItem : List Tok → ItemTree → ℕ → Type 0
+abbrev pub AsItem : List Tok → ItemTree → ℕ → Type 0
 AsItem ts i h = Derives (λ us y. IsItem us y h) erase_item ts (erase_item i)
 
 rt_reads : (s r : Span) (at : ℕ) → AsItem (places at (item_pieces (plain.rt_item s r))) (plain.rt_item s r) 0
@@ -338,6 +340,38 @@ function_reads s x f at =
           ∙ ap (λ l. places (open' + 1) qs ++ (mark_at close (codes ")") ∷ l)) (places-append (close + 1) rs (space ∷ bs)))));
       same = ap (plain.function_item nowhere) (same_function (erase_ident x.name) (map erase_lifetime a.tree) (map erase_lifetime x.lifetimes) (map erase_parameter b.tree) (map erase_parameter x.params)
           (option_map erase_type c.tree) (option_map erase_type x.result) (erase_body d.tree) (erase_body x.body) a.same b.same c.same d.same);
+    }
+
+-- a function whose body is derived from other tokens
+pub headed_reads : (s : Span) (x : Function) → Every FormedBound x.lifetimes → Every FormedParameter x.params → WrittenType x.result → (bs : List Tok) (b : Body) (k : ℕ) → IsBlock bs b k → (at : ℕ)
+    → AsItem (places at (header_pieces x) ++ bs) (plain.function_item s (record x { body = b })) (max (deepest (map parameter_levels x.params)) (max (written_levels x.result) k))
+unfolding parameter_kind function_of
+headed_reads s x f h i bs body' k d at =
+    let ls = in_angles (map bound_pieces x.lifetimes) in
+    let qs = separated (map parameter_pieces x.params) in
+    let rs = result_pieces x.result in
+    let start : ℕ = at + 2 + 1 + length x.name.name in
+    let open' : ℕ = past start ls in
+    let close : ℕ = past (open' + 1) qs in
+    let a = bound_lifetimes_read x.lifetimes f start in
+    let b = separated_read parameter_kind FormedParameter parameter_reads x.params h (open' + 1) in
+    let c = result_reads x.result i (close + 1) in
+    let p = places start ls in
+    let q = places (open' + 1) qs in
+    let r = places (close + 1) rs in
+    let t = token_at at Keyword (codes "fn") in
+    let n = token_at (at + 2 + 1) Identifier x.name.name in
+    let o = mark_at open' (codes "(") in
+    let z = mark_at close (codes ")") in
+    record {
+      tree = _;
+      derived = g.function t n o z p q r bs a.tree b.tree c.tree body' _ _ k (refl, refl) refl (refl, refl) (refl, refl) a.derived b.derived c.derived d
+          (ap (λ l. t ∷ n ∷ (l ++ bs)) (places-append start ls (mark (codes "(") ∷ (qs ++ (mark (codes ")") ∷ (rs ++ space ∷ []))))
+          ∙ ap (λ l. p ++ (o ∷ l)) (places-append (open' + 1) qs (mark (codes ")") ∷ (rs ++ space ∷ []))
+          ∙ ap (λ l. q ++ (z ∷ l)) (places-append (close + 1) rs (space ∷ []) ∙ append-nil r)))
+          ∙ ap (λ l. t ∷ n ∷ l) (append_assoc p (o ∷ (q ++ (z ∷ r))) bs ∙ ap (λ l. p ++ (o ∷ l)) (append_assoc q (z ∷ r) bs)));
+      same = ap (plain.function_item nowhere) (same_function (erase_ident x.name) (map erase_lifetime a.tree) (map erase_lifetime x.lifetimes) (map erase_parameter b.tree) (map erase_parameter x.params)
+          (option_map erase_type c.tree) (option_map erase_type x.result) (erase_body body') (erase_body body') a.same b.same c.same refl);
     }
 
 item_reads : (i : ItemTree) → FormedItem i → (at : ℕ) → AsItem (places at (item_pieces i)) i (item_levels i)

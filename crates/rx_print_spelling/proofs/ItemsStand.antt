@@ -16,6 +16,7 @@ use Rattle.rx_print_spelling.specs.Types.{each_type}
 use Rattle.rx_print_spelling.specs.Expressions.{block}
 use Rattle.rx_print_spelling.specs.Items.{derive_pieces, derives_pieces, in_angles, one_lifetime, bounds_pieces, behind_lifetime, bound_pieces, field_pieces, structure_pieces, variant_pieces, enumeration_pieces, parameter_pieces, result_pieces, function_pieces, item_pieces, after_item, program_pieces, print_program}
 use Rattle.rx_print_spelling.specs.Formed.{Lasting, WrittenType, FormedBound, FormedField, FormedVariant, FormedParameter, FormedItem, FormedProgram}
+use Rattle.rx_print_spelling.proofs.Headers.{header_pieces}
 use Rattle.rx_print_spelling.proofs.Pieces.{places, stand_lexes, flat_then}
 use Rattle.rx_print_spelling.proofs.Standing.{Quiet, Apart, Ends, EachEnds, ends, ended, nothing, word_then, whole, identifier_then, keyword_then, lifetime_then, line_then, space_then, blanks_then, appended, joined, close, separated_end, mutable_stand}
 use Rattle.rx_print_spelling.proofs.TypesStand.{less_stands, lifetime_ends, types_stand, type_stands, written_ends, variant_ends}
@@ -128,6 +129,15 @@ enumeration_stands x rest i f g =
     (identifier_then i (lifetimes_quiet x.lifetimes (space ∷ entries_of (map variant_pieces x.variants)) rest (refl, refl)).0
     (appended (in_angles (map one_lifetime x.lifetimes)) (lifetimes_stand x.lifetimes _ f refl)
     (space_then (entries_of_stand (map variant_pieces x.variants) (each_ends FormedVariant variant_pieces variant_of_ends x.variants g) rest))))))
+
+-- what stands in front of a function's body, before anything
+pub header_stands : (x : Function) → words.is_identifier x.name.name ≡ true → Every FormedBound x.lifetimes → Every FormedParameter x.params → WrittenType x.result → (rest : List ℕ) → Apart (header_pieces x) rest
+header_stands x i f g h rest =
+    keyword_then refl refl (space_then
+    (identifier_then i (bound_lifetimes_quiet x.lifetimes (mark (codes "(") ∷ (separated (map parameter_pieces x.params) ++ (mark (codes ")") ∷ (result_pieces x.result ++ space ∷ [])))) rest (refl, refl)).0
+    (appended (in_angles (map bound_pieces x.lifetimes)) (bound_lifetimes_stand x.lifetimes _ f refl)
+    (whole refl refl (joined (separated (map parameter_pieces x.params)) (separated_end (map parameter_pieces x.params) (each_ends FormedParameter parameter_pieces parameter_ends x.params g)) (refl, refl)
+    (whole refl refl (joined (result_pieces x.result) (result_ends x.result h) (refl, refl) (space_then (nothing rest)))))))))
 
 function_ends : (x : Function) → (s : Span) → FormedItem (plain.function_item s x) → Ends (function_pieces x)
 function_ends x s f = ends (λ rest q.

@@ -1,4 +1,5 @@
 pub mod Pieces
+pub mod Headers
 pub mod DecimalDigits
 pub mod Derives
 pub mod TypesRead

@@ -1,6 +1,7 @@
 -- Pieces of any text: words, and blanks and comments. Each text with tokens is such pieces, and such pieces have their words as tokens.
-use Rattle.std.proofs.Common.{◌≡◌, ℕ, ◌+◌, true, false, List, [], ◌∷◌, ◌++◌, codes, length, length-append, take, refl, sym, ap, subst, ◌∙◌, arith, append_assoc, inl, inr}
+use Rattle.std.proofs.Common.{◌≡◌, ℕ, ◌+◌, ◌-◌, ◌<◌, true, false, List, [], ◌∷◌, ◌++◌, codes, length, length-append, refl, sym, ap, subst, ◌∙◌, arith, append_assoc, append-nil, inl, inr}
 use Rattle.std.specs.Prelude.{⊤, not, ◌&&◌, ◌==◌}
+use Rattle.std.specs.List.{list_all}
 use Rattle.std.proofs.lemmas.Bool.{and_parts, and_from, not_from_false, not-true, false_from_ne_true, cases_Bool, eqb-true, and_right}
 use Rattle.rx_core.specs.Bytes.{same_bytes, is_one_of}
 use Rattle.rx_core.proofs.BytesLemmas.{same_bytes-true}
@@ -9,24 +10,73 @@ use Rattle.rx_lex.specs.declared.token.Class.TheVariants.{Identifier, Keyword, L
 use Rattle.rx_lex.specs.Words as words
 use Rattle.rx_lex.specs.Words.{IsWord, marks, goes_on, begins_with_star, may_follow}
 use Rattle.rx_lex.specs.Tok.{Tok}
-use Rattle.rx_lex.specs.Tokens.{Gap, Longest, Tokens, none, gap, token, token_at}
+use Rattle.rx_lex.specs.Tokens.{Gap, blank, line_comment, block_comment, Balanced, nothing, plain, nested, slashes, opening, closing, begins_pair, is_blank, at_line_end, Longest, Tokens, none, gap, token, token_at}
 use Rattle.rx_lex.specs.Scan.{line_rest}
 use Rattle.rx_lex.specs.Stands.{stands, stands_alone, makes_longer, makes_comment}
-use Rattle.rx_lex.proofs.Gaps.{gap_is, gap_front}
+use Rattle.rx_lex.proofs.Gaps.{gap_is, gap_shorter}
 use Rattle.rx_lex.proofs.LongestWord.{token_then, mark_not_empty}
-use Rattle.rx_print_spelling.specs.Pieces.{Piece, word, blanks, flat}
-use Rattle.rx_print_spelling.proofs.Pieces.{places}
+use Rattle.rx_print_spelling.specs.Pieces.{Piece, word, blanks, bytes_of, flat}
+use Rattle.rx_print_spelling.proofs.Pieces.{places, Stand}
 
--- each word ends before what follows it; what is between words is a blank or a comment
-abbrev pub Reads : List Piece → Type 0
-Reads [] = ⊤
-Reads (word c w ∷ ps) = IsWord c w × (stands c w (flat ps) ≡ true) × Reads ps
-Reads (blanks b ∷ ps) = Gap (b ++ flat ps) (flat ps) × Reads ps
+-- ---- blanks and comments, one behind the other
 
-pub reads_tokens : (at : ℕ) (ps : List Piece) → Reads ps → Tokens at (flat ps) (places at ps)
-reads_tokens at [] r = none
-reads_tokens at (word c w ∷ ps) r = token_then c w r.0 r.1 (reads_tokens (at + length w) ps r.2)
-reads_tokens at (blanks b ∷ ps) r = gap (length b) r.0 (length-append b (flat ps)) (reads_tokens (at + length b) ps r.1)
+pub data Skips : List ℕ → List ℕ → Type 0 where
+  skipped : {r : List ℕ} → Skips r r
+  skip : {t q r : List ℕ} → Gap t q → Skips q r → Skips t r
+
+-- b is blanks and comments before r, and before what else follows: where a line ends at r, there one ends too
+abbrev pub Gaps : List ℕ → List ℕ → Type 0
+Gaps b r = (s : List ℕ) → (at_line_end r ≡ true → at_line_end s ≡ true) → Skips (b ++ s) s
+
+skips_shorter : {t r : List ℕ} → Skips t r → length r < length t + 1
+skips_shorter skipped = omega arith
+skips_shorter (skip g k) = let h = gap_shorter g in let l = skips_shorter k in omega (arith, h, l)
+
+skips_then : {t r : List ℕ} → Skips t r → (at n : ℕ) (ts : List Tok) → length t ≡ n + length r → Tokens (at + n) r ts → Tokens at t ts
+skips_then (skipped {r = r}) at n ts e d = subst (λ k. Tokens k r ts) (omega (arith, e)) d
+skips_then (skip {t = t} {q = q} {r = r} g k) at n ts e d =
+    let h = gap_shorter g in
+    let l = skips_shorter k in
+    gap (length t - length q) g (omega (arith, h))
+    (skips_then k (at + (length t - length q)) (length q - length r) ts (omega (arith, l)) (subst (λ m. Tokens m r ts) (omega (arith, h, l, e)) d))
+
+-- the text of pieces and what follows
+abbrev pub onto : List Piece → List ℕ → List ℕ
+onto [] r = r
+onto (p ∷ ps) r = bytes_of p ++ onto ps r
+
+pub onto_is : (ps : List Piece) (r : List ℕ) → onto ps r ≡ flat ps ++ r
+onto_is [] r = refl
+onto_is (p ∷ ps) r = ap (λ x. bytes_of p ++ x) (onto_is ps r) ∙ sym (append_assoc (bytes_of p) (flat ps) r)
+
+pub onto-append : (ps qs : List Piece) (r : List ℕ) → onto (ps ++ qs) r ≡ onto ps (onto qs r)
+onto-append [] qs r = refl
+onto-append (p ∷ ps) qs r = ap (λ x. bytes_of p ++ x) (onto-append ps qs r)
+
+-- before this, each word ends before what follows it; what is between words is blanks and comments
+abbrev pub Reads : List Piece → List ℕ → Type 0
+Reads [] r = ⊤
+Reads (word c w ∷ ps) r = IsWord c w × (stands c w (onto ps r) ≡ true) × Reads ps r
+Reads (blanks b ∷ ps) r = Gaps b (onto ps r) × Reads ps r
+
+pub reads_tokens : (at : ℕ) (ps : List Piece) (r : List ℕ) (ts : List Tok) → Reads ps r → Tokens (at + length (flat ps)) r ts → Tokens at (onto ps r) (places at ps ++ ts)
+reads_tokens at [] r ts s d = subst (λ k. Tokens k r ts) (omega arith) d
+reads_tokens at (word c w ∷ ps) r ts s d =
+    token_then c w s.0 s.1 (reads_tokens (at + length w) ps r ts s.2 (subst (λ k. Tokens k r ts) (omega (arith, length-append w (flat ps))) d))
+reads_tokens at (blanks b ∷ ps) r ts s d =
+    skips_then (s.0 (onto ps r) (λ e. e)) at (length b) (places (at + length b) ps ++ ts) (length-append b (onto ps r))
+    (reads_tokens (at + length b) ps r ts s.1 (subst (λ k. Tokens k r ts) (omega (arith, length-append b (flat ps))) d))
+
+-- ---- pieces that stand
+
+blanks_skip : (b : List ℕ) → list_all is_blank b ≡ true → (s : List ℕ) → Skips (b ++ s) s
+blanks_skip [] e s = skipped
+blanks_skip (c ∷ b) e s = let p = and_parts (is_blank c) (list_all is_blank b) e in skip (blank p.0) (blanks_skip b p.1 s)
+
+pub stand_reads : (ps : List Piece) (r : List ℕ) → Stand ps r → Reads ps r
+stand_reads [] r s = tt
+stand_reads (word c w ∷ ps) r s = (s.0, ap (stands c w) (onto_is ps r) ∙ s.1, stand_reads ps r s.2)
+stand_reads (blanks b ∷ ps) r s = ((λ q f. blanks_skip b s.0 q), stand_reads ps r s.1)
 
 -- ---- a token stands before its rest
 
@@ -75,30 +125,81 @@ longest_stands Number w r t g l = l.front.follows
 longest_stands Format w r t g l = refl
 longest_stands Mark w r t g l = alone w r t (is_a_mark l.front.word) g l
 
+-- ---- a blank or a comment, before something else
+
+record Held (t v : List ℕ) : Type 0 where
+  front : List ℕ
+  is : t ≡ front ++ v
+  held : (s : List ℕ) → Balanced (front ++ (closing ++ s)) (closing ++ s)
+
+pair_same : (c : ℕ) (f r s : List ℕ) → begins_pair (c ∷ (f ++ (closing ++ r))) ≡ begins_pair (c ∷ (f ++ (closing ++ s)))
+pair_same c [] r s = refl
+pair_same c (d ∷ f) r s = refl
+
+inside : (a b s : List ℕ) → (opening ++ (a ++ (closing ++ b))) ++ s ≡ opening ++ (a ++ (closing ++ (b ++ s)))
+inside a b s = ap (λ x. opening ++ x) (append_assoc a (closing ++ b) s)
+
+balanced_held : {t v : List ℕ} (r : List ℕ) → Balanced t v → v ≡ closing ++ r → Held t v
+balanced_held r nothing i = record { front = []; is = refl; held = λ s. nothing }
+balanced_held r (plain {c = c} {t = t} {r = v} e b) i = more (balanced_held r b i)
+  where
+    more : Held t v → Held (c ∷ t) v
+    more h = record {
+      front = c ∷ h.front;
+      is = ap (λ x. c ∷ x) h.is;
+      held = λ s. plain (sym (ap (λ x. begins_pair (c ∷ x)) (h.is ∙ ap (λ x. h.front ++ x) i) ∙ pair_same c h.front r s) ∙ e) (h.held s);
+    }
+balanced_held r (nested {t = t} {u = u} {r = v} b d) i = both (balanced_held u b refl) (balanced_held r d i)
+  where
+    both : Held t (closing ++ u) → Held u v → Held (opening ++ t) v
+    both h k = record {
+      front = opening ++ (h.front ++ (closing ++ k.front));
+      is = ap (λ x. opening ++ x) (h.is ∙ ap (λ x. h.front ++ (closing ++ x)) k.is) ∙ sym (inside h.front k.front v);
+      held = λ s. subst (λ x. Balanced x (closing ++ s)) (sym (inside h.front k.front (closing ++ s))) (nested (h.held (k.front ++ (closing ++ s))) (k.held s));
+    }
+
+pub record Moves (t r : List ℕ) : Type 0 where
+  pub front : List ℕ
+  pub is : t ≡ front ++ r
+  pub moves : (s : List ℕ) → (at_line_end r ≡ true → at_line_end s ≡ true) → Gap (front ++ s) s
+
+pub gap_moves : {t r : List ℕ} → Gap t r → Moves t r
+gap_moves (blank {c = c} e) = record { front = c ∷ []; is = refl; moves = λ s f. blank e }
+gap_moves (line_comment u a b e) = record { front = slashes ++ u; is = e; moves = λ s f. line_comment u a (f b) refl }
+gap_moves (block_comment {u = u} {r = r} b) =
+    let h = balanced_held r b refl in record {
+      front = opening ++ (h.front ++ closing);
+      is = ap (λ x. opening ++ x) (h.is ∙ sym (append_assoc h.front closing r));
+      moves = λ s f. subst (λ x. Gap (opening ++ x) s) (sym (append_assoc h.front closing s)) (block_comment (h.held s));
+    }
+
 -- ---- each text with tokens is such pieces
 
 pub record AsPieces (at : ℕ) (t : List ℕ) (ts : List Tok) : Type 0 where
   pub pieces : List Piece
   pub text : flat pieces ≡ t
   pub placed : places at pieces ≡ ts
-  pub reads : Reads pieces
+  pub reads : Reads pieces []
+
+at_end : (ps : List Piece) (t : List ℕ) → flat ps ≡ t → onto ps [] ≡ t
+at_end ps t e = onto_is ps [] ∙ append-nil (flat ps) ∙ e
 
 pub as_pieces : {at : ℕ} {t : List ℕ} {ts : List Tok} → Tokens at t ts → AsPieces at t ts
 as_pieces none = record { pieces = []; text = refl; placed = refl; reads = tt }
 as_pieces {at = at} (gap n {t = t} {r = r} {ts = ts} g l d) =
     let p = as_pieces d in
-    let f : t ≡ take n t ++ r = gap_front n g l in
-    let k : length (take n t) ≡ n = omega (arith, l, ap length f, length-append (take n t) r) in
+    let m = gap_moves g in
+    let k : length m.front ≡ n = omega (arith, l, ap length m.is, length-append m.front r) in
     record {
-      pieces = blanks (take n t) ∷ p.pieces;
-      text = ap (λ x. take n t ++ x) p.text ∙ sym f;
+      pieces = blanks m.front ∷ p.pieces;
+      text = ap (λ x. m.front ++ x) p.text ∙ sym m.is;
       placed = ap (λ m. places (at + m) p.pieces) k ∙ p.placed;
-      reads = (subst (λ x. Gap (take n t ++ x) x) (sym p.text) (subst (λ x. Gap x r) f g), p.reads);
+      reads = ((λ s f. skip (m.moves s (λ e. f (ap at_line_end (at_end p.pieces r p.text) ∙ e))) skipped), p.reads);
     }
 as_pieces {at = at} (token {t = t} c w r g l d) =
     let p = as_pieces d in record {
       pieces = word c w ∷ p.pieces;
       text = ap (λ x. w ++ x) p.text ∙ sym l.front.is;
       placed = ap (λ x. token_at at c w ∷ x) p.placed;
-      reads = (l.front.word, ap (stands c w) p.text ∙ longest_stands c w r t g l, p.reads);
+      reads = (l.front.word, ap (stands c w) (at_end p.pieces r p.text) ∙ longest_stands c w r t g l, p.reads);
     }

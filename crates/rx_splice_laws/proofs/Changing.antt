@@ -7,6 +7,8 @@ use Rattle.rx_tree.specs.Plain as plain
 use Rattle.rx_tree.specs.Plain.{TypeTree, PatternTree, Expression, OptionalExpression, Body, Statement}
 use Rattle.rx_tree.specs.PlainOf.{expressions_of, field_expressions_of, arms_of, statements_of}
 use Rattle.rx_tree.specs.Erase.{nowhere, erase, erase_ident, erase_pattern, erase_all, erase_fields, erase_arms, erase_body, erase_statement, erase_statements, erase_optional}
+use Rattle.rx_lex.specs.declared.token.Class.TheVariants.{Keyword, Lifetime}
+use Rattle.rx_lex.specs.Words.{goes_on}
 use Rattle.rx_lex.specs.Tok.{Tok}
 use Rattle.rx_parse_grammar.specs.declared.symbol.Symbol.TheVariants as symbol
 use Rattle.rx_parse_grammar.specs.grammar.Strengths as strength
@@ -26,6 +28,7 @@ use Rattle.rx_hoist_extraction.specs.Names.{Names, bound, bound_by, behind_all}
 use Rattle.rx_hoist_extraction.specs.Changed.{Changes, changed, changed_all, changed_fields, changed_arms, changed_body, changed_statement, changed_statements, changed_optional}
 use Rattle.rx_splice_laws.specs.Edits.{Edit}
 use Rattle.rx_splice_laws.specs.EditsOf.{EditsAt, is_short, edits, all_edits, field_edits, arm_edits, body_edits, statement_edits, all_statement_edits, optional_edits}
+use Rattle.rx_splice_laws.proofs.Beside.{runs_class, ends_class, begins_run, ends_run}
 use Rattle.rx_splice_laws.proofs.Edited.{Edited, kept, joined, one_kept, then_kept, and_none, regrouped, moved, some_left, begins_kept}
 use Rattle.rx_splice_laws.specs.SplicedRun.{Part}
 use Rattle.rx_splice_laws.proofs.Kept.{Kept, keep, one, recast, Low, low_more, low_both, left, right, tail, at, Place, At, placed, within, Suits, field_view}
@@ -37,6 +40,16 @@ still e n d = n (begins_kept e d)
 pub no_ampersand : {f : Bool} {ts us : List Tok} {x : Expression} {h : ℕ} (t : Tok) → IsPostfix f ts x h → ts ≡ second_ampersand t ∷ us → ⊥
 no_ampersand {us = us} t r e =
     false≢true (sym (ap begins_primary (first_is symbol.Ampersand (second_ampersand t) refl (refl, refl))) ∙ sym (ap (λ z. begins_primary (peek (z ++ []))) e) ∙ postfix_front r [])
+
+-- a keyword, and a lifetime behind it
+run_begins : {t : Tok} {ts us : List Tok} → t.class ≡ Keyword → ts ≡ t ∷ us → begins_run ts ≡ true
+run_begins k is = ap begins_run is ∙ ap runs_class k
+
+run_ends : {t : Tok} {ts : List Tok} → t.class ≡ Keyword → ts ≡ t ∷ [] → ends_run ts ≡ true
+run_ends k is = ap ends_run is ∙ ap ends_class k
+
+run_ends_behind : {t l : Tok} {ts : List Tok} → l.class ≡ Lifetime → ts ≡ t ∷ l ∷ [] → ends_run ts ≡ true
+run_ends_behind k is = ap ends_run is ∙ ap ends_class k
 
 low_zero : Low 0 0
 low_zero = omega arith
@@ -120,9 +133,12 @@ match_case ts us vs t o c m n es fs w p a more st so sc is x r = by r.tree r.der
         (g.match t o c x.tokens r.tokens x.tree z zs x.height r.height st so sc x.derived d refl) (ap (λ (l : Expression). plain.match nowhere l (arms_view (z ∷ zs))) x.same ∙ ap (λ (l : plain.Arms). plain.match nowhere w l) k)
         (low_more _ _ (low_both _ _ _ _ x.low r.low))
 
--- behind a pattern and a type
-regroup_both : {es : List Edit} (ps ys zs r s : List Tok) → Edited es ((ps ++ ys) ++ r) ((ps ++ zs) ++ s) → Edited es (ps ++ (ys ++ r)) (ps ++ (zs ++ s))
-regroup_both {es} ps ys zs r s e = subst (λ x. Edited es x (ps ++ (zs ++ s))) (append_assoc ps ys r) (subst (λ x. Edited es ((ps ++ ys) ++ r) x) (append_assoc ps zs s) e)
+-- behind a pattern and a type and the token that follows them
+regroup_one : (ps ys : List Tok) (q : Tok) (r : List Tok) → (ps ++ (ys ++ q ∷ [])) ++ r ≡ ps ++ (ys ++ (q ∷ r))
+regroup_one ps ys q r = append_assoc ps (ys ++ q ∷ []) r ∙ ap (λ x. ps ++ x) (append_assoc ys (q ∷ []) r)
+
+regroup_both : {es : List Edit} (ps ys zs : List Tok) (q : Tok) (r s : List Tok) → Edited es ((ps ++ (ys ++ q ∷ [])) ++ r) ((ps ++ (zs ++ q ∷ [])) ++ s) → Edited es (ps ++ (ys ++ (q ∷ r))) (ps ++ (zs ++ (q ∷ s)))
+regroup_both {es} ps ys zs q r s e = subst (λ x. Edited es x (ps ++ (zs ++ (q ∷ s)))) (regroup_one ps ys q r) (subst (λ x. Edited es ((ps ++ (ys ++ q ∷ [])) ++ r) x) (regroup_one ps zs q s) e)
 
 typed_part : {all : List Tok} (ps ys : List Tok) (q : Tok) (r : List Tok) → Part all (ps ++ (ys ++ (q ∷ r))) → Part all (ps ++ (ys ++ q ∷ []))
 typed_part ps ys q r p = left r (at (ap (λ x. ps ++ x) (sym (append_assoc ys (q ∷ []) r)) ∙ sym (append_assoc ps (ys ++ q ∷ []) r)) p)
@@ -204,10 +220,10 @@ module _ (A : EditsAt) (C : Changes) (all : List Tok) (S : Suits A C all) where
         claim (subst (λ l. Kept IsExpression erase l 1 (A.at_return (span_of l)) (erase (C.at_return (span_of l) plain.absent))) (sym is) (return t s))
     expression_kept (g.return_with t us x h s d is) own ls p =
         return_claim t us x h s is (expression_some d) own ls (at is p) (expression_kept d own ls (tail (at is p)))
-    expression_kept {ts = ts} (g.break t s is) own ls p = claim (break ls ts None (λ e. absurd (cc)) (g.break t s is))
-    expression_kept {ts = ts} (g.break_from t l s sl is) own ls p = claim (break ls ts (Some (ident l)) (λ e. absurd (cc)) (g.break_from t l s sl is))
-    expression_kept {ts = ts} (g.continue t s is) own ls p = claim (continue ls ts None (λ e. absurd (cc)) (g.continue t s is))
-    expression_kept {ts = ts} (g.continue_with t l s sl is) own ls p = claim (continue ls ts (Some (ident l)) (λ e. absurd (cc)) (g.continue_with t l s sl is))
+    expression_kept {ts = ts} (g.break t s is) own ls p = claim (break ls ts None (λ e. absurd (cc)) (run_begins s.0 is) (run_ends s.0 is) (g.break t s is))
+    expression_kept {ts = ts} (g.break_from t l s sl is) own ls p = claim (break ls ts (Some (ident l)) (λ e. absurd (cc)) (run_begins s.0 is) (run_ends_behind sl.0 is) (g.break_from t l s sl is))
+    expression_kept {ts = ts} (g.continue t s is) own ls p = claim (continue ls ts None (λ e. absurd (cc)) (run_begins s.0 is) (run_ends s.0 is) (g.continue t s is))
+    expression_kept {ts = ts} (g.continue_with t l s sl is) own ls p = claim (continue ls ts (Some (ident l)) (λ e. absurd (cc)) (run_begins s.0 is) (run_ends_behind sl.0 is) (g.continue_with t l s sl is))
 
     pub operand_kept : {f : Bool} {j : ℕ} {ts : List Tok} {x : Expression} {h : ℕ} → IsOperand f j ts x h → (own : Names) (ls : List Around) → Part all ts
         → Claim (IsOperand f j) ts x h own ls
@@ -336,7 +352,7 @@ module _ (A : EditsAt) (C : Changes) (all : List Tok) (S : Suits A C all) where
         keep _ _ _ (moved is (joined y_edited (one_kept c z_edited))) (g.field_and y_tokens z_tokens c y_tree z_tree y_height z_height y_derived s z_derived refl)
         (ap (λ (w : Ident × Expression). plain.field_and w.0 w.1 (fields_view z_tree)) y_same ∙ ap (λ (l : plain.FieldExpressions). plain.field_and (erase_ident x.0) (erase (changed C own ls x.1)) l) z_same) (low_both _ _ _ _ y_low z_low)))
 
-    like_kept : {ts : List Tok} {x : Expression} {h : ℕ} → IsLike ts x h → (own : Names) (ls : List Around) → Part all ts
+    pub like_kept : {ts : List Tok} {x : Expression} {h : ℕ} → IsLike ts x h → (own : Names) (ls : List Around) → Part all ts
         → Claim IsLike ts x h own ls
     like_kept (g.block c h d) own ls p =
         one (block_kept d own ls p) (λ x_tokens x_tree x_height x_derived x_edited x_same x_low. claimed _ _ _ x_edited (g.block x_tree x_height x_derived) (rw x_same refl) (low_more _ _ x_low))
@@ -432,18 +448,18 @@ module _ (A : EditsAt) (C : Changes) (all : List Tok) (S : Suits A C all) where
         keep _ _ _ (moved is (one_kept o (then_kept x_edited (c ∷ [])))) (g.braces o c x_tokens x_tree.0 x_tree.1 x_height so sc x_derived refl) (ap (λ (z : plain.Statements × OptionalExpression). plain.body nowhere z.0 z.1) x_same
         ∙ sym (ap erase_body (blocks_stay (plain.body (span_of ts) (statements_of ss) y) (plain.body (span_of ts) (changed_statements C own ls (statements_of ss)) (changed_optional C (behind_all own (statements_of ss)) ls y))))) (low_more _ _ x_low))
 
-    statement_kept : {ts : List Tok} {x : Statement} {h : ℕ} → IsStatement ts x h → (own : Names) (ls : List Around) → Part all ts
+    pub statement_kept : {ts : List Tok} {x : Statement} {h : ℕ} → IsStatement ts x h → (own : Names) (ls : List Around) → Part all ts
         → Kept IsStatement erase_statement ts h (statement_edits A own ls x) (erase_statement (changed_statement C own ls x))
     statement_kept (g.let_with t q z ps ys us w y x m n k st sq sz sp sy d is) own ls p =
         let r = tail (at is p) in
-        let a = typed ps ys w y m n sp sy q (ap (λ w. same_bytes w (codes ")")) sq.1) (typed_part ps ys q (us ++ z ∷ []) r) in
+        let a = typed ps ys w y m n sp sy q (ap (λ w. same_bytes w (codes ")")) sq.1) (λ x. ap (λ w. goes_on (w ++ x)) sq.1) (typed_part ps ys q (us ++ z ∷ []) r) in
         sub (expression_kept d own ls (left (z ∷ []) (tail (right ys (right ps r))))) (λ b_tokens b_tree b_height b_derived b_edited b_same b_low.
-        keep _ _ _ (moved is (one_kept t (regroup_both ps ys a.tokens (q ∷ (us ++ z ∷ [])) (q ∷ (b_tokens ++ z ∷ [])) (joined a.edited (one_kept q (then_kept b_edited (z ∷ [])))))))
+        keep _ _ _ (moved is (one_kept t (regroup_both ps ys a.tokens q (us ++ z ∷ []) (b_tokens ++ z ∷ []) (joined a.edited (then_kept b_edited (z ∷ []))))))
         (g.let_with t q z ps a.tokens b_tokens w a.type b_tree m a.height b_height st sq sz sp a.derived b_derived refl) (rw (a.same, b_same) refl)
         (low_both _ _ _ _ (low_both _ _ _ _ (low_same m) a.low) b_low))
     statement_kept (g.let_without t n z ms ys m y h st sn sz sm sy is) own ls p =
-        let a = typed (ms ++ n ∷ []) ys (plain.bind (span_of (ms ++ n ∷ [])) (ident n) m) y 1 h (bound_pattern ms n m sm sn) sy z (ap (λ w. same_bytes w (codes ")")) sz.1) (tail (at is p)) in
-        keep _ _ _ (moved is (one_kept t (regroup_both (ms ++ n ∷ []) ys a.tokens (z ∷ []) (z ∷ []) (joined a.edited (kept (z ∷ []))))))
+        let a = typed (ms ++ n ∷ []) ys (plain.bind (span_of (ms ++ n ∷ [])) (ident n) m) y 1 h (bound_pattern ms n m sm sn) sy z (ap (λ w. same_bytes w (codes ")")) sz.1) (λ x. ap (λ w. goes_on (w ++ x)) sz.1) (tail (at is p)) in
+        keep _ _ _ (moved is (one_kept t (and_none a.edited)))
         (g.let_without t n z ms a.tokens m a.type a.height st sn sz sm a.derived refl) (rw a.same refl)
         (low_both _ _ _ _ (low_same 1) a.low)
     statement_kept (g.done z us x h sz d nb is) own ls p =

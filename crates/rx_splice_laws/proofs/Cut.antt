@@ -1,6 +1,7 @@
 -- A text as pieces, cut where its tokens are.
 use Rattle.std.proofs.Common.{◌≡◌, ℕ, ◌+◌, List, [], ◌∷◌, ◌++◌, length, length-append, refl, sym, ap, subst, ◌∙◌, arith}
 use Rattle.std.specs.Prelude.{◌≢◌}
+use Rattle.rx_lex.specs.declared.token.Class.{Class}
 use Rattle.rx_lex.specs.Tok.{Tok}
 use Rattle.rx_lex.specs.Tokens.{token_at}
 use Rattle.rx_parse_grammar.specs.grammar.Words.{span_of}
@@ -8,6 +9,8 @@ use Rattle.rx_print_spelling.specs.Pieces.{Piece, word, blanks, bytes_of, flat}
 use Rattle.rx_print_spelling.proofs.Pieces.{places}
 use Rattle.rx_parse_laws.specs.Words.{words}
 use Rattle.rx_splice_laws.specs.SplicedRun.{piece_words}
+use Rattle.rx_splice_laws.proofs.Seams.{Left, word_left, gap_left, left_of}
+use Rattle.rx_splice_laws.proofs.Beside.{left_at}
 
 pub words_placed : (at : ℕ) (ps : List Piece) → words (places at ps) ≡ piece_words ps
 words_placed at [] = refl
@@ -53,6 +56,11 @@ split at (word c w ∷ src) (u ∷ us) ws e =
 
 -- ---- before the first token
 
+pub bare_places : (ps : List Piece) → piece_words ps ≡ [] → (k : ℕ) → places k ps ≡ []
+bare_places [] b k = refl
+bare_places (word c w ∷ ps) b k = absurd (cc)
+bare_places (blanks x ∷ ps) b k = bare_places ps b (k + length x)
+
 pub record Lead (at : ℕ) (src : List Piece) (t : Tok) (ts : List Tok) : Type 0 where
   pub gap : List Piece
   pub rest : List Piece
@@ -60,16 +68,18 @@ pub record Lead (at : ℕ) (src : List Piece) (t : Tok) (ts : List Tok) : Type 0
   pub bare : piece_words gap ≡ []
   pub start : t.span.start ≡ at + length (flat gap)
   pub placed : places t.span.start rest ≡ t ∷ ts
+  -- the rest begins with the token's word
+  pub word_first : (qs : List Piece) × (rest ≡ word t.class t.text ∷ qs)
 
 pub lead : (at : ℕ) (src : List Piece) (t : Tok) (ts : List Tok) → places at src ≡ t ∷ ts → Lead at src t ts
 lead at [] t ts e = absurd (cc)
 lead at (blanks b ∷ src) t ts e =
     let l = lead (at + length b) src t ts e in
-    record { gap = blanks b ∷ l.gap; rest = l.rest; is = ap (λ x. blanks b ∷ x) l.is; bare = l.bare; start = omega (arith, l.start, length-append b (flat l.gap)); placed = l.placed }
+    record { gap = blanks b ∷ l.gap; rest = l.rest; is = ap (λ x. blanks b ∷ x) l.is; bare = l.bare; start = omega (arith, l.start, length-append b (flat l.gap)); placed = l.placed; word_first = l.word_first }
 lead at (word c w ∷ src) t ts e =
     let h : token_at at c w ≡ t = cc in
     let s : at ≡ t.span.start = ap (λ (x : Tok). x.span.start) h in
-    record { gap = []; rest = word c w ∷ src; is = refl; bare = refl; start = omega (arith, s); placed = ap (λ n. places n (word c w ∷ src)) (sym s) ∙ e }
+    record { gap = []; rest = word c w ∷ src; is = refl; bare = refl; start = omega (arith, s); placed = ap (λ n. places n (word c w ∷ src)) (sym s) ∙ e; word_first = (src, ap (λ (x : Tok). word x.class x.text ∷ src) h) }
 
 -- ---- behind the last token
 
@@ -80,6 +90,14 @@ pub record Trail (at : ℕ) (src : List Piece) (ts : List Tok) : Type 0 where
   pub placed : places at front ≡ ts
   pub bare : piece_words gap ≡ []
   pub end : (span_of ts).end ≡ at + length (flat front)
+  -- they end with the last token's word
+  pub word_last : (l : Left) → left_of l front ≡ left_at ts
+  -- a word in front stays there
+  pub word_first : (c : Class) (w : List ℕ) (qs : List Piece) → src ≡ word c w ∷ qs → (rs : List Piece) × (front ≡ word c w ∷ rs)
+
+behind_blanks : (b : List ℕ) (ps : List Piece) (m : Left) → ((l : Left) → left_of l ps ≡ m) → (l : Left) → left_of l (blanks b ∷ ps) ≡ m
+behind_blanks [] ps m f l = f l
+behind_blanks (x ∷ b) ps m f l = f gap_left
 
 bare_words : (at : ℕ) (ps : List Piece) → places at ps ≡ [] → piece_words ps ≡ []
 bare_words at ps e = sym (words_placed at ps) ∙ ap words e
@@ -88,7 +106,7 @@ pub trail : (at : ℕ) (src : List Piece) (ts : List Tok) → places at src ≡ 
 trail at [] ts e n = absurd (n (sym e))
 trail at (blanks b ∷ src) ts e n =
     let l = trail (at + length b) src ts e n in
-    record { front = blanks b ∷ l.front; gap = l.gap; is = ap (λ x. blanks b ∷ x) l.is; placed = l.placed; bare = l.bare; end = omega (arith, l.end, length-append b (flat l.front)) }
+    record { front = blanks b ∷ l.front; gap = l.gap; is = ap (λ x. blanks b ∷ x) l.is; placed = l.placed; bare = l.bare; end = omega (arith, l.end, length-append b (flat l.front)); word_last = behind_blanks b l.front (left_at ts) l.word_last; word_first = λ c w qs i. absurd (cc) }
 trail at (word c w ∷ src) ts e n = by (places (at + length w) src) refl (λ u us k. trail (at + length w) src (u ∷ us) k (λ z. absurd (cc)))
   where
     last : (us : List Tok) → places (at + length w) src ≡ us → us ≡ [] → Trail at (word c w ∷ src) (token_at at c w ∷ us)
@@ -99,6 +117,8 @@ trail at (word c w ∷ src) ts e n = by (places (at + length w) src) refl (λ u 
       placed = ap (λ l. token_at at c w ∷ l) (sym h);
       bare = bare_words (at + length w) src (k ∙ h);
       end = ap (λ l. (span_of (token_at at c w ∷ l)).end) h ∙ (let q : at + length w ≡ at + length (w ++ []) = omega (arith, length-append w []) in q);
+      word_last = λ l. ap (λ x. left_at (token_at at c w ∷ x)) (sym h);
+      word_first = λ d v qs i. ([], ap (λ p. p ∷ []) (let j : word c w ≡ word d v = cc in j));
     }
 
     more : (u : Tok) (us : List Tok) → Trail (at + length w) src (u ∷ us) → Trail at (word c w ∷ src) (token_at at c w ∷ u ∷ us)
@@ -109,6 +129,8 @@ trail at (word c w ∷ src) ts e n = by (places (at + length w) src) refl (λ u 
       placed = ap (λ x. token_at at c w ∷ x) l.placed;
       bare = l.bare;
       end = omega (arith, l.end, length-append w (flat l.front));
+      word_last = λ m. l.word_last (word_left c w);
+      word_first = λ d v qs i. (l.front, ap (λ p. p ∷ l.front) (let j : word c w ≡ word d v = cc in j));
     }
 
     by : (us : List Tok) → places (at + length w) src ≡ us → ((u : Tok) (vs : List Tok) → places (at + length w) src ≡ u ∷ vs → Trail (at + length w) src (u ∷ vs)) → Trail at (word c w ∷ src) ts

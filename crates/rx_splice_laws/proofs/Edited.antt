@@ -10,6 +10,7 @@ use Rattle.rx_print_spelling.proofs.FirstWords.{word_begins, tokens_begin}
 use Rattle.rx_parse_grammar.specs.grammar.Expressions as g
 use Rattle.rx_parse_grammar.specs.grammar.Expressions.{BeginsLike}
 use Rattle.rx_splice_laws.specs.Edits.{Edit, replaced, put}
+use Rattle.rx_splice_laws.proofs.Beside.{InPlace, Closing, Opening, Next}
 
 -- tokens that pieces are, wherever they stand
 abbrev pub made : List Piece → List Tok
@@ -25,14 +26,14 @@ begins_plain (blanks b ∷ ps) = begins_plain ps
 pub data Edited : List Edit → List Tok → List Tok → Type 0 where
   kept : (ts : List Tok) → Edited [] ts ts
   -- in place of all of them: with words that begin nothing that ends in a block
-  instead : (ts : List Tok) (ps : List Piece) → ts ≢ [] → begins_plain ps ≡ true → Edited (replaced (span_of ts) ps ∷ []) ts (made ps)
-  -- directly before the first, and directly behind the last
-  before : {es : List Edit} {ts us : List Tok} (t : Tok) (ps : List Piece) → begins_plain ps ≡ true → Edited es (t ∷ ts) us
-      → Edited (put t.span.start ps ∷ es) (t ∷ ts) (made ps ++ us)
-  behind : {es : List Edit} {ts us : List Tok} (ps : List Piece) → ts ≢ [] → Edited es ts us
+  instead : (ts : List Tok) (ps : List Piece) → ts ≢ [] → begins_plain ps ≡ true → InPlace ts ps → Edited (replaced (span_of ts) ps ∷ []) ts (made ps)
+  -- directly behind the last, before anything
+  behind : {es : List Edit} {ts us : List Tok} (ps : List Piece) → ts ≢ [] → Closing ps → Edited es ts us
       → Edited (es ++ put (span_of ts).end ps ∷ []) ts (us ++ made ps)
+  -- directly behind all but the last
+  next : (ts : List Tok) (z : Tok) (ps : List Piece) → ts ≢ [] → Next ts z ps → Edited (put (span_of ts).end ps ∷ []) (ts ++ z ∷ []) (ts ++ (made ps ++ z ∷ []))
   -- directly before the second: with any words
-  between : {es : List Edit} {ts us : List Tok} (t u : Tok) (ps : List Piece) → Edited es (u ∷ ts) us
+  between : {es : List Edit} {ts us : List Tok} (t u : Tok) (ps : List Piece) → Opening t u ps → Edited es (u ∷ ts) us
       → Edited (put u.span.start ps ∷ es) (t ∷ u ∷ ts) (t ∷ (made ps ++ us))
   -- one part after the other
   joined : {es fs : List Edit} {ts us vs ws : List Tok} → Edited es ts us → Edited fs vs ws → Edited (es ++ fs) (ts ++ vs) (us ++ ws)
@@ -71,19 +72,19 @@ append_last (u ∷ us) ws n e = absurd (cc)
 
 pub some_left : {es : List Edit} {ts us : List Tok} → Edited es ts us → ts ≢ [] → us ≢ []
 some_left (kept ts) n = n
-some_left (instead ts ps m b) n = made_some 0 ps b
-some_left (before {us = us} t ps b e) n = append_last (made ps) us (some_left e n)
-some_left (between t u ps e) n = λ z. absurd (cc)
-some_left (behind {us = us} ps m e) n = append_some us (made ps) (some_left e m)
+some_left (instead ts ps m b i) n = made_some 0 ps b
+some_left (between t u ps o e) n = λ z. absurd (cc)
+some_left (behind {us = us} ps m c e) n = append_some us (made ps) (some_left e m)
+some_left (next ts z ps m c) n = append_some ts (made ps ++ z ∷ []) m
 some_left (joined {ts = []} {us = us} {vs = vs} {ws = ws} e f) n = append_last us ws (some_left f n)
 some_left (joined {ts = t ∷ ts} {us = us} {ws = ws} e f) n = append_some us ws (some_left e (λ z. absurd (cc)))
 
 pub none_left : {es : List Edit} {ts us : List Tok} → Edited es ts us → ts ≡ [] → us ≡ []
 none_left (kept ts) n = n
-none_left (instead ts ps m b) n = absurd (m n)
-none_left (before t ps b e) n = absurd (cc)
-none_left (between t u ps e) n = absurd (cc)
-none_left (behind ps m e) n = absurd (m n)
+none_left (instead ts ps m b i) n = absurd (m n)
+none_left (between t u ps o e) n = absurd (cc)
+none_left (behind ps m c e) n = absurd (m n)
+none_left (next ts z ps m c) n = absurd (append_some ts (z ∷ []) m n)
 none_left (joined {ts = []} {us = us} {vs = vs} {ws = ws} e f) n = ap (λ x. x ++ ws) (none_left e refl) ∙ none_left f n
 none_left (joined {ts = t ∷ ts} e f) n = absurd (cc)
 
@@ -122,9 +123,9 @@ front_begins (u ∷ us) ws n d = same_first d
 
 pub begins_kept : {es : List Edit} {ts us : List Tok} → Edited es ts us → BeginsLike us → BeginsLike ts
 begins_kept (kept ts) d = d
-begins_kept (instead ts ps m b) d = absurd (made_begins 0 ps [] b (subst BeginsLike (sym (append-nil (made ps))) d))
-begins_kept (before {us = us} t ps b e) d = absurd (made_begins 0 ps us b d)
-begins_kept (between t u ps e) d = same_first d
-begins_kept (behind {us = us} ps m e) d = begins_kept e (front_begins us (made ps) (some_left e m) d)
+begins_kept (instead ts ps m b i) d = absurd (made_begins 0 ps [] b (subst BeginsLike (sym (append-nil (made ps))) d))
+begins_kept (between t u ps o e) d = same_first d
+begins_kept (behind {us = us} ps m c e) d = begins_kept e (front_begins us (made ps) (some_left e m) d)
+begins_kept (next ts z ps m c) d = longer_begins ts (z ∷ []) (front_begins ts (made ps ++ z ∷ []) m d)
 begins_kept (joined {ts = []} {us = us} {vs = vs} {ws = ws} e f) d = begins_kept f (subst (λ x. BeginsLike (x ++ ws)) (none_left e refl) d)
 begins_kept (joined {ts = t ∷ ts} {us = us} {vs = vs} {ws = ws} e f) d = longer_begins (t ∷ ts) vs (begins_kept e (front_begins us ws (some_left e (λ z. absurd (cc))) d))

@@ -7,6 +7,7 @@ use Rattle.rx_tree.specs.declared.tree.Ident.{Ident}
 use Rattle.rx_tree.specs.Plain as plain
 use Rattle.rx_tree.specs.Plain.{TypeTree, PatternTree, Expression, Body}
 use Rattle.rx_tree.specs.Erase.{erase, erase_ident, erase_type}
+use Rattle.rx_lex.specs.Words.{goes_on}
 use Rattle.rx_lex.specs.Tok.{Tok}
 use Rattle.rx_parse_grammar.specs.grammar.Words.{IsMark, IsKeyword, IsName, IsNumber, span_of, ident}
 use Rattle.rx_parse_grammar.specs.grammar.Patterns.{IsPattern}
@@ -18,6 +19,7 @@ use Rattle.rx_hoist_extraction.specs.Changed.{Changes}
 use Rattle.rx_splice_laws.specs.Edits.{Edit}
 use Rattle.rx_splice_laws.specs.EditsOf.{EditsAt, is_short}
 use Rattle.rx_splice_laws.specs.SplicedRun.{Part}
+use Rattle.rx_splice_laws.proofs.Beside.{begins_run, ends_run}
 use Rattle.rx_splice_laws.proofs.Edited.{Edited}
 
 -- at most three levels for one, and those of a written type
@@ -87,10 +89,10 @@ within false p = p
 
 -- ---- what is wanted of the special forms, in a text with these tokens
 
--- behind a pattern: the type that it gets
-pub record Typed (C : Changes) (es : List Edit) (ps ys : List Tok) (p : PatternTree) (y : Option TypeTree) (n : ℕ) : Type 0 where
+-- behind a pattern, before z: the type that it gets
+pub record Typed (C : Changes) (es : List Edit) (ps ys : List Tok) (z : Tok) (p : PatternTree) (y : Option TypeTree) (n : ℕ) : Type 0 where
   pub tokens : List Tok
-  pub edited : Edited es (ps ++ ys) (ps ++ tokens)
+  pub edited : Edited es (ps ++ (ys ++ z ∷ [])) (ps ++ (tokens ++ z ∷ []))
   pub type : Option TypeTree
   pub height : ℕ
   pub derived : IsAnnotation tokens type height
@@ -111,9 +113,9 @@ pub record Suits (A : EditsAt) (C : Changes) (all : List Tok) : Type 0 where
   pub short : (own : Names) (t : Tok) → IsName t → Part all (t ∷ [])
       → Kept IsField field_view (t ∷ []) 1 (A.at_variable own true t.span t.text) (erase_ident (ident t), erase (C.at_variable own t.span t.text))
   pub long : (n c : Tok) (us : List Tok) (x : Expression) (h : ℕ) → IsExpression us x h → Part all (n ∷ c ∷ us) → is_short (ident n) x ≡ false
-  pub break : (ls : List Around) (ts : List Tok) (l : Option Ident) → ts ≢ [] → IsExpression ts (plain.break (span_of ts) l) 1
+  pub break : (ls : List Around) (ts : List Tok) (l : Option Ident) → ts ≢ [] → begins_run ts ≡ true → ends_run ts ≡ true → IsExpression ts (plain.break (span_of ts) l) 1
       → Kept IsExpression erase ts 1 (A.at_break ls (span_of ts) l) (erase (C.at_break ls (span_of ts) l))
-  pub continue : (ls : List Around) (ts : List Tok) (l : Option Ident) → ts ≢ [] → IsExpression ts (plain.continue (span_of ts) l) 1
+  pub continue : (ls : List Around) (ts : List Tok) (l : Option Ident) → ts ≢ [] → begins_run ts ≡ true → ends_run ts ≡ true → IsExpression ts (plain.continue (span_of ts) l) 1
       → Kept IsExpression erase ts 1 (A.at_continue ls (span_of ts) l) (erase (C.at_continue ls (span_of ts) l))
   pub return : (t : Tok) → IsKeyword (codes "return") t
       → Kept IsExpression erase (t ∷ []) 1 (A.at_return t.span) (erase (C.at_return t.span plain.absent))
@@ -122,5 +124,5 @@ pub record Suits (A : EditsAt) (C : Changes) (all : List Tok) : Type 0 where
       → Kept IsExpression erase (t ∷ us) (suc h) (A.at_return_with (span_of (t ∷ us)) es) (erase (C.at_return (span_of (t ∷ us)) (plain.present x)))
   -- blocks stay what they are
   pub blocks_stay : (b c : Body) → C.at_block b c ≡ c
-  pub typed : (ps ys : List Tok) (p : PatternTree) (y : Option TypeTree) (m n : ℕ) → IsPattern ps p m → IsAnnotation ys y n → (z : Tok) → same_bytes z.text (codes ")") ≡ false → Part all (ps ++ (ys ++ z ∷ []))
-      → Typed C (A.at_let p y) ps ys p y n
+  pub typed : (ps ys : List Tok) (p : PatternTree) (y : Option TypeTree) (m n : ℕ) → IsPattern ps p m → IsAnnotation ys y n → (z : Tok) → same_bytes z.text (codes ")") ≡ false
+      → ((r : List ℕ) → goes_on (z.text ++ r) ≡ false) → Part all (ps ++ (ys ++ z ∷ [])) → Typed C (A.at_let p y) ps ys z p y n

@@ -1,5 +1,5 @@
 -- The special forms of a run: the words of each rule are derived as what becomes of the tree.
-use Rattle.std.proofs.Common.{◌≡◌, ℕ, suc, ◌+◌, ◌≤◌, ◌<◌, max, Bool, true, false, List, map, [], ◌∷◌, ◌++◌, Option, Some, None, codes, refl, sym, ap, subst, ◌∙◌, arith, append_assoc, append-nil}
+use Rattle.std.proofs.Common.{◌≡◌, ℕ, suc, ◌+◌, ◌≤◌, ◌<◌, max, Bool, true, false, List, map, [], ◌∷◌, ◌++◌, Option, Some, None, codes, length, refl, sym, ap, subst, ◌∙◌, arith, append_assoc, append-nil}
 use Rattle.std.specs.Prelude.{◌≢◌, ⊤, ◌==◌, if◌then◌else◌}
 use Rattle.std.proofs.lemmas.Bool.{false_from_ne_true, eqb-true, false≢true, or_left}
 use Rattle.std.proofs.lemmas.Bool.Decides.{nat_tests}
@@ -10,6 +10,7 @@ use Rattle.rx_tree.specs.Plain as plain
 use Rattle.rx_tree.specs.Plain.{TypeTree, PatternTree, Expression, Expressions}
 use Rattle.rx_tree.specs.Erase.{nowhere, erase, erase_ident}
 use Rattle.rx_lex.specs.declared.token.Class.TheVariants.{Identifier, Number, Mark}
+use Rattle.rx_lex.specs.Words.{is_identifier}
 use Rattle.rx_lex.specs.Tok.{Tok}
 use Rattle.rx_lex.specs.Tokens.{token_at}
 use Rattle.rx_lex.specs.Numerals.{IsNumeral, decimal, based, kind_name, prefix}
@@ -30,6 +31,8 @@ use Rattle.rx_splice_laws.specs.EditsOf.{EditsAt}
 use Rattle.rx_splice_laws.specs.Places.{next_start, first_start, behind, before_dot, begins_mark, text_at, after_slash}
 use Rattle.rx_hoist_extraction.specs.Made as made_of
 use Rattle.rx_splice_laws.specs.Moving.{Moving, Jump, run_edits, run_changes, is_starred, star, enclosed_star, long_field, star_at, enclosed_at, jump_of, returned, jump_edits, jump_or, suffix_edits, variant_of, first_done, first_opening, first_closing, opening, closing, spaced, handed_over}
+use Rattle.rx_splice_laws.proofs.Beside.{begins_run, ends_run}
+use Rattle.rx_splice_laws.proofs.InPlaces.{star_in_place, enclosed_in_place, long_in_place, number_in_place, jump_in_place, opening_fits, closing_closes}
 use Rattle.rx_splice_laws.proofs.Edited as calculus
 use Rattle.rx_splice_laws.proofs.Edited.{Edited, made, begins_plain}
 use Rattle.rx_splice_laws.specs.SplicedRun.{Part}
@@ -83,14 +86,14 @@ one_name x = refl
 all_strengths : {ts : List Tok} {x : Expression} {h : ℕ} → IsOperand true 0 ts x h → IsOperand true 5 ts x h
 all_strengths d = g.stronger (g.stronger (g.stronger (g.stronger (g.stronger d))))
 
-starred_unary : (f : Bool) (M : Moving) (t : Tok) (s : Span) → Kept (IsUnary f) erase (t ∷ []) 1 (replaced t.span (star t.text) ∷ []) (erase (plain.deref s (plain.var s t.text)))
-starred_unary f M t s =
-    keep _ _ _ (calculus.instead (t ∷ []) (star t.text) (some_token t []) refl)
+starred_unary : (f : Bool) (M : Moving) (t : Tok) (s : Span) → IsName t → Kept (IsUnary f) erase (t ∷ []) 1 (replaced t.span (star t.text) ∷ []) (erase (plain.deref s (plain.var s t.text)))
+starred_unary f M t s n =
+    keep _ _ _ (calculus.instead (t ∷ []) (star t.text) (some_token t []) refl (star_in_place t n))
     (g.deref (token_at 0 Mark (codes "*")) (token_at 1 Identifier t.text ∷ []) _ _ (refl, refl) (g.postfix (g.primary (g.variable (token_at 1 Identifier t.text) refl refl))) refl) refl (let l : 2 ≤ 130 + (1 + 1 + 1) = omega arith in l)
 
-enclosed_postfix : (f : Bool) (M : Moving) (t : Tok) (s : Span) → Kept (IsPostfix f) erase (t ∷ []) 1 (replaced t.span (enclosed_star t.text) ∷ []) (erase (plain.deref s (plain.var s t.text)))
-enclosed_postfix f M t s =
-    keep _ _ _ (calculus.instead (t ∷ []) (enclosed_star t.text) (some_token t []) refl)
+enclosed_postfix : (f : Bool) (M : Moving) (t : Tok) (s : Span) → IsName t → Kept (IsPostfix f) erase (t ∷ []) 1 (replaced t.span (enclosed_star t.text) ∷ []) (erase (plain.deref s (plain.var s t.text)))
+enclosed_postfix f M t s n =
+    keep _ _ _ (calculus.instead (t ∷ []) (enclosed_star t.text) (some_token t []) refl (enclosed_in_place t n))
     (g.primary (g.parentheses _ _ _ _ _ (refl, refl) (refl, refl) (g.operand (all_strengths (g.unary
     (g.deref (token_at 1 Mark (codes "*")) (token_at 2 Identifier t.text ∷ []) _ _ (refl, refl) (g.postfix (g.primary (g.variable (token_at 2 Identifier t.text) refl refl))) refl)))) refl)) refl (let l : 3 ≤ 130 + (1 + 1 + 1) = omega arith in l)
 
@@ -110,9 +113,9 @@ with_suffix : (k : Kind) {w : List ℕ} {v : ℕ} → IsNumeral w v None → IsN
 with_suffix k {w} (decimal c cs o d a e) = decimal c cs (Some k) d a (ap (λ x. x ++ kind_name k) e ∙ ap (λ x. c ∷ (x ++ kind_name k)) (append-nil cs))
 with_suffix k {w} (based b cs o a d e) = based b cs (Some k) a d (ap (λ x. x ++ kind_name k) e ∙ append_assoc (prefix b) (cs ++ []) (kind_name k) ∙ ap (λ x. prefix b ++ (x ++ kind_name k)) (append-nil cs))
 
-long_starred : (M : Moving) (t : Tok) (s : Span) → Kept IsField field_view (t ∷ []) 1 (replaced t.span (long_field t.text) ∷ []) (erase_ident (ident t), erase (plain.deref s (plain.var s t.text)))
-long_starred M t s =
-    keep _ _ _ (calculus.instead (t ∷ []) (long_field t.text) (some_token t []) refl)
+long_starred : (M : Moving) (t : Tok) (s : Span) → IsName t → Kept IsField field_view (t ∷ []) 1 (replaced t.span (long_field t.text) ∷ []) (erase_ident (ident t), erase (plain.deref s (plain.var s t.text)))
+long_starred M t s n =
+    keep _ _ _ (calculus.instead (t ∷ []) (long_field t.text) (some_token t []) refl (long_in_place t n))
     (g.long_field (token_at 0 Identifier t.text) _ _ _ _ refl (refl, refl) (g.operand (all_strengths (g.unary
     (g.deref _ _ _ _ (refl, refl) (g.postfix (g.primary (g.variable _ refl refl))) refl)))) refl) refl (let l : 2 ≤ 130 + (1 + 1 + 1) = omega arith in l)
 
@@ -152,20 +155,23 @@ block_derived t o l n k a b q z e p v c xs y h st so sl sn sk sa sb sq sz se sp 
     (g.tail (g.operand (all_strengths (g.unary (g.postfix (g.primary (g.variant e p v se sp sv refl)))))) nb) refl)
     (ap (λ w. o ∷ l ∷ n ∷ k ∷ a ∷ b ∷ q ∷ w) (open_group xs (e ∷ p ∷ v ∷ []) z c)))))))))) refl) refl
 
+six_behind : (at start : ℕ) → at ≡ start + 6 → (at == suc (suc (suc (suc (suc (suc start)))))) ≡ true
+six_behind at start e = let h : at ≡ suc (suc (suc (suc (suc (suc start))))) = omega (arith, e) in ap (λ n. n == suc (suc (suc (suc (suc (suc start)))))) h ∙ self (suc (suc (suc (suc (suc (suc start))))))
+
 module _ (M : Moving) (all : List Tok) (rising : Rising all) where
   edits_at : EditsAt
   edits_at = run_edits M all
 
-  either_star : (f : Bool) (t : Tok) (b : Bool) → Kept (IsUnary f) erase (t ∷ []) 1 (replaced t.span (if b then enclosed_star t.text else star t.text) ∷ []) (erase (plain.deref M.span (plain.var t.span t.text)))
-  either_star f t true = recast (λ us y k. g.postfix) (enclosed_postfix f M t M.span)
-  either_star f t false = starred_unary f M t M.span
+  either_star : (f : Bool) (t : Tok) (b : Bool) → IsName t → Kept (IsUnary f) erase (t ∷ []) 1 (replaced t.span (if b then enclosed_star t.text else star t.text) ∷ []) (erase (plain.deref M.span (plain.var t.span t.text)))
+  either_star f t true n = recast (λ us y k. g.postfix) (enclosed_postfix f M t M.span n)
+  either_star f t false n = starred_unary f M t M.span n
 
   pub variable_fits : (f : Bool) (own : Names) (t : Tok) → IsName t
       → Kept (IsUnary f) erase (t ∷ []) 1 ((run_edits M all).at_variable own false t.span t.text) (erase ((run_changes M).at_variable own t.span t.text))
   variable_fits f own t n = by (is_starred M own t.text)
     where
       by : (b : Bool) → Kept (IsUnary f) erase (t ∷ []) 1 (if b then replaced t.span (star_at all false t.span t.text) ∷ [] else []) (erase (if b then plain.deref M.span (plain.var t.span t.text) else plain.var t.span t.text))
-      by true = either_star f t (enclosed_at all t.span)
+      by true = either_star f t (enclosed_at all t.span) n
       by false = kept_unary f t n
 
   pub before_dot_fits : (f : Bool) (own : Names) (t d : Tok) → IsName t → IsMark (codes ".") d → Part all (t ∷ d ∷ [])
@@ -176,7 +182,7 @@ module _ (M : Moving) (all : List Tok) (rising : Rising all) where
       seen = or_left (before_dot all t.span.start) (after_slash all t.span.start) (dot_seen t d rising m p)
 
       by : (b : Bool) → Kept (IsPostfix f) erase (t ∷ []) 1 (if b then replaced t.span (star_at all false t.span t.text) ∷ [] else []) (erase (if b then plain.deref M.span (plain.var t.span t.text) else plain.var t.span t.text))
-      by true = subst (λ c. Kept (IsPostfix f) erase (t ∷ []) 1 (replaced t.span (if c then enclosed_star t.text else star t.text) ∷ []) (erase (plain.deref M.span (plain.var t.span t.text)))) (sym seen) (enclosed_postfix f M t M.span)
+      by true = subst (λ c. Kept (IsPostfix f) erase (t ∷ []) 1 (replaced t.span (if c then enclosed_star t.text else star t.text) ∷ []) (erase (plain.deref M.span (plain.var t.span t.text)))) (sym seen) (enclosed_postfix f M t M.span n)
       by false = kept_postfix f t n
 
   pub short_fits : (own : Names) (t : Tok) → IsName t
@@ -184,20 +190,20 @@ module _ (M : Moving) (all : List Tok) (rising : Rising all) where
   short_fits own t n = by (is_starred M own t.text)
     where
       by : (b : Bool) → Kept IsField field_view (t ∷ []) 1 (if b then replaced t.span (long_field t.text) ∷ [] else []) (erase_ident (ident t), erase (if b then plain.deref M.span (plain.var t.span t.text) else plain.var t.span t.text))
-      by true = long_starred M t M.span
+      by true = long_starred M t M.span n
       by false = kept_short t n
 
   -- ---- jumps
 
-  pub jump_fits : (ts : List Tok) (e : Jump) → ts ≢ [] → Formed (jump_of M e) → Kept IsExpression erase ts 1 (replaced (span_of ts) (returned M e) ∷ []) (erase (jump_of M e))
-  jump_fits ts e n f =
+  pub jump_fits : (ts : List Tok) (e : Jump) → ts ≢ [] → begins_run ts ≡ true → ends_run ts ≡ true → Formed (jump_of M e) → Kept IsExpression erase ts 1 (replaced (span_of ts) (returned M e) ∷ []) (erase (jump_of M e))
+  jump_fits ts e n b l f =
       let r = (expression_reads (jump_of M e) 0 f).whole 0 in
-      keep _ _ _ (calculus.instead ts (returned M e) n refl) r.derived r.same (low_jump M e)
+      keep _ _ _ (calculus.instead ts (returned M e) n refl (jump_in_place M e ts f b l)) r.derived r.same (low_jump M e)
 
-  pub leaving_fits : (ts : List Tok) (x : Expression) (o : Option Jump) → ts ≢ [] → ((e : Jump) → o ≡ Some e → Formed (jump_of M e)) → IsExpression ts x 1
+  pub leaving_fits : (ts : List Tok) (x : Expression) (o : Option Jump) → ts ≢ [] → begins_run ts ≡ true → ends_run ts ≡ true → ((e : Jump) → o ≡ Some e → Formed (jump_of M e)) → IsExpression ts x 1
       → Kept IsExpression erase ts 1 (jump_edits M (span_of ts) o) (erase (jump_or M x o))
-  leaving_fits ts x None n f d = keep _ _ _ (calculus.kept ts) d refl (let l : 1 ≤ 130 + (1 + 1 + 1) = omega arith in l)
-  leaving_fits ts x (Some e) n f d = jump_fits ts e n (f e refl)
+  leaving_fits ts x None n b l f d = keep _ _ _ (calculus.kept ts) d refl (let m : 1 ≤ 130 + (1 + 1 + 1) = omega arith in m)
+  leaving_fits ts x (Some e) n b l f d = jump_fits ts e n b l (f e refl)
 
   -- ---- round the operand of a return
 
@@ -241,18 +247,19 @@ module _ (M : Moving) (all : List Tok) (rising : Rising all) where
         omega (arith, l),
       )
 
-  pub return_fits : (t : Tok) (us : List Tok) (h : ℕ) (es : List Edit) (x : Expression) → IsKeyword (codes "return") t → us ≢ [] → Part all (t ∷ us) → Kept IsExpression erase us h es (erase x)
+  pub return_fits : is_identifier M.enum ≡ true → is_identifier M.out_0 ≡ true → (t : Tok) (us : List Tok) (h : ℕ) (es : List Edit) (x : Expression) → IsKeyword (codes "return") t → us ≢ [] → Part all (t ∷ us) → Kept IsExpression erase us h es (erase x)
       → Kept IsExpression erase (t ∷ us) (suc h) ((run_edits M all).at_return_with (span_of (t ∷ us)) es) (erase ((run_changes M).at_return (span_of (t ∷ us)) (plain.present x)))
-  return_fits t [] h es x s n p r = absurd (n refl)
-  return_fits t (u ∷ us) h es x s n p r =
+  return_fits i j t [] h es x s n p r = absurd (n refl)
+  return_fits i j t (u ∷ us) h es x s n p r =
       let at = next_start all t.span.start in
       let b = at == suc (suc (suc (suc (suc (suc t.span.start))))) in
       let here : at ≡ u.span.start = ap (first_start t.span.start) (part_behind t rising p) in
+      let q : u.span.start ≡ t.span.start + length t.text → b ≡ true = λ e. six_behind at t.span.start (here ∙ e ∙ (let l : length t.text ≡ 6 = ap length s.1 in ap (λ m. t.span.start + m) l)) in
       let d = round_derived M.unit (spaced_at b) t t.span r.tokens x r.tree h r.height s r.derived r.same r.low in
       keep _ _ _
       (subst (λ a. Edited (put a (spaced b (opening M)) ∷ (es ++ put (span_of (u ∷ us)).end (closing M) ∷ [])) (t ∷ u ∷ us) (t ∷ (places (spaced_at b) (opening M) ++ (r.tokens ++ made (closing M))))) (sym here)
       (subst (λ l. Edited (put u.span.start (spaced b (opening M)) ∷ (es ++ put (span_of (u ∷ us)).end (closing M) ∷ [])) (t ∷ u ∷ us) (t ∷ (l ++ (r.tokens ++ made (closing M))))) (spaced_made b (opening M))
-      (calculus.between t u (spaced b (opening M)) (calculus.behind (closing M) n r.edited))))
+      (calculus.between t u (spaced b (opening M)) (opening_fits M t u b i j s q) (calculus.behind (closing M) n (closing_closes M i) r.edited))))
       d.1.derived_so d.1.same d.2
 
   -- ---- suffixes
@@ -265,6 +272,6 @@ module _ (M : Moving) (all : List Tok) (rising : Rising all) where
       by : (o : Option Kind) → Kept (IsPrimary f) erase (t ∷ []) 1 (suffix_edits all t.span o) (plain.int nowhere v o)
       by None = keep _ _ _ (calculus.kept (t ∷ [])) (g.number t v None n refl) refl (let l : 1 ≤ 130 + (1 + 1 + 1) = omega arith in l)
       by (Some k) =
-          keep _ _ _ (calculus.instead (t ∷ []) (word Number (text_at all t.span.start ++ kind_name k) ∷ []) (some_token t []) refl)
-          (g.number (token_at 0 Number (text_at all t.span.start ++ kind_name k)) v (Some k)
-          (record { class = refl; numeral = subst (λ w. IsNumeral (w ++ kind_name k) v (Some k)) (sym (part_text t rising p)) (with_suffix k n.numeral); fits = n.fits }) refl) refl (let l : 1 ≤ 130 + (1 + 1 + 1) = omega arith in l)
+          let numeral : IsNumeral (text_at all t.span.start ++ kind_name k) v (Some k) = subst (λ w. IsNumeral (w ++ kind_name k) v (Some k)) (sym (part_text t rising p)) (with_suffix k n.numeral) in
+          keep _ _ _ (calculus.instead (t ∷ []) (word Number (text_at all t.span.start ++ kind_name k) ∷ []) (some_token t []) refl (number_in_place t (text_at all t.span.start ++ kind_name k) n.class numeral n.fits))
+          (g.number (token_at 0 Number (text_at all t.span.start ++ kind_name k)) v (Some k) (record { class = refl; numeral = numeral; fits = n.fits }) refl) refl (let l : 1 ≤ 130 + (1 + 1 + 1) = omega arith in l)

@@ -22,6 +22,9 @@ use Rattle.rx_hoist_extraction.proofs.FormedSignatures.{elided_formed}
 use Rattle.rx_hoist_extraction.proofs.WrittenLevels.{elided_levels}
 use Rattle.rx_splice_laws.specs.Moving.{Jump, jump_of}
 use Rattle.rx_splice_laws.specs.MovedBy.{jump_to, type_at, moved_by, PinsLow}
+use Rattle.rx_hoist_extraction.proofs.MadeNames.{variable_is_identifier}
+use Rattle.rx_splice_laws.proofs.InPlaces.{EndsBare}
+use Rattle.rx_splice_laws.proofs.ElidedBare.{elided_bare}
 use Rattle.rx_splice_laws.proofs.Fitting.{Spelt}
 
 -- what is told of all that is pinned holds of what is pinned at a place
@@ -37,12 +40,13 @@ written : (P : ProgramTree) (r : Span) (o : Option Typ) (y : TypeTree) → optio
 written P r None y e = absurd (cc)
 written P r (Some t) y e = (t, refl, cc)
 
-pinned_formed : (P : ProgramTree) (r : Span) (o : Option Pins) (p : PatternTree) (y : TypeTree) → PinsSpell P o → PinsLow o → type_at P r o p ≡ Some y → FormedType y × (type_levels y ≤ 130)
+pinned_formed : (P : ProgramTree) (r : Span) (o : Option Pins) (p : PatternTree) (y : TypeTree) → PinsSpell P o → PinsLow o → type_at P r o p ≡ Some y → FormedType y × (type_levels y ≤ 130) × EndsBare y
 pinned_formed P r None p y h l e = absurd (cc)
 pinned_formed P r (Some pins) p y h l e =
     let w = written P r (at_place pins.types (pattern_span p)) y e in (
       subst FormedType (sym w.2) (elided_formed P r w.0 (placed (TypeSpells P) pins.types (pattern_span p) w.0 h w.1)),
       subst (λ (z : TypeTree). type_levels z ≤ 130) (sym w.2) (subst (λ n. n ≤ 130) (sym (elided_levels P r w.0)) (placed (λ (t : Typ). levels t ≤ 130) pins.types (pattern_span p) w.0 l w.1)),
+      subst EndsBare (sym w.2) (elided_bare P r w.0 (placed (TypeSpells P) pins.types (pattern_span p) w.0 h w.1)).alone,
     )
 
 module _ (P : ProgramTree) (pl : Plan) (r : Span) (F : FormedPlan P pl) (L : PinsLow pl.pins) where
@@ -56,5 +60,6 @@ module _ (P : ProgramTree) (pl : Plan) (r : Span) (F : FormedPlan P pl) (L : Pin
     breaks = λ ls l e i. jumps planned.to_break (λ k. (run_places P pl F r).breaking (a_loop None (suc k) ∷ []) r None tt) (leaves l ls) e i;
     continues = λ ls l e i. jumps planned.to_continue (λ k. (run_places P pl F r).continuing (a_loop None (suc k) ∷ []) r None tt) (leaves l ls) e i;
     returns = (run_places P pl F r).returning r plain.absent tt;
+    first_out = variable_is_identifier pl.identifiers 0 F.fresh_variable;
     types = λ p y i. pinned_formed P r pl.pins p y F.pins L i;
   }

@@ -125,7 +125,7 @@ long_of all r n c us x h d p =
 
 -- ---- patterns
 
-abbrev Sooner : ℕ → List Tok → Type 0
+abbrev pub Sooner : ℕ → List Tok → Type 0
 Sooner e [] = ⊤
 Sooner e (t ∷ ts) = (t.span.start < e) × Sooner e ts
 
@@ -156,15 +156,15 @@ ahead from to (p ∷ pre) us post n o =
 below : (e s : ℕ) → s < e → nat_le e s ≡ false
 below e s l = false_from_ne_true (nat_le e s) (λ h. let k : e ≤ s = leb-true e s h in absurd (omega (arith, l, k)))
 
-from_rest : (e to : ℕ) (post : List Tok) → Ordered e to post → tokens_from e post ≡ post
+pub from_rest : (e to : ℕ) (post : List Tok) → Ordered e to post → tokens_from e post ≡ post
 from_rest e to [] o = refl
 from_rest e to (t ∷ ts) o = let h : nat_le e t.span.start ≡ true = grind (arith, nat_tests, o.0) in rw h refl
 
-skipped : (e : ℕ) (us post : List Tok) → Sooner e us → tokens_from e post ≡ post → tokens_from e (us ++ post) ≡ post
+pub skipped : (e : ℕ) (us post : List Tok) → Sooner e us → tokens_from e post ≡ post → tokens_from e (us ++ post) ≡ post
 skipped e [] post s r = r
 skipped e (u ∷ us) post s r = rw (below e u.span.start s.0) (skipped e us post s.1 r)
 
-tokens_behind : (from to : ℕ) (pre us post : List Tok) → us ≢ [] → Ordered from to (pre ++ (us ++ post)) → tokens_from (span_of us).end (pre ++ (us ++ post)) ≡ post
+pub tokens_behind : (from to : ℕ) (pre us post : List Tok) → us ≢ [] → Ordered from to (pre ++ (us ++ post)) → tokens_from (span_of us).end (pre ++ (us ++ post)) ≡ post
 tokens_behind from to pre us post n o =
     let r = ahead from to pre us post n o in
     skipped_front (span_of us).end pre (us ++ post) post r.sooner (skipped (span_of us).end us post r.own (from_rest (span_of us).end to post r.rest))

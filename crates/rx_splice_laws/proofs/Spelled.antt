@@ -1,108 +1,185 @@
--- What edits of tokens make of the text: its pieces are the kept ones and those of the edits. By induction on the edits.
-use Rattle.std.proofs.Common.{◌≡◌, ℕ, ◌+◌, ◌-◌, List, [], ◌∷◌, ◌++◌, length, length-append, take, drop, refl, sym, ap, subst, ◌∙◌, arith, append-nil}
-use Rattle.std.specs.Prelude.{◌≢◌}
+-- What edits of tokens make of the text: its pieces are the kept ones and those of the edits, and each word ends before what follows it.
+-- By induction on the edits.
+use Rattle.std.proofs.Common.{◌≡◌, ℕ, ◌+◌, ◌-◌, true, false, List, [], ◌∷◌, ◌++◌, length, length-append, take, drop, refl, sym, ap, subst, ◌∙◌, arith, append-nil, append_assoc}
+use Rattle.std.specs.Prelude.{◌≢◌, ⊤}
 use Rattle.rx_lex.specs.Tok.{Tok}
 use Rattle.rx_parse_grammar.specs.grammar.Words.{span_of}
-use Rattle.rx_print_spelling.specs.Pieces.{Piece, flat}
-use Rattle.rx_print_spelling.proofs.Pieces.{places, flat-append}
+use Rattle.rx_print_spelling.specs.Pieces.{Piece, word, bytes_of, flat}
+use Rattle.rx_print_spelling.proofs.Pieces.{places, past, places-append, flat-append}
 use Rattle.rx_splice_laws.specs.Edits.{Edit, spliced, replaced, put, Ordered, no_edit, edit_and}
+use Rattle.rx_splice_laws.specs.Places.{after_slash}
 use Rattle.rx_splice_laws.proofs.Splicing.{spliced-append, ordered-append}
 use Rattle.rx_parse_laws.specs.Words.{words}
 use Rattle.rx_splice_laws.specs.SplicedRun.{piece_words}
-use Rattle.rx_splice_laws.proofs.Edited.{Edited, kept, instead, before, between, behind, joined, made}
-use Rattle.rx_splice_laws.proofs.Cut.{words_placed, words_joined, words-append, split, lead, trail}
+use Rattle.rx_splice_laws.proofs.Edited.{Edited, kept, instead, between, behind, next, joined, made}
+use Rattle.rx_splice_laws.proofs.Seams.{Left, left_of, EachSeen, seen_left, seen_right, Seamed, kept_seam, two_seams}
+use Rattle.rx_splice_laws.proofs.Beside.{left_at, starred, InPlace}
+use Rattle.rx_splice_laws.proofs.Put.{replaced_seam, behind_seam, next_seam, between_seam}
+use Rattle.rx_splice_laws.proofs.Cut.{bare_places, words_placed, words_joined, words-append, split, lead, trail}
 
--- the text with the edits is that of these pieces, which have these words
-pub record Spelled (at : ℕ) (src : List Piece) (es : List Edit) (us : List Tok) : Type 0 where
-  pub pieces : List Piece
-  pub text : flat pieces ≡ spliced at (flat src) es
-  pub words : piece_words pieces ≡ words us
+-- no edit that begins with `*` stands directly behind a `/`
+abbrev pub Unslashed : List Tok → List Edit → Type 0
+Unslashed all [] = ⊤
+Unslashed all (e ∷ es) = (starred e.by ≡ true → after_slash all e.from ≡ false) × Unslashed all es
+
+pub unslashed_left : (all : List Tok) (es fs : List Edit) → Unslashed all (es ++ fs) → Unslashed all es
+unslashed_left all [] fs u = tt
+unslashed_left all (e ∷ es) fs u = (u.0, unslashed_left all es fs u.1)
+
+pub unslashed_right : (all : List Tok) (es fs : List Edit) → Unslashed all (es ++ fs) → Unslashed all fs
+unslashed_right all [] fs u = u
+unslashed_right all (e ∷ es) fs u = unslashed_right all es fs u.1
+
+-- these pieces are the text with the edits, and have these words
+pub record Pieced (at : ℕ) (src new : List Piece) (es : List Edit) (us : List Tok) : Type 0 where
+  pub text : flat new ≡ spliced at (flat src) es
+  pub words : piece_words new ≡ words us
   pub ordered : Ordered at es (at + length (flat src))
+
+pub record Spelled (all : List Tok) (at : ℕ) (src : List Piece) (es : List Edit) (us : List Tok) : Type 0 where
+  pub pieces : List Piece
+  pub pieced : Pieced at src pieces es us
+  pub seamed : Seamed all at src pieces
 
 drop_seam : (t u : List ℕ) → drop (length t) (t ++ u) ≡ u
 drop_seam [] u = refl
 drop_seam (c ∷ t) u = drop_seam t u
 
 -- a part of the text in front, in which nothing is edited
-after_gap : (at mid : ℕ) (g src : List Piece) (es : List Edit) (us : List Tok) → piece_words g ≡ [] → mid ≡ at + length (flat g) → Spelled mid src es us → Spelled at (g ++ src) es us
-after_gap at mid g src es us b m s = record {
-  pieces = g ++ s.pieces;
-  text = flat-append g s.pieces ∙ ap (λ x. flat g ++ x) s.text ∙ sym (spliced-append at mid (mid + length (flat src)) (flat g) (flat src) [] es m (no_edit (omega (arith, m))) s.ordered) ∙ ap (λ x. spliced at x es) (sym (flat-append g src));
-  words = words_joined g s.pieces ∙ ap (λ x. x ++ piece_words s.pieces) b ∙ s.words;
+after_gap : (at mid : ℕ) (g src new : List Piece) (es : List Edit) (us : List Tok) → piece_words g ≡ [] → mid ≡ at + length (flat g) → Pieced mid src new es us → Pieced at (g ++ src) (g ++ new) es us
+after_gap at mid g src new es us b m s = record {
+  text = flat-append g new ∙ ap (λ x. flat g ++ x) s.text ∙ sym (spliced-append at mid (mid + length (flat src)) (flat g) (flat src) [] es m (no_edit (omega (arith, m))) s.ordered) ∙ ap (λ x. spliced at x es) (sym (flat-append g src));
+  words = words_joined g new ∙ ap (λ x. x ++ piece_words new) b ∙ s.words;
   ordered = subst (λ n. Ordered at es n) (omega (arith, m, length-append (flat g) (flat src), ap length (flat-append g src)))
       (ordered-append (no_edit {from = at} {to = mid} (omega (arith, m))) s.ordered);
 }
 
-two_parts : (at mid : ℕ) (src more : List Piece) (es fs : List Edit) (us ws : List Tok) → mid ≡ at + length (flat src) → Spelled at src es us → Spelled mid more fs ws → Spelled at (src ++ more) (es ++ fs) (us ++ ws)
-two_parts at mid src more es fs us ws m s r =
+pub two_parts : (at mid : ℕ) (src more new new2 : List Piece) (es fs : List Edit) (us ws : List Tok) → mid ≡ at + length (flat src) → Pieced at src new es us → Pieced mid more new2 fs ws
+    → Pieced at (src ++ more) (new ++ new2) (es ++ fs) (us ++ ws)
+two_parts at mid src more new new2 es fs us ws m s r =
     let o : Ordered at es mid = subst (λ n. Ordered at es n) (sym m) s.ordered in record {
-      pieces = s.pieces ++ r.pieces;
-      text = flat-append s.pieces r.pieces ∙ ap (λ x. x ++ flat r.pieces) s.text ∙ ap (λ x. spliced at (flat src) es ++ x) r.text
+      text = flat-append new new2 ∙ ap (λ x. x ++ flat new2) s.text ∙ ap (λ x. spliced at (flat src) es ++ x) r.text
           ∙ sym (spliced-append at mid (mid + length (flat more)) (flat src) (flat more) es fs m o r.ordered) ∙ ap (λ x. spliced at x (es ++ fs)) (sym (flat-append src more));
-      words = words_joined s.pieces r.pieces ∙ ap (λ x. x ++ piece_words r.pieces) s.words ∙ ap (λ x. words us ++ x) r.words ∙ sym (words-append us ws);
+      words = words_joined new new2 ∙ ap (λ x. x ++ piece_words new2) s.words ∙ ap (λ x. words us ++ x) r.words ∙ sym (words-append us ws);
       ordered = subst (λ n. Ordered at (es ++ fs) n) (omega (arith, m, length-append (flat src) (flat more), ap length (flat-append src more))) (ordered-append o r.ordered);
     }
 
 -- pieces put into the text, with nothing in front
-put_first : (at : ℕ) (src ps : List Piece) (es : List Edit) (us : List Tok) → Spelled at src es us → Spelled at src (put at ps ∷ es) (made ps ++ us)
-put_first at src ps es us s =
+pub put_first : (at : ℕ) (src new ps : List Piece) (es : List Edit) (us : List Tok) → Pieced at src new es us → Pieced at src (ps ++ new) (put at ps ∷ es) (made ps ++ us)
+put_first at src new ps es us s =
     let z : at - at ≡ 0 = omega arith in record {
-      pieces = ps ++ s.pieces;
-      text = flat-append ps s.pieces ∙ ap (λ x. flat ps ++ x) s.text ∙ sym (ap (λ n. take n (flat src) ++ (flat ps ++ spliced at (drop n (flat src)) es)) z);
-      words = words_joined ps s.pieces ∙ ap (λ x. piece_words ps ++ x) s.words ∙ ap (λ x. x ++ words us) (sym (words_placed 0 ps)) ∙ sym (words-append (made ps) us);
+      text = flat-append ps new ∙ ap (λ x. flat ps ++ x) s.text ∙ sym (ap (λ n. take n (flat src) ++ (flat ps ++ spliced at (drop n (flat src)) es)) z);
+      words = words_joined ps new ∙ ap (λ x. piece_words ps ++ x) s.words ∙ ap (λ x. x ++ words us) (sym (words_placed 0 ps)) ∙ sym (words-append (made ps) us);
       ordered = edit_and (omega arith) (omega arith) s.ordered;
     }
 
-nothing_edited : (at : ℕ) (src : List Piece) (ts : List Tok) → piece_words src ≡ words ts → Spelled at src [] ts
-nothing_edited at src ts e = record { pieces = src; text = refl; words = e; ordered = no_edit (omega arith) }
+pub nothing_edited : (at : ℕ) (src : List Piece) (ts : List Tok) → piece_words src ≡ words ts → Pieced at src src [] ts
+nothing_edited at src ts e = record { text = refl; words = e; ordered = no_edit (omega arith) }
 
 -- all of it is replaced
-all_replaced : (at end : ℕ) (src ps : List Piece) → end ≡ at + length (flat src) → Spelled at src (record { from = at; to = end; by = ps } ∷ []) (made ps)
+all_replaced : (at end : ℕ) (src ps : List Piece) → end ≡ at + length (flat src) → Pieced at src ps (record { from = at; to = end; by = ps } ∷ []) (made ps)
 all_replaced at end src ps m =
     let z : at - at ≡ 0 = omega arith in
     let l : end - at ≡ length (flat src) = omega (arith, m) in record {
-      pieces = ps;
       text = sym (ap (λ n. take n (flat src) ++ (flat ps ++ drop (end - at) (flat src))) z ∙ ap (λ n. flat ps ++ drop n (flat src)) l
           ∙ ap (λ x. flat ps ++ x) (ap (λ x. drop (length (flat src)) x) (sym (append-nil (flat src))) ∙ drop_seam (flat src) []) ∙ append-nil (flat ps));
       words = sym (words_placed 0 ps);
       ordered = edit_and (omega arith) (omega (arith, m)) (no_edit (omega (arith, m)));
     }
 
-instead_of : (at : ℕ) (src : List Piece) (ts : List Tok) (ps : List Piece) → ts ≢ [] → places at src ≡ ts → Spelled at src (replaced (span_of ts) ps ∷ []) (made ps)
-instead_of at src [] ps n e = absurd (n refl)
-instead_of at src (t ∷ ts) ps n e =
-    let l = lead at src t ts e in
-    let r = trail t.span.start l.rest (t ∷ ts) l.placed n in
-    let a : Spelled t.span.start r.front (replaced (span_of (t ∷ ts)) ps ∷ []) (made ps) = all_replaced t.span.start (span_of (t ∷ ts)).end r.front ps r.end in
-    let b : Spelled t.span.start (r.front ++ r.gap) ((replaced (span_of (t ∷ ts)) ps ∷ []) ++ []) (made ps ++ []) =
-    two_parts t.span.start (span_of (t ∷ ts)).end r.front r.gap (replaced (span_of (t ∷ ts)) ps ∷ []) [] (made ps) [] r.end a (nothing_edited (span_of (t ∷ ts)).end r.gap [] r.bare) in
-    let c = after_gap at t.span.start l.gap (r.front ++ r.gap) (replaced (span_of (t ∷ ts)) ps ∷ []) (made ps ++ []) l.bare l.start b in
-    subst (λ x. Spelled at x (replaced (span_of (t ∷ ts)) ps ∷ []) (made ps)) (sym (l.is ∙ ap (λ x. l.gap ++ x) r.is)) (subst (λ x. Spelled at (l.gap ++ (r.front ++ r.gap)) (replaced (span_of (t ∷ ts)) ps ∷ []) x) (append-nil (made ps)) c)
+past_is : (at : ℕ) (ps : List Piece) → past at ps ≡ at + length (flat ps)
+past_is at [] = omega arith
+past_is at (p ∷ ps) = let h = past_is (at + length (bytes_of p)) ps in omega (arith, h, length-append (bytes_of p) (flat ps))
 
-pub spells : {es : List Edit} {ts us : List Tok} → Edited es ts us → (at : ℕ) (src : List Piece) → places at src ≡ ts → Spelled at src es us
-spells (kept ts) at src e = nothing_edited at src ts (sym (words_placed at src) ∙ ap words e)
-spells (instead ts ps n b) at src e = instead_of at src ts ps n e
-spells (before {es = es} {ts = ts} {us = us} t ps b d) at src e =
-    let l = lead at src t ts e in
-    let s = put_first t.span.start l.rest ps es us (spells d t.span.start l.rest l.placed) in
-    subst (λ x. Spelled at x (put t.span.start ps ∷ es) (made ps ++ us)) (sym l.is) (after_gap at t.span.start l.gap l.rest (put t.span.start ps ∷ es) (made ps ++ us) l.bare l.start s)
-spells (between {es = es} {ts = ts} {us = us} t u ps d) at src e =
-    let k = split at src (t ∷ []) (u ∷ ts) e in
-    let mid = at + length (flat k.front) in
-    let l = lead mid k.back u ts k.second in
-    let s = put_first u.span.start l.rest ps es us (spells d u.span.start l.rest l.placed) in
-    let r = subst (λ x. Spelled mid x (put u.span.start ps ∷ es) (made ps ++ us)) (sym l.is) (after_gap mid u.span.start l.gap l.rest (put u.span.start ps ∷ es) (made ps ++ us) l.bare l.start s) in
-    subst (λ x. Spelled at x (put u.span.start ps ∷ es) (t ∷ (made ps ++ us))) (sym k.is)
-    (two_parts at mid k.front k.back [] (put u.span.start ps ∷ es) (t ∷ []) (made ps ++ us) refl (nothing_edited at k.front (t ∷ []) (sym (words_placed at k.front) ∙ ap words k.first)) r)
-spells (behind {es = es} {ts = ts} {us = us} ps n d) at src e =
-    let r = trail at src ts e n in
-    let end = (span_of ts).end in
-    let s = spells d at r.front r.placed in
-    let g : Spelled end r.gap (put end ps ∷ []) (made ps ++ []) = put_first end r.gap ps [] [] (nothing_edited end r.gap [] r.bare) in
-    let c = two_parts at end r.front r.gap es (put end ps ∷ []) us (made ps ++ []) r.end s g in
-    subst (λ x. Spelled at x (es ++ put end ps ∷ []) (us ++ made ps)) (sym r.is) (subst (λ x. Spelled at (r.front ++ r.gap) (es ++ put end ps ∷ []) (us ++ x)) (append-nil (made ps)) c)
-spells (joined {es = es} {fs = fs} {ts = ts} {us = us} {vs = vs} {ws = ws} d f) at src e =
-    let p = split at src ts vs e in
-    let s = spells d at p.front p.first in
-    let r = spells f (at + length (flat p.front)) p.back p.second in
-    subst (λ x. Spelled at x (es ++ fs) (us ++ ws)) (sym p.is) (two_parts at (at + length (flat p.front)) p.front p.back es fs us ws refl s r)
+gap_places : (at : ℕ) (g ps : List Piece) → ((k : ℕ) → places k g ≡ []) → places at (g ++ ps) ≡ places (at + length (flat g)) ps
+gap_places at g ps b = places-append at g ps ∙ ap (λ x. x ++ places (past at g) ps) (b at) ∙ ap (λ n. places n ps) (past_is at g)
+
+pub places_then : (at : ℕ) (ps g : List Piece) → ((k : ℕ) → places k g ≡ []) → places at (ps ++ g) ≡ places at ps
+places_then at ps g b = places-append at ps g ∙ ap (λ x. places at ps ++ x) (b (past at ps)) ∙ append-nil (places at ps)
+
+module _ (all : List Tok) where
+  -- of the same text and edits
+  such : {at : ℕ} {src more : List Piece} {es : List Edit} {us ws : List Tok} → src ≡ more → us ≡ ws → Spelled all at src es us → Spelled all at more es ws
+  such {at} {src} {more} {es} {us} {ws} e f s = subst (λ x. Spelled all at x es ws) e (subst (λ x. Spelled all at src es x) f s)
+
+  gap_in_front : (at mid : ℕ) (g src : List Piece) (es : List Edit) (us : List Tok) → piece_words g ≡ [] → places at g ≡ [] → mid ≡ at + length (flat g) → Spelled all mid src es us → Spelled all at (g ++ src) es us
+  gap_in_front at mid g src es us b e m s = record {
+    pieces = g ++ s.pieces;
+    pieced = after_gap at mid g src s.pieces es us b m s.pieced;
+    seamed = two_seams all at mid g src g s.pieces m (subst (EachSeen all) (sym e) tt) (kept_seam all at g) s.seamed;
+  }
+
+  parts : (at mid : ℕ) (src more : List Piece) (es fs : List Edit) (ts us ws : List Tok) → mid ≡ at + length (flat src) → places at src ≡ ts → EachSeen all ts → Spelled all at src es us → Spelled all mid more fs ws
+      → Spelled all at (src ++ more) (es ++ fs) (us ++ ws)
+  parts at mid src more es fs ts us ws m e y s r = record {
+    pieces = s.pieces ++ r.pieces;
+    pieced = two_parts at mid src more s.pieces r.pieces es fs us ws m s.pieced r.pieced;
+    seamed = two_seams all at mid src more s.pieces r.pieces m (subst (EachSeen all) (sym e) y) s.seamed r.seamed;
+  }
+
+  kept_part : (at : ℕ) (src : List Piece) (ts : List Tok) → piece_words src ≡ words ts → Spelled all at src [] ts
+  kept_part at src ts e = record { pieces = src; pieced = nothing_edited at src ts e; seamed = kept_seam all at src }
+
+  instead_of : (at : ℕ) (src : List Piece) (t : Tok) (ts : List Tok) (ps : List Piece) → InPlace (t ∷ ts) ps → (starred ps ≡ true → after_slash all t.span.start ≡ false) → EachSeen all (t ∷ ts) → places at src ≡ t ∷ ts
+      → Spelled all at src (replaced (span_of (t ∷ ts)) ps ∷ []) (made ps)
+  instead_of at src t ts ps i n y e =
+      let l = lead at src t ts e in
+      let r = trail t.span.start l.rest (t ∷ ts) l.placed (λ z. absurd (cc)) in
+      let w = r.word_first t.class t.text l.word_first.0 l.word_first.1 in
+      let a : Spelled all t.span.start r.front (replaced (span_of (t ∷ ts)) ps ∷ []) (made ps) = record {
+        pieces = ps;
+        pieced = all_replaced t.span.start (span_of (t ∷ ts)).end r.front ps r.end;
+        seamed = replaced_seam all t ts ps r.front i n r.placed w.0 w.1 r.word_last;
+      } in
+      let b = parts t.span.start (span_of (t ∷ ts)).end r.front r.gap (replaced (span_of (t ∷ ts)) ps ∷ []) [] (t ∷ ts) (made ps) [] r.end r.placed y a (kept_part (span_of (t ∷ ts)).end r.gap [] r.bare) in
+      let c = gap_in_front at t.span.start l.gap (r.front ++ r.gap) (replaced (span_of (t ∷ ts)) ps ∷ []) (made ps ++ []) l.bare (bare_places l.gap l.bare at) l.start b in
+      such (sym (l.is ∙ ap (λ x. l.gap ++ x) r.is)) (append-nil (made ps)) c
+
+  pub spells : {es : List Edit} {ts us : List Tok} → Edited es ts us → Unslashed all es → EachSeen all ts → (at : ℕ) (src : List Piece) → places at src ≡ ts → Spelled all at src es us
+  spells (kept ts) u y at src e = kept_part at src ts (sym (words_placed at src) ∙ ap words e)
+  spells (instead [] ps n b i) u y at src e = absurd (n refl)
+  spells (instead (t ∷ ts) ps n b i) u y at src e = instead_of at src t ts ps i u.0 y e
+  spells (next ts z ps n c) u y at src e =
+      let k = split at src ts (z ∷ []) e in
+      let r = trail at k.front ts k.first n in
+      let end = (span_of ts).end in
+      let more = r.gap ++ k.back in
+      let m : at + length (flat k.front) ≡ end + length (flat r.gap) = omega (arith, r.end, ap (λ x. length (flat x)) r.is, ap length (flat-append r.front r.gap), length-append (flat r.front) (flat r.gap)) in
+      let g : places end more ≡ z ∷ [] = gap_places end r.gap k.back (bare_places r.gap r.bare) ∙ ap (λ n. places n k.back) (sym m) ∙ k.second in
+      let s : Spelled all at (r.front ++ more) (put end ps ∷ []) (ts ++ (made ps ++ z ∷ [])) = record {
+        pieces = r.front ++ (ps ++ more);
+        pieced = two_parts at end r.front more r.front (ps ++ more) [] (put end ps ∷ []) ts (made ps ++ z ∷ []) r.end (nothing_edited at r.front ts (sym (words_placed at r.front) ∙ ap words r.placed))
+            (put_first end more more ps [] (z ∷ []) (nothing_edited end more (z ∷ []) (sym (words_placed end more) ∙ ap words g)));
+        seamed = next_seam all at end ts z ps r.front more n c r.word_last g;
+      } in
+      such (sym (append_assoc r.front r.gap k.back) ∙ ap (λ x. x ++ k.back) (sym r.is) ∙ sym k.is) refl s
+  spells (between {es = es} {ts = ts} {us = us} t u ps o d) q y at src e =
+      let k = split at src (t ∷ []) (u ∷ ts) e in
+      let mid = at + length (flat k.front) in
+      let l = lead mid k.back u ts k.second in
+      let s = spells d q.1 y.1 u.span.start l.rest l.placed in
+      let front = k.front ++ l.gap in
+      let m : u.span.start ≡ at + length (flat front) = omega (arith, l.start, ap length (flat-append k.front l.gap), length-append (flat k.front) (flat l.gap)) in
+      let g : places at front ≡ t ∷ [] = places_then at k.front l.gap (bare_places l.gap l.bare) ∙ k.first in
+      let a : Spelled all at (front ++ l.rest) (put u.span.start ps ∷ es) (t ∷ (made ps ++ us)) = record {
+        pieces = front ++ (ps ++ s.pieces);
+        pieced = two_parts at u.span.start front l.rest front (ps ++ s.pieces) [] (put u.span.start ps ∷ es) (t ∷ []) (made ps ++ us) m (nothing_edited at front (t ∷ []) (sym (words_placed at front) ∙ ap words g))
+            (put_first u.span.start l.rest s.pieces ps es us s.pieced);
+        seamed = between_seam all at t u ps front l.rest s.pieces l.word_first.0 o g m l.word_first.1 (y.0, tt) s.seamed;
+      } in
+      such (append_assoc k.front l.gap l.rest ∙ ap (λ x. k.front ++ x) (sym l.is) ∙ sym k.is) refl a
+  spells (behind {es = es} {ts = ts} {us = us} ps n c d) u y at src e =
+      let r = trail at src ts e n in
+      let end = (span_of ts).end in
+      let s = spells d (unslashed_left all es (put end ps ∷ []) u) y at r.front r.placed in
+      let a : Spelled all at (r.front ++ r.gap) (es ++ put end ps ∷ []) (us ++ (made ps ++ [])) = record {
+        pieces = s.pieces ++ (ps ++ r.gap);
+        pieced = two_parts at end r.front r.gap s.pieces (ps ++ r.gap) es (put end ps ∷ []) us (made ps ++ []) r.end s.pieced (put_first end r.gap r.gap ps [] [] (nothing_edited end r.gap [] r.bare));
+        seamed = behind_seam all at ts ps r.front r.gap s.pieces n c r.placed r.word_last s.seamed;
+      } in
+      such (sym r.is) (ap (λ x. us ++ x) (append-nil (made ps))) a
+  spells (joined {es = es} {fs = fs} {ts = ts} {us = us} {vs = vs} {ws = ws} d f) u y at src e =
+      let p = split at src ts vs e in
+      let s = spells d (unslashed_left all es fs u) (seen_left all ts vs y) at p.front p.first in
+      let r = spells f (unslashed_right all es fs u) (seen_right all ts vs y) (at + length (flat p.front)) p.back p.second in
+      such (sym p.is) refl (parts at (at + length (flat p.front)) p.front p.back es fs ts us ws refl p.first (seen_left all ts vs y) s r)

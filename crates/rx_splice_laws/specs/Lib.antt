@@ -6,5 +6,13 @@ pub mod Moving
 pub mod MovedBy
 pub mod SplicedRun
 pub mod PinnedBody
+pub mod RunRead
 pub mod RunEnd
+pub mod RunDone
 pub mod SplicedText
+pub mod RunValue
+pub mod Fronts
+pub mod FrontRead
+pub mod BodyRead
+pub mod ItemRead
+pub mod EndRead

@@ -114,6 +114,8 @@ abbrev pub suffix_edits : List Tok → Span → Option Kind → List Edit
 suffix_edits ts s None = []
 suffix_edits ts s (Some k) = replaced s (word Number (text_at ts s.start ++ kind_name k) ∷ []) ∷ []
 
+-- behind the pattern and the parentheses round it. What is written is a type without a list of lifetimes, so that it doesn't end with `>`,
+-- which would be the mark `>=` with a `=` that follows directly
 abbrev pub type_edits : List Tok → PatternTree → Option TypeTree → List Edit
 type_edits ts p None = []
 type_edits ts p (Some t) = put (with_parentheses ts (pattern_span p).end) (written_type t) ∷ []
