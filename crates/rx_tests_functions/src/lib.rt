@@ -12,4 +12,6 @@ mod lifetimes;
 #[cfg(test)]
 mod modes;
 #[cfg(test)]
+mod plans;
+#[cfg(test)]
 mod sites;

@@ -4,5 +4,5 @@ mod agreement;
 mod graphs;
 mod lowered;
 mod paths;
-mod said;
-mod walks;
+pub mod said;
+pub mod walks;

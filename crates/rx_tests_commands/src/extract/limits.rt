@@ -1,17 +1,42 @@
 //! Limits of an extraction, at their borders.
 
 use crate::run::said::{Reply, hold, replied};
+use rx_tests_tables::push_times;
 use std::alloc::{AllocError, Global};
 
-/// What is made of a run in a text: what is in front of it, the run, and what is behind.
-fn made(alloc: Global, front: &str, run: &str, behind: &str) -> Result<Reply, AllocError> {
+/// What is made of a run in a text: what is in front of it, the run, and what is behind; with a word for how variables are passed.
+fn made_so(
+    alloc: Global,
+    front: &str,
+    run: &str,
+    behind: &str,
+    mode: &str,
+) -> Result<Reply, AllocError> {
     let mut text = String::from_str(alloc, front)?;
     let start = text.len();
     text.push_str(run)?;
     let end = text.len();
     text.push_str(behind)?;
-    let words = format!(in alloc; "extract moved {start} {end}")?;
+    let words = format!(in alloc; "extract moved {start} {end} {mode}")?;
     replied(alloc, words.as_str(), text.as_str(), 100000, 100)
+}
+
+fn made(alloc: Global, front: &str, run: &str, behind: &str) -> Result<Reply, AllocError> {
+    made_so(alloc, front, run, behind, "copy")
+}
+
+/// A print of a variable behind so many signs: as many levels, and three more.
+fn negated(alloc: Global, signs: usize, mode: &str) -> Result<Reply, AllocError> {
+    let mut run = String::from_str(alloc, "println!(\"{}\", ")?;
+    push_times(&mut run, "- ", signs)?;
+    run.push_str("x);")?;
+    made_so(
+        alloc,
+        "fn main() { let x = 1i64; ",
+        run.as_str(),
+        " }",
+        mode,
+    )
 }
 
 /// A function that is given 42 structs of three lifetimes each, and so many references, and names each once.
@@ -76,4 +101,18 @@ fn what_is_handed_out_has_at_most_4096_parts(rt: HostRuntime) {
     )
     .map(|reply| reply.is(1, "", "error: Refused Limit Parts 4097\n"));
     hold(&rt, past, "4097");
+}
+
+#[test]
+fn an_answer_has_at_most_128_levels(rt: HostRuntime) {
+    let copied = negated(rt.alloc(), 125, "copy").map(|reply| reply.ends(0));
+    hold(&rt, copied, "125 copy");
+    let within = negated(rt.alloc(), 124, "ref").map(|reply| reply.ends(0));
+    hold(&rt, within, "124 ref");
+    let past = negated(rt.alloc(), 125, "ref").map(|reply| reply.is(
+        1,
+        "",
+        "error: Refused Limit Levels 129\n",
+    ));
+    hold(&rt, past, "125 ref");
 }

@@ -5,14 +5,14 @@ ghost use Rattle.rx_tree.specs.Size.{IsNumbered};
 
 use rx_core::{LetGo, List, Step};
 use rx_lower_emit::{GraphFault, Site, graph};
-use rx_lower_flow::{Act, Action, Place, Root, Temporary};
+use rx_lower_flow::{Act, Action, Made, Place, Root, Temporary};
 use rx_lower_order::flow_of;
 use rx_parse::{parse, parsed_programs_are_numbered};
 use rx_resolve::resolve;
 use rx_tree::Program;
 use rx_typeck::typecheck;
 use rx_typeck_typed::Typed;
-use rx_typed_tree::TypedTree;
+use rx_typed_tree::{Making, TypedTree};
 use std::alloc::{AllocError, Global};
 
 /// The graph of a function: its order of actions as a flow, and the sites of that flow.
@@ -122,6 +122,19 @@ fn push_with(
     push_temporaries(alloc, text, operands)
 }
 
+/// What is made; a tuple of nothing is a mark, since no text has one.
+fn push_built(
+    alloc: Global,
+    text: &mut String,
+    made: Made,
+    operands: &[Temporary],
+) -> Result<(), AllocError> {
+    match made {
+        Made::Of(Making::Tuple) if operands.is_empty() => text.push_str("mark"),
+        _ => push_with(alloc, text, "build", operands),
+    }
+}
+
 /// An action: its word, its place, the temporaries that it uses.
 fn push_act(alloc: Global, text: &mut String, act: &Act) -> Result<(), AllocError> {
     match act {
@@ -134,7 +147,7 @@ fn push_act(alloc: Global, text: &mut String, act: &Act) -> Result<(), AllocErro
         Act::Borrow(true, place, _) => push_with_place(alloc, text, "borrow", place),
         Act::Test(place, _) => push_with_place(alloc, text, "test", place),
         Act::Call(_, operands, _) => push_with(alloc, text, "call", operands.as_slice()),
-        Act::Build(_, _, operands, _) => push_with(alloc, text, "build", operands.as_slice()),
+        Act::Build(made, _, operands, _) => push_built(alloc, text, *made, operands.as_slice()),
         Act::Input(_) => text.push_str("input"),
         Act::Print(operand) => push_with(alloc, text, "print", &[*operand]),
         Act::Give(operand) => push_with(alloc, text, "give", &[*operand]),
