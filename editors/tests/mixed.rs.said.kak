@@ -1,0 +1,2 @@
+A variable may or may not have a value where the selection begins.
+8 10
