@@ -1,0 +1,254 @@
+//! The edits of a run's special places.
+
+ghost use Rattle.std.specs.Prelude.{◌≡◌, ◌++◌, map, option_map, OnOk};
+ghost use Rattle.rx_lex.specs.Tok.{toks};
+ghost use Rattle.rx_splice_laws.specs.Edits.{written};
+ghost use Rattle.rx_splice_laws.specs.Moving as moving;
+
+use crate::decided::Decided;
+use rx_core::{Kind, Name, Span, Text};
+use rx_hoist_changes::{Loops, Names, is_referred};
+use rx_hoist_made::{exit_name, fresh_variable, is_unit, outs_of};
+use rx_hoist_plan::{Exit, NamedPlan, Variable};
+use rx_print_parts::comma;
+use rx_splice_walk::{EditList, Places, after_slash, before_dot, next_start};
+use rx_tree::{Ident, Pattern, TypeText};
+use std::alloc::{AllocError, Global};
+
+/// The edits of a run in the new function.
+#[derive(Clone, Copy)]
+pub(crate) struct Moving<'p> {
+    pub decided: Decided<'p>,
+}
+
+/// Adds `Exit_NAME::V`.
+pub(crate) fn push_variant(
+    alloc: Global,
+    out: &mut Text,
+    plan: &NamedPlan,
+    exit: Exit,
+) -> Result<(), AllocError> {
+    let variant = exit_name(alloc, exit)?;
+    out.push("Exit_")?;
+    out.push(plan.name.as_str())?;
+    out.push("::")?;
+    out.push(variant.as_str())
+}
+
+/// Adds a name, behind a comma where it follows another.
+fn push_next(out: &mut Text, follows: bool, name: &Name) -> Result<(), AllocError> {
+    out.push(comma(follows))?;
+    out.push(name.as_str())
+}
+
+/// Adds the names of variables in parentheses, where there are some.
+fn push_values(out: &mut Text, variables: &[Variable]) -> Result<(), AllocError> {
+    if variables.is_empty() {
+        return Ok(());
+    }
+    out.push("(")?;
+    let mut follows = false;
+    for variable in variables {
+        push_next(out, follows, &variable.name)?;
+        follows = true;
+    }
+    out.push(")")
+}
+
+/// `return Exit_NAME::V(outs)`
+fn jump(alloc: Global, plan: &NamedPlan, exit: Exit, outs: &[Variable]) -> Result<Text, AllocError> {
+    let mut text = Text::new(alloc, "return ")?;
+    push_variant(alloc, &mut text, plan, exit)?;
+    push_values(&mut text, outs)?;
+    Ok(text)
+}
+
+/// `*x`
+fn star(alloc: Global, name: &Name) -> Result<Text, AllocError> {
+    let mut text = Text::new(alloc, "*")?;
+    text.push(name.as_str())?;
+    Ok(text)
+}
+
+/// `(*x)`
+fn enclosed_star(alloc: Global, name: &Name) -> Result<Text, AllocError> {
+    let mut text = Text::new(alloc, "(*")?;
+    text.push(name.as_str())?;
+    text.push(")")?;
+    Ok(text)
+}
+
+/// `x: *x`
+fn long_field(alloc: Global, name: &Name) -> Result<Text, AllocError> {
+    let mut text = name.copy(alloc)?;
+    text.push(": *")?;
+    text.push(name.as_str())?;
+    Ok(text)
+}
+
+impl<'p> Moving<'p> {
+    /// A variable behind a reference.
+    fn starred(
+        &self,
+        alloc: Global,
+        short: bool,
+        span: Span,
+        name: &Name,
+    ) -> Result<Text, AllocError> {
+        let tokens = self.decided.tokens;
+        if short {
+            long_field(alloc, name)
+        } else if before_dot(tokens, span.start) || after_slash(tokens, span.start) {
+            enclosed_star(alloc, name)
+        } else {
+            star(alloc, name)
+        }
+    }
+
+    /// In place of a jump that leaves the run.
+    fn push_jump(
+        &self,
+        alloc: Global,
+        out: &mut EditList,
+        span: Span,
+        exit: Exit,
+    ) -> Result<(), AllocError> {
+        let outs = outs_of(exit, self.decided.plan.exits.as_slice());
+        out.replace(span, jump(alloc, self.decided.plan, exit, outs)?)
+    }
+
+    /// Adds what stands in front of the operand of a `return`: `Exit_NAME::Return(`, or `{ let out_0: () = `.
+    fn push_opening(&self, alloc: Global, text: &mut Text) -> Result<(), AllocError> {
+        if is_unit(&self.decided.plan.result) {
+            let name = fresh_variable(alloc, self.decided.plan)?;
+            text.push("{ let ")?;
+            text.push(name.as_str())?;
+            text.push(": () = ")
+        } else {
+            push_variant(alloc, text, self.decided.plan, Exit::Return)?;
+            text.push("(")
+        }
+    }
+
+    /// Adds what stands behind it: `)`, or `; Exit_NAME::Return }`.
+    fn push_closing(&self, alloc: Global, text: &mut Text) -> Result<(), AllocError> {
+        if is_unit(&self.decided.plan.result) {
+            text.push("; ")?;
+            push_variant(alloc, text, self.decided.plan, Exit::Return)?;
+            text.push(" }")
+        } else {
+            text.push(")")
+        }
+    }
+
+    /// What stands in front of the operand of a `return`, with a space where `return` stands directly in front of it.
+    fn opening(&self, alloc: Global, span: Span, at: u64) -> Result<Text, AllocError> {
+        let mut text = Text::new(alloc, if at >= span.start && at - span.start == 6 { " " } else { "" })?;
+        self.push_opening(alloc, &mut text)?;
+        Ok(text)
+    }
+
+    /// What stands behind the operand of a `return`.
+    fn closing(&self, alloc: Global) -> Result<Text, AllocError> {
+        let mut text = Text::empty(alloc);
+        self.push_closing(alloc, &mut text)?;
+        Ok(text)
+    }
+}
+
+impl<'p> Places for Moving<'p> {
+    ghost use Rattle.rx_splice_edits.specs.Deciding.{moving_of, tokens_of, run_at, opened_at, closed_at};
+
+    ghost edits = { λ m. run_at m.decided };
+
+    ghost before = { λ m s. opened_at (moving_of m.decided) (tokens_of m.decided) s };
+
+    ghost behind = { λ m s. closed_at (moving_of m.decided) s };
+
+    fn number(
+        &self,
+        alloc: Global,
+        out: &mut EditList,
+        span: Span,
+        suffix: Option<Kind>,
+    ) -> Result<(), AllocError> {
+        self.decided.push_suffix(alloc, out, span, suffix)
+    }
+
+    fn variable(
+        &self,
+        alloc: Global,
+        out: &mut EditList,
+        own: &Names<'_>,
+        short: bool,
+        span: Span,
+        name: &Name,
+    ) -> Result<(), AllocError> {
+        if !own.has(name) && is_referred(name, self.decided.plan.params.as_slice()) {
+            out.replace(span, self.starred(alloc, short, span, name)?)
+        } else {
+            Ok(())
+        }
+    }
+
+    fn break_at(
+        &self,
+        alloc: Global,
+        out: &mut EditList,
+        around: &Loops<'_>,
+        span: Span,
+        label: &Option<Ident>,
+    ) -> Result<(), AllocError> {
+        match around.left_by(label) {
+            Some(number) => self.push_jump(alloc, out, span, Exit::Break(number)),
+            None => Ok(()),
+        }
+    }
+
+    fn continue_at(
+        &self,
+        alloc: Global,
+        out: &mut EditList,
+        around: &Loops<'_>,
+        span: Span,
+        label: &Option<Ident>,
+    ) -> Result<(), AllocError> {
+        match around.left_by(label) {
+            Some(number) => self.push_jump(alloc, out, span, Exit::Continue(number)),
+            None => Ok(()),
+        }
+    }
+
+    fn return_at(&self, alloc: Global, out: &mut EditList, span: Span) -> Result<(), AllocError> {
+        out.replace(span, jump(alloc, self.decided.plan, Exit::Return, &[])?)
+    }
+
+    fn before_operand(
+        &self,
+        alloc: Global,
+        out: &mut EditList,
+        span: Span,
+    ) -> Result<(), AllocError> {
+        let at = next_start(self.decided.tokens, span.start);
+        out.put(at, self.opening(alloc, span, at)?)
+    }
+
+    fn behind_operand(
+        &self,
+        alloc: Global,
+        out: &mut EditList,
+        span: Span,
+    ) -> Result<(), AllocError> {
+        out.put(span.end, self.closing(alloc)?)
+    }
+
+    fn let_type(
+        &self,
+        alloc: Global,
+        out: &mut EditList,
+        pattern: &Pattern,
+        typ: &Option<TypeText>,
+    ) -> Result<(), AllocError> {
+        self.decided.push_type(alloc, out, pattern, typ)
+    }
+}

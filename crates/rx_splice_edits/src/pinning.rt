@@ -1,0 +1,184 @@
+//! The edits that write out the kinds of literals and the types of `let`s.
+
+ghost use Rattle.std.specs.Prelude.{◌≡◌, ◌++◌, map, option_map, OnOk};
+ghost use Rattle.rx_tree.specs.PlainOf.{plain-Pattern, plain-Program, plain-TypeText};
+ghost use Rattle.rx_lex.specs.Tok.{toks};
+ghost use Rattle.rx_splice_laws.specs.Edits.{written};
+ghost use Rattle.rx_splice_laws.specs.Moving as moving;
+
+use crate::decided::Decided;
+use rx_core::{Kind, LetGo, Name, Span, Text, Ty};
+use rx_hoist_changes::{Loops, Names, kind_at, suffix_of, type_at};
+use rx_hoist_made::elided;
+use rx_print_parts::{kind_text, push_annotation};
+use rx_splice_walk::{EditList, Places, text_at, with_parentheses};
+use rx_tree::{Ident, Pattern, TypeText};
+use std::alloc::{AllocError, Global};
+
+/// The edits of pinned kinds and types alone.
+#[derive(Clone, Copy)]
+pub(crate) struct Pinning<'p> {
+    pub decided: Decided<'p>,
+}
+
+/// A number with a suffix.
+fn suffixed(alloc: Global, number: &str, kind: Kind) -> Result<Text, AllocError> {
+    let mut text = Text::new(alloc, number)?;
+    text.push(kind_text(kind))?;
+    Ok(text)
+}
+
+impl<'p> Decided<'p> {
+    /// The suffix that a literal at this place gets.
+    fn kind(&self, span: Span) -> Option<Kind> {
+        match &self.plan.pins {
+            Some(pins) => suffix_of(kind_at(pins.kinds.as_slice(), span)),
+            None => None,
+        }
+    }
+
+    /// The type that the `let` of a pattern at this place gets.
+    fn ty(&self, span: Span) -> Option<&'p Ty> {
+        match &self.plan.pins {
+            Some(pins) => type_at(pins.types.as_slice(), span),
+            None => None,
+        }
+    }
+
+    /// A type as it stands behind a pattern.
+    fn annotation(&self, alloc: Global, ty: &Ty) -> Result<Text, AllocError> {
+        let typ = Some(elided(alloc, self.program, self.run, ty)?);
+        let mut text = Text::empty(alloc);
+        let outcome = push_annotation(&mut text, &typ);
+        typ.let_go();
+        outcome?;
+        Ok(text)
+    }
+
+    /// Directly behind a number, where it has no suffix and gets one.
+    pub(crate) fn push_suffix(
+        &self,
+        alloc: Global,
+        out: &mut EditList,
+        span: Span,
+        suffix: Option<Kind>,
+    ) -> Result<(), AllocError> {
+        if suffix.is_some() {
+            return Ok(());
+        }
+        match self.kind(span) {
+            Some(kind) => {
+                let number = text_at(self.tokens, span.start);
+                out.replace(span, suffixed(alloc, number, kind)?)
+            }
+            None => Ok(()),
+        }
+    }
+
+    /// Behind the pattern of a `let`, where it has no type and gets one.
+    pub(crate) fn push_type(
+        &self,
+        alloc: Global,
+        out: &mut EditList,
+        pattern: &Pattern,
+        typ: &Option<TypeText>,
+    ) -> Result<(), AllocError> {
+        if typ.is_some() {
+            return Ok(());
+        }
+        match self.ty(pattern.span) {
+            Some(ty) => {
+                let at = with_parentheses(self.tokens, pattern.span.end);
+                out.put(at, self.annotation(alloc, ty)?)
+            }
+            None => Ok(()),
+        }
+    }
+}
+
+impl<'p> Places for Pinning<'p> {
+    ghost use Rattle.std.specs.Prelude.{[]};
+    ghost use Rattle.rx_splice_edits.specs.Deciding.{pins_at};
+
+    ghost edits = { λ p. pins_at p.decided };
+
+    ghost before = { λ _ _. [] };
+
+    ghost behind = { λ _ _. [] };
+
+    fn number(
+        &self,
+        alloc: Global,
+        out: &mut EditList,
+        span: Span,
+        suffix: Option<Kind>,
+    ) -> Result<(), AllocError> {
+        self.decided.push_suffix(alloc, out, span, suffix)
+    }
+
+    fn variable(
+        &self,
+        _alloc: Global,
+        _out: &mut EditList,
+        _own: &Names<'_>,
+        _short: bool,
+        _span: Span,
+        _name: &Name,
+    ) -> Result<(), AllocError> {
+        Ok(())
+    }
+
+    fn break_at(
+        &self,
+        _alloc: Global,
+        _out: &mut EditList,
+        _around: &Loops<'_>,
+        _span: Span,
+        _label: &Option<Ident>,
+    ) -> Result<(), AllocError> {
+        Ok(())
+    }
+
+    fn continue_at(
+        &self,
+        _alloc: Global,
+        _out: &mut EditList,
+        _around: &Loops<'_>,
+        _span: Span,
+        _label: &Option<Ident>,
+    ) -> Result<(), AllocError> {
+        Ok(())
+    }
+
+    fn return_at(&self, _alloc: Global, _out: &mut EditList, _span: Span) -> Result<(), AllocError> {
+        Ok(())
+    }
+
+    fn before_operand(
+        &self,
+        _alloc: Global,
+        _out: &mut EditList,
+        _span: Span,
+    ) -> Result<(), AllocError> {
+        Ok(())
+    }
+
+    fn behind_operand(
+        &self,
+        _alloc: Global,
+        _out: &mut EditList,
+        _span: Span,
+    ) -> Result<(), AllocError> {
+        Ok(())
+    }
+
+    fn let_type(
+        &self,
+        alloc: Global,
+        out: &mut EditList,
+        pattern: &Pattern,
+        typ: &Option<TypeText>,
+    ) -> Result<(), AllocError> {
+        self.decided.push_type(alloc, out, pattern, typ)
+    }
+}
