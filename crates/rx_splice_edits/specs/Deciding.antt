@@ -1,9 +1,12 @@
 -- What the code keeps of a run, as what is decided of it before its text is made; and what stands round the operand of a `return`.
-use Rattle.std.specs.Prelude.{ℕ, suc, ◌==◌, List, [], ◌∷◌}
+use Rattle.std.specs.Prelude.{ℕ, suc, ◌==◌, List, [], ◌∷◌, Option, Some, None}
 use Rattle.rx_core.specs.declared.types.Span.{Span}
 use Rattle.rx_tree.specs.PlainOf.{plain-Program}
 use Rattle.rx_lex.specs.Tok.{Tok, toks}
+use Rattle.rx_typed.specs.Types.{Typ}
 use Rattle.rx_hoist_plan.specs.PlainPlan.{plain-Plan}
+use Rattle.rx_hoist_extraction.specs.Plan.{Pins}
+use Rattle.rx_hoist_extraction.specs.Pinned.{at_place}
 use Rattle.rx_splice_laws.specs.Edits.{Edit, put}
 use Rattle.rx_splice_laws.specs.EditsOf.{EditsAt}
 use Rattle.rx_splice_laws.specs.Places.{next_start}
@@ -16,6 +19,11 @@ moving_of d = moved_by (plain-Program d.program.now) (plain-Plan d.plan.now) d.r
 
 abbrev pub tokens_of : Decided → List Tok
 tokens_of d = toks d.tokens.now
+
+-- the type that the pattern at a place gets
+abbrev pub typ_at : Option Pins → Span → Option Typ
+typ_at None s = None
+typ_at (Some pins) s = at_place pins.types s
 
 abbrev pub pins_at : Decided → EditsAt
 pins_at d = pin_edits (moving_of d) (tokens_of d)

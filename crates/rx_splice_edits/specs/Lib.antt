@@ -1,1 +1,7 @@
+pub mod Jumping
 pub mod Deciding
+pub mod Ending
+pub mod RunEdits
+pub mod Placing
+pub mod Lines
+pub mod Calls

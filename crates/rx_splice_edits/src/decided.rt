@@ -1,5 +1,9 @@
 //! A run with its plan, in the program of a text.
 
+ghost use Rattle.std.specs.Prelude.{◌≡◌, true};
+ghost use Rattle.rx_lex.specs.Tok.{toks};
+ghost use Rattle.rx_splice_walk.specs.InOrder.{in_order};
+
 use rx_core::Span;
 use rx_hoist_plan::NamedPlan;
 use rx_lex::Token;
@@ -12,4 +16,5 @@ pub(crate) struct Decided<'p> {
     pub tokens: &'p [Token<'p>],
     pub plan: &'p NamedPlan,
     pub run: Span,
+    ghost ordered: { in_order 0 (toks tokens.now) ≡ true },
 }

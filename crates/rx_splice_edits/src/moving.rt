@@ -1,9 +1,15 @@
 //! The edits of a run's special places.
 
-ghost use Rattle.std.specs.Prelude.{◌≡◌, ◌++◌, map, option_map, OnOk};
-ghost use Rattle.rx_lex.specs.Tok.{toks};
-ghost use Rattle.rx_splice_laws.specs.Edits.{written};
-ghost use Rattle.rx_splice_laws.specs.Moving as moving;
+ghost use Rattle.std.specs.Prelude.{◌≡◌, ◌++◌, ◌∷◌, [], ◌==◌, suc, codes, map, IfOk, OnOk};
+ghost use Rattle.rx_print_spelling.specs.Pieces.{flat};
+ghost use Rattle.rx_print_parts.specs.Parts.{next_of};
+ghost use Rattle.rx_hoist_plan.specs.PlainPlan.{plain-Exit, plain-Plan, plain-Variable};
+ghost use Rattle.rx_hoist_extraction.specs.Plan as planned;
+ghost use Rattle.rx_splice_laws.specs.Edits.{replaced, written};
+ghost use Rattle.rx_splice_laws.specs.Moving as spliced;
+ghost use Rattle.rx_splice_laws.specs.MovedBy.{jump_to};
+ghost use Rattle.rx_splice_edits.specs.Jumping.{one_name, values_pieces, jump_pieces};
+ghost use Rattle.rx_splice_edits.specs.Deciding.{moving_of, tokens_of};
 
 use crate::decided::Decided;
 use rx_core::{Kind, Name, Span, Text};
@@ -22,12 +28,15 @@ pub(crate) struct Moving<'p> {
 }
 
 /// Adds `Exit_NAME::V`.
+#[tactic(auto, using(rx_print_parts::proofs::Rules::text_rules))]
 pub(crate) fn push_variant(
     alloc: Global,
     out: &mut Text,
     plan: &NamedPlan,
     exit: Exit,
-) -> Result<(), AllocError> {
+) -> Result<(), AllocError>
+    ensures { OnOk result (out.new ≡ out.old ++ (planned.enum_name (plain-Plan plan.now) ++ (codes "::" ++ planned.exit_name (plain-Exit exit)))) }
+{
     let variant = exit_name(alloc, exit)?;
     out.push("Exit_")?;
     out.push(plan.name.as_str())?;
@@ -36,13 +45,18 @@ pub(crate) fn push_variant(
 }
 
 /// Adds a name, behind a comma where it follows another.
-fn push_next(out: &mut Text, follows: bool, name: &Name) -> Result<(), AllocError> {
+#[tactic(auto, using(rx_print_parts::proofs::Rules::text_rules))]
+fn push_next(out: &mut Text, follows: bool, name: &Name) -> Result<(), AllocError>
+    ensures { OnOk result (out.new ≡ out.old ++ flat (next_of follows (one_name name.now))) }
+{
     out.push(comma(follows))?;
     out.push(name.as_str())
 }
 
 /// Adds the names of variables in parentheses, where there are some.
-fn push_values(out: &mut Text, variables: &[Variable]) -> Result<(), AllocError> {
+fn push_values(out: &mut Text, variables: &[Variable]) -> Result<(), AllocError>
+    ensures { OnOk result (out.new ≡ out.old ++ flat (values_pieces (planned.names_of (map plain-Variable variables.now)))) }
+{
     if variables.is_empty() {
         return Ok(());
     }
@@ -56,7 +70,10 @@ fn push_values(out: &mut Text, variables: &[Variable]) -> Result<(), AllocError>
 }
 
 /// `return Exit_NAME::V(outs)`
-fn jump(alloc: Global, plan: &NamedPlan, exit: Exit, outs: &[Variable]) -> Result<Text, AllocError> {
+#[tactic(auto, using(rx_print_parts::proofs::Rules::text_rules))]
+fn jump(alloc: Global, plan: &NamedPlan, exit: Exit, outs: &[Variable]) -> Result<Text, AllocError>
+    ensures { IfOk result (λ t. t ≡ flat (jump_pieces (planned.enum_name (plain-Plan plan.now)) (planned.exit_name (plain-Exit exit)) (planned.names_of (map plain-Variable outs.now)))) }
+{
     let mut text = Text::new(alloc, "return ")?;
     push_variant(alloc, &mut text, plan, exit)?;
     push_values(&mut text, outs)?;
@@ -64,14 +81,18 @@ fn jump(alloc: Global, plan: &NamedPlan, exit: Exit, outs: &[Variable]) -> Resul
 }
 
 /// `*x`
-fn star(alloc: Global, name: &Name) -> Result<Text, AllocError> {
+fn star(alloc: Global, name: &Name) -> Result<Text, AllocError>
+    ensures { IfOk result (λ t. t ≡ flat (spliced.star name.now)) }
+{
     let mut text = Text::new(alloc, "*")?;
     text.push(name.as_str())?;
     Ok(text)
 }
 
 /// `(*x)`
-fn enclosed_star(alloc: Global, name: &Name) -> Result<Text, AllocError> {
+fn enclosed_star(alloc: Global, name: &Name) -> Result<Text, AllocError>
+    ensures { IfOk result (λ t. t ≡ flat (spliced.enclosed_star name.now)) }
+{
     let mut text = Text::new(alloc, "(*")?;
     text.push(name.as_str())?;
     text.push(")")?;
@@ -79,11 +100,27 @@ fn enclosed_star(alloc: Global, name: &Name) -> Result<Text, AllocError> {
 }
 
 /// `x: *x`
-fn long_field(alloc: Global, name: &Name) -> Result<Text, AllocError> {
+fn long_field(alloc: Global, name: &Name) -> Result<Text, AllocError>
+    ensures { IfOk result (λ t. t ≡ flat (spliced.long_field name.now)) }
+{
     let mut text = name.copy(alloc)?;
     text.push(": *")?;
     text.push(name.as_str())?;
     Ok(text)
+}
+
+/// Whether a place is directly behind the word `return` at a span.
+fn follows_directly(span: Span, at: u64) -> bool
+    ensures { result ≡ (at == suc (suc (suc (suc (suc (suc span.start)))))) }
+{
+    at >= span.start && at - span.start == 6
+}
+
+/// A space or nothing.
+fn space_if(wanted: bool) -> &'static str
+    ensures { result.now ≡ flat (spliced.spaced wanted []) }
+{
+    if wanted { " " } else { "" }
 }
 
 impl<'p> Moving<'p> {
@@ -94,7 +131,9 @@ impl<'p> Moving<'p> {
         short: bool,
         span: Span,
         name: &Name,
-    ) -> Result<Text, AllocError> {
+    ) -> Result<Text, AllocError>
+        ensures { IfOk result (λ t. t ≡ flat (spliced.star_at (tokens_of self.now.decided) short span name.now)) }
+    {
         let tokens = self.decided.tokens;
         if short {
             long_field(alloc, name)
@@ -112,13 +151,17 @@ impl<'p> Moving<'p> {
         out: &mut EditList,
         span: Span,
         exit: Exit,
-    ) -> Result<(), AllocError> {
+    ) -> Result<(), AllocError>
+        ensures { OnOk result (out.new ≡ out.old ++ map written (replaced span (spliced.returned (moving_of self.now.decided) (jump_to (plain-Plan self.now.decided.plan.now) (plain-Exit exit))) ∷ [])) }
+    {
         let outs = outs_of(exit, self.decided.plan.exits.as_slice());
         out.replace(span, jump(alloc, self.decided.plan, exit, outs)?)
     }
 
     /// Adds what stands in front of the operand of a `return`: `Exit_NAME::Return(`, or `{ let out_0: () = `.
-    fn push_opening(&self, alloc: Global, text: &mut Text) -> Result<(), AllocError> {
+    fn push_opening(&self, alloc: Global, text: &mut Text) -> Result<(), AllocError>
+        ensures { OnOk result (text.new ≡ text.old ++ flat (spliced.opening (moving_of self.now.decided))) }
+    {
         if is_unit(&self.decided.plan.result) {
             let name = fresh_variable(alloc, self.decided.plan)?;
             text.push("{ let ")?;
@@ -131,7 +174,9 @@ impl<'p> Moving<'p> {
     }
 
     /// Adds what stands behind it: `)`, or `; Exit_NAME::Return }`.
-    fn push_closing(&self, alloc: Global, text: &mut Text) -> Result<(), AllocError> {
+    fn push_closing(&self, alloc: Global, text: &mut Text) -> Result<(), AllocError>
+        ensures { OnOk result (text.new ≡ text.old ++ flat (spliced.closing (moving_of self.now.decided))) }
+    {
         if is_unit(&self.decided.plan.result) {
             text.push("; ")?;
             push_variant(alloc, text, self.decided.plan, Exit::Return)?;
@@ -142,14 +187,18 @@ impl<'p> Moving<'p> {
     }
 
     /// What stands in front of the operand of a `return`, with a space where `return` stands directly in front of it.
-    fn opening(&self, alloc: Global, span: Span, at: u64) -> Result<Text, AllocError> {
-        let mut text = Text::new(alloc, if at >= span.start && at - span.start == 6 { " " } else { "" })?;
+    fn opening(&self, alloc: Global, span: Span, at: u64) -> Result<Text, AllocError>
+        ensures { IfOk result (λ t. t ≡ flat (spliced.spaced (at == suc (suc (suc (suc (suc (suc span.start)))))) (spliced.opening (moving_of self.now.decided)))) }
+    {
+        let mut text = Text::new(alloc, space_if(follows_directly(span, at)))?;
         self.push_opening(alloc, &mut text)?;
         Ok(text)
     }
 
     /// What stands behind the operand of a `return`.
-    fn closing(&self, alloc: Global) -> Result<Text, AllocError> {
+    fn closing(&self, alloc: Global) -> Result<Text, AllocError>
+        ensures { IfOk result (λ t. t ≡ flat (spliced.closing (moving_of self.now.decided))) }
+    {
         let mut text = Text::empty(alloc);
         self.push_closing(alloc, &mut text)?;
         Ok(text)

@@ -1,10 +1,17 @@
 //! The edits that write out the kinds of literals and the types of `let`s.
 
-ghost use Rattle.std.specs.Prelude.{◌≡◌, ◌++◌, map, option_map, OnOk};
+ghost use Rattle.std.specs.Prelude.{◌≡◌, ◌++◌, map, option_map, IfOk, OnOk};
+ghost use Rattle.std.specs.Option.{option_copied};
 ghost use Rattle.rx_tree.specs.PlainOf.{plain-Pattern, plain-Program, plain-TypeText};
-ghost use Rattle.rx_lex.specs.Tok.{toks};
+ghost use Rattle.rx_lex.specs.Numerals.{kind_name};
+ghost use Rattle.rx_typed.specs.PlainTypes.{plain-Ty};
+ghost use Rattle.rx_print_spelling.specs.Pieces.{flat};
+ghost use Rattle.rx_print_spelling.specs.Types.{written_type};
+ghost use Rattle.rx_hoist_plan.specs.PlainPlan.{plain-Plan};
+ghost use Rattle.rx_hoist_extraction.specs.WrittenTypes.{elided as elided_type};
 ghost use Rattle.rx_splice_laws.specs.Edits.{written};
-ghost use Rattle.rx_splice_laws.specs.Moving as moving;
+ghost use Rattle.rx_splice_laws.specs.MovedBy as moved;
+ghost use Rattle.rx_splice_edits.specs.Deciding.{pins_at, typ_at};
 
 use crate::decided::Decided;
 use rx_core::{Kind, LetGo, Name, Span, Text, Ty};
@@ -22,7 +29,9 @@ pub(crate) struct Pinning<'p> {
 }
 
 /// A number with a suffix.
-fn suffixed(alloc: Global, number: &str, kind: Kind) -> Result<Text, AllocError> {
+fn suffixed(alloc: Global, number: &str, kind: Kind) -> Result<Text, AllocError>
+    ensures { IfOk result (λ t. t ≡ number.now ++ kind_name kind) }
+{
     let mut text = Text::new(alloc, number)?;
     text.push(kind_text(kind))?;
     Ok(text)
@@ -30,7 +39,9 @@ fn suffixed(alloc: Global, number: &str, kind: Kind) -> Result<Text, AllocError>
 
 impl<'p> Decided<'p> {
     /// The suffix that a literal at this place gets.
-    fn kind(&self, span: Span) -> Option<Kind> {
+    fn kind(&self, span: Span) -> Option<Kind>
+        ensures { result ≡ moved.kind_at (plain-Plan self.now.plan.now).pins span }
+    {
         match &self.plan.pins {
             Some(pins) => suffix_of(kind_at(pins.kinds.as_slice(), span)),
             None => None,
@@ -38,7 +49,9 @@ impl<'p> Decided<'p> {
     }
 
     /// The type that the `let` of a pattern at this place gets.
-    fn ty(&self, span: Span) -> Option<&'p Ty> {
+    fn ty(&self, span: Span) -> Option<&'p Ty>
+        ensures { option_map plain-Ty (option_copied result) ≡ typ_at (plain-Plan self.now.plan.now).pins span }
+    {
         match &self.plan.pins {
             Some(pins) => type_at(pins.types.as_slice(), span),
             None => None,
@@ -46,7 +59,9 @@ impl<'p> Decided<'p> {
     }
 
     /// A type as it stands behind a pattern.
-    fn annotation(&self, alloc: Global, ty: &Ty) -> Result<Text, AllocError> {
+    fn annotation(&self, alloc: Global, ty: &Ty) -> Result<Text, AllocError>
+        ensures { IfOk result (λ t. t ≡ flat (written_type (elided_type (plain-Program self.now.program.now) self.now.run (plain-Ty ty.now)))) }
+    {
         let typ = Some(elided(alloc, self.program, self.run, ty)?);
         let mut text = Text::empty(alloc);
         let outcome = push_annotation(&mut text, &typ);
@@ -62,7 +77,9 @@ impl<'p> Decided<'p> {
         out: &mut EditList,
         span: Span,
         suffix: Option<Kind>,
-    ) -> Result<(), AllocError> {
+    ) -> Result<(), AllocError>
+        ensures { OnOk result (out.new ≡ out.old ++ map written ((pins_at self.now).at_int span suffix)) }
+    {
         if suffix.is_some() {
             return Ok(());
         }
@@ -82,7 +99,9 @@ impl<'p> Decided<'p> {
         out: &mut EditList,
         pattern: &Pattern,
         typ: &Option<TypeText>,
-    ) -> Result<(), AllocError> {
+    ) -> Result<(), AllocError>
+        ensures { OnOk result (out.new ≡ out.old ++ map written ((pins_at self.now).at_let (plain-Pattern pattern.now) (option_map plain-TypeText typ.now))) }
+    {
         if typ.is_some() {
             return Ok(());
         }

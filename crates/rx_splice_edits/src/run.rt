@@ -2,6 +2,19 @@
 
 use crate::moving::Moving;
 use crate::run_end::RunEnd;
+ghost use Rattle.std.specs.Prelude.{◌≡◌, ◌++◌, List, map, IfOk, OnOk, true};
+ghost use Rattle.rx_tree.specs.PlainOf.{plain-Stmt};
+ghost use Rattle.rx_lex.specs.Tok.{toks};
+ghost use Rattle.rx_print_spelling.specs.Pieces.{Piece};
+ghost use Rattle.rx_hoist_made.specs.PlainParts.{plain-Labels, plain-RunParts};
+ghost use Rattle.rx_splice_laws.specs.Edits.{written};
+ghost use Rattle.rx_splice_laws.specs.RunEnd.{RunEnd as EndOf};
+ghost use Rattle.rx_splice_laws.specs.SplicedText as spliced;
+ghost use Rattle.rx_splice_walk.specs.InOrder.{in_order};
+ghost use Rattle.rx_splice_edits.specs.Deciding.{run_at, tokens_of};
+ghost use Rattle.rx_splice_edits.specs.Ending.{IsEnd, IsPut};
+ghost use Rattle.rx_splice_edits.specs.RunEdits.{edits_by};
+
 use rx_core::{Span, Text};
 use rx_hoist_changes::{Loops, Names};
 use rx_hoist_made::RunParts;
@@ -11,7 +24,10 @@ use rx_tree::{Ident, Stmt};
 use std::alloc::{AllocError, Global};
 
 /// Where the tail of a run begins, with the parentheses round it: the first token behind the statements.
-fn tail_start(tokens: &[Token<'_>], span: Span, stmts: &[Stmt]) -> u64 {
+fn tail_start(tokens: &[Token<'_>], span: Span, stmts: &[Stmt]) -> u64
+    requires { in_order 0 (toks tokens.now) ≡ true }
+    ensures { result ≡ spliced.tail_start (toks tokens.now) span.start (map plain-Stmt stmts.now) }
+{
     let behind = match stmts {
         [.., last] => last.span.end,
         [] => span.start,
@@ -20,11 +36,18 @@ fn tail_start(tokens: &[Token<'_>], span: Span, stmts: &[Stmt]) -> u64 {
 }
 
 /// Adds a text between two bytes, where there is one.
-fn put_if_any(alloc: Global, out: &mut EditList, at: u64, text: &Text) -> Result<(), AllocError> {
-    if text.as_str().is_empty() {
-        return Ok(());
+fn put_if_any(
+    alloc: Global,
+    out: &mut EditList,
+    at: u64,
+    text: &Option<Text>,
+) -> Result<(), AllocError>
+    ensures { (ps : List Piece) → IsPut text.now ps → OnOk result (out.new ≡ out.old ++ map written (spliced.put_if_any at ps)) }
+{
+    match text {
+        Some(text) => out.put(at, text.copy(alloc)?),
+        None => Ok(()),
     }
-    out.put(at, text.copy(alloc)?)
 }
 
 /// All edits of a run, with the labels of the loops round it, the innermost first.
@@ -34,7 +57,9 @@ pub(crate) fn run_edits<'t>(
     labels: &[Option<&'t Ident>],
     run: RunParts<'t>,
     end: &RunEnd,
-) -> Result<EditList, AllocError> {
+) -> Result<EditList, AllocError>
+    ensures { (e : EndOf) → IsEnd end.now e → IfOk result (λ l. l ≡ map written (edits_by (run_at moving.now.decided) (tokens_of moving.now.decided) moving.now.decided.run (plain-Labels labels.now) (plain-RunParts run) e)) }
+{
     let span = moving.decided.run;
     let around = Loops::round(alloc, labels)?;
     let mut own = Names::new(alloc);

@@ -1,7 +1,19 @@
 //! What becomes of the end of a run in the text of the new function.
 
-ghost use Rattle.std.specs.Prelude.{◌≡◌, ◌++◌, IfOk, OnOk};
+ghost use Rattle.std.specs.Prelude.{◌≡◌, ◌++◌, [], ◌∷◌, codes, map, option_map, IfOk, OnOk};
+ghost use Rattle.rx_tree.specs.Plain as plain;
+ghost use Rattle.rx_tree.specs.PlainOf.{plain-Expr, plain-Program, plain-Stmt, optional_of};
+ghost use Rattle.rx_typed.specs.PlainTypes.{plain-Ty};
+ghost use Rattle.rx_print_spelling.specs.Pieces.{flat, keyword, identifier, mark, space};
+ghost use Rattle.rx_print_spelling.specs.Types.{written_type};
+ghost use Rattle.rx_hoist_plan.specs.PlainPlan.{plain-Plan, plain-Variable};
+ghost use Rattle.rx_hoist_extraction.specs.Plan as planned;
+ghost use Rattle.rx_hoist_extraction.specs.Fresh.{fresh_variable as fresh_variable_of};
+ghost use Rattle.rx_hoist_extraction.specs.Made as made;
+ghost use Rattle.rx_hoist_extraction.specs.WrittenTypes.{elided as elided_type};
+ghost use Rattle.rx_hoist_made.specs.PlainParts.{plain-RunParts};
 ghost use Rattle.rx_splice_laws.specs.RunEnd as ends;
+ghost use Rattle.rx_splice_edits.specs.Ending.{IsEnd, followed_by};
 
 use crate::moving::push_variant;
 use rx_core::{Boxed, LetGo, Span, Text, Ty, keep};
@@ -16,9 +28,9 @@ use std::alloc::{AllocError, Global};
 #[derive(Drop)]
 pub(crate) struct RunEnd {
     /// Directly in front of the tail's first token.
-    pub before: Text,
+    pub before: Option<Text>,
     /// Directly behind the run's last token.
-    pub behind: Text,
+    pub behind: Option<Text>,
     pub tail: Option<Boxed<Expr>>,
 }
 
@@ -36,26 +48,32 @@ impl LetGo for RunEnd {
 }
 
 /// It stays as it is.
-fn as_it_is(alloc: Global) -> RunEnd {
+fn as_it_is() -> RunEnd
+    ensures { IsEnd result ends.as_it_is }
+{
     RunEnd {
-        before: Text::empty(alloc),
-        behind: Text::empty(alloc),
+        before: None,
+        behind: None,
         tail: None,
     }
 }
 
 /// A semicolon behind it, with this tail.
-fn closed(alloc: Global, tail: Option<Boxed<Expr>>) -> Result<RunEnd, AllocError> {
+fn closed(alloc: Global, tail: Option<Boxed<Expr>>) -> Result<RunEnd, AllocError>
+    ensures { IfOk result (λ e. IsEnd e (ends.with_semicolon (optional_of (option_map plain-Expr tail)))) }
+{
     let (behind, tail) = keep(tail, Text::new(alloc, ";"))?;
     Ok(RunEnd {
-        before: Text::empty(alloc),
-        behind,
+        before: None,
+        behind: Some(behind),
         tail,
     })
 }
 
 /// Adds the names of variables, each behind a comma.
-fn push_more(out: &mut Text, variables: &[Variable]) -> Result<(), AllocError> {
+fn push_more(out: &mut Text, variables: &[Variable]) -> Result<(), AllocError>
+    ensures { OnOk result (out.new ≡ out.old ++ flat (ends.more_outs (planned.names_of (map plain-Variable variables.now)))) }
+{
     for variable in variables {
         out.push(", ")?;
         out.push(variable.name.as_str())?;
@@ -64,7 +82,9 @@ fn push_more(out: &mut Text, variables: &[Variable]) -> Result<(), AllocError> {
 }
 
 /// `Exit_NAME::Next(e, outs)`
-fn in_variant(alloc: Global, plan: &NamedPlan) -> Result<RunEnd, AllocError> {
+fn in_variant(alloc: Global, plan: &NamedPlan) -> Result<RunEnd, AllocError>
+    ensures { IfOk result (λ e. IsEnd e (ends.in_variant (plain-Plan plan.now))) }
+{
     let mut before = Text::empty(alloc);
     push_variant(alloc, &mut before, plan, Exit::Next)?;
     before.push("(")?;
@@ -72,20 +92,24 @@ fn in_variant(alloc: Global, plan: &NamedPlan) -> Result<RunEnd, AllocError> {
     push_more(&mut behind, outs_of(Exit::Next, plan.exits.as_slice()))?;
     behind.push(")")?;
     Ok(RunEnd {
-        before,
-        behind,
+        before: Some(before),
+        behind: Some(behind),
         tail: None,
     })
 }
 
 /// `let out_0: T = `
+#[tactic(auto, using(rx_print_parts::proofs::Rules::text_rules))]
 fn let_out(
     alloc: Global,
     program: &Program,
     plan: &NamedPlan,
     span: Span,
     ty: &Ty,
-) -> Result<Text, AllocError> {
+) -> Result<Text, AllocError>
+    ensures { IfOk result (λ t. t ≡ flat (keyword (codes "let") ∷ space ∷ identifier (fresh_variable_of (plain-Plan plan.now).identifiers 0)
+        ∷ (written_type (elided_type (plain-Program program.now) span (plain-Ty ty.now)) ++ (space ∷ mark (codes "=") ∷ space ∷ [])))) }
+{
     let name = fresh_variable(alloc, plan)?;
     let mut text = Text::new(alloc, "let ")?;
     text.push(name.as_str())?;
@@ -97,7 +121,21 @@ fn let_out(
     Ok(text)
 }
 
-/// `let out_0: T = e;`, and the tuple of it and these variables.
+/// The tuple of the first fresh variable and these.
+fn tuple_with(
+    alloc: Global,
+    plan: &NamedPlan,
+    span: Span,
+    outs: &[Variable],
+) -> Result<Option<Boxed<Expr>>, AllocError>
+    ensures { IfOk result (λ it. optional_of (option_map plain-Expr it)
+        ≡ made.joined span (plain.var span (fresh_variable_of (plain-Plan plan.now).identifiers 0) ∷ map (plain.var span) (planned.names_of (map plain-Variable outs.now)))) }
+{
+    let name = fresh_variable(alloc, plan)?;
+    tuple_of(alloc, span, &name, outs)
+}
+
+/// `let out_0: T = e;`, and the tuple of it and these variables, where there are some.
 fn in_tuple(
     alloc: Global,
     program: &Program,
@@ -105,14 +143,18 @@ fn in_tuple(
     span: Span,
     ty: &Ty,
     outs: &[Variable],
-) -> Result<RunEnd, AllocError> {
+) -> Result<RunEnd, AllocError>
+    ensures { IfOk result (λ e. IsEnd e (ends.in_tuple (plain-Program program.now) (plain-Plan plan.now) span (plain-Ty ty.now) (planned.names_of (map plain-Variable outs.now)))) }
+{
+    if outs.is_empty() {
+        return Ok(as_it_is());
+    }
     let before = let_out(alloc, program, plan, span, ty)?;
     let behind = Text::new(alloc, ";")?;
-    let name = fresh_variable(alloc, plan)?;
-    let tail = tuple_of(alloc, span, &name, outs)?;
+    let tail = tuple_with(alloc, plan, span, outs)?;
     Ok(RunEnd {
-        before,
-        behind,
+        before: Some(before),
+        behind: Some(behind),
         tail,
     })
 }
@@ -124,19 +166,20 @@ fn with_value(
     plan: &NamedPlan,
     span: Span,
     ty: &Ty,
-) -> Result<RunEnd, AllocError> {
+) -> Result<RunEnd, AllocError>
+    ensures { IfOk result (λ e. IsEnd e (ends.with_value (plain-Program program.now) (plain-Plan plan.now) span (plain-Ty ty.now))) }
+{
     if has_enum(plan.exits.as_slice()) {
         return in_variant(alloc, plan);
     }
     let outs = outs_of(Exit::Next, plan.exits.as_slice());
-    if outs.is_empty() {
-        return Ok(as_it_is(alloc));
-    }
     in_tuple(alloc, program, plan, span, ty, outs)
 }
 
 /// Whether the last of some statements has no `;`.
-fn last_is_open(stmts: &[Stmt]) -> bool {
+fn last_is_open(stmts: &[Stmt]) -> bool
+    ensures { result ≡ ends.is_open (map plain-Stmt stmts.now) }
+{
     match stmts {
         [.., last] => is_open(last),
         [] => false,
@@ -144,11 +187,13 @@ fn last_is_open(stmts: &[Stmt]) -> bool {
 }
 
 /// The end where nothing follows the run.
-fn unfollowed(alloc: Global, plan: &NamedPlan, run: RunParts<'_>) -> Result<RunEnd, AllocError> {
+fn unfollowed(alloc: Global, plan: &NamedPlan, run: RunParts<'_>) -> Result<RunEnd, AllocError>
+    ensures { IfOk result (λ e. IsEnd e (ends.unfollowed (plain-Plan plan.now) (plain-RunParts run).statements (plain-RunParts run).tail)) }
+{
     if run.tail.is_none() && stays_last(plan) && last_is_open(run.stmts) {
         return closed(alloc, None);
     }
-    Ok(as_it_is(alloc))
+    Ok(as_it_is())
 }
 
 /// The end where something follows the run, which hands on this.
@@ -156,13 +201,15 @@ fn followed(
     alloc: Global,
     run: RunParts<'_>,
     tail: Option<Boxed<Expr>>,
-) -> Result<RunEnd, AllocError> {
+) -> Result<RunEnd, AllocError>
+    ensures { IfOk result (λ e. IsEnd e (followed_by (plain-RunParts run).tail (optional_of (option_map plain-Expr tail)))) }
+{
     if run.tail.is_some() {
         return closed(alloc, tail);
     }
     Ok(RunEnd {
-        before: Text::empty(alloc),
-        behind: Text::empty(alloc),
+        before: None,
+        behind: None,
         tail,
     })
 }
@@ -173,7 +220,9 @@ fn without_value(
     plan: &NamedPlan,
     span: Span,
     run: RunParts<'_>,
-) -> Result<RunEnd, AllocError> {
+) -> Result<RunEnd, AllocError>
+    ensures { IfOk result (λ e. IsEnd e (ends.without_value (plain-Plan plan.now) span (plain-RunParts run).statements (plain-RunParts run).tail)) }
+{
     let outs = variables(alloc, span, outs_of(Exit::Next, plan.exits.as_slice()))?;
     if is_followed(plan, outs.as_slice()) {
         let tail = handing_on(alloc, plan, span, outs)?;
@@ -190,7 +239,9 @@ pub(crate) fn end_of(
     plan: &NamedPlan,
     span: Span,
     run: RunParts<'_>,
-) -> Result<RunEnd, AllocError> {
+) -> Result<RunEnd, AllocError>
+    ensures { IfOk result (λ e. IsEnd e (ends.end_of (plain-Program program.now) (plain-Plan plan.now) span (plain-RunParts run))) }
+{
     match (&plan.value, run.tail) {
         (Some(ty), Some(_)) => with_value(alloc, program, plan, span, ty),
         _ => without_value(alloc, plan, span, run),

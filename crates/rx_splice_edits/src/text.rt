@@ -1,13 +1,34 @@
 //! The whole text of an extraction.
 
+ghost use Rattle.std.specs.Prelude.{◌≡◌, ◌++◌, [], map, option_map, IfOk, OnOk};
+ghost use Rattle.std.specs.Option.{option_copied};
+ghost use Rattle.rx_tree.specs.Plain.{Function};
+ghost use Rattle.rx_tree.specs.PlainOf.{plain-Block, plain-Enum, plain-Expr, plain-Func, plain-Program, plain-Stmt, optional_of};
+ghost use Rattle.rx_lex.specs.Tok.{toks};
+ghost use Rattle.rx_print_spelling.specs.Pieces.{flat};
+ghost use Rattle.rx_print_spelling.specs.Expressions.{statement};
+ghost use Rattle.rx_hoist_plan.specs.PlainPlan.{plain-Plan};
+ghost use Rattle.rx_hoist_extraction.specs.Run.{Run};
+ghost use Rattle.rx_hoist_extraction.specs.Plan.{Bounds};
+ghost use Rattle.rx_hoist_extraction.specs.Call as calls;
+ghost use Rattle.rx_hoist_extraction.specs.NewBody as bodies;
+ghost use Rattle.rx_hoist_made.specs.PlainParts.{plain-Labels, plain-Parts, plain-RunParts};
+ghost use Rattle.rx_splice_laws.specs.Edits.{written};
+ghost use Rattle.rx_splice_laws.specs.EditsOf as edits;
+ghost use Rattle.rx_splice_laws.specs.SplicedText as spliced;
+ghost use Rattle.rx_splice_edits.specs.Calls.{on_line, tail_on_line};
+ghost use Rattle.rx_splice_edits.specs.Deciding.{pins_at};
+ghost use Rattle.rx_splice_edits.specs.Placing.{Placed, IsMade, Fits, IsDecided, exits_text, end_by_parts, run_bytes, function_by};
+ghost use Rattle.rx_splice_edits.specs.Ending.{IsEnd};
+
 use crate::decided::Decided;
 use crate::indent::{indent_behind, push_indented, push_reindented};
 use crate::moving::Moving;
-use crate::parts::{edits_before, edits_behind, push_spliced};
+use crate::parts::push_spliced;
 use crate::pinning::Pinning;
 use crate::run::run_edits;
 use crate::run_end::{RunEnd, end_of};
-use rx_core::{Boxed, Edit, LetGo, Span, Text, keep};
+use rx_core::{Boxed, LetGo, Span, Text};
 use rx_hoist_changes::{Loops, Names};
 use rx_hoist_items::replacement;
 use rx_hoist_made::{Parts, RunParts, declared};
@@ -48,7 +69,9 @@ fn push_next_statement(
     out: &mut Text,
     follows: bool,
     stmt: &Stmt,
-) -> Result<(), AllocError> {
+) -> Result<(), AllocError>
+    ensures { OnOk result (out.new ≡ out.old ++ flat (on_line follows (statement 0 (plain-Stmt stmt.now)))) }
+{
     let margin = Margin::none(alloc);
     if follows {
         margin.push_line(out)?;
@@ -62,7 +85,9 @@ fn push_tail(
     out: &mut Text,
     follows: bool,
     tail: &Option<Boxed<Expr>>,
-) -> Result<(), AllocError> {
+) -> Result<(), AllocError>
+    ensures { OnOk result (out.new ≡ out.old ++ flat (tail_on_line follows (optional_of (option_map plain-Expr tail.now)))) }
+{
     let margin = Margin::none(alloc);
     match tail {
         Some(tail) => {
@@ -77,7 +102,9 @@ fn push_tail(
 }
 
 /// Adds statements and a tail, each on a line.
-fn push_parts(alloc: Global, out: &mut Text, parts: &Parts) -> Result<(), AllocError> {
+fn push_parts(alloc: Global, out: &mut Text, parts: &Parts) -> Result<(), AllocError>
+    ensures { OnOk result (out.new ≡ out.old ++ flat (spliced.call_pieces (plain-Parts parts.now).statements (plain-Parts parts.now).tail)) }
+{
     let mut follows = false;
     for stmt in parts.stmts.as_slice() {
         push_next_statement(alloc, out, follows, stmt)?;
@@ -93,7 +120,9 @@ fn push_call(
     place: &Place<'_>,
     plan: &NamedPlan,
     indent: &str,
-) -> Result<(), AllocError> {
+) -> Result<(), AllocError>
+    ensures { OnOk result (out.new ≡ out.old ++ spliced.call_text indent.now (calls.replacement (plain-Program place.now.program.now) (plain-Plan plan.now) place.now.run (plain-Labels place.now.labels.now) (plain-RunParts place.now.parts))) }
+{
     let call = replacement(
         alloc,
         place.program,
@@ -112,7 +141,9 @@ fn push_call(
 // ---- the new items
 
 /// Adds the enum of exits, where there is one.
-fn push_exits(out: &mut Text, exits: Option<&Enum>) -> Result<(), AllocError> {
+fn push_exits(out: &mut Text, exits: Option<&Enum>) -> Result<(), AllocError>
+    ensures { OnOk result (out.new ≡ out.old ++ exits_text (option_map plain-Enum (option_copied exits))) }
+{
     match exits {
         Some(exits) => {
             out.push("\n\n")?;
@@ -123,7 +154,9 @@ fn push_exits(out: &mut Text, exits: Option<&Enum>) -> Result<(), AllocError> {
 }
 
 /// Adds a function up to its `{`.
-fn push_header(out: &mut Text, function: &Func) -> Result<(), AllocError> {
+fn push_header(out: &mut Text, function: &Func) -> Result<(), AllocError>
+    ensures { OnOk result (out.new ≡ out.old ++ flat (spliced.header (plain-Func function.now))) }
+{
     push_called(out, &function.name, function.lifetimes.as_slice())?;
     push_signature(out, function.params.as_slice(), &function.result)?;
     out.push(" {")
@@ -135,12 +168,31 @@ fn push_locals(
     out: &mut Text,
     place: &Place<'_>,
     plan: &NamedPlan,
-    margin: &Margin,
-) -> Result<(), AllocError> {
+) -> Result<(), AllocError>
+    ensures { OnOk result (out.new ≡ out.old ++ flat (spliced.lines (bodies.declared (plain-Program place.now.program.now) place.now.run (plain-Plan plan.now).locals))) }
+{
+    let margin = Margin::none(alloc).deeper(alloc)?;
     let locals = declared(alloc, place.program, place.run, plan.locals.as_slice())?;
-    let outcome = push_statements(alloc, out, margin, locals.as_slice());
+    let outcome = push_statements(alloc, out, &margin, locals.as_slice());
     locals.let_go();
     outcome
+}
+
+/// Adds the tail of the new function on a line of its own, where there is one.
+fn push_last(
+    alloc: Global,
+    out: &mut Text,
+    tail: &Option<Boxed<Expr>>,
+) -> Result<(), AllocError>
+    ensures { OnOk result (out.new ≡ out.old ++ flat (spliced.tail_line (optional_of (option_map plain-Expr tail.now)))) }
+{
+    match tail {
+        Some(tail) => {
+            let margin = Margin::none(alloc).deeper(alloc)?;
+            push_value(alloc, out, &margin, tail.get())
+        }
+        None => Ok(()),
+    }
 }
 
 /// The run's own bytes with their edits.
@@ -149,7 +201,12 @@ fn run_text(
     place: &Place<'_>,
     moving: &Moving<'_>,
     end: &RunEnd,
-) -> Result<Text, AllocError> {
+) -> Result<Text, AllocError>
+    requires decided { IsDecided place.now moving.now.decided }
+    requires ended { IsEnd end.now (end_by_parts place.now (plain-Plan moving.now.decided.plan.now)) }
+    requires fits { Fits place.now (plain-Plan moving.now.decided.plan.now) }
+    ensures { IfOk result (λ t. t ≡ run_bytes place.now (plain-Plan moving.now.decided.plan.now)) }
+{
     let edits = run_edits(alloc, moving, place.labels, place.parts, end)?;
     let mut text = Text::empty(alloc);
     push_spliced(
@@ -162,19 +219,6 @@ fn run_text(
     Ok(text)
 }
 
-/// Adds the tail of the new function on a line of its own, where there is one.
-fn push_last(
-    alloc: Global,
-    out: &mut Text,
-    margin: &Margin,
-    tail: &Option<Boxed<Expr>>,
-) -> Result<(), AllocError> {
-    match tail {
-        Some(tail) => push_value(alloc, out, margin, tail.get()),
-        None => Ok(()),
-    }
-}
-
 /// Adds the new function, of which the end is this.
 fn push_function(
     alloc: Global,
@@ -184,15 +228,19 @@ fn push_function(
     function: &Func,
     indent: &str,
     end: &RunEnd,
-) -> Result<(), AllocError> {
-    let margin = Margin::none(alloc).deeper(alloc)?;
+) -> Result<(), AllocError>
+    requires decided { IsDecided place.now moving.now.decided }
+    requires ended { IsEnd end.now (end_by_parts place.now (plain-Plan moving.now.decided.plan.now)) }
+    requires fits { Fits place.now (plain-Plan moving.now.decided.plan.now) }
+    ensures { OnOk result (out.new ≡ out.old ++ function_by place.now (plain-Plan moving.now.decided.plan.now) (plain-Func function.now) indent.now) }
+{
     out.push("\n\n")?;
     push_header(out, function)?;
-    push_locals(alloc, out, place, moving.decided.plan, &margin)?;
+    push_locals(alloc, out, place, moving.decided.plan)?;
     out.push("\n    ")?;
     let run = run_text(alloc, place, moving, end)?;
     push_reindented(out, indent, run.as_str())?;
-    push_last(alloc, out, &margin, &end.tail)?;
+    push_last(alloc, out, &end.tail)?;
     out.push("\n}")
 }
 
@@ -204,7 +252,11 @@ fn push_new_function(
     moving: &Moving<'_>,
     function: &Func,
     indent: &str,
-) -> Result<(), AllocError> {
+) -> Result<(), AllocError>
+    requires decided { IsDecided place.now moving.now.decided }
+    requires fits { Fits place.now (plain-Plan moving.now.decided.plan.now) }
+    ensures { OnOk result (out.new ≡ out.old ++ function_by place.now (plain-Plan moving.now.decided.plan.now) (plain-Func function.now) indent.now) }
+{
     let end = end_of(alloc, place.program, moving.decided.plan, place.run, place.parts)?;
     let outcome = push_function(alloc, out, place, moving, function, indent, &end);
     end.let_go();
@@ -214,7 +266,9 @@ fn push_new_function(
 // ---- the whole
 
 /// The edits that write out kinds and types in the body of the function round the run.
-fn body_edits(alloc: Global, body: &Block, pinning: &Pinning<'_>) -> Result<EditList, AllocError> {
+fn body_edits(alloc: Global, body: &Block, pinning: &Pinning<'_>) -> Result<EditList, AllocError>
+    ensures { IfOk result (λ l. l ≡ map written (edits.body_edits (pins_at pinning.now.decided) [] [] (plain-Block body.now))) }
+{
     let own = Names::new(alloc);
     let around = Loops::new(alloc);
     let mut out = EditList::new(alloc);
@@ -229,7 +283,11 @@ pub fn spliced_text(
     place: &Place<'_>,
     plan: &NamedPlan,
     made: Made<'_>,
-) -> Result<Text, AllocError> {
+) -> Result<Text, AllocError>
+    requires fits { Fits place.now (plain-Plan plan.now) }
+    ensures { (r : Run) (f : Function) (bs : Bounds) → Placed place.now r f → IsMade place.now (plain-Plan plan.now) r f bs made
+        → IfOk result (λ t. t ≡ spliced.spliced_text place.now.text.now (toks place.now.tokens.now) (plain-Program place.now.program.now) r (plain-Plan plan.now) bs f) }
+{
     let decided = Decided {
         program: place.program,
         tokens: place.tokens,
@@ -244,9 +302,9 @@ pub fn spliced_text(
     let past = place.body.span.end as usize;
     let indent = indent_behind(&place.text[..start]);
     let mut out = Text::empty(alloc);
-    push_spliced(&mut out, place.text, 0, start, edits_before(pins.as_slice(), place.run.start))?;
+    push_spliced(&mut out, place.text, 0, start, pins.as_slice())?;
     push_call(alloc, &mut out, place, plan, indent)?;
-    push_spliced(&mut out, place.text, end, past, edits_behind(pins.as_slice(), place.run.end))?;
+    push_spliced(&mut out, place.text, end, past, pins.as_slice())?;
     push_exits(&mut out, made.exits)?;
     push_new_function(alloc, &mut out, place, &moving, made.function, indent)?;
     out.push(&place.text[past..])?;

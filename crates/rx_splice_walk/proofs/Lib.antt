@@ -1,1 +1,2 @@
 pub mod TokenPlaces
+pub mod Written

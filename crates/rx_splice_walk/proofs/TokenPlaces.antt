@@ -7,7 +7,7 @@ use Rattle.rx_core.specs.Bytes.{same_bytes}
 use Rattle.rx_lex.specs.declared.token.Token.{Token}
 use Rattle.rx_lex.specs.Tok.{Tok, tok, toks}
 use Rattle.rx_splice_laws.specs.Places.{behind, tokens_from, after_slash, text_at}
-use Rattle.rx_splice_walk.specs.InOrder.{in_order, in_front, last_slash}
+use Rattle.rx_splice_walk.specs.InOrder.{in_order, in_front, last_slash, behind_first, text_first}
 
 -- what is asked of tokens in order, one after the other
 pub record First (from : ℕ) (t : Tok) (ts : List Tok) : Type 0 where
@@ -90,11 +90,6 @@ none_behind at from (t ∷ ts) l o =
     let f = first_of_all from t ts o in
     ap (λ b. cond b ts (behind at ts)) (apart at t.span.start (omega (arith, l, f.low))) ∙ none_behind at t.span.end ts (omega (arith, l, f.low, f.some)) f.rest
 
--- the tokens behind the first, where it begins here
-abbrev pub behind_first : ℕ → List Tok → List Tok
-behind_first at [] = []
-behind_first at (t ∷ ts) = cond (t.span.start == at) ts []
-
 pub behind_is : (at from : ℕ) (ts : List Tok) → in_order from ts ≡ true → behind at ts ≡ behind_first at (tokens_from at ts)
 behind_is at from [] o = refl
 behind_is at from (t ∷ ts) o =
@@ -115,10 +110,6 @@ none_here at from [] l o = refl
 none_here at from (t ∷ ts) l o =
     let f = first_of_all from t ts o in
     ap (λ b. cond b t.text (text_at ts at)) (apart at t.span.start (omega (arith, l, f.low))) ∙ none_here at t.span.end ts (omega (arith, l, f.low, f.some)) f.rest
-
-abbrev pub text_first : ℕ → List Tok → List ℕ
-text_first at [] = []
-text_first at (t ∷ ts) = cond (t.span.start == at) t.text []
 
 pub text_is : (at from : ℕ) (ts : List Tok) → in_order from ts ≡ true → text_at ts at ≡ text_first at (tokens_from at ts)
 text_is at from [] o = refl

@@ -18,3 +18,13 @@ abbrev pub last_slash : ℕ → List Tok → Bool
 last_slash at [] = false
 last_slash at (t ∷ []) = (t.span.end == at) && same_bytes t.text (codes "/")
 last_slash at (t ∷ u ∷ ts) = last_slash at (u ∷ ts)
+
+-- the tokens behind the first, where it begins here
+abbrev pub behind_first : ℕ → List Tok → List Tok
+behind_first at [] = []
+behind_first at (t ∷ ts) = if t.span.start == at then ts else []
+
+-- the first word, where it begins here
+abbrev pub text_first : ℕ → List Tok → List ℕ
+text_first at [] = []
+text_first at (t ∷ ts) = if t.span.start == at then t.text else []

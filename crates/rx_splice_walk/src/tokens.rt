@@ -3,7 +3,7 @@
 ghost use Rattle.std.specs.Prelude.{◌≡◌, ◌≤◌, true, nat_lt, take, drop, length, codes};
 ghost use Rattle.rx_lex.specs.Tok.{toks};
 ghost use Rattle.rx_splice_laws.specs.Places as places;
-ghost use Rattle.rx_splice_walk.specs.InOrder.{in_order, in_front, last_slash};
+ghost use Rattle.rx_splice_walk.specs.InOrder.{in_order, in_front, last_slash, behind_first, text_first};
 
 use rx_core::is_same_text;
 use rx_lex::Token;
@@ -30,15 +30,22 @@ pub fn tokens_from<'a, 't>(tokens: &'a [Token<'t>], at: u64) -> &'a [Token<'t>]
     &tokens[count_in_front(tokens, at)..]
 }
 
+/// The tokens behind the first, where it begins at a place.
+fn behind_first<'a, 't>(tokens: &'a [Token<'t>], at: u64) -> &'a [Token<'t>]
+    ensures { toks result.now ≡ behind_first at (toks tokens.now) }
+{
+    match tokens {
+        [first, rest @ ..] if first.span.start == at => rest,
+        _ => &[],
+    }
+}
+
 /// The tokens behind the one that begins at a place.
 fn behind<'a, 't>(tokens: &'a [Token<'t>], at: u64) -> &'a [Token<'t>]
     requires { in_order 0 (toks tokens.now) ≡ true }
     ensures { toks result.now ≡ places.behind at (toks tokens.now) }
 {
-    match tokens_from(tokens, at) {
-        [first, rest @ ..] if first.span.start == at => rest,
-        _ => &[],
-    }
+    behind_first(tokens_from(tokens, at), at)
 }
 
 /// Where the first of some tokens begins; the place where there is none.
@@ -117,13 +124,20 @@ pub fn with_parentheses(tokens: &[Token<'_>], end: u64) -> u64
     past_closing(tokens_from(tokens, end), end)
 }
 
+/// The first word, where it begins at a place.
+fn text_first<'t>(tokens: &[Token<'t>], at: u64) -> &'t str
+    ensures { result.now ≡ text_first at (toks tokens.now) }
+{
+    match tokens {
+        [first, ..] if first.span.start == at => first.text,
+        _ => "",
+    }
+}
+
 /// The word that begins at a place.
 pub fn text_at<'t>(tokens: &[Token<'t>], at: u64) -> &'t str
     requires { in_order 0 (toks tokens.now) ≡ true }
     ensures { result.now ≡ places.text_at (toks tokens.now) at }
 {
-    match tokens_from(tokens, at) {
-        [first, ..] if first.span.start == at => first.text,
-        _ => "",
-    }
+    text_first(tokens_from(tokens, at), at)
 }

@@ -41,7 +41,8 @@ pub fn expression<'t, P: Places>(
     match &expr.node {
         ExprNode::Int(_, suffix) => places.number(alloc, out, span, *suffix),
         ExprNode::Var(name) => places.variable(alloc, out, own, false, span, name),
-        ExprNode::Bool(_) | ExprNode::NextInput => Ok(()),
+        ExprNode::Bool(_) => Ok(()),
+        ExprNode::NextInput => Ok(()),
         ExprNode::Tuple(parts) => listed(alloc, out, places, own, around, parts.as_slice()),
         ExprNode::Call(_, args) => listed(alloc, out, places, own, around, args.as_slice()),
         ExprNode::Variant(_, _, args) => arguments(alloc, out, places, own, around, args),
@@ -54,13 +55,16 @@ pub fn expression<'t, P: Places>(
         ExprNode::Borrow(_, place) => expression(alloc, out, places, own, around, place.get()),
         ExprNode::Print(value) => expression(alloc, out, places, own, around, value.get()),
         ExprNode::Binary(_, left, right) => {
-            pair(alloc, out, places, own, around, left.get(), right.get())
+            expression(alloc, out, places, own, around, left.get())?;
+            expression(alloc, out, places, own, around, right.get())
         }
         ExprNode::Assign(place, value) => {
-            pair(alloc, out, places, own, around, place.get(), value.get())
+            expression(alloc, out, places, own, around, place.get())?;
+            expression(alloc, out, places, own, around, value.get())
         }
         ExprNode::Update(_, place, value) => {
-            pair(alloc, out, places, own, around, place.get(), value.get())
+            expression(alloc, out, places, own, around, place.get())?;
+            expression(alloc, out, places, own, around, value.get())
         }
         ExprNode::Block(inner) => block(alloc, out, places, own, around, inner.get()),
         ExprNode::If(test, then, other) => {
@@ -122,23 +126,6 @@ fn returned<'t, P: Places>(
         }
         None => places.return_at(alloc, out, span),
     }
-}
-
-/// The edits of two operands.
-#[cycle(edits)]
-fn pair<'t, P: Places>(
-    alloc: Global,
-    out: &mut EditList,
-    places: &P,
-    own: &Names<'t>,
-    around: &Loops<'t>,
-    left: &'t Expr,
-    right: &'t Expr,
-) -> Result<(), AllocError>
-    ensures { OnOk result (out.new ≡ out.old ++ map written (edits.edits (P.edits places.now) own.now around.now false (plain-Expr left.now) ++ edits.edits (P.edits places.now) own.now around.now false (plain-Expr right.now))) }
-{
-    expression(alloc, out, places, own, around, left)?;
-    expression(alloc, out, places, own, around, right)
 }
 
 /// The edits of an expression that may be there.

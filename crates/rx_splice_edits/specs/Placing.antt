@@ -1,0 +1,119 @@
+-- Where a run stands in a text, as the code is given it, and what is asked: that the text may be cut where its edits stand.
+use Rattle.std.specs.Prelude.{◌≡◌, ℕ, Bool, true, false, ◌≤◌, nat_le, ◌&&◌, if◌then◌else◌, List, [], ◌∷◌, ◌++◌, map, Option, Some, None, option_map, codes, IsCharBoundary}
+use Rattle.std.specs.Option.{option_copied}
+use Rattle.rx_core.specs.declared.types.Edit as text
+use Rattle.rx_tree.specs.Plain.{Function, Enumeration, ProgramTree}
+use Rattle.rx_tree.specs.PlainOf.{plain-Block, plain-Enum, plain-Func, plain-Program}
+use Rattle.rx_lex.specs.Tok.{Tok, toks}
+use Rattle.rx_print_spelling.specs.Pieces.{flat}
+use Rattle.rx_print_spelling.specs.Items.{enumeration_pieces}
+use Rattle.rx_hoist_plan.specs.PlainPlan.{plain-Plan}
+use Rattle.rx_hoist_extraction.specs.Run.{Run, run_parts, labels_round, loops_round}
+use Rattle.rx_hoist_extraction.specs.Plan.{Bounds, Plan, has_enum}
+use Rattle.rx_hoist_extraction.specs.Pinned.{pinned_function}
+use Rattle.rx_hoist_extraction.specs.NewBody.{declared}
+use Rattle.rx_hoist_extraction.specs.NewEnum.{new_enum}
+use Rattle.rx_hoist_extraction.specs.NewFunction.{new_function}
+use Rattle.rx_hoist_made.specs.PlainParts.{plain-Labels, plain-RunParts}
+use Rattle.rx_splice.specs.Edits as whole
+use Rattle.rx_splice.specs.Edits.{InOrder, OnBoundaries}
+use Rattle.rx_splice_laws.specs.Edits.{written}
+use Rattle.rx_splice_laws.specs.EditsOf.{body_edits}
+use Rattle.rx_splice_laws.specs.Indent.{four, reindented}
+use Rattle.rx_splice_laws.specs.Moving.{run_edits, pin_edits}
+use Rattle.rx_splice_laws.specs.MovedBy.{moved_by}
+use Rattle.rx_splice_laws.specs.RunEnd.{RunEnd, end_of}
+use Rattle.rx_splice_laws.specs.SplicedRun.{between}
+use Rattle.rx_splice_laws.specs.SplicedText.{header, lines, tail_line}
+use Rattle.rx_splice_walk.specs.InOrder.{in_order}
+use Rattle.rx_splice_edits.specs.declared.decided.Decided.{Decided}
+use Rattle.rx_splice_edits.specs.declared.text.Place.{Place}
+use Rattle.rx_splice_edits.specs.declared.text.Made.{Made}
+use Rattle.rx_splice_edits.specs.RunEdits.{edits_by}
+
+-- ---- edits of a part of a text
+
+-- those of the edits that stand between two places
+abbrev pub within : ℕ → ℕ → List text.Edit → List text.Edit
+within from to [] = []
+within from to (e ∷ es) =
+    if nat_le from e.span.start && nat_le e.span.end to then e ∷ within from to es else within from to es
+
+pub record AreWithin (bytes : List ℕ) (from to : ℕ) (es : List text.Edit) : Type 0 where
+  pub in_order : InOrder from es to
+  pub on_boundaries : OnBoundaries bytes es
+  pub begins : IsCharBoundary bytes from
+  pub ends : IsCharBoundary bytes to
+
+-- ---- a run by its parts
+
+abbrev pub program_of : Place → ProgramTree
+program_of c = plain-Program c.program.now
+
+abbrev pub tokens_in : Place → List Tok
+tokens_in c = toks c.tokens.now
+
+abbrev pub end_by_parts : Place → Plan → RunEnd
+end_by_parts c pl = end_of (program_of c) pl c.run (plain-RunParts c.parts)
+
+abbrev pub run_list : Place → Plan → List text.Edit
+run_list c pl =
+    map written (edits_by (run_edits (moved_by (program_of c) pl c.run) (tokens_in c)) (tokens_in c) c.run
+    (plain-Labels c.labels.now) (plain-RunParts c.parts) (end_by_parts c pl))
+
+abbrev pub pin_list : Place → Plan → List text.Edit
+pin_list c pl = map written (body_edits (pin_edits (moved_by (program_of c) pl c.run) (tokens_in c)) [] [] (plain-Block c.body.now))
+
+abbrev pub run_bytes : Place → Plan → List ℕ
+run_bytes c pl = whole.spliced c.run.start (between c.run.start c.run.end c.text.now) (run_list c pl)
+
+-- the new function with this header, where the run's line has this indent
+abbrev pub function_by : Place → Plan → Function → List ℕ → List ℕ
+function_by c pl new indent =
+    10 ∷ 10 ∷ (flat (header new)
+    ++ (flat (lines (declared (program_of c) c.run pl.locals))
+    ++ (10 ∷ (four ++ (reindented indent (run_bytes c pl) ++ (flat (tail_line (end_by_parts c pl).tail) ++ (10 ∷ codes "}")))))))
+
+-- ---- what is asked
+
+-- the tokens are in order, and the text may be cut where the edits stand, which are in order
+pub record Fits (c : Place) (pl : Plan) : Type 0 where
+  pub tokens : in_order 0 (tokens_in c) ≡ true
+  pub pins : InOrder 0 (pin_list c pl) c.body.now.span.end
+  pub pins_cut : OnBoundaries c.text.now (pin_list c pl)
+  pub run : InOrder c.run.start (run_list c pl) c.run.end
+  pub run_cut : OnBoundaries c.text.now (run_list c pl)
+  pub in_body : c.run.end ≤ c.body.now.span.end
+  pub start_cut : IsCharBoundary c.text.now c.run.start
+  pub end_cut : IsCharBoundary c.text.now c.run.end
+  pub body_cut : IsCharBoundary c.text.now c.body.now.span.end
+
+-- the code keeps of a run what it is given
+pub record IsDecided (c : Place) (d : Decided) : Type 0 where
+  pub program : d.program ≡ c.program
+  pub tokens : d.tokens ≡ c.tokens
+  pub run : d.run ≡ c.run
+
+-- ---- the run in its function, and the new items
+
+pub record Placed (c : Place) (r : Run) (f : Function) : Type 0 where
+  pub span : c.run ≡ r.span
+  pub body : plain-Block c.body.now ≡ f.body
+  pub labels : plain-Labels c.labels.now ≡ labels_round r f
+  pub parts : plain-RunParts c.parts ≡ run_parts r f
+
+abbrev pub exits_text : Option Enumeration → List ℕ
+exits_text None = []
+exits_text (Some x) = 10 ∷ 10 ∷ flat (enumeration_pieces x)
+
+abbrev pub some_if : Bool → Enumeration → Option Enumeration
+some_if false x = None
+some_if true x = Some x
+
+-- they are those of the extraction with these bounds; the function's tail is that of the run as it stands, whether it is pinned or not
+pub record IsMade (c : Place) (pl : Plan) (r : Run) (f : Function) (bs : Bounds) (m : Made) : Type 0 where
+  pub exits : option_map plain-Enum (option_copied m.exits) ≡ some_if (has_enum pl.exits) (new_enum (program_of c) pl r.span)
+  pub function : (let g = pinned_function (program_of c) r.span pl.pins f in
+      plain-Func m.function.now ≡ new_function (program_of c) pl bs r.span (loops_round r g) (run_parts r g))
+  pub tail : (end_of (program_of c) pl r.span (run_parts r (pinned_function (program_of c) r.span pl.pins f))).tail
+      ≡ (end_of (program_of c) pl r.span (run_parts r f)).tail
