@@ -49,10 +49,7 @@ impl<'t> Loops<'t> {
     }
 
     /// The loops round a run by their labels, the innermost first, with numbers from 1 on.
-    pub fn round(
-        alloc: Global,
-        labels: &[Option<&'t Ident>],
-    ) -> Result<Loops<'t>, AllocError>
+    pub fn round(alloc: Global, labels: &[Option<&'t Ident>]) -> Result<Loops<'t>, AllocError>
         ensures { IfOk result (λ it. it ≡ numbered 1 (map (option_map (λ l. l.now)) labels.now)) }
     {
         let mut around = Vec::new(alloc);

@@ -130,4 +130,3 @@ all_within from at to (e ∷ es) l o =
     ends_low : (at to : ℕ) (es : List Edit) → InOrder at es to → at ≤ to
     ends_low at to [] o = o
     ends_low at to (e ∷ es) o = let h = ends_low e.span.end to es o.2 in omega (arith, o.0, o.1, h)
-

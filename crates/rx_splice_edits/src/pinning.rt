@@ -169,7 +169,12 @@ impl<'p> Places for Pinning<'p> {
         Ok(())
     }
 
-    fn return_at(&self, _alloc: Global, _out: &mut EditList, _span: Span) -> Result<(), AllocError> {
+    fn return_at(
+        &self,
+        _alloc: Global,
+        _out: &mut EditList,
+        _span: Span,
+    ) -> Result<(), AllocError> {
         Ok(())
     }
 

@@ -1,7 +1,5 @@
 //! The edits of a run, in the order of the text.
 
-use crate::moving::Moving;
-use crate::run_end::RunEnd;
 ghost use Rattle.std.specs.Prelude.{◌≡◌, ◌++◌, List, map, IfOk, OnOk, true};
 ghost use Rattle.rx_tree.specs.PlainOf.{plain-Stmt};
 ghost use Rattle.rx_lex.specs.Tok.{toks};
@@ -15,6 +13,8 @@ ghost use Rattle.rx_splice_edits.specs.Deciding.{run_at, tokens_of};
 ghost use Rattle.rx_splice_edits.specs.Ending.{IsEnd, IsPut};
 ghost use Rattle.rx_splice_edits.specs.RunEdits.{edits_by};
 
+use crate::moving::Moving;
+use crate::run_end::RunEnd;
 use rx_core::{Span, Text};
 use rx_hoist_changes::{Loops, Names};
 use rx_hoist_made::RunParts;
@@ -68,7 +68,7 @@ pub(crate) fn run_edits<'t>(
     let at = tail_start(moving.decided.tokens, span, run.stmts);
     put_if_any(alloc, &mut out, at, &end.before)?;
     if let Some(tail) = run.tail {
-        expression(alloc, &mut out, moving, &own, &around, tail)?;
+        expression(alloc, &mut out, moving, &own, &around, false, tail)?;
     }
     put_if_any(alloc, &mut out, span.end, &end.behind)?;
     Ok(out)

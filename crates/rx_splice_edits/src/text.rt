@@ -179,11 +179,7 @@ fn push_locals(
 }
 
 /// Adds the tail of the new function on a line of its own, where there is one.
-fn push_last(
-    alloc: Global,
-    out: &mut Text,
-    tail: &Option<Boxed<Expr>>,
-) -> Result<(), AllocError>
+fn push_last(alloc: Global, out: &mut Text, tail: &Option<Boxed<Expr>>) -> Result<(), AllocError>
     ensures { OnOk result (out.new ≡ out.old ++ flat (spliced.tail_line (optional_of (option_map plain-Expr tail.now)))) }
 {
     match tail {
@@ -257,7 +253,13 @@ fn push_new_function(
     requires fits { Fits place.now (plain-Plan moving.now.decided.plan.now) }
     ensures { OnOk result (out.new ≡ out.old ++ function_by place.now (plain-Plan moving.now.decided.plan.now) (plain-Func function.now) indent.now) }
 {
-    let end = end_of(alloc, place.program, moving.decided.plan, place.run, place.parts)?;
+    let end = end_of(
+        alloc,
+        place.program,
+        moving.decided.plan,
+        place.run,
+        place.parts,
+    )?;
     let outcome = push_function(alloc, out, place, moving, function, indent, &end);
     end.let_go();
     outcome

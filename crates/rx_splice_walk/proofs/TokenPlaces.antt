@@ -96,9 +96,9 @@ behind_is at from (t ∷ ts) o =
     let f = first_of_all from t ts o in
     elim (nat_le at t.span.start) as (λ v. nat_le at t.span.start ≡ v → behind at (t ∷ ts) ≡ behind_first at (cond v (t ∷ ts) (tokens_from at ts))) [
       | true ↦ λ e. elim (t.span.start == at) as (λ w. (t.span.start == at) ≡ w → cond w ts (behind at ts) ≡ cond w ts []) [
-          | true ↦ λ h. refl
-          | false ↦ λ h. let m = leb-true at t.span.start e in none_behind at t.span.end ts (omega (arith, m, f.some)) f.rest
-        ] refl
+        | true ↦ λ h. refl
+        | false ↦ λ h. let m = leb-true at t.span.start e in none_behind at t.span.end ts (omega (arith, m, f.some)) f.rest
+      ] refl
       | false ↦ λ e.
           let m : t.span.start < at = grind (arith, nat_tests) in
           let n : (t.span.start == at) ≡ false = grind (arith, nat_tests) in
@@ -117,9 +117,9 @@ text_is at from (t ∷ ts) o =
     let f = first_of_all from t ts o in
     elim (nat_le at t.span.start) as (λ v. nat_le at t.span.start ≡ v → text_at (t ∷ ts) at ≡ text_first at (cond v (t ∷ ts) (tokens_from at ts))) [
       | true ↦ λ e. elim (t.span.start == at) as (λ w. (t.span.start == at) ≡ w → cond w t.text (text_at ts at) ≡ cond w t.text []) [
-          | true ↦ λ h. refl
-          | false ↦ λ h. let m = leb-true at t.span.start e in none_here at t.span.end ts (omega (arith, m, f.some)) f.rest
-        ] refl
+        | true ↦ λ h. refl
+        | false ↦ λ h. let m = leb-true at t.span.start e in none_here at t.span.end ts (omega (arith, m, f.some)) f.rest
+      ] refl
       | false ↦ λ e.
           let n : (t.span.start == at) ≡ false = grind (arith, nat_tests) in
           ap (λ b. cond b t.text (text_at ts at)) n ∙ text_is at t.span.end ts f.rest

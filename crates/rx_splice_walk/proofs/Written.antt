@@ -45,10 +45,10 @@ on_ok_told r o p es fs e a = subst (λ x. OnOk r (With o x p)) e a
 
 -- ---- by the form of a node
 
-pub at_node : {E : Type 0} (A : EditsAt) (own : Names) (ls : List Around) (e : Expr) (n : ExprNode) (x : Expression) (r : Result (Unit {0}) E) (o p : List text.Edit)
-    → e.node ≡ n → plain-ExprNode n e.span ≡ x → OnOk r (With o (edits A own ls false x) p) → OnOk r (With o (edits A own ls false (plain-Expr e)) p)
-at_node A own ls e n x r o p is form made =
-    subst (λ y. OnOk r (With o (edits A own ls false y) p)) (sym (expression_by_node e ∙ ap (λ m. plain-ExprNode m e.span) is ∙ form)) made
+pub at_node : {E : Type 0} (A : EditsAt) (own : Names) (ls : List Around) (b : Bool) (e : Expr) (n : ExprNode) (x : Expression) (r : Result (Unit {0}) E) (o p : List text.Edit)
+    → e.node ≡ n → plain-ExprNode n e.span ≡ x → OnOk r (With o (edits A own ls b x) p) → OnOk r (With o (edits A own ls b (plain-Expr e)) p)
+at_node A own ls b e n x r o p is form made =
+    subst (λ y. OnOk r (With o (edits A own ls b y) p)) (sym (expression_by_node e ∙ ap (λ m. plain-ExprNode m e.span) is ∙ form)) made
 
 pub at_statement : {E : Type 0} (A : EditsAt) (own : Names) (ls : List Around) (a : Stmt) (n : StmtNode) (x : Statement) (r : Result (Unit {0}) E) (o p : List text.Edit)
     → a.node ≡ n → plain-StmtNode n a.span ≡ x → OnOk r (With o (statement_edits A own ls x) p) → OnOk r (With o (statement_edits A own ls (plain-Stmt a)) p)
@@ -91,6 +91,34 @@ statements_at A own names ls x y o p seen same made =
     made
     ∙ ap (λ l. o ++ map written (all_statement_edits A own ls (statements_of (map plain-Stmt l)))) seen
     ∙ ap (λ n. o ++ map written (all_statement_edits A n ls (statements_of (map plain-Stmt y)))) same
+
+-- ---- parts that may be there
+
+pub present_at : (A : EditsAt) (own : Names) (ls : List Around) (o : Option Expr) (x y : Expr) (p q : List text.Edit) → o ≡ Some x → y ≡ x
+    → With p (edits A own ls false (plain-Expr y)) q → With p (optional_edits A own ls (optional_of (option_map plain-Expr o))) q
+present_at A own ls o x y p q is seen made =
+    made
+    ∙ ap (λ e. p ++ map written (edits A own ls false (plain-Expr e))) seen
+    ∙ ap (λ k. p ++ map written (optional_edits A own ls (optional_of (option_map plain-Expr k)))) (sym is)
+
+pub absent_at : (A : EditsAt) (own : Names) (ls : List Around) (o : Option Expr) (p : List text.Edit) → o ≡ None
+    → With p (optional_edits A own ls (optional_of (option_map plain-Expr o))) p
+absent_at A own ls o p is = nothing p ∙ ap (λ k. p ++ map written (optional_edits A own ls (optional_of (option_map plain-Expr k)))) (sym is)
+
+pub list_at : (A : EditsAt) (own : Names) (ls : List Around) (o : Option (List Expr)) (x y : List Expr) (p q : List text.Edit) → o ≡ Some x → y ≡ x
+    → With p (all_edits A own ls (expressions_of (map plain-Expr y))) q → With p (argument_edits A own ls (optional_list_of (option_map (map plain-Expr) o))) q
+list_at A own ls o x y p q is seen made =
+    made
+    ∙ ap (λ l. p ++ map written (all_edits A own ls (expressions_of (map plain-Expr l)))) seen
+    ∙ ap (λ k. p ++ map written (argument_edits A own ls (optional_list_of (option_map (map plain-Expr) k)))) (sym is)
+
+pub no_list_at : (A : EditsAt) (own : Names) (ls : List Around) (o : Option (List Expr)) (p : List text.Edit) → o ≡ None
+    → With p (argument_edits A own ls (optional_list_of (option_map (map plain-Expr) o))) p
+no_list_at A own ls o p is = nothing p ∙ ap (λ k. p ++ map written (argument_edits A own ls (optional_list_of (option_map (map plain-Expr) k)))) (sym is)
+
+pub return_alone : (A : EditsAt) (own : Names) (ls : List Around) (s : Span) (o : Option Expr) (p q : List text.Edit) → o ≡ None
+    → With p (A.at_return s) q → With p (return_edits A own ls s (optional_of (option_map plain-Expr o))) q
+return_alone A own ls s o p q is made = made ∙ ap (λ k. p ++ map written (return_edits A own ls s (optional_of (option_map plain-Expr k)))) (sym is)
 
 -- ---- lists: what is written, and what is left of the list behind it, are the whole
 
@@ -195,12 +223,15 @@ names_end own all l i past before = ap (λ k. behind_all own (statements_of (map
 
 -- ---- the operand of a `return`
 
-pub return_written : (A : EditsAt) (own : Names) (ls : List Around) (s : Span) (e : Expr) (o p q r : List text.Edit) (before behind : List Edit)
-    → ((es : List Edit) → A.at_return_with s es ≡ before ++ (es ++ behind))
-    → With o before p → With p (edits A own ls false (plain-Expr e)) q → With q behind r
-    → With o (return_edits A own ls s (plain.present (plain-Expr e))) r
-return_written A own ls s e o p q r before behind whole a b c =
-    told o r _ _ (sym (whole (edits A own ls false (plain-Expr e)))) (three o p q r before (edits A own ls false (plain-Expr e)) behind a b c)
+pub return_written : (A : EditsAt) (own : Names) (ls : List Around) (s : Span) (v : Option Expr) (x y : Expr) (o p q r : List text.Edit) (before behind : List Edit)
+    → v ≡ Some x → y ≡ x → ((es : List Edit) → A.at_return_with s es ≡ before ++ (es ++ behind))
+    → With o before p → With p (edits A own ls false (plain-Expr y)) q → With q behind r
+    → With o (return_edits A own ls s (optional_of (option_map plain-Expr v))) r
+return_written A own ls s v x y o p q r before behind is seen whole a b c =
+    let es = edits A own ls false (plain-Expr x) in
+    told o r (before ++ (es ++ behind)) (A.at_return_with s es) (sym (whole es))
+    (three o p q r before es behind a (b ∙ ap (λ e. p ++ map written (edits A own ls false (plain-Expr e))) seen) c)
+    ∙ ap (λ k. o ++ map written (return_edits A own ls s (optional_of (option_map plain-Expr k)))) (sym is)
 
 -- ---- a block
 

@@ -1,7 +1,8 @@
 //! A walk over a tree, in the order of the text, that writes the edits at its special places.
+#![tactic(none)]
 
-ghost use Rattle.std.specs.Prelude.{◌≡◌, ◌++◌, map, option_map, OnOk};
-ghost use Rattle.rx_tree.specs.PlainOf.{plain-Expr, plain-Block, plain-Stmt, plain-Arm, plain-FieldExpr, expressions_of, optional_of, optional_list_of, field_expressions_of, arms_of, statements_of};
+ghost use Rattle.std.specs.Prelude.{◌≡◌, ◌++◌, false, map, option_map, OnOk};
+ghost use Rattle.rx_tree.specs.PlainOf.{plain-Expr, plain-Block, plain-Stmt, plain-Arm, plain-FieldExpr, plain-Pattern, expressions_of, optional_of, optional_list_of, field_expressions_of, arms_of, statements_of};
 ghost use Rattle.rx_hoist_extraction.specs.Names.{bound, bound_by, behind_all};
 ghost use Rattle.rx_splice_laws.specs.Edits.{written};
 ghost use Rattle.rx_splice_laws.specs.EditsOf as edits;
@@ -20,11 +21,38 @@ fn is_short(name: &Ident, value: &Expr) -> bool
 {
     match &value.node {
         ExprNode::Var(_) => name.span.start == value.span.start,
-        _ => false,
+        ExprNode::Int(_, _)
+        | ExprNode::Bool(_)
+        | ExprNode::Tuple(_)
+        | ExprNode::Field(_, _)
+        | ExprNode::Part(_, _)
+        | ExprNode::Deref(_)
+        | ExprNode::Neg(_)
+        | ExprNode::Not(_)
+        | ExprNode::Borrow(_, _)
+        | ExprNode::Binary(_, _, _)
+        | ExprNode::Assign(_, _)
+        | ExprNode::Update(_, _, _)
+        | ExprNode::Call(_, _)
+        | ExprNode::NextInput
+        | ExprNode::Variant(_, _, _)
+        | ExprNode::Make(_, _)
+        | ExprNode::Print(_)
+        | ExprNode::Block(_)
+        | ExprNode::If(_, _, _)
+        | ExprNode::IfLet(_, _, _, _)
+        | ExprNode::Match(_, _)
+        | ExprNode::Loop(_, _)
+        | ExprNode::While(_, _, _)
+        | ExprNode::WhileLet(_, _, _, _)
+        | ExprNode::Break(_)
+        | ExprNode::Continue(_)
+        | ExprNode::Return(_) => false,
     }
 }
 
-/// The edits of an expression, where these names are bound since the beginning and this stands round it.
+/// The edits of an expression, where these names are bound since the beginning and this stands round it. It may be the value of a field
+/// without `:`.
 #[cycle(edits)]
 #[tactic(auto, using(rx_tree::proofs::Rules::expression_rules))]
 pub fn expression<'t, P: Places>(
@@ -33,53 +61,62 @@ pub fn expression<'t, P: Places>(
     places: &P,
     own: &Names<'t>,
     around: &Loops<'t>,
+    short: bool,
     expr: &'t Expr,
 ) -> Result<(), AllocError>
-    ensures { OnOk result (out.new ≡ out.old ++ map written (edits.edits (P.edits places.now) own.now around.now false (plain-Expr expr.now))) }
+    ensures { OnOk result (out.new ≡ out.old ++ map written (edits.edits (P.edits places.now) own.now around.now short (plain-Expr expr.now))) }
 {
     let span = expr.span;
     match &expr.node {
         ExprNode::Int(_, suffix) => places.number(alloc, out, span, *suffix),
-        ExprNode::Var(name) => places.variable(alloc, out, own, false, span, name),
+        ExprNode::Var(name) => places.variable(alloc, out, own, short, span, name),
         ExprNode::Bool(_) => Ok(()),
         ExprNode::NextInput => Ok(()),
         ExprNode::Tuple(parts) => listed(alloc, out, places, own, around, parts.as_slice()),
         ExprNode::Call(_, args) => listed(alloc, out, places, own, around, args.as_slice()),
         ExprNode::Variant(_, _, args) => arguments(alloc, out, places, own, around, args),
         ExprNode::Make(_, all) => fields(alloc, out, places, own, around, all.as_slice()),
-        ExprNode::Field(base, _) => expression(alloc, out, places, own, around, base.get()),
-        ExprNode::Part(base, _) => expression(alloc, out, places, own, around, base.get()),
-        ExprNode::Deref(base) => expression(alloc, out, places, own, around, base.get()),
-        ExprNode::Neg(base) => expression(alloc, out, places, own, around, base.get()),
-        ExprNode::Not(base) => expression(alloc, out, places, own, around, base.get()),
-        ExprNode::Borrow(_, place) => expression(alloc, out, places, own, around, place.get()),
-        ExprNode::Print(value) => expression(alloc, out, places, own, around, value.get()),
+        ExprNode::Field(base, _) => expression(alloc, out, places, own, around, false, base.get()),
+        ExprNode::Part(base, _) => expression(alloc, out, places, own, around, false, base.get()),
+        ExprNode::Deref(base) => expression(alloc, out, places, own, around, false, base.get()),
+        ExprNode::Neg(base) => expression(alloc, out, places, own, around, false, base.get()),
+        ExprNode::Not(base) => expression(alloc, out, places, own, around, false, base.get()),
+        ExprNode::Borrow(_, place) => expression(
+            alloc,
+            out,
+            places,
+            own,
+            around,
+            false,
+            place.get(),
+        ),
+        ExprNode::Print(value) => expression(alloc, out, places, own, around, false, value.get()),
         ExprNode::Binary(_, left, right) => {
-            expression(alloc, out, places, own, around, left.get())?;
-            expression(alloc, out, places, own, around, right.get())
+            expression(alloc, out, places, own, around, false, left.get())?;
+            expression(alloc, out, places, own, around, false, right.get())
         }
         ExprNode::Assign(place, value) => {
-            expression(alloc, out, places, own, around, place.get())?;
-            expression(alloc, out, places, own, around, value.get())
+            expression(alloc, out, places, own, around, false, place.get())?;
+            expression(alloc, out, places, own, around, false, value.get())
         }
         ExprNode::Update(_, place, value) => {
-            expression(alloc, out, places, own, around, place.get())?;
-            expression(alloc, out, places, own, around, value.get())
+            expression(alloc, out, places, own, around, false, place.get())?;
+            expression(alloc, out, places, own, around, false, value.get())
         }
         ExprNode::Block(inner) => block(alloc, out, places, own, around, inner.get()),
         ExprNode::If(test, then, other) => {
-            expression(alloc, out, places, own, around, test.get())?;
+            expression(alloc, out, places, own, around, false, test.get())?;
             block(alloc, out, places, own, around, then.get())?;
             optional(alloc, out, places, own, around, other)
         }
         ExprNode::IfLet(pattern, scrutinee, then, other) => {
-            expression(alloc, out, places, own, around, scrutinee.get())?;
+            expression(alloc, out, places, own, around, false, scrutinee.get())?;
             let inner = own.with(alloc, pattern)?;
             block(alloc, out, places, &inner, around, then.get())?;
             optional(alloc, out, places, own, around, other)
         }
         ExprNode::Match(scrutinee, all) => {
-            expression(alloc, out, places, own, around, scrutinee.get())?;
+            expression(alloc, out, places, own, around, false, scrutinee.get())?;
             arms(alloc, out, places, own, around, all.as_slice())
         }
         ExprNode::Loop(label, body) => {
@@ -89,13 +126,13 @@ pub fn expression<'t, P: Places>(
         ExprNode::While(label, test, body) => {
             let inner = around.with_loop(alloc, label)?;
             let tested = inner.with_test(alloc)?;
-            expression(alloc, out, places, own, &tested, test.get())?;
+            expression(alloc, out, places, own, &tested, false, test.get())?;
             block(alloc, out, places, own, &inner, body.get())
         }
         ExprNode::WhileLet(label, pattern, scrutinee, body) => {
             let inner = around.with_loop(alloc, label)?;
             let tested = inner.with_test(alloc)?;
-            expression(alloc, out, places, own, &tested, scrutinee.get())?;
+            expression(alloc, out, places, own, &tested, false, scrutinee.get())?;
             let names = own.with(alloc, pattern)?;
             block(alloc, out, places, &names, &inner, body.get())
         }
@@ -121,7 +158,7 @@ fn returned<'t, P: Places>(
     match value {
         Some(value) => {
             places.before_operand(alloc, out, span)?;
-            expression(alloc, out, places, own, around, value.get())?;
+            expression(alloc, out, places, own, around, false, value.get())?;
             places.behind_operand(alloc, out, span)
         }
         None => places.return_at(alloc, out, span),
@@ -141,7 +178,7 @@ fn optional<'t, P: Places>(
     ensures { OnOk result (out.new ≡ out.old ++ map written (edits.optional_edits (P.edits places.now) own.now around.now (optional_of (option_map plain-Expr expr.now)))) }
 {
     match expr {
-        Some(expr) => expression(alloc, out, places, own, around, expr.get()),
+        Some(expr) => expression(alloc, out, places, own, around, false, expr.get()),
         None => Ok(()),
     }
 }
@@ -176,7 +213,7 @@ fn listed<'t, P: Places>(
     ensures { OnOk result (out.new ≡ out.old ++ map written (edits.all_edits (P.edits places.now) own.now around.now (expressions_of (map plain-Expr exprs.now)))) }
 {
     for expr in exprs {
-        expression(alloc, out, places, own, around, expr)?;
+        expression(alloc, out, places, own, around, false, expr)?;
     }
     Ok(())
 }
@@ -193,18 +230,8 @@ fn one_field<'t, P: Places>(
 ) -> Result<(), AllocError>
     ensures { OnOk result (out.new ≡ out.old ++ map written (edits.edits (P.edits places.now) own.now around.now (edits.is_short field.now.field (plain-Expr field.now.value)) (plain-Expr field.now.value))) }
 {
-    let value = &field.value;
-    match &value.node {
-        ExprNode::Var(name) => places.variable(
-            alloc,
-            out,
-            own,
-            is_short(&field.field, value),
-            value.span,
-            name,
-        ),
-        _ => expression(alloc, out, places, own, around, value),
-    }
+    let short = is_short(&field.field, &field.value);
+    expression(alloc, out, places, own, around, short, &field.value)
 }
 
 #[cycle(edits)]
@@ -234,10 +261,10 @@ fn one_arm<'t, P: Places>(
     around: &Loops<'t>,
     arm: &'t Arm,
 ) -> Result<(), AllocError>
-    ensures { OnOk result (out.new ≡ out.old ++ map written (edits.edits (P.edits places.now) (bound (plain-Arm arm.now).0 ++ own.now) around.now false (plain-Arm arm.now).1)) }
+    ensures { OnOk result (out.new ≡ out.old ++ map written (edits.edits (P.edits places.now) (bound (plain-Pattern arm.now.pattern) ++ own.now) around.now false (plain-Expr arm.now.body))) }
 {
     let inner = own.with(alloc, &arm.pattern)?;
-    expression(alloc, out, places, &inner, around, &arm.body)
+    expression(alloc, out, places, &inner, around, false, &arm.body)
 }
 
 #[cycle(edits)]
@@ -270,7 +297,14 @@ pub fn block<'t, P: Places>(
     ensures { OnOk result (out.new ≡ out.old ++ map written (edits.body_edits (P.edits places.now) own.now around.now (plain-Block block.now))) }
 {
     let mut inner = own.copy(alloc)?;
-    statements(alloc, out, places, &mut inner, around, block.stmts.as_slice())?;
+    statements(
+        alloc,
+        out,
+        places,
+        &mut inner,
+        around,
+        block.stmts.as_slice(),
+    )?;
     optional(alloc, out, places, &inner, around, &block.tail)
 }
 
@@ -311,10 +345,10 @@ fn statement<'t, P: Places>(
         StmtNode::Let(pattern, typ, value) => {
             places.let_type(alloc, out, pattern, typ)?;
             match value {
-                Some(value) => expression(alloc, out, places, own, around, value),
+                Some(value) => expression(alloc, out, places, own, around, false, value),
                 None => Ok(()),
             }
         }
-        StmtNode::Eval(expr, _) => expression(alloc, out, places, own, around, expr),
+        StmtNode::Eval(expr, _) => expression(alloc, out, places, own, around, false, expr),
     }
 }
