@@ -1,3 +1,4 @@
+pub mod TokenPlaces
 pub mod LineLemmas
 pub mod PartLemmas
 pub mod Splitting

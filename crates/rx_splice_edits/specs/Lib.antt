@@ -1,3 +1,4 @@
+pub mod InOrder
 pub mod Jumping
 pub mod Deciding
 pub mod Ending

@@ -25,7 +25,7 @@ use Rattle.rx_splice_laws.specs.MovedBy.{moved_by}
 use Rattle.rx_splice_laws.specs.RunEnd.{RunEnd, end_of}
 use Rattle.rx_splice_laws.specs.SplicedRun.{between}
 use Rattle.rx_splice_laws.specs.SplicedText.{header, lines, tail_line}
-use Rattle.rx_splice_walk.specs.InOrder.{in_order}
+use Rattle.rx_splice_edits.specs.InOrder.{in_order}
 use Rattle.rx_splice_edits.specs.declared.decided.Decided.{Decided}
 use Rattle.rx_splice_edits.specs.declared.text.Place.{Place}
 use Rattle.rx_splice_edits.specs.declared.text.Made.{Made}

@@ -2,7 +2,7 @@
 
 ghost use Rattle.std.specs.Prelude.{◌≡◌, true};
 ghost use Rattle.rx_lex.specs.Tok.{toks};
-ghost use Rattle.rx_splice_walk.specs.InOrder.{in_order};
+ghost use Rattle.rx_splice_edits.specs.InOrder.{in_order};
 
 use rx_core::Span;
 use rx_hoist_plan::NamedPlan;

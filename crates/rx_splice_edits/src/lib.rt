@@ -9,5 +9,6 @@ mod pinning;
 mod run;
 mod run_end;
 mod text;
+mod tokens;
 
 pub use text::{Made, Place, spliced_text};

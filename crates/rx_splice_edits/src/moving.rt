@@ -12,12 +12,13 @@ ghost use Rattle.rx_splice_edits.specs.Jumping.{one_name, values_pieces, jump_pi
 ghost use Rattle.rx_splice_edits.specs.Deciding.{moving_of, tokens_of};
 
 use crate::decided::Decided;
+use crate::tokens::{after_slash, before_dot, next_start};
 use rx_core::{Kind, Name, Span, Text};
 use rx_hoist_changes::{Loops, Names, is_referred};
 use rx_hoist_made::{exit_name, fresh_variable, is_unit, outs_of};
 use rx_hoist_plan::{Exit, NamedPlan, Variable};
 use rx_print_parts::comma;
-use rx_splice_walk::{EditList, Places, after_slash, before_dot, next_start};
+use rx_splice_walk::{EditList, Places};
 use rx_tree::{Ident, Pattern, TypeText};
 use std::alloc::{AllocError, Global};
 

@@ -14,11 +14,12 @@ ghost use Rattle.rx_splice_laws.specs.MovedBy as moved;
 ghost use Rattle.rx_splice_edits.specs.Deciding.{pins_at, typ_at};
 
 use crate::decided::Decided;
+use crate::tokens::{text_at, with_parentheses};
 use rx_core::{Kind, LetGo, Name, Span, Text, Ty};
 use rx_hoist_changes::{Loops, Names, kind_at, suffix_of, type_at};
 use rx_hoist_made::elided;
 use rx_print_parts::{kind_text, push_annotation};
-use rx_splice_walk::{EditList, Places, text_at, with_parentheses};
+use rx_splice_walk::{EditList, Places};
 use rx_tree::{Ident, Pattern, TypeText};
 use std::alloc::{AllocError, Global};
 

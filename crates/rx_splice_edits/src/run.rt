@@ -8,18 +8,19 @@ ghost use Rattle.rx_hoist_made.specs.PlainParts.{plain-Labels, plain-RunParts};
 ghost use Rattle.rx_splice_laws.specs.Edits.{written};
 ghost use Rattle.rx_splice_laws.specs.RunEnd.{RunEnd as EndOf};
 ghost use Rattle.rx_splice_laws.specs.SplicedText as spliced;
-ghost use Rattle.rx_splice_walk.specs.InOrder.{in_order};
+ghost use Rattle.rx_splice_edits.specs.InOrder.{in_order};
 ghost use Rattle.rx_splice_edits.specs.Deciding.{run_at, tokens_of};
 ghost use Rattle.rx_splice_edits.specs.Ending.{IsEnd, IsPut};
 ghost use Rattle.rx_splice_edits.specs.RunEdits.{edits_by};
 
 use crate::moving::Moving;
 use crate::run_end::RunEnd;
+use crate::tokens::{first_start, tokens_from};
 use rx_core::{Span, Text};
 use rx_hoist_changes::{Loops, Names};
 use rx_hoist_made::RunParts;
 use rx_lex::Token;
-use rx_splice_walk::{EditList, expression, first_start, statements, tokens_from};
+use rx_splice_walk::{EditList, expression, statements};
 use rx_tree::{Ident, Stmt};
 use std::alloc::{AllocError, Global};
 

@@ -1,2 +1,1 @@
-pub mod TokenPlaces
 pub mod Written

@@ -3,12 +3,8 @@
 
 mod list;
 mod special;
-mod tokens;
 mod walk;
 
 pub use list::EditList;
 pub use special::Places;
-pub use tokens::{
-    after_slash, before_dot, first_start, next_start, text_at, tokens_from, with_parentheses,
-};
 pub use walk::{block, expression, statements};

@@ -7,7 +7,7 @@ use Rattle.rx_core.specs.Bytes.{same_bytes}
 use Rattle.rx_lex.specs.declared.token.Token.{Token}
 use Rattle.rx_lex.specs.Tok.{Tok, tok, toks}
 use Rattle.rx_splice_laws.specs.Places.{behind, tokens_from, after_slash, text_at}
-use Rattle.rx_splice_walk.specs.InOrder.{in_order, in_front, last_slash, behind_first, text_first}
+use Rattle.rx_splice_edits.specs.InOrder.{in_order, in_front, last_slash, behind_first, text_first}
 
 -- what is asked of tokens in order, one after the other
 pub record First (from : ℕ) (t : Tok) (ts : List Tok) : Type 0 where

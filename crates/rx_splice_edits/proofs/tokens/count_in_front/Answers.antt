@@ -1,8 +1,8 @@
 use Rattle.std.proofs.Common.{rules, of_calls, arith}
 use Rattle.std.specs.Prelude.{nat_lt}
 use Rattle.std.proofs.lemmas.Fn.{always_returns_same}
-use Rattle.rx_splice_walk.proofs.TokenPlaces.{starts_rise, below, front_split, rest_split}
-use Rattle.rx_splice_walk.proofs.tokens.count_in_front.Goals as goal
+use Rattle.rx_splice_edits.proofs.TokenPlaces.{starts_rise, below, front_split, rest_split}
+use Rattle.rx_splice_edits.proofs.tokens.count_in_front.Goals as goal
 
 pub returns-clause-front : goal.returns-clause-front
 returns-clause-front c =

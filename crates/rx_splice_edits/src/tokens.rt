@@ -3,7 +3,7 @@
 ghost use Rattle.std.specs.Prelude.{◌≡◌, ◌≤◌, true, nat_lt, take, drop, length, codes};
 ghost use Rattle.rx_lex.specs.Tok.{toks};
 ghost use Rattle.rx_splice_laws.specs.Places as places;
-ghost use Rattle.rx_splice_walk.specs.InOrder.{in_order, in_front, last_slash, behind_first, text_first};
+ghost use Rattle.rx_splice_edits.specs.InOrder.{in_order, in_front, last_slash, behind_first, text_first};
 
 use rx_core::is_same_text;
 use rx_lex::Token;
@@ -23,7 +23,7 @@ fn count_in_front(tokens: &[Token<'_>], at: u64) -> usize
 }
 
 /// The tokens that begin at a place or later.
-pub fn tokens_from<'a, 't>(tokens: &'a [Token<'t>], at: u64) -> &'a [Token<'t>]
+pub(crate) fn tokens_from<'a, 't>(tokens: &'a [Token<'t>], at: u64) -> &'a [Token<'t>]
     requires { in_order 0 (toks tokens.now) ≡ true }
     ensures { toks result.now ≡ places.tokens_from at (toks tokens.now) }
 {
@@ -49,7 +49,7 @@ fn behind<'a, 't>(tokens: &'a [Token<'t>], at: u64) -> &'a [Token<'t>]
 }
 
 /// Where the first of some tokens begins; the place where there is none.
-pub fn first_start(tokens: &[Token<'_>], at: u64) -> u64
+pub(crate) fn first_start(tokens: &[Token<'_>], at: u64) -> u64
     ensures { result ≡ places.first_start at (toks tokens.now) }
 {
     match tokens {
@@ -59,7 +59,7 @@ pub fn first_start(tokens: &[Token<'_>], at: u64) -> u64
 }
 
 /// Where the token begins that follows the one at a place.
-pub fn next_start(tokens: &[Token<'_>], at: u64) -> u64
+pub(crate) fn next_start(tokens: &[Token<'_>], at: u64) -> u64
     requires { in_order 0 (toks tokens.now) ≡ true }
     ensures { result ≡ places.next_start (toks tokens.now) at }
 {
@@ -77,7 +77,7 @@ fn begins_dot(tokens: &[Token<'_>]) -> bool
 }
 
 /// Whether the token that follows the one at a place is the mark `.`.
-pub fn before_dot(tokens: &[Token<'_>], at: u64) -> bool
+pub(crate) fn before_dot(tokens: &[Token<'_>], at: u64) -> bool
     requires { in_order 0 (toks tokens.now) ≡ true }
     ensures { result ≡ places.before_dot (toks tokens.now) at }
 {
@@ -95,7 +95,7 @@ fn ends_slash(tokens: &[Token<'_>], at: u64) -> bool
 }
 
 /// Whether a mark `/` ends where the token at a place begins.
-pub fn after_slash(tokens: &[Token<'_>], at: u64) -> bool
+pub(crate) fn after_slash(tokens: &[Token<'_>], at: u64) -> bool
     requires { in_order 0 (toks tokens.now) ≡ true }
     ensures { result ≡ places.after_slash (toks tokens.now) at }
 {
@@ -117,7 +117,7 @@ fn past_closing(tokens: &[Token<'_>], end: u64) -> u64
 }
 
 /// The end of what ends at a place with the parentheses round it.
-pub fn with_parentheses(tokens: &[Token<'_>], end: u64) -> u64
+pub(crate) fn with_parentheses(tokens: &[Token<'_>], end: u64) -> u64
     requires { in_order 0 (toks tokens.now) ≡ true }
     ensures { result ≡ places.with_parentheses (toks tokens.now) end }
 {
@@ -135,7 +135,7 @@ fn text_first<'t>(tokens: &[Token<'t>], at: u64) -> &'t str
 }
 
 /// The word that begins at a place.
-pub fn text_at<'t>(tokens: &[Token<'t>], at: u64) -> &'t str
+pub(crate) fn text_at<'t>(tokens: &[Token<'t>], at: u64) -> &'t str
     requires { in_order 0 (toks tokens.now) ≡ true }
     ensures { result.now ≡ places.text_at (toks tokens.now) at }
 {
