@@ -1,0 +1,16 @@
+mod RisingLets
+mod RoundRuns
+mod NamedTypes
+mod DistinctNames
+mod Apart
+mod TextLifetimes
+mod PinnedLifetimes
+mod RunLifetimes
+mod ExitNames
+mod LoopNumbers
+mod TypedLoops
+mod LoopsRound
+mod PinnedBlocks
+mod PinnedClaims
+mod OutWords
+mod NamedRuns
