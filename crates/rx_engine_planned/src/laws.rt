@@ -102,6 +102,17 @@ pub fn runs_name_lifetimes_of_the_text()
         → Every (λ (x : List ℕ). is_among x (named_plan A).lifetimes ≡ true) (idents (copied_lifetimes (run_parts r (pinned_function A.program r.span pins f)))) }
 {}
 
+/// The loops round a run in a function of a typed program stand there once, and are few: so the exits of its plan have names of their own.
+pub fn exits_have_their_own_names()
+    ensures loops { (p : ProgramTree) (names : List ItemNames) (t : Typed) → IsNumbered p → Meant p names → IsTyped p names t → (f : TypedFn) → Among f t.functions → (r : TypedRun) (h : Home)
+        → Sits (plain-TypedTree f.tree) r h → LoopsApart h.around.loops }
+    ensures names { (A : Told) (names : List ItemNames) (t : Typed) → IsNumbered A.program → Meant A.program names → IsTyped A.program names t → Among A.function t.functions
+        → (q : Asked) → Sits (plain-TypedTree A.function.tree) q.run q.home → IsExitPlan q A.plan → A.loops ≡ q.home.around.loops → Distinct (exit_names (named_plan A).exits) }
+{
+    signatures_are_well_formed();
+    sizes_are_sized();
+}
+
 /// What is asked of the names and jumps in a run, where kinds and types are written out, holds where it holds of the run in the text: its
 /// names, its loops and its jumps are the same.
 pub fn runs_keep_their_claims()
@@ -110,6 +121,23 @@ pub fn runs_keep_their_claims()
         → StatementsWithin (run_claims v) [] (rounds v) (as_statements (run_parts r (pinned_function p r.span pins f)).statements)
         × OptionalWithin (run_claims v) (behind_all [] (as_statements (run_parts r (pinned_function p r.span pins f)).statements)) (rounds v) (run_parts r (pinned_function p r.span pins f)).tail }
 {}
+
+/// The names in a run and its plan are as an extraction asks: where the run is come to in its function, with kinds and types written out,
+/// it resolves, its plan names types of the program, its params, locals and exits have names of their own, and its lifetimes are the
+/// text's. Asked besides: what the run of the text says of its own names there.
+pub fn runs_are_named()
+    ensures { (A : Told) (q : Asked) (bytes : List ℕ) (names : List ItemNames) (t : Typed) (muts : List Bool) → Decided A q bytes names t muts → (s : Span) (f : Function) → nth A.program A.run.function ≡ Some (plain.function_item s f)
+        → (h : RunSelected A.program (run_at A.run) (named_plan A) s f) → RunMeans (moves_there (run_at A.run) (named_plan A) h.reached.around h.reached.middle.scope) (run_parts (run_at A.run) f)
+        → RunNames A.program (run_at A.run) (named_plan A) (pinned_function A.program A.run.span (named_plan A).pins f) h.reached.around h.reached.middle.scope }
+{
+    named_plans_name_types();
+    params_and_locals_are_apart();
+    exits_have_their_own_names();
+    fresh_names_are_found();
+    runs_name_lifetimes_of_the_text();
+    untyped_lets_stay_round_runs();
+    outs_are_identifiers();
+}
 
 /// A run that is decided of is selected: where the name of its plan is free, the names of its function have meanings, also with kinds and
 /// types written out, and the run stands there as is asked and is come to.
