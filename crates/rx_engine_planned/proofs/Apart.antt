@@ -1,6 +1,6 @@
 -- No variable is both a param and a local of a run that is reached: where it is wholly set it stands.
-use Rattle.std.proofs.Common.{◌≡◌, ℕ, Bool, true, false, if◌then◌else◌, List, [], ◌∷◌, ◌++◌, refl, sym, ap, ◌∙◌, subst}
-use Rattle.rx_lower_walks.specs.Walks.{Among, here, there, IsWalk}
+use Rattle.std.proofs.Common.{◌≡◌, ℕ, Bool, true, false, if◌then◌else◌, List, [], ◌∷◌, sym, ◌∙◌}
+use Rattle.rx_lower_walks.specs.Walks.{Among, here, there}
 use Rattle.rx_lower_walks.specs.Actions.{Action}
 use Rattle.rx_facts_along.specs.Along.{after}
 use Rattle.rx_facts_init.specs.Setting.{setting, AllSet}
@@ -9,9 +9,9 @@ use Rattle.rx_typed.specs.Tree.{own}
 use Rattle.rx_exits_marks.specs.Points.{enters}
 use Rattle.rx_exits_marks.specs.Marked.{shown, marked}
 use Rattle.rx_exits_marks.proofs.Marks.{none_new}
-use Rattle.rx_exits_plan.specs.Asked.{Asked, ComesTo, IsLocal, IsParam}
+use Rattle.rx_exits_plan.specs.Asked.{Asked, ComesTo}
 use Rattle.rx_exits_plan.specs.Occurrences.{those}
-use Rattle.rx_exits_plan.specs.Plan.{foreign_of, variables_of, Chosen, none, taken, left, IsPlan, Plan}
+use Rattle.rx_exits_plan.specs.Plan.{variables_of, Chosen, none, taken, left, IsPlan, Plan}
 use Rattle.rx_exits_plan.specs.Unreachable.{NoneComes}
 use Rattle.rx_meaning_keeping.specs.Ready.{HasPart}
 use Rattle.rx_meaning_keeping.proofs.Parts.{parted}

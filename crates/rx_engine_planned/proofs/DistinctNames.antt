@@ -1,9 +1,8 @@
 -- The params and locals of a plan have names of their own, since no variable is both, and names tell these variables apart.
-use Rattle.std.proofs.Common.{◌≡◌, ℕ, Bool, true, false, ◌||◌, List, [], ◌∷◌, ◌++◌, get_or, refl, sym, ap, ◌∙◌, subst, ◌⊎◌, inl, inr}
+use Rattle.std.proofs.Common.{◌≡◌, ℕ, Bool, true, false, ◌||◌, List, [], ◌∷◌, ◌++◌, get_or, refl, sym, subst}
 use Rattle.std.specs.Str.{bytes_eq}
 use Rattle.rx_tree.specs.Lists.{Every}
 use Rattle.rx_lower_walks.specs.Walks.{Among, here, there}
-use Rattle.rx_lower_walks.specs.Actions.{Action}
 use Rattle.rx_modes_policy.specs.declared.uses.Mode.{Mode}
 use Rattle.rx_typeck_typed.specs.declared.typed.TypedFn.{TypedFn}
 use Rattle.rx_hoist_extraction.specs.Names.{Names, is_among, Distinct}

@@ -1,5 +1,5 @@
 -- The exits of a plan have names of their own, where each loop round the run stands there once: by induction on the loops.
-use Rattle.std.proofs.Common.{◌≡◌, ◌≢◌, ℕ, zero, suc, ◌+◌, ◌≤◌, ◌<◌, ◌^◌, arith, Bool, true, false, ◌||◌, if◌then◌else◌, List, [], ◌∷◌, ◌++◌, length, map, get_or, codes, refl, sym, ap, ◌∙◌, subst, eq-eqb}
+use Rattle.std.proofs.Common.{◌≡◌, ◌≢◌, ℕ, suc, ◌+◌, ◌≤◌, ◌<◌, ◌^◌, arith, Bool, true, false, ◌||◌, if◌then◌else◌, List, [], ◌∷◌, ◌++◌, length, map, get_or, codes, refl, sym, ap, ◌∙◌, subst, eq-eqb}
 use Rattle.std.specs.Prelude.{◌==◌}
 use Rattle.std.specs.Fmt.{decimal}
 use Rattle.std.specs.Str.{bytes_eq}
@@ -10,17 +10,16 @@ use Rattle.rx_tree.proofs.NodesLaws.{every_both}
 use Rattle.rx_typeck_typed.specs.declared.typed.TypedFn.{TypedFn}
 use Rattle.rx_exits_marks.specs.Points as points
 use Rattle.rx_exits_marks.specs.Points.{next, breaks, continues, returns}
-use Rattle.rx_exits_marks.specs.Runs.{Home, Run}
 use Rattle.rx_exits_plan.specs.Asked.{Asked}
 use Rattle.rx_exits_plan.specs.Diverging.{run_diverges}
-use Rattle.rx_exits_plan.specs.Exits.{exits, is_taken, jumps, of_loops, where_taken, Jump}
+use Rattle.rx_exits_plan.specs.Exits.{is_taken, jumps, of_loops, where_taken, Jump}
 use Rattle.rx_exits_plan.specs.Occurrences.{has_number}
-use Rattle.rx_exits_plan.specs.PlainPlan.{plain-Exit, plan_of, IsExitPlan}
+use Rattle.rx_exits_plan.specs.PlainPlan.{plain-Exit, IsExitPlan}
 use Rattle.rx_exits_plan.specs.declared.plan.Exit.{Exit as ListedExit}
 use Rattle.rx_exits_plan.specs.declared.plan.Exit.TheVariants as listed
 use Rattle.rx_exits_plan.specs.declared.plan.ExitOuts.{ExitOuts}
 use Rattle.rx_hoist_extraction.specs.Names.{Names, is_among, Distinct}
-use Rattle.rx_hoist_extraction.specs.Plan.{Exit, exit_name, to_break, to_continue, to_next, to_return, Leaving}
+use Rattle.rx_hoist_extraction.specs.Plan.{Exit, exit_name, to_break, to_continue, to_next, to_return}
 use Rattle.rx_hoist_extraction.proofs.FreshNames.{unlike}
 use Rattle.rx_hoist_naming.specs.NamedPlan.{named_exit, named_leaving, named_plan, names_in, place_of, Told}
 use Rattle.rx_engine_names.specs.NewPlan.{exit_names}

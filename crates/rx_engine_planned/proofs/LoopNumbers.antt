@@ -1,20 +1,20 @@
 -- The loops of a function have numbers that rise from a loop to those in it, and are no more than the loops of the text: by induction over
 -- the tree, along the walk that numbers it.
-use Rattle.std.proofs.Common.{◌≡◌, ℕ, zero, suc, ◌+◌, ◌≤◌, ◌<◌, Bool, true, false, ◌&&◌, List, [], ◌∷◌, ◌++◌, length, Option, Some, None, refl, sym, ap, ◌∙◌, subst, arith, length-append, length-set}
+use Rattle.std.proofs.Common.{◌≡◌, ℕ, suc, ◌+◌, ◌≤◌, ◌<◌, Bool, true, false, List, [], ◌∷◌, ◌++◌, length, Option, Some, None, refl, sym, ◌∙◌, subst, arith, length-append, length-set}
 use Rattle.rx_core.specs.declared.types.Span.{Span}
 use Rattle.rx_tree.specs.Plain as plain
 use Rattle.rx_tree.specs.Plain.{PatternTree, PatternTrees, FieldPatterns, TypeTree, TypeTrees, Expression, Expressions, OptionalExpression, OptionalExpressions, FieldExpressions, Statement, Statements, Function, Parameter}
-use Rattle.rx_tree.specs.Positions.{NodeTree, an_expression, a_block, a_statement, a_pattern}
-use Rattle.rx_tree.specs.Nodes.{below_pattern, within_patterns, below_expression, within_expressions, within_optional, within_arguments, within_fields, within_arms, below_block, below_statement, within_statements, within_type, total}
+use Rattle.rx_tree.specs.Positions.{NodeTree, an_expression, a_block, a_pattern}
+use Rattle.rx_tree.specs.Nodes.{below_pattern, below_expression, within_expressions, within_optional, within_arguments, within_fields, within_arms, below_block, below_statement, within_statements, within_type, total}
 use Rattle.rx_tree.specs.Size.{loops_at}
 use Rattle.rx_tree.proofs.NodesLaws.{total_both}
 use Rattle.rx_resolve_names.specs.declared.resolved.NodeNames.{NodeNames}
 use Rattle.rx_typed.specs.declared.nodes.Site.{Site}
 use Rattle.rx_typed.specs.declared.nodes.Stage.{Stage}
 use Rattle.rx_typed.specs.Named as named
-use Rattle.rx_typed.specs.Named.{Exp, Exps, Else, Fields, Arms, Body, Pattern, pattern_node, whole_binding, never, root}
+use Rattle.rx_typed.specs.Named.{Exp, Exps, Else, Fields, Arms, Body, Pattern, pattern_node, whole_binding, root}
 use Rattle.rx_typed.specs.Naming as naming
-use Rattle.rx_typed.specs.Naming.{Cursor, Numbering, a_node, an_entry, taken, of_pattern, of_patterns, of_field_patterns, of_type, of_types, passed_on, function_named}
+use Rattle.rx_typed.specs.Naming.{Cursor, a_node, an_entry, taken, of_pattern, of_patterns, of_field_patterns, of_type, of_types, passed_on, function_named}
 
 abbrev T : List NodeTree → ℕ
 T ns = total loops_at ns

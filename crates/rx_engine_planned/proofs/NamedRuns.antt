@@ -1,7 +1,7 @@
 -- What an extraction asks of the names in a run and its plan, put together.
-use Rattle.std.proofs.Common.{◌≡◌, ◌≤◌, ◌+◌, ◌^◌, ℕ, true, List, [], ◌∷◌, ◌++◌, length, Some, refl, sym, ap, ◌∙◌, subst}
+use Rattle.std.proofs.Common.{◌≡◌, ◌≤◌, ◌+◌, ◌^◌, ℕ, true, List, [], ◌∷◌, ◌++◌, length, Some, sym, subst}
 use Rattle.rx_core.specs.declared.types.Span.{Span}
-use Rattle.rx_tree.specs.Lists.{nth, Every}
+use Rattle.rx_tree.specs.Lists.{Every}
 use Rattle.rx_tree.specs.Plain as plain
 use Rattle.rx_tree.specs.Plain.{Body, Function}
 use Rattle.rx_tree.specs.Positions.{a_block, descend}

@@ -1,5 +1,5 @@
 -- The names of what an exit hands out are identifiers of the text, since the function declares these variables.
-use Rattle.std.proofs.Common.{◌≡◌, ℕ, zero, suc, ◌<◌, ◌≤◌, arith, Bool, true, false, if◌then◌else◌, List, [], ◌∷◌, length, map, get_or, refl}
+use Rattle.std.proofs.Common.{ℕ, zero, suc, ◌<◌, arith, Bool, true, false, if◌then◌else◌, List, [], ◌∷◌, length, map, get_or}
 use Rattle.rx_tree.specs.Lists.{Every}
 use Rattle.rx_typeck_typed.specs.declared.typed.TypedFn.{TypedFn}
 use Rattle.rx_exits_plan.specs.Asked.{Asked}

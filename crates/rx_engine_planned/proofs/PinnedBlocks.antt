@@ -3,15 +3,14 @@
 use Rattle.std.proofs.Common.{◌≡◌, ℕ, zero, suc, List, [], ◌∷◌, ◌++◌, Option, Some, None, option_map, slice_get, refl, sym, ap, ◌∙◌, subst}
 use Rattle.rx_core.specs.declared.types.Span.{Span}
 use Rattle.rx_tree.specs.Plain as plain
-use Rattle.rx_tree.specs.Plain.{TypeTree, PatternTree, Expression, Expressions, OptionalExpression, OptionalExpressions, FieldExpressions, Arms, Body, Statement, Statements, Function, ProgramTree}
-use Rattle.rx_tree.specs.Spans.{pattern_span}
-use Rattle.rx_tree.specs.Positions.{NodeTree, an_item, a_type, a_block, a_statement, an_expression, a_pattern, optional_type_nodes, expression_nodes, optional_nodes, argument_nodes, field_nodes, arm_nodes, statement_nodes, children, descend}
+use Rattle.rx_tree.specs.Plain.{TypeTree, PatternTree, Expression, Expressions, OptionalExpression, FieldExpressions, Arms, Body, Statement, Statements, Function, ProgramTree}
+use Rattle.rx_tree.specs.Positions.{NodeTree, an_item, a_type, a_block, a_statement, an_expression, a_pattern, optional_type_nodes, expression_nodes, optional_nodes, field_nodes, arm_nodes, statement_nodes, children, descend}
 use Rattle.rx_resolve_names.specs.Meant.{Around, a_loop, a_test}
 use Rattle.rx_hoist_extraction.specs.Names.{Names, bound, bound_by, behind_all}
 use Rattle.rx_hoist_extraction.specs.Plan.{Pins}
-use Rattle.rx_hoist_extraction.specs.Changed.{Changes, changed, changed_all, changed_optional, changed_arguments, changed_fields, changed_arms, changed_body, changed_statement, changed_statements}
+use Rattle.rx_hoist_extraction.specs.Changed.{Changes, changed, changed_all, changed_optional, changed_fields, changed_arms, changed_body, changed_statement, changed_statements}
 use Rattle.rx_hoist_extraction.specs.WrittenTypes.{elided}
-use Rattle.rx_hoist_extraction.specs.Pinned.{at_place, pinning, pinned_type}
+use Rattle.rx_hoist_extraction.specs.Pinned.{pinning, pinned_type}
 use Rattle.rx_select.proofs.Ways.{no_block}
 use Rattle.rx_engine_names.specs.KeptWays.{KeepsWay, StaysUntyped}
 

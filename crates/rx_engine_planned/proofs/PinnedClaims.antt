@@ -1,11 +1,10 @@
 -- What holds of the names and jumps in a run of the text holds of the run where kinds and types are written out. By induction over all
 -- forms.
-use Rattle.std.proofs.Common.{◌≡◌, ℕ, zero, suc, ◌+◌, ◌-◌, ◌≤◌, nat_le, Bool, true, false, List, [], ◌∷◌, ◌++◌, length, take, drop, Option, Some, None, refl, sym, ap, ◌∙◌, subst}
+use Rattle.std.proofs.Common.{◌≡◌, ℕ, zero, suc, ◌+◌, ◌-◌, nat_le, Bool, true, false, List, [], ◌∷◌, ◌++◌, length, take, drop, Option, Some, None, refl, sym, ap, ◌∙◌, subst}
 use Rattle.rx_core.specs.declared.types.Span.{Span}
-use Rattle.rx_tree.specs.declared.tree.Ident.{Ident}
 use Rattle.rx_tree.specs.Plain as plain
 use Rattle.rx_tree.specs.Plain.{TypeTree, Expression, Expressions, OptionalExpression, OptionalExpressions, FieldExpressions, Arms, Body, Statement, Statements, Function, ProgramTree}
-use Rattle.rx_tree.specs.Lists.{listed, statements, tail}
+use Rattle.rx_tree.specs.Lists.{listed}
 use Rattle.rx_tree.specs.Positions.{a_block, descend}
 use Rattle.rx_resolve_names.specs.Meant.{Around, a_loop, a_test}
 use Rattle.rx_hoist_extraction.specs.Names.{Names, bound, bound_by, behind_all}

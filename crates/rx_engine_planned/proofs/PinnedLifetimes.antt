@@ -1,19 +1,19 @@
 -- The lifetimes that types in a function name are the same where kinds and types are written out, since a type that is made names none. By
 -- induction over all forms.
-use Rattle.std.proofs.Common.{◌≡◌, ℕ, List, [], ◌∷◌, ◌++◌, Option, Some, None, option_map, refl, sym, ap, ◌∙◌}
+use Rattle.std.proofs.Common.{◌≡◌, List, [], ◌∷◌, ◌++◌, Option, Some, None, option_map, refl, sym, ap, ◌∙◌}
 use Rattle.rx_core.specs.declared.types.Span.{Span}
 use Rattle.rx_core.specs.declared.types.Kind.{Kind}
 use Rattle.rx_tree.specs.declared.tree.Ident.{Ident}
 use Rattle.rx_tree.specs.Plain as plain
-use Rattle.rx_tree.specs.Plain.{TypeTree, PatternTree, Expression, Expressions, OptionalExpression, OptionalExpressions, FieldExpressions, Arms, Body, Statement, Statements, ProgramTree}
+use Rattle.rx_tree.specs.Plain.{TypeTree, PatternTree, Expression, Expressions, OptionalExpression, FieldExpressions, Arms, Body, Statement, Statements, ProgramTree}
 use Rattle.rx_tree.specs.Spans.{pattern_span}
-use Rattle.rx_tree.specs.Positions.{NodeTree, an_item, a_type, a_block, a_statement, an_expression, a_pattern}
-use Rattle.rx_tree.specs.Nodes.{below_type, within_types, within_type, below_pattern, below_expression, within_expressions, within_optional, within_arguments, within_fields, within_arms, below_block, below_statement, within_statements}
+use Rattle.rx_tree.specs.Positions.{NodeTree, a_type, a_block, an_expression}
+use Rattle.rx_tree.specs.Nodes.{below_type, within_types, within_type, below_pattern, below_expression, within_expressions, within_optional, within_fields, within_arms, below_block, below_statement, within_statements}
 use Rattle.rx_typed.specs.Types.{Typ, Shape, Shapes, integer, boolean, tuple_of, reference, named, no_shape, shape_and}
 use Rattle.rx_resolve_names.specs.Meant.{Around, a_loop, a_test}
 use Rattle.rx_hoist_extraction.specs.Names.{Names, bound, bound_by, behind_all}
 use Rattle.rx_hoist_extraction.specs.Plan.{Pins}
-use Rattle.rx_hoist_extraction.specs.Changed.{Changes, changed, changed_all, changed_optional, changed_arguments, changed_fields, changed_arms, changed_body, changed_statement, changed_statements}
+use Rattle.rx_hoist_extraction.specs.Changed.{Changes, changed, changed_all, changed_optional, changed_fields, changed_arms, changed_body, changed_statement, changed_statements}
 use Rattle.rx_hoist_extraction.specs.Pinned.{at_place, pinning, pinned_type}
 use Rattle.rx_hoist_extraction.specs.WrittenTypes.{elided, all_elided}
 use Rattle.rx_hoist_extraction.specs.NewFunction.{lifetimes_at, lifetimes_at_all}

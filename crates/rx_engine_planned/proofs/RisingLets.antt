@@ -1,16 +1,16 @@
 -- The patterns of `let`s without a type begin further and further on in a text: its nodes stand in one another, or one behind the other,
 -- and the initialiser of a `let` stands behind its pattern. By induction on how many nodes there are.
-use Rattle.std.proofs.Common.{◌≡◌, ℕ, zero, suc, ◌+◌, ◌≤◌, ◌<◌, arith, List, [], ◌∷◌, ◌++◌, length, map, Option, Some, None, refl, sym, ap, ◌∙◌, subst, length-append, append-nil}
+use Rattle.std.proofs.Common.{◌≡◌, ℕ, zero, suc, ◌+◌, ◌≤◌, ◌<◌, arith, List, [], ◌∷◌, ◌++◌, length, map, Some, None, refl, sym, ap, ◌∙◌, subst, length-append, append-nil}
 use Rattle.rx_core.specs.declared.types.Span.{Span}
 use Rattle.rx_tree.specs.Plain as plain
-use Rattle.rx_tree.specs.Plain.{TypeTree, TypeTrees, PatternTree, PatternTrees, FieldPatterns, Expression, OptionalExpression, FieldOf, VariantOf, ItemTree, Statement}
+use Rattle.rx_tree.specs.Plain.{TypeTree, TypeTrees, PatternTree, PatternTrees, FieldPatterns, OptionalExpression, FieldOf, VariantOf}
 use Rattle.rx_tree.specs.Lists.{Every}
 use Rattle.rx_tree.specs.Spans.{expression_span, node_span, pattern_span}
 use Rattle.rx_tree.specs.Positions.{NodeTree, an_item, a_type, a_block, a_statement, an_expression, a_pattern, children}
 use Rattle.rx_tree.specs.Nodes.{below, below_type, within_types, below_pattern, within_patterns, within_field_patterns, within_declared, within_variants, below_expression, below_statement}
 use Rattle.rx_tree.proofs.NodesLaws.{joined, below_is, every_front, every_behind}
 use Rattle.rx_lex.specs.Tok.{Tok}
-use Rattle.rx_select.proofs.Rows.{InOrder, Nested, Laid, order_above}
+use Rattle.rx_select.proofs.Rows.{InOrder, Laid}
 use Rattle.rx_engine_names.proofs.RisingBlocks.{append_apart, Rising, rising_near, rising_both}
 
 -- ---- where the patterns of `let`s without a type begin

@@ -5,9 +5,9 @@ use Rattle.std.specs.Prelude.{◌==◌}
 use Rattle.std.proofs.lemmas.Bool.{eqb-true, le-leb, and_from}
 use Rattle.rx_core.specs.declared.types.Span.{Span}
 use Rattle.rx_tree.specs.Plain as plain
-use Rattle.rx_tree.specs.Plain.{PatternTree, Expression, OptionalExpression, Body, Parameter, TypeTree, Function, ItemTree, ProgramTree, Statement}
+use Rattle.rx_tree.specs.Plain.{PatternTree, Expression, OptionalExpression, Body, Parameter, TypeTree, Function, ItemTree, ProgramTree}
 use Rattle.rx_tree.specs.Lists.{Every, nth}
-use Rattle.rx_tree.specs.Spans.{expression_span, node_span, pattern_span}
+use Rattle.rx_tree.specs.Spans.{expression_span, pattern_span}
 use Rattle.rx_tree.specs.Positions.{NodeTree, an_item, a_type, a_block, a_statement, an_expression, a_pattern, children, descend, parameter_nodes, optional_type_nodes}
 use Rattle.rx_tree.specs.Nodes.{below, below_block, within_parameters, within_type}
 use Rattle.rx_tree.proofs.NodesLaws.{joined, below_is, every_front, every_behind, every_both}

@@ -1,23 +1,23 @@
 -- The lifetimes that types in a run name are lifetimes of the text, also where kinds and types are written out.
-use Rattle.std.proofs.Common.{◌≡◌, ℕ, zero, suc, Bool, true, false, ◌||◌, if◌then◌else◌, List, [], ◌∷◌, ◌++◌, map, take, drop, Option, Some, None, slice_get, refl, sym, ap, ◌∙◌, subst, inl, inr}
+use Rattle.std.proofs.Common.{◌≡◌, ℕ, zero, suc, Bool, true, false, if◌then◌else◌, List, [], ◌∷◌, ◌++◌, take, drop, Option, Some, None, slice_get, refl, sym, ap, ◌∙◌, subst, inl, inr}
 use Rattle.std.specs.Str.{bytes_eq}
 use Rattle.std.proofs.lemmas.Bool.{or_left, or_right}
 use Rattle.std.proofs.lemmas.Slice.Eq.{bytes_eq-Decides}
 use Rattle.rx_core.specs.declared.types.Span.{Span}
 use Rattle.rx_tree.specs.declared.tree.Ident.{Ident}
 use Rattle.rx_tree.specs.Plain as plain
-use Rattle.rx_tree.specs.Plain.{Expression, OptionalExpression, Body, Statement, Statements, Function, ProgramTree}
-use Rattle.rx_tree.specs.Lists.{listed, nth, statements, tail, Every}
+use Rattle.rx_tree.specs.Plain.{OptionalExpression, Body, Statement, Statements, Function, ProgramTree}
+use Rattle.rx_tree.specs.Lists.{listed, nth, Every}
 use Rattle.rx_tree.specs.Positions.{NodeTree, an_item, a_type, a_block, a_statement, an_expression, a_pattern, children, descend}
 use Rattle.rx_tree.specs.Nodes.{below, below_block, below_statement, within_optional, within_statements}
-use Rattle.rx_tree.proofs.NodesLaws.{joined, below_is, every_both, every_front, every_behind}
+use Rattle.rx_tree.proofs.NodesLaws.{below_is, every_both, every_front, every_behind}
 use Rattle.rx_lex.specs.Tok.{Tok}
 use Rattle.rx_lex.proofs.TokenLaws.{lexes_one}
 use Rattle.rx_parse_grammar.specs.grammar.Words.{IsLifetime}
 use Rattle.rx_select.specs.OneText.{OneText}
 use Rattle.rx_select.specs.Selected.{IsToken}
 use Rattle.rx_hoist_extraction.specs.Names.{Names, is_among}
-use Rattle.rx_hoist_extraction.specs.Run.{Parts, Run, as_block, as_statements, chosen, chosen_parts, goes_past, run_block, run_parts, tail_if}
+use Rattle.rx_hoist_extraction.specs.Run.{Run, as_block, as_statements, chosen, chosen_parts, goes_past, run_block, run_parts, tail_if}
 use Rattle.rx_hoist_extraction.specs.Plan.{Pins}
 use Rattle.rx_hoist_extraction.specs.Changed.{changed_body}
 use Rattle.rx_hoist_extraction.specs.Pinned.{pinning, pinned_function}

@@ -1,19 +1,18 @@
 -- The lifetimes that types in the functions of a text name are lifetimes among its tokens: by induction on the derivation, of any claim that
 -- holds of each such token's text.
-use Rattle.std.proofs.Common.{◌≡◌, ℕ, zero, suc, Bool, List, [], ◌∷◌, ◌++◌, Option, Some, None, refl, subst}
+use Rattle.std.proofs.Common.{◌≡◌, ℕ, zero, suc, Bool, List, [], ◌∷◌, ◌++◌, Option, Some, refl, subst}
 use Rattle.std.proofs.Common.{inl, inr}
-use Rattle.std.specs.Prelude.{◌⊎◌}
 use Rattle.rx_core.specs.declared.types.Span.{Span}
 use Rattle.rx_tree.specs.declared.tree.Ident.{Ident}
 use Rattle.rx_tree.specs.Plain as plain
-use Rattle.rx_tree.specs.Plain.{TypeTree, TypeTrees, PatternTree, PatternTrees, FieldPatterns, Expression, OptionalExpression, Body, Statement, Function, ItemTree, ProgramTree}
+use Rattle.rx_tree.specs.Plain.{TypeTree, PatternTree, PatternTrees, FieldPatterns, Expression, OptionalExpression, Body, Statement, Function, ItemTree, ProgramTree}
 use Rattle.rx_tree.specs.PlainOf.{types_of, expressions_of, field_expressions_of, arms_of, statements_of}
 use Rattle.rx_tree.specs.Lists.{nth, Every}
-use Rattle.rx_tree.specs.Positions.{NodeTree, an_item, a_type, a_block, a_statement, an_expression, a_pattern}
+use Rattle.rx_tree.specs.Positions.{NodeTree, a_type, a_block, an_expression, a_pattern}
 use Rattle.rx_tree.specs.Nodes.{below_type, within_types, within_type, below_pattern, within_patterns, within_field_patterns, below_expression, within_expressions, within_optional, within_fields, within_arms, below_block, below_statement, within_statements}
 use Rattle.rx_tree.proofs.NodesLaws.{every_both}
 use Rattle.rx_lex.specs.Tok.{Tok}
-use Rattle.rx_parse_grammar.specs.grammar.Words.{IsLifetime, IsListOf, no_element, last_element, element, ident, second_ampersand}
+use Rattle.rx_parse_grammar.specs.grammar.Words.{IsLifetime, IsListOf, no_element, last_element, element, second_ampersand}
 use Rattle.rx_parse_grammar.specs.grammar.Types as types
 use Rattle.rx_parse_grammar.specs.grammar.Types.{IsType, AreTypes, IsReferenceLifetime, IsLifetimeArgument, anonymous, anonymous_argument, lifetime, lifetime_argument, no_lifetime}
 use Rattle.rx_parse_grammar.specs.grammar.Expressions as g

@@ -1,5 +1,5 @@
 -- In the typed tree of a function the loops round each block, jump and return stand there once: their numbers rise inwards.
-use Rattle.std.proofs.Common.{◌≡◌, ℕ, suc, ◌+◌, ◌≤◌, ◌<◌, ◌==◌, ◌||◌, Bool, true, false, ◌&&◌, Option, None, List, [], ◌∷◌, ◌++◌, refl, arith, eqb-true}
+use Rattle.std.proofs.Common.{◌≡◌, ℕ, suc, ◌≤◌, ◌<◌, ◌==◌, ◌||◌, Bool, true, false, ◌&&◌, None, List, [], ◌∷◌, ◌++◌, refl, arith, eqb-true}
 use Rattle.rx_tree.specs.Lists.{Every}
 use Rattle.rx_tree.proofs.NodesLaws.{every_both}
 use Rattle.rx_tree.specs.declared.tree.BinaryOp.{BinaryOp}

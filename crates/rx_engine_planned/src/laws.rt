@@ -26,8 +26,9 @@ ghost use Rattle.rx_exits_plan.specs.Plan.{IsPlan, Plan};
 ghost use Rattle.rx_exits_plan.specs.PlainPlan.{IsExitPlan};
 ghost use Rattle.rx_exits_plan.specs.Unreachable.{At, Unreachable};
 ghost use Rattle.rx_hoist_extraction.specs.Names.{behind_all, is_among, Distinct};
-ghost use Rattle.rx_hoist_extraction.specs.Plan.{names_of, outs_of, Exit as NamedExit, Pins};
+ghost use Rattle.rx_hoist_extraction.specs.Plan.{names_of, outs_of, Bounds, Exit as NamedExit, Pins};
 ghost use Rattle.rx_hoist_extraction.specs.NewFunction.{copied_lifetimes, signature_positions};
+ghost use Rattle.rx_hoist_extraction.specs.Extraction.{extraction};
 ghost use Rattle.rx_hoist_extraction.specs.FreeName.{FreeName};
 ghost use Rattle.rx_hoist_extraction.specs.OwnLifetimes.{idents};
 ghost use Rattle.rx_hoist_extraction.specs.Pinned.{pinned_function};
@@ -35,7 +36,8 @@ ghost use Rattle.rx_hoist_extraction.specs.Run.{as_statements, run_parts, Run};
 ghost use Rattle.rx_hoist_names.specs.Words.{identifiers};
 ghost use Rattle.rx_hoist_naming.specs.NamedPlan.{Told, named_plan};
 ghost use Rattle.rx_hoist_words.specs.Words.{OutsAgree};
-ghost use Rattle.rx_engine_names.specs.Extractions.{moves_there, RunNames};
+ghost use Rattle.rx_engine_names.specs.Extractions.{moves_there, CallNames, ExtractionAlike, RunNames};
+ghost use Rattle.rx_engine_names.specs.Insertion.{Inserted};
 ghost use Rattle.rx_engine_names.specs.KeptWays.{KeepsMaybe};
 ghost use Rattle.rx_engine_names.specs.Moves.{rounds, Moves};
 ghost use Rattle.rx_engine_names.specs.NewFunction.{param_names};
@@ -156,4 +158,18 @@ pub fn outs_are_identifiers()
         → (e : NamedExit) → Every (λ (x : List ℕ). is_among x (named_plan A).identifiers ≡ true) (names_of (outs_of e (named_plan A).exits)) }
 {
     runs_have_names();
+}
+
+/// The extraction of a run that is decided of, as a whole, by its plan by names: its names have meanings, and the trees of its functions are
+/// like those of the text. Asked besides: what the run of the text says of its own names where it is entered, and what is asked of the call.
+pub fn decided_extractions_are_alike()
+    ensures { (A : Told) (q : Asked) (bytes : List ℕ) (names : List ItemNames) (t : Typed) (muts : List Bool) → Decided A q bytes names t muts → (s : Span) (f : Function) → nth A.program A.run.function ≡ Some (plain.function_item s f)
+        → (h : RunSelected A.program (run_at A.run) (named_plan A) s f) → RunMeans (moves_there (run_at A.run) (named_plan A) h.reached.around h.reached.middle.scope) (run_parts (run_at A.run) f)
+        → CallNames A.program (run_at A.run) (named_plan A) s (pinned_function A.program A.run.span (named_plan A).pins f) → (bounds : Bounds)
+        → (run : RunNames A.program (run_at A.run) (named_plan A) (pinned_function A.program A.run.span (named_plan A).pins f) h.reached.around h.reached.middle.scope)
+        × (c : Inserted A.program (extraction A.program (run_at A.run) (named_plan A) bounds))
+        × ExtractionAlike A.program (run_at A.run) (named_plan A) bounds c s f h.text h.reached.around h.reached.middle.scope run }
+{
+    runs_are_named();
+    named_plans_name_types();
 }

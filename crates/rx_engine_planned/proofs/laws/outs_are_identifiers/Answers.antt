@@ -1,4 +1,4 @@
-use Rattle.std.proofs.Common.{◌≡◌, ◌∙◌, List, Option, subst, sym, true}
+use Rattle.std.proofs.Common.{◌≡◌, ◌∙◌, Option, subst, sym, true}
 use Rattle.rx_tree.specs.Lists.{Every}
 use Rattle.rx_tree.specs.Plain.{ItemTree}
 use Rattle.rx_hoist_extraction.specs.Names.{is_among}

@@ -1,4 +1,4 @@
-use Rattle.std.proofs.Common.{◌∙◌, ap, Option, List, drop, slice_get, subst, sym, Some}
+use Rattle.std.proofs.Common.{◌∙◌, ap, Option, drop, slice_get, subst, sym, Some}
 use Rattle.rx_tree.specs.Plain.{ItemTree}
 use Rattle.rx_tree.specs.Positions.{a_block}
 use Rattle.rx_hoist_nodes.specs.Nodes.{nodes_of}
