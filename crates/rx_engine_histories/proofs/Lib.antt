@@ -23,6 +23,9 @@ pub mod Runs
 pub mod Counting
 pub mod Bare
 pub mod Sole
+pub mod Meeting
+pub mod Leading
+pub mod Jumps
 pub mod SameRun
 pub mod MarkedRun
 pub mod ReadingRun

@@ -1,14 +1,16 @@
 -- Behind an action that stands at one place, a walk may go on as any other does that holds it: walks are paths through the graph.
-use Rattle.std.proofs.Common.{◌≡◌, ℕ, List, [], ◌∷◌, ◌++◌, Some, refl, sym, ap, ◌∙◌, subst}
-use Rattle.rx_typed.specs.Tree.{Function}
+use Rattle.std.proofs.Common.{◌≡◌, ℕ, true, List, [], ◌∷◌, ◌++◌, Some, refl, sym, ap, ◌∙◌, subst}
+use Rattle.rx_typed.specs.Tree.{variable, Function}
 use Rattle.rx_lower_walks.specs.Actions.{Action}
 use Rattle.rx_lower_walks.specs.Walks.{IsWalk}
 use Rattle.rx_lower_graph.specs.Graph.{Site, site_at, Path}
 use Rattle.rx_lower_graph.specs.Pieces.{graph}
 use Rattle.rx_lower_graph.proofs.Sites.{paths_are_walks_of}
-use Rattle.rx_facts_along.specs.Along.{Arrives}
+use Rattle.rx_facts_along.specs.Along.{Arrives, ahead}
 use Rattle.rx_facts_along.proofs.Ways.{path_through, through, only}
+use Rattle.rx_facts_live.specs.Live.{living}
 use Rattle.rx_engine_histories.specs.OneSite.{StandsOnce}
+use Rattle.rx_engine_histories.specs.OnePlace.{Meets, alike, ends_in_one, ends_in_other, LeadsToOnePlace}
 
 -- the site of an action of a walk, the way to it, and the path on
 record At (f : Function) (a : Action) (w us : List Action) : Type 0 where
@@ -35,3 +37,13 @@ recombined f a once w v us h k =
   where
     one : (a b : Site) → Some a ≡ Some b → a ≡ b
     one a b h = cc
+
+-- so it leads to one place
+pub sole_leads : (f : Function) (a : Action) → StandsOnce f a → LeadsToOnePlace f a
+sole_leads f a once w v us h k = (us, alike, recombined f a once w v us h k)
+
+-- what ends behind it is not used
+pub ahead_meets : (x : ℕ) {us vs : List Action} → Meets us vs → ahead (living (variable x)) us ≡ true → ahead (living (variable x)) vs ≡ true
+ahead_meets x alike e = e
+ahead_meets x (ends_in_one h) e = ahead_meets x h e
+ahead_meets x (ends_in_other h) e = ahead_meets x h e

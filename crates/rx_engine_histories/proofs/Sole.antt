@@ -24,19 +24,19 @@ use Rattle.rx_engine_histories.proofs.Bare.{NoMarks, no_marks, not_it, none_coun
 
 -- ---- patterns
 
-of_testing : (S : Subject) (ts : List PartTest) (r : Order) → NoMarks (testing S ts r) → NoMarks r
+pub of_testing : (S : Subject) (ts : List PartTest) (r : Order) → NoMarks (testing S ts r) → NoMarks r
 of_testing S [] r h = h
 of_testing S (t ∷ ts) r h = of_testing S ts r h.1.0
 
-of_binding : (S : Subject) (bs : List Binding) (n : ℕ) (r : Order) → NoMarks (binding S bs n r) → NoMarks r
+pub of_binding : (S : Subject) (bs : List Binding) (n : ℕ) (r : Order) → NoMarks (binding S bs n r) → NoMarks r
 of_binding S [] n r h = h
 of_binding S (b ∷ bs) n r h = of_binding S bs n r h.1.1.1
 
-of_declaring : (s : ℕ) (xs : List ℕ) (n : ℕ) (r : Order) → NoMarks (declaring s xs n r) → NoMarks r
+pub of_declaring : (s : ℕ) (xs : List ℕ) (n : ℕ) (r : Order) → NoMarks (declaring s xs n r) → NoMarks r
 of_declaring s [] n r h = h
 of_declaring s (x ∷ xs) n r h = of_declaring s xs n r h.1
 
-of_beginning : (ps : List Parameter) (n : ℕ) (r : Order) → NoMarks (beginning ps n r) → NoMarks r
+pub of_beginning : (ps : List Parameter) (n : ℕ) (r : Order) → NoMarks (beginning ps n r) → NoMarks r
 of_beginning [] n r h = h
 of_beginning (p ∷ ps) n r h = of_beginning ps n r h.1.1
 
@@ -64,20 +64,20 @@ beginning_count k (p ∷ ps) n r = let h = beginning_count k ps n r in omega (ar
 -- ---- trees
 
 -- blocks and jumps, by weights
-abbrev weighed : (Around → ℕ → Body → ℕ) → (ℕ → Bool → ℕ) → List Spot → ℕ
+abbrev pub weighed : (Around → ℕ → Body → ℕ) → (ℕ → Bool → ℕ) → List Spot → ℕ
 weighed w v [] = 0
 weighed w v (a_block a n b ∷ ss) = w a n b + weighed w v ss
 weighed w v (a_jump a n l again ∷ ss) = v l again + weighed w v ss
 weighed w v (a_return a n ∷ ss) = weighed w v ss
 
-weighed_both : (w : Around → ℕ → Body → ℕ) (v : ℕ → Bool → ℕ) (l m : List Spot) → weighed w v (l ++ m) ≡ weighed w v l + weighed w v m
+pub weighed_both : (w : Around → ℕ → Body → ℕ) (v : ℕ → Bool → ℕ) (l m : List Spot) → weighed w v (l ++ m) ≡ weighed w v l + weighed w v m
 weighed_both w v [] m = omega arith
 weighed_both w v (a_block a n b ∷ l) m = let h = weighed_both w v l m in omega (arith, h)
 weighed_both w v (a_jump a n k again ∷ l) m = let h = weighed_both w v l m in omega (arith, h)
 weighed_both w v (a_return a n ∷ l) m = weighed_both w v l m
 
 -- what is put at blocks, jumps and returns has no more of them than the weights say
-record Light (k : ℕ) (C : Changes) (w : Around → ℕ → Body → ℕ) (v : ℕ → Bool → ℕ) : Type 0 where
+pub record Light (k : ℕ) (C : Changes) (w : Around → ℕ → Body → ℕ) (v : ℕ → Bool → ℕ) : Type 0 where
   pub jump_mark : (m : Mark) (l : ℕ) (again : Bool) → mark_of (C.at_jump m l again) ≡ m
   pub return_mark : (e : Exp) → mark_of (C.at_return e) ≡ mark_of e
   pub at_block : (a : Around) (n : ℕ) (was b : Body) (d f : Temporary) (i : ℕ) → NoMarks (order_body was n f) → count k (order_body b n d) ≤ i → count k (order_body (C.at_block n was b) n d) ≤ w a n was + i
@@ -111,7 +111,7 @@ module _ (k : ℕ) (C : Changes) (w : Around → ℕ → Body → ℕ) (u : ℕ 
   same_fields no_operand = refl
   same_fields (operand_and i e es) = ap (λ l. i ∷ l) (same_fields es)
 
-  built : (v : Making) (es : Operands) (c : Bool) → makes_mark v (fields_of es) (temporaries_of es) ≡ false → one_if (makes_mark v (fields_of (changed_all C es)) (temporaries_of (changed_all C es)) && c) ≡ 0
+  pub built : (v : Making) (es : Operands) (c : Bool) → makes_mark v (fields_of es) (temporaries_of es) ≡ false → one_if (makes_mark v (fields_of (changed_all C es)) (temporaries_of (changed_all C es)) && c) ≡ 0
   built v es c e = not_it (makes_mark v (fields_of (changed_all C es)) (temporaries_of (changed_all C es))) c
       (ap (λ is. makes_mark v is (temporaries_of (changed_all C es))) (same_fields es) ∙ ap (λ ts. makes_mark v (fields_of es) ts) (same_temporaries es) ∙ e)
 
@@ -184,7 +184,7 @@ declaring_map s [] n q r f h = f h
 declaring_map s (x ∷ xs) n q r f h = (h.0, declaring_map s xs n q r f h.1)
 
 mutual
-  anywhere : (e : Exp) (d f : Temporary) → NoMarks (order e f) → NoMarks (order e d)
+  pub anywhere : (e : Exp) (d f : Temporary) → NoMarks (order e f) → NoMarks (order e d)
   anywhere (read m v p) d f h = h
   anywhere (borrow m b p) d f h = h
   anywhere (share m e) d f h = h
@@ -206,7 +206,7 @@ mutual
   anywhere_arms S no_arm d f h = h
   anywhere_arms S (arm_and p e l) d f h = (testing_map S (tests [] p) (binding S (bindings [] p) (mark_of e).node (order e f)) (binding S (bindings [] p) (mark_of e).node (order e d)) (λ i. binding_map S (bindings [] p) (mark_of e).node (order e f) (order e d) (λ j. anywhere e d f j) i) h.0, anywhere_arms S l d f h.1)
 
-  anywhere_body : (b : Body) (n : ℕ) (d f : Temporary) → NoMarks (order_body b n f) → NoMarks (order_body b n d)
+  pub anywhere_body : (b : Body) (n : ℕ) (d f : Temporary) → NoMarks (order_body b n f) → NoMarks (order_body b n d)
   anywhere_body (ends e) n d f h = anywhere e d f h
   anywhere_body (runs e b) n d f h = (h.0, anywhere_body b n d f h.1)
   anywhere_body (declares s xs b) n d f h = declaring_map s xs n (order_body b n f) (order_body b n d) (λ i. anywhere_body b n d f i) h
@@ -214,27 +214,27 @@ mutual
 
 -- ---- statements
 
-abbrev Free : Statement → Type 0
+abbrev pub Free : Statement → Type 0
 Free (does e) = NoMarks (order e (temporary_of e))
 Free (begins s xs) = Unit {0}
 Free (binds s p c) = NoMarks (order_scrutinee c)
 
-abbrev AllFree : List Statement → Type 0
+abbrev pub AllFree : List Statement → Type 0
 AllFree [] = Unit {0}
 AllFree (s ∷ ss) = Free s × AllFree ss
 
-all_free : (b : Body) (n : ℕ) (d : Temporary) → NoMarks (order_body b n d) → AllFree (statements b) × NoMarks (order (tail b) d)
+pub all_free : (b : Body) (n : ℕ) (d : Temporary) → NoMarks (order_body b n d) → AllFree (statements b) × NoMarks (order (tail b) d)
 all_free (ends e) n d h = (tt, h)
 all_free (runs e b) n d h = let z = all_free b n d h.1 in ((h.0, z.0), z.1)
 all_free (declares s xs b) n d h = let z = all_free b n d (of_declaring s xs n (order_body b n d) h) in ((tt, z.0), z.1)
 all_free (lets s p c b) n d h = let z = all_free b n d (of_binding (subject c) (bindings [] p) n (order_body b n d) h.1) in ((h.0, z.0), z.1)
 
-take_free : (i : ℕ) (ss : List Statement) → AllFree ss → AllFree (take i ss)
+pub take_free : (i : ℕ) (ss : List Statement) → AllFree ss → AllFree (take i ss)
 take_free zero ss h = tt
 take_free (suc i) [] h = tt
 take_free (suc i) (s ∷ ss) h = (h.0, take_free i ss h.1)
 
-drop_free : (i : ℕ) (ss : List Statement) → AllFree ss → AllFree (drop i ss)
+pub drop_free : (i : ℕ) (ss : List Statement) → AllFree ss → AllFree (drop i ss)
 drop_free zero ss h = h
 drop_free (suc i) [] h = tt
 drop_free (suc i) (s ∷ ss) h = drop_free i ss h.1
@@ -247,7 +247,7 @@ before_count k (binds s p c ∷ ss) b n d h =
     let x = none_counted k (order_scrutinee c) h.0 in let t = binding_count k (subject c) (bindings [] p) n (order_body (before ss b) n d) in let y = before_count k ss b n d h.1 in omega (arith, x, y, t)
 
 -- no block weighs
-abbrev light : Around → ℕ → Body → ℕ
+abbrev pub light : Around → ℕ → Body → ℕ
 light a n b = 0
 
 module _ (k : ℕ) (C : Changes) (v : ℕ → Bool → ℕ) (K : Light k C light v) where
@@ -265,7 +265,7 @@ module _ (k : ℕ) (C : Changes) (v : ℕ → Bool → ℕ) (K : Light k C light
 
 -- ---- the run's block
 
-differ : (n m : ℕ) → (n ≡ m → ⊥) → (n == m) ≡ false
+pub differ : (n m : ℕ) → (n ≡ m → ⊥) → (n == m) ≡ false
 differ n m h = by (n == m) refl
   where
     by : (b : Bool) → (n == m) ≡ b → (n == m) ≡ false
@@ -273,7 +273,7 @@ differ n m h = by (n == m) refl
     by false e = e
 
 -- a jump weighs where it is marked with this number
-abbrev jump_weight : ℕ → List ℕ → ℕ → Bool → ℕ
+abbrev pub jump_weight : ℕ → List ℕ → ℕ → Bool → ℕ
 jump_weight k ls l again = if is_among l ls then one_if (number (leaves (jump_exit l again)) == k) else 0
 
 jump_count : (k : ℕ) (t : Bool) (m : Mark) (l : ℕ) (again : Bool) (d : Temporary)
@@ -285,7 +285,7 @@ jump_keeps : (t : Bool) (p : Point) (m : Mark) (l : ℕ) (again : Bool) → mark
 jump_keeps true p m l again = refl
 jump_keeps false p m l again = refl
 
-passing_light : (k : ℕ) (ls : List ℕ) → Light k (passing ls) light (jump_weight k ls)
+pub passing_light : (k : ℕ) (ls : List ℕ) → Light k (passing ls) light (jump_weight k ls)
 passing_light k ls = record {
   jump_mark = λ m l again. jump_keeps (is_among l ls) (leaves (jump_exit l again)) m l again;
   return_mark = λ e. refl;
@@ -299,7 +299,7 @@ reads_count k [] b n d = refl
 reads_count k (y ∷ ys) b n d = let h = reads_count k ys b n d in omega (arith, h)
 
 -- its end's mark, and those of the jumps of the run
-abbrev inner : ℕ → List ℕ → Run → Around → Body → ℕ
+abbrev pub inner : ℕ → List ℕ → Run → Around → Body → ℕ
 inner k ls r a b = one_if (1 == k) + weighed light (jump_weight k ls) (spots_in_statements (past (in_front r b) a) (inside r b))
 
 block_count : (k : ℕ) → (0 == k) ≡ false → (r : Run) (ls xs : List ℕ) (a : Around) (b : Body) (n : ℕ) (d f : Temporary) → NoMarks (order_body b n f) → count k (order_body (running_body r ls xs b) n d) ≤ inner k ls r a b
@@ -324,14 +324,14 @@ chosen : (k : ℕ) → (0 == k) ≡ false → (t : Bool) (r : Run) (ls xs : List
 chosen k nz true r ls xs a was b n d f i h c = let x = block_count k nz r ls xs a was n d f h in omega (arith, x)
 chosen k nz false r ls xs a was b n d f i h c = omega (arith, c)
 
-abbrev of_run : ℕ → List ℕ → Run → Around → ℕ → Body → ℕ
+abbrev pub of_run : ℕ → List ℕ → Run → Around → ℕ → Body → ℕ
 of_run k ls r a n b = if n == r.block then inner k ls r a b else 0
 
 -- no jump weighs
-abbrev free : ℕ → Bool → ℕ
+abbrev pub free : ℕ → Bool → ℕ
 free l again = 0
 
-block_light : (k : ℕ) → (0 == k) ≡ false → (r : Run) (ls xs : List ℕ) → Light k (in_the_block r ls xs) (of_run k ls r) free
+pub block_light : (k : ℕ) → (0 == k) ≡ false → (r : Run) (ls xs : List ℕ) → Light k (in_the_block r ls xs) (of_run k ls r) free
 block_light k nz r ls xs = record {
   jump_mark = λ m l again. refl;
   return_mark = λ e. refl;
@@ -378,7 +378,7 @@ end_stands_once r ls xs f h few_blocks =
 
 -- ---- an exit that one jump takes
 
-block_there : (n : ℕ) (c : Around) (d : Body) (l : List Spot) → Among (a_block c n d) l → 1 ≤ blocks_at n l
+pub block_there : (n : ℕ) (c : Around) (d : Body) (l : List Spot) → Among (a_block c n d) l → 1 ≤ blocks_at n l
 block_there n c d [] i = elim i [ ]
 block_there n c d (a_block _ _ _ ∷ l) here = by (n == n) ((Decides-eqb n n).1 refl)
   where
@@ -440,7 +440,7 @@ as_taken x ls (a_return a n ∷ l) = by (number (leaves returns) == number (leav
     by true h = omega (arith, h)
     by false h = h
 
-jump_numbers : (l : ℕ) (again : Bool) → ((0 == number (leaves (jump_exit l again))) ≡ false) × ((1 == number (leaves (jump_exit l again))) ≡ false)
+pub jump_numbers : (l : ℕ) (again : Bool) → ((0 == number (leaves (jump_exit l again))) ≡ false) × ((1 == number (leaves (jump_exit l again))) ≡ false)
 jump_numbers l true = (differ 0 (4 + 2 * l) (λ e. omega (arith, e)), differ 1 (4 + 2 * l) (λ e. omega (arith, e)))
 jump_numbers l false = (differ 0 (3 + 2 * l) (λ e. omega (arith, e)), differ 1 (3 + 2 * l) (λ e. omega (arith, e)))
 

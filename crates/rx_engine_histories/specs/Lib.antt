@@ -6,3 +6,4 @@ pub mod OneSite
 pub mod Running
 pub mod Reading
 pub mod Premises
+pub mod OnePlace

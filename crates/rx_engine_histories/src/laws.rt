@@ -12,7 +12,7 @@ ghost use Rattle.rx_facts_init.specs.Initialised.{Initialised};
 ghost use Rattle.rx_exits_marks.specs.Blocks.{before};
 ghost use Rattle.rx_exits_marks.specs.Runs.{Run, Home, inside};
 ghost use Rattle.rx_exits_marks.specs.Points.{Exit, next, returns, jump_exit, Point, enters, leaves};
-ghost use Rattle.rx_exits_marks.specs.Marked.{mark, entering, shown, marked};
+ghost use Rattle.rx_exits_marks.specs.Marked.{mark, entering, shown, marked, is_among};
 ghost use Rattle.rx_exits_marks.specs.Spots.{a_block, spots_of_function};
 ghost use Rattle.rx_exits_plan.specs.Exits.{leaving, spots_in_statements, at_start};
 ghost use Rattle.rx_exits_marks.specs.Coming.{HasNoMark};
@@ -32,6 +32,7 @@ ghost use Rattle.rx_engine_histories.specs.Premises.{known_of, InFront, ByMark, 
 ghost use Rattle.rx_engine_histories.specs.Reading.{ReadingEntry};
 ghost use Rattle.rx_engine_histories.specs.Running.{running, running_of, MarkedEntry};
 ghost use Rattle.rx_engine_histories.specs.OneSite.{StandsOnce, blocks_at, times_taken};
+ghost use Rattle.rx_engine_histories.specs.OnePlace.{LeadsToOnePlace, loops_of};
 ghost use Rattle.rx_engine_histories.specs.AboutRun.{special_of, about_run, marked_with, text_of};
 ghost use Rattle.rx_engine_histories.specs.Accepted.{Accepted};
 ghost use Rattle.rx_engine_histories.specs.Ambiguous.{moves_perhaps, behind_it, branching};
@@ -85,7 +86,12 @@ pub fn walks_go_on_alike()
     ensures { (f : Function) (a : Action) → StandsOnce f a → (w v us : ListOf Action) → IsWalk f (w ++ a ∷ us) → IsWalk f (v ++ a ∷ []) → IsWalk f (v ++ a ∷ us) }
 {}
 
-/// So the mark at the end of a run does in the text that runs, where the function has no mark of its own and one block of the run's node.
+/// So such an action leads to one place.
+pub fn sole_actions_lead_to_one_place()
+    ensures { (f : Function) (a : Action) → StandsOnce f a → LeadsToOnePlace f a }
+{}
+
+/// The mark at the end of a run stands at one place of the text that runs, where the function has no mark of its own and one block of the run's node.
 pub fn ends_stand_once()
     ensures { (r : Run) (ls xs : ListOf ℕ) (f : Function) → HasNoMark (order_function f) → blocks_at r.block (spots_of_function f) ≤ 1 → StandsOnce (running r ls xs f) (shown (leaves next)) }
 {}
@@ -95,6 +101,14 @@ pub fn single_jumps_stand_once()
     ensures { (r : Run) (h : Home) (xs : ListOf ℕ) (f : Function) (l : ℕ) (again : Bool) → HasNoMark (order_function f) → blocks_at r.block (spots_of_function f) ≤ 1
         → Among (a_block h.around r.block h.body) (spots_of_function f) → times_taken (jump_exit l again) (leaving h.around.loops (spots_in_statements (at_start r h) (inside r h.body))) ≤ 1
         → StandsOnce (running r h.around.loops xs f) (shown (leaves (jump_exit l again))) }
+{}
+
+/// The marks of a `break` or `continue` lead to one place, however many jumps of the run take it, where no loop in the run has the number of
+/// the loop that they leave.
+pub fn jumps_lead_to_one_place()
+    ensures { (r : Run) (h : Home) (xs : ListOf ℕ) (f : Function) (l : ℕ) (again : Bool) → HasNoMark (order_function f) → blocks_at r.block (spots_of_function f) ≤ 1
+        → Among (a_block h.around r.block h.body) (spots_of_function f) → is_among l (loops_of (inside r h.body)) ≡ false
+        → LeadsToOnePlace (running r h.around.loops xs f) (shown (leaves (jump_exit l again))) }
 {}
 
 /// A history that comes to a body that begins with a mark goes on to the mark.
