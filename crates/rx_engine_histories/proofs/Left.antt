@@ -14,10 +14,10 @@ use Rattle.rx_engine_simulation.specs.Sights.{In}
 use Rattle.rx_engine_simulation.specs.Programs.{back, IsHistory, Untouched, facts_of}
 use Rattle.rx_engine_histories.specs.AboutRun.{special_of, about_run, marked_with, text_of}
 use Rattle.rx_engine_histories.specs.Accepted.{Accepted}
-use Rattle.rx_engine_histories.specs.OneSite.{StandsOnce}
+use Rattle.rx_engine_histories.specs.OnePlace.{LeadsToOnePlace}
 use Rattle.rx_engine_histories.proofs.Since.{back_both, next_walk}
 use Rattle.rx_engine_histories.proofs.Points.{written_at}
-use Rattle.rx_engine_histories.proofs.Recombining.{recombined}
+use Rattle.rx_engine_histories.proofs.Recombining.{ahead_meets}
 use Rattle.rx_engine_histories.proofs.Lasting.{found_standing, ahead_living}
 use Rattle.rx_engine_histories.proofs.Living.{dead_behind}
 use Rattle.rx_engine_histories.proofs.Choosing.{out_is, not_chosen, special_is, elsewhere_offered, offered_named}
@@ -38,10 +38,10 @@ pub others_dead : (A : Asked) (k : Plan) → IsPlan A k → (u : Untouched (text
     → (h : List Action) → Living (facts_of (text_of A k) (about_run A k) u) x (shown (leaves e) ∷ h) → ⊥
 others_dead A k p u e x i n s none h l = dead_behind A k u e x (not_chosen (p.outs e i n) (elsewhere_offered A k p x (special_is A k p x s)) none) h l
 
--- where the exit's mark stands at one place, each history that comes there goes on as the walk on which the variable is live
-pub out_living : (A : Asked) (muts : List Bool) → Accepted A muts → (k : Plan) (p : IsPlan A k) (u : Untouched (text_of A k) (about_run A k)) (e : Exit) (x : ℕ) → StandsOnce (text_of A k) (shown (leaves e)) → Among e k.exits → Among x (k.outs e)
+-- where the exit's marks lead to one place, each history that comes to one goes on as the walk on which the variable is live
+pub out_living : (A : Asked) (muts : List Bool) → Accepted A muts → (k : Plan) (p : IsPlan A k) (u : Untouched (text_of A k) (about_run A k)) (e : Exit) (x : ℕ) → LeadsToOnePlace (text_of A k) (shown (leaves e)) → Among e k.exits → Among x (k.outs e)
     → (h : List Action) → IsHistory (text_of A k) (shown (leaves e) ∷ h) → Living (facts_of (text_of A k) (about_run A k) u) x (shown (leaves e) ∷ h)
 out_living A muts acc k p u e x once i o h c =
     let l = (out_is A k p e i x o).1 in
-    let w = recombined (text_of A k) (shown (leaves e)) once l.0 (back h []) l.1 l.2 (next_walk (text_of A k) (shown (leaves e)) h c) in
-    ahead_living (text_of A k) x (λ a g q v. found_standing A muts acc k p x a g q v) (special_of A k) u l.1 (shown (leaves e) ∷ h) (subst (λ v. IsWalk (text_of A k) v) (sym (back_both h (shown (leaves e) ∷ l.1))) w) l.3
+    let w = once l.0 (back h []) l.1 l.2 (next_walk (text_of A k) (shown (leaves e)) h c) in
+    ahead_living (text_of A k) x (λ a g q v. found_standing A muts acc k p x a g q v) (special_of A k) u w.0 (shown (leaves e) ∷ h) (subst (λ v. IsWalk (text_of A k) v) (sym (back_both h (shown (leaves e) ∷ w.0))) w.2) (ahead_meets x w.1 l.3)

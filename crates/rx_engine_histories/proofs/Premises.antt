@@ -22,7 +22,7 @@ use Rattle.rx_engine_simulation.specs.Marks.{reading, with_mark}
 use Rattle.rx_engine_simulation.proofs.MarksTell.{comes_on}
 use Rattle.rx_engine_histories.specs.AboutRun.{special_of, about_run}
 use Rattle.rx_engine_histories.specs.Running.{running_of}
-use Rattle.rx_engine_histories.specs.OneSite.{StandsOnce}
+use Rattle.rx_engine_histories.specs.OnePlace.{LeadsToOnePlace}
 use Rattle.rx_engine_histories.specs.Accepted.{Accepted}
 use Rattle.rx_engine_histories.specs.Premises.{known_of, InFront, ByMark, NotHanded}
 use Rattle.rx_engine_histories.proofs.Entered.{living_entered}
@@ -48,7 +48,7 @@ module _ (A : Asked) (k : Plan) (u : Untouched (running_of A k.params) (about_ru
     pub local_dead : (r : Stretch) (rest : Body) (x : ℕ) (h : List Action) → Among x k.locals → InFront A k u r rest h → Living (known_of A k u) x h → ⊥
     local_dead r rest x h m (i, t, c) l = running_local_dead A short k plan muts accepted u x m (before (reading k.params r) rest) i t h c l
 
-    pub out_ready : (e : Exit) (a : Aim) (x : ℕ) → ByMark A k u e a → e ≢ returns → StandsOnce (running_of A k.params) (shown (leaves e)) → ¬ (PartlyMoved A k x) → Among e k.exits → Among x (k.outs e) → IsReady (known_of A k u) a x
+    pub out_ready : (e : Exit) (a : Aim) (x : ℕ) → ByMark A k u e a → e ≢ returns → LeadsToOnePlace (running_of A k.params) (shown (leaves e)) → ¬ (PartlyMoved A k x) → Among e k.exits → Among x (k.outs e) → IsReady (known_of A k u) a x
     out_ready e a x by_mark not_return once whole i o h arrives =
         let n = by_mark h arrives in
         let good = subst (λ h. IsHistory (running_of A k.params) h) n.1 n.2 in (

@@ -24,13 +24,13 @@ use Rattle.rx_engine_simulation.specs.Programs.{back, IsHistory, Untouched, fact
 use Rattle.rx_engine_histories.specs.AboutRun.{special_of, about_run, marked_with, text_of}
 use Rattle.rx_engine_histories.specs.Accepted.{Accepted}
 use Rattle.rx_engine_histories.specs.Running.{running_of}
-use Rattle.rx_engine_histories.specs.OneSite.{StandsOnce}
+use Rattle.rx_engine_histories.specs.OnePlace.{LeadsToOnePlace}
 use Rattle.rx_engine_histories.proofs.Since.{since, after_back, back_put, back_both, next_walk, history_walk, walk_history}
 use Rattle.rx_engine_histories.proofs.Setting.{stands_written}
 use Rattle.rx_engine_histories.proofs.Further.{returned, More, no_more, kept, put_in, cut_more, with_returns}
 use Rattle.rx_engine_histories.proofs.Returning.{running_further}
 use Rattle.rx_engine_histories.proofs.Nearer.{without_returns, cut_back, ahead_less}
-use Rattle.rx_engine_histories.proofs.Recombining.{recombined}
+use Rattle.rx_engine_histories.proofs.Recombining.{ahead_meets}
 use Rattle.rx_engine_histories.proofs.Points.{comes_to_mark, shorter, walk_back, stands_at, lost_at}
 use Rattle.rx_engine_histories.proofs.Living.{living_ahead}
 use Rattle.rx_engine_histories.proofs.Choosing.{param_named, local_named, out_is, not_chosen, special_is, elsewhere_offered, offered_named}
@@ -191,13 +191,13 @@ module _ (A : Asked) (short : A.run.tail ≡ false) (k : Plan) (p : IsPlan A k) 
         lost_not_ahead (text_of A k) x (λ a h q u. found_standing A muts acc k p x a h q u) y.rest (put y.front []) (subst (λ l. IsWalk (text_of A k) l) (y.is ∙ sym (back_put y.front [] y.rest)) w.1)
         (same_since A short k.params (standing x []) refl refl h y.front y.in_front ∙ e) (ahead_more x y.behind z.live)
 
-    -- what is handed out is living behind the exit's mark, where that stands at one place
-    pub running_out_living : (u : Untouched text (about_run A k)) (e : Exit) (x : ℕ) → e ≢ returns → StandsOnce text (shown (leaves e)) → Among e k.exits → Among x (k.outs e)
+    -- what is handed out is living behind the exit's mark, where its marks lead to one place
+    pub running_out_living : (u : Untouched text (about_run A k)) (e : Exit) (x : ℕ) → e ≢ returns → LeadsToOnePlace text (shown (leaves e)) → Among e k.exits → Among x (k.outs e)
         → (h : List Action) → IsHistory text (shown (leaves e) ∷ h) → Living (facts_of text (about_run A k) u) x (shown (leaves e) ∷ h)
     running_out_living u e x n once i o h c =
         let l = (out_is A k p e i x o).1 in
         let z = without_returns (running_further A.run A.home.around.loops k.params short A.function) (fronts l.2.2 (l.0 ++ shown (leaves e) ∷ l.1) l.2.0 refl) in
         let y = cut_back (shown (leaves e)) (λ q. n (not_returned e q)) l.0 l.1 refl z.more in
         let v : IsWalk text (y.front ++ shown (leaves e) ∷ y.behind) = ([], stopped, subst (λ l. Walk (order_function text) l stopped) (y.is ∙ sym (append-nil (y.front ++ shown (leaves e) ∷ y.behind))) z.walk) in
-        let w = recombined text (shown (leaves e)) once y.front (back h []) y.behind v (next_walk text (shown (leaves e)) h c) in
-        ahead_living text x (λ a g q r. running_found x a g q r) (special_of A k) u y.behind (shown (leaves e) ∷ h) (subst (λ v. IsWalk text v) (sym (back_both h (shown (leaves e) ∷ y.behind))) w) (ahead_less x y.more l.3)
+        let w = once y.front (back h []) y.behind v (next_walk text (shown (leaves e)) h c) in
+        ahead_living text x (λ a g q r. running_found x a g q r) (special_of A k) u w.0 (shown (leaves e) ∷ h) (subst (λ v. IsWalk text v) (sym (back_both h (shown (leaves e) ∷ w.0))) w.2) (ahead_meets x w.1 (ahead_less x y.more l.3))

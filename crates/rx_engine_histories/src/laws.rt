@@ -74,10 +74,10 @@ pub fn outs_are_written()
         → (h : ListOf Action) → IsHistory (marked_with A xs) (shown (leaves e) ∷ h) → Written h x }
 {}
 
-/// It is living behind the exit's mark, where this stands at one place of the text.
+/// It is living behind each mark of the exit, where these lead to one place.
 pub fn outs_are_living()
     ensures { (A : Asked) (muts : ListOf Bool) → Accepted A muts → (k : Plan) → IsPlan A k → (u : Untouched (text_of A k) (about_run A k)) (e : Exit) (x : ℕ)
-        → StandsOnce (text_of A k) (shown (leaves e)) → Among e k.exits → Among x (k.outs e)
+        → LeadsToOnePlace (text_of A k) (shown (leaves e)) → Among e k.exits → Among x (k.outs e)
         → (h : ListOf Action) → IsHistory (text_of A k) (shown (leaves e) ∷ h) → Living (facts_of (text_of A k) (about_run A k) u) x (shown (leaves e) ∷ h) }
 {}
 
@@ -149,14 +149,14 @@ pub fn running_texts_are_entered_so()
 {}
 
 /// And where the run is left by its end or by a `break` or a `continue`: what is handed out was written, and is living
-/// where the exit's mark stands at one place, and nothing else that may be elsewhere is.
+/// where the exit's marks lead to one place, and nothing else that may be elsewhere is.
 pub fn running_texts_are_left_so()
     ensures written { (A : Asked) → A.run.tail ≡ false → (xs : ListOf ℕ) (muts : ListOf Bool) → Accepted A muts → (k : Plan) → IsPlan A k → (e : Exit) (x : ℕ) → ¬ (PartlyMoved A k x)
         → Among e k.exits → Among x (k.outs e) → (h : ListOf Action) → IsHistory (running_of A xs) (shown (leaves e) ∷ h) → Written h x }
     ensures others { (A : Asked) → A.run.tail ≡ false → (k : Plan) → IsPlan A k → (u : Untouched (running_of A k.params) (about_run A k)) (e : Exit) (x : ℕ) → Among e k.exits → e ≢ returns
         → In x (special_of A k) → (Among x (k.outs e) → ⊥) → (h : ListOf Action) → Living (facts_of (running_of A k.params) (about_run A k) u) x (shown (leaves e) ∷ h) → ⊥ }
     ensures living { (A : Asked) → A.run.tail ≡ false → (k : Plan) → IsPlan A k → (muts : ListOf Bool) → Accepted A muts → (u : Untouched (running_of A k.params) (about_run A k)) (e : Exit) (x : ℕ)
-        → e ≢ returns → StandsOnce (running_of A k.params) (shown (leaves e)) → Among e k.exits → Among x (k.outs e)
+        → e ≢ returns → LeadsToOnePlace (running_of A k.params) (shown (leaves e)) → Among e k.exits → Among x (k.outs e)
         → (h : ListOf Action) → IsHistory (running_of A k.params) (shown (leaves e) ∷ h) → Living (facts_of (running_of A k.params) (about_run A k) u) x (shown (leaves e) ∷ h) }
     ensures untouched { (A : Asked) → A.run.tail ≡ false → (k : Plan) → IsPlan A k → (muts : ListOf Bool) → Accepted A muts → ((x : ℕ) → ¬ (Aliased A muts k x))
         → Untouched (running_of A k.params) (about_run A k) }
@@ -188,7 +188,7 @@ pub fn plans_give_what_calls_ask()
     ensures dead { (A : Asked) (k : Plan) (u : Untouched (running_of A k.params) (about_run A k)) → A.run.tail ≡ false → IsPlan A k → (e : Exit) (a : Aim) (R : Renaming)
         → ByMark A k u e a → e ≢ returns → Among e k.exits → NotHanded A k e R → AreDead (known_of A k u) R a }
     ensures ready { (A : Asked) (k : Plan) (u : Untouched (running_of A k.params) (about_run A k)) → A.run.tail ≡ false → IsPlan A k → (muts : ListOf Bool) → Accepted A muts
-        → (e : Exit) (a : Aim) (x : ℕ) → ByMark A k u e a → e ≢ returns → StandsOnce (running_of A k.params) (shown (leaves e)) → ¬ (PartlyMoved A k x) → Among e k.exits → Among x (k.outs e)
+        → (e : Exit) (a : Aim) (x : ℕ) → ByMark A k u e a → e ≢ returns → LeadsToOnePlace (running_of A k.params) (shown (leaves e)) → ¬ (PartlyMoved A k x) → Among e k.exits → Among x (k.outs e)
         → IsReady (known_of A k u) a x }
     ensures unlent { (A : Asked) (k : Plan) (u : Untouched (running_of A k.params) (about_run A k)) → A.run.tail ≡ false → IsPlan A k → (muts : ListOf Bool) → Accepted A muts
         → ((x : ℕ) → ¬ (Aliased A muts k x)) → (b : Body) (x : ℕ) → In x (special_of A k) → slice_get muts x ≡ Some true → IsUnlent (known_of A k u) b x }
