@@ -1,6 +1,6 @@
 //! Laws, each the contract of a function that does nothing.
 
-ghost use Rattle.std.specs.Prelude.{ℕ, Bool, ◌≤◌, List as ListOf};
+ghost use Rattle.std.specs.Prelude.{◌≡◌, ℕ, Bool, false, ◌≤◌, List as ListOf};
 ghost use Rattle.rx_core.specs.declared.types.Span.{Span};
 ghost use Rattle.rx_tree.specs.Plain.{Function as FunctionTree, ProgramTree};
 ghost use Rattle.rx_tree.specs.Size.{IsNumbered};
@@ -17,13 +17,14 @@ ghost use Rattle.rx_typed.specs.Naming.{function_named};
 ghost use Rattle.rx_typed.specs.Elaborated.{Assigned, elaborated};
 ghost use Rattle.rx_exits_marks.specs.Spots.{spots_of_function};
 ghost use Rattle.rx_engine_histories.specs.OneSite.{blocks_at, times_taken, StandsOnce};
+ghost use Rattle.rx_engine_histories.specs.OnePlace.{LeadsToOnePlace, loops_of};
 ghost use Rattle.rx_engine_histories.specs.Running.{running};
 ghost use Rattle.rx_exits_marks.specs.Points.{next, jump_exit, leaves};
 ghost use Rattle.rx_exits_plan.specs.Exits.{leaving, spots_in_statements, at_start};
-ghost use Rattle.rx_exits_marks.specs.Marked.{shown};
+ghost use Rattle.rx_exits_marks.specs.Marked.{shown, is_among};
 ghost use Rattle.rx_engine_ready.specs.AskedOf.{asked_of};
 
-use rx_engine_histories::{ends_stand_once, single_jumps_stand_once};
+use rx_engine_histories::{ends_stand_once, jumps_lead_to_one_place, single_jumps_stand_once};
 use rx_hoist_words::runs_have_names;
 use rx_meaning_initial::typed_functions_stand;
 use rx_typeck_laws::{signatures_are_well_formed, sizes_are_sized};
@@ -66,6 +67,20 @@ pub fn single_jumps_of_runs_stand_once()
         → StandsOnce (running r h.around.loops xs (plain-TypedTree f.tree)) (shown (leaves (jump_exit l again))) }
 {
     single_jumps_stand_once();
+    blocks_have_their_nodes();
+    typed_functions_stand();
+    signatures_are_well_formed();
+    sizes_are_sized();
+}
+
+/// The marks of a `break` or `continue` lead to one place, however many jumps of the run take it, where no loop in the run has the number of
+/// the loop that they leave.
+pub fn jumps_of_runs_lead_to_one_place()
+    ensures { (p : ProgramTree) (t : Typed) → IsNumbered p → IsFront p t → (f : TypedFn) → Among f t.functions → (r : Run) (h : Home) → Sits (plain-TypedTree f.tree) r h → (xs : ListOf ℕ) (l : ℕ) (again : Bool)
+        → is_among l (loops_of (inside r h.body)) ≡ false
+        → LeadsToOnePlace (running r h.around.loops xs (plain-TypedTree f.tree)) (shown (leaves (jump_exit l again))) }
+{
+    jumps_lead_to_one_place();
     blocks_have_their_nodes();
     typed_functions_stand();
     signatures_are_well_formed();
