@@ -1,0 +1,10 @@
+pub mod Tracing
+pub mod Matching
+pub mod Variables
+pub mod Copies
+pub mod Entered
+pub mod Handing
+pub mod Planned
+pub mod Fates
+pub mod Calls
+pub mod Forgotten

@@ -1,0 +1,10 @@
+//! The extraction keeps initialisation: walks of a new program come from walks of the text. Laws, and no code.
+#![tactic(auto)]
+
+mod laws;
+
+pub use laws::{
+    calls_match, exits_match, fates_keep_facts, forgotten_outs_are_unset,
+    functions_are_initialised, marked_texts_are_initialised, params_and_locals_match,
+    plans_tell_where_runs_are_entered_and_left, walks_come_from_walks, what_holds_there_holds_here,
+};
