@@ -29,7 +29,7 @@ pub exits_so : (A : Asked) (k : Plan) → IsPlan A k → (S : Sides) → Sized S
     → Among e k.exits → StandsOnce (text_of A k) (shown (leaves e)) → ((x : ℕ) → ¬ (PartlyMoved A k x)) → MeetsMark S (leaves e) q
     → (xs : List ℕ) → AllFor R xs (k.outs e) → (l : List Action) → Handing xs l → (s : Order) → Straight s l → (n : ℕ) (t : Temporary) → Matches (world S) R (giving s n t) q
 exits_so A k plan S sized acc o R e q i once whole meets xs outs l d s f n t =
-    is_gone (giving_gone S (parted S.frame sized) (parted S.frame_there (subst (λ (F : Frame). Sized F.declared F.sizes) (sym o.types) acc.sized)) R (shown (leaves e)) q meets xs (λ w c x m. by w c (outs x m)) d s f n t)
+    is_gone (giving_gone S (parted S.frame sized) (parted S.frame_there (subst (λ (F : Frame). Sized F.declared F.sizes) (sym o.types) acc.sized)) R (shown (leaves e)) q xs (λ w r x m. by w (meets w r) (outs x m)) d s f n t)
   where
     there_too : (w vs : List Action) → IsWalk S.text (w ++ vs) → IsWalk (text_of A k) (w ++ vs)
     there_too w vs c = subst (λ g. IsWalk g (w ++ vs)) o.text c

@@ -76,7 +76,7 @@ module _ (S : Sides) (new : Parted S.frame) (old : Parted S.frame_there) (R : Kn
       (λ q. eq-eqb u y (R.one_there x u y (subst (λ k. Among (as_itself k u) R.variables) (eqb-true z x q) j) i))
       (λ q. eq-eqb z x (R.one_here z x y (subst (λ k. Among (as_itself z k) R.variables) (eqb-true u y q) j) i))
 
-  own_there : (x y n m : ℕ) → is_part S.frame (own x) n ≡ true → LikePart S x y n m → is_part S.frame_there (own y) m ≡ true
+  pub own_there : (x y n m : ℕ) → is_part S.frame (own x) n ≡ true → LikePart S x y n m → is_part S.frame_there (own y) m ≡ true
   own_there x y n m h l = sym (l [] [] both_end) ∙ h
 
   part_same : (x y n m z u : ℕ) → Among (as_itself x y) R.variables → is_part S.frame (own x) n ≡ true → LikePart S x y n m → Among (as_itself z u) R.variables
@@ -171,7 +171,7 @@ module _ (S : Sides) (new : Parted S.frame) (old : Parted S.frame_there) (R : Kn
   easy_assigns x y j easy_print h = no h
   easy_assigns x y j easy_give h = no h
 
-  leaves_sets : (y m : ℕ) → is_part S.frame_there (own y) m ≡ true → (b : Act) → LeavesIt b y → sets S.frame_there m b ≡ true → ⊥
+  pub leaves_sets : (y m : ℕ) → is_part S.frame_there (own y) m ≡ true → (b : Act) → LeavesIt b y → sets S.frame_there m b ≡ true → ⊥
   leaves_sets y m k (Write p t ss) l h = root_is S.frame_there old y m k p.root p.steps (and_right (not (is_behind p.steps)) (is_part S.frame_there p m) h) l
   leaves_sets y m k (Declare z) l h = no h
   leaves_sets y m k (Dead z) l h = no h
@@ -184,7 +184,7 @@ module _ (S : Sides) (new : Parted S.frame) (old : Parted S.frame_there) (R : Kn
   leaves_sets y m k (Print t) l h = no h
   leaves_sets y m k (Give t) l h = no h
 
-  leaves_regains : (y : ℕ) (qs : List Step) (b : Act) → LeavesIt b y → regains y qs b ≡ true → ⊥
+  pub leaves_regains : (y : ℕ) (qs : List Step) (b : Act) → LeavesIt b y → regains y qs b ≡ true → ⊥
   leaves_regains y qs (Write p t ss) l h = other_is p.root y (is_front p.steps qs) l h
   leaves_regains y qs (Declare z) l h = no h
   leaves_regains y qs (Dead z) l h = no h
@@ -197,7 +197,7 @@ module _ (S : Sides) (new : Parted S.frame) (old : Parted S.frame_there) (R : Kn
   leaves_regains y qs (Print t) l h = no h
   leaves_regains y qs (Give t) l h = no h
 
-  leaves_begins : (y : ℕ) (b : Act) → LeavesIt b y → begins y b ≡ true → ⊥
+  pub leaves_begins : (y : ℕ) (b : Act) → LeavesIt b y → begins y b ≡ true → ⊥
   leaves_begins y (Declare z) l h = l (eqb-true z y h)
   leaves_begins y (Write p t ss) l h = no h
   leaves_begins y (Dead z) l h = no h

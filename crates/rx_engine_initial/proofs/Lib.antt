@@ -18,6 +18,10 @@ pub mod Straight
 pub mod Handing
 pub mod Planned
 pub mod Exits
+pub mod Entries
+pub mod PassedOver
 pub mod Fates
 pub mod Calls
 pub mod Forgotten
+pub mod SameParts
+pub mod Types

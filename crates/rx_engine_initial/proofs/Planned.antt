@@ -72,7 +72,7 @@ step_assigned x (Input d) s t f e = f e
 step_assigned x (Print d) s t f e = f e
 step_assigned x (Give d) s t f e = f e
 
-all_assigned : (x : ℕ) (w : List Action) (s t : Bool) → (s ≡ true → t ≡ true) → after (standing x []) w s ≡ true → after (assigning x) w t ≡ true
+pub all_assigned : (x : ℕ) (w : List Action) (s t : Bool) → (s ≡ true → t ≡ true) → after (standing x []) w s ≡ true → after (assigning x) w t ≡ true
 all_assigned x [] s t f e = f e
 all_assigned x (a ∷ w) s t f e = all_assigned x w (behind (standing x []) a s) (behind (assigning x) a t) (λ q. step_assigned x a.act s t f q) e
 
@@ -156,18 +156,18 @@ module _ (S : Sides) (new : Parted S.frame) (old : Parted S.frame_there) (R : Kn
       by (m, g) = holds_here (IsWalk S.text) (set_view S n y m) (whole_gives S new old R (part_set x y n m q h g)) (H (set_view S n y m) (part_set x y n m q h g)) (a ∷ vs) c l
           (f m (sym (g [] [] both_end) ∙ h))
 
-  pub giving_gone : (a : Action) (q : Order) → ((w : List Action) → Reach (world S) q w → IsWalk S.text (w ++ a ∷ [])) → (xs : List ℕ)
-      → ((w : List Action) → IsWalk S.text (w ++ a ∷ []) → (x : ℕ) → Among x xs → (y : ℕ) × Among (as_itself x y) R.variables × AllSet S.frame_there w (own y)
+  pub giving_gone : (a : Action) (q : Order) (xs : List ℕ)
+      → ((w : List Action) → Reach (world S) q w → (x : ℕ) → Among x xs → (y : ℕ) × Among (as_itself x y) R.variables × AllSet S.frame_there w (own y)
       × ((vs : List Action) × IsWalk S.text (w ++ a ∷ vs) × (ahead (living (variable y)) (a ∷ vs) ≡ true)))
       → {l : List Action} → Handing xs l → (s : Order) → Straight s l → (n : ℕ) (t : Temporary) → IsGone (world S) R (giving s n t) q
-  giving_gone a q meets xs outs {l = l} d s e n t = record {
+  giving_gone a q xs outs {l = l} d s e n t = record {
     ended = λ vs o k. given_ended (giving_given e n t vs o k);
-    good = λ us w vs o H r k. by us w H (meets w r) vs (given_front (giving_given e n t vs o k));
+    good = λ us w vs o H r k. by us w H r vs (given_front (giving_given e n t vs o k));
   }
     where
-      by : (us w : List Action) → Hist (world S) R us w → IsWalk S.text (w ++ a ∷ []) → (vs : List Action) → ((ws : List Action) × (vs ++ ws ≡ l ++ does n (Give t) ∷ [])) → Good (world S) us vs
-      by us w H c vs (ws, e) = good_front S new us vs ws (subst (λ k. Good (world S) us k) (sym e) (good_more S new us l n t
-          (handing_in_order S new d us (λ x i. let z = outs w c x i in handed_set us w H a x z.0 z.1 z.2 z.3))))
+      by : (us w : List Action) → Hist (world S) R us w → Reach (world S) q w → (vs : List Action) → ((ws : List Action) × (vs ++ ws ≡ l ++ does n (Give t) ∷ [])) → Good (world S) us vs
+      by us w H r vs (ws, e) = good_front S new us vs ws (subst (λ k. Good (world S) us k) (sym e) (good_more S new us l n t
+          (handing_in_order S new d us (λ x i. let z = outs w r x i in handed_set us w H a x z.0 z.1 z.2 z.3))))
 
 -- a mark is nothing to what is live
 pub ahead_mark : (p : points.Point) (x : ℕ) (us : List Action) → ahead (living (variable x)) us ≡ true → ahead (living (variable x)) (shown p ∷ us) ≡ true

@@ -25,6 +25,9 @@ pub data Straight : Order → List Action → Type 0 where
   one_action : {a : Action} → Straight (order.act a) (a ∷ [])
   in_sequence : {s t : Order} {us vs : List Action} → Straight s us → Straight t vs → Straight (order.then s t) (us ++ vs)
 
+abbrev pub in_front : Order → Order → Order
+in_front s t = order.then s t
+
 -- what is given then is given back to the caller
 abbrev pub giving : Order → ℕ → Temporary → Order
 giving s n t = order.then s (order.then (order.act (does n (Give t))) (order.leave (returns n)))

@@ -1,8 +1,9 @@
 -- How a function of a new program has the variables of the text's function, and what is told of them: which of their parts are set, which of
 -- their places are there as a whole, which were not assigned. (Rust Reference, "Variables"; "Moved and copied types".)
-use Rattle.std.specs.Prelude.{◌≡◌, ℕ, Bool, true, false, ◌&&◌, ◌==◌, List, [], ◌∷◌}
+use Rattle.std.specs.Prelude.{◌≡◌, ℕ, zero, suc, Bool, true, false, ◌&&◌, ◌==◌, List, [], ◌∷◌, Option, None}
 use Rattle.rx_core.specs.declared.types.Step.{Step}
 use Rattle.rx_core.specs.declared.types.Step.TheVariants as step
+use Rattle.rx_typed.specs.Types.{Typ}
 use Rattle.rx_typed.specs.Tree.{variable, Function, own}
 use Rattle.rx_typed.specs.Places.{is_front}
 use Rattle.rx_lower_walks.specs.Actions.{Act, Declare, Dead, Read}
@@ -96,3 +97,9 @@ pub data IsSeen (S : Sides) (vs : List Kept) : View → Type 0 where
   not_assigned : (x y : ℕ) → Among (as_itself x y) vs → IsSeen S vs (fresh_view x y)
   reference_set : (x n : ℕ) → Among (by_reference x) vs → is_part S.frame (own x) n ≡ true → IsSeen S vs (sure_view (setting S.frame n))
   reference_there : (x : ℕ) → Among (by_reference x) vs → IsSeen S vs (sure_view (standing x []))
+
+-- the type of a variable
+abbrev pub type_at : List (Option Typ) → ℕ → Option Typ
+type_at [] x = None
+type_at (t ∷ ts) zero = t
+type_at (t ∷ ts) (suc x) = type_at ts x

@@ -7,7 +7,7 @@ ghost use Rattle.rx_lower_walks.specs.Actions.{Action};
 ghost use Rattle.rx_lower_walks.specs.Orders.{Order, beginning, declaring, order_function};
 ghost use Rattle.rx_lower_walks.specs.Walks.{Out, Walk, IsWalk, Among};
 ghost use Rattle.rx_facts_along.specs.Along.{after, ahead};
-ghost use Rattle.rx_facts_init.specs.Initialised.{Initialised};
+ghost use Rattle.rx_facts_init.specs.Initialised.{IsFixed, Initialised};
 ghost use Rattle.rx_facts_init.specs.Setting.{AllSet};
 ghost use Rattle.rx_facts_init.specs.Wholes.{stands, was_assigned};
 ghost use Rattle.rx_facts_live.specs.Live.{living};
@@ -22,10 +22,10 @@ ghost use Rattle.rx_engine_histories.specs.OneSite.{StandsOnce};
 ghost use Rattle.rx_engine_histories.specs.Accepted.{Accepted};
 ghost use Rattle.rx_engine_initial.specs.Tracing.{View, Traced, WholeGives};
 ghost use Rattle.rx_engine_initial.specs.Matching.{Hist, Reach, Answer, Piece, fill, Matches};
-ghost use Rattle.rx_engine_initial.specs.Variables.{Sides, Known};
-ghost use Rattle.rx_engine_initial.specs.Copies.{world};
-ghost use Rattle.rx_engine_initial.specs.Entered.{Given, Declared};
-ghost use Rattle.rx_engine_initial.specs.Handing.{Handing, Straight, giving};
+ghost use Rattle.rx_engine_initial.specs.Variables.{Sides, LikeVariable, Known, type_at};
+ghost use Rattle.rx_engine_initial.specs.Copies.{LeavesAll, world};
+ghost use Rattle.rx_engine_initial.specs.Entered.{OnEach, Given, Declared};
+ghost use Rattle.rx_engine_initial.specs.Handing.{Handing, Straight, in_front, giving};
 ghost use Rattle.rx_engine_initial.specs.Calls.{StandsFor};
 ghost use Rattle.rx_engine_initial.specs.Fates.{Fates};
 ghost use Rattle.rx_engine_initial.specs.Forgotten.{one_boolean, none_mut, forgetting};
@@ -51,6 +51,19 @@ pub fn functions_are_initialised()
     ensures { (S : Sides) → Sized S.frame.declared S.frame.sizes → Sized S.frame_there.declared S.frame_there.sizes → Initialised S.frame_there S.muts_there S.text
         → (R : Known S) → R.variables ≡ [] → (f : Function) (q : Order) (w : ListOf Action) → Reach (world S) q w → Matches (world S) R (order_function f) q
         → Initialised S.frame S.muts f }
+{}
+
+/// Variables of one type have the same parts, wherever these begin, where the same structs and enums are declared.
+pub fn variables_of_one_type_are_alike()
+    ensures { (S : Sides) → S.frame.declared ≡ S.frame_there.declared → S.frame.sizes ≡ S.frame_there.sizes → (x y : ℕ)
+        → type_at S.frame.types x ≡ type_at S.frame_there.types y → (IsFixed S.muts x → IsFixed S.muts_there y) → LikeVariable S x y }
+{}
+
+/// What the text does alone, without a choice, matches in front of what matches, where it neither begins nor writes a variable in scope: a
+/// mark, or the reads where a run is entered.
+pub fn what_the_text_does_alone_matches()
+    ensures { (S : Sides) → Sized S.frame.declared S.frame.sizes → Sized S.frame_there.declared S.frame_there.sizes → (R : Known S) (s q r : Order) (l : ListOf Action)
+        → Straight q l → ((b : Action) → Among b l → LeavesAll R.variables b.act) → Matches (world S) R s r → Matches (world S) R s (in_front q r) }
 {}
 
 /// Params and locals are declared in front of what matches: a param is written there, and the text's variable was assigned on each walk
@@ -97,6 +110,14 @@ pub fn plans_tell_where_runs_are_entered_and_left()
         → (us : ListOf Action) × IsWalk (text_of A k) (w ++ shown (leaves e) ∷ us) × (ahead (living (variable x)) us ≡ true) }
     ensures not_live { (A : Asked) (muts : ListOf Bool) → Accepted A muts → (k : Plan) → IsPlan A k → (e : Exit) (x : ℕ) → Among e k.exits → e ≢ returns → In x (special_of A k)
         → (Among x (k.outs e) → ⊥) → (w ws : ListOf Action) → IsWalk (text_of A k) (w ++ shown (leaves e) ∷ ws) → ahead (living (variable x)) ws ≡ false }
+{}
+
+/// So params and locals of a plan are as they are asked to be where a part of the text meets the mark of the run's entry.
+pub fn entries_match()
+    ensures params { (A : Asked) (k : Plan) → IsPlan A k → (S : Sides) → Accepted A S.muts_there → IsTextOf S A k → (q : Order) → MeetsMark S enters q → (y : ℕ) → Among y k.params
+        → OnEach S q (λ w. was_assigned w y ≡ true) }
+    ensures locals { (A : Asked) (k : Plan) → IsPlan A k → (S : Sides) → Accepted A S.muts_there → IsTextOf S A k → (q : Order) → MeetsMark S enters q → (y : ℕ) → Among y k.locals
+        → OnEach S q (λ w. stands w y [] ≡ false) }
 {}
 
 /// So where the new function takes the variables that an exit hands out, and gives what it makes of them, it is in order.
