@@ -23,5 +23,6 @@ pub mod PassedOver
 pub mod Fates
 pub mod Calls
 pub mod Forgotten
-pub mod SameParts
+pub mod Selves
 pub mod Types
+pub mod Branches

@@ -9,7 +9,7 @@ use Rattle.rx_facts_init.specs.Wholes.{placed}
 use Rattle.rx_facts_init.specs.Initialised.{IsFixed}
 use Rattle.rx_engine_initial.specs.Variables.{Sides, SameWay, LikePart, LikeVariable, type_at}
 use Rattle.rx_engine_initial.proofs.Ways.{and_left, and_right, and_both, agree}
-use Rattle.rx_engine_initial.proofs.SameParts.{same_part}
+use Rattle.rx_engine_initial.proofs.Selves.{same_part}
 
 -- the same there, but for where it begins
 record Shifted (a : ℕ) (k l : Located) : Type 0 where

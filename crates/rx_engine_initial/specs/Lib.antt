@@ -8,3 +8,4 @@ pub mod Planned
 pub mod Fates
 pub mod Calls
 pub mod Forgotten
+pub mod Branches

@@ -29,6 +29,7 @@ ghost use Rattle.rx_engine_initial.specs.Handing.{Handing, Straight, in_front, g
 ghost use Rattle.rx_engine_initial.specs.Calls.{StandsFor};
 ghost use Rattle.rx_engine_initial.specs.Fates.{Fates};
 ghost use Rattle.rx_engine_initial.specs.Forgotten.{one_boolean, none_mut, forgetting};
+ghost use Rattle.rx_engine_initial.specs.Branches.{two_booleans, neither_mut, text_with_marks, new_function};
 ghost use Rattle.rx_engine_initial.specs.Planned.{IsTextOf, MeetsMark, AllFor};
 
 /// Where a walk of the new program comes from one of the text, what holds there of a variable that is live there holds here.
@@ -131,4 +132,9 @@ pub fn exits_match()
 /// An extraction that forgets what its run hands out is not initialised.
 pub fn forgotten_outs_are_unset()
     ensures { Initialised one_boolean none_mut forgetting → ⊥ }
+{}
+
+/// An example: of a run whose branches write a local, the new function is initialised where the text with marks is.
+pub fn locals_may_be_written_on_branches()
+    ensures { Initialised two_booleans neither_mut text_with_marks → Initialised two_booleans neither_mut new_function }
 {}
