@@ -26,7 +26,7 @@ use Rattle.rx_engine_names.specs.LikeNamed.{Holes, SameSpan, LikeAnnotation, Lik
 use Rattle.rx_hoist_extraction.specs.Names.{Names, bound, bound_by, behind_all}
 use Rattle.rx_hoist_extraction.specs.Changed.{Changes, changed, changed_all, changed_optional, changed_arguments, changed_fields, changed_arms, changed_body, changed_statement, changed_statements}
 use Rattle.rx_engine_names.specs.Within.{Within, AllWithin, OptionalWithin, ArgumentsWithin, FieldsWithin, ArmsWithin, BodyWithin, StatementWithin, StatementsWithin}
-use Rattle.rx_engine_names.proofs.SideBySide.{named_ok, then_ok, and_ok, the_same, Reached, Grows, grows_not, grows_on, Kind, Numbers, numbers_then, numbers_last, numbers_give, numbers_map, numbers_node, numbers_made, numbers_made_at, numbers_also, numbers_left, numbers_right, numbers_both, at_entries, numbers_entry, numbers_loop, with_loops, grows_loops, newest, newest_kept, loop_reached, Part, in_turn, in_turn3, in_turn4, restated, unchanged, names_alike, Keeps}
+use Rattle.rx_engine_names.proofs.SideBySide.{numbers_then_told, named_ok, then_ok, and_ok, the_same, Reached, Grows, grows_not, grows_on, Kind, Numbers, numbers_then, numbers_last, numbers_give, numbers_map, numbers_node, numbers_node_at, numbers_made, numbers_made_at, numbers_also, numbers_left, numbers_right, numbers_both, at_entries, numbers_entry, numbers_loop, with_loops, grows_loops, newest, newest_kept, loop_reached, Part, in_turn, in_turn3, in_turn4, restated, unchanged, names_alike, Keeps}
 use Rattle.rx_engine_names.proofs.Scoped.{Corresponds, AtName, Scopes, scopes_later, scopes_entered}
 use Rattle.rx_engine_names.proofs.Fitting.{function_in, rt_in}
 use Rattle.rx_engine_names.proofs.CopiedPatterns.{names_one, PatternNumbers, pattern_alike, pattern_binds}
@@ -59,19 +59,28 @@ numbers_told {m = m} {m' = m'} h h' w w' K = record {
       (record { declared = h.declared c ∙ q.declared; declared' = h'.declared c' ∙ q.declared'; loops = h.loops c ∙ q.loops; loops' = h'.loops c' ∙ q.loops' }) (h.names c ∙ e) (h'.names c' ∙ e');
 }
 
--- a variable that waits is that of the left side
+-- the left side is a whole variable by its form
+abbrev Whole : Expression → Exp → Type 0
+Whole (plain.var s y) p = named.is_variable p ≡ true
+Whole _ p = Unit {0}
+
+whole_told : (x : Expression) (m : Bool) (k : Site) (c : Cursor) → Whole x (of_expression m k x c).0
+whole_told (plain.var s y) m k c = refl
+whole_told _ m k c = tt
+
+-- a variable that waits is the left side
 abbrev Waits : Exp → Option (ℕ × ℕ) → Type 0
 Waits p None = Unit {0}
-Waits p (Some w) = (named.root p).number ≡ w.0
+Waits p (Some w) = ((named.root p).number ≡ w.0) × (named.is_variable p ≡ true)
 
-waits_told : (x : Expression) (p : Exp) (c : Cursor) → Waits p (numbering.waits_in x (named.root p).number c)
-waits_told (plain.var s y) p c = go (numbering.declaration c (named.root p).number).stage
+waits_told : (x : Expression) (p : Exp) → Whole x p → (c : Cursor) → Waits p (numbering.waits_in x (named.root p).number c)
+waits_told (plain.var s y) p h c = go (numbering.declaration c (named.root p).number).stage
   where
     go : (s : Stage) → Waits p (numbering.waiting (named.root p).number s)
-    go (Stage.Waits m z) = refl
+    go (Stage.Waits m z) = (refl, h)
     go Stage.Known = tt
     go Stage.Given = tt
-waits_told _ p c = tt
+waits_told _ p h c = tt
 
 abbrev IsUse : ℕ → Use → Type 0
 IsUse w x = w ≡ x.number
@@ -81,14 +90,14 @@ assigned_alike : {H : Holes} {R : Renaming} {t u t' u' : ItemNames} {es es' : Li
 assigned_alike n n' p p' None None f f' v v' g h k = numbers_map (named.assign n p) (named.assign n' p') (k Site.Expects Site.Expects) (λ a b l. like_assign g h l)
 assigned_alike n n' p p' None (Some w') f f' v v' g h k =
     numbers_last (k Site.Expects Site.Reborrows) (λ a b l. numbers_right_told {W = IsUse w'.0} (keeps_a_use w'.0) (λ c. refl) (λ x e. numbers_right (keeps_gives_here w'.0) (λ d.
-    numbers_give (named.assign n p a) (named.gives n' (named.node_of p') x d b) (like_giving g h (record { node = refl; variable = v' ∙ e }) l))))
+    numbers_give (named.assign n p a) (named.gives n' (named.node_of p') x d b) (like_giving g h (record { node = refl; variable = v'.0 ∙ e; whole = v'.1 }) l))))
 assigned_alike n n' p p' (Some w) None f f' v v' g h k =
     numbers_last (k Site.Reborrows Site.Expects) (λ a b l. numbers_left_told {W = IsUse w.0} (keeps_a_use w.0) (λ c. refl) (λ x e. numbers_left (keeps_gives_here w.0) (λ d.
-    numbers_give (named.gives n (named.node_of p) x d a) (named.assign n' p' b) (like_given g h (record { node = refl; variable = v ∙ e }) l))))
+    numbers_give (named.gives n (named.node_of p) x d a) (named.assign n' p' b) (like_given g h (record { node = refl; variable = v.0 ∙ e; whole = v.1 }) l))))
 assigned_alike n n' p p' (Some w) (Some w') f f' v v' g h k =
     numbers_last (k Site.Reborrows Site.Reborrows) (λ a b l. numbers_told {W = IsUse w.0} {W' = IsUse w'.0} (keeps_a_use w.0) (keeps_a_use w'.0) (λ c. refl) (λ c. refl) (λ x y e e'.
     numbers_both (keeps_gives_here w.0) (keeps_gives_here w'.0) (λ d d'.
-    numbers_give (named.gives n (named.node_of p) x d a) (named.gives n' (named.node_of p') y d' b) (like_gives g h (record { node = refl; variable = v ∙ e }) (record { node = refl; variable = v' ∙ e' }) l))))
+    numbers_give (named.gives n (named.node_of p) x d a) (named.gives n' (named.node_of p') y d' b) (like_gives g h (record { node = refl; variable = v.0 ∙ e; whole = v.1 }) (record { node = refl; variable = v'.0 ∙ e'; whole = v'.1 }) l))))
 
 -- ---- a callee
 
@@ -270,7 +279,7 @@ mutual
       let A = expression_alike K S M own m w (child at 0) (child at' 0) x a.0 t X.0 u X.1 q in
       let B = expression_alike K S A.made own m (later K M A.made own m w A.grows) (child at 1) (child at' 1) y a.1 X.0 t' A.table X.2 A.reached in
       in_turn A B (λ c d. then_ok (in_expression K.I' w.sc' w.ls' (child at' 0) (changed K.C own m x)) (in_expression K.I' w.sc' w.ls' (child at' 1) (changed K.C own m y)) u A.table B.table c d)
-      (λ R sv k l b b' i i'. numbers_node s i i' (λ n n' g. numbers_then (k false false Site.Place Site.Place) (λ c d h. numbers_told {W = Waits c} {W' = Waits d} (keeps_waits_for x c) (keeps_waits_for (changed K.C own m x) d) (waits_told x c) (waits_told (changed K.C own m x) d) (λ z z' v v'.
+      (λ R sv k l b b' i i'. numbers_node s i i' (λ n n' g. numbers_then_told {W = Whole x} {W' = Whole (changed K.C own m x)} (k false false Site.Place Site.Place) (whole_told x false Site.Place) (whole_told (changed K.C own m x) false Site.Place) (λ c d a a' h. numbers_told {W = Waits c} {W' = Waits d} (keeps_waits_for x c) (keeps_waits_for (changed K.C own m x) d) (waits_told x c a) (waits_told (changed K.C own m x) d a') (λ z z' v v'.
       assigned_alike n n' c d z z' (λ i. of_expression false i y) (λ i. of_expression false i (changed K.C own m y)) v v' g h (λ i i'. l false false i i')))))
   expression_alike K S M own m w at at' (plain.update s o x y) a t t' u e q =
       let X = named_ok (in_expression K.I w.sc w.ls (child at 0) x t) (in_expression K.I w.sc w.ls (child at 1) y) t' e in
@@ -459,10 +468,10 @@ mutual
       let A = statements_alike K S M own m w at at' 0 0 ss a.1 t X.0 u X.1 q in
       let w1 = in_scope K A.made own (behind_all own ss) m (later K M A.made own m w A.grows) X.0.scope A.answer.0 A.answer.2 in
       let B = optional_alike K S A.made (behind_all own ss) m w1 (child at k) (child at' k') o a.2 X.0.tables t' A.table X.2 A.reached in
-      S.blocks M own m w at at' (plain.body s ss o) (plain.body s (changed_statements K.C own m ss) (changed_optional K.C (behind_all own ss) m o)) t t' u a.0 e q (
+      S.blocks M own m w at at' (plain.body s ss o) (plain.body s (changed_statements K.C own m ss) (changed_optional K.C (behind_all own ss) m o)) t t' u a.0 e q (λ free.
       in_turn A B (λ y z. and_ok (in_statements K.I' w.sc' w.ls' at' 0 (changed_statements K.C own m ss) u) (record { scope = A.answer.0; tables = A.table })
       (λ r. in_optional K.I' r.scope w.ls' (child at' k') (changed_optional K.C (behind_all own ss) m o) r.tables) (Ok B.table) A.answer.1 z)
-      (λ R sv k l i i'. numbers_node s i i' (λ n n' g. numbers_then k (λ c d h. numbers_map (named.body n c) (named.body n' d) (l i i') (λ _ _ z. like_body g h z)))))
+      (λ R sv k l i i'. numbers_node_at s i i' (λ n n' f g. numbers_then k (λ c d h. numbers_map (named.body n c) (named.body n' d) (l i i') (λ _ _ z. like_body (subst (λ (s : Span). K.H.copied s) (sym f) free) g h z)))))
 
   pub statement_alike : (K : Setting) → Special K → (M : Made) (own : Names) (m : List Around) (w : Stand K M own m) (at at' : List ℕ) (e : Statement) → StatementWithin K.N own m e → (t : ItemNames) (r : Scoped) (u : ItemNames) → in_statement K.I w.sc w.ls at e t ≡ Ok r → Reached K.L M t u
       → Part K.L M t r.tables u (λ G v. (sc1 : Variables) × (in_statement K.I' w.sc' w.ls' at' (changed_statement K.C own m e) u ≡ Ok (record { scope = sc1; tables = v })) × Scopes K.behind G K.N K.stars K.known (bound_by e ++ own) r.scope sc1) (StatementNumbers K.H t u e (changed_statement K.C own m e) r.tables)

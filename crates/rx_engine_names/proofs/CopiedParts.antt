@@ -79,7 +79,7 @@ module _ (items : ℕ → ℕ) (I I' : Inside) (F : Fits items I I') (xs : Names
     returned = λ M own m w at at' s o o' t t' u n f h q. restated (h (child at' 0) u q) (λ z. z) (λ R sv k m m' i i'. numbers_node s i i' (λ n n' g. numbers_map (named.return n) (named.return n') (k Site.Expects Site.Expects) (λ _ _ r. like_return g r)));
     suffix = λ R s n n' b b' v k h g. like_int g;
     annotated = λ M at at' p y t t' u n e q. restated (optional_type_alike (loose items) M I I' F at at' y t t' u e q) (λ z. z) (λ R sv h. numbers_map (λ z. z) (λ z. z) h (λ a b r. like_typed r));
-    blocks = λ M own m w at at' b c t t' u n e q h. h;
+    blocks = λ M own m w at at' b c t t' u n e q h. h tt;
   }
 
   unfoldable pub copied_stand : (M : Made) (ls ls' : List Around) → NamesAlike M xs start start' → LoopsAlike M ls ls' → Stand Copying M xs []
@@ -168,7 +168,7 @@ module _ (P : ProgramTree) (a : ℕ) (L : Declared) where
   itself_special = special (loose (λ n. n)) no_holes here here (keeps_fits (λ n. n) P P (keeps_itself P) a a L).items_fit (λ s k. k) (λ p y. y) (λ b c. c) unknown (record {
     suffix = λ R s n n' b b' v k h g. like_int g;
     annotated = λ M at at' p y t t' u e q. restated (optional_type_alike (loose (λ n. n)) M here here (keeps_fits (λ n. n) P P (keeps_itself P) a a L) at at' y t t' u e q) (λ z. z) (λ R sv h. numbers_map (λ z. z) (λ z. z) h (λ a b r. like_typed r));
-    blocks = λ M own m w at at' b c t t' u e q h. h;
+    blocks = λ M own m w at at' b c t t' u e q h. h tt;
   })
 
   abbrev Own : Variables → List Around → Made

@@ -63,7 +63,7 @@ module _ (items : ℕ → ℕ) (P Q : ProgramTree) (k : Keeps items P Q) where
       let A = function_item_alike frame no_holes P Q k (λ s k. k) (λ p t. t) (λ b c. c) (refl, tt) n m s f (record {
         suffix = λ R s n n' b b' v k h g. like_int g;
         annotated = λ M at at' p y t t' u e q. restated (optional_type_alike frame M _ _ (keeps_fits items P Q k _ _ _) at at' y t t' u e q) (λ z. z) (λ R sv h. numbers_map (λ z. z) (λ z. z) h (λ a b r. like_typed r));
-        blocks = λ M own m w at at' b c t t' u e q h. h;
+        blocks = λ M own m w at at' b c t t' u e q h. h tt;
       }) T e in
       subst (λ (b : Body). (U : ItemNames) × (in_item Q m (plain.function_item s (record f { body = b })) ≡ Ok U) × LikeFunction no_holes (same_numbers items) (function_named n s f T.names) (function_named m s (record f { body = b }) U.names))
       (same_body [] [] f.body) (A.0, A.1, A.4 (same_numbers items) (same_serve items A.2 T A.0 A.3))

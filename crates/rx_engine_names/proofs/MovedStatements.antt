@@ -57,7 +57,7 @@ module _ (items : ℕ → ℕ) (V : Moves) (I I' : Inside) (start : Variables) (
     returned = λ M own m w at at' s o o' t t' u n f h q. moved_returned items V I I' start F E M own m w at' s o o' t t' u n f h q;
     suffix = λ R s n n' b b' v k h g. like_int g;
     annotated = λ M at at' p y t t' u n e q. restated (annotation_alike (loose items) M I I' F at at' y n t t' u e q) (λ z. z) (λ R sv h. numbers_map (λ z. z) (λ z. z) h (λ a b r. like_typed r));
-    blocks = λ M own m w at at' b c t t' u n e q h. h;
+    blocks = λ M own m w at at' b c t t' u n e q h. h tt;
   }
 
   pub led_round : (M : Made) → Led (IsRound V) M V.loops (rounds V) []

@@ -123,4 +123,4 @@ module _ (L : Frame) (I I' : Inside) (F : Fits L.items I I') (P : ProgramTree) (
         by (Some y) h = restated (made_type M at' y (found_at pins.types (pattern_span p) y found h) t u q) (λ a. a) (λ R sv k. numbers_map (λ a. None) (λ w. Some w) k (λ a w d. like_other_type (with_type h d)))
 
     pub pinned_becomes : Becomes L (written_out (Some pins)) I I' F.items_fit (pinning P s pins) known
-    pinned_becomes = record { suffix = suffix_fits; annotated = type_fits; blocks = λ M own m w at at' b c t t' u e q h. h }
+    pinned_becomes = record { suffix = suffix_fits; annotated = type_fits; blocks = λ M own m w at at' b c t t' u e q h. h tt }

@@ -3,7 +3,7 @@ use Rattle.std.proofs.Common.{◌≡◌, ℕ, Bool, true, false, not, ◌&&◌, 
 use Rattle.rx_core.specs.declared.types.Span.{Span}
 use Rattle.rx_tree.specs.declared.tree.Ident.{Ident}
 use Rattle.rx_tree.specs.Plain as plain
-use Rattle.rx_tree.specs.Spans.{pattern_span}
+use Rattle.rx_tree.specs.Spans.{body_span, pattern_span}
 use Rattle.rx_tree.specs.Plain.{TypeTree, TypeTrees, PatternTree, Expression, OptionalExpression, Body, Parameter, Function, ItemTree, ProgramTree}
 use Rattle.rx_resolve_scope.specs.Scopes.{variable_named}
 use Rattle.rx_resolve_names.specs.declared.resolved.ItemNames.{ItemNames}
@@ -104,7 +104,7 @@ pub record Becomes (L : Frame) (H : Holes) (I I' : Inside) (F : FitItems L.items
   pub annotated : (M : Made) (at at' : List ℕ) (p : PatternTree) (y : Option TypeTree) (t t' u : ItemNames) → in_optional_type I at y t ≡ Ok t' → Reached L M t u
       → Part L M t t' u (λ G v. in_optional_type I' at' (C.at_let p y) u ≡ Ok v) (AnnotationNumbers H (pattern_span p) t u y (C.at_let p y) t')
   pub blocks : (M : Made) (own : Names) (m : List Around) (w : Stand (whole L H I I' F C known) M own m) (at at' : List ℕ) (b done : Body) (t t' u : ItemNames) → in_block I w.sc w.ls at b t ≡ Ok t' → Reached L M t u
-      → BodyPart (whole L H I I' F C known) M own m w at' b done t t' u → BodyPart (whole L H I I' F C known) M own m w at' b (C.at_block b done) t t' u
+      → (H.copied (body_span b) → BodyPart (whole L H I I' F C known) M own m w at' b done t t' u) → BodyPart (whole L H I I' F C known) M own m w at' b (C.at_block b done) t t' u
 
 pub special : (L : Frame) (H : Holes) (I I' : Inside) (F : FitItems L.items I I') (i : Span → Option kinds.Kind → Option kinds.Kind) (l : PatternTree → Option TypeTree → Option TypeTree) (b : Body → Body → Body) (known : Outer)
     → Becomes L H I I' F (keeping i l b) known → Special (whole L H I I' F (keeping i l b) known)

@@ -70,7 +70,7 @@ module _ (J : Frame) (I I' : Inside) (F : Fits J.items I I') where
   whole_special = special J no_holes I I' F.items_fit (λ s k. k) (λ p y. y) (λ b c. c) unknown (record {
     suffix = λ R s n n' b b' v k h g. like_int g;
     annotated = λ M at at' p y t t' u e q. restated (optional_type_alike J M I I' F at at' y t t' u e q) (λ z. z) (λ R sv h. numbers_map (λ z. z) (λ z. z) h (λ a b r. like_typed r));
-    blocks = λ M own m w at at' b c t t' u e q h. h;
+    blocks = λ M own m w at at' b c t t' u e q h. h tt;
   })
 
   unfoldable pub whole_stand : (M : Made) (sc sc' : Variables) (ls ls' : List Around) → AllMeet (Has M.variables) sc sc' → LoopsAlike M ls ls' → Stand Whole M [] []
@@ -118,7 +118,7 @@ module _ (J : Frame) (I I' : Inside) (F : Fits J.items I I') where
       returned = λ M own m w at at' s o o' t t' u n f h q. restated (h (child at' 0) u q) (λ z. z) (λ R sv k m m' i i'. numbers_node s i i' (λ n n' g. numbers_map (named.return n) (named.return n') (k Site.Expects Site.Expects) (λ _ _ r. like_return g r)));
       suffix = λ R s n n' b b' v k h g. like_int g;
       annotated = λ M at at' p y t t' u n e q. restated (optional_type_alike J M I I' F at at' y t t' u e q) (λ z. z) (λ R sv h. numbers_map (λ z. z) (λ z. z) h (λ a b r. like_typed r));
-      blocks = λ M own m w at at' b c t t' u n e q h. h;
+      blocks = λ M own m w at at' b c t t' u n e q h. h tt;
     }
 
     unfoldable pub agreeing_stand : (M : Made) (sc sc' : Variables) (ls ls' : List Around) → ((x : List ℕ) → Agree run call x → Meet (Has M.variables) (variable_named sc x) (variable_named sc' x)) → LoopsAlike M ls ls' → Stand Agreeing M [] []
@@ -205,7 +205,7 @@ module _ (T : Told) (items : ℕ → ℕ) (P : ProgramTree) (a : ℕ) (L : Decla
   Stood sc sc' at at' t u R = StandFor T I I' front run call (record { scope = sc; start = sc'; around = ls; round = ls'; way = at; way' = at'; tables = t; tables' = u }) R
 
   abbrev pub StoodNumbers : Variables → Variables → List ℕ → List ℕ → ItemNames → ItemNames → ItemNames → Kind
-  StoodNumbers sc sc' at at' t u t' R u' es es' = (k k' : Site) → Numbers (Replaced R (Stood sc sc' at at' t u R)) t u t' u' es es' (of_body k (plain.body s (as_statements (front ++ (run ++ behind))) o)) (of_body k' (plain.body s (as_statements (front ++ (call ++ behind))) o))
+  StoodNumbers sc sc' at at' t u t' R u' es es' = (k k' : Site) → Numbers (Replaced R (length front) (Stood sc sc' at at' t u R)) t u t' u' es es' (of_body k (plain.body s (as_statements (front ++ (run ++ behind))) o)) (of_body k' (plain.body s (as_statements (front ++ (call ++ behind))) o))
 
   -- what stands in front, in both
   abbrev FrontMade : Variables → Made → List ℕ → ItemNames → ItemNames → Scoped → Type 0

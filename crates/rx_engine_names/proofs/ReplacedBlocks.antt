@@ -1,5 +1,5 @@
 -- A block in which other statements stand for some: what stands in front and behind is copied, the text's own are numbered beside nothing.
-use Rattle.std.proofs.Common.{◌≡◌, ℕ, List, [], ◌∷◌, ◌++◌, length, Ok, refl, sym, ap, ◌∙◌, subst, append_assoc}
+use Rattle.std.proofs.Common.{◌≡◌, ℕ, suc, List, [], ◌∷◌, ◌++◌, length, Ok, refl, sym, ap, ◌∙◌, subst, append_assoc}
 use Rattle.rx_core.specs.declared.types.Span.{Span}
 use Rattle.rx_tree.specs.Lists.{listed}
 use Rattle.rx_tree.specs.Plain as plain
@@ -20,8 +20,8 @@ use Rattle.rx_hoist_extraction.specs.Run.{as_statements}
 use Rattle.rx_engine_names.specs.Renaming.{Renaming, Made}
 use Rattle.rx_engine_names.specs.LikeNamed.{no_holes, SameSpan, LikeElse, LikeStatements}
 use Rattle.rx_engine_names.specs.Within.{StatementsWithin}
-use Rattle.rx_engine_names.specs.Replaced.{joined, Replaced, replaced, NamesAlike, LoopsAlike, only, Keeps, Stands, NumberedBehind, BothBehind, BlocksAlike, EndReplaced, end_replaced, StandsLast, NumberedLast, BothLast, EndsAlike}
-use Rattle.rx_engine_names.proofs.SideBySide.{named_ok, and_ok, Kind, Numbered, Numbers, numbers_then, numbers_map, numbers_node, serves_before, Grows, grows_on, Part}
+use Rattle.rx_engine_names.specs.Replaced.{many, joined, Replaced, replaced, NamesAlike, LoopsAlike, only, Keeps, Stands, NumberedBehind, BothBehind, BlocksAlike, EndReplaced, end_replaced, StandsLast, NumberedLast, BothLast, EndsAlike}
+use Rattle.rx_engine_names.proofs.SideBySide.{named_ok, and_ok, Kind, Numbered, Numbers, numbers_then, numbers_then_told, numbers_map, numbers_node, serves_before, Grows, grows_on, Part}
 use Rattle.rx_engine_names.proofs.Fitting.{Fits}
 use Rattle.rx_engine_names.proofs.CopiedExpressions.{statements_alike, optional_alike}
 use Rattle.rx_engine_names.proofs.Standing.{later, in_scope}
@@ -64,6 +64,10 @@ numbered_in_a_row [] ys c = refl
 numbered_in_a_row (x ∷ xs) ys c =
     let d = of_statement x c in ap (λ (z : named.Statements × Cursor). (named.statement_and d.0 z.0, z.1)) (numbered_in_a_row xs ys d.1)
 
+pub many_numbered : (xs : List Statement) (c : Cursor) → many (of_statements (as_statements xs) c).0 ≡ length xs
+many_numbered [] c = refl
+many_numbered (x ∷ xs) c = ap suc (many_numbered xs (of_statement x c).1)
+
 pub by_equal : {A A' : Type 0} {S : A → A' → Type 0} {t u t1 u1 : ItemNames} {es es' : List NodeNames} (m n : Numbering A) (m' n' : Numbering A') → ((c : Cursor) → n c ≡ m c) → ((c : Cursor) → n' c ≡ m' c) → Numbers S t u t1 u1 es es' m m' → Numbers S t u t1 u1 es es' n n'
 by_equal {S = S} {t1 = t1} {u1 = u1} m n m' n' f f' N = record {
   holds = λ c c' rest rest' q e e'.
@@ -81,33 +85,33 @@ beside N O = record {
 
 -- ---- the parts of both
 
-pub data Rows (R : Renaming) (P : named.Statements → named.Statements → Type 0) : named.Statements → named.Statements → Type 0 where
-  rows : (a a' x y b b' : named.Statements) → LikeStatements no_holes R a a' → P x y → LikeStatements no_holes R b b' → Rows R P (joined a (joined x b)) (joined a' (joined y b'))
+pub data Rows (R : Renaming) (front : ℕ) (P : named.Statements → named.Statements → Type 0) : named.Statements → named.Statements → Type 0 where
+  rows : (a a' x y b b' : named.Statements) → many a ≡ front → LikeStatements no_holes R a a' → P x y → LikeStatements no_holes R b b' → Rows R front P (joined a (joined x b)) (joined a' (joined y b'))
 
 data Ends (R : Renaming) (P : named.Statements → named.Statements → Type 0) : named.Statements → named.Statements → Type 0 where
   ends_with : (x y b b' : named.Statements) → P x y → LikeStatements no_holes R b b' → Ends R P (joined x b) (joined y b')
 
-rows_of : {R : Renaming} {P : named.Statements → named.Statements → Type 0} (a a' z z' : named.Statements) → LikeStatements no_holes R a a' → Ends R P z z' → Rows R P (joined a z) (joined a' z')
-rows_of a a' z z' l (ends_with x y b b' p d) = rows a a' x y b b' l p d
+rows_of : {R : Renaming} {front : ℕ} {P : named.Statements → named.Statements → Type 0} (a a' z z' : named.Statements) → many a ≡ front → LikeStatements no_holes R a a' → Ends R P z z' → Rows R front P (joined a z) (joined a' z')
+rows_of a a' z z' v l (ends_with x y b b' p d) = rows a a' x y b b' v l p d
 
-body_of : {R : Renaming} {P : named.Statements → named.Statements → Type 0} (n n' : Node) (z z' : named.Statements) (o o' : named.Else) → SameSpan n n' → Rows R P z z' → LikeElse no_holes R o o' → Replaced R P (named.body n z o) (named.body n' z' o')
-body_of n n' z z' o o' g (rows a a' x y b b' l p m) d = replaced a a' x y b b' g l p m d
+body_of : {R : Renaming} {front : ℕ} {P : named.Statements → named.Statements → Type 0} (n n' : Node) (z z' : named.Statements) (o o' : named.Else) → SameSpan n n' → Rows R front P z z' → LikeElse no_holes R o o' → Replaced R front P (named.body n z o) (named.body n' z' o')
+body_of n n' z z' o o' g (rows a a' x y b b' v l p m) d = replaced a a' x y b b' v g l p m d
 
 module _ (front run call behind : List Statement) where
   pub rows_numbers : (R : Renaming) (P : named.Statements → named.Statements → Type 0) {t u t1 u1 t2 u2 t3 u3 : ItemNames} {es es' fs fs' gs gs' : List NodeNames}
       → Numbers (LikeStatements no_holes R) t u t1 u1 es es' (of_statements (as_statements front)) (of_statements (as_statements front)) → Numbers P t1 u1 t2 u2 fs fs' (of_statements (as_statements run)) (of_statements (as_statements call))
       → Numbers (LikeStatements no_holes R) t2 u2 t3 u3 gs gs' (of_statements (as_statements behind)) (of_statements (as_statements behind))
-      → Numbers (Rows R P) t u t3 u3 (es ++ (fs ++ gs)) (es' ++ (fs' ++ gs')) (of_statements (as_statements (front ++ (run ++ behind)))) (of_statements (as_statements (front ++ (call ++ behind))))
+      → Numbers (Rows R (length front) P) t u t3 u3 (es ++ (fs ++ gs)) (es' ++ (fs' ++ gs')) (of_statements (as_statements (front ++ (run ++ behind)))) (of_statements (as_statements (front ++ (call ++ behind))))
   rows_numbers R P A N B =
       let E = by_equal {S = Ends R P} (in_a_row run behind) (of_statements (as_statements (run ++ behind))) (in_a_row call behind) (of_statements (as_statements (call ++ behind))) (numbered_in_a_row run behind) (numbered_in_a_row call behind)
       (numbers_then {S = P} N (λ x y p. numbers_map (joined x) (joined y) B (λ b b' l. ends_with x y b b' p l))) in
       by_equal (in_a_row front (run ++ behind)) (of_statements (as_statements (front ++ (run ++ behind)))) (in_a_row front (call ++ behind)) (of_statements (as_statements (front ++ (call ++ behind))))
-      (numbered_in_a_row front (run ++ behind)) (numbered_in_a_row front (call ++ behind)) (numbers_then A (λ a a' l. numbers_map (joined a) (joined a') E (λ z z' d. rows_of a a' z z' l d)))
+      (numbered_in_a_row front (run ++ behind)) (numbered_in_a_row front (call ++ behind)) (numbers_then_told {W = λ (x : named.Statements). many x ≡ length front} {W' = λ (x : named.Statements). many x ≡ length front} A (many_numbered front) (many_numbered front) (λ a a' v v' l. numbers_map (joined a) (joined a') E (λ z z' d. rows_of a a' z z' v l d)))
 
   pub body_numbers : (R : Renaming) (P : named.Statements → named.Statements → Type 0) (s : Span) (o : OptionalExpression) (k k' : Site) {t u t1 u1 t2 u2 : ItemNames} {es es' fs fs' : List NodeNames}
-      → Numbers (Rows R P) t u t1 u1 es es' (of_statements (as_statements (front ++ (run ++ behind)))) (of_statements (as_statements (front ++ (call ++ behind))))
+      → Numbers (Rows R (length front) P) t u t1 u1 es es' (of_statements (as_statements (front ++ (run ++ behind)))) (of_statements (as_statements (front ++ (call ++ behind))))
       → Numbers (LikeElse no_holes R) t1 u1 t2 u2 fs fs' (of_optional k o) (of_optional k' o)
-      → Numbers (Replaced R P) t u t2 u2 (es ++ fs) (es' ++ fs') (of_body k (plain.body s (as_statements (front ++ (run ++ behind))) o)) (of_body k' (plain.body s (as_statements (front ++ (call ++ behind))) o))
+      → Numbers (Replaced R (length front) P) t u t2 u2 (es ++ fs) (es' ++ fs') (of_body k (plain.body s (as_statements (front ++ (run ++ behind))) o)) (of_body k' (plain.body s (as_statements (front ++ (call ++ behind))) o))
   body_numbers R P s o k k' N O = numbers_node s k k' (λ n n' g. numbers_then N (λ z z' d. numbers_map (named.body n z) (named.body n' z') O (λ o o' e. body_of n n' z z' o o' g d e)))
 
 -- ---- the block
@@ -141,7 +145,7 @@ module _ (items : ℕ → ℕ) (P : ProgramTree) (a : ℕ) (L : Declared) (Q : P
   Both sc sc' at at' t u = BothBehind I I' sc sc' ls ls' at at' front run call t u
 
   abbrev pub BlockNumbers : Variables → Variables → List ℕ → List ℕ → ItemNames → ItemNames → ItemNames → Kind
-  BlockNumbers sc sc' at at' t u t' R u' es es' = (k k' : Site) → Numbers (Replaced R (Both sc sc' at at' t u)) t u t' u' es es' (of_body k before) (of_body k' after)
+  BlockNumbers sc sc' at at' t u t' R u' es es' = (k k' : Site) → Numbers (Replaced R (length front) (Both sc sc' at at' t u)) t u t' u' es es' (of_body k before) (of_body k' after)
 
   -- as a part of a walk
   pub block_part : (sc sc' : Variables) (M : Made) (xs : Names) → NamesAlike M xs sc sc' → LoopsAlike M ls ls' → StatementsWithin (only xs sc sc') xs [] (as_statements front) → (at at' : List ℕ) (t t' u : ItemNames)
@@ -258,7 +262,7 @@ module _ (items : ℕ → ℕ) (P : ProgramTree) (a : ℕ) (L : Declared) (Q : P
   BothEnd sc sc' at at' t u = BothLast Here There sc sc' ls ls' at at' front run call o o' t u
 
   abbrev pub EndNumbers : Variables → Variables → List ℕ → List ℕ → ItemNames → ItemNames → ItemNames → Kind
-  EndNumbers sc sc' at at' t u t' R u' es es' = (k k' : Site) → Numbers (EndReplaced R (BothEnd sc sc' at at' t u)) t u t' u' es es' (of_body k begun) (of_body k' ended)
+  EndNumbers sc sc' at at' t u t' R u' es es' = (k k' : Site) → Numbers (EndReplaced R (length front) (BothEnd sc sc' at at' t u)) t u t' u' es es' (of_body k begun) (of_body k' ended)
 
   pub end_part : (sc sc' : Variables) (M : Made) (xs : Names) → NamesAlike M xs sc sc' → LoopsAlike M ls ls' → StatementsWithin (only xs sc sc') xs [] (as_statements front) → (at at' : List ℕ) (t t' u : ItemNames)
       → ((r : Scoped) → in_statements Here sc ls at 0 (as_statements front) t ≡ Ok r
@@ -310,10 +314,10 @@ module _ (items : ℕ → ℕ) (P : ProgramTree) (a : ℕ) (L : Declared) (Q : P
                     left = x.left;
                   };
             } in
-            by_equal {S = EndReplaced R (BothEnd sc sc' at at' t u)} (in_parts s m front run o) (of_body m (plain.body s (as_statements (front ++ run)) o)) (in_parts s m' front call o') (of_body m' (plain.body s (as_statements (front ++ call)) o'))
+            by_equal {S = EndReplaced R (length front) (BothEnd sc sc' at at' t u)} (in_parts s m front run o) (of_body m (plain.body s (as_statements (front ++ run)) o)) (in_parts s m' front call o') (of_body m' (plain.body s (as_statements (front ++ call)) o'))
             (body_in_parts s m front run o) (body_in_parts s m' front call o')
-            (numbers_node s m m' (λ n n' g. numbers_then NA (λ x x' l. numbers_map (λ p. named.body n (joined x p.0) p.1) (λ p. named.body n' (joined x' p.0) p.1)
-            (beside NR NC) (λ p p' d. end_replaced x x' p.0 p'.0 g l d))));
+            (numbers_node s m m' (λ n n' g. numbers_then_told {W = λ (x : named.Statements). many x ≡ length front} {W' = λ (x : named.Statements). many x ≡ length front} NA (many_numbered front) (many_numbered front) (λ x x' v v' l. numbers_map (λ p. named.body n (joined x p.0) p.1) (λ p. named.body n' (joined x' p.0) p.1)
+            (beside NR NC) (λ p p' d. end_replaced x x' p.0 p'.0 v g l d))));
       }
 
   pub block_ended : (sc sc' : Variables) (M : Made) (xs : Names) → NamesAlike M xs sc sc' → LoopsAlike M ls ls' → StatementsWithin (only xs sc sc') xs [] (as_statements front) → (at at' : List ℕ) (t t' u : ItemNames)

@@ -18,9 +18,9 @@ use Rattle.rx_hoist_extraction.specs.Names.{is_among, behind_all}
 use Rattle.rx_hoist_extraction.specs.Run.{as_statements}
 use Rattle.rx_engine_names.specs.Renaming.{Renaming, Has, Made}
 use Rattle.rx_engine_names.specs.LikeNamed.{no_holes, LikeStatements}
-use Rattle.rx_engine_names.specs.Replaced.{joined, LoopsAlike, StandsLast, EndReplaced, end_replaced}
+use Rattle.rx_engine_names.specs.Replaced.{many, joined, LoopsAlike, StandsLast, EndReplaced, end_replaced}
 use Rattle.rx_engine_names.specs.Placed.{AllMeet, ToldLast, EndFor}
-use Rattle.rx_engine_names.proofs.SideBySide.{named_ok, and_ok, Kind, Numbers, numbers_then, numbers_map, numbers_node, Part, Frame, Reached}
+use Rattle.rx_engine_names.proofs.SideBySide.{named_ok, and_ok, Kind, Numbers, numbers_then_told, numbers_map, numbers_node, Part, Frame, Reached}
 use Rattle.rx_engine_names.proofs.Scoped.{Corresponds, AtName}
 use Rattle.rx_engine_names.proofs.Fitting.{Fits}
 use Rattle.rx_engine_names.proofs.CopiedExpressions.{statements_alike}
@@ -29,7 +29,7 @@ use Rattle.rx_engine_names.proofs.NoClaims.{statements_within}
 use Rattle.rx_engine_names.proofs.ResolvingGrows.{grown_then, statements_grow, optional_grows}
 use Rattle.rx_engine_names.proofs.PairsApart.{one_to_one, widens}
 use Rattle.rx_engine_names.proofs.CopiedParts.{statements_kept, text_alone, tail_alone}
-use Rattle.rx_engine_names.proofs.ReplacedBlocks.{past_all, split, join, by_equal, in_parts, with_tail, body_in_parts, tails_alone}
+use Rattle.rx_engine_names.proofs.ReplacedBlocks.{past_all, split, join, by_equal, many_numbered, in_parts, with_tail, body_in_parts, tails_alone}
 use Rattle.rx_engine_names.proofs.ReplacedAnywhere.{to_meet, Whole, whole_special, whole_stand, EndResolves, by_renaming}
 
 module _ (T : ToldLast) (items : ℕ → ℕ) (P : ProgramTree) (a : ℕ) (L : Declared) (Q : ProgramTree) (b : ℕ) (F : Fits items (record { program = P; item = a; lifetimes = L }) (record { program = Q; item = b; lifetimes = L })) (ls ls' : List Around) (s : Span) (front run call : List Statement) (o o' : OptionalExpression) where
@@ -46,7 +46,7 @@ module _ (T : ToldLast) (items : ℕ → ℕ) (P : ProgramTree) (a : ℕ) (L : D
   StoodLast sc sc' at at' t u R = EndFor T Here There front run call o o' (record { scope = sc; start = sc'; around = ls; round = ls'; way = at; way' = at'; tables = t; tables' = u }) R
 
   abbrev pub LastNumbers : Variables → Variables → List ℕ → List ℕ → ItemNames → ItemNames → ItemNames → Kind
-  LastNumbers sc sc' at at' t u t' R u' es es' = (k k' : Site) → Numbers (EndReplaced R (StoodLast sc sc' at at' t u R)) t u t' u' es es' (of_body k (plain.body s (as_statements (front ++ run)) o)) (of_body k' (plain.body s (as_statements (front ++ call)) o'))
+  LastNumbers sc sc' at at' t u t' R u' es es' = (k k' : Site) → Numbers (EndReplaced R (length front) (StoodLast sc sc' at at' t u R)) t u t' u' es es' (of_body k (plain.body s (as_statements (front ++ run)) o)) (of_body k' (plain.body s (as_statements (front ++ call)) o'))
 
   pub ended_part : (sc sc' : Variables) (M : Made) → AllMeet (Has M.variables) sc sc' → LoopsAlike M ls ls' → EndResolves T items Here There front run o call o' sc sc' ls ls' M
       → (at at' : List ℕ) (t t' u : ItemNames) → Reached Kept M t u → in_block Here sc ls at (plain.body s (as_statements (front ++ run)) o) t ≡ Ok t'
@@ -104,8 +104,8 @@ module _ (T : ToldLast) (items : ℕ → ℕ) (P : ProgramTree) (a : ℕ) (L : D
                     left' = y.left;
                   };
             } in
-            by_equal {S = EndReplaced R (StoodLast sc sc' at at' t u R)} (in_parts s m front run o) (of_body m (plain.body s (as_statements (front ++ run)) o)) (in_parts s m' front call o') (of_body m' (plain.body s (as_statements (front ++ call)) o'))
+            by_equal {S = EndReplaced R (length front) (StoodLast sc sc' at at' t u R)} (in_parts s m front run o) (of_body m (plain.body s (as_statements (front ++ run)) o)) (in_parts s m' front call o') (of_body m' (plain.body s (as_statements (front ++ call)) o'))
             (body_in_parts s m front run o) (body_in_parts s m' front call o')
-            (numbers_node s m m' (λ n n' g. numbers_then NA (λ x x' l. numbers_map (λ p. named.body n (joined x p.0) p.1) (λ p. named.body n' (joined x' p.0) p.1)
-            NS (λ p p' d. end_replaced x x' p.0 p'.0 g l d))));
+            (numbers_node s m m' (λ n n' g. numbers_then_told {W = λ (x : named.Statements). many x ≡ length front} {W' = λ (x : named.Statements). many x ≡ length front} NA (many_numbered front) (many_numbered front) (λ x x' v v' l. numbers_map (λ p. named.body n (joined x p.0) p.1) (λ p. named.body n' (joined x' p.0) p.1)
+            NS (λ p p' d. end_replaced x x' p.0 p'.0 v g l d))));
       }

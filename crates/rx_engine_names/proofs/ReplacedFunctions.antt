@@ -110,11 +110,11 @@ module _ (p q : ProgramTree) (c : Inserted p q) (n m : ℕ) (s : Span) (f : Func
       })
 
   replaced_block : Fills → (M : Made) (own : Names) (ms : List Around) (w : Stand K M own ms) (at at' : List ℕ) (d done : Body) (t t' u : ItemNames) → (is_among name own ≡ false) × IsTheBlock old labels name (labels_of ms) d → in_block I w.sc w.ls at d t ≡ Ok t' → Reached (one_to_one items) M t u
-      → BodyPart K M own ms w at' d done t t' u → BodyPart K M own ms w at' d (at_block d done) t t' u
+      → (H.copied (body_span d) → BodyPart K M own ms w at' d done t t' u) → BodyPart K M own ms w at' d (at_block d done) t t' u
   replaced_block fills M own ms w at at' d done t t' u claim e q h = by (same_place (body_span old) (body_span d)) refl
     where
       by : (z : Bool) → same_place (body_span old) (body_span d) ≡ z → BodyPart K M own ms w at' d (if z then new else done) t t' u
-      by false k = h
+      by false k = h k
       by true k =
           let y = claim.1 k in
           subst (λ (d : Body). BodyPart K M own ms w at' d new t t' u) (sym y.0) (the_block fills M own ms w at at' t t' u (w.round ∙ y.1) (w.scopes.outer name claim.0 unnamed) q (subst (λ (d : Body). in_block I w.sc w.ls at d t ≡ Ok t') y.0 e))

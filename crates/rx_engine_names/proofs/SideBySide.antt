@@ -89,6 +89,15 @@ numbers_then {es = es} {es' = es'} {fs = fs} {fs' = fs'} {m = m} {m' = m'} N K =
       (K (m c).0 (m' c').0 x.like).holds (m c).1 (m' c').1 rest rest' x.cursors x.left x.left';
 }
 
+-- what is told of both in front
+pub numbers_then_told : {A A' B B' : Type 0} {S : A → A' → Type 0} {T : B → B' → Type 0} {W : A → Type 0} {W' : A' → Type 0} {t u t1 u1 t2 u2 : ItemNames} {es es' fs fs' : List NodeNames} {m : Numbering A} {m' : Numbering A'} {k : A → Numbering B} {k' : A' → Numbering B'}
+    → Numbers S t u t1 u1 es es' m m' → ((c : Cursor) → W (m c).0) → ((c : Cursor) → W' (m' c).0) → ((a : A) (a' : A') → W a → W' a' → S a a' → Numbers T t1 u1 t2 u2 fs fs' (k a) (k' a')) → Numbers T t u t2 u2 (es ++ fs) (es' ++ fs') (numbering.and_then m k) (numbering.and_then m' k')
+numbers_then_told {es = es} {es' = es'} {fs = fs} {fs' = fs'} {m = m} {m' = m'} N w w' K = record {
+  holds = λ c c' rest rest' q e e'.
+      let x = N.holds c c' (fs ++ rest) (fs' ++ rest') q (e ∙ append_assoc es fs rest) (e' ∙ append_assoc es' fs' rest') in
+      (K (m c).0 (m' c').0 (w c) (w' c') x.like).holds (m c).1 (m' c').1 rest rest' x.cursors x.left x.left';
+}
+
 -- what follows takes no entry
 pub numbers_last : {A A' B B' : Type 0} {S : A → A' → Type 0} {T : B → B' → Type 0} {t u t1 u1 : ItemNames} {es es' : List NodeNames} {m : Numbering A} {m' : Numbering A'} {k : A → Numbering B} {k' : A' → Numbering B'}
     → Numbers S t u t1 u1 es es' m m' → ((a : A) (a' : A') → S a a' → Numbers T t1 u1 t1 u1 [] [] (k a) (k' a')) → Numbers T t u t1 u1 es es' (numbering.and_then m k) (numbering.and_then m' k')
@@ -115,6 +124,15 @@ pub numbers_node : {B B' : Type 0} {T : B → B' → Type 0} {t u t1 u1 : ItemNa
 numbers_node s i i' K = record {
   holds = λ c c' rest rest' q e e'.
       (K (a_node s i c).0 (a_node s i' c').0 refl).holds (a_node s i c).1 (a_node s i' c').1 rest rest'
+      (record { declared = q.declared; declared' = q.declared'; loops = q.loops; loops' = q.loops' }) e e';
+}
+
+-- a node whose span is told
+pub numbers_node_at : {B B' : Type 0} {T : B → B' → Type 0} {t u t1 u1 : ItemNames} {es es' : List NodeNames} {k : Node → Numbering B} {k' : Node → Numbering B'} (s : Span) (i i' : Site)
+    → ((n n' : Node) → n.span ≡ s → SameSpan n n' → Numbers T t u t1 u1 es es' (k n) (k' n')) → Numbers T t u t1 u1 es es' (numbering.and_then (a_node s i) k) (numbering.and_then (a_node s i') k')
+numbers_node_at s i i' K = record {
+  holds = λ c c' rest rest' q e e'.
+      (K (a_node s i c).0 (a_node s i' c').0 refl refl).holds (a_node s i c).1 (a_node s i' c').1 rest rest'
       (record { declared = q.declared; declared' = q.declared'; loops = q.loops; loops' = q.loops' }) e e';
 }
 

@@ -3,7 +3,7 @@ use Rattle.std.proofs.Common.{◌≡◌, ℕ, Bool, true, false, if◌then◌els
 use Rattle.rx_core.specs.declared.types.Span.{Span}
 use Rattle.rx_tree.specs.declared.tree.Ident.{Ident}
 use Rattle.rx_tree.specs.Plain as plain
-use Rattle.rx_tree.specs.Spans.{pattern_span}
+use Rattle.rx_tree.specs.Spans.{body_span, pattern_span}
 use Rattle.rx_tree.specs.Plain.{TypeTree, PatternTree, Expression, Expressions, OptionalExpression, OptionalExpressions, FieldExpressions, Arms, Body, Statement, Statements}
 use Rattle.rx_resolve_scope.specs.Scopes.{Declared, Variables, entered}
 use Rattle.rx_resolve_names.specs.declared.resolved.ItemNames.{ItemNames}
@@ -260,6 +260,6 @@ pub record Special (K : Setting) : Type 0 where
   pub suffix : (R : Renaming) (s : Span) (n n' : Node) (b b' : Bool) (v : ℕ) (k : Option kinds.Kind) → n.span ≡ s → SameSpan n n' → LikeExp K.H R (named.int n b v k) (named.int n' b' v (K.C.at_int s k))
   pub annotated : (M : Made) (at at' : List ℕ) (p : PatternTree) (y : Option TypeTree) (t t' u : ItemNames) → K.N.annotation y → in_optional_type K.I at y t ≡ Ok t' → Reached K.L M t u
       → Part K.L M t t' u (λ G v. in_optional_type K.I' at' (K.C.at_let p y) u ≡ Ok v) (AnnotationNumbers K.H (pattern_span p) t u y (K.C.at_let p y) t')
-  -- a block: with its parts done it is alike
+  -- a block: with its parts done it is alike, if it may be copied
   pub blocks : (M : Made) (own : Names) (m : List Around) (w : Stand K M own m) (at at' : List ℕ) (b done : Body) (t t' u : ItemNames) → K.N.block own m b → in_block K.I w.sc w.ls at b t ≡ Ok t' → Reached K.L M t u
-      → BodyPart K M own m w at' b done t t' u → BodyPart K M own m w at' b (K.C.at_block b done) t t' u
+      → (K.H.copied (body_span b) → BodyPart K M own m w at' b done t t' u) → BodyPart K M own m w at' b (K.C.at_block b done) t t' u

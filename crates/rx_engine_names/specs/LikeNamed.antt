@@ -23,10 +23,12 @@ pub record Holes : Type 1 where
   pub annotation : Renaming → Span → Option Written → Option Written → Type 0
   -- for a block
   pub block : Renaming → Body → Body → Type 0
+  -- which blocks may be copied, by their spans
+  pub copied : Span → Type 0
 
 -- nothing else
 abbrev pub no_holes : Holes
-no_holes = record { expression = λ R e e'. ⊥; returned = λ R n o e'. ⊥; annotation = λ R s t t'. ⊥; block = λ R b b'. ⊥ }
+no_holes = record { expression = λ R e e'. ⊥; returned = λ R n o e'. ⊥; annotation = λ R s t t'. ⊥; block = λ R b b'. ⊥; copied = λ s. Unit {0} }
 
 abbrev pub SameSpan : Node → Node → Type 0
 SameSpan n n' = n.span ≡ n'.span
@@ -70,10 +72,11 @@ pub data LikeAnnotation (H : Holes) (R : Renaming) (s : Span) : Option Written �
   like_typed : {t t' : Option Written} → LikeOptionalWritten R t t' → LikeAnnotation H R s t t'
   like_other_type : {t t' : Option Written} → H.annotation R s t t' → LikeAnnotation H R s t t'
 
--- the left side of an assignment that gives its variable a type: its node and its variable
+-- the left side of an assignment that gives its variable a type, which is a whole variable: its node and its variable
 pub record IsLeftSide (a : Exp) (p : Node) (x : Use) : Type 0 where
   pub node : named.node_of a ≡ p
   pub variable : (named.root a).number ≡ x.number
+  pub whole : named.is_variable a ≡ true
 
 mutual
   pub data LikeExp (H : Holes) (R : Renaming) : Exp → Exp → Type 0 where
@@ -132,7 +135,7 @@ mutual
 
   pub data LikeBody (H : Holes) (R : Renaming) : Body → Body → Type 0 where
     like_other_block : {b b' : Body} → H.block R b b' → LikeBody H R b b'
-    like_body : {n n' : Node} {ss ss' : Statements} {o o' : Else} → SameSpan n n' → LikeStatements H R ss ss' → LikeElse H R o o' → LikeBody H R (named.body n ss o) (named.body n' ss' o')
+    like_body : {n n' : Node} {ss ss' : Statements} {o o' : Else} → H.copied n.span → SameSpan n n' → LikeStatements H R ss ss' → LikeElse H R o o' → LikeBody H R (named.body n ss o) (named.body n' ss' o')
 
   pub data LikeStatement (H : Holes) (R : Renaming) : Statement → Statement → Type 0 where
     like_declares : {n n' : Node} {p p' : Pattern} {t t' : Option Written} → SameSpan n n' → LikePattern R p p' → LikeAnnotation H R (named.pattern_node p).span t t' → LikeStatement H R (named.declares n p t) (named.declares n' p' t')

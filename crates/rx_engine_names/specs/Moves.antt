@@ -101,7 +101,7 @@ pub data MovedReturn (V : Moves) : Node → Else → Exp → Type 0 where
   moved_return : {n n' : Node} {o : Else} {e : Exp} → SameSpan n n' → Returned V o e → MovedReturn V n o (named.return n' (named.present e))
 
 abbrev pub moved : Moves → Holes
-moved V = record { expression = MovedExp V; returned = λ R. MovedReturn V; annotation = λ R s t t'. ⊥; block = λ R b b'. ⊥ }
+moved V = record { expression = MovedExp V; returned = λ R. MovedReturn V; annotation = λ R s t t'. ⊥; block = λ R b b'. ⊥; copied = λ s. Unit {0} }
 
 -- ---- what is asked of the names in the run; a is the new function, and what a name means where its copy begins
 

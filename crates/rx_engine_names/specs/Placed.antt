@@ -127,7 +127,7 @@ pub record StandFor (T : Told) (I I' : Inside) (front run call : List Statement)
   pub told : T text.middle.scope p.around made.middle.scope made.middle.tables made.end R y
 
 abbrev pub by_others : Told → Inside → Inside → List Statement → List Statement → List Statement → Place → Renaming → named.Body → named.Body → Type 0
-by_others T I I' front run call p R = Replaced R (StandFor T I I' front run call p R)
+by_others T I I' front run call p R = Replaced R (length front) (StandFor T I I' front run call p R)
 
 -- the same with a tail
 abbrev pub ToldLast : Type 1
@@ -140,10 +140,10 @@ pub record EndFor (T : ToldLast) (I I' : Inside) (front run call : List Statemen
   pub told : T text.middle.scope p.around made.middle.scope made.middle.tables made.resolves.end R y o'
 
 abbrev pub by_an_end : ToldLast → Inside → Inside → List Statement → List Statement → List Statement → OptionalExpression → OptionalExpression → Place → Renaming → named.Body → named.Body → Type 0
-by_an_end T I I' front run call tail last p R = EndReplaced R (EndFor T I I' front run call tail last p R)
+by_an_end T I I' front run call tail last p R = EndReplaced R (length front) (EndFor T I I' front run call tail last p R)
 
 abbrev pub put_in : Inside → Inside → Body → Body → List (Option Ident) → (Place → Renaming → named.Body → named.Body → Type 0) → Holes
-put_in I I' b b' labels P = record no_holes { block = InPlace I I' b b' labels P }
+put_in I I' b b' labels P = record no_holes { block = InPlace I I' b b' labels P; copied = λ s. same_place (body_span b) s ≡ false }
 
 -- a function of which the run's block becomes another: it resolves, variables and loops correspond one to one, and the trees are alike but there
 abbrev pub LikeButFor : (p q : ProgramTree) (c : Inserted p q) (n m : ℕ) (s : Span) (f : Function) (old new : Body) (labels : List (Option Ident)) (P : Place → Renaming → named.Body → named.Body → Type 0) (t : ItemNames) → Type 0

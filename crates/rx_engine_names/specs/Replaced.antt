@@ -1,6 +1,6 @@
 -- A block in which other statements stand for some of its statements (Rust Reference, "Block expressions"): what stands in front and
 -- behind is copied.
-use Rattle.std.specs.Prelude.{◌≡◌, ℕ, true, false, List, [], ◌++◌, Option, Some, None, Ok}
+use Rattle.std.specs.Prelude.{◌≡◌, ℕ, zero, suc, true, false, List, [], ◌++◌, length, Option, Some, None, Ok}
 use Rattle.rx_tree.specs.declared.tree.Ident.{Ident}
 use Rattle.rx_tree.specs.Plain.{OptionalExpression, Body, Statement}
 use Rattle.rx_resolve_scope.specs.Scopes.{Variables, variable_named}
@@ -26,9 +26,14 @@ abbrev pub joined : named.Statements → named.Statements → named.Statements
 joined named.no_statement ys = ys
 joined (named.statement_and x xs) ys = named.statement_and x (joined xs ys)
 
-pub data Replaced (R : Renaming) (P : named.Statements → named.Statements → Type 0) : named.Body → named.Body → Type 0 where
-  replaced : {n n' : Node} {o o' : Else} (a a' x y b b' : named.Statements) → SameSpan n n' → LikeStatements no_holes R a a' → P x y → LikeStatements no_holes R b b' → LikeElse no_holes R o o'
-      → Replaced R P (named.body n (joined a (joined x b)) o) (named.body n' (joined a' (joined y b')) o')
+abbrev pub many : named.Statements → ℕ
+many named.no_statement = zero
+many (named.statement_and x xs) = suc (many xs)
+
+-- behind so many statements
+pub data Replaced (R : Renaming) (front : ℕ) (P : named.Statements → named.Statements → Type 0) : named.Body → named.Body → Type 0 where
+  replaced : {n n' : Node} {o o' : Else} (a a' x y b b' : named.Statements) → many a ≡ front → SameSpan n n' → LikeStatements no_holes R a a' → P x y → LikeStatements no_holes R b b' → LikeElse no_holes R o o'
+      → Replaced R front P (named.body n (joined a (joined x b)) o) (named.body n' (joined a' (joined y b')) o')
 
 -- these names mean variables that correspond, and jumps lead to loops that do
 abbrev pub NamesAlike : Made → Names → Variables → Variables → Type 0
@@ -96,12 +101,12 @@ pub record BlocksAlike (items : ℕ → ℕ) (I I' : Inside) (M : Made) (sc sc' 
   pub grown : t'.names ≡ t.names ++ added
   pub grown' : tables.names ≡ u.names ++ added'
   pub alike : (R : Renaming) → Serves items made R → (k k' : Site) (c c' : Cursor) (rest rest' : List NodeNames) → StandsAt t c → StandsAt u c' → c.names ≡ added ++ rest → c'.names ≡ added' ++ rest'
-      → Replaced R (BothBehind I I' sc sc' ls ls' at at' front run call t u) (of_body k b c).0 (of_body k' b' c').0
+      → Replaced R (length front) (BothBehind I I' sc sc' ls ls' at at' front run call t u) (of_body k b c).0 (of_body k' b' c').0
 
 -- ---- where the tail is replaced too
 
-pub data EndReplaced (R : Renaming) (P : named.Statements → Else → named.Statements → Else → Type 0) : named.Body → named.Body → Type 0 where
-  end_replaced : {n n' : Node} {o o' : Else} (a a' x y : named.Statements) → SameSpan n n' → LikeStatements no_holes R a a' → P x o y o' → EndReplaced R P (named.body n (joined a x) o) (named.body n' (joined a' y) o')
+pub data EndReplaced (R : Renaming) (front : ℕ) (P : named.Statements → Else → named.Statements → Else → Type 0) : named.Body → named.Body → Type 0 where
+  end_replaced : {n n' : Node} {o o' : Else} (a a' x y : named.Statements) → many a ≡ front → SameSpan n n' → LikeStatements no_holes R a a' → P x o y o' → EndReplaced R front P (named.body n (joined a x) o) (named.body n' (joined a' y) o')
 
 -- statements and a tail that resolve
 pub record StandsLast (I' : Inside) (ls' : List Around) (sc' : Variables) (at' : List ℕ) (i' : ℕ) (last : List ℕ) (call : List Statement) (o' : OptionalExpression) (u : ItemNames) : Type 0 where
@@ -140,4 +145,4 @@ pub record EndsAlike (items : ℕ → ℕ) (I I' : Inside) (M : Made) (sc sc' : 
   pub grown : t'.names ≡ t.names ++ added
   pub grown' : tables.names ≡ u.names ++ added'
   pub alike : (R : Renaming) → Serves items made R → (k k' : Site) (c c' : Cursor) (rest rest' : List NodeNames) → StandsAt t c → StandsAt u c' → c.names ≡ added ++ rest → c'.names ≡ added' ++ rest'
-      → EndReplaced R (BothLast I I' sc sc' ls ls' at at' front run call tail last t u) (of_body k b c).0 (of_body k' b' c').0
+      → EndReplaced R (length front) (BothLast I I' sc sc' ls ls' at at' front run call tail last t u) (of_body k b c).0 (of_body k' b' c').0

@@ -39,7 +39,7 @@ pub data WithType (pins : Pins) (R : Renaming) (s : Span) : Option Written → O
 
 abbrev pub written_out : Option Pins → Holes
 written_out None = no_holes
-written_out (Some pins) = record { expression = λ R e e'. WithKind pins e e'; returned = λ R n o e'. ⊥; annotation = WithType pins; block = λ R b b'. ⊥ }
+written_out (Some pins) = record { expression = λ R e e'. WithKind pins e e'; returned = λ R n o e'. ⊥; annotation = WithType pins; block = λ R b b'. ⊥; copied = λ s. Unit {0} }
 
 -- the types that are written out name structs and enums of the program alone
 abbrev pub PinsName : ProgramTree → Option Pins → Type 0

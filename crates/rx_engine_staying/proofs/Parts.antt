@@ -184,7 +184,7 @@ module _ {R : Renaming} where
 
   pub body_parts : {n n' : Node} {ss ss' : Statements} {o o' : Else} → LikeBody alike.no_holes R (named.body n ss o) (named.body n' ss' o') → LikeStatements alike.no_holes R ss ss' × LikeElse alike.no_holes R o o'
   body_parts (alike.like_other_block h) = absurd h
-  body_parts (alike.like_body s h g) = (h, g)
+  body_parts (alike.like_body f s h g) = (h, g)
 
 -- places that are alike stand in variables that correspond
 module _ (items : ℕ → ℕ) where

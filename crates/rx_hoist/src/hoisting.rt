@@ -260,7 +260,7 @@ fn hoisted_at(
 
 /// A block of nothing.
 #[tactic(auto, using(rx_tree::proofs::Rules::block_rules))]
-fn no_block(alloc: Global) -> Block
+pub fn no_block(alloc: Global) -> Block
     ensures { plain-Block result ≡ hoisting.no_block }
 {
     Block {
@@ -312,7 +312,7 @@ fn function_of<'t>(item: &'t Item) -> (Span, &'t Func)
 }
 
 /// The function of a number.
-fn function_at<'t>(program: &'t Program, number: u32) -> (Span, &'t Func)
+pub fn function_at<'t>(program: &'t Program, number: u32) -> (Span, &'t Func)
     requires { is_function (slice_get (plain-Program program.now) number) ≡ true }
     ensures { slice_get (plain-Program program.now) number ≡ hoisting.some_function result.0 (plain-Func result.1.now) }
 {

@@ -9,5 +9,7 @@ mod parts;
 mod program;
 mod site;
 
-pub use hoisting::{HoistFault, Hoisted, hoist};
+pub use hoisting::{HoistFault, Hoisted, function_at, hoist, no_block};
 pub use limits::parts_past;
+pub use parts::{from_on, run_parts};
+pub use site::{block_at, labels_round};

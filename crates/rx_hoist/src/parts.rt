@@ -27,7 +27,7 @@ pub(crate) fn in_front<T>(items: &[T], at: usize) -> &[T]
 }
 
 /// What is from a place on.
-pub(crate) fn from_on<T>(items: &[T], at: usize) -> &[T]
+pub fn from_on<T>(items: &[T], at: usize) -> &[T]
     ensures { result.now ≡ drop at items.now }
 {
     let from = if at < items.len() { at } else { items.len() };
@@ -73,7 +73,7 @@ fn chosen_tail<'t>(block: &'t Block, run: &RunPos) -> Option<&'t Expr>
 }
 
 /// The run in its block.
-pub(crate) fn run_parts<'t>(block: &'t Block, run: &RunPos) -> RunParts<'t>
+pub fn run_parts<'t>(block: &'t Block, run: &RunPos) -> RunParts<'t>
     ensures { plain-RunParts result ≡ runs.chosen_parts (run_of run.now) (plain-Block block.now) }
 {
     RunParts {

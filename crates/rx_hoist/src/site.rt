@@ -41,7 +41,7 @@ fn as_block<'t>(node: Node<'t>, other: &'t Block) -> &'t Block
 }
 
 /// The block at the end of a way from a body; the other one where no block is there.
-pub(crate) fn block_at<'t>(body: &'t Block, way: &[u32], other: &'t Block) -> &'t Block
+pub fn block_at<'t>(body: &'t Block, way: &[u32], other: &'t Block) -> &'t Block
     ensures { plain-Block result.now ≡ sites.block_or (plain-Block other.now) (descend (Some (sites.as_node (plain-Block body.now))) way.now) }
 {
     match reached(Node::Block(body), way) {
@@ -137,7 +137,7 @@ fn labels_on<'t>(
 }
 
 /// The labels of the loops round the end of a way from a body, the innermost first.
-pub(crate) fn labels_round<'t>(
+pub fn labels_round<'t>(
     alloc: Global,
     body: &'t Block,
     way: &[u32],

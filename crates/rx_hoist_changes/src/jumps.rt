@@ -23,7 +23,7 @@ enum Around<'t> {
 
 /// What stands round a part. Contracts see it as a list, the nearest first.
 #[derive(Drop)]
-pub(crate) struct Loops<'t> {
+pub struct Loops<'t> {
     /// The nearest last.
     around: Vec<Around<'t>>,
 }
@@ -40,7 +40,7 @@ impl<'t> Model for Loops<'t> {
 
 impl<'t> Loops<'t> {
     /// Nothing stands round it. It takes no memory.
-    pub(crate) fn new(alloc: Global) -> Loops<'t>
+    pub fn new(alloc: Global) -> Loops<'t>
         ensures { result ≡ [] }
     {
         Loops {
@@ -49,10 +49,7 @@ impl<'t> Loops<'t> {
     }
 
     /// The loops round a run by their labels, the innermost first, with numbers from 1 on.
-    pub(crate) fn round(
-        alloc: Global,
-        labels: &[Option<&'t Ident>],
-    ) -> Result<Loops<'t>, AllocError>
+    pub fn round(alloc: Global, labels: &[Option<&'t Ident>]) -> Result<Loops<'t>, AllocError>
         ensures { IfOk result (λ it. it ≡ numbered 1 (map (option_map (λ l. l.now)) labels.now)) }
     {
         let mut around = Vec::new(alloc);
@@ -77,7 +74,7 @@ impl<'t> Loops<'t> {
     }
 
     /// A loop of the run itself inside of these.
-    pub(crate) fn with_loop(
+    pub fn with_loop(
         &self,
         alloc: Global,
         label: &'t Option<Ident>,
@@ -89,14 +86,14 @@ impl<'t> Loops<'t> {
     }
 
     /// The test of a loop inside of these.
-    pub(crate) fn with_test(&self, alloc: Global) -> Result<Loops<'t>, AllocError>
+    pub fn with_test(&self, alloc: Global) -> Result<Loops<'t>, AllocError>
         ensures { IfOk result (λ it. it ≡ a_test ∷ self.now) }
     {
         self.with(alloc, Around::Test)
     }
 
     /// The loop round the run that a jump leads to, 0 the innermost.
-    pub(crate) fn left_by(&self, wanted: &Option<Ident>) -> Option<usize>
+    pub fn left_by(&self, wanted: &Option<Ident>) -> Option<usize>
         ensures { result ≡ leaves wanted.now self.now }
     {
         loop_left(wanted, self.around.as_slice())

@@ -10,6 +10,8 @@ mod scope;
 mod special;
 mod walk;
 
-pub use moving::moved_run;
-pub use pinning::pinned;
+pub use jumps::Loops;
+pub use moving::{is_referred, moved_run};
+pub use pinning::{kind_at, pinned, suffix_of, type_at};
 pub use replacing::with_block;
+pub use scope::Names;

@@ -42,7 +42,7 @@ fn by_reference(mode: Mode) -> bool
 }
 
 /// Whether a name is that of a param that the new function has behind a reference of its own.
-fn is_referred(name: &Name, params: &[Param]) -> bool
+pub fn is_referred(name: &Name, params: &[Param]) -> bool
     ensures { result ≡ is_among name.now (moved.referred (map plain-Param params.now)) }
 {
     for param in params {

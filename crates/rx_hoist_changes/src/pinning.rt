@@ -30,7 +30,7 @@ struct Pinning<'p> {
 }
 
 /// The kind that a literal at this place gets.
-fn kind_at(pins: &[KindPin], span: Span) -> Option<Kind>
+pub fn kind_at(pins: &[KindPin], span: Span) -> Option<Kind>
     ensures { result ≡ pinned.at_place (map (λ (k : KindPinOf). (k.span, k.kind)) pins.now) span }
 {
     for pin in pins {
@@ -42,7 +42,7 @@ fn kind_at(pins: &[KindPin], span: Span) -> Option<Kind>
 }
 
 /// The type that the `let` of a pattern at this place gets.
-fn type_at<'p>(pins: &'p [TypePin], span: Span) -> Option<&'p Ty>
+pub fn type_at<'p>(pins: &'p [TypePin], span: Span) -> Option<&'p Ty>
     ensures { option_map plain-Ty (option_copied result) ≡ pinned.at_place (map (λ (t : TypePinOf). (t.span, plain-Ty t.ty)) pins.now) span }
 {
     for pin in pins {
@@ -54,7 +54,7 @@ fn type_at<'p>(pins: &'p [TypePin], span: Span) -> Option<&'p Ty>
 }
 
 /// A kind as a suffix: `i32` is not written.
-fn suffix_of(kind: Option<Kind>) -> Option<Kind>
+pub fn suffix_of(kind: Option<Kind>) -> Option<Kind>
     ensures { result ≡ pinned.suffix_of kind }
 {
     match kind {

@@ -13,7 +13,7 @@ use std::marker::Model;
 
 /// The names that patterns bind. Contracts see them as a list, those of the last pattern first.
 #[derive(Drop)]
-pub(crate) struct Names<'t> {
+pub struct Names<'t> {
     /// The patterns in the order of the text.
     patterns: Vec<&'t Pattern>,
 }
@@ -30,7 +30,7 @@ impl<'t> Model for Names<'t> {
 
 impl<'t> Names<'t> {
     /// No names. It takes no memory.
-    pub(crate) fn new(alloc: Global) -> Names<'t>
+    pub fn new(alloc: Global) -> Names<'t>
         ensures { result ≡ [] }
     {
         Names {
@@ -38,7 +38,7 @@ impl<'t> Names<'t> {
         }
     }
 
-    pub(crate) fn copy(&self, alloc: Global) -> Result<Names<'t>, AllocError>
+    pub fn copy(&self, alloc: Global) -> Result<Names<'t>, AllocError>
         ensures { IfOk result (λ it. it ≡ self.now) }
     {
         Ok(Names {
@@ -48,7 +48,7 @@ impl<'t> Names<'t> {
 
     /// Adds the names of a pattern.
     #[tactic(auto, using(crate::proofs::ScopeLemmas::bound_push_of))]
-    pub(crate) fn enter(&mut self, pattern: &'t Pattern) -> Result<(), AllocError>
+    pub fn enter(&mut self, pattern: &'t Pattern) -> Result<(), AllocError>
         ensures { OnOk result (self.new ≡ bound (plain-Pattern pattern.now) ++ self.old) }
     {
         self.patterns.push(pattern)?;
@@ -57,7 +57,7 @@ impl<'t> Names<'t> {
 
     /// Adds the names that a statement binds.
     #[tactic(auto, using(rx_tree::proofs::Rules::statement_rules))]
-    pub(crate) fn enter_statement(&mut self, stmt: &'t Stmt) -> Result<(), AllocError>
+    pub fn enter_statement(&mut self, stmt: &'t Stmt) -> Result<(), AllocError>
         ensures { OnOk result (self.new ≡ bound_by (plain-Stmt stmt.now) ++ self.old) }
     {
         match &stmt.node {
@@ -67,7 +67,7 @@ impl<'t> Names<'t> {
     }
 
     /// These names and those of a pattern.
-    pub(crate) fn with(&self, alloc: Global, pattern: &'t Pattern) -> Result<Names<'t>, AllocError>
+    pub fn with(&self, alloc: Global, pattern: &'t Pattern) -> Result<Names<'t>, AllocError>
         ensures { IfOk result (λ it. it ≡ bound (plain-Pattern pattern.now) ++ self.now) }
     {
         let mut names = self.copy(alloc)?;
@@ -76,7 +76,7 @@ impl<'t> Names<'t> {
     }
 
     /// Whether a name is one of these.
-    pub(crate) fn has(&self, name: &Name) -> bool
+    pub fn has(&self, name: &Name) -> bool
         ensures { result ≡ is_among name.now self.now }
     {
         one_binds(self.patterns.as_slice(), name)

@@ -24,7 +24,7 @@ use rx_tree::{Block, Expr, Program, Stmt, StmtNode};
 use std::alloc::{AllocError, Global};
 
 /// What is handed on at the end: the variant Next, or without an enum nothing, the value, the tuple of the values.
-fn handing_on(
+pub fn handing_on(
     alloc: Global,
     plan: &NamedPlan,
     span: Span,
@@ -68,7 +68,7 @@ fn followed(
 }
 
 /// Whether a last statement without `;` gets one: where the run's end is not reached and a value comes of it all the same.
-fn stays_last(plan: &NamedPlan) -> bool
+pub fn stays_last(plan: &NamedPlan) -> bool
     ensures { result ≡ body.stays_last (plain-Plan plan.now) }
 {
     !has_exit(Exit::Next, plan.exits.as_slice()) && !plan.never
@@ -76,7 +76,7 @@ fn stays_last(plan: &NamedPlan) -> bool
 
 /// Whether a statement is an expression without `;`.
 #[tactic(auto, using(rx_tree::proofs::Rules::statement_rules))]
-fn is_open(stmt: &Stmt) -> bool
+pub fn is_open(stmt: &Stmt) -> bool
     ensures { result ≡ lasts.is_open (plain-Stmt stmt.now) }
 {
     matches!(&stmt.node, StmtNode::Eval(_, false))
@@ -197,7 +197,7 @@ fn in_tuple(
 }
 
 /// The tuple of a variable and others.
-fn tuple_of(
+pub fn tuple_of(
     alloc: Global,
     span: Span,
     name: &Name,
@@ -253,7 +253,7 @@ fn with_value(
 }
 
 /// Whether something follows the run: it hands on these.
-fn is_followed(plan: &NamedPlan, outs: &[Expr]) -> bool
+pub fn is_followed(plan: &NamedPlan, outs: &[Expr]) -> bool
     ensures { result ≡ body.is_followed (plain-Plan plan.now) (map plain-Expr outs.now) }
 {
     let exits = plan.exits.as_slice();

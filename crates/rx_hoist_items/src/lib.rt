@@ -8,7 +8,7 @@ mod enums;
 mod function;
 mod receiving;
 
-pub use body::new_body;
+pub use body::{handing_on, is_followed, is_open, new_body, stays_last, tuple_of};
 pub use call::replacement;
 pub use enums::new_enum;
 pub use function::new_function;

@@ -1,7 +1,7 @@
-mod Scopes
-mod NamedPatterns
-mod NamedExpressions
-mod NamedFunctions
-mod TypedNames
-mod Programs
-mod Plans
+pub mod Scopes
+pub mod NamedPatterns
+pub mod NamedExpressions
+pub mod NamedFunctions
+pub mod TypedNames
+pub mod Programs
+pub mod Plans

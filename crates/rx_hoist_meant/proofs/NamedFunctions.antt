@@ -31,12 +31,12 @@ use Rattle.rx_hoist_meant.proofs.NamedExpressions.{Scope, body_taken}
 
 -- ---- parameters
 
-abbrev OfParameters : List ℕ → List named.Parameter → Type 0
+abbrev pub OfParameters : List ℕ → List named.Parameter → Type 0
 OfParameters ns ps = map (λ (p : named.Parameter). p.variable) ps ≡ ns
 
 module _ (C : Claims) (I : Inside) (N : ℕ) (small : N ≤ 4294967295) (S : Sees C I N) (names : List (List ℕ)) where
   -- the number of a parameter's place is that of its variable
-  parameters_taken : (at : List ℕ) (i : ℕ) (xs : List Parameter) (b b1 : BoundSoFar) → in_parameters I at i xs b ≡ Ok b1 → (length b.tables.vars ≤ N → i ≡ length b.tables.vars)
+  pub parameters_taken : (at : List ℕ) (i : ℕ) (xs : List Parameter) (b b1 : BoundSoFar) → in_parameters I at i xs b ≡ Ok b1 → (length b.tables.vars ≤ N → i ≡ length b.tables.vars)
       → Stand names (length b.tables.vars) (map (λ (x : Parameter). x.name.name) xs) → Binds C I N small S names b b1 (length xs) OfParameters (numbering.of_parameters xs)
   parameters_taken at i [] b b1 e w h =
       subst (λ (v : BoundSoFar). Binds C I N small S names b v 0 OfParameters (numbering.of_parameters [])) (the_same b b1 e)

@@ -100,7 +100,7 @@ fn push_declared(
 /// Adds a statement.
 #[cycle(expressions)]
 #[tactic(auto, using(rx_tree::proofs::Rules::statement_rules, rx_print_parts::proofs::Rules::text_rules))]
-fn push_statement(
+pub fn push_statement(
     alloc: Global,
     out: &mut Text,
     margin: &Margin,
@@ -142,7 +142,7 @@ fn push_next_statement(
 
 /// Adds statements, each on a line of its own.
 #[cycle(expressions)]
-fn push_statements(
+pub fn push_statements(
     alloc: Global,
     out: &mut Text,
     margin: &Margin,
@@ -179,7 +179,12 @@ fn push_bare(
 /// Adds the value of a block on a line of its own.
 #[cycle(expressions)]
 #[tactic(auto, using(rx_print_parts::proofs::Rules::text_rules))]
-fn push_value(alloc: Global, out: &mut Text, margin: &Margin, e: &Expr) -> Result<(), AllocError>
+pub fn push_value(
+    alloc: Global,
+    out: &mut Text,
+    margin: &Margin,
+    e: &Expr,
+) -> Result<(), AllocError>
     ensures { OnOk result (out.new ≡ out.old ++ flat (value_pieces margin.now (plain-Expr e.now))) }
 {
     margin.push_line(out)?;

@@ -14,6 +14,6 @@ pub use patterns::push_pattern;
 pub use signatures::{push_called, push_signature};
 pub use types::push_annotation;
 pub use words::{
-    comma, operator_text, push_decimal, push_mutable, push_number, truth_text, tuple_end,
-    update_text,
+    comma, kind_text, operator_text, push_decimal, push_mutable, push_number, truth_text,
+    tuple_end, update_text,
 };

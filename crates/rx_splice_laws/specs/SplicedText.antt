@@ -26,7 +26,7 @@ use Rattle.rx_splice_laws.specs.Indent.{indent_at, four, reindented}
 use Rattle.rx_splice_laws.specs.Places.{first_start, tokens_from}
 use Rattle.rx_splice_laws.specs.Moving.{run_edits, pin_edits}
 use Rattle.rx_splice_laws.specs.MovedBy.{moved_by}
-use Rattle.rx_splice_laws.specs.RunEnd.{end_of}
+use Rattle.rx_splice_laws.specs.RunEnd.{RunEnd, end_of}
 use Rattle.rx_splice_laws.specs.SplicedRun.{between}
 
 -- ---- the run in the new function
@@ -43,12 +43,16 @@ abbrev pub put_if_any : ℕ → List Piece → List Edit
 put_if_any at [] = []
 put_if_any at (p ∷ ps) = put at (p ∷ ps) ∷ []
 
+-- the end of the run as it stands in the text
+abbrev pub run_end : ProgramTree → Run → Plan → Function → RunEnd
+run_end P r pl f = end_of P pl r.span (run_parts r f)
+
 -- all edits of the run's own bytes, in the order of the text
 abbrev pub run_text_edits : ProgramTree → Run → Plan → Function → List Tok → List Edit
 run_text_edits P r pl f all =
     let A = run_edits (moved_by P pl r.span) all in
     let p = run_parts r f in
-    let e = end_of P pl r.span p in
+    let e = run_end P r pl f in
     all_statement_edits A [] (loops_round r f) (statements_of p.statements)
     ++ (put_if_any (tail_start all r.span.start p.statements) e.before
     ++ (optional_edits A (behind_all [] (statements_of p.statements)) (loops_round r f) p.tail
@@ -79,12 +83,12 @@ tail_line (plain.present e) = line 1 ∷ stated e (pieces false 1 e)
 abbrev pub enum_text : ProgramTree → Run → Plan → List ℕ
 enum_text P r pl = if has_enum pl.exits then 10 ∷ 10 ∷ flat (enumeration_pieces (new_enum P pl r.span)) else []
 
--- f has its kinds and types pinned; `run` is the run's text
-abbrev pub function_text : ProgramTree → Run → Plan → Bounds → Function → List ℕ → List ℕ
-function_text P r pl bs f run =
+-- f has its kinds and types pinned; `run` is the run's text, and `tail` what stands behind it
+abbrev pub function_text : ProgramTree → Run → Plan → Bounds → Function → List ℕ → OptionalExpression → List ℕ
+function_text P r pl bs f run tail =
     10 ∷ 10 ∷ (flat (header (new_function P pl bs r.span (loops_round r f) (run_parts r f)))
     ++ (flat (lines (declared P r.span pl.locals))
-    ++ (10 ∷ (four ++ (run ++ (flat (tail_line (end_of P pl r.span (run_parts r f)).tail) ++ (10 ∷ codes "}")))))))
+    ++ (10 ∷ (four ++ (run ++ (flat (tail_line tail) ++ (10 ∷ codes "}")))))))
 
 -- ---- the call
 
@@ -123,4 +127,4 @@ spliced_text text all P r pl bs f =
     spliced 0 (take r.span.start text) (edits_before r.span.start pins)
     ++ (call_text (indent_at text r.span.start) (replacement P pl r.span (labels_round r f) (run_parts r f))
     ++ (spliced r.span.end (between r.span.end end text) (edits_behind r.span.end pins)
-    ++ (enum_text P r pl ++ (function_text P r pl bs g (run_text text all P r pl f) ++ drop end text))))
+    ++ (enum_text P r pl ++ (function_text P r pl bs g (run_text text all P r pl f) (run_end P r pl f).tail ++ drop end text))))

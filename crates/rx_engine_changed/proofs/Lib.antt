@@ -1,0 +1,17 @@
+pub mod Lists
+pub mod Steps
+pub mod Parts
+pub mod Kept
+pub mod Patterns
+pub mod Walk
+pub mod KeptPlaces
+pub mod Rises
+pub mod Copied
+pub mod Rows
+pub mod RoundRun
+pub mod RoundEnd
+pub mod Functions
+pub mod RoundFunctions
+pub mod Pieces
+pub mod CalledFunctions
+pub mod MovedRuns

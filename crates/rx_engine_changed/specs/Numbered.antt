@@ -1,0 +1,15 @@
+-- Two functions with numbers of which the second is the first by each numbering in which the pieces that were made correspond (Rust Reference,
+-- "Functions").
+use Rattle.std.specs.Prelude.{ℕ, List, []}
+use Rattle.rx_typed.specs.Named.{Function}
+use Rattle.rx_engine_names.specs.Renaming.{Renaming}
+use Rattle.rx_engine_typing.specs.Renumbered.{Holes, RenumberedFunction}
+use Rattle.rx_engine_changed.specs.Beside.{Piece, Grows, Numbers, AllCorrespond, Follows}
+
+pub record NumberedBeside (R : Renaming) (holes : Numbers → Holes) (f g : Function) : Type 0 where
+  pub pieces : List Piece
+  -- so many nodes
+  pub last : ℕ
+  pub last' : ℕ
+  pub grows : Grows [] 0 0 pieces last last'
+  pub like : (q : Numbers) → Follows R q → AllCorrespond q pieces → RenumberedFunction q.by q.loops (holes q) f g

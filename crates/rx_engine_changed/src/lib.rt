@@ -1,0 +1,10 @@
+//! The function with the call of an extraction, and the new one, beside the text's. Laws, and no code.
+#![tactic(auto)]
+
+mod laws;
+
+pub use laws::{
+    copied_runs_are_renumbered, functions_with_a_call_are_renumbered,
+    functions_with_a_call_at_the_end_are_renumbered, made_pairs_are_one_to_one,
+    pieces_tell_a_numbering,
+};

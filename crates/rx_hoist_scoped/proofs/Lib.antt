@@ -1,0 +1,10 @@
+pub mod Steps
+pub mod Loops
+pub mod Patterns
+pub mod Counted
+pub mod Expressions
+pub mod Functions
+pub mod Places
+pub mod Blocks
+pub mod Rising
+pub mod Programs

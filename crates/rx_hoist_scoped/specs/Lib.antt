@@ -1,0 +1,4 @@
+pub mod Stands
+pub mod Placed
+pub mod Functions
+pub mod Scoped
