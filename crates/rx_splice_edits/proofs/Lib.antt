@@ -1,0 +1,12 @@
+pub mod TokenPlaces
+pub mod Last
+pub mod LineLemmas
+pub mod PartLemmas
+pub mod Splitting
+pub mod Words
+pub mod Places
+pub mod EndLemmas
+pub mod CallLines
+pub mod RunLemmas
+pub mod TextLemmas
+pub mod Whole

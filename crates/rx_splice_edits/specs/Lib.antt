@@ -1,0 +1,9 @@
+pub mod InOrder
+pub mod Cutting
+pub mod Jumping
+pub mod Deciding
+pub mod Ending
+pub mod RunEdits
+pub mod Placing
+pub mod Lines
+pub mod Calls
