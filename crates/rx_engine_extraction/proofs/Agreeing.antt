@@ -27,13 +27,16 @@ use Rattle.rx_modes_uses.specs.Modes.{IsModes}
 use Rattle.rx_modes_uses.proofs.One.{one_list_of_modes}
 use Rattle.rx_hoist_diverging.specs.Diverging.{diverging}
 use Rattle.rx_hoist_nodes.specs.TypedRun.{typed_run}
+use Rattle.rx_hoist_extraction.specs.Plan as names
+use Rattle.rx_hoist_extraction.specs.Plan.{Bounds}
 use Rattle.rx_hoist_extraction.specs.Extraction.{extraction, new_number}
 use Rattle.rx_hoist_naming.specs.NamedPlan.{names_in, named_plan}
 use Rattle.rx_repair.specs.Named.{named_at}
 use Rattle.rx_engine_extraction.specs.Source.{Text, IsText, Wish, declared_in}
 use Rattle.rx_engine_extraction.specs.Case.{Case, asked}
-use Rattle.rx_engine_extraction.specs.Made.{run_of, told, named, hoisted, new_item, extracted}
-use Rattle.rx_engine_extraction.specs.Meeting.{Selects, Seated, Passes, Fits}
+use Rattle.rx_engine_extraction.specs.Made.{run_of, told, named, hoisted, new_item, named_bounds, extracted}
+use Rattle.rx_engine_extraction.specs.Rendering.{Renders}
+use Rattle.rx_engine_extraction.specs.Meeting.{Selects, Seated, Passes, Fits, IsAnswer}
 use Rattle.rx_engine_extraction.specs.Hoisting.{IsBare}
 use Rattle.rx_engine_extraction.proofs.Ends.{block_function}
 use Rattle.rx_engine_extraction.proofs.Bare.{extraction_bare}
@@ -164,6 +167,13 @@ module _ (T : Text) (u : Typed) (z : Twice T u) (w : Wish) (d e : Case) where
         one (hoisted U w e) (new_item U w e) (bare s) d.types e.types d.made e.made d.bounds e.bounds
         (subst (λ (n : ℕ). Fits (hoisted U w e) n d.types d.made d.bounds) item_alike
         (subst (λ (q : ProgramTree). Fits q (new_item T w d) d.types d.made d.bounds) hoisted_alike a)) b
+
+    -- and so may be their texts
+    pub texts_alike : d.bounds ≡ e.bounds → (text : List ℕ) → IsAnswer T w d text → IsAnswer U w e text
+    texts_alike b text h =
+        subst (λ (bs : Bounds). Renders T.bytes T.tokens T.program (run_of e.run) (named U w e) bs text) (λ i. named_at (hoisted_alike i) (item_alike i) (b i))
+        (subst (λ (k : names.Plan). Renders T.bytes T.tokens T.program (run_of e.run) k (named_bounds T w d) text) named_alike
+        (subst (λ (r : RunPos). Renders T.bytes T.tokens T.program (run_of r) (named T w d) (named_bounds T w d) text) p.seats.run h))
 
     pub extracted_alike : d.bounds ≡ e.bounds → extracted T w d ≡ extracted U w e
     extracted_alike b = λ i. extraction T.program (run_of (p.seats.run i)) (named_alike i) (named_at (hoisted_alike i) (item_alike i) (b i))

@@ -1,5 +1,5 @@
 -- From what is hoisted and how it ends to the verdict.
-use Rattle.std.proofs.Common.{◌≡◌, ◌≢◌, ◌⊎◌, inl, inr, ℕ, ◌<◌, ◌≤◌, ◌^◌, Bool, true, false, List, [], ◌∷◌, ◌++◌, length, map, Option, Some, None, Result, Ok, Err, refl, sym, subst, ap, ◌∙◌, arith}
+use Rattle.std.proofs.Common.{◌≡◌, ◌≢◌, ◌⊎◌, inl, inr, ℕ, ◌<◌, ◌≤◌, ◌^◌, Bool, true, false, List, [], ◌∷◌, ◌++◌, length, map, Option, Some, None, Result, Ok, Err, slice_get, refl, sym, subst, ap, ap₂, ◌∙◌, arith}
 use Rattle.std.specs.Prelude.{if◌then◌else◌, nat_lt}
 use Rattle.std.proofs.lemmas.Bool.{ltb-false}
 use Rattle.rx_core.specs.declared.types.Bound.{Bound}
@@ -21,8 +21,11 @@ use Rattle.rx_check.specs.Causes.{Causes, PassCauses, AreOne}
 use Rattle.rx_check.specs.Passes.{Fronted, Accepted}
 use Rattle.rx_check_loans.specs.declared.loans.LoanFault.TheVariants as loan_fault
 use Rattle.rx_lower_lifetimes.specs.declared.whole.LowerFault.TheVariants as lower_fault
+use Rattle.rx_typed_runs.specs.declared.runs.RunPos.{RunPos}
+use Rattle.rx_hoist_extraction.specs.Plan.{Bounds, Plan}
 use Rattle.rx_hoist_extraction.specs.Extraction.{extraction, new_number}
 use Rattle.rx_hoist_extraction.specs.Limits.{first_past, made_levels}
+use Rattle.rx_hoist.specs.Runs.{is_function}
 use Rattle.rx_repair.specs.Named.{lifetimes_of, named_at}
 use Rattle.rx_repair.specs.Repaired.{repaired}
 use Rattle.rx_repair.proofs.Extracting.{repaired_extraction}
@@ -35,16 +38,19 @@ use Rattle.rx_engine_extraction.specs.declared.refusal.Refusal.{Refusal}
 use Rattle.rx_engine_extraction.specs.declared.refusal.Refusal.TheVariants as refusal
 use Rattle.rx_engine_extraction.specs.Source.{Text, IsText, Wish}
 use Rattle.rx_engine_extraction.specs.Case.{Case}
-use Rattle.rx_engine_extraction.specs.Made.{run_of, named, hoisted, new_item, extracted}
+use Rattle.rx_engine_extraction.specs.Made.{run_of, named, hoisted, new_item, named_bounds, extracted}
+use Rattle.rx_engine_extraction.specs.Rendering.{Renders}
 use Rattle.rx_engine_extraction.specs.Conditions as condition
 use Rattle.rx_engine_extraction.specs.Conditions.{Condition, before}
-use Rattle.rx_engine_extraction.specs.Meeting.{Holds, Fits, IsUnfit, levels_in, most_levels, most_sites, most_bytes}
+use Rattle.rx_engine_extraction.specs.Meeting.{Holds, Fits, IsUnfit, IsAnswer, levels_in, most_levels, most_sites, most_bytes}
 use Rattle.rx_engine_extraction.specs.Failing.{Fails, HasLarge}
 use Rattle.rx_engine_extraction.specs.Promise.{Stands, Keeps}
 use Rattle.rx_engine_extraction.specs.Verdict.{RefusedBy, IsRefused, Answers}
-use Rattle.rx_engine_extraction.specs.Ending.{IsPastLimit, IsKept, IsAnswered, IsEnded, IsBounded, IsFinished}
+use Rattle.rx_engine_extraction.specs.Ending.{IsPastLimit, IsLong, IsKept, IsAnswered, IsEnded, IsBounded, IsFinished}
 use Rattle.rx_engine_extraction.specs.Hoisting.{IsHoisted}
 use Rattle.rx_engine_extraction.proofs.Ends.{block_function, all_named, pass_cause}
+use Rattle.rx_engine_extraction.proofs.Forming.{function_there}
+use Rattle.rx_engine_extraction.proofs.Rendered.{rendering_read}
 
 -- ---- levels
 
@@ -93,6 +99,21 @@ module _ (T : Text) (w : Wish) (d : Case) (stands : Stands T w d condition.fits)
 
   pub met_selects : Holds T w d condition.selects
   met_selects = first_met H condition.selects [] (behind H condition.word (before condition.word) (behind H condition.unused (before condition.unused) at_reached))
+
+-- ---- what is hoisted
+
+module _ (T : Text) (w : Wish) (run : RunPos) (pl : Plan) (p : ProgramTree) (n : ℕ) (h : IsHoisted T w run pl p n) where
+  -- the run is selected, so its item is a function
+  pub hoisted_function : is_function (slice_get T.program run.function) ≡ true
+  hoisted_function =
+      let d = h.case in let r = met_selects T w d h.stands in let at = block_function T.program d.run.function d.run.block.path r.block r.at in
+      subst (λ (q : RunPos). is_function (slice_get T.program q.function) ≡ true) (sym h.run) (function_there T.program d.run.function at.0 at.1 at.2)
+
+  pub hoisted_program : p ≡ extraction T.program (run_of run) pl []
+  hoisted_program = h.program ∙ ap₂ (λ (q : RunPos) (k : Plan). extraction T.program (run_of q) k []) (sym h.run) (sym h.plan)
+
+  pub hoisted_item : n ≡ new_number (run_of run) pl
+  hoisted_item = h.item ∙ ap₂ (λ (q : RunPos) (k : Plan). new_number (run_of q) k) (sym h.run) (sym h.plan)
 
 -- ---- faults of one program
 
@@ -199,17 +220,19 @@ module _ (fronted : (p : ProgramTree) (e : CheckFault) → Fronted p → PassCau
       fronted_bare : Fronted bare
       fronted_bare = (t, fits.front)
 
+      long_bytes : (n : ℕ) → IsLong (IsAnswer T w bound) n → Fails T w bound condition.few_bytes (refusal.Limit which.Bytes n)
+      long_bytes n h = (h.0, ap (λ m. refusal.Limit which.Bytes m) h.2, h.1, subst (λ m. most_bytes < m) h.2 h.3)
+
       fitted : Stands T w bound condition.fits_bounded
       fitted = (fits, (none_large bare fronted_bare, (none_unfit bare fronted_bare, stands)))
 
-      misfit : (r : Refusal) → IsKept whole r → RefusedBy T w r
+      misfit : (r : Refusal) → IsKept (IsAnswer T w bound) whole r → RefusedBy T w r
       misfit (refusal.Unfit e) h = refused bound condition.fits_bounded (refusal.Unfit e) fitted (e, refl, h.0, h.1)
       misfit (refusal.Region i l k) h = refused bound condition.known (refusal.Region i l k) (none_before whole (h.types, h.front), fitted) (i, l, k, refl, h)
       misfit (refusal.Loan a b) h = refused bound condition.legal (refusal.Loan a b)
           (lends_first whole a b h, (none_before whole (h.types, h.front), fitted)) (a, b, refl, h)
       misfit (refusal.Limit which.Bytes n) h = refused bound condition.few_bytes (refusal.Limit which.Bytes n)
-          (h.0, (none_lacking whole h.0, (none_before whole (accepted_fronted whole h.0), fitted)))
-          (ap (λ m. refusal.Limit which.Bytes m) h.1, subst (λ m. most_bytes < m) h.1 h.2)
+          (h.0, (none_lacking whole h.0, (none_before whole (accepted_fronted whole h.0), fitted))) (long_bytes n h.1)
       misfit (refusal.Limit which.Sites n) h = absurd h
       misfit (refusal.Limit which.Positions n) h = absurd h
       misfit (refusal.Limit which.Parameters n) h = absurd h
@@ -232,7 +255,7 @@ module _ (fronted : (p : ProgramTree) (e : CheckFault) → Fronted p → PassCau
 
   -- ---- from the beginning
 
-  module _ (bytes : List ℕ) (T : Text) (w : Wish) (is : IsText bytes T) (p : ProgramTree) (n : ℕ) (h : IsHoisted T w p n) where
+  module _ (bytes : List ℕ) (T : Text) (w : Wish) (is : IsText bytes T) (run : RunPos) (pl : Plan) (p : ProgramTree) (n : ℕ) (h : IsHoisted T w run pl p n) where
     abbrev made : Case
     made = h.case
 
@@ -248,6 +271,10 @@ module _ (fronted : (p : ProgramTree) (e : CheckFault) → Fronted p → PassCau
 
     formed_bare : FormedProgram bare_of
     formed_bare = subst (λ x. FormedProgram x) h.program h.formed
+
+    -- which texts it may be, with bounds
+    abbrev rendered : RunPos → Plan → Bounds → List ℕ → Type 0
+    rendered r k bs text = Renders T.bytes T.tokens T.program (run_of r) k bs text
 
     low_bare : levels_of bare_of ≤ levels
     low_bare = last_within most_levels (made_levels (named T w made)) (levels_of bare_of) (met_levels T w made h.stands)
@@ -266,31 +293,35 @@ module _ (fronted : (p : ProgramTree) (e : CheckFault) → Fronted p → PassCau
       low_whole : levels_of (extracted T w with) ≤ levels
       low_whole = subst (λ x. levels_of x ≤ levels) same_whole (subst (λ m. m ≤ levels) (sym (same_levels bare_of place bs)) low_bare)
 
-      keeps : (a : Answer) → IsAnswered (repaired bare_of place bs) bs a → Keeps bytes w a.text a.bounds
-      keeps a x = let y = subst (λ p. IsAnswered p bs a) same_whole x in
-          let read = printed (extracted T w with) formed_whole low_whole in record {
+      abbrev texts : List ℕ → Type 0
+      texts = IsAnswer T w with
+
+      keeps : (a : Answer) → IsAnswered texts (repaired bare_of place bs) bs a → Keeps bytes w a.text a.bounds
+      keeps a x = let y = subst (λ p. IsAnswered texts p bs a) same_whole x in
+          let read = rendering_read T.bytes T.tokens T.program (run_of made.run) (named T w made) (named_bounds T w with)
+          (printed (extracted T w with) formed_whole low_whole) a.text y.printed.text in record {
             extracts = record {
               text = T;
               is_text = is;
               case = with;
               stands = all_met T w made h.stands t g bs fits same_whole y.accepted;
-              last = y.printed.short;
+              last = (a.text, y.printed.text, y.printed.short);
             };
-            rendered = y.printed.text;
+            rendered = refl;
             needed = y.printed.bounds;
             program = read.0;
-            parses = subst (λ b. Parses b read.0) (sym y.printed.text) read.1;
+            parses = read.1;
             same = read.2;
             accepted = y.accepted;
           }
 
-      kept : (r : Refusal) → IsKept (repaired bare_of place bs) r → RefusedBy T w r
-      kept r x = misfit T w made h.stands t g bs fits same_whole r (subst (λ p. IsKept p r) same_whole x)
+      kept : (r : Refusal) → IsKept texts (repaired bare_of place bs) r → RefusedBy T w r
+      kept r x = misfit T w made h.stands t g bs fits same_whole r (subst (λ p. IsKept texts p r) same_whole x)
 
     refused_with : (r : Refusal) → RefusedBy T w r → IsRefused bytes w r
     refused_with r x = record { text = T; is_text = is; refused = x }
 
-    ended : (r : Result Answer Fault) → IsFinished bare_of place r → Answers bytes w r
+    ended : (r : Result Answer Fault) → IsFinished (rendered made.run (named T w made)) bare_of place r → Answers bytes w r
     ended (Ok a) x = keeps x.types x.made x.bounds x.fits a x.answered
     ended (Err (fault.Refused r)) (inl x) = refused_with r (past_limit T w made h.stands r x)
     ended (Err (fault.Refused r)) (inr x) = refused_with r (kept x.types x.made x.bounds x.fits r x.kept)
@@ -298,5 +329,7 @@ module _ (fronted : (p : ProgramTree) (e : CheckFault) → Fronted p → PassCau
     ended (Err (fault.Syntax e)) x = absurd x
     ended (Err (fault.NotAccepted e)) x = absurd x
 
-    pub concluded : (r : Result Answer Fault) → IsFinished p n r → Answers bytes w r
-    concluded r x = ended r (subst (λ m. IsFinished bare_of m r) h.item (subst (λ q. IsFinished q n r) h.program x))
+    pub concluded : (r : Result Answer Fault) → IsFinished (rendered run pl) p n r → Answers bytes w r
+    concluded r x =
+        ended r (subst (λ (k : Plan). IsFinished (rendered made.run k) bare_of place r) h.plan (subst (λ (q : RunPos). IsFinished (rendered q pl) bare_of place r) h.run
+        (subst (λ m. IsFinished (rendered run pl) bare_of m r) h.item (subst (λ q. IsFinished (rendered run pl) q n r) h.program x))))

@@ -27,7 +27,7 @@ use Rattle.rx_engine_extraction.specs.Promise.{Stands}
 use Rattle.rx_engine_extraction.specs.Verdict.{RefusedBy}
 use Rattle.rx_engine_extraction.proofs.AgreeingPlans.{one_plan}
 use Rattle.rx_engine_extraction.proofs.Agreeing.{retyped, Twice, as_seated, asked_alike}
-use Rattle.rx_engine_extraction.proofs.Standing.{held_first, held_second, seats, plans, passes, programs, mixed_alike, plan_of_both, partly_alike, shadowed_alike, not_mut_alike, aliased_alike, parameters, lifetimes, levels, parts, hoisted_both}
+use Rattle.rx_engine_extraction.proofs.Standing.{held_first, held_second, seats, plans, passes, programs, one_text_of, mixed_alike, plan_of_both, partly_alike, shadowed_alike, not_mut_alike, aliased_alike, parameters, lifetimes, levels, parts, hoisted_both}
 use Rattle.rx_engine_extraction.proofs.Orders.{number, earlier, in_order}
 
 none_and_some : (o q : Option ℕ) (n : ℕ) → o ≡ q → o ≡ Some n → q ≡ None → ⊥
@@ -101,7 +101,7 @@ module _ (passed : (p : ProgramTree) (e : CheckFault) → Fronted p → PassCaus
     clash legal r s f t h =
         meets_or_accepted (extracted U w e) (check_fault.Loan (loan_fault.Loan f.0 f.1)) (λ q. absurd (cc)) h
         (handed_on (check_fault.Loan (loan_fault.Loan f.0 f.1)) (extracted T w d) (extracted U w e) (programs T u z w d e one legal (omega arith) s t) f.3)
-    clash few_bytes r s f t h = let n = bytes_of (extracted T w d) (extracted U w e) (programs T u z w d e one few_bytes (omega arith) s t) in omega (arith, f.1, h, n)
+    clash few_bytes r s f t h = let n = ap (λ (x : List ℕ). length x) (one_text_of T u z w d e one few_bytes (omega arith) s t f.0 h.0 f.2 h.1) in omega (arith, f.3, h.2, n)
 
     -- one that fails stands not in front of one that the other comes to
     none_further : (c k : Condition) (r : Refusal) → number c < number k → Stands T w d c → Fails T w d c r → Stands U w e k → ⊥

@@ -42,7 +42,7 @@ call_formed law T bytes names lexed parsed short meant typed w r g h pl chosen d
     (law T bytes names lexed parsed short meant typed w d chosen.run chosen.word e.reached.0 decided.planned.listed decided.planned.agree
     (subst (λ (k : Plan). lifetimes_in T r k ≤ most_lifetimes) decided.named few))
 
-got : (p : ProgramTree) (n : ℕ) → slice_get p n ≡ nth p n
+pub got : (p : ProgramTree) (n : ℕ) → slice_get p n ≡ nth p n
 got [] n = refl
 got (i ∷ is) zero = refl
 got (i ∷ is) (suc n) = got is n

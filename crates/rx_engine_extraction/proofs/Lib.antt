@@ -27,3 +27,6 @@ pub mod Clashing
 pub mod Telling
 pub mod AgreeingTexts
 pub mod Keeping
+pub mod Rendered
+pub mod Cutting
+pub mod NewItems

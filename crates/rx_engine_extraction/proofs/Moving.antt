@@ -70,10 +70,12 @@ module _ (T : Text) (w : Wish) (r : RunPos) (g : TypedFn) (h : Home) (pl : Plan)
   unmoved_stops (fault.Syntax e) f = absurd f
   unmoved_stops (fault.NotAccepted e) f = absurd f
 
-  hoisted_by : (q : ProgramTree) (n : ℕ) → IsMoved T r own q n → IsHoisted T w q n
+  hoisted_by : (q : ProgramTree) (n : ℕ) → IsMoved T r own q n → IsHoisted T w r pl q n
   hoisted_by q n m = let few = m.few in record {
     case = at;
     stands = (m.short, (few.parts, (few.levels, (few.few.lifetimes, (few.few.parameters, met)))));
+    run = refl;
+    plan = decided.named;
     program = m.program;
     item = m.item;
     bare = m.bare;
@@ -81,5 +83,5 @@ module _ (T : Text) (w : Wish) (r : RunPos) (g : TypedFn) (h : Home) (pl : Plan)
     numbered = m.numbered;
   }
 
-  pub moved_is_hoisted : (q : ProgramTree) (n : ℕ) → IsMoved T r pl q n → IsHoisted T w q n
+  pub moved_is_hoisted : (q : ProgramTree) (n : ℕ) → IsMoved T r pl q n → IsHoisted T w r pl q n
   moved_is_hoisted q n m = hoisted_by q n (subst (λ k. IsMoved T r k q n) decided.named m)

@@ -19,14 +19,15 @@ use Rattle.rx_hoist_extraction.specs.Plan as names
 use Rattle.rx_print_spelling.specs.Levels.{levels_of}
 use Rattle.rx_engine_extraction.specs.Source.{Text, Wish}
 use Rattle.rx_engine_extraction.specs.Case.{Case, asked}
-use Rattle.rx_engine_extraction.specs.Made.{run_of, named, hoisted, extracted}
+use Rattle.rx_engine_extraction.specs.Made.{run_of, named, hoisted, named_bounds, extracted}
 use Rattle.rx_engine_extraction.specs.Conditions.{Condition, selects, reached, whole, unmoved, few_positions}
-use Rattle.rx_engine_extraction.specs.Meeting.{most_levels, most_parts, parts_in, parts_of, levels_in, same_name, Fits, Holds}
+use Rattle.rx_engine_extraction.specs.Meeting.{most_levels, most_parts, parts_in, parts_of, levels_in, same_name, Fits, IsAnswer, Holds}
 use Rattle.rx_engine_extraction.specs.Failing.{FirstOf}
 use Rattle.rx_engine_extraction.specs.Hoisting.{IsBare}
 use Rattle.rx_engine_extraction.specs.Promise.{Stands}
-use Rattle.rx_engine_extraction.proofs.Agreeing.{retyped, Twice, Seats, Passed, as_seated, asked_alike, names_of_both, as_planned, as_passed, named_alike, hoisted_alike, as_bounded, extracted_alike}
+use Rattle.rx_engine_extraction.proofs.Agreeing.{retyped, Twice, Seats, Passed, as_seated, asked_alike, names_of_both, as_planned, as_passed, named_alike, hoisted_alike, as_bounded, extracted_alike, texts_alike}
 use Rattle.rx_engine_extraction.proofs.Orders.{number, earlier}
+use Rattle.rx_engine_extraction.proofs.Rendered.{one_rendering}
 
 module _ (T : Text) (u : Typed) (z : Twice T u) (w : Wish) (d e : Case) where
   abbrev U : Text
@@ -58,6 +59,11 @@ module _ (T : Text) (u : Typed) (z : Twice T u) (w : Wish) (d e : Case) where
 
     pub programs : (k : Condition) → 17 < number k → Stands T w d k → Stands U w e k → extracted T w d ≡ extracted U w e
     programs k l s t = extracted_alike T u z w d e (passes k (omega (arith, l)) s t) (bounds k l s t)
+
+    pub one_text_of : (k : Condition) → 17 < number k → Stands T w d k → Stands U w e k → (a b : List ℕ) → IsAnswer T w d a → IsAnswer U w e b → a ≡ b
+    one_text_of k l s t a b x y =
+        one_rendering T.bytes T.tokens T.program (run_of e.run) (named U w e) (named_bounds U w e) a b
+        (texts_alike T u z w d e (passes k (omega (arith, l)) s t) (bounds k l s t) a x) y
 
   -- ---- of which variables something holds
 

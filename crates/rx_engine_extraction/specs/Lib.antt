@@ -2,12 +2,14 @@ pub mod Source
 pub mod Case
 pub mod Undecided
 pub mod Made
+pub mod Rendering
 pub mod Conditions
 pub mod Meeting
 pub mod Failing
 pub mod Promise
 pub mod Verdict
 pub mod Ending
+pub mod Splicing
 pub mod Beginning
 pub mod Deciding
 pub mod Hoisting

@@ -1,12 +1,11 @@
--- What an answer promises: each condition is met, and the answer is the canonical text of the extraction, which is an accepted program.
--- That the answer runs as the text does is not said here.
+-- What an answer promises: each condition is met, and the answer is the text of the extraction, which is read back as it and is an accepted
+-- program. That the answer runs as the text does is not said here.
 use Rattle.std.specs.Prelude.{◌≡◌, ℕ, List, ◌∷◌}
 use Rattle.rx_core.specs.declared.types.Bound.{Bound}
 use Rattle.rx_tree.specs.Erase.{SameProgram}
 use Rattle.rx_tree.specs.Lists.{Every}
 use Rattle.rx_tree.specs.Plain.{ProgramTree}
 use Rattle.rx_parse_grammar.specs.grammar.Items.{Parses}
-use Rattle.rx_print_spelling.specs.Items.{print_program}
 use Rattle.rx_check.specs.Passes.{Accepted}
 use Rattle.rx_engine_extraction.specs.Source.{Text, IsText, Wish}
 use Rattle.rx_engine_extraction.specs.Case.{Case}
@@ -29,10 +28,14 @@ pub record Extracts (bytes : List ℕ) (w : Wish) : Type 0 where
 abbrev pub program_of : {bytes : List ℕ} {w : Wish} → Extracts bytes w → ProgramTree
 program_of {w = w} x = extracted x.text w x.case
 
+-- its text (`IsAnswer`), within its limit
+abbrev pub rendering_of : {bytes : List ℕ} {w : Wish} → Extracts bytes w → List ℕ
+rendering_of x = x.last.0
+
 -- the answer's text, and the bounds of the new function, by the numbers of its lifetimes
 pub record Keeps (bytes : List ℕ) (w : Wish) (text : List ℕ) (bounds : List Bound) : Type 0 where
   pub extracts : Extracts bytes w
-  pub rendered : text ≡ print_program (program_of extracts)
+  pub rendered : text ≡ rendering_of extracts
   pub needed : bounds ≡ extracts.case.bounds
   -- it is read back as the extraction, apart from spans
   pub program : ProgramTree

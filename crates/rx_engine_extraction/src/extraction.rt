@@ -3,6 +3,7 @@
 ghost use Rattle.std.specs.Prelude.{◌≤◌, length, IfOk, IfErr};
 ghost use Rattle.rx_lex.specs.Tok.{toks};
 ghost use Rattle.rx_tree.specs.PlainOf.{plain-Program};
+ghost use Rattle.rx_hoist_plan.specs.PlainPlan.{plain-Plan};
 ghost use Rattle.rx_parse_grammar.specs.grammar.Items.{Parses};
 ghost use Rattle.rx_select.specs.OneText.{OneText};
 ghost use Rattle.rx_check.specs.Front.{IsCheckedOf, IsFrontOf};
@@ -14,10 +15,10 @@ use crate::beginning::{checked, chosen, read, tokens_of};
 use crate::deciding::decided;
 use crate::ending::finished;
 use crate::given::{Given, Request};
-use crate::hoisting::{NewProgram, moved};
+use crate::hoisting::{Called, NewProgram, moved};
 use crate::laws::calls_are_formed;
 use crate::refusal::{Answer, Fault, Selection};
-use rx_check::{Checked, FrontEnd, causes_are_one, passed_or_faulty};
+use rx_check::{Checked, causes_are_one, passed_or_faulty};
 use rx_core::LetGo;
 use rx_hoist_naming_laws::runs_sit;
 use rx_modes_policy::Policy;
@@ -32,12 +33,13 @@ fn hoisted_by<P: Policy>(
     given: &Given<'_, '_>,
     request: &Request<'_>,
     policy: &P,
-) -> Result<NewProgram, Fault>
+) -> Result<Called, Fault>
     requires one_text { OneText (toks given.now.tokens.now.list) given.now.tokens.now.length (plain-Program given.now.program.now) }
     requires short { given.now.tokens.now.length ≤ 1048576 }
     requires front { IsFrontOf (plain-Program given.now.program.now) given.now.front.now }
     ensures found { IfOk result (λ m. spec.IsHoisted (text_of given.now)
-        (record { start = request.now.selection.start; end = request.now.selection.end; name = request.now.name.now; choice = P.choice policy.now }) (plain-Program m.program) m.new_fn) }
+        (record { start = request.now.selection.start; end = request.now.selection.end; name = request.now.name.now; choice = P.choice policy.now })
+        m.run (plain-Plan m.plan) (plain-Program m.program) m.new_fn) }
     ensures fault { IfErr result (λ f. spec.IsStopped (text_of given.now)
         (record { start = request.now.selection.start; end = request.now.selection.end; name = request.now.name.now; choice = P.choice policy.now }) f) }
 {
@@ -58,39 +60,12 @@ fn hoisted_by<P: Policy>(
         Err(fault) => return Err(fault),
     };
     match moved(alloc, given, &run, &plan) {
-        Ok(moved) => Ok(moved),
-        Err(fault) => Err(fault),
-    }
-}
-
-/// The program with the call, by the text of an accepted program and what the passes know of it.
-fn hoisted_in<P: Policy>(
-    alloc: Global,
-    text: &[u8],
-    program: &Program,
-    front: &FrontEnd,
-    request: &Request<'_>,
-    policy: &P,
-) -> Result<NewProgram, Fault>
-    requires short { length text.now ≤ 1048576 }
-    requires parses { Parses text.now (plain-Program program.now) }
-    requires front { IsFrontOf (plain-Program program.now) front.now }
-    ensures found { IfOk result (λ m. spec.IsFound text.now (plain-Program program.now) front.now
-        (record { start = request.now.selection.start; end = request.now.selection.end; name = request.now.name.now; choice = P.choice policy.now }) (plain-Program m.program) m.new_fn) }
-    ensures fault { IfErr result (λ f. spec.IsNotFound text.now (plain-Program program.now) front.now
-        (record { start = request.now.selection.start; end = request.now.selection.end; name = request.now.name.now; choice = P.choice policy.now }) f) }
-{
-    let tokens = match tokens_of(alloc, text) {
-        Ok(tokens) => tokens,
-        Err(fault) => return Err(fault),
-    };
-    let given = Given {
-        tokens: &tokens,
-        program,
-        front,
-    };
-    match hoisted_by(alloc, &given, request, policy) {
-        Ok(moved) => Ok(moved),
+        Ok(NewProgram { program, new_fn }) => Ok(Called {
+            run,
+            plan,
+            program,
+            new_fn,
+        }),
         Err(fault) => Err(fault),
     }
 }
@@ -120,9 +95,26 @@ pub fn extract_checked<P: Policy>(
     passed_or_faulty();
     causes_are_one();
     print_parses();
+    let tokens = match tokens_of(alloc, text) {
+        Ok(tokens) => tokens,
+        Err(fault) => return Err(fault),
+    };
+    let given = Given {
+        text,
+        tokens: &tokens,
+        program,
+        front: checked.front(),
+    };
     let request = Request { selection, name };
-    match hoisted_in(alloc, text, program, checked.front(), &request, policy) {
-        Ok(NewProgram { program, new_fn }) => finished(alloc, program, new_fn),
+    match hoisted_by(alloc, &given, &request, policy) {
+        Ok(
+            Called {
+                run,
+                plan,
+                program,
+                new_fn,
+            },
+        ) => finished(alloc, &given, &run, &plan, program, new_fn),
         Err(fault) => Err(fault),
     }
 }

@@ -7,9 +7,10 @@ use rx_exits_syntax::Home;
 use rx_lex::Tokens;
 use rx_tree::Program;
 
-/// An accepted text: its tokens, its program, and what the passes know of it.
+/// An accepted text: its bytes, its tokens, its program, and what the passes know of it.
 #[derive(Clone, Copy)]
 pub(crate) struct Given<'t, 's> {
+    pub text: &'s [u8],
     pub tokens: &'t Tokens<'s>,
     pub program: &'t Program,
     pub front: &'t FrontEnd,

@@ -33,6 +33,14 @@ pub(crate) struct NewProgram {
     pub new_fn: u32,
 }
 
+/// The same of a run by a plan.
+pub(crate) struct Called {
+    pub run: RunPos,
+    pub plan: NamedPlan,
+    pub program: Program,
+    pub new_fn: u32,
+}
+
 fn of_hoist(fault: HoistFault) -> Fault
     ensures { result ≡ spec.of_hoist fault }
 {

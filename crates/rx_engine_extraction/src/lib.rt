@@ -10,6 +10,7 @@ mod hoisting;
 mod laws;
 mod names;
 mod refusal;
+mod rendering;
 
 pub use extraction::{extract, extract_checked};
 pub use laws::{answers_are_one, conditions_are_one, extractions_are_answers, refusals_are_one};

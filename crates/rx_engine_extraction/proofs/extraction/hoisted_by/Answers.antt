@@ -54,7 +54,7 @@ moved-requires-clause-formed g c = let q = c.args.request.now in let front = c.r
     c.in-Ok.run' n.function n.home (plain-Plan c.in-Ok-decided.plan) c.in-Ok.ensures.found n.decided
 
 pub returns-in-Ok-moved-clause-found : goal.returns-in-Ok-moved-clause-found
-returns-in-Ok-moved-clause-found g c = let q = c.args.request.now in let n = c.in-Ok-decided.ensures.found in let m = c.in-Ok-moved.moved in
+returns-in-Ok-moved-clause-found g c = let q = c.args.request.now in let n = c.in-Ok-decided.ensures.found in let m = c.in-Ok-moved.field-0 in
     moved_is_hoisted (text_of c.args.given.now) (record { start = q.selection.start; end = q.selection.end; name = q.name.now; choice = g.P.Policy.choice c.args.policy.now })
     c.in-Ok.run' n.function n.home (plain-Plan c.in-Ok-decided.plan) c.in-Ok.ensures.found n.decided (plain-Program m.program) m.new_fn c.in-Ok-moved.ensures.found
 
