@@ -11,4 +11,4 @@ mod Tied
 mod WrittenOut
 mod Together
 mod Ended
-mod NotLive
+pub mod NotLive

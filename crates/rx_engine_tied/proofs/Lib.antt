@@ -1,0 +1,14 @@
+mod Since
+mod Covers
+mod Exits
+mod Rows
+mod Runs
+mod Tells
+mod Tying
+mod Parts
+mod Trees
+mod Marked
+mod Left
+mod Once
+mod Seats
+mod Texts
