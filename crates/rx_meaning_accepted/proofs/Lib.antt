@@ -1,0 +1,15 @@
+pub mod Walking
+pub mod Steps
+pub mod Lists
+pub mod Going
+pub mod Operands
+pub mod Patterns
+pub mod Building
+pub mod Values
+pub mod Joining
+pub mod Acting
+pub mod Parted
+pub mod Flags
+pub mod Functions
+pub mod Items
+pub mod Programs

@@ -1,0 +1,6 @@
+//! Accepted programs act by their types: laws.
+#![tactic(auto)]
+
+mod laws;
+
+pub use laws::{probe};
