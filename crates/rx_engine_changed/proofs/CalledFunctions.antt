@@ -24,6 +24,7 @@ use Rattle.rx_engine_changed.specs.Beside.{IsOneToOne, Numbers}
 use Rattle.rx_engine_changed.specs.Numbered.{NumberedBeside}
 use Rattle.rx_engine_changed.specs.Round.{as_mutable, block_ending, block_with, round, GoesOn, GoesOnLast}
 use Rattle.rx_engine_changed.specs.Called.{with_other_block, EndGoesOn, EndHoleOf, HoleOf, RunGoesOn}
+use Rattle.rx_engine_changed.proofs.Counting.{stands_once}
 use Rattle.rx_engine_changed.proofs.RoundFunctions.{function_ending, function_round}
 
 module _ (p q : ProgramTree) (n m : ℕ) (s : Span) (f : Function) (r : Run) (pl : Plan) (G : Handing) (stands : RunStands r pl f) (R : Renaming) (apart : IsOneToOne R) (ns ns' : List NodeNames) (e : R.item n ≡ m) (base : Numbers → Holes) (returns : (q : Numbers) → (base q).returns) where
@@ -44,7 +45,7 @@ module _ (p q : ProgramTree) (n m : ℕ) (s : Span) (f : Function) (r : Run) (pl
       (subst (λ (z : Statements). Told4 sp z o front run call rest) same
       (function_round base returns I I' sp front run call rest o (labels_round r f) (told_handed G) R apart goes_on
       (placed (block_with sp front run rest o) (labels_at r.way f.body) pl.name) (λ own ls d h k. (h.1 k).0) n m s f ns ns' e
-      (subst (λ (z : Statements). BodyWithin (placed (plain.body sp z o) (labels_at r.way f.body) pl.name) [] [] f.body) (sym same) within)))
+      (subst (λ (z : Statements). BodyWithin (placed (plain.body sp z o) (labels_at r.way f.body) pl.name) [] [] f.body) (sym same) within) (stands_once (plain.body sp ss o) f.body r.way alone)))
     where
       Told3 : Span → Statements → OptionalExpression → List plain.Statement → List plain.Statement → List plain.Statement → List plain.Statement → OptionalExpression → Type 0
       Told3 sp ss o front run call rest z =
@@ -74,7 +75,7 @@ module _ (p q : ProgramTree) (n m : ℕ) (s : Span) (f : Function) (r : Run) (pl
       (subst (λ (z : Statements). Ends sp z o front run call call last last) same
       (function_ending base returns I I' sp front run call o last (labels_round r f) (told_last G) R apart goes_on
       (placed (block_ending sp front run o) (labels_at r.way f.body) pl.name) (λ own ls d h k. (h.1 k).0) n m s f ns ns' e
-      (subst (λ (z : Statements). BodyWithin (placed (plain.body sp z o) (labels_at r.way f.body) pl.name) [] [] f.body) (sym same) within))))
+      (subst (λ (z : Statements). BodyWithin (placed (plain.body sp z o) (labels_at r.way f.body) pl.name) [] [] f.body) (sym same) within) (stands_once (plain.body sp ss o) f.body r.way alone))))
     where
       Ends : Span → Statements → OptionalExpression → List plain.Statement → List plain.Statement → List plain.Statement → List plain.Statement → OptionalExpression → OptionalExpression → Type 0
       Ends sp ss o front run call row last z =

@@ -1,5 +1,5 @@
 -- A whole function numbered beside the one in which a block becomes another.
-use Rattle.std.proofs.Common.{◌≡◌, ℕ, Bool, true, false, List, [], ◌∷◌, Option, refl, sym, ◌∙◌, subst, arith}
+use Rattle.std.proofs.Common.{◌≡◌, ◌≤◌, ◌+◌, ℕ, zero, Bool, true, false, List, [], ◌∷◌, Option, refl, sym, ◌∙◌, subst, arith}
 use Rattle.rx_core.specs.declared.types.Span.{Span}
 use Rattle.rx_tree.specs.Plain.{Body, Parameter, Function}
 use Rattle.rx_resolve_names.specs.declared.resolved.NodeNames.{NodeNames}
@@ -19,7 +19,8 @@ use Rattle.rx_engine_blocks.specs.DemandsLike.Is.{itself}
 use Rattle.rx_engine_typing.specs.Renumbered as ren
 use Rattle.rx_engine_typing.specs.Renumbered.{RenumberedParameters, RenumberedNodes, RenumberedFunction}
 use Rattle.rx_engine_changed.specs.Beside.{Piece, Grows, Numbers, AllCorrespond, Follows, IsOneToOne}
-use Rattle.rx_engine_changed.specs.Stages.{Mutability, InStep, not_yet}
+use Rattle.rx_engine_changed.specs.Blocks.{blocks_in_body, insteads}
+use Rattle.rx_engine_changed.specs.Stages.{Differing, InStep, not_yet, Steady}
 use Rattle.rx_engine_changed.proofs.Lists.{grows_on, before, begins_later}
 use Rattle.rx_engine_changed.proofs.Steps.{alike_declared, next_node, next_entry, entry_number, one_node}
 use Rattle.rx_engine_changed.proofs.Kept.{Kept, Anything, gives, becomes, both, behind_step}
@@ -27,7 +28,7 @@ use Rattle.rx_engine_changed.proofs.Parts.{OnlySpecial}
 use Rattle.rx_engine_changed.proofs.Patterns.{new_known, type_kept, optional_type_kept}
 use Rattle.rx_engine_changed.proofs.Walk.{BodyKept}
 
-module _ (R : Renaming) (W : Mutability) (apart : IsOneToOne R) (even : (n m : ℕ) (b : Bool) → W n m b b) where
+module _ (R : Renaming) (W : Differing) (apart : IsOneToOne R) (even : Steady R W) where
   abbrev ParametersLike : Numbers → List named.Parameter → List named.Parameter → Type 0
   ParametersLike q xs xs' = RenumberedParameters q.by xs xs'
 
@@ -35,7 +36,7 @@ module _ (R : Renaming) (W : Mutability) (apart : IsOneToOne R) (even : (n m : �
       → RenumberedParameters q.by (record { variable = x; typ = t } ∷ xs) (record { variable = x'; typ = t' } ∷ xs')
   parameter_at q x x' {t = t} {t' = t'} {xs = xs} {xs' = xs'} e h hs = subst (λ (y : ℕ). RenumberedParameters q.by (record { variable = x; typ = t } ∷ xs) (record { variable = y; typ = t' } ∷ xs')) e (ren.RenumberedParameters.parameter_and {x = x} h hs)
 
-  parameters_kept : (xs : List Parameter) (made : List Piece) (c c' : Cursor) → InStep R W made c c' → LikeParameters R (numbering.of_parameters xs c).0 (numbering.of_parameters xs c').0 → Kept R W made Anything ParametersLike c c' (numbering.of_parameters xs c) (numbering.of_parameters xs c')
+  parameters_kept : (xs : List Parameter) (made : List Piece) (c c' : Cursor) → InStep R W made c c' → LikeParameters R (numbering.of_parameters xs c).0 (numbering.of_parameters xs c').0 → Kept R W made zero Anything ParametersLike c c' (numbering.of_parameters xs c) (numbering.of_parameters xs c')
   parameters_kept [] made c c' st h = gives c c' [] [] st tt (λ q f w. ren.RenumberedParameters.no_parameter)
   parameters_kept (x ∷ xs) made c c' st (alike.like_more_parameters v h hs) =
       let d : Declaration = record { mutable = x.mutable; stage = Stage.Known } in
@@ -53,8 +54,8 @@ module _ (R : Renaming) (W : Mutability) (apart : IsOneToOne R) (even : (n m : �
   entry_if_number true c = entry_number c
   entry_if_number false c = refl
 
-  begun : (ns ns' : List NodeNames) → InStep R W [] (numbering.begins ns) (numbering.begins ns')
-  begun ns ns' = record { variables = λ n m r. not_yet; loops = λ n m r. refl; counted = refl; counted' = refl }
+  begun : ((n m : ℕ) → W.behind n m → ⊥) → (ns ns' : List NodeNames) → InStep R W [] (numbering.begins ns) (numbering.begins ns')
+  begun nothing ns ns' = record { variables = λ n m r. not_yet; behind = λ n m w. absurd (nothing n m w); loops = λ n m r. refl; counted = refl; counted' = refl }
 
   no_nodes : (q : Numbers) (ns ns' : List Node) → ns ≡ [] → ns' ≡ [] → RenumberedNodes q.by ns ns'
   no_nodes q ns ns' e e' = subst (λ (z : List Node). RenumberedNodes q.by z ns') (sym e) (subst (λ (z : List Node). RenumberedNodes q.by [] z) (sym e') ren.RenumberedNodes.no_node)
@@ -62,28 +63,33 @@ module _ (R : Renaming) (W : Mutability) (apart : IsOneToOne R) (even : (n m : �
   is_item : {i j : ℕ} → i ≡ j → Is i j
   is_item {i = i} {j = j} e = subst (λ (z : ℕ). Is i z) e itself
 
-  module _ (H : alike.Holes) (only : OnlySpecial H) (untyped : (R : Renaming) (s : Span) (t t' : Option named.Written) → H.annotation R s t t' → ⊥) (holes : Numbers → ren.Holes) where
+  whole_few : (a b k m : ℕ) → a ≤ 0 + zero → b ≤ a + zero → k ≤ b + m → k ≤ m
+  whole_few a b k m h i j = omega (arith, h, i, j)
+
+  module _ (H : alike.Holes) (only : OnlySpecial H) (untyped : (R : Renaming) (s : Span) (t t' : Option named.Written) → H.annotation R s t t' → ⊥) (holes : Numbers → ren.Holes) (stood : Span → Bool) where
     pub record FunctionKept (i i' : ℕ) (s : Span) (f g : Function) (ns ns' : List NodeNames) : Type 0 where
       pub pieces : List Piece
+      pub few : insteads pieces ≤ blocks_in_body stood f.body
       pub last : ℕ
       pub last' : ℕ
       pub grows : Grows [] 0 0 pieces last last'
       pub like : (q : Numbers) → Follows R q → AllCorrespond q pieces → RenumberedFunction q.by q.loops (holes q) (numbering.function_named i s f ns) (numbering.function_named i' s g ns')
 
-    pub function_kept : (i i' : ℕ) (s : Span) (f : Function) (b : Body) (ns ns' : List NodeNames) → R.item i ≡ i' → BodyKept R W apart even H only untyped holes Site.Expects f.body b
+    pub function_kept : ((n m : ℕ) → W.behind n m → ⊥) → (i i' : ℕ) (s : Span) (f : Function) (b : Body) (ns ns' : List NodeNames) → R.item i ≡ i' → BodyKept R W apart even H only untyped holes stood Site.Expects f.body b
         → LikeFunction H R (numbering.function_named i s f ns) (numbering.function_named i' s (with_body b f) ns') → (numbering.function_named i s f ns).never_given ≡ [] → (numbering.function_named i' s (with_body b f) ns').never_given ≡ []
         → FunctionKept i i' s f (with_body b f) ns ns'
-    function_kept i i' s f b ns ns' e kb h u u' =
+    function_kept nothing i i' s f b ns ns' e kb h u u' =
         let c = numbering.begins ns in let c' = numbering.begins ns' in
         let d = (a_node s Site.Value c).1 in let d' = (a_node s Site.Value c').1 in
         let x = (numbering.entry_if (numbering.has_entry f) d).1 in let x' = (numbering.entry_if (numbering.has_entry f) d').1 in
-        let st = entry_kept (numbering.has_entry f) d d' (next_node R W apart even s s Site.Value Site.Value c c' (begun ns ns')) in
+        let st = entry_kept (numbering.has_entry f) d d' (next_node R W apart even s s Site.Value Site.Value c c' (begun nothing ns ns')) in
         let A = parameters_kept f.params _ x x' st h.params in
         let y = (numbering.of_parameters f.params x).1 in let y' = (numbering.of_parameters f.params x').1 in
         let B = optional_type_kept R W apart even f.result y y' A.step h.result in
         let z = (numbering.of_optional_type f.result y).1 in let z' = (numbering.of_optional_type f.result y').1 in
         let K = kb B.now z z' B.step h.body in record {
           pieces = K.now;
+          few = whole_few (insteads A.now) (insteads B.now) (insteads K.now) (blocks_in_body stood f.body) A.few B.few K.few;
           last = (numbering.of_body Site.Expects f.body z).1.number;
           last' = (numbering.of_body Site.Expects b z').1.number;
           grows = grows_on (one_node c c') (begins_later (let g = entry_if_number (numbering.has_entry f) d in omega (arith, g)) (let g = entry_if_number (numbering.has_entry f) d' in omega (arith, g)) (grows_on A.grows (grows_on B.grows K.grows)));

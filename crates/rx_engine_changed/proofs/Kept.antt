@@ -1,6 +1,6 @@
 -- A part that is numbered beside another: nodes that are made, what is known behind both, and trees that are one by each numbering in which
 -- these nodes correspond.
-use Rattle.std.proofs.Common.{◌≡◌, ℕ, Bool, true, ◌&&◌, ◌||◌, List, ◌∷◌, Option, Some, None, ap, ◌∙◌, subst, arith}
+use Rattle.std.proofs.Common.{◌≡◌, ◌≤◌, ◌+◌, ℕ, zero, suc, Bool, true, ◌&&◌, ◌||◌, List, ◌∷◌, Option, Some, None, ap, ◌∙◌, subst, arith}
 use Rattle.rx_core.specs.declared.types.Span.{Span}
 use Rattle.rx_typed.specs.declared.nodes.Node.{Node}
 use Rattle.rx_typed.specs.declared.nodes.Site.{Site}
@@ -10,16 +10,19 @@ use Rattle.rx_typed.specs.Naming.{Cursor, a_node, an_entry}
 use Rattle.rx_engine_names.specs.Renaming.{Renaming}
 use Rattle.rx_engine_blocks.specs.Renumbering.{node_at}
 use Rattle.rx_engine_changed.specs.Beside.{Piece, paired, Grows, stays, and_pair, newest, Numbers, AllCorrespond, Follows}
-use Rattle.rx_engine_changed.specs.Stages.{Mutability, InStep}
+use Rattle.rx_engine_changed.specs.Blocks.{insteads, sum}
+use Rattle.rx_engine_changed.specs.Stages.{Differing, InStep}
 use Rattle.rx_engine_changed.proofs.Lists.{grows_on, still_piece, before, begins_later}
 use Rattle.rx_engine_changed.proofs.Steps.{entry_number, one_node}
 
-pub record Kept (R : Renaming) (W : Mutability) (made : List Piece) {A A' : Type 0} (T : A → A' → Type 0) (S : Numbers → A → A' → Type 0) (c c' : Cursor) (x : A × Cursor) (x' : A' × Cursor) : Type 0 where
+-- so many things may stand for parts of it
+pub record Kept (R : Renaming) (W : Differing) (made : List Piece) (most : ℕ) {A A' : Type 0} (T : A → A' → Type 0) (S : Numbers → A → A' → Type 0) (c c' : Cursor) (x : A × Cursor) (x' : A' × Cursor) : Type 0 where
   pub now : List Piece
   pub grows : Grows made c.number c'.number now x.1.number x'.1.number
   pub step : InStep R W now x.1 x'.1
   pub same : T x.0 x'.0
   pub like : (q : Numbers) → Follows R q → AllCorrespond q now → S q x.0 x'.0
+  pub few : insteads now ≤ insteads made + most
 
 -- ---- what can be seen of parts is the same
 
@@ -60,47 +63,66 @@ same_or {a} {a'} {b} {b'} e f = ap (λ (x : Bool). x || b') e ∙ ap (λ (x : Bo
 pub same_and : {a a' b b' : Bool} → a' ≡ a → b' ≡ b → (a' && b') ≡ (a && b)
 same_and {a} {a'} {b} {b'} e f = ap (λ (x : Bool). x && b') e ∙ ap (λ (x : Bool). a && x) f
 
+pub none_more : (n : ℕ) → n ≤ n + zero
+none_more n = omega arith
+
+pub sum_is : (m n : ℕ) → sum m n ≡ m + n
+sum_is zero n = omega arith
+sum_is (suc m) n = let e = sum_is m n in omega (arith, e)
+
+pub some_more : (m n : ℕ) → n ≤ sum m n
+some_more m n = let e = sum_is m n in omega (arith, e)
+
+pub sums_few : (a b c m n : ℕ) → b ≤ a + m → c ≤ b + n → c ≤ a + sum m n
+sums_few a b c m n h g = let e = sum_is m n in omega (arith, e, h, g)
+
 -- ---- parts are put together
 
-module _ {R : Renaming} {W : Mutability} where
-  abbrev pub gives : {made : List Piece} {A A' : Type 0} {T : A → A' → Type 0} {S : Numbers → A → A' → Type 0} (c c' : Cursor) (a : A) (a' : A') → InStep R W made c c' → T a a' → ((q : Numbers) → Follows R q → AllCorrespond q made → S q a a') → Kept R W made T S c c' (a, c) (a', c')
-  gives {made = made} c c' a a' st t s = record { now = made; grows = stays (omega arith) (omega arith); step = st; same = t; like = s }
+module _ {R : Renaming} {W : Differing} where
+  abbrev pub gives : {made : List Piece} {A A' : Type 0} {T : A → A' → Type 0} {S : Numbers → A → A' → Type 0} (c c' : Cursor) (a : A) (a' : A') → InStep R W made c c' → T a a' → ((q : Numbers) → Follows R q → AllCorrespond q made → S q a a') → Kept R W made zero T S c c' (a, c) (a', c')
+  gives {made = made} c c' a a' st t s = record { now = made; grows = stays (omega arith) (omega arith); step = st; same = t; like = s; few = none_more (insteads made) }
 
-  abbrev pub becomes : {made : List Piece} {A A' B B' : Type 0} {T : A → A' → Type 0} {S : Numbers → A → A' → Type 0} {T2 : B → B' → Type 0} {S2 : Numbers → B → B' → Type 0} {c c' : Cursor} {x : A × Cursor} {x' : A' × Cursor} (f : A → B) (f' : A' → B')
-      → Kept R W made T S c c' x x' → (T x.0 x'.0 → T2 (f x.0) (f' x'.0)) → ((q : Numbers) (a : A) (a' : A') → Follows R q → S q a a' → S2 q (f a) (f' a')) → Kept R W made T2 S2 c c' (f x.0, x.1) (f' x'.0, x'.1)
-  becomes {x = x} {x' = x'} f f' k t s = record { now = k.now; grows = k.grows; step = k.step; same = t k.same; like = λ q h w. s q x.0 x'.0 h (k.like q h w) }
+  abbrev pub becomes : {made : List Piece} {k : ℕ} {A A' B B' : Type 0} {T : A → A' → Type 0} {S : Numbers → A → A' → Type 0} {T2 : B → B' → Type 0} {S2 : Numbers → B → B' → Type 0} {c c' : Cursor} {x : A × Cursor} {x' : A' × Cursor} (f : A → B) (f' : A' → B')
+      → Kept R W made k T S c c' x x' → (T x.0 x'.0 → T2 (f x.0) (f' x'.0)) → ((q : Numbers) (a : A) (a' : A') → Follows R q → S q a a' → S2 q (f a) (f' a')) → Kept R W made k T2 S2 c c' (f x.0, x.1) (f' x'.0, x'.1)
+  becomes {x = x} {x' = x'} f f' k t s = record { now = k.now; grows = k.grows; step = k.step; same = t k.same; like = λ q h w. s q x.0 x'.0 h (k.like q h w); few = k.few }
 
-  abbrev pub both : {made : List Piece} {A A' B B' : Type 0} {T : A → A' → Type 0} {S : Numbers → A → A' → Type 0} {T2 : B → B' → Type 0} {S2 : Numbers → B → B' → Type 0} {c c' : Cursor} {x : A × Cursor} {x' : A' × Cursor} {y : B × Cursor} {y' : B' × Cursor}
-      → (k : Kept R W made T S c c' x x') → Kept R W k.now T2 S2 x.1 x'.1 y y'
-      → Kept R W made (λ (p : A × B) (p' : A' × B'). T p.0 p'.0 × T2 p.1 p'.1) (λ (q : Numbers) (p : A × B) (p' : A' × B'). S q p.0 p'.0 × S2 q p.1 p'.1) c c' ((x.0, y.0), y.1) ((x'.0, y'.0), y'.1)
-  both k l = record { now = l.now; grows = grows_on k.grows l.grows; step = l.step; same = (k.same, l.same); like = λ q h w. (k.like q h (before q l.grows w), l.like q h w) }
+  abbrev pub both : {made : List Piece} {m n : ℕ} {A A' B B' : Type 0} {T : A → A' → Type 0} {S : Numbers → A → A' → Type 0} {T2 : B → B' → Type 0} {S2 : Numbers → B → B' → Type 0} {c c' : Cursor} {x : A × Cursor} {x' : A' × Cursor} {y : B × Cursor} {y' : B' × Cursor}
+      → (k : Kept R W made m T S c c' x x') → Kept R W k.now n T2 S2 x.1 x'.1 y y'
+      → Kept R W made (sum m n) (λ (p : A × B) (p' : A' × B'). T p.0 p'.0 × T2 p.1 p'.1) (λ (q : Numbers) (p : A × B) (p' : A' × B'). S q p.0 p'.0 × S2 q p.1 p'.1) c c' ((x.0, y.0), y.1) ((x'.0, y'.0), y'.1)
+  both {made = made} {m = m} {n = n} k l = record { now = l.now; grows = grows_on k.grows l.grows; step = l.step; same = (k.same, l.same); like = λ q h w. (k.like q h (before q l.grows w), l.like q h w); few = sums_few (insteads made) (insteads k.now) (insteads l.now) m n k.few l.few }
 
   -- behind a node, and behind an entry of names
-  abbrev pub behind_node : {made : List Piece} {A A' : Type 0} {T : A → A' → Type 0} {S : Numbers → A → A' → Type 0} {x : A × Cursor} {x' : A' × Cursor} (s s' : Span) (t t' : Site) (c c' : Cursor)
-      → Kept R W (paired c.number c'.number ∷ made) T S (a_node s t c).1 (a_node s' t' c').1 x x' → Kept R W made T (λ (q : Numbers) (y : A) (y' : A'). (q.by.nodes c.number ≡ c'.number) × S q y y') c c' x x'
+  abbrev pub behind_node : {made : List Piece} {m : ℕ} {A A' : Type 0} {T : A → A' → Type 0} {S : Numbers → A → A' → Type 0} {x : A × Cursor} {x' : A' × Cursor} (s s' : Span) (t t' : Site) (c c' : Cursor)
+      → Kept R W (paired c.number c'.number ∷ made) m T S (a_node s t c).1 (a_node s' t' c').1 x x' → Kept R W made m T (λ (q : Numbers) (y : A) (y' : A'). (q.by.nodes c.number ≡ c'.number) × S q y y') c c' x x'
   behind_node s s' t t' c c' k = record {
     now = k.now;
     grows = grows_on (and_pair (stays (omega arith) (omega arith)) (omega arith) (omega arith)) k.grows;
     step = k.step;
     same = k.same;
     like = λ q h w. (w (paired c.number c'.number) (still_piece k.grows newest), k.like q h w);
+    few = k.few;
   }
 
-  abbrev pub behind_entry : {made : List Piece} {A A' : Type 0} {T : A → A' → Type 0} {S : Numbers → A → A' → Type 0} {x : A × Cursor} {x' : A' × Cursor} (c c' : Cursor) → Kept R W made T S (an_entry c).1 (an_entry c').1 x x' → Kept R W made T S c c' x x'
+  abbrev pub behind_entry : {made : List Piece} {m : ℕ} {A A' : Type 0} {T : A → A' → Type 0} {S : Numbers → A → A' → Type 0} {x : A × Cursor} {x' : A' × Cursor} (c c' : Cursor) → Kept R W made m T S (an_entry c).1 (an_entry c').1 x x' → Kept R W made m T S c c' x x'
   behind_entry c c' k = record {
     now = k.now;
     grows = begins_later (let e = entry_number c in omega (arith, e)) (let e = entry_number c' in omega (arith, e)) k.grows;
     step = k.step;
     same = k.same;
     like = k.like;
+    few = k.few;
   }
 
-  abbrev pub behind_step : {made : List Piece} {A A' : Type 0} {T : A → A' → Type 0} {S : Numbers → A → A' → Type 0} {x : A × Cursor} {x' : A' × Cursor} (c c' d d' : Cursor) → d.number ≡ c.number → d'.number ≡ c'.number → Kept R W made T S d d' x x' → Kept R W made T S c c' x x'
-  behind_step c c' d d' e e' k = record { now = k.now; grows = begins_later (omega (arith, e)) (omega (arith, e')) k.grows; step = k.step; same = k.same; like = k.like }
+  abbrev pub behind_step : {made : List Piece} {m : ℕ} {A A' : Type 0} {T : A → A' → Type 0} {S : Numbers → A → A' → Type 0} {x : A × Cursor} {x' : A' × Cursor} (c c' d d' : Cursor) → d.number ≡ c.number → d'.number ≡ c'.number → Kept R W made m T S d d' x x' → Kept R W made m T S c c' x x'
+  behind_step c c' d d' e e' k = record { now = k.now; grows = begins_later (omega (arith, e)) (omega (arith, e')) k.grows; step = k.step; same = k.same; like = k.like; few = k.few }
 
   -- in front of a step that makes no node
-  abbrev pub in_front_of : {made : List Piece} {A A' : Type 0} {T : A → A' → Type 0} {S : Numbers → A → A' → Type 0} {c c' : Cursor} {x : A × Cursor} {x' : A' × Cursor} (k : Kept R W made T S c c' x x') (d d' : Cursor) → x.1.number ≡ d.number → x'.1.number ≡ d'.number → InStep R W k.now d d' → Kept R W made T S c c' (x.0, d) (x'.0, d')
-  in_front_of k d d' e e' st = record { now = k.now; grows = grows_on k.grows (stays (omega (arith, e)) (omega (arith, e'))); step = st; same = k.same; like = k.like }
+  abbrev pub in_front_of : {made : List Piece} {m : ℕ} {A A' : Type 0} {T : A → A' → Type 0} {S : Numbers → A → A' → Type 0} {c c' : Cursor} {x : A × Cursor} {x' : A' × Cursor} (k : Kept R W made m T S c c' x x') (d d' : Cursor) → x.1.number ≡ d.number → x'.1.number ≡ d'.number → InStep R W k.now d d' → Kept R W made m T S c c' (x.0, d) (x'.0, d')
+  in_front_of k d d' e e' st = record { now = k.now; grows = grows_on k.grows (stays (omega (arith, e)) (omega (arith, e'))); step = st; same = k.same; like = k.like; few = k.few }
+
+  -- more may
+  abbrev pub at_most : {made : List Piece} {A A' : Type 0} {T : A → A' → Type 0} {S : Numbers → A → A' → Type 0} {c c' : Cursor} {x : A × Cursor} {x' : A' × Cursor} (m n : ℕ) → m ≤ n → Kept R W made m T S c c' x x' → Kept R W made n T S c c' x x'
+  at_most m n le k = record { now = k.now; grows = k.grows; step = k.step; same = k.same; like = k.like; few = let a = k.few in omega (arith, a, le) }
 
 -- ---- a node by another number
 
@@ -115,26 +137,28 @@ pub data WholeLike (R : Renaming) : Option ℕ → Option ℕ → Type 0 where
 
 -- ---- one node
 
-module _ {R : Renaming} {W : Mutability} where
+module _ {R : Renaming} {W : Differing} where
   -- alone
   abbrev pub a_leaf : {made : List Piece} {A A' : Type 0} {T : A → A' → Type 0} {S : Numbers → A → A' → Type 0} (s s' : Span) (t t' : Site) (c c' : Cursor) (a : A) (a' : A') → InStep R W (paired c.number c'.number ∷ made) (a_node s t c).1 (a_node s' t' c').1 → T a a'
-      → ((q : Numbers) → Follows R q → q.by.nodes c.number ≡ c'.number → S q a a') → Kept R W made T S c c' (a, (a_node s t c).1) (a', (a_node s' t' c').1)
+      → ((q : Numbers) → Follows R q → q.by.nodes c.number ≡ c'.number → S q a a') → Kept R W made zero T S c c' (a, (a_node s t c).1) (a', (a_node s' t' c').1)
   a_leaf {made = made} s s' t t' c c' a a' st same f = record {
     now = paired c.number c'.number ∷ made;
     grows = one_node c c';
     step = st;
     same = same;
     like = λ q h w. f q h (w (paired c.number c'.number) newest);
+    few = none_more (insteads made);
   }
 
   -- with an entry of names
   abbrev pub a_leaf_with_entry : {made : List Piece} {A A' : Type 0} {T : A → A' → Type 0} {S : Numbers → A → A' → Type 0} (s s' : Span) (t t' : Site) (c c' : Cursor) (a : A) (a' : A')
       → InStep R W (paired c.number c'.number ∷ made) (an_entry (a_node s t c).1).1 (an_entry (a_node s' t' c').1).1 → T a a'
-      → ((q : Numbers) → Follows R q → q.by.nodes c.number ≡ c'.number → S q a a') → Kept R W made T S c c' (a, (an_entry (a_node s t c).1).1) (a', (an_entry (a_node s' t' c').1).1)
+      → ((q : Numbers) → Follows R q → q.by.nodes c.number ≡ c'.number → S q a a') → Kept R W made zero T S c c' (a, (an_entry (a_node s t c).1).1) (a', (an_entry (a_node s' t' c').1).1)
   a_leaf_with_entry {made = made} s s' t t' c c' a a' st same f = record {
     now = paired c.number c'.number ∷ made;
     grows = grows_on (one_node c c') (stays (let e = entry_number (a_node s t c).1 in omega (arith, e)) (let e = entry_number (a_node s' t' c').1 in omega (arith, e)));
     step = st;
     same = same;
     like = λ q h w. f q h (w (paired c.number c'.number) newest);
+    few = none_more (insteads made);
   }

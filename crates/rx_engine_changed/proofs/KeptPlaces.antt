@@ -1,5 +1,5 @@
 -- Variables, jumps and returns that stay what they are, numbered beside themselves.
-use Rattle.std.proofs.Common.{◌≡◌, ℕ, Bool, true, false, List, ◌∷◌, Option, Some, None, option_map, refl, sym, ap, ◌∙◌, subst}
+use Rattle.std.proofs.Common.{◌≡◌, ◌⊎◌, ℕ, Bool, true, false, List, ◌∷◌, Option, Some, None, option_map, inl, inr, refl, sym, ap, ◌∙◌, subst}
 use Rattle.rx_core.specs.declared.types.Span.{Span}
 use Rattle.rx_tree.specs.declared.tree.Ident.{Ident}
 use Rattle.rx_tree.specs.Plain as plain
@@ -21,12 +21,13 @@ use Rattle.rx_engine_names.specs.LikeNamed as alike
 use Rattle.rx_engine_names.specs.LikeNamed.{LikeExp, LikeElse, IsLeftSide}
 use Rattle.rx_engine_names.specs.Within.{Claims}
 use Rattle.rx_engine_typing.specs.Renumbered as ren
-use Rattle.rx_engine_typing.specs.Renumbered.{RenumberedExp, use_at}
+use Rattle.rx_engine_typing.specs.Renumbered.{RenumberedExp, use_so}
 use Rattle.rx_engine_changed.specs.Beside.{Piece, paired, IsPiece, Numbers, Follows, IsOneToOne}
-use Rattle.rx_engine_changed.specs.Stages.{Mutability, LikeDeclared, not_yet, known, given, waits, InStep}
+use Rattle.rx_engine_changed.specs.Blocks.{blocks_in, blocks_in_body, blocks_in_optional, blocks_in_statements, counted, sum}
+use Rattle.rx_engine_changed.specs.Stages.{Differing, LikeDeclared, not_yet, known, given, waits, InStep, Mutably, Steady}
 use Rattle.rx_engine_changed.proofs.Steps.{alike_led, alike_settled, declared_alike, next_node, next_entry}
 use Rattle.rx_engine_changed.proofs.Parts.{OnlySpecial, KeptHoles, var_part, break_part, continue_part, return_part, assign_parts, gives_parts, given_parts, giving_parts}
-use Rattle.rx_engine_changed.proofs.Kept.{Kept, SameExp, SameBody, SameElse, same_or, becomes, both, behind_node, behind_entry, in_front_of, at_node, a_leaf_with_entry}
+use Rattle.rx_engine_changed.proofs.Kept.{Kept, at_most, some_more, SameExp, SameBody, SameElse, same_or, becomes, both, behind_node, behind_entry, in_front_of, at_node, a_leaf_with_entry}
 use Rattle.rx_engine_changed.proofs.Walk.{ExpLike, ExpKept, OptionalKept, Places, BodyLike, BodyKept, StatementsKept}
 
 -- blocks become something else
@@ -39,10 +40,10 @@ use_is n n' a a' b b' e f g = cc
 pub tails : {d d' : Bool} (o o' : named.Else) → d' ≡ d → SameElse o o' → named.tail_never d' o' ≡ named.tail_never d o
 tails {d = d} {d' = d'} o o' e h = ap (λ (b : Bool). named.tail_never b o') e ∙ h.2 d
 
-some_is : {A : Type 0} (a b : A) → ◌≡◌ {A = Option A} (Some a) (Some b) → a ≡ b
+pub some_is : {A : Type 0} (a b : A) → ◌≡◌ {A = Option A} (Some a) (Some b) → a ≡ b
 some_is a b e = cc
 
-none_some : {A : Type 0} (a : A) → ◌≡◌ {A = Option A} None (Some a) → ⊥
+pub none_some : {A : Type 0} (a : A) → ◌≡◌ {A = Option A} None (Some a) → ⊥
 none_some a e = cc
 
 -- ---- what two declarations tell
@@ -66,10 +67,10 @@ like_stages {made = made} {X = X} o o' d d' (waits {m = m} {m' = m'} {p = p} {p'
     subst (λ (d : Declaration). X d.mutable d'.mutable × (is_known d'.stage ≡ is_known d.stage) × ((x x' : ℕ) → Waitings made x x' (numbering.waiting x d.stage) (numbering.waiting x' d'.stage))) a
     (subst (λ (d' : Declaration). X m d'.mutable × (is_known d'.stage ≡ false) × ((x x' : ℕ) → Waitings made x x' (Some (x, p)) (numbering.waiting x' d'.stage))) b (w, refl, λ x x'. both_wait i))
 
-module _ (R : Renaming) (W : Mutability) (apart : IsOneToOne R) (even : (n m : ℕ) (b : Bool) → W n m b b) where
+module _ (R : Renaming) (W : Differing) (apart : IsOneToOne R) (even : Steady R W) where
   -- the declarations of two variables that correspond
   pub record Alikes (made : List Piece) (c c' : Cursor) (x x' : ℕ) : Type 0 where
-    pub mutable : W x x' (declaration c x).mutable (declaration c' x').mutable
+    pub mutable : W.mutable x x' (declaration c x).mutable (declaration c' x').mutable
     pub known : is_known (declaration c' x').stage ≡ is_known (declaration c x).stage
     pub waiting : Waitings made x x' (numbering.waiting x (declaration c x).stage) (numbering.waiting x' (declaration c' x').stage)
 
@@ -78,25 +79,31 @@ module _ (R : Renaming) (W : Mutability) (apart : IsOneToOne R) (even : (n m : �
       let h = like_stages (Some (declaration c x)) (Some (declaration c' x')) (declaration c x) (declaration c' x') (declared_alike R W apart even st x x' r) refl refl in
       record { mutable = h.0; known = h.1; waiting = h.2 x x' }
 
-  -- variables that correspond are mutable alike
-  module _ (same : (n m : ℕ) (a b : Bool) → W n m a b → b ≡ a) where
-    pub used_alike : {made : List Piece} (c c' : Cursor) (x x' : ℕ) → InStep R W made c c' → R.variable x x' ≡ true → (q : Numbers) → Follows R q → use_at q.by (use_of x (declaration c x)) ≡ use_of x' (declaration c' x')
-    used_alike c c' x x' st r q f =
-        let h = alikes c c' x x' st r in
-        use_is (q.by.variables x) x' (declaration c x).mutable (declaration c' x').mutable (is_known (declaration c x).stage) (is_known (declaration c' x').stage) (f.variables x x' r) (same x x' (declaration c x).mutable (declaration c' x').mutable h.mutable) h.known
+  -- variables that correspond are known alike
+  used_alike : {made : List Piece} (c c' : Cursor) (x x' : ℕ) → InStep R W made c c' → R.variable x x' ≡ true → (q : Numbers) → Follows R q
+      → use_so q.by (declaration c' x').mutable (is_known (declaration c x).stage) (use_of x (declaration c x)) ≡ use_of x' (declaration c' x')
+  used_alike c c' x x' st r q f =
+      let h = alikes c c' x x' st r in
+      use_is (q.by.variables x) x' (declaration c' x').mutable (declaration c' x').mutable (is_known (declaration c x).stage) (is_known (declaration c' x').stage) (f.variables x x' r) refl h.known
 
-    module _ (H : alike.Holes) (only : OnlySpecial H) (plain_holes : KeptHoles H) (untyped : (R : Renaming) (s : Span) (t t' : Option Written) → H.annotation R s t t' → ⊥) (holes : Numbers → ren.Holes) where
+  module _ (H : alike.Holes) (only : OnlySpecial H) (plain_holes : KeptHoles H) (untyped : (R : Renaming) (s : Span) (t t' : Option Written) → H.annotation R s t t' → ⊥) (holes : Numbers → ren.Holes) (stood : Span → Bool) where
+    -- those that may not be `mut` alike may be used so
+    module _ (mutably : Mutably W holes) where
       abbrev Like : Numbers → Exp → Exp → Type 0
-      Like = ExpLike R W apart even H only untyped holes
+      Like = ExpLike R W apart even H only untyped holes stood
 
       abbrev EKept : Bool → Site → Expression → Expression → Type 0
-      EKept = ExpKept R W apart even H only untyped holes
+      EKept = ExpKept R W apart even H only untyped holes stood
 
-      var_at : (q : Numbers) (n : Node) (u u' : Use) (k : ℕ) (s : Span) (t : Site) → use_at q.by u ≡ u' → q.by.nodes n.number ≡ k → n.site ≡ t → Like q (named.var n u) (named.var (record { number = k; span = s; site = t }) u')
-      var_at q n u u' k s t e d g =
+      var_at : (q : Numbers) (n : Node) (u u' : Use) (b : Bool) (k : ℕ) (s : Span) (t : Site) → (b ≡ u.mutable) ⊎ (holes q).uses u b u.known → use_so q.by b u.known u ≡ u' → q.by.nodes n.number ≡ k → n.site ≡ t → Like q (named.var n u) (named.var (record { number = k; span = s; site = t }) u')
+      var_at q n u u' b k s t m e d g =
           subst (λ j. Like q (named.var n u) (named.var (record { number = k; span = s; site = t }) j)) e
-          (subst (λ j. Like q (named.var n u) (named.var (record { number = k; span = s; site = j }) (use_at q.by u))) g
-          (subst (λ j. Like q (named.var n u) (named.var (record { number = j; span = s; site = n.site }) (use_at q.by u))) d (ren.RenumberedExp.var {n = n} {s = s})))
+          (subst (λ j. Like q (named.var n u) (named.var (record { number = k; span = s; site = j }) (use_so q.by b u.known u))) g
+          (subst (λ j. Like q (named.var n u) (named.var (record { number = j; span = s; site = n.site }) (use_so q.by b u.known u))) d (by m)))
+        where
+          by : (b ≡ u.mutable) ⊎ (holes q).uses u b u.known → Like q (named.var n u) (named.var (record { number = q.by.nodes n.number; span = s; site = n.site }) (use_so q.by b u.known u))
+          by (inl i) = subst (λ (z : Bool). Like q (named.var n u) (named.var (record { number = q.by.nodes n.number; span = s; site = n.site }) (use_so q.by z u.known u))) (sym i) (ren.RenumberedExp.var {n = n} {s = s} {x = u})
+          by (inr i) = ren.RenumberedExp.other_var {n = n} {s = s} {x = u} {m = b} {k = u.known} i
 
       break_at : (q : Numbers) (n : Node) (l l' k : ℕ) (s : Span) (t : Site) → q.loops l ≡ l' → q.by.nodes n.number ≡ k → n.site ≡ t → Like q (named.break n l) (named.break (record { number = k; span = s; site = t }) l')
       break_at q n l l' k s t e d g =
@@ -118,7 +125,8 @@ module _ (R : Renaming) (W : Mutability) (apart : IsOneToOne R) (even : (n m : �
           let d = (a_node s t c).1 in let d' = (a_node s t c').1 in let e = (an_entry d).1 in let e' = (an_entry d').1 in
           let st1 = next_entry R W d d' (next s t c c' st) in let j = first (an_entry d).0.0 in let j' = first (an_entry d').0.0 in
           a_leaf_with_entry s s t t c c' (named.var (a_node s t c).0 (use_of j (declaration e j))) (named.var (a_node s t c').0 (use_of j' (declaration e' j'))) st1 (refl, refl)
-          (λ q f w. var_at q (a_node s t c).0 _ _ c'.number s t (used_alike e e' j j' st1 (var_part plain_holes h) q f) w refl)
+          (λ q f w. let r = var_part plain_holes h in var_at q (a_node s t c).0 (use_of j (declaration e j)) (use_of j' (declaration e' j')) (declaration e' j').mutable c'.number s t
+          (mutably q (use_of j (declaration e j)) j' (declaration e' j').mutable (alikes e e' j j' st1 r).mutable) (used_alike e e' j j' st1 r q f) w refl)
 
       pub break_kept : (s : Span) (l : Option Ident) (m : Bool) (t : Site) → EKept m t (plain.break s l) (plain.break s l)
       break_kept s l m t made c c' st h =
@@ -133,7 +141,7 @@ module _ (R : Renaming) (W : Mutability) (apart : IsOneToOne R) (even : (n m : �
           let st1 = next_entry R W d d' (next s t c c' st) in let j = first (an_entry d).0.0 in let j' = first (an_entry d').0.0 in
           a_leaf_with_entry s s t t c c' (named.continue (a_node s t c).0 j) (named.continue (a_node s t c').0 j') st1 (refl, refl) (λ q f w. continue_at q (a_node s t c).0 _ _ c'.number s t (f.loops j j' (continue_part plain_holes h)) w refl)
 
-      pub return_kept : ((R : Renaming) (n : Node) (o : named.Else) (e' : Exp) → H.returned R n o e' → ⊥) → ((q : Numbers) → (holes q).returns) → (s : Span) (o o' : OptionalExpression) (m : Bool) (t : Site) → OptionalKept R W apart even H only untyped holes Site.Expects o o' → EKept m t (plain.return s o) (plain.return s o')
+      pub return_kept : ((R : Renaming) (n : Node) (o : named.Else) (e' : Exp) → H.returned R n o e' → ⊥) → ((q : Numbers) → (holes q).returns) → (s : Span) (o o' : OptionalExpression) (m : Bool) (t : Site) → OptionalKept R W apart even H only untyped holes stood Site.Expects o o' → EKept m t (plain.return s o) (plain.return s o')
       return_kept none_returned returns s o o' m t k made c c' st h =
           becomes (λ x. named.return (a_node s t c).0 x) (λ x. named.return (a_node s t c').0 x) (behind_node s s t t c c' (k _ (a_node s t c).1 (a_node s t c').1 (next s t c c' st) (return_part only none_returned h))) (λ z. (refl, refl))
           (λ q a a' f w. at_node q (λ n. Like q (named.return (a_node s t c).0 a) (named.return n a')) c.number c'.number s s t w.0 (ren.RenumberedExp.return (returns q) w.1))
@@ -157,16 +165,16 @@ module _ (R : Renaming) (W : Mutability) (apart : IsOneToOne R) (even : (n m : �
       not_other : {made : List Piece} {x x' : ℕ} {w : ℕ × ℕ} {o : Option (ℕ × ℕ)} → o ≡ None → Waitings made x x' (Some w) o → ⊥
       not_other e (both_wait i) = absurd (cc)
 
-      gives_at : (q : Numbers) (n p : Node) (u u' : Use) (d d' : Option ℕ) (k j : ℕ) (s z : Span) (t i : Site) {e e' : Exp} → use_at q.by u ≡ u' → option_map q.by.nodes d ≡ d' → q.by.nodes n.number ≡ k → n.site ≡ t → q.by.nodes p.number ≡ j → p.site ≡ i → Like q e e'
+      gives_at : (q : Numbers) (n p : Node) (u u' : Use) (d d' : Option ℕ) (k j : ℕ) (s z : Span) (t i : Site) {e e' : Exp} → use_so q.by u'.mutable u.known u ≡ u' → option_map q.by.nodes d ≡ d' → q.by.nodes n.number ≡ k → n.site ≡ t → q.by.nodes p.number ≡ j → p.site ≡ i → Like q e e'
           → Like q (named.gives n p u d e) (named.gives (record { number = k; span = s; site = t }) (record { number = j; span = z; site = i }) u' d' e')
       gives_at q n p u u' d d' k j s z t i {e} {e'} a b f g v y h =
           subst (λ x. Like q (named.gives n p u d e) (named.gives (record { number = k; span = s; site = t }) (record { number = j; span = z; site = i }) x d' e')) a
-          (subst (λ x. Like q (named.gives n p u d e) (named.gives (record { number = k; span = s; site = t }) (record { number = j; span = z; site = i }) (use_at q.by u) x e')) b
-          (subst (λ x. Like q (named.gives n p u d e) (named.gives (record { number = k; span = s; site = x }) (record { number = j; span = z; site = i }) (use_at q.by u) (option_map q.by.nodes d) e')) g
-          (subst (λ x. Like q (named.gives n p u d e) (named.gives (record { number = x; span = s; site = n.site }) (record { number = j; span = z; site = i }) (use_at q.by u) (option_map q.by.nodes d) e')) f
-          (subst (λ x. Like q (named.gives n p u d e) (named.gives (record { number = q.by.nodes n.number; span = s; site = n.site }) (record { number = j; span = z; site = x }) (use_at q.by u) (option_map q.by.nodes d) e')) y
-          (subst (λ x. Like q (named.gives n p u d e) (named.gives (record { number = q.by.nodes n.number; span = s; site = n.site }) (record { number = x; span = z; site = p.site }) (use_at q.by u) (option_map q.by.nodes d) e')) v
-          (ren.RenumberedExp.gives {n = n} {p = p} {s = s} {t = z} h))))))
+          (subst (λ x. Like q (named.gives n p u d e) (named.gives (record { number = k; span = s; site = t }) (record { number = j; span = z; site = i }) (use_so q.by u'.mutable u.known u) x e')) b
+          (subst (λ x. Like q (named.gives n p u d e) (named.gives (record { number = k; span = s; site = x }) (record { number = j; span = z; site = i }) (use_so q.by u'.mutable u.known u) (option_map q.by.nodes d) e')) g
+          (subst (λ x. Like q (named.gives n p u d e) (named.gives (record { number = x; span = s; site = n.site }) (record { number = j; span = z; site = i }) (use_so q.by u'.mutable u.known u) (option_map q.by.nodes d) e')) f
+          (subst (λ x. Like q (named.gives n p u d e) (named.gives (record { number = q.by.nodes n.number; span = s; site = n.site }) (record { number = j; span = z; site = x }) (use_so q.by u'.mutable u.known u) (option_map q.by.nodes d) e')) y
+          (subst (λ x. Like q (named.gives n p u d e) (named.gives (record { number = q.by.nodes n.number; span = s; site = n.site }) (record { number = x; span = z; site = p.site }) (use_so q.by u'.mutable u.known u) (option_map q.by.nodes d) e')) v
+          (ren.RenumberedExp.gives {n = n} {p = p} {s = s} {t = z} {x = u} {m = u'.mutable} h))))))
 
       pub assign_kept_alike : (s z : Span) (y : List ℕ) (e e' : Expression) (m : Bool) (t : Site) → ((i : Site) → EKept false i e e') → EKept m t (plain.assign s (plain.var z y) e) (plain.assign s (plain.var z y) e')
       assign_kept_alike s z y e e' m t ke made c c' st h = by (numbering.waiting j (declaration E j).stage) (numbering.waiting j' (declaration E' j').stage) refl refl h
@@ -208,7 +216,7 @@ module _ (R : Renaming) (W : Mutability) (apart : IsOneToOne R) (even : (n m : �
           st1 = next_entry R W A A' (next z Site.Place D D' (next s t c c' st))
 
           Goal : Option (ℕ × ℕ) → Option (ℕ × ℕ) → Type 0
-          Goal w w' = Kept R W made SameExp Like c c' (numbering.assigned (a_node s t c).0 left w (λ i. of_expression false i e) E) (numbering.assigned (a_node s t c').0 left' w' (λ i. of_expression false i e') E')
+          Goal w w' = Kept R W made (blocks_in stood e) SameExp Like c c' (numbering.assigned (a_node s t c).0 left w (λ i. of_expression false i e) E) (numbering.assigned (a_node s t c').0 left' w' (λ i. of_expression false i e') E')
 
           Given : Option (ℕ × ℕ) → Option (ℕ × ℕ) → Type 0
           Given w w' = LikeExp H R (numbering.assigned (a_node s t c).0 left w (λ i. of_expression false i e) E).0 (numbering.assigned (a_node s t c').0 left' w' (λ i. of_expression false i e') E').0
@@ -217,9 +225,9 @@ module _ (R : Renaming) (W : Mutability) (apart : IsOneToOne R) (even : (n m : �
           IfBoth q x x' = q.by.nodes c.number ≡ c'.number → q.by.nodes D.number ≡ D'.number → Like q x x'
 
           -- both give the type, or wait for it no more
-          give_it : (k k' : ℕ) → R.variable k k' ≡ true → (y : Kept R W now SameExp Like E E' (of_expression false Site.Reborrows e E) (of_expression false Site.Reborrows e' E'))
+          give_it : (k k' : ℕ) → R.variable k k' ≡ true → (y : Kept R W now (blocks_in stood e) SameExp Like E E' (of_expression false Site.Reborrows e E) (of_expression false Site.Reborrows e' E'))
               → (o o' : Option (ℕ × ℕ)) → Waitings y.now k k' o o'
-              → Kept R W now SameExp IfBoth E E'
+              → Kept R W now (blocks_in stood e) SameExp IfBoth E E'
               (named.gives (a_node s t c).0 (a_node z Site.Place D).0 (use_of k (declaration (of_expression false Site.Reborrows e E).1 k)) (numbering.given_here k o (of_expression false Site.Reborrows e E).1).0 (of_expression false Site.Reborrows e E).0, (numbering.given_here k o (of_expression false Site.Reborrows e E).1).1)
               (named.gives (a_node s t c').0 (a_node z Site.Place D').0 (use_of k' (declaration (of_expression false Site.Reborrows e' E').1 k')) (numbering.given_here k' o' (of_expression false Site.Reborrows e' E').1).0 (of_expression false Site.Reborrows e' E').0, (numbering.given_here k' o' (of_expression false Site.Reborrows e' E').1).1)
           give_it k k' r y _ _ neither = record {
@@ -227,6 +235,7 @@ module _ (R : Renaming) (W : Mutability) (apart : IsOneToOne R) (even : (n m : �
             grows = y.grows;
             step = y.step;
             same = (refl, y.same.1);
+            few = y.few;
             like = λ q f w a b. gives_at q (a_node s t c).0 (a_node z Site.Place D).0 (use_of k (declaration (of_expression false Site.Reborrows e E).1 k)) (use_of k' (declaration (of_expression false Site.Reborrows e' E').1 k')) None None c'.number D'.number s z t Site.Place (used_alike (of_expression false Site.Reborrows e E).1 (of_expression false Site.Reborrows e' E').1 k k' y.step r q f) refl a refl b refl (y.like q f w);
           }
           give_it k k' r y _ _ (both_wait {p = p} {p' = p'} i) = record {
@@ -234,6 +243,7 @@ module _ (R : Renaming) (W : Mutability) (apart : IsOneToOne R) (even : (n m : �
             grows = y.grows;
             step = alike_settled R W apart even y.step k k' r;
             same = (refl, y.same.1);
+            few = y.few;
             like = λ q f w a b. gives_at q (a_node s t c).0 (a_node z Site.Place D).0 (use_of k (declaration (of_expression false Site.Reborrows e E).1 k)) (use_of k' (declaration (of_expression false Site.Reborrows e' E').1 k')) (Some p) (Some p') c'.number D'.number s z t Site.Place (used_alike (of_expression false Site.Reborrows e E).1 (of_expression false Site.Reborrows e' E').1 k k' y.step r q f) (ap (λ (x : ℕ). Some x) (w (paired p p') i)) a refl b refl (y.like q f w);
           }
 
@@ -264,9 +274,9 @@ module _ (R : Renaming) (W : Mutability) (apart : IsOneToOne R) (even : (n m : �
       -- ---- all of these; a block is a parameter
 
       pub kept_places : ((R : Renaming) (n : Node) (o : named.Else) (e' : Exp) → H.returned R n o e' → ⊥) → ((q : Numbers) → (holes q).returns) → (N : Claims) (b : Body → Body → Body)
-          → ((own : Names) (ls : List Around) (s : Span) (t : Site) (ss ss' : plain.Statements) (o o' : OptionalExpression) → N.block own ls (plain.body s ss o) → StatementsKept R W apart even H only untyped holes ss ss' → OptionalKept R W apart even H only untyped holes t o o'
-          → BodyKept R W apart even H only untyped holes t (plain.body s ss o) (b (plain.body s ss o) (plain.body s ss' o')))
-          → Places R W apart even H only untyped holes (blocks_alone b) N
+          → ((own : Names) (ls : List Around) (s : Span) (t : Site) (ss ss' : plain.Statements) (o o' : OptionalExpression) → N.block own ls (plain.body s ss o) → StatementsKept R W apart even H only untyped holes stood ss ss' → OptionalKept R W apart even H only untyped holes stood t o o'
+          → BodyKept R W apart even H only untyped holes stood t (plain.body s ss o) (b (plain.body s ss o) (plain.body s ss' o')))
+          → Places R W apart even H only untyped holes stood (blocks_alone b) N
       kept_places none_returned returns N b k = record {
         variable = λ own s x n m t. variable_kept s x m t;
         broken = λ own ls s l n m t. break_kept s l m t;
@@ -282,11 +292,11 @@ module _ (R : Renaming) (W : Mutability) (apart : IsOneToOne R) (even : (n m : �
       }
 
       -- a block whose parts are alike
-      pub parts_kept : (s : Span) (t : Site) (ss ss' : plain.Statements) (o o' : OptionalExpression) → StatementsKept R W apart even H only untyped holes ss ss' → OptionalKept R W apart even H only untyped holes t o o' → (made : List Piece) (c c' : Cursor) → InStep R W made c c'
+      pub parts_kept : (s : Span) (t : Site) (ss ss' : plain.Statements) (o o' : OptionalExpression) → StatementsKept R W apart even H only untyped holes stood ss ss' → OptionalKept R W apart even H only untyped holes stood t o o' → (made : List Piece) (c c' : Cursor) → InStep R W made c c'
           → alike.LikeStatements H R (numbering.of_statements ss (a_node s t c).1).0 (numbering.of_statements ss' (a_node s t c').1).0
           → alike.LikeElse H R (numbering.of_optional t o (numbering.of_statements ss (a_node s t c).1).1).0 (numbering.of_optional t o' (numbering.of_statements ss' (a_node s t c').1).1).0
-          → Kept R W made SameBody (BodyLike R W apart even H only untyped holes) c c' (numbering.of_body t (plain.body s ss o) c) (numbering.of_body t (plain.body s ss' o') c')
+          → Kept R W made (blocks_in_body stood (plain.body s ss o)) SameBody (BodyLike R W apart even H only untyped holes stood) c c' (numbering.of_body t (plain.body s ss o) c) (numbering.of_body t (plain.body s ss' o') c')
       parts_kept s t ss ss' o o' ks ko made c c' st h g =
           let y = ks _ (a_node s t c).1 (a_node s t c').1 (next s t c c' st) h in let z = ko _ (numbering.of_statements ss (a_node s t c).1).1 (numbering.of_statements ss' (a_node s t c').1).1 y.step g in
-          becomes (λ x. named.body (a_node s t c).0 x.0 x.1) (λ x. named.body (a_node s t c').0 x.0 x.1) (behind_node s s t t c c' (both y z)) (λ x. (tails (numbering.of_optional t o (numbering.of_statements ss (a_node s t c).1).1).0 (numbering.of_optional t o' (numbering.of_statements ss' (a_node s t c').1).1).0 x.0 x.1, same_or x.0 x.1.1))
-          (λ q a a' f w. at_node q (λ n. BodyLike R W apart even H only untyped holes q (named.body (a_node s t c).0 a.0 a.1) (named.body n a'.0 a'.1)) c.number c'.number s s t w.0 (ren.RenumberedBody.body w.1.0 w.1.1))
+          at_most (sum (blocks_in_statements stood ss) (blocks_in_optional stood o)) (blocks_in_body stood (plain.body s ss o)) (some_more (counted (stood s)) (sum (blocks_in_statements stood ss) (blocks_in_optional stood o))) (becomes (λ x. named.body (a_node s t c).0 x.0 x.1) (λ x. named.body (a_node s t c').0 x.0 x.1) (behind_node s s t t c c' (both y z)) (λ x. (tails (numbering.of_optional t o (numbering.of_statements ss (a_node s t c).1).1).0 (numbering.of_optional t o' (numbering.of_statements ss' (a_node s t c').1).1).0 x.0 x.1, same_or x.0 x.1.1))
+          (λ q a a' f w. at_node q (λ n. BodyLike R W apart even H only untyped holes stood q (named.body (a_node s t c).0 a.0 a.1) (named.body n a'.0 a'.1)) c.number c'.number s s t w.0 (ren.RenumberedBody.body w.1.0 w.1.1)))

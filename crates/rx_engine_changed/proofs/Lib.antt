@@ -2,6 +2,7 @@ pub mod Lists
 pub mod Steps
 pub mod Parts
 pub mod Kept
+pub mod Counting
 pub mod Patterns
 pub mod Walk
 pub mod KeptPlaces
@@ -13,5 +14,8 @@ pub mod RoundEnd
 pub mod Functions
 pub mod RoundFunctions
 pub mod Pieces
+pub mod Once
 pub mod CalledFunctions
+pub mod MovedPlaces
 pub mod MovedRuns
+pub mod Moving

@@ -81,7 +81,7 @@ waits_rises true p c = at (whole_binding p)
 
 -- ---- expressions
 
-abbrev ExpRises : Expression → Type 0
+abbrev pub ExpRises : Expression → Type 0
 ExpRises e = (m : Bool) (t : Site) (c : Cursor) → Rises c (naming.of_expression m t e c).1
 
 -- a place that is one node, or no variable that waits
@@ -121,7 +121,7 @@ known_rises : (i j : ℕ) (c : Cursor) → Rises c (naming.known_between i j c).
 known_rises i j c = nothing_rises c (naming.known_between i j c).1 refl
 
 mutual
-  exp_rises : (e : Expression) → ExpRises e
+  pub exp_rises : (e : Expression) → ExpRises e
   exp_rises (plain.int s v k) m t c = node_rises s t c
   exp_rises (plain.bool s b) m t c = node_rises s t c
   exp_rises (plain.tuple s es) m t c = rises_on (node_rises s t c) (exps_rises es Site.Value _)
@@ -181,7 +181,7 @@ mutual
   exp_rises (plain.continue s l) m t c = rises_on (node_rises s t c) (entry_rises _)
   exp_rises (plain.return s o) m t c = rises_on (node_rises s t c) (optional_rises o Site.Expects _)
 
-  exps_rises : (es : Expressions) (t : Site) (c : Cursor) → Rises c (naming.of_expressions t es c).1
+  pub exps_rises : (es : Expressions) (t : Site) (c : Cursor) → Rises c (naming.of_expressions t es c).1
   exps_rises plain.no_expression t c = nothing_rises c c refl
   exps_rises (plain.expression_and e es) t c = rises_on (exp_rises e false t c) (exps_rises es t _)
 
@@ -189,7 +189,7 @@ mutual
   optional_rises plain.absent t c = nothing_rises c c refl
   optional_rises (plain.present e) t c = exp_rises e false t c
 
-  arguments_rises : (es : OptionalExpressions) (c : Cursor) → Rises c (naming.of_arguments es c).1
+  pub arguments_rises : (es : OptionalExpressions) (c : Cursor) → Rises c (naming.of_arguments es c).1
   arguments_rises plain.no_list c = nothing_rises c c refl
   arguments_rises (plain.a_list es) c = exps_rises es Site.Expects c
 

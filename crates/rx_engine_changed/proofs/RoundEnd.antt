@@ -1,6 +1,6 @@
 -- A block in which other last statements and another tail stand for a run that goes to its end, numbered beside that of the text: what is in
 -- front is copied.
-use Rattle.std.proofs.Common.{◌≡◌, ℕ, Bool, true, false, ◌||◌, if◌then◌else◌, List, ◌∷◌, ◌++◌, length, Option, refl, sym, ap, ◌∙◌, subst, arith}
+use Rattle.std.proofs.Common.{◌≡◌, ℕ, Bool, true, false, ◌||◌, if◌then◌else◌, List, ◌∷◌, ◌++◌, length, Option, inl, refl, sym, ap, ◌∙◌, subst, arith}
 use Rattle.rx_core.specs.declared.types.Span.{Span}
 use Rattle.rx_tree.specs.declared.tree.Ident.{Ident}
 use Rattle.rx_tree.specs.Plain as plain
@@ -26,20 +26,22 @@ use Rattle.rx_engine_typing.specs.Renumbered.{RenumberedBody, RenumberedElse, Re
 use Rattle.rx_engine_holes.specs.Run.{append}
 use Rattle.rx_engine_holes.specs.Tail.TailBlock.{a_tail}
 use Rattle.rx_engine_changed.specs.Beside.{Instead, for_a_run, for_an_end, Piece, paired, unpaired, replaced, Grows, stays, and_own, and_instead, newest, Numbers, IsOneToOne}
-use Rattle.rx_engine_changed.specs.Stages.{Mutability, InStep}
+use Rattle.rx_engine_changed.specs.Blocks.{blocks_in_body, blocks_in_optional, blocks_in_statements, counted, insteads}
+use Rattle.rx_engine_changed.specs.Stages.{Differing, InStep, Steady}
 use Rattle.rx_engine_changed.specs.Round.{block_ending, round, with_others, GoesOnLast, OneBlock, SameEnd}
 use Rattle.rx_engine_changed.proofs.Lists.{grows_on, before}
 use Rattle.rx_engine_changed.proofs.Steps.{alike_later, next_node, one_node}
 use Rattle.rx_engine_changed.proofs.Kept.{Kept, SameBody, same_or, at_node}
+use Rattle.rx_engine_changed.proofs.Counting.{end_few, row_blocks}
 use Rattle.rx_engine_changed.proofs.Parts.{OnlySpecial, KeptHoles}
 use Rattle.rx_engine_changed.proofs.Walk.{BodyLike, BodyKept, OptionalKept, StatementsKept, Places}
 use Rattle.rx_engine_changed.proofs.KeptPlaces.{blocks_alone, kept_places, parts_kept}
 use Rattle.rx_engine_changed.proofs.Copied.{body_cases, copied_statements}
 use Rattle.rx_engine_changed.proofs.Rises.{optional_rises, rises_on, statements_rises}
 use Rattle.rx_engine_changed.proofs.Rows.{many_numbered, many_alike, row, numbered_row, same_front, same_row, row_diverges, EndsOf, ends_of}
-use Rattle.rx_engine_changed.proofs.RoundRun.{BodyCases, a_hole, a_copy, cases_of, other_place}
+use Rattle.rx_engine_changed.proofs.RoundRun.{BodyCases, a_hole, a_copy, cases_of, other_place, same_itself}
 
-module _ (R : Renaming) (W : Mutability) (apart : IsOneToOne R) (even : (n m : ℕ) (b : Bool) → W n m b b) (same : (n m : ℕ) (a b : Bool) → W n m a b → b ≡ a)
+module _ (R : Renaming) (W : Differing) (apart : IsOneToOne R) (even : Steady R W) (same : (n m : ℕ) (a b : Bool) → W.mutable n m a b → b ≡ a)
     (I I' : Inside) (s0 : Span) (front run call : List Statement) (o0 o1 : OptionalExpression) (labels : List (Option Ident)) (T : ToldLast) (base : Numbers → ren.Holes) (returns0 : (q : Numbers) → (base q).returns) where
   abbrev pub old : Body
   old = block_ending s0 front run o0
@@ -73,7 +75,7 @@ module _ (R : Renaming) (W : Mutability) (apart : IsOneToOne R) (even : (n m : �
   copies = record { no_variable = λ R n n' u u' h. h; no_break = λ R n n' l l' h. h; no_continue = λ R n n' l l' h. h }
 
   abbrev BKept : Site → Body → Body → Type 0
-  BKept = BodyKept R W apart even H none_else untyped holes
+  BKept = BodyKept R W apart even H none_else untyped holes (same_place s0)
 
   module _ (goes_on : GoesOnLast R W T I I' front run call o0 o1) where
     -- where the parts are told
@@ -123,7 +125,7 @@ module _ (R : Renaming) (W : Mutability) (apart : IsOneToOne R) (even : (n m : �
 
       -- rows as the rules have them
       an_end : (q : Numbers) (a a' x x' : named.Statements) (o o' : Else) → q.instead ≡ for_an_end N s0 (some_diverges a) x o x' o' → q.by.nodes c.number ≡ c'.number → RenumberedStatements q.by q.loops (base q) a a'
-          → BodyLike R W apart even H none_else untyped holes q (named.body N (joined a x) o) (named.body N' (joined a' x') o')
+          → BodyLike R W apart even H none_else untyped holes (same_place s0) q (named.body N (joined a x) o) (named.body N' (joined a' x') o')
       an_end q a a' x x' o o' e d h =
           let i = for_an_end N s0 (some_diverges a) x o x' o' in
           subst (λ (i : Instead). RenumberedBody q.by q.loops (with_others q.by q.loops (base q) i) (named.body N (joined a x) o) (named.body N' (joined a' x') o')) (sym e)
@@ -133,13 +135,13 @@ module _ (R : Renaming) (W : Mutability) (apart : IsOneToOne R) (even : (n m : �
           (ren.RenumberedBody.other_block (a_tail refl h)))))
 
       filled : (p : Place) (h : EndsOf R (length front) (EndFor T I I' front run call o0 o1 p R) N N' (joined F.0 G.0) (joined F'.0 G'.0) O.0 O'.0)
-          → Kept R W made SameBody (BodyLike R W apart even H none_else untyped holes) c c' (named.body N (joined F.0 G.0) O.0, O.1) (named.body N' (joined F'.0 G'.0) O'.0, O'.1)
+          → Kept R W made (blocks_in_body (same_place s0) old) SameBody (BodyLike R W apart even H none_else untyped holes (same_place s0)) c c' (named.body N (joined F.0 G.0) O.0, O.1) (named.body N' (joined F'.0 G'.0) O'.0, O'.1)
       filled p h =
           let a = same_front h.front F.0 h.run G.0 (h.so_many ∙ sym (many_numbered front D)) (sym h.is) in
           let a' = same_front h.front' F'.0 h.call G'.0 (many_alike h.fronts ∙ h.so_many ∙ sym (many_numbered front D')) (sym h.is') in
           let l = subst (λ (z : named.Statements). alike.LikeStatements alike.no_holes R z F'.0) a.0 (subst (λ (z : named.Statements). alike.LikeStatements alike.no_holes R h.front z) a'.0 h.fronts) in
           let s = subst (λ (z : named.Statements). EndFor T I I' front run call o0 o1 p R z O.0 G'.0 O'.0) a.1 (subst (λ (z : named.Statements). EndFor T I I' front run call o0 o1 p R h.run O.0 z O'.0) a'.1 h.stands) in
-          let Y = copied_statements R W apart even same base returns0 (as_statements front) _ D D' (next_node R W apart even s0 s0 t t c c' st) l in
+          let Y = copied_statements R W apart even same base returns0 (same_place s0) (as_statements front) _ D D' (next_node R W apart even s0 s0 t t c c' st) l in
           let g = goes_on Y.now F.1 F'.1 p t Y.step s in
           let up = (rises_on (statements_rises (as_statements run) F.1) (optional_rises o0 t G.1)).grows in let up' = (rises_on (statements_rises (as_statements call) F'.1) (optional_rises o1 t G'.1)).grows in
           let i = for_an_end N s0 (some_diverges F.0) G.0 O.0 G'.0 O'.0 in
@@ -148,6 +150,7 @@ module _ (R : Renaming) (W : Mutability) (apart : IsOneToOne R) (even : (n m : �
             now = replaced i ∷ unpaired F.1.number O.1.number F'.1.number O'.1.number ∷ Y.now;
             grows = grows_on (grows_on (one_node c c') Y.grows) own;
             step = alike_later R W apart even g.0 own;
+            few = end_few (insteads made) (insteads Y.now) (blocks_in_statements (same_place s0) (as_statements front)) (blocks_in_statements (same_place s0) (as_statements run)) (blocks_in_optional (same_place s0) o0) (blocks_in_statements (same_place s0) (as_statements (front ++ run))) (counted (same_place s0 s0)) Y.few (row_blocks (same_place s0) front run) (ap counted (same_itself s0));
             same = (end_never F.0 F'.0 G.0 G'.0 O.0 O'.0 Y.same g.1, end_diverges F.0 F'.0 G.0 G'.0 O.0 O'.0 Y.same g.1);
             like = λ q f w.
                 let w1 = before q own w in
@@ -157,7 +160,7 @@ module _ (R : Renaming) (W : Mutability) (apart : IsOneToOne R) (even : (n m : �
     the_block : (t : Site) → BKept t old new
     the_block t made c c' st h = by (cases_of h)
       where
-        by : BodyCases H R s0 (of_body t old c).0 (of_body t new c').0 → Kept R W made SameBody (BodyLike R W apart even H none_else untyped holes) c c' (of_body t old c) (of_body t new c')
+        by : BodyCases H R s0 (of_body t old c).0 (of_body t new c').0 → Kept R W made (blocks_in_body (same_place s0) old) SameBody (BodyLike R W apart even H none_else untyped holes (same_place s0)) c c' (of_body t old c) (of_body t new c')
         by (a_copy f) = absurd (other_place s0 s0 f refl)
         by (a_hole z) = go (of_statements (as_statements (front ++ run)) (a_node s0 t c).1) (of_statements (as_statements (front ++ call)) (a_node s0 t c').1)
             (numbered_row front run (a_node s0 t c).1) (numbered_row front call (a_node s0 t c').1)
@@ -165,28 +168,28 @@ module _ (R : Renaming) (W : Mutability) (apart : IsOneToOne R) (even : (n m : �
           where
             go : (x x' : named.Statements × Cursor) → x ≡ row front run (a_node s0 t c).1 → x' ≡ row front call (a_node s0 t c').1
                 → EndsOf R (length front) (EndFor T I I' front run call o0 o1 z.place R) (a_node s0 t c).0 (a_node s0 t c').0 x.0 x'.0 (of_optional t o0 x.1).0 (of_optional t o1 x'.1).0
-                → Kept R W made SameBody (BodyLike R W apart even H none_else untyped holes) c c' (named.body (a_node s0 t c).0 x.0 (of_optional t o0 x.1).0, (of_optional t o0 x.1).1) (named.body (a_node s0 t c').0 x'.0 (of_optional t o1 x'.1).0, (of_optional t o1 x'.1).1)
+                → Kept R W made (blocks_in_body (same_place s0) old) SameBody (BodyLike R W apart even H none_else untyped holes (same_place s0)) c c' (named.body (a_node s0 t c).0 x.0 (of_optional t o0 x.1).0, (of_optional t o0 x.1).1) (named.body (a_node s0 t c').0 x'.0 (of_optional t o1 x'.1).0, (of_optional t o1 x'.1).1)
             go x x' e e' =
                 subst (λ (y : named.Statements × Cursor). EndsOf R (length front) (EndFor T I I' front run call o0 o1 z.place R) (a_node s0 t c).0 (a_node s0 t c').0 y.0 x'.0 (of_optional t o0 y.1).0 (of_optional t o1 x'.1).0
-                → Kept R W made SameBody (BodyLike R W apart even H none_else untyped holes) c c' (named.body (a_node s0 t c).0 y.0 (of_optional t o0 y.1).0, (of_optional t o0 y.1).1) (named.body (a_node s0 t c').0 x'.0 (of_optional t o1 x'.1).0, (of_optional t o1 x'.1).1)) (sym e)
+                → Kept R W made (blocks_in_body (same_place s0) old) SameBody (BodyLike R W apart even H none_else untyped holes (same_place s0)) c c' (named.body (a_node s0 t c).0 y.0 (of_optional t o0 y.1).0, (of_optional t o0 y.1).1) (named.body (a_node s0 t c').0 x'.0 (of_optional t o1 x'.1).0, (of_optional t o1 x'.1).1)) (sym e)
                 (subst (λ (y : named.Statements × Cursor). EndsOf R (length front) (EndFor T I I' front run call o0 o1 z.place R) (a_node s0 t c).0 (a_node s0 t c').0 (row front run (a_node s0 t c).1).0 y.0 (of_optional t o0 (row front run (a_node s0 t c).1).1).0 (of_optional t o1 y.1).0
-                → Kept R W made SameBody (BodyLike R W apart even H none_else untyped holes) c c' (named.body (a_node s0 t c).0 (row front run (a_node s0 t c).1).0 (of_optional t o0 (row front run (a_node s0 t c).1).1).0, (of_optional t o0 (row front run (a_node s0 t c).1).1).1) (named.body (a_node s0 t c').0 y.0 (of_optional t o1 y.1).0, (of_optional t o1 y.1).1)) (sym e')
+                → Kept R W made (blocks_in_body (same_place s0) old) SameBody (BodyLike R W apart even H none_else untyped holes (same_place s0)) c c' (named.body (a_node s0 t c).0 (row front run (a_node s0 t c).1).0 (of_optional t o0 (row front run (a_node s0 t c).1).1).0, (of_optional t o0 (row front run (a_node s0 t c).1).1).1) (named.body (a_node s0 t c').0 y.0 (of_optional t o1 y.1).0, (of_optional t o1 y.1).1)) (sym e')
                 (filled made t c c' st z.place))
 
     -- the function round it, where each block with its place is it
     module _ (N : Claims) (placed : OneBlock N old) where
-      blocks : (own : Names) (ls : List Around) (s : Span) (t : Site) (ss ss' : Statements) (o o' : OptionalExpression) → N.block own ls (plain.body s ss o) → StatementsKept R W apart even H none_else untyped holes ss ss' → OptionalKept R W apart even H none_else untyped holes t o o'
+      blocks : (own : Names) (ls : List Around) (s : Span) (t : Site) (ss ss' : Statements) (o o' : OptionalExpression) → N.block own ls (plain.body s ss o) → StatementsKept R W apart even H none_else untyped holes (same_place s0) ss ss' → OptionalKept R W apart even H none_else untyped holes (same_place s0) t o o'
           → BKept t (plain.body s ss o) (if same_place s0 s then new else plain.body s ss' o')
       blocks own ls s t ss ss' o o' claim ks ko = by (same_place s0 s) refl
         where
           copy : same_place s0 s ≡ false → BKept t (plain.body s ss o) (plain.body s ss' o')
           copy e made c c' st h =
               let g = body_cases {H = H} (λ z. other_place s0 s e (ap (λ (b : named.Body). (named.body_node b).span) z.first.is)) h in
-              parts_kept R W apart even same H none_else copies untyped holes s t ss ss' o o' ks ko made c c' st g.0 g.1
+              parts_kept R W apart even H none_else copies untyped holes (same_place s0) (λ q x m b w. inl (same x.number m x.mutable b w)) s t ss ss' o o' ks ko made c c' st g.0 g.1
 
           by : (z : Bool) → same_place s0 s ≡ z → BKept t (plain.body s ss o) (if z then new else plain.body s ss' o')
           by false e = copy e
           by true e = subst (λ (b : Body). BKept t b new) (sym (placed own ls (plain.body s ss o) claim e)) (the_block t)
 
-      pub round_places : Places R W apart even H none_else untyped holes (blocks_alone (λ b changed. if same_place s0 (body_span b) then new else changed)) N
-      round_places = kept_places R W apart even same H none_else copies untyped holes none_returned returns N (λ b changed. if same_place s0 (body_span b) then new else changed) blocks
+      pub round_places : Places R W apart even H none_else untyped holes (same_place s0) (blocks_alone (λ b changed. if same_place s0 (body_span b) then new else changed)) N
+      round_places = kept_places R W apart even H none_else copies untyped holes (same_place s0) (λ q x m b w. inl (same x.number m x.mutable b w)) none_returned returns N (λ b changed. if same_place s0 (body_span b) then new else changed) blocks

@@ -1,6 +1,6 @@
 -- A block in which other statements stand for a run, numbered beside that of the text: what is in front and behind is copied.
 use Rattle.std.specs.Prelude.{◌==◌}
-use Rattle.std.proofs.Common.{◌≡◌, ℕ, Bool, true, false, ◌&&◌, if◌then◌else◌, List, ◌∷◌, ◌++◌, length, Option, refl, sym, ap, ◌∙◌, subst, eq-eqb, arith}
+use Rattle.std.proofs.Common.{◌≡◌, ℕ, Bool, true, false, ◌&&◌, if◌then◌else◌, List, ◌∷◌, ◌++◌, length, Option, inl, refl, sym, ap, ◌∙◌, subst, eq-eqb, arith}
 use Rattle.rx_core.specs.declared.types.Span.{Span}
 use Rattle.rx_tree.specs.declared.tree.Ident.{Ident}
 use Rattle.rx_tree.specs.Plain as plain
@@ -26,11 +26,13 @@ use Rattle.rx_engine_typing.specs.Renumbered.{RenumberedBody, RenumberedElse, Re
 use Rattle.rx_engine_holes.specs.Run.{append}
 use Rattle.rx_engine_holes.specs.Run.RunBlock.{a_run}
 use Rattle.rx_engine_changed.specs.Beside.{Instead, for_a_run, Piece, paired, unpaired, replaced, Grows, stays, and_own, and_instead, newest, Numbers, IsOneToOne}
-use Rattle.rx_engine_changed.specs.Stages.{Mutability, InStep}
+use Rattle.rx_engine_changed.specs.Blocks.{blocks_in_body, blocks_in_optional, blocks_in_statements, counted, insteads}
+use Rattle.rx_engine_changed.specs.Stages.{Differing, InStep, Steady}
 use Rattle.rx_engine_changed.specs.Round.{block_with, round, with_others, GoesOn, OneBlock}
 use Rattle.rx_engine_changed.proofs.Lists.{grows_on, before}
 use Rattle.rx_engine_changed.proofs.Steps.{alike_later, next_node, one_node}
 use Rattle.rx_engine_changed.proofs.Kept.{Kept, SameBody, same_or, at_node}
+use Rattle.rx_engine_changed.proofs.Counting.{run_few, three_blocks}
 use Rattle.rx_engine_changed.proofs.Parts.{OnlySpecial, KeptHoles}
 use Rattle.rx_engine_changed.proofs.Walk.{BodyLike, BodyKept, OptionalKept, StatementsKept, Places}
 use Rattle.rx_engine_changed.proofs.KeptPlaces.{blocks_alone, kept_places, parts_kept, tails}
@@ -63,7 +65,7 @@ pub cases_of : {H : alike.Holes} {R : Renaming} {n n' : Node} {ss ss' : named.St
 cases_of (alike.like_other_block h) = a_hole h
 cases_of (alike.like_body f s h g) = a_copy f
 
-module _ (R : Renaming) (W : Mutability) (apart : IsOneToOne R) (even : (n m : ℕ) (b : Bool) → W n m b b) (same : (n m : ℕ) (a b : Bool) → W n m a b → b ≡ a)
+module _ (R : Renaming) (W : Differing) (apart : IsOneToOne R) (even : Steady R W) (same : (n m : ℕ) (a b : Bool) → W.mutable n m a b → b ≡ a)
     (I I' : Inside) (s0 : Span) (front run call behind : List Statement) (o0 : OptionalExpression) (labels : List (Option Ident)) (T : Told) (base : Numbers → ren.Holes) (returns0 : (q : Numbers) → (base q).returns) where
   abbrev pub old : Body
   old = block_with s0 front run behind o0
@@ -97,7 +99,7 @@ module _ (R : Renaming) (W : Mutability) (apart : IsOneToOne R) (even : (n m : �
   copies = record { no_variable = λ R n n' u u' h. h; no_break = λ R n n' l l' h. h; no_continue = λ R n n' l l' h. h }
 
   abbrev BKept : Site → Body → Body → Type 0
-  BKept = BodyKept R W apart even H none_else untyped holes
+  BKept = BodyKept R W apart even H none_else untyped holes (same_place s0)
 
   module _ (goes_on : GoesOn R W T I I' front run call) where
     -- where the parts are told
@@ -145,7 +147,7 @@ module _ (R : Renaming) (W : Mutability) (apart : IsOneToOne R) (even : (n m : �
       -- rows as the rules have them
       a_block : (q : Numbers) (a a' b b' x x' : named.Statements) (o o' : Else) → q.instead ≡ for_a_run x x' → q.by.nodes c.number ≡ c'.number
           → RenumberedStatements q.by q.loops (base q) a a' → RenumberedStatements q.by q.loops (base q) b b' → RenumberedElse q.by q.loops (base q) o o'
-          → BodyLike R W apart even H none_else untyped holes q (named.body N (joined3 a x b) o) (named.body N' (joined3 a' x' b') o')
+          → BodyLike R W apart even H none_else untyped holes (same_place s0) q (named.body N (joined3 a x b) o) (named.body N' (joined3 a' x' b') o')
       a_block q a a' b b' x x' o o' e d h k l =
           subst (λ (i : Instead). RenumberedBody q.by q.loops (with_others q.by q.loops (base q) i) (named.body N (joined3 a x b) o) (named.body N' (joined3 a' x' b') o')) (sym e)
           (subst (λ (z : named.Statements). RenumberedBody q.by q.loops (with_others q.by q.loops (base q) (for_a_run x x')) (named.body N z o) (named.body N' (joined3 a' x' b') o')) (sym (rows a x b))
@@ -154,7 +156,7 @@ module _ (R : Renaming) (W : Mutability) (apart : IsOneToOne R) (even : (n m : �
           (ren.RenumberedBody.other_block (a_run {n = N} {s = s0} h k l)))))
 
       filled : (p : Place) (h : PartsOf R (length front) (StandFor T I I' front run call p R) N N' (joined3 F.0 G.0 B.0) (joined3 F'.0 G'.0 B'.0) O.0 O'.0)
-          → Kept R W made SameBody (BodyLike R W apart even H none_else untyped holes) c c' (named.body N (joined3 F.0 G.0 B.0) O.0, O.1) (named.body N' (joined3 F'.0 G'.0 B'.0) O'.0, O'.1)
+          → Kept R W made (blocks_in_body (same_place s0) old) SameBody (BodyLike R W apart even H none_else untyped holes (same_place s0)) c c' (named.body N (joined3 F.0 G.0 B.0) O.0, O.1) (named.body N' (joined3 F'.0 G'.0 B'.0) O'.0, O'.1)
       filled p h =
           let a = same_front h.front F.0 (joined2 h.run h.behind) (joined2 G.0 B.0) (h.so_many ∙ sym (many_numbered front D)) (sym h.is) in
           let a' = same_front h.front' F'.0 (joined2 h.call h.behind') (joined2 G'.0 B'.0) (many_alike h.fronts ∙ h.so_many ∙ sym (many_numbered front D')) (sym h.is') in
@@ -163,16 +165,17 @@ module _ (R : Renaming) (W : Mutability) (apart : IsOneToOne R) (even : (n m : �
           let l = subst (λ (z : named.Statements). alike.LikeStatements alike.no_holes R z F'.0) a.0 (subst (λ (z : named.Statements). alike.LikeStatements alike.no_holes R h.front z) a'.0 h.fronts) in
           let m = subst (λ (z : named.Statements). alike.LikeStatements alike.no_holes R z B'.0) x.1 (subst (λ (z : named.Statements). alike.LikeStatements alike.no_holes R h.behind z) x'.1 h.behinds) in
           let s = subst (λ (z : named.Statements). StandFor T I I' front run call p R z G'.0) x.0 (subst (λ (z : named.Statements). StandFor T I I' front run call p R h.run z) x'.0 h.stands) in
-          let Y = copied_statements R W apart even same base returns0 (as_statements front) _ D D' (next_node R W apart even s0 s0 t t c c' st) l in
+          let Y = copied_statements R W apart even same base returns0 (same_place s0) (as_statements front) _ D D' (next_node R W apart even s0 s0 t t c c' st) l in
           let g = goes_on Y.now F.1 F'.1 p Y.step s in
           let up = (statements_rises (as_statements run) F.1).grows in let up' = (statements_rises (as_statements call) F'.1).grows in
           let own : Grows Y.now F.1.number F'.1.number (replaced (for_a_run G.0 G'.0) ∷ unpaired F.1.number G.1.number F'.1.number G'.1.number ∷ Y.now) G.1.number G'.1.number
           = and_instead (and_own (stays (omega arith) (omega arith)) up up' (omega arith) (omega arith)) in
-          let Z = copied_statements R W apart even same base returns0 (as_statements behind) _ G.1 G'.1 (alike_later R W apart even g.0 own) m in
-          let V = copied_tail R W apart even same base returns0 t o0 _ B.1 B'.1 Z.step h.tails in record {
+          let Z = copied_statements R W apart even same base returns0 (same_place s0) (as_statements behind) _ G.1 G'.1 (alike_later R W apart even g.0 own) m in
+          let V = copied_tail R W apart even same base returns0 (same_place s0) t o0 _ B.1 B'.1 Z.step h.tails in record {
             now = V.now;
             grows = grows_on (grows_on (one_node c c') Y.grows) (grows_on own (grows_on Z.grows V.grows));
             step = V.step;
+            few = run_few (insteads made) (insteads Y.now) (insteads Z.now) (insteads V.now) (blocks_in_statements (same_place s0) (as_statements front)) (blocks_in_statements (same_place s0) (as_statements run)) (blocks_in_statements (same_place s0) (as_statements behind)) (blocks_in_optional (same_place s0) o0) (blocks_in_statements (same_place s0) (as_statements (front ++ (run ++ behind)))) (counted (same_place s0 s0)) Y.few Z.few V.few (three_blocks (same_place s0) front run behind) (ap counted (same_itself s0));
             same = (tails O.0 O'.0 (three_diverge F.0 G.0 B.0 F'.0 G'.0 B'.0 Y.same g.1 Z.same) V.same, same_or (three_diverge F.0 G.0 B.0 F'.0 G'.0 B'.0 Y.same g.1 Z.same) V.same.1);
             like = λ q f w.
                 let w1 = before q V.grows w in let w2 = before q Z.grows w1 in let w3 = before q own w2 in
@@ -182,7 +185,7 @@ module _ (R : Renaming) (W : Mutability) (apart : IsOneToOne R) (even : (n m : �
     the_block : (t : Site) → BKept t old new
     the_block t made c c' st h = by (cases_of h)
       where
-        by : BodyCases H R s0 (of_body t old c).0 (of_body t new c').0 → Kept R W made SameBody (BodyLike R W apart even H none_else untyped holes) c c' (of_body t old c) (of_body t new c')
+        by : BodyCases H R s0 (of_body t old c).0 (of_body t new c').0 → Kept R W made (blocks_in_body (same_place s0) old) SameBody (BodyLike R W apart even H none_else untyped holes (same_place s0)) c c' (of_body t old c) (of_body t new c')
         by (a_copy f) = absurd (other_place s0 s0 f refl)
         by (a_hole z) = go (of_statements (as_statements (front ++ (run ++ behind))) (a_node s0 t c).1) (of_statements (as_statements (front ++ (call ++ behind))) (a_node s0 t c').1)
             (numbered_row3 front run behind (a_node s0 t c).1) (numbered_row3 front call behind (a_node s0 t c').1)
@@ -190,28 +193,28 @@ module _ (R : Renaming) (W : Mutability) (apart : IsOneToOne R) (even : (n m : �
           where
             go : (x x' : named.Statements × Cursor) → x ≡ row3 front run behind (a_node s0 t c).1 → x' ≡ row3 front call behind (a_node s0 t c').1
                 → PartsOf R (length front) (StandFor T I I' front run call z.place R) (a_node s0 t c).0 (a_node s0 t c').0 x.0 x'.0 (of_optional t o0 x.1).0 (of_optional t o0 x'.1).0
-                → Kept R W made SameBody (BodyLike R W apart even H none_else untyped holes) c c' (named.body (a_node s0 t c).0 x.0 (of_optional t o0 x.1).0, (of_optional t o0 x.1).1) (named.body (a_node s0 t c').0 x'.0 (of_optional t o0 x'.1).0, (of_optional t o0 x'.1).1)
+                → Kept R W made (blocks_in_body (same_place s0) old) SameBody (BodyLike R W apart even H none_else untyped holes (same_place s0)) c c' (named.body (a_node s0 t c).0 x.0 (of_optional t o0 x.1).0, (of_optional t o0 x.1).1) (named.body (a_node s0 t c').0 x'.0 (of_optional t o0 x'.1).0, (of_optional t o0 x'.1).1)
             go x x' e e' =
                 subst (λ (y : named.Statements × Cursor). PartsOf R (length front) (StandFor T I I' front run call z.place R) (a_node s0 t c).0 (a_node s0 t c').0 y.0 x'.0 (of_optional t o0 y.1).0 (of_optional t o0 x'.1).0
-                → Kept R W made SameBody (BodyLike R W apart even H none_else untyped holes) c c' (named.body (a_node s0 t c).0 y.0 (of_optional t o0 y.1).0, (of_optional t o0 y.1).1) (named.body (a_node s0 t c').0 x'.0 (of_optional t o0 x'.1).0, (of_optional t o0 x'.1).1)) (sym e)
+                → Kept R W made (blocks_in_body (same_place s0) old) SameBody (BodyLike R W apart even H none_else untyped holes (same_place s0)) c c' (named.body (a_node s0 t c).0 y.0 (of_optional t o0 y.1).0, (of_optional t o0 y.1).1) (named.body (a_node s0 t c').0 x'.0 (of_optional t o0 x'.1).0, (of_optional t o0 x'.1).1)) (sym e)
                 (subst (λ (y : named.Statements × Cursor). PartsOf R (length front) (StandFor T I I' front run call z.place R) (a_node s0 t c).0 (a_node s0 t c').0 (row3 front run behind (a_node s0 t c).1).0 y.0 (of_optional t o0 (row3 front run behind (a_node s0 t c).1).1).0 (of_optional t o0 y.1).0
-                → Kept R W made SameBody (BodyLike R W apart even H none_else untyped holes) c c' (named.body (a_node s0 t c).0 (row3 front run behind (a_node s0 t c).1).0 (of_optional t o0 (row3 front run behind (a_node s0 t c).1).1).0, (of_optional t o0 (row3 front run behind (a_node s0 t c).1).1).1) (named.body (a_node s0 t c').0 y.0 (of_optional t o0 y.1).0, (of_optional t o0 y.1).1)) (sym e')
+                → Kept R W made (blocks_in_body (same_place s0) old) SameBody (BodyLike R W apart even H none_else untyped holes (same_place s0)) c c' (named.body (a_node s0 t c).0 (row3 front run behind (a_node s0 t c).1).0 (of_optional t o0 (row3 front run behind (a_node s0 t c).1).1).0, (of_optional t o0 (row3 front run behind (a_node s0 t c).1).1).1) (named.body (a_node s0 t c').0 y.0 (of_optional t o0 y.1).0, (of_optional t o0 y.1).1)) (sym e')
                 (filled made t c c' st z.place))
 
     -- the function round it, where each block with its place is it
     module _ (N : Claims) (placed : OneBlock N old) where
-      blocks : (own : Names) (ls : List Around) (s : Span) (t : Site) (ss ss' : Statements) (o o' : OptionalExpression) → N.block own ls (plain.body s ss o) → StatementsKept R W apart even H none_else untyped holes ss ss' → OptionalKept R W apart even H none_else untyped holes t o o'
+      blocks : (own : Names) (ls : List Around) (s : Span) (t : Site) (ss ss' : Statements) (o o' : OptionalExpression) → N.block own ls (plain.body s ss o) → StatementsKept R W apart even H none_else untyped holes (same_place s0) ss ss' → OptionalKept R W apart even H none_else untyped holes (same_place s0) t o o'
           → BKept t (plain.body s ss o) (if same_place s0 s then new else plain.body s ss' o')
       blocks own ls s t ss ss' o o' claim ks ko = by (same_place s0 s) refl
         where
           copy : same_place s0 s ≡ false → BKept t (plain.body s ss o) (plain.body s ss' o')
           copy e made c c' st h =
               let g = body_cases {H = H} (λ z. other_place s0 s e (ap (λ (b : named.Body). (named.body_node b).span) z.first.is)) h in
-              parts_kept R W apart even same H none_else copies untyped holes s t ss ss' o o' ks ko made c c' st g.0 g.1
+              parts_kept R W apart even H none_else copies untyped holes (same_place s0) (λ q x m b w. inl (same x.number m x.mutable b w)) s t ss ss' o o' ks ko made c c' st g.0 g.1
 
           by : (z : Bool) → same_place s0 s ≡ z → BKept t (plain.body s ss o) (if z then new else plain.body s ss' o')
           by false e = copy e
           by true e = subst (λ (b : Body). BKept t b new) (sym (placed own ls (plain.body s ss o) claim e)) (the_block t)
 
-      pub round_places : Places R W apart even H none_else untyped holes (blocks_alone (λ b changed. if same_place s0 (body_span b) then new else changed)) N
-      round_places = kept_places R W apart even same H none_else copies untyped holes none_returned returns N (λ b changed. if same_place s0 (body_span b) then new else changed) blocks
+      pub round_places : Places R W apart even H none_else untyped holes (same_place s0) (blocks_alone (λ b changed. if same_place s0 (body_span b) then new else changed)) N
+      round_places = kept_places R W apart even H none_else copies untyped holes (same_place s0) (λ q x m b w. inl (same x.number m x.mutable b w)) none_returned returns N (λ b changed. if same_place s0 (body_span b) then new else changed) blocks

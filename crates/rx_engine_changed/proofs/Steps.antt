@@ -11,7 +11,7 @@ use Rattle.rx_typed.specs.declared.nodes.Site.{Site}
 use Rattle.rx_typed.specs.Naming.{Cursor, a_node, an_entry, taken, as_known, known_among, declaration, not_declared, is_known}
 use Rattle.rx_engine_names.specs.Renaming.{Renaming}
 use Rattle.rx_engine_changed.specs.Beside.{Piece, paired, Grows, stays, and_pair, IsPiece, IsOneToOne}
-use Rattle.rx_engine_changed.specs.Stages.{Mutability, LikeDeclared, not_yet, known, given, waits, Alike, InStep}
+use Rattle.rx_engine_changed.specs.Stages.{Differing, LikeDeclared, IsKnownIn, not_yet, known, given, waits, Alike, InStep, Steady}
 use Rattle.rx_engine_changed.proofs.Lists.{newest_at, older_at, one_longer, set_there, set_elsewhere, set_many, Within, becomes_known, stays_known, known_length, still_piece}
 
 -- ---- numbers are the same or not
@@ -61,6 +61,18 @@ stage_there [] n s = refl
 stage_there (v ∷ vs) zero s = refl
 stage_there (v ∷ vs) (suc n) s = stage_there vs n s
 
+-- ---- variables that stay known
+
+still_known : (vs ws : List Declaration) (n : ℕ) → IsKnownIn vs n → slice_get ws n ≡ slice_get vs n → IsKnownIn ws n
+still_known vs ws n k e = (k.0, e ∙ k.1)
+
+known_there : (i j n : ℕ) (vs : List Declaration) → i ≤ j → IsKnownIn vs n → IsKnownIn (known_among i (j - i) vs) n
+known_there i j n vs le k = by (within_or_not i j n)
+  where
+    by : Decided (Within i j n) → IsKnownIn (known_among i (j - i) vs) n
+    by (so h) = (k.0, becomes_known i j n vs h ∙ ap (option_map as_known) k.1)
+    by (not_so h) = still_known vs (known_among i (j - i) vs) n k (stays_known i j n vs le h)
+
 -- ---- numbers of a pattern's variables
 
 pub data Ranges (R : Renaming) : ℕ → ℕ → ℕ → ℕ → Type 0 where
@@ -76,7 +88,7 @@ module _ {R : Renaming} where
   ranges_rise none_ranges = (omega arith, omega arith)
   ranges_rise (more_range r g) = let h = ranges_rise g in let a = h.0 in let b = h.1 in (omega (arith, a), omega (arith, b))
 
-module _ (R : Renaming) (W : Mutability) (apart : IsOneToOne R) (even : (n m : ℕ) (b : Bool) → W n m b b) where
+module _ (R : Renaming) (W : Differing) (apart : IsOneToOne R) (even : Steady R W) where
   pub within_on : {i i' j j' : ℕ} (n m : ℕ) → R.variable n m ≡ true → Ranges R i i' j j' → Within i j n → Within i' j' m
   within_on n m e none_ranges w = let a = w.0 in let b = w.1 in absurd (omega (arith, a, b))
   within_on {i = i} {i' = i'} {j = j} {j' = j'} n m e (more_range r g) w = by (same_or_not n i) (λ v. within_on n m e g v)
@@ -122,31 +134,39 @@ module _ (R : Renaming) (W : Mutability) (apart : IsOneToOne R) (even : (n m : �
 
   module _ {made : List Piece} {vs : List Declaration} {ls : List Bool} {d : ℕ} {vs' : List Declaration} {ls' : List Bool} {d' : ℕ} (st : Alike R W made vs ls d vs' ls' d') where
     pub alike_later : {a a' : ℕ} {now : List Piece} {b b' : ℕ} → Grows made a a' now b b' → Alike R W now vs ls d vs' ls' d'
-    alike_later g = record { variables = λ n m r. declared_later g (st.variables n m r); loops = st.loops; counted = st.counted; counted' = st.counted' }
+    alike_later g = record { variables = λ n m r. declared_later g (st.variables n m r); behind = st.behind; loops = st.loops; counted = st.counted; counted' = st.counted' }
 
-    pub alike_declared : (x : Declaration) → R.variable d d' ≡ true → ((n m : ℕ) → LikeDeclared made (W n m) (Some x) (Some x)) → Alike R W made (vs ++ x ∷ []) ls (suc d) (vs' ++ x ∷ []) ls' (suc d')
+    pub alike_declared : (x : Declaration) → R.variable d d' ≡ true → ((n m : ℕ) → LikeDeclared made (W.mutable n m) (Some x) (Some x)) → Alike R W made (vs ++ x ∷ []) ls (suc d) (vs' ++ x ∷ []) ls' (suc d')
     alike_declared x e same = record {
       variables = λ n m r. by n m r (same_or_not n d);
+      behind = λ n m w. let k = st.behind n m w in (
+        still_known vs (vs ++ x ∷ []) n k.0 (older_at vs x n (λ g. even.apart n m d' w (subst (λ (z : ℕ). R.variable z d' ≡ true) (sym (g ∙ st.counted)) e))),
+        still_known vs' (vs' ++ x ∷ []) m k.1 (older_at vs' x m (λ g. even.apart_back n m d w (subst (λ (z : ℕ). R.variable d z ≡ true) (sym (g ∙ st.counted')) e))),
+      );
       loops = st.loops;
       counted = one_longer vs x ∙ ap suc st.counted;
       counted' = one_longer vs' x ∙ ap suc st.counted';
     }
       where
-        by : (n m : ℕ) → R.variable n m ≡ true → Decided (n ≡ d) → LikeDeclared made (W n m) (slice_get (vs ++ x ∷ []) n) (slice_get (vs' ++ x ∷ []) m)
+        by : (n m : ℕ) → R.variable n m ≡ true → Decided (n ≡ d) → LikeDeclared made (W.mutable n m) (slice_get (vs ++ x ∷ []) n) (slice_get (vs' ++ x ∷ []) m)
         by n m r (so h) =
             let k : m ≡ d' = apart.variables_on n m d' r (subst (λ (z : ℕ). R.variable z d' ≡ true) (sym h) e) in
-            subst (λ (o : Option Declaration). LikeDeclared made (W n m) o (slice_get (vs' ++ x ∷ []) m)) (sym (newest_at vs x n (h ∙ sym st.counted)))
-            (subst (λ (o : Option Declaration). LikeDeclared made (W n m) (Some x) o) (sym (newest_at vs' x m (k ∙ sym st.counted'))) (same n m))
+            subst (λ (o : Option Declaration). LikeDeclared made (W.mutable n m) o (slice_get (vs' ++ x ∷ []) m)) (sym (newest_at vs x n (h ∙ sym st.counted)))
+            (subst (λ (o : Option Declaration). LikeDeclared made (W.mutable n m) (Some x) o) (sym (newest_at vs' x m (k ∙ sym st.counted'))) (same n m))
         by n m r (not_so h) =
             let k : m ≡ d' → ⊥ = λ g. h (apart.variables_back n d m r (subst (λ (z : ℕ). R.variable d z ≡ true) (sym g) e)) in
-            subst (λ (o : Option Declaration). LikeDeclared made (W n m) o (slice_get (vs' ++ x ∷ []) m)) (sym (older_at vs x n (λ g. h (g ∙ st.counted))))
-            (subst (λ (o : Option Declaration). LikeDeclared made (W n m) (slice_get vs n) o) (sym (older_at vs' x m (λ g. k (g ∙ st.counted')))) (st.variables n m r))
+            subst (λ (o : Option Declaration). LikeDeclared made (W.mutable n m) o (slice_get (vs' ++ x ∷ []) m)) (sym (older_at vs x n (λ g. h (g ∙ st.counted))))
+            (subst (λ (o : Option Declaration). LikeDeclared made (W.mutable n m) (slice_get vs n) o) (sym (older_at vs' x m (λ g. k (g ∙ st.counted')))) (st.variables n m r))
 
     -- another stage of two that correspond
-    alike_staged : (x x' : ℕ) (s s' : Stage) → R.variable x x' ≡ true → LikeDeclared made (W x x') (option_map (at_stage s) (slice_get vs x)) (option_map (at_stage s') (slice_get vs' x'))
+    alike_staged : (x x' : ℕ) (s s' : Stage) → R.variable x x' ≡ true → LikeDeclared made (W.mutable x x') (option_map (at_stage s) (slice_get vs x)) (option_map (at_stage s') (slice_get vs' x'))
         → Alike R W made (slice_set vs x (record (get_or vs x not_declared) { stage = s })) ls d (slice_set vs' x' (record (get_or vs' x' not_declared) { stage = s' })) ls' d'
     alike_staged x x' s s' e h = record {
       variables = λ n m r. by n m r (same_or_not n x);
+      behind = λ n m w. let k = st.behind n m w in (
+        still_known vs (slice_set vs x z) n k.0 (set_elsewhere vs x n z (λ g. even.apart n m x' w (subst (λ (y : ℕ). R.variable y x' ≡ true) (sym g) e))),
+        still_known vs' (slice_set vs' x' z') m k.1 (set_elsewhere vs' x' m z' (λ g. even.apart_back n m x w (subst (λ (y : ℕ). R.variable x y ≡ true) (sym g) e))),
+      );
       loops = st.loops;
       counted = set_many vs x (record (get_or vs x not_declared) { stage = s }) ∙ st.counted;
       counted' = set_many vs' x' (record (get_or vs' x' not_declared) { stage = s' }) ∙ st.counted';
@@ -158,17 +178,17 @@ module _ (R : Renaming) (W : Mutability) (apart : IsOneToOne R) (even : (n m : �
         z' : Declaration
         z' = record (get_or vs' x' not_declared) { stage = s' }
 
-        by : (n m : ℕ) → R.variable n m ≡ true → Decided (n ≡ x) → LikeDeclared made (W n m) (slice_get (slice_set vs x z) n) (slice_get (slice_set vs' x' z') m)
+        by : (n m : ℕ) → R.variable n m ≡ true → Decided (n ≡ x) → LikeDeclared made (W.mutable n m) (slice_get (slice_set vs x z) n) (slice_get (slice_set vs' x' z') m)
         by n m r (so g) =
             let k : m ≡ x' = apart.variables_on n m x' r (subst (λ (y : ℕ). R.variable y x' ≡ true) (sym g) e) in
-            subst (λ (y : ℕ). LikeDeclared made (W y m) (slice_get (slice_set vs x z) y) (slice_get (slice_set vs' x' z') m)) (sym g)
-            (subst (λ (y : ℕ). LikeDeclared made (W x y) (slice_get (slice_set vs x z) x) (slice_get (slice_set vs' x' z') y)) (sym k)
-            (subst (λ (o : Option Declaration). LikeDeclared made (W x x') o (slice_get (slice_set vs' x' z') x')) (sym (stage_there vs x s))
-            (subst (λ (o : Option Declaration). LikeDeclared made (W x x') (option_map (at_stage s) (slice_get vs x)) o) (sym (stage_there vs' x' s')) h)))
+            subst (λ (y : ℕ). LikeDeclared made (W.mutable y m) (slice_get (slice_set vs x z) y) (slice_get (slice_set vs' x' z') m)) (sym g)
+            (subst (λ (y : ℕ). LikeDeclared made (W.mutable x y) (slice_get (slice_set vs x z) x) (slice_get (slice_set vs' x' z') y)) (sym k)
+            (subst (λ (o : Option Declaration). LikeDeclared made (W.mutable x x') o (slice_get (slice_set vs' x' z') x')) (sym (stage_there vs x s))
+            (subst (λ (o : Option Declaration). LikeDeclared made (W.mutable x x') (option_map (at_stage s) (slice_get vs x)) o) (sym (stage_there vs' x' s')) h)))
         by n m r (not_so g) =
             let k : m ≡ x' → ⊥ = λ i. g (apart.variables_back n x m r (subst (λ (y : ℕ). R.variable x y ≡ true) (sym i) e)) in
-            subst (λ (o : Option Declaration). LikeDeclared made (W n m) o (slice_get (slice_set vs' x' z') m)) (sym (set_elsewhere vs x n z g))
-            (subst (λ (o : Option Declaration). LikeDeclared made (W n m) (slice_get vs n) o) (sym (set_elsewhere vs' x' m z' k)) (st.variables n m r))
+            subst (λ (o : Option Declaration). LikeDeclared made (W.mutable n m) o (slice_get (slice_set vs' x' z') m)) (sym (set_elsewhere vs x n z g))
+            (subst (λ (o : Option Declaration). LikeDeclared made (W.mutable n m) (slice_get vs n) o) (sym (set_elsewhere vs' x' m z' k)) (st.variables n m r))
 
     pub alike_settled : (x x' : ℕ) → R.variable x x' ≡ true → Alike R W made (slice_set vs x (record (get_or vs x not_declared) { stage = Stage.Known })) ls d (slice_set vs' x' (record (get_or vs' x' not_declared) { stage = Stage.Known })) ls' d'
     alike_settled x x' e = alike_staged x x' Stage.Known Stage.Known e (now_known (st.variables x x' e))
@@ -180,30 +200,31 @@ module _ (R : Renaming) (W : Mutability) (apart : IsOneToOne R) (even : (n m : �
     pub alike_known : {i i' j j' : ℕ} → Ranges R i i' j j' → Alike R W made (known_among i (j - i) vs) ls d (known_among i' (j' - i') vs') ls' d'
     alike_known {i} {i'} {j} {j'} g = record {
       variables = λ n m r. by n m r (within_or_not i j n);
+      behind = λ n m w. let k = st.behind n m w in (known_there i j n vs (ranges_rise g).0 k.0, known_there i' j' m vs' (ranges_rise g).1 k.1);
       loops = st.loops;
       counted = known_length i (j - i) vs ∙ st.counted;
       counted' = known_length i' (j' - i') vs' ∙ st.counted';
     }
       where
-        by : (n m : ℕ) → R.variable n m ≡ true → Decided (Within i j n) → LikeDeclared made (W n m) (slice_get (known_among i (j - i) vs) n) (slice_get (known_among i' (j' - i') vs') m)
+        by : (n m : ℕ) → R.variable n m ≡ true → Decided (Within i j n) → LikeDeclared made (W.mutable n m) (slice_get (known_among i (j - i) vs) n) (slice_get (known_among i' (j' - i') vs') m)
         by n m r (so h) =
-            subst (λ (o : Option Declaration). LikeDeclared made (W n m) o (slice_get (known_among i' (j' - i') vs') m)) (sym (becomes_known i j n vs h))
-            (subst (λ (o : Option Declaration). LikeDeclared made (W n m) (option_map as_known (slice_get vs n)) o) (sym (becomes_known i' j' m vs' (within_on n m r g h))) (now_known (st.variables n m r)))
+            subst (λ (o : Option Declaration). LikeDeclared made (W.mutable n m) o (slice_get (known_among i' (j' - i') vs') m)) (sym (becomes_known i j n vs h))
+            (subst (λ (o : Option Declaration). LikeDeclared made (W.mutable n m) (option_map as_known (slice_get vs n)) o) (sym (becomes_known i' j' m vs' (within_on n m r g h))) (now_known (st.variables n m r)))
         by n m r (not_so h) =
-            subst (λ (o : Option Declaration). LikeDeclared made (W n m) o (slice_get (known_among i' (j' - i') vs') m)) (sym (stays_known i j n vs (ranges_rise g).0 h))
-            (subst (λ (o : Option Declaration). LikeDeclared made (W n m) (slice_get vs n) o) (sym (stays_known i' j' m vs' (ranges_rise g).1 (λ w. h (within_back n m r g w)))) (st.variables n m r))
+            subst (λ (o : Option Declaration). LikeDeclared made (W.mutable n m) o (slice_get (known_among i' (j' - i') vs') m)) (sym (stays_known i j n vs (ranges_rise g).0 h))
+            (subst (λ (o : Option Declaration). LikeDeclared made (W.mutable n m) (slice_get vs n) o) (sym (stays_known i' j' m vs' (ranges_rise g).1 (λ w. h (within_back n m r g w)))) (st.variables n m r))
 
     -- ---- loops
 
     pub alike_loop : R.loop (length ls) (length ls') ≡ true → Alike R W made vs (ls ++ false ∷ []) d vs' (ls' ++ false ∷ []) d'
-    alike_loop e = record { variables = st.variables; loops = λ n m r. by n m r (same_or_not n (length ls)); counted = st.counted; counted' = st.counted' }
+    alike_loop e = record { variables = st.variables; behind = st.behind; loops = λ n m r. by n m r (same_or_not n (length ls)); counted = st.counted; counted' = st.counted' }
       where
         by : (n m : ℕ) → R.loop n m ≡ true → Decided (n ≡ length ls) → slice_get (ls ++ false ∷ []) n ≡ slice_get (ls' ++ false ∷ []) m
         by n m r (so h) = newest_at ls false n h ∙ sym (newest_at ls' false m (apart.loops_on n m (length ls') r (subst (λ (z : ℕ). R.loop z (length ls') ≡ true) (sym h) e)))
         by n m r (not_so h) = older_at ls false n h ∙ st.loops n m r ∙ sym (older_at ls' false m (λ g. h (apart.loops_back n (length ls) m r (subst (λ (z : ℕ). R.loop (length ls) z ≡ true) (sym g) e))))
 
     pub alike_led : (l l' : ℕ) → R.loop l l' ≡ true → Alike R W made vs (slice_set ls l true) d vs' (slice_set ls' l' true) d'
-    alike_led l l' e = record { variables = st.variables; loops = λ n m r. by n m r (same_or_not n l); counted = st.counted; counted' = st.counted' }
+    alike_led l l' e = record { variables = st.variables; behind = st.behind; loops = λ n m r. by n m r (same_or_not n l); counted = st.counted; counted' = st.counted' }
       where
         by : (n m : ℕ) → R.loop n m ≡ true → Decided (n ≡ l) → slice_get (slice_set ls l true) n ≡ slice_get (slice_set ls' l' true) m
         by n m r (so h) =
@@ -214,16 +235,16 @@ module _ (R : Renaming) (W : Mutability) (apart : IsOneToOne R) (even : (n m : �
     pub left_alike : (l l' : ℕ) → R.loop l l' ≡ true → get_or ls' l' false ≡ get_or ls l false
     left_alike l l' e = read ls' l' false ∙ ap (or_else false) (sym (st.loops l l' e)) ∙ sym (read ls l false)
 
-    pub declared_alike : (x x' : ℕ) → R.variable x x' ≡ true → LikeDeclared made (W x x') (Some (get_or vs x not_declared)) (Some (get_or vs' x' not_declared))
-    declared_alike x x' e = subst (λ (z : Declaration). LikeDeclared made (W x x') (Some z) (Some (get_or vs' x' not_declared))) (sym (read vs x not_declared))
-        (subst (λ (z : Declaration). LikeDeclared made (W x x') (Some (or_else not_declared (slice_get vs x))) (Some z)) (sym (read vs' x' not_declared)) (read_like (even x x' false) (st.variables x x' e)))
+    pub declared_alike : (x x' : ℕ) → R.variable x x' ≡ true → LikeDeclared made (W.mutable x x') (Some (get_or vs x not_declared)) (Some (get_or vs' x' not_declared))
+    declared_alike x x' e = subst (λ (z : Declaration). LikeDeclared made (W.mutable x x') (Some z) (Some (get_or vs' x' not_declared))) (sym (read vs x not_declared))
+        (subst (λ (z : Declaration). LikeDeclared made (W.mutable x x') (Some (or_else not_declared (slice_get vs x))) (Some z)) (sym (read vs' x' not_declared)) (read_like (even.mutable x x' false) (st.variables x x' e)))
 
 pub one_node : {made : List Piece} (c c' : Cursor) → Grows made c.number c'.number (paired c.number c'.number ∷ made) (suc c.number) (suc c'.number)
 one_node c c' = and_pair (stays (omega arith) (omega arith)) (omega arith) (omega arith)
 
 -- ---- nodes, entries of names, and types of `let`s
 
-pub next_node : (R : Renaming) (W : Mutability) (apart : IsOneToOne R) (even : (n m : ℕ) (b : Bool) → W n m b b) {made : List Piece} (s s' : Span) (t t' : Site) (c c' : Cursor) → InStep R W made c c' → InStep R W (paired c.number c'.number ∷ made) (a_node s t c).1 (a_node s' t' c').1
+pub next_node : (R : Renaming) (W : Differing) (apart : IsOneToOne R) (even : Steady R W) {made : List Piece} (s s' : Span) (t t' : Site) (c c' : Cursor) → InStep R W made c c' → InStep R W (paired c.number c'.number ∷ made) (a_node s t c).1 (a_node s' t' c').1
 next_node R W apart even {made} s s' t t' c c' st = alike_later R W apart even st (one_node c c')
 
 pub entry_number : (c : Cursor) → (an_entry c).1.number ≡ c.number
@@ -233,7 +254,7 @@ entry_number c = by c.names
     by [] = refl
     by (x ∷ xs) = refl
 
-pub next_entry : (R : Renaming) (W : Mutability) {made : List Piece} (c c' : Cursor) → InStep R W made c c' → InStep R W made (an_entry c).1 (an_entry c').1
+pub next_entry : (R : Renaming) (W : Differing) {made : List Piece} (c c' : Cursor) → InStep R W made c c' → InStep R W made (an_entry c).1 (an_entry c').1
 next_entry R W {made} c c' st = by c.names c'.names
   where
     by : (xs xs' : List NodeNames) → InStep R W made (taken xs c).1 (taken xs' c').1
@@ -246,6 +267,29 @@ pub annotation_number : (p : PatternTree) (y : Option TypeTree) (c : Cursor) →
 annotation_number p None c = refl
 annotation_number p (Some t) c = refl
 
-pub next_annotation : (R : Renaming) (W : Mutability) {made : List Piece} (p : PatternTree) (y : Option TypeTree) (c c' : Cursor) → InStep R W made c c' → InStep R W made (numbering.annotates p y c).1 (numbering.annotates p y c').1
+-- where the second goes on alone
+pub entry_there : (R : Renaming) (W : Differing) {made : List Piece} (c c' : Cursor) → InStep R W made c c' → InStep R W made c (an_entry c').1
+entry_there R W {made} c c' st = by c'.names
+  where
+    by : (xs : List NodeNames) → InStep R W made c (taken xs c').1
+    by [] = st
+    by (x ∷ xs) = st
+
+pub entry_here : (R : Renaming) (W : Differing) {made : List Piece} (c c' : Cursor) → InStep R W made c c' → InStep R W made (an_entry c).1 c'
+entry_here R W {made} c c' st = by c.names
+  where
+    by : (xs : List NodeNames) → InStep R W made (taken xs c).1 c'
+    by [] = st
+    by (x ∷ xs) = st
+
+-- where a jump of the first leads to a loop that has none in the second
+pub led_here : (R : Renaming) (W : Differing) {made : List Piece} (c c' : Cursor) (l : ℕ) → ((m : ℕ) → R.loop l m ≡ true → ⊥) → InStep R W made c c' → InStep R W made (numbering.led_to l c) c'
+led_here R W {made} c c' l alone st = record { variables = st.variables; behind = st.behind; loops = λ n m r. by n m r (same_or_not n l); counted = st.counted; counted' = st.counted' }
+  where
+    by : (n m : ℕ) → R.loop n m ≡ true → Decided (n ≡ l) → slice_get (slice_set c.loops l true) n ≡ slice_get c'.loops m
+    by n m r (so h) = absurd (alone m (subst (λ (z : ℕ). R.loop z m ≡ true) h r))
+    by n m r (not_so h) = set_elsewhere c.loops l n true h ∙ st.loops n m r
+
+pub next_annotation : (R : Renaming) (W : Differing) {made : List Piece} (p : PatternTree) (y : Option TypeTree) (c c' : Cursor) → InStep R W made c c' → InStep R W made (numbering.annotates p y c).1 (numbering.annotates p y c').1
 next_annotation R W p None c c' st = st
 next_annotation R W p (Some t) c c' st = st

@@ -1,5 +1,5 @@
 -- Expressions, statements and blocks that are numbered beside what becomes of them, where the special places are.
-use Rattle.std.proofs.Common.{◌≡◌, ℕ, Bool, true, false, ◌&&◌, not, List, ◌∷◌, ◌++◌, length, get_or, Option, Some, None, refl, sym, ap, ◌∙◌, subst}
+use Rattle.std.proofs.Common.{◌≡◌, ℕ, zero, Bool, true, false, ◌&&◌, not, List, ◌∷◌, ◌++◌, length, get_or, Option, Some, None, refl, sym, ap, ◌∙◌, subst}
 use Rattle.rx_core.specs.declared.types.Span.{Span}
 use Rattle.rx_core.specs.declared.types.Kind.{Kind}
 use Rattle.rx_tree.specs.declared.tree.Ident.{Ident}
@@ -22,7 +22,8 @@ use Rattle.rx_engine_names.specs.Within.{Claims, Within, AllWithin, OptionalWith
 use Rattle.rx_engine_typing.specs.Renumbered as ren
 use Rattle.rx_engine_typing.specs.Renumbered.{RenumberedPattern, RenumberedExp, RenumberedExps, RenumberedElse, RenumberedFields, RenumberedArms, RenumberedBody, RenumberedStatement, RenumberedStatements}
 use Rattle.rx_engine_changed.specs.Beside.{Piece, paired, IsPiece, Numbers, IsOneToOne}
-use Rattle.rx_engine_changed.specs.Stages.{Mutability, InStep}
+use Rattle.rx_engine_changed.specs.Blocks.{blocks_in, blocks_in_all, blocks_in_arguments, blocks_in_arms, blocks_in_body, blocks_in_fields, blocks_in_optional, blocks_in_statement, blocks_in_statements, sum}
+use Rattle.rx_engine_changed.specs.Stages.{Differing, InStep, Steady}
 use Rattle.rx_engine_changed.proofs.Lists.{still_piece}
 use Rattle.rx_engine_changed.proofs.Steps.{alike_known, alike_loop, alike_waiting, left_alike, next_node, next_entry, annotation_number, next_annotation}
 use Rattle.rx_engine_changed.proofs.Parts.{OnlySpecial, tuple_part, field_part, part_part, deref_part, negate_part, invert_part, borrow_part, binary_parts, assign_parts, update_parts, call_parts, hidden_part, not_hidden, not_called, variant_parts, make_parts, field_parts, print_part, block_part, if_parts, if_let_parts, match_parts, loop_parts, while_parts, while_let_parts, evaluated_part}
@@ -41,7 +42,7 @@ waiting_number true p c = by (named.whole_binding p)
     by None = refl
     by (Some x) = refl
 
-module _ (R : Renaming) (W : Mutability) (apart : IsOneToOne R) (even : (n m : ℕ) (b : Bool) → W n m b b) where
+module _ (R : Renaming) (W : Differing) (apart : IsOneToOne R) (even : Steady R W) where
   next : {made : List Piece} (s : Span) (t : Site) (c c' : Cursor) → InStep R W made c c' → InStep R W (paired c.number c'.number ∷ made) (a_node s t c).1 (a_node s t c').1
   next s t c c' st = next_node R W apart even s s t t c c' st
 
@@ -57,7 +58,7 @@ module _ (R : Renaming) (W : Mutability) (apart : IsOneToOne R) (even : (n m : �
       by false = st
       by true = whole w
 
-  module _ (H : alike.Holes) (only : OnlySpecial H) (untyped : (R : Renaming) (s : Span) (t t' : Option Written) → H.annotation R s t t' → ⊥) (holes : Numbers → ren.Holes) where
+  module _ (H : alike.Holes) (only : OnlySpecial H) (untyped : (R : Renaming) (s : Span) (t t' : Option Written) → H.annotation R s t t' → ⊥) (holes : Numbers → ren.Holes) (stood : Span → Bool) where
     abbrev pub ExpLike : Numbers → Exp → Exp → Type 0
     ExpLike q e e' = RenumberedExp q.by q.loops (holes q) e e'
 
@@ -85,31 +86,31 @@ module _ (R : Renaming) (W : Mutability) (apart : IsOneToOne R) (even : (n m : �
     -- ---- what is claimed of each kind of part, from wherever both have come to in step
 
     abbrev pub ExpKept : Bool → Site → Expression → Expression → Type 0
-    ExpKept m t e e' = (made : List Piece) (c c' : Cursor) → InStep R W made c c' → LikeExp H R (of_expression m t e c).0 (of_expression m t e' c').0 → Kept R W made SameExp ExpLike c c' (of_expression m t e c) (of_expression m t e' c')
+    ExpKept m t e e' = (made : List Piece) (c c' : Cursor) → InStep R W made c c' → LikeExp H R (of_expression m t e c).0 (of_expression m t e' c').0 → Kept R W made (blocks_in stood e) SameExp ExpLike c c' (of_expression m t e c) (of_expression m t e' c')
 
     abbrev pub AllKept : Site → Expressions → Expressions → Type 0
-    AllKept t e e' = (made : List Piece) (c c' : Cursor) → InStep R W made c c' → LikeExps H R (of_expressions t e c).0 (of_expressions t e' c').0 → Kept R W made SameExps ExpsLike c c' (of_expressions t e c) (of_expressions t e' c')
+    AllKept t e e' = (made : List Piece) (c c' : Cursor) → InStep R W made c c' → LikeExps H R (of_expressions t e c).0 (of_expressions t e' c').0 → Kept R W made (blocks_in_all stood e) SameExps ExpsLike c c' (of_expressions t e c) (of_expressions t e' c')
 
     abbrev pub OptionalKept : Site → OptionalExpression → OptionalExpression → Type 0
-    OptionalKept t e e' = (made : List Piece) (c c' : Cursor) → InStep R W made c c' → LikeElse H R (of_optional t e c).0 (of_optional t e' c').0 → Kept R W made SameElse ElseLike c c' (of_optional t e c) (of_optional t e' c')
+    OptionalKept t e e' = (made : List Piece) (c c' : Cursor) → InStep R W made c c' → LikeElse H R (of_optional t e c).0 (of_optional t e' c').0 → Kept R W made (blocks_in_optional stood e) SameElse ElseLike c c' (of_optional t e c) (of_optional t e' c')
 
     abbrev pub ArgumentsKept : OptionalExpressions → OptionalExpressions → Type 0
-    ArgumentsKept e e' = (made : List Piece) (c c' : Cursor) → InStep R W made c c' → LikeExps H R (of_arguments e c).0 (of_arguments e' c').0 → Kept R W made SameExps ExpsLike c c' (of_arguments e c) (of_arguments e' c')
+    ArgumentsKept e e' = (made : List Piece) (c c' : Cursor) → InStep R W made c c' → LikeExps H R (of_arguments e c).0 (of_arguments e' c').0 → Kept R W made (blocks_in_arguments stood e) SameExps ExpsLike c c' (of_arguments e c) (of_arguments e' c')
 
     abbrev pub FieldsKept : FieldExpressions → FieldExpressions → Type 0
-    FieldsKept e e' = (made : List Piece) (c c' : Cursor) → InStep R W made c c' → LikeFields H R (of_fields e c).0 (of_fields e' c').0 → Kept R W made SameFields FieldsLike c c' (of_fields e c) (of_fields e' c')
+    FieldsKept e e' = (made : List Piece) (c c' : Cursor) → InStep R W made c c' → LikeFields H R (of_fields e c).0 (of_fields e' c').0 → Kept R W made (blocks_in_fields stood e) SameFields FieldsLike c c' (of_fields e c) (of_fields e' c')
 
     abbrev pub ArmsKept : Site → Arms → Arms → Type 0
-    ArmsKept t e e' = (made : List Piece) (c c' : Cursor) → InStep R W made c c' → LikeArms H R (of_arms t e c).0 (of_arms t e' c').0 → Kept R W made SameArms ArmsLike c c' (of_arms t e c) (of_arms t e' c')
+    ArmsKept t e e' = (made : List Piece) (c c' : Cursor) → InStep R W made c c' → LikeArms H R (of_arms t e c).0 (of_arms t e' c').0 → Kept R W made (blocks_in_arms stood e) SameArms ArmsLike c c' (of_arms t e c) (of_arms t e' c')
 
     abbrev pub BodyKept : Site → Body → Body → Type 0
-    BodyKept t e e' = (made : List Piece) (c c' : Cursor) → InStep R W made c c' → LikeBody H R (of_body t e c).0 (of_body t e' c').0 → Kept R W made SameBody BodyLike c c' (of_body t e c) (of_body t e' c')
+    BodyKept t e e' = (made : List Piece) (c c' : Cursor) → InStep R W made c c' → LikeBody H R (of_body t e c).0 (of_body t e' c').0 → Kept R W made (blocks_in_body stood e) SameBody BodyLike c c' (of_body t e c) (of_body t e' c')
 
     abbrev pub StatementKept : Statement → Statement → Type 0
-    StatementKept e e' = (made : List Piece) (c c' : Cursor) → InStep R W made c c' → LikeStatement H R (of_statement e c).0 (of_statement e' c').0 → Kept R W made SameStatement StatementLike c c' (of_statement e c) (of_statement e' c')
+    StatementKept e e' = (made : List Piece) (c c' : Cursor) → InStep R W made c c' → LikeStatement H R (of_statement e c).0 (of_statement e' c').0 → Kept R W made (blocks_in_statement stood e) SameStatement StatementLike c c' (of_statement e c) (of_statement e' c')
 
     abbrev pub StatementsKept : Statements → Statements → Type 0
-    StatementsKept e e' = (made : List Piece) (c c' : Cursor) → InStep R W made c c' → LikeStatements H R (of_statements e c).0 (of_statements e' c').0 → Kept R W made SameStatements StatementsLike c c' (of_statements e c) (of_statements e' c')
+    StatementsKept e e' = (made : List Piece) (c c' : Cursor) → InStep R W made c c' → LikeStatements H R (of_statements e c).0 (of_statements e' c').0 → Kept R W made (blocks_in_statements stood e) SameStatements StatementsLike c c' (of_statements e c) (of_statements e' c')
 
     -- ---- one form by others
 
@@ -158,8 +159,8 @@ module _ (R : Renaming) (W : Mutability) (apart : IsOneToOne R) (even : (n m : �
     abbrev IfNode : ℕ → ℕ → Numbers → Exp → Exp → Type 0
     IfNode k k' q e e' = q.by.nodes k ≡ k' → ExpLike q e e'
 
-    called_kept : {made : List Piece} (s : Span) (t : Site) (b b' c c' : Cursor) (a a' : List ℕ × Bool) (f f' : Site → Numbering Exps) → ((i : Site) → LikeExps H R (f i c).0 (f' i c').0 → Kept R W made SameExps ExpsLike c c' (f i c) (f' i c'))
-        → LikeExp H R (numbering.called (a_node s t b).0 a f c).0 (numbering.called (a_node s t b').0 a' f' c').0 → Kept R W made SameExp (IfNode b.number b'.number) c c' (numbering.called (a_node s t b).0 a f c) (numbering.called (a_node s t b').0 a' f' c')
+    called_kept : {made : List Piece} {k : ℕ} (s : Span) (t : Site) (b b' c c' : Cursor) (a a' : List ℕ × Bool) (f f' : Site → Numbering Exps) → ((i : Site) → LikeExps H R (f i c).0 (f' i c').0 → Kept R W made k SameExps ExpsLike c c' (f i c) (f' i c'))
+        → LikeExp H R (numbering.called (a_node s t b).0 a f c).0 (numbering.called (a_node s t b').0 a' f' c').0 → Kept R W made k SameExp (IfNode b.number b'.number) c c' (numbering.called (a_node s t b).0 a f c) (numbering.called (a_node s t b').0 a' f' c')
     called_kept s t b b' c c' (xs, true) (xs', true) f f' k h =
         becomes (λ es. named.hidden_call (a_node s t b).0 es) (λ es. named.hidden_call (a_node s t b').0 es) (k Site.Value (hidden_part only h)) (λ z. (refl, z))
         (λ q a a' g w e. at_node q (λ n. ExpLike q (named.hidden_call (a_node s t b).0 a) (named.hidden_call n a')) b.number b'.number s s t e (ren.RenumberedExp.hidden_call w))
@@ -196,7 +197,7 @@ module _ (R : Renaming) (W : Mutability) (apart : IsOneToOne R) (even : (n m : �
 
         Goal : Option (ℕ × ℕ) → Option (ℕ × ℕ) → Type 0
         Goal w w' = LikeExp H R (numbering.assigned N Q w (λ i. of_expression false i e) E).0 (numbering.assigned N' Q' w' (λ i. of_expression false i e') E').0
-            → Kept R W made SameExp ExpLike c c' (numbering.assigned N Q w (λ i. of_expression false i e) E) (numbering.assigned N' Q' w' (λ i. of_expression false i e') E')
+            → Kept R W made (sum (blocks_in stood p) (blocks_in stood e)) SameExp ExpLike c c' (numbering.assigned N Q w (λ i. of_expression false i e) E) (numbering.assigned N' Q' w' (λ i. of_expression false i e') E')
 
         none_waits : Goal None None
         none_waits h =
@@ -249,7 +250,7 @@ module _ (R : Renaming) (W : Mutability) (apart : IsOneToOne R) (even : (n m : �
         same_site (Some t) None e = absurd (cc)
 
         annotation_kept : {made : List Piece} {s : Span} (y : Option TypeTree) (c c' : Cursor) → InStep R W made c c' → LikeAnnotation H R s (numbering.of_optional_type y c).0 (numbering.of_optional_type y c').0
-            → Kept R W made SameAnnotation (AnnotationLike R W apart even) c c' (numbering.of_optional_type y c) (numbering.of_optional_type y c')
+            → Kept R W made zero SameAnnotation (AnnotationLike R W apart even) c c' (numbering.of_optional_type y c) (numbering.of_optional_type y c')
         annotation_kept y c c' st (alike.like_typed h) = optional_type_kept R W apart even y c c' st h
         annotation_kept y c c' st (alike.like_other_type h) = absurd (untyped _ _ _ _ h)
 
@@ -278,8 +279,8 @@ module _ (R : Renaming) (W : Mutability) (apart : IsOneToOne R) (even : (n m : �
             let w = annotation_kept y g.1 g'.1 a.kept.step k in
             let u = numbering.of_optional_type y g.1 in let u' = numbering.of_optional_type y g'.1 in
             let i = numbering.initialiser_site u.0 in let i' = numbering.initialiser_site u'.0 in
-            let X : LikeExp H R (of_expression false i e u.1).0 (of_expression false i' e' u'.1).0 → Kept R W w.now SameExp ExpLike u.1 u'.1 (of_expression false i e u.1) (of_expression false i' e' u'.1)
-            = subst (λ (j : Site). LikeExp H R (of_expression false i e u.1).0 (of_expression false j e' u'.1).0 → Kept R W w.now SameExp ExpLike u.1 u'.1 (of_expression false i e u.1) (of_expression false j e' u'.1)) (sym (same_site u.0 u'.0 w.same)) (ke i w.now u.1 u'.1 w.step) in
+            let X : LikeExp H R (of_expression false i e u.1).0 (of_expression false i' e' u'.1).0 → Kept R W w.now (blocks_in stood e) SameExp ExpLike u.1 u'.1 (of_expression false i e u.1) (of_expression false i' e' u'.1)
+            = subst (λ (j : Site). LikeExp H R (of_expression false i e u.1).0 (of_expression false j e' u'.1).0 → Kept R W w.now (blocks_in stood e) SameExp ExpLike u.1 u'.1 (of_expression false i e u.1) (of_expression false j e' u'.1)) (sym (same_site u.0 u'.0 w.same)) (ke i w.now u.1 u'.1 w.step) in
             let x = X h in
             let l = of_expression false i e u.1 in let l' = of_expression false i' e' u'.1 in
             let v = (numbering.known_between f.declared g.1.declared l.1).1 in let v' = (numbering.known_between f'.declared g'.1.declared l'.1).1 in
@@ -293,7 +294,7 @@ module _ (R : Renaming) (W : Mutability) (apart : IsOneToOne R) (even : (n m : �
         mutual
           pub exp_kept : (own : Names) (ls : List Around) (m : Bool) (t : Site) (e : Expression) → Within N own ls e → ExpKept m t e (changed C own ls e)
           exp_kept own ls m t (plain.int s v k) holds made c c' st h =
-              subst (λ (l : Option Kind). Kept R W made SameExp ExpLike c c' (of_expression m t (plain.int s v k) c) (of_expression m t (plain.int s v l) c')) (sym (places.kinds s k))
+              subst (λ (l : Option Kind). Kept R W made zero SameExp ExpLike c c' (of_expression m t (plain.int s v k) c) (of_expression m t (plain.int s v l) c')) (sym (places.kinds s k))
               (a_leaf s s t t c c' (named.int (a_node s t c).0 m v k) (named.int (a_node s t c').0 m v k) (next s t c c' st) (refl, refl) (λ q f w. at_node q (λ n. ExpLike q (named.int (a_node s t c).0 m v k) (named.int n m v k)) c.number c'.number s s t w ren.RenumberedExp.int))
           exp_kept own ls m t (plain.bool s b) holds made c c' st h = a_leaf s s t t c c' (named.bool (a_node s t c).0 b) (named.bool (a_node s t c').0 b) (next s t c c' st) (refl, refl) (λ q f w. at_node q (λ n. ExpLike q (named.bool (a_node s t c).0 b) (named.bool n b)) c.number c'.number s s t w ren.RenumberedExp.bool)
           exp_kept own ls m t (plain.var s x) holds made c c' st h = places.variable own s x holds m t made c c' st h

@@ -11,7 +11,7 @@ use Rattle.rx_engine_names.specs.Renaming.{Renaming}
 use Rattle.rx_engine_names.specs.Within.{Claims}
 use Rattle.rx_engine_typing.specs.Renumbered.{Holes, RenumberedStatements}
 use Rattle.rx_engine_changed.specs.Beside.{Piece, Grows, Numbers, AllCorrespond, Follows}
-use Rattle.rx_engine_changed.specs.Stages.{Mutability, InStep}
+use Rattle.rx_engine_changed.specs.Stages.{Differing, InStep}
 
 abbrev pub as_it_stands : Plan → Claims
 as_it_stands pl = record {
@@ -25,7 +25,7 @@ as_it_stands pl = record {
 }
 
 -- from these cursors on, behind these pieces
-pub record StatementsBeside (R : Renaming) (W : Mutability) (holes : Numbers → Holes) (made : List Piece) (c c' : Cursor) (x x' : Statements × Cursor) : Type 0 where
+pub record StatementsBeside (R : Renaming) (W : Differing) (holes : Numbers → Holes) (made : List Piece) (c c' : Cursor) (x x' : Statements × Cursor) : Type 0 where
   pub pieces : List Piece
   pub grows : Grows made c.number c'.number pieces x.1.number x'.1.number
   pub step : InStep R W pieces x.1 x'.1

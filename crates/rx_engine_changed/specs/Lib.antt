@@ -1,7 +1,9 @@
 pub mod Beside
+pub mod Blocks
 pub mod Stages
 pub mod Round
 pub mod Numbered
 pub mod Chosen
 pub mod Called
 pub mod AsItStands
+pub mod Moving

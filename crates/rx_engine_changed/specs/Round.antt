@@ -20,7 +20,7 @@ use Rattle.rx_engine_typing.specs.Renumbered.{Holes}
 use Rattle.rx_engine_holes.specs.Run.{with_run}
 use Rattle.rx_engine_holes.specs.Tail.{with_tail}
 use Rattle.rx_engine_changed.specs.Beside.{Instead, for_a_run, for_an_end, Numbers, Piece}
-use Rattle.rx_engine_changed.specs.Stages.{Mutability, InStep}
+use Rattle.rx_engine_changed.specs.Stages.{Differing, InStep}
 
 -- a block with these statements in a row
 abbrev pub block_with : Span → List Statement → List Statement → List Statement → OptionalExpression → Body
@@ -38,20 +38,20 @@ abbrev pub round : Holes → Numbers → Holes
 round H q = with_others q.by q.loops H q.instead
 
 -- variables that correspond are mutable alike
-abbrev pub as_mutable : Mutability
-as_mutable n m a b = b ≡ a
+abbrev pub as_mutable : Differing
+as_mutable = record { mutable = λ n m a b. b ≡ a; behind = λ n m. ⊥ }
 
 -- behind statements that diverge or not
 abbrev pub SameEnd : Statements → Else → Statements → Else → Type 0
 SameEnd xs o ys o' = ((some_diverges ys || else_diverges o') ≡ (some_diverges xs || else_diverges o)) × ((d : Bool) → tail_never (d || some_diverges ys) o' ≡ tail_never (d || some_diverges xs) o)
 
 -- wherever both are come to in step, a run and what stands for it go on in step, and both diverge or neither does
-abbrev pub GoesOn : Renaming → Mutability → Told → Inside → Inside → List Statement → List Statement → List Statement → Type 0
+abbrev pub GoesOn : Renaming → Differing → Told → Inside → Inside → List Statement → List Statement → List Statement → Type 0
 GoesOn R W T I I' front run call = (made : List Piece) (c c' : Cursor) (p : Place) → InStep R W made c c' → StandFor T I I' front run call p R (of_statements (as_statements run) c).0 (of_statements (as_statements call) c').0
     → InStep R W made (of_statements (as_statements run) c).1 (of_statements (as_statements call) c').1 × (some_diverges (of_statements (as_statements call) c').0 ≡ some_diverges (of_statements (as_statements run) c).0)
 
 -- the same where a tail is behind them, wherever it stands: both blocks diverge or neither does, and both have a value or neither has
-abbrev pub GoesOnLast : Renaming → Mutability → ToldLast → Inside → Inside → List Statement → List Statement → List Statement → OptionalExpression → OptionalExpression → Type 0
+abbrev pub GoesOnLast : Renaming → Differing → ToldLast → Inside → Inside → List Statement → List Statement → List Statement → OptionalExpression → OptionalExpression → Type 0
 GoesOnLast R W T I I' front run call tail last = (made : List Piece) (c c' : Cursor) (p : Place) (t : Site) → InStep R W made c c'
     → EndFor T I I' front run call tail last p R (of_statements (as_statements run) c).0 (of_optional t tail (of_statements (as_statements run) c).1).0 (of_statements (as_statements call) c').0 (of_optional t last (of_statements (as_statements call) c').1).0
     → InStep R W made (of_optional t tail (of_statements (as_statements run) c).1).1 (of_optional t last (of_statements (as_statements call) c').1).1

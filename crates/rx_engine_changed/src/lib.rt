@@ -4,7 +4,7 @@
 mod laws;
 
 pub use laws::{
-    copied_runs_are_renumbered, functions_with_a_call_are_renumbered,
-    functions_with_a_call_at_the_end_are_renumbered, made_pairs_are_one_to_one,
-    pieces_tell_a_numbering,
+    copied_runs_are_renumbered, functions_beside_have_a_numbering,
+    functions_with_a_call_are_renumbered, functions_with_a_call_at_the_end_are_renumbered,
+    made_pairs_are_one_to_one, moved_runs_are_renumbered, pieces_tell_a_numbering,
 };
