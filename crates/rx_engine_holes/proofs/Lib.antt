@@ -5,3 +5,4 @@ mod Returned
 mod Tails
 mod Sited
 mod Initialised
+mod Opened

@@ -2,4 +2,5 @@ pub mod Special
 pub mod Run
 pub mod Returned
 pub mod Tail
+pub mod Opened
 pub mod Sited

@@ -1,10 +1,11 @@
 //! Laws of what is asked at special places, each as the contract of a function that does nothing.
 
-ghost use Rattle.std.specs.Prelude.{◌≡◌, ◌++◌, ◌||◌, false, Bool, ℕ, List as ListOf, []};
+ghost use Rattle.std.specs.Prelude.{◌≡◌, ◌++◌, ◌||◌, ◌*◌, ◌≤◌, false, Bool, ℕ, List as ListOf, []};
 ghost use Rattle.rx_core.specs.declared.types.Span.{Span};
 ghost use Rattle.rx_typed.specs.declared.nodes.Node.{Node};
 ghost use Rattle.rx_typed.specs.declared.nodes.Site.{Site};
 ghost use Rattle.rx_typed.specs.Named.{else_diverges, some_diverges, is_place, node_of, tail_never, Body, Else, Exp, Function, Statements};
+ghost use Rattle.rx_typed.specs.Elaborated.{elaborated, Assigned};
 ghost use Rattle.rx_typeck_solver.specs.declared.facts.Demand.{Demand};
 ghost use Rattle.rx_typeck_solver.specs.Facts.{Known, MeetsEach, Types};
 ghost use Rattle.rx_typeck_rules.specs.Demands.{demands, hands_on, of_body, of_exp, of_statements};
@@ -15,7 +16,15 @@ ghost use Rattle.rx_engine_blocks.specs.Along.{none_viewed, PartialInverse, View
 ghost use Rattle.rx_engine_blocks.specs.Blocks.{none_behind, AllReferences, Behind, ToldIn};
 ghost use Rattle.rx_engine_blocks.specs.Around.{Round};
 ghost use Rattle.rx_engine_blocks.specs.Parts.{StandsFor};
-ghost use Rattle.rx_engine_typing.specs.Renumbered.{RenumberedBody, RenumberedExp, RenumberedFunction, RenumberedStatements};
+ghost use Rattle.rx_engine_simulation.specs.Turns.{Allowance};
+ghost use Rattle.rx_engine_simulation.specs.Openings.{Openings};
+ghost use Rattle.rx_engine_simulation.specs.Programs.{facts_of, LikeFunction, Untouched};
+ghost use Rattle.rx_engine_typing.specs.Counted.{holes_in_body};
+ghost use Rattle.rx_engine_typing.specs.Corresponding.{given_types, Corresponding, FieldsApart, StayApart};
+ghost use Rattle.rx_engine_typing.specs.Scoped.{ScopedFunction};
+ghost use Rattle.rx_engine_typing.specs.Seen.{nothing_special};
+ghost use Rattle.rx_engine_typing.specs.Renumbered.{known_before, RenumberedBody, RenumberedExp, RenumberedFunction, RenumberedStatements};
+ghost use Rattle.rx_engine_holes.specs.Opened.{with_opened_run, RunOpens};
 ghost use Rattle.rx_engine_holes.specs.Returned.{returned_holes};
 ghost use Rattle.rx_engine_holes.specs.Run.{with_run};
 ghost use Rattle.rx_engine_holes.specs.Sited.{at_site};
@@ -89,4 +98,15 @@ pub fn moved_tails_ask_alike()
         → RenumberedStatements r loops (returned_holes r u view behind D E A V loops f k) ss ss' → RenumberedExp r loops (returned_holes r u view behind D E A V loops f k) e e'
         → DemandsLike r (StandsFor r u view behind (ToldIn q elsewhere fs) D E A V es) (of_exp f e (hands_on n (node_of e) (of_statements f ss [])))
         (of_exp g e' (hands_on (node_at r n s) (node_of e') (of_statements g ss' []))) }
+{}
+
+/// In a function of the answer, a block has other statements for a run of the text's, and what stands behind uses of the run's variables those
+/// alone that both declare; elsewhere it is the text's function by other numbers, where variables may be `mut` in one of both alone and
+/// assignments may give no type any more. Its typed tree is like the text's with an opening where the run is, if the run with the others is one.
+pub fn functions_round_a_run_have_like_trees()
+    ensures { (r : Renumbering) (loops : ℕ → ℕ) → StayApart r.variables → StayApart loops → (D : Known) (A : Types) (T : Assigned) → Corresponding r (given_types D A) T → FieldsApart D.items
+        → (O : Openings) (gain : Allowance) (c : ℕ) (run call : Statements) (handed : ListOf ℕ) → Is (some_diverges run) (some_diverges call)
+        → (f g : Function) (h : RenumberedFunction r loops (with_opened_run r loops known_before run call handed) f g) → (asked : ℕ → ListOf Demand) → ((i : ℕ) (ds : ListOf Demand) → of_statements i run ds ≡ ds ++ asked i)
+        → ((u : Untouched (elaborated (given_types D A) f) nothing_special) → RunOpens r loops (given_types D A) T O (facts_of (elaborated (given_types D A) f) nothing_special u) c run call handed)
+        → ScopedFunction f → MeetsEach D A (demands f) → holes_in_body h.body * c ≤ gain.turns → LikeFunction r.items O gain (elaborated (given_types D A) f) (elaborated T g) }
 {}

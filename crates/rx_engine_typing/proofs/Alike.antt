@@ -33,14 +33,16 @@ use Rattle.rx_engine_simulation.specs.Openings.{Openings}
 use Rattle.rx_engine_simulation.specs.Places.{looking, writing, no_steps, use_of}
 use Rattle.rx_engine_simulation.specs.Like.{LikeExp, LikeAll, LikeBody, borrows, builds, builds_structs, builds_variants, units, assigns, updates, calls, inputs, prints, blocks, chooses, stays, gives, no_operands, operands_and, no_arms, arms_and, ends_in, runs_on, declares_all, lets_in}
 use Rattle.rx_engine_typing.specs.Renumbered as like
-use Rattle.rx_engine_typing.specs.Renumbered.{Holes, NodeAt, use_at, RenumberedExp, RenumberedExps, RenumberedElse, RenumberedFields, RenumberedArms, RenumberedBody, RenumberedStatement, RenumberedStatements}
+use Rattle.rx_engine_typing.specs.Renumbered.{Holes, NodeAt, use_at, use_so, RenumberedExp, RenumberedExps, RenumberedElse, RenumberedFields, RenumberedArms, RenumberedBody, RenumberedStatement, RenumberedStatements}
 use Rattle.rx_engine_typing.specs.Renumbered.NodeAt.{renumbered}
 use Rattle.rx_engine_typing.specs.Counted.{holes_in, holes_in_all, holes_in_else, holes_in_fields, holes_in_arms, holes_in_body, holes_in_statement, holes_in_statements}
 use Rattle.rx_engine_typing.specs.Corresponding.{Corresponding, StayApart, FieldsApart}
 use Rattle.rx_engine_typing.specs.Scoped.{Around, entered, behind, behind_all, IsPlaced, ScopedExp, ScopedExps, ScopedElse, ScopedFields, ScopedArms, ScopedBody, ScopedStatement, ScopedStatements}
+use Rattle.rx_engine_typing.proofs.Expecting.{value_same}
 use Rattle.rx_engine_typing.proofs.Looks.{Fits, like_node, like_place}
 use Rattle.rx_engine_typing.proofs.Complete.{operands_complete, fields_complete}
-use Rattle.rx_engine_typing.proofs.Sights.{sights, jumps, led, Rooted, own_rooted, rooted_under, place_for}
+use Rattle.rx_engine_typing.specs.Seen.{jumps, sights}
+use Rattle.rx_engine_typing.proofs.Sights.{led, Rooted, own_rooted, rooted_under, place_for}
 use Rattle.rx_engine_typing.proofs.Types.{field_steps, part_steps, deref_steps, field_in_at}
 use Rattle.rx_engine_typing.proofs.Bound.{tests_at, bindings_at, declared_at, variables_at, pattern_like}
 use Rattle.rx_engine_typing.proofs.Asking.{Asks, NoPlace, no_if_place, asks_map, none, both, then_first, then_second, then_u, one_asked, quiet, whole_type_u, refused, never_asks, join_asks, own_asks, assignable_u, borrowed_asks, bound_u, literal_u, before_u, after_u, tested_u, printed_u, unit_u, not_never_u, operation_asks, updated_u, negated_asks, inverted_asks, named_u, given_u, returns_u, branch_before_u, branch_after_asks, if_joins_asks, one_variable_u, evaluated_u, tail_before_u, tail_after_u, loop_asks, each_before_u, each_after_u, integer_asks}
@@ -201,6 +203,8 @@ module _ (r : Renumbering) (loops : ℕ → ℕ) (H : Holes) (Special : List Dem
           (both (all_asks f rules.members 0 xs ls h z) (both (own_asks n op.Tuple _) (quiet n _ _ _)))
       exp_asks f xs ls (like.RenumberedExp.var {n = n} {s = s} {x = x}) z =
           asks_map (λ _. let q = own_rooted r x.number z in a_place (named.var n x) (named.var (node_at r n s) (use_at r x)) refl q (read_here xs ls 0 n s q)) (then_u (named_u n x x.known) (place_u n _ _ n.site))
+      exp_asks f xs ls (like.RenumberedExp.other_var {n = n} {s = s} {x = x} {m = m} {k = j} _) z =
+          asks_map (λ _. let q = own_rooted r x.number z in a_place (named.var n x) (named.var (node_at r n s) (use_so r m j x)) refl q (read_here xs ls 0 n s q)) (then_u (named_u n x x.known) (place_u n _ _ n.site))
       exp_asks f xs ls (like.RenumberedExp.field {n = n} {s = s} {e = e} {e' = e'} {x = x} h) z =
           asks_map (λ g. let q = rooted_under r (root_of z.1 g) (field_steps r T T' a x (at_node h)) in a_place (named.field n e x) (named.field (node_at r n s) e' x) refl q (read_here xs ls (holes_in h) n s q))
           (then_first (exp_asks f xs ls h z.0) (then_u (quiet n _ _ _) (place_u n _ _ n.site)))
@@ -226,6 +230,10 @@ module _ (r : Renumbering) (loops : ℕ → ℕ) (H : Holes) (Special : List Dem
           (both (exp_asks f xs ls h z.0.0) (then_second (quiet (node_of e) _ _ _) (both (exp_asks f xs ls h' z.1) (then_second (assignable_u n (is_variable y) (root y) _) (own_asks n op.Unit [])))))
       exp_asks f xs ls (like.RenumberedExp.gives {n = n} {p = y} {s = s} {x = x} {d = d} {e = e} h) z =
           asks_map (λ g. no_place (named.gives n y x d e) _ refl g.1 (λ k p. assigns (place_for r writing (own_rooted r x.number z.0)) (g.0.value k p)))
+          (both (exp_asks f xs ls h z.1) (then_second (given_u n y x d (node_of e) (never e)) (own_asks n op.Unit [])))
+      exp_asks f xs ls (like.RenumberedExp.assigns {n = n} {p = y} {s = s} {x = x} {d = d} {e = e} {e' = e'} _ h) z =
+          asks_map (λ g. no_place (named.gives n y x d e) _ refl g.1 (λ k p. assigns (place_for r writing (own_rooted r x.number z.0))
+          (subst (λ (i : tree.Exp). LikeExp r.items O gain V k (jumps loops ls) (sights r xs) (elaborated.value T e) i) (sym (value_same T' e')) (g.0.value k p))))
           (both (exp_asks f xs ls h z.1) (then_second (given_u n y x d (node_of e) (never e)) (own_asks n op.Unit [])))
       exp_asks f xs ls (like.RenumberedExp.update {n = n} {s = s} {o = o} {p = y} {e = e} h h') z =
           asks_map (λ g. no_place (named.update n o y e) _ refl g.1.1 (λ k p. updates (place_for r looking (root_of z.0.1 g.0)) (place_for r writing (root_of z.0.1 g.0)) (g.1.0.value k (right (holes_in h) (holes_in h') k p))))
@@ -297,7 +305,7 @@ module _ (r : Renumbering) (loops : ℕ → ℕ) (H : Holes) (Special : List Dem
       else_asks f n xs ls like.RenumberedElse.absent z = asks_map (λ _. nothing_there xs ls) none
       else_asks f n xs ls (like.RenumberedElse.present {e = e} h) z = asks_map (λ g. something_there xs ls g) (then_second (before_u n n.site (node_of e)) (then_first (exp_asks f xs ls h z) (after_u n n.site (never e) (node_of e))))
 
-      returned_asks : (f : ℕ) (xs ls : Around) {o o' : Else} (h : RenumberedElse r loops H o o') → ScopedElse xs ls o → Wants (Else1 xs ls (holes_in_else h) o o') (rules.of_returned f o)
+      pub returned_asks : (f : ℕ) (xs ls : Around) {o o' : Else} (h : RenumberedElse r loops H o o') → ScopedElse xs ls o → Wants (Else1 xs ls (holes_in_else h) o o') (rules.of_returned f o)
       returned_asks f xs ls like.RenumberedElse.absent z = asks_map (λ _. nothing_there xs ls) none
       returned_asks f xs ls (like.RenumberedElse.present h) z = asks_map (λ g. something_there xs ls g) (exp_asks f xs ls h z)
 
@@ -319,7 +327,7 @@ module _ (r : Renumbering) (loops : ℕ → ℕ) (H : Holes) (Special : List Dem
           (both (statements_asks f xs ls hs z.0) (then_second (tail_before_u n o) (then_first (returned_asks f (behind_all xs ss) ls h z.1)
           (then_u (tail_after_u n (some_diverges ss) o) (join_asks n (named.tail_never (some_diverges ss) o))))))
 
-      statement_asks : (f : ℕ) (xs ls : Around) {x x' : Statement} (h : RenumberedStatement r loops H x x') → ScopedStatement xs ls x
+      pub statement_asks : (f : ℕ) (xs ls : Around) {x x' : Statement} (h : RenumberedStatement r loops H x x') → ScopedStatement xs ls x
           → Wants (trees.AlikeStatement r loops T T' a O gain c V apart loops_apart xs ls (holes_in_statement h) x x') (rules.of_statement f x)
       statement_asks f xs ls (like.RenumberedStatement.declares {n = n} {s = s} {p = y} {p' = y'} {t = t} h _) z =
           asks_map (λ _ rest rest' u later k p.
@@ -332,7 +340,7 @@ module _ (r : Renumbering) (loops : ℕ → ℕ) (H : Holes) (Special : List Dem
       statement_asks f xs ls (like.RenumberedStatement.evaluates {n = n} {s = s} {e = e} {c = b} h) z =
           asks_map (λ g rest rest' u later k p. let q = two_paid (holes_in h) u k p in runs_on _ _ q.0 (g.value _ q.1) (later _ q.2)) (then_first (exp_asks f xs ls h z) (evaluated_u b (node_of e) (never e)))
 
-      statements_asks : (f : ℕ) (xs ls : Around) {ss ss' : Statements} (h : RenumberedStatements r loops H ss ss') → ScopedStatements xs ls ss
+      pub statements_asks : (f : ℕ) (xs ls : Around) {ss ss' : Statements} (h : RenumberedStatements r loops H ss ss') → ScopedStatements xs ls ss
           → Wants (trees.AlikeStatements r loops T T' a O gain c V apart loops_apart xs ls (holes_in_statements h) ss ss') (rules.of_statements f ss)
       statements_asks f xs ls like.RenumberedStatements.no_statement z = asks_map (λ _ last last' u at k p. ends_in (at k (right 0 u k p))) none
       statements_asks f xs ls (like.RenumberedStatements.statement_and {a = x} {ss = ss} h hs) z =

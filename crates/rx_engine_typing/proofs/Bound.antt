@@ -24,7 +24,8 @@ use Rattle.rx_engine_typing.specs.Renumbered as like
 use Rattle.rx_engine_typing.specs.Renumbered.{RenumberedPattern, RenumberedPatterns, RenumberedFieldPatterns, RenumberedParameters}
 use Rattle.rx_engine_typing.specs.Corresponding.{Corresponding, StayApart}
 use Rattle.rx_engine_typing.specs.Scoped.{Around, entered, AllNew, parameter_variables}
-use Rattle.rx_engine_typing.proofs.Sights.{steps_then, sights, unseen, new_there, Rooted, rooted_under, rooted_later, place_for}
+use Rattle.rx_engine_typing.specs.Seen.{sights}
+use Rattle.rx_engine_typing.proofs.Sights.{steps_then, unseen, new_there, Rooted, rooted_under, rooted_later, place_for}
 use Rattle.rx_engine_typing.proofs.Types.{is_path, kind_at, met_at, field_in_at, several_at}
 
 -- ---- tests and bindings

@@ -6,11 +6,12 @@ use Rattle.rx_core.specs.declared.types.Step.TheVariants as step
 use Rattle.rx_typed.specs.Tree.{Place, under}
 use Rattle.rx_typeck_solver.specs.Valid.{IsIn}
 use Rattle.rx_engine_blocks.specs.Renumbering.{Renumbering}
-use Rattle.rx_engine_simulation.specs.Sights.{free, plain, Sight, sight, Renaming, sight_of, IsNew}
+use Rattle.rx_engine_simulation.specs.Sights.{free, plain, Sight, sight_of, IsNew}
 use Rattle.rx_engine_simulation.specs.Places.{LikeSteps, no_steps, fields, variants, derefs, Use, looking, sharing, changing, writing, Allowed, at_variable, LikePlace, direct}
-use Rattle.rx_engine_simulation.specs.Jumps.{as_return, Jumping, loop_of}
+use Rattle.rx_engine_simulation.specs.Jumps.{loop_of}
 use Rattle.rx_engine_typing.specs.Corresponding.{StayApart}
 use Rattle.rx_engine_typing.specs.Scoped.{Around, IsNotIn}
+use Rattle.rx_engine_typing.specs.Seen.{looped, sight_there, sights}
 
 -- ---- steps
 
@@ -38,39 +39,32 @@ some_same a b e = cc
 -- ---- variables
 
 module _ (r : Renumbering) where
-  abbrev pub sight_there : ℕ → Sight
-  sight_there x = sight (r.variables x) (plain free)
-
-  abbrev pub sights : Around → Renaming
-  sights [] = []
-  sights (x ∷ xs) = (x, sight_there x) ∷ sights xs
-
-  pub seen : (xs : Around) (x : ℕ) → IsIn x xs → sight_of (sights xs) x ≡ Some (sight_there x)
+  pub seen : (xs : Around) (x : ℕ) → IsIn x xs → sight_of (sights r xs) x ≡ Some (sight_there r x)
   seen [] x i = absurd i
   seen (y ∷ ys) x i = go (nat_eq x y) refl i (seen ys x)
     where
-      go : (b : Bool) → nat_eq x y ≡ b → IsIn x (y ∷ ys) → (IsIn x ys → sight_of (sights ys) x ≡ Some (sight_there x)) → (if b then Some (sight_there y) else sight_of (sights ys) x) ≡ Some (sight_there x)
-      go true e i h = ap (λ z. Some (sight_there z)) (sym (eqb-true x y e))
+      go : (b : Bool) → nat_eq x y ≡ b → IsIn x (y ∷ ys) → (IsIn x ys → sight_of (sights r ys) x ≡ Some (sight_there r x)) → (if b then Some (sight_there r y) else sight_of (sights r ys) x) ≡ Some (sight_there r x)
+      go true e i h = ap (λ z. Some (sight_there r z)) (sym (eqb-true x y e))
       go false e (inl q) h = absurd (differ x y e q)
       go false e (inr q) h = h q
 
-  pub unseen : (xs : Around) (x : ℕ) → IsNotIn x xs → sight_of (sights xs) x ≡ None
+  pub unseen : (xs : Around) (x : ℕ) → IsNotIn x xs → sight_of (sights r xs) x ≡ None
   unseen [] x n = refl
   unseen (y ∷ ys) x n = go (nat_eq x y) refl (unseen ys x (λ i. n (inr i)))
     where
-      go : (b : Bool) → nat_eq x y ≡ b → sight_of (sights ys) x ≡ None → (if b then Some (sight_there y) else sight_of (sights ys) x) ≡ None
+      go : (b : Bool) → nat_eq x y ≡ b → sight_of (sights r ys) x ≡ None → (if b then Some (sight_there r y) else sight_of (sights r ys) x) ≡ None
       go true e h = absurd (n (inl (eqb-true x y e)))
       go false e h = h
 
-  target : (xs : Around) (x : ℕ) (e : Sight) → sight_of (sights xs) x ≡ Some e → IsIn x xs × (e.to ≡ r.variables x)
+  target : (xs : Around) (x : ℕ) (e : Sight) → sight_of (sights r xs) x ≡ Some e → IsIn x xs × (e.to ≡ r.variables x)
   target [] x e h = absurd (none_some e h)
   target (y ∷ ys) x e h = go (nat_eq x y) refl h (target ys x e)
     where
-      go : (b : Bool) → nat_eq x y ≡ b → (if b then Some (sight_there y) else sight_of (sights ys) x) ≡ Some e → (sight_of (sights ys) x ≡ Some e → IsIn x ys × (e.to ≡ r.variables x)) → IsIn x (y ∷ ys) × (e.to ≡ r.variables x)
-      go true q h k = (inl (eqb-true x y q), ap (λ (z : Sight). z.to) (sym (some_same (sight_there y) e h)) ∙ ap r.variables (sym (eqb-true x y q)))
+      go : (b : Bool) → nat_eq x y ≡ b → (if b then Some (sight_there r y) else sight_of (sights r ys) x) ≡ Some e → (sight_of (sights r ys) x ≡ Some e → IsIn x ys × (e.to ≡ r.variables x)) → IsIn x (y ∷ ys) × (e.to ≡ r.variables x)
+      go true q h k = (inl (eqb-true x y q), ap (λ (z : Sight). z.to) (sym (some_same (sight_there r y) e h)) ∙ ap r.variables (sym (eqb-true x y q)))
       go false q h k = let p = k h in (inr p.0, p.1)
 
-  pub new_there : StayApart r.variables → (xs : Around) (x : ℕ) → IsNotIn x xs → IsNew (sights xs) (r.variables x)
+  pub new_there : StayApart r.variables → (xs : Around) (x : ℕ) → IsNotIn x xs → IsNew (sights r xs) (r.variables x)
   new_there apart xs x n z e h k = let t = target xs z e h in n (subst (λ (q : ℕ). IsIn q xs) (apart z x (sym t.1 ∙ k)) t.0)
 
   -- ---- places
@@ -94,35 +88,28 @@ module _ (r : Renumbering) where
   allowed changing ss = ((λ o. tt), tt)
   allowed writing ss = ((λ o. tt), tt)
 
-  pub place_for : (u : Use) {xs : Around} {p p' : Place} → Rooted xs p p' → LikePlace (sights xs) u p p'
+  pub place_for : (u : Use) {xs : Around} {p p' : Place} → Rooted xs p p' → LikePlace (sights r xs) u p p'
   place_for u {xs = xs} (rooted {x = x} {ss = ss} i l) = direct (plain free) (seen xs x i) tt (allowed u ss) l
 
 -- ---- loops
 
 module _ (loops : ℕ → ℕ) where
-  abbrev pub looped : Around → List (ℕ × ℕ)
-  looped [] = []
-  looped (l ∷ ls) = (l, loops l) ∷ looped ls
-
-  abbrev pub jumps : Around → Jumping
-  jumps ls = record { loops = looped ls; leaving = λ l again. None; returning = as_return; dead = [] }
-
-  pub led : (ls : Around) (l : ℕ) → IsIn l ls → loop_of (looped ls) l ≡ Some (loops l)
+  pub led : (ls : Around) (l : ℕ) → IsIn l ls → loop_of (looped loops ls) l ≡ Some (loops l)
   led [] l i = absurd i
   led (k ∷ ks) l i = go (nat_eq l k) refl i (led ks l)
     where
-      go : (b : Bool) → nat_eq l k ≡ b → IsIn l (k ∷ ks) → (IsIn l ks → loop_of (looped ks) l ≡ Some (loops l)) → (if b then Some (loops k) else loop_of (looped ks) l) ≡ Some (loops l)
+      go : (b : Bool) → nat_eq l k ≡ b → IsIn l (k ∷ ks) → (IsIn l ks → loop_of (looped loops ks) l ≡ Some (loops l)) → (if b then Some (loops k) else loop_of (looped loops ks) l) ≡ Some (loops l)
       go true e i h = ap (λ z. Some (loops z)) (sym (eqb-true l k e))
       go false e (inl q) h = absurd (differ l k e q)
       go false e (inr q) h = h q
 
-  target_loop : (ls : Around) (l m : ℕ) → loop_of (looped ls) l ≡ Some m → IsIn l ls × (m ≡ loops l)
+  target_loop : (ls : Around) (l m : ℕ) → loop_of (looped loops ls) l ≡ Some m → IsIn l ls × (m ≡ loops l)
   target_loop [] l m h = absurd (none_some m h)
   target_loop (k ∷ ks) l m h = go (nat_eq l k) refl h (target_loop ks l m)
     where
-      go : (b : Bool) → nat_eq l k ≡ b → (if b then Some (loops k) else loop_of (looped ks) l) ≡ Some m → (loop_of (looped ks) l ≡ Some m → IsIn l ks × (m ≡ loops l)) → IsIn l (k ∷ ks) × (m ≡ loops l)
+      go : (b : Bool) → nat_eq l k ≡ b → (if b then Some (loops k) else loop_of (looped loops ks) l) ≡ Some m → (loop_of (looped loops ks) l ≡ Some m → IsIn l ks × (m ≡ loops l)) → IsIn l (k ∷ ks) × (m ≡ loops l)
       go true q h f = (inl (eqb-true l k q), sym (some_same (loops k) m h) ∙ ap loops (sym (eqb-true l k q)))
       go false q h f = let p = f h in (inr p.0, p.1)
 
-  pub new_loop : StayApart loops → (ls : Around) (l : ℕ) → IsNotIn l ls → (n : ℕ) → loop_of (looped ls) n ≡ Some (loops l) → ⊥
+  pub new_loop : StayApart loops → (ls : Around) (l : ℕ) → IsNotIn l ls → (n : ℕ) → loop_of (looped loops ls) n ≡ Some (loops l) → ⊥
   new_loop apart ls l f n h = let t = target_loop ls n (loops l) h in f (subst (λ (q : ℕ). IsIn q ls) (apart n l (sym t.1)) t.0)

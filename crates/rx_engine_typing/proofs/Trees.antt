@@ -24,7 +24,8 @@ use Rattle.rx_engine_typing.specs.Renumbered.NodeAt.{renumbered}
 use Rattle.rx_engine_typing.specs.Corresponding.{Corresponding, StayApart}
 use Rattle.rx_engine_typing.specs.Scoped.{Around, IsNotIn, entered, AllNew, behind, behind_all, IsPlaced}
 use Rattle.rx_typeck_solver.specs.Valid.{IsIn}
-use Rattle.rx_engine_typing.proofs.Sights.{sights, jumps, led, new_loop, Rooted, rooted_under, place_for}
+use Rattle.rx_engine_typing.specs.Seen.{jumps, sights}
+use Rattle.rx_engine_typing.proofs.Sights.{led, new_loop, Rooted, rooted_under, place_for}
 use Rattle.rx_engine_typing.proofs.Types.{kind_at, coercion_like}
 use Rattle.rx_engine_typing.proofs.Bound.{SubjectLike, places, temporaries, tests_at, bindings_at, pattern_like}
 

@@ -1,4 +1,6 @@
+pub mod Expecting
 pub mod Renumbered
 pub mod Scoped
 pub mod Counted
 pub mod Corresponding
+pub mod Seen
