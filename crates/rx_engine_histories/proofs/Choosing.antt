@@ -52,7 +52,7 @@ to_those f (y ∷ l) {x = x} (there i) e = by (f y) (to_those f l i e)
     by true j = there j
     by false j = j
 
-number_there : (x : ℕ) (l : List ℕ) → Among x l → has_number x l ≡ true
+pub number_there : (x : ℕ) (l : List ℕ) → Among x l → has_number x l ≡ true
 number_there x [] i = elim i [ ]
 number_there x (_ ∷ l) here = ap (λ b. b || has_number x l) ((Decides-eqb x x).1 refl)
 number_there x (y ∷ l) (there i) = or_right (x == y) (has_number x l) (number_there x l i)

@@ -16,6 +16,10 @@ use Rattle.rx_exits_plan.specs.Asked.{Asked, ComesTo}
 use Rattle.rx_exits_plan.specs.Plan.{Plan, IsPlan}
 use Rattle.rx_exits_plan.specs.PartlyMoved.{PartlyMoved}
 use Rattle.rx_modes_uses.specs.Aliased.{Aliased}
+use Rattle.rx_modes_uses.specs.Paths.{OwnPath}
+use Rattle.rx_modes_uses.specs.Deeds as deeds
+use Rattle.rx_modes_uses.specs.Deeds.{Done}
+use Rattle.rx_modes_uses.specs.Outside.{in_function}
 use Rattle.rx_meaning_keeping.specs.Ready.{HasPart}
 use Rattle.rx_engine_simulation.specs.Histories.{put, Written, Uses, Borrowed, Living}
 use Rattle.rx_engine_simulation.specs.Sights.{In}
@@ -34,7 +38,7 @@ use Rattle.rx_engine_histories.proofs.Recombining.{ahead_meets}
 use Rattle.rx_engine_histories.proofs.Points.{comes_to_mark, shorter, walk_back, stands_at, lost_at}
 use Rattle.rx_engine_histories.proofs.Living.{living_ahead}
 use Rattle.rx_engine_histories.proofs.Choosing.{param_named, local_named, out_is, not_chosen, special_is, elsewhere_offered, offered_named}
-use Rattle.rx_engine_histories.proofs.Untouched.{unlent, untouched}
+use Rattle.rx_engine_histories.proofs.Untouched.{borrowed_done, unlent, untouched}
 use Rattle.rx_engine_histories.proofs.Lasting.{found_standing, lost_not_ahead, ahead_living}
 use Rattle.rx_engine_histories.proofs.Left.{out_set}
 
@@ -119,6 +123,12 @@ module _ (A : Asked) (short : A.run.tail ≡ false) (xs : List ℕ) where
         history = walk_history (marked_with A xs) (a ∷ put c.front []) (subst (λ l. IsWalk (marked_with A xs) l) (sym (back_put c.front [] (a ∷ []))) (shorter (marked_with A xs) (c.front ++ a ∷ []) c.rest w));
         more = c.in_front;
       }
+
+  -- some action of the function lends what a history of the text lends
+  pub running_lent : (muts : List Bool) → Accepted A muts → (x : ℕ) (h : List Action) → IsHistory (running_of A xs) h → Borrowed h x → Done deeds.borrowed (OwnPath x) (in_function A)
+  running_lent muts acc x h q b =
+      let z = in_marked (back h []) (history_walk (running_of A xs) h q) in
+      borrowed_done A muts acc xs x (put z.0 []) (walk_history (marked_with A xs) (put z.0 []) (subst (λ l. IsWalk (marked_with A xs) l) (sym (walk_back z.0)) z.1)) (borrowed_more x (more_history h z.2) b)
 
   same_since : (S : Switch) → S.gives returned ≡ false → S.kills returned ≡ false → (h v : List Action) → More (back h []) v → since S (put v []) ≡ since S h
   same_since S e f h v m = sym (after_back S (put v []) []) ∙ ap (λ l. after S l false) (walk_back v) ∙ after_more S e f m false ∙ after_back S h []

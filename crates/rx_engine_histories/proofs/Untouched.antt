@@ -208,7 +208,7 @@ module _ (A : Asked) (muts : List Bool) (acc : Accepted A muts) (xs : List ℕ) 
   pub in_text : (l : List Action) (a : Action) → IsWalk A.function (l ++ a ∷ []) → Among a (actions_in (order_function A.function)) ⊎ EndsVariable a.act
   in_text l a (r, o, w) = held.held w a (last_among l a r)
 
-  borrowed_done : (h : List Action) → IsHistory (marked_with A xs) h → Borrowed h x → Done deeds.borrowed (OwnPath x) (in_function A)
+  pub borrowed_done : (h : List Action) → IsHistory (marked_with A xs) h → Borrowed h x → Done deeds.borrowed (OwnPath x) (in_function A)
   borrowed_done [] k b = absurd b
   borrowed_done (c ∷ h) k (inl b) = by (in_text z.list z.action z.walk)
     where

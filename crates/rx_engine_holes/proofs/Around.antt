@@ -53,6 +53,7 @@ module _ (r : Renumbering) (loops : ℕ → ℕ) (H : Holes) (S : List Demand �
     root = fits.root;
     diverges = fits.diverges;
     never = fits.never;
+    uses = fits.uses;
     block_node = node;
     block_diverges = diverges;
     block_never = never;
@@ -82,7 +83,7 @@ module _ (r : Renumbering) (loops : ℕ → ℕ) (H : Holes) (S : List Demand �
         (statements_like r loops H S fits f asking y (run_like (statements_like r loops H S fits f asking x d))))
 
     pub run_asks : AsksIn r loops (with_run r loops H run call) S f (r.items f)
-    run_asks = record { asks = asking.asks; block_asks = asks; return_asks = λ n s o o' ds ds' k h d. returns_like r loops (with_run r loops H run call) S run_fits f n s o o' ds ds' h d }
+    run_asks = record { asks = asking.asks; block_asks = asks; given_asks = asking.given_asks; return_asks = λ n s o o' ds ds' k h d. returns_like r loops (with_run r loops H run call) S run_fits f n s o o' ds ds' h d }
       where
         asks : (b b' : Body) (ds ds' : List Demand) → RunBlock r loops H run call b b' → R ds ds' → R (rules.of_body f b ds) (rules.of_body (r.items f) b' ds')
         asks b b' ds ds' (a_run {n = n} {s = s} x y z) d = join_like r loops H S fits n s (tail_like r loops H S fits (whole_diverges x y) z (like_else_never r loops H S fits z))

@@ -1,17 +1,21 @@
 -- Such places look like the text's, and what they ask stands for what the text asks.
-use Rattle.std.proofs.Common.{◌≡◌, ℕ, true, false, List, [], ◌∷◌, ◌++◌, append_assoc, append-nil, sym, subst}
+use Rattle.std.proofs.Common.{◌≡◌, ℕ, Bool, true, false, List, [], ◌∷◌, ◌++◌, append_assoc, append-nil, sym, subst}
+use Rattle.rx_core.specs.declared.types.Span.{Span}
 use Rattle.rx_typed.specs.declared.nodes.Node.{Node}
+use Rattle.rx_typed.specs.declared.nodes.Use.{Use}
 use Rattle.rx_typed.specs.Named as named
-use Rattle.rx_typed.specs.Named.{Exp, Body}
+use Rattle.rx_typed.specs.Named.{Exp}
 use Rattle.rx_typeck_solver.specs.declared.facts.Subject.{Subject}
 use Rattle.rx_typeck_solver.specs.declared.facts.Demand.{Demand}
-use Rattle.rx_typeck_solver.specs.Facts.{Types}
+use Rattle.rx_typeck_solver.specs.Facts.{Types, Known}
 use Rattle.rx_typeck_rules.specs.Asking.{all, fitting}
 use Rattle.rx_typeck_rules.specs.Demands as rules
 use Rattle.rx_engine_blocks.specs.Renumbering.{Renumbering, node_at}
 use Rattle.rx_engine_blocks.specs.DemandsLike.{Is, DemandsLike}
 use Rattle.rx_engine_blocks.specs.DemandsLike.Is.{itself}
-use Rattle.rx_engine_blocks.specs.DemandsLike.DemandsLike.{like_other_demands}
+use Rattle.rx_engine_blocks.specs.DemandsLike.FactLike.{like_fact}
+use Rattle.rx_engine_blocks.specs.DemandsLike.FactsLike.{like_no_fact, like_more_facts}
+use Rattle.rx_engine_blocks.specs.DemandsLike.DemandsLike.{like_more_demands, like_other_demands}
 use Rattle.rx_engine_blocks.specs.Along.{PartialInverse, Viewed, composed}
 use Rattle.rx_engine_blocks.specs.Parts.{AllAbout, SameAs}
 use Rattle.rx_engine_blocks.specs.Made.{MadeExp}
@@ -21,17 +25,19 @@ use Rattle.rx_engine_blocks.specs.Seen as seen
 use Rattle.rx_engine_blocks.specs.Seen.{SeenDemands}
 use Rattle.rx_engine_blocks.specs.Pinned as pinned
 use Rattle.rx_engine_blocks.specs.Pinned.{PinnedDemands}
-use Rattle.rx_engine_typing.specs.Renumbered.{NodeAt}
+use Rattle.rx_engine_blocks.specs.Sites.{ChangedSite}
+use Rattle.rx_engine_blocks.specs.Sites.ChangedSite.{no_test, new_test}
+use Rattle.rx_engine_typing.specs.Renumbered.{NodeAt, use_so}
 use Rattle.rx_engine_typing.specs.Renumbered.NodeAt.{renumbered}
-use Rattle.rx_engine_typing.proofs.Looks.{Fits, RootOf, Longer, RootLike as root, ThroughLike as through_like}
+use Rattle.rx_engine_typing.proofs.Looks.{Fits, OtherUse, RootOf, Longer, Remade, RootLike as root, ThroughLike as through_like}
 use Rattle.rx_engine_typing.proofs.Rules.{place_like, value_like, never_like}
 use Rattle.rx_engine_typing.proofs.Forms.{Asks}
 use Rattle.rx_engine_holes.specs.Special.{SpecialExp, special_at}
 use Rattle.rx_engine_holes.specs.Special.SpecialExp.{a_dereference, a_suffix, a_break, a_continue}
 
-module _ (Returns : Type 0) (r : Renumbering) (u : PartialInverse r) (view : Viewed) (behind : Behind) (A V : Types) (loops : ℕ → ℕ) (S : List Demand → List Demand → Type 0)
+module _ (Returns : Type 0) (r : Renumbering) (u : PartialInverse r) (view : Viewed) (behind : Behind) (D E : Known) (A V : Types) (loops : ℕ → ℕ) (S : List Demand → List Demand → Type 0)
     (seen_so : (gs gs' : List Demand) → SeenDemands r u view behind gs gs' → S gs gs') (pinned_so : (gs gs' : List Demand) → PinnedDemands r A gs gs' → S gs gs')
-    (added_so : (d : Demand) → AllAbout (SameAs (composed r u view A V) V) d.facts → d.unsuffixed ≡ false → S [] (d ∷ [])) where
+    (added_so : (d : Demand) → AllAbout (SameAs (composed r u view A V) V) d.facts → d.unsuffixed ≡ false → S [] (d ∷ [])) (changed_so : (gs gs' : List Demand) → ChangedSite r view D E A gs gs' → S gs gs') where
   abbrev H : Exp → Exp → Type 0
   H = SpecialExp r u view behind A V
 
@@ -44,8 +50,19 @@ module _ (Returns : Type 0) (r : Renumbering) (u : PartialInverse r) (view : Vie
     assigned = λ n s b' own qs. seen_so _ _ (seen.SeenDemands.assigned n.number);
   }
 
+  -- a variable that is `mut` in one alone
+  remade : Remade r S
+  remade = record { lost = λ n b own ps. changed_so _ _ no_test; new = λ n s b own ps. changed_so _ _ (new_test (r.nodes n.number)) }
+
+  pub used : (x : Use) (m k : Bool) → k ≡ x.known → OtherUse r S x m k
+  used x m k e = record { remade = remade; named = λ n s ds ds' d. subst (λ (j : Bool). R (rules.named_at n x x.known ds) (rules.named_at (node_at r n s) (use_so r m j x) j ds')) (sym e) (by n s x.known ds ds' d) }
+    where
+      by : (n : Node) (s : Span) (j : Bool) (ds ds' : List Demand) → R ds ds' → R (rules.named_at n x j ds) (rules.named_at (node_at r n s) (use_so r m j x) j ds')
+      by n s true ds ds' d = like_more_demands d (record { node = itself; unsuffixed = itself; facts = like_more_facts like_fact like_no_fact })
+      by n s false ds ds' d = like_more_demands d (record { node = itself; unsuffixed = itself; facts = like_more_facts like_fact like_no_fact })
+
   pub special_fits : Fits r loops (special_at Returns r u view behind A V) S
-  special_fits = record { node = node; place = place; root = its_root; diverges = diverges; never = never; block_node = λ b b' h. absurd h; block_diverges = λ b b' h. absurd h; block_never = λ b b' h. absurd h }
+  special_fits = record { node = node; place = place; root = its_root; diverges = diverges; never = never; uses = used; block_node = λ b b' h. absurd h; block_diverges = λ b b' h. absurd h; block_never = λ b b' h. absurd h }
     where
       node : (e e' : Exp) → H e e' → NodeAt r (named.node_of e) (named.node_of e')
       node e e' (a_dereference h i v) = renumbered
@@ -109,4 +126,4 @@ module _ (Returns : Type 0) (r : Renumbering) (u : PartialInverse r) (view : Vie
       never_like r loops (special_at Returns r u view behind A V) S special_fits n s n.site (made_return f' (node_at r n s) x h ds ds' d)
 
   pub special_asks : Asks r loops (special_at Returns r u view behind A V) S
-  special_asks = record { asks = λ f e e' ds ds' h d. special_asks_in f (r.items f) e e' ds ds' h d; block_asks = λ f b b' ds ds' h d. absurd h }
+  special_asks = record { asks = λ f e e' ds ds' h d. special_asks_in f (r.items f) e e' ds ds' h d; block_asks = λ f b b' ds ds' h d. absurd h; given_asks = λ f n p s t x m d e e' k h. absurd k }

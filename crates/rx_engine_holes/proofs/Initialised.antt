@@ -20,7 +20,7 @@ use Rattle.rx_engine_blocks.specs.DemandsLike.{DemandsLike}
 use Rattle.rx_engine_blocks.specs.DemandsLike.DemandsLike.{like_other_demands}
 use Rattle.rx_engine_blocks.specs.Seen.{a_demand}
 use Rattle.rx_engine_typing.specs.Renumbered as like
-use Rattle.rx_engine_typing.specs.Renumbered.{Holes, NodeAt, RenumberedExp, use_at}
+use Rattle.rx_engine_typing.specs.Renumbered.{Holes, NodeAt, RenumberedExp, use_at, use_so}
 use Rattle.rx_engine_typing.specs.Renumbered.NodeAt.{renumbered}
 use Rattle.rx_engine_typing.proofs.Looks.{Fits, ThroughLike, like_node, like_root, root_through}
 use Rattle.rx_engine_typing.proofs.Looks.ThroughLike.{same, longer}
@@ -64,6 +64,8 @@ module _ (r : Renumbering) (loops : ℕ → ℕ) (H : Holes) (S : List Demand �
     by_place true {ds = ds} {ds' = ds'} (like.RenumberedExp.hole {e = e} {e' = e'} h) w z d = holes e e' ds ds' h z d
     by_place true {ds = ds} {ds' = ds'} (like.RenumberedExp.var {n = n} {s = s} {x = x}) w z d = place_initialises n s x.number (r.variables x.number) z same
         (subst (R (rules.named_at n x x.known ds)) (sym (named_same (node_at r n s) (use_at r x) x.known ds')) (named_like r loops H S fits n s x x.known d))
+    by_place true {ds = ds} {ds' = ds'} (like.RenumberedExp.other_var {n = n} {s = s} {x = x} {m = m} {k = k} u) w z d = place_initialises n s x.number (r.variables x.number) z same
+        (subst (R (rules.named_at n x x.known ds)) (sym (named_same (node_at r n s) (use_so r m k x) k ds')) ((fits.uses x m k u).named n s ds ds' d))
     by_place true (like.RenumberedExp.field {n = n} {s = s} {e = e} {e' = e'} {x = x} h) w z d = place_initialises n s (root e).number (root e').number z
         (root_through (like_root r loops H S fits (like.RenumberedExp.field {n = n} {s = s} {x = x} h))) (step_like n s (op.Field x) (like_node r loops H S fits h) (exp_alike r loops H S fits f asking h d))
     by_place true (like.RenumberedExp.part {n = n} {s = s} {e = e} {e' = e'} {i = i} h) w z d = place_initialises n s (root e).number (root e').number z

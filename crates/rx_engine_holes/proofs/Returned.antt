@@ -42,7 +42,7 @@ use Rattle.rx_engine_holes.specs.Sited.{at_site}
 use Rattle.rx_engine_holes.specs.Special.SpecialExp.{a_dereference, a_suffix, a_break, a_continue}
 use Rattle.rx_engine_holes.specs.Returned.{ReturnedExp, returned_holes}
 use Rattle.rx_engine_holes.specs.Returned.ReturnedExp.{otherwise, a_return, a_unit_return, a_bare_return}
-use Rattle.rx_engine_holes.proofs.Asking.{special_fits, special_asks_in, longer, one_then_two, add_one, made_return}
+use Rattle.rx_engine_holes.proofs.Asking.{special_fits, special_asks_in, longer, used, one_then_two, add_one, made_return}
 use Rattle.rx_engine_holes.proofs.Sited.{value_asks}
 use Rattle.rx_engine_holes.proofs.Initialised.{place_initialises, initialiser_like}
 
@@ -63,7 +63,7 @@ module _ (r : Renumbering) (u : PartialInverse r) (view : Viewed) (behind : Behi
   Returned k = ReturnedExp r u view D E A V loops f (H k)
 
   one_more_fits : (k : ℕ) → Fits r loops (H k) S → Fits r loops (H (suc k)) S
-  one_more_fits k inner = record { node = node; place = place; root = its_root; diverges = diverges; never = never; block_node = λ b b' h. absurd h; block_diverges = λ b b' h. absurd h; block_never = λ b b' h. absurd h }
+  one_more_fits k inner = record { node = node; place = place; root = its_root; diverges = diverges; never = never; uses = λ x m k h. used ⊥ r u view behind D E A V loops S seen_so pinned_so added_so changed_so x m k h; block_node = λ b b' h. absurd h; block_diverges = λ b b' h. absurd h; block_never = λ b b' h. absurd h }
     where
       node : (e e' : Exp) → Returned k e e' → NodeAt r (named.node_of e) (named.node_of e')
       node e e' (otherwise h) = inner.node e e' h
@@ -96,11 +96,11 @@ module _ (r : Renumbering) (u : PartialInverse r) (view : Viewed) (behind : Behi
       never e e' (a_bare_return h) = itself
 
   pub returned_fits : (k : ℕ) → Fits r loops (H k) S
-  returned_fits zero = special_fits ⊥ r u view behind A V loops S seen_so pinned_so added_so
+  returned_fits zero = special_fits ⊥ r u view behind D E A V loops S seen_so pinned_so added_so changed_so
   returned_fits (suc k) = one_more_fits k (returned_fits k)
 
   add : (ds : List Demand) (d : Demand) → AllAbout P d.facts → d.unsuffixed ≡ false → (gs : List Demand) → R ds gs → R ds (gs ++ d ∷ [])
-  add ds d a e gs h = add_one ⊥ r u view behind A V loops S seen_so pinned_so added_so ds d a e gs h
+  add ds d a e gs h = add_one ⊥ r u view behind D E A V loops S seen_so pinned_so added_so changed_so ds d a e gs h
 
   -- the type of the variant's part is expected, for that which the function gives
   part_expected : {n n' : Node} (i v : ℕ) (t : Typ) {ds ds' : List Demand} → NodeAt r n n' → view (subject.Expected n.number) ≡ false
@@ -139,11 +139,11 @@ module _ (r : Renumbering) (u : PartialInverse r) (view : Viewed) (behind : Behi
 
   first_initialising : (g : ℕ) → Initialising g zero
   first_initialising g e e' ds ds' (a_dereference {n = n} {s = s} {x = x} {y = y} {k = k} h i v) z d =
-      place_initialises r loops (H zero) S (returned_fits zero) dropped n s x y z (through_like.longer (longer ⊥ r u view behind A V loops S seen_so pinned_so added_so) k)
-      (one_then_two ⊥ r u view behind A V loops S seen_so pinned_so added_so ds ds' _ _ _ (like_other_demands _ _ d (seen_so _ _ (seen.SeenDemands.seen_variable h i v))))
-  first_initialising g e e' ds ds' (a_suffix h) z d = subst (R (rules.of_exp f e ds)) (sym (value_asks g e' refl z ds')) (special_asks_in ⊥ r u view behind A V loops S seen_so pinned_so added_so f g e e' ds ds' (a_suffix h) d)
-  first_initialising g e e' ds ds' (a_break h) z d = subst (R (rules.of_exp f e ds)) (sym (value_asks g e' refl z ds')) (special_asks_in ⊥ r u view behind A V loops S seen_so pinned_so added_so f g e e' ds ds' (a_break h) d)
-  first_initialising g e e' ds ds' (a_continue h) z d = subst (R (rules.of_exp f e ds)) (sym (value_asks g e' refl z ds')) (special_asks_in ⊥ r u view behind A V loops S seen_so pinned_so added_so f g e e' ds ds' (a_continue h) d)
+      place_initialises r loops (H zero) S (returned_fits zero) dropped n s x y z (through_like.longer (longer ⊥ r u view behind D E A V loops S seen_so pinned_so added_so changed_so) k)
+      (one_then_two ⊥ r u view behind D E A V loops S seen_so pinned_so added_so changed_so ds ds' _ _ _ (like_other_demands _ _ d (seen_so _ _ (seen.SeenDemands.seen_variable h i v))))
+  first_initialising g e e' ds ds' (a_suffix h) z d = subst (R (rules.of_exp f e ds)) (sym (value_asks g e' refl z ds')) (special_asks_in ⊥ r u view behind D E A V loops S seen_so pinned_so added_so changed_so f g e e' ds ds' (a_suffix h) d)
+  first_initialising g e e' ds ds' (a_break h) z d = subst (R (rules.of_exp f e ds)) (sym (value_asks g e' refl z ds')) (special_asks_in ⊥ r u view behind D E A V loops S seen_so pinned_so added_so changed_so f g e e' ds ds' (a_break h) d)
+  first_initialising g e e' ds ds' (a_continue h) z d = subst (R (rules.of_exp f e ds)) (sym (value_asks g e' refl z ds')) (special_asks_in ⊥ r u view behind D E A V loops S seen_so pinned_so added_so changed_so f g e e' ds ds' (a_continue h) d)
 
   next_initialising : (g k : ℕ) → AsksIn r loops (H (suc k)) S f g → Initialising g k → Initialising g (suc k)
   next_initialising g k asking inner e e' ds ds' (otherwise h) z d = inner e e' ds ds' h z d
@@ -152,7 +152,7 @@ module _ (r : Renumbering) (u : PartialInverse r) (view : Viewed) (behind : Behi
   next_initialising g k asking inner e e' ds ds' (a_bare_return h) z d = subst (R (rules.of_exp f e ds)) (sym (value_asks g e' refl z ds')) (asking.asks e e' ds ds' (a_bare_return h) d)
 
   one_more_asks : (g k : ℕ) → Fits r loops (H k) S → AsksIn r loops (H k) S f g → Initialising g k → AsksIn r loops (H (suc k)) S f g
-  one_more_asks g k fits inner initialising = record { asks = asks; block_asks = λ b b' ds ds' h d. absurd h; return_asks = λ n s o o' ds ds' h y d. absurd h }
+  one_more_asks g k fits inner initialising = record { asks = asks; block_asks = λ b b' ds ds' h d. absurd h; given_asks = λ n p s t x m d e e' k h. absurd k; return_asks = λ n s o o' ds ds' h y d. absurd h }
     where
       asks : (e e' : Exp) (ds ds' : List Demand) → Returned k e e' → R ds ds' → R (rules.of_exp f e ds) (rules.of_exp g e' ds')
       asks e e' ds ds' (otherwise h) d = inner.asks e e' ds ds' h d
@@ -173,13 +173,14 @@ module _ (r : Renumbering) (u : PartialInverse r) (view : Viewed) (behind : Behi
           let inside = join_keeps P (R U) (add U) b N ab _ (after_keeps P (R U) (add U) b b.site (named.never v) (named.node_of v) ab (exp_at P (R U) (add U) v made_v) _ ended) in
           never_like r loops (H k) S fits n s n.site (join_keeps P (R U) (add U) m N am _ (after_keeps P (R U) (add U) m m.site N b am ab _ inside))
       asks e e' ds ds' (a_bare_return {n = n} {s = s} {e = x} h) d =
-          never_like r loops (H k) S fits n s n.site (made_return ⊥ r u view behind A V loops S seen_so pinned_so added_so g (node_at r n s) x h _ ds' (untested_like n d))
+          never_like r loops (H k) S fits n s n.site (made_return ⊥ r u view behind D E A V loops S seen_so pinned_so added_so changed_so g (node_at r n s) x h _ ds' (untested_like n d))
 
   both_in : (g k : ℕ) → AsksIn r loops (H k) S f g × Initialising g k
   both_in g zero = (
     record {
-      asks = λ e e' ds ds' h d. special_asks_in ⊥ r u view behind A V loops S seen_so pinned_so added_so f g e e' ds ds' h d;
+      asks = λ e e' ds ds' h d. special_asks_in ⊥ r u view behind D E A V loops S seen_so pinned_so added_so changed_so f g e e' ds ds' h d;
       block_asks = λ b b' ds ds' h d. absurd h;
+      given_asks = λ n p s t x m d e e' k h. absurd k;
       return_asks = λ n s o o' ds ds' h y d. absurd h;
     },
     first_initialising g,

@@ -17,6 +17,8 @@ use Rattle.rx_engine_blocks.specs.Around.{Round}
 use Rattle.rx_engine_blocks.specs.Around.Round.{instead, ordinary}
 use Rattle.rx_engine_blocks.specs.Seen.{SeenDemands}
 use Rattle.rx_engine_blocks.specs.Pinned.{PinnedDemands}
+use Rattle.rx_engine_blocks.specs.Sites.{ChangedSite}
+use Rattle.rx_engine_blocks.proofs.Sites.{changed_stands}
 use Rattle.rx_engine_blocks.proofs.Standing.{seen_stands, pinned_stands, one_stands}
 use Rattle.rx_engine_typing.specs.Renumbered.{Holes, RenumberedFunction}
 use Rattle.rx_engine_typing.proofs.Looks.{Fits}
@@ -48,11 +50,14 @@ module _ (q : Renumbering) (w : PartialInverse q) (IsFixed : Subject → Type 0)
   one : (d : Demand) → AllAbout (SameAs (composed q w none_viewed A W) W) d.facts → d.unsuffixed ≡ false → S [] (d ∷ [])
   one d a e = ordinary (one_stands q w none_viewed none_behind IsFixed D E known A W fs d a e)
 
+  changed : (gs hs : List Demand) → ChangedSite q none_viewed D E A gs hs → S gs hs
+  changed gs hs z = ordinary (changed_stands q w none_viewed none_behind IsFixed D E known A W fs gs hs z)
+
   fits : Fits q loops H S
-  fits = special_fits (Unit {0}) q w none_viewed none_behind A W loops S seen pinned one
+  fits = special_fits (Unit {0}) q w none_viewed none_behind D E A W loops S seen pinned one changed
 
   asks : Asks q loops H S
-  asks = special_asks (Unit {0}) q w none_viewed none_behind A W loops S seen pinned one
+  asks = special_asks (Unit {0}) q w none_viewed none_behind D E A W loops S seen pinned one changed
 
   pub round_alike : (run call : Statements) → Is (some_diverges run) (some_diverges call) → (f g : Function)
       → ((ds : List Demand) → rules.of_statements f.item run ds ≡ ds ++ asked) → ((ds : List Demand) → rules.of_statements (q.items f.item) call ds ≡ ds ++ given)

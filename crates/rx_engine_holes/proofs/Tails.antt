@@ -39,6 +39,7 @@ module _ (r : Renumbering) (loops : ℕ → ℕ) (H : Holes) (S : List Demand �
     root = fits.root;
     diverges = fits.diverges;
     never = fits.never;
+    uses = fits.uses;
     block_node = node;
     block_diverges = diverges;
     block_never = never;
@@ -72,7 +73,7 @@ module _ (r : Renumbering) (loops : ℕ → ℕ) (H : Holes) (S : List Demand �
         (subst (R (rules.of_statements f a ds ++ asked)) (sym second) (like_other_demands asked given (statements_like r loops H S fits f asking x k) so))
 
     pub tail_asks : AsksIn r loops (with_tail r loops H n s d run o call o') S f (r.items f)
-    tail_asks = record { asks = asking.asks; block_asks = asks; return_asks = λ m t p p' ds ds' k h y. returns_like r loops (with_tail r loops H n s d run o call o') S tail_fits f m t p p' ds ds' h y }
+    tail_asks = record { asks = asking.asks; block_asks = asks; given_asks = asking.given_asks; return_asks = λ m t p p' ds ds' k h y. returns_like r loops (with_tail r loops H n s d run o call o') S tail_fits f m t p p' ds ds' h y }
       where
         asks : (b b' : Body) (ds ds' : List Demand) → TailBlock r loops H n s d run o call o' b b' → R ds ds' → R (rules.of_body f b ds) (rules.of_body (r.items f) b' ds')
         asks b b' ds ds' (a_tail e x) k = join_like r loops H S fits n s (tail_fits.block_never b b' (a_tail e x)) (ends_like e x k)

@@ -46,4 +46,6 @@ returned_holes r u view behind D E A V loops f (suc k) = record {
   expression = ReturnedExp r u view D E A V loops f (returned_holes r u view behind D E A V loops f k);
   block = λ b b'. ⊥;
   returns = ⊥;
+  uses = λ x m k. k ≡ x.known;
+  given_before = λ e e'. ⊥;
 }

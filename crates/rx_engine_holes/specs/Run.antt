@@ -19,4 +19,4 @@ pub data RunBlock (r : Renumbering) (loops : ℕ → ℕ) (H : Holes) (run call 
       → RunBlock r loops H run call (named.body n (append a (append run c)) o) (named.body (node_at r n s) (append a' (append call c')) o')
 
 abbrev pub with_run : (r : Renumbering) (loops : ℕ → ℕ) → Holes → Statements → Statements → Holes
-with_run r loops H run call = record { expression = H.expression; block = RunBlock r loops H run call; returns = H.returns }
+with_run r loops H run call = record { expression = H.expression; block = RunBlock r loops H run call; returns = H.returns; uses = H.uses; given_before = H.given_before }

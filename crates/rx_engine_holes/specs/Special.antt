@@ -33,7 +33,14 @@ pub data SpecialExp (r : Renumbering) (u : PartialInverse r) (view : Viewed) (be
 
 -- these, where a return stands for a return or not
 abbrev pub special_at : Type 0 → (r : Renumbering) → PartialInverse r → Viewed → Behind → Types → Types → Holes
-special_at returns r u view behind A V = record { expression = SpecialExp r u view behind A V; block = λ b b'. ⊥; returns = returns }
+special_at returns r u view behind A V = record {
+  expression = SpecialExp r u view behind A V;
+  block = λ b b'. ⊥;
+  returns = returns;
+  -- whether a variable is `mut` is asked in tests alone
+  uses = λ x m k. k ≡ x.known;
+  given_before = λ e e'. ⊥;
+}
 
 abbrev pub special_holes : (r : Renumbering) → PartialInverse r → Viewed → Behind → Types → Types → Holes
 special_holes r u view behind A V = special_at (Unit {0}) r u view behind A V

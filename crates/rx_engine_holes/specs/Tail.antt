@@ -17,7 +17,7 @@ pub data TailBlock (r : Renumbering) (loops : ℕ → ℕ) (H : Holes) (n : Node
       → TailBlock r loops H n s d run o call o' (named.body n (append a run) o) (named.body (node_at r n s) (append a' call) o')
 
 abbrev pub with_tail : (r : Renumbering) (loops : ℕ → ℕ) → Holes → Node → Span → Bool → Statements → Else → Statements → Else → Holes
-with_tail r loops H n s d run o call o' = record { expression = H.expression; block = TailBlock r loops H n s d run o call o'; returns = H.returns }
+with_tail r loops H n s d run o call o' = record { expression = H.expression; block = TailBlock r loops H n s d run o call o'; returns = H.returns; uses = H.uses; given_before = H.given_before }
 
 -- what is asked of the last statements and the tail, but for what the block's place makes of its value
 abbrev pub of_end : ℕ → Node → Bool → Statements → Else → Asking

@@ -80,7 +80,7 @@ module _ (items : ℕ → ℕ) where
 
   gives_at : (n p : Node) (u u' : Use) (d d' : Option ℕ) {e e' : Exp} → u' ≡ u → d' ≡ d → Same e e' → Same (named.gives n p u d e) (named.gives n p u' d' e')
   gives_at n p u u' d d' {e} {e'} x y h = subst (λ (z : Use). Same (named.gives n p u d e) (named.gives n p z d' e')) (sym x)
-      (subst (λ (z : Option ℕ). Same (named.gives n p u d e) (named.gives n p u z e')) (mapped_same d ∙ sym y) (ren.RenumberedExp.gives {n = n} {p = p} {s = n.span} {t = p.span} h))
+      (subst (λ (z : Option ℕ). Same (named.gives n p u d e) (named.gives n p u z e')) (mapped_same d ∙ sym y) (ren.RenumberedExp.gives {n = n} {p = p} {s = n.span} {t = p.span} {m = u.mutable} h))
 
   -- ---- a callee, which may be hidden
 

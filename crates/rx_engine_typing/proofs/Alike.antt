@@ -33,11 +33,12 @@ use Rattle.rx_engine_simulation.specs.Openings.{Openings}
 use Rattle.rx_engine_simulation.specs.Places.{looking, writing, no_steps, use_of}
 use Rattle.rx_engine_simulation.specs.Like.{LikeExp, LikeAll, LikeBody, borrows, builds, builds_structs, builds_variants, units, assigns, updates, calls, inputs, prints, blocks, chooses, stays, gives, no_operands, operands_and, no_arms, arms_and, ends_in, runs_on, declares_all, lets_in}
 use Rattle.rx_engine_typing.specs.Renumbered as like
-use Rattle.rx_engine_typing.specs.Renumbered.{Holes, NodeAt, use_at, RenumberedExp, RenumberedExps, RenumberedElse, RenumberedFields, RenumberedArms, RenumberedBody, RenumberedStatement, RenumberedStatements}
+use Rattle.rx_engine_typing.specs.Renumbered.{Holes, NodeAt, use_at, use_so, RenumberedExp, RenumberedExps, RenumberedElse, RenumberedFields, RenumberedArms, RenumberedBody, RenumberedStatement, RenumberedStatements}
 use Rattle.rx_engine_typing.specs.Renumbered.NodeAt.{renumbered}
 use Rattle.rx_engine_typing.specs.Counted.{holes_in, holes_in_all, holes_in_else, holes_in_fields, holes_in_arms, holes_in_body, holes_in_statement, holes_in_statements}
 use Rattle.rx_engine_typing.specs.Corresponding.{Corresponding, StayApart, FieldsApart}
 use Rattle.rx_engine_typing.specs.Scoped.{Around, entered, behind, behind_all, IsPlaced, ScopedExp, ScopedExps, ScopedElse, ScopedFields, ScopedArms, ScopedBody, ScopedStatement, ScopedStatements}
+use Rattle.rx_engine_typing.proofs.Expecting.{value_same}
 use Rattle.rx_engine_typing.proofs.Looks.{Fits, like_node, like_place}
 use Rattle.rx_engine_typing.proofs.Complete.{operands_complete, fields_complete}
 use Rattle.rx_engine_typing.proofs.Sights.{sights, jumps, led, Rooted, own_rooted, rooted_under, place_for}
@@ -201,6 +202,8 @@ module _ (r : Renumbering) (loops : ℕ → ℕ) (H : Holes) (Special : List Dem
           (both (all_asks f rules.members 0 xs ls h z) (both (own_asks n op.Tuple _) (quiet n _ _ _)))
       exp_asks f xs ls (like.RenumberedExp.var {n = n} {s = s} {x = x}) z =
           asks_map (λ _. let q = own_rooted r x.number z in a_place (named.var n x) (named.var (node_at r n s) (use_at r x)) refl q (read_here xs ls 0 n s q)) (then_u (named_u n x x.known) (place_u n _ _ n.site))
+      exp_asks f xs ls (like.RenumberedExp.other_var {n = n} {s = s} {x = x} {m = m} {k = j} _) z =
+          asks_map (λ _. let q = own_rooted r x.number z in a_place (named.var n x) (named.var (node_at r n s) (use_so r m j x)) refl q (read_here xs ls 0 n s q)) (then_u (named_u n x x.known) (place_u n _ _ n.site))
       exp_asks f xs ls (like.RenumberedExp.field {n = n} {s = s} {e = e} {e' = e'} {x = x} h) z =
           asks_map (λ g. let q = rooted_under r (root_of z.1 g) (field_steps r T T' a x (at_node h)) in a_place (named.field n e x) (named.field (node_at r n s) e' x) refl q (read_here xs ls (holes_in h) n s q))
           (then_first (exp_asks f xs ls h z.0) (then_u (quiet n _ _ _) (place_u n _ _ n.site)))
@@ -226,6 +229,10 @@ module _ (r : Renumbering) (loops : ℕ → ℕ) (H : Holes) (Special : List Dem
           (both (exp_asks f xs ls h z.0.0) (then_second (quiet (node_of e) _ _ _) (both (exp_asks f xs ls h' z.1) (then_second (assignable_u n (is_variable y) (root y) _) (own_asks n op.Unit [])))))
       exp_asks f xs ls (like.RenumberedExp.gives {n = n} {p = y} {s = s} {x = x} {d = d} {e = e} h) z =
           asks_map (λ g. no_place (named.gives n y x d e) _ refl g.1 (λ k p. assigns (place_for r writing (own_rooted r x.number z.0)) (g.0.value k p)))
+          (both (exp_asks f xs ls h z.1) (then_second (given_u n y x d (node_of e) (never e)) (own_asks n op.Unit [])))
+      exp_asks f xs ls (like.RenumberedExp.assigns {n = n} {p = y} {s = s} {x = x} {d = d} {e = e} {e' = e'} _ h) z =
+          asks_map (λ g. no_place (named.gives n y x d e) _ refl g.1 (λ k p. assigns (place_for r writing (own_rooted r x.number z.0))
+          (subst (λ (i : tree.Exp). LikeExp r.items O gain V k (jumps loops ls) (sights r xs) (elaborated.value T e) i) (sym (value_same T' e')) (g.0.value k p))))
           (both (exp_asks f xs ls h z.1) (then_second (given_u n y x d (node_of e) (never e)) (own_asks n op.Unit [])))
       exp_asks f xs ls (like.RenumberedExp.update {n = n} {s = s} {o = o} {p = y} {e = e} h h') z =
           asks_map (λ g. no_place (named.update n o y e) _ refl g.1.1 (λ k p. updates (place_for r looking (root_of z.0.1 g.0)) (place_for r writing (root_of z.0.1 g.0)) (g.1.0.value k (right (holes_in h) (holes_in h') k p))))

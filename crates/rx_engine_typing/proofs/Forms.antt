@@ -3,7 +3,9 @@ use Rattle.std.proofs.Common.{ℕ, suc, Bool, true, false, List, [], ◌∷◌, 
 use Rattle.rx_core.specs.declared.types.Kind.{Kind}
 use Rattle.rx_core.specs.declared.types.Span.{Span}
 use Rattle.rx_typed.specs.declared.nodes.Node.{Node}
-use Rattle.rx_typed.specs.Named.{Written, Pattern, Exp, Exps, Else, Fields, Arms, Body, Statement, Statements, Parameter, Function, node_of, root}
+use Rattle.rx_typed.specs.declared.nodes.Use.{Use}
+use Rattle.rx_typed.specs.Named as named
+use Rattle.rx_typed.specs.Named.{Written, Pattern, Exp, Exps, Else, Fields, Arms, Body, Statement, Statements, Parameter, Function, never, node_of, root}
 use Rattle.rx_typeck_solver.specs.declared.facts.Rule.{Rule}
 use Rattle.rx_typeck_solver.specs.declared.facts.Broken.{Broken}
 use Rattle.rx_typeck_solver.specs.declared.facts.Subject.TheVariants as subject
@@ -17,23 +19,31 @@ use Rattle.rx_typeck_rules.specs.Demands.{Matched, Listed}
 use Rattle.rx_engine_blocks.specs.Renumbering.{Renumbering, node_at}
 use Rattle.rx_engine_blocks.specs.DemandsLike.{Is, DemandsLike}
 use Rattle.rx_engine_blocks.specs.DemandsLike.Is.{itself}
+use Rattle.rx_engine_typing.specs.Expecting.{expecting}
 use Rattle.rx_engine_typing.specs.Renumbered.NodeAt.{renumbered}
 use Rattle.rx_engine_blocks.specs.DemandsLike.DemandsLike.{like_no_demand}
 use Rattle.rx_engine_typing.specs.Renumbered as like
-use Rattle.rx_engine_typing.specs.Renumbered.{Holes, NodeAt, use_at, RenumberedType, RenumberedAnnotation, RenumberedPattern, RenumberedExp, RenumberedExps, RenumberedElse, RenumberedFields, RenumberedArms, RenumberedBody, RenumberedStatement, RenumberedStatements, RenumberedParameters, RenumberedNodes, RenumberedFunction}
+use Rattle.rx_engine_typing.specs.Renumbered.{Holes, NodeAt, use_so, RenumberedType, RenumberedAnnotation, RenumberedPattern, RenumberedExp, RenumberedExps, RenumberedElse, RenumberedFields, RenumberedArms, RenumberedBody, RenumberedStatement, RenumberedStatements, RenumberedParameters, RenumberedNodes, RenumberedFunction}
 use Rattle.rx_engine_typing.proofs.Looks.{is_and, like_written_node, like_node, like_body_node, like_root, like_never, like_else_never, like_all_never, like_body_never, tail_like, some_like, like_exp_nodes, like_arguments, like_names, like_matched, MatchedLike as matched, MatchedLike, Fits, RootLike, root_through}
 use Rattle.rx_engine_typing.proofs.Looks.ThroughLike.{same}
 use Rattle.rx_engine_typing.proofs.Rules.{asked, value_like, never_like, place_like, writable_like, assignable_like, own_like, expects_like, join_like, before_like, after_like, tested_like, printed_like, nothing_given_like, not_never_like, negated_like, inverted_like, updated_like, operation_like, named_like, given_like, whole_type_like, limits_like, whole_pattern_like, takes_like, holds_like, has_fields_like}
+
+-- an assignment that gives a type, and one of the same that gives none, where what is assigned asks like things
+abbrev pub GivenAsks : (r : Renumbering) → (List Demand → List Demand → Type 0) → ℕ → ℕ → Node → Node → Span → Span → Use → Bool → Option ℕ → Exp → Exp → Type 0
+GivenAsks r Special f f' n p s t x m d e e' = ((ds ds' : List Demand) → DemandsLike r Special ds ds' → DemandsLike r Special (rules.of_exp f e ds) (rules.of_exp f' e' ds')) → (ds ds' : List Demand) → DemandsLike r Special ds ds'
+    → DemandsLike r Special (rules.of_exp f (named.gives n p x d e) ds) (rules.of_exp f' (named.assign (node_at r n s) (named.var (node_at r p t) (use_so r m true x)) (expecting e')) ds')
 
 -- what stands for a part asks like things
 pub record Asks (r : Renumbering) (loops : ℕ → ℕ) (H : Holes) (Special : List Demand → List Demand → Type 0) : Type 0 where
   pub asks : (f : ℕ) (e e' : Exp) (ds ds' : List Demand) → H.expression e e' → DemandsLike r Special ds ds' → DemandsLike r Special (rules.of_exp f e ds) (rules.of_exp (r.items f) e' ds')
   pub block_asks : (f : ℕ) (b b' : Body) (ds ds' : List Demand) → H.block b b' → DemandsLike r Special ds ds' → DemandsLike r Special (rules.of_body f b ds) (rules.of_body (r.items f) b' ds')
+  pub given_asks : (f : ℕ) (n p : Node) (s t : Span) (x : Use) (m : Bool) (d : Option ℕ) (e e' : Exp) → H.given_before (named.gives n p x d e) e' → NodeAt r (node_of e) (node_of e') → Is (never e) (never e') → GivenAsks r Special f (r.items f) n p s t x m d e e'
 
 -- the same in one function, for another, and of returns where these stand for returns
 pub record AsksIn (r : Renumbering) (loops : ℕ → ℕ) (H : Holes) (Special : List Demand → List Demand → Type 0) (f f' : ℕ) : Type 0 where
   pub asks : (e e' : Exp) (ds ds' : List Demand) → H.expression e e' → DemandsLike r Special ds ds' → DemandsLike r Special (rules.of_exp f e ds) (rules.of_exp f' e' ds')
   pub block_asks : (b b' : Body) (ds ds' : List Demand) → H.block b b' → DemandsLike r Special ds ds' → DemandsLike r Special (rules.of_body f b ds) (rules.of_body f' b' ds')
+  pub given_asks : (n p : Node) (s t : Span) (x : Use) (m : Bool) (d : Option ℕ) (e e' : Exp) → H.given_before (named.gives n p x d e) e' → NodeAt r (node_of e) (node_of e') → Is (never e) (never e') → GivenAsks r Special f f' n p s t x m d e e'
   pub return_asks : (n : Node) (s : Span) (o o' : Else) (ds ds' : List Demand) → H.returns → RenumberedElse r loops H o o' → DemandsLike r Special ds ds'
       → DemandsLike r Special (rules.returns_unit f n o ds) (rules.returns_unit f' (node_at r n s) o' ds')
 
@@ -167,6 +177,7 @@ module _ (r : Renumbering) (loops : ℕ → ℕ) (H : Holes) (Special : List Dem
     exp_alike (like.RenumberedExp.bool {n = n} {s = s}) d = own_like r loops H Special fits n s op.Truth [] itself d
     exp_alike (like.RenumberedExp.tuple {n = n} {s = s} {es = es} h) d = limits_like r loops H Special fits (renumbered {n = n} {s = s}) (own_like r loops H Special fits n s op.Tuple (rules.exp_nodes es) (like_exp_nodes r loops H Special fits h) (each_like rules.members 0 h d))
     exp_alike (like.RenumberedExp.var {n = n} {s = s} {x = x}) d = place_like r loops H Special fits n s x.number (r.variables x.number) n.site same (named_like r loops H Special fits n s x x.known d)
+    exp_alike (like.RenumberedExp.other_var {n = n} {s = s} {x = x} {m = m} {k = k} u) d = place_like r loops H Special fits n s x.number (r.variables x.number) n.site same ((fits.uses x m k u).named n s _ _ d)
     exp_alike (like.RenumberedExp.field {n = n} {s = s} {e = e} {e' = e'} {x = x} h) d = place_like r loops H Special fits n s (root e).number (root e').number n.site (root_through (like_root r loops H Special fits (like.RenumberedExp.field {n = n} {s = s} {x = x} h))) (field_like n s x (like_node r loops H Special fits h) (exp_alike h d))
     exp_alike (like.RenumberedExp.part {n = n} {s = s} {e = e} {e' = e'} {i = i} h) d = place_like r loops H Special fits n s (root e).number (root e').number n.site (root_through (like_root r loops H Special fits (like.RenumberedExp.part {n = n} {s = s} {i = i} h))) (part_step_like n s i (like_node r loops H Special fits h) (exp_alike h d))
     exp_alike (like.RenumberedExp.deref {n = n} {s = s} {e = e} {e' = e'} h) d = place_like r loops H Special fits n s (root e).number (root e').number n.site (root_through (like_root r loops H Special fits (like.RenumberedExp.deref {n = n} {s = s} h))) (step_like n s (like_node r loops H Special fits h) (exp_alike h d))
@@ -175,7 +186,8 @@ module _ (r : Renumbering) (loops : ℕ → ℕ) (H : Holes) (Special : List Dem
     exp_alike (like.RenumberedExp.borrow {n = n} {s = s} {m = m} h) d = value_like r loops H Special fits n s n.site (borrowed_when n s m h (limits_like r loops H Special fits (renumbered {n = n} {s = s}) (borrowed_front n s m (like_node r loops H Special fits h) (exp_alike h d))))
     exp_alike (like.RenumberedExp.binary {n = n} {s = s} {o = o} h k) d = operation_like r loops H Special fits n s o (like_node r loops H Special fits h) (like_never r loops H Special fits h) (like_node r loops H Special fits k) (like_never r loops H Special fits k) (exp_alike k (exp_alike h d))
     exp_alike (like.RenumberedExp.assign {n = n} {s = s} h k) d = own_like r loops H Special fits n s op.Unit [] itself (assignable_like r loops H Special fits n s h (exp_alike k (assigned_type_like (like_node r loops H Special fits k) (like_node r loops H Special fits h) (exp_alike h d))))
-    exp_alike (like.RenumberedExp.gives {n = n} {p = p} {s = s} {t = t} {x = x} {d = c} h) d = own_like r loops H Special fits n s op.Unit [] itself (given_like r loops H Special fits n p s t x c (like_node r loops H Special fits h) (like_never r loops H Special fits h) (exp_alike h d))
+    exp_alike (like.RenumberedExp.gives {n = n} {p = p} {s = s} {t = t} {x = x} {m = m} {d = c} h) d = own_like r loops H Special fits n s op.Unit [] itself (given_like r loops H Special fits n p s t x m c (like_node r loops H Special fits h) (like_never r loops H Special fits h) (exp_alike h d))
+    exp_alike {ds = ds} {ds' = ds'} (like.RenumberedExp.assigns {n = n} {p = p} {s = s} {t = t} {x = x} {m = m} {d = c} {e = e} {e' = e'} k h) d = asking.given_asks n p s t x m c e e' k (like_node r loops H Special fits h) (like_never r loops H Special fits h) (λ gs gs' g. exp_alike h g) ds ds' d
     exp_alike (like.RenumberedExp.update {n = n} {s = s} h k) d = own_like r loops H Special fits n s op.Unit [] itself (assignable_like r loops H Special fits n s h (updated_like r loops H Special fits n s (like_node r loops H Special fits h) (like_never r loops H Special fits h) (like_node r loops H Special fits k) (like_never r loops H Special fits k) (exp_alike k (exp_alike h d))))
     exp_alike (like.RenumberedExp.call {n = n} {s = s} {g = g} h) d = own_like r loops H Special fits n s (op.Result g) [] itself (each_like (rules.parameters g) 0 h (takes_like r loops H Special fits n s g (like_arguments r loops H Special fits h) d))
     exp_alike (like.RenumberedExp.hidden_call {n = n} {s = s} h) d = each_like rules.values 0 h (asked r loops H Special fits n s _ _ _ _ d)
@@ -266,7 +278,7 @@ module _ (r : Renumbering) (loops : ℕ → ℕ) (H : Holes) (Special : List Dem
 
 module _ (r : Renumbering) (loops : ℕ → ℕ) (H : Holes) (Special : List Demand → List Demand → Type 0) (fits : Fits r loops H Special) (asking : Asks r loops H Special) where
   pub its : (f : ℕ) → AsksIn r loops H Special f (r.items f)
-  its f = record { asks = asking.asks f; block_asks = asking.block_asks f; return_asks = λ n s o o' ds ds' k h d. returns_like r loops H Special fits f n s o o' ds ds' h d }
+  its f = record { asks = asking.asks f; block_asks = asking.block_asks f; given_asks = asking.given_asks f; return_asks = λ n s o o' ds ds' k h d. returns_like r loops H Special fits f n s o o' ds ds' h d }
 
   pub exp_like : (f : ℕ) {e e' : Exp} {ds ds' : List Demand} → RenumberedExp r loops H e e' → DemandsLike r Special ds ds' → DemandsLike r Special (rules.of_exp f e ds) (rules.of_exp (r.items f) e' ds')
   exp_like f h d = exp_alike r loops H Special fits f (its f) h d

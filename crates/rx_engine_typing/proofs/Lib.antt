@@ -1,3 +1,4 @@
+pub mod Expecting
 pub mod Looks
 pub mod Rules
 pub mod Forms

@@ -1,8 +1,9 @@
 -- What can be seen of like trees is alike: nodes, whether they are places, Never or diverge, the dereferences of places.
-use Rattle.std.proofs.Common.{ℕ, suc, Bool, true, false, not, ◌&&◌, ◌||◌, List, [], ◌∷◌, ◌++◌, map}
+use Rattle.std.proofs.Common.{ℕ, suc, Bool, true, false, not, ◌&&◌, ◌||◌, List, [], ◌∷◌, ◌++◌, map, sym, subst}
 use Rattle.rx_core.specs.declared.types.Span.{Span}
 use Rattle.rx_typed.specs.declared.nodes.Node.{Node}
 use Rattle.rx_typed.specs.declared.nodes.Site.{Site}
+use Rattle.rx_typed.specs.declared.nodes.Use.{Use}
 use Rattle.rx_tree.specs.declared.tree.BinaryOp.{BinaryOp}
 use Rattle.rx_typed.specs.Named.{Written, WrittenTypes, Pattern, Patterns, FieldPatterns, Exp, Exps, Else, Fields, Arms, Body, Statement, Statements, written_node, pattern_node, node_of, body_node, is_place, is_variable, root, is_strict, never, else_never, all_never, body_never, tail_never, diverges, any_diverges, else_diverges, any_field_diverges, all_diverge, body_diverges, statement_diverges, some_diverges}
 use Rattle.rx_typeck_solver.specs.declared.facts.Subject.{Subject}
@@ -16,11 +17,12 @@ use Rattle.rx_typeck_rules.specs.Asking.{type_of}
 use Rattle.rx_typeck_rules.specs.Demands as rules
 use Rattle.rx_typeck_rules.specs.Demands.{Matched}
 use Rattle.rx_engine_blocks.specs.Renumbering.{Renumbering, node_at, passing_at, subject_at}
-use Rattle.rx_engine_blocks.specs.DemandsLike.{Is}
+use Rattle.rx_engine_blocks.specs.DemandsLike.{DemandsLike, Is}
 use Rattle.rx_engine_blocks.specs.DemandsLike.Is.{itself}
 use Rattle.rx_engine_typing.specs.Renumbered.NodeAt.{renumbered}
+use Rattle.rx_engine_typing.proofs.Expecting.{diverges_same}
 use Rattle.rx_engine_typing.specs.Renumbered as like
-use Rattle.rx_engine_typing.specs.Renumbered.{Holes, NodeAt, use_at, RenumberedType, RenumberedTypes, RenumberedPattern, RenumberedPatterns, RenumberedFieldPatterns, RenumberedExp, RenumberedExps, RenumberedElse, RenumberedFields, RenumberedArms, RenumberedBody, RenumberedStatement, RenumberedStatements}
+use Rattle.rx_engine_typing.specs.Renumbered.{Holes, NodeAt, use_so, RenumberedType, RenumberedTypes, RenumberedPattern, RenumberedPatterns, RenumberedFieldPatterns, RenumberedExp, RenumberedExps, RenumberedElse, RenumberedFields, RenumberedArms, RenumberedBody, RenumberedStatement, RenumberedStatements}
 
 -- ---- two of one thing
 
@@ -59,19 +61,32 @@ pub data ThroughLike (r : Renumbering) (Special : List Demand → List Demand �
   same : {ps : List Passing} → ThroughLike r Special ps (map (passing_at r) ps)
   longer : {ps : List Passing} → Longer r Special → (k : ℕ) → ThroughLike r Special ps (map (passing_at r) ps ++ record { node = k; all = false } ∷ [])
 
+-- the test that what is written may be, of a variable that is `mut` in one alone: one of the text's that isn't asked, and one that is asked
+pub record Remade (r : Renumbering) (Special : List Demand → List Demand → Type 0) : Type 0 where
+  pub lost : (n : Node) (b : Broken) (own : Bool) (ps : List Passing) → Special (record { node = n.number; span = n.span; broken = b; unsuffixed = false; facts = fact.Passes (test.Writable own) [] [] ps ∷ [] } ∷ []) []
+  pub new : (n : Node) (s : Span) (b : Broken) (own : Bool) (ps : List Passing) → Special [] (record { node = r.nodes n.number; span = s; broken = b; unsuffixed = false; facts = fact.Passes (test.Writable own) [] [] ps ∷ [] } ∷ [])
+
+-- what both ask of a use that is `mut` so and known so in the second
+pub record OtherUse (r : Renumbering) (Special : List Demand → List Demand → Type 0) (x : Use) (m k : Bool) : Type 0 where
+  pub remade : Remade r Special
+  pub named : (n : Node) (s : Span) (ds ds' : List Demand) → DemandsLike r Special ds ds' → DemandsLike r Special (rules.named_at n x x.known ds) (rules.named_at (node_at r n s) (use_so r m k x) k ds')
+
 -- of a place: whether it is a whole variable, whether that is declared `mut`, the dereferences
 pub data RootLike (r : Renumbering) (Special : List Demand → List Demand → Type 0) : Bool → Bool → List Passing → Bool → Bool → List Passing → Type 0 where
   plain : {w m : Bool} {ps : List Passing} → RootLike r Special w m ps w m (map (passing_at r) ps)
   seen : {w m m' : Bool} {ps : List Passing} → Longer r Special → (k : ℕ) → RootLike r Special w m ps false m' (map (passing_at r) ps ++ record { node = k; all = false } ∷ [])
+  remade : {w m m' : Bool} {ps : List Passing} → Remade r Special → RootLike r Special w m ps w m' (map (passing_at r) ps)
 
 pub root_through : {r : Renumbering} {Special : List Demand → List Demand → Type 0} {w m w' m' : Bool} {ps ps' : List Passing} → RootLike r Special w m ps w' m' ps' → ThroughLike r Special ps ps'
 root_through plain = same
 root_through (seen l k) = longer l k
+root_through (remade l) = same
 
 root_more : {r : Renumbering} {Special : List Demand → List Demand → Type 0} {w m w' m' : Bool} {ps ps' : List Passing} {n n' : Node} (all : Bool) → NodeAt r n n' → RootLike r Special w m ps w' m' ps'
     → RootLike r Special false m (record { node = n.number; all = all } ∷ ps) false m' (record { node = n'.number; all = all } ∷ ps')
 root_more all renumbered plain = plain
 root_more all renumbered (seen l k) = seen l k
+root_more all renumbered (remade l) = remade l
 
 abbrev pub RootOf : (r : Renumbering) (Special : List Demand → List Demand → Type 0) → Exp → Exp → Type 0
 RootOf r Special e e' = RootLike r Special (is_variable e) (root e).mutable (rules.through e) (is_variable e') (root e').mutable (rules.through e')
@@ -83,6 +98,7 @@ pub record Fits (r : Renumbering) (loops : ℕ → ℕ) (H : Holes) (Special : L
   pub root : (e e' : Exp) → H.expression e e' → RootOf r Special e e'
   pub diverges : (e e' : Exp) → H.expression e e' → Is (diverges e) (diverges e')
   pub never : (e e' : Exp) → H.expression e e' → Is (never e) (never e')
+  pub uses : (x : Use) (m k : Bool) → H.uses x m k → OtherUse r Special x m k
   pub block_node : (b b' : Body) → H.block b b' → NodeAt r (body_node b) (body_node b')
   pub block_diverges : (b b' : Body) → H.block b b' → Is (body_diverges b) (body_diverges b')
   pub block_never : (b b' : Body) → H.block b b' → Is (body_never b) (body_never b')
@@ -112,6 +128,7 @@ module _ (r : Renumbering) (loops : ℕ → ℕ) (H : Holes) (Special : List Dem
   like_node like.RenumberedExp.bool = renumbered
   like_node (like.RenumberedExp.tuple h) = renumbered
   like_node like.RenumberedExp.var = renumbered
+  like_node (like.RenumberedExp.other_var k) = renumbered
   like_node (like.RenumberedExp.field h) = renumbered
   like_node (like.RenumberedExp.part h) = renumbered
   like_node (like.RenumberedExp.deref h) = renumbered
@@ -121,6 +138,7 @@ module _ (r : Renumbering) (loops : ℕ → ℕ) (H : Holes) (Special : List Dem
   like_node (like.RenumberedExp.binary h k) = renumbered
   like_node (like.RenumberedExp.assign h k) = renumbered
   like_node (like.RenumberedExp.gives h) = renumbered
+  like_node (like.RenumberedExp.assigns k h) = renumbered
   like_node (like.RenumberedExp.update h k) = renumbered
   like_node (like.RenumberedExp.call h) = renumbered
   like_node (like.RenumberedExp.hidden_call h) = renumbered
@@ -148,6 +166,7 @@ module _ (r : Renumbering) (loops : ℕ → ℕ) (H : Holes) (Special : List Dem
   pub like_place : {e e' : Exp} → RenumberedExp r loops H e e' → Is (is_place e) (is_place e')
   like_place (like.RenumberedExp.hole {e = e} {e' = e'} h) = fits.place e e' h
   like_place like.RenumberedExp.var = itself
+  like_place (like.RenumberedExp.other_var k) = itself
   like_place (like.RenumberedExp.field h) = itself
   like_place (like.RenumberedExp.part h) = itself
   like_place (like.RenumberedExp.deref h) = itself
@@ -160,6 +179,7 @@ module _ (r : Renumbering) (loops : ℕ → ℕ) (H : Holes) (Special : List Dem
   like_place (like.RenumberedExp.binary h k) = itself
   like_place (like.RenumberedExp.assign h k) = itself
   like_place (like.RenumberedExp.gives h) = itself
+  like_place (like.RenumberedExp.assigns k h) = itself
   like_place (like.RenumberedExp.update h k) = itself
   like_place (like.RenumberedExp.call h) = itself
   like_place (like.RenumberedExp.hidden_call h) = itself
@@ -181,6 +201,7 @@ module _ (r : Renumbering) (loops : ℕ → ℕ) (H : Holes) (Special : List Dem
   pub like_root : {e e' : Exp} → RenumberedExp r loops H e e' → RootOf r Special e e'
   like_root (like.RenumberedExp.hole {e = e} {e' = e'} h) = fits.root e e' h
   like_root like.RenumberedExp.var = plain
+  like_root (like.RenumberedExp.other_var {x = x} {m = m} {k = k} u) = remade (fits.uses x m k u).remade
   like_root (like.RenumberedExp.field h) = root_more true (like_node h) (like_root h)
   like_root (like.RenumberedExp.part h) = root_more true (like_node h) (like_root h)
   like_root (like.RenumberedExp.deref h) = root_more false (like_node h) (like_root h)
@@ -193,6 +214,7 @@ module _ (r : Renumbering) (loops : ℕ → ℕ) (H : Holes) (Special : List Dem
   like_root (like.RenumberedExp.binary h k) = plain
   like_root (like.RenumberedExp.assign h k) = plain
   like_root (like.RenumberedExp.gives h) = plain
+  like_root (like.RenumberedExp.assigns k h) = plain
   like_root (like.RenumberedExp.update h k) = plain
   like_root (like.RenumberedExp.call h) = plain
   like_root (like.RenumberedExp.hidden_call h) = plain
@@ -227,6 +249,7 @@ module _ (r : Renumbering) (loops : ℕ → ℕ) (H : Holes) (Special : List Dem
     like_diverges like.RenumberedExp.bool = itself
     like_diverges (like.RenumberedExp.tuple h) = any_like h
     like_diverges like.RenumberedExp.var = itself
+    like_diverges (like.RenumberedExp.other_var k) = itself
     like_diverges (like.RenumberedExp.field h) = like_diverges h
     like_diverges (like.RenumberedExp.part h) = like_diverges h
     like_diverges (like.RenumberedExp.deref h) = like_diverges h
@@ -236,6 +259,7 @@ module _ (r : Renumbering) (loops : ℕ → ℕ) (H : Holes) (Special : List Dem
     like_diverges (like.RenumberedExp.binary {o = o} h k) = strict_like o (like_diverges h) (like_diverges k)
     like_diverges (like.RenumberedExp.assign h k) = is_or (like_diverges h) (like_diverges k)
     like_diverges (like.RenumberedExp.gives h) = like_diverges h
+    like_diverges (like.RenumberedExp.assigns {e = e} {e' = e'} k h) = subst (λ (b : Bool). Is (diverges e) b) (sym (diverges_same e')) (like_diverges h)
     like_diverges (like.RenumberedExp.update h k) = is_or (like_diverges h) (like_diverges k)
     like_diverges (like.RenumberedExp.call h) = any_like h
     like_diverges (like.RenumberedExp.hidden_call h) = any_like h
@@ -294,6 +318,7 @@ module _ (r : Renumbering) (loops : ℕ → ℕ) (H : Holes) (Special : List Dem
     like_never like.RenumberedExp.bool = itself
     like_never (like.RenumberedExp.tuple h) = itself
     like_never like.RenumberedExp.var = itself
+    like_never (like.RenumberedExp.other_var k) = itself
     like_never (like.RenumberedExp.field h) = itself
     like_never (like.RenumberedExp.part h) = itself
     like_never (like.RenumberedExp.deref h) = itself
@@ -303,6 +328,7 @@ module _ (r : Renumbering) (loops : ℕ → ℕ) (H : Holes) (Special : List Dem
     like_never (like.RenumberedExp.binary h k) = itself
     like_never (like.RenumberedExp.assign h k) = itself
     like_never (like.RenumberedExp.gives h) = itself
+    like_never (like.RenumberedExp.assigns k h) = itself
     like_never (like.RenumberedExp.update h k) = itself
     like_never (like.RenumberedExp.call h) = itself
     like_never (like.RenumberedExp.hidden_call h) = itself

@@ -29,10 +29,10 @@ use Rattle.rx_engine_blocks.specs.DemandsLike.FactLike.{like_fact}
 use Rattle.rx_engine_blocks.specs.DemandsLike.FactsLike.{like_no_fact, like_more_facts}
 use Rattle.rx_engine_blocks.specs.DemandsLike.DemandsLike.{like_more_demands, like_other_demands}
 use Rattle.rx_engine_typing.specs.Renumbered as like
-use Rattle.rx_engine_typing.specs.Renumbered.{Holes, NodeAt, use_at, RenumberedType, RenumberedTypes, RenumberedPattern, RenumberedPatterns, RenumberedFieldPatterns, RenumberedExp}
+use Rattle.rx_engine_typing.specs.Renumbered.{Holes, NodeAt, use_at, use_so, RenumberedType, RenumberedTypes, RenumberedPattern, RenumberedPatterns, RenumberedFieldPatterns, RenumberedExp}
 use Rattle.rx_engine_typing.proofs.Looks.{like_written_node, like_written_nodes, like_pattern_node, like_root, like_count, like_field_names, under_like, MatchedLike as matched, MatchedLike, PassingsAt, Fits, Longer, ThroughLike, RootLike}
 use Rattle.rx_engine_typing.proofs.Looks.ThroughLike.{same, longer}
-use Rattle.rx_engine_typing.proofs.Looks.RootLike.{plain, seen}
+use Rattle.rx_engine_typing.proofs.Looks.RootLike.{plain, seen, remade}
 use Rattle.rx_engine_typing.proofs.Looks.PassingsAt.{passings}
 
 module _ (r : Renumbering) (loops : ℕ → ℕ) (H : Holes) (Special : List Demand → List Demand → Type 0) (fits : Fits r loops H Special) where
@@ -93,14 +93,18 @@ module _ (r : Renumbering) (loops : ℕ → ℕ) (H : Holes) (Special : List Dem
   place_like n s x x' Site.Initialises (longer l k) d = longer_like l k n s _ _ _ _ _ _ _ (asked n s _ _ _ _ d)
   place_like n s x x' Site.Reborrows (longer l k) d = longer_like l k n s _ _ _ _ _ _ _ (longer_like l k n s _ _ _ _ _ _ _ (asked n s _ _ _ _ d))
 
+  -- a demand that the answer adds, and one that it has no more
+  extra : (ds ds' : List Demand) (d' : Demand) → Special [] (d' ∷ []) → R ds ds' → R ds (ds' ++ d' ∷ [])
+  extra ds ds' d' z d = subst (λ xs. R xs (ds' ++ d' ∷ [])) (append-nil ds) (like_other_demands [] (d' ∷ []) d z)
+
+  fewer : (ds ds' : List Demand) (d : Demand) → Special (d ∷ []) [] → R ds ds' → R (ds ++ d ∷ []) ds'
+  fewer ds ds' d z h = subst (λ xs. R (ds ++ d ∷ []) xs) (append-nil ds') (like_other_demands (d ∷ []) [] h z)
+
   pub writable_like : (n : Node) (s : Span) (x x' : ℕ) {w m w' m' : Bool} {ps ps' : List Passing} {ds ds' : List Demand} → RootLike r Special w m ps w' m' ps' → R ds ds'
       → R (rules.writable n m x ps ds) (rules.writable (node_at r n s) m' x' ps' ds')
   writable_like n s x x' plain d = asked n s _ _ _ _ d
   writable_like n s x x' (seen l k) d = longer_like l k n s _ _ _ _ _ _ _ d
-
-  -- a demand that the answer adds
-  extra : (ds ds' : List Demand) (d' : Demand) → Special [] (d' ∷ []) → R ds ds' → R ds (ds' ++ d' ∷ [])
-  extra ds ds' d' z d = subst (λ xs. R xs (ds' ++ d' ∷ [])) (append-nil ds) (like_other_demands [] (d' ∷ []) d z)
+  writable_like n s x x' {m = m} {m' = m'} (remade l) d = extra _ _ _ (l.new n s _ m' _) (fewer _ _ _ (l.lost n _ m _) d)
 
   assigned_like : (n : Node) (s : Span) (x x' : ℕ) {w m w' m' : Bool} {ps ps' : List Passing} {ds ds' : List Demand} → RootLike r Special w m ps w' m' ps' → R ds ds'
       → R (when (not w) (rules.writable n m x ps) ds) (when (not w') (rules.writable (node_at r n s) m' x' ps') ds')
@@ -108,6 +112,8 @@ module _ (r : Renumbering) (loops : ℕ → ℕ) (H : Holes) (Special : List Dem
   assigned_like n s x x' {w = false} plain d = asked n s _ _ _ _ d
   assigned_like n s x x' {w = true} {m' = m'} (seen l k) d = extra _ _ _ (l.assigned n s _ m' _) d
   assigned_like n s x x' {w = false} (seen l k) d = longer_like l k n s _ _ _ _ _ _ _ d
+  assigned_like n s x x' {w = true} (remade l) d = d
+  assigned_like n s x x' {w = false} (remade l) d = writable_like n s x x' {w = false} (remade l) d
 
   pub assignable_like : (n : Node) (s : Span) {p p' : Exp} {ds ds' : List Demand} → RenumberedExp r loops H p p' → R ds ds' → R (rules.assignable n p ds) (rules.assignable (node_at r n s) p' ds')
   assignable_like n s {p} {p'} h d = assigned_like n s (root p).number (root p').number (like_root r loops H Special fits h) d
@@ -206,6 +212,11 @@ module _ (r : Renumbering) (loops : ℕ → ℕ) (H : Holes) (Special : List Dem
   operation_like n s BinaryOp.Ge h i k j d = order_like n s h i k j d
   operation_like n s _ h i k j d = arithmetic_like n s h i k j d
 
+  -- whether a variable is `mut` is not looked at where it is named
+  pub named_with : (n : Node) (s : Span) (x : Use) (m k : Bool) {ds ds' : List Demand} → R ds ds' → R (rules.named_at n x k ds) (rules.named_at (node_at r n s) (use_so r m k x) k ds')
+  named_with n s x m true d = asked n s _ _ _ _ d
+  named_with n s x m false d = asked n s _ _ _ _ d
+
   pub named_like : (n : Node) (s : Span) (x : Use) (k : Bool) {ds ds' : List Demand} → R ds ds' → R (rules.named_at n x k ds) (rules.named_at (node_at r n s) (use_at r x) k ds')
   named_like n s x true d = asked n s _ _ _ _ d
   named_like n s x false d = asked n s _ _ _ _ d
@@ -214,10 +225,10 @@ module _ (r : Renumbering) (loops : ℕ → ℕ) (H : Holes) (Special : List Dem
   fits_given_like x {v = true} h itself d = d
   fits_given_like x {v = false} (renumbered {n = e} {s = s}) itself d = asked e s _ _ _ _ d
 
-  pub given_like : (n p : Node) (s t : Span) (x : Use) (c : Option ℕ) {e e' : Node} {v v' : Bool} {ds ds' : List Demand} → NodeAt r e e' → Is v v' → R ds ds'
-      → R (rules.given n p x c e v ds) (rules.given (node_at r n s) (node_at r p t) (use_at r x) (option_map r.nodes c) e' v' ds')
-  given_like n p s t x (Some c) (renumbered {n = e} {s = u}) h d = asked_all p t _ _ _ (like_more_facts like_fact (like_more_facts like_fact like_no_fact)) (asked n s _ _ _ _ (not_never_like (renumbered {n = e} {s = u}) h d))
-  given_like n p s t x None h i d = fits_given_like x.number h i (named_like p t x x.known d)
+  pub given_like : (n p : Node) (s t : Span) (x : Use) (m : Bool) (c : Option ℕ) {e e' : Node} {v v' : Bool} {ds ds' : List Demand} → NodeAt r e e' → Is v v' → R ds ds'
+      → R (rules.given n p x c e v ds) (rules.given (node_at r n s) (node_at r p t) (use_so r m x.known x) (option_map r.nodes c) e' v' ds')
+  given_like n p s t x m (Some c) (renumbered {n = e} {s = u}) h d = asked_all p t _ _ _ (like_more_facts like_fact (like_more_facts like_fact like_no_fact)) (asked n s _ _ _ _ (not_never_like (renumbered {n = e} {s = u}) h d))
+  given_like n p s t x m None h i d = fits_given_like x.number h i (named_with p t x m x.known d)
 
   -- ---- types
 

@@ -31,27 +31,27 @@ use Rattle.rx_engine_typing.proofs.InScope.{Stands, later, all_new, stands_enter
 
 -- ---- steps of numbering that touch no names
 
-quiet_counted : Quiet Any numbering.counted
+pub quiet_counted : Quiet Any numbering.counted
 quiet_counted = record { fits = λ c. tt; names = λ c. refl; still = λ c. (refl, refl) }
 
-quiet_between : (i j : ℕ) → Quiet Any (numbering.known_between i j)
+pub quiet_between : (i j : ℕ) → Quiet Any (numbering.known_between i j)
 quiet_between i j = record { fits = λ c. tt; names = λ c. refl; still = λ c. (refl, refl) }
 
-quiet_annotates : (p : PatternTree) (y : Option TypeTree) → Quiet Any (numbering.annotates p y)
+pub quiet_annotates : (p : PatternTree) (y : Option TypeTree) → Quiet Any (numbering.annotates p y)
 quiet_annotates p None = record { fits = λ c. tt; names = λ c. refl; still = λ c. (refl, refl) }
 quiet_annotates p (Some y) = record { fits = λ c. tt; names = λ c. refl; still = λ c. (refl, refl) }
 
-quiet_leads : (l : ℕ) → Quiet Any (numbering.leads l)
+pub quiet_leads : (l : ℕ) → Quiet Any (numbering.leads l)
 quiet_leads l = record { fits = λ c. tt; names = λ c. refl; still = λ c. (refl, length-set c.loops l true) }
 
-quiet_is_left : (l : ℕ) → Quiet Any (numbering.is_left l)
+pub quiet_is_left : (l : ℕ) → Quiet Any (numbering.is_left l)
 quiet_is_left l = record { fits = λ c. tt; names = λ c. refl; still = λ c. (refl, refl) }
 
 quiet_given_here : (x : ℕ) (o : Option (ℕ × ℕ)) → Quiet Any (numbering.given_here x o)
 quiet_given_here x None = record { fits = λ c. tt; names = λ c. refl; still = λ c. (refl, refl) }
 quiet_given_here x (Some w) = record { fits = λ c. tt; names = λ c. refl; still = λ c. (refl, refl) }
 
-quiet_gives_here : (x : ℕ) → Quiet Any (numbering.gives_here x)
+pub quiet_gives_here : (x : ℕ) → Quiet Any (numbering.gives_here x)
 quiet_gives_here x = record {
   fits = λ c. tt;
   names = λ c. (quiet_given_here x (numbering.waiting x (numbering.declaration c x).stage)).names c;
@@ -62,7 +62,7 @@ quiet_waits_at : (n : Node) (o : Option ℕ) → Quiet Any (numbering.waits_at n
 quiet_waits_at n None = record { fits = λ c. tt; names = λ c. refl; still = λ c. (refl, refl) }
 quiet_waits_at n (Some x) = record { fits = λ c. tt; names = λ c. refl; still = λ c. (refl, refl) }
 
-quiet_waits : (b : Bool) (p : named.Pattern) → Quiet Any (numbering.waits_if b p)
+pub quiet_waits : (b : Bool) (p : named.Pattern) → Quiet Any (numbering.waits_if b p)
 quiet_waits true p = quiet_waits_at (named.pattern_node p) (named.whole_binding p)
 quiet_waits false p = record { fits = λ c. tt; names = λ c. refl; still = λ c. (refl, refl) }
 
@@ -133,7 +133,7 @@ known_is : (o : Option ℕ) (s : Span) (n : ℕ) → known o s ≡ Ok n → o �
 known_is None s n e = absurd (cc)
 known_is (Some m) s n e = ap (λ (z : ℕ). Some z) (the_same m n e)
 
-led_is : (s : Span) (l : Option Ident) (x : Target) (n : ℕ) → led s l x ≡ Ok n → x ≡ to_loop n
+pub led_is : (s : Span) (l : Option Ident) (x : Target) (n : ℕ) → led s l x ≡ Ok n → x ≡ to_loop n
 led_is s l (to_loop m) n e = ap to_loop (the_same m n e)
 led_is s l out_of_test n e = absurd (cc)
 led_is s None nowhere n e = absurd (cc)

@@ -57,15 +57,15 @@ numbers_entry_of : (n : ℕ) (xs : List Parameter) → is_nothing (numbers_from 
 numbers_entry_of n [] = refl
 numbers_entry_of n (x ∷ xs) = refl
 
-function_entry : (I : Inside) (f : Function) (ns : List ℕ) → lifetimes_of I [] 0 f.lifetimes ≡ Ok ns → not (is_nothing (ns ++ numbers_from 0 f.params)) ≡ has_entry f
+pub function_entry : (I : Inside) (f : Function) (ns : List ℕ) → lifetimes_of I [] 0 f.lifetimes ≡ Ok ns → not (is_nothing (ns ++ numbers_from 0 f.params)) ≡ has_entry f
 function_entry I f ns e =
     nothing_append ns (numbers_from 0 f.params) ∙ ap (λ (b : Bool). b || not (is_nothing (numbers_from 0 f.params))) (lifetimes_entry I [] 0 f.lifetimes ns e)
     ∙ ap (λ (b : Bool). has_bounds f.lifetimes || not b) (numbers_entry_of 0 f.params)
 
-abbrev EntryTaken : Bool → ItemNames → ItemNames → Type 0
+abbrev pub EntryTaken : Bool → ItemNames → ItemNames → Type 0
 EntryTaken b t t' = Part t t' (λ es. Takes (λ (a : List ℕ × Bool). Unit {0}) t t' es (entry_if b))
 
-entry_taken : (I : Inside) (at ks : List ℕ) (t t' : ItemNames) → numbered I at ks t ≡ Ok t' → EntryTaken (not (is_nothing ks)) t t'
+pub entry_taken : (I : Inside) (at ks : List ℕ) (t t' : ItemNames) → numbered I at ks t ≡ Ok t' → EntryTaken (not (is_nothing ks)) t t'
 entry_taken I at [] t t' e = unchanged t t' (λ v es. Takes (λ (a : List ℕ × Bool). Unit {0}) t v es (entry_if false)) e (takes_give numbering.no_names tt)
 entry_taken I at (k ∷ ks) t t' e = any_entry (entry_part I at t t' k ks (Ok (k ∷ ks)) refl e)
 
@@ -117,7 +117,7 @@ module _ (I : Inside) where
       so : (n : ℕ) → next (number n) ≡ number (suc n)
       so n = omega arith
 
-  parameters_taken : (at : List ℕ) (i : ℕ) (xs : List Parameter) (b b1 : Bound) → in_parameters I at i xs b ≡ Ok b1 → i ≡ number (length b.tables.vars) → Binds b b1 parameter_variables (numbering.of_parameters xs)
+  pub parameters_taken : (at : List ℕ) (i : ℕ) (xs : List Parameter) (b b1 : Bound) → in_parameters I at i xs b ≡ Ok b1 → i ≡ number (length b.tables.vars) → Binds b b1 parameter_variables (numbering.of_parameters xs)
   parameters_taken at i [] b b1 e z =
       subst (λ (v : Bound). Binds b v parameter_variables (numbering.of_parameters [])) (the_same b b1 e) (record {
         count = 0;

@@ -13,6 +13,7 @@ module _ {r : Renumbering} {loops : ℕ → ℕ} {H : Holes} where
     holes_in like.RenumberedExp.bool = 0
     holes_in (like.RenumberedExp.tuple h) = holes_in_all h
     holes_in like.RenumberedExp.var = 0
+    holes_in (like.RenumberedExp.other_var m) = 0
     holes_in (like.RenumberedExp.field h) = holes_in h
     holes_in (like.RenumberedExp.part h) = holes_in h
     holes_in (like.RenumberedExp.deref h) = holes_in h
@@ -22,6 +23,7 @@ module _ {r : Renumbering} {loops : ℕ → ℕ} {H : Holes} where
     holes_in (like.RenumberedExp.binary h g) = holes_in h + holes_in g
     holes_in (like.RenumberedExp.assign h g) = holes_in h + holes_in g
     holes_in (like.RenumberedExp.gives h) = holes_in h
+    holes_in (like.RenumberedExp.assigns g h) = holes_in h
     holes_in (like.RenumberedExp.update h g) = holes_in h + holes_in g
     holes_in (like.RenumberedExp.call h) = holes_in_all h
     holes_in (like.RenumberedExp.hidden_call h) = holes_in_all h

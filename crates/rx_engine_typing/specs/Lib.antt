@@ -1,3 +1,4 @@
+pub mod Expecting
 pub mod Renumbered
 pub mod Scoped
 pub mod Counted

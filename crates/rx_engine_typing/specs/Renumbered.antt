@@ -1,7 +1,8 @@
 -- Trees with numbers that are one tree by other numbers of nodes, variables, loops and items (Rust Reference, "Expressions", "Patterns",
--- "Statements", "Scopes", "Loop labels"): each form stands where it stood, so its place makes the same of its value, a variable is known
--- and mutable where it was, and an assignment gives a type where it did. Where something else stands in the second tree, that is a hole.
-use Rattle.std.specs.Prelude.{ℕ, Bool, List, [], ◌∷◌, Option, Some, None, option_map}
+-- "Statements", "Scopes", "Loop labels"): each form stands where it stood, so its place makes the same of its value, and a variable is known
+-- where it was. Where something else stands in the second tree, that is a hole. A variable may be `mut` in one alone, or known in the second
+-- alone, and an assignment that gives a variable its type may give none in the second: whether they may is a parameter too.
+use Rattle.std.specs.Prelude.{ℕ, Bool, true, List, [], ◌∷◌, Option, Some, None, option_map}
 use Rattle.rx_core.specs.declared.types.Kind.{Kind}
 use Rattle.rx_core.specs.declared.types.Span.{Span}
 use Rattle.rx_tree.specs.declared.tree.BinaryOp.{BinaryOp}
@@ -12,20 +13,33 @@ use Rattle.rx_typed.specs.Named as named
 use Rattle.rx_typed.specs.Named.{Written, WrittenTypes, Pattern, Patterns, FieldPatterns, Exp, Exps, Else, Fields, Arms, Body, Statement, Statements, Parameter, Function}
 use Rattle.rx_engine_blocks.specs.Renumbering.{Renumbering, node_at}
 use Rattle.rx_engine_blocks.specs.DemandsLike.{Is}
+use Rattle.rx_engine_typing.specs.Expecting.{expecting}
 
 -- what may stand in the second: for an expression, for a block; whether a return stands for a return
 pub record Holes : Type 1 where
   pub expression : Exp → Exp → Type 0
   pub block : Body → Body → Type 0
   pub returns : Type 0
+  -- for a use of a variable: whether it may be `mut` so, and known so, in the second
+  pub uses : Use → Bool → Bool → Type 0
+  -- whether an assignment of the first that gives a variable its type may give none in the second, where its value is this one
+  pub given_before : Exp → Exp → Type 0
 
 -- nothing else
 abbrev pub no_holes : Holes
-no_holes = record { expression = λ e e'. ⊥; block = λ b b'. ⊥; returns = Unit {0} }
+no_holes = record { expression = λ e e'. ⊥; block = λ b b'. ⊥; returns = Unit {0}; uses = λ x m k. ⊥; given_before = λ e e'. ⊥ }
+
+-- but for variables that are `mut` in one alone, or known in the second alone, and assignments of these
+abbrev pub known_before : Holes
+known_before = record { expression = λ e e'. ⊥; block = λ b b'. ⊥; returns = Unit {0}; uses = λ x m k. Unit {0}; given_before = λ e e'. Unit {0} }
 
 module _ (r : Renumbering) where
   abbrev pub use_at : Use → Use
   use_at x = record { number = r.variables x.number; mutable = x.mutable; known = x.known }
+
+  -- `mut` and known so in the second
+  abbrev pub use_so : Bool → Bool → Use → Use
+  use_so m k x = record { number = r.variables x.number; mutable = m; known = k }
 
   -- the span may be another
   pub data NodeAt : Node → Node → Type 0 where
@@ -83,6 +97,8 @@ module _ (r : Renumbering) (loops : ℕ → ℕ) (H : Holes) where
       bool : {n : Node} {s : Span} {b : Bool} → RenumberedExp (named.bool n b) (named.bool (node_at r n s) b)
       tuple : {n : Node} {s : Span} {es es' : Exps} → RenumberedExps es es' → RenumberedExp (named.tuple n es) (named.tuple (node_at r n s) es')
       var : {n : Node} {s : Span} {x : Use} → RenumberedExp (named.var n x) (named.var (node_at r n s) (use_at r x))
+      -- it is `mut` or known in one alone
+      other_var : {n : Node} {s : Span} {x : Use} {m k : Bool} → H.uses x m k → RenumberedExp (named.var n x) (named.var (node_at r n s) (use_so r m k x))
       field : {n : Node} {s : Span} {e e' : Exp} {x : List ℕ} → RenumberedExp e e' → RenumberedExp (named.field n e x) (named.field (node_at r n s) e' x)
       part : {n : Node} {s : Span} {e e' : Exp} {i : ℕ} → RenumberedExp e e' → RenumberedExp (named.part n e i) (named.part (node_at r n s) e' i)
       deref : {n : Node} {s : Span} {e e' : Exp} → RenumberedExp e e' → RenumberedExp (named.deref n e) (named.deref (node_at r n s) e')
@@ -91,7 +107,11 @@ module _ (r : Renumbering) (loops : ℕ → ℕ) (H : Holes) where
       borrow : {n : Node} {s : Span} {m : Bool} {e e' : Exp} → RenumberedExp e e' → RenumberedExp (named.borrow n m e) (named.borrow (node_at r n s) m e')
       binary : {n : Node} {s : Span} {o : BinaryOp} {a a' b b' : Exp} → RenumberedExp a a' → RenumberedExp b b' → RenumberedExp (named.binary n o a b) (named.binary (node_at r n s) o a' b')
       assign : {n : Node} {s : Span} {p p' e e' : Exp} → RenumberedExp p p' → RenumberedExp e e' → RenumberedExp (named.assign n p e) (named.assign (node_at r n s) p' e')
-      gives : {n p : Node} {s t : Span} {x : Use} {d : Option ℕ} {e e' : Exp} → RenumberedExp e e' → RenumberedExp (named.gives n p x d e) (named.gives (node_at r n s) (node_at r p t) (use_at r x) (option_map r.nodes d) e')
+      -- whether the variable is `mut` isn't looked at
+      gives : {n p : Node} {s t : Span} {x : Use} {m : Bool} {d : Option ℕ} {e e' : Exp} → RenumberedExp e e' → RenumberedExp (named.gives n p x d e) (named.gives (node_at r n s) (node_at r p t) (use_so r m x.known x) (option_map r.nodes d) e')
+      -- the variable's type is known before, and expected of the value
+      assigns : {n p : Node} {s t : Span} {x : Use} {m : Bool} {d : Option ℕ} {e e' : Exp} → H.given_before (named.gives n p x d e) e' → RenumberedExp e e'
+          → RenumberedExp (named.gives n p x d e) (named.assign (node_at r n s) (named.var (node_at r p t) (use_so r m true x)) (expecting e'))
       update : {n : Node} {s : Span} {o : UpdateOp} {p p' e e' : Exp} → RenumberedExp p p' → RenumberedExp e e' → RenumberedExp (named.update n o p e) (named.update (node_at r n s) o p' e')
       call : {n : Node} {s : Span} {g : ℕ} {es es' : Exps} → RenumberedExps es es' → RenumberedExp (named.call n g es) (named.call (node_at r n s) (r.items g) es')
       hidden_call : {n : Node} {s : Span} {es es' : Exps} → RenumberedExps es es' → RenumberedExp (named.hidden_call n es) (named.hidden_call (node_at r n s) es')

@@ -22,7 +22,7 @@ ghost use Rattle.rx_engine_simulation.specs.Openings.{no_openings};
 ghost use Rattle.rx_engine_simulation.specs.Programs.{LikeFunction};
 ghost use Rattle.rx_engine_typing.specs.Corresponding.{given_types, Corresponding, FieldsApart, StayApart};
 ghost use Rattle.rx_engine_typing.specs.Scoped.{ScopedFunction};
-ghost use Rattle.rx_engine_typing.specs.Renumbered.{no_holes, RenumberedFunction};
+ghost use Rattle.rx_engine_typing.specs.Renumbered.{known_before, no_holes, RenumberedFunction};
 
 /// Of functions that are one by other numbers the rules ask the same, by these numbers.
 pub fn renumbered_functions_ask_alike()
@@ -40,6 +40,13 @@ pub fn renumbered_functions_are_typed_alike()
 pub fn renumbered_functions_have_like_trees()
     ensures { (r : Renumbering) (loops : ℕ → ℕ) → StayApart r.variables → StayApart loops → (D : Known) (A : Types) (T : Assigned) → Corresponding r (given_types D A) T → FieldsApart D.items
         → (f g : Function) → RenumberedFunction r loops no_holes f g → ScopedFunction f → MeetsEach D A (demands f) → LikeFunction r.items no_openings (record { turns = 0; strays = false }) (elaborated (given_types D A) f) (elaborated T g) }
+{}
+
+/// The same where variables may be `mut` in one of both alone or known in the second alone, and an assignment that gives a variable its type in the first may give none in
+/// the second, since the type is known before and expected of the value.
+pub fn functions_with_types_known_before_have_like_trees()
+    ensures { (r : Renumbering) (loops : ℕ → ℕ) → StayApart r.variables → StayApart loops → (D : Known) (A : Types) (T : Assigned) → Corresponding r (given_types D A) T → FieldsApart D.items
+        → (f g : Function) → RenumberedFunction r loops known_before f g → ScopedFunction f → MeetsEach D A (demands f) → LikeFunction r.items no_openings (record { turns = 0; strays = false }) (elaborated (given_types D A) f) (elaborated T g) }
 {}
 
 /// In the tree with numbers of a function whose names have a meaning each variable stands in the scope of its pattern, each jump in its

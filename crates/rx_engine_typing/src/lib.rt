@@ -4,6 +4,7 @@
 mod laws;
 
 pub use laws::{
-    named_functions_are_scoped, renumbered_functions_are_typed_alike,
-    renumbered_functions_ask_alike, renumbered_functions_have_like_trees,
+    functions_with_types_known_before_have_like_trees, named_functions_are_scoped,
+    renumbered_functions_are_typed_alike, renumbered_functions_ask_alike,
+    renumbered_functions_have_like_trees,
 };

@@ -58,14 +58,14 @@ declared_count (function_declared ps u) = length ps
 declared_count _ = 0
 
 -- of a function as many parameters are declared as its text has
-abbrev DeclaredAs : ItemTree → Decl → Type 0
+abbrev pub DeclaredAs : ItemTree → Decl → Type 0
 DeclaredAs (plain.function_item s f) d = (is_function (plain-Decl d) ≡ true) × (declared_count (plain-Decl d) ≡ length f.params)
 DeclaredAs _ d = is_function (plain-Decl d) ≡ false
 
 moved : (i : ItemTree) (a d : Decl) → ◌≡◌ {A = steps.Outcome Decl} (Ok a) (Ok d) → DeclaredAs i a → DeclaredAs i d
 moved i a d e h = subst (DeclaredAs i) (read_same a d e) h
 
-declared_as : (p : ProgramTree) (ns : List NodeNames) (i : ItemTree) (d : Decl) → declared_item p ns i ≡ Ok d → DeclaredAs i d
+pub declared_as : (p : ProgramTree) (ns : List NodeNames) (i : ItemTree) (d : Decl) → declared_item p ns i ≡ Ok d → DeclaredAs i d
 declared_as p ns (plain.rt_item s r) d e = moved (plain.rt_item s r) decl.Rt d e refl
 declared_as p ns (plain.struct_item s x) d e =
     let a = read_ok (fields_of p x.fields (begins ns 0)) (λ r. steps.on_ok (all_used 0 x.lifetimes r.1.lifetimes) (λ _. Ok (decl.Struct (derives_copy x.derives) (number (length x.lifetimes)) [] r.0))) d e in

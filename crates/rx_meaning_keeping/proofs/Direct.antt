@@ -22,6 +22,7 @@ use Rattle.rx_facts_init.specs.Wholes as wholes
 use Rattle.rx_facts_init.specs.Wholes.{placed, stands, holds_in}
 use Rattle.rx_facts_init.specs.Initialised.{InOrder}
 use Rattle.rx_meaning_keeping.specs.Pending.{Pending, holds}
+use Rattle.rx_meaning_keeping.specs.RightOperands.{IsRightOf}
 use Rattle.rx_meaning_keeping.specs.Using.{Does}
 use Rattle.rx_meaning_keeping.specs.Using as using
 use Rattle.rx_meaning_keeping.specs.Strict.{lacks_there, is_lack, lacks_on_the_way, looks_at_lack, then_marks, does_strictly}
@@ -385,7 +386,7 @@ module _ (F : Frame) (parts : Parted F) (k : World) (f : _) (ready : Ready F f) 
   place_has : (w : List Action) (n : ℕ) (a : Act) (p : Place) → IsWalk f (w ++ does n a ∷ []) → looked_at a ≡ Some p → is_behind p.steps ≡ false → (x : ℕ) → p.root ≡ variable x → HasPart F x p.steps
   place_has w n a p is e b x r = ready.places w (does n a) x p.steps is (e ∙ ap (λ z. Some (record { root = z; steps = p.steps })) r) b
 
-  pub direct_lacks_not : (muts : _) (w : List Action) (n : ℕ) (a : Act) (vs : List Value) (s : State) (K : Pending) (K1 : Value → Pending) → Does a vs K K1 → IsWalk f (w ++ does n a ∷ []) → InOrder F muts w (does n a) → Marked F k w s K
+  pub direct_lacks_not : (muts : _) (w : List Action) (n : ℕ) (a : Act) (vs : List Value) (s : State) (K : Pending) (K1 : Value → Pending) → Does (IsRightOf f) a vs K K1 → IsWalk f (w ++ does n a ∷ []) → InOrder F muts w (does n a) → Marked F k w s K
       → goes_behind a ≡ false → NoLack (does_strictly a vs s)
   direct_lacks_not muts w n _ _ s K _ (using.declares {x = x}) is o i b = tt
   direct_lacks_not muts w n _ _ s K _ (using.dies {x = x}) is o i b = tt

@@ -10,7 +10,7 @@ use Rattle.rx_lower_walks.specs.Actions.{Act, Declare, Dead, Read, Write, Borrow
 use Rattle.rx_lower_walks.specs.Orders as order
 use Rattle.rx_lower_walks.specs.Orders.{Exit, breaks, continues, returns, exit_node, Order, perhaps, binding, declaring, testing, order_all, order_scrutinee, order_arms, order_body, order_function, beginning, argument}
 use Rattle.rx_lower_walks.specs.Walks as walk
-use Rattle.rx_lower_walks.specs.Walks.{Walk, Passed, IsWalk, IsAway, Among}
+use Rattle.rx_lower_walks.specs.Walks.{Walk, Passed, IsWalk, IsAway}
 use Rattle.rx_meaning.specs.Endings.{Ending, running, wrong, mistyped, missing_function, missing_arm}
 use Rattle.rx_meaning.specs.Values.{Value, truth, unit_value, Frame, new_frame, element, State, with_turns}
 use Rattle.rx_meaning.specs.Results as results
@@ -21,8 +21,9 @@ use Rattle.rx_meaning.specs.Expressions.{Functions, Meaning, turn_at, take_turn,
 use Rattle.rx_meaning.specs.Telling.{Told, did, said, acted, saying, noted, fully}
 use Rattle.rx_meaning.proofs.Told.{acted_append, acted_saying}
 use Rattle.rx_meaning_keeping.specs.Pending.{Pending, Paired, no_pair, pair_and, holds, landing, pushes, ids, Unheld, Thin, none, keeps, skips, swaps, holding, Fits, of_place, of_held, arguments, AsMany, one_more}
-use Rattle.rx_meaning_keeping.specs.Units.{FillsUnit, OperandsFill, ScrutineeFills, ArmsFill, BodyFills, IsUnitOf}
-use Rattle.rx_meaning_keeping.specs.Using.{Does, reads, borrows, borrows_held, tests, tests_held, writes, writes_part, builds, joins, inputs, prints, gives_up, dies, Gives}
+use Rattle.rx_meaning_keeping.specs.Units.{GoesOn, FillsUnit, OperandsFill, ScrutineeFills, ArmsFill, BodyFills, IsUnitOf}
+use Rattle.rx_meaning_keeping.specs.RightOperands.{HasRight, OperandsHaveRight, ScrutineeHasRight, ArmsHaveRight, BodyHasRight, IsRightOf}
+use Rattle.rx_meaning_keeping.specs.Using.{Taken, Does, reads, borrows, borrows_held, tests, tests_held, writes, writes_part, builds, joins, inputs, prints, gives_up, dies, Gives}
 use Rattle.rx_meaning_keeping.specs.Using as using
 use Rattle.rx_meaning_keeping.specs.Formed.{with_subject, Apart, Formed, FormedAll, FormedScrutinee, FormedArms, FormedBody, AllFormed}
 use Rattle.rx_meaning_keeping.specs.Keeping.{Invariant, Kept, Law, ArmFails, AllFail, Calling, Laws, IsFunction}
@@ -91,6 +92,12 @@ module _ {E : Type 0} (Ok : Ending → Type 0) (Leap : List Action → Exit → 
   fine_leap Leap1 Post V w _ f (leaps v g h p) = leaps v g h (f _ _ _ _ p)
   fine_leap Leap1 Post V w _ f (halts v g h p) = halts v g h p
 
+  -- behind it some walk goes on
+  fine_on : {A : Type 0} (Post : List Action → A → State → Type 0) (V : Order) (w : List Action) (r : Result (Told E) A) → Follows Ok Post Leap V w r → Follows Ok (λ l a s. GoesOn V × Post l a s) Leap V w r
+  fine_on Post V w _ (goes v g h p) = goes v g h ((v, h), p)
+  fine_on Post V w _ (leaps v g h p) = leaps v g h p
+  fine_on Post V w _ (halts v g h p) = halts v g h p
+
   -- another value in place of what a part gave
   fine_map : {A B : Type 0} (Post1 : List Action → A → State → Type 0) (Post : List Action → B → State → Type 0) (V : Order) (w : List Action) (f : A → B) (r : Result (Told E) A)
       → ((l : List Action) (a : A) (s : State) → Post1 l a s → Post l (f a) s) → Follows Ok Post1 Leap V w r → Follows Ok Post Leap V w (bind r (λ a s. on [] (f a) s))
@@ -145,7 +152,7 @@ test_fails h = walk.next (walk.both walk.acts (walk.other walk.fail)) h
 
 -- ---- one activation
 
-module _ {E : Type 0} (A : Acting E) (Ok : Ending → Type 0) (Is : List Action → Type 0) (Us : Temporary → Type 0) (I : Invariant) (law : Law A Ok Is Us I) (no_turn : Ok running) where
+module _ {E : Type 0} (A : Acting E) (Ok : Ending → Type 0) (Is : List Action → Type 0) (Us Rs : Temporary → Type 0) (I : Invariant) (law : Law A Ok Is Us Rs I) (no_turn : Ok running) where
   abbrev Good : {B : Type 0} → (B → Pending) → List Action → B → State → Type 0
   Good K1 w v s = I w s (K1 v)
 
@@ -174,16 +181,16 @@ module _ {E : Type 0} (A : Acting E) (Ok : Ending → Type 0) (Is : List Action 
   fine_done w a s K K1 (results.ends t e) h = halts (a ∷ []) (one_told a t) (walk.stops walk.acts) h
 
   -- an action
-  fine_act : (w : List Action) (a : Action) (vs : List Value) (s : State) (K K0 : Pending) (K1 : Value → Pending) → Does a.act vs K0 K1 → Ctx (order.act a) w → I w s K0
+  fine_act : (w : List Action) (a : Action) (vs : List Value) (s : State) (K K0 : Pending) (K1 : Value → Pending) → Does Rs a.act vs K0 K1 → Ctx (order.act a) w → I w s K0
       → Follows Ok (λ l v s1. Gives a.act s v s1 × I l s1 (K1 v)) (Leap K) (order.act a) w (performed (fully A) a vs s)
   fine_act w a vs s K K0 K1 d c i = fine_done w a s K K1 _ (law.performs w a vs s K0 K1 d (c (a ∷ []) walk.on walk.acts) i)
 
-  fine_one : (w : List Action) (a : Action) (vs : List Value) (s : State) (K K0 : Pending) (K1 : Value → Pending) → Does a.act vs K0 K1 → Ctx (order.act a) w → I w s K0
+  fine_one : (w : List Action) (a : Action) (vs : List Value) (s : State) (K K0 : Pending) (K1 : Value → Pending) → Does Rs a.act vs K0 K1 → Ctx (order.act a) w → I w s K0
       → FineAt K K1 (order.act a) w (performed (fully A) a vs s)
   fine_one w a vs s K K0 K1 d c i = fine_post Ok (Leap K) (Good K1) _ (order.act a) w _ (λ l v s1 p. p.1) (fine_act w a vs s K K0 K1 d c i)
 
   -- an action that gives the unit
-  fine_unit : (w : List Action) (a : Action) (vs : List Value) (s : State) (K K0 : Pending) → Does a.act vs K0 (λ u. K) → ((v : Value) (s1 : State) → Gives a.act s v s1 → v ≡ unit_value)
+  fine_unit : (w : List Action) (a : Action) (vs : List Value) (s : State) (K K0 : Pending) → Does Rs a.act vs K0 (λ u. K) → ((v : Value) (s1 : State) → Gives a.act s v s1 → v ≡ unit_value)
       → Ctx (order.act a) w → I w s K0 → Follows Ok (GivesUnit K) (Leap K) (order.act a) w (performed (fully A) a vs s)
   fine_unit w a vs s K K0 h g c i = fine_post Ok (Leap K) (GivesUnit K) _ (order.act a) w _ (λ l v s1 p. (g v s1 p.0, p.1)) (fine_act w a vs s K K0 (λ u. K) h c i)
 
@@ -222,14 +229,14 @@ module _ {E : Type 0} (A : Acting E) (Ok : Ending → Type 0) (Is : List Action 
   -- ---- patterns
 
   -- an action whose value is not kept, and what follows it
-  fine_next : (K0 K2 K : Pending) (K1 : Value → Pending) (V : Order) (w : List Action) (a : Action) (vs : List Value) (s : State) (go : Value → State → Result (Told E) Value) → Does a.act vs K0 (λ u. K2)
+  fine_next : (K0 K2 K : Pending) (K1 : Value → Pending) (V : Order) (w : List Action) (a : Action) (vs : List Value) (s : State) (go : Value → State → Result (Told E) Value) → Does Rs a.act vs K0 (λ u. K2)
       → Ctx (order.then (order.act a) V) w → I w s K0 → ((u : Value) → Goes K2 K K1 V (go u)) → FineAt K K1 (order.then (order.act a) V) w (bind (performed (fully A) a vs s) go)
   fine_next K0 K2 K K1 V w a vs s go d c i k =
       fine_then Is Ok (Leap K) (λ l u s1. I l s1 K2) (Good K1) w _ go c (fine_one w a vs s K K0 (λ u. K2) d (context_first Is w c) i) (λ w1 u s1 c1 i1. k u w1 s1 c1 i1)
 
   -- a new variable is written from what was taken
   fine_new : (ws : List Value) (n x : ℕ) (d : Temporary) (ss : List Step) (K0 K2 K : Pending) (K1 : Value → Pending) (V : Order) (w : List Action) (s : State) (go : State → Result (Told E) Value)
-      → Does (Write (own x) d ss) ws K0 (λ u. K2) → Ctx (order.then (order.act (does n (Declare x))) (order.then (order.act (does n (Write (own x) d ss))) V)) w → I w s K0 → Goes K2 K K1 V go
+      → Does Rs (Write (own x) d ss) ws K0 (λ u. K2) → Ctx (order.then (order.act (does n (Declare x))) (order.then (order.act (does n (Write (own x) d ss))) V)) w → I w s K0 → Goes K2 K K1 V go
       → FineAt K K1 (order.then (order.act (does n (Declare x))) (order.then (order.act (does n (Write (own x) d ss))) V)) w
       (bind (performed (fully A) (does n (Declare x)) [] s) (λ u s2. bind (performed (fully A) (does n (Write (own x) d ss)) ws s2) (λ z s3. go s3)))
   fine_new ws n x d ss K0 K2 K K1 V w s go f c i k =
@@ -249,7 +256,7 @@ module _ {E : Type 0} (A : Acting E) (Ok : Ending → Type 0) (Is : List Action 
   Took d K l ws s1 = (v : Value) × (ws ≡ v ∷ []) × I l s1 (holds d v K)
 
   fine_took : (n x : ℕ) (a : Act) (vs : List Value) (K0 K2 K : Pending) (K1 : Value → Pending) (V : Order) (w : List Action) (s : State) (go : State → Result (Told E) Value)
-      → Does a vs K0 (λ v. holds (temporary_at n 0) v K2)
+      → Does Rs a vs K0 (λ v. holds (temporary_at n 0) v K2)
       → Ctx (order.then (order.act (does n a)) (order.then (order.act (does n (Declare x))) (order.then (order.act (does n (Write (own x) (temporary_at n 0) []))) V))) w
       → I w s K0 → Goes K2 K K1 V go
       → FineAt K K1 (order.then (order.act (does n a)) (order.then (order.act (does n (Declare x))) (order.then (order.act (does n (Write (own x) (temporary_at n 0) []))) V))) w
@@ -311,7 +318,7 @@ module _ {E : Type 0} (A : Acting E) (Ok : Ending → Type 0) (Is : List Action 
       way false e j = unfold decided in (fine_after Ok (Leap K) (Good K1) N (Tested a U N) w (a ∷ []) (did a ∷ saying t) _ (one_told a t) (λ v x f. test_fails f)
           (l (w ++ a ∷ []) t e (λ v x f. subst Is (sym (append_assoc w (a ∷ []) v)) (c (a ∷ v) x (test_fails f))) j))
 
-  test_does : (S : Subject) (vs : List Value) (t : PartTest) (K : Pending) → Fits S vs → Does (test_of S t).act vs (holding S vs K) (λ u. holding S vs K)
+  test_does : (S : Subject) (vs : List Value) (t : PartTest) (K : Pending) → Fits S vs → Does Rs (test_of S t).act vs (holding S vs K) (λ u. holding S vs K)
   test_does _ _ t K of_place = tests
   test_does _ _ t K of_held = tests_held
 
@@ -420,12 +427,12 @@ module _ {E : Type 0} (A : Acting E) (Ok : Ending → Type 0) (Is : List Action 
 
   -- ---- expressions
 
-  -- the temporaries that get the unit
-  abbrev Fills : (Temporary → Type 0) → Type 0
-  Fills N = (t : Temporary) → N t → Us t
+  -- the temporaries that get the unit, and the right operands that go on
+  abbrev Fills : (Temporary → Type 0) → (Temporary → Type 0) → Type 0
+  Fills N R = ((t : Temporary) → N t → Us t) × ((t : Temporary) → R t → Rs t)
 
   AllFine : (Subject → Arms → Type 0) → Meaning (Told E) → Type 0
-  AllFine C low = (e : Exp) (d : Temporary) (w : List Action) (s : State) (K : Pending) → Formed C (ids K) e d → Fills (FillsUnit e d) → Ctx (order.order e d) w → I w s K → FineAt K (λ v. holds d v K) (order.order e d) w (low e d s)
+  AllFine C low = (e : Exp) (d : Temporary) (w : List Action) (s : State) (K : Pending) → Formed C (ids K) e d → Fills (FillsUnit e d) (HasRight e) → Ctx (order.order e d) w → I w s K → FineAt K (λ v. holds d v K) (order.order e d) w (low e d s)
 
   Callee : Functions → Meaning (Told E) → Type 0
   Callee P low = (w : List Action) (n g : ℕ) (ts : List Temporary) (d : Temporary) (vs : List Value) (s : State) (K : Pending) → Unheld d (ids K) → Paired ts vs → Is (w ++ does n (Call g ts d) ∷ [])
@@ -438,7 +445,7 @@ module _ {E : Type 0} (A : Acting E) (Ok : Ending → Type 0) (Is : List Action 
     mutual
       unfolding value AllFine Callee NoArm
 
-      value_fine : (e : Exp) (d : Temporary) (w : List Action) (s : State) (K : Pending) → Formed C (ids K) e d → Fills (FillsUnit e d) → Ctx (order.order e d) w → I w s K → FineAt K (λ v. holds d v K) (order.order e d) w (value (fully A) P low e d s)
+      value_fine : (e : Exp) (d : Temporary) (w : List Action) (s : State) (K : Pending) → Formed C (ids K) e d → Fills (FillsUnit e d) (HasRight e) → Ctx (order.order e d) w → I w s K → FineAt K (λ v. holds d v K) (order.order e d) w (value (fully A) P low e d s)
       value_fine (read m v p) d w s K h fu c i = fine_one w _ [] s K K _ (reads h) c i
       value_fine (borrow m k p) d w s K h fu c i = fine_one w _ [] s K K _ (borrows h) c i
       value_fine (share m e) d w s K h fu c i =
@@ -448,25 +455,28 @@ module _ {E : Type 0} (A : Acting E) (Ok : Ending → Type 0) (Is : List Action 
       value_fine (build m y es) d w s K h fu c i =
           fine_then Is Ok (Leap K) (GoodAll (temporaries_of es) K) (Good (λ v. holds d v K)) w _ _ c (values_fine es w s K h.0 fu (context_first Is w c) i)
           (λ w1 vs s1 c1 q. fine_one w1 _ vs s1 K _ _ (builds K q.0 (λ z. as_many_fields es) h.1) c1 q.1)
-      value_fine (unit m) d w s K h fu c i = goes [] refl walk.nothing (subst (λ l. I l s (holds d unit_value K)) (sym (append-nil w)) (law.units w s d K (fu d (refl, ([], walk.nothing))) h i))
+      value_fine (unit m) d w s K h fu c i = goes [] refl walk.nothing (subst (λ l. I l s (holds d unit_value K)) (sym (append-nil w)) (law.units w s d K (fu.0 d (refl, ([], walk.nothing))) h i))
       value_fine (lazily m b e f) d w s K h fu c i =
           let te = temporary_of e in let tf = temporary_of f in
-          fine_then Is Ok (Leap K) (Good (λ v. holds te v K)) (Good (λ v. holds d v K)) w _ _ c (value_fine e te w s K h.0 (λ t x. fu t (inl x)) (context_first Is w c) i) (λ w1 v s1 c1 i1.
+          fine_then Is Ok (Leap K) (λ l v s1. GoesOn (order.order e te) × I l s1 (holds te v K)) (Good (λ v. holds d v K)) w _ _ c
+          (fine_on Ok (Leap K) (Good (λ v. holds te v K)) (order.order e te) w _ (value_fine e te w s K h.0 ((λ t x. fu.0 t (inl x)), (λ t x. fu.1 t (inl x))) (context_first Is w c) i)) (λ w1 v s1 c1 i1.
           fine_then Is Ok (Leap K) (λ l t s2. ((s2 ≡ s1) × (x : Bool) × (t ≡ truth x)) × I l s2 (holds te v K)) (Good (λ v. holds d v K)) w1 _ _ c1
-          (fine_act w1 _ (v ∷ []) s1 K (holds te v K) (λ u. holds te v K) (tests_held {ss = []}) (context_first Is w1 c1) i1) (λ w2 t s2 c2 q.
-          fine_then Is Ok (Leap K) (λ l y s3. (x : Temporary) × Among x (te ∷ tf ∷ []) × I l s3 (holds x y K)) (Good (λ v. holds d v K)) w2 _ _ c2
+          (fine_act w1 _ (v ∷ []) s1 K (holds te v K) (λ u. holds te v K) (tests_held {ss = []}) (context_first Is w1 c1) i1.1) (λ w2 t s2 c2 q.
+          fine_then Is Ok (Leap K) (λ l y s3. (x : Temporary) × Taken Rs te tf x × I l s3 (holds x y K)) (Good (λ v. holds d v K)) w2 _ _ c2
           (fine_decided t s1 s2 (order.order f tf) order.nothing (holds te v K) K _ w2 _ _ q.0 (context_first Is w2 c2) q.1
-          (λ w3 s3 c3 i3. fine_post Ok (Leap K) _ (Good (λ y. holds tf y K)) _ w3 _ (λ l y s4 i4. (tf, walk.there walk.here, i4)) (value_fine f tf w3 s3 K h.1 (λ t x. fu t (inr x)) c3 (law.drops w3 s3 _ _ (skips (thin_all K)) i3)))
-          (λ w3 s3 c3 i3. goes [] refl walk.nothing (te, walk.here, subst (λ l. I l s3 (holds te v K)) (sym (append-nil w3)) i3)))
+          (λ w3 s3 c3 i3. fine_post Ok (Leap K) _ (λ l y s4. GoesOn (order.order f tf) × I l s4 (holds tf y K)) _ w3 _ (λ l y s4 i4. (tf, using.right (fu.1 tf (inr (i1.0, inl (refl, i4.0)))), i4.1))
+          (fine_on Ok (Leap K) (Good (λ y. holds tf y K)) (order.order f tf) w3 _
+          (value_fine f tf w3 s3 K h.1 ((λ t x. fu.0 t (inr (i1.0, x))), (λ t x. fu.1 t (inr (i1.0, inr x)))) c3 (law.drops w3 s3 _ _ (skips (thin_all K)) i3))))
+          (λ w3 s3 c3 i3. goes [] refl walk.nothing (te, using.left, subst (λ l. I l s3 (holds te v K)) (sym (append-nil w3)) i3)))
           (λ w4 y s4 c4 r. fine_one w4 _ (y ∷ []) s4 K (holds r.0 y K) _ (joins r.1 h.2) c4 r.2)))
       value_fine (assign m p e) d w s K h fu c i =
-          fine_fill d K (order.order (assign m p e) d) w _ (λ o x. fu d (inr (refl, (o, x)))) h.1
-          (fine_then Is Ok (Leap K) (Good (λ v. holds (temporary_of e) v K)) (GivesUnit K) w _ _ c (value_fine e _ w s K h.0 (λ t x. fu t (inl x)) (context_first Is w c) i)
+          fine_fill d K (order.order (assign m p e) d) w _ (λ o x. fu.0 d (inr (refl, (o, x)))) h.1
+          (fine_then Is Ok (Leap K) (Good (λ v. holds (temporary_of e) v K)) (GivesUnit K) w _ _ c (value_fine e _ w s K h.0 ((λ t x. fu.0 t (inl x)), fu.1) (context_first Is w c) i)
           (λ w1 v s1 c1 i1. fine_unit w1 _ (v ∷ []) s1 K _ writes (λ u s2 g. g) c1 i1))
       value_fine (update m o p e) d w s K h fu c i =
           let te = temporary_of e in let t1 = temporary_at m.node 1 in let t2 = temporary_at m.node 2 in
-          fine_fill d K (order.order (update m o p e) d) w _ (λ v x. fu d (inr (refl, (v, x)))) h.3
-          (fine_then Is Ok (Leap K) (Good (λ v. holds te v K)) (GivesUnit K) w _ _ c (value_fine e te w s K h.0 (λ t x. fu t (inl x)) (context_first Is w c) i) (λ w1 v s1 c1 i1.
+          fine_fill d K (order.order (update m o p e) d) w _ (λ v x. fu.0 d (inr (refl, (v, x)))) h.3
+          (fine_then Is Ok (Leap K) (Good (λ v. holds te v K)) (GivesUnit K) w _ _ c (value_fine e te w s K h.0 ((λ t x. fu.0 t (inl x)), fu.1) (context_first Is w c) i) (λ w1 v s1 c1 i1.
           fine_then Is Ok (Leap K) (Good (λ u. holds t1 u (holds te v K))) (GivesUnit K) w1 _ _ c1 (fine_one w1 _ [] s1 K (holds te v K) _ (reads h.1) (context_first Is w1 c1) i1) (λ w2 u s2 c2 i2.
           fine_then Is Ok (Leap K) (Good (λ y. holds t2 y K)) (GivesUnit K) w2 _ _ c2
           (fine_one w2 _ (u ∷ v ∷ []) s2 K _ _ (builds K (pair_and (pair_and no_pair)) (λ z. absurd (cc)) h.2) (context_first Is w2 c2) (law.drops w2 s2 _ _ (swaps (thin_all K)) i2)) (λ w3 y s3 c3 i3.
@@ -478,16 +488,17 @@ module _ {E : Type 0} (A : Acting E) (Ok : Ending → Type 0) (Is : List Action 
           (λ u s2 i2. callee w1 m.node g (temporaries_of es) d vs s2 K h.1 q.0 (c1 (a ∷ []) walk.on walk.acts) i2))
       value_fine (input m) d w s K h fu c i = fine_one w _ [] s K K _ (inputs h) c i
       value_fine (print m e) d w s K h fu c i =
-          fine_fill d K (order.order (print m e) d) w _ (λ o x. fu d (inr (refl, (o, x)))) h.1
-          (fine_then Is Ok (Leap K) (Good (λ v. holds (temporary_of e) v K)) (GivesUnit K) w _ _ c (value_fine e _ w s K h.0 (λ t x. fu t (inl x)) (context_first Is w c) i)
+          fine_fill d K (order.order (print m e) d) w _ (λ o x. fu.0 d (inr (refl, (o, x)))) h.1
+          (fine_then Is Ok (Leap K) (Good (λ v. holds (temporary_of e) v K)) (GivesUnit K) w _ _ c (value_fine e _ w s K h.0 ((λ t x. fu.0 t (inl x)), fu.1) (context_first Is w c) i)
           (λ w1 v s1 c1 i1. fine_unit w1 _ (v ∷ []) s1 K _ prints (λ u s2 g. g) c1 i1))
       value_fine (block m b) d w s K h fu c i = body_fine b m.node d w s K h fu c i
       value_fine (choose m x l) d w s K h fu c i =
-          fine_then Is Ok (Leap K) (λ l1 vs s1. Fits (subject x) vs × I l1 s1 (holding (subject x) vs K)) (Good (λ v. holds d v K)) w _ _ c (matched_fine x w s K h.0 (λ t x. fu t (inl x)) (context_first Is w c) i)
-          (λ w1 vs s1 c1 q. arms_fine (subject x) vs l d w1 s1 K q.0 h.2 (λ t x. fu t (inr x)) c1 q.1 (λ f. no_arm_left (subject x) l w1 vs s1 K h.1 q.0 q.1 f))
+          fine_then Is Ok (Leap K) (λ l1 vs s1. GoesOn (order_scrutinee x) × (Fits (subject x) vs × I l1 s1 (holding (subject x) vs K))) (Good (λ v. holds d v K)) w _ _ c
+          (fine_on Ok (Leap K) (λ l1 vs s1. Fits (subject x) vs × I l1 s1 (holding (subject x) vs K)) (order_scrutinee x) w _ (matched_fine x w s K h.0 ((λ t x. fu.0 t (inl x)), (λ t x. fu.1 t (inl x))) (context_first Is w c) i))
+          (λ w1 vs s1 c1 g. let q = g.1 in arms_fine (subject x) vs l d w1 s1 K q.0 h.2 ((λ t x. fu.0 t (inr (g.0, x))), (λ t x. fu.1 t (inr (g.0, x)))) c1 q.1 (λ f. no_arm_left (subject x) l w1 vs s1 K h.1 q.0 q.1 f))
       value_fine (loop m l e) d w s K h fu c i =
           fine_turn K (λ v. holds d v K) (order.passes l (order.order e (temporary_of e))) w s _ c i (λ w1 s1 c1 i1.
-          fine_passed l (temporary_of e) d K _ w1 _ _ (λ o x. fu d (inr (refl, (o, x)))) h.1 c1 (all e (temporary_of e) w1 s1 K h.0 (λ t x. fu t (inl x)) (context_pass Is l w1 c1) i1) (λ w2 s2 c2 i2. all (loop m l e) d w2 s2 K h fu c2 i2))
+          fine_passed l (temporary_of e) d K _ w1 _ _ (λ o x. fu.0 d (inr (refl, (o, x)))) h.1 c1 (all e (temporary_of e) w1 s1 K h.0 ((λ t x. fu.0 t (inl x)), fu.1) (context_pass Is l w1 c1) i1) (λ w2 s2 c2 i2. all (loop m l e) d w2 s2 K h fu c2 i2))
       value_fine (jump m l true) d w s K h fu c i = leaps [] refl walk.leave (subst (λ u. I u s K) (sym (append-nil w)) i)
       value_fine (jump m l false) d w s K h fu c i = leaps [] refl walk.leave (subst (λ u. I u s K) (sym (append-nil w)) i)
       value_fine (give m e) d w s K h fu c i =
@@ -495,36 +506,40 @@ module _ {E : Type 0} (A : Acting E) (Ok : Ending → Type 0) (Is : List Action 
           fine_then Is Ok (Leap K) (λ l u s2. I l s2 ((None, u) ∷ K)) (Good (λ v. holds d v K)) w1 _ _ c1 (fine_one w1 _ (v ∷ []) s1 K _ _ gives_up (context_first Is w1 c1) i1)
           (λ w2 u s2 c2 i2. leaps [] refl walk.leave (subst (λ l. I l s2 ((None, u) ∷ K)) (sym (append-nil w2)) i2)))
 
-      values_fine : (es : Operands) (w : List Action) (s : State) (K : Pending) → FormedAll C (ids K) es → Fills (OperandsFill es) → Ctx (order_all es) w → I w s K → Follows Ok (GoodAll (temporaries_of es) K) (Leap K) (order_all es) w (values (fully A) P low es s)
+      values_fine : (es : Operands) (w : List Action) (s : State) (K : Pending) → FormedAll C (ids K) es → Fills (OperandsFill es) (OperandsHaveRight es) → Ctx (order_all es) w → I w s K → Follows Ok (GoodAll (temporaries_of es) K) (Leap K) (order_all es) w (values (fully A) P low es s)
       values_fine no_operand w s K h fu c i = goes [] refl walk.nothing (no_pair, subst (λ l. I l s K) (sym (append-nil w)) i)
       values_fine (operand_and j e es) w s K h fu c i =
           let te = temporary_of e in
-          fine_then Is Ok (Leap K) (Good (λ v. holds te v K)) (GoodAll (te ∷ temporaries_of es) K) w _ _ c (value_fine e te w s K h.0 (λ t x. fu t (inl x)) (context_first Is w c) i) (λ w1 v s1 c1 i1.
+          fine_then Is Ok (Leap K) (λ l v s1. GoesOn (order.order e te) × I l s1 (holds te v K)) (GoodAll (te ∷ temporaries_of es) K) w _ _ c
+          (fine_on Ok (Leap K) (Good (λ v. holds te v K)) (order.order e te) w _ (value_fine e te w s K h.0 ((λ t x. fu.0 t (inl x)), (λ t x. fu.1 t (inl x))) (context_first Is w c) i)) (λ w1 v s1 c1 i1.
           fine_map Ok (Leap K) (GoodAll (temporaries_of es) (holds te v K)) (GoodAll (te ∷ temporaries_of es) K) (order_all es) w1 (λ vs. v ∷ vs) _ (λ l vs s2 q. (pair_and q.0, q.1))
-          (fine_drop K (holds te v K) (GoodAll (temporaries_of es) (holds te v K)) (order_all es) w1 _ (skips (thin_all K)) (values_fine es w1 s1 (holds te v K) h.1 (λ t x. fu t (inr x)) c1 i1)))
+          (fine_drop K (holds te v K) (GoodAll (temporaries_of es) (holds te v K)) (order_all es) w1 _ (skips (thin_all K)) (values_fine es w1 s1 (holds te v K) h.1 ((λ t x. fu.0 t (inr (i1.0, x))), (λ t x. fu.1 t (inr (i1.0, x)))) c1 i1.1)))
 
-      matched_fine : (x : Scrutinee) (w : List Action) (s : State) (K : Pending) → FormedScrutinee C (ids K) x → Fills (ScrutineeFills x) → Ctx (order_scrutinee x) w → I w s K
+      matched_fine : (x : Scrutinee) (w : List Action) (s : State) (K : Pending) → FormedScrutinee C (ids K) x → Fills (ScrutineeFills x) (ScrutineeHasRight x) → Ctx (order_scrutinee x) w → I w s K
           → Follows Ok (λ l vs s1. Fits (subject x) vs × I l s1 (holding (subject x) vs K)) (Leap K) (order_scrutinee x) w (matched (fully A) P low x s)
       matched_fine (at_place m p) w s K h fu c i = goes [] refl walk.nothing (of_place, subst (λ l. I l s K) (sym (append-nil w)) i)
       matched_fine (of_value e) w s K h fu c i = fine_map Ok (Leap K) (Good (λ v. holds (temporary_of e) v K)) _ _ w (λ v. v ∷ []) _ (λ l v s1 q. (of_held, q)) (value_fine e _ w s K h fu c i)
 
-      arms_fine : (S : Subject) (vs : List Value) (l : Arms) (d : Temporary) (w : List Action) (s : State) (K : Pending) → Fits S vs → FormedArms C (ids K) S l d → Fills (ArmsFill l d) → Ctx (order_arms S l d) w → I w s (holding S vs K)
+      arms_fine : (S : Subject) (vs : List Value) (l : Arms) (d : Temporary) (w : List Action) (s : State) (K : Pending) → Fits S vs → FormedArms C (ids K) S l d → Fills (ArmsFill l d) (ArmsHaveRight l) → Ctx (order_arms S l d) w → I w s (holding S vs K)
           → (AllFail A S vs s l → Ok (wrong missing_arm)) → FineAt K (λ v. holds d v K) (order_arms S l d) w (arms (fully A) P low S vs l d s)
       arms_fine S vs no_arm d w s K f h fu c i k = halts [] refl walk.rests (k tt)
       arms_fine S vs (arm_and p e rest) d w s K f h fu c i k =
           fine_tested S vs (matching.tests [] p) K (λ v. holds d v K) (binding S (bindings [] p) (mark_of e).node (order.order e d)) (order_arms S rest d) w s _ _ f c i
-          (λ w1 s1 c1 i1. fine_bound S vs (bindings [] p) (mark_of e).node K (λ v. holds d v K) (order.order e d) w1 s1 _ f h.0 c1 i1 (λ w2 s2 c2 i2. value_fine e d w2 s2 K h.1 (λ t x. fu t (inl x)) c2 i2))
-          (λ w1 q c1 i1. arms_fine S vs rest d w1 s K f h.2 (λ t x. fu t (inr x)) c1 i1 (λ r. k (q, r)))
+          (λ w1 s1 c1 i1. fine_bound S vs (bindings [] p) (mark_of e).node K (λ v. holds d v K) (order.order e d) w1 s1 _ f h.0 c1 i1 (λ w2 s2 c2 i2. value_fine e d w2 s2 K h.1 ((λ t x. fu.0 t (inl x)), (λ t x. fu.1 t (inl x))) c2 i2))
+          (λ w1 q c1 i1. arms_fine S vs rest d w1 s K f h.2 ((λ t x. fu.0 t (inr x)), (λ t x. fu.1 t (inr x))) c1 i1 (λ r. k (q, r)))
 
-      body_fine : (b : Body) (n : ℕ) (d : Temporary) (w : List Action) (s : State) (K : Pending) → FormedBody C (ids K) b d → Fills (BodyFills b d) → Ctx (order_body b n d) w → I w s K → FineAt K (λ v. holds d v K) (order_body b n d) w (body (fully A) P low b n d s)
+      body_fine : (b : Body) (n : ℕ) (d : Temporary) (w : List Action) (s : State) (K : Pending) → FormedBody C (ids K) b d → Fills (BodyFills b d) (BodyHasRight b) → Ctx (order_body b n d) w → I w s K → FineAt K (λ v. holds d v K) (order_body b n d) w (body (fully A) P low b n d s)
       body_fine (ends e) n d w s K h fu c i = value_fine e d w s K h fu c i
       body_fine (runs e rest) n d w s K h fu c i =
-          fine_then Is Ok (Leap K) (Good (λ v. holds (temporary_of e) v K)) (Good (λ v. holds d v K)) w _ _ c (value_fine e _ w s K h.0 (λ t x. fu t (inl x)) (context_first Is w c) i)
-          (λ w1 v s1 c1 i1. body_fine rest n d w1 s1 K h.1 (λ t x. fu t (inr x)) c1 (law.drops w1 s1 _ _ (skips (thin_all K)) i1))
+          fine_then Is Ok (Leap K) (λ l v s1. GoesOn (order.order e (temporary_of e)) × I l s1 (holds (temporary_of e) v K)) (Good (λ v. holds d v K)) w _ _ c
+          (fine_on Ok (Leap K) (Good (λ v. holds (temporary_of e) v K)) (order.order e (temporary_of e)) w _ (value_fine e _ w s K h.0 ((λ t x. fu.0 t (inl x)), (λ t x. fu.1 t (inl x))) (context_first Is w c) i))
+          (λ w1 v s1 c1 i1. body_fine rest n d w1 s1 K h.1 ((λ t x. fu.0 t (inr (i1.0, x))), (λ t x. fu.1 t (inr (i1.0, x)))) c1 (law.drops w1 s1 _ _ (skips (thin_all K)) i1.1))
       body_fine (tree.declares j xs rest) n d w s K h fu c i = fine_begun j xs n K (λ v. holds d v K) (order_body rest n d) w s _ c i (λ w1 s1 c1 i1. body_fine rest n d w1 s1 K h fu c1 i1)
       body_fine (lets j p x rest) n d w s K h fu c i =
-          fine_then Is Ok (Leap K) (λ l1 vs s1. Fits (subject x) vs × I l1 s1 (holding (subject x) vs K)) (Good (λ v. holds d v K)) w _ _ c (matched_fine x w s K h.0 (λ t x. fu t (inl x)) (context_first Is w c) i)
-          (λ w1 vs s1 c1 q. fine_bound (subject x) vs (bindings [] p) n K (λ v. holds d v K) (order_body rest n d) w1 s1 _ q.0 h.1 c1 q.1 (λ w2 s2 c2 i2. body_fine rest n d w2 s2 K h.2 (λ t x. fu t (inr x)) c2 i2))
+          fine_then Is Ok (Leap K) (λ l1 vs s1. GoesOn (order_scrutinee x) × (Fits (subject x) vs × I l1 s1 (holding (subject x) vs K))) (Good (λ v. holds d v K)) w _ _ c
+          (fine_on Ok (Leap K) (λ l1 vs s1. Fits (subject x) vs × I l1 s1 (holding (subject x) vs K)) (order_scrutinee x) w _ (matched_fine x w s K h.0 ((λ t x. fu.0 t (inl x)), (λ t x. fu.1 t (inl x))) (context_first Is w c) i))
+          (λ w1 vs s1 c1 g. let q = g.1 in
+          fine_bound (subject x) vs (bindings [] p) n K (λ v. holds d v K) (order_body rest n d) w1 s1 _ q.0 h.1 c1 q.1 (λ w2 s2 c2 i2. body_fine rest n d w2 s2 K h.2 ((λ t x. fu.0 t (inr (g.0, x))), (λ t x. fu.1 t (inr (g.0, x)))) c2 i2))
 
 -- ---- programs
 
@@ -540,7 +555,7 @@ differs y G p q h = subst IsNone q (subst IsNone (sym p) h)
 
 module _ {E : Type 0} (A : Acting E) (Ok : Ending → Type 0) (P : Functions) (C : ℕ → Subject → Arms → Type 0) (W : Type 0) (I : ℕ → W → Invariant) (laws : Laws A Ok P C W I) (formed : AllFormed P C) where
   AllLow : Meaning (Told E) → Type 0
-  AllLow low = (f : ℕ) (F : Function) (q : IsFunction P f F) (k : W) (e : Exp) (d : Temporary) (w : List Action) (s : State) (K : Pending) → Formed (C f) (ids K) e d → ((t : Temporary) → FillsUnit e d t → IsUnitOf F t) → Context (IsWalk F) (order.order e d) w → I f k w s K
+  AllLow low = (f : ℕ) (F : Function) (q : IsFunction P f F) (k : W) (e : Exp) (d : Temporary) (w : List Action) (s : State) (K : Pending) → Formed (C f) (ids K) e d → ((t : Temporary) → FillsUnit e d t → IsUnitOf F t) × ((t : Temporary) → HasRight e t → IsRightOf F t) → Context (IsWalk F) (order.order e d) w → I f k w s K
       → Follows Ok (λ l v s1. I f k l s1 (holds d v K)) (λ l x v s1. I f k l s1 (landing x v K)) (order.order e d) w (low e d s)
 
   -- what an activation does
@@ -550,8 +565,8 @@ module _ {E : Type 0} (A : Acting E) (Ok : Ending → Type 0) (P : Functions) (C
   activation_fine : (low : Meaning (Told E)) → AllLow low → (f : ℕ) (F : Function) (q : IsFunction P f F) (k : W) (vs : List Value) (s : State) → ((AsMany F.params vs → ⊥) → Ok (wrong mistyped)) → I f k [] s (arguments F.params vs) → Activated f F k (activation (fully A) low F vs s)
   unfolding AllLow
   activation_fine low all f F q k vs s m i =
-      fine_arguments A Ok (IsWalk F) (IsUnitOf F) (I f k) (laws.steps f F q k) laws.runs_on F.params (mark_of F.body).node vs (λ v. holds (temporary_of F.body) v []) (order.order F.body (temporary_of F.body)) [] s _ m (whole_context F) i
-      (λ w1 s1 c1 i1. all f F q k F.body (temporary_of F.body) w1 s1 [] (formed f F q) (λ t x. x) c1 i1)
+      fine_arguments A Ok (IsWalk F) (IsUnitOf F) (IsRightOf F) (I f k) (laws.steps f F q k) laws.runs_on F.params (mark_of F.body).node vs (λ v. holds (temporary_of F.body) v []) (order.order F.body (temporary_of F.body)) [] s _ m (whole_context F) i
+      (λ w1 s1 c1 i1. all f F q k F.body (temporary_of F.body) w1 s1 [] (formed f F q) ((λ t x. x), (λ t x. x)) c1 i1)
 
   -- a call: it comes back with what the body gave, or it has ended the run; the actions of the callee are not told
   pub data Comes (f : ℕ) (F : Function) (k : W) (G : Frame) : Result (Told E) Value → Type 0 where
@@ -566,12 +581,12 @@ module _ {E : Type 0} (A : Acting E) (Ok : Ending → Type 0) (P : Functions) (C
   returned_comes f F q k G _ (leaps {t = t} {x = continues m l} o g h p) = ends_all (sym (acted_saying (A.inner (said t)))) (laws.no_answer f F q o _ h tt)
   returned_comes f F q k G _ (halts {t = t} o g h e) = ends_all (sym (acted_saying (A.inner (said t)))) e
 
-  callee_fine : (low : Meaning (Told E)) → AllLow low → (f : ℕ) (F : Function) (q : IsFunction P f F) (k : W) → Callee A Ok (IsWalk F) (IsUnitOf F) (I f k) (laws.steps f F q k) laws.runs_on P low
+  callee_fine : (low : Meaning (Told E)) → AllLow low → (f : ℕ) (F : Function) (q : IsFunction P f F) (k : W) → Callee A Ok (IsWalk F) (IsUnitOf F) (IsRightOf F) (I f k) (laws.steps f F q k) laws.runs_on P low
   unfolding Callee
   callee_fine low all f F q k w n g ts d vs s K u pr is i = by (element P g) refl
     where
       Answer : Result (Told E) Value → Type 0
-      Answer r = Back A Ok (IsWalk F) (IsUnitOf F) (I f k) (laws.steps f F q k) laws.runs_on (w ++ does n (Call g ts d) ∷ []) K d r
+      Answer r = Back A Ok (IsWalk F) (IsUnitOf F) (IsRightOf F) (I f k) (laws.steps f F q k) laws.runs_on (w ++ does n (Call g ts d) ∷ []) K d r
 
       at : (s1 : State) → I f k (w ++ does n (Call g ts d) ∷ []) s1 (pushes ts vs K) → Calling P I f F k w n g ts d vs s1 K
       at s1 i1 = record { caller = q; fills = u; arguments = pr; begins = is; kept = i1 }
@@ -591,16 +606,16 @@ module _ {E : Type 0} (A : Acting E) (Ok : Ending → Type 0) (P : Functions) (C
       by : (o : Option (Option Function)) → element P g ≡ o → Answer (found o (λ G. take_turn s (λ s1. entered (fully A) low g G vs s1)))
       by None e = ended refl (lost (λ G e1. absurd (differs None G e e1 tt)))
       by (Some None) e = ended refl (lost (λ G e1. absurd (differs (Some None) G e e1 tt)))
-      by (Some (Some G)) e = turn_back A Ok (IsWalk F) (IsUnitOf F) (I f k) (laws.steps f F q k) laws.runs_on (w ++ does n (Call g ts d) ∷ []) K (pushes ts vs K) d s _ i (λ s1 i1. come G e s1 i1)
+      by (Some (Some G)) e = turn_back A Ok (IsWalk F) (IsUnitOf F) (IsRightOf F) (I f k) (laws.steps f F q k) laws.runs_on (w ++ does n (Call g ts d) ∷ []) K (pushes ts vs K) d s _ i (λ s1 i1. come G e s1 i1)
 
   levels_fine : (n : ℕ) → AllLow (below_level (fully A) P n)
   unfolding below_level AllLow AllFine NoArm
   levels_fine zero f F q k e d w s K h fu c i = halts [] refl walk.rests laws.runs_on
   levels_fine (suc n) f F q k e d w s K h fu c i =
-      value_fine A Ok (IsWalk F) (IsUnitOf F) (I f k) (laws.steps f F q k) laws.runs_on P (C f) (below_level (fully A) P n) (λ e1 d1 w1 s1 K0. levels_fine n f F q k e1 d1 w1 s1 K0)
+      value_fine A Ok (IsWalk F) (IsUnitOf F) (IsRightOf F) (I f k) (laws.steps f F q k) laws.runs_on P (C f) (below_level (fully A) P n) (λ e1 d1 w1 s1 K0. levels_fine n f F q k e1 d1 w1 s1 K0)
       (callee_fine (below_level (fully A) P n) (levels_fine n) f F q k) (no_arm f F q k) e d w s K h fu c i
     where
-      no_arm : (f : ℕ) (F : Function) (q : IsFunction P f F) (k : W) → NoArm A Ok (IsWalk F) (IsUnitOf F) (I f k) (laws.steps f F q k) laws.runs_on (C f)
+      no_arm : (f : ℕ) (F : Function) (q : IsFunction P f F) (k : W) → NoArm A Ok (IsWalk F) (IsUnitOf F) (IsRightOf F) (I f k) (laws.steps f F q k) laws.runs_on (C f)
       no_arm f F q k = laws.no_arm_left f F q k
 
   -- What each action keeps, an activation keeps: the actions that it tells are a walk, and it ends the run as is said alone.

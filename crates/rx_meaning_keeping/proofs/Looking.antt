@@ -12,6 +12,7 @@ use Rattle.rx_meaning.specs.Acting.{does_plainly}
 use Rattle.rx_meaning.specs.Programs.{Program, begins, run_by}
 use Rattle.rx_facts_parts.specs.Places.{Frame}
 use Rattle.rx_meaning_keeping.specs.Pending.{Pending, arguments}
+use Rattle.rx_meaning_keeping.specs.RightOperands.{IsRightOf}
 use Rattle.rx_meaning_keeping.specs.Using.{Does}
 use Rattle.rx_meaning_keeping.specs.Formed.{Any}
 use Rattle.rx_meaning_keeping.specs.Keeping.{IsFunction}
@@ -71,7 +72,7 @@ module _ (P : Program) (Fs : ℕ → Frame) (muts : ℕ → List Bool) (all : Is
 
   -- where an action ended it
   of_action : (f : ℕ) (vs : List Value) (s1 : State) (w : List Action) (s : State) (K : Pending) (F : Function) (a : Action) (us : List Value) (K1 : Value → Pending) (t : List ℕ)
-      → Active strictly P.functions P.main [] (starting P given n) f vs s1 → Reached strictly P.functions f vs s1 w s K → IsFunction P.functions f F → Does a.act us K K1 → IsWalk F (w ++ a ∷ [])
+      → Active strictly P.functions P.main [] (starting P given n) f vs s1 → Reached strictly P.functions f vs s1 w s K → IsFunction P.functions f F → Does (IsRightOf F) a.act us K K1 → IsWalk F (w ++ a ∷ [])
       → does_strictly a.act us s ≡ results.ends t (wrong lacks) → LacksBehind strictly P.functions P.main [] (starting P given n)
   of_action f vs s1 w s K F a us K1 t act r q d is e = by (goes_behind a.act) refl
     where

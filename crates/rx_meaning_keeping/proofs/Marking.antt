@@ -21,6 +21,7 @@ use Rattle.rx_facts_init.specs.Setting.{is_behind, sets}
 use Rattle.rx_facts_init.specs.Wholes.{placed, regains}
 use Rattle.rx_meaning_keeping.specs.Pending.{Pending, holds, pushes, arguments}
 use Rattle.rx_meaning_keeping.specs.Units.{IsUnitOf}
+use Rattle.rx_meaning_keeping.specs.RightOperands.{IsRightOf}
 use Rattle.rx_meaning_keeping.specs.Using.{Does, Gives}
 use Rattle.rx_meaning_keeping.specs.Using as using
 use Rattle.rx_meaning_keeping.specs.Formed.{Any}
@@ -112,7 +113,7 @@ module _ (F : Frame) (parts : Parted F) (k : World) (f : Function) (ready : Read
   build_keeps w n a s d K0 K operators.senseless g z z2 e h hk i = tt
 
   -- the plain way, and the mark of a move
-  pub plainly_keeps : (w : List Action) (n : ℕ) (a : Act) (vs : List Value) (s : State) (K : Pending) (K1 : Value → Pending) → Does a vs K K1 → IsWalk f (w ++ does n a ∷ []) → Marked F k w s K → Behind w n a s K1 (does_plainly a vs s)
+  pub plainly_keeps : (w : List Action) (n : ℕ) (a : Act) (vs : List Value) (s : State) (K : Pending) (K1 : Value → Pending) → Does (IsRightOf f) a vs K K1 → IsWalk f (w ++ does n a ∷ []) → Marked F k w s K → Behind w n a s K1 (does_plainly a vs s)
   plainly_keeps w n _ _ s K _ (using.declares {x = x}) is i = (tt, inv_declared F parts k w n x s.memory s.frame.slots K (ready.begins w n x is) i)
   plainly_keeps w n _ _ s K _ (using.dies {x = x}) is i = (tt, inv_dead F parts k w n x s K (ready.ends w n x is) i)
   plainly_keeps w n _ _ s K _ (using.reads {m = m} {p = p} {d = d} u) is i =
@@ -145,7 +146,7 @@ module _ (F : Frame) (parts : Parted F) (k : World) (f : Function) (ready : Read
   plainly_keeps w n _ _ s _ _ (using.calls {f = g} {ts = ts} {vs = vs} {d = d} K pr u) is i = (tt, inv_more F parts k w (does n (Call g ts d)) s.memory s.frame.slots (pushes ts vs K) _ (λ z. refl) (λ y rs. refl) i i.here)
 
   -- and the strict way
-  pub law_of : Law strictly AnyEnd (IsWalk f) (IsUnitOf f) (Marked F k)
+  pub law_of : Law strictly AnyEnd (IsWalk f) (IsUnitOf f) (IsRightOf f) (Marked F k)
   law_of = record {
     drops = λ w s K K1 t i. with_pending w s K1 K i (here_thin K K1 t i.here);
     units = λ w s d K g u i. with_pending w s K (holds d unit_value K) i (refl, i.here);

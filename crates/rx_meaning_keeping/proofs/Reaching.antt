@@ -13,6 +13,7 @@ use Rattle.rx_meaning.specs.Acting.{Acting}
 use Rattle.rx_meaning.specs.Telling.{fully}
 use Rattle.rx_meaning.specs.Expressions.{Functions, activation, below_level}
 use Rattle.rx_meaning_keeping.specs.Pending.{Pending, holds, landing, arguments}
+use Rattle.rx_meaning_keeping.specs.RightOperands.{IsRightOf}
 use Rattle.rx_meaning_keeping.specs.Using.{Does}
 use Rattle.rx_meaning_keeping.specs.Formed.{Any, AllFormed}
 use Rattle.rx_meaning_keeping.specs.Choices.{HasChoice}
@@ -33,7 +34,7 @@ module _ {E : Type 0} (A : Acting E) (behaves : Behaves A) (P : Functions) (f0 :
   abbrev pub C : ℕ → Subject → Arms → Type 0
   C f S l = (F : Function) × IsFunction P f F × HasChoice S l F.body
 
-  acted : (f : ℕ) (F : Function) → IsFunction P f F → (k : Start) (w : List Action) (a : Action) (vs : List Value) (s : State) (K : Pending) (K1 : Value → Pending) → Does a.act vs K K1 → IsWalk F (w ++ a ∷ []) → I f k w s K
+  acted : (f : ℕ) (F : Function) → IsFunction P f F → (k : Start) (w : List Action) (a : Action) (vs : List Value) (s : State) (K : Pending) (K1 : Value → Pending) → Does (IsRightOf F) a.act vs K K1 → IsWalk F (w ++ a ∷ []) → I f k w s K
       → (r : Done E) → A.perform a vs s ≡ r → Kept (Ends A P f0 vs0 s0) (I f k) w a s K1 r
   acted f F q k w a vs s K K1 d is i (gives t u s1) e = (behaves a vs s t u s1 e, (i.0, performs w s K F a vs K1 t u s1 q d is i.1 e))
   acted f F q k w a vs s K K1 d is i (results.ends t x) e = by_action f k.given k.state w s K F a vs K1 t i.0 i.1 q d is e

@@ -11,6 +11,7 @@ use Rattle.rx_meaning.specs.Acting.{Acting}
 use Rattle.rx_meaning.specs.Expressions.{Functions}
 use Rattle.rx_facts_init.specs.Setting.{is_behind}
 use Rattle.rx_meaning_keeping.specs.Pending.{Pending}
+use Rattle.rx_meaning_keeping.specs.RightOperands.{IsRightOf}
 use Rattle.rx_meaning_keeping.specs.Using.{Does}
 use Rattle.rx_meaning_keeping.specs.Keeping.{IsFunction}
 use Rattle.rx_meaning_keeping.specs.Reaching.{Reached, Active}
@@ -26,7 +27,7 @@ goes_behind _ = false
 -- in an activation of the run such an action is performed where it was reached, and ends the run for a lack
 pub data LacksBehind {E : Type 0} (A : Acting E) (P : Functions) (f0 : ℕ) (vs0 : List Value) (s0 : State) : Type 0 where
   behind : (f : ℕ) (vs : List Value) (s1 : State) (w : List Action) (s : State) (K : Pending) (F : Function) (a : Action) (us : List Value) (K1 : Value → Pending) (t : List E)
-      → Active A P f0 vs0 s0 f vs s1 → Reached A P f vs s1 w s K → IsFunction P f F → Does a.act us K K1 → IsWalk F (w ++ a ∷ []) → A.perform a us s ≡ results.ends t (wrong lacks)
+      → Active A P f0 vs0 s0 f vs s1 → Reached A P f vs s1 w s K → IsFunction P f F → Does (IsRightOf F) a.act us K K1 → IsWalk F (w ++ a ∷ []) → A.perform a us s ≡ results.ends t (wrong lacks)
       → goes_behind a.act ≡ true → LacksBehind A P f0 vs0 s0
 
 -- no function of a program has such an action

@@ -14,6 +14,7 @@ use Rattle.rx_meaning.specs.Acting.{Acting}
 use Rattle.rx_meaning.specs.Expressions.{Functions}
 use Rattle.rx_meaning_keeping.specs.Pending.{Pending, Paired, holds, pushes, ids, Unheld, Thin, holding, Fits, arguments, AsMany}
 use Rattle.rx_meaning_keeping.specs.Units.{IsUnitOf}
+use Rattle.rx_meaning_keeping.specs.RightOperands.{IsRightOf}
 use Rattle.rx_meaning_keeping.specs.Using.{Does, Gives}
 
 -- An invariant is of the actions told so far in an activation, the state, and what is pending.
@@ -25,14 +26,15 @@ abbrev pub Kept : {E : Type 0} → (Ending → Type 0) → Invariant → List Ac
 Kept Ok I w a s K1 (gives t v s1) = Gives a.act s v s1 × I (w ++ a ∷ []) s1 (K1 v)
 Kept Ok I w a s K1 (results.ends t e) = Ok e
 
--- what is asked in one activation, of whose walks the lists so begin, and of whose temporaries these get the unit
-pub record Law {E : Type 0} (A : Acting E) (Ok : Ending → Type 0) (Is : List Action → Type 0) (Us : Temporary → Type 0) (I : Invariant) : Type 0 where
+-- what is asked in one activation, of whose walks the lists so begin, of whose temporaries these get the unit, and of whose right
+-- operands these go on
+pub record Law {E : Type 0} (A : Acting E) (Ok : Ending → Type 0) (Is : List Action → Type 0) (Us Rs : Temporary → Type 0) (I : Invariant) : Type 0 where
   -- fewer may be pending
   pub drops : (w : List Action) (s : State) (K K' : Pending) → Thin K K' → I w s K' → I w s K
   -- the unit comes into one of these by no action
   pub units : (w : List Action) (s : State) (d : Temporary) (K : Pending) → Us d → Unheld d (ids K) → I w s K → I w s (holds d unit_value K)
   pub turns : (w : List Action) (s : State) (n : ℕ) (K : Pending) → s.turns ≡ suc n → I w s K → I w (with_turns s n) K
-  pub performs : (w : List Action) (a : Action) (vs : List Value) (s : State) (K : Pending) (K1 : Value → Pending) → Does a.act vs K K1
+  pub performs : (w : List Action) (a : Action) (vs : List Value) (s : State) (K : Pending) (K1 : Value → Pending) → Does Rs a.act vs K K1
       → Is (w ++ a ∷ []) → I w s K → Kept Ok I w a s K1 (A.perform a vs s)
 
 -- ---- where a run can go no further
@@ -68,7 +70,7 @@ pub record Calling {W : Type 0} (P : Functions) (I : ℕ → W → Invariant) (f
 -- What is asked of the invariants of a program's functions. Each has a world, which is what a call finds round it; a call makes
 -- a new one: its invariant holds at its start, and where it gives a value the caller's holds again.
 pub record Laws {E : Type 0} (A : Acting E) (Ok : Ending → Type 0) (P : Functions) (C : ℕ → Subject → Arms → Type 0) (W : Type 0) (I : ℕ → W → Invariant) : Type 0 where
-  pub steps : (f : ℕ) (F : Function) → IsFunction P f F → (k : W) → Law A Ok (IsWalk F) (IsUnitOf F) (I f k)
+  pub steps : (f : ℕ) (F : Function) → IsFunction P f F → (k : W) → Law A Ok (IsWalk F) (IsUnitOf F) (IsRightOf F) (I f k)
   pub enters : (f : ℕ) (F : Function) (k : W) (w : List Action) (n g : ℕ) (ts : List Temporary) (d : Temporary) (vs : List Value) (s : State) (K : Pending)
       → Calling P I f F k w n g ts d vs s K → (G : Function) → IsFunction P g G
       → (k' : W) × I g k' [] (record s { frame = new_frame g }) (arguments G.params vs)

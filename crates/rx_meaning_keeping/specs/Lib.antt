@@ -1,5 +1,6 @@
 pub mod Pending
 pub mod Units
+pub mod RightOperands
 pub mod Using
 pub mod Formed
 pub mod Keeping

@@ -16,6 +16,7 @@ use Rattle.rx_meaning.specs.Expressions.{Functions}
 use Rattle.rx_meaning.specs.Programs.{Program, begins}
 use Rattle.rx_meaning_keeping.specs.Pending.{Pending, Paired, holds, landing, pushes, ids, Unheld, Thin, holding, Fits, arguments, AsMany}
 use Rattle.rx_meaning_keeping.specs.Units.{IsUnitOf}
+use Rattle.rx_meaning_keeping.specs.RightOperands.{IsRightOf}
 use Rattle.rx_meaning_keeping.specs.Using.{Does, Gives}
 use Rattle.rx_meaning_keeping.specs.Choices.{HasChoice}
 use Rattle.rx_meaning_keeping.specs.Keeping.{IsFunction, IsNoAnswer, AllFail}
@@ -29,7 +30,7 @@ Behaves {E = E} A = (a : Action) (vs : List Value) (s : State) (t : List E) (v :
 pub data Reached {E : Type 0} (A : Acting E) (P : Functions) : ℕ → List Value → State → List Action → State → Pending → Type 0 where
   starts : {f : ℕ} {vs : List Value} {s : State} (F : Function) → IsFunction P f F → Reached A P f vs s [] s (arguments F.params vs)
   performs : {f : ℕ} {vs : List Value} {s0 : State} (w : List Action) (s : State) (K : Pending) (F : Function) (a : Action) (us : List Value) (K1 : Value → Pending) (t : List E) (u : Value) (s1 : State)
-      → IsFunction P f F → Does a.act us K K1 → IsWalk F (w ++ a ∷ []) → Reached A P f vs s0 w s K → A.perform a us s ≡ gives t u s1 → Reached A P f vs s0 (w ++ a ∷ []) s1 (K1 u)
+      → IsFunction P f F → Does (IsRightOf F) a.act us K K1 → IsWalk F (w ++ a ∷ []) → Reached A P f vs s0 w s K → A.perform a us s ≡ gives t u s1 → Reached A P f vs s0 (w ++ a ∷ []) s1 (K1 u)
   -- a call that has come back: the callee has reached an end that gives this value
   comes_back : {f : ℕ} {vs : List Value} {s0 : State} (w : List Action) (s : State) (K : Pending) (F G : Function) (n g : ℕ) (ts : List Temporary) (d : Temporary) (us : List Value) (o : List Action) (m : ℕ) (s1 : State) (v : Value)
       → IsFunction P f F → Unheld d (ids K) → Paired ts us → IsWalk F (w ++ does n (Call g ts d) ∷ []) → Reached A P f vs s0 (w ++ does n (Call g ts d) ∷ []) s (pushes ts us K)
@@ -50,7 +51,7 @@ pub data Active {E : Type 0} (A : Acting E) (P : Functions) (f0 : ℕ) (vs0 : Li
 -- why a run ends so
 pub data Ends {E : Type 0} (A : Acting E) (P : Functions) (f0 : ℕ) (vs0 : List Value) (s0 : State) : Ending → Type 0 where
   by_action : (f : ℕ) (vs : List Value) (s1 : State) (w : List Action) (s : State) (K : Pending) {e : Ending} (F : Function) (a : Action) (us : List Value) (K1 : Value → Pending) (t : List E)
-      → Active A P f0 vs0 s0 f vs s1 → Reached A P f vs s1 w s K → IsFunction P f F → Does a.act us K K1 → IsWalk F (w ++ a ∷ []) → A.perform a us s ≡ results.ends t e → Ends A P f0 vs0 s0 e
+      → Active A P f0 vs0 s0 f vs s1 → Reached A P f vs s1 w s K → IsFunction P f F → Does (IsRightOf F) a.act us K K1 → IsWalk F (w ++ a ∷ []) → A.perform a us s ≡ results.ends t e → Ends A P f0 vs0 s0 e
   without_turns : Ends A P f0 vs0 s0 running
   -- a call of no function, or of one that takes another number of arguments
   at_no_function : (f : ℕ) (vs : List Value) (s1 : State) (w : List Action) (s : State) (K : Pending) (F : Function) (n g : ℕ) (ts : List Temporary) (d : Temporary) (us : List Value)

@@ -8,8 +8,6 @@ use Rattle.rx_typed.specs.Types.{Typ, integer, reference}
 use Rattle.rx_typed.specs.Tree as tree
 use Rattle.rx_typed.specs.Tree.{Root, variable, temporary, Temporary, Place, lazy, own, held, under}
 use Rattle.rx_lower_walks.specs.Actions.{Act, Declare, Dead, Read, Write, Borrow, Test, Call, Build, Input, Print, Give, Action, does}
-use Rattle.rx_lower_walks.specs.Walks as walk
-use Rattle.rx_lower_walks.specs.Walks.{Among}
 use Rattle.rx_meaning.specs.Endings.{Cause, wrong, lacks, astray}
 use Rattle.rx_meaning.specs.Straying.{why_no_part, why_not_found, why_not_written, why_not_checked}
 use Rattle.rx_meaning.specs.Values.{Value, number, truth, lacking, unset, is_set, get, slot_of, element, unit_value, State, with_memory, with_variable}
@@ -20,17 +18,18 @@ use Rattle.rx_meaning.specs.Operators as operators
 use Rattle.rx_meaning.specs.Operators.{Computed, make, shown}
 use Rattle.rx_meaning.specs.Acting.{checked, computed, next_input, does_plainly}
 use Rattle.rx_meaning_keeping.specs.Pending.{Pending, Paired, no_pair, pair_and, holds, pushes, Thin, none, keeps, skips, swaps}
-use Rattle.rx_meaning_keeping.specs.Using.{Does, Gives}
+use Rattle.rx_meaning_keeping.specs.Using.{Taken, Does, Gives}
 use Rattle.rx_meaning_keeping.specs.Using as using
 use Rattle.rx_meaning_keeping.specs.Keeping.{Kept}
 use Rattle.rx_meaning_keeping.specs.Ready.{AllHere}
 use Rattle.rx_meaning_typed.specs.TypedActs.{Typing, typ_along, place_typ, ActTyped, Checks, IsShown, Makes}
+use Rattle.rx_meaning_typed.specs.TypedFunctions.{IsTruth}
 use Rattle.rx_meaning_typed.specs.MutableActs.{IsMutablePlace, ActLends}
 use Rattle.rx_meaning_typed.specs.ValueTypes.{Store, Lends, HasType, of_number, of_truth, of_reference, of_lack, AllTyped, no_typed, typed_and, MemoryTyped, Extends, SpotTyped}
 use Rattle.rx_meaning_typed.specs.TypedStates.{pending_typ, PendingTyped, StateTyped, TypedBehind, IsSensible}
 use Rattle.rx_meaning_typed.proofs.Parts.{some_is, get_typed}
 use Rattle.rx_meaning_typed.proofs.Stores.{all_and, all_length, all_more, extends_both, extends_and, element_last, has_more, RootHeld, spot_typed, found_typed, written_typed, spot_mutable, found_mutable, spot_slot}
-use Rattle.rx_meaning_typed.proofs.Making.{ComputesTyped, made_typed, same_types, checked_sensible, shown_sensible}
+use Rattle.rx_meaning_typed.proofs.Making.{ComputesTyped, made_typed, truths_joined, checked_sensible, shown_sensible}
 use Rattle.rx_meaning_typed.proofs.Straying.{no_part_sensible, not_written_sensible}
 use Rattle.rx_meaning_typed.proofs.Referring.{not_found_sensible}
 
@@ -173,12 +172,11 @@ module _ (L : Bool) (T : Typing) (k : Store) (w : List Action) (n : ℕ) where
   computed_typed a d s K0 K operators.senseless g i h f l = h
 
   -- `&&`, `||`
-  joined_typed : {x t u : Temporary} (d : Temporary) → Among x (t ∷ u ∷ []) → Makes T.declared lazy [] (T.temporaries t ∷ T.temporaries u ∷ []) (T.temporaries d) → T.temporaries x ≡ T.temporaries d
-  joined_typed d walk.here g = (same_types L T.declared k _ _ _ g).0
-  joined_typed d (walk.there walk.here) g = (same_types L T.declared k _ _ _ g).1
-  joined_typed d (walk.there (walk.there h)) g = elim h [ ]
+  joined_typed : {x t u : Temporary} (d : Temporary) → Taken (IsTruth T) t u x → Makes T.declared lazy [] (T.temporaries t ∷ T.temporaries u ∷ []) (T.temporaries d) → T.temporaries x ≡ T.temporaries d
+  joined_typed {t = t} {u = u} d using.left g = let h = truths_joined L T.declared k (T.temporaries t) (T.temporaries u) (T.temporaries d) g in h.0 ∙ sym h.1
+  joined_typed {t = t} {u = u} d (using.right r) g = let h = truths_joined L T.declared k (T.temporaries t) (T.temporaries u) (T.temporaries d) g in r ∙ sym h.1
 
-  pub plainly_typed : (a : Act) (vs : List Value) (s : State) (K : Pending) (K1 : Value → Pending) → Does a vs K K1 → ActTyped T a → ActLends L T a → MakesWhole a → TypedBehind L T k w s K → Behind a s K1 (does_plainly a vs s)
+  pub plainly_typed : (a : Act) (vs : List Value) (s : State) (K : Pending) (K1 : Value → Pending) → Does (IsTruth T) a vs K K1 → ActTyped T a → ActLends L T a → MakesWhole a → TypedBehind L T k w s K → Behind a s K1 (does_plainly a vs s)
   plainly_typed _ _ s K _ (using.declares {x = x}) g l m i = (tt, (i.0 ++ T.variables x ∷ [], extends_both k i.0 _ i.1 (extends_and i.0 (T.variables x)), declared_typed L T i.0 x s K i.2))
   plainly_typed _ _ s K _ using.dies g l m i = (tt, i)
   plainly_typed _ _ s K _ (using.reads {m = b} {p = p} {d = d} u) g l m i = read_typed b p d s K g i

@@ -104,9 +104,9 @@ module _ (L : Bool) (D : Declarations) (S : Store) where
   made_typed (structs i {fs = fs} {is = is} {us = us} d e f) lz vs h s = of_struct d (fields_made (types_of_fields fs) is us vs e f h)
   made_typed (variants i v {d = x} {is = is} {us = us} d q e f) lz vs h s = of_enum d q (fields_made x.parts is us vs e f h)
 
-  -- `&&`, `||`: both operands are of its type
-  pub same_types : {is : List ℕ} (t u r : Typ) → Makes D lazy is (t ∷ u ∷ []) r → (t ≡ r) × (u ≡ r)
-  same_types t _ _ joins = (refl, refl)
+  -- `&&`, `||`: the left operand and what is made are truth values
+  pub truths_joined : {is : List ℕ} (t u r : Typ) → Makes D lazy is (t ∷ u ∷ []) r → (t ≡ boolean) × (r ≡ boolean)
+  truths_joined _ u _ joins = (refl, refl)
 
   -- ---- what a test and a print take: what they don't lacks a value
 

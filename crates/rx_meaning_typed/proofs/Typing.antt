@@ -14,7 +14,8 @@ use Rattle.rx_meaning.specs.Expressions.{Functions}
 use Rattle.rx_meaning.specs.Programs.{Program, run_by}
 use Rattle.rx_meaning_keeping.specs.Pending.{Pending, holds, pushes, arguments, AsMany}
 use Rattle.rx_meaning_keeping.specs.Pending as waiting
-use Rattle.rx_meaning_keeping.specs.Using.{Does}
+use Rattle.rx_meaning_keeping.specs.Using.{Taken, Does}
+use Rattle.rx_meaning_keeping.specs.Using as using
 use Rattle.rx_meaning_keeping.specs.Formed.{Any, AllFormed}
 use Rattle.rx_meaning_keeping.specs.Keeping.{Kept, Calling, Laws, IsFunction}
 use Rattle.rx_meaning_keeping.specs.Reaching.{Reached, Active, starting}
@@ -22,7 +23,7 @@ use Rattle.rx_meaning_keeping.specs.Ready.{AllHere}
 use Rattle.rx_meaning_keeping.proofs.Reaching.{reached_is_kept, active_has_world}
 use Rattle.rx_meaning_keeping.proofs.Runs.{runs_end_so}
 use Rattle.rx_meaning_typed.specs.TypedActs.{Typing, ActTyped}
-use Rattle.rx_meaning_typed.specs.TypedFunctions.{MakesWholes, FunctionTyped, ProgramTyped}
+use Rattle.rx_meaning_typed.specs.TypedFunctions.{IsTruth, MakesWholes, FunctionTyped, ProgramTyped}
 use Rattle.rx_meaning_typed.specs.MutableActs.{ActLends, FunctionsLend}
 use Rattle.rx_meaning_typed.specs.ValueTypes.{Store, HasType, of_tuple, none_typed, AllTyped, no_typed, typed_and, MemoryTyped, Extends}
 use Rattle.rx_meaning_typed.specs.TypedStates.{PendingTyped, StateTyped, TypedBehind, IsSensible}
@@ -48,9 +49,31 @@ whole_of : (F : Function) → MakesWholes F → (w : List Action) (n : ℕ) (a :
 whole_of F h w n (Build m js ts d) is = h w n m js ts d is
 whole_of F h w n _ is = tt
 
+-- other right operands that go on
+taken_of : {R S : Temporary → Type 0} {t u x : Temporary} → ((y : Temporary) → R y → S y) → Taken R t u x → Taken S t u x
+taken_of f using.left = using.left
+taken_of f (using.right r) = using.right (f _ r)
+
+does_of : {R S : Temporary → Type 0} {a : Act} {vs : List Value} {K : Pending} {K1 : Value → Pending} → ((y : Temporary) → R y → S y) → Does R a vs K K1 → Does S a vs K K1
+does_of f using.declares = using.declares
+does_of f using.dies = using.dies
+does_of f (using.reads u) = using.reads u
+does_of f (using.borrows u) = using.borrows u
+does_of f (using.borrows_held u) = using.borrows_held u
+does_of f using.tests = using.tests
+does_of f using.tests_held = using.tests_held
+does_of f using.writes = using.writes
+does_of f using.writes_part = using.writes_part
+does_of f (using.builds K p l u) = using.builds K p l u
+does_of f (using.joins t u) = using.joins (taken_of f t) u
+does_of f (using.inputs u) = using.inputs u
+does_of f using.prints = using.prints
+does_of f using.gives_up = using.gives_up
+does_of f (using.calls K p u) = using.calls K p u
+
 -- the actions of this way keep the types of values
 abbrev pub KeepsTypes : {E : Type 0} → Acting E → Type 0
-KeepsTypes A = (L : Bool) (T : Typing) (k : Store) (w : List Action) (n : ℕ) (a : Act) (vs : List Value) (s : State) (K : Pending) (K1 : Value → Pending) → Does a vs K K1 → ActTyped T a → ActLends L T a → MakesWhole a → TypedBehind L T k w s K
+KeepsTypes A = (L : Bool) (T : Typing) (k : Store) (w : List Action) (n : ℕ) (a : Act) (vs : List Value) (s : State) (K : Pending) (K1 : Value → Pending) → Does (IsTruth T) a vs K K1 → ActTyped T a → ActLends L T a → MakesWhole a → TypedBehind L T k w s K
     → Kept (IsSensible L) (TypedBehind L T k) w (does n a) s K1 (A.perform (does n a) vs s)
 
 module _ {E : Type 0} (A : Acting E) (keeps_types : KeepsTypes A) (D : Declarations) (Ts : ℕ → Typing) (P : Functions) (all : ProgramTyped D Ts P) (L : Bool) (lend : FunctionsLend L Ts P) where
@@ -109,7 +132,7 @@ module _ {E : Type 0} (A : Acting E) (keeps_types : KeepsTypes A) (D : Declarati
       drops = λ w s K K1 t i. with_pending f k w s K1 K i (pending_thin L (Ts f) i.0 t i.2.pending);
       units = λ w s d K g u i. with_pending f k w s K (holds d unit_value K) i ((subst (λ z. HasType L (Ts f).declared i.0 unit_value z) (sym ((all.functions f F q).units d g)) (of_tuple none_typed), refl), i.2.pending);
       turns = λ w s n K e i. (i.0, i.1, record { memory = i.2.memory; variables = i.2.variables; pending = i.2.pending });
-      performs = λ w a vs s K K1 d is i. keeps_types L (Ts f) k w a.node a.act vs s K K1 d ((all.functions f F q).acts w a is) (lend f F q w a is) (whole_of F (all.functions f F q).wholes w a.node a.act is) i;
+      performs = λ w a vs s K K1 d is i. keeps_types L (Ts f) k w a.node a.act vs s K K1 (does_of (all.functions f F q).rights d) ((all.functions f F q).acts w a is) (lend f F q w a is) (whole_of F (all.functions f F q).wholes w a.node a.act is) i;
     };
     enters = λ f F k w n g ts d vs s K c G e. (c.kept.0, begins_typed f g F G k w n ts d vs s K c e, (λ o m s1 v wk j. returns_typed f g F G k w n ts d vs s K c e o s1 v j));
     runs_on = tt;

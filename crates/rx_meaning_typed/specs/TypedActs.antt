@@ -92,8 +92,8 @@ pub data Makes (D : Declarations) : Making → List ℕ → List Typ → Typ →
   negates : {k : Kind} {is : List ℕ} → Makes D negation is (integer k ∷ []) (integer k)
   inverts : {is : List ℕ} → Makes D inversion is (boolean ∷ []) boolean
   operates : {o : BinaryOp} {is : List ℕ} {t u r : Typ} → Operates o t u r → Makes D (operation o) is (t ∷ u ∷ []) r
-  -- one of two operands, which have no fields
-  joins : {t : Typ} → Makes D lazy [] (t ∷ t ∷ []) t
+  -- one of two operands, which have no fields; the right one may never go on, and is of any type then
+  joins : {t : Typ} → Makes D lazy [] (boolean ∷ t ∷ []) boolean
   tuples : (ts : List Typ) {is : List ℕ} {us : List Typ} → length us ≡ length ts → Fill ts is us → Makes D tuple is us (tuple_of (shapes_of ts))
   structs : (i : ℕ) {c : _} {l : ℕ} {fs : List FieldDeclared} {is : List ℕ} {us : List Typ} → slice_get D i ≡ Some (struct_declared c l fs)
       → length us ≡ length (types_of_fields fs) → Fill (types_of_fields fs) is us → Makes D (struct i) is us (named i)

@@ -41,7 +41,7 @@ use Rattle.rx_repair_items.proofs.Patterns as patterns
 use Rattle.rx_repair_items.proofs.Patterns.{every_front, every_behind}
 
 -- no place is Never
-place_stays : (e : Exp) → is_place e ≡ true → never e ≡ false
+pub place_stays : (e : Exp) → is_place e ≡ true → never e ≡ false
 place_stays (named.var n x) h = refl
 place_stays (named.field n e x) h = refl
 place_stays (named.part n e i) h = refl
@@ -73,7 +73,7 @@ place_stays (named.break n l) h = absurd (cc)
 place_stays (named.continue n l) h = absurd (cc)
 place_stays (named.return n o) h = absurd (cc)
 
-body_site : (t : Site) (b : Body) → BodySited t b → (body_node b).site ≡ t
+pub body_site : (t : Site) (b : Body) → BodySited t b → (body_node b).site ≡ t
 body_site t (named.body n ss o) h = h.0
 
 module _ (K : Known) (A : Types) (U : Temporary → Typ) where

@@ -182,7 +182,7 @@ module _ (K : Known) (A : Types) where
 
   -- ---- parts
 
-  when_given : {R : Type 0} (v : Bool) (a : Asking) → Wants R a → Wants (v ≡ false → R) (when (not v) a)
+  pub when_given : {R : Type 0} (v : Bool) (a : Asking) → Wants R a → Wants (v ≡ false → R) (when (not v) a)
   when_given true a x = asks_map (λ h e. absurd (cc)) none
   when_given false a x = asks_map (λ r e. r) x
 

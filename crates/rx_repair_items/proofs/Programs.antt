@@ -152,18 +152,18 @@ plain_parameters (Some (decl.Func l ps t bs)) = refl
 
 -- ---- a function where it stands, with what is declared of it
 
-read_ok : {A B : Type 0} (m : steps.Outcome A) (f : A → steps.Outcome B) (b : B) → steps.on_ok m f ≡ Ok b → (a : A) × (m ≡ Ok a) × (f a ≡ Ok b)
+pub read_ok : {A B : Type 0} (m : steps.Outcome A) (f : A → steps.Outcome B) (b : B) → steps.on_ok m f ≡ Ok b → (a : A) × (m ≡ Ok a) × (f a ≡ Ok b)
 read_ok (Ok a) f b e = (a, refl, e)
 read_ok (Err x) f b e = absurd (cc)
 
-read_same : {A : Type 0} (a b : A) → ◌≡◌ {A = steps.Outcome A} (Ok a) (Ok b) → a ≡ b
+pub read_same : {A : Type 0} (a b : A) → ◌≡◌ {A = steps.Outcome A} (Ok a) (Ok b) → a ≡ b
 read_same a b e = cc
 
-entries_same : (o : Option ItemNames) → entries_of o ≡ entries o
+pub entries_same : (o : Option ItemNames) → entries_of o ≡ entries o
 entries_same None = refl
 entries_same (Some n) = refl
 
-function_agrees : (p : ProgramTree) (es : List NodeNames) (i : ℕ) (s : Span) (f : plain.Function) (d : Decl) → declared_item p es (plain.function_item s f) ≡ Ok d → AgreeAs (function_named i s f es).params (parameters_declared (Some (plain-Decl d)))
+pub function_agrees : (p : ProgramTree) (es : List NodeNames) (i : ℕ) (s : Span) (f : plain.Function) (d : Decl) → declared_item p es (plain.function_item s f) ≡ Ok d → AgreeAs (function_named i s f es).params (parameters_declared (Some (plain-Decl d)))
 function_agrees p es i s f d e =
     let B = bounded 0 f.lifetimes in
     let x = read_ok (entry_of B f.params (begins es (number (length f.lifetimes)))) (λ e. steps.on_ok (parameters_of p f.params e.1) (λ ps. steps.on_ok (answer_of p f.result ps.1) (λ a. Ok (decl.Func ps.1.next ps.0 a.0 (bounds_of B e.0))))) d e in

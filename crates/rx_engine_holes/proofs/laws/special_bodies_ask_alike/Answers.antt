@@ -1,6 +1,7 @@
 use Rattle.rx_engine_blocks.specs.Blocks.{ToldIn}
 use Rattle.rx_engine_blocks.specs.DemandsLike.DemandsLike.{like_no_demand}
 use Rattle.rx_engine_blocks.specs.Parts.{StandsFor}
+use Rattle.rx_engine_blocks.proofs.Sites.{changed_stands}
 use Rattle.rx_engine_blocks.proofs.Standing.{seen_stands, pinned_stands, one_stands}
 use Rattle.rx_engine_typing.proofs.Forms.{body_like}
 use Rattle.rx_engine_holes.specs.Special.{special_holes}
@@ -12,6 +13,6 @@ returns c = λ r u view behind q elsewhere fs D E k A V es x m loops f b c' h.
     let There = ToldIn q elsewhere fs in
     let S = StandsFor r u view behind There D E A V es in
     body_like r loops (special_holes r u view behind A V) S
-    (special_fits (Unit {0}) r u view behind A V loops S (seen_stands r u view behind There D E k A V es x m) (pinned_stands r u view behind There D E k A V es) (one_stands r u view behind There D E k A V es))
-    (special_asks (Unit {0}) r u view behind A V loops S (seen_stands r u view behind There D E k A V es x m) (pinned_stands r u view behind There D E k A V es) (one_stands r u view behind There D E k A V es))
+    (special_fits (Unit {0}) r u view behind D E A V loops S (seen_stands r u view behind There D E k A V es x m) (pinned_stands r u view behind There D E k A V es) (one_stands r u view behind There D E k A V es) (changed_stands r u view behind There D E k A V es))
+    (special_asks (Unit {0}) r u view behind D E A V loops S (seen_stands r u view behind There D E k A V es x m) (pinned_stands r u view behind There D E k A V es) (one_stands r u view behind There D E k A V es) (changed_stands r u view behind There D E k A V es))
     f h like_no_demand

@@ -1,0 +1,14 @@
+pub mod Weaker
+pub mod Freed
+pub mod Same
+pub mod Specials
+pub mod Entering
+pub mod Moving
+pub mod Ending
+pub mod Handing
+pub mod Leaving
+pub mod Never
+pub mod Standing
+pub mod Blockwise
+pub mod Whole
+pub mod Examples

@@ -1,0 +1,10 @@
+pub mod ByForm
+pub mod Given
+pub mod Handed
+pub mod Leaving
+pub mod Moved
+pub mod Never
+pub mod Standing
+pub mod InBlock
+pub mod Extracts
+pub mod Had

@@ -1,0 +1,16 @@
+pub mod Ways
+pub mod Keeping
+pub mod Carrying
+pub mod Sound
+pub mod Turns
+pub mod Ranging
+pub mod Filling
+pub mod Passing
+pub mod RangedActs
+pub mod Slots
+pub mod Getting
+pub mod Choosing
+pub mod Running
+pub mod Scoping
+pub mod Leaving
+pub mod Adding

@@ -1,0 +1,9 @@
+pub mod Ways
+pub mod Arms
+pub mod Standing
+pub mod Keeping
+pub mod Fitting
+pub mod Ranged
+pub mod Begun
+pub mod Covered
+pub mod Scopes
