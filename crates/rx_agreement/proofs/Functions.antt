@@ -10,8 +10,8 @@ use Rattle.rx_tree.specs.Plain.{TypeTree, Parameter, Function, Body, ProgramTree
 use Rattle.rx_tree.specs.Lists.{statements, tail, Every}
 use Rattle.rx_tree.specs.Nodes.{total, below_block}
 use Rattle.rx_tree.specs.Size.{bindings_at}
-use Rattle.rx_resolve_scope.specs.declared.table.Known.{Known as Meant}
-use Rattle.rx_resolve_scope.specs.Scopes.{Declared, Variables, entered}
+use Rattle.rx_resolve_names.specs.declared.table.Known.{Known as Meant}
+use Rattle.rx_resolve_names.specs.Scopes.{Declared, Variables, entered}
 use Rattle.rx_resolve_names.specs.declared.resolved.ItemNames.{ItemNames}
 use Rattle.rx_resolve_names.specs.declared.resolved.NodeNames.{NodeNames}
 use Rattle.rx_resolve_names.specs.Meant.{number, Around}

@@ -4,7 +4,7 @@ use Rattle.std.specs.Str.{bytes_eq}
 use Rattle.std.proofs.lemmas.Slice.Eq.{bytes_eq-Decides}
 use Rattle.rx_core.specs.Bytes.{same_bytes}
 use Rattle.rx_core.proofs.BytesLemmas.{same_bytes-true, same_bytes-equal}
-use Rattle.rx_resolve_scope.specs.Scopes.{Variables, variable_named}
+use Rattle.rx_resolve_names.specs.Scopes.{Variables, variable_named}
 use Rattle.rx_typeck_solver.specs.declared.facts.Subject.TheVariants as subject
 use Rattle.rx_typeck_solver.specs.Facts.{Types}
 use Rattle.rx_first_check.specs.Accepted.{ValueType, Scope, type_in}

@@ -9,7 +9,7 @@ use Rattle.rx_tree.specs.Lists.{listed, statements, tail}
 use Rattle.rx_tree.specs.Nodes.{total, below_statement, below_block, within_statements, within_optional}
 use Rattle.rx_tree.specs.Size.{bindings_at}
 use Rattle.rx_tree.proofs.NodesLaws.{total_both}
-use Rattle.rx_resolve_scope.specs.Scopes.{Variables}
+use Rattle.rx_resolve_names.specs.Scopes.{Variables}
 use Rattle.rx_resolve_names.specs.declared.resolved.ItemNames.{ItemNames}
 use Rattle.rx_resolve_names.specs.declared.resolved.NodeNames.{NodeNames}
 use Rattle.rx_resolve_names.specs.Meant.{number, Around}

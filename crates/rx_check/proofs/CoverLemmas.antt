@@ -4,7 +4,7 @@ use Rattle.rx_core.specs.declared.types.Span.{Span}
 use Rattle.rx_typed.specs.Types.{Typ, Declarations}
 use Rattle.rx_typed.specs.Tree as tree
 use Rattle.rx_typed.specs.Tree.{Pattern}
-use Rattle.rx_typed_tree.specs.PlainTree.{plain-TypedTree}
+use Rattle.rx_typed.specs.PlainTree.{plain-TypedTree}
 use Rattle.rx_typeck_typed.specs.declared.typed.TypedFn.{TypedFn}
 use Rattle.rx_typeck_typed.specs.Alike.{FunctionsAlike}
 use Rattle.rx_cover.specs.declared.covering.CoverFault.{CoverFault}

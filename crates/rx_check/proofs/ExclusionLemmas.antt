@@ -21,11 +21,11 @@ use Rattle.rx_facts.specs.Functions.{IsSmall, IsLarge, IsInitialised, IsUninitia
 use Rattle.rx_facts.specs.Same.{SameFunction, AreSame}
 use Rattle.rx_facts.proofs.Passing.{first_or_all, first_both, first_alike, all_alike}
 use Rattle.rx_facts.proofs.Settling.{settled_small, one_large, settled_initialised, same_small, same_large, same_initialised}
-use Rattle.rx_check_loans.specs.declared.regions.RegionFault.{RegionFault}
-use Rattle.rx_check_loans.specs.declared.regions.RegionFault.TheVariants as region_fault
-use Rattle.rx_check_loans.specs.declared.loans.LoanFault.{LoanFault}
-use Rattle.rx_check_loans.specs.Answers.{FirstLacks, FirstMeets}
-use Rattle.rx_check_loans.proofs.Settling.{lacks_in, meets_in, lacks_or_lack_none, borrowing_lacks_none, meets_or_borrow, lacks_are_one}
+use Rattle.rx_check.specs.declared.regions.RegionFault.{RegionFault}
+use Rattle.rx_check.specs.declared.regions.RegionFault.TheVariants as region_fault
+use Rattle.rx_check.specs.declared.loans.LoanFault.{LoanFault}
+use Rattle.rx_check.specs.Answers.{FirstLacks, FirstMeets}
+use Rattle.rx_check.proofs.Settling.{lacks_in, meets_in, lacks_or_lack_none, borrowing_lacks_none, meets_or_borrow, lacks_are_one}
 use Rattle.rx_check.specs.declared.fault.CheckFault.{CheckFault}
 use Rattle.rx_check.specs.declared.fault.CheckFault.TheVariants as check_fault
 use Rattle.rx_check.specs.Passes.{FunctionsCovered, IsFront, Fronted, Accepted}

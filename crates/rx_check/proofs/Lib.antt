@@ -1,3 +1,9 @@
+mod Variances
+mod Declared
+mod Asking
+mod Judging
+pub mod Telling
+pub mod Settling
 mod CoverLemmas
 mod PassLemmas
 mod NameLemmas

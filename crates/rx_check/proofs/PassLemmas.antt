@@ -28,14 +28,14 @@ use Rattle.rx_facts.specs.Passing.{AllAre}
 use Rattle.rx_facts.specs.Functions.{IsSmall, IsInitialised}
 use Rattle.rx_facts.specs.Answers.{IsGraphOf, AreGraphs, LowerAnswers, AreFactsOf, AreFacts, FactsAnswer}
 use Rattle.rx_facts.proofs.Passing.{all_of_each}
-use Rattle.rx_check_loans.specs.declared.regions.FunctionRegions.{FunctionRegions}
-use Rattle.rx_check_loans.specs.declared.regions.RegionFault.{RegionFault}
-use Rattle.rx_check_loans.specs.declared.regions.RegionFault.TheVariants as region_fault
-use Rattle.rx_check_loans.specs.declared.loans.FunctionLoans.{FunctionLoans}
-use Rattle.rx_check_loans.specs.declared.loans.LoanFault.{LoanFault}
-use Rattle.rx_check_loans.specs.declared.loans.LoanFault.TheVariants as loan_fault
-use Rattle.rx_check_loans.specs.Answers.{AreRegions, RegionsAnswer, AreLoans, LoansAnswer}
-use Rattle.rx_check_loans.proofs.Telling.{found_lack_none, found_borrow}
+use Rattle.rx_check.specs.declared.regions.FunctionRegions.{FunctionRegions}
+use Rattle.rx_check.specs.declared.regions.RegionFault.{RegionFault}
+use Rattle.rx_check.specs.declared.regions.RegionFault.TheVariants as region_fault
+use Rattle.rx_check.specs.declared.loans.FunctionLoans.{FunctionLoans}
+use Rattle.rx_check.specs.declared.loans.LoanFault.{LoanFault}
+use Rattle.rx_check.specs.declared.loans.LoanFault.TheVariants as loan_fault
+use Rattle.rx_check.specs.Answers.{AreRegions, RegionsAnswer, AreLoans, LoansAnswer}
+use Rattle.rx_check.proofs.Telling.{found_lack_none, found_borrow}
 use Rattle.rx_check.specs.declared.fault.CheckFault.{CheckFault}
 use Rattle.rx_check.specs.declared.fault.CheckFault.TheVariants as check_fault
 use Rattle.rx_check.specs.Passes.{FunctionsCovered, IsFront}

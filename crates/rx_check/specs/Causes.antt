@@ -25,11 +25,11 @@ use Rattle.rx_facts.specs.declared.fault.InitFault.TheVariants as init_fault
 use Rattle.rx_facts.specs.Passing.{AllAre, FirstNot}
 use Rattle.rx_facts.specs.Functions.{IsSmall, IsLarge}
 use Rattle.rx_facts.specs.Answers.{FirstUninitialised, AreGraphs, AreFacts}
-use Rattle.rx_check_loans.specs.declared.regions.RegionFault.{RegionFault}
-use Rattle.rx_check_loans.specs.declared.regions.RegionFault.TheVariants as region_fault
-use Rattle.rx_check_loans.specs.declared.loans.LoanFault.{LoanFault}
-use Rattle.rx_check_loans.specs.declared.loans.LoanFault.TheVariants as loan_fault
-use Rattle.rx_check_loans.specs.Answers.{LackNone, FirstLacks, FirstMeets, AreRegions, AreLoans}
+use Rattle.rx_check.specs.declared.regions.RegionFault.{RegionFault}
+use Rattle.rx_check.specs.declared.regions.RegionFault.TheVariants as region_fault
+use Rattle.rx_check.specs.declared.loans.LoanFault.{LoanFault}
+use Rattle.rx_check.specs.declared.loans.LoanFault.TheVariants as loan_fault
+use Rattle.rx_check.specs.Answers.{LackNone, FirstLacks, FirstMeets, AreRegions, AreLoans}
 use Rattle.rx_check.specs.declared.fault.CheckFault.{CheckFault}
 use Rattle.rx_check.specs.declared.fault.CheckFault.TheVariants as check_fault
 use Rattle.rx_check.specs.declared.passes.Found.{Found}

@@ -9,10 +9,10 @@ use Rattle.rx_lower_lifetimes.specs.declared.whole.LowerFault.{LowerFault}
 use Rattle.rx_lower_lifetimes.specs.declared.whole.LowerFault.TheVariants as lower_fault
 use Rattle.rx_facts.specs.declared.fault.InitFault.{InitFault}
 use Rattle.rx_facts.specs.declared.fault.InitFault.TheVariants as init_fault
-use Rattle.rx_check_loans.specs.declared.regions.RegionFault.{RegionFault}
-use Rattle.rx_check_loans.specs.declared.regions.RegionFault.TheVariants as region_fault
-use Rattle.rx_check_loans.specs.declared.loans.LoanFault.{LoanFault}
-use Rattle.rx_check_loans.specs.declared.loans.LoanFault.TheVariants as loan_fault
+use Rattle.rx_check.specs.declared.regions.RegionFault.{RegionFault}
+use Rattle.rx_check.specs.declared.regions.RegionFault.TheVariants as region_fault
+use Rattle.rx_check.specs.declared.loans.LoanFault.{LoanFault}
+use Rattle.rx_check.specs.declared.loans.LoanFault.TheVariants as loan_fault
 use Rattle.rx_check.specs.declared.fault.CheckFault.{CheckFault}
 use Rattle.rx_check.specs.declared.fault.CheckFault.TheVariants as check_fault
 

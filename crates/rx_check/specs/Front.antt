@@ -8,9 +8,9 @@ use Rattle.rx_typeck_typed.specs.declared.typed.Typed.{Typed}
 use Rattle.rx_facts.specs.declared.lowering.Lowered.{Lowered}
 use Rattle.rx_facts.specs.declared.finding.ProgramFacts.{ProgramFacts}
 use Rattle.rx_facts.specs.Answers.{AreGraphs, AreFacts}
-use Rattle.rx_check_loans.specs.declared.regions.FunctionRegions.{FunctionRegions}
-use Rattle.rx_check_loans.specs.declared.loans.FunctionLoans.{FunctionLoans}
-use Rattle.rx_check_loans.specs.Answers.{AllBorrow, AreRegions, AreLoans}
+use Rattle.rx_check.specs.declared.regions.FunctionRegions.{FunctionRegions}
+use Rattle.rx_check.specs.declared.loans.FunctionLoans.{FunctionLoans}
+use Rattle.rx_check.specs.Answers.{AllBorrow, AreRegions, AreLoans}
 use Rattle.rx_check.specs.Passes.{IsFront}
 
 pub record Front : Type 0 where

@@ -6,7 +6,7 @@ use Rattle.rx_resolve_names.specs.declared.resolved.ItemNames.{ItemNames}
 use Rattle.rx_resolve_names.specs.Causes.{Meant}
 use Rattle.rx_typed.specs.Types.{Declarations}
 use Rattle.rx_typed.specs.PlainTypes.{declarations}
-use Rattle.rx_typed_tree.specs.PlainTree.{plain-Expr}
+use Rattle.rx_typed.specs.PlainTree.{plain-Expr}
 use Rattle.rx_typeck_typed.specs.declared.typed.Typed.{Typed}
 use Rattle.rx_typeck_typed.specs.declared.typed.TypedFn.{TypedFn}
 use Rattle.rx_typeck_typed.specs.Typing.{IsTyped}
@@ -15,7 +15,7 @@ use Rattle.rx_cover.specs.Choices.{Choice, choices_of}
 use Rattle.rx_cover.specs.Causes.{AllCovered}
 use Rattle.rx_facts.specs.Passing.{AllAre}
 use Rattle.rx_facts.specs.Functions.{IsSmall, IsInitialised}
-use Rattle.rx_check_loans.specs.Answers.{AllBorrow}
+use Rattle.rx_check.specs.Answers.{AllBorrow}
 
 -- the matches of a function, in the order of the text
 abbrev pub matches_of : TypedFn → List Choice

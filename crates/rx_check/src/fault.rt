@@ -3,7 +3,7 @@
 ghost use Rattle.std.specs.Prelude.{◌≡◌};
 ghost use Rattle.rx_check.specs.Faults as spec;
 
-use rx_check_loans::{LoanFault, RegionFault};
+use crate::{LoanFault, RegionFault};
 use rx_cover::CoverFault;
 use rx_facts::InitFault;
 use rx_lower_lifetimes::LowerFault;

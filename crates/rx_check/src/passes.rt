@@ -8,7 +8,7 @@ ghost use Rattle.rx_resolve_names.specs.Causes.{Meant};
 ghost use Rattle.rx_typed.specs.PlainTypes.{declarations};
 ghost use Rattle.rx_facts.specs.Functions.{IsTypedProgram};
 ghost use Rattle.rx_facts.specs.Answers.{AreGraphs, AreFacts};
-ghost use Rattle.rx_check_loans.specs.Answers.{AreRegions};
+ghost use Rattle.rx_check.specs.Answers.{AreRegions};
 ghost use Rattle.rx_check.specs.Causes.{Causes, PassCauses, FunctionsAnswer, TypedCauses, FoundIn, BorrowCauses, BorrowedIn};
 ghost use Rattle.rx_check.specs.Passes.{FunctionsCovered, Fronted, Accepted};
 ghost use Rattle.rx_check.specs.Front.{IsFrontOf, IsCheckedOf};
@@ -19,7 +19,7 @@ use crate::fault::{
 use crate::front_end::{Checked, FrontEnd};
 use crate::laws::passed_or_faulty;
 use crate::main_item::main_of;
-use rx_check_loans::{FunctionLoans, FunctionRegions, all_loans, all_regions};
+use crate::{FunctionLoans, FunctionRegions, all_loans, all_regions};
 use rx_core::{LetGo, List, keep};
 use rx_cover::{CoverFault, covers as covers_function};
 use rx_facts::{Lowered, ProgramFacts, facts, lower_all};

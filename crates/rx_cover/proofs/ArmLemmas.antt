@@ -4,9 +4,9 @@ use Rattle.rx_cover.specs.declared.choices.Choice.{Choice}
 use Rattle.rx_cover.specs.PlainChoices.{plain-Choice}
 use Rattle.rx_typed.specs.Types.{Typ, Declarations}
 use Rattle.rx_typed.specs.Tree.{Pattern}
-use Rattle.rx_typed_tree.specs.declared.tree.Arm.{Arm}
-use Rattle.rx_typed_tree.specs.PlainTree.{plain-Pattern, plain-Arm, arms_of}
-use Rattle.rx_typed_tree.proofs.Rules.{arm_by_parts}
+use Rattle.rx_typed.specs.declared.tree.Arm.{Arm}
+use Rattle.rx_typed.specs.PlainTree.{plain-Pattern, plain-Arm, arms_of}
+use Rattle.rx_typed.proofs.Rules.{arm_by_parts}
 use Rattle.rx_cover.specs.Values.{Value, Values, no_value, value_and, HaveTypes}
 use Rattle.rx_cover.specs.Matching.{SomeMatches}
 use Rattle.rx_cover.specs.Choices.{patterns_of}

@@ -1,9 +1,9 @@
 -- Parts of patterns and rows, one after another.
 use Rattle.std.proofs.Common.{◌≡◌, ℕ, zero, suc, ◌+◌, ◌<◌, nat_eq, Bool, true, false, if◌then◌else◌, List, [], ◌∷◌, map, drop, length, get_or, refl, sym, ap, ◌∙◌, arith, add-one, eq-eqb, ne_eqb}
 use Rattle.std.proofs.Common.{drop-cons}
-use Rattle.rx_typed_tree.specs.declared.tree.Subpattern.{Subpattern}
-use Rattle.rx_typed_tree.specs.PlainTree.{plain-Pattern, plain-Subpattern, subpatterns_of}
-use Rattle.rx_typed_tree.proofs.Rules.{subpattern_by_parts}
+use Rattle.rx_typed.specs.declared.tree.Subpattern.{Subpattern}
+use Rattle.rx_typed.specs.PlainTree.{plain-Pattern, plain-Subpattern, subpatterns_of}
+use Rattle.rx_typed.proofs.Rules.{subpattern_by_parts}
 use Rattle.rx_typed.specs.Tree.{Pattern, Subpatterns}
 use Rattle.std.proofs.Common.{◌++◌}
 use Rattle.rx_cover.specs.declared.heads.Cell.{Cell}

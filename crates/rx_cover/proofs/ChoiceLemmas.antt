@@ -3,25 +3,25 @@ use Rattle.std.proofs.Common.{◌≡◌, ℕ, List, [], ◌∷◌, ◌++◌, map
 use Rattle.std.proofs.lemmas.List.{append_assoc, append-nil}
 use Rattle.rx_typed.specs.Tree as tree
 use Rattle.rx_typed.specs.Tree.{Exp, Scrutinee, Body, Pattern, mark_of}
-use Rattle.rx_typed_tree.specs.declared.tree.Form.{Form, Form-F, fold_out-Form}
-use Rattle.rx_typed_tree.specs.declared.tree.Form.TheOpen as open_form
-use Rattle.rx_typed_tree.specs.declared.tree.Stmt.{Stmt, Stmt-F, fold_out-Stmt}
-use Rattle.rx_typed_tree.specs.declared.tree.Expr.{Expr}
-use Rattle.rx_typed_tree.specs.PlainTree.{plain-Pattern, plain-Mark, plain-Form, plain-Matched, plain-Stmt, plain-Arm, plain-Expr, plain-Operand, form_step, matched_step, stmt_step, arm_step, expr_step, operand_step, nested_of}
-use Rattle.rx_typed_tree.specs.declared.tree.Arm.{Arm}
-use Rattle.rx_typed_tree.specs.declared.tree.Operand.{Operand}
-use Rattle.rx_typed_tree.specs.PlainTree.{arms_of, operands_of}
+use Rattle.rx_typed.specs.declared.tree.Form.{Form, Form-F, fold_out-Form}
+use Rattle.rx_typed.specs.declared.tree.Form.TheOpen as open_form
+use Rattle.rx_typed.specs.declared.tree.Stmt.{Stmt, Stmt-F, fold_out-Stmt}
+use Rattle.rx_typed.specs.declared.tree.Expr.{Expr}
+use Rattle.rx_typed.specs.PlainTree.{plain-Pattern, plain-Mark, plain-Form, plain-Matched, plain-Stmt, plain-Arm, plain-Expr, plain-Operand, form_step, matched_step, stmt_step, arm_step, expr_step, operand_step, nested_of}
+use Rattle.rx_typed.specs.declared.tree.Arm.{Arm}
+use Rattle.rx_typed.specs.declared.tree.Operand.{Operand}
+use Rattle.rx_typed.specs.PlainTree.{arms_of, operands_of}
 use Rattle.rx_cover.proofs.CellLemmas.{at_next}
 use Rattle.rx_cover.specs.Choices.{choices_behind, choices_among}
-use Rattle.rx_typed_tree.proofs.Rules.{expr_by_form, arm_by_parts, operand_by_parts}
+use Rattle.rx_typed.proofs.Rules.{expr_by_form, arm_by_parts, operand_by_parts}
 use Rattle.std.proofs.Common.{Bool, Result, Ok, Err, OnOk}
 use Rattle.std.specs.declared.alloc.AllocError.{AllocError}
 use Rattle.rx_typed.specs.Types.{Typ}
-use Rattle.rx_typed_tree.specs.declared.tree.Matched.{Matched}
-use Rattle.rx_typed_tree.specs.declared.tree.Pattern as code
-use Rattle.rx_typed_tree.specs.declared.tree.Form.TheVariants as form
-use Rattle.rx_typed_tree.specs.declared.tree.Stmt.TheVariants as stmt
-use Rattle.rx_typed_tree.specs.PlainTree.{form_lazily, form_block, form_choose, stmt_lets}
+use Rattle.rx_typed.specs.declared.tree.Matched.{Matched}
+use Rattle.rx_typed.specs.declared.tree.Pattern as code
+use Rattle.rx_typed.specs.declared.tree.Form.TheVariants as form
+use Rattle.rx_typed.specs.declared.tree.Stmt.TheVariants as stmt
+use Rattle.rx_typed.specs.PlainTree.{form_lazily, form_block, form_choose, stmt_lets}
 use Rattle.rx_cover.specs.declared.choices.Choice.{Choice}
 use Rattle.rx_cover.specs.PlainChoices.{plain-Choice}
 use Rattle.rx_cover.proofs.CellLemmas.{map_append}

@@ -4,10 +4,10 @@ use Rattle.std.specs.declared.alloc.AllocError.{AllocError}
 use Rattle.std.proofs.lemmas.List.{length-map}
 use Rattle.std.proofs.Math.Nat.{mul-suc, mul_assoc}
 use Rattle.rx_typed.specs.Tree.{Pattern}
-use Rattle.rx_typed_tree.specs.declared.tree.Subpattern.{Subpattern}
-use Rattle.rx_typed_tree.specs.declared.tree.Arm.{Arm}
-use Rattle.rx_typed_tree.specs.PlainTree.{plain-Pattern, plain-Subpattern, plain-Arm, subpatterns_of, arms_of}
-use Rattle.rx_typed_tree.proofs.Rules.{subpattern_by_parts, arm_by_parts}
+use Rattle.rx_typed.specs.declared.tree.Subpattern.{Subpattern}
+use Rattle.rx_typed.specs.declared.tree.Arm.{Arm}
+use Rattle.rx_typed.specs.PlainTree.{plain-Pattern, plain-Subpattern, plain-Arm, subpatterns_of, arms_of}
+use Rattle.rx_typed.proofs.Rules.{subpattern_by_parts, arm_by_parts}
 use Rattle.rx_cover.specs.Choices.{patterns_of}
 use Rattle.rx_cover.specs.declared.heads.Head as code_head
 use Rattle.rx_cover.specs.declared.width.Turn.{Turn}

@@ -1,7 +1,7 @@
 -- What heads and cells of the code stand for.
 use Rattle.std.specs.Prelude.{pos, negsuc, List, map}
 use Rattle.rx_typed.specs.Tree as tree
-use Rattle.rx_typed_tree.specs.PlainTree.{plain-Pattern}
+use Rattle.rx_typed.specs.PlainTree.{plain-Pattern}
 use Rattle.rx_cover.specs.declared.heads.Head.{Head}
 use Rattle.rx_cover.specs.declared.heads.Cell.{Cell}
 use Rattle.rx_cover.specs.declared.matrix.Column.{Column}

@@ -5,7 +5,7 @@ use Rattle.rx_core.specs.declared.types.Ty.{Ty}
 use Rattle.rx_typed.specs.Types.{Typ}
 use Rattle.rx_typed.specs.PlainTypes.{plain-Ty}
 use Rattle.rx_typed.specs.Tree.{Pattern, Body, ends, unit}
-use Rattle.rx_typed_tree.specs.PlainTree.{plain-Pattern, plain-Arm, arms_of}
+use Rattle.rx_typed.specs.PlainTree.{plain-Pattern, plain-Arm, arms_of}
 use Rattle.rx_cover.specs.declared.choices.Arms.{Arms}
 use Rattle.rx_cover.specs.declared.choices.Choice.{Choice}
 use Rattle.rx_cover.specs.Choices as plain

@@ -2,7 +2,7 @@
 
 ghost use Rattle.std.specs.Prelude.{◌≡◌, [], ◌∷◌, ◌++◌, IfOk, OnOk, List, map, option_map};
 ghost use Rattle.rx_typed.specs.PlainTypes.{plain-Ty, declarations};
-ghost use Rattle.rx_typed_tree.specs.PlainTree.{plain-Pattern, plain-Arm, arms_of};
+ghost use Rattle.rx_typed.specs.PlainTree.{plain-Pattern, plain-Arm, arms_of};
 ghost use Rattle.rx_cover.specs.Choices.{patterns_of};
 ghost use Rattle.rx_cover.specs.Finite.{Finite};
 ghost use Rattle.rx_cover.specs.Finding as spec;
@@ -17,8 +17,7 @@ use crate::missing::missing;
 use crate::rows::one_column;
 use crate::value::Value;
 use rx_core::{LetGo, List, Ty};
-use rx_typed::Decls;
-use rx_typed_tree::{Arm, Pattern};
+use rx_typed::{Arm, Decls, Pattern};
 use std::alloc::{AllocError, Global};
 
 fn one_cell<'a>(alloc: Global, pattern: &'a Pattern) -> Result<List<Cell<'a>>, AllocError>

@@ -1,14 +1,14 @@
 //! The matches of a function, in the order of the text.
 
 ghost use Rattle.std.specs.Prelude.{◌≡◌, [], ◌∷◌, ◌++◌, OnOk, IfOk, map};
-ghost use Rattle.rx_typed_tree.specs.PlainTree.{plain-Expr, plain-Operand, plain-Arm, plain-Stmt, plain-Matched, operands_of, arms_of};
+ghost use Rattle.rx_typed.specs.PlainTree.{plain-Expr, plain-Operand, plain-Arm, plain-Stmt, plain-Matched, operands_of, arms_of};
 ghost use Rattle.rx_typed.specs.PlainTypes.{plain-Ty};
 ghost use Rattle.std.specs.Prelude.{option_map};
 ghost use Rattle.rx_cover.specs.Choices as spec;
 ghost use Rattle.rx_cover.specs.PlainChoices.{plain-Choice, plain-Type, stmt_choices, stmts_choices};
 
 use rx_core::{LetGo, List, Ty};
-use rx_typed_tree::{Arm, Expr, Form, Mark, Matched, Operand, Pattern, Stmt};
+use rx_typed::{Arm, Expr, Form, Mark, Matched, Operand, Pattern, Stmt};
 use std::alloc::{AllocError, Global};
 
 /// The arms of a match, or the pattern of a `let`.
@@ -40,7 +40,7 @@ fn type_of<'a>(mark: &'a Mark) -> Option<&'a Ty>
 }
 
 /// The type of a scrutinee.
-#[tactic(auto, using(rx_typed_tree::proofs::Rules::typed_tree_rules, crate::proofs::ChoiceLemmas::expr_mark))]
+#[tactic(auto, using(rx_typed::proofs::Rules::typed_tree_rules, crate::proofs::ChoiceLemmas::expr_mark))]
 fn type_of_matched<'a>(matched: &'a Matched) -> Option<&'a Ty>
     ensures { plain-Type result ≡ spec.scrutinee_typ (plain-Matched matched.now) }
 {
@@ -52,7 +52,7 @@ fn type_of_matched<'a>(matched: &'a Matched) -> Option<&'a Ty>
 
 /// Adds the matches in an expression; the node names the one that it is.
 #[cycle(choices)]
-#[tactic(auto, using(rx_typed_tree::proofs::Rules::typed_tree_rules, crate::proofs::ChoiceLemmas::choice_rules))]
+#[tactic(auto, using(rx_typed::proofs::Rules::typed_tree_rules, crate::proofs::ChoiceLemmas::choice_rules))]
 fn add_choices<'a>(
     found: &mut List<Choice<'a>>,
     node: usize,
@@ -101,7 +101,7 @@ fn add_own<'a>(found: &mut List<Choice<'a>>, expr: &'a Expr) -> Result<(), Alloc
 }
 
 #[cycle(choices)]
-#[tactic(auto, using(rx_typed_tree::proofs::Rules::typed_tree_rules))]
+#[tactic(auto, using(rx_typed::proofs::Rules::typed_tree_rules))]
 fn add_operands<'a>(found: &mut List<Choice<'a>>, operands: &'a [Operand]) -> Result<(), AllocError>
     ensures { OnOk result (map plain-Choice found.new
         ≡ map plain-Choice found.old ++ spec.choices_among (operands_of (map plain-Operand operands.now))) }
@@ -113,7 +113,7 @@ fn add_operands<'a>(found: &mut List<Choice<'a>>, operands: &'a [Operand]) -> Re
 }
 
 #[cycle(choices)]
-#[tactic(auto, using(rx_typed_tree::proofs::Rules::typed_tree_rules, crate::proofs::ChoiceLemmas::choice_rules))]
+#[tactic(auto, using(rx_typed::proofs::Rules::typed_tree_rules, crate::proofs::ChoiceLemmas::choice_rules))]
 fn add_matched<'a>(found: &mut List<Choice<'a>>, matched: &'a Matched) -> Result<(), AllocError>
     ensures { OnOk result (map plain-Choice found.new
         ≡ map plain-Choice found.old ++ spec.choices_before (plain-Matched matched.now)) }
@@ -125,7 +125,7 @@ fn add_matched<'a>(found: &mut List<Choice<'a>>, matched: &'a Matched) -> Result
 }
 
 #[cycle(choices)]
-#[tactic(auto, using(rx_typed_tree::proofs::Rules::typed_tree_rules))]
+#[tactic(auto, using(rx_typed::proofs::Rules::typed_tree_rules))]
 fn add_arms<'a>(found: &mut List<Choice<'a>>, arms: &'a [Arm]) -> Result<(), AllocError>
     ensures { OnOk result (map plain-Choice found.new
         ≡ map plain-Choice found.old ++ spec.choices_behind (arms_of (map plain-Arm arms.now))) }
@@ -148,7 +148,7 @@ fn add_stmts<'a>(found: &mut List<Choice<'a>>, stmts: &'a [Stmt]) -> Result<(), 
 }
 
 #[cycle(choices)]
-#[tactic(auto, using(rx_typed_tree::proofs::Rules::typed_tree_rules, crate::proofs::ChoiceLemmas::choice_rules))]
+#[tactic(auto, using(rx_typed::proofs::Rules::typed_tree_rules, crate::proofs::ChoiceLemmas::choice_rules))]
 fn add_stmt<'a>(found: &mut List<Choice<'a>>, stmt: &'a Stmt) -> Result<(), AllocError>
     ensures { OnOk result (map plain-Choice found.new ≡ map plain-Choice found.old ++ stmt_choices (plain-Stmt stmt.now)) }
 {

@@ -4,7 +4,7 @@ ghost use Rattle.std.specs.Prelude.{◌≡◌};
 ghost use Rattle.rx_graph_cycles.specs.Reaches.{NoCycle};
 ghost use Rattle.rx_typed_declarations.specs.Held.{held};
 ghost use Rattle.rx_typed.specs.PlainTypes.{declarations};
-ghost use Rattle.rx_typed_tree.specs.PlainTree.{plain-Expr};
+ghost use Rattle.rx_typed.specs.PlainTree.{plain-Expr};
 ghost use Rattle.rx_cover.specs.Choices.{Choice as PlainChoice, choices_of};
 ghost use Rattle.rx_cover.specs.Finding as finding;
 ghost use Rattle.rx_cover.specs.Judging as spec;
@@ -14,8 +14,7 @@ ghost use Rattle.std.specs.Prelude.{List, Some};
 use crate::judging::{Problem, first_problem};
 use crate::value::Value;
 use rx_core::Span;
-use rx_typed::Decls;
-use rx_typed_tree::TypedTree;
+use rx_typed::{Decls, TypedTree};
 use std::alloc::{AllocError, Global};
 
 /// Why a match is not covered.

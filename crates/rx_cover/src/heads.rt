@@ -1,7 +1,7 @@
 //! Heads of patterns and values: what is asked of a value first, and then of its parts.
 
 ghost use Rattle.std.specs.Prelude.{◌≡◌, map, option_map};
-ghost use Rattle.rx_typed_tree.specs.PlainTree.{plain-Pattern, plain-Subpattern, plain-Constant, subpatterns_of};
+ghost use Rattle.rx_typed.specs.PlainTree.{plain-Pattern, plain-Subpattern, plain-Constant, subpatterns_of};
 ghost use Rattle.rx_cover.specs.Heads as spec;
 ghost use Rattle.rx_cover.specs.Matching.{part_of};
 ghost use Rattle.rx_cover.specs.PlainCells.{plain-Head, plain-Cell, constant_head};
@@ -9,7 +9,7 @@ ghost use Rattle.rx_cover.specs.Matrices as matrices;
 ghost use Rattle.rx_typed.specs.Elaborated.{with_sign};
 
 use rx_core::LetGo;
-use rx_typed_tree::{Constant, Pattern, Subpattern};
+use rx_typed::{Constant, Pattern, Subpattern};
 
 /// An integer from 0 on, or one below 0 by its distance from -1; a truth value; a tuple or struct; a variant, by the
 /// enum's item; a reference. Equal ones are the same head.
@@ -66,7 +66,7 @@ pub(crate) fn head_of_constant(constant: Constant) -> Head
 }
 
 /// The head that a pattern asks for.
-#[tactic(auto, using(rx_typed_tree::proofs::Rules::typed_pattern_rules))]
+#[tactic(auto, using(rx_typed::proofs::Rules::typed_pattern_rules))]
 fn head_of_pattern(pattern: &Pattern) -> Option<Head>
     ensures { option_map plain-Head result ≡ spec.head_in (plain-Pattern pattern.now) }
 {
@@ -89,7 +89,7 @@ pub(crate) fn head_of(cell: Cell<'_>) -> Option<Head>
 }
 
 /// What is asked of a part.
-#[tactic(auto, using(rx_typed_tree::proofs::Rules::typed_pattern_rules))]
+#[tactic(auto, using(rx_typed::proofs::Rules::typed_pattern_rules))]
 fn part_among<'a>(parts: &'a [Subpattern], number: usize) -> Cell<'a>
     ensures { plain-Cell result ≡ part_of (subpatterns_of (map plain-Subpattern parts.now)) number }
 {
@@ -101,7 +101,7 @@ fn part_among<'a>(parts: &'a [Subpattern], number: usize) -> Cell<'a>
     Cell::Open
 }
 
-#[tactic(auto, using(rx_typed_tree::proofs::Rules::typed_pattern_rules))]
+#[tactic(auto, using(rx_typed::proofs::Rules::typed_pattern_rules))]
 fn part_of_pattern<'a>(pattern: &'a Pattern, number: usize) -> Cell<'a>
     ensures { plain-Cell result ≡ part_of (spec.parts_in (plain-Pattern pattern.now)) number }
 {
@@ -130,7 +130,7 @@ pub(crate) fn part<'a>(cell: Cell<'a>, number: usize) -> Cell<'a>
 }
 
 /// Whether anything is asked.
-#[tactic(auto, using(rx_typed_tree::proofs::Rules::typed_pattern_rules))]
+#[tactic(auto, using(rx_typed::proofs::Rules::typed_pattern_rules))]
 pub(crate) fn pattern_asks(pattern: &Pattern) -> bool
     ensures { result ≡ matrices.asks (plain-Pattern pattern.now) }
 {

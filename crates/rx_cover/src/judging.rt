@@ -4,7 +4,7 @@ ghost use Rattle.std.specs.Prelude.{◌≡◌, IfOk, map, option_map};
 ghost use Rattle.rx_graph_cycles.specs.Reaches.{NoCycle};
 ghost use Rattle.rx_typed_declarations.specs.Held.{held};
 ghost use Rattle.rx_typed.specs.PlainTypes.{declarations};
-ghost use Rattle.rx_typed_tree.specs.PlainTree.{plain-Expr};
+ghost use Rattle.rx_typed.specs.PlainTree.{plain-Expr};
 ghost use Rattle.rx_cover.specs.Choices.{choices_of};
 ghost use Rattle.rx_cover.specs.Finding as finding;
 ghost use Rattle.rx_cover.specs.Finite.{Finite};
@@ -16,8 +16,7 @@ use crate::arms::missed;
 use crate::choices::{Choice, choices_in};
 use crate::value::Value;
 use crate::width::width;
-use rx_typed::Decls;
-use rx_typed_tree::TypedTree;
+use rx_typed::{Decls, TypedTree};
 use std::alloc::{AllocError, Global};
 
 /// What is wrong with a match: its product passes the limit, or it misses a value.

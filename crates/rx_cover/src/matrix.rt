@@ -4,7 +4,7 @@ ghost use Rattle.std.specs.Prelude.{◌≡◌, [], ◌∷◌, ◌++◌, Bool, fa
 ghost use Rattle.rx_typed.specs.PlainTypes.{plain-Ty, plain-FieldDecl, plain-VariantDecl, declarations};
 ghost use Rattle.rx_typed.specs.Types.{variants_declared, fields_declared};
 ghost use Rattle.rx_cover.specs.Values as values_spec;
-ghost use Rattle.rx_typed_tree.specs.PlainTree.{plain-Pattern, plain-Subpattern, subpatterns_of};
+ghost use Rattle.rx_typed.specs.PlainTree.{plain-Pattern, plain-Subpattern, subpatterns_of};
 ghost use Rattle.rx_typed.specs.Tree as tree;
 ghost use Rattle.rx_typed_declarations.specs.Held.{field_types};
 ghost use Rattle.rx_cover.specs.Heads as heads_spec;
@@ -16,8 +16,7 @@ use crate::kinds::{below_zero, greatest};
 use crate::sets::add;
 use indexmap::IndexSet;
 use rx_core::{Kind, LetGo, List, Ty};
-use rx_typed::{Decl, Decls, FieldDecl, VariantDecl};
-use rx_typed_tree::{Pattern, Subpattern};
+use rx_typed::{Decl, Decls, FieldDecl, Pattern, Subpattern, VariantDecl};
 use std::alloc::{AllocError, Global};
 
 /// A column, by the type of its values.
@@ -223,7 +222,7 @@ fn mark_one(mask: &mut Vec<bool>, at: usize, asked: bool)
     }
 }
 
-#[tactic(auto, using(rx_typed_tree::proofs::Rules::typed_pattern_rules))]
+#[tactic(auto, using(rx_typed::proofs::Rules::typed_pattern_rules))]
 fn mark_parts(mask: &mut Vec<bool>, parts: &[Subpattern])
     ensures { mask.new.items ≡ spec.mark_parts mask.old.items (subpatterns_of (map plain-Subpattern parts.now)) }
 {
@@ -232,7 +231,7 @@ fn mark_parts(mask: &mut Vec<bool>, parts: &[Subpattern])
     }
 }
 
-#[tactic(auto, using(rx_typed_tree::proofs::Rules::typed_pattern_rules))]
+#[tactic(auto, using(rx_typed::proofs::Rules::typed_pattern_rules))]
 fn mark_pattern(mask: &mut Vec<bool>, pattern: &Pattern)
     ensures { mask.new.items ≡ spec.mark_parts mask.old.items (heads_spec.parts_in (plain-Pattern pattern.now)) }
 {

@@ -1,12 +1,12 @@
 //! How many combinations the tests of a match tell apart.
 
 ghost use Rattle.std.specs.Prelude.{◌≡◌, [], ◌∷◌, ◌++◌, ◌+◌, ◌*◌, IfOk, OnOk, List, length, map};
-ghost use Rattle.rx_typed_tree.specs.PlainTree.{plain-Pattern, plain-Subpattern, subpatterns_of};
+ghost use Rattle.rx_typed.specs.PlainTree.{plain-Pattern, plain-Subpattern, subpatterns_of};
 ghost use Rattle.rx_cover.specs.PlainCells.{plain-Head};
 ghost use Rattle.rx_cover.specs.PlainTested.{plain-Tested};
 ghost use Rattle.rx_cover.specs.declared.width.Turn.TheVariants as turns;
 ghost use Rattle.rx_cover.specs.PlainChoices.{plain-Arms};
-ghost use Rattle.rx_typed_tree.specs.PlainTree.{plain-Arm, arms_of};
+ghost use Rattle.rx_typed.specs.PlainTree.{plain-Arm, arms_of};
 ghost use Rattle.rx_cover.specs.Choices.{patterns_of};
 ghost use Rattle.rx_cover.specs.Width as spec;
 
@@ -15,7 +15,7 @@ use crate::heads::{Head, head_of_constant};
 use crate::sets::add;
 use indexmap::IndexSet;
 use rx_core::{LetGo, List, keep};
-use rx_typed_tree::{Arm, Pattern, Subpattern};
+use rx_typed::{Arm, Pattern, Subpattern};
 use std::alloc::{AllocError, Global};
 
 /// One step from a value to a part of it. A variant's part is behind the variant; `Deref(true)` goes through a `&mut`.
@@ -165,7 +165,7 @@ fn add_test(
 
 /// Adds the tests of a pattern that stands at the end of a path, which is unchanged.
 #[cycle(tests)]
-#[tactic(auto, using(rx_typed_tree::proofs::Rules::typed_pattern_rules))]
+#[tactic(auto, using(rx_typed::proofs::Rules::typed_pattern_rules))]
 fn add_tests(
     alloc: Global,
     table: &mut Vec<Tested>,
@@ -227,7 +227,7 @@ fn add_if(
 }
 
 #[cycle(tests)]
-#[tactic(auto, using(rx_typed_tree::proofs::Rules::typed_pattern_rules))]
+#[tactic(auto, using(rx_typed::proofs::Rules::typed_pattern_rules))]
 fn add_part_tests(
     alloc: Global,
     table: &mut Vec<Tested>,

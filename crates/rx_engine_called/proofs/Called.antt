@@ -7,7 +7,7 @@ use Rattle.rx_tree.specs.Lists.{Every, statements, tail}
 use Rattle.rx_tree.specs.Plain as plain
 use Rattle.rx_tree.specs.Plain.{Body, Function, OptionalExpression, ProgramTree, Statement, Statements}
 use Rattle.rx_tree.proofs.NodesLaws.{every_both}
-use Rattle.rx_resolve_scope.specs.Scopes.{variable_named, Variables}
+use Rattle.rx_resolve_names.specs.Scopes.{variable_named, Variables}
 use Rattle.rx_resolve_names.specs.declared.resolved.ItemNames.{ItemNames}
 use Rattle.rx_resolve_names.specs.Meant.{Around}
 use Rattle.rx_resolve_names.specs.Steps.{Inside}

@@ -5,7 +5,7 @@ use Rattle.rx_tree.specs.declared.tree.Ident.{Ident}
 use Rattle.rx_tree.specs.Lists.{listed}
 use Rattle.rx_tree.specs.Plain as plain
 use Rattle.rx_tree.specs.Plain.{PatternTree, Expression, Expressions, OptionalExpression, OptionalExpressions, FieldExpressions, Arms, Body, Statement, Statements}
-use Rattle.rx_resolve_scope.specs.Scopes.{Declared, Variables, entered, variable_named}
+use Rattle.rx_resolve_names.specs.Scopes.{Declared, Variables, entered, variable_named}
 use Rattle.rx_resolve_names.specs.declared.resolved.ItemNames.{ItemNames}
 use Rattle.rx_resolve_names.specs.Meant.{Around, a_loop, a_test, is_meant, number, out_of_test, nowhere, target, Target, through_test, to_loop}
 use Rattle.rx_resolve_names.specs.Steps.{and_then, ◌>>◌, child, Inside, known, led, names, next, numbered as entry_of, one, Outcome, position, with_loop}

@@ -7,8 +7,8 @@ use Rattle.rx_typed.specs.Tree.{Function, Root, temporary, variable}
 use Rattle.rx_lower_walks.specs.Actions.{Act, Action, Borrow, Build, Call, Dead, Declare, Give, Input, Print, Read, Test, Write}
 use Rattle.rx_lower_walks.specs.Orders.{order_function}
 use Rattle.rx_lower_walks.specs.Walks.{EndsVariable, IsWalk, Walk}
-use Rattle.rx_facts_along.specs.Along.{after, ahead}
-use Rattle.rx_facts_along.proofs.Forward.{after_append}
+use Rattle.rx_facts_live.specs.Along.{after, ahead}
+use Rattle.rx_facts_live.proofs.Forward.{after_append}
 use Rattle.rx_facts_init.specs.Wholes.{is_variable, loses, regains, standing}
 use Rattle.rx_facts_live.specs.Live.{has_root, living, roots_of, used, whole, written}
 use Rattle.rx_typed.specs.Places.{is_front}

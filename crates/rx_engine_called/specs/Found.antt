@@ -2,7 +2,7 @@
 -- a variable there, and a jump that leaves it leads to a loop there.
 use Rattle.std.specs.Prelude.{◌≡◌, ℕ, false, Option, Some, List}
 use Rattle.rx_tree.specs.declared.tree.Ident.{Ident}
-use Rattle.rx_resolve_scope.specs.Scopes.{Variables}
+use Rattle.rx_resolve_names.specs.Scopes.{Variables}
 use Rattle.rx_resolve_names.specs.Meant.{Around, target, to_loop}
 use Rattle.rx_hoist_extraction.specs.Names.{is_among}
 use Rattle.rx_hoist_extraction.specs.Run.{numbered}

@@ -14,7 +14,7 @@ ghost use Rattle.rx_typeck_typed.specs.declared.typed.Typed.{Typed};
 ghost use Rattle.rx_lower_walks.specs.Actions.{Action};
 ghost use Rattle.rx_lower_walks.specs.Orders.{Order, order_function};
 ghost use Rattle.rx_lower_walks.specs.Walks.{IsWalk, Out, Walk};
-ghost use Rattle.rx_facts_along.specs.Along.{after, ahead};
+ghost use Rattle.rx_facts_live.specs.Along.{after, ahead};
 ghost use Rattle.rx_facts_init.specs.Wholes.{standing};
 ghost use Rattle.rx_facts_live.specs.Live.{has_root, living, used};
 ghost use Rattle.rx_exits_marks.specs.Unmarked.{is_mark};
@@ -41,8 +41,10 @@ ghost use Rattle.rx_engine_called.specs.Tied.{BehindTied, RunTied};
 ghost use Rattle.rx_engine_called.specs.WrittenOut.{SaysTheSame};
 ghost use Rattle.rx_engine_called.specs.Ended.{EndsBehind, Inside};
 
-use rx_hoist_meant::{named_plans_have_distinct_names, runs_tell_params_and_locals_by_names};
-use rx_hoist_own_names::outs_have_their_own_names;
+use rx_hoist_meant::{
+    named_plans_have_distinct_names, outs_have_their_own_names,
+    runs_tell_params_and_locals_by_names,
+};
 use rx_hoist_words::{named_plans_are_formed, runs_have_names, types_name_types};
 
 /// What the call hands out by the plan of an accepted text: the types of what is redeclared name structs and enums; where the run's value

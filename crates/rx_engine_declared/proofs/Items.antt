@@ -8,7 +8,7 @@ use Rattle.rx_tree.specs.declared.tree.Ident.{Ident}
 use Rattle.rx_tree.specs.declared.tree.BoundLifetime.{BoundLifetime}
 use Rattle.rx_tree.specs.Plain as plain
 use Rattle.rx_tree.specs.Plain.{TypeTree, FieldOf, VariantOf, Parameter, Function, ItemTree, ProgramTree}
-use Rattle.rx_resolve_scope.specs.Scopes.{Declared}
+use Rattle.rx_resolve_names.specs.Scopes.{Declared}
 use Rattle.rx_resolve_names.specs.declared.resolved.ItemNames.{ItemNames}
 use Rattle.rx_resolve_names.specs.declared.resolved.NodeNames.{NodeNames}
 use Rattle.rx_resolve_names.specs.Meant.{number, firsts, lifetimes_declared}
@@ -16,7 +16,7 @@ use Rattle.rx_resolve_names.specs.Steps as names
 use Rattle.rx_resolve_names.specs.Steps.{Inside, declare, both, one, child, next, with_names, with_variable, entry, numbered, ◌>>◌}
 use Rattle.rx_resolve_names.specs.Names.{behind, in_type, in_types, in_optional_type, in_block, lifetime_in, Bound}
 use Rattle.rx_resolve_names.specs.Items.{bounds_in, distinct, in_declared, in_variants, lifetimes_of, in_parameter, in_parameters, numbers_from, body_at, in_item}
-use Rattle.rx_resolve_scope.specs.Scopes.{entered}
+use Rattle.rx_resolve_names.specs.Scopes.{entered}
 use Rattle.rx_typed.specs.PlainTypes.{plain-Ty, plain-Decl, plain-FieldDecl, plain-VariantDecl, typ_tuple}
 use Rattle.rx_typed.specs.declared.declarations.Decl.{Decl}
 use Rattle.rx_typed.specs.declared.declarations.Decl.TheVariants as decl

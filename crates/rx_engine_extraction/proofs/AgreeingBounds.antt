@@ -21,16 +21,16 @@ use Rattle.rx_typed_declarations.proofs.Filling.{fill_by, all_filled}
 use Rattle.rx_typeck_typed.specs.declared.typed.Typed.{Typed}
 use Rattle.rx_typeck_typed.specs.declared.typed.TypedFn.{TypedFn}
 use Rattle.rx_typeck_typed.specs.Typing.{IsTyped}
-use Rattle.rx_lower_graph.specs.Graph.{Site}
+use Rattle.rx_lower_walks.specs.Graph.{Site}
 use Rattle.rx_lower.specs.Functions.{function_at}
 use Rattle.rx_region_outlives.specs.Implied.{ImpliedAmong, ImpliedBy, in_held, pairs_of, implied_among, ImpliesOf}
 use Rattle.rx_region_outlives.proofs.ImpliedLemmas.{among_told}
-use Rattle.rx_region_solutions.specs.Constraints.{Context}
-use Rattle.rx_region_solutions.specs.Known.{Missing}
+use Rattle.rx_region_constraints.specs.Constraints.{Context}
+use Rattle.rx_region_constraints.specs.Known.{Missing}
 use Rattle.rx_facts.specs.Functions.{sites_of}
 use Rattle.rx_facts.specs.Same.{SameFunction, AreSame}
-use Rattle.rx_check_loans.specs.Contexts.{AreAsked, context_of}
-use Rattle.rx_repair_laws.specs.LeastBounds.{IsLeastBound, AreLeastBounds}
+use Rattle.rx_check.specs.Contexts.{AreAsked, context_of}
+use Rattle.rx_repair.specs.LeastBounds.{IsLeastBound, AreLeastBounds}
 use Rattle.rx_engine_extraction.specs.Hoisting.{IsBare}
 use Rattle.rx_engine_extraction.specs.Meeting.{Fits}
 use Rattle.rx_engine_extraction.proofs.AgreeingPairs.{asked_too, missing_too}

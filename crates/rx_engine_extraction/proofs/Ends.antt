@@ -22,7 +22,7 @@ use Rattle.rx_check.specs.declared.fault.CheckFault.{CheckFault}
 use Rattle.rx_check.specs.declared.fault.CheckFault.TheVariants as check_fault
 use Rattle.rx_check.specs.Causes.{Causes, PassCauses, AreOne}
 use Rattle.rx_check.specs.Passes.{Fronted, Accepted}
-use Rattle.rx_check_loans.specs.declared.loans.LoanFault.TheVariants as loan_fault
+use Rattle.rx_check.specs.declared.loans.LoanFault.TheVariants as loan_fault
 use Rattle.rx_lower_lifetimes.specs.declared.whole.LowerFault.TheVariants as lower_fault
 use Rattle.rx_hoist_extraction.specs.Names.{Distinct}
 use Rattle.rx_hoist_extraction.specs.Run.{Run}

@@ -1,7 +1,7 @@
 -- A case in which nothing is decided yet: what its fields have is of no account until a condition speaks of them.
 use Rattle.std.specs.Prelude.{[], ◌∷◌, None, false}
 use Rattle.rx_typed.specs.Tree as tree
-use Rattle.rx_typed_tree.specs.declared.tree.Form.TheVariants as form
+use Rattle.rx_typed.specs.declared.tree.Form.TheVariants as form
 use Rattle.rx_typed_runs.specs.declared.runs.RunPos.{RunPos}
 use Rattle.rx_typeck_typed.specs.declared.typed.TypedFn.{TypedFn}
 use Rattle.rx_exits_marks.specs.Runs.{Home}

@@ -10,8 +10,7 @@ ghost use Rattle.rx_engine_extraction.specs.Ending as spec;
 ghost use Rattle.rx_engine_extraction.specs.Hoisting.{IsBare};
 
 use crate::refusal::{Answer, Fault, Refusal};
-use rx_check::{CheckFault, FrontEnd, check, front};
-use rx_check_loans::LoanFault;
+use rx_check::{CheckFault, FrontEnd, LoanFault, check, front};
 use rx_core::{Bound, LetGo, List, Which, keep};
 use rx_lower_lifetimes::LowerFault;
 use rx_print::print;

@@ -2,8 +2,8 @@
 use Rattle.std.proofs.Common.{◌≡◌, ℕ, Bool, true, false, not, ◌&&◌, ◌||◌, if◌then◌else◌, List, [], ◌∷◌, ◌++◌, refl, sym, ap, ◌∙◌, true≢false}
 use Rattle.rx_core.specs.declared.types.Step.{Step}
 use Rattle.rx_lower_walks.specs.Actions.{Act, Declare, Dead, Read, Write, Borrow, Test, Call, Build, Input, Print, Give, Action, does}
-use Rattle.rx_facts_along.specs.Along.{Switch, behind, after}
-use Rattle.rx_facts_parts.specs.Places.{Frame}
+use Rattle.rx_facts_live.specs.Along.{Switch, behind, after}
+use Rattle.rx_facts_init.specs.Places.{Frame}
 use Rattle.rx_facts_init.specs.Setting.{sets, unsets, setting}
 use Rattle.rx_facts_init.specs.Wholes.{regains, loses, standing}
 use Rattle.rx_exits_marks.specs.Unmarked.{is_mark, unfilled, unmarked}

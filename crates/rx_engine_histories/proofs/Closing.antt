@@ -9,7 +9,7 @@ use Rattle.rx_lower_walks.specs.Orders.{Exit, returns, exit_node, Order, testing
 use Rattle.rx_lower_walks.specs.Orders as order
 use Rattle.rx_lower_walks.specs.Walks as walk
 use Rattle.rx_lower_walks.specs.Walks.{Out, Walk, IsWalk, Passed, by_end, by_continue, Left, by_break, by_outer_break, by_outer_continue, by_return, by_stop}
-use Rattle.rx_facts_along.specs.Along.{ahead}
+use Rattle.rx_facts_live.specs.Along.{ahead}
 use Rattle.rx_facts_live.specs.Live.{living}
 use Rattle.rx_engine_simulation.specs.Histories.{Living}
 use Rattle.rx_engine_simulation.specs.Programs.{back, Untouched, facts_of}

@@ -5,10 +5,10 @@ use Rattle.rx_typed.specs.Tree.{Function}
 use Rattle.rx_lower_walks.specs.Actions.{Dead, Action, does}
 use Rattle.rx_lower_walks.specs.Orders.{exit_node, Order, order_function}
 use Rattle.rx_lower_walks.specs.Orders as order
-use Rattle.rx_lower_graph.specs.Graph.{Site, site_at}
-use Rattle.rx_lower_graph.specs.Pieces.{Scope, Variable, Looped, left, graph}
-use Rattle.rx_lower_graph.specs.Text.{ending_all, in_text, actions_of, Sublist, none, kept, dropped}
-use Rattle.rx_lower_graph.proofs.InText.{graph_in_text}
+use Rattle.rx_lower_walks.specs.Graph.{Site, site_at}
+use Rattle.rx_lower_walks.specs.Pieces.{Scope, Variable, Looped, left, graph}
+use Rattle.rx_lower_walks.specs.Text.{ending_all, in_text, actions_of, Sublist, none, kept, dropped}
+use Rattle.rx_lower_walks.proofs.InText.{graph_in_text}
 use Rattle.rx_exits_marks.specs.Points.{Point, number}
 use Rattle.rx_exits_marks.specs.Marked.{shown}
 use Rattle.rx_exits_marks.specs.Unmarked.{is_mark}

@@ -8,7 +8,7 @@ use Rattle.rx_typed.specs.Places.{same_root}
 use Rattle.rx_lower_walks.specs.Actions.{Act, Declare, Dead, Read, Write, Borrow, Test, Call, Build, Input, Print, Give, Action}
 use Rattle.rx_lower_walks.specs.Orders.{order_function}
 use Rattle.rx_lower_walks.specs.Walks.{Walk, IsWalk, Among}
-use Rattle.rx_facts_along.specs.Along.{after, ahead}
+use Rattle.rx_facts_live.specs.Along.{after, ahead}
 use Rattle.rx_facts_live.specs.Live.{living, has_root, used, written, roots_of, whole, entered}
 use Rattle.rx_facts_init.specs.Wholes.{regains, loses, begins, standing}
 use Rattle.rx_exits_marks.specs.Points.{enters}

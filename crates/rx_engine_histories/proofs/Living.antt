@@ -7,7 +7,7 @@ use Rattle.rx_typed.specs.Tree.{Root, variable, temporary, Function}
 use Rattle.rx_typed.specs.Places.{same_root}
 use Rattle.rx_lower_walks.specs.Actions.{Act, Declare, Dead, Read, Write, Borrow, Test, Call, Build, Input, Print, Give, Action}
 use Rattle.rx_lower_walks.specs.Walks.{IsWalk}
-use Rattle.rx_facts_along.specs.Along.{ahead}
+use Rattle.rx_facts_live.specs.Along.{ahead}
 use Rattle.rx_facts_live.specs.Live.{living, has_root, used, written, roots_of, whole, entered}
 use Rattle.rx_exits_marks.specs.Points.{Exit, leaves}
 use Rattle.rx_exits_marks.specs.Marked.{shown}

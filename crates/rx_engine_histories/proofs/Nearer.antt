@@ -5,7 +5,7 @@ use Rattle.rx_lower_walks.specs.Actions.{Dead, Action, does}
 use Rattle.rx_lower_walks.specs.Orders.{exit_node, Order}
 use Rattle.rx_lower_walks.specs.Orders as order
 use Rattle.rx_lower_walks.specs.Walks.{Out, on, stopped, Walk, rests, stops, nothing, acts, both, first, one, other, holds, next, ends, jumps, halts, last, more}
-use Rattle.rx_facts_along.specs.Along.{ahead}
+use Rattle.rx_facts_live.specs.Along.{ahead}
 use Rattle.rx_facts_live.specs.Live.{living}
 use Rattle.rx_engine_histories.proofs.Further.{returned, More, no_more, kept, put_in, more_both, more_same, returned_there, Furthered, as_it_was, f_behind, f_then, f_or, f_otherwise, f_ending, f_passes}
 

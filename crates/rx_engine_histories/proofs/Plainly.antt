@@ -6,7 +6,7 @@ use Rattle.rx_lower_walks.specs.Actions.{Action, does}
 use Rattle.rx_lower_walks.specs.Orders.{order_function}
 use Rattle.rx_lower_walks.specs.Walks.{stopped, Walk, IsWalk, Among}
 use Rattle.rx_lower_walks.proofs.Fronts.{fronts}
-use Rattle.rx_facts_along.specs.Along.{Switch, behind, after}
+use Rattle.rx_facts_live.specs.Along.{Switch, behind, after}
 use Rattle.rx_exits_marks.specs.Runs.{Run}
 use Rattle.rx_exits_marks.specs.Points.{enters}
 use Rattle.rx_exits_marks.specs.Marked.{shown, marked}

@@ -5,8 +5,8 @@ use Rattle.rx_lower_walks.specs.Actions.{Act, Build, Action}
 use Rattle.rx_lower_walks.specs.Orders.{order_body, order_function}
 use Rattle.rx_lower_walks.specs.Walks.{stopped, rests, nothing, acts, both, Walk, IsWalk}
 use Rattle.rx_lower_walks.proofs.Fronts.{fronts}
-use Rattle.rx_facts_along.specs.Along.{after}
-use Rattle.rx_facts_parts.specs.Places.{Frame, is_part}
+use Rattle.rx_facts_live.specs.Along.{after}
+use Rattle.rx_facts_init.specs.Places.{Frame, is_part}
 use Rattle.rx_facts_init.specs.Setting.{setting, AllSet}
 use Rattle.rx_facts_init.specs.Wholes.{standing}
 use Rattle.rx_facts_init.specs.Initialised.{Initialised}

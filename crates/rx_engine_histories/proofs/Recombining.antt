@@ -3,11 +3,11 @@ use Rattle.std.proofs.Common.{◌≡◌, ℕ, true, List, [], ◌∷◌, ◌++�
 use Rattle.rx_typed.specs.Tree.{variable, Function}
 use Rattle.rx_lower_walks.specs.Actions.{Action}
 use Rattle.rx_lower_walks.specs.Walks.{IsWalk}
-use Rattle.rx_lower_graph.specs.Graph.{Site, site_at, Path}
-use Rattle.rx_lower_graph.specs.Pieces.{graph}
-use Rattle.rx_lower_graph.proofs.Sites.{paths_are_walks_of}
-use Rattle.rx_facts_along.specs.Along.{Arrives, ahead}
-use Rattle.rx_facts_along.proofs.Ways.{path_through, through, only}
+use Rattle.rx_lower_walks.specs.Graph.{Site, site_at, Path}
+use Rattle.rx_lower_walks.specs.Pieces.{graph}
+use Rattle.rx_lower_walks.proofs.Sites.{paths_are_walks_of}
+use Rattle.rx_facts_live.specs.Along.{Arrives, ahead}
+use Rattle.rx_facts_live.proofs.Ways.{path_through, through, only}
 use Rattle.rx_facts_live.specs.Live.{living}
 use Rattle.rx_engine_histories.specs.OneSite.{StandsOnce}
 use Rattle.rx_engine_histories.specs.OnePlace.{Meets, alike, ends_in_one, ends_in_other, LeadsToOnePlace}

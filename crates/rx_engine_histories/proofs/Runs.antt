@@ -6,7 +6,7 @@ use Rattle.rx_lower_walks.specs.Actions.{Action}
 use Rattle.rx_lower_walks.specs.Orders.{order_body, order_function}
 use Rattle.rx_lower_walks.specs.Walks.{stopped, Walk, IsWalk, Among}
 use Rattle.rx_lower_walks.proofs.Fronts.{fronts}
-use Rattle.rx_facts_along.specs.Along.{Switch, behind, after, ahead}
+use Rattle.rx_facts_live.specs.Along.{Switch, behind, after, ahead}
 use Rattle.rx_facts_live.specs.Live.{living}
 use Rattle.rx_facts_init.specs.Setting.{AllSet}
 use Rattle.rx_facts_init.specs.Wholes.{standing}

@@ -7,9 +7,9 @@ use Rattle.rx_core.specs.declared.types.Step.{Step}
 use Rattle.rx_typed.specs.Tree.{Root, variable, temporary, Place, Temporary, Function, own}
 use Rattle.rx_typed.specs.Places.{is_front, same_steps}
 use Rattle.rx_lower_walks.specs.Actions.{Act, Declare, Dead, Read, Write, Borrow, Test, Call, Build, Input, Print, Give, Action}
-use Rattle.rx_facts_along.specs.Along.{after}
-use Rattle.rx_facts_parts.specs.Places.{Frame, Located, spot_parts, is_part}
-use Rattle.rx_facts_parts.proofs.Walking.{nothing_there}
+use Rattle.rx_facts_live.specs.Along.{after}
+use Rattle.rx_facts_init.specs.Places.{Frame, Located, spot_parts, is_part}
+use Rattle.rx_facts_init.proofs.Walking.{nothing_there}
 use Rattle.rx_facts_init.specs.Setting.{is_behind, sets, unsets, setting}
 use Rattle.rx_facts_init.specs.Wholes.{placed, is_variable, is_all, regains, loses, standing, begins, assigns}
 use Rattle.rx_facts_init.specs.Wholes as wholes

@@ -4,7 +4,7 @@ use Rattle.rx_typed.specs.Tree.{Function}
 use Rattle.rx_lower_walks.specs.Actions.{Action}
 use Rattle.rx_lower_walks.specs.Orders.{order_function}
 use Rattle.rx_lower_walks.specs.Walks.{Walk, IsWalk}
-use Rattle.rx_facts_along.specs.Along.{Switch, behind, after}
+use Rattle.rx_facts_live.specs.Along.{Switch, behind, after}
 use Rattle.rx_engine_simulation.specs.Histories.{put}
 use Rattle.rx_engine_simulation.specs.Programs.{back, IsHistory}
 

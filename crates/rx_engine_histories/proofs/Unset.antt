@@ -6,7 +6,7 @@ use Rattle.rx_typed.specs.Tree.{Root, variable, temporary, Place}
 use Rattle.rx_typed.specs.Places.{is_front}
 use Rattle.rx_lower_walks.specs.Actions.{Act, Declare, Dead, Read, Write, Borrow, Test, Call, Build, Input, Print, Give, Action, does}
 use Rattle.rx_lower_walks.specs.Walks.{IsWalk, Among}
-use Rattle.rx_facts_along.specs.Along.{after}
+use Rattle.rx_facts_live.specs.Along.{after}
 use Rattle.rx_facts_init.specs.Setting.{looked_at}
 use Rattle.rx_facts_init.specs.Wholes.{placed, is_variable, regains, loses, standing, holds_in}
 use Rattle.rx_facts_init.specs.Wholes as wholes

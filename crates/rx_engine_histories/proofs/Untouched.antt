@@ -9,7 +9,7 @@ use Rattle.rx_lower_walks.specs.Actions.{Act, Declare, Dead, Read, Write, Borrow
 use Rattle.rx_lower_walks.specs.Orders.{order_function}
 use Rattle.rx_lower_walks.specs.Walks.{IsWalk, Among, here, there, actions_in, EndsVariable}
 use Rattle.rx_lower_walks.proofs.Held as held
-use Rattle.rx_facts_along.specs.Along.{Switch, after}
+use Rattle.rx_facts_live.specs.Along.{Switch, after}
 use Rattle.rx_facts_init.specs.Setting.{is_behind}
 use Rattle.rx_facts_init.proofs.Fronts.{both_true, not_so}
 use Rattle.rx_facts_init.specs.Wholes.{is_variable, assigns, begins, assigning, standing}

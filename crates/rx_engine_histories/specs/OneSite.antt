@@ -3,8 +3,8 @@
 use Rattle.std.specs.Prelude.{◌≡◌, ℕ, suc, ◌==◌, if◌then◌else◌, List, [], ◌∷◌, Some}
 use Rattle.rx_typed.specs.Tree.{Function}
 use Rattle.rx_lower_walks.specs.Actions.{Action}
-use Rattle.rx_lower_graph.specs.Graph.{Site, site_at}
-use Rattle.rx_lower_graph.specs.Pieces.{graph}
+use Rattle.rx_lower_walks.specs.Graph.{Site, site_at}
+use Rattle.rx_lower_walks.specs.Pieces.{graph}
 use Rattle.rx_exits_marks.specs.Spots.{Spot, a_block, a_jump, a_return}
 use Rattle.rx_exits_marks.specs.Points.{Exit, leaves, number}
 use Rattle.rx_exits_plan.specs.Exits.{Jump}

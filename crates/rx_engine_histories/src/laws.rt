@@ -6,7 +6,7 @@ ghost use Rattle.rx_lower_walks.specs.Actions.{Give, Action, does};
 ghost use Rattle.rx_lower_walks.specs.Orders.{order_body, order_function};
 ghost use Rattle.rx_lower_walks.specs.Walks.{IsWalk, Among};
 ghost use Rattle.rx_typed_declarations.specs.Sizes.{Sized};
-ghost use Rattle.rx_facts_parts.specs.Places.{Frame, is_part};
+ghost use Rattle.rx_facts_init.specs.Places.{Frame, is_part};
 ghost use Rattle.rx_facts_init.specs.Setting.{is_set};
 ghost use Rattle.rx_facts_init.specs.Initialised.{Initialised};
 ghost use Rattle.rx_exits_marks.specs.Blocks.{before};

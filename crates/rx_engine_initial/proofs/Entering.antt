@@ -7,8 +7,8 @@ use Rattle.rx_lower_walks.specs.Actions.{Act, Declare, Dead, Write, Action, does
 use Rattle.rx_lower_walks.specs.Orders.{Exit, exit_node, Order, beginning, declaring}
 use Rattle.rx_lower_walks.specs.Orders as order
 use Rattle.rx_lower_walks.specs.Walks.{Out, on, leaves, fails, stopped, IsAway, Walk, rests, stops, acts, both, first, ends, jumps, halts, IsWalk, Among, here, there}
-use Rattle.rx_facts_along.specs.Along.{Switch, behind, after}
-use Rattle.rx_facts_parts.specs.Places.{is_part}
+use Rattle.rx_facts_live.specs.Along.{Switch, behind, after}
+use Rattle.rx_facts_init.specs.Places.{is_part}
 use Rattle.rx_facts_init.specs.Setting.{is_behind, setting, is_set}
 use Rattle.rx_facts_init.specs.Wholes.{placed, is_all, standing, stands, assigning, was_assigned}
 use Rattle.rx_facts_init.specs.Initialised.{InOrder, Initialised}

@@ -5,8 +5,8 @@ use Rattle.rx_typed_declarations.specs.Sizes.{Sized}
 use Rattle.rx_lower_walks.specs.Actions.{Action}
 use Rattle.rx_lower_walks.specs.Orders.{Order}
 use Rattle.rx_lower_walks.specs.Walks.{IsWalk, Among}
-use Rattle.rx_facts_along.specs.Along.{ahead}
-use Rattle.rx_facts_parts.specs.Places.{Frame}
+use Rattle.rx_facts_live.specs.Along.{ahead}
+use Rattle.rx_facts_init.specs.Places.{Frame}
 use Rattle.rx_facts_init.specs.Setting.{AllSet}
 use Rattle.rx_facts_live.specs.Live.{living}
 use Rattle.rx_exits_marks.specs.Points.{Exit, leaves}

@@ -5,8 +5,8 @@ use Rattle.rx_typed.specs.Tree.{Root, variable, temporary, Place, Temporary, own
 use Rattle.rx_typed.specs.Places.{is_front, same_steps}
 use Rattle.rx_lower_walks.specs.Actions.{Act, Declare, Dead, Read, Write, Borrow, Test, Call, Build, Input, Print, Give, Action, does}
 use Rattle.rx_lower_walks.specs.Walks.{IsWalk, Among, here, there}
-use Rattle.rx_facts_along.specs.Along.{Switch, behind, after, ahead}
-use Rattle.rx_facts_parts.specs.Places.{Frame, is_part}
+use Rattle.rx_facts_live.specs.Along.{Switch, behind, after, ahead}
+use Rattle.rx_facts_init.specs.Places.{Frame, is_part}
 use Rattle.rx_facts_init.specs.Setting.{is_behind, setting, AllSet}
 use Rattle.rx_facts_init.specs.Wholes.{is_variable, is_all, standing, assigning, was_assigned}
 use Rattle.rx_facts_live.specs.Live.{living, has_root, roots_of, written}

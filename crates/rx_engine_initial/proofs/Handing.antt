@@ -5,8 +5,8 @@ use Rattle.rx_core.specs.declared.types.Step.TheVariants as step
 use Rattle.rx_typed.specs.Tree.{temporary, Place, Temporary, own}
 use Rattle.rx_lower_walks.specs.Actions.{Act, Read, Borrow, Write, Give, Action, does}
 use Rattle.rx_lower_walks.specs.Walks.{Among, here, there}
-use Rattle.rx_facts_along.specs.Along.{Switch, behind, after}
-use Rattle.rx_facts_parts.specs.Places.{is_part}
+use Rattle.rx_facts_live.specs.Along.{Switch, behind, after}
+use Rattle.rx_facts_init.specs.Places.{is_part}
 use Rattle.rx_facts_init.specs.Setting.{unsets, setting, is_set, AllSet}
 use Rattle.rx_facts_init.specs.Wholes.{loses, standing, stands}
 use Rattle.rx_facts_init.specs.Initialised.{InOrder}

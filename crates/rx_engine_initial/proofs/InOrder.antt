@@ -7,8 +7,8 @@ use Rattle.rx_typed.specs.Tree.{Root, variable, temporary, Temporary, Place, own
 use Rattle.rx_typed.specs.Places.{is_front}
 use Rattle.rx_lower_walks.specs.Actions.{Act, Declare, Dead, Read, Write, Borrow, Test, Action, does}
 use Rattle.rx_lower_walks.specs.Walks.{IsWalk, Among, here, there}
-use Rattle.rx_facts_along.specs.Along.{Switch, behind, after}
-use Rattle.rx_facts_parts.specs.Places.{Frame, is_part}
+use Rattle.rx_facts_live.specs.Along.{Switch, behind, after}
+use Rattle.rx_facts_init.specs.Places.{Frame, is_part}
 use Rattle.rx_facts_init.specs.Setting.{is_behind, setting, is_set, looked_at, AllSet}
 use Rattle.rx_facts_init.specs.Wholes.{placed, holds_in, is_variable, is_all, enters, assigns, standing, stands, was_assigned}
 use Rattle.rx_facts_init.specs.Initialised.{IsFixed, InOrder, Initialised}

@@ -6,8 +6,8 @@ use Rattle.rx_typed.specs.Tree.{Root, variable, temporary, Temporary, Place, own
 use Rattle.rx_typed.specs.Places.{is_front, same_steps}
 use Rattle.rx_lower_walks.specs.Actions.{Act, Declare, Dead, Read, Write, Borrow, Test, Call, Build, Input, Print, Give, Action, does}
 use Rattle.rx_lower_walks.specs.Walks.{Among, here, there}
-use Rattle.rx_facts_along.specs.Along.{Switch, behind, after}
-use Rattle.rx_facts_parts.specs.Places.{Frame, is_part}
+use Rattle.rx_facts_live.specs.Along.{Switch, behind, after}
+use Rattle.rx_facts_init.specs.Places.{Frame, is_part}
 use Rattle.rx_facts_init.specs.Setting.{is_behind, sets, unsets, setting}
 use Rattle.rx_facts_init.specs.Wholes.{placed, is_variable, is_all, regains, loses, standing, assigns, begins}
 use Rattle.rx_facts_live.specs.Live.{living}

@@ -6,8 +6,8 @@ use Rattle.rx_typed.specs.Places.{is_front}
 use Rattle.rx_lower_walks.specs.Actions.{Act, Declare, Dead, Read, Write, Borrow, Test, Call, Build, Input, Print, Give, Action, does}
 use Rattle.rx_lower_walks.specs.Orders.{Order}
 use Rattle.rx_lower_walks.specs.Walks.{Out, Walk, IsWalk, Among}
-use Rattle.rx_facts_along.specs.Along.{Switch, behind, after, ahead}
-use Rattle.rx_facts_parts.specs.Places.{Frame, is_part}
+use Rattle.rx_facts_live.specs.Along.{Switch, behind, after, ahead}
+use Rattle.rx_facts_init.specs.Places.{Frame, is_part}
 use Rattle.rx_facts_init.specs.Setting.{setting, is_set, AllSet}
 use Rattle.rx_facts_init.specs.Wholes.{placed, is_variable, is_all, assigns, begins, regains, loses, standing, stands, assigning, was_assigned}
 use Rattle.rx_facts_init.specs.Initialised.{Initialised}

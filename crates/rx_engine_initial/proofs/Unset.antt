@@ -5,8 +5,8 @@ use Rattle.rx_typed.specs.Tree.{Root, variable, temporary, Temporary, Place, Fun
 use Rattle.rx_typed.specs.Places.{is_front, same_steps}
 use Rattle.rx_lower_walks.specs.Actions.{Act, Declare, Dead, Read, Write, Borrow, Test, Call, Build, Input, Print, Give, Action}
 use Rattle.rx_lower_walks.specs.Walks.{IsWalk}
-use Rattle.rx_facts_along.specs.Along.{Switch, behind, after}
-use Rattle.rx_facts_parts.specs.Places.{Frame, is_part}
+use Rattle.rx_facts_live.specs.Along.{Switch, behind, after}
+use Rattle.rx_facts_init.specs.Places.{Frame, is_part}
 use Rattle.rx_facts_init.specs.Setting.{is_behind, sets, unsets, setting, is_set}
 use Rattle.rx_facts_init.specs.Wholes.{placed, holds_in, is_variable, is_all, enters, regains, loses, standing, stands}
 use Rattle.rx_facts_init.specs.Wholes as wholes

@@ -8,8 +8,8 @@ use Rattle.rx_typed.specs.Tree.{variable, Function, own}
 use Rattle.rx_typed.specs.Places.{is_front}
 use Rattle.rx_lower_walks.specs.Actions.{Act, Declare, Dead, Read}
 use Rattle.rx_lower_walks.specs.Walks.{Among}
-use Rattle.rx_facts_along.specs.Along.{Switch}
-use Rattle.rx_facts_parts.specs.Places.{Frame, is_part}
+use Rattle.rx_facts_live.specs.Along.{Switch}
+use Rattle.rx_facts_init.specs.Places.{Frame, is_part}
 use Rattle.rx_facts_init.specs.Setting.{is_behind, setting}
 use Rattle.rx_facts_init.specs.Wholes.{placed, is_variable, regains, standing, assigns, begins}
 use Rattle.rx_facts_init.specs.Initialised.{IsFixed}

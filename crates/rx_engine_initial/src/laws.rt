@@ -6,7 +6,7 @@ ghost use Rattle.rx_typed_declarations.specs.Sizes.{Sized};
 ghost use Rattle.rx_lower_walks.specs.Actions.{Action};
 ghost use Rattle.rx_lower_walks.specs.Orders.{Order, beginning, declaring, order_function};
 ghost use Rattle.rx_lower_walks.specs.Walks.{Out, Walk, IsWalk, Among};
-ghost use Rattle.rx_facts_along.specs.Along.{after, ahead};
+ghost use Rattle.rx_facts_live.specs.Along.{after, ahead};
 ghost use Rattle.rx_facts_init.specs.Initialised.{IsFixed, Initialised};
 ghost use Rattle.rx_facts_init.specs.Setting.{AllSet};
 ghost use Rattle.rx_facts_init.specs.Wholes.{stands, was_assigned};

@@ -4,7 +4,7 @@ use Rattle.rx_core.specs.declared.types.Span.{Span}
 use Rattle.rx_tree.specs.declared.tree.Ident.{Ident}
 use Rattle.rx_tree.specs.Plain as plain
 use Rattle.rx_tree.specs.Plain.{Body, OptionalExpression, Statements, ProgramTree}
-use Rattle.rx_resolve_scope.specs.Scopes.{Declared, Variables, variable_named}
+use Rattle.rx_resolve_names.specs.Scopes.{Declared, Variables, variable_named}
 use Rattle.rx_resolve_names.specs.declared.resolved.ItemNames.{ItemNames}
 use Rattle.rx_resolve_names.specs.declared.resolved.NodeNames.{NodeNames}
 use Rattle.rx_resolve_names.specs.Meant.{Around, a_loop, a_test, Target, to_loop, through_test, is_meant, target}

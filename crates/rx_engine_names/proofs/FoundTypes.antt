@@ -7,7 +7,7 @@ use Rattle.rx_tree.specs.declared.tree.Ident.{Ident}
 use Rattle.rx_tree.specs.Lists.{Every}
 use Rattle.rx_tree.specs.Plain as plain
 use Rattle.rx_tree.specs.Plain.{ItemTree, ProgramTree}
-use Rattle.rx_resolve_scope.specs.Scopes.{Declared, declared_as}
+use Rattle.rx_resolve_names.specs.Scopes.{Declared, declared_as}
 use Rattle.rx_resolve_names.specs.declared.resolved.ItemNames.{ItemNames}
 use Rattle.rx_resolve_names.specs.Meant.{type_name, function_name, has_name, item_named, as_type}
 use Rattle.rx_resolve_names.specs.Steps.{and_then, known, Inside}

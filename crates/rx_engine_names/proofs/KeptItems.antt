@@ -6,7 +6,7 @@ use Rattle.rx_core.specs.declared.types.Span.{Span}
 use Rattle.rx_tree.specs.declared.tree.Ident.{Ident}
 use Rattle.rx_tree.specs.Plain as plain
 use Rattle.rx_tree.specs.Plain.{Function, ItemTree, ProgramTree}
-use Rattle.rx_resolve_scope.specs.Scopes.{Declared}
+use Rattle.rx_resolve_names.specs.Scopes.{Declared}
 use Rattle.rx_resolve_names.specs.Meant.{type_name, function_name, has_name, item_named, as_type, as_struct, as_enum, as_rt, as_function, variants_of, number_in}
 use Rattle.rx_resolve_names.specs.Steps.{Outcome, and_then, known, one, both}
 use Rattle.rx_engine_names.specs.Insertion.{NotNamed, Inserted, past, number_there}

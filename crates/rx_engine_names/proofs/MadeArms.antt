@@ -6,7 +6,7 @@ use Rattle.rx_tree.specs.declared.tree.Ident.{Ident}
 use Rattle.rx_tree.specs.Lists.{Every}
 use Rattle.rx_tree.specs.Plain as plain
 use Rattle.rx_tree.specs.Plain.{Expression, OptionalExpression, PatternTree, Arms, Statement, Statements}
-use Rattle.rx_resolve_scope.specs.Scopes.{Variables, entered}
+use Rattle.rx_resolve_names.specs.Scopes.{Variables, entered}
 use Rattle.rx_resolve_names.specs.declared.resolved.ItemNames.{ItemNames}
 use Rattle.rx_resolve_names.specs.Meant.{Around, Target, target}
 use Rattle.rx_resolve_names.specs.Steps.{Inside, one, led, child, next, names}

@@ -4,7 +4,7 @@ use Rattle.rx_core.specs.declared.types.Span.{Span}
 use Rattle.rx_tree.specs.Lists.{Every}
 use Rattle.rx_tree.specs.Plain as plain
 use Rattle.rx_tree.specs.Plain.{Expression, PatternTree, Arms}
-use Rattle.rx_resolve_scope.specs.Scopes.{Declared, Variables, entered}
+use Rattle.rx_resolve_names.specs.Scopes.{Declared, Variables, entered}
 use Rattle.rx_resolve_names.specs.declared.resolved.ItemNames.{ItemNames}
 use Rattle.rx_resolve_names.specs.Meant.{Around}
 use Rattle.rx_resolve_names.specs.Steps.{Outcome, and_then, Naming, Inside, child, next, entry, with_names, names}

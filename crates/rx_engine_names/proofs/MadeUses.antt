@@ -3,7 +3,7 @@ use Rattle.std.proofs.Common.{◌≡◌, ℕ, zero, suc, Bool, true, false, List
 use Rattle.rx_core.specs.declared.types.Span.{Span}
 use Rattle.rx_tree.specs.Plain as plain
 use Rattle.rx_tree.specs.Plain.{Expression, Expressions, OptionalExpression, Statement, Statements}
-use Rattle.rx_resolve_scope.specs.Scopes.{Variables, variable_named}
+use Rattle.rx_resolve_names.specs.Scopes.{Variables, variable_named}
 use Rattle.rx_resolve_names.specs.declared.resolved.ItemNames.{ItemNames}
 use Rattle.rx_resolve_names.specs.declared.resolved.NodeNames.{NodeNames}
 use Rattle.rx_resolve_names.specs.Meant.{number, Around}

@@ -6,7 +6,7 @@ use Rattle.rx_tree.specs.declared.tree.Ident.{Ident}
 use Rattle.rx_tree.specs.Lists.{Every}
 use Rattle.rx_tree.specs.Plain as plain
 use Rattle.rx_tree.specs.Plain.{TypeTree, PatternTree, Expression, OptionalExpression}
-use Rattle.rx_resolve_scope.specs.Scopes.{Variables, variable_named}
+use Rattle.rx_resolve_names.specs.Scopes.{Variables, variable_named}
 use Rattle.rx_resolve_names.specs.declared.resolved.ItemNames.{ItemNames}
 use Rattle.rx_resolve_names.specs.declared.resolved.NodeNames.{NodeNames}
 use Rattle.rx_resolve_names.specs.Meant.{Around, Target, to_loop, target}

@@ -5,7 +5,7 @@ use Rattle.rx_core.specs.declared.types.Span.{Span}
 use Rattle.rx_tree.specs.Lists.{listed}
 use Rattle.rx_tree.specs.Plain as plain
 use Rattle.rx_tree.specs.Plain.{TypeTree, PatternTree, Expression, OptionalExpression, OptionalExpressions, Body, Statement, Statements}
-use Rattle.rx_resolve_scope.specs.Scopes.{Variables}
+use Rattle.rx_resolve_names.specs.Scopes.{Variables}
 use Rattle.rx_resolve_names.specs.declared.resolved.ItemNames.{ItemNames}
 use Rattle.rx_resolve_names.specs.declared.resolved.NodeNames.{NodeNames}
 use Rattle.rx_resolve_names.specs.Meant.{number, Around}

@@ -3,7 +3,7 @@ use Rattle.std.proofs.Common.{◌≡◌, ℕ, suc, ◌+◌, Bool, true, false, n
 use Rattle.rx_tree.specs.declared.tree.Ident.{Ident}
 use Rattle.rx_tree.specs.Lists.{nth}
 use Rattle.rx_tree.specs.Plain.{OptionalExpression, Statements}
-use Rattle.rx_resolve_scope.specs.Scopes.{Variables, variable_named}
+use Rattle.rx_resolve_names.specs.Scopes.{Variables, variable_named}
 use Rattle.rx_resolve_names.specs.declared.resolved.ItemNames.{ItemNames}
 use Rattle.rx_resolve_names.specs.Meant.{Around, a_loop, a_test, Target, to_loop, through_test, is_meant, target}
 use Rattle.rx_resolve_names.specs.Steps.{Inside}

@@ -8,7 +8,7 @@ use Rattle.rx_tree.specs.Plain as plain
 use Rattle.rx_tree.specs.Plain.{TypeTree, TypeTrees, Expression, Expressions, OptionalExpression, OptionalExpressions, FieldExpressions, Arms, Body, Statement, Statements}
 use Rattle.rx_tree.specs.Positions.{NodeTree, a_type}
 use Rattle.rx_tree.specs.Nodes.{below_type, within_types, within_type, below_pattern, below_expression, within_expressions, within_optional, within_arguments, within_fields, within_arms, below_block, below_statement, within_statements}
-use Rattle.rx_resolve_scope.specs.Scopes.{Variables, variable_named}
+use Rattle.rx_resolve_names.specs.Scopes.{Variables, variable_named}
 use Rattle.rx_resolve_names.specs.Meant.{Around, a_loop, a_test}
 use Rattle.rx_resolve_names.specs.Steps.{Inside}
 use Rattle.rx_hoist_extraction.specs.Names.{Names, is_among, bound, bound_by, behind_all}

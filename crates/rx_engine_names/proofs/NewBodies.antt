@@ -2,7 +2,7 @@
 use Rattle.std.proofs.Common.{◌≡◌, ℕ, List, [], ◌++◌, length, Ok, ap}
 use Rattle.rx_tree.specs.Lists.{listed}
 use Rattle.rx_tree.specs.Plain.{OptionalExpression, Body, Statement, ProgramTree}
-use Rattle.rx_resolve_scope.specs.Scopes.{Variables}
+use Rattle.rx_resolve_names.specs.Scopes.{Variables}
 use Rattle.rx_resolve_names.specs.declared.resolved.ItemNames.{ItemNames}
 use Rattle.rx_resolve_names.specs.declared.resolved.NodeNames.{NodeNames}
 use Rattle.rx_resolve_names.specs.Meant.{number}

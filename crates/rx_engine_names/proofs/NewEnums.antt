@@ -8,8 +8,8 @@ use Rattle.rx_tree.specs.declared.tree.Ident.{Ident}
 use Rattle.rx_tree.specs.Lists.{Every}
 use Rattle.rx_tree.specs.Plain as plain
 use Rattle.rx_tree.specs.Plain.{TypeTrees, VariantOf, ItemTree, ProgramTree}
-use Rattle.rx_resolve_scope.specs.declared.table.Known.{Known}
-use Rattle.rx_resolve_scope.specs.Scopes.{Declared, declared_as}
+use Rattle.rx_resolve_names.specs.declared.table.Known.{Known}
+use Rattle.rx_resolve_names.specs.Scopes.{Declared, declared_as}
 use Rattle.rx_resolve_names.specs.declared.resolved.ItemNames.{ItemNames}
 use Rattle.rx_resolve_names.specs.Meant.{number, type_name, item_named, as_type, as_enum, number_in, firsts, kept, variants_of, lifetimes_declared}
 use Rattle.rx_resolve_names.specs.Steps.{◌>>◌, Inside, known, one, both, declare, declared_behind, child, next}

@@ -7,7 +7,7 @@ use Rattle.rx_tree.specs.Plain as plain
 use Rattle.rx_tree.specs.Plain.{TypeTree, Function, ItemTree, ProgramTree}
 use Rattle.rx_tree.specs.Positions.{NodeTree}
 use Rattle.rx_tree.specs.Nodes.{within_statements, within_optional}
-use Rattle.rx_resolve_scope.specs.Scopes.{Declared, Variables, variable_named, entered}
+use Rattle.rx_resolve_names.specs.Scopes.{Declared, Variables, variable_named, entered}
 use Rattle.rx_resolve_names.specs.declared.resolved.ItemNames.{ItemNames}
 use Rattle.rx_resolve_names.specs.Meant.{number, firsts, lifetimes_declared, Around}
 use Rattle.rx_resolve_names.specs.Steps.{Inside, child}

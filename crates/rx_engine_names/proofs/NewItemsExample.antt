@@ -7,7 +7,7 @@ use Rattle.rx_tree.specs.Lists.{nth}
 use Rattle.rx_tree.specs.Plain as plain
 use Rattle.rx_tree.specs.Plain.{Function, ItemTree}
 use Rattle.rx_tree.specs.Erase.{nowhere}
-use Rattle.rx_resolve_scope.specs.Scopes.{Variables}
+use Rattle.rx_resolve_names.specs.Scopes.{Variables}
 use Rattle.rx_resolve_names.specs.declared.resolved.ItemNames.{ItemNames}
 use Rattle.rx_resolve_names.specs.Meant.{Around, a_loop}
 use Rattle.rx_resolve_names.specs.Steps.{Inside}

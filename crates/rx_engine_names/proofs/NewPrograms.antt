@@ -6,7 +6,7 @@ use Rattle.rx_tree.specs.declared.tree.Ident.{Ident}
 use Rattle.rx_tree.specs.Lists.{Every, nth}
 use Rattle.rx_tree.specs.Plain as plain
 use Rattle.rx_tree.specs.Plain.{Function, ItemTree, ProgramTree}
-use Rattle.rx_resolve_scope.specs.Scopes.{Declared, Variables}
+use Rattle.rx_resolve_names.specs.Scopes.{Declared, Variables}
 use Rattle.rx_resolve_names.specs.declared.resolved.ItemNames.{ItemNames}
 use Rattle.rx_resolve_names.specs.Meant.{number, firsts, lifetimes_declared, type_name, has_name, item_named, Around}
 use Rattle.rx_resolve_names.specs.Steps.{Outcome, and_then, Inside}

@@ -5,7 +5,7 @@ use Rattle.std.proofs.lemmas.Slice.Eq.{bytes_eq-Decides}
 use Rattle.std.proofs.Common.{◌≡◌, ℕ, suc, Bool, true, false, ◌||◌, if◌then◌else◌, List, [], ◌∷◌, ◌++◌, length, Option, Some, None, inl, inr, refl, sym, ap, ◌∙◌, subst, bytes_eq}
 use Rattle.rx_core.specs.declared.types.Span.{Span}
 use Rattle.rx_tree.specs.Lists.{Every}
-use Rattle.rx_resolve_scope.specs.Scopes.{Declared, Variables, variable_named, entered}
+use Rattle.rx_resolve_names.specs.Scopes.{Declared, Variables, variable_named, entered}
 use Rattle.rx_resolve_names.specs.Meant.{number, Around}
 use Rattle.rx_resolve_names.specs.Steps.{next}
 use Rattle.rx_hoist_extraction.specs.Names.{Names, Distinct, is_among}

@@ -7,7 +7,7 @@ use Rattle.rx_tree.specs.declared.tree.Ident.{Ident}
 use Rattle.rx_tree.specs.Plain as plain
 use Rattle.rx_tree.specs.Plain.{TypeTree, TypeTrees, FieldOf, VariantOf, Function, ItemTree, ProgramTree}
 use Rattle.rx_graph_cycles.specs.Reaches.{targets, IsIn, Reaches, edge, further, NoCycle}
-use Rattle.rx_resolve_scope.specs.Scopes.{Declared}
+use Rattle.rx_resolve_names.specs.Scopes.{Declared}
 use Rattle.rx_resolve_names.specs.declared.resolved.ItemNames.{ItemNames}
 use Rattle.rx_resolve_names.specs.Meant.{number, type_name, item_named, as_type, firsts, lifetimes_declared}
 use Rattle.rx_resolve_names.specs.Steps.{and_then, Inside, one, both, declare, child, next, numbered}

@@ -7,7 +7,7 @@ use Rattle.rx_tree.specs.Lists.{Every, nth}
 use Rattle.rx_tree.specs.Plain as plain
 use Rattle.rx_tree.specs.Plain.{Function, ItemTree, ProgramTree}
 use Rattle.rx_graph_cycles.specs.Reaches.{targets, IsIn, NoCycle}
-use Rattle.rx_resolve_scope.specs.Scopes.{Declared}
+use Rattle.rx_resolve_names.specs.Scopes.{Declared}
 use Rattle.rx_resolve_names.specs.declared.resolved.ItemNames.{ItemNames}
 use Rattle.rx_resolve_names.specs.Meant.{type_name, item_named, as_type}
 use Rattle.rx_resolve_names.specs.Steps.{Inside}

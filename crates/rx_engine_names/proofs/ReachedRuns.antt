@@ -8,7 +8,7 @@ use Rattle.rx_tree.specs.Lists.{listed, statements, tail}
 use Rattle.rx_tree.specs.Plain as plain
 use Rattle.rx_tree.specs.Plain.{Body, Function, OptionalExpression, ProgramTree, Statement, Statements}
 use Rattle.rx_tree.specs.Positions.{a_block, descend}
-use Rattle.rx_resolve_scope.specs.Scopes.{Variables}
+use Rattle.rx_resolve_names.specs.Scopes.{Variables}
 use Rattle.rx_resolve_names.specs.declared.resolved.ItemNames.{ItemNames}
 use Rattle.rx_resolve_names.specs.Meant.{number, Around}
 use Rattle.rx_resolve_names.specs.Steps.{and_then, child, next, Inside, Outcome}

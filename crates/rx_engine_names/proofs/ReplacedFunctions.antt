@@ -5,7 +5,7 @@ use Rattle.rx_tree.specs.declared.tree.Ident.{Ident}
 use Rattle.rx_tree.specs.Plain as plain
 use Rattle.rx_tree.specs.Plain.{TypeTree, PatternTree, Body, Function, OptionalExpression, Statement, ProgramTree}
 use Rattle.rx_tree.specs.Spans.{body_span}
-use Rattle.rx_resolve_scope.specs.Scopes.{variable_named}
+use Rattle.rx_resolve_names.specs.Scopes.{variable_named}
 use Rattle.rx_resolve_names.specs.declared.resolved.ItemNames.{ItemNames}
 use Rattle.rx_resolve_names.specs.Meant.{number, firsts, lifetimes_declared, Around, Target, to_loop}
 use Rattle.rx_resolve_names.specs.Steps.{Inside, child}

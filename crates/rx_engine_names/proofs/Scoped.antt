@@ -1,8 +1,8 @@
 -- Scopes of two resolvings in which names mean variables that correspond, and what patterns bind in them.
 use Rattle.std.proofs.Common.{◌≡◌, ℕ, Bool, true, false, not, ◌&&◌, ◌||◌, if◌then◌else◌, List, [], ◌∷◌, ◌++◌, map, Option, Some, None, Ok, refl, sym, ap, ◌∙◌, subst, bytes_eq}
 use Rattle.rx_tree.specs.declared.tree.Ident.{Ident}
-use Rattle.rx_resolve_scope.specs.declared.table.Known.{Known}
-use Rattle.rx_resolve_scope.specs.Scopes.{Declared, declared_as, Variables, variable_named, entered}
+use Rattle.rx_resolve_names.specs.declared.table.Known.{Known}
+use Rattle.rx_resolve_names.specs.Scopes.{Declared, declared_as, Variables, variable_named, entered}
 use Rattle.rx_resolve_names.specs.Meant.{number}
 use Rattle.rx_resolve_names.specs.Steps.{declare, declared_behind}
 use Rattle.rx_engine_names.specs.Renaming.{Pairs, Has, Made}

@@ -4,8 +4,8 @@ use Rattle.std.proofs.lemmas.Slice.Eq.{bytes_eq-Decides}
 use Rattle.rx_tree.specs.declared.tree.Ident.{Ident}
 use Rattle.rx_tree.specs.Plain as plain
 use Rattle.rx_tree.specs.Plain.{PatternTree, PatternTrees, FieldPatterns, Statement, Statements}
-use Rattle.rx_resolve_scope.specs.declared.table.Known.{Known}
-use Rattle.rx_resolve_scope.specs.Scopes.{Declared, declared_as, Variables, variable_named, entered}
+use Rattle.rx_resolve_names.specs.declared.table.Known.{Known}
+use Rattle.rx_resolve_names.specs.Scopes.{Declared, declared_as, Variables, variable_named, entered}
 use Rattle.rx_resolve_names.specs.declared.resolved.ItemNames.{ItemNames}
 use Rattle.rx_resolve_names.specs.Meant.{number, Around}
 use Rattle.rx_resolve_names.specs.Steps.{and_then, ◌>>◌, Naming, nothing, Inside, declare, declared_behind, child, next, entry, with_names, with_variable, names}

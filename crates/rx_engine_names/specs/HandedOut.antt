@@ -4,7 +4,7 @@
 use Rattle.std.specs.Prelude.{◌≡◌, ℕ, zero, suc, Bool, true, false, List, [], ◌∷◌, length, Option, Some, None}
 use Rattle.rx_core.specs.declared.types.Span.{Span}
 use Rattle.rx_tree.specs.Lists.{nth}
-use Rattle.rx_resolve_scope.specs.Scopes.{variable_named}
+use Rattle.rx_resolve_names.specs.Scopes.{variable_named}
 use Rattle.rx_resolve_names.specs.Meant.{number, Around}
 use Rattle.rx_typed.specs.declared.nodes.Node.{Node}
 use Rattle.rx_typed.specs.declared.nodes.Use.{Use}

@@ -5,7 +5,7 @@ use Rattle.rx_tree.specs.declared.tree.Ident.{Ident}
 use Rattle.rx_core.specs.declared.types.Span.{Span}
 use Rattle.rx_tree.specs.Lists.{Every}
 use Rattle.rx_tree.specs.Plain.{OptionalExpression, Statement, ProgramTree}
-use Rattle.rx_resolve_scope.specs.Scopes.{Declared, Variables, variable_named, entered}
+use Rattle.rx_resolve_names.specs.Scopes.{Declared, Variables, variable_named, entered}
 use Rattle.rx_resolve_names.specs.declared.resolved.ItemNames.{ItemNames}
 use Rattle.rx_resolve_names.specs.declared.resolved.NodeNames.{NodeNames}
 use Rattle.rx_resolve_names.specs.Meant.{number, function_name, item_named, as_function, Around, to_loop, target}

@@ -5,7 +5,7 @@ use Rattle.rx_core.specs.declared.types.Span.{Span}
 use Rattle.rx_tree.specs.declared.tree.Ident.{Ident}
 use Rattle.rx_tree.specs.Lists.{Every, nth}
 use Rattle.rx_tree.specs.Plain.{OptionalExpression, Statements}
-use Rattle.rx_resolve_scope.specs.Scopes.{Variables, variable_named}
+use Rattle.rx_resolve_names.specs.Scopes.{Variables, variable_named}
 use Rattle.rx_resolve_names.specs.Meant.{Around, a_loop, a_test}
 use Rattle.rx_resolve_names.specs.Steps.{Inside}
 use Rattle.rx_resolve_names.specs.declared.resolved.ItemNames.{ItemNames}

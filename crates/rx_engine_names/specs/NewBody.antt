@@ -1,7 +1,7 @@
 -- The body of the new function with numbers, beside the statements and the tail of the run in the text (Rust Reference, "Block
 -- expressions", "let statements"): the locals, the statements, and the end in each shape.
 use Rattle.std.specs.Prelude.{◌≡◌, ℕ, suc, Bool, true, false, List, [], ◌∷◌, length, Option, Some}
-use Rattle.rx_resolve_scope.specs.Scopes.{variable_named}
+use Rattle.rx_resolve_names.specs.Scopes.{variable_named}
 use Rattle.rx_resolve_names.specs.Meant.{number}
 use Rattle.rx_typed.specs.declared.nodes.Node.{Node}
 use Rattle.rx_typed.specs.declared.nodes.Use.{Use}

@@ -4,7 +4,7 @@ use Rattle.std.specs.Prelude.{◌≡◌, ℕ, ◌+◌, ◌≤◌, ◌^◌, true,
 use Rattle.rx_tree.specs.Lists.{Every}
 use Rattle.rx_tree.specs.Plain as plain
 use Rattle.rx_tree.specs.Plain.{ProgramTree}
-use Rattle.rx_resolve_scope.specs.Scopes.{variable_named}
+use Rattle.rx_resolve_names.specs.Scopes.{variable_named}
 use Rattle.rx_resolve_names.specs.Meant.{type_name, item_named}
 use Rattle.rx_typed.specs.Types.{Typ}
 use Rattle.rx_hoist_extraction.specs.Names.{Names, Distinct, is_among, behind_all}

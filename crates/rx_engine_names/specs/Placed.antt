@@ -7,7 +7,7 @@ use Rattle.rx_tree.specs.Plain as plain
 use Rattle.rx_tree.specs.Plain.{PatternTree, OptionalExpression, Body, Statement, Function, ProgramTree}
 use Rattle.rx_tree.specs.Positions.{a_block, a_pattern, descend}
 use Rattle.rx_tree.specs.Spans.{body_span}
-use Rattle.rx_resolve_scope.specs.Scopes.{Variables, variable_named}
+use Rattle.rx_resolve_names.specs.Scopes.{Variables, variable_named}
 use Rattle.rx_resolve_names.specs.declared.resolved.ItemNames.{ItemNames}
 use Rattle.rx_resolve_names.specs.declared.resolved.NodeNames.{NodeNames}
 use Rattle.rx_resolve_names.specs.Meant.{number, firsts, lifetimes_declared, Around, to_loop, target}

@@ -7,7 +7,7 @@ ghost use Rattle.rx_tree.specs.Positions.{a_block, descend};
 ghost use Rattle.rx_tree.specs.Plain.{Body, Function, ItemTree, OptionalExpression, ProgramTree, Statement, Statements};
 ghost use Rattle.rx_resolve_names.specs.declared.resolved.ItemNames.{ItemNames};
 ghost use Rattle.rx_resolve_names.specs.Items.{in_item, in_items, in_program};
-ghost use Rattle.rx_resolve_scope.specs.Scopes.{Declared, Variables, variable_named};
+ghost use Rattle.rx_resolve_names.specs.Scopes.{Declared, Variables, variable_named};
 ghost use Rattle.rx_tree.specs.Lists.{nth, statements, Every};
 ghost use Rattle.rx_tree.specs.Spans.{body_span};
 ghost use Rattle.rx_tree.specs.declared.tree.Ident.{Ident};

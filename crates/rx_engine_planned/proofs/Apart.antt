@@ -2,7 +2,7 @@
 use Rattle.std.proofs.Common.{◌≡◌, ℕ, Bool, true, false, if◌then◌else◌, List, [], ◌∷◌, ◌++◌, refl, sym, ap, ◌∙◌, subst}
 use Rattle.rx_lower_walks.specs.Walks.{Among, here, there, IsWalk}
 use Rattle.rx_lower_walks.specs.Actions.{Action}
-use Rattle.rx_facts_along.specs.Along.{after}
+use Rattle.rx_facts_live.specs.Along.{after}
 use Rattle.rx_facts_init.specs.Setting.{setting, AllSet}
 use Rattle.rx_facts_init.specs.Wholes.{standing}
 use Rattle.rx_typed.specs.Tree.{own}

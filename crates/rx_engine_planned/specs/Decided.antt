@@ -7,7 +7,7 @@ use Rattle.rx_parse_grammar.specs.grammar.Items.{Parses}
 use Rattle.rx_resolve_names.specs.declared.resolved.ItemNames.{ItemNames}
 use Rattle.rx_resolve_names.specs.Causes.{Meant}
 use Rattle.rx_typed.specs.PlainTypes.{declarations}
-use Rattle.rx_typed_tree.specs.PlainTree.{plain-TypedTree}
+use Rattle.rx_typed.specs.PlainTree.{plain-TypedTree}
 use Rattle.rx_typed_runs.specs.declared.runs.RunPos.{RunPos}
 use Rattle.rx_typeck_typed.specs.declared.typed.Typed.{Typed}
 use Rattle.rx_typeck_typed.specs.Typing.{IsTyped}

@@ -2,7 +2,7 @@
 -- variables, what the run names is its own or one of these, and what it hands out is there.
 use Rattle.std.specs.Prelude.{◌≡◌, ℕ, true, false, not, ◌&&◌, ◌||◌, List, [], ◌++◌, Some}
 use Rattle.rx_tree.specs.Lists.{Every}
-use Rattle.rx_resolve_scope.specs.Scopes.{variable_named}
+use Rattle.rx_resolve_names.specs.Scopes.{variable_named}
 use Rattle.rx_typed.specs.Types.{Typ}
 use Rattle.rx_hoist_extraction.specs.Names.{behind_all, is_among, Names}
 use Rattle.rx_hoist_extraction.specs.Run.{as_statements, Parts}

@@ -13,7 +13,7 @@ ghost use Rattle.rx_parse_grammar.specs.grammar.Items.{Parses};
 ghost use Rattle.rx_resolve_names.specs.declared.resolved.ItemNames.{ItemNames};
 ghost use Rattle.rx_resolve_names.specs.Causes.{Meant};
 ghost use Rattle.rx_typed.specs.PlainTypes.{declarations};
-ghost use Rattle.rx_typed_tree.specs.PlainTree.{plain-TypedTree};
+ghost use Rattle.rx_typed.specs.PlainTree.{plain-TypedTree};
 ghost use Rattle.rx_typeck_typed.specs.declared.typed.Typed.{Typed};
 ghost use Rattle.rx_typeck_typed.specs.declared.typed.TypedFn.{TypedFn};
 ghost use Rattle.rx_typeck_typed.specs.Typing.{IsTyped};

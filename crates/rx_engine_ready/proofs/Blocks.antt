@@ -10,7 +10,7 @@ use Rattle.rx_typed.specs.Tree as tree
 use Rattle.rx_typed.specs.Tree.{Place}
 use Rattle.rx_typed.specs.Elaborated as elaborated
 use Rattle.rx_typed.specs.Elaborated.{Assigned, Coercion, Met, place, value, body, tail, nested, statement, arms, operands, fields}
-use Rattle.rx_lower_graph.proofs.Keys.{one_if, times, times_both}
+use Rattle.rx_lower_walks.proofs.Keys.{one_if, times, times_both}
 use Rattle.rx_exits_marks.specs.Spots.{Around, Spot, a_block, a_jump, a_return, with_variables, with_loop, spots, spots_in, spots_matched, spots_armed, spots_of, outermost, spots_of_function}
 use Rattle.rx_exits_marks.specs.Blocks.{bound}
 use Rattle.rx_engine_histories.specs.OneSite.{blocks_at}

@@ -1,7 +1,7 @@
 -- What is asked of a run of a typed program's function: its typed tree, and the types of its variables (Rust Reference, "Variables").
 use Rattle.std.specs.Prelude.{ℕ}
 use Rattle.rx_typed.specs.Types.{Declarations}
-use Rattle.rx_typed_tree.specs.PlainTree.{plain-TypedTree}
+use Rattle.rx_typed.specs.PlainTree.{plain-TypedTree}
 use Rattle.rx_typeck_typed.specs.declared.typed.TypedFn.{TypedFn}
 use Rattle.rx_facts.specs.Functions.{frame_of}
 use Rattle.rx_exits_marks.specs.Runs.{Run, Home}

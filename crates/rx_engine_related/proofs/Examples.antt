@@ -7,7 +7,7 @@ use Rattle.rx_core.specs.declared.types.Step.TheVariants as step
 use Rattle.rx_tree.specs.declared.tree.BinaryOp.{BinaryOp}
 use Rattle.rx_typed.specs.Tree as tree
 use Rattle.rx_typed.specs.Tree.{Mark, Exp, Arms, Body, Function, own, under}
-use Rattle.rx_facts_parts.specs.Places.{Frame}
+use Rattle.rx_facts_init.specs.Places.{Frame}
 use Rattle.rx_modes_policy.specs.declared.uses.Mode.TheVariants as mode
 use Rattle.rx_meaning.specs.Values.{element}
 use Rattle.rx_meaning.specs.Programs.{Program}

@@ -14,7 +14,7 @@ use Rattle.rx_typed.specs.Tree as tree
 use Rattle.rx_typed.specs.Types.{Declarations}
 use Rattle.rx_typed.specs.PlainTypes.{declarations}
 use Rattle.rx_typed.specs.Naming.{function_named}
-use Rattle.rx_typed_tree.specs.PlainTree.{plain-TypedTree}
+use Rattle.rx_typed.specs.PlainTree.{plain-TypedTree}
 use Rattle.rx_typed_declarations.proofs.Polarities.{same_declared}
 use Rattle.rx_typeck_solver.specs.Ordered.{Orderly}
 use Rattle.rx_typeck_rules.specs.Demands.{task}

@@ -11,7 +11,7 @@ use Rattle.rx_typed.specs.declared.declarations.Decl.{Decl}
 use Rattle.rx_typed.specs.declared.declarations.Decl.TheVariants as decl
 use Rattle.rx_typed.specs.PlainTypes.{plain-Decl, declarations}
 use Rattle.rx_typed.specs.Tree as tree
-use Rattle.rx_typed_tree.specs.PlainTree.{plain-TypedTree}
+use Rattle.rx_typed.specs.PlainTree.{plain-TypedTree}
 use Rattle.rx_typeck_declare.specs.Steps as steps
 use Rattle.rx_typeck_declare.specs.Items.{declared_item, declared_items, entries_of, fields_of, variants_of, begins, all_used, derives_copy, bounded, bounds_of, entry_of, parameters_of, answer_of}
 use Rattle.rx_typeck_typed.specs.declared.typed.TypedFn.{TypedFn}

@@ -7,7 +7,7 @@ use Rattle.rx_resolve_names.specs.declared.resolved.ItemNames.{ItemNames}
 use Rattle.rx_resolve_names.specs.declared.resolved.NodeNames.{NodeNames}
 use Rattle.rx_resolve_names.specs.Items.{in_item}
 use Rattle.rx_typed.specs.Naming.{function_named}
-use Rattle.rx_typed_tree.specs.PlainTree.{plain-TypedTree}
+use Rattle.rx_typed.specs.PlainTree.{plain-TypedTree}
 use Rattle.rx_typeck_solver.specs.Ordered.{Orderly}
 use Rattle.rx_typeck_rules.specs.Demands.{task}
 use Rattle.rx_typeck_typed.specs.declared.typed.TypedFn.{TypedFn}

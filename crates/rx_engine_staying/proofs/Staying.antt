@@ -8,7 +8,7 @@ use Rattle.rx_typed.specs.Types.{unit_shape, Typ}
 use Rattle.rx_typed.specs.Tree as tree
 use Rattle.rx_typed.specs.Naming.{function_named}
 use Rattle.rx_typed.specs.Elaborated.{elaborated}
-use Rattle.rx_typed_tree.specs.PlainTree.{plain-TypedTree}
+use Rattle.rx_typed.specs.PlainTree.{plain-TypedTree}
 use Rattle.rx_typeck_solver.specs.declared.facts.Subject.{Subject}
 use Rattle.rx_typeck_solver.specs.declared.facts.Subject.TheVariants as subject
 use Rattle.rx_typeck_solver.specs.declared.facts.Fact.{Fact}

@@ -10,7 +10,7 @@ ghost use Rattle.rx_resolve_names.specs.declared.resolved.NodeNames.{NodeNames};
 ghost use Rattle.rx_resolve_names.specs.Causes.{Meant};
 ghost use Rattle.rx_resolve_names.specs.Items.{in_item};
 ghost use Rattle.rx_typed.specs.Naming.{function_named};
-ghost use Rattle.rx_typed_tree.specs.PlainTree.{plain-TypedTree};
+ghost use Rattle.rx_typed.specs.PlainTree.{plain-TypedTree};
 ghost use Rattle.rx_typeck_typed.specs.declared.typed.Typed.{Typed};
 ghost use Rattle.rx_typeck_typed.specs.declared.typed.TypedFn.{TypedFn};
 ghost use Rattle.rx_typeck_typed.specs.Typing.{known_in, FunctionTyped, Given, IsTyped};

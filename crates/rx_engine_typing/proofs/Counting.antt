@@ -9,8 +9,8 @@ use Rattle.rx_tree.specs.Plain.{TypeTree, TypeTrees, PatternTree, PatternTrees, 
 use Rattle.rx_tree.specs.Positions.{NodeTree, an_item, a_type, a_block, a_statement, an_expression, a_pattern}
 use Rattle.rx_tree.specs.Nodes.{below_type, within_types, within_type, below_pattern, within_patterns, within_field_patterns, below_expression, within_expressions, within_optional, within_arguments, within_fields, within_arms, below_block, below_statement, within_statements, within_parameters, below_item, nodes, total}
 use Rattle.rx_tree.specs.Size.{bindings_at, loops_at, IsNumbered}
-use Rattle.rx_resolve_scope.specs.Scopes as scopes
-use Rattle.rx_resolve_scope.specs.Scopes.{Declared, Variables, variable_named}
+use Rattle.rx_resolve_names.specs.Scopes as scopes
+use Rattle.rx_resolve_names.specs.Scopes.{Declared, Variables, variable_named}
 use Rattle.rx_resolve_names.specs.declared.resolved.ItemNames.{ItemNames}
 use Rattle.rx_resolve_names.specs.Meant.{number, type_name, function_name, item_named, as_function, as_rt, Around, a_loop, a_test, target}
 use Rattle.rx_resolve_names.specs.Steps.{Outcome, and_then, Naming, ◌>>◌, Inside, known, one, declare, led, child, next, with_loop, with_variable, with_names, position, entry, numbered, names}

@@ -3,8 +3,8 @@ use Rattle.std.proofs.Common.{◌≡◌, ℕ, zero, suc, ◌+◌, ◌≤◌, ◌
 use Rattle.std.specs.Str.{bytes_eq}
 use Rattle.rx_core.specs.declared.types.Position.{Position}
 use Rattle.rx_tree.specs.declared.tree.Ident.{Ident}
-use Rattle.rx_resolve_scope.specs.Scopes as scopes
-use Rattle.rx_resolve_scope.specs.Scopes.{Declared, Variables, Variable, variable_named}
+use Rattle.rx_resolve_names.specs.Scopes as scopes
+use Rattle.rx_resolve_names.specs.Scopes.{Declared, Variables, Variable, variable_named}
 use Rattle.rx_resolve_names.specs.declared.resolved.ItemNames.{ItemNames}
 use Rattle.rx_resolve_names.specs.Meant.{number, Around, a_loop, a_test, Target, to_loop, out_of_test, nowhere, through_test, is_meant, target}
 use Rattle.rx_resolve_names.specs.Steps.{with_loop}

@@ -5,8 +5,8 @@ use Rattle.rx_tree.specs.declared.tree.Ident.{Ident}
 use Rattle.rx_tree.specs.declared.tree.BoundLifetime.{BoundLifetime}
 use Rattle.rx_tree.specs.Plain as plain
 use Rattle.rx_tree.specs.Plain.{TypeTree, TypeTrees, Parameter, Function, ItemTree, ProgramTree}
-use Rattle.rx_resolve_scope.specs.Scopes as scopes
-use Rattle.rx_resolve_scope.specs.Scopes.{Declared, Variables, declared_as}
+use Rattle.rx_resolve_names.specs.Scopes as scopes
+use Rattle.rx_resolve_names.specs.Scopes.{Declared, Variables, declared_as}
 use Rattle.rx_resolve_names.specs.declared.resolved.ItemNames.{ItemNames}
 use Rattle.rx_resolve_names.specs.declared.resolved.NodeNames.{NodeNames}
 use Rattle.rx_resolve_names.specs.Meant.{number, number_in, firsts, lifetimes_declared}

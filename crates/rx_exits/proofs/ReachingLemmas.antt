@@ -4,8 +4,8 @@ use Rattle.std.proofs.lemmas.Bool.{true≢false, false≢true}
 use Rattle.std.proofs.lemmas.List.{map-append, take_all}
 use Rattle.rx_core.specs.declared.types.Ty.{Ty}
 use Rattle.rx_typed.specs.PlainTypes.{plain-Ty}
-use Rattle.rx_typed_tree.specs.declared.tree.Expr.{Expr}
-use Rattle.rx_typed_tree.specs.PlainTree.{plain-Expr}
+use Rattle.rx_typed.specs.declared.tree.Expr.{Expr}
+use Rattle.rx_typed.specs.PlainTree.{plain-Expr}
 use Rattle.rx_exits_tree.proofs.Shapes.{expr_mark}
 use Rattle.rx_exits_plan.specs.declared.plan.Exit.{Exit as CodeExit}
 use Rattle.rx_exits_plan.specs.PlainPlan.{plain-Exit}

@@ -8,8 +8,8 @@ use Rattle.rx_core.specs.declared.types.Ty.TheVariants as ty
 use Rattle.rx_typed.specs.Types.{Typ, integer, boolean, tuple_of, reference, named, no_shape, shape_and, shapes_of}
 use Rattle.rx_typed.specs.PlainTypes.{plain-Ty, typ_integer, typ_boolean, typ_tuple, typ_shared, typ_mut, typ_item}
 use Rattle.rx_typed.specs.Tree.{Mark}
-use Rattle.rx_typed_tree.specs.declared.tree.Expr.{Expr}
-use Rattle.rx_typed_tree.specs.PlainTree.{plain-Expr}
+use Rattle.rx_typed.specs.declared.tree.Expr.{Expr}
+use Rattle.rx_typed.specs.PlainTree.{plain-Expr}
 use Rattle.rx_exits_plan.specs.Plan.{but_the_unit, handed_value}
 use Rattle.rx_exits_tree.proofs.Shapes.{expr_mark}
 use Rattle.rx_exits.specs.Planning.{is_unit}

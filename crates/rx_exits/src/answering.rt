@@ -1,7 +1,7 @@
 //! The plan of a run, or the variable that shows that it has none to go by.
 
 ghost use Rattle.std.specs.Prelude.{◌≡◌, MatchResult, MatchOption};
-ghost use Rattle.rx_typed_tree.specs.PlainTree.{plain-TypedTree};
+ghost use Rattle.rx_typed.specs.PlainTree.{plain-TypedTree};
 ghost use Rattle.rx_exits_plan.specs.Asked.{Asked};
 ghost use Rattle.rx_exits_plan.specs.PlainPlan.{plan_of};
 ghost use Rattle.rx_exits_points.specs.Points.{IsReady, IsPoints};
@@ -16,7 +16,7 @@ use rx_core::{LetGo, Name};
 use rx_exits_plan::Run;
 use rx_exits_points::RunPoints;
 use rx_exits_syntax::Home;
-use rx_typed_tree::TypedTree;
+use rx_typed::TypedTree;
 use std::alloc::{AllocError, Global};
 
 /// Why a run has no plan to go by: variables by their numbers.

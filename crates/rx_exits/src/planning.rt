@@ -4,7 +4,7 @@ ghost use Rattle.std.specs.Prelude.{◌≡◌, ℕ, Ok, Some, map, IfOk};
 ghost use Rattle.std.specs.Prelude.{List as ListOf};
 ghost use Rattle.std.specs.Option.{is_some};
 ghost use Rattle.rx_typed.specs.PlainTypes.{plain-Ty};
-ghost use Rattle.rx_typed_tree.specs.PlainTree.{plain-Expr, plain-TypedTree};
+ghost use Rattle.rx_typed.specs.PlainTree.{plain-Expr, plain-TypedTree};
 ghost use Rattle.rx_exits_plan.specs.Asked.{Asked};
 ghost use Rattle.rx_exits_plan.specs.Occurrences.{those};
 ghost use Rattle.rx_exits_plan.specs.Plan as plan;
@@ -29,7 +29,7 @@ use rx_exits_jumps::exits;
 use rx_exits_plan::{Exit, ExitOuts, ExitPlan, Run};
 use rx_exits_points::{RunLiving, RunPoints, living};
 use rx_exits_syntax::{Home, last_value};
-use rx_typed_tree::{Expr, TypedTree};
+use rx_typed::{Expr, TypedTree};
 use std::alloc::{AllocError, Global};
 
 /// The plan of a run, and what is live where the run is left, where a walk that enters it uses the plan's params.

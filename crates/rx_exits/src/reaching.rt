@@ -3,7 +3,7 @@
 ghost use Rattle.std.specs.Prelude.{◌≡◌, ◌≢◌, ◌⊎◌, ◌↔◌, [], None, IsTrue, map, IfOk, MatchResult, MatchOption};
 ghost use Rattle.rx_exits_marks.specs.Points as points;
 ghost use Rattle.rx_typed.specs.Tree.{mark_of};
-ghost use Rattle.rx_typed_tree.specs.PlainTree.{plain-Expr};
+ghost use Rattle.rx_typed.specs.PlainTree.{plain-Expr};
 ghost use Rattle.rx_lower_walks.specs.Walks.{Among};
 ghost use Rattle.rx_exits_plan.specs.PlainPlan.{plain-Exit};
 ghost use Rattle.rx_exits_plan.specs.Asked.{Asked};
@@ -19,7 +19,7 @@ use rx_exits_jumps::{exits, jumps};
 use rx_exits_plan::{Exit, Run};
 use rx_exits_points::{Point, RunPoints};
 use rx_exits_syntax::{Home, Jump, last_value};
-use rx_typed_tree::Expr;
+use rx_typed::Expr;
 use std::alloc::{AllocError, Global};
 
 /// Where it shows that a run is not reached.

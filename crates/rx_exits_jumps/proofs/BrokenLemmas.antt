@@ -3,9 +3,9 @@ use Rattle.std.proofs.lemmas.Bool.{false≢true}
 use Rattle.std.proofs.Common.{◌≡◌, ℕ, ◌==◌, Bool, true, false, not, ◌&&◌, ◌||◌, List, [], ◌∷◌, ◌++◌, map, refl, sym, ap, ◌∙◌, subst}
 use Rattle.rx_typed.specs.Tree as tree
 use Rattle.rx_typed.specs.Tree.{Exp, read, borrow, share, build, unit, lazily, assign, update, call, input, print, block, choose, loop, jump, give, Operands, no_operand, operand_and, Scrutinee, at_place, of_value, Arms, no_arm, arm_and, Body, ends, runs, declares, lets, Pattern}
-use Rattle.rx_typed_tree.specs.declared.tree.Form.TheOpen as open_form
-use Rattle.rx_typed_tree.specs.declared.tree.Stmt.{Stmt, Stmt-F, fold_out-Stmt}
-use Rattle.rx_typed_tree.specs.PlainTree.{plain-Form, plain-Matched, plain-Stmt, plain-Arm, plain-Expr, plain-Operand, form_step, matched_step, stmt_step, arm_step, expr_step, operand_step, nested_of}
+use Rattle.rx_typed.specs.declared.tree.Form.TheOpen as open_form
+use Rattle.rx_typed.specs.declared.tree.Stmt.{Stmt, Stmt-F, fold_out-Stmt}
+use Rattle.rx_typed.specs.PlainTree.{plain-Form, plain-Matched, plain-Stmt, plain-Arm, plain-Expr, plain-Operand, form_step, matched_step, stmt_step, arm_step, expr_step, operand_step, nested_of}
 use Rattle.rx_exits_marks.specs.Blocks.{Statement, does, begins, binds, bound}
 use Rattle.rx_exits_marks.specs.Spots.{Around, with_variables, with_loop, Spot, a_block, a_jump, a_return, spots, spots_in, spots_matched, spots_armed, spots_of}
 use Rattle.rx_exits_plan.specs.Diverging.{is_broken, nothing_around, diverges, body_diverges, any_diverges}

@@ -1,8 +1,8 @@
 -- The homes that the walk finds, and the first of them.
 use Rattle.std.proofs.Common.{◌≡◌, ℕ, zero, suc, List, [], ◌∷◌, ◌++◌, length, map, take, reverse, Option, Some, None, MatchOption, option_map, refl, sym, ap, ◌∙◌, arith}
 use Rattle.std.proofs.lemmas.List.{append-nil}
-use Rattle.rx_typed_tree.specs.declared.tree.TypedTree.{TypedTree}
-use Rattle.rx_typed_tree.specs.PlainTree.{plain-Expr, plain-Param, plain-TypedTree}
+use Rattle.rx_typed.specs.declared.tree.TypedTree.{TypedTree}
+use Rattle.rx_typed.specs.PlainTree.{plain-Expr, plain-Param, plain-TypedTree}
 use Rattle.rx_exits_marks.specs.Spots.{Around, spots, spots_of_function}
 use Rattle.rx_exits_marks.specs.Runs as runs
 use Rattle.rx_exits_syntax.specs.declared.parts.Home.{Home}

@@ -3,8 +3,8 @@ use Rattle.std.proofs.Common.{◌≡◌, ℕ, ◌==◌, Bool, true, false, ◌&&
 use Rattle.std.proofs.lemmas.Bool.{eq-eqb, ne_eqb, and_from, and_left, and_right}
 use Rattle.std.proofs.lemmas.List.{append-nil, map-append, length-map}
 use Rattle.rx_typed.specs.Tree.{Exp}
-use Rattle.rx_typed_tree.specs.declared.tree.Stmt.{Stmt}
-use Rattle.rx_typed_tree.specs.PlainTree.{plain-Stmt, nested_of}
+use Rattle.rx_typed.specs.declared.tree.Stmt.{Stmt}
+use Rattle.rx_typed.specs.PlainTree.{plain-Stmt, nested_of}
 use Rattle.rx_exits_marks.specs.Blocks.{statements}
 use Rattle.rx_exits_marks.specs.Spots.{Around, a_block}
 use Rattle.rx_exits_marks.specs.Runs as runs

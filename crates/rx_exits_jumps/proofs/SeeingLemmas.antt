@@ -4,18 +4,18 @@ use Rattle.std.proofs.lemmas.List.{append_assoc, append-nil, take_at}
 use Rattle.std.specs.declared.alloc.AllocError.{AllocError}
 use Rattle.rx_typed.specs.Tree as tree
 use Rattle.rx_typed.specs.Tree.{Exp, Scrutinee, Body, Pattern}
-use Rattle.rx_typed_tree.specs.declared.tree.Form.{Form}
-use Rattle.rx_typed_tree.specs.declared.tree.Form.TheOpen as open_form
-use Rattle.rx_typed_tree.specs.declared.tree.Form.TheVariants as form
-use Rattle.rx_typed_tree.specs.declared.tree.Stmt.{Stmt, Stmt-F, fold_out-Stmt}
-use Rattle.rx_typed_tree.specs.declared.tree.Stmt.TheVariants as stmt
-use Rattle.rx_typed_tree.specs.declared.tree.Expr.{Expr}
-use Rattle.rx_typed_tree.specs.declared.tree.Matched.{Matched}
-use Rattle.rx_typed_tree.specs.declared.tree.Pattern as code
-use Rattle.rx_typed_tree.specs.declared.tree.Arm.{Arm}
-use Rattle.rx_typed_tree.specs.declared.tree.Operand.{Operand}
-use Rattle.rx_typed_tree.specs.PlainTree.{plain-Mark, plain-Pattern, plain-Form, plain-Matched, plain-Stmt, plain-Arm, plain-Expr, plain-Operand, form_step, matched_step, stmt_step, arm_step, expr_step, operand_step, nested_of, arms_of, operands_of, form_lazily, form_block, form_choose, stmt_runs, stmt_declares, stmt_lets}
-use Rattle.rx_typed_tree.proofs.Rules.{expr_by_form, arm_by_parts, operand_by_parts}
+use Rattle.rx_typed.specs.declared.tree.Form.{Form}
+use Rattle.rx_typed.specs.declared.tree.Form.TheOpen as open_form
+use Rattle.rx_typed.specs.declared.tree.Form.TheVariants as form
+use Rattle.rx_typed.specs.declared.tree.Stmt.{Stmt, Stmt-F, fold_out-Stmt}
+use Rattle.rx_typed.specs.declared.tree.Stmt.TheVariants as stmt
+use Rattle.rx_typed.specs.declared.tree.Expr.{Expr}
+use Rattle.rx_typed.specs.declared.tree.Matched.{Matched}
+use Rattle.rx_typed.specs.declared.tree.Pattern as code
+use Rattle.rx_typed.specs.declared.tree.Arm.{Arm}
+use Rattle.rx_typed.specs.declared.tree.Operand.{Operand}
+use Rattle.rx_typed.specs.PlainTree.{plain-Mark, plain-Pattern, plain-Form, plain-Matched, plain-Stmt, plain-Arm, plain-Expr, plain-Operand, form_step, matched_step, stmt_step, arm_step, expr_step, operand_step, nested_of, arms_of, operands_of, form_lazily, form_block, form_choose, stmt_runs, stmt_declares, stmt_lets}
+use Rattle.rx_typed.proofs.Rules.{expr_by_form, arm_by_parts, operand_by_parts}
 use Rattle.rx_exits_marks.specs.Blocks.{does, begins, binds, bound, declared_by, declared_by_all}
 use Rattle.rx_exits_marks.specs.Spots.{Around, with_variables, with_loop, Spot, a_block, a_return, spots, spots_in, spots_matched, spots_armed, spots_of}
 use Rattle.rx_exits_plan.specs.Exits.{past, spots_in_statements}

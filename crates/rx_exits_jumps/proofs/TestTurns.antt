@@ -1,10 +1,10 @@
 -- Turns of loops that look for one element, or for one that is otherwise.
 use Rattle.std.proofs.Common.{◌≡◌, ℕ, ◌+◌, ◌<◌, Bool, true, false, ◌&&◌, ◌||◌, List, ◌∷◌, map, drop, length, get_or, sym, ap, ◌∙◌}
 use Rattle.rx_typed.specs.Tree.{Exp, Pattern}
-use Rattle.rx_typed_tree.specs.declared.tree.Arm.{Arm}
-use Rattle.rx_typed_tree.specs.declared.tree.Operand.{Operand}
-use Rattle.rx_typed_tree.specs.PlainTree.{plain-Expr, plain-Operand, plain-Arm, operands_of, arms_of}
-use Rattle.rx_typed_tree.proofs.Rules.{arm_by_parts, operand_by_parts}
+use Rattle.rx_typed.specs.declared.tree.Arm.{Arm}
+use Rattle.rx_typed.specs.declared.tree.Operand.{Operand}
+use Rattle.rx_typed.specs.PlainTree.{plain-Expr, plain-Operand, plain-Arm, operands_of, arms_of}
+use Rattle.rx_typed.proofs.Rules.{arm_by_parts, operand_by_parts}
 use Rattle.rx_exits_plan.specs.Diverging.{diverges, some_diverges, all_diverge}
 use Rattle.rx_exits_syntax.proofs.Turns.{next_of}
 use Rattle.rx_exits_jumps.specs.Broken.{breaks, breaks_in, breaks_armed}

@@ -1,15 +1,15 @@
 //! Whether some `break` leads to a loop.
 
 ghost use Rattle.std.specs.Prelude.{◌≡◌, map};
-ghost use Rattle.rx_typed_tree.specs.PlainTree.{plain-Expr, plain-Operand, plain-Arm, plain-Matched, operands_of, arms_of};
+ghost use Rattle.rx_typed.specs.PlainTree.{plain-Expr, plain-Operand, plain-Arm, plain-Matched, operands_of, arms_of};
 ghost use Rattle.rx_exits_syntax.specs.PlainSyntax.{plain-Statement};
 ghost use Rattle.rx_exits_jumps.specs.Broken as broken;
 
-use rx_typed_tree::{Arm, Expr, Form, Matched, Operand, Stmt};
+use rx_typed::{Arm, Expr, Form, Matched, Operand, Stmt};
 
 /// Whether an expression has a `break` of the loop of this number.
 #[cycle(breaking)]
-#[tactic(auto, using(rx_typed_tree::proofs::Rules::typed_tree_rules, crate::proofs::BrokenLemmas::broken_rules))]
+#[tactic(auto, using(rx_typed::proofs::Rules::typed_tree_rules, crate::proofs::BrokenLemmas::broken_rules))]
 pub(crate) fn breaks(number: u32, expr: &Expr) -> bool
     ensures { result ≡ broken.breaks number (plain-Expr expr.now) }
 {
@@ -35,7 +35,7 @@ pub(crate) fn breaks(number: u32, expr: &Expr) -> bool
 }
 
 #[cycle(breaking)]
-#[tactic(auto, using(rx_typed_tree::proofs::Rules::typed_tree_rules))]
+#[tactic(auto, using(rx_typed::proofs::Rules::typed_tree_rules))]
 fn breaks_in(number: u32, operands: &[Operand]) -> bool
     ensures { result ≡ broken.breaks_in number (operands_of (map plain-Operand operands.now)) }
 {
@@ -48,7 +48,7 @@ fn breaks_in(number: u32, operands: &[Operand]) -> bool
 }
 
 #[cycle(breaking)]
-#[tactic(auto, using(rx_typed_tree::proofs::Rules::typed_tree_rules))]
+#[tactic(auto, using(rx_typed::proofs::Rules::typed_tree_rules))]
 fn breaks_matched(number: u32, matched: &Matched) -> bool
     ensures { result ≡ broken.breaks_matched number (plain-Matched matched.now) }
 {
@@ -59,7 +59,7 @@ fn breaks_matched(number: u32, matched: &Matched) -> bool
 }
 
 #[cycle(breaking)]
-#[tactic(auto, using(rx_typed_tree::proofs::Rules::typed_tree_rules))]
+#[tactic(auto, using(rx_typed::proofs::Rules::typed_tree_rules))]
 fn breaks_armed(number: u32, arms: &[Arm]) -> bool
     ensures { result ≡ broken.breaks_armed number (arms_of (map plain-Arm arms.now)) }
 {
@@ -72,7 +72,7 @@ fn breaks_armed(number: u32, arms: &[Arm]) -> bool
 }
 
 #[cycle(breaking)]
-#[tactic(auto, using(rx_typed_tree::proofs::Rules::typed_tree_rules))]
+#[tactic(auto, using(rx_typed::proofs::Rules::typed_tree_rules))]
 fn breaks_stmt(number: u32, stmt: &Stmt) -> bool
     ensures { result ≡ broken.breaks_statement number (plain-Statement stmt.now) }
 {

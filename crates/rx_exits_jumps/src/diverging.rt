@@ -1,7 +1,7 @@
 //! Whether a part of a function never goes on, by its syntax.
 
 ghost use Rattle.std.specs.Prelude.{◌≡◌, map};
-ghost use Rattle.rx_typed_tree.specs.PlainTree.{plain-Expr, plain-Operand, plain-Arm, plain-Matched, plain-Mark, operands_of, arms_of};
+ghost use Rattle.rx_typed.specs.PlainTree.{plain-Expr, plain-Operand, plain-Arm, plain-Matched, plain-Mark, operands_of, arms_of};
 ghost use Rattle.rx_typed.specs.Tree.{loop};
 ghost use Rattle.rx_exits_plan.specs.Diverging as diverging;
 ghost use Rattle.rx_exits_syntax.specs.PlainSyntax.{plain-Statement};
@@ -9,11 +9,11 @@ ghost use Rattle.rx_exits_jumps.specs.Broken as broken;
 
 use crate::breaking::breaks;
 use rx_core::Boxed;
-use rx_typed_tree::{Arm, Expr, Form, Mark, Matched, Operand, Stmt};
+use rx_typed::{Arm, Expr, Form, Mark, Matched, Operand, Stmt};
 
 /// Whether an expression never goes on, by its syntax (Rust Reference, "Never type").
 #[cycle(diverging)]
-#[tactic(auto, using(rx_typed_tree::proofs::Rules::typed_tree_rules, crate::proofs::BrokenLemmas::diverging_rules))]
+#[tactic(auto, using(rx_typed::proofs::Rules::typed_tree_rules, crate::proofs::BrokenLemmas::diverging_rules))]
 pub fn diverges(expr: &Expr) -> bool
     ensures { result ≡ diverging.diverges (plain-Expr expr.now) }
 {
@@ -34,7 +34,7 @@ pub fn diverges(expr: &Expr) -> bool
 }
 
 /// Whether an expression is a `match` or an `if`, as the body of a `while` is.
-#[tactic(auto, using(rx_typed_tree::proofs::Rules::typed_tree_rules))]
+#[tactic(auto, using(rx_typed::proofs::Rules::typed_tree_rules))]
 fn is_choose(expr: &Expr) -> bool
     ensures { result ≡ broken.is_choose (plain-Expr expr.now) }
 {
@@ -49,7 +49,7 @@ fn is_choose(expr: &Expr) -> bool
 
 /// Whether what a `match` or an `if` tests never goes on.
 #[cycle(diverging)]
-#[tactic(auto, using(rx_typed_tree::proofs::Rules::typed_tree_rules))]
+#[tactic(auto, using(rx_typed::proofs::Rules::typed_tree_rules))]
 fn test_diverges(expr: &Expr) -> bool
     ensures { result ≡ broken.test_diverges (plain-Expr expr.now) }
 {
@@ -76,7 +76,7 @@ fn loop_diverges(body: &Boxed<Expr>, _mark: &Mark, number: u32) -> bool
 }
 
 #[cycle(diverging)]
-#[tactic(auto, using(rx_typed_tree::proofs::Rules::typed_tree_rules))]
+#[tactic(auto, using(rx_typed::proofs::Rules::typed_tree_rules))]
 fn some_diverges(operands: &[Operand]) -> bool
     ensures { result ≡ diverging.some_diverges (operands_of (map plain-Operand operands.now)) }
 {
@@ -89,7 +89,7 @@ fn some_diverges(operands: &[Operand]) -> bool
 }
 
 #[cycle(diverging)]
-#[tactic(auto, using(rx_typed_tree::proofs::Rules::typed_tree_rules))]
+#[tactic(auto, using(rx_typed::proofs::Rules::typed_tree_rules))]
 fn matched_diverges(matched: &Matched) -> bool
     ensures { result ≡ diverging.matched_diverges (plain-Matched matched.now) }
 {
@@ -100,7 +100,7 @@ fn matched_diverges(matched: &Matched) -> bool
 }
 
 #[cycle(diverging)]
-#[tactic(auto, using(rx_typed_tree::proofs::Rules::typed_tree_rules))]
+#[tactic(auto, using(rx_typed::proofs::Rules::typed_tree_rules))]
 fn all_diverge(arms: &[Arm]) -> bool
     ensures { result ≡ diverging.all_diverge (arms_of (map plain-Arm arms.now)) }
 {
@@ -113,7 +113,7 @@ fn all_diverge(arms: &[Arm]) -> bool
 }
 
 #[cycle(diverging)]
-#[tactic(auto, using(rx_typed_tree::proofs::Rules::typed_tree_rules))]
+#[tactic(auto, using(rx_typed::proofs::Rules::typed_tree_rules))]
 fn stmt_diverges(stmt: &Stmt) -> bool
     ensures { result ≡ broken.statement_diverges (plain-Statement stmt.now) }
 {

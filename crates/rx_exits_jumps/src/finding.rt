@@ -1,7 +1,7 @@
 //! The block of a run.
 
 ghost use Rattle.std.specs.Prelude.{◌≡◌, IfOk, MatchOption, map, option_map};
-ghost use Rattle.rx_typed_tree.specs.PlainTree.{plain-TypedTree};
+ghost use Rattle.rx_typed.specs.PlainTree.{plain-TypedTree};
 ghost use Rattle.rx_exits_marks.specs.Runs as runs;
 ghost use Rattle.rx_exits_marks.specs.Spots.{spots_of_function};
 ghost use Rattle.rx_exits_plan.specs.PlainPlan.{plain-Run};
@@ -13,7 +13,7 @@ use crate::sought::{Found, Sought};
 use rx_core::List;
 use rx_exits_plan::Run;
 use rx_exits_syntax::{Around, Home, push_params};
-use rx_typed_tree::TypedTree;
+use rx_typed::TypedTree;
 use std::alloc::{AllocError, Global};
 
 /// The blocks of a tree that have a run.

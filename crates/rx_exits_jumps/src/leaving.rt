@@ -19,7 +19,7 @@ use rx_exits_plan::{Exit, Run};
 use rx_exits_syntax::{
     Around, Home, Jump, in_front, inside, last_value, push_all_declared, reversed,
 };
-use rx_typed_tree::Expr;
+use rx_typed::Expr;
 use std::alloc::{AllocError, Global};
 
 // ---- jumps

@@ -1,7 +1,7 @@
 //! The walk over a tree that finds what is sought, with what is around each place.
 
 ghost use Rattle.std.specs.Prelude.{◌≡◌, ◌++◌, ◌∷◌, [], OnOk, take, map};
-ghost use Rattle.rx_typed_tree.specs.PlainTree.{plain-Expr, plain-Operand, plain-Arm, plain-Matched, plain-Pattern, operands_of, arms_of};
+ghost use Rattle.rx_typed.specs.PlainTree.{plain-Expr, plain-Operand, plain-Arm, plain-Matched, plain-Pattern, operands_of, arms_of};
 ghost use Rattle.rx_exits_marks.specs.Blocks.{bound, declared_by, declared_by_all};
 ghost use Rattle.rx_exits_marks.specs.Spots.{with_variables, with_loop, a_return, spots, spots_in, spots_matched, spots_armed};
 ghost use Rattle.rx_exits_plan.specs.Exits.{spots_in_statements};
@@ -12,12 +12,12 @@ ghost use Rattle.rx_exits_jumps.specs.Seen.{with_spots};
 use crate::sought::{Found, Sought, meet_block, meet_jump, meet_return};
 use rx_core::Boxed;
 use rx_exits_syntax::{Around, cut, push_all, push_bound};
-use rx_typed_tree::{Arm, Expr, Form, Matched, Operand, Pattern, Stmt};
+use rx_typed::{Arm, Expr, Form, Matched, Operand, Pattern, Stmt};
 use std::alloc::{AllocError, Global};
 
 /// Adds what is sought in an expression.
 #[cycle(seeing)]
-#[tactic(auto, using(rx_typed_tree::proofs::Rules::typed_tree_rules, crate::proofs::SeeingLemmas::seeing_rules))]
+#[tactic(auto, using(rx_typed::proofs::Rules::typed_tree_rules, crate::proofs::SeeingLemmas::seeing_rules))]
 pub(crate) fn see<'t>(
     alloc: Global,
     expr: &'t Expr,
@@ -135,7 +135,7 @@ fn see_tail<'t>(
 }
 
 #[cycle(seeing)]
-#[tactic(auto, using(rx_typed_tree::proofs::Rules::typed_tree_rules))]
+#[tactic(auto, using(rx_typed::proofs::Rules::typed_tree_rules))]
 fn see_operands<'t>(
     alloc: Global,
     operands: &'t [Operand],
@@ -154,7 +154,7 @@ fn see_operands<'t>(
 }
 
 #[cycle(seeing)]
-#[tactic(auto, using(rx_typed_tree::proofs::Rules::typed_tree_rules, crate::proofs::SeeingLemmas::seeing_rules))]
+#[tactic(auto, using(rx_typed::proofs::Rules::typed_tree_rules, crate::proofs::SeeingLemmas::seeing_rules))]
 fn see_matched<'t>(
     alloc: Global,
     matched: &'t Matched,
@@ -230,7 +230,7 @@ fn see_let<'t>(
 
 /// A statement. Its variables stay in scope.
 #[cycle(seeing)]
-#[tactic(auto, using(rx_typed_tree::proofs::Rules::typed_tree_rules, crate::proofs::SeeingLemmas::seeing_rules))]
+#[tactic(auto, using(rx_typed::proofs::Rules::typed_tree_rules, crate::proofs::SeeingLemmas::seeing_rules))]
 fn see_stmt<'t>(
     alloc: Global,
     stmt: &'t Stmt,

@@ -1,7 +1,7 @@
 //! What is sought in a tree, and what was found.
 
 ghost use Rattle.std.specs.Prelude.{◌≡◌, ◌∷◌, [], IfOk, OnOk, map};
-ghost use Rattle.rx_typed_tree.specs.PlainTree.{plain-Expr, plain-Stmt, nested_of};
+ghost use Rattle.rx_typed.specs.PlainTree.{plain-Expr, plain-Stmt, nested_of};
 ghost use Rattle.rx_exits_marks.specs.Spots.{a_block, a_jump, a_return};
 ghost use Rattle.rx_exits_marks.specs.Points as points;
 ghost use Rattle.rx_exits_marks.specs.Marked.{is_among};
@@ -13,7 +13,7 @@ ghost use Rattle.rx_exits_jumps.specs.Seen as seen;
 use rx_core::{LetGo, List};
 use rx_exits_plan::{Exit, Run};
 use rx_exits_syntax::{Around, Home, Jump, reversed};
-use rx_typed_tree::{Expr, Stmt};
+use rx_typed::{Expr, Stmt};
 use std::alloc::{AllocError, Global};
 
 #[derive(Clone, Copy)]

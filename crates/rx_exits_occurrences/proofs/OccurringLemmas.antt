@@ -4,16 +4,16 @@ use Rattle.std.proofs.lemmas.List.{append_assoc, append-nil}
 use Rattle.std.specs.declared.alloc.AllocError.{AllocError}
 use Rattle.rx_typed.specs.Tree as tree
 use Rattle.rx_typed.specs.Tree.{Exp, Scrutinee, Body, Pattern}
-use Rattle.rx_typed_tree.specs.declared.tree.Form.TheOpen as open_form
-use Rattle.rx_typed_tree.specs.declared.tree.Form.TheVariants as form
-use Rattle.rx_typed_tree.specs.declared.tree.Form.{Form}
-use Rattle.rx_typed_tree.specs.declared.tree.Stmt.{Stmt, Stmt-F, fold_out-Stmt}
-use Rattle.rx_typed_tree.specs.declared.tree.Expr.{Expr}
-use Rattle.rx_typed_tree.specs.declared.tree.Arm.{Arm}
-use Rattle.rx_typed_tree.specs.declared.tree.Matched.{Matched}
-use Rattle.rx_typed_tree.specs.declared.tree.Operand.{Operand}
-use Rattle.rx_typed_tree.specs.PlainTree.{plain-Mark, plain-Pattern, plain-Form, plain-Matched, plain-Stmt, plain-Arm, plain-Expr, plain-Operand, form_step, matched_step, stmt_step, arm_step, expr_step, operand_step, nested_of, operands_of, arms_of, form_lazily, form_block, form_choose}
-use Rattle.rx_typed_tree.proofs.Rules.{expr_by_form, arm_by_parts, operand_by_parts}
+use Rattle.rx_typed.specs.declared.tree.Form.TheOpen as open_form
+use Rattle.rx_typed.specs.declared.tree.Form.TheVariants as form
+use Rattle.rx_typed.specs.declared.tree.Form.{Form}
+use Rattle.rx_typed.specs.declared.tree.Stmt.{Stmt, Stmt-F, fold_out-Stmt}
+use Rattle.rx_typed.specs.declared.tree.Expr.{Expr}
+use Rattle.rx_typed.specs.declared.tree.Arm.{Arm}
+use Rattle.rx_typed.specs.declared.tree.Matched.{Matched}
+use Rattle.rx_typed.specs.declared.tree.Operand.{Operand}
+use Rattle.rx_typed.specs.PlainTree.{plain-Mark, plain-Pattern, plain-Form, plain-Matched, plain-Stmt, plain-Arm, plain-Expr, plain-Operand, form_step, matched_step, stmt_step, arm_step, expr_step, operand_step, nested_of, operands_of, arms_of, form_lazily, form_block, form_choose}
+use Rattle.rx_typed.proofs.Rules.{expr_by_form, arm_by_parts, operand_by_parts}
 use Rattle.rx_exits_marks.specs.Blocks.{Statement, bound, tail}
 use Rattle.rx_exits_plan.specs.Occurrences.{Occurrence, all_declared, occurrences, occurrences_in, occurrences_matched, occurrences_armed, occurrences_of, in_statement, in_statements, in_value}
 use Rattle.rx_exits_syntax.specs.PlainSyntax.{plain-Statement, first_of, no_more}

@@ -1,7 +1,7 @@
 //! The variables that a run names.
 
 ghost use Rattle.std.specs.Prelude.{◌≡◌, false, ◌++◌, ◌∷◌, [], IfOk, OnOk, if◌then◌else◌, map};
-ghost use Rattle.rx_typed_tree.specs.PlainTree.{plain-Expr};
+ghost use Rattle.rx_typed.specs.PlainTree.{plain-Expr};
 ghost use Rattle.rx_exits_marks.specs.Blocks.{tail};
 ghost use Rattle.rx_exits_marks.specs.Runs as runs;
 ghost use Rattle.rx_exits_plan.specs.Occurrences as occurrences;
@@ -15,7 +15,7 @@ use indexmap::IndexSet;
 use rx_core::{LetGo, List};
 use rx_exits_plan::Run;
 use rx_exits_syntax::{Home, behind, inside, last_value, push_all_declared};
-use rx_typed_tree::Expr;
+use rx_typed::Expr;
 use std::alloc::{AllocError, Global};
 
 /// The variables of a run, each list in the order of first occurrence in the run. A declaration is an occurrence.

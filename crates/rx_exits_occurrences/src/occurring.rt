@@ -1,7 +1,7 @@
 //! The occurrences of variables, in the order of the text.
 
 ghost use Rattle.std.specs.Prelude.{◌≡◌, ◌++◌, OnOk, map};
-ghost use Rattle.rx_typed_tree.specs.PlainTree.{plain-Expr, plain-Operand, plain-Arm, plain-Matched, plain-Pattern, plain-Place, operands_of, arms_of};
+ghost use Rattle.rx_typed.specs.PlainTree.{plain-Expr, plain-Operand, plain-Arm, plain-Matched, plain-Pattern, plain-Place, operands_of, arms_of};
 ghost use Rattle.rx_exits_marks.specs.Blocks.{bound};
 ghost use Rattle.rx_exits_plan.specs.Occurrences as occurrences;
 ghost use Rattle.rx_exits_syntax.specs.PlainSyntax.{plain-Statement};
@@ -9,7 +9,7 @@ ghost use Rattle.rx_exits_occurrences.specs.PlainOccurrence.{plain-Occurrence};
 
 use rx_core::{Boxed, LetGo, List, Place};
 use rx_exits_syntax::push_bound;
-use rx_typed_tree::{Arm, Expr, Form, Matched, Operand, Pattern, Stmt};
+use rx_typed::{Arm, Expr, Form, Matched, Operand, Pattern, Stmt};
 use std::alloc::{AllocError, Global};
 
 #[derive(Clone, Copy)]
@@ -52,7 +52,7 @@ fn push_place(found: &mut List<Occurrence>, place: &Place) -> Result<(), AllocEr
 
 /// Adds the occurrences in an expression.
 #[cycle(occurring)]
-#[tactic(auto, using(rx_typed_tree::proofs::Rules::typed_tree_rules, crate::proofs::OccurringLemmas::occurring_rules))]
+#[tactic(auto, using(rx_typed::proofs::Rules::typed_tree_rules, crate::proofs::OccurringLemmas::occurring_rules))]
 pub(crate) fn push_occurrences(
     alloc: Global,
     found: &mut List<Occurrence>,
@@ -104,7 +104,7 @@ fn push_named(
 }
 
 #[cycle(occurring)]
-#[tactic(auto, using(rx_typed_tree::proofs::Rules::typed_tree_rules))]
+#[tactic(auto, using(rx_typed::proofs::Rules::typed_tree_rules))]
 fn push_operands(
     alloc: Global,
     found: &mut List<Occurrence>,
@@ -120,7 +120,7 @@ fn push_operands(
 }
 
 #[cycle(occurring)]
-#[tactic(auto, using(rx_typed_tree::proofs::Rules::typed_tree_rules, crate::proofs::OccurringLemmas::occurring_rules))]
+#[tactic(auto, using(rx_typed::proofs::Rules::typed_tree_rules, crate::proofs::OccurringLemmas::occurring_rules))]
 fn push_matched(
     alloc: Global,
     found: &mut List<Occurrence>,
@@ -136,7 +136,7 @@ fn push_matched(
 }
 
 #[cycle(occurring)]
-#[tactic(auto, using(rx_typed_tree::proofs::Rules::typed_tree_rules, crate::proofs::OccurringLemmas::occurring_rules))]
+#[tactic(auto, using(rx_typed::proofs::Rules::typed_tree_rules, crate::proofs::OccurringLemmas::occurring_rules))]
 fn push_arm(alloc: Global, found: &mut List<Occurrence>, arm: &Arm) -> Result<(), AllocError>
     ensures { OnOk result (map plain-Occurrence found.new
         ≡ map plain-Occurrence found.old ++ (occurrences.all_declared (bound (plain-Arm arm.now).0) ++ occurrences.occurrences (plain-Arm arm.now).1)) }
@@ -173,7 +173,7 @@ fn push_let(
 }
 
 #[cycle(occurring)]
-#[tactic(auto, using(rx_typed_tree::proofs::Rules::typed_tree_rules, crate::proofs::OccurringLemmas::occurring_rules))]
+#[tactic(auto, using(rx_typed::proofs::Rules::typed_tree_rules, crate::proofs::OccurringLemmas::occurring_rules))]
 fn push_statement(
     alloc: Global,
     found: &mut List<Occurrence>,

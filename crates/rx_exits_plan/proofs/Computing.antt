@@ -4,10 +4,10 @@ use Rattle.std.specs.Prelude.{ℕ, zero, suc, ◌+◌, ◌==◌, Bool, true, fal
 use Rattle.rx_typed.specs.Types.{Typ}
 use Rattle.rx_typed.specs.Tree.{Exp, variable, own, mark_of}
 use Rattle.rx_lower_walks.specs.Actions.{Action}
-use Rattle.rx_lower_graph.specs.Graph.{Site}
-use Rattle.rx_lower_graph.specs.Pieces.{graph}
-use Rattle.rx_facts_along.specs.Along.{Switch, behind}
-use Rattle.rx_facts_parts.specs.Places.{is_part, all_parts}
+use Rattle.rx_lower_walks.specs.Graph.{Site}
+use Rattle.rx_lower_walks.specs.Pieces.{graph}
+use Rattle.rx_facts_live.specs.Along.{Switch, behind}
+use Rattle.rx_facts_init.specs.Places.{is_part, all_parts}
 use Rattle.rx_facts_init.specs.Setting.{setting}
 use Rattle.rx_facts_init.specs.Wholes.{standing}
 use Rattle.rx_facts_live.specs.Live.{living}

@@ -4,7 +4,7 @@ use Rattle.std.proofs.Common.{◌≡◌, ◌⊎◌, inl, inr, ℕ, Bool, true, f
 use Rattle.rx_typed.specs.Tree.{own}
 use Rattle.rx_lower_walks.specs.Actions.{Action}
 use Rattle.rx_lower_walks.specs.Walks.{Among, here, there}
-use Rattle.rx_facts_parts.specs.Places.{is_part}
+use Rattle.rx_facts_init.specs.Places.{is_part}
 use Rattle.rx_facts_init.specs.Setting.{is_set}
 use Rattle.rx_facts_init.specs.Wholes.{stands}
 use Rattle.rx_exits_marks.specs.Points.{enters}

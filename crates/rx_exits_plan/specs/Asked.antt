@@ -4,8 +4,8 @@ use Rattle.std.specs.Prelude.{◌≡◌, ℕ, true, false, List, [], ◌∷◌, 
 use Rattle.rx_typed.specs.Tree.{variable, Function, own}
 use Rattle.rx_lower_walks.specs.Actions.{Action}
 use Rattle.rx_lower_walks.specs.Walks.{IsWalk}
-use Rattle.rx_facts_along.specs.Along.{ahead}
-use Rattle.rx_facts_parts.specs.Places.{Frame}
+use Rattle.rx_facts_live.specs.Along.{ahead}
+use Rattle.rx_facts_init.specs.Places.{Frame}
 use Rattle.rx_facts_init.specs.Setting.{AllSet}
 use Rattle.rx_facts_init.specs.Wholes.{stands}
 use Rattle.rx_facts_live.specs.Live.{living}

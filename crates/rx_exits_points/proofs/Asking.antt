@@ -4,10 +4,10 @@ use Rattle.std.specs.declared.alloc.AllocError.{AllocError}
 use Rattle.rx_core.specs.declared.types.Ty.{Ty}
 use Rattle.rx_typed.specs.Types.{Declarations}
 use Rattle.rx_typed.specs.PlainTypes.{plain-Ty}
-use Rattle.rx_typed_tree.specs.PlainTree.{plain-TypedTree}
+use Rattle.rx_typed.specs.PlainTree.{plain-TypedTree}
 use Rattle.rx_typeck_typed.specs.declared.typed.TypedFn.{TypedFn}
 use Rattle.rx_lower.specs.Functions.{trimmed}
-use Rattle.rx_facts_parts.specs.Places.{Frame}
+use Rattle.rx_facts_init.specs.Places.{Frame}
 use Rattle.rx_exits_marks.specs.Runs.{Home}
 use Rattle.rx_exits_plan.specs.declared.plan.Run.{Run}
 use Rattle.rx_exits_plan.specs.PlainPlan.{plain-Run}

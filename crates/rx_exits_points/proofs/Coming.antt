@@ -3,11 +3,11 @@ use Rattle.std.proofs.Common.{◌≡◌, ◌↔◌, ℕ, ◌+◌, ◌<◌, Bool,
 use Rattle.rx_typed.specs.Tree.{Function}
 use Rattle.rx_lower_walks.specs.Actions.{Action}
 use Rattle.rx_lower_walks.specs.Walks.{IsWalk, Among}
-use Rattle.rx_lower_graph.specs.Graph.{Site, site_at, Path, stop}
-use Rattle.rx_lower_graph.specs.Pieces.{graph}
-use Rattle.rx_lower_graph.proofs.Sites.{paths_are_walks_of}
-use Rattle.rx_facts_along.specs.Along.{Arrives}
-use Rattle.rx_facts_along.proofs.Ways.{site_within, path_through, through, only}
+use Rattle.rx_lower_walks.specs.Graph.{Site, site_at, Path, stop}
+use Rattle.rx_lower_walks.specs.Pieces.{graph}
+use Rattle.rx_lower_walks.proofs.Sites.{paths_are_walks_of}
+use Rattle.rx_facts_live.specs.Along.{Arrives}
+use Rattle.rx_facts_live.proofs.Ways.{site_within, path_through, through, only}
 use Rattle.rx_exits_points.specs.declared.marks.MarkSite.{MarkSite}
 use Rattle.rx_exits_points.specs.Marks.{mark_at, marks_from}
 use Rattle.rx_exits_points.specs.Facts.{SomeMarked, NoneMarked}

@@ -4,11 +4,11 @@ use Rattle.std.proofs.Common.{◌≡◌, ◌↔◌, ℕ, Bool, true, false, Matc
 use Rattle.rx_typed.specs.Tree.{variable, Function}
 use Rattle.rx_lower_walks.specs.Actions.{Action}
 use Rattle.rx_lower_walks.specs.Walks.{IsWalk, Among, here}
-use Rattle.rx_lower_graph.specs.Graph.{Site, site_at, Path, stop, go}
-use Rattle.rx_lower_graph.specs.Pieces.{graph}
-use Rattle.rx_lower_graph.proofs.Sites.{reached}
-use Rattle.rx_facts_along.specs.Along.{behind, ahead}
-use Rattle.rx_facts_along.proofs.Ways.{comes_to, only}
+use Rattle.rx_lower_walks.specs.Graph.{Site, site_at, Path, stop, go}
+use Rattle.rx_lower_walks.specs.Pieces.{graph}
+use Rattle.rx_lower_walks.proofs.Sites.{reached}
+use Rattle.rx_facts_live.specs.Along.{behind, ahead}
+use Rattle.rx_facts_live.proofs.Ways.{comes_to, only}
 use Rattle.rx_facts_live.specs.Live.{living, IsLive}
 use Rattle.rx_exits_points.specs.declared.marks.MarkSite.{MarkSite}
 use Rattle.rx_exits_points.specs.Marks.{mark_at, marks_from}

@@ -1,10 +1,10 @@
 -- Loops over marks and over sites: what holds of the first of them.
 use Rattle.std.proofs.Common.{◌≡◌, ◌⊎◌, inl, inr, ℕ, suc, ◌+◌, ◌<◌, ◌≤◌, Bool, true, false, true≢false, MatchBool, List, [], length, take, get_or, ap, sym, ◌∙◌, subst, arith}
 use Rattle.rx_lower_walks.specs.Walks.{Among}
-use Rattle.rx_lower_graph.specs.Graph as graph
+use Rattle.rx_lower_walks.specs.Graph as graph
 use Rattle.rx_lower_emit.specs.declared.site.Site.{Site}
 use Rattle.rx_lower_emit.specs.PlainSite.{plain-Site}
-use Rattle.rx_facts_along.proofs.Each.{SoFar, each_more}
+use Rattle.rx_facts_live.proofs.Each.{SoFar, each_more}
 use Rattle.rx_facts_init.specs.Wholes.{regains}
 use Rattle.rx_exits_points.specs.declared.marks.MarkSite.{MarkSite}
 use Rattle.rx_exits_points.specs.Facts.{SomeMarked, NoneMarked}

@@ -4,8 +4,8 @@ use Rattle.std.proofs.lemmas.Bool.Decides.{Decides-eqb}
 use Rattle.rx_typed.specs.Tree.{Temporary, tuple, temporary_at}
 use Rattle.rx_lower_walks.specs.Actions.{Act, Build, Action, does}
 use Rattle.rx_lower_walks.specs.Walks.{Among, here, there}
-use Rattle.rx_lower_graph.specs.Graph.{Site, site_at}
-use Rattle.rx_facts_along.proofs.Ways.{site_within}
+use Rattle.rx_lower_walks.specs.Graph.{Site, site_at}
+use Rattle.rx_facts_live.proofs.Ways.{site_within}
 use Rattle.rx_exits_points.specs.declared.marks.MarkSite.{MarkSite}
 use Rattle.rx_exits_points.specs.Marks.{mark_at, is_at, makes_mark_at, shows_mark, noted, marks_from}
 use Rattle.rx_exits_points.proofs.Among.{among_first, not_among, got}

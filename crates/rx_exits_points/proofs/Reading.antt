@@ -4,14 +4,14 @@ use Rattle.std.proofs.lemmas.Bool.{cases_lt}
 use Rattle.rx_typed.specs.Tree.{Function, own}
 use Rattle.rx_lower_walks.specs.Actions.{Action}
 use Rattle.rx_lower_walks.specs.Walks.{IsWalk}
-use Rattle.rx_lower_graph.specs.Pieces.{graph}
-use Rattle.rx_lower_graph.proofs.Sites.{reached}
+use Rattle.rx_lower_walks.specs.Pieces.{graph}
+use Rattle.rx_lower_walks.proofs.Sites.{reached}
 use Rattle.rx_typed_declarations.specs.Sizes.{Sized}
 use Rattle.rx_graph.specs.Tables.{at}
-use Rattle.rx_facts_along.specs.Along.{Arrives}
-use Rattle.rx_facts_along.proofs.Ways.{comes_to}
-use Rattle.rx_facts_parts.specs.Places.{Frame, place_at, spot_parts, is_part, all_parts}
-use Rattle.rx_facts_parts.specs.Layouts.{plain-Frame, IsLayout}
+use Rattle.rx_facts_live.specs.Along.{Arrives}
+use Rattle.rx_facts_live.proofs.Ways.{comes_to}
+use Rattle.rx_facts_init.specs.Places.{Frame, place_at, spot_parts, is_part, all_parts}
+use Rattle.rx_facts_init.specs.Layouts.{plain-Frame, IsLayout}
 use Rattle.rx_facts_init.specs.Setting.{is_set}
 use Rattle.rx_facts_init.specs.Wholes.{stands}
 use Rattle.rx_facts_init.specs.Tables.{SomeAt, NoneAt}

@@ -2,13 +2,13 @@
 use Rattle.std.proofs.Common.{◌≡◌, ℕ, List, [], Result, Ok, Err, IfOk, ap, sym, ◌∙◌, subst}
 use Rattle.std.specs.declared.alloc.AllocError.{AllocError}
 use Rattle.rx_typed.specs.Tree.{Function}
-use Rattle.rx_lower_graph.specs.Graph.{Site}
-use Rattle.rx_lower_graph.specs.Pieces.{graph}
-use Rattle.rx_lower_graph.proofs.Sites.{reached}
-use Rattle.rx_facts_along.specs.Tracking.{Reached}
-use Rattle.rx_facts_parts.specs.Places as places
-use Rattle.rx_facts_parts.specs.declared.frames.Frame.{Frame}
-use Rattle.rx_facts_parts.specs.Layouts.{plain-Frame}
+use Rattle.rx_lower_walks.specs.Graph.{Site}
+use Rattle.rx_lower_walks.specs.Pieces.{graph}
+use Rattle.rx_lower_walks.proofs.Sites.{reached}
+use Rattle.rx_facts_live.specs.Tracking.{Reached}
+use Rattle.rx_facts_init.specs.Places as places
+use Rattle.rx_facts_init.specs.declared.frames.Frame.{Frame}
+use Rattle.rx_facts_init.specs.Layouts.{plain-Frame}
 use Rattle.rx_exits_marks.specs.Runs.{Run}
 use Rattle.rx_exits_marks.specs.Marked.{marked}
 use Rattle.rx_exits_plan.specs.Asked.{Asked}

@@ -1,14 +1,14 @@
 -- What the tables of sites say is what walks do.
 use Rattle.std.proofs.Common.{◌≡◌, ◌↔◌, ℕ, Bool, true, false, not, ◌&&◌, ◌||◌, List, [], Some, refl, ap, sym, ◌∙◌, subst, arith}
 use Rattle.rx_lower_walks.specs.Actions.{Action}
-use Rattle.rx_lower_graph.specs.Graph.{Site, site_at}
+use Rattle.rx_lower_walks.specs.Graph.{Site, site_at}
 use Rattle.rx_graph.specs.Tables.{at}
-use Rattle.rx_facts_along.specs.Along.{Arrives, after}
-use Rattle.rx_facts_along.specs.Along as ways
-use Rattle.rx_facts_along.specs.Tracking.{Reached}
-use Rattle.rx_facts_parts.specs.Places.{Frame}
-use Rattle.rx_facts_parts.specs.Layouts.{plain-Frame}
-use Rattle.rx_facts_parts.specs.declared.frames.Layout.{Layout}
+use Rattle.rx_facts_live.specs.Along.{Arrives, after}
+use Rattle.rx_facts_live.specs.Along as ways
+use Rattle.rx_facts_live.specs.Tracking.{Reached}
+use Rattle.rx_facts_init.specs.Places.{Frame}
+use Rattle.rx_facts_init.specs.Layouts.{plain-Frame}
+use Rattle.rx_facts_init.specs.declared.frames.Layout.{Layout}
 use Rattle.rx_facts_init.specs.Setting.{setting, is_set}
 use Rattle.rx_facts_init.specs.Wholes.{regains, loses, standing, stands}
 use Rattle.rx_facts_init.proofs.Exact.{turned, turned_after, setting_apart, not_false}

@@ -3,12 +3,12 @@
 use Rattle.std.specs.Prelude.{◌≡◌, ◌↔◌, ℕ, ◌<◌, ◌≤◌, Bool, true, false, List, [], length, Some}
 use Rattle.rx_lower_walks.specs.Actions.{Act}
 use Rattle.rx_lower_walks.specs.Walks.{Among}
-use Rattle.rx_lower_graph.specs.Graph.{Site, site_at}
+use Rattle.rx_lower_walks.specs.Graph.{Site, site_at}
 use Rattle.rx_graph.specs.Tables.{at}
-use Rattle.rx_facts_along.specs.Along.{Switch, HoldsAt}
-use Rattle.rx_facts_along.specs.Tracking.{Reached}
-use Rattle.rx_facts_parts.specs.Places.{Frame}
-use Rattle.rx_facts_parts.specs.Layouts.{plain-Frame, IsSized, IsLayout}
+use Rattle.rx_facts_live.specs.Along.{Switch, HoldsAt}
+use Rattle.rx_facts_live.specs.Tracking.{Reached}
+use Rattle.rx_facts_init.specs.Places.{Frame}
+use Rattle.rx_facts_init.specs.Layouts.{plain-Frame, IsSized, IsLayout}
 use Rattle.rx_facts_init.specs.Setting.{sets, unsets}
 use Rattle.rx_facts_init.specs.Wholes.{regains, loses}
 use Rattle.rx_facts_init.specs.Tables.{SomeAt, NoneAt}

@@ -1,6 +1,6 @@
 -- The tables of what is live where a run is left. (RFC 2094, "Liveness".)
 use Rattle.std.specs.Prelude.{◌≡◌, ℕ, List}
-use Rattle.rx_lower_graph.specs.Graph.{Site}
+use Rattle.rx_lower_walks.specs.Graph.{Site}
 use Rattle.rx_typed.specs.Tree.{Root}
 use Rattle.rx_facts_live.specs.Live.{IsLive}
 use Rattle.rx_facts_live.specs.Tables.{Lives, IsIndex}

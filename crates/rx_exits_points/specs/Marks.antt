@@ -3,7 +3,7 @@
 use Rattle.std.specs.Prelude.{ℕ, suc, Bool, false, ◌&&◌, ◌==◌, if◌then◌else◌, List, [], ◌∷◌, ◌++◌}
 use Rattle.rx_typed.specs.Tree.{Temporary, tuple, temporary_at}
 use Rattle.rx_lower_walks.specs.Actions.{Act, Build, Action, does}
-use Rattle.rx_lower_graph.specs.Graph.{Site}
+use Rattle.rx_lower_walks.specs.Graph.{Site}
 use Rattle.rx_exits_marks.specs.Points as points
 use Rattle.rx_exits_marks.specs.Points.{enters, leaves}
 use Rattle.rx_exits_marks.specs.Unmarked.{makes_mark}

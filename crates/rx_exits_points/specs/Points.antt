@@ -2,12 +2,12 @@
 use Rattle.std.specs.Prelude.{◌≡◌, ◌↔◌, ℕ, ◌<◌, true, false, List, [], length}
 use Rattle.rx_typed.specs.Tree.{own}
 use Rattle.rx_lower_walks.specs.Actions.{Action}
-use Rattle.rx_lower_graph.specs.Graph.{Site}
-use Rattle.rx_lower_graph.specs.Pieces.{graph}
+use Rattle.rx_lower_walks.specs.Graph.{Site}
+use Rattle.rx_lower_walks.specs.Pieces.{graph}
 use Rattle.rx_graph.specs.Tables.{at}
-use Rattle.rx_facts_along.specs.Along.{Arrives}
-use Rattle.rx_facts_parts.specs.Places.{Frame, is_part}
-use Rattle.rx_facts_parts.specs.Layouts.{plain-Frame, IsSized, IsLayout}
+use Rattle.rx_facts_live.specs.Along.{Arrives}
+use Rattle.rx_facts_init.specs.Places.{Frame, is_part}
+use Rattle.rx_facts_init.specs.Layouts.{plain-Frame, IsSized, IsLayout}
 use Rattle.rx_facts_init.specs.Setting.{is_set, AllSet, SomeSet, SomeUnset}
 use Rattle.rx_facts_init.specs.Wholes.{stands}
 use Rattle.rx_exits_marks.specs.Points.{Point, enters}

@@ -5,15 +5,15 @@ ghost use Rattle.rx_lower_flow.specs.PlainFlow.{plain-Act, plain-Place};
 ghost use Rattle.rx_lower_emit.specs.PlainSite.{plain-Site};
 ghost use Rattle.rx_graph.specs.Facts.{has};
 ghost use Rattle.rx_typed.specs.Tree.{own};
-ghost use Rattle.rx_facts_parts.specs.Places.{is_part};
-ghost use Rattle.rx_facts_parts.specs.Layouts.{plain-Frame};
+ghost use Rattle.rx_facts_init.specs.Places.{is_part};
+ghost use Rattle.rx_facts_init.specs.Layouts.{plain-Frame};
 ghost use Rattle.rx_facts_init.specs.Setting as setting;
 ghost use Rattle.rx_facts_init.specs.Wholes as wholes;
 ghost use Rattle.rx_exits_points.specs.Facts.{IsSetup, WritesBelow};
 
 use crate::facts::Setup;
 use rx_core::{List, Step};
-use rx_facts_parts::{Range, range};
+use rx_facts_init::{Range, range};
 use rx_graph::Few;
 use rx_lower_emit::Site;
 use rx_lower_flow::{Act, Place, Root};

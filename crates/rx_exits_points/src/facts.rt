@@ -4,16 +4,16 @@ ghost use Rattle.std.specs.Prelude.{◌≡◌, ◌≤◌, ◌<◌, ◌+◌, ℕ,
 ghost use Rattle.rx_lower_flow.specs.PlainFlow.{plain-Act, plain-Action};
 ghost use Rattle.rx_graph.specs.Facts.{has};
 ghost use Rattle.rx_lower_emit.specs.PlainSite.{plain-Site};
-ghost use Rattle.rx_facts_along.specs.Tracking.{EachDoes};
-ghost use Rattle.rx_facts_parts.specs.Layouts.{plain-Frame};
+ghost use Rattle.rx_facts_live.specs.Tracking.{EachDoes};
+ghost use Rattle.rx_facts_init.specs.Layouts.{plain-Frame};
 ghost use Rattle.rx_facts_init.specs.Tables as tables;
 ghost use Rattle.rx_exits_points.specs.Facts as spec;
 
 use crate::acts::{lost, numbers, regained, sets, unsets};
 use crate::marks::MarkSite;
 use rx_core::List;
-use rx_facts_along::along;
-use rx_facts_parts::{Frame, Layout, Range};
+use rx_facts_init::{Frame, Layout, Range};
+use rx_facts_live::along;
 use rx_graph::{Effect, Few, Table};
 use rx_lower_emit::Site;
 use rx_lower_flow::{Act, Action};

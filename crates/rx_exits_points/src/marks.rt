@@ -12,7 +12,7 @@ use rx_core::{LetGo, List};
 use rx_exits_plan::Exit;
 use rx_lower_emit::Site;
 use rx_lower_flow::{Act, Action, Made, Temporary};
-use rx_typed_tree::Making;
+use rx_typed::Making;
 use std::alloc::{AllocError, Global};
 
 /// A point of a run: where it is entered, or one of its exits.

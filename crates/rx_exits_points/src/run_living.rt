@@ -1,8 +1,8 @@
 //! What is live where a run is left.
 
 ghost use Rattle.std.specs.Prelude.{◌≡◌, ◌≤◌, ◌<◌, ◌↔◌, length, ℕ, List as ListOf, map, true, IfOk, MatchBool};
-ghost use Rattle.rx_typed_tree.specs.PlainTree.{plain-TypedTree};
-ghost use Rattle.rx_lower_graph.specs.Graph as graphs;
+ghost use Rattle.rx_typed.specs.PlainTree.{plain-TypedTree};
+ghost use Rattle.rx_lower_walks.specs.Graph as graphs;
 ghost use Rattle.rx_lower_emit.specs.PlainSite.{plain-Site};
 ghost use Rattle.rx_lower_flow.specs.PlainFlow.{plain-Root};
 ghost use Rattle.rx_lower_flow.specs.declared.actions.Root.{Root as RootOf};
@@ -20,7 +20,7 @@ use rx_exits_plan::{Exit, Run};
 use rx_facts_live::{LiveTable, live_marked};
 use rx_lower_emit::Site;
 use rx_lower_flow::Root;
-use rx_typed_tree::TypedTree;
+use rx_typed::TypedTree;
 use std::alloc::{AllocError, Global};
 
 /// Which variables are live behind the exits of a run, where a walk that enters the run uses its params.

@@ -2,11 +2,11 @@
 
 ghost use Rattle.std.specs.Prelude.{◌≡◌, ◌↔◌, ◌≤◌, ◌<◌, map, true, false, IfOk, MatchBool, ◌+◌};
 ghost use Rattle.rx_typed_declarations.specs.Sizes.{told};
-ghost use Rattle.rx_typed_tree.specs.PlainTree.{plain-TypedTree};
+ghost use Rattle.rx_typed.specs.PlainTree.{plain-TypedTree};
 ghost use Rattle.rx_lower_emit.specs.PlainSite.{plain-Site};
-ghost use Rattle.rx_facts_along.specs.Tracking.{Reached};
-ghost use Rattle.rx_facts_parts.specs.Places.{place_at, spot_parts};
-ghost use Rattle.rx_facts_parts.specs.Layouts.{plain-Frame, IsSized, IsLayout};
+ghost use Rattle.rx_facts_live.specs.Tracking.{Reached};
+ghost use Rattle.rx_facts_init.specs.Places.{place_at, spot_parts};
+ghost use Rattle.rx_facts_init.specs.Layouts.{plain-Frame, IsSized, IsLayout};
 ghost use Rattle.rx_typed.specs.Tree.{own};
 ghost use Rattle.rx_exits_plan.specs.Asked.{Asked, IsParam, IsLocal};
 ghost use Rattle.rx_exits_plan.specs.PlainPlan.{plain-Run};
@@ -21,10 +21,10 @@ use crate::marks::{MarkSite, Point, marks_of, number};
 use crate::sites::marked_sites;
 use rx_core::List;
 use rx_exits_plan::Run;
-use rx_facts_parts::{Frame, Layout, Range, layout, range};
+use rx_facts_init::{Frame, Layout, Range, layout, range};
 use rx_graph::Table;
 use rx_lower_emit::Site;
-use rx_typed_tree::TypedTree;
+use rx_typed::TypedTree;
 use std::alloc::{AllocError, Global};
 
 /// What is known of a function where walks come to the points of a run: the marks of the points, and facts at all sites.

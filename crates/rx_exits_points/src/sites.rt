@@ -1,10 +1,10 @@
 //! The sites of a function with marks.
 
 ghost use Rattle.std.specs.Prelude.{◌≡◌, ◌≤◌, IfOk, length, map};
-ghost use Rattle.rx_typed_tree.specs.PlainTree.{plain-TypedTree};
+ghost use Rattle.rx_typed.specs.PlainTree.{plain-TypedTree};
 ghost use Rattle.rx_lower_flow.specs.Flows.{order_of};
 ghost use Rattle.rx_lower_flow.specs.PlainFlow.{plain-Flow};
-ghost use Rattle.rx_lower_graph.specs.Pieces.{graph, graph_of};
+ghost use Rattle.rx_lower_walks.specs.Pieces.{graph, graph_of};
 ghost use Rattle.rx_lower_emit.specs.PlainSite.{plain-Site};
 ghost use Rattle.rx_exits_marks.specs.Marked as marks;
 ghost use Rattle.rx_exits_plan.specs.PlainPlan.{plain-Run};
@@ -15,7 +15,7 @@ use rx_exits_tree::marked;
 use rx_lower_emit::{Site, graph_within};
 use rx_lower_flow::Flow;
 use rx_lower_order::flow_of;
-use rx_typed_tree::TypedTree;
+use rx_typed::TypedTree;
 use std::alloc::{AllocError, Global};
 
 /// The sites of a flow, at most so many; where it has more it is as if memory ran out.

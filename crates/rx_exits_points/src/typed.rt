@@ -9,7 +9,7 @@ ghost use Rattle.rx_exits_points.specs.Points as spec;
 
 use crate::run_points::{RunPoints, points_in};
 use rx_exits_plan::Run;
-use rx_facts_parts::Frame;
+use rx_facts_init::Frame;
 use rx_lower::trimmed;
 use rx_typeck_typed::TypedFn;
 use rx_typed::Decls;

@@ -4,9 +4,9 @@ use Rattle.std.proofs.lemmas.List.{append-nil, map-append}
 use Rattle.rx_core.specs.declared.types.Step.{Step}
 use Rattle.rx_core.specs.declared.types.Step.TheVariants as step
 use Rattle.rx_typed.specs.Tree.{Pattern, any, bind, exactly, parts, variant, behind, Subpatterns, no_part, part_and}
-use Rattle.rx_typed_tree.specs.declared.tree.Subpattern.{Subpattern}
-use Rattle.rx_typed_tree.specs.PlainTree.{plain-Pattern, plain-Subpattern, subpatterns_of}
-use Rattle.rx_typed_tree.proofs.Rules.{subpattern_by_parts}
+use Rattle.rx_typed.specs.declared.tree.Subpattern.{Subpattern}
+use Rattle.rx_typed.specs.PlainTree.{plain-Pattern, plain-Subpattern, subpatterns_of}
+use Rattle.rx_typed.proofs.Rules.{subpattern_by_parts}
 use Rattle.rx_lower_walks.specs.Matching.{Binding, bindings, bindings_in}
 use Rattle.rx_exits_marks.specs.Blocks.{bound}
 use Rattle.rx_exits_syntax.specs.Bound.{bound_pattern, bound_parts}

@@ -2,9 +2,9 @@
 use Rattle.std.specs.Prelude.{ℕ, List, ◌++◌, map, reverse, Option, Some, None}
 use Rattle.std.specs.Borrow.{Bor}
 use Rattle.rx_typed.specs.Tree.{Exp, Body, ends, runs, declares, lets, unit}
-use Rattle.rx_typed_tree.specs.declared.tree.Expr.{Expr}
-use Rattle.rx_typed_tree.specs.declared.tree.Stmt.{Stmt}
-use Rattle.rx_typed_tree.specs.PlainTree.{plain-Expr, plain-Stmt, nested_of}
+use Rattle.rx_typed.specs.declared.tree.Expr.{Expr}
+use Rattle.rx_typed.specs.declared.tree.Stmt.{Stmt}
+use Rattle.rx_typed.specs.PlainTree.{plain-Expr, plain-Stmt, nested_of}
 use Rattle.rx_exits_marks.specs.Blocks.{Statement, does, begins, binds}
 use Rattle.rx_exits_marks.specs.Spots.{Around}
 use Rattle.rx_exits_marks.specs.Runs as runs

@@ -1,11 +1,11 @@
 //! The variables in scope at a place of a tree, and the loops around it.
 
 ghost use Rattle.std.specs.Prelude.{◌≡◌, ◌++◌, IfOk, OnOk, List, take, map, reverse};
-ghost use Rattle.rx_typed_tree.specs.PlainTree.{plain-Param};
+ghost use Rattle.rx_typed.specs.PlainTree.{plain-Param};
 ghost use Rattle.rx_exits_syntax.specs.Bound.{variables_of_params};
 
 use rx_core::{LetGo, List};
-use rx_typed_tree::Param;
+use rx_typed::Param;
 use std::alloc::{AllocError, Global};
 use std::mem;
 

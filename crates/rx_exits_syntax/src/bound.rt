@@ -1,12 +1,12 @@
 //! The variables that patterns bind.
 
 ghost use Rattle.std.specs.Prelude.{◌≡◌, ◌++◌, OnOk, map};
-ghost use Rattle.rx_typed_tree.specs.PlainTree.{plain-Pattern, plain-Subpattern, subpatterns_of};
+ghost use Rattle.rx_typed.specs.PlainTree.{plain-Pattern, plain-Subpattern, subpatterns_of};
 ghost use Rattle.rx_exits_marks.specs.Blocks.{bound};
 ghost use Rattle.rx_exits_syntax.specs.Bound.{bound_pattern, bound_parts};
 
 use rx_core::List;
-use rx_typed_tree::{Pattern, Subpattern};
+use rx_typed::{Pattern, Subpattern};
 use std::alloc::AllocError;
 
 /// Adds the variables that a pattern binds, from left to right.
@@ -17,7 +17,7 @@ pub fn push_bound(variables: &mut List<u32>, pattern: &Pattern) -> Result<(), Al
 }
 
 #[cycle(bound)]
-#[tactic(auto, using(rx_typed_tree::proofs::Rules::typed_pattern_rules, crate::proofs::BoundLemmas::bound_rules))]
+#[tactic(auto, using(rx_typed::proofs::Rules::typed_pattern_rules, crate::proofs::BoundLemmas::bound_rules))]
 fn push_pattern(variables: &mut List<u32>, pattern: &Pattern) -> Result<(), AllocError>
     ensures { OnOk result (variables.new ≡ variables.old ++ bound_pattern (plain-Pattern pattern.now)) }
 {

@@ -2,7 +2,7 @@
 
 use rx_core::{LetGo, List};
 use rx_exits_plan::Exit;
-use rx_typed_tree::{Expr, Stmt};
+use rx_typed::{Expr, Stmt};
 
 /// The block of a run: its statements and its tail, which is the unit where none is written, and what is around it.
 #[derive(Drop)]

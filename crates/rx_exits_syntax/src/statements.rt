@@ -1,7 +1,7 @@
 //! The statements of a run, those around it, and its last value.
 
 ghost use Rattle.std.specs.Prelude.{◌≡◌, ◌++◌, OnOk, take, drop, map};
-ghost use Rattle.rx_typed_tree.specs.PlainTree.{plain-Expr};
+ghost use Rattle.rx_typed.specs.PlainTree.{plain-Expr};
 ghost use Rattle.rx_exits_marks.specs.Blocks.{declared_by, declared_by_all, written_tail};
 ghost use Rattle.rx_exits_marks.specs.Runs as runs;
 ghost use Rattle.rx_exits_plan.specs.PlainPlan.{plain-Run};
@@ -12,7 +12,7 @@ use crate::bound::push_bound;
 use crate::parts::Home;
 use rx_core::List;
 use rx_exits_plan::Run;
-use rx_typed_tree::{Expr, Form, Stmt};
+use rx_typed::{Expr, Form, Stmt};
 use std::alloc::AllocError;
 
 /// The first few statements.
@@ -60,7 +60,7 @@ pub fn behind<'t>(home: &Home<'t>, run: Run) -> &'t [Stmt]
 }
 
 /// The tail as it is written: that of a function's body stands in a `Give` at the block's node.
-#[tactic(auto, using(rx_typed_tree::proofs::Rules::typed_tree_rules))]
+#[tactic(auto, using(rx_typed::proofs::Rules::typed_tree_rules))]
 fn written_tail<'t>(node: usize, tail: &'t Expr) -> &'t Expr
     ensures { plain-Expr result.now ≡ written_tail node (plain-Expr tail.now) }
 {
@@ -92,7 +92,7 @@ pub fn last_value<'t>(home: &Home<'t>, run: Run) -> Option<&'t Expr>
 }
 
 /// Adds the variables that a statement declares.
-#[tactic(auto, using(rx_typed_tree::proofs::Rules::typed_tree_rules, crate::proofs::StatementLemmas::statement_rules))]
+#[tactic(auto, using(rx_typed::proofs::Rules::typed_tree_rules, crate::proofs::StatementLemmas::statement_rules))]
 pub fn push_declared(variables: &mut List<u32>, stmt: &Stmt) -> Result<(), AllocError>
     ensures { OnOk result (variables.new ≡ variables.old ++ declared_by (plain-Statement stmt.now)) }
 {

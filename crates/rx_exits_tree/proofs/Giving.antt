@@ -3,16 +3,16 @@ use Rattle.std.proofs.Common.{◌≡◌, ℕ, ◌==◌, Bool, true, false, if◌
 use Rattle.std.proofs.lemmas.Bool.{eq-eqb, ne_eqb}
 use Rattle.rx_typed.specs.Tree as tree
 use Rattle.rx_typed.specs.Tree.{Exp, read, borrow, share, build, unit, lazily, assign, update, call, input, print, block, choose, loop, jump, give, Scrutinee, Body, Pattern, mark_of}
-use Rattle.rx_typed_tree.specs.declared.tree.Form.{Form, Form-F, out-Form, roll-Form, roll-out-Form, fold_out-Form, map-Form}
-use Rattle.rx_typed_tree.specs.declared.tree.Form.TheOpen as open_form
-use Rattle.rx_typed_tree.specs.declared.tree.Form.TheVariants as form
-use Rattle.rx_typed_tree.specs.declared.tree.Matched.{Matched}
-use Rattle.rx_typed_tree.specs.declared.tree.Stmt.{Stmt}
-use Rattle.rx_typed_tree.specs.declared.tree.Arm.{Arm}
-use Rattle.rx_typed_tree.specs.declared.tree.Expr.{Expr}
-use Rattle.rx_typed_tree.specs.declared.tree.Operand.{Operand}
-use Rattle.rx_typed_tree.specs.PlainTree.{plain-Mark, plain-Form, plain-Matched, plain-Stmt, plain-Arm, plain-Expr, plain-Operand, form_step, matched_step, stmt_step, arm_step, expr_step, operand_step, form_give}
-use Rattle.rx_typed_tree.proofs.Rules.{expr_by_form}
+use Rattle.rx_typed.specs.declared.tree.Form.{Form, Form-F, out-Form, roll-Form, roll-out-Form, fold_out-Form, map-Form}
+use Rattle.rx_typed.specs.declared.tree.Form.TheOpen as open_form
+use Rattle.rx_typed.specs.declared.tree.Form.TheVariants as form
+use Rattle.rx_typed.specs.declared.tree.Matched.{Matched}
+use Rattle.rx_typed.specs.declared.tree.Stmt.{Stmt}
+use Rattle.rx_typed.specs.declared.tree.Arm.{Arm}
+use Rattle.rx_typed.specs.declared.tree.Expr.{Expr}
+use Rattle.rx_typed.specs.declared.tree.Operand.{Operand}
+use Rattle.rx_typed.specs.PlainTree.{plain-Mark, plain-Form, plain-Matched, plain-Stmt, plain-Arm, plain-Expr, plain-Operand, form_step, matched_step, stmt_step, arm_step, expr_step, operand_step, form_give}
+use Rattle.rx_typed.proofs.Rules.{expr_by_form}
 use Rattle.rx_exits_marks.specs.Blocks.{written_tail}
 use Rattle.rx_exits_tree.specs.Shapes.{gives_at}
 use Rattle.rx_exits_tree.proofs.Shapes.{expr_mark}

@@ -2,12 +2,12 @@
 use Rattle.std.proofs.Common.{◌≡◌, ℕ, zero, suc, ◌==◌, Bool, true, false, if◌then◌else◌, List, [], ◌∷◌, ◌++◌, map, take, drop, Some, None, Result, Ok, Err, IfOk, refl, sym, ap, ◌∙◌, subst}
 use Rattle.std.specs.declared.alloc.AllocError.{AllocError}
 use Rattle.rx_typed.specs.Tree.{Mark, Exp, read, borrow, share, build, unit, lazily, assign, update, call, input, print, block, choose, loop, jump, give, Body, ends, runs, declares, lets, mark_of}
-use Rattle.rx_typed_tree.specs.declared.tree.Stmt.{Stmt}
-use Rattle.rx_typed_tree.specs.declared.tree.Expr.{Expr}
-use Rattle.rx_typed_tree.specs.declared.tree.Param.{Param}
-use Rattle.rx_typed_tree.specs.declared.tree.Form.TheVariants as form
-use Rattle.rx_typed_tree.proofs.Rules.{expr_by_form}
-use Rattle.rx_typed_tree.specs.PlainTree.{plain-Form, form_block, plain-Expr, plain-Mark, plain-Param, plain-Stmt, plain-TypedTree, nested_of}
+use Rattle.rx_typed.specs.declared.tree.Stmt.{Stmt}
+use Rattle.rx_typed.specs.declared.tree.Expr.{Expr}
+use Rattle.rx_typed.specs.declared.tree.Param.{Param}
+use Rattle.rx_typed.specs.declared.tree.Form.TheVariants as form
+use Rattle.rx_typed.proofs.Rules.{expr_by_form}
+use Rattle.rx_typed.specs.PlainTree.{plain-Form, form_block, plain-Expr, plain-Mark, plain-Param, plain-Stmt, plain-TypedTree, nested_of}
 use Rattle.rx_exits_marks.specs.Blocks.{Statement, does, begins, binds, statements, tail, before, written_tail}
 use Rattle.rx_exits_marks.specs.Runs.{Run, in_front, inside, behind, last_value}
 use Rattle.rx_exits_marks.specs.Points.{next, leaves}

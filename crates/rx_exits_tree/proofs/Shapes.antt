@@ -4,16 +4,16 @@ use Rattle.std.proofs.lemmas.List.{append-nil, map-append}
 use Rattle.std.specs.declared.alloc.AllocError.{AllocError}
 use Rattle.rx_typed.specs.Tree as tree
 use Rattle.rx_typed.specs.Tree.{Exp, Scrutinee, Body, Pattern, mark_of}
-use Rattle.rx_typed_tree.specs.declared.tree.Form.{Form, Form-F, fold_out-Form}
-use Rattle.rx_typed_tree.specs.declared.tree.Form.TheOpen as open_form
-use Rattle.rx_typed_tree.specs.declared.tree.Form.TheVariants as form
-use Rattle.rx_typed_tree.specs.declared.tree.Stmt.{Stmt, Stmt-F, fold_out-Stmt}
-use Rattle.rx_typed_tree.specs.declared.tree.Stmt.TheVariants as stmt
-use Rattle.rx_typed_tree.specs.declared.tree.Expr.{Expr}
-use Rattle.rx_typed_tree.specs.declared.tree.Matched.{Matched}
-use Rattle.rx_typed_tree.specs.declared.tree.Pattern as code
-use Rattle.rx_typed_tree.specs.PlainTree.{plain-Pattern, plain-Mark, plain-Form, plain-Matched, plain-Stmt, plain-Arm, plain-Expr, plain-Operand, form_step, matched_step, stmt_step, arm_step, expr_step, operand_step, nested_of, form_block, stmt_runs, stmt_declares, stmt_lets}
-use Rattle.rx_typed_tree.proofs.Rules.{expr_by_form}
+use Rattle.rx_typed.specs.declared.tree.Form.{Form, Form-F, fold_out-Form}
+use Rattle.rx_typed.specs.declared.tree.Form.TheOpen as open_form
+use Rattle.rx_typed.specs.declared.tree.Form.TheVariants as form
+use Rattle.rx_typed.specs.declared.tree.Stmt.{Stmt, Stmt-F, fold_out-Stmt}
+use Rattle.rx_typed.specs.declared.tree.Stmt.TheVariants as stmt
+use Rattle.rx_typed.specs.declared.tree.Expr.{Expr}
+use Rattle.rx_typed.specs.declared.tree.Matched.{Matched}
+use Rattle.rx_typed.specs.declared.tree.Pattern as code
+use Rattle.rx_typed.specs.PlainTree.{plain-Pattern, plain-Mark, plain-Form, plain-Matched, plain-Stmt, plain-Arm, plain-Expr, plain-Operand, form_step, matched_step, stmt_step, arm_step, expr_step, operand_step, nested_of, form_block, stmt_runs, stmt_declares, stmt_lets}
+use Rattle.rx_typed.proofs.Rules.{expr_by_form}
 use Rattle.rx_exits_marks.specs.Blocks.{Statement, does, begins, binds, statements, tail, before}
 use Rattle.rx_exits_tree.specs.Shapes.{mark_at, first_of, stated, plain-Statement}
 

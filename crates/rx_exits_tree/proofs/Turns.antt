@@ -4,7 +4,7 @@ use denote.Param.Weighed.{most}
 use Rattle.std.specs.declared.alloc.AllocError.{AllocError}
 use Rattle.std.proofs.lemmas.List.{append_assoc, map-append, take_more, take_all}
 use Rattle.rx_typed.specs.Tree.{Exp, Pattern, operand_and, arm_and}
-use Rattle.rx_typed_tree.specs.PlainTree.{operands_of, arms_of}
+use Rattle.rx_typed.specs.PlainTree.{operands_of, arms_of}
 use Rattle.rx_exits_marks.specs.Changed.{Changes, changed, changed_all, changed_arms}
 
 -- what is so of a call's value

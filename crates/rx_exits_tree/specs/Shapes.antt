@@ -1,8 +1,8 @@
 -- The statement that a statement of the code stands for. (Rust Reference, "Statements".)
 use Rattle.std.specs.Prelude.{ℕ, ◌==◌, Bool, false, List, [], ◌∷◌, None}
 use Rattle.rx_typed.specs.Tree.{Mark, Exp, unit, give, Body, ends}
-use Rattle.rx_typed_tree.specs.declared.tree.Stmt.{Stmt}
-use Rattle.rx_typed_tree.specs.PlainTree.{plain-Stmt}
+use Rattle.rx_typed.specs.declared.tree.Stmt.{Stmt}
+use Rattle.rx_typed.specs.PlainTree.{plain-Stmt}
 use Rattle.rx_exits_marks.specs.Blocks.{Statement, does, statements}
 
 -- a mark of this node without a value

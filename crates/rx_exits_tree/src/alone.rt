@@ -1,7 +1,7 @@
 //! The run alone.
 
 ghost use Rattle.std.specs.Prelude.{◌≡◌, ◌++◌, IfOk, map};
-ghost use Rattle.rx_typed_tree.specs.PlainTree.{plain-Expr, plain-Stmt, plain-TypedTree, nested_of};
+ghost use Rattle.rx_typed.specs.PlainTree.{plain-Expr, plain-Stmt, plain-TypedTree, nested_of};
 ghost use Rattle.rx_exits_plan.specs.PlainPlan.{plain-Run};
 ghost use Rattle.rx_exits_marks.specs.Runs.{last_value};
 ghost use Rattle.rx_exits_tree.specs.Alone.{alone, value_as_statement};
@@ -13,7 +13,7 @@ use crate::marks::{at_node, block_of, runs_behind, unit_of};
 use crate::statements::{statements, value_of};
 use rx_core::{List, keep};
 use rx_exits_plan::Run;
-use rx_typed_tree::{Expr, Stmt, TypedTree};
+use rx_typed::{Expr, Stmt, TypedTree};
 use std::alloc::{AllocError, Global};
 
 /// The run's last value as a statement, behind others.

@@ -2,12 +2,12 @@
 
 ghost use Rattle.std.specs.Prelude.{◌≡◌, take, drop, if◌then◌else◌, IfOk};
 ghost use Rattle.rx_typed.specs.Tree as tree;
-ghost use Rattle.rx_typed_tree.specs.PlainTree.{plain-Expr};
+ghost use Rattle.rx_typed.specs.PlainTree.{plain-Expr};
 ghost use Rattle.rx_exits_tree.specs.Shapes.{gives_at};
 
 use crate::expressions::given_by;
 use rx_exits_plan::Run;
-use rx_typed_tree::{Expr, Form, Stmt};
+use rx_typed::{Expr, Form, Stmt};
 use std::alloc::{AllocError, Global};
 
 /// The first statements, as many as there are.

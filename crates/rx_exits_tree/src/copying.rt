@@ -3,7 +3,7 @@
 ghost use Rattle.std.specs.Prelude.{◌≡◌, IfOk};
 
 use rx_core::{Boxed, List, Place, Ty, keep, pushed};
-use rx_typed_tree::{Mark, Param, Pattern, Subpattern};
+use rx_typed::{Mark, Param, Pattern, Subpattern};
 use std::alloc::{AllocError, Global};
 
 #[cycle(types)]

@@ -2,7 +2,7 @@
 
 ghost use Rattle.std.specs.Prelude.{◌≡◌, IfOk, map};
 ghost use Rattle.rx_typed.specs.Tree as tree;
-ghost use Rattle.rx_typed_tree.specs.PlainTree.{plain-Expr, plain-Making, plain-Mark, plain-Operand, plain-Place, operands_of};
+ghost use Rattle.rx_typed.specs.PlainTree.{plain-Expr, plain-Making, plain-Mark, plain-Operand, plain-Place, operands_of};
 ghost use Rattle.rx_exits_marks.specs.Changed.{changed, changed_all};
 ghost use Rattle.rx_exits_tree.specs.Changing.{changes_of};
 
@@ -12,11 +12,11 @@ use crate::forms::{boxed, expression};
 use crate::marks::returned;
 use rx_core::{Boxed, List, Place, keep, pushed};
 use rx_tree::BinaryOp;
-use rx_typed_tree::{Expr, Form, Making, Mark, Operand};
+use rx_typed::{Expr, Form, Making, Mark, Operand};
 use std::alloc::{AllocError, Global};
 
 /// A place as a value.
-#[tactic(auto, using(rx_typed_tree::proofs::Rules::typed_tree_rules))]
+#[tactic(auto, using(rx_typed::proofs::Rules::typed_tree_rules))]
 pub(crate) fn read(
     alloc: Global,
     mark: &Mark,
@@ -34,7 +34,7 @@ pub(crate) fn read(
 }
 
 /// `&p`, `&mut p`
-#[tactic(auto, using(rx_typed_tree::proofs::Rules::typed_tree_rules))]
+#[tactic(auto, using(rx_typed::proofs::Rules::typed_tree_rules))]
 pub(crate) fn borrow(
     alloc: Global,
     mark: &Mark,
@@ -52,7 +52,7 @@ pub(crate) fn borrow(
 }
 
 /// The unit.
-#[tactic(auto, using(rx_typed_tree::proofs::Rules::typed_tree_rules))]
+#[tactic(auto, using(rx_typed::proofs::Rules::typed_tree_rules))]
 pub(crate) fn unit(alloc: Global, mark: &Mark) -> Result<Expr, AllocError>
     ensures { IfOk result (λ it. plain-Expr it ≡ tree.unit (plain-Mark mark.now)) }
 {
@@ -63,7 +63,7 @@ pub(crate) fn unit(alloc: Global, mark: &Mark) -> Result<Expr, AllocError>
     })
 }
 
-#[tactic(auto, using(rx_typed_tree::proofs::Rules::typed_tree_rules))]
+#[tactic(auto, using(rx_typed::proofs::Rules::typed_tree_rules))]
 pub(crate) fn input(alloc: Global, mark: &Mark) -> Result<Expr, AllocError>
     ensures { IfOk result (λ it. plain-Expr it ≡ tree.input (plain-Mark mark.now)) }
 {
@@ -76,7 +76,7 @@ pub(crate) fn input(alloc: Global, mark: &Mark) -> Result<Expr, AllocError>
 
 /// A value of type `&mut T` becomes a `&T`.
 #[cycle(expression)]
-#[tactic(auto, using(rx_typed_tree::proofs::Rules::typed_tree_rules))]
+#[tactic(auto, using(rx_typed::proofs::Rules::typed_tree_rules))]
 pub(crate) fn share(
     alloc: Global,
     inner: &Boxed<Expr>,
@@ -95,7 +95,7 @@ pub(crate) fn share(
 
 /// What is made of operands.
 #[cycle(expression)]
-#[tactic(auto, using(rx_typed_tree::proofs::Rules::typed_tree_rules))]
+#[tactic(auto, using(rx_typed::proofs::Rules::typed_tree_rules))]
 pub(crate) fn build(
     alloc: Global,
     operands: &List<Operand>,
@@ -115,7 +115,7 @@ pub(crate) fn build(
 
 /// A call of a function's item.
 #[cycle(expression)]
-#[tactic(auto, using(rx_typed_tree::proofs::Rules::typed_tree_rules))]
+#[tactic(auto, using(rx_typed::proofs::Rules::typed_tree_rules))]
 pub(crate) fn call(
     alloc: Global,
     operands: &List<Operand>,
@@ -135,7 +135,7 @@ pub(crate) fn call(
 
 /// The right operand of `&&` or `||`, behind a copy of the left one.
 #[cycle(expression)]
-#[tactic(auto, using(rx_typed_tree::proofs::Rules::typed_tree_rules))]
+#[tactic(auto, using(rx_typed::proofs::Rules::typed_tree_rules))]
 pub(crate) fn lazily(
     alloc: Global,
     right: &Boxed<Expr>,
@@ -157,7 +157,7 @@ pub(crate) fn lazily(
 
 /// A place is assigned a value.
 #[cycle(expression)]
-#[tactic(auto, using(rx_typed_tree::proofs::Rules::typed_tree_rules))]
+#[tactic(auto, using(rx_typed::proofs::Rules::typed_tree_rules))]
 pub(crate) fn assign(
     alloc: Global,
     assigned: &Boxed<Expr>,
@@ -179,7 +179,7 @@ pub(crate) fn assign(
 
 /// `p op= e`
 #[cycle(expression)]
-#[tactic(auto, using(rx_typed_tree::proofs::Rules::typed_tree_rules))]
+#[tactic(auto, using(rx_typed::proofs::Rules::typed_tree_rules))]
 pub(crate) fn update(
     alloc: Global,
     operand: &Boxed<Expr>,
@@ -201,7 +201,7 @@ pub(crate) fn update(
 }
 
 #[cycle(expression)]
-#[tactic(auto, using(rx_typed_tree::proofs::Rules::typed_tree_rules))]
+#[tactic(auto, using(rx_typed::proofs::Rules::typed_tree_rules))]
 pub(crate) fn print(
     alloc: Global,
     printed: &Boxed<Expr>,
@@ -220,7 +220,7 @@ pub(crate) fn print(
 
 /// A loop, by its number.
 #[cycle(expression)]
-#[tactic(auto, using(rx_typed_tree::proofs::Rules::typed_tree_rules))]
+#[tactic(auto, using(rx_typed::proofs::Rules::typed_tree_rules))]
 pub(crate) fn repeat(
     alloc: Global,
     body: &Boxed<Expr>,
@@ -240,7 +240,7 @@ pub(crate) fn repeat(
 
 /// `return`, and the end of a function's body.
 #[cycle(expression)]
-#[tactic(auto, using(rx_typed_tree::proofs::Rules::typed_tree_rules))]
+#[tactic(auto, using(rx_typed::proofs::Rules::typed_tree_rules))]
 pub(crate) fn give(
     alloc: Global,
     given: &Boxed<Expr>,
@@ -254,7 +254,7 @@ pub(crate) fn give(
 }
 
 /// A `return` of this operand.
-#[tactic(auto, using(rx_typed_tree::proofs::Rules::typed_tree_rules))]
+#[tactic(auto, using(rx_typed::proofs::Rules::typed_tree_rules))]
 pub(crate) fn given_by(alloc: Global, mark: &Mark, given: Expr) -> Result<Expr, AllocError>
     ensures { IfOk result (λ it. plain-Expr it ≡ tree.give (plain-Mark mark.now) (plain-Expr given)) }
 {
@@ -267,7 +267,7 @@ pub(crate) fn given_by(alloc: Global, mark: &Mark, given: Expr) -> Result<Expr, 
 }
 
 #[cycle(expression)]
-#[tactic(auto, using(rx_typed_tree::proofs::Rules::typed_tree_rules))]
+#[tactic(auto, using(rx_typed::proofs::Rules::typed_tree_rules))]
 fn one(alloc: Global, operand: &Operand, change: Change<'_>) -> Result<Operand, AllocError>
     ensures { IfOk result (λ it. plain-Operand it ≡ ((plain-Operand operand.now).0, changed (changes_of change.entry) (plain-Operand operand.now).1)) }
 {

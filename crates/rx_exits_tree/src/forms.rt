@@ -1,7 +1,7 @@
 //! Copies of expressions, by their forms.
 
 ghost use Rattle.std.specs.Prelude.{◌≡◌, IfOk};
-ghost use Rattle.rx_typed_tree.specs.PlainTree.{plain-Expr};
+ghost use Rattle.rx_typed.specs.PlainTree.{plain-Expr};
 ghost use Rattle.rx_exits_marks.specs.Changed.{changed};
 ghost use Rattle.rx_exits_tree.specs.Changing.{changes_of};
 
@@ -12,12 +12,12 @@ use crate::expressions::{
 use crate::marks::jump;
 use crate::statements::{block_last, block_statements, choose, matched};
 use rx_core::Boxed;
-use rx_typed_tree::{Expr, Form};
+use rx_typed::{Expr, Form};
 use std::alloc::{AllocError, Global};
 
 /// A copy with changes inside.
 #[cycle(expression)]
-#[tactic(auto, using(rx_typed_tree::proofs::Rules::typed_tree_rules))]
+#[tactic(auto, using(rx_typed::proofs::Rules::typed_tree_rules))]
 pub(crate) fn expression(alloc: Global, expr: &Expr, change: Change<'_>) -> Result<Expr, AllocError>
     ensures { IfOk result (λ it. plain-Expr it ≡ changed (changes_of change.entry) (plain-Expr expr.now)) }
 {

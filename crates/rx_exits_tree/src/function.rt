@@ -1,7 +1,7 @@
 //! Copies of functions for a run.
 
 ghost use Rattle.std.specs.Prelude.{◌≡◌, IfOk};
-ghost use Rattle.rx_typed_tree.specs.PlainTree.{plain-TypedTree};
+ghost use Rattle.rx_typed.specs.PlainTree.{plain-TypedTree};
 ghost use Rattle.rx_exits_plan.specs.PlainPlan.{plain-Run};
 ghost use Rattle.rx_exits_marks.specs.Changed.{changed_function};
 ghost use Rattle.rx_exits_marks.specs.Marked as marks;
@@ -13,7 +13,7 @@ use crate::copying::params_copied;
 use crate::forms::expression;
 use rx_core::keep;
 use rx_exits_plan::Run;
-use rx_typed_tree::TypedTree;
+use rx_typed::TypedTree;
 use std::alloc::{AllocError, Global};
 
 fn function(alloc: Global, tree: &TypedTree, change: Change<'_>) -> Result<TypedTree, AllocError>

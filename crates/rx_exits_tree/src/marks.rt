@@ -2,7 +2,7 @@
 
 ghost use Rattle.std.specs.Prelude.{◌≡◌, ◌++◌, ◌∷◌, [], Bool, if◌then◌else◌, IfOk, map};
 ghost use Rattle.rx_typed.specs.Tree as tree;
-ghost use Rattle.rx_typed_tree.specs.PlainTree.{plain-Expr, plain-Mark};
+ghost use Rattle.rx_typed.specs.PlainTree.{plain-Expr, plain-Mark};
 ghost use Rattle.rx_exits_plan.specs.PlainPlan.{plain-Exit};
 ghost use Rattle.rx_exits_marks.specs.Blocks as blocks;
 ghost use Rattle.rx_exits_marks.specs.Points as points;
@@ -14,7 +14,7 @@ use crate::changes::Change;
 use crate::copying::mark_copied;
 use rx_core::{Boxed, List, Place, keep, pushed};
 use rx_exits_plan::Exit;
-use rx_typed_tree::{Expr, Form, Making, Mark, Stmt};
+use rx_typed::{Expr, Form, Making, Mark, Stmt};
 use std::alloc::{AllocError, Global};
 
 /// Where the run is entered, or an exit of it.
@@ -45,7 +45,7 @@ pub(crate) fn at_node(node: usize) -> Mark
 }
 
 /// The mark of a point.
-#[tactic(auto, using(rx_typed_tree::proofs::Rules::typed_tree_rules))]
+#[tactic(auto, using(rx_typed::proofs::Rules::typed_tree_rules))]
 fn mark(alloc: Global, point: Point) -> Expr
     ensures { plain-Expr result ≡ marks.mark (plain-Point point) }
 {
@@ -71,7 +71,7 @@ fn mark_behind(alloc: Global, held: List<Stmt>, point: Point) -> Result<List<Stm
 }
 
 /// A use of a variable where the run is entered.
-#[tactic(auto, using(rx_typed_tree::proofs::Rules::typed_tree_rules))]
+#[tactic(auto, using(rx_typed::proofs::Rules::typed_tree_rules))]
 fn use_of(alloc: Global, variable: u32) -> Expr
     ensures { blocks.does (plain-Expr result) ≡ marks.using variable }
 {
@@ -130,7 +130,7 @@ pub(crate) fn block_of(
 }
 
 /// The unit.
-#[tactic(auto, using(rx_typed_tree::proofs::Rules::typed_tree_rules))]
+#[tactic(auto, using(rx_typed::proofs::Rules::typed_tree_rules))]
 pub(crate) fn unit_of(mark: Mark) -> Expr
     ensures { plain-Expr result ≡ tree.unit (plain-Mark mark) }
 {
@@ -210,7 +210,7 @@ fn has_mark(change: Change<'_>, number: u32) -> bool
     }
 }
 
-#[tactic(auto, using(rx_typed_tree::proofs::Rules::typed_tree_rules))]
+#[tactic(auto, using(rx_typed::proofs::Rules::typed_tree_rules))]
 fn jump_copied(alloc: Global, mark: &Mark, number: u32, again: bool) -> Result<Expr, AllocError>
     ensures { IfOk result (λ it. plain-Expr it ≡ tree.jump (plain-Mark mark.now) number again) }
 {

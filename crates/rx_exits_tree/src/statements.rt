@@ -2,7 +2,7 @@
 
 ghost use Rattle.std.specs.Prelude.{◌≡◌, ◌++◌, if◌then◌else◌, IfOk, map};
 ghost use Rattle.rx_typed.specs.Tree as tree;
-ghost use Rattle.rx_typed_tree.specs.PlainTree.{plain-Arm, plain-Expr, plain-Mark, plain-Matched, plain-Pattern, arms_of};
+ghost use Rattle.rx_typed.specs.PlainTree.{plain-Arm, plain-Expr, plain-Mark, plain-Matched, plain-Pattern, arms_of};
 ghost use Rattle.rx_exits_plan.specs.PlainPlan.{plain-Run};
 ghost use Rattle.rx_exits_marks.specs.Blocks as blocks;
 ghost use Rattle.rx_exits_marks.specs.Blocks.{written_tail};
@@ -19,12 +19,12 @@ use crate::forms::{boxed, expression};
 use crate::marks::{Point, block_of, ended, entering, then_mark};
 use rx_core::{Boxed, List, keep, pushed};
 use rx_exits_plan::{Exit, Run};
-use rx_typed_tree::{Arm, Expr, Form, Mark, Matched, Pattern, Stmt};
+use rx_typed::{Arm, Expr, Form, Mark, Matched, Pattern, Stmt};
 use std::alloc::{AllocError, Global};
 
 /// What is matched.
 #[cycle(expression)]
-#[tactic(auto, using(rx_typed_tree::proofs::Rules::typed_tree_rules))]
+#[tactic(auto, using(rx_typed::proofs::Rules::typed_tree_rules))]
 pub(crate) fn matched(
     alloc: Global,
     matched: &Matched,
@@ -43,7 +43,7 @@ pub(crate) fn matched(
 }
 
 #[cycle(expression)]
-#[tactic(auto, using(rx_typed_tree::proofs::Rules::typed_tree_rules))]
+#[tactic(auto, using(rx_typed::proofs::Rules::typed_tree_rules))]
 fn arm(alloc: Global, arm: &Arm, change: Change<'_>) -> Result<Arm, AllocError>
     ensures { IfOk result (λ it. plain-Arm it ≡ ((plain-Arm arm.now).0, changed (changes_of change.entry) (plain-Arm arm.now).1)) }
 {
@@ -66,7 +66,7 @@ fn arms(alloc: Global, arms: &[Arm], change: Change<'_>) -> Result<List<Arm>, Al
 
 /// `match`, `if`, `if let`: the arms, behind a copy of what is matched.
 #[cycle(expression)]
-#[tactic(auto, using(rx_typed_tree::proofs::Rules::typed_tree_rules))]
+#[tactic(auto, using(rx_typed::proofs::Rules::typed_tree_rules))]
 pub(crate) fn choose(
     alloc: Global,
     all: &List<Arm>,

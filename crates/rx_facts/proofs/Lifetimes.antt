@@ -7,8 +7,8 @@ use Rattle.rx_typed.specs.declared.declarations.Decl.TheVariants as decl
 use Rattle.rx_typed.specs.Regions.{RegionTyp, region-Ty}
 use Rattle.rx_typed.specs.Tree as tree
 use Rattle.rx_lower_walks.specs.Actions.{Act, Declare, Dead, Read, Write, Borrow, Test, Call, Build, Input, Print, Give, Action}
-use Rattle.rx_lower_graph.specs.Text.{actions_of}
-use Rattle.rx_lower_graph.specs.Pieces.{graph}
+use Rattle.rx_lower_walks.specs.Text.{actions_of}
+use Rattle.rx_lower_walks.specs.Pieces.{graph}
 use Rattle.rx_typed_declarations.specs.Variance.{unrecorded}
 use Rattle.rx_typed_places.specs.Renaming.{Signature, signature_from}
 use Rattle.rx_lower_lifetimes.specs.Values.{Open, Held, lifetimes_of, held_by, result_type}

@@ -11,8 +11,8 @@ use Rattle.rx_typed.specs.Regions.{RegionTyp, region_integer, region_boolean, re
 use Rattle.rx_typed.specs.Tree as tree
 use Rattle.rx_typed.specs.Tree.{Parameter, Making, constant, negation, inversion, operation, lazy, tuple, struct, variant_of}
 use Rattle.rx_lower_walks.specs.Actions.{Act, Declare, Dead, Read, Write, Borrow, Test, Call, Build, Input, Print, Give, Action, filled}
-use Rattle.rx_lower_graph.specs.Text.{actions_of}
-use Rattle.rx_lower_graph.specs.Pieces.{graph}
+use Rattle.rx_lower_walks.specs.Text.{actions_of}
+use Rattle.rx_lower_walks.specs.Pieces.{graph}
 use Rattle.rx_typed_declarations.specs.Variance.{unrecorded}
 use Rattle.rx_typed_places.specs.Renaming.{unit_region, instance}
 use Rattle.rx_typed_places.specs.Places as places

@@ -6,8 +6,8 @@ use Rattle.rx_typed.specs.Types.{Declarations}
 use Rattle.rx_typed.specs.PlainTypes.{plain-Ty, declarations}
 use Rattle.rx_lower_emit.specs.declared.site.Site as code_site
 use Rattle.rx_lower_emit.specs.PlainSite.{plain-Site}
-use Rattle.rx_lower_graph.specs.Graph.{Site}
-use Rattle.rx_facts_parts.specs.Places.{Frame}
+use Rattle.rx_lower_walks.specs.Graph.{Site}
+use Rattle.rx_facts_init.specs.Places.{Frame}
 use Rattle.rx_facts_live.specs.Tables.{Lives}
 use Rattle.rx_facts_init.specs.Answer.{IsTable, Answers}
 use Rattle.rx_facts_init.specs.Initialised.{Initialised, IsUnset, IsAgain}

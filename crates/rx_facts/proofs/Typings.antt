@@ -20,8 +20,8 @@ use Rattle.rx_typed_declarations.specs.Sizes.{Sized, IsSizes}
 use Rattle.rx_typed_declarations.specs.Variance.{unrecorded}
 use Rattle.rx_typeck_declare.specs.Programs.{Fits}
 use Rattle.rx_typeck_elaborate_parts.specs.Assigning.{joined}
-use Rattle.rx_typeck_let_types.specs.declared.variables.AnnotatedVariable.{AnnotatedVariable}
-use Rattle.rx_typeck_let_types.specs.Walks.{plain-Variable}
+use Rattle.rx_typeck_typed.specs.declared.variables.AnnotatedVariable.{AnnotatedVariable}
+use Rattle.rx_typeck_typed.specs.Walks.{plain-Variable}
 use Rattle.rx_typeck_solver.specs.declared.facts.Subject.{Subject}
 use Rattle.rx_typeck_solver.specs.declared.facts.Subject.TheVariants as subject
 use Rattle.rx_typeck_solver.specs.Facts.{Types, Known}

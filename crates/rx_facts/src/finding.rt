@@ -11,9 +11,8 @@ ghost use Rattle.rx_facts.specs.Answers.{IsGraphOf, AreGraphs, AreFactsOf, Funct
 use crate::fault::{InitFault, placed};
 use crate::lowering::Lowered;
 use rx_core::{LetGo, List, keep, pushed};
-use rx_facts_init::{InitTable, init};
+use rx_facts_init::{Frame, InitTable, init};
 use rx_facts_live::{LiveTable, live};
-use rx_facts_parts::Frame;
 use rx_lower::trimmed;
 use rx_typeck_laws::typed_sizes_are_sized;
 use rx_typeck_typed::{Typed, TypedFn, typed_declarations_are_finite};

@@ -6,18 +6,18 @@ use Rattle.rx_core.specs.declared.types.Place as core
 use Rattle.rx_typed.specs.Tree.{Function, Place}
 use Rattle.rx_lower_walks.specs.Actions.{Action}
 use Rattle.rx_lower_walks.specs.Walks.{IsWalk}
-use Rattle.rx_lower_graph.specs.Graph.{Site, site_at, stop}
-use Rattle.rx_lower_graph.specs.Pieces.{graph}
-use Rattle.rx_lower_graph.proofs.Sites.{paths_are_walks_of, reached}
+use Rattle.rx_lower_walks.specs.Graph.{Site, site_at, stop}
+use Rattle.rx_lower_walks.specs.Pieces.{graph}
+use Rattle.rx_lower_walks.proofs.Sites.{paths_are_walks_of, reached}
 use Rattle.rx_graph.specs.Tables.{at}
 use Rattle.rx_graph.specs.declared.least.Table.{Table}
-use Rattle.rx_facts_parts.specs.declared.frames.Layout.{Layout}
+use Rattle.rx_facts_init.specs.declared.frames.Layout.{Layout}
 use Rattle.rx_facts_init.specs.declared.whole.InitTable.{InitTable}
-use Rattle.rx_facts_along.specs.Along.{Arrives, after}
-use Rattle.rx_facts_along.specs.Tracking.{Reached}
-use Rattle.rx_facts_along.proofs.Ways.{path_through, through_first, site_within}
-use Rattle.rx_facts_parts.specs.Places.{Frame, is_part, all_parts}
-use Rattle.rx_facts_parts.specs.Layouts.{plain-Frame, IsSized, IsLayout}
+use Rattle.rx_facts_live.specs.Along.{Arrives, after}
+use Rattle.rx_facts_live.specs.Tracking.{Reached}
+use Rattle.rx_facts_live.proofs.Ways.{path_through, through_first, site_within}
+use Rattle.rx_facts_init.specs.Places.{Frame, is_part, all_parts}
+use Rattle.rx_facts_init.specs.Layouts.{plain-Frame, IsSized, IsLayout}
 use Rattle.rx_facts_init.specs.Setting.{setting, is_set, looked_at}
 use Rattle.rx_facts_init.specs.Wholes.{placed, regains, loses, standing, stands, was_assigned}
 use Rattle.rx_facts_init.specs.Wholes as wholes

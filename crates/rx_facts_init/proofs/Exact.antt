@@ -4,7 +4,7 @@ use Rattle.rx_core.specs.declared.types.Step.{Step}
 use Rattle.rx_core.specs.declared.types.Place as core
 use Rattle.rx_typed.specs.Tree.{Place, Root, variable, temporary, Temporary}
 use Rattle.rx_lower_walks.specs.Actions.{Act, Declare, Dead, Read, Write, Borrow, Test, Call, Build, Input, Print, Give, Action}
-use Rattle.rx_lower_graph.specs.Graph.{Site, site_at}
+use Rattle.rx_lower_walks.specs.Graph.{Site, site_at}
 use Rattle.rx_graph.specs.declared.effect.Effect.{Effect}
 use Rattle.rx_graph.specs.Facts.{has, effect_of}
 use Rattle.rx_graph.specs.Tables.{at}
@@ -15,10 +15,10 @@ use Rattle.rx_lower_flow.specs.declared.actions.Place as code_place
 use Rattle.rx_lower_flow.specs.declared.actions.Temporary as code_temporary
 use Rattle.rx_lower_flow.specs.PlainFlow.{plain-Place, plain-Root, plain-Temporary}
 use Rattle.rx_typed_declarations.specs.Sizes.{Sized}
-use Rattle.rx_facts_along.specs.Along.{Arrives, Switch, behind, after, Does, edges_of}
-use Rattle.rx_facts_along.specs.Tracking.{Tracks, EachDoes}
-use Rattle.rx_facts_parts.specs.Places.{Frame, Located, spot_parts, place_at, root_at, is_part, all_parts}
-use Rattle.rx_facts_parts.proofs.Walking.{nothing_there, place_ends}
+use Rattle.rx_facts_live.specs.Along.{Arrives, Switch, behind, after, Does, edges_of}
+use Rattle.rx_facts_live.specs.Tracking.{Tracks, EachDoes}
+use Rattle.rx_facts_init.specs.Places.{Frame, Located, spot_parts, place_at, root_at, is_part, all_parts}
+use Rattle.rx_facts_init.proofs.Walking.{nothing_there, place_ends}
 use Rattle.rx_facts_init.specs.Setting.{sets, unsets, setting, is_set}
 use Rattle.rx_facts_init.specs.Wholes.{regains, loses, standing}
 use Rattle.rx_facts_init.specs.Tables.{picked, DoesAt, Tells, SomeAt, NoneAt}

@@ -1,3 +1,6 @@
+pub mod Sums
+pub mod Within
+pub mod Walking
 pub mod Numbers
 pub mod Fronts
 pub mod Exact

@@ -4,7 +4,7 @@ use Rattle.std.proofs.lemmas.Bool.{cases_eq, cases_lt, leb-true, le-leb}
 use Rattle.std.proofs.lemmas.Bool.Decides.{Decides-eqb, Decides-ltb}
 use Rattle.rx_core.specs.declared.types.Place.{Place}
 use Rattle.rx_graph.specs.Facts.{has}
-use Rattle.rx_facts_along.proofs.Turns.{has_more}
+use Rattle.rx_facts_live.proofs.Turns.{has_more}
 use Rattle.rx_facts_init.specs.Tables.{picked, pushed_where}
 
 not_true : (b : Bool) → (b ≡ true → ⊥) → b ≡ false

@@ -2,13 +2,13 @@
 use Rattle.std.specs.Prelude.{◌≡◌, ◌↔◌, ℕ, ◌<◌, Bool, true, false, List, length, Result, Ok, Err}
 use Rattle.rx_typed.specs.Tree.{Function}
 use Rattle.rx_lower_walks.specs.Actions.{Action}
-use Rattle.rx_lower_graph.specs.Graph.{Site}
-use Rattle.rx_lower_graph.specs.Pieces.{graph}
+use Rattle.rx_lower_walks.specs.Graph.{Site}
+use Rattle.rx_lower_walks.specs.Pieces.{graph}
 use Rattle.rx_graph.specs.Tables.{at}
-use Rattle.rx_facts_along.specs.Along.{Arrives, HoldsAt}
-use Rattle.rx_facts_along.specs.Tracking.{Reached}
-use Rattle.rx_facts_parts.specs.Places.{Frame}
-use Rattle.rx_facts_parts.specs.Layouts.{plain-Frame, IsLayout}
+use Rattle.rx_facts_live.specs.Along.{Arrives, HoldsAt}
+use Rattle.rx_facts_live.specs.Tracking.{Reached}
+use Rattle.rx_facts_init.specs.Places.{Frame}
+use Rattle.rx_facts_init.specs.Layouts.{plain-Frame, IsLayout}
 use Rattle.rx_facts_init.specs.Setting.{is_set}
 use Rattle.rx_facts_init.specs.Wholes.{placed}
 use Rattle.rx_facts_init.specs.Initialised.{Initialised, IsUnset, IsAgain}

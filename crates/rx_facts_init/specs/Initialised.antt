@@ -6,9 +6,9 @@ use Rattle.rx_core.specs.declared.types.Step.{Step}
 use Rattle.rx_typed.specs.Tree.{Place, Function}
 use Rattle.rx_lower_walks.specs.Actions.{Action}
 use Rattle.rx_lower_walks.specs.Walks.{IsWalk}
-use Rattle.rx_lower_graph.specs.Graph.{Site}
-use Rattle.rx_facts_along.specs.Along.{Arrives}
-use Rattle.rx_facts_parts.specs.Places.{Frame}
+use Rattle.rx_lower_walks.specs.Graph.{Site}
+use Rattle.rx_facts_live.specs.Along.{Arrives}
+use Rattle.rx_facts_init.specs.Places.{Frame}
 use Rattle.rx_facts_init.specs.Setting.{looked_at, AllSet, SomeSet, SomeUnset}
 use Rattle.rx_facts_init.specs.Wholes.{placed, stands, was_assigned}
 use Rattle.rx_facts_init.specs.Wholes as wholes

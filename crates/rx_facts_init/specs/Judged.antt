@@ -2,8 +2,8 @@
 use Rattle.std.specs.Prelude.{◌≡◌, ◌⊎◌, ℕ, Bool, List, Some}
 use Rattle.rx_core.specs.declared.types.Step.{Step}
 use Rattle.rx_lower_walks.specs.Actions.{Action}
-use Rattle.rx_lower_graph.specs.Graph.{Site, site_at}
-use Rattle.rx_facts_parts.specs.Layouts.{plain-Frame}
+use Rattle.rx_lower_walks.specs.Graph.{Site, site_at}
+use Rattle.rx_facts_init.specs.Layouts.{plain-Frame}
 use Rattle.rx_facts_init.specs.declared.facts.Setup.{Setup}
 use Rattle.rx_facts_init.specs.declared.judging.Facts.{Facts}
 use Rattle.rx_facts_init.specs.declared.whole.InitFault.{InitFault}

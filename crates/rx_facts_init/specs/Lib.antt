@@ -1,3 +1,5 @@
+pub mod Places
+pub mod Layouts
 pub mod Setting
 pub mod Wholes
 pub mod Initialised

@@ -4,8 +4,8 @@ use Rattle.rx_core.specs.declared.types.Step.{Step}
 use Rattle.rx_core.specs.declared.types.Step.TheVariants as step
 use Rattle.rx_typed.specs.Tree.{Place, own}
 use Rattle.rx_lower_walks.specs.Actions.{Act, Declare, Dead, Read, Write, Borrow, Test, Action}
-use Rattle.rx_facts_along.specs.Along.{Switch, after}
-use Rattle.rx_facts_parts.specs.Places.{Frame, is_part}
+use Rattle.rx_facts_live.specs.Along.{Switch, after}
+use Rattle.rx_facts_init.specs.Places.{Frame, is_part}
 
 -- whether a place is behind a dereference
 abbrev pub is_behind : List Step → Bool

@@ -4,18 +4,18 @@ use Rattle.rx_core.specs.declared.types.Step.{Step}
 use Rattle.rx_core.specs.declared.types.Place as core
 use Rattle.rx_typed.specs.Tree.{Place}
 use Rattle.rx_lower_walks.specs.Actions.{Act, Action}
-use Rattle.rx_lower_graph.specs.Graph.{Site, site_at}
+use Rattle.rx_lower_walks.specs.Graph.{Site, site_at}
 use Rattle.rx_graph.specs.declared.effect.Effect.{Effect}
 use Rattle.rx_graph.specs.Facts.{has}
 use Rattle.rx_graph.specs.Tables.{at}
-use Rattle.rx_facts_along.specs.Along.{Switch, HoldsAt}
-use Rattle.rx_facts_along.specs.Tracking.{Reached}
-use Rattle.rx_facts_parts.specs.Places.{Frame, is_part}
+use Rattle.rx_facts_live.specs.Along.{Switch, HoldsAt}
+use Rattle.rx_facts_live.specs.Tracking.{Reached}
+use Rattle.rx_facts_init.specs.Places.{Frame, is_part}
 use Rattle.rx_facts_init.specs.Setting.{sets, unsets, looked_at}
 use Rattle.rx_facts_init.specs.Wholes.{placed, enters, regains, loses, begins}
 use Rattle.rx_facts_init.specs.Wholes as wholes
 use Rattle.rx_facts_init.specs.Initialised.{IsFixed}
-use Rattle.rx_facts_parts.specs.Layouts.{plain-Frame, IsSized, IsLayout}
+use Rattle.rx_facts_init.specs.Layouts.{plain-Frame, IsSized, IsLayout}
 use Rattle.rx_facts_init.specs.declared.facts.Setup.{Setup}
 use Rattle.rx_facts_init.specs.declared.facts.Kind.{Kind}
 use Rattle.rx_facts_init.specs.declared.facts.Kind.TheVariants as kind

@@ -5,7 +5,7 @@ use Rattle.rx_core.specs.declared.types.Step.{Step}
 use Rattle.rx_typed.specs.Tree.{Place, Root, variable, temporary}
 use Rattle.rx_typed.specs.Places.{is_front, same_steps}
 use Rattle.rx_lower_walks.specs.Actions.{Act, Declare, Dead, Read, Write, Action}
-use Rattle.rx_facts_along.specs.Along.{Switch, after}
+use Rattle.rx_facts_live.specs.Along.{Switch, after}
 use Rattle.rx_facts_init.specs.Setting.{is_behind}
 
 -- the place of a variable

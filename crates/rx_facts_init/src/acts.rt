@@ -5,15 +5,15 @@ ghost use Rattle.std.specs.Option.{option_copied};
 ghost use Rattle.rx_lower_flow.specs.PlainFlow.{plain-Act, plain-Place};
 ghost use Rattle.rx_graph.specs.Facts.{has};
 ghost use Rattle.rx_typed.specs.Tree.{own};
-ghost use Rattle.rx_facts_parts.specs.Places.{is_part};
-ghost use Rattle.rx_facts_parts.specs.Layouts.{plain-Frame, IsSized, IsLayout};
+ghost use Rattle.rx_facts_init.specs.Places.{is_part};
+ghost use Rattle.rx_facts_init.specs.Layouts.{plain-Frame, IsSized, IsLayout};
 ghost use Rattle.rx_facts_init.specs.Setting as setting;
 ghost use Rattle.rx_facts_init.specs.Wholes as wholes;
 ghost use Rattle.rx_facts_init.specs.Tables.{picked, pushed_where};
 
 use crate::steps::{holds_in, is_behind, is_variable};
+use crate::{Frame, Layout, Range, range};
 use rx_core::{List, Place as Kept};
-use rx_facts_parts::{Frame, Layout, Range, range};
 use rx_graph::Few;
 use rx_lower_flow::{Act, Place, Root, is_front, same_steps};
 use std::alloc::{AllocError, Global};

@@ -4,14 +4,14 @@ ghost use Rattle.std.specs.Prelude.{◌≡◌, ◌≤◌, ℕ, length, map, IfOk
 ghost use Rattle.rx_lower_flow.specs.PlainFlow.{plain-Act, plain-Action};
 ghost use Rattle.rx_graph.specs.Facts.{has};
 ghost use Rattle.rx_lower_emit.specs.PlainSite.{plain-Site};
-ghost use Rattle.rx_facts_along.specs.Tracking.{EachDoes};
-ghost use Rattle.rx_facts_parts.specs.Layouts.{plain-Frame, IsSized, IsLayout};
+ghost use Rattle.rx_facts_live.specs.Tracking.{EachDoes};
+ghost use Rattle.rx_facts_init.specs.Layouts.{plain-Frame, IsSized, IsLayout};
 ghost use Rattle.rx_facts_init.specs.Tables as tables;
 
 use crate::acts::{assigned, begun, lost, regained, sets, unsets};
+use crate::{Frame, Layout};
 use rx_core::{List, Place};
-use rx_facts_along::along;
-use rx_facts_parts::{Frame, Layout};
+use rx_facts_live::along;
 use rx_graph::{Effect, Few, Table};
 use rx_lower_emit::Site;
 use rx_lower_flow::{Act, Action};

@@ -2,10 +2,10 @@
 
 ghost use Rattle.std.specs.Prelude.{◌≡◌, ◌≤◌, ◌<◌, ◌↔◌, ℕ, length, map, true, IfOk, List as ListOf};
 ghost use Rattle.rx_lower_flow.specs.PlainFlow.{plain-Place};
-ghost use Rattle.rx_lower_graph.specs.Graph as graphs;
+ghost use Rattle.rx_lower_walks.specs.Graph as graphs;
 ghost use Rattle.rx_lower_emit.specs.PlainSite.{plain-Site};
 ghost use Rattle.rx_graph.specs.Facts.{has};
-ghost use Rattle.rx_facts_parts.specs.Layouts.{plain-Frame, IsSized, IsLayout};
+ghost use Rattle.rx_facts_init.specs.Layouts.{plain-Frame, IsSized, IsLayout};
 ghost use Rattle.rx_facts_init.specs.Initialised.{MayBeSet, MayBeUnset};
 ghost use Rattle.rx_facts_init.specs.Tables as tables;
 ghost use Rattle.rx_facts_init.specs.Answer.{IsFacts, IsTable, Answers};
@@ -14,8 +14,8 @@ use crate::acts::numbers;
 use crate::facts::{Kind, Setup, table};
 use crate::judging::{Facts, judge_all, some_at};
 use crate::watching::watched;
+use crate::{Frame, Layout, Range, layout, range};
 use rx_core::{List, Place as Kept};
-use rx_facts_parts::{Frame, Layout, Range, layout, range};
 use rx_graph::{Few, Table};
 use rx_lower_emit::Site;
 use rx_lower_flow::Place;

@@ -6,13 +6,13 @@ use Rattle.rx_typed.specs.Tree.{Function}
 use Rattle.rx_lower_walks.specs.Actions.{Action}
 use Rattle.rx_lower_walks.specs.Orders.{order_function}
 use Rattle.rx_lower_walks.specs.Walks.{Walk, IsWalk}
-use Rattle.rx_lower_graph.specs.Graph.{Site, site_at, Path, stop, EachOnce}
-use Rattle.rx_lower_graph.specs.Pieces.{graph}
-use Rattle.rx_lower_graph.specs.Text.{actions_of}
-use Rattle.rx_lower_graph.proofs.Sites.{paths_are_walks_of, reached}
-use Rattle.rx_lower_graph.proofs.Distinct.{one_site}
-use Rattle.rx_facts_along.specs.Along.{Arrives}
-use Rattle.rx_facts_along.proofs.Ways.{site_within, comes_to, path_through, through, only}
+use Rattle.rx_lower_walks.specs.Graph.{Site, site_at, Path, stop, EachOnce}
+use Rattle.rx_lower_walks.specs.Pieces.{graph}
+use Rattle.rx_lower_walks.specs.Text.{actions_of}
+use Rattle.rx_lower_walks.proofs.Sites.{paths_are_walks_of, reached}
+use Rattle.rx_lower_walks.proofs.Distinct.{one_site}
+use Rattle.rx_facts_live.specs.Along.{Arrives}
+use Rattle.rx_facts_live.proofs.Ways.{site_within, comes_to, path_through, through, only}
 
 -- the front of a walk is a walk
 pub front_walks : (f : Function) (us vs : List Action) → IsWalk f (us ++ vs) → IsWalk f us

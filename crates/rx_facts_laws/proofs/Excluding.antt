@@ -1,7 +1,7 @@
 -- A fault is of an action that some walk holds, and says that it isn't in order there.
 use Rattle.std.proofs.Common.{ℕ, Bool, List, sym, ◌∙◌, true≢false}
 use Rattle.rx_typed.specs.Tree.{Place, Function}
-use Rattle.rx_facts_parts.specs.Places.{Frame}
+use Rattle.rx_facts_init.specs.Places.{Frame}
 use Rattle.rx_facts_init.specs.Initialised.{Initialised, IsUnset, looked, entered, IsAgain, again}
 
 pub unset_excludes : (F : Frame) (muts : List Bool) (f : Function) (n : ℕ) (p : Place) → IsUnset F f n p → Initialised F muts f → ⊥

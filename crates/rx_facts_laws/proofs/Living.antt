@@ -5,12 +5,12 @@ use Rattle.std.proofs.lemmas.List.{append_assoc}
 use Rattle.rx_typed.specs.Tree.{Root, Function}
 use Rattle.rx_lower_walks.specs.Actions.{Action}
 use Rattle.rx_lower_walks.specs.Walks.{IsWalk, Among, here, there}
-use Rattle.rx_lower_graph.specs.Graph.{site_at, Path, stop, go, EachOnce}
-use Rattle.rx_lower_graph.specs.Pieces.{graph}
-use Rattle.rx_lower_graph.specs.Text.{actions_of}
-use Rattle.rx_facts_along.specs.Along.{Switch, ahead}
-use Rattle.rx_facts_along.proofs.Ways.{one_of, only}
-use Rattle.rx_facts_along.proofs.Forward.{gave, stayed, unkilled}
+use Rattle.rx_lower_walks.specs.Graph.{site_at, Path, stop, go, EachOnce}
+use Rattle.rx_lower_walks.specs.Pieces.{graph}
+use Rattle.rx_lower_walks.specs.Text.{actions_of}
+use Rattle.rx_facts_live.specs.Along.{Switch, ahead}
+use Rattle.rx_facts_live.proofs.Ways.{one_of, only}
+use Rattle.rx_facts_live.proofs.Forward.{gave, stayed, unkilled}
 use Rattle.rx_facts_live.specs.Live.{living, IsLive}
 use Rattle.rx_facts_laws.specs.LiveOnWalks.{LiveOnSomeWalk}
 use Rattle.rx_facts_laws.proofs.Arriving.{front_walks, way_to, walk_on, on_walk}

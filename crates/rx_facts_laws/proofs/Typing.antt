@@ -7,15 +7,15 @@ use Rattle.rx_resolve_names.specs.declared.resolved.ItemNames.{ItemNames}
 use Rattle.rx_resolve_names.specs.declared.resolved.NodeNames.{NodeNames}
 use Rattle.rx_typed.specs.Naming.{function_named}
 use Rattle.rx_typed.specs.Elaborated.{Assigned, elaborated}
-use Rattle.rx_typed_tree.specs.PlainTree.{plain-TypedTree}
+use Rattle.rx_typed.specs.PlainTree.{plain-TypedTree}
 use Rattle.rx_lower_walks.specs.Walks.{Among, here, there}
-use Rattle.rx_lower_graph.specs.Graph.{EachOnce}
-use Rattle.rx_lower_graph.specs.Pieces.{graph}
-use Rattle.rx_lower_graph.specs.Text.{actions_of}
+use Rattle.rx_lower_walks.specs.Graph.{EachOnce}
+use Rattle.rx_lower_walks.specs.Pieces.{graph}
+use Rattle.rx_lower_walks.specs.Text.{actions_of}
 use Rattle.rx_typeck_typed.specs.declared.typed.TypedFn.{TypedFn}
 use Rattle.rx_typeck_typed.specs.Typing.{Given, FunctionTyped, FunctionsTyped}
 
--- what law `actions_are_distinct` of rx_lower_graph says
+-- what law `actions_are_distinct` of rx_lower_walks says
 abbrev Distinct : Type 0
 Distinct = (A : Assigned) (i : ℕ) (s : Span) (f : plain.Function) (ns : List NodeNames) → EachOnce (actions_of (graph (elaborated A (function_named i s f ns))))
 

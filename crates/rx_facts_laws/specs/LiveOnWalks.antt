@@ -4,8 +4,8 @@ use Rattle.std.specs.Prelude.{◌≡◌, ℕ, true, false, List, [], ◌∷◌, 
 use Rattle.rx_typed.specs.Tree.{Root, Function}
 use Rattle.rx_lower_walks.specs.Actions.{Action}
 use Rattle.rx_lower_walks.specs.Walks.{IsWalk, Among}
-use Rattle.rx_lower_graph.specs.Graph.{Site, site_at}
-use Rattle.rx_lower_graph.specs.Pieces.{graph}
+use Rattle.rx_lower_walks.specs.Graph.{Site, site_at}
+use Rattle.rx_lower_walks.specs.Pieces.{graph}
 use Rattle.rx_facts_live.specs.Live.{has_root, used, written, roots_of}
 
 pub record LiveOnSomeWalk (f : Function) (r : Root) (p : ℕ) : Type 0 where

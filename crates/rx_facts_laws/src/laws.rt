@@ -9,22 +9,22 @@ ghost use Rattle.rx_typed.specs.Tree.{Function, Place, Root};
 ghost use Rattle.rx_typed.specs.Naming.{function_named};
 ghost use Rattle.rx_typed.specs.Elaborated.{Assigned, elaborated};
 ghost use Rattle.rx_lower_walks.specs.Actions.{Action};
-ghost use Rattle.rx_typed_tree.specs.PlainTree.{plain-TypedTree};
+ghost use Rattle.rx_typed.specs.PlainTree.{plain-TypedTree};
 ghost use Rattle.rx_typeck_typed.specs.Typing.{IsTyped};
 ghost use Rattle.rx_typeck_typed.specs.declared.typed.Typed.{Typed};
 ghost use Rattle.rx_typeck_typed.specs.declared.typed.TypedFn.{TypedFn};
 ghost use Rattle.rx_lower_walks.specs.Walks.{IsWalk, Among};
-ghost use Rattle.rx_lower_graph.specs.Graph.{Site, site_at, EachOnce};
-ghost use Rattle.rx_lower_graph.specs.Pieces.{graph};
-ghost use Rattle.rx_lower_graph.specs.Text.{actions_of};
-ghost use Rattle.rx_facts_along.specs.Along.{Arrives};
-ghost use Rattle.rx_facts_parts.specs.Places.{Frame};
+ghost use Rattle.rx_lower_walks.specs.Graph.{Site, site_at, EachOnce};
+ghost use Rattle.rx_lower_walks.specs.Pieces.{graph};
+ghost use Rattle.rx_lower_walks.specs.Text.{actions_of};
+ghost use Rattle.rx_facts_live.specs.Along.{Arrives};
+ghost use Rattle.rx_facts_init.specs.Places.{Frame};
 ghost use Rattle.rx_facts_live.specs.Live.{IsLive};
 ghost use Rattle.rx_facts_init.specs.Initialised.{Initialised, IsUnset, IsAgain, MayBeSet, MayBeUnset};
 ghost use Rattle.rx_facts_laws.specs.LiveOnWalks.{LiveOnSomeWalk};
 ghost use Rattle.rx_facts_laws.specs.SetOnWalks.{SetOnSomeWalk, UnsetOnSomeWalk};
 
-use rx_lower_graph::actions_are_distinct;
+use rx_lower_walks::actions_are_distinct;
 
 /// No two sites of a function of a typed program have the same action. So clause `once` of the laws below is true of it.
 pub fn typed_actions_are_distinct()

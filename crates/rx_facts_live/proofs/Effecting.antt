@@ -4,7 +4,7 @@ use Rattle.std.proofs.lemmas.List.{drop_more}
 use Rattle.std.proofs.lemmas.Bool.{cases_eq}
 use Rattle.std.proofs.lemmas.Bool.Decides.{Decides-eqb}
 use Rattle.rx_graph.specs.Facts.{has}
-use Rattle.rx_facts_along.proofs.Turns.{has_more}
+use Rattle.rx_facts_live.proofs.Turns.{has_more}
 use Rattle.rx_lower_flow.specs.declared.actions.Root.{Root}
 use Rattle.rx_lower_flow.specs.PlainFlow.{plain-Root}
 use Rattle.rx_typed.specs.Places.{same_root}

@@ -1,3 +1,9 @@
+pub mod Ways
+pub mod Forward
+pub mod Backward
+pub mod Turns
+pub mod Telling
+pub mod Each
 pub mod Roots
 pub mod Numbering
 pub mod Effecting

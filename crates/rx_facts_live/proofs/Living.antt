@@ -3,15 +3,15 @@ use Rattle.std.proofs.Common.{◌≡◌, ◌↔◌, ◌⊎◌, inl, inr, ℕ, ze
 use Rattle.std.proofs.lemmas.Option.{slice_get_within}
 use Rattle.rx_lower_walks.specs.Actions.{Action}
 use Rattle.rx_lower_walks.specs.Walks.{Among, here}
-use Rattle.rx_lower_graph.specs.Graph.{Site, site_at, Path, stop, go}
+use Rattle.rx_lower_walks.specs.Graph.{Site, site_at, Path, stop, go}
 use Rattle.rx_graph.specs.declared.effect.Effect.{Effect}
 use Rattle.rx_graph.specs.Facts.{has, effect_of}
 use Rattle.rx_graph.specs.Facts as facts
 use Rattle.rx_graph.specs.Tables.{at}
-use Rattle.rx_facts_along.specs.Along.{Switch, behind, ahead, LiesAhead, Does, edges_of}
-use Rattle.rx_facts_along.specs.Tracking.{EachDoes, Foresees}
-use Rattle.rx_facts_along.proofs.Ways.{one_of, only, site_here}
-use Rattle.rx_facts_along.proofs.Forward.{gave, stayed, unkilled}
+use Rattle.rx_facts_live.specs.Along.{Switch, behind, ahead, LiesAhead, Does, edges_of}
+use Rattle.rx_facts_live.specs.Tracking.{EachDoes, Foresees}
+use Rattle.rx_facts_live.proofs.Ways.{one_of, only, site_here}
+use Rattle.rx_facts_live.proofs.Forward.{gave, stayed, unkilled}
 use Rattle.rx_lower_flow.specs.declared.actions.Root.{Root}
 use Rattle.rx_lower_flow.specs.PlainFlow.{plain-Root}
 use Rattle.rx_facts_live.specs.Live.{used, written, has_root, roots_of, living, IsLive}

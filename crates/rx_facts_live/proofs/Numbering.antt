@@ -9,7 +9,7 @@ use Rattle.rx_lower_walks.specs.Walks.{Among, here, there}
 use Rattle.rx_graph.specs.Facts.{has, targets}
 use Rattle.rx_lower_flow.specs.declared.actions.Root.{Root}
 use Rattle.rx_lower_flow.specs.PlainFlow.{plain-Root}
-use Rattle.rx_facts_along.specs.Turning.{Joined}
+use Rattle.rx_facts_live.specs.Turning.{Joined}
 use Rattle.rx_typed.specs.Places.{same_root}
 use Rattle.rx_facts_live.specs.Live.{has_root, used}
 use Rattle.rx_facts_live.specs.Tables.{key, IsNot, HasNumber, HasNumbers, KeepsRoots, HasUsed, IsIndex}

@@ -5,8 +5,8 @@ use Rattle.rx_core.specs.declared.types.Step.{Step}
 use Rattle.rx_typed.specs.Tree.{Root, variable, temporary, Temporary}
 use Rattle.rx_typed.specs.Places.{same_root}
 use Rattle.rx_lower_walks.specs.Actions.{Act, Read, Write, Borrow, Test, Call, Build, Print, Give, filled}
-use Rattle.rx_lower_graph.specs.Graph.{Site}
-use Rattle.rx_facts_along.specs.Along.{Switch, LiesAhead}
+use Rattle.rx_lower_walks.specs.Graph.{Site}
+use Rattle.rx_facts_live.specs.Along.{Switch, LiesAhead}
 
 abbrev pub has_root : List Root → Root → Bool
 has_root [] r = false

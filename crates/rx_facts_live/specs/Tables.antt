@@ -2,7 +2,7 @@
 use Rattle.std.specs.Prelude.{◌≡◌, ◌↔◌, ℕ, ◌<◌, true, List, length, Option, Some, MatchOption, slice_get}
 use Rattle.rx_lower_walks.specs.Actions.{Act}
 use Rattle.rx_lower_walks.specs.Walks.{Among}
-use Rattle.rx_lower_graph.specs.Graph.{Site, site_at}
+use Rattle.rx_lower_walks.specs.Graph.{Site, site_at}
 use Rattle.rx_graph.specs.Facts.{has, targets, effect_of}
 use Rattle.rx_graph.specs.Facts as facts
 use Rattle.rx_graph.specs.Tables.{at}

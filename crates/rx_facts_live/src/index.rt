@@ -3,7 +3,7 @@
 ghost use Rattle.std.specs.Prelude.{◌≡◌, ◌<◌, ◌≤◌, ◌∷◌, ◌++◌, [], ℕ, List as ListOf, length, map, true, IfOk, OnOk, MatchBool, MatchOption, slice_get, Some, Bool, option_to_list};
 ghost use Rattle.rx_graph.specs.Facts.{has, targets};
 ghost use Rattle.rx_lower_flow.specs.PlainFlow.{plain-Root, plain-Act};
-ghost use Rattle.rx_facts_along.specs.Turning.{Joined};
+ghost use Rattle.rx_facts_live.specs.Turning.{Joined};
 ghost use Rattle.rx_lower_emit.specs.PlainSite.{plain-Site};
 ghost use Rattle.rx_facts_live.specs.Tables as tables;
 

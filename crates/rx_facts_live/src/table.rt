@@ -3,18 +3,18 @@
 ghost use Rattle.std.specs.Prelude.{◌≡◌, ◌↔◌, ◌<◌, ◌≤◌, ◌==◌, ℕ, List as ListOf, length, map, true, false, ◌++◌, OnOk, IfOk, option_map, option_to_list, slice_get};
 ghost use Rattle.rx_graph.specs.Facts as facts;
 ghost use Rattle.rx_graph.specs.Tables.{at};
-ghost use Rattle.rx_lower_graph.specs.Graph as graphs;
+ghost use Rattle.rx_lower_walks.specs.Graph as graphs;
 ghost use Rattle.rx_lower_emit.specs.PlainSite.{plain-Site};
 ghost use Rattle.rx_lower_flow.specs.PlainFlow.{plain-Act, plain-Action, plain-Root};
 ghost use Rattle.rx_lower_flow.specs.declared.actions.Root.{Root as RootOf};
 ghost use Rattle.rx_facts_live.specs.Live as spec;
 ghost use Rattle.rx_facts_live.specs.Tables as tables;
 ghost use Rattle.rx_facts_live.specs.Effects.{Numbers, Adds, DoesAt, listed};
-ghost use Rattle.rx_facts_along.specs.Tracking.{EachDoes};
+ghost use Rattle.rx_facts_live.specs.Tracking.{EachDoes};
 
+use crate::ahead;
 use crate::index::Index;
 use crate::uses::{used, written};
-use rx_facts_along::ahead;
 use rx_graph::{Effect, Few, Table};
 use rx_lower_emit::Site;
 use rx_lower_flow::{Action, Root};

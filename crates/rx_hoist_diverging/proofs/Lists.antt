@@ -3,17 +3,17 @@ use Rattle.std.proofs.Common.{◌≡◌, ℕ, ◌+◌, ◌<◌, Bool, List, [], 
 use Rattle.std.proofs.lemmas.List.{append_assoc, at_drop_more}
 use Rattle.std.specs.declared.alloc.AllocError.{AllocError}
 use Rattle.rx_typed.specs.Tree.{Body, Exp, Pattern}
-use Rattle.rx_typed_tree.specs.declared.tree.Operand.{Operand}
-use Rattle.rx_typed_tree.specs.declared.tree.Arm.{Arm}
-use Rattle.rx_typed_tree.specs.declared.tree.Expr.{Expr}
-use Rattle.rx_typed_tree.specs.declared.tree.Form.{Form}
-use Rattle.rx_typed_tree.specs.declared.tree.Form.TheVariants as form
-use Rattle.rx_typed_tree.specs.declared.tree.Matched.{Matched}
-use Rattle.rx_typed_tree.specs.declared.tree.Pattern.{Pattern as PatternOf}
-use Rattle.rx_typed_tree.specs.declared.tree.Stmt.{Stmt}
-use Rattle.rx_typed_tree.specs.declared.tree.Stmt.TheVariants as stmt
-use Rattle.rx_typed_tree.specs.PlainTree.{plain-Expr, plain-Form, plain-Mark, plain-Matched, plain-Operand, plain-Arm, plain-Stmt, operands_of, arms_of, nested_of, form_lazily, form_block, form_choose, stmt_runs, stmt_lets}
-use Rattle.rx_typed_tree.proofs.Rules.{expr_by_form, operand_by_parts, arm_by_parts}
+use Rattle.rx_typed.specs.declared.tree.Operand.{Operand}
+use Rattle.rx_typed.specs.declared.tree.Arm.{Arm}
+use Rattle.rx_typed.specs.declared.tree.Expr.{Expr}
+use Rattle.rx_typed.specs.declared.tree.Form.{Form}
+use Rattle.rx_typed.specs.declared.tree.Form.TheVariants as form
+use Rattle.rx_typed.specs.declared.tree.Matched.{Matched}
+use Rattle.rx_typed.specs.declared.tree.Pattern.{Pattern as PatternOf}
+use Rattle.rx_typed.specs.declared.tree.Stmt.{Stmt}
+use Rattle.rx_typed.specs.declared.tree.Stmt.TheVariants as stmt
+use Rattle.rx_typed.specs.PlainTree.{plain-Expr, plain-Form, plain-Mark, plain-Matched, plain-Operand, plain-Arm, plain-Stmt, operands_of, arms_of, nested_of, form_lazily, form_block, form_choose, stmt_runs, stmt_lets}
+use Rattle.rx_typed.proofs.Rules.{expr_by_form, operand_by_parts, arm_by_parts}
 use Rattle.rx_hoist_diverging.specs.Diverging.{diverging, diverging_operands, diverging_matched, diverging_arms, diverging_body, diverging_let}
 
 pub append_nothing : {A : Type 0} (xs : List A) → xs ≡ xs ++ []

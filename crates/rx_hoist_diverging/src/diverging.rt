@@ -1,13 +1,13 @@
 //! The `let`s of a typed tree whose initialiser never goes on.
 
 ghost use Rattle.std.specs.Prelude.{◌≡◌, ◌++◌, ◌∷◌, [], map, if◌then◌else◌, OnOk, IfOk};
-ghost use Rattle.rx_typed_tree.specs.PlainTree.{plain-Expr, plain-Operand, plain-Arm, plain-Matched, plain-Stmt, plain-TypedTree, operands_of, arms_of, nested_of};
+ghost use Rattle.rx_typed.specs.PlainTree.{plain-Expr, plain-Operand, plain-Arm, plain-Matched, plain-Stmt, plain-TypedTree, operands_of, arms_of, nested_of};
 ghost use Rattle.rx_typed.specs.Tree.{Body as BodyOf, Exp};
 ghost use Rattle.rx_exits_plan.specs.Diverging as plan;
 ghost use Rattle.rx_hoist_diverging.specs.Diverging as spec;
 
 use rx_exits_jumps::diverges;
-use rx_typed_tree::{Arm, Expr, Form, Matched, Operand, Stmt, TypedTree};
+use rx_typed::{Arm, Expr, Form, Matched, Operand, Stmt, TypedTree};
 use std::alloc::{AllocError, Global};
 
 /// The numbers of these `let`s, in the order of the text.
@@ -20,7 +20,7 @@ pub fn diverging_lets(alloc: Global, tree: &TypedTree) -> Result<Vec<usize>, All
 }
 
 #[cycle(diverging)]
-#[tactic(auto, using(rx_typed_tree::proofs::Rules::typed_tree_rules, crate::proofs::Lists::append_nothing))]
+#[tactic(auto, using(rx_typed::proofs::Rules::typed_tree_rules, crate::proofs::Lists::append_nothing))]
 fn add(expr: &Expr, all: &mut Vec<usize>) -> Result<(), AllocError>
     ensures { OnOk result (all.new.items ≡ all.old.items ++ spec.diverging (plain-Expr expr.now)) }
 {
@@ -62,7 +62,7 @@ fn add_operands(operands: &[Operand], all: &mut Vec<usize>) -> Result<(), AllocE
 }
 
 #[cycle(diverging)]
-#[tactic(auto, using(rx_typed_tree::proofs::Rules::typed_tree_rules, crate::proofs::Lists::append_nothing))]
+#[tactic(auto, using(rx_typed::proofs::Rules::typed_tree_rules, crate::proofs::Lists::append_nothing))]
 fn add_matched(matched: &Matched, all: &mut Vec<usize>) -> Result<(), AllocError>
     ensures { OnOk result (all.new.items ≡ all.old.items ++ spec.diverging_matched (plain-Matched matched.now)) }
 {
@@ -102,7 +102,7 @@ fn add_value(number: usize, value: &Expr, all: &mut Vec<usize>) -> Result<(), Al
 }
 
 #[cycle(diverging)]
-#[tactic(auto, using(rx_typed_tree::proofs::Rules::typed_tree_rules, crate::proofs::Lists::append_nothing))]
+#[tactic(auto, using(rx_typed::proofs::Rules::typed_tree_rules, crate::proofs::Lists::append_nothing))]
 fn add_let(number: usize, matched: &Matched, all: &mut Vec<usize>) -> Result<(), AllocError>
     ensures { OnOk result (all.new.items ≡ all.old.items ++ spec.diverging_let number (plain-Matched matched.now)) }
 {
@@ -114,7 +114,7 @@ fn add_let(number: usize, matched: &Matched, all: &mut Vec<usize>) -> Result<(),
 
 /// A statement's own, of which the rest of its block tells no other.
 #[cycle(diverging)]
-#[tactic(auto, using(rx_typed_tree::proofs::Rules::typed_tree_rules, crate::proofs::Lists::append_nothing))]
+#[tactic(auto, using(rx_typed::proofs::Rules::typed_tree_rules, crate::proofs::Lists::append_nothing))]
 fn add_stmt(stmt: &Stmt, all: &mut Vec<usize>) -> Result<(), AllocError>
     ensures { (b : BodyOf) → OnOk result (all.new.items ++ spec.diverging_body b ≡ all.old.items ++ spec.diverging_body (plain-Stmt stmt.now b)) }
 {

@@ -8,7 +8,7 @@ use Rattle.rx_tree.specs.Plain as plain
 use Rattle.rx_tree.specs.Plain.{TypeTree, PatternTree, Expression, Expressions, OptionalExpression, OptionalExpressions, FieldExpressions, Arms, Body, Statement, Statements}
 use Rattle.rx_tree.specs.Positions.{a_pattern, an_expression, a_block}
 use Rattle.rx_tree.specs.Nodes.{below_pattern, below_expression, below_block, below_statement, within_type, within_expressions, within_optional, within_arguments, within_fields, within_arms, within_statements}
-use Rattle.rx_resolve_scope.specs.Scopes.{Declared, Variables, variable_named, entered}
+use Rattle.rx_resolve_names.specs.Scopes.{Declared, Variables, variable_named, entered}
 use Rattle.rx_resolve_names.specs.declared.resolved.ItemNames.{ItemNames}
 use Rattle.rx_resolve_names.specs.declared.resolved.NodeNames.{NodeNames}
 use Rattle.rx_resolve_names.specs.Meant.{number, type_name, function_name, item_named, as_function, as_rt, Around, a_loop, a_test, target}
@@ -26,7 +26,7 @@ use Rattle.rx_hoist_words.proofs.Claims.{Claims}
 use Rattle.rx_hoist_words.proofs.Steps.{named_ok, the_same, binds, binds_append, Takes, takes_then, takes_last, takes_give, takes_map, takes_node, takes_made, takes_entry, takes_quiet, IsEntry, at_entry, Part, in_turn, in_turn3, in_turn4, in_new_loop, takes_in_loop, from_zero, restated, unchanged, entry_part}
 use Rattle.rx_hoist_words.proofs.Types.{no_result_binds, Sees, one_part, optional_type_taken}
 use Rattle.rx_hoist_words.proofs.Expressions.{RootHas, Waits, quiet_counted, quiet_between, quiet_annotates, quiet_loop, quiet_leads, quiet_is_left, quiet_gives_here, quiet_waits, quiet_use, quiet_waits_for}
-use Rattle.rx_hoist_own_names.specs.NamesMeant.{MeansIt}
+use Rattle.rx_hoist_meant.specs.NamesMeant.{MeansIt}
 use Rattle.rx_hoist_meant.proofs.Scopes.{Bound, front_of, behind_of, ScopeIs, entered_is, scope_means, declared_in, NExp, NExps, NElse, NFields, NArms, NBody, NStatement, NRow}
 use Rattle.rx_hoist_meant.proofs.NamedPatterns.{Binds, pattern_taken}
 

@@ -7,7 +7,7 @@ use Rattle.rx_tree.specs.Plain as plain
 use Rattle.rx_tree.specs.Plain.{Parameter, Function}
 use Rattle.rx_tree.specs.Positions.{a_block}
 use Rattle.rx_tree.specs.Nodes.{within_type, within_parameters, below_block}
-use Rattle.rx_resolve_scope.specs.Scopes.{Declared, declared_as, entered}
+use Rattle.rx_resolve_names.specs.Scopes.{Declared, declared_as, entered}
 use Rattle.rx_resolve_names.specs.declared.resolved.ItemNames.{ItemNames}
 use Rattle.rx_resolve_names.specs.declared.resolved.NodeNames.{NodeNames}
 use Rattle.rx_resolve_names.specs.Meant.{number}

@@ -6,8 +6,8 @@ use Rattle.rx_tree.specs.Plain as plain
 use Rattle.rx_tree.specs.Plain.{PatternTree, PatternTrees, FieldPatterns}
 use Rattle.rx_tree.specs.Positions.{a_pattern}
 use Rattle.rx_tree.specs.Nodes.{below_pattern, within_patterns, within_field_patterns}
-use Rattle.rx_resolve_scope.specs.declared.table.Known.{Known}
-use Rattle.rx_resolve_scope.specs.Scopes.{Declared, declared_as}
+use Rattle.rx_resolve_names.specs.declared.table.Known.{Known}
+use Rattle.rx_resolve_names.specs.Scopes.{Declared, declared_as}
 use Rattle.rx_resolve_names.specs.declared.resolved.ItemNames.{ItemNames}
 use Rattle.rx_resolve_names.specs.Meant.{number}
 use Rattle.rx_resolve_names.specs.Steps.{Naming, nothing, Inside, one, declare, declared_behind, child, next, with_variable, entry, with_names, numbered, names as naming}

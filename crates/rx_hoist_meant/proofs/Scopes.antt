@@ -7,7 +7,7 @@ use Rattle.std.proofs.lemmas.Slice.Eq.{bytes_eq-Decides}
 use Rattle.rx_core.specs.Bytes.{same_bytes}
 use Rattle.rx_core.proofs.BytesLemmas.{same_bytes-true, same_bytes-equal}
 use Rattle.rx_tree.specs.Positions.{NodeTree}
-use Rattle.rx_resolve_scope.specs.Scopes.{Declared, Variables, variable_named, entered}
+use Rattle.rx_resolve_names.specs.Scopes.{Declared, Variables, variable_named, entered}
 use Rattle.rx_typed.specs.Named as named
 use Rattle.rx_typed.specs.Named.{Exp, Exps, Else, Fields, Arms, Body, Statement, Statements}
 use Rattle.rx_typed.specs.Elaborated.{variables}
@@ -15,7 +15,7 @@ use Rattle.rx_exits_plan.specs.Shadowed.{meant}
 use Rattle.rx_exits.specs.Refusing.{same_names, same_name}
 use Rattle.rx_hoist_names.specs.DeclaredNames.{names_bound}
 use Rattle.rx_hoist_words.proofs.Steps.{binds, bound_append}
-use Rattle.rx_hoist_own_names.specs.NamesMeant.{MeansIt}
+use Rattle.rx_hoist_meant.specs.NamesMeant.{MeansIt}
 
 -- ---- lists
 

@@ -26,7 +26,7 @@ use Rattle.rx_typeck_rules.specs.Demands as rules
 use Rattle.rx_hoist_words.proofs.Claims.{Claims, IsPlaced, OfExp, OfExps, OfElse, OfFields, OfArms, OfBody, OfStatement, OfStatements, OfFunction}
 use Rattle.rx_hoist_words.proofs.Good.{GoodFact}
 use Rattle.rx_hoist_words.proofs.Asked as asked
-use Rattle.rx_hoist_own_names.specs.NamesMeant.{AtRoot, InExp, InOperands, InScrutinee, InArms, InBody}
+use Rattle.rx_hoist_meant.specs.NamesMeant.{AtRoot, InExp, InOperands, InScrutinee, InArms, InBody}
 use Rattle.rx_hoist_meant.proofs.Scopes.{declared_in, NExp, NExps, NElse, NFields, NArms, NBody, NStatement, NRow}
 
 -- ---- what a pattern binds

@@ -21,7 +21,7 @@ use Rattle.rx_typed.specs.Naming.{Cursor, a_node, function_named}
 use Rattle.rx_typed.specs.Elaborated as elaborated
 use Rattle.rx_typed.specs.Elaborated.{Assigned, elaborated as elaborated_function, function_body}
 use Rattle.rx_typed.specs.Tree as tree
-use Rattle.rx_typed_tree.specs.PlainTree.{plain-TypedTree}
+use Rattle.rx_typed.specs.PlainTree.{plain-TypedTree}
 use Rattle.rx_typed_runs.specs.declared.runs.RunPos.{RunPos}
 use Rattle.rx_typeck_solver.specs.declared.facts.Op.TheVariants as op
 use Rattle.rx_typeck_solver.specs.declared.facts.Demand.{Demand}

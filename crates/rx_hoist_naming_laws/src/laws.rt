@@ -5,7 +5,7 @@ ghost use Rattle.rx_tree.specs.Plain.{ProgramTree};
 ghost use Rattle.rx_lex.specs.Tok.{Tok};
 ghost use Rattle.rx_resolve_names.specs.declared.resolved.ItemNames.{ItemNames};
 ghost use Rattle.rx_typed_runs.specs.declared.runs.RunPos.{RunPos};
-ghost use Rattle.rx_typed_tree.specs.PlainTree.{plain-TypedTree};
+ghost use Rattle.rx_typed.specs.PlainTree.{plain-TypedTree};
 ghost use Rattle.rx_typeck_typed.specs.declared.typed.Typed.{Typed};
 ghost use Rattle.rx_typeck_typed.specs.declared.typed.TypedFn.{TypedFn};
 ghost use Rattle.rx_typeck_typed.specs.Typing.{IsTyped};

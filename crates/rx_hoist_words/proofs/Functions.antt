@@ -9,7 +9,7 @@ use Rattle.rx_tree.specs.Plain as plain
 use Rattle.rx_tree.specs.Plain.{TypeTree, TypeTrees, Parameter, Function, ItemTree, ProgramTree}
 use Rattle.rx_tree.specs.Positions.{a_type, a_block}
 use Rattle.rx_tree.specs.Nodes.{below_type, within_type, within_parameters, below_block}
-use Rattle.rx_resolve_scope.specs.Scopes.{Declared, Variables, entered}
+use Rattle.rx_resolve_names.specs.Scopes.{Declared, Variables, entered}
 use Rattle.rx_resolve_names.specs.declared.resolved.ItemNames.{ItemNames}
 use Rattle.rx_resolve_names.specs.declared.resolved.NodeNames.{NodeNames}
 use Rattle.rx_resolve_names.specs.Meant.{number, number_in, Around}

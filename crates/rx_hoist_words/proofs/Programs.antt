@@ -19,7 +19,7 @@ use Rattle.rx_typed.specs.PlainTypes.{plain-Ty, declarations}
 use Rattle.rx_typed.specs.Regions.{erased, all_erased, region-Ty}
 use Rattle.rx_typed.specs.Naming.{function_named}
 use Rattle.rx_typed.specs.Tree as tree
-use Rattle.rx_typed_tree.specs.PlainTree.{plain-TypedTree}
+use Rattle.rx_typed.specs.PlainTree.{plain-TypedTree}
 use Rattle.rx_typed_declarations.specs.WellFormed.{is_adt, WellSigned}
 use Rattle.rx_typed_declarations.specs.Sizes.{Sized, told}
 use Rattle.rx_typed_declarations.proofs.RegionLemmas.{is_erased}

@@ -16,7 +16,7 @@ ghost use Rattle.rx_typeck_typed.specs.declared.typed.Typed.{Typed};
 ghost use Rattle.rx_typeck_typed.specs.declared.typed.TypedFn.{TypedFn};
 ghost use Rattle.rx_typeck_typed.specs.Typing.{IsTyped, type_at};
 ghost use Rattle.rx_lower_walks.specs.Walks.{Among};
-ghost use Rattle.rx_typed_tree.specs.PlainTree.{plain-TypedTree};
+ghost use Rattle.rx_typed.specs.PlainTree.{plain-TypedTree};
 ghost use Rattle.rx_exits_marks.specs.Runs.{Run, Home, Sits};
 ghost use Rattle.rx_exits_plan.specs.Occurrences.{variables_of_run};
 ghost use Rattle.rx_hoist_names.specs.DeclaredNames.{declared_names};

@@ -5,9 +5,9 @@ use Rattle.std.proofs.lemmas.List.{length-map}
 use Rattle.std.proofs.lemmas.Option.{slice_get_within}
 use Rattle.rx_lower_walks.specs.Walks.{Among, here, there}
 use Rattle.rx_graph.specs.Tables.{at}
-use Rattle.rx_lower_graph.specs.Graph.{Site, site_at}
+use Rattle.rx_lower_walks.specs.Graph.{Site, site_at}
 use Rattle.rx_lower_lifetimes.specs.Numbered.{Own}
-use Rattle.rx_facts_along.proofs.Ways.{site_within}
+use Rattle.rx_facts_live.proofs.Ways.{site_within}
 use Rattle.rx_loan.specs.Accesses.{Loan, acts_against}
 use Rattle.rx_loan.specs.Loans.{loans_of, InScope, Meets, IsLegal}
 use Rattle.rx_loan.specs.PlainOf.{plain-Loan}

@@ -1,7 +1,7 @@
 -- The loans of sites, one after the other.
 use Rattle.std.proofs.Common.{◌≡◌, ℕ, ◌+◌, ◌<◌, ◌≤◌, List, [], ◌∷◌, ◌++◌, length, drop, get_or, map, refl, ap, sym, ◌∙◌}
 use Rattle.std.proofs.lemmas.List.{drop_more, append_assoc, append-nil}
-use Rattle.rx_lower_graph.specs.Graph as graph
+use Rattle.rx_lower_walks.specs.Graph as graph
 use Rattle.rx_lower_emit.specs.PlainSite.{plain-Site}
 use Rattle.rx_lower_emit.specs.declared.site.Site.{Site}
 use Rattle.rx_lower_lifetimes.specs.PlainOwn.{plain-Own}

@@ -4,9 +4,9 @@ use Rattle.std.specs.Prelude.{◌≡◌, ℕ, ◌+◌, Bool, true, false, List, 
 use Rattle.rx_typed.specs.Tree.{Place}
 use Rattle.rx_lower_walks.specs.Actions.{Act, Borrow, Write}
 use Rattle.rx_lower_walks.specs.Walks.{Among}
-use Rattle.rx_lower_graph.specs.Graph.{Site, site_at}
+use Rattle.rx_lower_walks.specs.Graph.{Site, site_at}
 use Rattle.rx_lower_lifetimes.specs.Numbered.{Own, region}
-use Rattle.rx_facts_along.specs.Along.{edges_of}
+use Rattle.rx_facts_live.specs.Along.{edges_of}
 use Rattle.rx_graph_reach.specs.Reached.{Reached}
 use Rattle.rx_typed.specs.Places.{is_prefix}
 use Rattle.rx_loan.specs.Accesses.{Loan, acts_against}

@@ -3,7 +3,7 @@ use Rattle.std.specs.Prelude.{◌≡◌, ◌↔◌, ℕ, ◌*◌, ◌<◌, Bool,
 use Rattle.rx_typed.specs.Tree.{Place}
 use Rattle.rx_graph_bits.specs.Rows.{holds}
 use Rattle.rx_graph.specs.Tables.{at}
-use Rattle.rx_lower_graph.specs.Graph.{Site, site_at}
+use Rattle.rx_lower_walks.specs.Graph.{Site, site_at}
 use Rattle.rx_lower_lifetimes.specs.Numbered.{Own}
 use Rattle.rx_loan.specs.Accesses as accesses
 use Rattle.rx_loan.specs.Accesses.{Access, conflicts, acts_against}

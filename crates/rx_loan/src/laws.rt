@@ -2,8 +2,8 @@
 
 ghost use Rattle.std.specs.Prelude.{◌≡◌, ◌<◌, ℕ, Bool, true, List, length};
 ghost use Rattle.rx_lower_walks.specs.Actions.{Action};
-ghost use Rattle.rx_lower_graph.specs.Graph.{Site};
-ghost use Rattle.rx_facts_along.specs.Along.{Arrives};
+ghost use Rattle.rx_lower_walks.specs.Graph.{Site};
+ghost use Rattle.rx_facts_live.specs.Along.{Arrives};
 ghost use Rattle.rx_loan.specs.Accesses.{Loan};
 ghost use Rattle.rx_loan.specs.Loans.{InScope, IsLegal};
 

@@ -3,7 +3,7 @@
 ghost use Rattle.std.specs.Prelude.{◌≡◌, ◌↔◌, ◌≤◌, ◌<◌, ◌*◌, ℕ, Bool, List as ListOf, true, length, map, IfOk, slice_get, Some};
 ghost use Rattle.rx_graph_bits.specs.Rows.{holds as has_bit};
 ghost use Rattle.rx_graph.specs.Tables.{at};
-ghost use Rattle.rx_lower_graph.specs.Graph as graphs;
+ghost use Rattle.rx_lower_walks.specs.Graph as graphs;
 ghost use Rattle.rx_lower_flow.specs.PlainFlow.{plain-Place};
 ghost use Rattle.rx_lower_emit.specs.PlainSite.{plain-Site};
 ghost use Rattle.rx_lower_lifetimes.specs.Numbered as numbered;
@@ -16,7 +16,7 @@ ghost use Rattle.rx_loan.specs.Tables as tables;
 use crate::accesses::Loan;
 use crate::borrows::{all_loans, ends};
 use rx_core::List;
-use rx_facts_along::Onward;
+use rx_facts_live::Onward;
 use rx_graph_bits::Row;
 use rx_graph_reach::reached;
 use rx_lower_emit::Site;

@@ -1,9 +1,9 @@
 -- What some sets accept, the least accept.
 use Rattle.std.proofs.Common.{List}
-use Rattle.rx_lower_graph.specs.Graph.{Site}
-use Rattle.rx_region_solutions.specs.Constraints.{Context}
-use Rattle.rx_region_solutions.specs.Solutions.{site, end, Sets, AreLeast}
-use Rattle.rx_region_solutions.proofs.LeastLaws.{least_serves, least_is_within}
+use Rattle.rx_lower_walks.specs.Graph.{Site}
+use Rattle.rx_region_constraints.specs.Constraints.{Context}
+use Rattle.rx_region_constraints.specs.Solutions.{site, end, Sets, AreLeast}
+use Rattle.rx_region_constraints.proofs.LeastLaws.{least_serves, least_is_within}
 use Rattle.rx_loan.specs.Loans.{loans_of}
 use Rattle.rx_loan.proofs.Walking.{fewer_legal}
 use Rattle.rx_loan_check.specs.Accepted.{at_sites, AcceptedBy}

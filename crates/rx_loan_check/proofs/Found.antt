@@ -1,15 +1,15 @@
 -- What is found of a function's loans is what is answered.
 use Rattle.std.proofs.Common.{◌≡◌, ℕ, ◌<◌, Bool, true, false, ◌&&◌, nat_lt, List, length, sym, subst, true≢false, lt-ltb}
 use Rattle.rx_graph.specs.Tables.{at}
-use Rattle.rx_lower_graph.specs.Graph.{Site}
+use Rattle.rx_lower_walks.specs.Graph.{Site}
 use Rattle.rx_lower_lifetimes.specs.Numbered.{Own}
-use Rattle.rx_region_solutions.specs.Constraints.{Context}
-use Rattle.rx_region_solutions.specs.Solutions.{site, end, Sets, AreLeast}
-use Rattle.rx_region_solutions.specs.Known.{Missing}
-use Rattle.rx_region_solutions.proofs.LeastLaws.{least_serves, least_is_within}
+use Rattle.rx_region_constraints.specs.Constraints.{Context}
+use Rattle.rx_region_constraints.specs.Solutions.{site, end, Sets, AreLeast}
+use Rattle.rx_region_constraints.specs.Known.{Missing}
+use Rattle.rx_region_constraints.proofs.LeastLaws.{least_serves, least_is_within}
 use Rattle.rx_region.specs.Tables.{sets_of, Keeps}
 use Rattle.rx_region.specs.declared.regions.Regions.{Regions}
-use Rattle.rx_facts_along.proofs.Ways.{site_within}
+use Rattle.rx_facts_live.proofs.Ways.{site_within}
 use Rattle.rx_loan.specs.Loans.{loans_of, IsLegal}
 use Rattle.rx_loan.specs.Tables.{IsTable, IsMet}
 use Rattle.rx_loan.specs.declared.table.LoanTable.{LoanTable}

@@ -1,10 +1,10 @@
 -- When the lifetimes and loans of a function are accepted: some sets of points serve, need no pair of its own lifetimes that isn't
 -- known, and no access meets a conflicting loan in scope. (RFC 2094, "Named lifetimes", "Reporting errors"; "Access legality".)
 use Rattle.std.specs.Prelude.{◌≡◌, ℕ, ◌<◌, Bool, true, List}
-use Rattle.rx_lower_graph.specs.Graph.{Site}
-use Rattle.rx_region_solutions.specs.Constraints.{Context}
-use Rattle.rx_region_solutions.specs.Solutions.{site, end, Sets, Solution}
-use Rattle.rx_region_solutions.specs.Known.{Known}
+use Rattle.rx_lower_walks.specs.Graph.{Site}
+use Rattle.rx_region_constraints.specs.Constraints.{Context}
+use Rattle.rx_region_constraints.specs.Solutions.{site, end, Sets, Solution}
+use Rattle.rx_region_constraints.specs.Known.{Known}
 use Rattle.rx_loan.specs.Loans.{loans_of, IsLegal}
 
 -- whether a lifetime has a site

@@ -1,9 +1,9 @@
 -- What is answered of a function's loans, by the least sets of its lifetimes.
 use Rattle.std.specs.Prelude.{ℕ, List, Result, Ok, Err}
-use Rattle.rx_lower_graph.specs.Graph.{Site}
-use Rattle.rx_region_solutions.specs.Constraints.{Context}
-use Rattle.rx_region_solutions.specs.Solutions.{Sets, AreLeast}
-use Rattle.rx_region_solutions.specs.Known.{Missing}
+use Rattle.rx_lower_walks.specs.Graph.{Site}
+use Rattle.rx_region_constraints.specs.Constraints.{Context}
+use Rattle.rx_region_constraints.specs.Solutions.{Sets, AreLeast}
+use Rattle.rx_region_constraints.specs.Known.{Missing}
 use Rattle.rx_loan.specs.Loans.{loans_of}
 use Rattle.rx_loan.specs.Tables.{IsTable, IsMet}
 use Rattle.rx_loan.specs.declared.table.LoanTable.{LoanTable}

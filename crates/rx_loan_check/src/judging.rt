@@ -3,7 +3,7 @@
 ghost use Rattle.std.specs.Prelude.{◌≡◌, ◌≤◌, length, map, Ok};
 ghost use Rattle.rx_lower_emit.specs.PlainSite.{plain-Site};
 ghost use Rattle.rx_lower_lifetimes.specs.PlainOwn.{plain-Own};
-ghost use Rattle.rx_region_solutions.specs.Constraints.{Context};
+ghost use Rattle.rx_region_constraints.specs.Constraints.{Context};
 ghost use Rattle.rx_region.specs.Passing.{RegionAnswer};
 ghost use Rattle.rx_loan_check.specs.Answer as answers;
 

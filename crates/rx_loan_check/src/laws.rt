@@ -1,10 +1,10 @@
 //! Laws of acceptance, each the contract of a function that does nothing.
 
 ghost use Rattle.std.specs.Prelude.{ℕ, List};
-ghost use Rattle.rx_lower_graph.specs.Graph.{Site};
-ghost use Rattle.rx_region_solutions.specs.Constraints.{Context};
-ghost use Rattle.rx_region_solutions.specs.Solutions.{Sets, AreLeast};
-ghost use Rattle.rx_region_solutions.specs.Known.{Missing};
+ghost use Rattle.rx_lower_walks.specs.Graph.{Site};
+ghost use Rattle.rx_region_constraints.specs.Constraints.{Context};
+ghost use Rattle.rx_region_constraints.specs.Solutions.{Sets, AreLeast};
+ghost use Rattle.rx_region_constraints.specs.Known.{Missing};
 ghost use Rattle.rx_loan_check.specs.Answer.{IsForbidden};
 ghost use Rattle.rx_loan_check.specs.Accepted.{AcceptedBy, IsAccepted};
 

@@ -5,15 +5,15 @@ use Rattle.std.proofs.lemmas.List.{append_assoc}
 use Rattle.rx_typed.specs.Tree.{Function}
 use Rattle.rx_lower_walks.specs.Actions.{Action}
 use Rattle.rx_lower_walks.specs.Walks.{IsWalk, Among, here, there}
-use Rattle.rx_lower_graph.specs.Graph.{Site, site_at, Path, stop, go, EachOnce}
-use Rattle.rx_lower_graph.specs.Pieces.{graph}
-use Rattle.rx_lower_graph.specs.Text.{actions_of}
-use Rattle.rx_lower_graph.proofs.Distinct.{one_site}
-use Rattle.rx_lower_graph.proofs.Bounds.{next_are_sites}
+use Rattle.rx_lower_walks.specs.Graph.{Site, site_at, Path, stop, go, EachOnce}
+use Rattle.rx_lower_walks.specs.Pieces.{graph}
+use Rattle.rx_lower_walks.specs.Text.{actions_of}
+use Rattle.rx_lower_walks.proofs.Distinct.{one_site}
+use Rattle.rx_lower_walks.proofs.Bounds.{next_are_sites}
 use Rattle.rx_lower_walks.specs.Orders.{order_function}
-use Rattle.rx_facts_along.specs.Along.{Arrives, edges_of}
-use Rattle.rx_facts_along.specs.Along as ways
-use Rattle.rx_facts_along.proofs.Ways.{SiteThere, site_of, site_here, leads, arrives_on}
+use Rattle.rx_facts_live.specs.Along.{Arrives, edges_of}
+use Rattle.rx_facts_live.specs.Along as ways
+use Rattle.rx_facts_live.proofs.Ways.{SiteThere, site_of, site_here, leads, arrives_on}
 use Rattle.rx_facts_laws.proofs.Arriving.{way_to, walk_on, on_walk}
 use Rattle.rx_graph_reach.specs.Reached.{next, further}
 use Rattle.rx_loan.specs.Accesses.{Loan, acts_against}

@@ -2,7 +2,7 @@
 use Rattle.std.specs.Prelude.{◌≡◌, List, Some, slice_get}
 use Rattle.rx_typed.specs.Tree.{Temporary}
 use Rattle.rx_lower_walks.specs.Actions.{Borrow}
-use Rattle.rx_lower_graph.specs.Graph.{Site, site_at}
+use Rattle.rx_lower_walks.specs.Graph.{Site, site_at}
 use Rattle.rx_lower_lifetimes.specs.Numbered.{Own, region}
 use Rattle.rx_loan.specs.Accesses.{Loan}
 

@@ -5,8 +5,8 @@ use Rattle.std.specs.Prelude.{◌≡◌, ℕ, Bool, true, false, List, [], ◌�
 use Rattle.rx_typed.specs.Tree.{Function}
 use Rattle.rx_lower_walks.specs.Actions.{Action}
 use Rattle.rx_lower_walks.specs.Walks.{IsWalk, Among}
-use Rattle.rx_lower_graph.specs.Graph.{Site, site_at}
-use Rattle.rx_lower_graph.specs.Pieces.{graph}
+use Rattle.rx_lower_walks.specs.Graph.{Site, site_at}
+use Rattle.rx_lower_walks.specs.Pieces.{graph}
 use Rattle.rx_loan.specs.Accesses.{Loan, acts_against}
 use Rattle.rx_loan.specs.Loans.{ends}
 

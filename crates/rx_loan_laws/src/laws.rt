@@ -8,16 +8,16 @@ ghost use Rattle.rx_typed.specs.Tree.{Function};
 ghost use Rattle.rx_typed.specs.Naming.{function_named};
 ghost use Rattle.rx_typed.specs.Elaborated.{Assigned, elaborated};
 ghost use Rattle.rx_lower_walks.specs.Walks.{Among};
-ghost use Rattle.rx_lower_graph.specs.Graph.{Site, EachOnce};
-ghost use Rattle.rx_lower_graph.specs.Pieces.{graph};
-ghost use Rattle.rx_lower_graph.specs.Text.{actions_of};
+ghost use Rattle.rx_lower_walks.specs.Graph.{Site, EachOnce};
+ghost use Rattle.rx_lower_walks.specs.Pieces.{graph};
+ghost use Rattle.rx_lower_walks.specs.Text.{actions_of};
 ghost use Rattle.rx_lower_lifetimes.specs.Numbered.{Own};
 ghost use Rattle.rx_loan.specs.Accesses.{Loan};
 ghost use Rattle.rx_loan.specs.Loans.{loans_of, InScope, IsLegal};
 ghost use Rattle.rx_loan_laws.specs.ScopesOnWalks.{InScopeOnSomeWalk, LegalOnWalks};
 ghost use Rattle.rx_loan_laws.specs.Borrows.{IsBorrowed};
 
-use rx_lower_graph::actions_are_distinct;
+use rx_lower_walks::actions_are_distinct;
 
 /// A loan is in scope at a site exactly where some walk holds the action of its borrow and later that of the site, each site behind
 /// the borrow up to there is in the loan's region, and nothing in between writes a prefix of its place. Clause `typed` is of the

@@ -3,8 +3,8 @@ use Rattle.std.specs.Prelude.{ℕ, ◌+◌, ◌==◌, if◌then◌else◌, List,
 use Rattle.rx_typed.specs.declared.declarations.Decl.{Decl}
 use Rattle.rx_typed.specs.Regions.{region-Ty}
 use Rattle.rx_typed.specs.Tree as Tree
-use Rattle.rx_typed_tree.specs.PlainTree.{plain-TypedTree}
-use Rattle.rx_typeck_let_types.specs.declared.variables.AnnotatedVariable.{AnnotatedVariable}
+use Rattle.rx_typed.specs.PlainTree.{plain-TypedTree}
+use Rattle.rx_typeck_typed.specs.declared.variables.AnnotatedVariable.{AnnotatedVariable}
 use Rattle.rx_typeck_typed.specs.declared.typed.TypedFn.{TypedFn}
 use Rattle.rx_lower_lifetimes.specs.Variables.{Written}
 use Rattle.rx_lower_lifetimes.specs.Lowered.{Function, function_of}

@@ -3,7 +3,7 @@
 
 ghost use Rattle.std.specs.Prelude.{◌≡◌, ◌<◌, map, Some as SomeOf, IfOk};
 ghost use Rattle.std.specs.Option.{option_copied, IsSome};
-ghost use Rattle.rx_typed_tree.specs.PlainTree.{plain-TypedTree};
+ghost use Rattle.rx_typed.specs.PlainTree.{plain-TypedTree};
 ghost use Rattle.rx_typeck_typed.specs.declared.typed.TypedFn.{TypedFn as FnOf};
 ghost use Rattle.rx_lower_lifetimes.specs.PlainOf.{plain-Told};
 ghost use Rattle.rx_lower_lifetimes.specs.Answer.{Answers, AnswersWithin, Walked};
@@ -12,11 +12,9 @@ ghost use Rattle.rx_lower.specs.Functions.{function_at, written, function, with_
 
 use rx_core::{LetGo, List, Ty, keep, pushed};
 use rx_lower_lifetimes::{Graph, LowerFault, Told, lower_function_within};
-use rx_typeck_let_types::AnnotatedVariable;
-use rx_typeck_typed::{Typed, TypedFn};
-use rx_typed::Decls;
+use rx_typeck_typed::{AnnotatedVariable, Typed, TypedFn};
+use rx_typed::{Decls, TypedTree};
 use rx_typed_places::place_type;
-use rx_typed_tree::TypedTree;
 use std::alloc::{AllocError, Global};
 
 /// The function of an item.

@@ -4,8 +4,8 @@ use Rattle.std.proofs.lemmas.Bool.Decides.{nat_tests, Decides-eqb}
 use Rattle.rx_lower_walks.specs.Actions.{Dead, Action, does}
 use Rattle.rx_lower_walks.specs.Orders as orders
 use Rattle.rx_lower_flow.specs.Flows.{Flow, nothing, nowhere, act, items, or, leave, passes, Items, last, do_and, ends_and, may_and, else_and, order_of, order_of_items}
-use Rattle.rx_lower_graph.specs.Pieces.{Scope, Variable, Looped, left, Piece, nowhere_part, leads_part, act_part, then_part, or_part, loop_part, leaving_part, part}
-use Rattle.rx_lower_graph.specs.Pieces as pieces
+use Rattle.rx_lower_walks.specs.Pieces.{Scope, Variable, Looped, left, Piece, nowhere_part, leads_part, act_part, then_part, or_part, loop_part, leaving_part, part}
+use Rattle.rx_lower_walks.specs.Pieces as pieces
 use Rattle.rx_lower_emit.specs.declared.sums.Way.{Way}
 use Rattle.rx_lower_emit.specs.declared.sums.Way.TheVariants.{Ahead, Breaking, Continuing, Returning, Failing}
 use Rattle.rx_lower_emit.specs.declared.sums.Begin.{Begin}

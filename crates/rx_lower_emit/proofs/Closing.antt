@@ -1,6 +1,6 @@
 -- The ends of variables that are still to come.
 use Rattle.std.proofs.Common.{◌≡◌, ℕ, ◌+◌, ◌-◌, ◌<◌, List, [], ◌∷◌, ◌++◌, length, map, refl, sym, ap, ◌∙◌, append_assoc, append-nil, arith}
-use Rattle.rx_lower_graph.specs.Graph as graph
+use Rattle.rx_lower_walks.specs.Graph as graph
 use Rattle.rx_lower_emit.specs.declared.around.Around.{Around}
 use Rattle.rx_lower_emit.specs.declared.site.Site.{Site}
 use Rattle.rx_lower_emit.specs.declared.site.Open.{Open}

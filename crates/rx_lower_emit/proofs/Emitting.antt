@@ -1,7 +1,7 @@
 -- What is emitted for an item, and what is left of its sequence.
 use Rattle.std.proofs.Common.{◌≡◌, ℕ, List, [], ◌∷◌, ◌++◌, length, Bool, true, false, if◌then◌else◌, refl, sym, ap, ◌∙◌, subst, append_assoc, append-nil}
-use Rattle.rx_lower_graph.specs.Graph as graph
-use Rattle.rx_lower_graph.specs.Pieces.{distinct}
+use Rattle.rx_lower_walks.specs.Graph as graph
+use Rattle.rx_lower_walks.specs.Pieces.{distinct}
 use Rattle.rx_lower_flow.specs.Flows.{Items, item_and, do_and, ends_and, may_and, else_and}
 use Rattle.rx_lower_flow.specs.Flows as flows
 use Rattle.rx_lower_emit.specs.declared.around.Around.{Around}

@@ -1,8 +1,8 @@
 -- The graph of a flow is that of its order.
 use Rattle.std.proofs.Common.{◌≡◌, ℕ, suc, ◌<◌, ◌≤◌, List, [], ◌∷◌, length, map, refl, sym, ap, ◌∙◌, arith}
 use mathlib.Core.Path.{fun_ext}
-use Rattle.rx_lower_graph.specs.Pieces.{Way, ahead, breaking, continuing, returning, failing, part, no_exits, graph_of}
-use Rattle.rx_lower_graph.proofs.Whole.{size_is}
+use Rattle.rx_lower_walks.specs.Pieces.{Way, ahead, breaking, continuing, returning, failing, part, no_exits, graph_of}
+use Rattle.rx_lower_walks.proofs.Whole.{size_is}
 use Rattle.rx_lower_flow.specs.Flows.{Flow, order_of}
 use Rattle.rx_lower_emit.specs.declared.site.Site.{Site}
 use Rattle.rx_lower_emit.specs.PlainSite.{plain-Site}

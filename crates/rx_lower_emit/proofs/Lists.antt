@@ -1,7 +1,7 @@
 -- Lists of numbers, each once.
 use Rattle.std.proofs.Common.{◌≡◌, ℕ, ◌==◌, List, [], ◌∷◌, ◌++◌, Bool, true, false, ◌||◌, if◌then◌else◌, refl, sym, ap, ◌∙◌, append_assoc, append-nil}
 use Rattle.std.proofs.lemmas.Bool.Decides.{Decides-eqb}
-use Rattle.rx_lower_graph.specs.Pieces.{without, distinct}
+use Rattle.rx_lower_walks.specs.Pieces.{without, distinct}
 use Rattle.rx_lower_emit.specs.Sums.{has, joined}
 use Rattle.rx_lower_emit.proofs.Agrees.{has_both, or_false}
 

@@ -6,12 +6,12 @@ use Rattle.rx_lower_walks.specs.Actions.{Dead, does}
 use Rattle.rx_lower_walks.specs.Orders as orders
 use Rattle.rx_lower_walks.specs.Walks.{Among, here, there}
 use Rattle.rx_lower_flow.specs.Flows.{Flow, nothing, nowhere, act, items, or, leave, passes, Items, last, do_and, ends_and, may_and, else_and, order_of, order_of_items}
-use Rattle.rx_lower_graph.specs.Graph.{Site}
-use Rattle.rx_lower_graph.specs.Pieces.{Way, ahead, breaking, continuing, returning, failing, Exits, entry, distinct, Scope, Variable, Looped, left, Piece, nowhere_part, leads_part, act_part, onto, then_part, or_part, inside_of, inside, loop_part, leaving_part, part, no_exits, graph_of}
-use Rattle.rx_lower_graph.specs.Pieces as pieces
-use Rattle.rx_lower_graph.proofs.Bounds.{starts_within}
-use Rattle.rx_lower_graph.proofs.Fits.{same_is, append_nil}
-use Rattle.rx_lower_graph.proofs.Local.{same_sites}
+use Rattle.rx_lower_walks.specs.Graph.{Site}
+use Rattle.rx_lower_walks.specs.Pieces.{Way, ahead, breaking, continuing, returning, failing, Exits, entry, distinct, Scope, Variable, Looped, left, Piece, nowhere_part, leads_part, act_part, onto, then_part, or_part, inside_of, inside, loop_part, leaving_part, part, no_exits, graph_of}
+use Rattle.rx_lower_walks.specs.Pieces as pieces
+use Rattle.rx_lower_walks.proofs.Bounds.{starts_within}
+use Rattle.rx_lower_walks.proofs.Fits.{same_is, append_nil}
+use Rattle.rx_lower_walks.proofs.Local.{same_sites}
 use Rattle.rx_lower_emit.specs.declared.around.Loop.{Loop}
 use Rattle.rx_lower_emit.specs.declared.around.Around.{Around}
 use Rattle.rx_lower_emit.specs.declared.sums.Sum.{Sum}

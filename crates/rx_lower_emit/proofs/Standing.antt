@@ -2,7 +2,7 @@
 use Rattle.std.proofs.Common.{◌≡◌, ℕ, zero, suc, ◌-◌, ◌==◌, ◌≤◌, List, [], ◌∷◌, ◌++◌, length, drop, length-drop, reverse, Bool, true, false, if◌then◌else◌, refl, sym, ap, ◌∙◌, subst, arith}
 use Rattle.std.proofs.lemmas.List.{reverse-append, length-reverse}
 use Rattle.rx_lower_walks.specs.Orders.{Exit, breaks, continues, returns}
-use Rattle.rx_lower_graph.specs.Pieces.{Scope, Variable, Looped, all_of, within, left}
+use Rattle.rx_lower_walks.specs.Pieces.{Scope, Variable, Looped, all_of, within, left}
 use Rattle.rx_lower_emit.specs.declared.around.Loop.{Loop}
 use Rattle.rx_lower_emit.specs.declared.around.Around.{Around}
 use Rattle.rx_lower_emit.specs.Around.{with_variable, with_loop, nothing_around, depth_in, after_in, head_in, depth, ended}

@@ -1,7 +1,7 @@
 -- What stands around a part, and the exits that it gives.
 use Rattle.std.specs.Prelude.{ℕ, ◌==◌, List, [], ◌∷◌, ◌++◌, length, drop, reverse, if◌then◌else◌}
 use Rattle.rx_lower_walks.specs.Orders.{Exit, breaks, continues, returns}
-use Rattle.rx_lower_graph.specs.Pieces.{ahead, breaking, continuing, returning, failing, Exits}
+use Rattle.rx_lower_walks.specs.Pieces.{ahead, breaking, continuing, returning, failing, Exits}
 use Rattle.rx_lower_emit.specs.declared.around.Loop.{Loop}
 use Rattle.rx_lower_emit.specs.declared.around.Around.{Around}
 

@@ -2,9 +2,9 @@
 use Rattle.std.specs.Prelude.{ℕ, ◌+◌, ◌==◌, ltb, List, [], ◌∷◌, ◌++◌, length, if◌then◌else◌, Bool}
 use Rattle.rx_lower_walks.specs.Actions.{Dead, does}
 use Rattle.rx_lower_walks.specs.Orders as orders
-use Rattle.rx_lower_graph.specs.Graph.{Site}
-use Rattle.rx_lower_graph.specs.Pieces.{Exits, distinct}
-use Rattle.rx_lower_graph.specs.Pieces as pieces
+use Rattle.rx_lower_walks.specs.Graph.{Site}
+use Rattle.rx_lower_walks.specs.Pieces.{Exits, distinct}
+use Rattle.rx_lower_walks.specs.Pieces as pieces
 use Rattle.rx_lower_flow.specs.Flows.{Flow, nothing, nowhere, act, items, or, leave, passes, Items, last, do_and, ends_and, may_and, else_and}
 use Rattle.rx_lower_emit.specs.declared.sums.Way.{Way}
 use Rattle.rx_lower_emit.specs.declared.sums.Way.TheVariants.{Ahead, Breaking, Continuing, Returning, Failing}

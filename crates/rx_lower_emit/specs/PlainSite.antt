@@ -1,6 +1,6 @@
 -- The plain sites of sites in code.
 use Rattle.rx_lower_flow.specs.PlainFlow.{plain-Action}
-use Rattle.rx_lower_graph.specs.Graph as graph
+use Rattle.rx_lower_walks.specs.Graph as graph
 use Rattle.rx_lower_emit.specs.declared.site.Site.{Site}
 
 abbrev pub plain-Site : Site → graph.Site

@@ -1,7 +1,7 @@
 //! Numbers, each once.
 
 ghost use Rattle.std.specs.Prelude.{◌≡◌, [], IfOk};
-ghost use Rattle.rx_lower_graph.specs.Pieces.{distinct};
+ghost use Rattle.rx_lower_walks.specs.Pieces.{distinct};
 ghost use Rattle.rx_lower_emit.specs.Sums.{has, joined, without};
 
 use rx_core::List;

@@ -1,7 +1,7 @@
 //! The sites of flows, in the order of the text.
 
 ghost use Rattle.std.specs.Prelude.{◌≡◌, [], ◌∷◌, ◌++◌, ◌<◌, length, IfOk, OnOk, List as ListOf, map};
-ghost use Rattle.rx_lower_graph.specs.Pieces.{distinct};
+ghost use Rattle.rx_lower_walks.specs.Pieces.{distinct};
 ghost use Rattle.rx_lower_flow.specs.Flows as flows;
 ghost use Rattle.rx_lower_flow.specs.Flows.{Items, item_and, items_of};
 ghost use Rattle.rx_lower_flow.specs.PlainFlow.{plain-Action, plain-Flow, plain-Item, plain-Exit};

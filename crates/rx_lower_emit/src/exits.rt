@@ -2,7 +2,7 @@
 
 ghost use Rattle.std.specs.Prelude.{◌≡◌, [], ◌∷◌, ◌++◌, IfOk, OnOk, ℕ, List as ListOf};
 ghost use Rattle.rx_lower_walks.specs.Orders.{exit_node};
-ghost use Rattle.rx_lower_graph.specs.Pieces as pieces;
+ghost use Rattle.rx_lower_walks.specs.Pieces as pieces;
 ghost use Rattle.rx_lower_flow.specs.PlainFlow.{plain-Exit};
 ghost use Rattle.rx_lower_emit.specs.Around.{exits};
 ghost use Rattle.rx_lower_emit.specs.Emitted.{way_of, entered};

@@ -3,7 +3,7 @@
 ghost use Rattle.std.specs.Prelude.{◌≡◌, [], ◌∷◌, ◌++◌, ◌==◌, IfOk, OnOk, map, if◌then◌else◌};
 ghost use Rattle.rx_lower_flow.specs.PlainFlow.{plain-Action};
 ghost use Rattle.rx_lower_walks.specs.Actions.{Dead, does};
-ghost use Rattle.rx_lower_graph.specs.Pieces.{distinct};
+ghost use Rattle.rx_lower_walks.specs.Pieces.{distinct};
 ghost use Rattle.rx_lower_emit.specs.PlainSite.{plain-Site};
 ghost use Rattle.rx_lower_emit.specs.Around.{with_variable};
 ghost use Rattle.rx_lower_emit.specs.Emitted.{place, dying, closed, closing, with_open};

@@ -3,7 +3,7 @@
 ghost use Rattle.std.specs.Prelude.{◌≡◌, ◌≤◌, [], ◌++◌, length, map, IfOk, OnOk, MatchResult};
 ghost use Rattle.rx_lower_flow.specs.Flows.{order_of};
 ghost use Rattle.rx_lower_flow.specs.PlainFlow.{plain-Flow};
-ghost use Rattle.rx_lower_graph.specs.Pieces.{part, graph_of};
+ghost use Rattle.rx_lower_walks.specs.Pieces.{part, graph_of};
 ghost use Rattle.rx_lower_emit.specs.PlainSite.{plain-Site};
 ghost use Rattle.rx_lower_emit.specs.Around.{nothing_around};
 ghost use Rattle.rx_lower_emit.specs.Sums.{cap, sum};

@@ -2,7 +2,7 @@
 use Rattle.std.specs.Prelude.{◌≡◌, ℕ, List, map}
 use Rattle.std.proofs.Common.{ap, sym, ◌∙◌}
 use Rattle.rx_typed.specs.Tree as tree
-use Rattle.rx_typed_tree.specs.PlainTree.{plain-Constant, plain-Making}
+use Rattle.rx_typed.specs.PlainTree.{plain-Constant, plain-Making}
 use Rattle.rx_lower_walks.specs.Matching as matching
 use Rattle.rx_lower_walks.specs.Actions as actions
 use Rattle.rx_lower_walks.specs.Orders as orders

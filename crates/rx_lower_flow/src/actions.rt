@@ -1,7 +1,7 @@
 //! Actions: what each takes and what it fills.
 
 use rx_core::{List, Step};
-use rx_typed_tree::{Constant, Making};
+use rx_typed::{Constant, Making};
 
 /// Where the value of an operand stands: the operand's node, and which of the few that one node has.
 #[derive(Clone, Copy)]

@@ -3,12 +3,12 @@ use Rattle.std.proofs.Common.{◌≡◌, ℕ, suc, ◌+◌, ◌<◌, ◌≤◌, 
 use Rattle.rx_typed_places.specs.Numbers.{capped, open_in, numbered}
 use Rattle.rx_lower_walks.specs.Orders.{order_function}
 use Rattle.rx_lower_walks.specs.Walks.{IsWalk}
-use Rattle.rx_lower_graph.specs.Graph.{Path}
-use Rattle.rx_lower_graph.specs.Graph as graphs
-use Rattle.rx_lower_graph.specs.Pieces.{part, graph_of, graph}
-use Rattle.rx_lower_graph.specs.Text.{actions_of}
-use Rattle.rx_lower_graph.proofs.Sites.{paths_are_walks_of}
-use Rattle.rx_lower_graph.proofs.Whole.{size_is}
+use Rattle.rx_lower_walks.specs.Graph.{Path}
+use Rattle.rx_lower_walks.specs.Graph as graphs
+use Rattle.rx_lower_walks.specs.Pieces.{part, graph_of, graph}
+use Rattle.rx_lower_walks.specs.Text.{actions_of}
+use Rattle.rx_lower_walks.proofs.Sites.{paths_are_walks_of}
+use Rattle.rx_lower_walks.proofs.Whole.{size_is}
 use Rattle.rx_lower_flow.specs.Flows.{Flow, order_of}
 use Rattle.rx_lower_emit.specs.declared.site.Site.{Site}
 use Rattle.rx_lower_emit.specs.declared.whole.GraphFault.{GraphFault}

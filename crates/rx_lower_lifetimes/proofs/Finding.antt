@@ -5,8 +5,8 @@ use Rattle.rx_core.specs.declared.types.Ty.{Ty}
 use Rattle.std.proofs.lemmas.List.{at_drop_all, at_drop_more}
 use Rattle.std.proofs.lemmas.Bool.Decides.{Decides-eqb}
 use Rattle.rx_typed.specs.Tree.{Temporary, Parameter}
-use Rattle.rx_typed_tree.specs.declared.tree.Param.{Param}
-use Rattle.rx_typed_tree.specs.PlainTree.{plain-Param}
+use Rattle.rx_typed.specs.declared.tree.Param.{Param}
+use Rattle.rx_typed.specs.PlainTree.{plain-Param}
 use Rattle.rx_lower_flow.specs.declared.actions.Temporary as code
 use Rattle.rx_lower_flow.specs.PlainFlow.{plain-Temporary}
 use Rattle.rx_typed_places.specs.Renaming.{unit_region}

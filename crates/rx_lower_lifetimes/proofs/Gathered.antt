@@ -6,9 +6,9 @@ use Rattle.rx_typed.specs.declared.declarations.Decl.{Decl}
 use Rattle.rx_lower_walks.specs.Actions.{Act, Declare, Dead, Read, Write, Borrow, Test, Call, Build, Input, Print, Give, Action, does, filled}
 use Rattle.rx_lower_walks.specs.Orders.{exit_node, Order}
 use Rattle.rx_lower_walks.specs.Orders as order
-use Rattle.rx_lower_graph.specs.Graph.{Site}
-use Rattle.rx_lower_graph.specs.Pieces.{Way, ahead, failing, exit_way, same, Scope, Variable, Looped, left, Exits, nowhere_part, act_part, then_ends, then_part, loop_ends, leaving_part, onto, entry, distinct, part, graph_of, no_exits}
-use Rattle.rx_lower_graph.specs.Text.{actions_of}
+use Rattle.rx_lower_walks.specs.Graph.{Site}
+use Rattle.rx_lower_walks.specs.Pieces.{Way, ahead, failing, exit_way, same, Scope, Variable, Looped, left, Exits, nowhere_part, act_part, then_ends, then_part, loop_ends, leaving_part, onto, entry, distinct, part, graph_of, no_exits}
+use Rattle.rx_lower_walks.specs.Text.{actions_of}
 use Rattle.rx_lower_flow.specs.Flows.{Flow, nothing, nowhere, act, items, or, leave, passes, Items, last, do_and, ends_and, may_and, else_and, order_of, order_of_items}
 use Rattle.rx_lower_emit.specs.Around.{nothing_around}
 use Rattle.rx_lower_emit.specs.Sums.{sum}

@@ -3,8 +3,8 @@ use Rattle.std.specs.Prelude.{◌≡◌, ℕ, ◌≤◌, ◌<◌, ◌⊎◌, Boo
 use Rattle.rx_typed.specs.Regions.{region-Ty}
 use Rattle.rx_lower_walks.specs.Actions.{Action}
 use Rattle.rx_lower_walks.specs.Walks.{IsWalk}
-use Rattle.rx_lower_graph.specs.Graph.{Path}
-use Rattle.rx_lower_graph.specs.Pieces.{graph}
+use Rattle.rx_lower_walks.specs.Graph.{Path}
+use Rattle.rx_lower_walks.specs.Pieces.{graph}
 use Rattle.rx_lower_flow.specs.PlainFlow.{plain-Temporary}
 use Rattle.rx_lower_emit.specs.PlainSite.{plain-Site}
 use Rattle.rx_typed_places.specs.Numbers.{capped}

@@ -7,8 +7,8 @@ use Rattle.rx_typed.specs.declared.declarations.Decl.TheVariants as decl
 use Rattle.rx_typed.specs.Regions.{RegionTyp}
 use Rattle.rx_typed.specs.Tree as tree
 use Rattle.rx_lower_walks.specs.Actions.{Action}
-use Rattle.rx_lower_graph.specs.Pieces.{graph}
-use Rattle.rx_lower_graph.specs.Text.{actions_of}
+use Rattle.rx_lower_walks.specs.Pieces.{graph}
+use Rattle.rx_lower_walks.specs.Text.{actions_of}
 use Rattle.rx_lower_lifetimes.specs.Values.{Open, Known, Held, lifetimes_of, held_by, result_type}
 use Rattle.rx_lower_lifetimes.specs.Variables.{Written, open_types}
 use Rattle.rx_lower_lifetimes.specs.Positions.{all_own}

@@ -2,7 +2,7 @@
 
 ghost use Rattle.std.specs.Prelude.{◌≡◌, ◌+◌, ◌++◌, map, IfOk, OnOk};
 ghost use Rattle.rx_typed.specs.Regions.{region-Ty};
-ghost use Rattle.rx_lower_graph.specs.Text.{actions_of};
+ghost use Rattle.rx_lower_walks.specs.Text.{actions_of};
 ghost use Rattle.rx_lower_emit.specs.PlainSite.{plain-Site};
 ghost use Rattle.rx_lower_flow.specs.PlainFlow.{plain-Act};
 ghost use Rattle.rx_lower_lifetimes.specs.Positions as positions;

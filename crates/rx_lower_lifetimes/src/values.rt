@@ -3,7 +3,7 @@
 ghost use Rattle.std.specs.Prelude.{◌≡◌, map, replicate, slice_get, IfOk, option_map};
 ghost use Rattle.rx_typed.specs.Regions.{region-Ty, region_reference};
 ghost use Rattle.rx_typed.specs.Tree.{operation};
-ghost use Rattle.rx_typed_tree.specs.PlainTree.{plain-Constant, plain-Making};
+ghost use Rattle.rx_typed.specs.PlainTree.{plain-Constant, plain-Making};
 ghost use Rattle.rx_lower_walks.specs.Actions as actions;
 ghost use Rattle.rx_lower_flow.specs.PlainFlow.{plain-Act, plain-Made, plain-Place, plain-Temporary};
 ghost use Rattle.rx_lower_lifetimes.specs.Values as values;
@@ -15,9 +15,8 @@ use crate::noted::Noted;
 use rx_core::{Kind, List, Ty, keep, pushed};
 use rx_lower_flow::{Act, Made, Place, Temporary};
 use rx_tree::BinaryOp;
-use rx_typed::{Decl, Decls};
+use rx_typed::{Constant, Decl, Decls, Making};
 use rx_typed_places::{place_type, reference};
-use rx_typed_tree::{Constant, Making};
 use std::alloc::{AllocError, Global};
 
 /// How many lifetimes an item has.

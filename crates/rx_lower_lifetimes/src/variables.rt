@@ -3,15 +3,14 @@
 ghost use Rattle.std.specs.Prelude.{◌≡◌, map, option_map, IfOk};
 ghost use Rattle.std.specs.Option.{option_copied};
 ghost use Rattle.rx_typed.specs.Regions.{region-Ty};
-ghost use Rattle.rx_typed_tree.specs.PlainTree.{plain-Param};
+ghost use Rattle.rx_typed.specs.PlainTree.{plain-Param};
 ghost use Rattle.rx_lower_lifetimes.specs.Variables as spec;
 ghost use Rattle.rx_lower_lifetimes.specs.PlainOf.{plain-Open, plain-Told};
 
 use crate::held::{Open, unit};
 use rx_core::{LetGo, List, Ty, keep, pushed};
-use rx_typed::Decls;
+use rx_typed::{Decls, Param};
 use rx_typed_places::place_type;
-use rx_typed_tree::Param;
 use std::alloc::{AllocError, Global};
 
 /// What a `let` writes as the type of a variable. A lifetime that it leaves out has the number of the function's own.

@@ -3,9 +3,9 @@
 ghost use Rattle.std.specs.Prelude.{◌≡◌, ◌+◌, ◌++◌, [], map, slice_get, IfOk, Err};
 ghost use Rattle.rx_typed_places.specs.Numbers.{capped};
 ghost use Rattle.rx_typed.specs.Regions.{region-Ty};
-ghost use Rattle.rx_typed_tree.specs.PlainTree.{plain-TypedTree, plain-Param};
+ghost use Rattle.rx_typed.specs.PlainTree.{plain-TypedTree, plain-Param};
 ghost use Rattle.rx_lower_walks.specs.Orders.{order_function};
-ghost use Rattle.rx_lower_graph.specs.Text.{actions_of};
+ghost use Rattle.rx_lower_walks.specs.Text.{actions_of};
 ghost use Rattle.rx_lower_flow.specs.Flows.{order_of};
 ghost use Rattle.rx_lower_flow.specs.PlainFlow.{plain-Flow, plain-Temporary};
 ghost use Rattle.rx_lower_emit.specs.PlainSite.{plain-Site};
@@ -30,8 +30,7 @@ use rx_core::{Bound, LetGo, List, Ty, keep};
 use rx_lower_emit::{GraphFault, Site, graph_within};
 use rx_lower_flow::{Flow, Temporary};
 use rx_lower_order::flow_of;
-use rx_typed::{Decl, Decls};
-use rx_typed_tree::{Param, TypedTree};
+use rx_typed::{Decl, Decls, Param, TypedTree};
 use std::alloc::{AllocError, Global};
 
 /// The lifetimes of a function, by their numbers: its own first, then those of its variables' types that are open, then those

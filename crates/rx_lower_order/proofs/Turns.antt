@@ -3,11 +3,11 @@ use Rattle.std.proofs.Common.{◌≡◌, ℕ, ◌+◌, ◌<◌, ◌≤◌, List,
 use Rattle.std.specs.declared.alloc.AllocError.{AllocError}
 use Rattle.std.proofs.lemmas.List.{at_drop_all}
 use Rattle.rx_typed.specs.Tree.{Temporary, held, temporary_of, mark_of}
-use Rattle.rx_typed_tree.specs.declared.tree.TypedTree.{TypedTree}
-use Rattle.rx_typed_tree.specs.declared.tree.Operand.{Operand}
-use Rattle.rx_typed_tree.specs.declared.tree.Arm.{Arm}
-use Rattle.rx_typed_tree.specs.PlainTree.{plain-Expr, plain-Operand, plain-Arm, plain-Pattern, plain-Param, plain-TypedTree, operands_of, arms_of}
-use Rattle.rx_typed_tree.proofs.Rules.{arm_by_parts}
+use Rattle.rx_typed.specs.declared.tree.TypedTree.{TypedTree}
+use Rattle.rx_typed.specs.declared.tree.Operand.{Operand}
+use Rattle.rx_typed.specs.declared.tree.Arm.{Arm}
+use Rattle.rx_typed.specs.PlainTree.{plain-Expr, plain-Operand, plain-Arm, plain-Pattern, plain-Param, plain-TypedTree, operands_of, arms_of}
+use Rattle.rx_typed.proofs.Rules.{arm_by_parts}
 use Rattle.rx_lower_walks.specs.Matching.{Binding, tests, bindings}
 use Rattle.rx_lower_walks.specs.Actions.{Subject}
 use Rattle.rx_lower_walks.specs.Orders as order

@@ -2,7 +2,7 @@
 
 ghost use Rattle.std.specs.Prelude.{◌≡◌, [], ◌∷◌, IfOk, map};
 ghost use Rattle.rx_typed.specs.Tree as tree;
-ghost use Rattle.rx_typed_tree.specs.PlainTree.{plain-Expr, plain-Making, plain-Mark, plain-Operand, plain-Place, operands_of};
+ghost use Rattle.rx_typed.specs.PlainTree.{plain-Expr, plain-Making, plain-Mark, plain-Operand, plain-Place, operands_of};
 ghost use Rattle.rx_lower_walks.specs.Matching as matching;
 ghost use Rattle.rx_lower_walks.specs.Actions as actions;
 ghost use Rattle.rx_lower_walks.specs.Actions.{at_mark};
@@ -16,7 +16,7 @@ use rx_lower_flow::{Act, Flow, Temporary};
 use rx_lower_order_parts as parts;
 use rx_lower_order_parts::{sequence, temporary_of, then_flow, with_act};
 use rx_tree::BinaryOp;
-use rx_typed_tree::{Expr, Making, Mark, Operand};
+use rx_typed::{Expr, Making, Mark, Operand};
 use std::alloc::{AllocError, Global};
 
 /// A value of type `&mut T` becomes a `&T`.
@@ -167,7 +167,7 @@ pub(crate) fn give(
 }
 
 #[cycle(expression)]
-#[tactic(auto, using(rx_typed_tree::proofs::Rules::typed_tree_rules))]
+#[tactic(auto, using(rx_typed::proofs::Rules::typed_tree_rules))]
 fn operand_flow(alloc: Global, operand: &Operand) -> Result<Flow, AllocError>
     ensures { IfOk result (λ it. order_of (plain-Flow it) ≡ order.order (plain-Operand operand.now).1 (tree.temporary_of (plain-Operand operand.now).1)) }
 {

@@ -1,7 +1,7 @@
 //! The flow of a function.
 
 ghost use Rattle.std.specs.Prelude.{◌≡◌, IfOk};
-ghost use Rattle.rx_typed_tree.specs.PlainTree.{plain-TypedTree};
+ghost use Rattle.rx_typed.specs.PlainTree.{plain-TypedTree};
 ghost use Rattle.rx_lower_walks.specs.Orders.{order_function};
 ghost use Rattle.rx_lower_flow.specs.Flows.{order_of};
 ghost use Rattle.rx_lower_flow.specs.PlainFlow.{plain-Flow};
@@ -10,7 +10,7 @@ use crate::forms::value;
 use rx_core::keep;
 use rx_lower_flow::Flow;
 use rx_lower_order_parts::{node_of, parameters, sequence};
-use rx_typed_tree::TypedTree;
+use rx_typed::TypedTree;
 use std::alloc::{AllocError, Global};
 
 /// The order of a function's actions. Where numbers of fields pass 32 bits it is as if memory ran out.

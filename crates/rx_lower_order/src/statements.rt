@@ -2,7 +2,7 @@
 
 ghost use Rattle.std.specs.Prelude.{◌≡◌, ◌++◌, [], ◌∷◌, IfOk, map};
 ghost use Rattle.rx_typed.specs.Tree as tree;
-ghost use Rattle.rx_typed_tree.specs.PlainTree.{plain-Arm, plain-Expr, plain-Mark, plain-Matched, plain-Pattern, plain-Stmt, arms_of, nested_of};
+ghost use Rattle.rx_typed.specs.PlainTree.{plain-Arm, plain-Expr, plain-Mark, plain-Matched, plain-Pattern, plain-Stmt, arms_of, nested_of};
 ghost use Rattle.rx_lower_walks.specs.Matching as matching;
 ghost use Rattle.rx_lower_walks.specs.Actions as actions;
 ghost use Rattle.rx_lower_walks.specs.Orders as order;
@@ -17,12 +17,12 @@ use rx_lower_flow::{Flow, Item, Temporary};
 use rx_lower_order_parts::{
     Subject, bound, declared, node_of, sequence, subject_of, tested, then_flow, then_try,
 };
-use rx_typed_tree::{Arm, Expr, Mark, Matched, Pattern, Stmt};
+use rx_typed::{Arm, Expr, Mark, Matched, Pattern, Stmt};
 use std::alloc::{AllocError, Global};
 
 /// What is matched: a value, or a place, which has no action.
 #[cycle(expression)]
-#[tactic(auto, using(rx_typed_tree::proofs::Rules::typed_tree_rules, rx_lower_flow::proofs::Rules::flow_rules))]
+#[tactic(auto, using(rx_typed::proofs::Rules::typed_tree_rules, rx_lower_flow::proofs::Rules::flow_rules))]
 fn matched_flow(alloc: Global, matched: &Matched) -> Result<Flow, AllocError>
     ensures { IfOk result (λ it. order_of (plain-Flow it) ≡ order.order_scrutinee (plain-Matched matched.now)) }
 {
@@ -83,7 +83,7 @@ pub(crate) fn arm_flows(
 
 /// The items, and a statement of the block at a node.
 #[cycle(expression)]
-#[tactic(auto, using(rx_typed_tree::proofs::Rules::typed_tree_rules))]
+#[tactic(auto, using(rx_typed::proofs::Rules::typed_tree_rules))]
 fn with_statement(
     alloc: Global,
     statement: &Stmt,

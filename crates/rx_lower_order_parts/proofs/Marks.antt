@@ -2,11 +2,11 @@
 use Rattle.std.proofs.Common.{◌≡◌, ℕ, refl, ap, ◌∙◌}
 use Rattle.rx_typed.specs.Tree as tree
 use Rattle.rx_typed.specs.Tree.{Exp, Scrutinee, Body, Pattern, mark_of}
-use Rattle.rx_typed_tree.specs.declared.tree.Form.{Form, Form-F, fold_out-Form}
-use Rattle.rx_typed_tree.specs.declared.tree.Form.TheOpen as open_form
-use Rattle.rx_typed_tree.specs.declared.tree.Expr.{Expr}
-use Rattle.rx_typed_tree.specs.PlainTree.{plain-Mark, plain-Form, plain-Matched, plain-Stmt, plain-Arm, plain-Expr, plain-Operand, form_step, matched_step, stmt_step, arm_step, expr_step, operand_step}
-use Rattle.rx_typed_tree.proofs.Rules.{expr_by_form}
+use Rattle.rx_typed.specs.declared.tree.Form.{Form, Form-F, fold_out-Form}
+use Rattle.rx_typed.specs.declared.tree.Form.TheOpen as open_form
+use Rattle.rx_typed.specs.declared.tree.Expr.{Expr}
+use Rattle.rx_typed.specs.PlainTree.{plain-Mark, plain-Form, plain-Matched, plain-Stmt, plain-Arm, plain-Expr, plain-Operand, form_step, matched_step, stmt_step, arm_step, expr_step, operand_step}
+use Rattle.rx_typed.proofs.Rules.{expr_by_form}
 
 step_mark : (x : Form-F (tree.Mark → Exp) Scrutinee (Body → Body) (Pattern × Exp) Exp (ℕ × Exp)) (m : tree.Mark) → mark_of (form_step x m) ≡ m
 step_mark (open_form.Read v p) m = refl

@@ -1,5 +1,5 @@
 -- What subjects and bindings of the code stand for.
-use Rattle.rx_typed_tree.specs.PlainTree.{plain-Place, plain-Mode}
+use Rattle.rx_typed.specs.PlainTree.{plain-Place, plain-Mode}
 use Rattle.rx_lower_walks.specs.Matching as matching
 use Rattle.rx_lower_walks.specs.Actions as actions
 use Rattle.rx_lower_flow.specs.PlainFlow.{plain-Temporary}

@@ -2,7 +2,7 @@
 
 ghost use Rattle.std.specs.Prelude.{◌≡◌, ◌++◌, ◌∷◌, [], IfOk, OnOk, map};
 ghost use Rattle.rx_core.specs.declared.types.Step.TheVariants as step;
-ghost use Rattle.rx_typed_tree.specs.PlainTree.{plain-Pattern, plain-Subpattern, subpatterns_of};
+ghost use Rattle.rx_typed.specs.PlainTree.{plain-Pattern, plain-Subpattern, subpatterns_of};
 ghost use Rattle.rx_typed.specs.Tree.{by_value, temporary_at};
 ghost use Rattle.rx_lower_walks.specs.Matching as matching;
 ghost use Rattle.rx_lower_walks.specs.Actions as actions;
@@ -15,7 +15,7 @@ use crate::pushing::{acts, push_act, push_end, push_flow};
 use crate::subject::{Subject, extended, own, part};
 use rx_core::{List, Step, keep};
 use rx_lower_flow::{Act, Flow, Item, Temporary};
-use rx_typed_tree::{Mode, Pattern, Subpattern};
+use rx_typed::{Mode, Pattern, Subpattern};
 use std::alloc::{AllocError, Global};
 
 /// A binding of a pattern: its node, its variable, the way to what it takes, and how it takes it.
@@ -140,7 +140,7 @@ fn push_binding(
 
 /// Adds the bindings of a pattern, from left to right.
 #[cycle(bindings)]
-#[tactic(auto, using(rx_typed_tree::proofs::Rules::typed_pattern_rules, crate::proofs::Listed::part_rules))]
+#[tactic(auto, using(rx_typed::proofs::Rules::typed_pattern_rules, crate::proofs::Listed::part_rules))]
 fn push_bindings(
     alloc: Global,
     pattern: &Pattern,
@@ -210,7 +210,7 @@ fn push_bindings_behind(
 
 /// Adds the bindings of the parts of a pattern.
 #[cycle(bindings)]
-#[tactic(auto, using(rx_typed_tree::proofs::Rules::typed_pattern_rules, crate::proofs::Listed::part_rules))]
+#[tactic(auto, using(rx_typed::proofs::Rules::typed_pattern_rules, crate::proofs::Listed::part_rules))]
 fn push_bindings_in(
     alloc: Global,
     parts: &[Subpattern],
@@ -230,7 +230,7 @@ fn push_bindings_in(
 
 /// Adds the bindings of a part. Where numbers of 32 bits run out it is as if memory did.
 #[cycle(bindings)]
-#[tactic(auto, using(rx_typed_tree::proofs::Rules::typed_pattern_rules))]
+#[tactic(auto, using(rx_typed::proofs::Rules::typed_pattern_rules))]
 fn push_bindings_of_part(
     alloc: Global,
     part: &Subpattern,

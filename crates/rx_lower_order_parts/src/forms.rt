@@ -3,8 +3,8 @@
 ghost use Rattle.std.specs.Prelude.{◌≡◌, [], ◌∷◌, false, true, IfOk, map};
 ghost use Rattle.rx_core.specs.declared.types.Step.TheVariants as step;
 ghost use Rattle.rx_typed.specs.Tree as tree;
-ghost use Rattle.rx_typed_tree.specs.PlainTree.{plain-Making, plain-Operand, operands_of};
-ghost use Rattle.rx_typed_tree.specs.PlainTree as typed;
+ghost use Rattle.rx_typed.specs.PlainTree.{plain-Making, plain-Operand, operands_of};
+ghost use Rattle.rx_typed.specs.PlainTree as typed;
 ghost use Rattle.rx_lower_walks.specs.Matching as matching;
 ghost use Rattle.rx_lower_walks.specs.Actions as actions;
 ghost use Rattle.rx_lower_walks.specs.Actions.{does};
@@ -19,7 +19,7 @@ use crate::subject::{held, place_of};
 use rx_core::{Boxed, List, Place as OwnPlace, Step, keep};
 use rx_lower_flow::{Act, Check, Exit, Flow, Item, Made, Place, Root, Temporary};
 use rx_tree::BinaryOp;
-use rx_typed_tree::{Constant, Making, Operand};
+use rx_typed::{Constant, Making, Operand};
 use std::alloc::{AllocError, Global};
 
 /// A place as a value.

@@ -2,7 +2,7 @@
 
 ghost use Rattle.std.specs.Prelude.{◌≡◌, IfOk, map};
 ghost use Rattle.rx_typed.specs.Tree as tree;
-ghost use Rattle.rx_typed_tree.specs.PlainTree.{plain-Expr, plain-Matched, plain-Operand, operands_of};
+ghost use Rattle.rx_typed.specs.PlainTree.{plain-Expr, plain-Matched, plain-Operand, operands_of};
 ghost use Rattle.rx_lower_walks.specs.Actions as actions;
 ghost use Rattle.rx_lower_flow.specs.PlainFlow.{plain-Temporary};
 ghost use Rattle.rx_lower_order_parts.specs.PlainParts.{plain-Subject};
@@ -10,7 +10,7 @@ ghost use Rattle.rx_lower_order_parts.specs.PlainParts.{plain-Subject};
 use crate::subject::Subject;
 use rx_core::List;
 use rx_lower_flow::Temporary;
-use rx_typed_tree::{Expr, Matched, Operand};
+use rx_typed::{Expr, Matched, Operand};
 use std::alloc::{AllocError, Global};
 
 /// The node of an expression.
@@ -33,7 +33,7 @@ pub fn temporary_of(expr: &Expr) -> Temporary
 }
 
 /// What the patterns of a match are matched against.
-#[tactic(auto, using(rx_typed_tree::proofs::Rules::typed_tree_rules))]
+#[tactic(auto, using(rx_typed::proofs::Rules::typed_tree_rules))]
 pub fn subject_of<'a>(matched: &'a Matched) -> Subject<'a>
     ensures { plain-Subject result ≡ actions.subject (plain-Matched matched.now) }
 {
@@ -43,14 +43,14 @@ pub fn subject_of<'a>(matched: &'a Matched) -> Subject<'a>
     }
 }
 
-#[tactic(auto, using(rx_typed_tree::proofs::Rules::typed_tree_rules))]
+#[tactic(auto, using(rx_typed::proofs::Rules::typed_tree_rules))]
 fn operand_temporary(operand: &Operand) -> Temporary
     ensures { plain-Temporary result ≡ tree.temporary_of (plain-Operand operand.now).1 }
 {
     temporary_of(&operand.value)
 }
 
-#[tactic(auto, using(rx_typed_tree::proofs::Rules::typed_tree_rules))]
+#[tactic(auto, using(rx_typed::proofs::Rules::typed_tree_rules))]
 fn operand_field(operand: &Operand) -> usize
     ensures { result ≡ (plain-Operand operand.now).0 }
 {

@@ -1,7 +1,7 @@
 //! What patterns are matched against.
 
 ghost use Rattle.std.specs.Prelude.{◌≡◌, ◌++◌, ◌∷◌, [], IfOk};
-ghost use Rattle.rx_typed_tree.specs.PlainTree as typed;
+ghost use Rattle.rx_typed.specs.PlainTree as typed;
 ghost use Rattle.rx_typed.specs.Tree as tree;
 ghost use Rattle.rx_lower_walks.specs.Actions as actions;
 ghost use Rattle.rx_lower_flow.specs.PlainFlow.{plain-Place, plain-Temporary};

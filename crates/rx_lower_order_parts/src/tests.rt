@@ -2,7 +2,7 @@
 
 ghost use Rattle.std.specs.Prelude.{◌≡◌, ◌++◌, ◌∷◌, [], IfOk, OnOk, map};
 ghost use Rattle.rx_core.specs.declared.types.Step.TheVariants as step;
-ghost use Rattle.rx_typed_tree.specs.PlainTree.{plain-Pattern, plain-Subpattern, subpatterns_of};
+ghost use Rattle.rx_typed.specs.PlainTree.{plain-Pattern, plain-Subpattern, subpatterns_of};
 ghost use Rattle.rx_lower_walks.specs.Matching as matching;
 ghost use Rattle.rx_lower_flow.specs.PlainFlow.{plain-Check, plain-Item};
 ghost use Rattle.rx_lower_order_parts.specs.Items.{test_items};
@@ -12,7 +12,7 @@ use crate::pushing::{push_act, push_may};
 use crate::subject::{Subject, extended, part};
 use rx_core::{List, Step, keep};
 use rx_lower_flow::{Act, Check, Item};
-use rx_typed_tree::{Pattern, Subpattern};
+use rx_typed::{Pattern, Subpattern};
 use std::alloc::{AllocError, Global};
 
 /// Adds a test of a part, which may fail.
@@ -55,7 +55,7 @@ fn push_tag_test(
 
 /// Adds the tests of a pattern, from left to right.
 #[cycle(tests)]
-#[tactic(auto, using(rx_typed_tree::proofs::Rules::typed_pattern_rules, crate::proofs::Listed::part_rules))]
+#[tactic(auto, using(rx_typed::proofs::Rules::typed_pattern_rules, crate::proofs::Listed::part_rules))]
 fn push_tests(
     alloc: Global,
     pattern: &Pattern,
@@ -117,7 +117,7 @@ fn push_tests_behind(
 
 /// Adds the tests of the parts of a pattern.
 #[cycle(tests)]
-#[tactic(auto, using(rx_typed_tree::proofs::Rules::typed_pattern_rules, crate::proofs::Listed::part_rules))]
+#[tactic(auto, using(rx_typed::proofs::Rules::typed_pattern_rules, crate::proofs::Listed::part_rules))]
 fn push_tests_in(
     alloc: Global,
     parts: &[Subpattern],
@@ -136,7 +136,7 @@ fn push_tests_in(
 
 /// Adds the tests of a part. Where numbers of 32 bits run out it is as if memory did.
 #[cycle(tests)]
-#[tactic(auto, using(rx_typed_tree::proofs::Rules::typed_pattern_rules))]
+#[tactic(auto, using(rx_typed::proofs::Rules::typed_pattern_rules))]
 fn push_tests_of_part(
     alloc: Global,
     part: &Subpattern,

@@ -1,7 +1,7 @@
 //! Variables that are declared without a pattern, and parameters.
 
 ghost use Rattle.std.specs.Prelude.{◌≡◌, ◌++◌, ◌∷◌, [], IfOk, OnOk, map};
-ghost use Rattle.rx_typed_tree.specs.PlainTree.{plain-Param};
+ghost use Rattle.rx_typed.specs.PlainTree.{plain-Param};
 ghost use Rattle.rx_lower_flow.specs.PlainFlow.{plain-Item};
 ghost use Rattle.rx_lower_order_parts.specs.Items.{declaring_items, parameter_items};
 
@@ -9,7 +9,7 @@ use crate::pushing::{push_act, push_end};
 use crate::subject::own;
 use rx_core::{List, keep};
 use rx_lower_flow::{Act, Item, Temporary};
-use rx_typed_tree::Param;
+use rx_typed::Param;
 use std::alloc::{AllocError, Global};
 
 /// Adds that a variable is declared at a node, and ends at another.

@@ -1,123 +1,88 @@
--- A walk by its choices: at each `or` the next one says whether the first part is taken. It is a walk.
-use Rattle.std.proofs.Common.{◌≡◌, ℕ, zero, suc, Bool, true, false, nat_eq, List, [], ◌∷◌, ◌++◌, refl, eqb-true, if◌then◌else◌}
-use Rattle.std.proofs.lemmas.Bool.{eqb-false}
-use Rattle.rx_lower_walks.specs.Actions.{Dead, Action, does}
-use Rattle.rx_lower_walks.specs.Orders.{Exit, breaks, continues, returns, exit_node, Order}
-use Rattle.rx_lower_walks.specs.Orders as order
-use Rattle.rx_lower_walks.specs.Walks.{Out, on, leaves, fails, stopped, Walk}
-use Rattle.rx_lower_walks.specs.Walks as walk
+-- One of two parts.
+use Rattle.std.proofs.Common.{◌≡◌, ℕ, ◌+◌, List, [], ◌∷◌, ◌++◌, length, true, ◌||◌, Option, Some, refl, ◌∙◌, subst, arith, ◌⊎◌, inl, inr, length-append}
+use Rattle.rx_lower_walks.specs.Actions.{Action}
+use Rattle.rx_lower_walks.specs.Walks.{Among}
+use Rattle.rx_lower_walks.specs.Graph.{Site, Path}
+use Rattle.rx_lower_walks.specs.Pieces.{Way, Exits, Begin, starts, through, entry, Piece, moved, or_part}
+use Rattle.rx_lower_walks.proofs.Fits.{among_front, among_back, among_either, HasAt, has_front, has_back, path_among, entry_starts, entry_through, Entered, by_start, by_way, entered, Walks, after, Begun, begun, Fits}
+use Rattle.rx_lower_walks.proofs.Sequences.{moved_starts, moved_through, Moved, moves, stays, was_moved, or_true}
 
--- what was done, how it ended, the choices that are left
-pub record Way : Type 0 where
-  pub did : List Action
-  pub out : Out
-  pub left : List Bool
+pub data Either (V W : Walks) : List Action → Option Way → Type 0 where
+  one : {us : List Action} {e : Option Way} → V us e → Either V W us e
+  other : {us : List Action} {e : Option Way} → W us e → Either V W us e
 
-abbrev pub way : List Action → Out → List Bool → Way
-way us o cs = record { did = us; out = o; left = cs }
-
-abbrev pub behind : List Action → Way → Way
-behind us w = way (us ++ w.did) w.out w.left
-
--- a part, and what follows it
-abbrev pub then_way : List Action → Out → List Bool → (List Bool → Way) → Way
-then_way us on cs f = behind us (f cs)
-then_way us o cs f = way us o cs
-
-abbrev pub otherwise_way : List Action → Out → List Bool → (List Bool → Way) → Way
-otherwise_way us fails cs f = behind us (f cs)
-otherwise_way us o cs f = way us o cs
-
-abbrev pub or_way : List Bool → (List Bool → Way) → (List Bool → Way) → Way
-or_way [] f g = way [] stopped []
-or_way (true ∷ cs) f g = f cs
-or_way (false ∷ cs) f g = g cs
-
-abbrev pub ended_way : ℕ → ℕ → List Action → Out → List Bool → Way
-ended_way n x us on cs = way (us ++ does n (Dead x) ∷ []) on cs
-ended_way n x us (leaves j) cs = way (us ++ does (exit_node j) (Dead x) ∷ []) (leaves j) cs
-ended_way n x us _ cs = way us stopped cs
-
--- the passes of a loop, as many at most
-abbrev pub round : ℕ → List Action → Out → List Bool → (List Bool → Way) → Way
-round l us on cs again = behind us (again cs)
-round l us (leaves (continues n k)) cs again = if nat_eq k l then behind us (again cs) else way us (leaves (continues n k)) cs
-round l us (leaves (breaks n k)) cs again = if nat_eq k l then way us on cs else way us (leaves (breaks n k)) cs
-round l us (leaves (returns n)) cs again = way us (leaves (returns n)) cs
-round l us _ cs again = way us stopped cs
-
-abbrev pub rounds : ℕ → ℕ → (List Bool → Way) → List Bool → Way
-rounds zero l f cs = way [] stopped cs
-rounds (suc n) l f cs = round l (f cs).did (f cs).out (f cs).left (λ cs. rounds n l f cs)
-
-abbrev pub walked : ℕ → Order → List Bool → Way
-walked n order.nothing cs = way [] on cs
-walked n order.nowhere cs = way [] stopped cs
-walked n (order.act a) cs = way (a ∷ []) on cs
-walked n (order.then s t) cs = then_way (walked n s cs).did (walked n s cs).out (walked n s cs).left (λ cs. walked n t cs)
-walked n (order.or s t) cs = or_way cs (λ cs. walked n s cs) (λ cs. walked n t cs)
-walked n (order.leave x) cs = way [] (leaves x) cs
-walked n order.fail cs = way [] fails cs
-walked n (order.otherwise s t) cs = otherwise_way (walked n s cs).did (walked n s cs).out (walked n s cs).left (λ cs. walked n t cs)
-walked n (order.ending i x s) cs = ended_way i x (walked n s cs).did (walked n s cs).out (walked n s cs).left
-walked n (order.passes l s) cs = rounds n l (λ cs. walked n s cs) cs
-
--- ---- it is a walk
-
-abbrev IsWay : Order → Way → Type 0
-IsWay s w = Walk s w.did w.out
-
-then_walks : (s t : Order) (us : List Action) (o : Out) (cs : List Bool) (f : List Bool → Way) → Walk s us o → ((cs : List Bool) → IsWay t (f cs)) → IsWay (order.then s t) (then_way us o cs f)
-then_walks s t us on cs f h k = walk.both h (k cs)
-then_walks s t us (leaves x) cs f h k = walk.first tt h
-then_walks s t us fails cs f h k = walk.first tt h
-then_walks s t us stopped cs f h k = walk.first tt h
-
-otherwise_walks : (s t : Order) (us : List Action) (o : Out) (cs : List Bool) (f : List Bool → Way) → Walk s us o → ((cs : List Bool) → IsWay t (f cs)) → IsWay (order.otherwise s t) (otherwise_way us o cs f)
-otherwise_walks s t us on cs f h k = walk.holds tt h
-otherwise_walks s t us (leaves x) cs f h k = walk.holds tt h
-otherwise_walks s t us fails cs f h k = walk.next h (k cs)
-otherwise_walks s t us stopped cs f h k = walk.holds tt h
-
-or_walks : (s t : Order) (cs : List Bool) (f g : List Bool → Way) → ((cs : List Bool) → IsWay s (f cs)) → ((cs : List Bool) → IsWay t (g cs)) → IsWay (order.or s t) (or_way cs f g)
-or_walks s t [] f g h k = walk.rests
-or_walks s t (true ∷ cs) f g h k = walk.one (h cs)
-or_walks s t (false ∷ cs) f g h k = walk.other (k cs)
-
-ended_walks : (s : Order) (n x : ℕ) (us : List Action) (o : Out) (cs : List Bool) → Walk s us o → IsWay (order.ending n x s) (ended_way n x us o cs)
-ended_walks s n x us on cs h = walk.ends h
-ended_walks s n x us (leaves j) cs h = walk.jumps h
-ended_walks s n x us fails cs h = walk.halts (walk.stops h)
-ended_walks s n x us stopped cs h = walk.halts h
-
-round_walks : (s : Order) (l : ℕ) (us : List Action) (o : Out) (cs : List Bool) (again : List Bool → Way) → Walk s us o → ((cs : List Bool) → IsWay (order.passes l s) (again cs)) → IsWay (order.passes l s) (round l us o cs again)
-round_walks s l us on cs again h k = walk.more h walk.by_end (k cs)
-round_walks s l us (leaves (continues n j)) cs again h k = by (nat_eq j l) refl
+-- each entry of either part is one of the whole
+pub one_entry : (bs hs : List Begin) (b : ℕ) (k : Exits) (p : ℕ) → Among p (entry bs b k) → Among p (entry (bs ++ hs) b k)
+one_entry bs hs b k p m = by (entered bs b k p m)
   where
-    by : (b : Bool) → nat_eq j l ≡ b → IsWay (order.passes l s) (if b then behind us (again cs) else way us (leaves (continues n j)) cs)
-    by true e = walk.more h (walk.by_continue (eqb-true j l e)) (k cs)
-    by false e = walk.last h (walk.by_outer_continue (eqb-false j l e))
-round_walks s l us (leaves (breaks n j)) cs again h k = by (nat_eq j l) refl
+    by : {p : ℕ} → Entered bs b k p → Among p (entry (bs ++ hs) b k)
+    by (by_start i n) = entry_starts (bs ++ hs) b k i (among_front bs hs n)
+    by {p = p} (by_way q n a) = entry_through (bs ++ hs) b k q p (among_front bs hs n) a
+
+pub other_entry : (bs hs : List Begin) (n b : ℕ) (k : Exits) (p : ℕ) → Among p (entry hs (b + n) k) → Among p (entry (bs ++ moved n hs) b k)
+other_entry bs hs n b k p m = by (entered hs (b + n) k p m)
   where
-    by : (b : Bool) → nat_eq j l ≡ b → IsWay (order.passes l s) (if b then way us on cs else way us (leaves (breaks n j)) cs)
-    by true e = walk.last h (walk.by_break (eqb-true j l e))
-    by false e = walk.last h (walk.by_outer_break (eqb-false j l e))
-round_walks s l us (leaves (returns n)) cs again h k = walk.last h walk.by_return
-round_walks s l us fails cs again h k = walk.last (walk.stops h) walk.by_stop
-round_walks s l us stopped cs again h k = walk.last h walk.by_stop
+    by : {p : ℕ} → Entered hs (b + n) k p → Among p (entry (bs ++ moved n hs) b k)
+    by (by_start j o) =
+        let e : b + (n + j) ≡ b + n + j = omega arith in
+        subst (λ p. Among p (entry (bs ++ moved n hs) b k)) e (entry_starts (bs ++ moved n hs) b k (n + j) (among_back bs (moved n hs) (moved_starts n hs j o)))
+    by {p = p} (by_way q o a) = entry_through (bs ++ moved n hs) b k q p (among_back bs (moved n hs) (moved_through n hs q o)) a
 
-rounds_walk : (n : ℕ) (s : Order) (l : ℕ) (f : List Bool → Way) (cs : List Bool) → ((cs : List Bool) → IsWay s (f cs)) → IsWay (order.passes l s) (rounds n l f cs)
-rounds_walk zero s l f cs h = walk.rests
-rounds_walk (suc n) s l f cs h = round_walks s l (f cs).did (f cs).out (f cs).left _ (h cs) (λ cs. rounds_walk n s l f cs h)
+module _ (V W : List Action → Option Way → Type 0) (f h : Piece) (fv : Fits V f) (hw : Fits W h) where
+  pub or_front : (g : List Site) (b : ℕ) (k : Exits) → HasAt g b ((or_part f h).sites b k) → HasAt g b (f.sites b k)
+  or_front g b k has = has_front g b (f.sites b k) _ has
 
-pub walked_walks : (n : ℕ) (s : Order) (cs : List Bool) → Walk s (walked n s cs).did (walked n s cs).out
-walked_walks n order.nothing cs = walk.nothing
-walked_walks n order.nowhere cs = walk.rests
-walked_walks n (order.act a) cs = walk.acts
-walked_walks n (order.then s t) cs = then_walks s t _ _ _ _ (walked_walks n s cs) (λ cs. walked_walks n t cs)
-walked_walks n (order.or s t) cs = or_walks s t cs _ _ (λ cs. walked_walks n s cs) (λ cs. walked_walks n t cs)
-walked_walks n (order.leave x) cs = walk.leave
-walked_walks n order.fail cs = walk.fail
-walked_walks n (order.otherwise s t) cs = otherwise_walks s t _ _ _ _ (walked_walks n s cs) (λ cs. walked_walks n t cs)
-walked_walks n (order.ending i x s) cs = ended_walks s i x _ _ _ (walked_walks n s cs)
-walked_walks n (order.passes l s) cs = rounds_walk n s l _ cs (λ cs. walked_walks n s cs)
+  pub or_rear : (g : List Site) (b : ℕ) (k : Exits) → HasAt g b ((or_part f h).sites b k) → HasAt g (b + f.size) (h.sites (b + f.size) k)
+  or_rear g b k has = has_back g b (b + f.size) (f.sites b k) _ (omega (arith, fv.long b k)) has
+
+  or_long : (b : ℕ) (k : Exits) → length ((or_part f h).sites b k) ≡ (or_part f h).size
+  or_long b k = length-append (f.sites b k) _ ∙ omega (arith, fv.long b k, hw.long (b + f.size) k)
+
+  or_ended : (us : List Action) (q : Way) → Either V W us (Some q) → (f.ends q || h.ends q) ≡ true
+  or_ended us q (one v) = rw (fv.ended us q v) refl
+  or_ended us q (other w) = rw (hw.ended us q w) (or_true _)
+
+  or_silent : (q : Way) → Either V W [] (Some q) → Among (through q) (f.begins ++ moved f.size h.begins)
+  or_silent q (one v) = among_front f.begins _ (fv.silent q v)
+  or_silent q (other w) = among_back f.begins _ (moved_through f.size h.begins q (hw.silent q w))
+
+  other_idle : (q : Way) → Moved f.size h.begins (through q) → Either V W [] (Some q)
+  other_idle _ (stays q n) = other (hw.idle q n)
+
+  or_idle : (q : Way) → Among (through q) f.begins ⊎ Among (through q) (moved f.size h.begins) → Either V W [] (Some q)
+  or_idle q (inl m) = one (fv.idle q m)
+  or_idle q (inr m) = other_idle q (was_moved f.size h.begins (through q) m)
+
+  or_forth : (g : List Site) (b : ℕ) (k : Exits) → HasAt g b ((or_part f h).sites b k) → (us vs : List Action) (e : Option Way) → Either V W us e
+      → Path g (after k e) vs → Path g (entry (f.begins ++ moved f.size h.begins) b k) (us ++ vs)
+  or_forth g b k has us vs e (one v) l = path_among g _ _ (us ++ vs) (one_entry f.begins (moved f.size h.begins) b k) (fv.forth g b k (or_front g b k has) us vs e v l)
+  or_forth g b k has us vs e (other w) l = path_among g _ _ (us ++ vs) (other_entry f.begins h.begins f.size b k) (hw.forth g (b + f.size) k (or_rear g b k has) us vs e w l)
+
+  in_one : (g : List Site) (k : Exits) (u : Action) (us : List Action) → Begun V g k u us → Begun (Either V W) g k u us
+  in_one g k u us (begun xs vs o d v r) = begun xs vs o d (one v) r
+
+  in_other : (g : List Site) (k : Exits) (u : Action) (us : List Action) → Begun W g k u us → Begun (Either V W) g k u us
+  in_other g k u us (begun xs vs o d w r) = begun xs vs o d (other w) r
+
+  other_back : (g : List Site) (b : ℕ) (k : Exits) → HasAt g b ((or_part f h).sites b k) → (i : ℕ) → Moved f.size h.begins (starts i)
+      → (u : Action) (us : List Action) → Path g ((b + i) ∷ []) (u ∷ us) → Begun (Either V W) g k u us
+  other_back g b k has _ (moves j n) u us l =
+      let e : b + (f.size + j) ≡ b + f.size + j = omega arith in
+      in_other g k u us (hw.back g (b + f.size) k (or_rear g b k has) j n u us (subst (λ n. Path g (n ∷ []) (u ∷ us)) e l))
+
+  or_back : (g : List Site) (b : ℕ) (k : Exits) → HasAt g b ((or_part f h).sites b k) → (i : ℕ)
+      → Among (starts i) f.begins ⊎ Among (starts i) (moved f.size h.begins) → (u : Action) (us : List Action) → Path g ((b + i) ∷ []) (u ∷ us)
+      → Begun (Either V W) g k u us
+  or_back g b k has i (inl m) u us l = in_one g k u us (fv.back g b k (or_front g b k has) i m u us l)
+  or_back g b k has i (inr m) u us l = other_back g b k has i (was_moved f.size h.begins (starts i) m) u us l
+
+  pub or_fits : Fits (Either V W) (or_part f h)
+  or_fits = record {
+    long = or_long;
+    ended = or_ended;
+    silent = or_silent;
+    idle = λ q m. or_idle q (among_either f.begins _ m);
+    rested = one fv.rested;
+    forth = or_forth;
+    back = λ g b k has i m u us l. or_back g b k has i (among_either f.begins _ m) u us l;
+  }

@@ -1,5 +1,5 @@
--- Walks of functions, computed from the choices made on the way, against lists of actions written by hand. (Of each node's
--- number `Programs` has the text: nodes are counted in its order, the function's item being 0.)
+-- The graphs of functions, computed, against lists of sites written by hand. (Of each node's number `rx_lower_walks` has the text:
+-- nodes are counted in its order, the function's item being 0.)
 use Rattle.std.specs.Prelude.{◌≡◌, refl, ℕ, ℤ, pos, negsuc, true, false, List, [], ◌∷◌}
 use Rattle.rx_core.specs.declared.types.Kind.{Kind}
 use Rattle.rx_core.specs.declared.types.Step.{Step}
@@ -8,11 +8,12 @@ use Rattle.rx_tree.specs.declared.tree.BinaryOp.{BinaryOp}
 use Rattle.rx_typed.specs.Tree.{Temporary, Place, truth, whole_number, constant, negation, operation, own, held, under, temporary_at}
 use Rattle.rx_lower_walks.specs.Matching.{has_tag, equals}
 use Rattle.rx_lower_walks.specs.Actions.{Action, Declare, Dead, Read, Write, Borrow, Test, Call, Build, Input, Print, Give, does}
-use Rattle.rx_lower_walks.specs.Orders.{returns, order_function}
-use Rattle.rx_lower_walks.specs.Walks.{leaves, stopped}
-use Rattle.rx_lower_walks.proofs.Choices.{walked, way}
+use Rattle.rx_lower_walks.specs.Orders.{breaks, returns, Order}
+use Rattle.rx_lower_walks.specs.Orders as order
 use Rattle.rx_lower_walks.proofs.Programs.{product_main, half_half, gate_main, steps_main}
 use Rattle.rx_lower_walks.proofs.ProgramsOfTypes.{shapes_size}
+use Rattle.rx_lower_walks.specs.Graph.{Site}
+use Rattle.rx_lower_walks.specs.Pieces.{graph_of, graph}
 
 abbrev temporary : ℕ → Temporary
 temporary n = temporary_at n 0
@@ -36,93 +37,227 @@ gets n x d = does n (Write (own x) (temporary d) [])
 abbrev holds : ℕ → ℕ → Action
 holds n d = does n (Test (held (temporary d)) (equals (truth true)))
 
-abbrev pub product_actions : List Action
-product_actions =
-    literal 4 Kind.I64 (pos 2) ∷ begins 3 0 ∷ gets 3 0 4
-    ∷ literal 7 Kind.I64 (pos 3) ∷ begins 6 1 ∷ gets 6 1 7
-    ∷ copied 11 0 11 ∷ copied 12 1 12 ∷ operator 10 BinaryOp.Mul 11 12 ∷ begins 9 2 ∷ gets 9 2 10
-    ∷ copied 15 2 15 ∷ does 14 (Print (temporary 15))
-    ∷ does 1 (Give (temporary 1)) ∷ does 1 (Dead 2) ∷ does 1 (Dead 1) ∷ does 1 (Dead 0) ∷ []
+abbrev dies : ℕ → ℕ → Action
+dies n x = does n (Dead x)
 
-product_walk : walked 1 (order_function product_main) [] ≡ way product_actions (leaves (returns 1)) []
-product_walk = refl
+-- a site that another follows, one that two may follow, one that none follows
+abbrev to : ℕ → Action → Site
+to p a = record { action = a; next = p ∷ [] }
 
--- parameters; the block's value goes to the block's temporary, and its variable ends before the sum is made
-abbrev pub half_actions : List Action
-half_actions =
-    begins 1 0 ∷ gets 1 0 1 ∷ begins 2 1 ∷ gets 2 1 2
-    ∷ copied 8 0 8 ∷ literal 13 Kind.I64 (pos 1) ∷ begins 12 3 ∷ gets 12 3 13
-    ∷ copied 16 1 16 ∷ holds 15 16
-    ∷ copied 21 3 10 ∷ does 10 (Dead 3) ∷ operator 7 BinaryOp.Add 8 10 ∷ begins 6 2 ∷ gets 6 2 7
-    ∷ copied 22 2 22 ∷ does 4 (Give (temporary 22)) ∷ does 4 (Dead 2) ∷ does 4 (Dead 1) ∷ does 4 (Dead 0) ∷ []
+abbrev fork : ℕ → ℕ → Action → Site
+fork p q a = record { action = a; next = p ∷ q ∷ [] }
 
-half_goes_on : walked 1 (order_function half_half) (false ∷ []) ≡ way half_actions (leaves (returns 4)) []
-half_goes_on = refl
+abbrev last : Action → Site
+last a = record { action = a; next = [] }
 
--- a jump out of an operand: the variables declared so far end at the jump
-abbrev pub half_returning : List Action
-half_returning =
-    begins 1 0 ∷ gets 1 0 1 ∷ begins 2 1 ∷ gets 2 1 2
-    ∷ copied 8 0 8 ∷ literal 13 Kind.I64 (pos 1) ∷ begins 12 3 ∷ gets 12 3 13
-    ∷ copied 16 1 16 ∷ holds 15 16
-    ∷ copied 20 0 20 ∷ does 19 (Give (temporary 20)) ∷ does 19 (Dead 3) ∷ does 19 (Dead 1) ∷ does 19 (Dead 0) ∷ []
+abbrev pub product_sites : List Site
+product_sites =
+    to 1 (literal 4 Kind.I64 (pos 2))
+    ∷ to 2 (begins 3 0)
+    ∷ to 3 (gets 3 0 4)
+    ∷ to 4 (literal 7 Kind.I64 (pos 3))
+    ∷ to 5 (begins 6 1)
+    ∷ to 6 (gets 6 1 7)
+    ∷ to 7 (copied 11 0 11)
+    ∷ to 8 (copied 12 1 12)
+    ∷ to 9 (operator 10 BinaryOp.Mul 11 12)
+    ∷ to 10 (begins 9 2)
+    ∷ to 11 (gets 9 2 10)
+    ∷ to 12 (copied 15 2 15)
+    ∷ to 13 (does 14 (Print (temporary 15)))
+    ∷ to 14 (does 1 (Give (temporary 1)))
+    ∷ to 15 (dies 1 2)
+    ∷ to 16 (dies 1 1)
+    ∷ last (dies 1 0)
+    ∷ []
 
-half_returns : walked 1 (order_function half_half) (true ∷ []) ≡ way half_returning (leaves (returns 19)) []
-half_returns = refl
+product_graph : graph product_main ≡ product_sites
+product_graph = refl
 
--- a pass that continues, and one that breaks
-abbrev pub gate_actions : List Action
-gate_actions =
-    literal 4 Kind.I64 (pos 0) ∷ begins 3 0 ∷ gets 3 0 4
-    ∷ does 10 (Input (temporary 10)) ∷ begins 9 1 ∷ gets 9 1 10
-    ∷ copied 14 1 14 ∷ literal 15 Kind.I64 (pos 0) ∷ operator 13 BinaryOp.Eq 14 15 ∷ holds 12 13
-    ∷ copied 22 1 22 ∷ literal 23 Kind.I64 (pos 0) ∷ operator 21 BinaryOp.Lt 22 23 ∷ holds 20 21 ∷ does 26 (Dead 1)
-    ∷ does 10 (Input (temporary 10)) ∷ begins 9 1 ∷ gets 9 1 10
-    ∷ copied 14 1 14 ∷ literal 15 Kind.I64 (pos 0) ∷ operator 13 BinaryOp.Eq 14 15 ∷ holds 12 13 ∷ does 18 (Dead 1)
-    ∷ copied 35 0 35 ∷ does 34 (Print (temporary 35)) ∷ does 1 (Give (temporary 1)) ∷ does 1 (Dead 0) ∷ []
+-- a `return` out of an operand ends the variables declared so far, at its node
+abbrev pub half_sites : List Site
+half_sites =
+    to 1 (begins 1 0)
+    ∷ to 2 (gets 1 0 1)
+    ∷ to 3 (begins 2 1)
+    ∷ to 4 (gets 2 1 2)
+    ∷ to 5 (copied 8 0 8)
+    ∷ to 6 (literal 13 Kind.I64 (pos 1))
+    ∷ to 7 (begins 12 3)
+    ∷ to 8 (gets 12 3 13)
+    ∷ to 9 (copied 16 1 16)
+    ∷ fork 10 15 (holds 15 16)
+    ∷ to 11 (copied 20 0 20)
+    ∷ to 12 (does 19 (Give (temporary 20)))
+    ∷ to 13 (dies 19 3)
+    ∷ to 14 (dies 19 1)
+    ∷ last (dies 19 0)
+    ∷ to 16 (copied 21 3 10)
+    ∷ to 17 (dies 10 3)
+    ∷ to 18 (operator 7 BinaryOp.Add 8 10)
+    ∷ to 19 (begins 6 2)
+    ∷ to 20 (gets 6 2 7)
+    ∷ to 21 (copied 22 2 22)
+    ∷ to 22 (does 4 (Give (temporary 22)))
+    ∷ to 23 (dies 4 2)
+    ∷ to 24 (dies 4 1)
+    ∷ last (dies 4 0)
+    ∷ []
 
-gate_walk : walked 9 (order_function gate_main) (false ∷ true ∷ true ∷ []) ≡ way gate_actions (leaves (returns 1)) []
-gate_walk = refl
+half_graph : graph half_half ≡ half_sites
+half_graph = refl
 
--- `while let` and `if let`: the binding takes its part from the scrutinee's temporary
-abbrev pub steps_actions : List Action
-steps_actions =
-    literal 4 Kind.I64 (pos 0) ∷ begins 3 0 ∷ gets 3 0 4
-    ∷ does 9 (Call 2 [] (temporary 9)) ∷ does 7 (Test (held (temporary 9)) (has_tag 0))
-    ∷ begins 8 1 ∷ does 8 (Write (own 1) (temporary 9) (step.Variant 0 ∷ step.Field 0 ∷ []))
-    ∷ does 13 (Test (own 1) (equals (whole_number Kind.I64 (pos 13)))) ∷ does 17 (Dead 1)
-    ∷ copied 26 0 26 ∷ does 25 (Print (temporary 26)) ∷ does 1 (Give (temporary 1)) ∷ does 1 (Dead 0) ∷ []
+-- `break` leads behind the loop, `continue` and the end of a pass to its first site; each ends the variable of the pass
+abbrev pub gate_sites : List Site
+gate_sites =
+    to 1 (literal 4 Kind.I64 (pos 0))
+    ∷ to 2 (begins 3 0)
+    ∷ to 3 (gets 3 0 4)
+    ∷ to 4 (does 10 (Input (temporary 10)))
+    ∷ to 5 (begins 9 1)
+    ∷ to 6 (gets 9 1 10)
+    ∷ to 7 (copied 14 1 14)
+    ∷ to 8 (literal 15 Kind.I64 (pos 0))
+    ∷ to 9 (operator 13 BinaryOp.Eq 14 15)
+    ∷ fork 10 11 (holds 12 13)
+    ∷ to 21 (dies 18 1)
+    ∷ to 12 (copied 22 1 22)
+    ∷ to 13 (literal 23 Kind.I64 (pos 0))
+    ∷ to 14 (operator 21 BinaryOp.Lt 22 23)
+    ∷ fork 15 16 (holds 20 21)
+    ∷ to 3 (dies 26 1)
+    ∷ to 17 (copied 31 0 31)
+    ∷ to 18 (copied 32 1 32)
+    ∷ to 19 (operator 30 BinaryOp.Add 31 32)
+    ∷ to 20 (does 28 (Write (own 0) (temporary 30) []))
+    ∷ to 3 (dies 7 1)
+    ∷ to 22 (copied 35 0 35)
+    ∷ to 23 (does 34 (Print (temporary 35)))
+    ∷ to 24 (does 1 (Give (temporary 1)))
+    ∷ last (dies 1 0)
+    ∷ []
 
-steps_walk : walked 9 (order_function steps_main) (true ∷ true ∷ []) ≡ way steps_actions (leaves (returns 1)) []
-steps_walk = refl
+gate_graph : graph gate_main ≡ gate_sites
+gate_graph = refl
 
--- the parts of a shape behind the parameter's reference
+-- `while let`: where its test fails no site stands for the jump out of the loop
+abbrev pub steps_sites : List Site
+steps_sites =
+    to 1 (literal 4 Kind.I64 (pos 0))
+    ∷ to 2 (begins 3 0)
+    ∷ to 3 (gets 3 0 4)
+    ∷ to 4 (does 9 (Call 2 [] (temporary 9)))
+    ∷ fork 5 14 (does 7 (Test (held (temporary 9)) (has_tag 0)))
+    ∷ to 6 (begins 8 1)
+    ∷ to 7 (does 8 (Write (own 1) (temporary 9) (step.Variant 0 ∷ step.Field 0 ∷ [])))
+    ∷ fork 8 9 (does 13 (Test (own 1) (equals (whole_number Kind.I64 (pos 13)))))
+    ∷ to 14 (dies 17 1)
+    ∷ to 10 (copied 22 0 22)
+    ∷ to 11 (copied 23 1 23)
+    ∷ to 12 (operator 21 BinaryOp.Add 22 23)
+    ∷ to 13 (does 19 (Write (own 0) (temporary 21) []))
+    ∷ to 3 (dies 10 1)
+    ∷ to 15 (copied 26 0 26)
+    ∷ to 16 (does 25 (Print (temporary 26)))
+    ∷ to 17 (does 1 (Give (temporary 1)))
+    ∷ last (dies 1 0)
+    ∷ []
+
+steps_graph : graph steps_main ≡ steps_sites
+steps_graph = refl
+
+-- the parts of a shape behind the parameter's reference; what a variable's reference leads to
 abbrev inside : List Step → Place
 inside ss = under (own 0) (step.Deref true ∷ ss)
 
--- tests of three arms, of which the third holds; bindings behind a reference are borrows
-abbrev pub size_actions : List Action
-size_actions =
-    begins 1 0 ∷ gets 1 0 1
-    ∷ does 7 (Test (inside []) (has_tag 1))
-    ∷ does 10 (Test (inside (step.Variant 1 ∷ step.Field 1 ∷ step.Field 0 ∷ [])) (equals (truth true)))
-    ∷ does 29 (Test (inside []) (has_tag 1))
-    ∷ does 30 (Test (inside (step.Variant 1 ∷ step.Field 0 ∷ [])) (equals (whole_number Kind.I64 (negsuc 0))))
-    ∷ does 33 (Test (inside []) (has_tag 1))
-    ∷ does 34 (Borrow true (inside (step.Variant 1 ∷ step.Field 0 ∷ [])) (temporary 34)) ∷ begins 34 3 ∷ gets 34 3 34
-    ∷ does 36 (Borrow true (inside (step.Variant 1 ∷ step.Field 1 ∷ step.Field 0 ∷ [])) (temporary 36)) ∷ begins 36 4 ∷ gets 36 4 36
-    ∷ does 44 (Build (constant (truth true)) [] [] (temporary 44)) ∷ does 41 (Write (under (own 4) (step.Deref true ∷ [])) (temporary 44) [])
-    ∷ does 46 (Read false (under (own 3) (step.Deref true ∷ [])) (temporary 46)) ∷ does 45 (Build negation (0 ∷ []) (temporary 46 ∷ []) (temporary 5))
-    ∷ does 39 (Dead 4) ∷ does 39 (Dead 3)
-    ∷ does 4 (Give (temporary 5)) ∷ does 4 (Dead 0) ∷ []
+abbrev target : ℕ → Place
+target x = under (own x) (step.Deref true ∷ [])
 
-size_walk : walked 1 (order_function shapes_size) (true ∷ false ∷ true ∷ false ∷ true ∷ []) ≡ way size_actions (leaves (returns 4)) []
-size_walk = refl
+abbrev width : List Step
+width = step.Variant 1 ∷ step.Field 0 ∷ []
 
--- from the last arm no test that fails leads on
-size_stops : walked 1 (order_function shapes_size) (false ∷ false ∷ false ∷ false ∷ []) ≡ way
-    (begins 1 0 ∷ gets 1 0 1
-    ∷ does 7 (Test (inside []) (has_tag 1)) ∷ does 29 (Test (inside []) (has_tag 1))
-    ∷ does 33 (Test (inside []) (has_tag 1)) ∷ does 48 (Test (inside []) (has_tag 0)) ∷ [])
-    stopped []
-size_stops = refl
+abbrev height : List Step
+height = step.Variant 1 ∷ step.Field 1 ∷ step.Field 1 ∷ []
+
+abbrev flag : List Step
+flag = step.Variant 1 ∷ step.Field 1 ∷ step.Field 0 ∷ []
+
+-- each test that fails leads to the next arm, but from the last arm no failed test leads on
+abbrev pub size_sites : List Site
+size_sites =
+    to 1 (begins 1 0)
+    ∷ to 2 (gets 1 0 1)
+    ∷ fork 3 21 (does 7 (Test (inside []) (has_tag 1)))
+    ∷ fork 4 21 (does 10 (Test (inside flag) (equals (truth true))))
+    ∷ to 5 (does 8 (Borrow true (inside width) (temporary 8)))
+    ∷ to 6 (begins 8 1)
+    ∷ to 7 (gets 8 1 8)
+    ∷ to 8 (does 11 (Borrow true (inside height) (temporary 11)))
+    ∷ to 9 (begins 11 2)
+    ∷ to 10 (gets 11 2 11)
+    ∷ to 11 (literal 18 Kind.U8 (pos 1))
+    ∷ to 12 (does 15 (Read false (target 2) (temporary_at 15 1)))
+    ∷ to 13 (does 15 (Build (operation BinaryOp.Add) [] (temporary_at 15 1 ∷ temporary 18 ∷ []) (temporary_at 15 2)))
+    ∷ to 14 (does 15 (Write (target 2) (temporary_at 15 2) []))
+    ∷ to 15 (does 24 (Read false (target 1) (temporary 24)))
+    ∷ to 16 (literal 26 Kind.I64 (pos 1))
+    ∷ to 17 (operator 23 BinaryOp.Add 24 26)
+    ∷ to 18 (does 20 (Write (target 1) (temporary 23) []))
+    ∷ to 19 (does 27 (Read false (target 1) (temporary 5)))
+    ∷ to 20 (dies 13 2)
+    ∷ to 39 (dies 13 1)
+    ∷ fork 22 24 (does 29 (Test (inside []) (has_tag 1)))
+    ∷ fork 23 24 (does 30 (Test (inside width) (equals (whole_number Kind.I64 (negsuc 0)))))
+    ∷ to 39 (does 32 (Build (constant (whole_number Kind.I64 (pos 0))) [] [] (temporary 5)))
+    ∷ fork 25 37 (does 33 (Test (inside []) (has_tag 1)))
+    ∷ to 26 (does 34 (Borrow true (inside width) (temporary 34)))
+    ∷ to 27 (begins 34 3)
+    ∷ to 28 (gets 34 3 34)
+    ∷ to 29 (does 36 (Borrow true (inside flag) (temporary 36)))
+    ∷ to 30 (begins 36 4)
+    ∷ to 31 (gets 36 4 36)
+    ∷ to 32 (does 44 (Build (constant (truth true)) [] [] (temporary 44)))
+    ∷ to 33 (does 41 (Write (target 4) (temporary 44) []))
+    ∷ to 34 (does 46 (Read false (target 3) (temporary 46)))
+    ∷ to 35 (does 45 (Build negation (0 ∷ []) (temporary 46 ∷ []) (temporary 5)))
+    ∷ to 36 (dies 39 4)
+    ∷ to 39 (dies 39 3)
+    ∷ to 38 (does 48 (Test (inside []) (has_tag 0)))
+    ∷ to 39 (does 49 (Build (constant (whole_number Kind.I64 (pos 7))) [] [] (temporary 5)))
+    ∷ to 40 (does 4 (Give (temporary 5)))
+    ∷ last (dies 4 0)
+    ∷ []
+
+size_graph : graph shapes_size ≡ size_sites
+size_graph = refl
+
+-- ---- small orders
+
+-- a loop without an action has no site, nor has what stands behind it or behind a jump
+endless : graph_of (order.then (order.passes 0 order.nothing) (order.act (begins 1 0))) ≡ []
+endless = refl
+
+behind_a_jump : graph_of (order.then (order.leave (returns 1)) (order.act (begins 2 0))) ≡ []
+behind_a_jump = refl
+
+-- two ways that meet have one successor
+abbrev forked : Order → Order → Order
+forked s t = order.then (order.act (holds 1 2)) (order.then (order.or s t) (order.act (begins 3 0)))
+
+ways_meet : graph_of (forked order.nothing order.nothing) ≡ to 1 (holds 1 2) ∷ last (begins 3 0) ∷ []
+ways_meet = refl
+
+-- the way of success comes first, and a way into an endless loop is none
+success_first : graph_of (forked (order.act (begins 4 1)) order.nothing) ≡ fork 1 2 (holds 1 2) ∷ to 2 (begins 4 1) ∷ last (begins 3 0) ∷ []
+success_first = refl
+
+failure_second : graph_of (forked order.nothing (order.act (begins 4 1))) ≡ fork 2 1 (holds 1 2) ∷ to 2 (begins 4 1) ∷ last (begins 3 0) ∷ []
+failure_second = refl
+
+into_an_endless_loop : graph_of (forked (order.passes 0 order.nothing) order.nothing) ≡ to 1 (holds 1 2) ∷ last (begins 3 0) ∷ []
+into_an_endless_loop = refl
+
+-- a jump out of two loops ends the variables of both
+out_of_two : graph_of (order.passes 0 (order.ending 5 0 (order.passes 1 (order.ending 6 1 (order.then (order.act (begins 2 0)) (order.leave (breaks 7 0)))))))
+    ≡ to 1 (begins 2 0) ∷ to 2 (dies 7 1) ∷ last (dies 7 0) ∷ []
+out_of_two = refl

@@ -1,8 +1,8 @@
 -- The table of functions, declaration by declaration.
 use Rattle.std.proofs.Common.{◌≡◌, ℕ, zero, suc, ◌+◌, ◌<◌, ◌≤◌, true, List, [], ◌∷◌, ◌++◌, drop, length, get_or, Bor, Option, None, Some, option_map, refl, sym, ap, ◌∙◌, arith}
 use Rattle.rx_typed.specs.Types.{Declared, Declarations}
-use Rattle.rx_typed_tree.specs.declared.tree.TypedTree.{TypedTree}
-use Rattle.rx_typed_tree.specs.PlainTree.{plain-TypedTree}
+use Rattle.rx_typed.specs.declared.tree.TypedTree.{TypedTree}
+use Rattle.rx_typed.specs.PlainTree.{plain-TypedTree}
 use Rattle.rx_typeck_typed.specs.declared.typed.TypedFn.{TypedFn}
 use Rattle.rx_machine_driver.specs.Fitting.{functions_of}
 use Rattle.rx_machine.specs.Functions.{is_function, first_of, behind, typed_functions}

@@ -3,7 +3,7 @@ use Rattle.std.specs.Prelude.{ℕ, true, false, Bool, List, [], ◌∷◌, Optio
 use Rattle.rx_typed.specs.Types.{Declared, Declarations, function_declared}
 use Rattle.rx_typed.specs.PlainTypes.{declarations}
 use Rattle.rx_typed.specs.Tree.{Function}
-use Rattle.rx_typed_tree.specs.PlainTree.{plain-TypedTree}
+use Rattle.rx_typed.specs.PlainTree.{plain-TypedTree}
 use Rattle.rx_meaning.specs.Expressions.{Functions}
 use Rattle.rx_meaning.specs.Programs.{Program}
 use Rattle.rx_typeck_typed.specs.declared.typed.TypedFn.{TypedFn}

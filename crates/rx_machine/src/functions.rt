@@ -2,13 +2,12 @@
 
 ghost use Rattle.std.specs.Prelude.{◌≡◌, true, option_map, drop, IfOk};
 ghost use Rattle.rx_typed.specs.PlainTypes.{plain-Decl, declarations};
-ghost use Rattle.rx_typed_tree.specs.PlainTree.{plain-TypedTree};
+ghost use Rattle.rx_typed.specs.PlainTree.{plain-TypedTree};
 ghost use Rattle.rx_machine_driver.specs.Fitting.{functions_of};
 ghost use Rattle.rx_machine.specs.Functions.{typed_functions, is_function, first_of, behind};
 
 use rx_typeck_typed::TypedFn;
-use rx_typed::Decl;
-use rx_typed_tree::TypedTree;
+use rx_typed::{Decl, TypedTree};
 use std::alloc::{AllocError, Global};
 
 /// Whether a function is declared.

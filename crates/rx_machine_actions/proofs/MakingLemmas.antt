@@ -3,9 +3,9 @@ use Rattle.std.proofs.Common.{◌≡◌, ◌≢◌, ◌⊎◌, inl, inr, ℕ, ze
 use Rattle.std.proofs.lemmas.List.{append_assoc}
 use Rattle.std.proofs.lemmas.Bool.{eq-eqb}
 use Rattle.std.proofs.lemmas.Bool.Decides.{eqb_tells}
-use Rattle.rx_typed_tree.specs.declared.tree.Operand.{Operand}
-use Rattle.rx_typed_tree.specs.PlainTree.{plain-Operand, operands_of}
-use Rattle.rx_typed_tree.proofs.Rules.{operand_by_parts}
+use Rattle.rx_typed.specs.declared.tree.Operand.{Operand}
+use Rattle.rx_typed.specs.PlainTree.{plain-Operand, operands_of}
+use Rattle.rx_typed.proofs.Rules.{operand_by_parts}
 use Rattle.rx_typed.specs.Tree.{Exp, fields_of, operand_and}
 use Rattle.rx_meaning.specs.Values as plain
 use Rattle.rx_meaning.specs.Values.{Values, no_value, value_and, lacking, unset, with_field}

@@ -2,9 +2,9 @@
 use Rattle.std.proofs.Common.{◌≡◌, ℕ, zero, suc, ◌<◌, ◌+◌, Bool, List, [], ◌∷◌, map, drop, get_or, length, Option, ap, sym, ◌∙◌, arith}
 use Rattle.rx_core.specs.declared.types.Step.{Step}
 use Rattle.rx_typed.specs.Tree.{Pattern, Subpatterns, part_and}
-use Rattle.rx_typed_tree.specs.declared.tree.Subpattern.{Subpattern}
-use Rattle.rx_typed_tree.specs.PlainTree.{plain-Pattern, plain-Subpattern, subpatterns_of}
-use Rattle.rx_typed_tree.proofs.Rules.{subpattern_by_parts}
+use Rattle.rx_typed.specs.declared.tree.Subpattern.{Subpattern}
+use Rattle.rx_typed.specs.PlainTree.{plain-Pattern, plain-Subpattern, subpatterns_of}
+use Rattle.rx_typed.proofs.Rules.{subpattern_by_parts}
 use Rattle.rx_meaning.specs.Values.{Value}
 use Rattle.rx_machine_frames.specs.Choosing.{both}
 use Rattle.rx_machine_actions.specs.Matching.{deeper, holds, all_parts_hold}

@@ -2,8 +2,8 @@
 use Rattle.std.specs.Prelude.{◌≡◌, ℕ, zero, suc, Bool, true, false, List, [], ◌∷◌, ◌++◌, Option, Some, None, if◌then◌else◌, map}
 use Rattle.rx_core.specs.declared.types.Step.{Step}
 use Rattle.rx_typed.specs.Tree.{fields_of}
-use Rattle.rx_typed_tree.specs.declared.tree.Operand.{Operand}
-use Rattle.rx_typed_tree.specs.PlainTree.{plain-Operand, operands_of}
+use Rattle.rx_typed.specs.declared.tree.Operand.{Operand}
+use Rattle.rx_typed.specs.PlainTree.{plain-Operand, operands_of}
 use Rattle.rx_meaning.specs.Values.{Value, Values, lacking, unset, is_set, and_then, with_field}
 use Rattle.rx_meaning.specs.Places as places
 use Rattle.rx_meaning.specs.Places.{in_slot, in_value, content, follow, after_write}

@@ -6,7 +6,7 @@ ghost use Rattle.rx_meaning.specs.Operators.{fields, arranged};
 ghost use Rattle.rx_meaning.specs.Values as plain;
 ghost use Rattle.rx_meaning.specs.Values.{with_field};
 ghost use Rattle.rx_typed.specs.Tree as tree;
-ghost use Rattle.rx_typed_tree.specs.PlainTree.{plain-Constant, plain-Making};
+ghost use Rattle.rx_typed.specs.PlainTree.{plain-Constant, plain-Making};
 ghost use Rattle.rx_machine_values.specs.PlainValues.{plain-Value, plain-Parts, values_of};
 ghost use Rattle.rx_machine_actions.specs.PlainActs.{plain-Made, written_fields, unsets, PlacedAt};
 
@@ -14,7 +14,7 @@ use crate::operators::{Made, of_calculated, operated};
 use rx_core::{LetGo, List, keep};
 use rx_machine_values::{Lack, Number, Parts, Value, boxed_parts, negated};
 use rx_tree::BinaryOp;
-use rx_typed_tree::{Constant, Making, Operand};
+use rx_typed::{Constant, Making, Operand};
 use std::alloc::{AllocError, Global};
 use std::mem::replace;
 

@@ -5,20 +5,20 @@ ghost use Rattle.rx_core.specs.declared.types.Step.TheVariants.{Field, Variant, 
 ghost use Rattle.rx_lower_walks.specs.Matching.{has_tag, equals};
 ghost use Rattle.rx_meaning.specs.Values.{and_then};
 ghost use Rattle.rx_meaning.specs.Acting.{checked};
-ghost use Rattle.rx_typed_tree.specs.PlainTree.{plain-Constant, plain-Pattern, plain-Subpattern, subpatterns_of};
+ghost use Rattle.rx_typed.specs.PlainTree.{plain-Constant, plain-Pattern, plain-Subpattern, subpatterns_of};
 ghost use Rattle.rx_machine_values.specs.PlainNumber.{plain-Number};
 ghost use Rattle.rx_machine_values.specs.PlainValues.{plain-Value, plain-Part};
 ghost use Rattle.rx_machine_values.specs.PlainMemory.{plain-Memory};
 ghost use Rattle.rx_machine_values.specs.Reaching.{stepped};
 ghost use Rattle.rx_machine_frames.specs.Choosing.{both};
-ghost use Rattle.rx_typed_tree.specs.declared.tree.Constant.TheVariants.{Integer as ConstantInteger, Truth as ConstantTruth};
+ghost use Rattle.rx_typed.specs.declared.tree.Constant.TheVariants.{Integer as ConstantInteger, Truth as ConstantTruth};
 ghost use Rattle.std.specs.Prelude.{List};
 ghost use Rattle.rx_meaning.specs.Values as plain;
 ghost use Rattle.rx_machine_actions.specs.Matching as spec;
 
 use rx_core::{Kind, Step};
 use rx_machine_values::{Memory, Number, Part, Value, field_from, step_from};
-use rx_typed_tree::{Constant, Pattern, Subpattern};
+use rx_typed::{Constant, Pattern, Subpattern};
 
 /// Whether an integer is this one.
 fn is_number(number: Number, kind: Kind, negative: bool, magnitude: u64) -> Option<bool>
@@ -145,7 +145,7 @@ fn in_field<'m>(at: Option<Part<'m>>, field: usize) -> Option<Part<'m>>
 /// Whether the tests of a pattern hold, from left to right, by what stands where it is matched. None where a part that is
 /// tested does not stand there, or is of another type.
 #[cycle(matches)]
-#[tactic(auto, using(rx_typed_tree::proofs::Rules::typed_pattern_rules))]
+#[tactic(auto, using(rx_typed::proofs::Rules::typed_pattern_rules))]
 pub fn holds<'m>(memory: &'m Memory, at: Option<Part<'m>>, pattern: &Pattern) -> Option<bool>
     ensures { result ≡ spec.holds (plain-Memory memory.now) (option_map plain-Part at.entry) (plain-Pattern pattern.now) }
 {
@@ -195,7 +195,7 @@ fn parts_hold<'m>(memory: &'m Memory, at: Option<Part<'m>>, parts: &[Subpattern]
 }
 
 #[cycle(matches)]
-#[tactic(auto, using(rx_typed_tree::proofs::Rules::typed_pattern_rules))]
+#[tactic(auto, using(rx_typed::proofs::Rules::typed_pattern_rules))]
 fn part_holds<'m>(memory: &'m Memory, at: Option<Part<'m>>, part: &Subpattern) -> Option<bool>
     ensures { result ≡ spec.holds (plain-Memory memory.now) (spec.deeper (plain-Memory memory.now) (option_map plain-Part at.entry) (Field part.now.field)) (plain-Pattern part.now.pattern) }
 {

@@ -23,8 +23,8 @@ use Rattle.rx_machine_running.specs.Running as running
 use Rattle.rx_machine_frames.specs.Sizes.{size, size_arms, size_body}
 use Rattle.rx_meaning.proofs.Sequences.{after_nothing, bind_on}
 use Rattle.rx_machine_direct.specs.Direct.{recorded, scalar, in_memory, at_place, given, operated, direct, built, stored_in, stored, assigned, fits, if_fits, both, picked}
-use Rattle.rx_typed_tree.specs.declared.tree.Stmt.{Stmt}
-use Rattle.rx_typed_tree.specs.PlainTree.{plain-Stmt, nested_of}
+use Rattle.rx_typed.specs.declared.tree.Stmt.{Stmt}
+use Rattle.rx_typed.specs.PlainTree.{plain-Stmt, nested_of}
 use Rattle.rx_machine_direct.specs.PlainReached.{Wrote, Chooses, Runs, Passes}
 use Rattle.rx_machine_direct.specs.Reaching.{Reach, into, statements, gave, Shows, reach_size, Comes, ComesBody}
 

@@ -2,9 +2,9 @@
 use Rattle.std.proofs.Common.{◌≡◌, ℕ, List, [], ◌∷◌, Bool, Option, None, map, length, get_or, refl, sym, ap, ◌∙◌, arith}
 use Rattle.rx_tree.specs.declared.tree.BinaryOp.{BinaryOp}
 use Rattle.rx_typed.specs.Tree.{Mark, Constant, Making, constant, operation, negation, inversion, tuple, struct, variant_of, Place, Exp, read, build, borrow, share, unit, lazily, assign, update, call, input, print, block, choose, loop, jump, give, Operands, Scrutinee, Arms, Body}
-use Rattle.rx_typed_tree.specs.declared.tree.Operand.{Operand}
-use Rattle.rx_typed_tree.specs.PlainTree.{plain-Expr, plain-Operand, operands_of}
-use Rattle.rx_typed_tree.proofs.Rules.{operand_by_parts}
+use Rattle.rx_typed.specs.declared.tree.Operand.{Operand}
+use Rattle.rx_typed.specs.PlainTree.{plain-Expr, plain-Operand, operands_of}
+use Rattle.rx_typed.proofs.Rules.{operand_by_parts}
 use Rattle.rx_meaning.specs.Values.{Value}
 use Rattle.rx_machine_direct.specs.Direct.{at_place, both, of_constant, direct, built}
 

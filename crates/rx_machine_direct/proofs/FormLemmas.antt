@@ -1,14 +1,14 @@
 -- Expressions by their forms.
 use Rattle.std.proofs.Common.{◌≡◌, List, map, sym, ap, ◌∙◌}
 use Rattle.rx_typed.specs.Tree.{unit, block, choose}
-use Rattle.rx_typed_tree.specs.declared.tree.Expr.{Expr}
-use Rattle.rx_typed_tree.specs.declared.tree.Stmt.{Stmt}
-use Rattle.rx_typed_tree.specs.declared.tree.Arm.{Arm}
-use Rattle.rx_typed_tree.specs.declared.tree.Matched.{Matched}
-use Rattle.rx_typed_tree.specs.declared.tree.Form.{Form}
-use Rattle.rx_typed_tree.specs.declared.tree.Form.TheVariants as form
-use Rattle.rx_typed_tree.specs.PlainTree.{plain-Mark, plain-Form, plain-Expr, plain-Stmt, plain-Matched, nested_of, form_unit, form_block, form_choose}
-use Rattle.rx_typed_tree.proofs.Rules.{expr_by_form}
+use Rattle.rx_typed.specs.declared.tree.Expr.{Expr}
+use Rattle.rx_typed.specs.declared.tree.Stmt.{Stmt}
+use Rattle.rx_typed.specs.declared.tree.Arm.{Arm}
+use Rattle.rx_typed.specs.declared.tree.Matched.{Matched}
+use Rattle.rx_typed.specs.declared.tree.Form.{Form}
+use Rattle.rx_typed.specs.declared.tree.Form.TheVariants as form
+use Rattle.rx_typed.specs.PlainTree.{plain-Mark, plain-Form, plain-Expr, plain-Stmt, plain-Matched, nested_of, form_unit, form_block, form_choose}
+use Rattle.rx_typed.proofs.Rules.{expr_by_form}
 use Rattle.rx_machine_direct.specs.PlainReached.{arms_in}
 
 by_form : (e : Expr) (f : Form) → e.form ≡ f → plain-Expr e ≡ plain-Form f (plain-Mark e.mark)

@@ -1,9 +1,9 @@
 -- Tables of slots, and arms one after another.
 use Rattle.std.proofs.Common.{◌≡◌, ℕ, zero, suc, ◌+◌, ◌<◌, ◌≤◌, Bool, List, [], ◌∷◌, drop, length, get_or, slice_index_or, Option, None, refl, sym, ap, ◌∙◌, arith}
 use Rattle.rx_typed.specs.Tree.{Exp, Pattern, arm_and}
-use Rattle.rx_typed_tree.specs.declared.tree.Arm.{Arm}
-use Rattle.rx_typed_tree.specs.PlainTree.{plain-Pattern, plain-Expr}
-use Rattle.rx_typed_tree.proofs.Rules.{arm_by_parts}
+use Rattle.rx_typed.specs.declared.tree.Arm.{Arm}
+use Rattle.rx_typed.specs.PlainTree.{plain-Pattern, plain-Expr}
+use Rattle.rx_typed.proofs.Rules.{arm_by_parts}
 use Rattle.rx_meaning.specs.Values.{Value}
 use Rattle.rx_machine_direct.specs.Direct.{recorded, fits, if_fits, picked}
 use Rattle.rx_machine_direct.specs.PlainReached.{arms_in}

@@ -1,8 +1,8 @@
 -- What the code's data stand for, and what its functions do to memory.
 use Rattle.std.specs.Prelude.{◌≡◌, ◌<◌, ℕ, List, Bool, true, false, Option, Some, map}
 use Rattle.rx_typed.specs.Tree.{Exp, Scrutinee, of_value, Arms, Body, runs}
-use Rattle.rx_typed_tree.specs.declared.tree.Arm.{Arm}
-use Rattle.rx_typed_tree.specs.PlainTree.{plain-Expr, plain-Stmt, plain-Arm, arms_of, nested_of}
+use Rattle.rx_typed.specs.declared.tree.Arm.{Arm}
+use Rattle.rx_typed.specs.PlainTree.{plain-Expr, plain-Stmt, plain-Arm, arms_of, nested_of}
 use Rattle.rx_meaning.specs.Values.{Value, unit_value}
 use Rattle.rx_machine_frames.specs.Sizes.{size}
 use Rattle.rx_machine_direct.specs.declared.reaching.Reached.{Reached}

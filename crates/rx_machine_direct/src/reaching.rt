@@ -2,8 +2,8 @@
 
 ghost use Rattle.std.specs.Prelude.{◌≡◌, ◌<◌, IfSome, length, map, option_map, MatchOption};
 ghost use Rattle.rx_typed.specs.Tree.{Mark, Exp, block, choose, variable as variable_root};
-ghost use Rattle.rx_typed_tree.specs.PlainTree.{plain-Constant, plain-Pattern, plain-Expr, plain-Stmt, plain-Matched, nested_of};
-ghost use Rattle.rx_typed_tree.specs.declared.tree.Constant.TheVariants.{Integer as ConstantInteger};
+ghost use Rattle.rx_typed.specs.PlainTree.{plain-Constant, plain-Pattern, plain-Expr, plain-Stmt, plain-Matched, nested_of};
+ghost use Rattle.rx_typed.specs.declared.tree.Constant.TheVariants.{Integer as ConstantInteger};
 ghost use Rattle.rx_meaning.specs.Values.{and_then};
 ghost use Rattle.rx_meaning.specs.Acting.{checked};
 ghost use Rattle.rx_lower_walks.specs.Matching.{equals as equals_check};
@@ -18,7 +18,7 @@ use crate::scalars::{Scalar, both, direct};
 use crate::variable::{at_place, store};
 use rx_core::{Kind, Place};
 use rx_machine_values::{Memory, Number};
-use rx_typed_tree::{Arm, Constant, Expr, Form, Matched, Pattern, Stmt};
+use rx_typed::{Arm, Constant, Expr, Form, Matched, Pattern, Stmt};
 
 /// What is left of an expression.
 #[derive(Clone, Copy)]
@@ -51,7 +51,7 @@ fn put(place: &Place, scalar: Option<Scalar>, slots: &[Option<usize>], memory: &
 }
 
 /// Does an assignment to a variable; whether the expression was one and it was done.
-#[tactic(auto, using(rx_typed_tree::proofs::Rules::typed_tree_rules))]
+#[tactic(auto, using(rx_typed::proofs::Rules::typed_tree_rules))]
 fn assigned(expr: &Expr, slots: &[Option<usize>], memory: &mut Memory) -> bool
     ensures { Wrote (spec.assigned slots.now (plain-Memory memory.old) (plain-Expr expr.now)) (plain-Memory memory.old) (plain-Memory memory.new) result }
 {
@@ -145,7 +145,7 @@ fn equals(scalar: Scalar, constant: Constant) -> Option<bool>
 }
 
 /// Whether a pattern that binds nothing and looks at no part takes a number or truth value.
-#[tactic(auto, using(rx_typed_tree::proofs::Rules::typed_pattern_rules))]
+#[tactic(auto, using(rx_typed::proofs::Rules::typed_pattern_rules))]
 fn fits(scalar: Scalar, pattern: &Pattern) -> Option<bool>
     ensures { result ≡ spec.fits (plain-Scalar scalar) (plain-Pattern pattern.now) }
 {
@@ -174,7 +174,7 @@ fn picked<'a>(scalar: Scalar, arms: &'a [Arm]) -> Option<&'a Expr>
 }
 
 /// The body of the arm that takes what is matched, where that is told at once.
-#[tactic(auto, using(rx_typed_tree::proofs::Rules::typed_tree_rules))]
+#[tactic(auto, using(rx_typed::proofs::Rules::typed_tree_rules))]
 fn chosen<'a>(
     matched: &Matched,
     arms: &'a [Arm],

@@ -2,7 +2,7 @@
 
 ghost use Rattle.std.specs.Prelude.{◌≡◌, map, option_map};
 ghost use Rattle.rx_typed.specs.Tree as tree;
-ghost use Rattle.rx_typed_tree.specs.PlainTree.{plain-Constant, plain-Making, plain-Expr, plain-Operand, operands_of};
+ghost use Rattle.rx_typed.specs.PlainTree.{plain-Constant, plain-Making, plain-Expr, plain-Operand, operands_of};
 ghost use Rattle.rx_meaning.specs.Operators.{compute, value_of};
 ghost use Rattle.rx_machine_values.specs.PlainNumber.{plain-Calculated, whole_of};
 ghost use Rattle.rx_machine_values.specs.PlainValues.{plain-Value};
@@ -14,7 +14,7 @@ use crate::naturals::at_once;
 use crate::variable::at_place;
 use rx_machine_values::{Calculated, Memory, Number, Value, computed};
 use rx_tree::BinaryOp;
-use rx_typed_tree::{Constant, Expr, Form, Making, Operand};
+use rx_typed::{Constant, Expr, Form, Making, Operand};
 
 /// A number or a truth value.
 #[derive(Clone, Copy)]
@@ -128,7 +128,7 @@ pub fn both(op: BinaryOp, left: Option<Scalar>, right: Option<Scalar>) -> Option
 /// The value of an expression, where it is a number or a truth value of variables, constants and operators of numbers, and
 /// no trap. None where it is not.
 #[cycle(direct)]
-#[tactic(auto, using(rx_typed_tree::proofs::Rules::typed_tree_rules, crate::proofs::DirectRules::direct_rules))]
+#[tactic(auto, using(rx_typed::proofs::Rules::typed_tree_rules, crate::proofs::DirectRules::direct_rules))]
 pub fn direct(expr: &Expr, slots: &[Option<usize>], memory: &Memory) -> Option<Scalar>
     ensures { option_map plain-Scalar result ≡ spec.direct slots.now (plain-Memory memory.now) (plain-Expr expr.now) }
 {

@@ -8,7 +8,7 @@ use Rattle.rx_core.specs.declared.types.Step.{Step as PlaceStep}
 use Rattle.rx_core.specs.declared.types.Place.{Place}
 use Rattle.rx_tree.specs.declared.tree.BinaryOp.{BinaryOp}
 use Rattle.rx_typed.specs.Tree as tree
-use Rattle.rx_typed_tree.specs.PlainTree.{plain-Place}
+use Rattle.rx_typed.specs.PlainTree.{plain-Place}
 use Rattle.rx_lower_walks.specs.Matching.{equals}
 use Rattle.rx_lower_walks.specs.Actions.{Read, Borrow, Write, Print, Input, Build}
 use Rattle.rx_meaning.specs.declared.outcome.End.{End}

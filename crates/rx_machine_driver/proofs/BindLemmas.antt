@@ -2,10 +2,10 @@
 use Rattle.std.proofs.Common.{◌≡◌, ℕ, zero, suc, ◌+◌, ◌<◌, ◌≤◌, nat_eq, Bool, true, false, List, [], ◌∷◌, ◌++◌, length, reverse, map, drop, get_or, arith, Option, None, Some, if◌then◌else◌, refl, sym, ap, subst, ◌∙◌}
 use Rattle.std.proofs.lemmas.List.{reverse-append, reverse-reverse}
 use Rattle.rx_typed.specs.Tree as tree
-use Rattle.rx_typed_tree.specs.declared.tree.Arm.{Arm}
-use Rattle.rx_typed_tree.specs.declared.tree.Subpattern.{Subpattern}
-use Rattle.rx_typed_tree.specs.PlainTree.{plain-Pattern, plain-Expr, plain-Subpattern, subpatterns_of}
-use Rattle.rx_typed_tree.proofs.Rules.{arm_by_parts, subpattern_by_parts}
+use Rattle.rx_typed.specs.declared.tree.Arm.{Arm}
+use Rattle.rx_typed.specs.declared.tree.Subpattern.{Subpattern}
+use Rattle.rx_typed.specs.PlainTree.{plain-Pattern, plain-Expr, plain-Subpattern, subpatterns_of}
+use Rattle.rx_typed.proofs.Rules.{arm_by_parts, subpattern_by_parts}
 use Rattle.rx_machine_actions.specs.Matching as matching
 use Rattle.rx_typed.specs.Tree.{Mode, Parameter, Subpatterns}
 use Rattle.rx_core.specs.declared.types.Step.{Step as PlaceStep}

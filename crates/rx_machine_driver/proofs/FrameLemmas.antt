@@ -4,9 +4,9 @@ use Rattle.std.proofs.lemmas.List.{reverse-append}
 use Rattle.std.proofs.Common.{Bor}
 use Rattle.rx_typed.specs.Tree as tree
 use Rattle.rx_typed.specs.Tree.{Function}
-use Rattle.rx_typed_tree.specs.declared.tree.Mark.{Mark}
-use Rattle.rx_typed_tree.specs.declared.tree.Expr.{Expr}
-use Rattle.rx_typed_tree.specs.PlainTree.{plain-Mark, plain-Expr}
+use Rattle.rx_typed.specs.declared.tree.Mark.{Mark}
+use Rattle.rx_typed.specs.declared.tree.Expr.{Expr}
+use Rattle.rx_typed.specs.PlainTree.{plain-Mark, plain-Expr}
 use Rattle.rx_lower_walks.specs.Orders.{Exit, breaks, continues, returns}
 use Rattle.rx_meaning.specs.declared.outcome.End.{End}
 use Rattle.rx_meaning.specs.Values as values

@@ -2,9 +2,9 @@
 use Rattle.std.proofs.Common.{◌≡◌, ◌≤◌, ℕ, suc, ◌+◌, List, [], ◌∷◌, ◌++◌, refl, sym, ap, subst, ◌∙◌, arith}
 use Rattle.std.proofs.Common.{Bor}
 use Rattle.rx_typed.specs.Tree as tree
-use Rattle.rx_typed_tree.specs.declared.tree.Mark.{Mark}
-use Rattle.rx_typed_tree.specs.declared.tree.Expr.{Expr}
-use Rattle.rx_typed_tree.specs.PlainTree.{plain-Mark, plain-Expr}
+use Rattle.rx_typed.specs.declared.tree.Mark.{Mark}
+use Rattle.rx_typed.specs.declared.tree.Expr.{Expr}
+use Rattle.rx_typed.specs.PlainTree.{plain-Mark, plain-Expr}
 use Rattle.rx_meaning.specs.Values as values
 use Rattle.rx_meaning.specs.Values.{new_frame, State, with_memory, with_turns}
 use Rattle.rx_meaning.specs.Results.{bind}

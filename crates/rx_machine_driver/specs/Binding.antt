@@ -2,8 +2,8 @@
 use Rattle.std.specs.Prelude.{◌≡◌, true, false, Bool, List, [], ◌∷◌, ◌++◌, Option, Some, None}
 use Rattle.rx_core.specs.declared.types.Step.{Step as PlaceStep}
 use Rattle.rx_typed.specs.Tree.{Mode, by_value, by_reference, Pattern, Exp, Arms, no_arm, arm_and}
-use Rattle.rx_typed_tree.specs.declared.tree.Arm.{Arm}
-use Rattle.rx_typed_tree.specs.PlainTree.{plain-Pattern, plain-Expr}
+use Rattle.rx_typed.specs.declared.tree.Arm.{Arm}
+use Rattle.rx_typed.specs.PlainTree.{plain-Pattern, plain-Expr}
 use Rattle.rx_lower_walks.specs.Matching.{bindings}
 use Rattle.rx_meaning.specs.declared.outcome.End.{End}
 use Rattle.rx_meaning.specs.Values as values

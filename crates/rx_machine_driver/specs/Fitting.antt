@@ -1,8 +1,8 @@
 -- When the machine's data stand for frames and a state of the run.
 use Rattle.std.specs.Prelude.{◌≡◌, ℕ, List, [], ◌∷◌, reverse, map, option_map, Option}
 use Rattle.std.proofs.Common.{Bor}
-use Rattle.rx_typed_tree.specs.declared.tree.TypedTree.{TypedTree}
-use Rattle.rx_typed_tree.specs.PlainTree.{plain-Mark, plain-Expr, plain-TypedTree}
+use Rattle.rx_typed.specs.declared.tree.TypedTree.{TypedTree}
+use Rattle.rx_typed.specs.PlainTree.{plain-Mark, plain-Expr, plain-TypedTree}
 use Rattle.rx_meaning.specs.Values.{slot_of, State}
 use Rattle.rx_meaning.specs.Expressions.{Functions}
 use Rattle.rx_machine_values.specs.PlainValues.{plain-Value}

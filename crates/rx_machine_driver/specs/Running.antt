@@ -18,7 +18,7 @@ use Rattle.rx_meaning.specs.Results.{after}
 use Rattle.rx_meaning.specs.Programs.{outcome_of}
 use Rattle.rx_meaning.specs.Expressions.{Functions}
 use Rattle.rx_core.specs.declared.types.Step.{Step as PlaceStep}
-use Rattle.rx_typed_tree.specs.PlainTree.{plain-Mark, plain-Expr}
+use Rattle.rx_typed.specs.PlainTree.{plain-Mark, plain-Expr}
 use Rattle.rx_machine_values.specs.PlainMemory.{plain-Memory}
 use Rattle.rx_machine_actions.specs.PlainActs.{found_from}
 use Rattle.rx_machine_frames.specs.Frames as frames

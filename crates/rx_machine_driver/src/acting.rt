@@ -2,7 +2,7 @@
 
 ghost use Rattle.std.specs.Prelude.{◌≡◌, option_map, IfOk};
 ghost use Rattle.rx_core.specs.declared.types.Kind.TheVariants.{I64};
-ghost use Rattle.rx_typed_tree.specs.PlainTree.{plain-Place, plain-Expr};
+ghost use Rattle.rx_typed.specs.PlainTree.{plain-Place, plain-Expr};
 ghost use Rattle.rx_meaning.specs.Values as plain;
 ghost use Rattle.rx_machine_values.specs.PlainNumber.{plain-Number};
 ghost use Rattle.rx_machine_values.specs.PlainValues.{plain-Value};
@@ -20,7 +20,7 @@ use rx_machine_steps::{Hole, Next};
 use rx_machine_values::{Number, Value};
 use rx_meaning::End;
 use rx_tree::BinaryOp;
-use rx_typed_tree::{Expr, Making, Operand};
+use rx_typed::{Expr, Making, Operand};
 use std::alloc::{AllocError, Global};
 
 /// What was made comes next, or the run ends.

@@ -1,7 +1,7 @@
 //! How far an expression comes at once, and what comes next then.
 
 ghost use Rattle.std.specs.Prelude.{◌≡◌, IfOk, IfSome, IfNone};
-ghost use Rattle.rx_typed_tree.specs.PlainTree.{plain-Expr};
+ghost use Rattle.rx_typed.specs.PlainTree.{plain-Expr};
 ghost use Rattle.rx_meaning.specs.Values.{Value as ValueOf};
 ghost use Rattle.rx_machine_values.specs.PlainValues.{plain-Value};
 ghost use Rattle.rx_machine_direct.specs.Reaching.{gave};
@@ -14,7 +14,7 @@ use crate::data::{Frame, Machine, Step};
 use rx_machine_direct::{Reached, reach};
 use rx_machine_steps::{Hole, Next, filled, opened, opened_body};
 use rx_machine_values::Value;
-use rx_typed_tree::Expr;
+use rx_typed::Expr;
 use std::alloc::{AllocError, Global};
 
 /// The value that was given; none only where something is left.

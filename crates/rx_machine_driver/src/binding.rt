@@ -2,7 +2,7 @@
 
 ghost use Rattle.std.specs.Prelude.{◌≡◌, ℕ, Bool, [], ◌∷◌, ◌++◌, List as ListOf, Option as OptionOf, Some, length, map, option_map, reverse, IfOk, OnOk};
 ghost use Rattle.rx_core.specs.declared.types.Step.TheVariants.{Field, Variant, Deref};
-ghost use Rattle.rx_typed_tree.specs.PlainTree.{plain-Mode, plain-Param, plain-Pattern, plain-Subpattern, subpatterns_of, plain-Expr};
+ghost use Rattle.rx_typed.specs.PlainTree.{plain-Mode, plain-Param, plain-Pattern, plain-Subpattern, subpatterns_of, plain-Expr};
 ghost use Rattle.rx_typed.specs.Tree.{by_value, by_reference};
 ghost use Rattle.rx_lower_walks.specs.Matching.{bindings, bindings_in};
 ghost use Rattle.rx_meaning.specs.Values as plain;
@@ -22,7 +22,7 @@ use rx_machine_actions::{Spot, at_place, borrow, holds};
 use rx_machine_steps::{Next, Subject};
 use rx_machine_values::{Lack, Memory, Part, Value, at_path, copied_part};
 use rx_meaning::End;
-use rx_typed_tree::{Arm, Expr, Mode, Param, Pattern, Stmt, Subpattern};
+use rx_typed::{Arm, Expr, Mode, Param, Pattern, Stmt, Subpattern};
 use std::alloc::{AllocError, Global};
 
 /// A path with one step more.
@@ -237,7 +237,7 @@ impl<'a> Machine<'a> {
 
     /// The bindings of a pattern at a path, from left to right; whether none is Wrong.
     #[cycle(binds)]
-    #[tactic(auto, using(rx_typed_tree::proofs::Rules::typed_pattern_rules))]
+    #[tactic(auto, using(rx_typed::proofs::Rules::typed_pattern_rules))]
     fn bind_pattern(
         &mut self,
         alloc: Global,

@@ -5,7 +5,7 @@ use rx_core::{LetGo, List, Text};
 use rx_machine_steps::{Hole, Next};
 use rx_machine_values::{Memory, Value};
 use rx_meaning::End;
-use rx_typed_tree::{Expr, Mark};
+use rx_typed::{Expr, Mark};
 
 /// What waits for the value of a part.
 #[derive(Drop)]

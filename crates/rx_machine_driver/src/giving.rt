@@ -1,7 +1,7 @@
 //! What becomes of a value and of a jump, by the innermost frame.
 
 ghost use Rattle.std.specs.Prelude.{◌≡◌, IfOk};
-ghost use Rattle.rx_typed_tree.specs.PlainTree.{plain-Mark, plain-Expr};
+ghost use Rattle.rx_typed.specs.PlainTree.{plain-Mark, plain-Expr};
 ghost use Rattle.rx_machine_values.specs.PlainValues.{plain-Value};
 ghost use Rattle.rx_machine_steps.specs.declared.next.Next.TheVariants as next;
 ghost use Rattle.rx_machine_frames.specs.Stepping.{behind_pass};
@@ -14,7 +14,7 @@ use rx_core::LetGo;
 use rx_machine_steps::{Exit, Next, filled};
 use rx_machine_values::Value;
 use rx_meaning::End;
-use rx_typed_tree::{Expr, Mark};
+use rx_typed::{Expr, Mark};
 use std::alloc::AllocError;
 use std::mem::replace;
 

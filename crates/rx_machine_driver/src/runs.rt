@@ -11,7 +11,7 @@ use crate::turning::cut_off;
 use rx_core::{List, Text};
 use rx_machine_values::Memory;
 use rx_meaning::{End, Outcome};
-use rx_typed_tree::TypedTree;
+use rx_typed::TypedTree;
 use std::alloc::{AllocError, Global};
 
 /// What is printed, and how the run ends.

@@ -11,7 +11,7 @@ use crate::data::{Frame, Machine, Paused, Step, Turn};
 use rx_core::{LetGo, List};
 use rx_machine_steps::{Hole, Next, Work, opened, opened_body};
 use rx_machine_values::Value;
-use rx_typed_tree::Expr;
+use rx_typed::Expr;
 use std::alloc::{AllocError, Global};
 
 impl<'a> Machine<'a> {

@@ -1,7 +1,7 @@
 //! Turns.
 
 ghost use Rattle.std.specs.Prelude.{◌≡◌, ◌≤◌, ℕ, suc, map, option_map, reverse, IfOk};
-ghost use Rattle.rx_typed_tree.specs.PlainTree.{plain-Mark, plain-Expr, plain-TypedTree};
+ghost use Rattle.rx_typed.specs.PlainTree.{plain-Mark, plain-Expr, plain-TypedTree};
 ghost use Rattle.rx_meaning.specs.Values.{element};
 ghost use Rattle.rx_meaning.specs.declared.outcome.Outcome.{Outcome as OutcomeOf};
 ghost use Rattle.rx_meaning.specs.Expressions.{Functions};
@@ -17,7 +17,7 @@ use rx_core::{LetGo, List};
 use rx_machine_steps::Next;
 use rx_machine_values::Value;
 use rx_meaning::End;
-use rx_typed_tree::{Expr, Mark, TypedTree};
+use rx_typed::{Expr, Mark, TypedTree};
 use std::alloc::{AllocError, Global};
 use std::mem::replace;
 

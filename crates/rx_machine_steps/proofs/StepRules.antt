@@ -1,7 +1,7 @@
 -- The equations that the proofs of steps use.
 use Rattle.std.proofs.Common.{◌≡◌, List, [], ◌∷◌, ◌++◌, refl}
 use Rattle.rx_typed.specs.Tree.{Operands, no_operand, operand_and}
-use Rattle.rx_typed_tree.specs.PlainTree.{plain-Mark, plain-Form, plain-Expr, expr_is, matched_place, matched_value, stmt_runs, stmt_declares, stmt_lets}
+use Rattle.rx_typed.specs.PlainTree.{plain-Mark, plain-Form, plain-Expr, expr_is, matched_place, matched_value, stmt_runs, stmt_declares, stmt_lets}
 use Rattle.rx_meaning.specs.Values as plain
 use Rattle.rx_machine_values.specs.declared.value.Value.TheVariants as value
 use Rattle.rx_machine_values.specs.PlainValues.{plain-Value, value_unit}

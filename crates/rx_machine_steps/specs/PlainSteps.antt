@@ -5,11 +5,11 @@ use Rattle.rx_typed.specs.Tree.{Body, lazy, held, under, temporary_at}
 use Rattle.rx_lower_walks.specs.Actions as actions
 use Rattle.rx_lower_walks.specs.Actions.{in_place, in_temporary}
 use Rattle.rx_lower_walks.specs.Orders as orders
-use Rattle.rx_typed_tree.specs.declared.tree.Stmt.{Stmt}
-use Rattle.rx_typed_tree.specs.declared.tree.Expr.{Expr}
-use Rattle.rx_typed_tree.specs.declared.tree.Arm.{Arm}
-use Rattle.rx_typed_tree.specs.declared.tree.Operand.{Operand}
-use Rattle.rx_typed_tree.specs.PlainTree.{plain-Mark, plain-Place, plain-Making, plain-Pattern, plain-Expr, plain-Stmt, plain-Arm, plain-Operand, operands_of, arms_of, nested_of}
+use Rattle.rx_typed.specs.declared.tree.Stmt.{Stmt}
+use Rattle.rx_typed.specs.declared.tree.Expr.{Expr}
+use Rattle.rx_typed.specs.declared.tree.Arm.{Arm}
+use Rattle.rx_typed.specs.declared.tree.Operand.{Operand}
+use Rattle.rx_typed.specs.PlainTree.{plain-Mark, plain-Place, plain-Making, plain-Pattern, plain-Expr, plain-Stmt, plain-Arm, plain-Operand, operands_of, arms_of, nested_of}
 use Rattle.rx_typed.specs.Tree.{Operands, no_operand, operand_and, Arms}
 use Rattle.rx_meaning.specs.Values as values
 use Rattle.rx_machine_running.specs.Running.{nowhere}

@@ -9,7 +9,7 @@ use crate::next::{Exit, Hole, Next, Subject, Work};
 use crate::open::operands;
 use rx_core::{LetGo, List, pushed};
 use rx_machine_values::Value;
-use rx_typed_tree::Operand;
+use rx_typed::Operand;
 use std::alloc::AllocError;
 
 /// One more operand has its value.

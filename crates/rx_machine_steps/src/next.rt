@@ -3,7 +3,7 @@
 use rx_core::{LetGo, List, Place};
 use rx_machine_values::Value;
 use rx_tree::BinaryOp;
-use rx_typed_tree::{Arm, Expr, Making, Mark, Operand, Pattern, Stmt};
+use rx_typed::{Arm, Expr, Making, Mark, Operand, Pattern, Stmt};
 
 /// What operands are for.
 #[derive(Clone, Copy)]

@@ -2,7 +2,7 @@
 
 ghost use Rattle.std.specs.Prelude.{◌≡◌, [], ◌∷◌, map};
 ghost use Rattle.rx_typed.specs.Tree as tree;
-ghost use Rattle.rx_typed_tree.specs.PlainTree.{plain-Mark, plain-Place, plain-Making, plain-Pattern, plain-Expr, plain-Matched, plain-Stmt};
+ghost use Rattle.rx_typed.specs.PlainTree.{plain-Mark, plain-Place, plain-Making, plain-Pattern, plain-Expr, plain-Matched, plain-Stmt};
 ghost use Rattle.rx_lower_walks.specs.Orders as orders;
 ghost use Rattle.rx_meaning.specs.Values as plain;
 ghost use Rattle.rx_machine_values.specs.PlainValues.{plain-Value};
@@ -12,11 +12,11 @@ ghost use Rattle.rx_machine_steps.specs.PlainSteps.{plain-Work, plain-Exit, plai
 use crate::next::{Exit, Hole, Next, Subject, Work};
 use rx_core::List;
 use rx_machine_values::Value;
-use rx_typed_tree::{Arm, Expr, Form, Making, Matched, Operand, Pattern, Stmt};
+use rx_typed::{Arm, Expr, Form, Making, Matched, Operand, Pattern, Stmt};
 use std::alloc::Global;
 
 /// The first of the operands that are left, or what is done with their values.
-#[tactic(auto, using(rx_typed_tree::proofs::Rules::operand_by_parts))]
+#[tactic(auto, using(rx_typed::proofs::Rules::operand_by_parts))]
 pub fn operands<'a>(work: Work<'a>, done: List<Value>, left: &'a [Operand]) -> Next<'a>
     ensures { plain-Next result ≡ next_operand (plain-Work work.entry) (map plain-Value done) (operands_in left.entry.now) }
 {
@@ -75,7 +75,7 @@ fn jumps<'a>(node: usize, number: u32, again: bool) -> Next<'a>
 }
 
 /// What an expression does first.
-#[tactic(auto, using(rx_typed_tree::proofs::Rules::typed_tree_rules, crate::proofs::StepRules::unit_is, crate::proofs::StepRules::opened_operands_is))]
+#[tactic(auto, using(rx_typed::proofs::Rules::typed_tree_rules, crate::proofs::StepRules::unit_is, crate::proofs::StepRules::opened_operands_is))]
 pub fn opened<'a>(alloc: Global, expr: &'a Expr) -> Next<'a>
     ensures { plain-Next result ≡ frames.opened (plain-Expr expr.entry.now) }
 {

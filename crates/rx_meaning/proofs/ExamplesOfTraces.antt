@@ -6,7 +6,7 @@ use Rattle.rx_typed.specs.Tree.{Function}
 use Rattle.rx_lower_walks.specs.Actions.{Action}
 use Rattle.rx_lower_walks.proofs.Programs.{product_functions, product_main, half_functions, half_half, gate_functions, gate_main, steps_functions, steps_main}
 use Rattle.rx_lower_walks.proofs.ProgramsOfTypes.{shapes_functions, shapes_size}
-use Rattle.rx_lower_walks.proofs.Examples.{product_actions, half_actions, half_returning, gate_actions, steps_actions, size_actions}
+use Rattle.rx_lower_walks.proofs.WalksExamples.{product_actions, half_actions, half_returning, gate_actions, steps_actions, size_actions}
 use Rattle.rx_meaning.specs.Values.{Value, number, truth, whole, tagged, pointer, no_value, value_and, new_frame, State}
 use Rattle.rx_meaning.specs.Results.{after, bind, result_of}
 use Rattle.rx_meaning.specs.Acting.{plainly}

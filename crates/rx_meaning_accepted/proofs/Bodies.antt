@@ -6,7 +6,7 @@ use Rattle.rx_tree.specs.declared.tree.Ident.{Ident}
 use Rattle.rx_tree.specs.Plain as plain
 use Rattle.rx_tree.specs.Plain.{Function, ProgramTree}
 use Rattle.rx_tree.specs.Size.{IsNumbered}
-use Rattle.rx_resolve_scope.specs.Scopes as scopes
+use Rattle.rx_resolve_names.specs.Scopes as scopes
 use Rattle.rx_resolve_names.specs.declared.resolved.ItemNames.{ItemNames}
 use Rattle.rx_resolve_names.specs.declared.resolved.NodeNames.{NodeNames}
 use Rattle.rx_resolve_names.specs.Causes.{Meant}

@@ -18,15 +18,15 @@ use Rattle.rx_typeck_rules.specs.Asking.{Asking}
 use Rattle.rx_typeck_rules.specs.Demands as rules
 use Rattle.rx_meaning_typed.specs.TypedActs.{Typing, ActsTyped}
 use Rattle.rx_meaning_typed.specs.TypedFunctions.{UnitsTyped, RightsTyped}
-use Rattle.rx_repair_items.specs.TemporaryTypes as given_types
-use Rattle.rx_repair_items.specs.TemporaryTypes.{Entry, silent, temporary_types}
-use Rattle.rx_repair_items.proofs.Sites.{BodySited}
-use Rattle.rx_repair_items.proofs.Entries.{Found, all_found}
-use Rattle.rx_repair_items.proofs.Asking.{Asks, asks_map, both, then_first, then_second, result_u, never_given_u}
-use Rattle.rx_repair_items.proofs.Pieces.{T, wished}
-use Rattle.rx_repair_items.proofs.Patterns.{every_front, every_behind}
-use Rattle.rx_repair_items.proofs.Writing.{written_typ, Taken, parameters_given, AgreeAs}
-use Rattle.rx_repair_items.proofs.Acting.{body_site}
+use Rattle.rx_repair_renaming.specs.TemporaryTypes as given_types
+use Rattle.rx_repair_renaming.specs.TemporaryTypes.{Entry, silent, temporary_types}
+use Rattle.rx_repair_renaming.proofs.Sites.{BodySited}
+use Rattle.rx_repair_renaming.proofs.Entries.{Found, all_found}
+use Rattle.rx_repair_renaming.proofs.Asking.{Asks, asks_map, both, then_first, then_second, result_u, never_given_u}
+use Rattle.rx_repair_renaming.proofs.Pieces.{T, wished}
+use Rattle.rx_repair_renaming.proofs.Patterns.{every_front, every_behind}
+use Rattle.rx_repair_renaming.proofs.Writing.{written_typ, Taken, parameters_given, AgreeAs}
+use Rattle.rx_repair_renaming.proofs.Acting.{body_site}
 use Rattle.rx_meaning_accepted.specs.Fitting.{FunctionFits}
 use Rattle.rx_meaning_accepted.specs.Typings.{result_or, typing_of}
 use Rattle.rx_meaning_accepted.proofs.Walking.{of_walk}

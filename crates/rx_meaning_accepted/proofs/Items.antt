@@ -10,7 +10,7 @@ use Rattle.rx_typed.specs.Types.{parameters_declared}
 use Rattle.rx_typed.specs.PlainTypes.{plain-Decl, declarations}
 use Rattle.rx_typed.specs.Naming.{function_named}
 use Rattle.rx_typed.specs.Tree.{Function}
-use Rattle.rx_typed_tree.specs.PlainTree.{plain-TypedTree}
+use Rattle.rx_typed.specs.PlainTree.{plain-TypedTree}
 use Rattle.rx_lower_walks.specs.Walks.{Among, here, there}
 use Rattle.rx_typeck_declare.specs.Steps as steps
 use Rattle.rx_typeck_declare.specs.Items.{declared_item, declared_items, entries_of}
@@ -20,8 +20,8 @@ use Rattle.rx_machine.specs.Functions.{is_function, first_of, behind, typed_func
 use Rattle.rx_meaning.specs.Values.{element}
 use Rattle.rx_meaning_keeping.specs.Keeping.{IsFunction}
 use Rattle.rx_meaning_initial.proofs.Calls.{DeclaredAs, declared_as}
-use Rattle.rx_repair_items.proofs.Writing.{AgreeAs}
-use Rattle.rx_repair_items.proofs.Programs.{function_agrees, read_ok, read_same, entries_same}
+use Rattle.rx_repair_renaming.proofs.Writing.{AgreeAs}
+use Rattle.rx_repair_renaming.proofs.Programs.{function_agrees, read_ok, read_same, entries_same}
 
 -- at a number of a list of items, the first of which has the number `n`
 record Stands (G : Given) (ns : List ItemNames) (n : ℕ) (is : ProgramTree) (ds : List Decl) (ts : List TypedFn) (k : ℕ) (F : Function) : Type 0 where

@@ -6,8 +6,8 @@ use Rattle.rx_tree.specs.declared.tree.Ident.{Ident}
 use Rattle.rx_tree.specs.Lists.{listed}
 use Rattle.rx_tree.specs.Plain as plain
 use Rattle.rx_tree.specs.Plain.{Expression, Expressions, OptionalExpression, OptionalExpressions, FieldExpressions, Arms, Body, Statement, Statements}
-use Rattle.rx_resolve_scope.specs.Scopes as scopes
-use Rattle.rx_resolve_scope.specs.Scopes.{Declared, Variables, variable_named}
+use Rattle.rx_resolve_names.specs.Scopes as scopes
+use Rattle.rx_resolve_names.specs.Scopes.{Declared, Variables, variable_named}
 use Rattle.rx_resolve_names.specs.declared.resolved.ItemNames.{ItemNames}
 use Rattle.rx_resolve_names.specs.declared.resolved.NodeNames.{NodeNames}
 use Rattle.rx_resolve_names.specs.Meant.{number, type_name, function_name, item_named, as_function, as_rt, Around, a_loop, a_test, Target, to_loop, out_of_test, nowhere, through_test, target}

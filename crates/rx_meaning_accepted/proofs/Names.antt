@@ -6,8 +6,8 @@ use Rattle.rx_core.specs.declared.types.Span.{Span}
 use Rattle.rx_tree.specs.declared.tree.Ident.{Ident}
 use Rattle.rx_tree.specs.Plain as plain
 use Rattle.rx_tree.specs.Plain.{ItemTree, ProgramTree, VariantOf}
-use Rattle.rx_resolve_scope.specs.declared.table.Known.{Known}
-use Rattle.rx_resolve_scope.specs.Scopes.{Declared, declared_as}
+use Rattle.rx_resolve_names.specs.declared.table.Known.{Known}
+use Rattle.rx_resolve_names.specs.Scopes.{Declared, declared_as}
 use Rattle.rx_resolve_names.specs.declared.resolved.ItemNames.{ItemNames}
 use Rattle.rx_resolve_names.specs.declared.resolved.NodeNames.{NodeNames}
 use Rattle.rx_resolve_names.specs.Meant.{number, type_name, has_name, item_named, as_struct, as_enum, kept, firsts, number_in, variant_names, variants_of}
@@ -24,7 +24,7 @@ use Rattle.rx_typeck_declare.specs.Steps.{Reading}
 use Rattle.rx_typeck_declare.specs.Items as items
 use Rattle.rx_typeck_declare.specs.Items.{declared_item, declared_items, entries_of, fields_of, variant_of, begins, all_used, derives_copy}
 use Rattle.rx_engine_typing.proofs.Steps.{named_ok, the_same}
-use Rattle.rx_repair_items.proofs.Programs.{read_ok, read_same}
+use Rattle.rx_repair_renaming.proofs.Programs.{read_ok, read_same}
 use Rattle.rx_meaning_accepted.specs.Fitting.{IsStruct, IsVariant}
 use Rattle.rx_meaning_accepted.proofs.Meaning.{Sees}
 

@@ -21,12 +21,12 @@ use Rattle.rx_typeck_solver.specs.Facts.{MeetsAll, Types, Known, AnInteger, is_p
 use Rattle.rx_typeck_rules.specs.Asking.{Asking, ask, passes, all, signed}
 use Rattle.rx_typeck_rules.specs.Demands as rules
 use Rattle.rx_meaning_typed.specs.TypedActs.{Operates, adds, subtracts, multiplies, divides, leaves, equal_numbers, equal_truths, unequal_numbers, unequal_truths, less, at_most, greater, at_least, IsShown}
-use Rattle.rx_repair_items.specs.TemporaryTypes.{at_site}
-use Rattle.rx_repair_items.proofs.Asking.{Asks, NoPlace, asks_map, none, both, then_first, then_second, then_u, one_asked, quiet, refused, not_never_u, never_asks}
-use Rattle.rx_repair_items.proofs.Places.{some_same, fixed_same}
-use Rattle.rx_repair_items.proofs.Settling.{Settles}
-use Rattle.rx_repair_items.proofs.Pieces as pieces
-use Rattle.rx_repair_items.proofs.Pieces.{own, wished, Stands, Has, value_given, when_given}
+use Rattle.rx_repair_renaming.specs.TemporaryTypes.{at_site}
+use Rattle.rx_repair_renaming.proofs.Asking.{Asks, NoPlace, asks_map, none, both, then_first, then_second, then_u, one_asked, quiet, refused, not_never_u, never_asks}
+use Rattle.rx_repair_renaming.proofs.Places.{some_same, fixed_same}
+use Rattle.rx_repair_renaming.proofs.Settling.{Settles}
+use Rattle.rx_repair_renaming.proofs.Pieces as pieces
+use Rattle.rx_repair_renaming.proofs.Pieces.{own, wished, Stands, Has, value_given, when_given}
 
 -- ---- plain types
 

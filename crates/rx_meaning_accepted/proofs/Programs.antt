@@ -14,7 +14,7 @@ use Rattle.rx_typed.specs.PlainTypes.{declarations}
 use Rattle.rx_typed.specs.Naming.{function_named, function_spans}
 use Rattle.rx_typed.specs.Numbers.{AreFrom, nodes}
 use Rattle.rx_typed.specs.Tree.{Function}
-use Rattle.rx_typed_tree.specs.PlainTree.{plain-TypedTree}
+use Rattle.rx_typed.specs.PlainTree.{plain-TypedTree}
 use Rattle.rx_typed_declarations.proofs.Polarities.{same_declared}
 use Rattle.rx_lower_walks.specs.Orders.{argument}
 use Rattle.rx_lower_walks.specs.Walks.{Among}
@@ -30,7 +30,7 @@ use Rattle.rx_meaning.specs.Expressions.{Functions}
 use Rattle.rx_meaning_keeping.specs.Keeping.{IsFunction}
 use Rattle.rx_meaning_typed.specs.TypedActs.{Typing, ActsTyped, IsSigned}
 use Rattle.rx_meaning_typed.specs.TypedFunctions.{UnitsTyped, RightsTyped, MakesWholes, FunctionTyped, ProgramTyped}
-use Rattle.rx_repair_items.proofs.Sites.{BodySited, function_sited}
+use Rattle.rx_repair_renaming.proofs.Sites.{BodySited, function_sited}
 use Rattle.rx_meaning_accepted.specs.Fitting.{FunctionFits}
 use Rattle.rx_meaning_accepted.specs.Typings.{typing_of}
 use Rattle.rx_meaning_accepted.proofs.Functions as functions

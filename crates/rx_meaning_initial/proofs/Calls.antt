@@ -19,7 +19,7 @@ use Rattle.rx_typed.specs.declared.nodes.Site.{Site}
 use Rattle.rx_typed.specs.Elaborated.{elaborated}
 use Rattle.rx_typed.specs.Elaborated as elaboration
 use Rattle.rx_typed.specs.Tree.{Function}
-use Rattle.rx_typed_tree.specs.PlainTree.{plain-TypedTree}
+use Rattle.rx_typed.specs.PlainTree.{plain-TypedTree}
 use Rattle.rx_typeck_declare.specs.Steps as steps
 use Rattle.rx_typeck_declare.specs.Steps.{Reading}
 use Rattle.rx_typeck_declare.specs.Written.{type_of}

@@ -26,7 +26,7 @@ use Rattle.rx_lower_walks.specs.Orders as order
 use Rattle.rx_lower_walks.specs.Walks.{actions_in, Among, IsWalk}
 use Rattle.rx_lower_walks.specs.Orders.{Order, order_all, order_scrutinee, order_arms, order_body, order_function, testing, binding, declaring, beginning}
 use Rattle.rx_typed_declarations.specs.Sizes.{Sized}
-use Rattle.rx_facts_parts.specs.Places.{Frame}
+use Rattle.rx_facts_init.specs.Places.{Frame}
 use Rattle.rx_typeck_solver.specs.declared.facts.Broken.{Broken}
 use Rattle.rx_typeck_solver.specs.declared.facts.Subject.{Subject}
 use Rattle.rx_typeck_solver.specs.declared.facts.Subject.TheVariants as subject

@@ -12,7 +12,7 @@ use Rattle.rx_typed.specs.Tree.{Place, variable, temporary, Temporary, own, held
 use Rattle.rx_typed.specs.Elaborated.{dereferences, field_in}
 use Rattle.rx_typed_declarations.specs.Sizes.{Sized, declared_parts}
 use Rattle.rx_typed_declarations.specs.Held.{field_types}
-use Rattle.rx_facts_parts.specs.Places.{Spot, whole, Located, spot_parts, nth_field, nth_variant, field_of, variant_of, located, Frame, typed_spot, nth_variable, root_at, place_at, spans}
+use Rattle.rx_facts_init.specs.Places.{Spot, whole, Located, spot_parts, nth_field, nth_variant, field_of, variant_of, located, Frame, typed_spot, nth_variable, root_at, place_at, spans}
 use Rattle.rx_facts_init.specs.Setting.{is_behind}
 use Rattle.rx_facts_init.specs.Wholes.{placed}
 use Rattle.rx_meaning_keeping.specs.Ready.{HasPart}

@@ -14,7 +14,7 @@ use Rattle.rx_typed.specs.PlainTypes.{plain-Ty, declarations}
 use Rattle.rx_typed.specs.Naming.{function_named, function_variables}
 use Rattle.rx_typed.specs.Elaborated.{Assigned, elaborated}
 use Rattle.rx_typed.specs.Tree.{Place, variable, Temporary, Function, temporary_of}
-use Rattle.rx_typed_tree.specs.PlainTree.{plain-TypedTree}
+use Rattle.rx_typed.specs.PlainTree.{plain-TypedTree}
 use Rattle.rx_typed_declarations.specs.WellFormed.{WellSigned}
 use Rattle.rx_typed_declarations.specs.Sizes.{Sized, told}
 use Rattle.rx_typed_declarations.proofs.Polarities.{same_declared}
@@ -38,7 +38,7 @@ use Rattle.rx_meaning_keeping.specs.Keeping.{IsFunction}
 use Rattle.rx_meaning_keeping.specs.Ready.{HasPart, Ready, IsInitial}
 use Rattle.rx_core.specs.declared.types.Step.{Step}
 use Rattle.rx_lower_walks.specs.Orders.{order_function}
-use Rattle.rx_facts_parts.specs.Places.{Frame}
+use Rattle.rx_facts_init.specs.Places.{Frame}
 use Rattle.rx_facts_init.specs.Setting.{is_behind, looked_at}
 use Rattle.rx_facts_init.specs.Wholes.{is_all, placed}
 use Rattle.rx_exits_marks.specs.Coming.{HasNoMark}

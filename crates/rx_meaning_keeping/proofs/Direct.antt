@@ -16,7 +16,7 @@ use Rattle.rx_meaning.specs.Places.{Spot, in_slot, in_value, content, follow, st
 use Rattle.rx_meaning.specs.Operators as operators
 use Rattle.rx_meaning.specs.Operators.{Computed, make, shown}
 use Rattle.rx_meaning.specs.Acting.{checked, computed, next_input, does_plainly}
-use Rattle.rx_facts_parts.specs.Places.{Frame, is_part}
+use Rattle.rx_facts_init.specs.Places.{Frame, is_part}
 use Rattle.rx_facts_init.specs.Setting.{is_behind, looked_at, AllSet}
 use Rattle.rx_facts_init.specs.Wholes as wholes
 use Rattle.rx_facts_init.specs.Wholes.{placed, stands, holds_in}

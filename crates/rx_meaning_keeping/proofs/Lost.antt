@@ -8,8 +8,8 @@ use Rattle.rx_typed.specs.Places.{is_front}
 use Rattle.rx_lower_walks.specs.Actions.{Write, Action, does}
 use Rattle.rx_meaning.specs.Values.{Value, slot_of, and_then, Frame as MeaningFrame}
 use Rattle.rx_meaning.specs.Places.{Spot, in_slot, follow, start}
-use Rattle.rx_facts_along.specs.Along.{Switch, behind, after}
-use Rattle.rx_facts_parts.specs.Places.{Frame, is_part}
+use Rattle.rx_facts_live.specs.Along.{Switch, behind, after}
+use Rattle.rx_facts_init.specs.Places.{Frame, is_part}
 use Rattle.rx_facts_init.specs.Setting as setting
 use Rattle.rx_facts_init.specs.Setting.{is_behind, sets, unsets}
 use Rattle.rx_facts_init.specs.Wholes.{placed, standing, regains, loses, is_variable}

@@ -16,7 +16,7 @@ use Rattle.rx_meaning.specs.Operators as operators
 use Rattle.rx_meaning.specs.Operators.{Computed, make, shown}
 use Rattle.rx_meaning.specs.Acting.{checked, computed, next_input, does_plainly}
 use Rattle.rx_meaning.specs.Expressions.{Functions}
-use Rattle.rx_facts_parts.specs.Places.{Frame}
+use Rattle.rx_facts_init.specs.Places.{Frame}
 use Rattle.rx_facts_init.specs.Setting.{is_behind, sets}
 use Rattle.rx_facts_init.specs.Wholes.{placed, regains}
 use Rattle.rx_meaning_keeping.specs.Pending.{Pending, holds, pushes, arguments}

@@ -9,7 +9,7 @@ use Rattle.rx_meaning.specs.Operators as operators
 use Rattle.rx_meaning.specs.Operators.{make}
 use Rattle.rx_meaning.specs.Expressions.{Functions}
 use Rattle.rx_typed_declarations.specs.Sizes.{Sized}
-use Rattle.rx_facts_parts.specs.Places.{Frame, is_part}
+use Rattle.rx_facts_init.specs.Places.{Frame, is_part}
 use Rattle.rx_facts_init.specs.Setting.{is_behind, looked_at}
 use Rattle.rx_facts_init.specs.Wholes.{placed}
 use Rattle.rx_facts_init.specs.Initialised.{Initialised}

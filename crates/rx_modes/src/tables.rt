@@ -1,7 +1,7 @@
 //! What a run, the rest of its function and the whole function do to each variable.
 
 ghost use Rattle.std.specs.Prelude.{◌≡◌, ℕ, IfOk};
-ghost use Rattle.rx_typed_tree.specs.PlainTree.{plain-TypedTree};
+ghost use Rattle.rx_typed.specs.PlainTree.{plain-TypedTree};
 ghost use Rattle.rx_lower_walks.specs.Orders.{order_function};
 ghost use Rattle.rx_lower_walks.specs.Walks.{actions_in};
 ghost use Rattle.rx_exits_marks.specs.Changed.{changed_function};
@@ -17,7 +17,7 @@ use rx_exits_syntax::Home;
 use rx_exits_tree::{alone_has_the_actions_of_the_run, run_alone, without_run};
 use rx_lower_order::flow_of;
 use rx_modes_deeds::{Deeds, deeds_in};
-use rx_typed_tree::TypedTree;
+use rx_typed::TypedTree;
 use std::alloc::{AllocError, Global};
 
 /// What a function does, by variable.

@@ -8,10 +8,10 @@ use Rattle.std.proofs.lemmas.Bool.Decides.{Decides-or, Decides-like}
 use Rattle.rx_typed.specs.Tree.{variable, Function, tuple, constant, negation, inversion, operation, lazy, struct, variant_of, temporary_at}
 use Rattle.rx_lower_walks.specs.Actions.{Act, Declare, Dead, Read, Write, Borrow, Test, Call, Build, Input, Print, Give, Action, does}
 use Rattle.rx_lower_walks.specs.Walks.{Among, here, there}
-use Rattle.rx_lower_graph.specs.Graph.{Site, site_at, Path, stop, go, Comes, at_hand, along}
-use Rattle.rx_lower_graph.specs.Pieces.{graph}
-use Rattle.rx_lower_graph.proofs.Sites.{paths_are_walks_of, reached}
-use Rattle.rx_facts_along.specs.Along.{Switch, behind, ahead}
+use Rattle.rx_lower_walks.specs.Graph.{Site, site_at, Path, stop, go, Comes, at_hand, along}
+use Rattle.rx_lower_walks.specs.Pieces.{graph}
+use Rattle.rx_lower_walks.proofs.Sites.{paths_are_walks_of, reached}
+use Rattle.rx_facts_live.specs.Along.{Switch, behind, ahead}
 use Rattle.rx_facts_live.specs.Live.{living}
 use Rattle.rx_exits_marks.specs.Points.{Exit, Point, leaves, number}
 use Rattle.rx_exits_marks.specs.Marked.{shown, marked}

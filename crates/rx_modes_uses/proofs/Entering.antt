@@ -6,9 +6,9 @@ use Rattle.std.proofs.Math.Nat.{le_antisymm}
 use Rattle.rx_typed.specs.Tree.{own}
 use Rattle.rx_lower_walks.specs.Actions.{Action}
 use Rattle.rx_lower_walks.specs.Walks.{Among, here, there}
-use Rattle.rx_lower_graph.specs.Graph.{Site, site_at, Path, stop, go}
-use Rattle.rx_lower_graph.proofs.Sites.{paths_are_walks_of}
-use Rattle.rx_facts_parts.specs.Places.{Frame, place_at, spot_parts}
+use Rattle.rx_lower_walks.specs.Graph.{Site, site_at, Path, stop, go}
+use Rattle.rx_lower_walks.proofs.Sites.{paths_are_walks_of}
+use Rattle.rx_facts_init.specs.Places.{Frame, place_at, spot_parts}
 use Rattle.rx_facts_init.specs.Setting.{is_set, AllSet}
 use Rattle.rx_facts_init.proofs.Numbers.{in_between}
 use Rattle.rx_exits_marks.specs.Points.{enters}

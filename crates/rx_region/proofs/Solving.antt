@@ -4,12 +4,12 @@ use Rattle.std.proofs.lemmas.Option.{none-some}
 use Rattle.rx_core.specs.declared.types.Bound.{Bound}
 use Rattle.rx_graph_closure.specs.Closing.{Has, Comes, Closed}
 use Rattle.rx_graph_closure.specs.Closing as closing
-use Rattle.rx_lower_graph.specs.Graph.{Site}
+use Rattle.rx_lower_walks.specs.Graph.{Site}
 use Rattle.rx_region_outlives.specs.Related.{outlives}
 use Rattle.rx_region_outlives.specs.Implied.{HasPair}
-use Rattle.rx_region_solutions.specs.Constraints.{Context}
-use Rattle.rx_region_solutions.specs.Solutions.{Point, Sets, Solution, Least, AreLeast}
-use Rattle.rx_region_solutions.specs.Solutions as solutions
+use Rattle.rx_region_constraints.specs.Constraints.{Context}
+use Rattle.rx_region_constraints.specs.Solutions.{Point, Sets, Solution, Least, AreLeast}
+use Rattle.rx_region_constraints.specs.Solutions as solutions
 use Rattle.rx_region.specs.Points.{number, point, has_point}
 use Rattle.rx_region.specs.Tables.{Must, Asks, IsTable, Meets}
 use Rattle.rx_region.specs.Tables as tables

@@ -1,10 +1,10 @@
 //! Laws of constraints, each the contract of a function that does nothing.
 
 ghost use Rattle.std.specs.Prelude.{◌↔◌, ℕ, List as ListOf};
-ghost use Rattle.rx_lower_graph.specs.Graph.{Site};
-ghost use Rattle.rx_region_solutions.specs.Constraints.{Context};
-ghost use Rattle.rx_region_solutions.specs.Known.{Missing};
-ghost use Rattle.rx_region_solutions.specs.Solutions.{Sets, Solution};
+ghost use Rattle.rx_lower_walks.specs.Graph.{Site};
+ghost use Rattle.rx_region_constraints.specs.Constraints.{Context};
+ghost use Rattle.rx_region_constraints.specs.Known.{Missing};
+ghost use Rattle.rx_region_constraints.specs.Solutions.{Sets, Solution};
 ghost use Rattle.rx_region.specs.Tables.{Asks, Meets, Keeps};
 ghost use Rattle.rx_region.specs.declared.outlives.Outlives.{Outlives as OutlivesOf};
 

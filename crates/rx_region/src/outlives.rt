@@ -6,7 +6,7 @@ ghost use Rattle.rx_graph.specs.Tables as tables;
 ghost use Rattle.rx_graph.specs.Tables.{at};
 ghost use Rattle.rx_lower_emit.specs.PlainSite.{plain-Site};
 ghost use Rattle.rx_facts_live.specs.Tables.{IsIndex, Lives};
-ghost use Rattle.rx_region_solutions.specs.Solutions.{site as site_point};
+ghost use Rattle.rx_region_constraints.specs.Solutions.{site as site_point};
 ghost use Rattle.rx_region_constraints.specs.PlainContext.{plain-Given};
 ghost use Rattle.rx_region.specs.Points.{has_point};
 ghost use Rattle.rx_lower_lifetimes.specs.Answer.{plain-Lifetimes};

@@ -3,7 +3,7 @@
 ghost use Rattle.std.specs.Prelude.{◌≡◌, ◌<◌, ◌≤◌, ◌+◌, ℕ, List as ListOf, length, map, IfOk, OnOk};
 ghost use Rattle.rx_graph_bits.specs.Rows as bits;
 ghost use Rattle.rx_graph.specs.Tables as tables;
-ghost use Rattle.rx_lower_graph.specs.Graph as graphs;
+ghost use Rattle.rx_lower_walks.specs.Graph as graphs;
 ghost use Rattle.rx_lower_flow.specs.PlainFlow.{plain-Root, plain-Temporary};
 ghost use Rattle.rx_graph_closure.specs.Filling.{HasExactly, Added};
 ghost use Rattle.rx_lower_lifetimes.specs.Answer.{plain-Lifetimes};

@@ -13,7 +13,7 @@ use Rattle.rx_region_constraints.specs.declared.made.Parts.{Parts}
 use Rattle.rx_typed.specs.Tree.{Temporary, Making, constant, negation, inversion, operation, lazy, tuple, struct, variant_of}
 use Rattle.rx_typed_places.specs.Renaming.{renamed, all_renamed, argument, of_list, unit_region}
 use Rattle.rx_lower_lifetimes.specs.Values.{same, type_found}
-use Rattle.rx_region_solutions.specs.Constraints.{temporary_type, made_parts, instances}
+use Rattle.rx_region_constraints.specs.Constraints.{temporary_type, made_parts, instances}
 use Rattle.rx_region_constraints.specs.Steps.{place_among, declared_parts, arguments_for, regions_in}
 
 -- those before a place, of which none has its node

@@ -1,3 +1,5 @@
+pub mod LeastLaws
+mod Examples
 mod Rules
 mod Finding
 mod Zips

@@ -10,7 +10,7 @@ use Rattle.rx_typed.specs.Regions.{RegionTyp, region_integer, region_boolean, re
 use Rattle.rx_region_outlives.specs.Related.{related}
 use Rattle.rx_typed_places.specs.Renaming.{renamed, all_renamed}
 use Rattle.rx_typed_places.specs.Places.{behind, part_at}
-use Rattle.rx_region_solutions.specs.Constraints.{reborrows}
+use Rattle.rx_region_constraints.specs.Constraints.{reborrows}
 use Rattle.rx_region_constraints.specs.Steps.{through_step}
 
 -- ---- lists that are appended one after another

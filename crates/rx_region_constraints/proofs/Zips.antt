@@ -6,7 +6,7 @@ use Rattle.rx_core.specs.declared.types.Ty.{Ty}
 use Rattle.rx_typed.specs.Regions.{RegionTyp, RegionTyps, no_region, region_and, regions_of, region-Ty}
 use Rattle.rx_typed_declarations.proofs.ItemLemmas.{at_next}
 use Rattle.rx_lower_walks.specs.Actions.{Action}
-use Rattle.rx_lower_graph.specs.Text.{actions_of}
+use Rattle.rx_lower_walks.specs.Text.{actions_of}
 use Rattle.rx_lower_flow.specs.declared.actions.Temporary.{Temporary}
 use Rattle.rx_lower_flow.specs.PlainFlow.{plain-Temporary}
 use Rattle.rx_lower_emit.specs.declared.site.Site.{Site}
@@ -14,7 +14,7 @@ use Rattle.rx_lower_emit.specs.PlainSite.{plain-Site}
 use Rattle.rx_lower_lifetimes.specs.declared.numbering.Own.{Own}
 use Rattle.rx_lower_lifetimes.specs.PlainOwn.{plain-Own}
 use Rattle.rx_typed_places.specs.Places.{part_at}
-use Rattle.rx_region_solutions.specs.Constraints.{Context, parameters_flow, parts_flow, all_ask, formed}
+use Rattle.rx_region_constraints.specs.Constraints.{Context, parameters_flow, parts_flow, all_ask, formed}
 use Rattle.rx_region_constraints.specs.Steps.{first_flow, first_ask, formed_one}
 
 step_more : {A : Type 0} (F : List A → List Bound) (xs : List A) (i : ℕ) (x : A) (first rest old new : List Bound) → i < length xs → x ≡ get_or xs i x

@@ -1,2 +1,5 @@
+pub mod Constraints
+pub mod Solutions
+pub mod Known
 pub mod PlainContext
 pub mod Steps

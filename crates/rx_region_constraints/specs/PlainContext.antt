@@ -1,7 +1,7 @@
 -- What constraints are told by, of the code.
 use Rattle.rx_lower_lifetimes.specs.Answer.{plain-Lifetimes}
 use Rattle.rx_region_outlives.specs.Implied.{pairs_of}
-use Rattle.rx_region_solutions.specs.Constraints.{Context}
+use Rattle.rx_region_constraints.specs.Constraints.{Context}
 use Rattle.rx_region_constraints.specs.declared.given.Given.{Given}
 
 abbrev pub plain-Given : Given → Context

@@ -12,7 +12,7 @@ use Rattle.rx_typed_places.specs.Renaming.{unit_region}
 use Rattle.rx_lower_lifetimes.specs.Values.{same}
 use Rattle.rx_lower_lifetimes.specs.Numbered.{Own}
 use Rattle.rx_lower_walks.specs.Actions.{Action}
-use Rattle.rx_region_solutions.specs.Constraints.{Context, flows, held, through, tuple_parts, lifetimes_of, asks, is_among}
+use Rattle.rx_region_constraints.specs.Constraints.{Context, flows, held, through, tuple_parts, lifetimes_of, asks, is_among}
 use Rattle.rx_region_outlives.specs.Implied.{implied_in}
 use Rattle.rx_region_constraints.specs.declared.made.Parts.{Parts}
 use Rattle.rx_region_constraints.specs.declared.made.Parts.TheVariants as parts

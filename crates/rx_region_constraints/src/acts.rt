@@ -9,7 +9,7 @@ ghost use Rattle.rx_typed_places.specs.Renaming.{renamed as renamed_by, all_rena
 ghost use Rattle.rx_lower_lifetimes.specs.PlainOwn.{plain-Own};
 ghost use Rattle.rx_lower_lifetimes.specs.Values.{type_found};
 ghost use Rattle.rx_typed_places.specs.Places.{part_at};
-ghost use Rattle.rx_region_solutions.specs.Constraints as spec;
+ghost use Rattle.rx_region_constraints.specs.Constraints as spec;
 ghost use Rattle.rx_region_constraints.specs.PlainContext.{plain-Given};
 ghost use Rattle.rx_region_constraints.specs.Steps as steps_of;
 

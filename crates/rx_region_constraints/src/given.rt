@@ -9,7 +9,7 @@ ghost use Rattle.rx_lower_flow.specs.PlainFlow.{plain-Root, plain-Temporary};
 ghost use Rattle.rx_typed_places.specs.Renaming.{unit_region};
 ghost use Rattle.rx_lower_lifetimes.specs.Answer.{plain-Lifetimes};
 ghost use Rattle.rx_lower_lifetimes.specs.Values.{type_found};
-ghost use Rattle.rx_region_solutions.specs.Constraints as spec;
+ghost use Rattle.rx_region_constraints.specs.Constraints as spec;
 ghost use Rattle.rx_region_constraints.specs.PlainContext.{plain-Given};
 ghost use Rattle.rx_region_constraints.specs.Steps as steps_of;
 

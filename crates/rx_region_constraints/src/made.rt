@@ -3,18 +3,17 @@
 ghost use Rattle.std.specs.Prelude.{◌≡◌, [], true, false, IfOk, slice_get};
 ghost use Rattle.std.specs.Option.{option_copied};
 ghost use Rattle.rx_lower_flow.specs.PlainFlow.{plain-Made};
-ghost use Rattle.rx_typed_tree.specs.PlainTree.{plain-Making};
+ghost use Rattle.rx_typed.specs.PlainTree.{plain-Making};
 ghost use Rattle.rx_typed_places.specs.Places as places;
 ghost use Rattle.rx_lower_lifetimes.specs.Values.{type_found};
-ghost use Rattle.rx_region_solutions.specs.Constraints as spec;
+ghost use Rattle.rx_region_constraints.specs.Constraints as spec;
 ghost use Rattle.rx_region_constraints.specs.Steps as steps_of;
 ghost use Rattle.rx_region_constraints.specs.declared.made.Parts.TheVariants as FormOf;
 
 use rx_core::{List, Ty};
 use rx_lower_flow::Made;
-use rx_typed::{Decl, Decls, FieldDecl};
+use rx_typed::{Decl, Decls, FieldDecl, Making};
 use rx_typed_places::Arguments;
-use rx_typed_tree::Making;
 use std::alloc::{AllocError, Global};
 
 /// The types of parts, as they are declared.

@@ -6,7 +6,7 @@ ghost use Rattle.rx_typed.specs.Tree.{temporary as temporary_root};
 ghost use Rattle.rx_lower_flow.specs.PlainFlow.{plain-Place, plain-Root, plain-Temporary};
 ghost use Rattle.rx_lower_lifetimes.specs.PlainOwn.{plain-Own};
 ghost use Rattle.rx_lower_walks.specs.Actions.{Borrow as borrow_act};
-ghost use Rattle.rx_region_solutions.specs.Constraints as spec;
+ghost use Rattle.rx_region_constraints.specs.Constraints as spec;
 ghost use Rattle.rx_region_constraints.specs.PlainContext.{plain-Given};
 ghost use Rattle.rx_region_constraints.specs.Steps as steps_of;
 

@@ -7,7 +7,7 @@ ghost use Rattle.rx_region_outlives.specs.Implied.{implied_among, implied_in};
 ghost use Rattle.rx_typed_places.specs.PlainSignature.{plain-Signature};
 ghost use Rattle.rx_lower_lifetimes.specs.PlainOwn.{plain-Own};
 ghost use Rattle.rx_lower_walks.specs.Actions.{Call as call_act};
-ghost use Rattle.rx_region_solutions.specs.Constraints as spec;
+ghost use Rattle.rx_region_constraints.specs.Constraints as spec;
 ghost use Rattle.rx_region_constraints.specs.PlainContext.{plain-Given};
 ghost use Rattle.rx_region_constraints.specs.Steps as steps_of;
 

@@ -2,13 +2,13 @@
 
 ghost use Rattle.std.specs.Prelude.{◌≡◌, ◌++◌, map, IfOk, OnOk};
 ghost use Rattle.rx_typed.specs.Regions.{region-Ty};
-ghost use Rattle.rx_lower_graph.specs.Text.{actions_of};
+ghost use Rattle.rx_lower_walks.specs.Text.{actions_of};
 ghost use Rattle.rx_lower_flow.specs.PlainFlow.{plain-Action};
 ghost use Rattle.rx_lower_emit.specs.PlainSite.{plain-Site};
 ghost use Rattle.rx_lower_lifetimes.specs.PlainOwn.{plain-Own};
 ghost use Rattle.rx_region_outlives.specs.Implied.{implied_in};
-ghost use Rattle.rx_region_solutions.specs.Constraints as spec;
-ghost use Rattle.rx_region_solutions.specs.Known.{parameters_ask, told as told_of};
+ghost use Rattle.rx_region_constraints.specs.Constraints as spec;
+ghost use Rattle.rx_region_constraints.specs.Known.{parameters_ask, told as told_of};
 ghost use Rattle.rx_region_constraints.specs.PlainContext.{plain-Given};
 ghost use Rattle.rx_region_constraints.specs.Steps as steps_of;
 

@@ -12,7 +12,7 @@ use Rattle.rx_resolve_names.specs.Causes.{Meant}
 use Rattle.rx_core.proofs.Results.{ok_is}
 use Rattle.rx_typed.specs.Types.{Declarations, rt_declared, struct_declared, enum_declared, function_declared}
 use Rattle.rx_typed.specs.PlainTypes.{declarations}
-use Rattle.rx_typed_tree.specs.PlainTree.{plain-TypedTree}
+use Rattle.rx_typed.specs.PlainTree.{plain-TypedTree}
 use Rattle.rx_typeck_typed.specs.declared.typed.Typed.{Typed}
 use Rattle.rx_typeck_typed.specs.declared.typed.TypedFn.{TypedFn}
 use Rattle.rx_typeck_typed.specs.Typing.{IsTyped}

@@ -14,8 +14,8 @@ use Rattle.rx_lower_lifetimes.specs.declared.whole.LowerFault.{LowerFault}
 use Rattle.rx_lower_lifetimes.specs.declared.whole.LowerFault.TheVariants as lower
 use Rattle.rx_facts.specs.declared.fault.InitFault.{InitFault}
 use Rattle.rx_facts.specs.declared.fault.InitFault.TheVariants as init
-use Rattle.rx_check_loans.specs.declared.loans.LoanFault.{LoanFault}
-use Rattle.rx_check_loans.specs.declared.loans.LoanFault.TheVariants as loan
+use Rattle.rx_check.specs.declared.loans.LoanFault.{LoanFault}
+use Rattle.rx_check.specs.declared.loans.LoanFault.TheVariants as loan
 use Rattle.rx_check.specs.declared.fault.CheckFault.{CheckFault}
 use Rattle.rx_check.specs.declared.fault.CheckFault.TheVariants as check
 use Rattle.rx_rem_command.specs.declared.status.Status.{Status}

@@ -9,8 +9,7 @@ ghost use Rattle.rx_rem_command.specs.CheckLines as spec;
 
 use crate::line::line;
 use crate::status::Status;
-use rx_check::CheckFault;
-use rx_check_loans::LoanFault;
+use rx_check::{CheckFault, LoanFault};
 use rx_core::{Span, Text};
 use rx_cover::{CoverFault, Value};
 use rx_cover_values::shown;

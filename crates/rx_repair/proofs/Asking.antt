@@ -5,8 +5,8 @@ use Rattle.rx_core.specs.declared.types.Bound.{Bound}
 use Rattle.rx_typed.specs.declared.declarations.Decl.{Decl}
 use Rattle.rx_typed.specs.Regions.{RegionTyp, RegionTyps, no_region, region_and, regions}
 use Rattle.rx_typed.specs.Tree.{Temporary}
-use Rattle.rx_lower_graph.specs.Graph.{Site}
-use Rattle.rx_lower_graph.specs.Text.{actions_of}
+use Rattle.rx_lower_walks.specs.Graph.{Site}
+use Rattle.rx_lower_walks.specs.Text.{actions_of}
 use Rattle.rx_lower_walks.specs.Actions.{Act, Declare, Dead, Read, Write, Borrow, Test, Call, Build, Input, Print, Give, Action}
 use Rattle.rx_region_outlives.specs.Implied.{HasPair, implied_in, implied_among}
 use Rattle.rx_region_outlives.proofs.ImpliedLemmas.{has_front, has_behind, has_either, implied_told, among_told}
@@ -14,10 +14,10 @@ use Rattle.rx_typed_places.specs.Renaming.{Signature, unit_region}
 use Rattle.rx_typed_places.specs.Places.{part_at}
 use Rattle.rx_lower_lifetimes.specs.Numbered.{Own, none, region, signed}
 use Rattle.rx_lower_lifetimes.specs.Lowered.{Lifetimes}
-use Rattle.rx_region_solutions.specs.Constraints.{Context, held, flows, parts_flow, parameters_flow, made_parts, signature_asks, asks, all_ask, is_among, formed, imposed}
-use Rattle.rx_region_solutions.specs.Known.{Known, itself, by, parameters_ask, told, Missing}
-use Rattle.rx_region_solutions.specs.Solutions.{Point, Least, whole, ends, live, longer}
-use Rattle.rx_check_loans.specs.Contexts.{AreAsked}
+use Rattle.rx_region_constraints.specs.Constraints.{Context, held, flows, parts_flow, parameters_flow, made_parts, signature_asks, asks, all_ask, is_among, formed, imposed}
+use Rattle.rx_region_constraints.specs.Known.{Known, itself, by, parameters_ask, told, Missing}
+use Rattle.rx_region_constraints.specs.Solutions.{Point, Least, whole, ends, live, longer}
+use Rattle.rx_check.specs.Contexts.{AreAsked}
 
 -- the second list has all pairs of the first
 abbrev Within : List Bound → List Bound → Type 0

@@ -13,7 +13,7 @@ use Rattle.rx_lower_lifetimes.specs.Answer.{plain-Lifetimes, IsLowered}
 use Rattle.rx_facts_live.specs.declared.table.LiveTable.{LiveTable}
 use Rattle.rx_facts_live.specs.Tables.{Lives}
 use Rattle.rx_region_outlives.specs.Implied.{AreImplied, pairs_of}
-use Rattle.rx_check_loans.specs.Contexts.{AreAsked}
+use Rattle.rx_check.specs.Contexts.{AreAsked}
 use Rattle.rx_repair.specs.Lacking.{AreMissing, Lacks}
 use Rattle.rx_repair.proofs.Alike.{lacks_by, of_graph, lives_there}
 

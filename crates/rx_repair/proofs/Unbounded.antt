@@ -27,7 +27,7 @@ use Rattle.rx_typeck_typed.specs.declared.typed.Typed.{Typed}
 use Rattle.rx_typeck_typed.specs.declared.typed.TypedFn.{TypedFn}
 use Rattle.rx_typeck_typed.specs.Typing.{Given, FunctionTyped, FunctionsTyped, IsTyped}
 use Rattle.rx_facts.proofs.Positions.{unrecorded_option}
-use Rattle.rx_check_loans.specs.Contexts.{context_of}
+use Rattle.rx_check.specs.Contexts.{context_of}
 
 -- ---- the function of an item
 

@@ -3,13 +3,13 @@ use Rattle.std.specs.Prelude.{◌≡◌, ◌↔◌, ℕ, List, []}
 use Rattle.rx_core.specs.declared.types.Bound.{Bound}
 use Rattle.rx_typed.specs.declared.declarations.Decl.{Decl}
 use Rattle.rx_typeck_typed.specs.declared.typed.TypedFn.{TypedFn}
-use Rattle.rx_lower_graph.specs.Graph.{Site}
+use Rattle.rx_lower_walks.specs.Graph.{Site}
 use Rattle.rx_region_outlives.specs.Implied.{HasPair}
-use Rattle.rx_region_solutions.specs.Constraints.{Context}
-use Rattle.rx_region_solutions.specs.Known.{Missing}
+use Rattle.rx_region_constraints.specs.Constraints.{Context}
+use Rattle.rx_region_constraints.specs.Known.{Missing}
 use Rattle.rx_facts.specs.Functions.{sites_of}
-use Rattle.rx_check_loans.specs.Contexts.{AreAsked, context_of}
-use Rattle.rx_repair_laws.specs.LeastBounds.{InOrder, AreLeastBounds}
+use Rattle.rx_check.specs.Contexts.{AreAsked, context_of}
+use Rattle.rx_repair.specs.LeastBounds.{InOrder, AreLeastBounds}
 
 pub record AreMissing (C : Context) (g : List Site) (bs : List Bound) : Type 0 where
   pub exact : (l k : ℕ) → HasPair bs l k ↔ Missing C g l k

@@ -14,7 +14,7 @@ ghost use Rattle.rx_typeck_typed.specs.declared.typed.Typed.{Typed};
 ghost use Rattle.rx_typeck_typed.specs.declared.typed.TypedFn.{TypedFn};
 ghost use Rattle.rx_typeck_typed.specs.Typing.{IsTyped};
 ghost use Rattle.rx_lower.specs.Functions.{function_at};
-ghost use Rattle.rx_check_loans.specs.Contexts.{context_of};
+ghost use Rattle.rx_check.specs.Contexts.{context_of};
 ghost use Rattle.rx_hoist_extraction.specs.Names.{Distinct};
 ghost use Rattle.rx_hoist_extraction.specs.Run.{Run};
 ghost use Rattle.rx_hoist_extraction.specs.Plan.{Plan};

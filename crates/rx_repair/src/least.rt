@@ -9,6 +9,7 @@ ghost use Rattle.rx_lower.specs.Functions.{function_at};
 ghost use Rattle.rx_typeck_typed.specs.declared.typed.TypedFn.{TypedFn as FnOf};
 ghost use Rattle.rx_repair.specs.Lacking.{AreMissing, Lacks, Needs};
 
+use crate::least_bounds_are_missing;
 use rx_check::FrontEnd;
 use rx_core::{Bound, List};
 use rx_facts_live::LiveTable;
@@ -16,7 +17,6 @@ use rx_lower_emit::Site;
 use rx_region::{constraints, known_pairs, missing, solve};
 use rx_region_constraints::Given;
 use rx_region_outlives::implied_by_fields;
-use rx_repair_laws::least_bounds_are_missing;
 use std::alloc::{AllocError, Global};
 
 /// The pairs of a function's own lifetimes that are missing, by its sites and what is live there.

@@ -1,218 +1,295 @@
--- What the actions of a function ask of its lifetimes, and what is known of its own: with other numbers the same of these.
-use Rattle.std.proofs.Common.{◌≡◌, ℕ, zero, suc, ◌+◌, ◌-◌, Bool, true, false, if◌then◌else◌, List, [], ◌∷◌, ◌++◌, length, map, get_or, take, drop, refl, ap, ◌∙◌}
-use Rattle.std.proofs.lemmas.List.{length-map}
-use Rattle.rx_core.specs.declared.types.Step.{Step}
-use Rattle.rx_typed.specs.declared.declarations.Polarity.TheVariants.{Co}
-use Rattle.rx_typed.specs.Regions.{RegionTyp, region_reference, RegionTyps, no_region, region_and}
-use Rattle.rx_typed.specs.Tree.{Temporary, Root, variable, temporary, Making, constant, negation, inversion, operation, lazy, tuple, struct, variant_of}
-use Rattle.rx_lower_walks.specs.Actions.{Act, Declare, Dead, Read, Write, Borrow, Test, Call, Build, Input, Print, Give, Action}
-use Rattle.rx_lower_walks.specs.Walks.{Among, here, there}
-use Rattle.rx_typed.specs.PlainTypes.{declarations}
-use Rattle.rx_typed_places.specs.Renaming.{Signature, renamed, all_renamed, bound_renamed, signature_with, unit_region}
-use Rattle.rx_typed_places.specs.Places.{part_at, place_type}
-use Rattle.rx_lower_lifetimes.specs.Values.{same}
-use Rattle.rx_lower_lifetimes.specs.Numbered.{Own, none, region, signed}
-use Rattle.rx_lower_lifetimes.specs.Lowered.{Lifetimes}
-use Rattle.rx_region_outlives.specs.Implied.{implied_in, implied_among}
-use Rattle.rx_region_solutions.specs.Constraints.{Context, temporary_type, variables_of, root_type, type_at, type_in, held, variances, flows, parts_flow, parameters_flow, made_parts, reborrows, signature_asks, asks, all_ask, is_among, formed, imposed}
-use Rattle.rx_region_solutions.specs.Known.{parameters_ask, told}
-use Rattle.rx_repair_laws.specs.LeastBounds.{by_types}
-use Rattle.rx_repair_renaming.specs.Renaming.{own_renamed, lifetimes_renamed, context_renamed}
-use Rattle.rx_repair_renaming.specs.Fitting.{HasAll, MadeFits, ActFits, Fits}
-use Rattle.rx_repair_renaming.proofs.Types.{both_lists, related_is, implied_is, implied_are}
-use Rattle.rx_repair_renaming.proofs.Places.{place_is, reborrows_are, struct_is, variant_is, tuple_made, part_is}
+-- What the rules of types ask, one piece behind the other, and what holds where it is met.
+use Rattle.std.proofs.Common.{◌≡◌, ℕ, Bool, true, false, not, List, [], ◌∷◌, ◌++◌, Option, Some, None, refl, sym, ap, ◌∙◌, append_assoc, append-nil}
+use Rattle.rx_core.specs.declared.types.Kind.{Kind}
+use Rattle.rx_tree.specs.declared.tree.BinaryOp.{BinaryOp}
+use Rattle.rx_typed.specs.declared.nodes.Node.{Node}
+use Rattle.rx_typed.specs.declared.nodes.Site.{Site}
+use Rattle.rx_typed.specs.declared.nodes.Use.{Use}
+use Rattle.rx_typed.specs.Named as named
+use Rattle.rx_typed.specs.Named.{Written, WrittenTypes, Pattern, Patterns, FieldPatterns, Exp, Exps, Else, Fields, Arms, Body, Statement, Statements, Parameter, Function, written_node, pattern_node, whole_binding, node_of, body_node, is_place, is_variable, root, never, body_never, else_never, some_diverges}
+use Rattle.rx_typeck_solver.specs.declared.facts.Broken.{Broken}
+use Rattle.rx_typeck_solver.specs.declared.facts.Subject.{Subject}
+use Rattle.rx_typeck_solver.specs.declared.facts.Op.{Op}
+use Rattle.rx_typeck_solver.specs.declared.facts.Op.TheVariants as op
+use Rattle.rx_typeck_solver.specs.declared.facts.Passing.{Passing}
+use Rattle.rx_typeck_solver.specs.declared.facts.Fact.{Fact}
+use Rattle.rx_typeck_solver.specs.declared.facts.Fact.TheVariants as fact
+use Rattle.rx_typeck_solver.specs.declared.facts.Demand.{Demand}
+use Rattle.rx_typeck_solver.specs.Facts.{Types, Known, MeetsAll, MeetsEach}
+use Rattle.rx_typeck_rules.specs.Asking.{Asking, ◌>>◌, nothing, asks, when}
+use Rattle.rx_typeck_rules.specs.Demands as rules
 
--- ---- lists
+pub record Asks (K : Known) (A : Types) (R : Type 0) (a : Asking) : Type 0 where
+  pub more : List Demand
+  pub adds : (ds : List Demand) → a ds ≡ ds ++ more
+  pub gives : MeetsEach K A more → R
 
-taken_among : {A : Type 0} (n : ℕ) (xs : List A) (x : A) → Among x (take n xs) → Among x xs
-taken_among zero xs x h = absurd (elim h [ ])
-taken_among (suc n) [] x h = h
-taken_among (suc n) (y ∷ xs) _ here = here
-taken_among (suc n) (y ∷ xs) x (there h) = there (taken_among n xs x h)
+abbrev pub U : Known → Types → Asking → Type 0
+U K A a = Asks K A (Unit {0}) a
 
-dropped_among : {A : Type 0} (n : ℕ) (xs : List A) (x : A) → Among x (drop n xs) → Among x xs
-dropped_among zero xs x h = h
-dropped_among (suc n) [] x h = h
-dropped_among (suc n) (y ∷ xs) x h = there (dropped_among n xs x h)
+pub met_front : (K : Known) (A : Types) (x y : List Demand) → MeetsEach K A (x ++ y) → MeetsEach K A x
+met_front K A [] y h = tt
+met_front K A (d ∷ x) y h = (h.0, met_front K A x y h.1)
 
-module _ (f : ℕ → ℕ) where
-  take_is : (n : ℕ) (ts : List RegionTyp) → take n (map (renamed f) ts) ≡ map (renamed f) (take n ts)
-  take_is zero ts = refl
-  take_is (suc n) [] = refl
-  take_is (suc n) (t ∷ ts) = ap (λ (us : List RegionTyp). renamed f t ∷ us) (take_is n ts)
+pub met_behind : (K : Known) (A : Types) (x y : List Demand) → MeetsEach K A (x ++ y) → MeetsEach K A y
+met_behind K A [] y h = h
+met_behind K A (d ∷ x) y h = met_behind K A x y h.1
 
-  drop_is : (n : ℕ) (ts : List RegionTyp) → drop n (map (renamed f) ts) ≡ map (renamed f) (drop n ts)
-  drop_is zero ts = refl
-  drop_is (suc n) [] = refl
-  drop_is (suc n) (t ∷ ts) = drop_is n ts
+-- no place is wanted there
+abbrev pub NoPlace : Site → Type 0
+NoPlace t = t ≡ Site.Place → ⊥
 
-  -- past the end both are the unit
-  get_is : (ts : List RegionTyp) (x : ℕ) → get_or (map (renamed f) ts) x unit_region ≡ renamed f (get_or ts x unit_region)
-  get_is [] x = refl
-  get_is (t ∷ ts) zero = refl
-  get_is (t ∷ ts) (suc x) = get_is ts x
+-- an `if` is no place, whether it has one branch or two
+abbrev pub OnePart : Node → Else → Type 0
+OnePart n named.absent = NoPlace n.site
+OnePart n (named.present e) = Unit {0}
 
-  -- ---- roots
+abbrev pub TwoParts : Node → Else → Type 0
+TwoParts n named.absent = Unit {0}
+TwoParts n (named.present e) = NoPlace n.site
 
-  if_is : (b : Bool) (t u : RegionTyp) → (if b then renamed f t else renamed f u) ≡ renamed f (if b then t else u)
-  if_is true t u = refl
-  if_is false t u = refl
+pub no_if_place : (n : Node) (o : Else) → OnePart n o → TwoParts n o → NoPlace n.site
+no_if_place n named.absent a b = a
+no_if_place n (named.present e) a b = b
 
-  temporary_is : (ss : List Temporary) (ts : List RegionTyp) (t : Temporary) → temporary_type ss (map (renamed f) ts) t ≡ renamed f (temporary_type ss ts t)
-  temporary_is [] ts t = refl
-  temporary_is (s ∷ ss) [] t = refl
-  temporary_is (s ∷ ss) (y ∷ ts) t =
-      ap (λ (u : RegionTyp). if same s t then renamed f y else u) (temporary_is ss ts t) ∙ if_is (same s t) y (temporary_type ss ts t)
+module _ {K : Known} {A : Types} where
+  pub asks_map : {R S : Type 0} {a : Asking} → (R → S) → Asks K A R a → Asks K A S a
+  asks_map f x = record { more = x.more; adds = x.adds; gives = λ h. f (x.gives h) }
 
-  variables_are : (L : Lifetimes) → variables_of (lifetimes_renamed f L) ≡ variables_of L
-  variables_are L = ap (λ (n : ℕ). n - length L.temporaries) (length-map L.types (renamed f))
+  pub quietly : {R : Type 0} {a : Asking} → Asks K A R a → U K A a
+  quietly x = record { more = x.more; adds = x.adds; gives = λ h. tt }
 
-  pub root_is : (L : Lifetimes) (r : Root) → root_type (lifetimes_renamed f L) r ≡ renamed f (root_type L r)
-  root_is L (variable x) =
-      ap (λ (n : ℕ). get_or (take n (map (renamed f) L.types)) x unit_region) (variables_are L)
-      ∙ ap (λ (ts : List RegionTyp). get_or ts x unit_region) (take_is (variables_of L) L.types) ∙ get_is (take (variables_of L) L.types) x
-  root_is L (temporary t) =
-      ap (λ (n : ℕ). temporary_type L.temporaries (drop n (map (renamed f) L.types)) t) (variables_are L)
-      ∙ ap (λ (ts : List RegionTyp). temporary_type L.temporaries ts t) (drop_is (variables_of L) L.types) ∙ temporary_is L.temporaries (drop (variables_of L) L.types) t
+  pub none : U K A nothing
+  none = record { more = []; adds = λ ds. sym (append-nil ds); gives = λ h. tt }
 
--- a fact of all types, and of the unit
-get_has : (P : RegionTyp → Type 0) → P unit_region → (ts : List RegionTyp) → ((t : RegionTyp) → Among t ts → P t) → (x : ℕ) → P (get_or ts x unit_region)
-get_has P u [] h x = u
-get_has P u (t ∷ ts) h zero = h t here
-get_has P u (t ∷ ts) h (suc x) = get_has P u ts (λ t a. h t (there a)) x
+  pub both : {R S : Type 0} {a b : Asking} → Asks K A R a → Asks K A S b → Asks K A (R × S) (a >> b)
+  both {a = a} {b = b} x y = record {
+    more = x.more ++ y.more;
+    adds = λ ds. y.adds (a ds) ∙ ap (λ (l : List Demand). l ++ y.more) (x.adds ds) ∙ append_assoc ds x.more y.more;
+    gives = λ h. (x.gives (met_front K A x.more y.more h), y.gives (met_behind K A x.more y.more h));
+  }
 
-either_has : (P : RegionTyp → Type 0) (b : Bool) (t u : RegionTyp) → P t → P u → P (if b then t else u)
-either_has P true t u x y = x
-either_has P false t u x y = y
+  -- the first, the second, or none of what they give
+  pub then_first : {R S : Type 0} {a b : Asking} → Asks K A R a → Asks K A S b → Asks K A R (a >> b)
+  then_first x y = asks_map (λ h. h.0) (both x y)
 
-temporary_has : (P : RegionTyp → Type 0) → P unit_region → (ss : List Temporary) (ts : List RegionTyp) → ((t : RegionTyp) → Among t ts → P t) → (t : Temporary) → P (temporary_type ss ts t)
-temporary_has P u [] ts h t = u
-temporary_has P u (s ∷ ss) [] h t = u
-temporary_has P u (s ∷ ss) (y ∷ ts) h t = either_has P (same s t) y (temporary_type ss ts t) (h y here) (temporary_has P u ss ts (λ t a. h t (there a)) t)
+  pub then_second : {R S : Type 0} {a b : Asking} → Asks K A R a → Asks K A S b → Asks K A S (a >> b)
+  then_second x y = asks_map (λ h. h.1) (both x y)
 
-root_has : (P : RegionTyp → Type 0) → P unit_region → (L : Lifetimes) → ((t : RegionTyp) → Among t L.types → P t) → (r : Root) → P (root_type L r)
-root_has P u L h (variable x) = get_has P u (take (variables_of L) L.types) (λ t a. h t (taken_among (variables_of L) L.types t a)) x
-root_has P u L h (temporary t) = temporary_has P u L.temporaries (drop (variables_of L) L.types) (λ t a. h t (dropped_among (variables_of L) L.types t a)) t
+  pub then_u : {R S : Type 0} {a b : Asking} → Asks K A R a → Asks K A S b → U K A (a >> b)
+  then_u x y = quietly (both x y)
 
--- ---- what is known
+  pub one_asked : (n : Node) (b : Broken) (o : Bool) (fs : List Fact) → Asks K A (MeetsAll K A fs) (asks n b o fs)
+  one_asked n b o fs = record { more = record { node = n.number; span = n.span; broken = b; unsuffixed = o; facts = fs } ∷ []; adds = λ ds. refl; gives = λ h. h.0 }
 
-module _ (f : ℕ → ℕ) (C : Context) where
-  parameters_are : (xs : List ℕ) → parameters_ask (context_renamed f C) xs ≡ map (bound_renamed f) (parameters_ask C xs)
-  parameters_are [] = refl
-  parameters_are (x ∷ xs) =
-      both_lists f (implied_in C.implied (get_or C.lifetimes.types x unit_region)) (parameters_ask C xs)
-      (implied_in C.implied (get_or (map (renamed f) C.lifetimes.types) x unit_region)) (parameters_ask (context_renamed f C) xs)
-      (ap (λ (t : RegionTyp). implied_in C.implied t) (get_is f C.lifetimes.types x) ∙ implied_is f C.implied (get_or C.lifetimes.types x unit_region)) (parameters_are xs)
+  pub quiet : (n : Node) (b : Broken) (o : Bool) (fs : List Fact) → U K A (asks n b o fs)
+  quiet n b o fs = quietly (one_asked n b o fs)
 
-  pub types_told : by_types (context_renamed f C) ≡ map (bound_renamed f) (by_types C)
-  types_told =
-      both_lists f (parameters_ask C C.lifetimes.params) (implied_in C.implied C.lifetimes.answer)
-      (parameters_ask (context_renamed f C) C.lifetimes.params) (implied_in C.implied (renamed f C.lifetimes.answer))
-      (parameters_are C.lifetimes.params) (implied_is f C.implied C.lifetimes.answer)
+  pub when_u : (b : Bool) (a : Asking) → U K A a → U K A (when b a)
+  when_u true a x = x
+  when_u false a x = none
 
-  pub all_told : told (context_renamed f C) ≡ map (bound_renamed f) (told C)
-  all_told =
-      both_lists f C.lifetimes.bounds (by_types C) (map (bound_renamed f) C.lifetimes.bounds) (by_types (context_renamed f C)) refl types_told
+  pub lifetimes_u : (n : Node) (i : ℕ) (l : Option ℕ) → U K A (rules.lifetimes_asked n i l)
+  lifetimes_u n i None = none
+  lifetimes_u n i (Some k) = quiet n _ _ _
 
--- ---- what actions ask
+  mutual
+    pub type_u : (t : Written) → U K A (rules.of_type t)
+    type_u (named.a_kind n k) = quiet n _ _ _
+    type_u (named.a_bool n) = quiet n _ _ _
+    type_u (named.a_tuple n ts) = then_u (types_u ts) (quiet n _ _ _)
+    type_u (named.a_reference n m t) = then_u (type_u t) (quiet n _ _ _)
+    type_u (named.an_item n i ls) = then_u (lifetimes_u n i ls) (quiet n _ _ _)
 
-module _ (f : ℕ → ℕ) (C : Context) (us : List Action) (fit : Fits C us) where
-  its_type_has : (r : Root) → HasAll (declarations C.items) (root_type C.lifetimes r)
-  its_type_has r = root_has (HasAll (declarations C.items)) tt C.lifetimes fit.types r
+    pub types_u : (ts : WrittenTypes) → U K A (rules.of_types ts)
+    types_u named.no_written = none
+    types_u (named.written_and t ts) = then_u (type_u t) (types_u ts)
 
-  at_is : (r : Root) (ss : List Step) → type_at (context_renamed f C) r ss ≡ renamed f (type_at C r ss)
-  at_is r ss = ap (λ (t : RegionTyp). place_type C.items t ss) (root_is f C.lifetimes r) ∙ place_is f C.items fit.items (root_type C.lifetimes r) ss (its_type_has r)
+  pub whole_type_u : (t : Written) → U K A (rules.whole_type t)
+  whole_type_u t = then_u (type_u t) (quiet (written_node t) _ _ _)
 
-  held_is : (t : Temporary) → held (context_renamed f C) t ≡ renamed f (held C t)
-  held_is t = root_is f C.lifetimes (temporary t)
+  pub refused : (n : Node) (b : Broken) → Asks K A ⊥ (asks n b false (fact.Never ∷ []))
+  refused n b = asks_map (λ h. h.0) (one_asked n b false (fact.Never ∷ []))
 
-  flows_are : (t u t' u' : RegionTyp) → t' ≡ renamed f t → u' ≡ renamed f u → flows (context_renamed f C) t' u' ≡ map (bound_renamed f) (flows C t u)
-  flows_are t u t' u' d e = (λ j. flows C (d j) (e j)) ∙ related_is f (variances C) Co t u
+  pub value_asks : (n : Node) (t : Site) → Asks K A (NoPlace t) (rules.value_in n t)
+  value_asks n Site.Place = asks_map (λ h e. h) (refused n _)
+  value_asks n Site.Expects = asks_map (λ h e. cc) (quiet n _ _ _)
+  value_asks n Site.Initialises = asks_map (λ h e. cc) (quiet n _ _ _)
+  value_asks n Site.Reborrows = asks_map (λ h e. cc) (quiet n _ _ _)
+  value_asks n Site.Value = asks_map (λ h e. cc) none
+  value_asks n Site.Scrutinee = asks_map (λ h e. cc) none
 
-  parts_are : (ts : RegionTyps) (is : List ℕ) (ds : List Temporary) → parts_flow (context_renamed f C) (all_renamed f ts) is ds ≡ map (bound_renamed f) (parts_flow C ts is ds)
-  parts_are ts [] ds = refl
-  parts_are ts (i ∷ is) [] = refl
-  parts_are ts (i ∷ is) (d ∷ ds) =
-      both_lists f (flows C (held C d) (part_at ts i)) (parts_flow C ts is ds)
-      (flows (context_renamed f C) (held (context_renamed f C) d) (part_at (all_renamed f ts) i)) (parts_flow (context_renamed f C) (all_renamed f ts) is ds)
-      (flows_are (held C d) (part_at ts i) (held (context_renamed f C) d) (part_at (all_renamed f ts) i) (held_is d) (part_is f ts i)) (parts_are ts is ds)
+  pub never_asks : (n : Node) (t : Site) → Asks K A (NoPlace t) (rules.never_in n t)
+  never_asks n Site.Place = asks_map (λ h e. h) (refused n _)
+  never_asks n Site.Value = asks_map (λ h e. cc) none
+  never_asks n Site.Scrutinee = asks_map (λ h e. cc) none
+  never_asks n Site.Expects = asks_map (λ h e. cc) none
+  never_asks n Site.Initialises = asks_map (λ h e. cc) none
+  never_asks n Site.Reborrows = asks_map (λ h e. cc) none
 
-  arguments_are : (ts : RegionTyps) (ds : List Temporary) → parameters_flow (context_renamed f C) (all_renamed f ts) ds ≡ map (bound_renamed f) (parameters_flow C ts ds)
-  arguments_are no_region ds = refl
-  arguments_are (region_and t ts) [] = refl
-  arguments_are (region_and t ts) (d ∷ ds) =
-      both_lists f (flows C (held C d) t) (parameters_flow C ts ds)
-      (flows (context_renamed f C) (held (context_renamed f C) d) (renamed f t)) (parameters_flow (context_renamed f C) (all_renamed f ts) ds)
-      (flows_are (held C d) t (held (context_renamed f C) d) (renamed f t) (held_is d) refl) (arguments_are ts ds)
+  pub joins_asks : (n : Node) (t : Site) → Asks K A (NoPlace t) (rules.joins n t)
+  joins_asks n Site.Place = asks_map (λ h e. h) (refused n _)
+  joins_asks n Site.Value = asks_map (λ h e. cc) none
+  joins_asks n Site.Scrutinee = asks_map (λ h e. cc) none
+  joins_asks n Site.Reborrows = asks_map (λ h e. cc) (quiet n _ _ _)
+  joins_asks n Site.Expects = asks_map (λ h e. cc) (quiet n _ _ _)
+  joins_asks n Site.Initialises = asks_map (λ h e. cc) (quiet n _ _ _)
 
-  signature_is : (S : Signature) → signature_asks (context_renamed f C) (signature_with f S.params S.answer S.bounds) ≡ map (bound_renamed f) (signature_asks C S)
-  signature_is S =
-      both_lists f S.bounds (implied_among C.implied S.params ++ implied_in C.implied S.answer)
-      (map (bound_renamed f) S.bounds) (implied_among C.implied (all_renamed f S.params) ++ implied_in C.implied (renamed f S.answer))
-      refl
-      (both_lists f (implied_among C.implied S.params) (implied_in C.implied S.answer) (implied_among C.implied (all_renamed f S.params)) (implied_in C.implied (renamed f S.answer))
-      (implied_are f C.implied S.params) (implied_is f C.implied S.answer))
+  pub join_asks : (n : Node) (v : Bool) → Asks K A (NoPlace n.site) (rules.join n v)
+  join_asks n true = never_asks n n.site
+  join_asks n false = joins_asks n n.site
 
-  made_is : (w : Making) (t : RegionTyp) → MadeFits C w t → made_parts C.items w (renamed f t) ≡ all_renamed f (made_parts C.items w t)
-  made_is (constant c) t h = refl
-  made_is negation t h = refl
-  made_is inversion t h = refl
-  made_is (operation o) t h = refl
-  made_is lazy t h = refl
-  made_is tuple t h = tuple_made f C.items fit.items t
-  made_is (struct i) t h = struct_is f C.items fit.items i t h
-  made_is (variant_of i v) t h = variant_is f C.items fit.items i v t h
+  pub own_asks : (n : Node) (o : Op) (xs : List Subject) → Asks K A (NoPlace n.site) (rules.own n o xs)
+  own_asks n o xs = then_second (quiet n _ _ _) (value_asks n n.site)
 
-  asks_same : (a : Act) (o : Own) → ActFits C a → asks (context_renamed f C) a (own_renamed f o) ≡ map (bound_renamed f) (asks C a o)
-  asks_same (Read m p d) o h = flows_are (type_in C p) (held C d) (type_in (context_renamed f C) p) (held (context_renamed f C) d) (at_is p.root p.steps) (held_is d)
-  asks_same (Write p t ss) o h = flows_are (type_at C (temporary t) ss) (type_in C p) (type_at (context_renamed f C) (temporary t) ss) (type_in (context_renamed f C) p) (at_is (temporary t) ss) (at_is p.root p.steps)
-  asks_same (Borrow k p d) none h = refl
-  asks_same (Borrow k p d) (signed S) h = refl
-  asks_same (Borrow k p d) (region r) h =
-      both_lists f (reborrows C.items (root_type C.lifetimes p.root) r p.steps) (flows C (region_reference k r (type_in C p)) (held C d))
-      (reborrows C.items (root_type (lifetimes_renamed f C.lifetimes) p.root) (f r) p.steps) (flows (context_renamed f C) (region_reference k (f r) (type_in (context_renamed f C) p)) (held (context_renamed f C) d))
-      (ap (λ (t : RegionTyp). reborrows C.items t (f r) p.steps) (root_is f C.lifetimes p.root) ∙ reborrows_are f C.items fit.items (root_type C.lifetimes p.root) r p.steps (its_type_has p.root))
-      (flows_are (region_reference k r (type_in C p)) (held C d) (region_reference k (f r) (type_in (context_renamed f C) p)) (held (context_renamed f C) d)
-      (ap (λ (t : RegionTyp). region_reference k (f r) t) (at_is p.root p.steps)) (held_is d))
-  asks_same (Call g ts d) none h = refl
-  asks_same (Call g ts d) (region r) h = refl
-  asks_same (Call g ts d) (signed S) h =
-      both_lists f (signature_asks C S) (parameters_flow C S.params ts ++ flows C S.answer (held C d))
-      (signature_asks (context_renamed f C) (signature_with f S.params S.answer S.bounds)) (parameters_flow (context_renamed f C) (all_renamed f S.params) ts ++ flows (context_renamed f C) (renamed f S.answer) (held (context_renamed f C) d))
-      (signature_is S)
-      (both_lists f (parameters_flow C S.params ts) (flows C S.answer (held C d)) (parameters_flow (context_renamed f C) (all_renamed f S.params) ts) (flows (context_renamed f C) (renamed f S.answer) (held (context_renamed f C) d))
-      (arguments_are S.params ts) (flows_are S.answer (held C d) (renamed f S.answer) (held (context_renamed f C) d) refl (held_is d)))
-  asks_same (Build w is ts d) o h =
-      ap (λ (rs : RegionTyps). parts_flow (context_renamed f C) rs is ts) (ap (λ (t : RegionTyp). made_parts C.items w t) (held_is d) ∙ made_is w (held C d) h)
-      ∙ parts_are (made_parts C.items w (held C d)) is ts
-  asks_same (Give t) o h = flows_are (held C t) C.lifetimes.answer (held (context_renamed f C) t) (renamed f C.lifetimes.answer) (held_is t) refl
-  asks_same (Declare x) o h = refl
-  asks_same (Dead x) o h = refl
-  asks_same (Test p c) o h = refl
-  asks_same (Input d) o h = refl
-  asks_same (Print t) o h = refl
+  pub borrowed_asks : (n : Node) (m : Bool) (e : Node) (x : Use) (ps : List Passing) → Asks K A (NoPlace n.site) (rules.borrowed n m e x ps)
+  borrowed_asks n m e x ps = then_second (quiet n _ _ _) (then_second (quiet n _ _ _) (then_second (when_u m _ (quiet n _ _ _)) (value_asks n n.site)))
 
-  all_same : (vs : List Action) (os : List Own) → ((a : Action) → Among a vs → ActFits C a.act)
-      → all_ask (context_renamed f C) vs (map (own_renamed f) os) ≡ map (bound_renamed f) (all_ask C vs os)
-  all_same [] os h = refl
-  all_same (a ∷ vs) [] h = refl
-  all_same (a ∷ vs) (o ∷ os) h =
-      both_lists f (asks C a.act o) (all_ask C vs os) (asks (context_renamed f C) a.act (own_renamed f o)) (all_ask (context_renamed f C) vs (map (own_renamed f) os))
-      (asks_same a.act o (h a here)) (all_same vs os (λ b i. h b (there i)))
+  pub binding_u : (n : Node) (anc : List Passing) (s : rules.Matched) → U K A (rules.binding_of n anc s)
+  binding_u n anc rules.a_value = none
+  binding_u n anc (rules.a_place x qs) = then_u (quiet n _ _ _) (quiet n _ _ _)
+  binding_u n anc (rules.an_initialiser e x qs) = then_u (quiet n _ _ _) (quiet n _ _ _)
 
-  unless_parameter : (b : Bool) (t : RegionTyp) → (if b then [] else implied_in C.implied (renamed f t)) ≡ map (bound_renamed f) (if b then [] else implied_in C.implied t)
-  unless_parameter true t = refl
-  unless_parameter false t = implied_is f C.implied t
+  pub bound_u : (s : rules.Matched) (anc : List Passing) (n : Node) (x : ℕ) (m : Bool) → U K A (rules.bound_at s anc n x m)
+  bound_u s anc n x m = then_u (quiet n _ _ _) (then_u (quiet n _ _ _) (then_u (when_u m _ (quiet n _ _ _)) (binding_u n anc s)))
 
-  formed_same : (x : ℕ) (ts : List RegionTyp) → formed (context_renamed f C) x (map (renamed f) ts) ≡ map (bound_renamed f) (formed C x ts)
-  formed_same x [] = refl
-  formed_same x (t ∷ ts) =
-      both_lists f (if is_among x C.lifetimes.params then [] else implied_in C.implied t) (formed C (x + 1) ts)
-      (if is_among x C.lifetimes.params then [] else implied_in C.implied (renamed f t)) (formed (context_renamed f C) (x + 1) (map (renamed f) ts))
-      (unless_parameter (is_among x C.lifetimes.params) t) (formed_same (x + 1) ts)
+  pub literal_u : (n : Node) (g : Bool) (v : ℕ) (k : Option Kind) → U K A (rules.literal_at n g v k)
+  literal_u n g v k = then_u (quiet n _ _ _) (then_u (when_u g _ (quiet n _ _ _)) (then_u (quiet n _ _ _) (quiet n _ _ _)))
 
-  pub imposed_same : imposed (context_renamed f C) us ≡ map (bound_renamed f) (imposed C us)
-  imposed_same =
-      both_lists f (all_ask C us C.lifetimes.owned) (formed C 0 C.lifetimes.types)
-      (all_ask (context_renamed f C) us (map (own_renamed f) C.lifetimes.owned)) (formed (context_renamed f C) 0 (map (renamed f) C.lifetimes.types))
-      (all_same us C.lifetimes.owned fit.made) (formed_same 0 C.lifetimes.types)
+  pub part_u : (n : Node) (v : Bool) (m : Node) → U K A (rules.as_part n v m)
+  part_u n v m = when_u (not v) _ (quiet n _ _ _)
+
+  pub before_u : (n : Node) (t : Site) (m : Node) → U K A (rules.part_before n t m)
+  before_u n Site.Expects m = quiet m _ _ _
+  before_u n Site.Initialises m = quiet m _ _ _
+  before_u n Site.Value m = none
+  before_u n Site.Place m = none
+  before_u n Site.Scrutinee m = none
+  before_u n Site.Reborrows m = none
+
+  pub after_u : (n : Node) (t : Site) (v : Bool) (m : Node) → U K A (rules.part_after n t v m)
+  after_u n Site.Expects v m = none
+  after_u n Site.Initialises v m = none
+  after_u n Site.Value v m = part_u n v m
+  after_u n Site.Place v m = part_u n v m
+  after_u n Site.Scrutinee v m = part_u n v m
+  after_u n Site.Reborrows v m = part_u n v m
+
+  pub tested_u : (n : Node) (v : Bool) → U K A (rules.tested n v)
+  tested_u n v = when_u (not v) _ (quiet n _ _ _)
+
+  pub printed_u : (n : Node) (v : Bool) → U K A (rules.printed n v)
+  printed_u n v = when_u (not v) _ (quiet n _ _ _)
+
+  pub unit_u : (n : Node) (v : Bool) → U K A (rules.nothing_given n v)
+  unit_u n v = when_u (not v) _ (quiet n _ _ _)
+
+  pub not_never_u : (n : Node) (v : Bool) → U K A (rules.not_never n v)
+  not_never_u n v = when_u v _ (quiet n _ _ _)
+
+  pub equality_asks : (n a : Node) (x : Bool) (b : Node) (y : Bool) → Asks K A (NoPlace n.site) (rules.equality n a x b y)
+  equality_asks n a x b y = then_second (quiet n _ _ _) (own_asks n op.Truth [])
+
+  pub order_asks : (n a : Node) (x : Bool) (b : Node) (y : Bool) → Asks K A (NoPlace n.site) (rules.order n a x b y)
+  order_asks n a x b y = then_second (quiet n _ _ _) (own_asks n op.Truth [])
+
+  pub lazy_asks : (n a : Node) (x : Bool) (b : Node) (y : Bool) → Asks K A (NoPlace n.site) (rules.lazy n a x b y)
+  lazy_asks n a x b y = then_second (quiet n _ _ _) (own_asks n op.Truth [])
+
+  pub arithmetic_asks : (n a : Node) (x : Bool) (b : Node) (y : Bool) → Asks K A (NoPlace n.site) (rules.arithmetic n a x b y)
+  arithmetic_asks n a x b y = then_second (quiet n _ _ _) (value_asks n n.site)
+
+  pub operation_asks : (o : BinaryOp) (n a : Node) (x : Bool) (b : Node) (y : Bool) → Asks K A (NoPlace n.site) (rules.operation o n a x b y)
+  operation_asks BinaryOp.Or n a x b y = lazy_asks n a x b y
+  operation_asks BinaryOp.And n a x b y = lazy_asks n a x b y
+  operation_asks BinaryOp.Eq n a x b y = equality_asks n a x b y
+  operation_asks BinaryOp.Ne n a x b y = equality_asks n a x b y
+  operation_asks BinaryOp.Lt n a x b y = order_asks n a x b y
+  operation_asks BinaryOp.Le n a x b y = order_asks n a x b y
+  operation_asks BinaryOp.Gt n a x b y = order_asks n a x b y
+  operation_asks BinaryOp.Ge n a x b y = order_asks n a x b y
+  operation_asks _ n a x b y = arithmetic_asks n a x b y
+
+  pub updated_u : (n a : Node) (x : Bool) (b : Node) (y : Bool) → U K A (rules.updated n a x b y)
+  updated_u n a x b y = quiet n _ _ _
+
+  pub negated_asks : (n a : Node) (x : Bool) → Asks K A (NoPlace n.site) (rules.negated n a x)
+  negated_asks n a x = then_second (quiet n _ _ _) (value_asks n n.site)
+
+  pub inverted_asks : (n a : Node) (x : Bool) → Asks K A (NoPlace n.site) (rules.inverted n a x)
+  inverted_asks n a x = then_second (quiet n _ _ _) (own_asks n op.Truth [])
+
+  pub named_u : (n : Node) (x : Use) (k : Bool) → U K A (rules.named_at n x k)
+  named_u n x true = quiet n _ _ _
+  named_u n x false = quiet n _ _ _
+
+  pub fits_given_u : (x : ℕ) (e : Node) (v : Bool) → U K A (rules.fits_given x e v)
+  fits_given_u x e true = none
+  fits_given_u x e false = quiet e _ _ _
+
+  pub given_u : (n p : Node) (x : Use) (d : Option ℕ) (e : Node) (v : Bool) → U K A (rules.given n p x d e v)
+  given_u n p x (Some d) e v = then_u (not_never_u e v) (then_u (quiet n _ _ _) (quiet p _ _ _))
+  given_u n p x None e v = then_u (named_u p x x.known) (fits_given_u x.number e v)
+
+  pub returns_u : (f : ℕ) (n : Node) (o : Else) → U K A (rules.returns_unit f n o)
+  returns_u f n named.absent = quiet n _ _ _
+  returns_u f n (named.present e) = quiet (node_of e) _ _ _
+
+  pub branch_before_u : (n : Node) (o : Else) (b : Body) → U K A (rules.branch_before n o b)
+  branch_before_u n named.absent b = none
+  branch_before_u n (named.present e) b = before_u n n.site (body_node b)
+
+  pub branch_after_asks : (n : Node) (o : Else) (b : Body) → Asks K A (OnePart n o) (rules.branch_after n o b)
+  branch_after_asks n named.absent b = then_second (unit_u (body_node b) (body_never b)) (own_asks n op.Unit [])
+  branch_after_asks n (named.present e) b = after_u n n.site (body_never b) (body_node b)
+
+  pub if_joins_asks : (n : Node) (o : Else) (v : Bool) → Asks K A (TwoParts n o) (rules.if_joins n o v)
+  if_joins_asks n named.absent v = none
+  if_joins_asks n (named.present e) v = join_asks n v
+
+  pub one_variable_u : (n : Node) (o : Option ℕ) → U K A (rules.one_variable_at n o)
+  one_variable_u n (Some x) = none
+  one_variable_u n None = quiet n _ _ _
+
+  pub evaluated_u : (s : Bool) (n : Node) (v : Bool) → U K A (rules.evaluated s n v)
+  evaluated_u true n v = none
+  evaluated_u false n v = unit_u n v
+
+  pub tail_before_u : (n : Node) (o : Else) → U K A (rules.tail_before n o)
+  tail_before_u n named.absent = none
+  tail_before_u n (named.present e) = before_u n n.site (node_of e)
+
+  pub tail_after_u : (n : Node) (d : Bool) (o : Else) → U K A (rules.tail_after n d o)
+  tail_after_u n d named.absent = unit_u n d
+  tail_after_u n d (named.present e) = after_u n n.site (never e) (node_of e)
+
+  pub loop_asks : (n : Node) (k : Bool) → Asks K A (NoPlace n.site) (rules.loop_given n k)
+  loop_asks n true = own_asks n op.Unit []
+  loop_asks n false = never_asks n n.site
+
+  pub each_before_u : (w : rules.Listed) (k : ℕ) (n : Node) → U K A (rules.each_before w k n)
+  each_before_u rules.members k n = none
+  each_before_u rules.values k n = none
+  each_before_u (rules.parameters g) k n = quiet n _ _ _
+  each_before_u (rules.parts_of i v) k n = quiet n _ _ _
+
+  pub each_after_u : (w : rules.Listed) (e : Exp) → U K A (rules.each_after w e)
+  each_after_u rules.members e = not_never_u (node_of e) (never e)
+  each_after_u rules.values e = none
+  each_after_u (rules.parameters g) e = none
+  each_after_u (rules.parts_of i v) e = none
+
+  pub integer_asks : (n : Node) (m : Bool) (v : ℕ) (k : Option Kind) → Asks K A (NoPlace n.site) (rules.integer_at n m v k)
+  integer_asks n m v k = then_second (quiet n _ _ _) (then_second (quiet n _ _ _) (value_asks n n.site))
+
+  pub never_given_u : (ns : List Node) → U K A (rules.of_never_given ns)
+  never_given_u [] = none
+  never_given_u (n ∷ ns) = then_u (quiet n _ _ _) (never_given_u ns)
+
+  pub parameters_u : (xs : List Parameter) → U K A (rules.of_parameters xs)
+  parameters_u [] = none
+  parameters_u (x ∷ xs) = then_u (then_u (whole_type_u x.typ) (quiet (written_node x.typ) _ _ _)) (parameters_u xs)
+
+  pub result_u : (t : Option Written) → U K A (rules.of_result t)
+  result_u None = none
+  result_u (Some t) = whole_type_u t

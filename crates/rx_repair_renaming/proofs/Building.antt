@@ -17,7 +17,7 @@ use Rattle.rx_typed.specs.Elaborated as elaborated
 use Rattle.rx_typed.specs.Elaborated.{Assigned, Coercion, plain, reborrow, share}
 use Rattle.rx_typed.specs.Tree as tree
 use Rattle.rx_typed.specs.Tree.{Temporary, Place, Mode, by_value, by_reference, mark_of, temporary_of}
-use Rattle.rx_typed_tree.specs.PlainTree.{plain-TypedTree}
+use Rattle.rx_typed.specs.PlainTree.{plain-TypedTree}
 use Rattle.rx_typed_declarations.specs.WellFormed.{is_adt, WellSigned}
 use Rattle.rx_typed_declarations.specs.Sizes.{Sized, told}
 use Rattle.rx_typed_declarations.proofs.Polarities.{same_declared}
@@ -25,9 +25,9 @@ use Rattle.rx_lower_walks.specs.Matching.{PartTest, Binding, tests, bindings}
 use Rattle.rx_lower_walks.specs.Actions.{Action, Subject, in_place, in_temporary, subject, taking}
 use Rattle.rx_lower_walks.specs.Orders as order
 use Rattle.rx_lower_walks.specs.Orders.{Order, exit_node, testing, perhaps, binding, declaring, order_all, order_scrutinee, order_arms, order_body, beginning, order_function}
-use Rattle.rx_lower_graph.specs.Pieces.{Scope, Variable, Looped, left, graph}
-use Rattle.rx_lower_graph.specs.Text.{ending_all, in_text, text, actions_of, Sublist}
-use Rattle.rx_lower_graph.specs.Text as texts
+use Rattle.rx_lower_walks.specs.Pieces.{Scope, Variable, Looped, left, graph}
+use Rattle.rx_lower_walks.specs.Text.{ending_all, in_text, text, actions_of, Sublist}
+use Rattle.rx_lower_walks.specs.Text as texts
 use Rattle.rx_lower_walks.specs.Walks.{Among}
 use Rattle.rx_typeck_typed.specs.declared.typed.Typed.{Typed}
 use Rattle.rx_typeck_typed.specs.declared.typed.TypedFn.{TypedFn}

@@ -18,9 +18,9 @@ use Rattle.rx_lower_lifetimes.specs.Values.{Open, Known, Held, same, is_held, he
 use Rattle.rx_lower_lifetimes.specs.Numbered.{all_numbered, opened}
 use Rattle.rx_lower_lifetimes.specs.Lowered.{known, actions, temporaries}
 use Rattle.rx_lower.specs.Functions.{function}
-use Rattle.rx_region_solutions.specs.Constraints.{held, temporary_type}
+use Rattle.rx_region_constraints.specs.Constraints.{held, temporary_type}
 use Rattle.rx_typeck_typed.specs.declared.typed.TypedFn.{TypedFn}
-use Rattle.rx_check_loans.specs.Contexts.{context_of}
+use Rattle.rx_check.specs.Contexts.{context_of}
 use Rattle.rx_repair_renaming.specs.Making.{IsOfItem, ActIsOfItem, AreOfItems, HeldAs, ValuesAre, ItemIs, ItemsAre}
 
 -- ---- numbers say nothing of what a type is without them

@@ -14,7 +14,7 @@ use Rattle.rx_typed_places.specs.Numbers.{open_one, open_in, numbers, numbered, 
 use Rattle.rx_typed_places.specs.Places.{place_type, behind}
 use Rattle.rx_typeck_solver.specs.Views.{unnumbered, all_unnumbered}
 use Rattle.rx_repair_renaming.specs.Fitting.{HasAll, HaveAll}
-use Rattle.rx_repair_renaming.proofs.Places.{Good, behind_is}
+use Rattle.rx_repair_renaming.proofs.RenamingPlaces.{Good, behind_is}
 
 module _ (D : Declarations) where
   -- ---- with other numbers

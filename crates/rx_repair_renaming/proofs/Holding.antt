@@ -21,7 +21,7 @@ use Rattle.rx_lower_lifetimes.specs.Values.{Open, Known, Held, lifetimes_of, sam
 use Rattle.rx_lower_lifetimes.specs.Variables.{Written, parameter_type, written_type, told, raw_type, open_type, open_types}
 use Rattle.rx_lower_lifetimes.specs.Numbered.{all_numbered, opened}
 use Rattle.rx_repair_renaming.specs.Fitting.{HasAll, HaveAll}
-use Rattle.rx_repair_renaming.proofs.Places.{Good}
+use Rattle.rx_repair_renaming.proofs.RenamingPlaces.{Good}
 use Rattle.rx_repair_renaming.proofs.Having.{numbered_has, fits_has, place_has}
 
 -- ---- lists of types

@@ -31,13 +31,13 @@ use Rattle.rx_typeck_declare.specs.Steps.{Outcome, Reading, on_ok}
 use Rattle.rx_typeck_declare.specs.Written.{elided, all_elided, listed, lifetimes_at, lifetimes_of, pointing, type_of, types_of}
 use Rattle.rx_typeck_declare.specs.Items.{begins, fields_of, variants_of, all_used, bounded, entry_of, parameters_of, answer_of, declared_item, declared_items, entries_of}
 use Rattle.rx_typeck_declare.specs.Lets.{read, let_type}
-use Rattle.rx_typeck_let_types.specs.Bindings.{peeled, bound, way, part, bindings, parts, fields, behind, of_let, of_lets}
+use Rattle.rx_typeck_typed.specs.Bindings.{peeled, bound, way, part, bindings, parts, fields, behind, of_let, of_lets}
 use Rattle.rx_repair_renaming.specs.Fitting.{AsMany, HasAll}
-use Rattle.rx_repair_renaming.proofs.Places.{Good}
+use Rattle.rx_repair_renaming.proofs.RenamingPlaces.{Good}
 use Rattle.rx_repair_renaming.proofs.Having.{place_has}
 use Rattle.rx_repair_renaming.proofs.Holding.{AllHave, regions_have}
 use Rattle.rx_repair_renaming.proofs.Annotated.{ListFits, TypeFits, TypesFit}
-use Rattle.rx_repair_renaming.proofs.Noting.{others, one, left_by, read_by, NoteFits, NotesFit}
+use Rattle.rx_repair_renaming.proofs.RenamingNoting.{others, one, left_by, read_by, NoteFits, NotesFit}
 
 -- ---- what holds of an outcome that is well
 

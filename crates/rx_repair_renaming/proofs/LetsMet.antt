@@ -1,6 +1,6 @@
--- Where the demands of a function are met, each list of lifetimes in the type of a `let` is as long as what it belongs to declares: by one
--- induction on the tree with numbers, since what the rules ask is added behind what was asked before.
-use Rattle.std.proofs.Common.{ℕ, suc, Bool, true, false, not, ◌&&◌, List, [], ◌∷◌, ◌++◌, Option, Some, None, eqb-true}
+-- Where the demands of a function are met, this holds of each `let` that holds where its own are: by one induction on the tree with numbers,
+-- since what the rules ask is added behind what was asked before.
+use Rattle.std.proofs.Common.{ℕ, suc, Bool, true, false, not, ◌&&◌, List, [], ◌∷◌, ◌++◌, Option, Some, None, subst}
 use Rattle.rx_core.specs.declared.types.Kind.{Kind}
 use Rattle.rx_tree.specs.declared.tree.BinaryOp.{BinaryOp}
 use Rattle.rx_typed.specs.declared.nodes.Node.{Node}
@@ -23,9 +23,12 @@ use Rattle.rx_typeck_solver.specs.declared.facts.Demand.{Demand}
 use Rattle.rx_typeck_rules.specs.Asking.{Asking, ◌>>◌, nothing, asks, ask, when, passes, fitting, is_open}
 use Rattle.rx_typeck_rules.specs.Demands as rules
 use Rattle.rx_typeck_solver.specs.Facts.{Types, Known, MeetsAll, MeetsEach}
-use Rattle.rx_repair_renaming.proofs.Annotated.{ListFits, TypeFits, TypesFit, OptionFits, InExp, InExps, InElse, InFields, InArms, InBody, InStatement, InStatements}
+use Rattle.rx_repair_renaming.proofs.Asking.{Asks, result_u}
+use Rattle.rx_repair_renaming.proofs.Letting.{Lets, InExp, InExps, InElse, InFields, InArms, InBody, InStatement, InStatements}
 
-module _ (K : Known) (A : Types) where
+module _ (K : Known) (A : Types) (N : Lets) (of_declared : (p : Pattern) (t : Option Written) → Asks K A (N p t) (rules.declared p t))
+    (M : Option Written → Type 0) (typed : (t : Option Written) (e : Exp) → Asks K A (M t) (rules.typed_before t e))
+    (of_let : (p : Pattern) (t : Option Written) (e : Exp) → Asks K A (M t → N p t) (rules.initialised p t e)) where
   -- where what is asked is met, so is what was asked before, and this holds
   record Gives (R : Type 0) (a : Asking) : Type 0 where
     pub gives : (ds : List Demand) → MeetsEach K A (a ds) → MeetsEach K A ds × R
@@ -63,26 +66,13 @@ module _ (K : Known) (A : Types) where
   when_u true x = x
   when_u false x = none
 
-  -- ---- types
+  -- what is asked behind the others
+  behind : (ds es : List Demand) → MeetsEach K A (ds ++ es) → MeetsEach K A es
+  behind [] es h = h
+  behind (d ∷ ds) es h = behind ds es h.1
 
-  lifetimes_fit : (n : Node) (i : ℕ) (l : Option ℕ) → Gives (ListFits K.items i l) (rules.lifetimes_asked n i l)
-  lifetimes_fit n i None = none
-  lifetimes_fit n i (Some k) = record { gives = λ ds h. (front ds _ h, eqb-true _ k (last ds _ h).0) }
-
-  mutual
-    type_fits : (t : Written) → Gives (TypeFits K.items t) (rules.of_type t)
-    type_fits (named.a_kind n k) = asked n _ _ _
-    type_fits (named.a_bool n) = asked n _ _ _
-    type_fits (named.a_tuple n ts) = first (types_fit ts) (asked n _ _ _)
-    type_fits (named.a_reference n m t) = first (type_fits t) (asked n _ _ _)
-    type_fits (named.an_item n i ls) = first (lifetimes_fit n i ls) (asked n _ _ _)
-
-    types_fit : (ts : WrittenTypes) → Gives (TypesFit K.items ts) (rules.of_types ts)
-    types_fit named.no_written = none
-    types_fit (named.written_and t ts) = both (type_fits t) (types_fit ts)
-
-  whole_type_fits : (t : Written) → Gives (TypeFits K.items t) (rules.whole_type t)
-  whole_type_fits t = first (type_fits t) (asked (written_node t) _ _ _)
+  by_asks : {R : Type 0} {a : Asking} → Asks K A R a → Gives R a
+  by_asks x = record { gives = λ ds h. let g = subst (λ (l : List Demand). MeetsEach K A l) (x.adds ds) h in (front ds x.more g, x.gives (behind ds x.more g)) }
 
   -- ---- places and sites
 
@@ -296,21 +286,13 @@ module _ (K : Known) (A : Types) where
   integer_u : (n : Node) (m : Bool) (v : ℕ) (k : Option Kind) → U (rules.integer_at n m v k)
   integer_u n m v k = then_u (asked n _ _ _) (behind_integer n m v k)
 
-  declared_fits : (p : Pattern) (t : Option Written) → Gives (OptionFits K.items t) (rules.declared p t)
-  declared_fits p None = one_variable_u (pattern_node p) (whole_binding p)
-  declared_fits p (Some t) = first (whole_type_fits t) (whole_u rules.a_value _ p)
-
-  typed_before_fits : (t : Option Written) (e : Exp) → Gives (OptionFits K.items t) (rules.typed_before t e)
-  typed_before_fits None e = none
-  typed_before_fits (Some t) e = first (whole_type_fits t) (asked (node_of e) _ _ _)
-
   -- ---- expressions
 
   branches_fit : {R S : Type 0} (f : ℕ) (n : Node) (b : Body) (o : Else) → Gives R (rules.of_body f b) → Gives S (rules.of_else f n o) → Gives (R × S) (rules.of_branches f n (b, o))
   branches_fit f n b o x y = second (branch_before_u n o b) (both x (second (branch_after_u n o b) (first y (if_joins_u n o (body_never b && else_never o)))))
 
   mutual
-    exp_fits : (f : ℕ) (e : Exp) → Gives (InExp K.items e) (rules.of_exp f e)
+    exp_fits : (f : ℕ) (e : Exp) → Gives (InExp N e) (rules.of_exp f e)
     exp_fits f (named.int n m v k) = integer_u n m v k
     exp_fits f (named.bool n b) = own_u n _ _
     exp_fits f (named.tuple n es) = first (each_fits f rules.members 0 es) (then_u (own_u n _ _) (asked n _ _ _))
@@ -346,37 +328,37 @@ module _ (K : Known) (A : Types) where
     exp_fits f (named.continue n l) = never_u n n.site
     exp_fits f (named.return n o) = second (returns_u f n o) (first (returned_fits f o) (never_u n n.site))
 
-    each_fits : (f : ℕ) (w : rules.Listed) (k : ℕ) (es : Exps) → Gives (InExps K.items es) (rules.of_each f w k es)
+    each_fits : (f : ℕ) (w : rules.Listed) (k : ℕ) (es : Exps) → Gives (InExps N es) (rules.of_each f w k es)
     each_fits f w k named.no_exp = none
     each_fits f w k (named.exp_and e es) = second (each_before_u w k (node_of e)) (both (exp_fits f e) (second (each_after_u w e) (each_fits f w (suc k) es)))
 
-    fields_fit : (f i : ℕ) (fs : Fields) → Gives (InFields K.items fs) (rules.of_fields f i fs)
+    fields_fit : (f i : ℕ) (fs : Fields) → Gives (InFields N fs) (rules.of_fields f i fs)
     fields_fit f i named.no_field = none
     fields_fit f i (named.field_and x e fs) = second (asked (node_of e) _ _ _) (both (exp_fits f e) (fields_fit f i fs))
 
-    else_fits : (f : ℕ) (n : Node) (o : Else) → Gives (InElse K.items o) (rules.of_else f n o)
+    else_fits : (f : ℕ) (n : Node) (o : Else) → Gives (InElse N o) (rules.of_else f n o)
     else_fits f n named.absent = none
     else_fits f n (named.present e) = second (before_u n n.site (node_of e)) (first (exp_fits f e) (after_u n n.site (never e) (node_of e)))
 
-    returned_fits : (f : ℕ) (o : Else) → Gives (InElse K.items o) (rules.of_returned f o)
+    returned_fits : (f : ℕ) (o : Else) → Gives (InElse N o) (rules.of_returned f o)
     returned_fits f named.absent = none
     returned_fits f (named.present e) = exp_fits f e
 
-    arms_fit : (f : ℕ) (n : Node) (s : rules.Matched) (m : Node) (l : Arms) → Gives (InArms K.items l) (rules.of_arms f n s m l)
+    arms_fit : (f : ℕ) (n : Node) (s : rules.Matched) (m : Node) (l : Arms) → Gives (InArms N l) (rules.of_arms f n s m l)
     arms_fit f n s m named.no_arm = none
     arms_fit f n s m (named.arm_and p e l) = second (whole_u s _ p) (second (before_u n n.site (node_of e)) (both (exp_fits f e)
         (second (after_u n n.site (never e) (node_of e)) (arms_fit f n s m l))))
 
-    body_fits : (f : ℕ) (b : Body) → Gives (InBody K.items b) (rules.of_body f b)
+    body_fits : (f : ℕ) (b : Body) → Gives (InBody N b) (rules.of_body f b)
     body_fits f (named.body n ss o) = both (statements_fit f ss) (second (tail_before_u n o) (first (returned_fits f o)
         (then_u (tail_after_u n (some_diverges ss) o) (join_u n (named.tail_never (some_diverges ss) o)))))
 
-    statement_fits : (f : ℕ) (x : Statement) → Gives (InStatement K.items x) (rules.of_statement f x)
-    statement_fits f (named.declares n p t) = declared_fits p t
-    statement_fits f (named.lets n p t e) = both (typed_before_fits t e) (first (exp_fits f e) (initialised_u p t e))
+    statement_fits : (f : ℕ) (x : Statement) → Gives (InStatement N x) (rules.of_statement f x)
+    statement_fits f (named.declares n p t) = by_asks (of_declared p t)
+    statement_fits f (named.lets n p t e) = record { gives = λ ds h. let x = (both (by_asks (typed t e)) (both (exp_fits f e) (by_asks (of_let p t e)))).gives ds h in (x.0, (x.1.1.1 x.1.0, x.1.1.0)) }
     statement_fits f (named.evaluates n e s) = first (exp_fits f e) (evaluated_u s (node_of e) (never e))
 
-    statements_fit : (f : ℕ) (ss : Statements) → Gives (InStatements K.items ss) (rules.of_statements f ss)
+    statements_fit : (f : ℕ) (ss : Statements) → Gives (InStatements N ss) (rules.of_statements f ss)
     statements_fit f named.no_statement = none
     statements_fit f (named.statement_and a ss) = both (statement_fits f a) (statements_fit f ss)
 
@@ -385,8 +367,17 @@ module _ (K : Known) (A : Types) where
   never_given_u (n ∷ ns) = then_u (asked n _ _ _) (never_given_u ns)
 
   -- the body of a function whose demands are met
-  pub function_fits : (f : Function) → MeetsEach K A (rules.demands f) → InBody K.items f.body
+  pub function_fits : (f : Function) → MeetsEach K A (rules.demands f) → InBody N f.body
   function_fits f h =
       let s = rules.of_result f.result (rules.of_parameters f.params []) in
       let x = (never_given_u f.never_given).gives (rules.of_body f.item f.body (rules.expects (body_node f.body) (op.Result f.item) [] s)) h in
       ((body_fits f.item f.body).gives (rules.expects (body_node f.body) (op.Result f.item) [] s) x.0).1
+
+  -- so are those of its parameters
+  pub parameters_met : (f : Function) → MeetsEach K A (rules.demands f) → MeetsEach K A (rules.of_parameters f.params [])
+  parameters_met f h =
+      let s = rules.of_result f.result (rules.of_parameters f.params []) in
+      let e = rules.expects (body_node f.body) (op.Result f.item) [] s in
+      let x = (never_given_u f.never_given).gives (rules.of_body f.item f.body e) h in
+      let y = (body_fits f.item f.body).gives e x.0 in
+      ((by_asks (result_u f.result)).gives (rules.of_parameters f.params []) (front s _ y.0)).0

@@ -22,32 +22,32 @@ use Rattle.rx_typed_declarations.proofs.Polarities.{same_declared}
 use Rattle.rx_lower_walks.specs.Actions.{Act, Build}
 use Rattle.rx_lower_walks.specs.Walks.{Among}
 use Rattle.rx_lower_walks.specs.Walks as walks
-use Rattle.rx_lower_graph.specs.Text.{actions_of}
+use Rattle.rx_lower_walks.specs.Text.{actions_of}
 use Rattle.rx_lower_lifetimes.specs.Values.{Open, same, lifetimes_of as declared_lifetimes}
 use Rattle.rx_lower_lifetimes.specs.Variables.{open_types}
 use Rattle.rx_lower_lifetimes.specs.Numbered.{opened}
 use Rattle.rx_lower_lifetimes.specs.Lowered.{parameters, actions, temporaries}
 use Rattle.rx_lower.specs.Functions.{trimmed, trimmed_and, written, function}
-use Rattle.rx_region_solutions.specs.Constraints.{Context, held, temporary_type, variables_of, lifetimes_of}
+use Rattle.rx_region_constraints.specs.Constraints.{Context, held, temporary_type, variables_of, lifetimes_of}
 use Rattle.rx_typeck_solver.specs.declared.facts.Subject.{Subject}
 use Rattle.rx_typeck_solver.specs.declared.facts.Subject.TheVariants as subject
 use Rattle.rx_typeck_solver.specs.Facts.{Types, Known}
 use Rattle.rx_typeck_elaborate_parts.specs.Assigning.{joined}
 use Rattle.rx_typeck_declare.specs.Programs.{Declares}
-use Rattle.rx_typeck_let_types.specs.declared.variables.AnnotatedVariable.{AnnotatedVariable}
-use Rattle.rx_typeck_let_types.specs.Bindings.{annotated, lifetimes as let_lifetimes}
-use Rattle.rx_typeck_let_types.specs.Walks.{plain-Variable}
+use Rattle.rx_typeck_typed.specs.declared.variables.AnnotatedVariable.{AnnotatedVariable}
+use Rattle.rx_typeck_typed.specs.Bindings.{annotated, lifetimes as let_lifetimes}
+use Rattle.rx_typeck_typed.specs.Walks.{plain-Variable}
 use Rattle.rx_typeck_typed.specs.declared.typed.Typed.{Typed}
 use Rattle.rx_typeck_typed.specs.declared.typed.TypedFn.{TypedFn}
 use Rattle.rx_typeck_typed.specs.Typing.{Given, known_in, entries, variables_at, type_at, TypeIs, FunctionTyped, FunctionsTyped, IsTyped}
 use Rattle.rx_facts.specs.Functions.{body, sites_of}
-use Rattle.rx_check_loans.specs.Contexts.{context_of}
+use Rattle.rx_check.specs.Contexts.{context_of}
 use Rattle.rx_repair_renaming.specs.Fitting.{AsMany, HasAll, ActFits, Fits}
 use Rattle.rx_repair_renaming.specs.Making.{IsOfItem, ActIsOfItem, AreOfItems}
 use Rattle.rx_repair_renaming.proofs.Having.{fits_has, unnumbered_has}
 use Rattle.rx_repair_renaming.proofs.Holding.{AllHave, AllOpen, AllWritten, MayHave, AllMayHave, AllMake, one_has, numbers_have, opened_have, variables_have, held_have}
-use Rattle.rx_repair_renaming.proofs.LetsMet.{function_fits}
-use Rattle.rx_repair_renaming.proofs.Noting.{notes_fit}
+use Rattle.rx_repair_renaming.proofs.RenamingLetsMet.{function_fits}
+use Rattle.rx_repair_renaming.proofs.RenamingNoting.{notes_fit}
 use Rattle.rx_repair_renaming.proofs.LetTypes.{PairsHave, all_count, lets_have}
 
 -- ---- the types that are found

@@ -10,26 +10,26 @@ use Rattle.rx_typed.specs.Tree.{Root}
 use Rattle.rx_typed_places.specs.Renaming.{bound_renamed}
 use Rattle.rx_lower_walks.specs.Actions.{Act, Declare, Dead, Read, Write, Borrow, Test, Call, Build, Input, Print, Give}
 use Rattle.rx_lower_walks.specs.Walks.{Among, here, there}
-use Rattle.rx_lower_graph.specs.Graph.{Site, site_at}
-use Rattle.rx_lower_graph.specs.Text.{actions_of}
+use Rattle.rx_lower_walks.specs.Graph.{Site, site_at}
+use Rattle.rx_lower_walks.specs.Text.{actions_of}
 use Rattle.rx_lower_lifetimes.specs.Numbered.{Own, none, region, signed}
-use Rattle.rx_facts_along.specs.Along.{edges_of}
+use Rattle.rx_facts_live.specs.Along.{edges_of}
 use Rattle.rx_region_outlives.specs.Implied.{HasPair}
-use Rattle.rx_region_solutions.specs.Constraints.{Context, root_type, imposed}
-use Rattle.rx_region_solutions.specs.Solutions.{Point, site, end, Sets, Solution, Least}
-use Rattle.rx_region_solutions.specs.Solutions as solutions
-use Rattle.rx_region_solutions.specs.Known.{told, Known, Missing}
-use Rattle.rx_region_solutions.specs.Known as knowing
+use Rattle.rx_region_constraints.specs.Constraints.{Context, root_type, imposed}
+use Rattle.rx_region_constraints.specs.Solutions.{Point, site, end, Sets, Solution, Least}
+use Rattle.rx_region_constraints.specs.Solutions as solutions
+use Rattle.rx_region_constraints.specs.Known.{told, Known, Missing}
+use Rattle.rx_region_constraints.specs.Known as knowing
 use Rattle.rx_region.specs.Tables.{Follows, itself, by}
 use Rattle.rx_loan.specs.Accesses.{Loan, acts_against}
 use Rattle.rx_loan.specs.Loans.{loan_at, loans_from, loans_of, ends_at, InScope, Meets, IsLegal}
 use Rattle.rx_loan_check.specs.Accepted.{at_sites, AcceptedBy, IsAccepted}
-use Rattle.rx_repair_laws.specs.LeastBounds.{by_types, IsLeastBound}
-use Rattle.rx_repair_laws.proofs.Renamed.{bounds_moved, bounds_back}
+use Rattle.rx_repair.specs.LeastBounds.{by_types, IsLeastBound}
+use Rattle.rx_repair.proofs.Renamed.{bounds_moved, bounds_back}
 use Rattle.rx_repair_renaming.specs.Renaming.{Renaming, own_renamed, lifetimes_renamed, context_renamed, point_renamed, sets_renamed, loan_renamed}
 use Rattle.rx_repair_renaming.specs.Fitting.{Fits}
 use Rattle.rx_repair_renaming.proofs.Types.{lifetimes_are}
-use Rattle.rx_repair_renaming.proofs.Asking.{root_is, types_told, all_told, imposed_same}
+use Rattle.rx_repair_renaming.proofs.RenamingAsking.{root_is, types_told, all_told, imposed_same}
 
 mapped_in : (f : ℕ → ℕ) (ls : List ℕ) (l : ℕ) → IsIn ls l → IsIn (map f ls) (f l)
 mapped_in f [] l h = absurd h

@@ -8,7 +8,7 @@ use Rattle.rx_typed.specs.Tree.{Making, struct, variant_of}
 use Rattle.rx_typed_declarations.specs.WellFormed.{item_fits}
 use Rattle.rx_lower_walks.specs.Actions.{Act, Build, Action}
 use Rattle.rx_lower_walks.specs.Walks.{Among}
-use Rattle.rx_region_solutions.specs.Constraints.{Context, held, lifetimes_of}
+use Rattle.rx_region_constraints.specs.Constraints.{Context, held, lifetimes_of}
 
 -- as many as the struct or enum declares
 abbrev pub AsMany : Declarations → ℕ → List ℕ → Type 0

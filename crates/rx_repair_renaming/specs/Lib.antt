@@ -1,3 +1,4 @@
 pub mod Renaming
 pub mod Fitting
 pub mod Making
+pub mod TemporaryTypes

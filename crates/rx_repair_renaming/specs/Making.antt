@@ -6,7 +6,7 @@ use Rattle.rx_typed.specs.Tree.{Temporary, Making, struct, variant_of}
 use Rattle.rx_lower_walks.specs.Actions.{Act, Build, Action, does, filled}
 use Rattle.rx_lower_walks.specs.Walks.{Among}
 use Rattle.rx_lower_lifetimes.specs.Values.{Known, Held, value_type, held_by}
-use Rattle.rx_region_solutions.specs.Constraints.{Context, held}
+use Rattle.rx_region_constraints.specs.Constraints.{Context, held}
 
 -- what gets a struct or enum that is made has its type
 abbrev pub IsOfItem : Making → RegionTyp → Type 0

@@ -4,8 +4,8 @@ use Rattle.std.specs.Prelude.{◌≡◌, ℕ, ◌<◌, map}
 use Rattle.rx_typed_places.specs.Renaming.{signature_with, renamed, bound_renamed}
 use Rattle.rx_lower_lifetimes.specs.Numbered.{Own, none, region, signed}
 use Rattle.rx_lower_lifetimes.specs.Lowered.{Lifetimes}
-use Rattle.rx_region_solutions.specs.Constraints.{Context}
-use Rattle.rx_region_solutions.specs.Solutions.{Point, site, end, Sets}
+use Rattle.rx_region_constraints.specs.Constraints.{Context}
+use Rattle.rx_region_constraints.specs.Solutions.{Point, site, end, Sets}
 use Rattle.rx_loan.specs.Accesses.{Loan}
 
 -- another number for each lifetime, and back; the function's own, of which there are so many, stay its own

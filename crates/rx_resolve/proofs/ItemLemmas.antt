@@ -10,8 +10,8 @@ use Rattle.rx_tree.specs.declared.tree.EnumVariant.{EnumVariant}
 use Rattle.rx_tree.specs.declared.tree.BoundLifetime.{BoundLifetime}
 use Rattle.rx_tree.specs.PlainOf.{plain-EnumVariant}
 use Rattle.rx_tree.specs.Plain.{ItemTree, ProgramTree, VariantOf}
-use Rattle.rx_resolve_scope.specs.declared.table.Known.{Known}
-use Rattle.rx_resolve_scope.specs.Scopes.{Declared, declared_as}
+use Rattle.rx_resolve_names.specs.declared.table.Known.{Known}
+use Rattle.rx_resolve_names.specs.Scopes.{Declared, declared_as}
 use Rattle.rx_resolve_names.specs.Meant.{number, item_named, has_name, kept, variant_names, variants_of, as_function}
 use Rattle.rx_resolve.specs.Tables.{kept_in, names_from}
 

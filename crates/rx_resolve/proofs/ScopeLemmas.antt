@@ -9,7 +9,7 @@ use Rattle.rx_tree.specs.PlainOf.{plain-Stmt, statements_of}
 use Rattle.rx_tree.specs.Lists.{listed}
 use Rattle.rx_tree.proofs.ListsLemmas.{listed-statements_of}
 use Rattle.rx_tree.specs.Plain.{Statement, Statements, Body, OptionalExpression}
-use Rattle.rx_resolve_scope.specs.Scopes.{Declared, Variables, Variable, entered, oldest}
+use Rattle.rx_resolve_names.specs.Scopes.{Declared, Variables, Variable, entered, oldest}
 use Rattle.rx_resolve_names.specs.declared.resolved.ItemNames.{ItemNames}
 use Rattle.rx_resolve_names.specs.declared.resolved.Misnamed.{Misnamed}
 use Rattle.rx_resolve.specs.declared.walk.Walk.{Walk}

@@ -4,7 +4,7 @@ use Rattle.rx_tree.specs.declared.tree.Ident.{Ident}
 use Rattle.rx_tree.specs.declared.tree.Item.{Item}
 use Rattle.rx_tree.specs.Plain.{ItemTree}
 use Rattle.rx_tree.specs.PlainOf.{plain-Item}
-use Rattle.rx_resolve_scope.specs.Scopes.{Variables, Declared}
+use Rattle.rx_resolve_names.specs.Scopes.{Variables, Declared}
 use Rattle.rx_resolve_names.specs.declared.resolved.ItemNames.{ItemNames}
 use Rattle.rx_resolve.specs.declared.walk.Walk.{Walk}
 use Rattle.rx_resolve.specs.declared.walk.Around as code

@@ -12,8 +12,7 @@ use crate::items::{declare, number};
 use crate::types::pushed;
 use crate::walk::Walk;
 use rx_core::{List, Span};
-use rx_resolve_names::Misnamed;
-use rx_resolve_scope::Table;
+use rx_resolve_names::{Misnamed, Table};
 use rx_tree::{BoundLifetime, EnumVariant, Field, Func, Ident, Item, ItemNode, Param, TypeText};
 
 impl<'w, 't> Walk<'w, 't> {

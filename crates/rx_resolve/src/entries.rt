@@ -2,7 +2,7 @@
 
 ghost use Rattle.std.specs.Prelude.{◌≡◌, ◌≢◌, ℕ, suc, [], ◌∷◌, ◌++◌, length, map, Ok, Err, Some, None, Option, option_map, OnOk, IfOk, codes};
 ghost use Rattle.rx_tree.specs.PlainOf.{plain-Pattern, plain-TypeText, plain-Item};
-ghost use Rattle.rx_resolve_scope.specs.Scopes.{variable_named, entered};
+ghost use Rattle.rx_resolve_names.specs.Scopes.{variable_named, entered};
 ghost use Rattle.rx_resolve_names.specs.declared.resolved.Misnamed.TheVariants as misnamed;
 ghost use Rattle.rx_resolve_names.specs.Meant as meant;
 ghost use Rattle.rx_resolve_names.specs.Steps as steps;
@@ -13,8 +13,7 @@ use crate::items::number;
 use crate::types::known;
 use crate::walk::{Around, Walk};
 use rx_core::{List, Name, Position, Span};
-use rx_resolve_names::Misnamed;
-use rx_resolve_scope::Table;
+use rx_resolve_names::{Misnamed, Table};
 use rx_tree::{Ident, Item, ItemNode, Pattern, TypeText};
 use std::alloc::AllocError;
 

@@ -2,7 +2,7 @@
 
 ghost use Rattle.std.specs.Prelude.{◌≡◌, ◌≢◌, ℕ, suc, [], ◌∷◌, ◌++◌, length, map, Ok, Err, Some, None, Option, option_map};
 ghost use Rattle.rx_tree.specs.PlainOf.{plain-Expr, plain-Block, plain-Stmt, plain-Arm, plain-FieldExpr, plain-Item, plain-TypeText, plain-Pattern, expressions_of, optional_of, optional_list_of, field_expressions_of, arms_of, statements_of};
-ghost use Rattle.rx_resolve_scope.specs.Scopes.{entered};
+ghost use Rattle.rx_resolve_names.specs.Scopes.{entered};
 ghost use Rattle.rx_resolve_names.specs.Meant as meant;
 ghost use Rattle.rx_resolve_names.specs.Steps as steps;
 ghost use Rattle.rx_resolve_names.specs.Names as names;
@@ -11,8 +11,7 @@ ghost use Rattle.rx_resolve.specs.Walks as walks;
 use crate::items::number;
 use crate::walk::{Around, Walk};
 use rx_core::{Boxed, List};
-use rx_resolve_names::Misnamed;
-use rx_resolve_scope::Table;
+use rx_resolve_names::{Misnamed, Table};
 use rx_tree::{Arm, Block, Expr, ExprNode, FieldExpr, Stmt, StmtNode};
 
 impl<'w, 't> Walk<'w, 't> {

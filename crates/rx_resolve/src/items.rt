@@ -4,8 +4,8 @@ ghost use Rattle.std.specs.Prelude.{◌≡◌, ◌≢◌, ◌<◌, ◌^◌, [], 
 ghost use Rattle.rx_tree.specs.declared.tree.EnumVariant.{EnumVariant};
 ghost use Rattle.rx_tree.specs.declared.tree.BoundLifetime.{BoundLifetime};
 ghost use Rattle.rx_tree.specs.PlainOf.{plain-Item};
-ghost use Rattle.rx_resolve_scope.specs.declared.table.Known.{Known};
-ghost use Rattle.rx_resolve_scope.specs.Scopes.{declared_as};
+ghost use Rattle.rx_resolve_names.specs.declared.table.Known.{Known};
+ghost use Rattle.rx_resolve_names.specs.Scopes.{declared_as};
 ghost use Rattle.rx_resolve_names.specs.declared.resolved.Misnamed.TheVariants as misnamed;
 ghost use Rattle.rx_resolve_names.specs.Meant as meant;
 ghost use Rattle.rx_resolve_names.specs.Steps as steps;
@@ -13,8 +13,7 @@ ghost use Rattle.rx_resolve_names.specs.Items as items_spec;
 ghost use Rattle.rx_resolve.specs.Tables as tables;
 
 use rx_core::{List, Span};
-use rx_resolve_names::Misnamed;
-use rx_resolve_scope::{Known, Table};
+use rx_resolve_names::{Known, Misnamed, Table};
 use rx_tree::{BoundLifetime, EnumVariant, Ident, Item, ItemNode};
 use std::alloc::{AllocError, Global};
 use std::marker::Model;

@@ -11,8 +11,7 @@ use crate::items::{declare, number};
 use crate::types::known;
 use crate::walk::Walk;
 use rx_core::{List, Span};
-use rx_resolve_names::Misnamed;
-use rx_resolve_scope::Table;
+use rx_resolve_names::{Misnamed, Table};
 use rx_tree::{FieldPattern, Ident, Item, ItemNode, Pattern, PatternNode};
 use std::alloc::AllocError;
 

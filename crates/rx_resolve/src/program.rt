@@ -14,8 +14,7 @@ ghost use Rattle.rx_resolve_names.specs.Causes as causes;
 use crate::items::{Items, first_lifetimes, firsts, number};
 use crate::walk::Walk;
 use rx_core::{List, Span};
-use rx_resolve_names::{ItemNames, Misnamed, NameFault, Resolved};
-use rx_resolve_scope::{Scope, Table};
+use rx_resolve_names::{ItemNames, Misnamed, NameFault, Resolved, Scope, Table};
 use rx_tree::{BoundLifetime, Ident, Item, ItemNode, Program};
 use std::alloc::{AllocError, Global};
 

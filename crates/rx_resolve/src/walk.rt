@@ -8,8 +8,7 @@ ghost use Rattle.rx_resolve.specs.Walks as walks;
 
 use crate::items::Items;
 use rx_core::{LetGo, List, Position, Span};
-use rx_resolve_names::{ItemNames, Misnamed, NodeNames};
-use rx_resolve_scope::{Scope, Table};
+use rx_resolve_names::{ItemNames, Misnamed, NodeNames, Scope, Table};
 use rx_tree::{Ident, Item};
 use std::alloc::{AllocError, Global};
 

@@ -9,8 +9,8 @@ use Rattle.rx_tree.specs.Plain as plain
 use Rattle.rx_tree.specs.Plain.{TypeTree, TypeTrees, PatternTree, PatternTrees, FieldPatterns, Expression, Expressions, OptionalExpression, OptionalExpressions, FieldExpressions, Statement, Statements, FieldOf, VariantOf, Parameter, Function, ItemTree, ProgramTree}
 use Rattle.rx_graph_cycles.specs.Reaches.{FirstOnCycle}
 use Rattle.rx_graph_cycles.proofs.Deciding.{first_on_cycle, on_cycle_within}
-use Rattle.rx_resolve_scope.specs.declared.table.Known.{Known}
-use Rattle.rx_resolve_scope.specs.Scopes.{Declared, Variables, variable_named, declared_as, entered}
+use Rattle.rx_resolve_names.specs.declared.table.Known.{Known}
+use Rattle.rx_resolve_names.specs.Scopes.{Declared, Variables, variable_named, declared_as, entered}
 use Rattle.rx_resolve_names.specs.declared.resolved.ItemNames.{ItemNames}
 use Rattle.rx_resolve_names.specs.declared.resolved.Misnamed.{Misnamed}
 use Rattle.rx_resolve_names.specs.declared.resolved.Misnamed.TheVariants as misnamed

@@ -1,1 +1,4 @@
+mod Lookups
+mod Entering
+mod Drops
 pub mod Deciding

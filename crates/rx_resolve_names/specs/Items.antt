@@ -5,7 +5,7 @@ use Rattle.rx_tree.specs.declared.tree.BoundLifetime.{BoundLifetime}
 use Rattle.rx_tree.specs.Plain as plain
 use Rattle.rx_tree.specs.Plain.{TypeTree, Parameter, Function, FieldOf, VariantOf, ItemTree, ProgramTree}
 use Rattle.rx_resolve_names.specs.declared.resolved.ItemNames.{ItemNames}
-use Rattle.rx_resolve_scope.specs.Scopes.{Declared, Variables, entered}
+use Rattle.rx_resolve_names.specs.Scopes.{Declared, Variables, entered}
 use Rattle.rx_resolve_names.specs.Meant.{number, type_name, function_name, firsts, lifetimes_declared, Around}
 use Rattle.rx_resolve_names.specs.Steps.{Outcome, and_then, Naming, ◌>>◌, nothing, Inside, one, both, declare, with_variable, child, next, numbered}
 use Rattle.rx_resolve_names.specs.Names.{lifetime_in, in_type, in_types, behind, Binding, in_optional_type, in_block}

@@ -1,3 +1,5 @@
+pub mod Scopes
+pub mod Tables
 pub mod Meant
 pub mod Steps
 pub mod Names

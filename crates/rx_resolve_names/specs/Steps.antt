@@ -8,8 +8,8 @@ use Rattle.rx_resolve_names.specs.declared.resolved.ItemNames.{ItemNames}
 use Rattle.rx_resolve_names.specs.declared.resolved.NodeNames.{NodeNames}
 use Rattle.rx_resolve_names.specs.declared.resolved.Misnamed.{Misnamed}
 use Rattle.rx_resolve_names.specs.declared.resolved.Misnamed.TheVariants as misnamed
-use Rattle.rx_resolve_scope.specs.declared.table.Known.{Known}
-use Rattle.rx_resolve_scope.specs.Scopes.{Declared, declared_as}
+use Rattle.rx_resolve_names.specs.declared.table.Known.{Known}
+use Rattle.rx_resolve_names.specs.Scopes.{Declared, declared_as}
 use Rattle.rx_resolve_names.specs.Meant.{number, Target, to_loop, out_of_test, nowhere}
 
 abbrev pub Outcome : Type 0 → Type 0

@@ -3,6 +3,10 @@
 
 mod laws;
 mod resolved;
+mod scope;
+mod table;
 
 pub use laws::named_or_misnamed;
 pub use resolved::{ItemNames, Misnamed, NameFault, NodeNames, Resolved};
+pub use scope::Scope;
+pub use table::{Known, Table};

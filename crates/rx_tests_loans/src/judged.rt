@@ -3,8 +3,7 @@
 ghost use Rattle.rx_tree.specs.PlainOf.{plain-Program};
 ghost use Rattle.rx_tree.specs.Size.{IsNumbered};
 
-use rx_check::{CheckFault, check};
-use rx_check_loans::LoanFault;
+use rx_check::{CheckFault, LoanFault, check};
 use rx_core::{LetGo, Span};
 use rx_facts::InitFault;
 use rx_parse::{parse, parsed_programs_are_numbered};

@@ -18,7 +18,7 @@ use Rattle.rx_typed.specs.PlainTypes.{declarations}
 use Rattle.rx_typed.specs.Regions.{erased, all_erased}
 use Rattle.rx_typed.specs.Named.{Function}
 use Rattle.rx_typed.specs.Elaborated.{elaborated}
-use Rattle.rx_typed_tree.specs.PlainTree.{plain-TypedTree}
+use Rattle.rx_typed.specs.PlainTree.{plain-TypedTree}
 use Rattle.rx_typed_declarations.proofs.RegionLemmas.{is_erased}
 use Rattle.rx_typeck_solver.specs.declared.facts.Broken.{Broken}
 use Rattle.rx_typeck_solver.specs.declared.facts.Demand.{Demand}

@@ -23,10 +23,9 @@ use rx_typeck_declare::{DeclareFault, declare, declared_are_finite, declared_are
 use rx_typeck_demands::asked;
 use rx_typeck_elaborate::elaborate;
 use rx_typeck_elaborate_parts::NodeTypes;
-use rx_typeck_let_types::{AnnotatedVariable, annotated};
 use rx_typeck_rules::demands_are_orderly;
 use rx_typeck_solver::{Broken, Demand, Found, Unsolved, solve};
-use rx_typeck_typed::{TypeFault, Typed, TypedFn};
+use rx_typeck_typed::{AnnotatedVariable, TypeFault, Typed, TypedFn, annotated};
 use rx_typed::{Declaration, Decls};
 use rx_typed_declarations::{recorded, sizes};
 use std::alloc::{AllocError, Global};

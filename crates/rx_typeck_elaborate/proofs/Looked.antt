@@ -12,11 +12,11 @@ use Rattle.rx_typed.specs.Naming.{Cursor, a_node, annotates, of_pattern, of_opti
 use Rattle.rx_typed.specs.Elaborated as elaborated
 use Rattle.rx_typed.specs.Elaborated.{value, looks, mark_if}
 use Rattle.rx_typed.specs.Tree as tree
-use Rattle.rx_typed_tree.specs.declared.tree.Expr.{Expr as ExprOf}
-use Rattle.rx_typed_tree.specs.declared.tree.Pattern.{Pattern as PatternOf}
-use Rattle.rx_typed_tree.specs.declared.tree.Matched.{Matched}
-use Rattle.rx_typed_tree.specs.declared.tree.Stmt.TheVariants as stmt
-use Rattle.rx_typed_tree.specs.PlainTree.{plain-Expr, plain-Pattern, plain-Matched, plain-Stmt}
+use Rattle.rx_typed.specs.declared.tree.Expr.{Expr as ExprOf}
+use Rattle.rx_typed.specs.declared.tree.Pattern.{Pattern as PatternOf}
+use Rattle.rx_typed.specs.declared.tree.Matched.{Matched}
+use Rattle.rx_typed.specs.declared.tree.Stmt.TheVariants as stmt
+use Rattle.rx_typed.specs.PlainTree.{plain-Expr, plain-Pattern, plain-Matched, plain-Stmt}
 use Rattle.rx_typeck_numbering.specs.declared.seen.Seen.{Seen}
 use Rattle.rx_typeck_numbering.specs.Seeing.{seen_of, value_seen}
 use Rattle.rx_typeck_elaborate_parts.specs.declared.walk.Walk.{Walk}

@@ -18,7 +18,7 @@ use Rattle.rx_typed.specs.Elaborated as elaborated
 use Rattle.rx_typed.specs.Elaborated.{Assigned, Coercion, coercion_at, matched, matched_as, place, value, read_as}
 use Rattle.rx_typed.specs.Tree as tree
 use Rattle.rx_typeck_elaborate_parts.specs.Coercing.{types_of, place_matched, place_matched_as}
-use Rattle.rx_typed_tree.specs.PlainTree.{nested_of}
+use Rattle.rx_typed.specs.PlainTree.{nested_of}
 use Rattle.rx_typeck_elaborate_parts.specs.Telling.{branch_site_of, never_by, is_present, statements_listed, body_parts}
 use Rattle.rx_typeck_elaborate_parts.specs.declared.walk.Walk.{Walk}
 use Rattle.rx_typeck_elaborate_parts.specs.Walks.{Tells}

@@ -6,7 +6,7 @@ ghost use Rattle.rx_tree.specs.Plain as plain;
 ghost use Rattle.rx_typed.specs.Named as named;
 ghost use Rattle.rx_typed.specs.Naming as naming;
 ghost use Rattle.rx_typed.specs.Elaborated as elaborated;
-ghost use Rattle.rx_typed_tree.specs.PlainTree.{plain-Expr, plain-Matched, plain-Arm, plain-Pattern};
+ghost use Rattle.rx_typed.specs.PlainTree.{plain-Expr, plain-Matched, plain-Arm, plain-Pattern};
 ghost use Rattle.rx_typeck_numbering.specs.Seeing.{seen_of};
 ghost use Rattle.rx_typeck_elaborate_parts.specs.Coercing.{types_of};
 ghost use Rattle.rx_typeck_elaborate_parts.specs.Listing.{arms_listed};
@@ -23,8 +23,7 @@ use rx_typeck_elaborate_parts::{
     passed_on, tests, with_arm,
 };
 use rx_typeck_numbering::{Seen, value_seen};
-use rx_typed::{Node, Site};
-use rx_typed_tree::{Arm, Expr, Matched, Pattern};
+use rx_typed::{Arm, Expr, Matched, Node, Pattern, Site};
 use std::alloc::AllocError;
 
 /// What is matched is looked into, with the mark of a node: the pattern's way, or the other.
@@ -44,7 +43,7 @@ pub(crate) fn looked_into(
 
 /// What follows `else`: where nothing does, the unit of the node.
 #[cycle(expression)]
-#[tactic(auto, using(rx_tree::proofs::Rules::expression_rules, rx_tree::proofs::Rules::block_rules, rx_tree::proofs::Rules::let_rules, rx_typed_tree::proofs::Rules::typed_tree_rules, rx_typeck_elaborate_parts::proofs::Listed::listed_rules))]
+#[tactic(auto, using(rx_tree::proofs::Rules::expression_rules, rx_tree::proofs::Rules::block_rules, rx_tree::proofs::Rules::let_rules, rx_typed::proofs::Rules::typed_tree_rules, rx_typeck_elaborate_parts::proofs::Listed::listed_rules))]
 pub(crate) fn otherwise<'t>(
     walk: &mut Walk<'t>,
     site: Site,
@@ -64,7 +63,7 @@ pub(crate) fn otherwise<'t>(
 
 /// A tail, or the value of a `return`: where there is none, the unit.
 #[cycle(expression)]
-#[tactic(auto, using(rx_tree::proofs::Rules::expression_rules, rx_tree::proofs::Rules::block_rules, rx_tree::proofs::Rules::let_rules, rx_typed_tree::proofs::Rules::typed_tree_rules, rx_typeck_elaborate_parts::proofs::Listed::listed_rules))]
+#[tactic(auto, using(rx_tree::proofs::Rules::expression_rules, rx_tree::proofs::Rules::block_rules, rx_tree::proofs::Rules::let_rules, rx_typed::proofs::Rules::typed_tree_rules, rx_typeck_elaborate_parts::proofs::Listed::listed_rules))]
 pub(crate) fn last<'t>(
     walk: &mut Walk<'t>,
     site: Site,
@@ -81,7 +80,7 @@ pub(crate) fn last<'t>(
 
 /// A part that is there.
 #[cycle(expression)]
-#[tactic(auto, using(rx_tree::proofs::Rules::expression_rules, rx_tree::proofs::Rules::block_rules, rx_tree::proofs::Rules::let_rules, rx_typed_tree::proofs::Rules::typed_tree_rules, rx_typeck_elaborate_parts::proofs::Listed::listed_rules))]
+#[tactic(auto, using(rx_tree::proofs::Rules::expression_rules, rx_tree::proofs::Rules::block_rules, rx_tree::proofs::Rules::let_rules, rx_typed::proofs::Rules::typed_tree_rules, rx_typeck_elaborate_parts::proofs::Listed::listed_rules))]
 pub(crate) fn present<'t>(
     walk: &mut Walk<'t>,
     site: Site,
@@ -99,7 +98,7 @@ pub(crate) fn present<'t>(
 }
 
 #[cycle(expression)]
-#[tactic(auto, using(rx_tree::proofs::Rules::expression_rules, rx_tree::proofs::Rules::block_rules, rx_tree::proofs::Rules::let_rules, rx_typed_tree::proofs::Rules::typed_tree_rules, rx_typeck_elaborate_parts::proofs::Listed::listed_rules))]
+#[tactic(auto, using(rx_tree::proofs::Rules::expression_rules, rx_tree::proofs::Rules::block_rules, rx_tree::proofs::Rules::let_rules, rx_typed::proofs::Rules::typed_tree_rules, rx_typeck_elaborate_parts::proofs::Listed::listed_rules))]
 pub(crate) fn block<'t>(
     walk: &mut Walk<'t>,
     span: Span,
@@ -114,7 +113,7 @@ pub(crate) fn block<'t>(
 }
 
 #[cycle(expression)]
-#[tactic(auto, using(rx_tree::proofs::Rules::expression_rules, rx_tree::proofs::Rules::block_rules, rx_tree::proofs::Rules::let_rules, rx_typed_tree::proofs::Rules::typed_tree_rules, rx_typeck_elaborate_parts::proofs::Listed::listed_rules, crate::proofs::ToldLemmas::returned_is))]
+#[tactic(auto, using(rx_tree::proofs::Rules::expression_rules, rx_tree::proofs::Rules::block_rules, rx_tree::proofs::Rules::let_rules, rx_typed::proofs::Rules::typed_tree_rules, rx_typeck_elaborate_parts::proofs::Listed::listed_rules, crate::proofs::ToldLemmas::returned_is))]
 pub(crate) fn return_at<'t>(
     walk: &mut Walk<'t>,
     span: Span,
@@ -130,7 +129,7 @@ pub(crate) fn return_at<'t>(
 }
 
 #[cycle(expression)]
-#[tactic(auto, using(rx_tree::proofs::Rules::expression_rules, rx_tree::proofs::Rules::block_rules, rx_tree::proofs::Rules::let_rules, rx_typed_tree::proofs::Rules::typed_tree_rules, rx_typeck_elaborate_parts::proofs::Listed::listed_rules))]
+#[tactic(auto, using(rx_tree::proofs::Rules::expression_rules, rx_tree::proofs::Rules::block_rules, rx_tree::proofs::Rules::let_rules, rx_typed::proofs::Rules::typed_tree_rules, rx_typeck_elaborate_parts::proofs::Listed::listed_rules))]
 pub(crate) fn if_at<'t>(
     walk: &mut Walk<'t>,
     other: &'t Option<Boxed<ExprTree>>,
@@ -152,7 +151,7 @@ pub(crate) fn if_at<'t>(
 
 /// The body of an `if`, and what follows it.
 #[cycle(expression)]
-#[tactic(auto, using(rx_tree::proofs::Rules::expression_rules, rx_tree::proofs::Rules::block_rules, rx_tree::proofs::Rules::let_rules, rx_typed_tree::proofs::Rules::typed_tree_rules, rx_typeck_elaborate_parts::proofs::Listed::listed_rules, crate::proofs::ToldLemmas::branch_site_is))]
+#[tactic(auto, using(rx_tree::proofs::Rules::expression_rules, rx_tree::proofs::Rules::block_rules, rx_tree::proofs::Rules::let_rules, rx_typed::proofs::Rules::typed_tree_rules, rx_typeck_elaborate_parts::proofs::Listed::listed_rules, crate::proofs::ToldLemmas::branch_site_is))]
 pub(crate) fn ways<'t>(
     walk: &mut Walk<'t>,
     other: &'t Option<Boxed<ExprTree>>,
@@ -173,7 +172,7 @@ pub(crate) fn ways<'t>(
 
 /// A pattern, and what is matched with it, behind which its variables are known.
 #[cycle(expression)]
-#[tactic(auto, using(rx_tree::proofs::Rules::expression_rules, rx_tree::proofs::Rules::block_rules, rx_tree::proofs::Rules::let_rules, rx_typed_tree::proofs::Rules::typed_tree_rules, rx_typeck_elaborate_parts::proofs::Listed::listed_rules))]
+#[tactic(auto, using(rx_tree::proofs::Rules::expression_rules, rx_tree::proofs::Rules::block_rules, rx_tree::proofs::Rules::let_rules, rx_typed::proofs::Rules::typed_tree_rules, rx_typeck_elaborate_parts::proofs::Listed::listed_rules))]
 pub(crate) fn tested<'t>(
     walk: &mut Walk<'t>,
     pattern: &'t PatternTree,
@@ -190,7 +189,7 @@ pub(crate) fn tested<'t>(
 }
 
 #[cycle(expression)]
-#[tactic(auto, using(rx_tree::proofs::Rules::expression_rules, rx_tree::proofs::Rules::block_rules, rx_tree::proofs::Rules::let_rules, rx_typed_tree::proofs::Rules::typed_tree_rules, rx_typeck_elaborate_parts::proofs::Listed::listed_rules))]
+#[tactic(auto, using(rx_tree::proofs::Rules::expression_rules, rx_tree::proofs::Rules::block_rules, rx_tree::proofs::Rules::let_rules, rx_typed::proofs::Rules::typed_tree_rules, rx_typeck_elaborate_parts::proofs::Listed::listed_rules))]
 pub(crate) fn if_let<'t>(
     walk: &mut Walk<'t>,
     other: &'t Option<Boxed<ExprTree>>,
@@ -211,7 +210,7 @@ pub(crate) fn if_let<'t>(
 }
 
 #[cycle(expression)]
-#[tactic(auto, using(rx_tree::proofs::Rules::expression_rules, rx_tree::proofs::Rules::block_rules, rx_tree::proofs::Rules::let_rules, rx_typed_tree::proofs::Rules::typed_tree_rules, rx_typeck_elaborate_parts::proofs::Listed::listed_rules))]
+#[tactic(auto, using(rx_tree::proofs::Rules::expression_rules, rx_tree::proofs::Rules::block_rules, rx_tree::proofs::Rules::let_rules, rx_typed::proofs::Rules::typed_tree_rules, rx_typeck_elaborate_parts::proofs::Listed::listed_rules))]
 pub(crate) fn match_at<'t>(
     walk: &mut Walk<'t>,
     span: Span,
@@ -230,7 +229,7 @@ pub(crate) fn match_at<'t>(
 }
 
 #[cycle(expression)]
-#[tactic(auto, using(rx_tree::proofs::Rules::expression_rules, rx_tree::proofs::Rules::block_rules, rx_tree::proofs::Rules::let_rules, rx_typed_tree::proofs::Rules::typed_tree_rules, rx_typeck_elaborate_parts::proofs::Listed::listed_rules))]
+#[tactic(auto, using(rx_tree::proofs::Rules::expression_rules, rx_tree::proofs::Rules::block_rules, rx_tree::proofs::Rules::let_rules, rx_typed::proofs::Rules::typed_tree_rules, rx_typeck_elaborate_parts::proofs::Listed::listed_rules))]
 pub(crate) fn arm_trees<'t>(
     walk: &mut Walk<'t>,
     site: Site,
@@ -252,7 +251,7 @@ pub(crate) fn arm_trees<'t>(
 }
 
 #[cycle(expression)]
-#[tactic(auto, using(rx_tree::proofs::Rules::expression_rules, rx_tree::proofs::Rules::block_rules, rx_tree::proofs::Rules::let_rules, rx_typed_tree::proofs::Rules::typed_tree_rules, rx_typeck_elaborate_parts::proofs::Listed::listed_rules))]
+#[tactic(auto, using(rx_tree::proofs::Rules::expression_rules, rx_tree::proofs::Rules::block_rules, rx_tree::proofs::Rules::let_rules, rx_typed::proofs::Rules::typed_tree_rules, rx_typeck_elaborate_parts::proofs::Listed::listed_rules))]
 pub(crate) fn arm_tree<'t>(
     walk: &mut Walk<'t>,
     site: Site,

@@ -7,7 +7,7 @@ ghost use Rattle.rx_typed.specs.Named as named;
 ghost use Rattle.rx_typed.specs.Naming as naming;
 ghost use Rattle.rx_typed.specs.Elaborated as elaborated;
 ghost use Rattle.rx_typed.specs.Tree as tree;
-ghost use Rattle.rx_typed_tree.specs.PlainTree.{plain-Expr, plain-Place};
+ghost use Rattle.rx_typed.specs.PlainTree.{plain-Expr, plain-Place};
 ghost use Rattle.rx_typeck_numbering.specs.Seeing.{seen_of, value_seen};
 ghost use Rattle.rx_typeck_elaborate_parts.specs.Telling as telling;
 ghost use Rattle.rx_typeck_elaborate_parts.specs.Walks as walks;
@@ -19,12 +19,11 @@ use rx_core::{LetGo, Place, Span, keep};
 use rx_tree::{BinaryOp, Expr as ExprTree, UpdateOp};
 use rx_typeck_elaborate_parts::{Walk, both, either, is_strict, own};
 use rx_typeck_numbering::{Seen, value_seen};
-use rx_typed::{Node, Site};
-use rx_typed_tree::{Expr, Making};
+use rx_typed::{Expr, Making, Node, Site};
 use std::alloc::AllocError;
 
 #[cycle(expression)]
-#[tactic(auto, using(rx_tree::proofs::Rules::expression_rules, rx_tree::proofs::Rules::block_rules, rx_tree::proofs::Rules::let_rules, rx_typed_tree::proofs::Rules::typed_tree_rules, rx_typeck_elaborate_parts::proofs::Listed::listed_rules))]
+#[tactic(auto, using(rx_tree::proofs::Rules::expression_rules, rx_tree::proofs::Rules::block_rules, rx_tree::proofs::Rules::let_rules, rx_typed::proofs::Rules::typed_tree_rules, rx_typeck_elaborate_parts::proofs::Listed::listed_rules))]
 pub(crate) fn negate<'t>(
     walk: &mut Walk<'t>,
     span: Span,
@@ -40,7 +39,7 @@ pub(crate) fn negate<'t>(
 }
 
 #[cycle(expression)]
-#[tactic(auto, using(rx_tree::proofs::Rules::expression_rules, rx_tree::proofs::Rules::block_rules, rx_tree::proofs::Rules::let_rules, rx_typed_tree::proofs::Rules::typed_tree_rules, rx_typeck_elaborate_parts::proofs::Listed::listed_rules))]
+#[tactic(auto, using(rx_tree::proofs::Rules::expression_rules, rx_tree::proofs::Rules::block_rules, rx_tree::proofs::Rules::let_rules, rx_typed::proofs::Rules::typed_tree_rules, rx_typeck_elaborate_parts::proofs::Listed::listed_rules))]
 pub(crate) fn invert<'t>(
     walk: &mut Walk<'t>,
     span: Span,
@@ -56,7 +55,7 @@ pub(crate) fn invert<'t>(
 }
 
 #[cycle(expression)]
-#[tactic(auto, using(rx_tree::proofs::Rules::expression_rules, rx_tree::proofs::Rules::block_rules, rx_tree::proofs::Rules::let_rules, rx_typed_tree::proofs::Rules::typed_tree_rules, rx_typeck_elaborate_parts::proofs::Listed::listed_rules))]
+#[tactic(auto, using(rx_tree::proofs::Rules::expression_rules, rx_tree::proofs::Rules::block_rules, rx_tree::proofs::Rules::let_rules, rx_typed::proofs::Rules::typed_tree_rules, rx_typeck_elaborate_parts::proofs::Listed::listed_rules))]
 pub(crate) fn print<'t>(
     walk: &mut Walk<'t>,
     span: Span,
@@ -72,7 +71,7 @@ pub(crate) fn print<'t>(
 }
 
 #[cycle(expression)]
-#[tactic(auto, using(rx_tree::proofs::Rules::expression_rules, rx_tree::proofs::Rules::block_rules, rx_tree::proofs::Rules::let_rules, rx_typed_tree::proofs::Rules::typed_tree_rules, rx_typeck_elaborate_parts::proofs::Listed::listed_rules))]
+#[tactic(auto, using(rx_tree::proofs::Rules::expression_rules, rx_tree::proofs::Rules::block_rules, rx_tree::proofs::Rules::let_rules, rx_typed::proofs::Rules::typed_tree_rules, rx_typeck_elaborate_parts::proofs::Listed::listed_rules))]
 pub(crate) fn borrow<'t>(
     walk: &mut Walk<'t>,
     span: Span,
@@ -90,7 +89,7 @@ pub(crate) fn borrow<'t>(
 }
 
 #[cycle(expression)]
-#[tactic(auto, using(rx_tree::proofs::Rules::expression_rules, rx_tree::proofs::Rules::block_rules, rx_tree::proofs::Rules::let_rules, rx_typed_tree::proofs::Rules::typed_tree_rules, rx_typeck_elaborate_parts::proofs::Listed::listed_rules))]
+#[tactic(auto, using(rx_tree::proofs::Rules::expression_rules, rx_tree::proofs::Rules::block_rules, rx_tree::proofs::Rules::let_rules, rx_typed::proofs::Rules::typed_tree_rules, rx_typeck_elaborate_parts::proofs::Listed::listed_rules))]
 pub(crate) fn binary<'t>(
     walk: &mut Walk<'t>,
     span: Span,
@@ -110,7 +109,7 @@ pub(crate) fn binary<'t>(
 }
 
 #[cycle(expression)]
-#[tactic(auto, using(rx_tree::proofs::Rules::expression_rules, rx_tree::proofs::Rules::block_rules, rx_tree::proofs::Rules::let_rules, rx_typed_tree::proofs::Rules::typed_tree_rules, rx_typeck_elaborate_parts::proofs::Listed::listed_rules))]
+#[tactic(auto, using(rx_tree::proofs::Rules::expression_rules, rx_tree::proofs::Rules::block_rules, rx_tree::proofs::Rules::let_rules, rx_typed::proofs::Rules::typed_tree_rules, rx_typeck_elaborate_parts::proofs::Listed::listed_rules))]
 pub(crate) fn update<'t>(
     walk: &mut Walk<'t>,
     span: Span,
@@ -132,7 +131,7 @@ pub(crate) fn update<'t>(
 }
 
 #[cycle(expression)]
-#[tactic(auto, using(rx_tree::proofs::Rules::expression_rules, rx_tree::proofs::Rules::block_rules, rx_tree::proofs::Rules::let_rules, rx_typed_tree::proofs::Rules::typed_tree_rules, rx_typeck_elaborate_parts::proofs::Listed::listed_rules))]
+#[tactic(auto, using(rx_tree::proofs::Rules::expression_rules, rx_tree::proofs::Rules::block_rules, rx_tree::proofs::Rules::let_rules, rx_typed::proofs::Rules::typed_tree_rules, rx_typeck_elaborate_parts::proofs::Listed::listed_rules))]
 pub(crate) fn assign<'t>(
     walk: &mut Walk<'t>,
     span: Span,
@@ -155,7 +154,7 @@ pub(crate) fn assign<'t>(
 
 /// An assignment before which its variable waits for its type: it gives the type, unless one in its right side did.
 #[cycle(expression)]
-#[tactic(auto, using(rx_tree::proofs::Rules::expression_rules, rx_tree::proofs::Rules::block_rules, rx_tree::proofs::Rules::let_rules, rx_typed_tree::proofs::Rules::typed_tree_rules, rx_typeck_elaborate_parts::proofs::Listed::listed_rules))]
+#[tactic(auto, using(rx_tree::proofs::Rules::expression_rules, rx_tree::proofs::Rules::block_rules, rx_tree::proofs::Rules::let_rules, rx_typed::proofs::Rules::typed_tree_rules, rx_typeck_elaborate_parts::proofs::Listed::listed_rules))]
 pub(crate) fn gives<'t>(
     walk: &mut Walk<'t>,
     node: Node,
@@ -174,7 +173,7 @@ pub(crate) fn gives<'t>(
 
 /// An assignment to a place; whether evaluating the place diverges.
 #[cycle(expression)]
-#[tactic(auto, using(rx_tree::proofs::Rules::expression_rules, rx_tree::proofs::Rules::block_rules, rx_tree::proofs::Rules::let_rules, rx_typed_tree::proofs::Rules::typed_tree_rules, rx_typeck_elaborate_parts::proofs::Listed::listed_rules))]
+#[tactic(auto, using(rx_tree::proofs::Rules::expression_rules, rx_tree::proofs::Rules::block_rules, rx_tree::proofs::Rules::let_rules, rx_typed::proofs::Rules::typed_tree_rules, rx_typeck_elaborate_parts::proofs::Listed::listed_rules))]
 pub(crate) fn assigned<'t>(
     walk: &mut Walk<'t>,
     node: Node,

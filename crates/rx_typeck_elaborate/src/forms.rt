@@ -3,7 +3,7 @@
 ghost use Rattle.rx_tree.specs.PlainOf.{plain-Expr as plain-ExprTree};
 ghost use Rattle.rx_typed.specs.Naming as naming;
 ghost use Rattle.rx_typed.specs.Elaborated as elaborated;
-ghost use Rattle.rx_typed_tree.specs.PlainTree.{plain-Expr};
+ghost use Rattle.rx_typed.specs.PlainTree.{plain-Expr};
 ghost use Rattle.rx_typeck_numbering.specs.Seeing.{seen_of};
 ghost use Rattle.rx_typeck_elaborate_parts.specs.Walks as walks;
 
@@ -15,13 +15,12 @@ use crate::walked_places::{deref_value, field_value, part_value};
 use rx_tree::{Expr as ExprTree, ExprNode};
 use rx_typeck_elaborate_parts::Walk;
 use rx_typeck_numbering::Seen;
-use rx_typed::Site;
-use rx_typed_tree::Expr;
+use rx_typed::{Expr, Site};
 use std::alloc::AllocError;
 
 /// A value: whether it stands directly under a minus, and what its place makes of it.
 #[cycle(expression)]
-#[tactic(auto, using(rx_tree::proofs::Rules::expression_rules, rx_tree::proofs::Rules::block_rules, rx_tree::proofs::Rules::let_rules, rx_typed_tree::proofs::Rules::typed_tree_rules, rx_typeck_elaborate_parts::proofs::Listed::listed_rules))]
+#[tactic(auto, using(rx_tree::proofs::Rules::expression_rules, rx_tree::proofs::Rules::block_rules, rx_tree::proofs::Rules::let_rules, rx_typed::proofs::Rules::typed_tree_rules, rx_typeck_elaborate_parts::proofs::Listed::listed_rules))]
 pub(crate) fn expression<'t>(
     walk: &mut Walk<'t>,
     minus: bool,

@@ -4,7 +4,7 @@ ghost use Rattle.std.specs.Prelude.{◌≡◌, ℕ, IfOk};
 ghost use Rattle.rx_tree.specs.PlainOf.{plain-Func, plain-Block};
 ghost use Rattle.rx_typed.specs.Naming as naming;
 ghost use Rattle.rx_typed.specs.Elaborated as elaborated;
-ghost use Rattle.rx_typed_tree.specs.PlainTree.{plain-Expr, plain-TypedTree};
+ghost use Rattle.rx_typed.specs.PlainTree.{plain-Expr, plain-TypedTree};
 ghost use Rattle.rx_typeck_elaborate_parts.specs.Assigning.{assigned};
 ghost use Rattle.rx_typeck_elaborate_parts.specs.Coercing.{types_of};
 ghost use Rattle.rx_typeck_elaborate_parts.specs.Walks as walks;
@@ -15,8 +15,7 @@ use rx_resolve_names::NodeNames;
 use rx_tree::{Block, Func};
 use rx_typeck_elaborate_parts::{Given, NodeTypes, Walk, give, has_entry};
 use rx_typeck_numbering::Cursor;
-use rx_typed::{Decls, Site};
-use rx_typed_tree::{Expr, TypedTree};
+use rx_typed::{Decls, Expr, Site, TypedTree};
 use std::alloc::{AllocError, Global};
 
 /// The typed tree of a function: from what is declared, the types of its nodes, its item's span, and the entries

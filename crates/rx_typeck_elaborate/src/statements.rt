@@ -6,7 +6,7 @@ ghost use Rattle.rx_tree.specs.Plain as plain;
 ghost use Rattle.rx_typed.specs.Named as named;
 ghost use Rattle.rx_typed.specs.Naming as naming;
 ghost use Rattle.rx_typed.specs.Elaborated as elaborated;
-ghost use Rattle.rx_typed_tree.specs.PlainTree.{plain-Expr, plain-Matched, plain-Stmt};
+ghost use Rattle.rx_typed.specs.PlainTree.{plain-Expr, plain-Matched, plain-Stmt};
 ghost use Rattle.rx_typeck_numbering.specs.Seeing.{seen_of};
 ghost use Rattle.rx_typeck_elaborate_parts.specs.Telling as telling;
 ghost use Rattle.rx_typeck_elaborate_parts.specs.Walks as walks;
@@ -23,12 +23,11 @@ use rx_typeck_elaborate_parts::{
     Declares, Ends, Walk, body_never, both, either, has_no_type, initialiser_site, jump, tests,
 };
 use rx_typeck_numbering::{Seen, value_seen};
-use rx_typed::Site;
-use rx_typed_tree::{Expr, Matched, Pattern, Stmt};
+use rx_typed::{Expr, Matched, Pattern, Site, Stmt};
 use std::alloc::AllocError;
 
 #[cycle(expression)]
-#[tactic(auto, using(rx_tree::proofs::Rules::expression_rules, rx_tree::proofs::Rules::block_rules, rx_tree::proofs::Rules::let_rules, rx_typed_tree::proofs::Rules::typed_tree_rules, rx_typeck_elaborate_parts::proofs::Listed::listed_rules))]
+#[tactic(auto, using(rx_tree::proofs::Rules::expression_rules, rx_tree::proofs::Rules::block_rules, rx_tree::proofs::Rules::let_rules, rx_typed::proofs::Rules::typed_tree_rules, rx_typeck_elaborate_parts::proofs::Listed::listed_rules))]
 pub(crate) fn loop_at<'t>(
     walk: &mut Walk<'t>,
     span: Span,
@@ -47,7 +46,7 @@ pub(crate) fn loop_at<'t>(
 }
 
 #[cycle(expression)]
-#[tactic(auto, using(rx_tree::proofs::Rules::expression_rules, rx_tree::proofs::Rules::block_rules, rx_tree::proofs::Rules::let_rules, rx_typed_tree::proofs::Rules::typed_tree_rules, rx_typeck_elaborate_parts::proofs::Listed::listed_rules))]
+#[tactic(auto, using(rx_tree::proofs::Rules::expression_rules, rx_tree::proofs::Rules::block_rules, rx_tree::proofs::Rules::let_rules, rx_typed::proofs::Rules::typed_tree_rules, rx_typeck_elaborate_parts::proofs::Listed::listed_rules))]
 pub(crate) fn while_at<'t>(
     walk: &mut Walk<'t>,
     span: Span,
@@ -71,7 +70,7 @@ pub(crate) fn while_at<'t>(
 }
 
 #[cycle(expression)]
-#[tactic(auto, using(rx_tree::proofs::Rules::expression_rules, rx_tree::proofs::Rules::block_rules, rx_tree::proofs::Rules::let_rules, rx_typed_tree::proofs::Rules::typed_tree_rules, rx_typeck_elaborate_parts::proofs::Listed::listed_rules))]
+#[tactic(auto, using(rx_tree::proofs::Rules::expression_rules, rx_tree::proofs::Rules::block_rules, rx_tree::proofs::Rules::let_rules, rx_typed::proofs::Rules::typed_tree_rules, rx_typeck_elaborate_parts::proofs::Listed::listed_rules))]
 pub(crate) fn while_let<'t>(
     walk: &mut Walk<'t>,
     span: Span,
@@ -95,7 +94,7 @@ pub(crate) fn while_let<'t>(
 
 /// A body, as a block.
 #[cycle(expression)]
-#[tactic(auto, using(rx_tree::proofs::Rules::expression_rules, rx_tree::proofs::Rules::block_rules, rx_tree::proofs::Rules::let_rules, rx_typed_tree::proofs::Rules::typed_tree_rules, rx_typeck_elaborate_parts::proofs::Listed::listed_rules, crate::proofs::ToldLemmas::body_is))]
+#[tactic(auto, using(rx_tree::proofs::Rules::expression_rules, rx_tree::proofs::Rules::block_rules, rx_tree::proofs::Rules::let_rules, rx_typed::proofs::Rules::typed_tree_rules, rx_typeck_elaborate_parts::proofs::Listed::listed_rules, crate::proofs::ToldLemmas::body_is))]
 pub(crate) fn body_tree<'t>(
     walk: &mut Walk<'t>,
     site: Site,
@@ -110,7 +109,7 @@ pub(crate) fn body_tree<'t>(
 
 /// The statements and the tail of a body.
 #[cycle(expression)]
-#[tactic(auto, using(rx_tree::proofs::Rules::expression_rules, rx_tree::proofs::Rules::block_rules, rx_tree::proofs::Rules::let_rules, rx_typed_tree::proofs::Rules::typed_tree_rules, rx_typeck_elaborate_parts::proofs::Listed::listed_rules, crate::proofs::ToldLemmas::body_never_is))]
+#[tactic(auto, using(rx_tree::proofs::Rules::expression_rules, rx_tree::proofs::Rules::block_rules, rx_tree::proofs::Rules::let_rules, rx_typed::proofs::Rules::typed_tree_rules, rx_typeck_elaborate_parts::proofs::Listed::listed_rules, crate::proofs::ToldLemmas::body_never_is))]
 pub(crate) fn body_parts<'t>(
     walk: &mut Walk<'t>,
     site: Site,
@@ -131,7 +130,7 @@ pub(crate) fn body_parts<'t>(
 
 /// Statements, and whether some diverges.
 #[cycle(expression)]
-#[tactic(auto, using(rx_tree::proofs::Rules::expression_rules, rx_tree::proofs::Rules::block_rules, rx_tree::proofs::Rules::let_rules, rx_typed_tree::proofs::Rules::typed_tree_rules, rx_typeck_elaborate_parts::proofs::Listed::listed_rules))]
+#[tactic(auto, using(rx_tree::proofs::Rules::expression_rules, rx_tree::proofs::Rules::block_rules, rx_tree::proofs::Rules::let_rules, rx_typed::proofs::Rules::typed_tree_rules, rx_typeck_elaborate_parts::proofs::Listed::listed_rules))]
 pub(crate) fn statement_trees<'t>(
     walk: &mut Walk<'t>,
     statements: &'t [StmtTree],
@@ -150,7 +149,7 @@ pub(crate) fn statement_trees<'t>(
 
 /// A statement, and whether it diverges.
 #[cycle(expression)]
-#[tactic(auto, using(rx_tree::proofs::Rules::expression_rules, rx_tree::proofs::Rules::block_rules, rx_tree::proofs::Rules::statement_rules, rx_typed_tree::proofs::Rules::typed_tree_rules, rx_typeck_elaborate_parts::proofs::Listed::listed_rules))]
+#[tactic(auto, using(rx_tree::proofs::Rules::expression_rules, rx_tree::proofs::Rules::block_rules, rx_tree::proofs::Rules::statement_rules, rx_typed::proofs::Rules::typed_tree_rules, rx_typeck_elaborate_parts::proofs::Listed::listed_rules))]
 pub(crate) fn statement_tree<'t>(
     walk: &mut Walk<'t>,
     statement: &'t StmtTree,
@@ -168,7 +167,7 @@ pub(crate) fn statement_tree<'t>(
 }
 
 #[cycle(expression)]
-#[tactic(auto, using(rx_tree::proofs::Rules::expression_rules, rx_tree::proofs::Rules::block_rules, rx_tree::proofs::Rules::let_rules, rx_typed_tree::proofs::Rules::typed_tree_rules, rx_typeck_elaborate_parts::proofs::Listed::listed_rules, rx_typeck_elaborate_parts::proofs::Stating::statement_rules))]
+#[tactic(auto, using(rx_tree::proofs::Rules::expression_rules, rx_tree::proofs::Rules::block_rules, rx_tree::proofs::Rules::let_rules, rx_typed::proofs::Rules::typed_tree_rules, rx_typeck_elaborate_parts::proofs::Listed::listed_rules, rx_typeck_elaborate_parts::proofs::Stating::statement_rules))]
 pub(crate) fn evaluates<'t>(
     walk: &mut Walk<'t>,
     span: Span,
@@ -183,7 +182,7 @@ pub(crate) fn evaluates<'t>(
 }
 
 #[cycle(expression)]
-#[tactic(auto, using(rx_tree::proofs::Rules::expression_rules, rx_tree::proofs::Rules::block_rules, rx_tree::proofs::Rules::let_rules, rx_typed_tree::proofs::Rules::typed_tree_rules, rx_typeck_elaborate_parts::proofs::Listed::listed_rules, rx_typeck_elaborate_parts::proofs::Stating::statement_rules))]
+#[tactic(auto, using(rx_tree::proofs::Rules::expression_rules, rx_tree::proofs::Rules::block_rules, rx_tree::proofs::Rules::let_rules, rx_typed::proofs::Rules::typed_tree_rules, rx_typeck_elaborate_parts::proofs::Listed::listed_rules, rx_typeck_elaborate_parts::proofs::Stating::statement_rules))]
 pub(crate) fn lets<'t>(
     walk: &mut Walk<'t>,
     span: Span,
@@ -202,7 +201,7 @@ pub(crate) fn lets<'t>(
 
 /// The pattern of a `let` and its initialiser, behind which the variables of the pattern are known.
 #[cycle(expression)]
-#[tactic(auto, using(rx_tree::proofs::Rules::expression_rules, rx_tree::proofs::Rules::block_rules, rx_tree::proofs::Rules::let_rules, rx_typed_tree::proofs::Rules::typed_tree_rules, rx_typeck_elaborate_parts::proofs::Listed::listed_rules, rx_typeck_elaborate_parts::proofs::Stating::statement_rules))]
+#[tactic(auto, using(rx_tree::proofs::Rules::expression_rules, rx_tree::proofs::Rules::block_rules, rx_tree::proofs::Rules::let_rules, rx_typed::proofs::Rules::typed_tree_rules, rx_typeck_elaborate_parts::proofs::Listed::listed_rules, rx_typeck_elaborate_parts::proofs::Stating::statement_rules))]
 pub(crate) fn let_parts<'t>(
     walk: &mut Walk<'t>,
     pattern: &'t PatternTree,
@@ -222,7 +221,7 @@ pub(crate) fn let_parts<'t>(
 
 /// The type of a `let`, where it is written, and its initialiser.
 #[cycle(expression)]
-#[tactic(auto, using(rx_tree::proofs::Rules::expression_rules, rx_tree::proofs::Rules::block_rules, rx_tree::proofs::Rules::let_rules, rx_typed_tree::proofs::Rules::typed_tree_rules, rx_typeck_elaborate_parts::proofs::Listed::listed_rules, rx_typeck_elaborate_parts::proofs::Stating::statement_rules))]
+#[tactic(auto, using(rx_tree::proofs::Rules::expression_rules, rx_tree::proofs::Rules::block_rules, rx_tree::proofs::Rules::let_rules, rx_typed::proofs::Rules::typed_tree_rules, rx_typeck_elaborate_parts::proofs::Listed::listed_rules, rx_typeck_elaborate_parts::proofs::Stating::statement_rules))]
 pub(crate) fn initialised<'t>(
     walk: &mut Walk<'t>,
     typ: &'t Option<TypeText>,

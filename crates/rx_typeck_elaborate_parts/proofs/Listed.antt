@@ -2,7 +2,7 @@
 use Rattle.std.proofs.Common.{◌≡◌, refl, ap}
 use Rattle.rx_typed.specs.Tree as tree
 use Rattle.rx_typed.specs.Tree.{Subpatterns, Operands, Arms}
-use Rattle.rx_typed_tree.specs.PlainTree.{subpatterns_of, operands_of, arms_of}
+use Rattle.rx_typed.specs.PlainTree.{subpatterns_of, operands_of, arms_of}
 use Rattle.rx_typeck_elaborate_parts.specs.Listing.{parts_listed, operands_listed, arms_listed}
 
 pub parts_of_list : (ps : Subpatterns) → subpatterns_of (parts_listed ps) ≡ ps

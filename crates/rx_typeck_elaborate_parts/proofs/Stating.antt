@@ -11,11 +11,11 @@ use Rattle.rx_typed.specs.Named.{Pattern}
 use Rattle.rx_typed.specs.Naming.{Cursor, taken, an_entry, a_node, of_pattern, of_patterns, of_field_patterns, of_optional_type, initialiser_site, has_no_type, waits_if}
 use Rattle.rx_typed.specs.Elaborated.{variables, variables_in, variables_in_fields}
 use Rattle.rx_typed.specs.Tree as tree
-use Rattle.rx_typed_tree.specs.declared.tree.Expr.{Expr}
-use Rattle.rx_typed_tree.specs.declared.tree.Pattern.{Pattern as PatternOf}
-use Rattle.rx_typed_tree.specs.declared.tree.Matched.{Matched}
-use Rattle.rx_typed_tree.specs.declared.tree.Stmt.TheVariants as stmt
-use Rattle.rx_typed_tree.specs.PlainTree.{plain-Stmt, plain-Expr, plain-Pattern, plain-Matched, stmt_runs, stmt_declares, stmt_lets}
+use Rattle.rx_typed.specs.declared.tree.Expr.{Expr}
+use Rattle.rx_typed.specs.declared.tree.Pattern.{Pattern as PatternOf}
+use Rattle.rx_typed.specs.declared.tree.Matched.{Matched}
+use Rattle.rx_typed.specs.declared.tree.Stmt.TheVariants as stmt
+use Rattle.rx_typed.specs.PlainTree.{plain-Stmt, plain-Expr, plain-Pattern, plain-Matched, stmt_runs, stmt_declares, stmt_lets}
 use Rattle.rx_typeck_elaborate_parts.specs.Declaring.{declares_of}
 use Rattle.rx_typeck_elaborate_parts.specs.Telling.{initialiser_site_of, has_no_type_of, waiting_if, numbers_from}
 

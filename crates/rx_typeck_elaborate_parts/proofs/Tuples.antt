@@ -3,8 +3,8 @@ use Rattle.std.proofs.Common.{◌≡◌, List, [], ◌∷◌, map, refl}
 use Rattle.rx_typed.specs.declared.nodes.Node.{Node}
 use Rattle.rx_typed.specs.Elaborated.{Assigned, tuple_of, mark}
 use Rattle.rx_typed.specs.Tree as tree
-use Rattle.rx_typed_tree.specs.declared.tree.Operand.{Operand}
-use Rattle.rx_typed_tree.specs.PlainTree.{plain-Operand, operands_of}
+use Rattle.rx_typed.specs.declared.tree.Operand.{Operand}
+use Rattle.rx_typed.specs.PlainTree.{plain-Operand, operands_of}
 
 pub tuple_without : (T : Assigned) (n : Node) (es : List Operand) → es ≡ [] → tuple_of T n (operands_of (map plain-Operand es)) ≡ tree.unit (mark T n)
 tuple_without T n [] e = refl

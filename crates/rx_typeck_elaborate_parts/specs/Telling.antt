@@ -13,10 +13,10 @@ use Rattle.rx_typeck_elaborate_parts.specs.declared.patterns.Declares.{Declares}
 use Rattle.rx_typed.specs.Elaborated as elaborated
 use Rattle.rx_typed.specs.Elaborated.{Assigned}
 use Rattle.rx_typed.specs.Tree as tree
-use Rattle.rx_typed_tree.specs.declared.tree.Expr.{Expr as ExprOf}
-use Rattle.rx_typed_tree.specs.declared.tree.Pattern.{Pattern as PatternOf}
-use Rattle.rx_typed_tree.specs.declared.tree.Matched.{Matched}
-use Rattle.rx_typed_tree.specs.PlainTree.{plain-Expr, plain-Pattern, plain-Matched}
+use Rattle.rx_typed.specs.declared.tree.Expr.{Expr as ExprOf}
+use Rattle.rx_typed.specs.declared.tree.Pattern.{Pattern as PatternOf}
+use Rattle.rx_typed.specs.declared.tree.Matched.{Matched}
+use Rattle.rx_typed.specs.PlainTree.{plain-Expr, plain-Pattern, plain-Matched}
 use Rattle.rx_typeck_elaborate_parts.specs.declared.told.Ends.{Ends}
 use Rattle.rx_typeck_elaborate_parts.specs.declared.told.Branch.{Branch}
 use Rattle.rx_typeck_elaborate_parts.specs.declared.told.Ways.{Ways}

@@ -6,7 +6,7 @@ ghost use Rattle.rx_tree.specs.Plain as plain;
 ghost use Rattle.rx_typed.specs.Named as named;
 ghost use Rattle.rx_typed.specs.Naming as naming;
 ghost use Rattle.rx_typed.specs.Elaborated as elaborated;
-ghost use Rattle.rx_typed_tree.specs.PlainTree.{plain-Expr, plain-Place, plain-Stmt};
+ghost use Rattle.rx_typed.specs.PlainTree.{plain-Expr, plain-Place, plain-Stmt};
 ghost use Rattle.rx_typeck_numbering.specs.Seeing.{seen_of};
 ghost use Rattle.rx_typeck_elaborate_parts.specs.Telling as telling;
 ghost use Rattle.rx_typeck_elaborate_parts.specs.Walks as walks;
@@ -20,8 +20,7 @@ use crate::walk::Walk;
 use rx_core::{Kind, LetGo, Name, Place, Span};
 use rx_tree::{Ident, Pattern as PatternTree, TypeText};
 use rx_typeck_numbering::{Seen, value_seen, variable_seen};
-use rx_typed::{Site, Stage};
-use rx_typed_tree::{Constant, Expr, Stmt};
+use rx_typed::{Constant, Expr, Site, Stage, Stmt};
 use std::alloc::AllocError;
 
 impl<'t> Walk<'t> {
@@ -126,7 +125,7 @@ impl<'t> Walk<'t> {
         }
     }
 
-    #[tactic(auto, using(rx_tree::proofs::Rules::expression_rules, rx_tree::proofs::Rules::block_rules, rx_tree::proofs::Rules::let_rules, rx_typed_tree::proofs::Rules::typed_tree_rules, crate::proofs::Listed::listed_rules, crate::proofs::Stating::statement_rules))]
+    #[tactic(auto, using(rx_tree::proofs::Rules::expression_rules, rx_tree::proofs::Rules::block_rules, rx_tree::proofs::Rules::let_rules, rx_typed::proofs::Rules::typed_tree_rules, crate::proofs::Listed::listed_rules, crate::proofs::Stating::statement_rules))]
     pub fn declares(
         &mut self,
         span: Span,

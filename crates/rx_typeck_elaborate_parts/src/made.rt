@@ -4,18 +4,17 @@ ghost use Rattle.std.specs.Prelude.{◌≡◌, [], ◌∷◌, map, Some, IfOk};
 ghost use Rattle.rx_typed.specs.Types as types;
 ghost use Rattle.rx_typed.specs.Elaborated as elaborated;
 ghost use Rattle.rx_typed.specs.Tree as tree;
-ghost use Rattle.rx_typed_tree.specs.PlainTree.{plain-Mark, plain-Place, plain-Expr, plain-Matched, plain-Making, plain-Operand, plain-Constant, plain-Pattern, plain-Arm, plain-Stmt, operands_of, arms_of, nested_of};
+ghost use Rattle.rx_typed.specs.PlainTree.{plain-Mark, plain-Place, plain-Expr, plain-Matched, plain-Making, plain-Operand, plain-Constant, plain-Pattern, plain-Arm, plain-Stmt, operands_of, arms_of, nested_of};
 ghost use Rattle.rx_typeck_elaborate_parts.specs.Coercing.{types_of};
 
 use crate::marks::{Given, no_mark, unit_mark};
 use rx_core::{Boxed, LetGo, List, Place, keep, pushed};
 use rx_tree::{BinaryOp, UpdateOp};
-use rx_typed::Node;
-use rx_typed_tree::{Arm, Constant, Expr, Form, Making, Mark, Matched, Operand, Pattern, Stmt};
+use rx_typed::{Arm, Constant, Expr, Form, Making, Mark, Matched, Node, Operand, Pattern, Stmt};
 use std::alloc::{AllocError, Global};
 
 /// The unit that a missing tail or a missing value of a `return` is.
-#[tactic(auto, using(rx_typed_tree::proofs::Rules::typed_tree_rules))]
+#[tactic(auto, using(rx_typed::proofs::Rules::typed_tree_rules))]
 pub fn end_unit(alloc: Global, node: Node) -> Expr
     ensures { plain-Expr result ≡ tree.unit (elaborated.marked node.number (Some types.unit_shape)) }
 {
@@ -26,7 +25,7 @@ pub fn end_unit(alloc: Global, node: Node) -> Expr
 }
 
 /// `break` or `continue` at a node: the loop's number, whether its next pass begins.
-#[tactic(auto, using(rx_typed_tree::proofs::Rules::typed_tree_rules))]
+#[tactic(auto, using(rx_typed::proofs::Rules::typed_tree_rules))]
 pub fn jump(node: Node, number: u32, again: bool) -> Expr
     ensures { plain-Expr result ≡ tree.jump (elaborated.no_mark node) number again }
 {
@@ -37,7 +36,7 @@ pub fn jump(node: Node, number: u32, again: bool) -> Expr
 }
 
 /// `return`, and the end of a function's body.
-#[tactic(auto, using(rx_typed_tree::proofs::Rules::typed_tree_rules))]
+#[tactic(auto, using(rx_typed::proofs::Rules::typed_tree_rules))]
 pub fn give(alloc: Global, node: Node, value: Expr) -> Result<Expr, AllocError>
     ensures { IfOk result (λ it. plain-Expr it ≡ tree.give (elaborated.no_mark node) (plain-Expr value)) }
 {
@@ -49,7 +48,7 @@ pub fn give(alloc: Global, node: Node, value: Expr) -> Result<Expr, AllocError>
 }
 
 /// What stands for a call of a variable, which the rules of types refuse.
-#[tactic(auto, using(rx_typed_tree::proofs::Rules::typed_tree_rules))]
+#[tactic(auto, using(rx_typed::proofs::Rules::typed_tree_rules))]
 pub fn nothing(node: Node) -> Expr
     ensures { plain-Expr result ≡ tree.unit (elaborated.no_mark node) }
 {
@@ -73,7 +72,7 @@ fn operator(op: UpdateOp) -> BinaryOp
 }
 
 /// Two arms: the pattern's, and that of everything else.
-#[tactic(auto, using(rx_typed_tree::proofs::Rules::typed_tree_rules, rx_typed_tree::proofs::Rules::typed_pattern_rules))]
+#[tactic(auto, using(rx_typed::proofs::Rules::typed_tree_rules, rx_typed::proofs::Rules::typed_pattern_rules))]
 fn two_arms(
     alloc: Global,
     pattern: Pattern,
@@ -95,7 +94,7 @@ fn two_arms(
 }
 
 /// What is matched is looked into: the pattern's way, or the other.
-#[tactic(auto, using(rx_typed_tree::proofs::Rules::typed_tree_rules))]
+#[tactic(auto, using(rx_typed::proofs::Rules::typed_tree_rules))]
 pub fn looks(
     alloc: Global,
     mark: Mark,
@@ -114,7 +113,7 @@ pub fn looks(
 }
 
 /// A test that holds or fails: the way where it holds, and the other.
-#[tactic(auto, using(rx_typed_tree::proofs::Rules::typed_tree_rules, rx_typed_tree::proofs::Rules::typed_pattern_rules))]
+#[tactic(auto, using(rx_typed::proofs::Rules::typed_tree_rules, rx_typed::proofs::Rules::typed_pattern_rules))]
 pub fn tests(
     alloc: Global,
     node: Node,
@@ -131,7 +130,7 @@ pub fn tests(
 
 impl<'t> Given<'t> {
     /// The unit.
-    #[tactic(auto, using(rx_typed_tree::proofs::Rules::typed_tree_rules))]
+    #[tactic(auto, using(rx_typed::proofs::Rules::typed_tree_rules))]
     pub fn unit(&self, node: Node) -> Result<Expr, AllocError>
         ensures { IfOk result (λ it. plain-Expr it ≡ tree.unit (elaborated.mark (types_of self.now) node)) }
     {
@@ -143,7 +142,7 @@ impl<'t> Given<'t> {
     }
 
     /// The next input.
-    #[tactic(auto, using(rx_typed_tree::proofs::Rules::typed_tree_rules))]
+    #[tactic(auto, using(rx_typed::proofs::Rules::typed_tree_rules))]
     pub fn input(&self, node: Node) -> Result<Expr, AllocError>
         ensures { IfOk result (λ it. plain-Expr it ≡ tree.input (elaborated.mark (types_of self.now) node)) }
     {
@@ -155,7 +154,7 @@ impl<'t> Given<'t> {
     }
 
     /// What is made of operands.
-    #[tactic(auto, using(rx_typed_tree::proofs::Rules::typed_tree_rules))]
+    #[tactic(auto, using(rx_typed::proofs::Rules::typed_tree_rules))]
     pub fn build(
         &self,
         node: Node,
@@ -179,7 +178,7 @@ impl<'t> Given<'t> {
     }
 
     /// What is made of one operand.
-    #[tactic(auto, using(rx_typed_tree::proofs::Rules::typed_tree_rules))]
+    #[tactic(auto, using(rx_typed::proofs::Rules::typed_tree_rules))]
     pub fn build_one(&self, node: Node, making: Making, value: Expr) -> Result<Expr, AllocError>
         ensures { IfOk result (λ it. plain-Expr it ≡ tree.build (elaborated.mark (types_of self.now) node) (plain-Making making) (elaborated.one_operand (plain-Expr value))) }
     {
@@ -189,7 +188,7 @@ impl<'t> Given<'t> {
     }
 
     /// What an operator makes of two operands that are both evaluated.
-    #[tactic(auto, using(rx_typed_tree::proofs::Rules::typed_tree_rules))]
+    #[tactic(auto, using(rx_typed::proofs::Rules::typed_tree_rules))]
     fn build_two(
         &self,
         node: Node,
@@ -213,7 +212,7 @@ impl<'t> Given<'t> {
     }
 
     /// `&&` with true, `||` with false.
-    #[tactic(auto, using(rx_typed_tree::proofs::Rules::typed_tree_rules))]
+    #[tactic(auto, using(rx_typed::proofs::Rules::typed_tree_rules))]
     fn lazily(&self, node: Node, both: bool, left: Expr, right: Expr) -> Result<Expr, AllocError>
         ensures { IfOk result (λ it. plain-Expr it ≡ tree.lazily (elaborated.mark (types_of self.now) node) both (plain-Expr left) (plain-Expr right)) }
     {
@@ -267,7 +266,7 @@ impl<'t> Given<'t> {
     }
 
     /// A place, borrowed.
-    #[tactic(auto, using(rx_typed_tree::proofs::Rules::typed_tree_rules))]
+    #[tactic(auto, using(rx_typed::proofs::Rules::typed_tree_rules))]
     pub fn borrow(&self, node: Node, mutable: bool, place: Place) -> Result<Expr, AllocError>
         ensures { IfOk result (λ it. plain-Expr it ≡ tree.borrow (elaborated.mark (types_of self.now) node) mutable (plain-Place place)) }
     {
@@ -279,7 +278,7 @@ impl<'t> Given<'t> {
     }
 
     /// A place that is assigned a value.
-    #[tactic(auto, using(rx_typed_tree::proofs::Rules::typed_tree_rules))]
+    #[tactic(auto, using(rx_typed::proofs::Rules::typed_tree_rules))]
     pub fn assign(&self, node: Node, place: Place, value: Expr) -> Result<Expr, AllocError>
         ensures { IfOk result (λ it. plain-Expr it ≡ tree.assign (elaborated.mark (types_of self.now) node) (plain-Place place) (plain-Expr value)) }
     {
@@ -292,7 +291,7 @@ impl<'t> Given<'t> {
     }
 
     /// `p op= e`
-    #[tactic(auto, using(rx_typed_tree::proofs::Rules::typed_tree_rules))]
+    #[tactic(auto, using(rx_typed::proofs::Rules::typed_tree_rules))]
     pub fn update(
         &self,
         node: Node,
@@ -311,7 +310,7 @@ impl<'t> Given<'t> {
     }
 
     /// A call of a function's item, with what its coercion site does to its result.
-    #[tactic(auto, using(rx_typed_tree::proofs::Rules::typed_tree_rules))]
+    #[tactic(auto, using(rx_typed::proofs::Rules::typed_tree_rules))]
     pub fn call(&self, node: Node, item: u32, operands: List<Operand>) -> Result<Expr, AllocError>
         ensures { IfOk result (λ it. plain-Expr it ≡ elaborated.value_of (types_of self.now) node (tree.call (elaborated.mark (types_of self.now) node) item (operands_of (map plain-Operand operands)))) }
     {
@@ -325,7 +324,7 @@ impl<'t> Given<'t> {
         )
     }
 
-    #[tactic(auto, using(rx_typed_tree::proofs::Rules::typed_tree_rules))]
+    #[tactic(auto, using(rx_typed::proofs::Rules::typed_tree_rules))]
     pub fn print(&self, node: Node, value: Expr) -> Result<Expr, AllocError>
         ensures { IfOk result (λ it. plain-Expr it ≡ tree.print (elaborated.mark (types_of self.now) node) (plain-Expr value)) }
     {
@@ -338,7 +337,7 @@ impl<'t> Given<'t> {
     }
 
     /// A loop that may never be left: its number, and its body.
-    #[tactic(auto, using(rx_typed_tree::proofs::Rules::typed_tree_rules))]
+    #[tactic(auto, using(rx_typed::proofs::Rules::typed_tree_rules))]
     pub fn repeated(
         &self,
         node: Node,
@@ -357,7 +356,7 @@ impl<'t> Given<'t> {
     }
 
     /// What is matched, and its arms.
-    #[tactic(auto, using(rx_typed_tree::proofs::Rules::typed_tree_rules))]
+    #[tactic(auto, using(rx_typed::proofs::Rules::typed_tree_rules))]
     pub fn choose(
         &self,
         node: Node,
@@ -375,7 +374,7 @@ impl<'t> Given<'t> {
     }
 
     /// A block.
-    #[tactic(auto, using(rx_typed_tree::proofs::Rules::typed_tree_rules))]
+    #[tactic(auto, using(rx_typed::proofs::Rules::typed_tree_rules))]
     pub fn block(
         &self,
         node: Node,

@@ -5,7 +5,7 @@ ghost use Rattle.std.specs.Option.{option_copied};
 ghost use Rattle.rx_typed.specs.Types as types;
 ghost use Rattle.rx_typed.specs.PlainTypes.{plain-Ty};
 ghost use Rattle.rx_typed.specs.Elaborated as elaborated;
-ghost use Rattle.rx_typed_tree.specs.PlainTree.{plain-Mark};
+ghost use Rattle.rx_typed.specs.PlainTree.{plain-Mark};
 ghost use Rattle.rx_typeck_elaborate_parts.specs.Assigning.{shape_of};
 ghost use Rattle.rx_typeck_elaborate_parts.specs.Coercing as coercing;
 ghost use Rattle.rx_typeck_elaborate_parts.specs.Coercing.{plain-Coercion, types_of};
@@ -15,8 +15,7 @@ use crate::copying::copied;
 use crate::dereferenced::reference_of;
 use crate::looked_up::copies;
 use rx_core::{Boxed, List, Ty};
-use rx_typed::{Decls, Node, Site};
-use rx_typed_tree::Mark;
+use rx_typed::{Decls, Mark, Node, Site};
 use std::alloc::{AllocError, Global};
 
 /// What a coercion site does to a value (Rust Reference, "Coercion types").

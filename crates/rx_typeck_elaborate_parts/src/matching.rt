@@ -4,19 +4,18 @@ ghost use Rattle.std.specs.Prelude.{◌≡◌, IfOk};
 ghost use Rattle.rx_typed.specs.PlainTypes.{plain-Ty};
 ghost use Rattle.rx_typed.specs.Elaborated as elaborated;
 ghost use Rattle.rx_typed.specs.Tree as tree;
-ghost use Rattle.rx_typed_tree.specs.PlainTree.{plain-Pattern, plain-Constant, plain-Mode};
+ghost use Rattle.rx_typed.specs.PlainTree.{plain-Pattern, plain-Constant, plain-Mode};
 ghost use Rattle.rx_typeck_elaborate_parts.specs.Coercing.{types_of};
 
 use crate::dereferenced::met;
 use crate::marks::Given;
 use rx_core::{Boxed, Ty};
-use rx_typed::Node;
-use rx_typed_tree::{Constant, Mode, Pattern};
+use rx_typed::{Constant, Mode, Node, Pattern};
 use std::alloc::{AllocError, Global};
 
 /// A pattern behind all references of a type.
 #[cycle(behind)]
-#[tactic(auto, using(rx_typed::proofs::Rules::typ_rules, rx_typed_tree::proofs::Rules::typed_pattern_rules))]
+#[tactic(auto, using(rx_typed::proofs::Rules::typ_rules, rx_typed::proofs::Rules::typed_pattern_rules))]
 fn behind(alloc: Global, ty: &Ty, pattern: Pattern) -> Result<Pattern, AllocError>
     ensures { IfOk result (λ it. plain-Pattern it ≡ elaborated.behind_all (plain-Ty ty.now) (plain-Pattern pattern)) }
 {
@@ -62,7 +61,7 @@ impl<'t> Given<'t> {
     }
 
     /// A constant pattern at a node.
-    #[tactic(auto, using(rx_typed_tree::proofs::Rules::typed_pattern_rules))]
+    #[tactic(auto, using(rx_typed::proofs::Rules::typed_pattern_rules))]
     pub fn exactly(&self, node: Node, constant: Constant) -> Result<Pattern, AllocError>
         ensures { IfOk result (λ it. plain-Pattern it ≡ elaborated.behind_all ((types_of self.now).typ node.number) (tree.exactly node.number (plain-Constant constant))) }
     {

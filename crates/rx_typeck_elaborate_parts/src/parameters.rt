@@ -5,14 +5,13 @@ ghost use Rattle.rx_tree.specs.PlainOf.{plain-Func, plain-Param as plain-ParamTr
 ghost use Rattle.rx_typed.specs.Named as named;
 ghost use Rattle.rx_typed.specs.Naming as naming;
 ghost use Rattle.rx_typed.specs.Elaborated as elaborated;
-ghost use Rattle.rx_typed_tree.specs.PlainTree.{plain-Param};
+ghost use Rattle.rx_typed.specs.PlainTree.{plain-Param};
 ghost use Rattle.rx_typeck_elaborate_parts.specs.Walks as walks;
 
 use crate::walk::Walk;
 use rx_core::{List, keep, pushed};
 use rx_tree::{BoundLifetime, Func, Param as ParamTree};
-use rx_typed::{Declaration, Stage};
-use rx_typed_tree::Param;
+use rx_typed::{Declaration, Param, Stage};
 use std::alloc::AllocError;
 
 /// Whether a lifetime is declared with bounds.

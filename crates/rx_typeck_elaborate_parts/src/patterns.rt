@@ -6,7 +6,7 @@ ghost use Rattle.rx_tree.specs.Plain as plain;
 ghost use Rattle.rx_typed.specs.Naming as naming;
 ghost use Rattle.rx_typed.specs.Types as types;
 ghost use Rattle.rx_typed.specs.Elaborated as elaborated;
-ghost use Rattle.rx_typed_tree.specs.PlainTree.{plain-Pattern, plain-Subpattern};
+ghost use Rattle.rx_typed.specs.PlainTree.{plain-Pattern, plain-Subpattern};
 ghost use Rattle.rx_typeck_elaborate_parts.specs.Listing.{parts_listed};
 ghost use Rattle.rx_typeck_elaborate_parts.specs.Declaring.{declares_of};
 ghost use Rattle.rx_typeck_elaborate_parts.specs.Walks as walks;
@@ -17,8 +17,7 @@ use crate::matching::mode_of;
 use crate::walk::Walk;
 use rx_core::{Kind, List, Span, keep, pushed};
 use rx_tree::{FieldPattern, Ident, Pattern as PatternTree, PatternNode};
-use rx_typed::{Declaration, Node, Site, Stage};
-use rx_typed_tree::{Constant, Pattern, Subpattern};
+use rx_typed::{Constant, Declaration, Node, Pattern, Site, Stage, Subpattern};
 use std::alloc::AllocError;
 
 /// What is told of a pattern: its node, and its variable where the whole pattern is one.
@@ -29,7 +28,7 @@ pub struct Declares {
 }
 
 impl<'t> Walk<'t> {
-    #[tactic(auto, using(rx_typed_tree::proofs::Rules::typed_pattern_rules))]
+    #[tactic(auto, using(rx_typed::proofs::Rules::typed_pattern_rules))]
     fn wild(&mut self, span: Span) -> Result<(Pattern, Declares), AllocError>
         ensures { walks.Tells plain-Pattern (naming.of_pattern (plain.wild span)) (λ t. elaborated.pattern t None) declares_of self.old result self.new }
     {
@@ -38,7 +37,7 @@ impl<'t> Walk<'t> {
         Ok((Pattern::Any, Declares { node, variable }))
     }
 
-    #[tactic(auto, using(rx_typed_tree::proofs::Rules::typed_pattern_rules))]
+    #[tactic(auto, using(rx_typed::proofs::Rules::typed_pattern_rules))]
     fn binding(
         &mut self,
         round: Option<bool>,
@@ -113,7 +112,7 @@ impl<'t> Walk<'t> {
     }
 
     #[cycle(pattern)]
-    #[tactic(auto, using(rx_typed_tree::proofs::Rules::typed_pattern_rules, crate::proofs::Listed::listed_rules))]
+    #[tactic(auto, using(rx_typed::proofs::Rules::typed_pattern_rules, crate::proofs::Listed::listed_rules))]
     fn tuple_pattern(
         &mut self,
         round: Option<bool>,
@@ -131,7 +130,7 @@ impl<'t> Walk<'t> {
     }
 
     #[cycle(pattern)]
-    #[tactic(auto, using(rx_typed_tree::proofs::Rules::typed_pattern_rules, crate::proofs::Listed::listed_rules, crate::proofs::References::assigned_rules))]
+    #[tactic(auto, using(rx_typed::proofs::Rules::typed_pattern_rules, crate::proofs::Listed::listed_rules, crate::proofs::References::assigned_rules))]
     fn variant_pattern(
         &mut self,
         round: Option<bool>,
@@ -154,7 +153,7 @@ impl<'t> Walk<'t> {
     }
 
     #[cycle(pattern)]
-    #[tactic(auto, using(rx_typed_tree::proofs::Rules::typed_pattern_rules, crate::proofs::Listed::listed_rules))]
+    #[tactic(auto, using(rx_typed::proofs::Rules::typed_pattern_rules, crate::proofs::Listed::listed_rules))]
     fn struct_pattern(
         &mut self,
         round: Option<bool>,
@@ -175,7 +174,7 @@ impl<'t> Walk<'t> {
 
     /// Parts in order, from field 0 on.
     #[cycle(pattern)]
-    #[tactic(auto, using(rx_tree::proofs::Rules::pattern_rules, rx_typed_tree::proofs::Rules::typed_pattern_rules))]
+    #[tactic(auto, using(rx_tree::proofs::Rules::pattern_rules, rx_typed::proofs::Rules::typed_pattern_rules))]
     fn parts(
         &mut self,
         round: Option<bool>,
@@ -192,7 +191,7 @@ impl<'t> Walk<'t> {
     }
 
     #[cycle(pattern)]
-    #[tactic(auto, using(rx_typed_tree::proofs::Rules::typed_pattern_rules))]
+    #[tactic(auto, using(rx_typed::proofs::Rules::typed_pattern_rules))]
     fn part(
         &mut self,
         round: Option<bool>,
@@ -207,7 +206,7 @@ impl<'t> Walk<'t> {
 
     /// Parts by the names of a struct's fields.
     #[cycle(pattern)]
-    #[tactic(auto, using(rx_tree::proofs::Rules::pattern_rules, rx_typed_tree::proofs::Rules::typed_pattern_rules))]
+    #[tactic(auto, using(rx_tree::proofs::Rules::pattern_rules, rx_typed::proofs::Rules::typed_pattern_rules))]
     fn field_patterns(
         &mut self,
         round: Option<bool>,
@@ -225,7 +224,7 @@ impl<'t> Walk<'t> {
     }
 
     #[cycle(pattern)]
-    #[tactic(auto, using(rx_tree::proofs::Rules::pattern_rules, rx_typed_tree::proofs::Rules::typed_pattern_rules, crate::proofs::References::assigned_rules))]
+    #[tactic(auto, using(rx_tree::proofs::Rules::pattern_rules, rx_typed::proofs::Rules::typed_pattern_rules, crate::proofs::References::assigned_rules))]
     fn field_pattern(
         &mut self,
         round: Option<bool>,

@@ -3,7 +3,7 @@
 ghost use Rattle.std.specs.Prelude.{◌≡◌, IfOk};
 ghost use Rattle.rx_typed.specs.Elaborated as elaborated;
 ghost use Rattle.rx_typed.specs.Tree as tree;
-ghost use Rattle.rx_typed_tree.specs.PlainTree.{plain-Place};
+ghost use Rattle.rx_typed.specs.PlainTree.{plain-Place};
 ghost use Rattle.rx_typeck_elaborate_parts.specs.Coercing.{types_of};
 ghost use Rattle.rx_typeck_elaborate_parts.specs.Reaching as reaching;
 

@@ -4,14 +4,13 @@ ghost use Rattle.std.specs.Prelude.{◌≡◌, [], ◌∷◌, true, IfOk};
 ghost use Rattle.rx_core.specs.declared.types.Step.TheVariants as step;
 ghost use Rattle.rx_typed.specs.Elaborated as elaborated;
 ghost use Rattle.rx_typed.specs.Tree as tree;
-ghost use Rattle.rx_typed_tree.specs.PlainTree.{plain-Mark, plain-Place, plain-Expr, plain-Matched};
+ghost use Rattle.rx_typed.specs.PlainTree.{plain-Mark, plain-Place, plain-Expr, plain-Matched};
 ghost use Rattle.rx_typeck_elaborate_parts.specs.Coercing as coercing;
 ghost use Rattle.rx_typeck_elaborate_parts.specs.Coercing.{plain-Coercion, types_of};
 
 use crate::marks::{Coercion, Given};
 use rx_core::{Boxed, List, Place, Step, keep};
-use rx_typed::Node;
-use rx_typed_tree::{Expr, Form, Making, Mark, Matched, Operand};
+use rx_typed::{Expr, Form, Making, Mark, Matched, Node, Operand};
 use std::alloc::{AllocError, Global};
 
 /// A variable.
@@ -38,7 +37,7 @@ fn referred(place: Place) -> Result<Place, AllocError>
 
 impl<'t> Given<'t> {
     /// A place, borrowed.
-    #[tactic(auto, using(rx_typed_tree::proofs::Rules::typed_tree_rules))]
+    #[tactic(auto, using(rx_typed::proofs::Rules::typed_tree_rules))]
     fn borrowed(&self, mark: Mark, mutable: bool, place: Place) -> Result<Expr, AllocError>
         ensures { IfOk result (λ it. plain-Expr it ≡ tree.borrow (plain-Mark mark) mutable (tree.under (plain-Place place) (step.Deref true ∷ []))) }
     {
@@ -50,7 +49,7 @@ impl<'t> Given<'t> {
     }
 
     /// A place as a value, with what its coercion site does to it.
-    #[tactic(auto, using(rx_typed_tree::proofs::Rules::typed_tree_rules))]
+    #[tactic(auto, using(rx_typed::proofs::Rules::typed_tree_rules))]
     fn read_as(&self, node: Node, coercion: Coercion, place: Place) -> Result<Expr, AllocError>
         ensures { IfOk result (λ it. plain-Expr it ≡ elaborated.read_as (types_of self.now) node (plain-Coercion coercion) (plain-Place place)) }
     {
@@ -81,7 +80,7 @@ impl<'t> Given<'t> {
     }
 
     /// A value that is no place, with what its coercion site does to it.
-    #[tactic(auto, using(rx_typed_tree::proofs::Rules::typed_tree_rules))]
+    #[tactic(auto, using(rx_typed::proofs::Rules::typed_tree_rules))]
     pub fn value_of(&self, node: Node, value: Expr) -> Result<Expr, AllocError>
         ensures { IfOk result (λ it. plain-Expr it ≡ elaborated.value_of (types_of self.now) node (plain-Expr value)) }
     {
@@ -99,7 +98,7 @@ impl<'t> Given<'t> {
     }
 
     /// A place that is matched stays one where it isn't coerced.
-    #[tactic(auto, using(rx_typed_tree::proofs::Rules::typed_tree_rules))]
+    #[tactic(auto, using(rx_typed::proofs::Rules::typed_tree_rules))]
     pub fn place_matched(&self, node: Node, place: Place) -> Result<Matched, AllocError>
         ensures { IfOk result (λ it. plain-Matched it ≡ coercing.place_matched (types_of self.now) node (plain-Place place)) }
     {

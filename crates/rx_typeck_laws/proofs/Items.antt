@@ -9,8 +9,8 @@ use Rattle.rx_tree.specs.Plain.{Structure, Enumeration, ItemTree, ProgramTree}
 use Rattle.rx_tree.specs.Positions.{NodeTree}
 use Rattle.rx_tree.specs.Nodes.{nodes, total, below_item}
 use Rattle.rx_tree.specs.Size.{item_lifetimes, lifetimes_at as lifetimes_counted, IsNumbered}
-use Rattle.rx_resolve_scope.specs.declared.table.Known.{Known}
-use Rattle.rx_resolve_scope.specs.Scopes.{Declared, declared_as}
+use Rattle.rx_resolve_names.specs.declared.table.Known.{Known}
+use Rattle.rx_resolve_names.specs.Scopes.{Declared, declared_as}
 use Rattle.rx_resolve_names.specs.declared.resolved.ItemNames.{ItemNames}
 use Rattle.rx_resolve_names.specs.declared.resolved.NodeNames.{NodeNames}
 use Rattle.rx_resolve_names.specs.Meant.{number, type_name, item_named, has_name, as_type, number_in, firsts, kept}

@@ -6,7 +6,7 @@ use Rattle.rx_core.specs.declared.types.Ty.{Ty}
 use Rattle.rx_tree.specs.declared.tree.Ident.{Ident}
 use Rattle.rx_tree.specs.declared.tree.BoundLifetime.{BoundLifetime}
 use Rattle.rx_tree.specs.Plain.{Parameter, Function}
-use Rattle.rx_resolve_scope.specs.Scopes.{Declared, Variables}
+use Rattle.rx_resolve_names.specs.Scopes.{Declared, Variables}
 use Rattle.rx_resolve_names.specs.declared.resolved.ItemNames.{ItemNames}
 use Rattle.rx_resolve_names.specs.declared.resolved.NodeNames.{NodeNames}
 use Rattle.rx_resolve_names.specs.Meant.{number, Around}

@@ -16,11 +16,11 @@ use Rattle.rx_typed.specs.Naming.{function_named, function_spans, function_varia
 use Rattle.rx_typed.specs.Named as named
 use Rattle.rx_typed.specs.Tree as tree
 use Rattle.rx_typed.specs.Elaborated.{elaborated}
-use Rattle.rx_typed_tree.specs.PlainTree.{plain-TypedTree}
+use Rattle.rx_typed.specs.PlainTree.{plain-TypedTree}
 use Rattle.rx_typed_declarations.specs.Sizes.{IsSizes}
 use Rattle.rx_typeck_declare.specs.Programs.{Declares}
-use Rattle.rx_typeck_let_types.specs.Bindings.{annotated}
-use Rattle.rx_typeck_let_types.specs.Walks.{plain-Variable}
+use Rattle.rx_typeck_typed.specs.Bindings.{annotated}
+use Rattle.rx_typeck_typed.specs.Walks.{plain-Variable}
 use Rattle.rx_typeck_solver.specs.declared.facts.Subject.{Subject}
 use Rattle.rx_typeck_solver.specs.Facts.{Types, Known}
 use Rattle.rx_typeck_solver.specs.Stepping.{known}

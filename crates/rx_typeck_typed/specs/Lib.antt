@@ -1,2 +1,4 @@
+pub mod Bindings
+pub mod Walks
 pub mod Typing
 pub mod Alike

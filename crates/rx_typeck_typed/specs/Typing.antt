@@ -17,7 +17,7 @@ use Rattle.rx_typed.specs.Regions.{region-Ty}
 use Rattle.rx_typed.specs.Named.{Function}
 use Rattle.rx_typed.specs.Naming.{function_named, function_spans, function_variables, function_annotations}
 use Rattle.rx_typed.specs.Elaborated.{Assigned, Coercion, coercion, elaborated}
-use Rattle.rx_typed_tree.specs.PlainTree.{plain-TypedTree}
+use Rattle.rx_typed.specs.PlainTree.{plain-TypedTree}
 use Rattle.rx_typed_declarations.specs.Sizes.{IsSizes}
 use Rattle.rx_typed_declarations.specs.WellFormed.{WellFormed}
 use Rattle.rx_typed_declarations.specs.Variance.{Recorded, unrecorded}
@@ -25,9 +25,9 @@ use Rattle.rx_typeck_elaborate_parts.specs.Assigning.{joined, shape_of}
 use Rattle.rx_typeck_declare.specs.declared.fault.DeclareFault.{DeclareFault}
 use Rattle.rx_typeck_declare.specs.declared.fault.DeclareFault.TheVariants as declare_fault
 use Rattle.rx_typeck_declare.specs.Programs.{Declares, Wrong}
-use Rattle.rx_typeck_let_types.specs.declared.variables.AnnotatedVariable.{AnnotatedVariable}
-use Rattle.rx_typeck_let_types.specs.Bindings.{annotated}
-use Rattle.rx_typeck_let_types.specs.Walks.{plain-Variable}
+use Rattle.rx_typeck_typed.specs.declared.variables.AnnotatedVariable.{AnnotatedVariable}
+use Rattle.rx_typeck_typed.specs.Bindings.{annotated}
+use Rattle.rx_typeck_typed.specs.Walks.{plain-Variable}
 use Rattle.rx_typeck_solver.specs.declared.facts.Rule.{Rule}
 use Rattle.rx_typeck_solver.specs.declared.facts.Subject.{Subject}
 use Rattle.rx_typeck_solver.specs.declared.facts.Subject.TheVariants as subject

@@ -1,11 +1,10 @@
 //! A program whose types are known, and what is wrong with the types of one.
 
+use crate::AnnotatedVariable;
 use rx_core::{LetGo, List, Span, Ty};
 use rx_typeck_elaborate_parts::NodeTypes;
-use rx_typeck_let_types::AnnotatedVariable;
 use rx_typeck_solver::Rule;
-use rx_typed::Decls;
-use rx_typed_tree::TypedTree;
+use rx_typed::{Decls, TypedTree};
 
 /// A program with its types.
 #[derive(Drop)]

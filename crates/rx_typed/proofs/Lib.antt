@@ -1,3 +1,4 @@
-pub mod Rules
+pub mod TypedRules
 pub mod Items
 mod Numbering
+pub mod Rules

@@ -7,3 +7,4 @@ pub mod Places
 pub mod Elaborated
 pub mod Regions
 pub mod Numbers
+pub mod PlainTree

@@ -9,7 +9,7 @@ use rx_core::Ty;
 
 /// Whether a type is Copy (Rust Reference, "Special types and traits", "Copy"). A number of no struct or enum is not.
 #[cycle(copies)]
-#[tactic(auto, using(crate::proofs::Rules::typ_rules))]
+#[tactic(auto, using(crate::proofs::TypedRules::typ_rules))]
 pub fn is_copy(ty: &Ty, decls: &Decls) -> bool
     ensures { result ≡ types.copies (declarations decls.now.items) (plain-Ty ty.now) }
 {

@@ -1,6 +1,6 @@
-//! How declarations are let go.
+//! How typed trees are let go. Their drops are proved here alone, so no crate above drops one.
 
-use crate::declarations::{Decl, FieldDecl, Polarity, VariantDecl};
+use crate::tree::{Arm, Expr, Mark, Matched, Operand, Param, Pattern, Stmt, Subpattern, TypedTree};
 use rx_core::LetGo;
 
 /// Lets a value of any type go. A check sees nothing of its parts here, so each type's drop is proved once.
@@ -8,24 +8,60 @@ fn gone<T: Drop>(held: T) {
     let _gone = held;
 }
 
-impl LetGo for Decl {
+impl LetGo for Mark {
     fn let_go(self) {
         gone(self);
     }
 }
 
-impl LetGo for FieldDecl {
+impl LetGo for Pattern {
     fn let_go(self) {
         gone(self);
     }
 }
 
-impl LetGo for VariantDecl {
+impl LetGo for Subpattern {
     fn let_go(self) {
         gone(self);
     }
 }
 
-impl LetGo for Polarity {
+impl LetGo for Expr {
+    fn let_go(self) {
+        gone(self);
+    }
+}
+
+impl LetGo for Operand {
+    fn let_go(self) {
+        gone(self);
+    }
+}
+
+impl LetGo for Matched {
+    fn let_go(self) {
+        gone(self);
+    }
+}
+
+impl LetGo for Arm {
+    fn let_go(self) {
+        gone(self);
+    }
+}
+
+impl LetGo for Stmt {
+    fn let_go(self) {
+        gone(self);
+    }
+}
+
+impl LetGo for TypedTree {
+    fn let_go(self) {
+        gone(self);
+    }
+}
+
+impl LetGo for Param {
     fn let_go(self) {}
 }

@@ -2,8 +2,8 @@
 use Rattle.std.proofs.Common.{◌≡◌, ◌≤◌, ◌++◌, [], map, sym, ap, ◌∙◌, subst, arith}
 use denote.Param.Weighed.{most}
 use Rattle.rx_typed.specs.Tree.{block, ends}
-use Rattle.rx_typed_tree.proofs.tree.Stmt.TheLaws as stmt
-use Rattle.rx_typed_tree.specs.PlainTree.{plain-Operand, plain-Arm, plain-Expr, plain-Mark, operands_of, arms_of}
+use Rattle.rx_typed.proofs.tree.Stmt.TheLaws as stmt
+use Rattle.rx_typed.specs.PlainTree.{plain-Operand, plain-Arm, plain-Expr, plain-Mark, operands_of, arms_of}
 use Rattle.rx_exits_plan.specs.PlainPlan.{plain-Run}
 use Rattle.rx_exits_marks.specs.Blocks.{before}
 use Rattle.rx_exits_marks.specs.Changed.{changed, changed_statement}

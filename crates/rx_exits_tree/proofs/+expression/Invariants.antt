@@ -1,6 +1,6 @@
 -- The copies so far are those of the elements so far.
 use Rattle.std.proofs.Common.{◌≡◌, ◌++◌, map, take}
-use Rattle.rx_typed_tree.specs.PlainTree.{plain-Operand, plain-Arm}
+use Rattle.rx_typed.specs.PlainTree.{plain-Operand, plain-Arm}
 use Rattle.rx_exits_marks.specs.Changed.{changed, changed_statement}
 use Rattle.rx_exits_tree.specs.Changing.{changes_of}
 use Rattle.rx_exits_tree.specs.Shapes.{plain-Statement}

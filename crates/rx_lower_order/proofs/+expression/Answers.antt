@@ -1,5 +1,5 @@
 use Rattle.std.proofs.Common.{◌++◌, [], map, ap, ◌∙◌}
-use Rattle.rx_typed_tree.specs.PlainTree.{plain-Pattern}
+use Rattle.rx_typed.specs.PlainTree.{plain-Pattern}
 use Rattle.rx_lower_walks.specs.Matching.{tests}
 use Rattle.rx_lower_flow.specs.PlainFlow.{plain-Item, plain-Temporary}
 use Rattle.rx_lower_order_parts.specs.Items.{test_items}

@@ -1,7 +1,7 @@
 -- The invariants of the loops: the order of what is made, and what is left of the list behind it, is the order of the whole.
 use Rattle.std.proofs.Common.{◌≡◌, map, drop}
 use Rattle.rx_typed.specs.Tree.{Exp, Temporary}
-use Rattle.rx_typed_tree.specs.PlainTree.{plain-Operand, plain-Arm, plain-Stmt, operands_of, arms_of, nested_of}
+use Rattle.rx_typed.specs.PlainTree.{plain-Operand, plain-Arm, plain-Stmt, operands_of, arms_of, nested_of}
 use Rattle.rx_lower_walks.specs.Orders.{order_all, order_arms, order_body}
 use Rattle.rx_lower_flow.specs.PlainFlow.{plain-Item, plain-Temporary}
 use Rattle.rx_lower_order_parts.specs.Items.{ordered}

@@ -9,8 +9,8 @@ ghost use Rattle.rx_facts.specs.Answers.{AreGraphs, AreFacts};
 
 use rx_core::{LetGo, List, Place as Kept, Span, Step};
 use rx_facts::{InitFault, Lowered, ProgramFacts, facts, lower_all};
+use rx_facts_init::Frame;
 use rx_facts_live::LiveTable;
-use rx_facts_parts::Frame;
 use rx_lower::trimmed;
 use rx_lower_flow::{Place, Root, Temporary};
 use rx_parse::{parse, parsed_programs_are_numbered};

@@ -14,7 +14,7 @@ use rx_exits_syntax::Home;
 use rx_exits_tree::marked;
 use rx_lower_order::flow_of;
 use rx_typeck_typed::TypedFn;
-use rx_typed_tree::{Expr, Form, TypedTree};
+use rx_typed::{Expr, Form, TypedTree};
 use std::alloc::{AllocError, Global};
 
 /// How many runs have a plan, how many a variable that is neither set nor unset for sure, how many one that is there in part, and

@@ -6,7 +6,7 @@ use rx_core::LetGo;
 use rx_lower_emit::{Site, graph};
 use rx_lower_flow::Flow;
 use rx_lower_order::flow_of;
-use rx_typed_tree::TypedTree;
+use rx_typed::TypedTree;
 use std::alloc::{AllocError, Global};
 
 /// The actions of a path as a text, and its last site.

@@ -12,7 +12,7 @@ use rx_resolve::resolve;
 use rx_tree::Program;
 use rx_typeck::typecheck;
 use rx_typeck_typed::Typed;
-use rx_typed_tree::{Making, TypedTree};
+use rx_typed::{Making, TypedTree};
 use std::alloc::{AllocError, Global};
 
 /// The graph of a function: its order of actions as a flow, and the sites of that flow.

@@ -8,7 +8,7 @@ use Rattle.rx_tree.specs.PlainOf.{plain-Expr, plain-FieldExpr, plain-Arm, plain-
 use Rattle.rx_typed.specs.Named.{any_diverges, any_field_diverges, all_never, all_diverge, some_diverges}
 use Rattle.rx_typed.specs.Naming as naming
 use Rattle.rx_typed.specs.Elaborated.{operands, fields, arms}
-use Rattle.rx_typed_tree.specs.PlainTree as typed
+use Rattle.rx_typed.specs.PlainTree as typed
 use Rattle.rx_typeck_elaborate_parts.specs.Coercing.{types_of}
 use Rattle.rx_typeck_elaborate_parts.specs.Listing.{operands_listed, arms_listed}
 use Rattle.rx_typeck_elaborate_parts.specs.Telling.{statements_listed}

@@ -1,5 +1,5 @@
 use Rattle.std.proofs.Common.{[], ◌∷◌, ◌++◌, ◌∙◌, sym, ap, map, drop, ◌+◌}
-use Rattle.rx_typed_tree.specs.PlainTree.{plain-Pattern, plain-Arm, arms_of}
+use Rattle.rx_typed.specs.PlainTree.{plain-Pattern, plain-Arm, arms_of}
 use Rattle.rx_cover.specs.Choices.{patterns_of}
 use Rattle.rx_cover.specs.Matrices.{single_rows}
 use Rattle.rx_cover.specs.PlainCells.{plain-Row}

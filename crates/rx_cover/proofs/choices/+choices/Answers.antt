@@ -1,5 +1,5 @@
 use Rattle.std.proofs.Common.{◌∙◌, sym, ap, map, drop, ◌+◌, ◌++◌}
-use Rattle.rx_typed_tree.specs.PlainTree.{plain-Expr, plain-Arm, plain-Operand, plain-Stmt, plain-Matched, arms_of, operands_of}
+use Rattle.rx_typed.specs.PlainTree.{plain-Expr, plain-Arm, plain-Operand, plain-Stmt, plain-Matched, arms_of, operands_of}
 use Rattle.rx_cover.specs.Choices.{choices_of, choices_before, choices_behind, choices_among}
 use Rattle.rx_cover.specs.PlainChoices.{plain-Choice, plain-Type, stmts_choices}
 use Rattle.rx_cover.proofs.ChoiceLemmas.{arms_next, operands_next, found_more, on_more, joined_more, choice_behind, lazily_is, block_is, choose_is, lets_is}

@@ -1,5 +1,5 @@
 use Rattle.std.proofs.Common.{◌≡◌, ◌++◌, map, drop}
-use Rattle.rx_typed_tree.specs.PlainTree.{plain-Operand, plain-Arm, plain-Stmt, operands_of, arms_of}
+use Rattle.rx_typed.specs.PlainTree.{plain-Operand, plain-Arm, plain-Stmt, operands_of, arms_of}
 use Rattle.rx_cover.specs.Choices.{choices_among, choices_behind}
 use Rattle.rx_cover.specs.PlainChoices.{plain-Choice, stmts_choices}
 use Rattle.rx_cover.proofs.choices.+choices.Given as goal

@@ -1,6 +1,6 @@
 use Rattle.std.proofs.Common.{subst}
 use Rattle.rx_typed.specs.PlainTypes.{declarations}
-use Rattle.rx_typed_tree.specs.PlainTree.{plain-Expr}
+use Rattle.rx_typed.specs.PlainTree.{plain-Expr}
 use Rattle.rx_cover.specs.Choices.{choices_of}
 use Rattle.rx_cover.specs.Judging.{Told}
 use Rattle.rx_cover.proofs.covering.covers.Goals as goal

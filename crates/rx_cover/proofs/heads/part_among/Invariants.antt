@@ -1,5 +1,5 @@
 use Rattle.std.proofs.Common.{◌≡◌, map, drop}
-use Rattle.rx_typed_tree.specs.PlainTree.{plain-Subpattern, subpatterns_of}
+use Rattle.rx_typed.specs.PlainTree.{plain-Subpattern, subpatterns_of}
 use Rattle.rx_cover.specs.Matching.{part_of}
 use Rattle.rx_cover.proofs.heads.part_among.Given as goal
 

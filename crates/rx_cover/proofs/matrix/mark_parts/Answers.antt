@@ -1,5 +1,5 @@
 use Rattle.std.proofs.Common.{◌∙◌, sym, ap, map, drop, ◌+◌}
-use Rattle.rx_typed_tree.specs.PlainTree.{plain-Subpattern, subpatterns_of}
+use Rattle.rx_typed.specs.PlainTree.{plain-Subpattern, subpatterns_of}
 use Rattle.rx_cover.specs.Matrices.{mark_parts, mark_one}
 use Rattle.rx_cover.proofs.CellLemmas.{mark_next}
 use Rattle.rx_cover.proofs.matrix.mark_parts.Goals as goal

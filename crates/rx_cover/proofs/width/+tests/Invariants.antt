@@ -1,5 +1,5 @@
 use Rattle.std.proofs.Common.{◌≡◌, map, drop}
-use Rattle.rx_typed_tree.specs.PlainTree.{plain-Subpattern, subpatterns_of}
+use Rattle.rx_typed.specs.PlainTree.{plain-Subpattern, subpatterns_of}
 use Rattle.rx_cover.specs.Width.{with_tests, tests_among}
 use Rattle.rx_cover.specs.PlainTested.{plain-Tested}
 use Rattle.rx_cover.proofs.width.+tests.Given as goal

@@ -1,5 +1,5 @@
 use Rattle.std.proofs.Common.{◌∙◌, ap, sym, map, drop, ◌+◌}
-use Rattle.rx_typed_tree.specs.PlainTree.{plain-Arm, arms_of}
+use Rattle.rx_typed.specs.PlainTree.{plain-Arm, arms_of}
 use Rattle.rx_cover.specs.Choices.{patterns_of}
 use Rattle.rx_cover.specs.PlainTested.{plain-Tested}
 use Rattle.rx_cover.specs.Width.{arm_tests}

@@ -1,6 +1,6 @@
 use Rattle.std.proofs.Common.{◌≡◌, Some, option_map, subst, sym}
 use Rattle.std.specs.Prelude.{MatchOption, Option}
-use Rattle.rx_typed_tree.specs.PlainTree.{plain-TypedTree}
+use Rattle.rx_typed.specs.PlainTree.{plain-TypedTree}
 use Rattle.rx_exits_marks.specs.Runs as runs
 use Rattle.rx_exits_marks.specs.Runs.{Sits}
 use Rattle.rx_exits_jumps.specs.Seen.{first_home}

@@ -1,6 +1,6 @@
 use Rattle.std.proofs.Common.{◌≤◌}
 use Rattle.rx_typed.specs.Tree.{Function}
-use Rattle.rx_typed_tree.specs.PlainTree.{plain-TypedTree}
+use Rattle.rx_typed.specs.PlainTree.{plain-TypedTree}
 use Rattle.rx_exits_marks.specs.Spots.{spots_of_function}
 use Rattle.rx_engine_histories.specs.OneSite.{blocks_at}
 use Rattle.rx_engine_ready.proofs.Functions.{elaborated_of}

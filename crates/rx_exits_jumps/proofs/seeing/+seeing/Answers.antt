@@ -1,5 +1,5 @@
 use Rattle.std.proofs.Common.{◌+◌, [], ◌∷◌, refl, ap, ◌∙◌, map, drop}
-use Rattle.rx_typed_tree.specs.PlainTree.{plain-Expr, plain-Operand, plain-Arm, plain-Matched, plain-Stmt, nested_of, operands_of, arms_of}
+use Rattle.rx_typed.specs.PlainTree.{plain-Expr, plain-Operand, plain-Arm, plain-Matched, plain-Stmt, nested_of, operands_of, arms_of}
 use Rattle.rx_exits_marks.specs.Blocks.{bound, declared_by, declared_by_all}
 use Rattle.rx_exits_marks.specs.Spots.{with_variables, a_block, a_return, spots, spots_in, spots_matched, spots_armed}
 use Rattle.rx_exits_plan.specs.Exits.{spots_in_statements}

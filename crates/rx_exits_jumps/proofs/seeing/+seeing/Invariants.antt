@@ -1,5 +1,5 @@
 use Rattle.std.proofs.Common.{◌≡◌, map, drop}
-use Rattle.rx_typed_tree.specs.PlainTree.{plain-Operand, plain-Arm, operands_of, arms_of}
+use Rattle.rx_typed.specs.PlainTree.{plain-Operand, plain-Arm, operands_of, arms_of}
 use Rattle.rx_exits_marks.specs.Blocks.{declared_by_all}
 use Rattle.rx_exits_marks.specs.Spots.{spots_in, spots_armed}
 use Rattle.rx_exits_plan.specs.Exits.{spots_in_statements}

@@ -1,5 +1,5 @@
 use Rattle.std.proofs.Common.{map, ap}
-use Rattle.rx_typed_tree.specs.PlainTree.{plain-Expr}
+use Rattle.rx_typed.specs.PlainTree.{plain-Expr}
 use Rattle.rx_exits_marks.specs.Runs as runs
 use Rattle.rx_exits_plan.specs.PlainPlan.{plain-Run}
 use Rattle.rx_exits_syntax.specs.PlainSyntax.{plain-Statement, plain-Home}

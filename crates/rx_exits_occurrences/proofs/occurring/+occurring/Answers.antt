@@ -1,5 +1,5 @@
 use Rattle.std.proofs.Common.{ap, map, drop, ◌+◌, ◌++◌, refl}
-use Rattle.rx_typed_tree.specs.PlainTree.{plain-Expr, plain-Arm, plain-Operand, plain-Matched, plain-Pattern, plain-Place, arms_of, operands_of}
+use Rattle.rx_typed.specs.PlainTree.{plain-Expr, plain-Arm, plain-Operand, plain-Matched, plain-Pattern, plain-Place, arms_of, operands_of}
 use Rattle.rx_exits_marks.specs.Blocks.{bound}
 use Rattle.rx_exits_plan.specs.Occurrences.{named_place, all_declared, occurrences, occurrences_in, occurrences_matched, occurrences_armed, in_statement, in_statements}
 use Rattle.rx_exits_syntax.specs.PlainSyntax.{plain-Statement}

@@ -1,5 +1,5 @@
 use Rattle.std.proofs.Common.{◌≡◌, ◌++◌, map, drop}
-use Rattle.rx_typed_tree.specs.PlainTree.{plain-Operand, plain-Arm, operands_of, arms_of}
+use Rattle.rx_typed.specs.PlainTree.{plain-Operand, plain-Arm, operands_of, arms_of}
 use Rattle.rx_exits_plan.specs.Occurrences.{occurrences_in, occurrences_armed, in_statements}
 use Rattle.rx_exits_syntax.specs.PlainSyntax.{plain-Statement}
 use Rattle.rx_exits_occurrences.specs.PlainOccurrence.{plain-Occurrence}

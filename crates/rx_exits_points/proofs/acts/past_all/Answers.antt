@@ -1,6 +1,6 @@
 use Rattle.std.proofs.Common.{get_or, refl}
-use Rattle.rx_lower_graph.specs.Graph.{Site}
-use Rattle.rx_facts_along.proofs.Each.{each_done}
+use Rattle.rx_lower_walks.specs.Graph.{Site}
+use Rattle.rx_facts_live.proofs.Each.{each_done}
 use Rattle.rx_exits_points.proofs.Looking.{Below, below_more}
 use Rattle.rx_exits_points.proofs.acts.past_all.Goals as goal
 

@@ -1,4 +1,4 @@
-use Rattle.rx_facts_along.proofs.Each.{SoFar}
+use Rattle.rx_facts_live.proofs.Each.{SoFar}
 use Rattle.rx_exits_points.proofs.Looking.{Below}
 use Rattle.rx_exits_points.proofs.acts.past_all.Given as goal
 

@@ -1,7 +1,7 @@
-use Rattle.rx_facts_parts.specs.Layouts.{plain-Frame}
+use Rattle.rx_facts_init.specs.Layouts.{plain-Frame}
 use Rattle.rx_facts_init.specs.Tables.{DoesAt}
 use Rattle.rx_exits_points.specs.Facts.{switches}
-use Rattle.rx_facts_along.proofs.Each.{all_do}
+use Rattle.rx_facts_live.proofs.Each.{all_do}
 use Rattle.rx_exits_points.proofs.facts.effects.Goals as goal
 
 pub returns : goal.returns

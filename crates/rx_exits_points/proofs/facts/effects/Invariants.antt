@@ -1,8 +1,8 @@
 use Rattle.std.proofs.Common.{◌++◌, List, drop, map}
 use Rattle.rx_graph.specs.declared.effect.Effect.{Effect}
 use Rattle.rx_lower_emit.specs.PlainSite.{plain-Site}
-use Rattle.rx_facts_along.specs.Tracking.{EachDoes}
-use Rattle.rx_facts_parts.specs.Layouts.{plain-Frame}
+use Rattle.rx_facts_live.specs.Tracking.{EachDoes}
+use Rattle.rx_facts_init.specs.Layouts.{plain-Frame}
 use Rattle.rx_facts_init.specs.Tables.{DoesAt}
 use Rattle.rx_exits_points.specs.Facts.{switches}
 use Rattle.rx_exits_points.proofs.facts.effects.Given as goal

@@ -1,6 +1,6 @@
 use Rattle.std.proofs.Common.{get_or, refl, map}
 use Rattle.rx_lower_emit.specs.PlainSite.{plain-Site}
-use Rattle.rx_facts_along.proofs.Each.{site_there}
+use Rattle.rx_facts_live.proofs.Each.{site_there}
 use Rattle.rx_exits_points.proofs.Marking.{noting_more}
 use Rattle.rx_exits_points.proofs.marks.marks_of.Goals as goal
 

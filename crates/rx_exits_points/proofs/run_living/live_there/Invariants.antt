@@ -1,5 +1,5 @@
 use Rattle.std.proofs.Common.{◌≡◌, List, take}
-use Rattle.rx_lower_graph.specs.Graph.{Site}
+use Rattle.rx_lower_walks.specs.Graph.{Site}
 use Rattle.rx_lower_flow.specs.declared.actions.Root.{Root}
 use Rattle.rx_lower_flow.specs.PlainFlow.{plain-Root}
 use Rattle.rx_facts_live.specs.Tables.{IsNumberOf, Lives}

@@ -1,5 +1,5 @@
 use Rattle.std.proofs.Common.{◌≡◌, ◌++◌, map, drop}
-use Rattle.rx_typed_tree.specs.PlainTree.{plain-Param}
+use Rattle.rx_typed.specs.PlainTree.{plain-Param}
 use Rattle.rx_exits_syntax.specs.Bound.{variables_of_params}
 use Rattle.rx_exits_syntax.proofs.around.push_params.Given as goal
 

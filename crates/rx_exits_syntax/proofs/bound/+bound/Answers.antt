@@ -1,5 +1,5 @@
 use Rattle.std.proofs.Common.{map, drop, ◌+◌}
-use Rattle.rx_typed_tree.specs.PlainTree.{plain-Pattern, plain-Subpattern, subpatterns_of}
+use Rattle.rx_typed.specs.PlainTree.{plain-Pattern, plain-Subpattern, subpatterns_of}
 use Rattle.rx_exits_syntax.specs.Bound.{bound_pattern, bound_parts}
 use Rattle.rx_exits_syntax.proofs.Turns.{turned}
 use Rattle.rx_exits_syntax.proofs.BoundLemmas.{parts_more}

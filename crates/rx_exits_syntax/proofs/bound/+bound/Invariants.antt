@@ -1,5 +1,5 @@
 use Rattle.std.proofs.Common.{◌≡◌, ◌++◌, map, drop}
-use Rattle.rx_typed_tree.specs.PlainTree.{plain-Subpattern, subpatterns_of}
+use Rattle.rx_typed.specs.PlainTree.{plain-Subpattern, subpatterns_of}
 use Rattle.rx_exits_syntax.specs.Bound.{bound_parts}
 use Rattle.rx_exits_syntax.proofs.bound.+bound.Given as goal
 

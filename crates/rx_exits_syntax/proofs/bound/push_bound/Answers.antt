@@ -1,5 +1,5 @@
 use Rattle.std.proofs.Common.{◌≡◌, ◌++◌, List, ℕ, OnOk, subst, sym}
-use Rattle.rx_typed_tree.specs.PlainTree.{plain-Pattern}
+use Rattle.rx_typed.specs.PlainTree.{plain-Pattern}
 use Rattle.rx_exits_syntax.proofs.BoundLemmas.{bound_is}
 use Rattle.rx_exits_syntax.proofs.bound.push_bound.Goals as goal
 

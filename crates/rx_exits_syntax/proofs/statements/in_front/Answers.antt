@@ -1,5 +1,5 @@
 use Rattle.std.proofs.Common.{map, ap, ◌∙◌}
-use Rattle.rx_typed_tree.specs.PlainTree.{plain-Expr}
+use Rattle.rx_typed.specs.PlainTree.{plain-Expr}
 use Rattle.rx_exits_syntax.specs.PlainSyntax.{plain-Statement}
 use Rattle.rx_exits_syntax.proofs.StatementLemmas.{front_part}
 use Rattle.rx_exits_syntax.proofs.statements.in_front.Goals as goal

@@ -1,4 +1,4 @@
-use Rattle.rx_typed_tree.specs.PlainTree.{plain-Expr, plain-Mark}
+use Rattle.rx_typed.specs.PlainTree.{plain-Expr, plain-Mark}
 use Rattle.rx_exits_plan.specs.PlainPlan.{plain-Run}
 use Rattle.rx_exits_tree.proofs.RunBlock.{alone_laid}
 use Rattle.rx_exits_tree.proofs.alone.run_alone.Goals as goal

@@ -1,5 +1,5 @@
 use Rattle.std.proofs.Common.{sym, ◌∙◌}
-use Rattle.rx_typed_tree.specs.PlainTree.{plain-Expr}
+use Rattle.rx_typed.specs.PlainTree.{plain-Expr}
 use Rattle.rx_exits_tree.specs.Shapes.{gives_at}
 use Rattle.rx_exits_tree.proofs.Giving.{given_same}
 use Rattle.rx_exits_tree.proofs.RunBlock.{same_tree}

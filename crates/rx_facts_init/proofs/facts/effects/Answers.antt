@@ -1,6 +1,6 @@
-use Rattle.rx_facts_parts.specs.Layouts.{plain-Frame}
+use Rattle.rx_facts_init.specs.Layouts.{plain-Frame}
 use Rattle.rx_facts_init.specs.Tables.{DoesAt, switches}
-use Rattle.rx_facts_along.proofs.Each.{all_do}
+use Rattle.rx_facts_live.proofs.Each.{all_do}
 use Rattle.rx_facts_init.proofs.facts.effects.Goals as goal
 
 pub returns : goal.returns

@@ -1,7 +1,7 @@
 use Rattle.std.proofs.Common.{map, refl}
 use Rattle.rx_lower_emit.specs.PlainSite.{plain-Site}
-use Rattle.rx_facts_along.specs.Along.{edges_of}
-use Rattle.rx_facts_parts.specs.Layouts.{plain-Frame}
+use Rattle.rx_facts_live.specs.Along.{edges_of}
+use Rattle.rx_facts_init.specs.Layouts.{plain-Frame}
 use Rattle.rx_facts_init.specs.Tables.{switches}
 use Rattle.rx_facts_init.proofs.Exact.{all_tell}
 use Rattle.rx_facts_init.proofs.facts.table.Goals as goal

@@ -1,8 +1,8 @@
 use Rattle.std.proofs.Common.{get_or, refl}
-use Rattle.rx_lower_graph.specs.Graph.{Site}
+use Rattle.rx_lower_walks.specs.Graph.{Site}
 use Rattle.rx_lower_emit.specs.PlainSite.{plain-Site}
 use Rattle.rx_facts_init.specs.Judged.{Well}
-use Rattle.rx_facts_along.proofs.Each.{site_there, each_more, each_done}
+use Rattle.rx_facts_live.proofs.Each.{site_there, each_more, each_done}
 use Rattle.rx_facts_init.proofs.judging.judge_all.Goals as goal
 
 pub loop-i-preserved : goal.loop-i-preserved

@@ -1,5 +1,5 @@
 use Rattle.std.proofs.Common.{◌≡◌, ℕ, ◌<◌, Some, map}
-use Rattle.rx_lower_graph.specs.Graph.{Site, site_at}
+use Rattle.rx_lower_walks.specs.Graph.{Site, site_at}
 use Rattle.rx_lower_emit.specs.PlainSite.{plain-Site}
 use Rattle.rx_facts_init.specs.Judged.{Well}
 use Rattle.rx_facts_init.proofs.judging.judge_all.Given as goal

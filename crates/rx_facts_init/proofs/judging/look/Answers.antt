@@ -1,5 +1,5 @@
 use Rattle.std.proofs.Common.{sym, ◌∙◌, true≢false}
-use Rattle.rx_facts_parts.specs.Layouts.{plain-Frame}
+use Rattle.rx_facts_init.specs.Layouts.{plain-Frame}
 use Rattle.rx_facts_init.proofs.Exact.{temporary_none}
 use Rattle.rx_facts_init.proofs.judging.look.Goals as goal
 

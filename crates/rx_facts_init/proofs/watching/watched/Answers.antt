@@ -1,7 +1,7 @@
-use Rattle.rx_lower_graph.specs.Graph.{Site}
+use Rattle.rx_lower_walks.specs.Graph.{Site}
 use Rattle.rx_facts_init.specs.Tables.{KeepsFor}
 use Rattle.rx_facts_init.proofs.Fronts.{keeps_for}
-use Rattle.rx_facts_along.proofs.Each.{each_more, each_done}
+use Rattle.rx_facts_live.proofs.Each.{each_more, each_done}
 use Rattle.rx_facts_init.proofs.watching.watched.Goals as goal
 
 pub loop-site-preserved : goal.loop-site-preserved

@@ -1,4 +1,4 @@
-use Rattle.rx_facts_along.proofs.Turns.{added}
+use Rattle.rx_facts_live.proofs.Turns.{added}
 use Rattle.rx_facts_live.proofs.index.add_at.Goals as goal
 
 pub returns : goal.returns

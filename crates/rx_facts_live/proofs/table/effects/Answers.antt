@@ -1,4 +1,4 @@
-use Rattle.rx_facts_along.proofs.Each.{all_do}
+use Rattle.rx_facts_live.proofs.Each.{all_do}
 use Rattle.rx_facts_live.specs.Effects.{DoesAt}
 use Rattle.rx_facts_live.proofs.table.effects.Goals as goal
 

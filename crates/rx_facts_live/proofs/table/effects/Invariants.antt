@@ -1,7 +1,7 @@
 use Rattle.std.proofs.Common.{◌++◌, List, drop, map}
 use Rattle.rx_graph.specs.declared.effect.Effect.{Effect}
 use Rattle.rx_lower_emit.specs.PlainSite.{plain-Site}
-use Rattle.rx_facts_along.specs.Tracking.{EachDoes}
+use Rattle.rx_facts_live.specs.Tracking.{EachDoes}
 use Rattle.rx_facts_live.specs.Effects.{DoesAt}
 use Rattle.rx_facts_live.proofs.table.effects.Given as goal
 

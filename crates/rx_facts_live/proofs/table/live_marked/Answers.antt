@@ -1,8 +1,8 @@
 use Rattle.std.proofs.Common.{ℕ, List, map, refl, subst}
 use Rattle.rx_graph.specs.declared.effect.Effect.{Effect}
 use Rattle.rx_lower_emit.specs.PlainSite.{plain-Site}
-use Rattle.rx_facts_along.specs.Along.{edges_of}
-use Rattle.rx_facts_along.specs.Tracking.{Foresees}
+use Rattle.rx_facts_live.specs.Along.{edges_of}
+use Rattle.rx_facts_live.specs.Tracking.{Foresees}
 use Rattle.rx_facts_live.proofs.Living.{live_exactly, unused}
 use Rattle.rx_facts_live.proofs.table.live_marked.Goals as goal
 

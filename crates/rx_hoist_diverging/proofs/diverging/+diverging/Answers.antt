@@ -1,5 +1,5 @@
 use Rattle.std.proofs.Common.{◌+◌, ◌++◌, map, drop, sym, ap, ◌∙◌}
-use Rattle.rx_typed_tree.specs.PlainTree.{plain-Expr, plain-Matched, plain-Operand, plain-Arm, plain-Stmt, operands_of, arms_of, nested_of}
+use Rattle.rx_typed.specs.PlainTree.{plain-Expr, plain-Matched, plain-Operand, plain-Arm, plain-Stmt, operands_of, arms_of, nested_of}
 use Rattle.rx_hoist_diverging.specs.Diverging as spec
 use Rattle.rx_hoist_diverging.proofs.Lists.{next_of, turned, operands_more, arms_more, on_more, on_same, lazily_is, block_is, choose_is, runs_on, lets_on}
 use Rattle.rx_hoist_diverging.proofs.diverging.+diverging.Goals as goal

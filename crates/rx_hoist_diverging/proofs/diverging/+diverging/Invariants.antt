@@ -1,6 +1,6 @@
 use Rattle.std.proofs.Common.{◌≡◌, ◌++◌, map, drop}
 use Rattle.rx_typed.specs.Tree.{Exp}
-use Rattle.rx_typed_tree.specs.PlainTree.{plain-Operand, plain-Arm, plain-Stmt, operands_of, arms_of, nested_of}
+use Rattle.rx_typed.specs.PlainTree.{plain-Operand, plain-Arm, plain-Stmt, operands_of, arms_of, nested_of}
 use Rattle.rx_hoist_diverging.specs.Diverging as spec
 use Rattle.rx_hoist_diverging.proofs.diverging.+diverging.Given as goal
 

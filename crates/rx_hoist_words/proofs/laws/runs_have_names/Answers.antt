@@ -1,5 +1,5 @@
 use Rattle.std.proofs.Common.{ℕ, ◌<◌, length, slice_get}
-use Rattle.rx_typed_tree.specs.PlainTree.{plain-TypedTree}
+use Rattle.rx_typed.specs.PlainTree.{plain-TypedTree}
 use Rattle.rx_hoist_names.specs.DeclaredNames.{declared_names}
 use Rattle.rx_hoist_words.proofs.Runs.{in_a_run}
 use Rattle.rx_hoist_words.proofs.laws.runs_have_names.Goals as goal

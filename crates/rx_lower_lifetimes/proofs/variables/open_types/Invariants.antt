@@ -1,5 +1,5 @@
 use Rattle.std.proofs.Common.{◌≡◌, ◌++◌, map, drop}
-use Rattle.rx_typed_tree.specs.PlainTree.{plain-Param}
+use Rattle.rx_typed.specs.PlainTree.{plain-Param}
 use Rattle.rx_lower_lifetimes.specs.Variables.{open_types}
 use Rattle.rx_lower_lifetimes.specs.PlainOf.{plain-Open, plain-Told}
 use Rattle.rx_lower_lifetimes.proofs.variables.open_types.Given as goal

@@ -1,5 +1,5 @@
 use Rattle.std.proofs.Common.{map, drop, sym, ◌∙◌}
-use Rattle.rx_typed_tree.specs.PlainTree.{plain-Param}
+use Rattle.rx_typed.specs.PlainTree.{plain-Param}
 use Rattle.rx_lower_lifetimes.proofs.Finding.{types_end, next_type}
 use Rattle.rx_lower_lifetimes.proofs.variables.parameter_type.Goals as goal
 

@@ -1,5 +1,5 @@
 use Rattle.std.proofs.Common.{map, slice_get, subst, ap, ◌∙◌}
-use Rattle.rx_typed_tree.specs.PlainTree.{plain-TypedTree, plain-Param}
+use Rattle.rx_typed.specs.PlainTree.{plain-TypedTree, plain-Param}
 use Rattle.rx_lower_lifetimes.specs.Values.{lifetimes_of}
 use Rattle.rx_lower_lifetimes.specs.Variables.{open_types}
 use Rattle.rx_lower_lifetimes.specs.Lowered.{function_of}

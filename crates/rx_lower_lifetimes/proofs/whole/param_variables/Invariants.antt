@@ -1,5 +1,5 @@
 use Rattle.std.proofs.Common.{◌≡◌, ◌++◌, map, drop}
-use Rattle.rx_typed_tree.specs.PlainTree.{plain-Param}
+use Rattle.rx_typed.specs.PlainTree.{plain-Param}
 use Rattle.rx_lower_lifetimes.proofs.whole.param_variables.Given as goal
 
 abbrev pub invariant-loop-param : goal.invariant-loop-param

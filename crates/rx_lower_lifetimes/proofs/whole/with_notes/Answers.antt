@@ -1,5 +1,5 @@
 use Rattle.std.proofs.Common.{map}
-use Rattle.rx_typed_tree.specs.PlainTree.{plain-TypedTree}
+use Rattle.rx_typed.specs.PlainTree.{plain-TypedTree}
 use Rattle.rx_lower_flow.specs.PlainFlow.{plain-Flow}
 use Rattle.rx_lower_lifetimes.specs.Lowered.{Function}
 use Rattle.rx_lower_lifetimes.specs.PlainOf.{plain-Open, plain-Notes}

@@ -1,5 +1,5 @@
 use Rattle.std.proofs.Common.{map}
-use Rattle.rx_typed_tree.specs.PlainTree.{plain-Subpattern, subpatterns_of}
+use Rattle.rx_typed.specs.PlainTree.{plain-Subpattern, subpatterns_of}
 use Rattle.rx_lower_walks.specs.Matching.{bindings_in}
 use Rattle.rx_lower_order_parts.specs.Items.{binding_items}
 use Rattle.rx_lower_order_parts.specs.PlainParts.{plain-Subject}

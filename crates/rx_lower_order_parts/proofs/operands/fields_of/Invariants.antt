@@ -1,6 +1,6 @@
 use Rattle.std.proofs.Common.{◌≡◌, ◌++◌, map, drop}
 use Rattle.rx_typed.specs.Tree as tree
-use Rattle.rx_typed_tree.specs.PlainTree.{plain-Operand, operands_of}
+use Rattle.rx_typed.specs.PlainTree.{plain-Operand, operands_of}
 use Rattle.rx_lower_order_parts.proofs.operands.fields_of.Given as goal
 
 abbrev pub invariant-loop-operand : goal.invariant-loop-operand

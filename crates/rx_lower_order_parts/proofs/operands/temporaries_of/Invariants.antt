@@ -1,6 +1,6 @@
 use Rattle.std.proofs.Common.{◌≡◌, ◌++◌, map, drop}
 use Rattle.rx_typed.specs.Tree as tree
-use Rattle.rx_typed_tree.specs.PlainTree.{plain-Operand, operands_of}
+use Rattle.rx_typed.specs.PlainTree.{plain-Operand, operands_of}
 use Rattle.rx_lower_flow.specs.PlainFlow.{plain-Temporary}
 use Rattle.rx_lower_order_parts.proofs.operands.temporaries_of.Given as goal
 

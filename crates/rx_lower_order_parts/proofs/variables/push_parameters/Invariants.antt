@@ -1,5 +1,5 @@
 use Rattle.std.proofs.Common.{◌≡◌, ◌++◌, map, drop}
-use Rattle.rx_typed_tree.specs.PlainTree.{plain-Param}
+use Rattle.rx_typed.specs.PlainTree.{plain-Param}
 use Rattle.rx_lower_flow.specs.PlainFlow.{plain-Item}
 use Rattle.rx_lower_order_parts.specs.Items.{parameter_items}
 use Rattle.rx_lower_order_parts.proofs.variables.push_parameters.Given as goal

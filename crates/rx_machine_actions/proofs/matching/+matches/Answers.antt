@@ -1,5 +1,5 @@
 use Rattle.std.proofs.Common.{◌+◌, map, option_map, drop, Some, ap, sym, ◌∙◌, arith}
-use Rattle.rx_typed_tree.specs.PlainTree.{plain-Pattern, plain-Subpattern, subpatterns_of}
+use Rattle.rx_typed.specs.PlainTree.{plain-Pattern, plain-Subpattern, subpatterns_of}
 use Rattle.rx_machine_values.specs.PlainValues.{plain-Part}
 use Rattle.rx_machine_values.specs.PlainMemory.{plain-Memory}
 use Rattle.rx_machine_frames.specs.Choosing.{both}

@@ -1,5 +1,5 @@
 use Rattle.std.proofs.Common.{map}
-use Rattle.rx_typed_tree.specs.PlainTree.{plain-Expr, plain-Stmt, nested_of}
+use Rattle.rx_typed.specs.PlainTree.{plain-Expr, plain-Stmt, nested_of}
 use Rattle.rx_machine_values.specs.PlainMemory.{plain-Memory}
 use Rattle.rx_machine_direct.proofs.DirectLemmas.{last_of, comes_statements}
 use Rattle.rx_machine_direct.proofs.reaching.block_once.Goals as goal

@@ -1,6 +1,6 @@
 use Rattle.std.proofs.Common.{map, length}
 use Rattle.rx_typed.specs.Tree.{Exp}
-use Rattle.rx_typed_tree.specs.PlainTree.{plain-Stmt, nested_of}
+use Rattle.rx_typed.specs.PlainTree.{plain-Stmt, nested_of}
 use Rattle.rx_machine_values.specs.PlainMemory.{plain-Memory}
 use Rattle.rx_machine_direct.specs.Reaching.{ComesBody}
 use Rattle.rx_machine_direct.proofs.reaching.front.Given as goal

@@ -1,5 +1,5 @@
 use Rattle.std.proofs.Common.{sym, subst}
-use Rattle.rx_typed_tree.specs.PlainTree.{plain-Mark}
+use Rattle.rx_typed.specs.PlainTree.{plain-Mark}
 use Rattle.rx_machine_values.specs.PlainMemory.{plain-Memory}
 use Rattle.rx_meaning.specs.Values.{unit_value}
 use Rattle.rx_machine_direct.specs.Reaching.{gave, Comes}

@@ -1,5 +1,5 @@
 use Rattle.std.proofs.Common.{◌+◌, drop, Some, ap, sym, ◌∙◌, arith}
-use Rattle.rx_typed_tree.specs.PlainTree.{plain-Expr}
+use Rattle.rx_typed.specs.PlainTree.{plain-Expr}
 use Rattle.rx_machine_direct.specs.Direct.{if_fits, picked}
 use Rattle.rx_machine_direct.specs.PlainScalar.{plain-Scalar}
 use Rattle.rx_machine_direct.specs.PlainReached.{arms_in}

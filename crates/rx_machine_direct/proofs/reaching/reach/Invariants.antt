@@ -1,4 +1,4 @@
-use Rattle.rx_typed_tree.specs.PlainTree.{plain-Expr}
+use Rattle.rx_typed.specs.PlainTree.{plain-Expr}
 use Rattle.rx_machine_values.specs.PlainMemory.{plain-Memory}
 use Rattle.rx_machine_frames.specs.Sizes.{size}
 use Rattle.rx_machine_direct.specs.Reaching.{into, Comes}

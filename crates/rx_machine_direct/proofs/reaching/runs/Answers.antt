@@ -1,6 +1,6 @@
 use Rattle.std.proofs.Common.{ap, ◌∙◌}
-use Rattle.rx_typed_tree.specs.declared.tree.Stmt.{Stmt}
-use Rattle.rx_typed_tree.specs.PlainTree.{plain-Expr, plain-Stmt, stmt_runs}
+use Rattle.rx_typed.specs.declared.tree.Stmt.{Stmt}
+use Rattle.rx_typed.specs.PlainTree.{plain-Expr, plain-Stmt, stmt_runs}
 use Rattle.rx_machine_values.specs.PlainMemory.{plain-Memory}
 use Rattle.rx_machine_direct.proofs.DirectLemmas.{runs_is}
 use Rattle.rx_machine_direct.proofs.reaching.runs.Goals as goal

@@ -1,5 +1,5 @@
 use Rattle.std.proofs.Common.{option_map, ap, sym, ◌∙◌}
-use Rattle.rx_typed_tree.specs.PlainTree.{plain-Expr}
+use Rattle.rx_typed.specs.PlainTree.{plain-Expr}
 use Rattle.rx_machine_values.specs.PlainMemory.{plain-Memory}
 use Rattle.rx_machine_direct.specs.PlainScalar.{plain-Scalar}
 use Rattle.rx_machine_direct.proofs.DirectLemmas.{comes_direct, comes_self}

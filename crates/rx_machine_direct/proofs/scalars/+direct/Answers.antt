@@ -1,6 +1,6 @@
 use Rattle.std.proofs.Common.{map, option_map, ap, sym, ◌∙◌}
-use Rattle.rx_typed_tree.specs.declared.tree.Operand.{Operand}
-use Rattle.rx_typed_tree.specs.PlainTree.{plain-Making, plain-Expr, plain-Operand, operands_of}
+use Rattle.rx_typed.specs.declared.tree.Operand.{Operand}
+use Rattle.rx_typed.specs.PlainTree.{plain-Making, plain-Expr, plain-Operand, operands_of}
 use Rattle.rx_machine_values.specs.PlainMemory.{plain-Memory}
 use Rattle.rx_machine_direct.specs.Direct.{both, direct, built}
 use Rattle.rx_machine_direct.specs.PlainScalar.{plain-Scalar}

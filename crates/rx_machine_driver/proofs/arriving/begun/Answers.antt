@@ -1,5 +1,5 @@
 use Rattle.std.proofs.Common.{ap}
-use Rattle.rx_typed_tree.specs.PlainTree.{plain-Expr}
+use Rattle.rx_typed.specs.PlainTree.{plain-Expr}
 use Rattle.rx_meaning.specs.Values.{unit_value}
 use Rattle.rx_machine_values.specs.PlainValues.{value_unit}
 use Rattle.rx_machine_frames.specs.Frames as frames

@@ -1,6 +1,6 @@
 use Rattle.std.proofs.Common.{map, option_map, sym, subst}
 use Rattle.rx_machine_values.specs.PlainValues.{plain-Value}
-use Rattle.rx_typed_tree.specs.PlainTree.{plain-Mark, plain-Expr, plain-TypedTree}
+use Rattle.rx_typed.specs.PlainTree.{plain-Mark, plain-Expr, plain-TypedTree}
 use Rattle.rx_meaning.specs.declared.outcome.End.{End}
 use Rattle.rx_meaning.specs.Values.{element}
 use Rattle.rx_machine_driver.specs.Fitting.{functions_of, plain-Turn}

@@ -1,5 +1,5 @@
 use Rattle.std.proofs.Common.{◌≡◌, drop}
-use Rattle.rx_region_solutions.specs.Constraints.{goes_shared}
+use Rattle.rx_region_constraints.specs.Constraints.{goes_shared}
 use Rattle.rx_region_constraints.proofs.reborrows.goes_shared.Given as goal
 
 abbrev pub invariant-loop-i : goal.invariant-loop-i

@@ -1,5 +1,5 @@
 use Rattle.std.proofs.Common.{◌≡◌, drop}
-use Rattle.rx_region_solutions.specs.Constraints.{is_among}
+use Rattle.rx_region_constraints.specs.Constraints.{is_among}
 use Rattle.rx_region_constraints.proofs.whole.is_among.Given as goal
 
 abbrev pub invariant-loop-i : goal.invariant-loop-i

@@ -1,7 +1,7 @@
 use Rattle.std.proofs.Common.{ap, ◌∙◌, subst}
 use Rattle.rx_typeck_typed.specs.declared.typed.Typed.{Typed}
-use Rattle.rx_check_loans.specs.Functions.{AreLoansOf}
-use Rattle.rx_check_loans.proofs.Settling.{any_pairs}
+use Rattle.rx_check.specs.Functions.{AreLoansOf}
+use Rattle.rx_check.proofs.Settling.{any_pairs}
 use Rattle.rx_check.specs.Front.{Judged, IsChecked}
 use Rattle.rx_check.proofs.ReaderLemmas.{within, reads}
 use Rattle.rx_check.proofs.front_end.Checked.loans.Goals as goal

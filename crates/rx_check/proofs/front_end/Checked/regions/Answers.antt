@@ -1,8 +1,8 @@
 use Rattle.std.proofs.Common.{get_or, ap, ◌∙◌, subst}
 use Rattle.rx_typeck_typed.specs.declared.typed.Typed.{Typed}
 use Rattle.rx_region.specs.Tables.{sets_of}
-use Rattle.rx_check_loans.specs.Functions.{AreRegionsOf}
-use Rattle.rx_check_loans.proofs.Settling.{any_pairs}
+use Rattle.rx_check.specs.Functions.{AreRegionsOf}
+use Rattle.rx_check.proofs.Settling.{any_pairs}
 use Rattle.rx_check.specs.Front.{Judged, IsChecked}
 use Rattle.rx_check.proofs.ReaderLemmas.{within, reads}
 use Rattle.rx_check.proofs.front_end.Checked.regions.Goals as goal

@@ -1,6 +1,6 @@
 use Rattle.std.proofs.Common.{get_or, ap, ◌∙◌, subst}
 use Rattle.rx_facts.specs.Answers.{IsGraphOf}
-use Rattle.rx_check_loans.proofs.Telling.{few_sites}
+use Rattle.rx_check.proofs.Telling.{few_sites}
 use Rattle.rx_check.specs.Front.{Front, IsFronted}
 use Rattle.rx_check.proofs.ReaderLemmas.{within, reads, some_found}
 use Rattle.rx_check.proofs.front_end.FrontEnd.graph.Goals as goal

@@ -2,8 +2,8 @@ use Rattle.std.proofs.Common.{◌≡◌, ◌↔◌, true, sym, subst}
 use Rattle.rx_typed.specs.PlainTypes.{declarations}
 use Rattle.rx_typed_declarations.specs.Sizes.{told}
 use Rattle.rx_lower_flow.specs.PlainFlow.{plain-Place}
-use Rattle.rx_facts_parts.specs.Places.{Frame}
-use Rattle.rx_facts_parts.specs.Layouts.{plain-Frame, IsLayout}
+use Rattle.rx_facts_init.specs.Places.{Frame}
+use Rattle.rx_facts_init.specs.Layouts.{plain-Frame, IsLayout}
 use Rattle.rx_facts_init.specs.Answer.{IsTable}
 use Rattle.rx_facts_init.specs.Initialised.{MayBeSet}
 use Rattle.rx_facts.specs.Functions.{sites_of, frame_of}

@@ -1,6 +1,6 @@
 use Rattle.std.proofs.Common.{true}
 use Rattle.rx_lower_flow.specs.PlainFlow.{plain-Place}
-use Rattle.rx_facts_parts.specs.Layouts.{plain-Frame}
+use Rattle.rx_facts_init.specs.Layouts.{plain-Frame}
 use Rattle.rx_facts_init.proofs.Exact.{may}
 use Rattle.rx_facts_init.proofs.whole.InitTable.may_be_set.Goals as goal
 

@@ -1,5 +1,5 @@
-use Rattle.rx_lower_graph.specs.Graph.{Site}
-use Rattle.rx_facts_along.proofs.Each.{each_more, each_done}
+use Rattle.rx_lower_walks.specs.Graph.{Site}
+use Rattle.rx_facts_live.proofs.Each.{each_more, each_done}
 use Rattle.rx_facts_live.specs.Tables.{HasUsed}
 use Rattle.rx_facts_live.proofs.Numbering.{has_used}
 use Rattle.rx_facts_live.proofs.index.Index.of.Goals as goal

@@ -1,5 +1,5 @@
-use Rattle.rx_lower_graph.specs.Graph.{Site}
-use Rattle.rx_facts_along.proofs.Each.{SoFar}
+use Rattle.rx_lower_walks.specs.Graph.{Site}
+use Rattle.rx_facts_live.proofs.Each.{SoFar}
 use Rattle.rx_facts_live.specs.Tables.{IsIndex, HasUsed}
 use Rattle.rx_facts_live.proofs.index.Index.of.Given as goal
 

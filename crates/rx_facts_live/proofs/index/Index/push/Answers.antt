@@ -1,7 +1,7 @@
 use Rattle.std.specs.Vec.{with_items}
 use Rattle.std.proofs.Common.{ℕ, List, [], ◌∷◌, length, subst, sym, ap, ◌∙◌, ◌≡◌}
 use Rattle.std.proofs.lemmas.List.{with_items_is}
-use Rattle.rx_facts_along.specs.Turning.{Joined}
+use Rattle.rx_facts_live.specs.Turning.{Joined}
 use Rattle.rx_facts_live.proofs.Numbering.{on_ok, indexed}
 use Rattle.rx_facts_live.proofs.index.Index.push.Goals as goal
 

@@ -1,7 +1,7 @@
 use Rattle.std.proofs.Common.{◌+◌, [], ◌∷◌, ◌++◌, map, drop, ap, subst, ◌∙◌, arith}
 use Rattle.rx_core.specs.declared.types.Step.TheVariants.{Field}
 use Rattle.rx_lower_walks.specs.Matching.{bindings, bindings_in}
-use Rattle.rx_typed_tree.specs.PlainTree.{plain-Mode, plain-Pattern, plain-Subpattern, subpatterns_of, pattern_bind}
+use Rattle.rx_typed.specs.PlainTree.{plain-Mode, plain-Pattern, plain-Subpattern, subpatterns_of, pattern_bind}
 use Rattle.rx_machine_frames.specs.Choosing.{bind_all}
 use Rattle.rx_machine_steps.specs.PlainSteps.{plain-Subject, held_of}
 use Rattle.rx_machine_driver.specs.Running.{Changes}

@@ -1,6 +1,6 @@
 use Rattle.std.proofs.Common.{option_map, ap, sym, ◌∙◌}
 use Rattle.rx_machine_values.specs.PlainValues.{plain-Value}
-use Rattle.rx_typed_tree.specs.PlainTree.{plain-Mode}
+use Rattle.rx_typed.specs.PlainTree.{plain-Mode}
 use Rattle.rx_machine_driver.proofs.BindLemmas.{one_bound, none_bound}
 use Rattle.rx_machine_driver.proofs.data.Machine.bind_one.Goals as goal
 

@@ -1,6 +1,6 @@
 use Rattle.std.proofs.Common.{subst}
 use Rattle.rx_machine_values.specs.PlainValues.{plain-Value}
-use Rattle.rx_typed_tree.specs.PlainTree.{plain-Expr}
+use Rattle.rx_typed.specs.PlainTree.{plain-Expr}
 use Rattle.rx_machine_driver.specs.Running.{IsDecided}
 use Rattle.rx_machine_driver.proofs.ActLemmas.{decides_lead}
 use Rattle.rx_machine_driver.proofs.data.Machine.decides.Goals as goal

@@ -1,5 +1,5 @@
 use Rattle.std.proofs.Common.{[], ◌∷◌, ◌++◌, map, reverse, refl, sym, ap, subst, ◌∙◌}
-use Rattle.rx_typed_tree.specs.PlainTree.{plain-Param, plain-TypedTree}
+use Rattle.rx_typed.specs.PlainTree.{plain-Param, plain-TypedTree}
 use Rattle.rx_machine_values.specs.PlainValues.{plain-Value}
 use Rattle.rx_machine_frames.specs.Choosing.{fill_all}
 use Rattle.rx_machine_steps.specs.declared.next.Next.TheVariants as next

@@ -1,5 +1,5 @@
 use Rattle.std.proofs.Common.{◌+◌, map, reverse, drop, get_or, ap, arith}
-use Rattle.rx_typed_tree.specs.PlainTree.{plain-Param}
+use Rattle.rx_typed.specs.PlainTree.{plain-Param}
 use Rattle.rx_machine_values.specs.PlainValues.{plain-Value}
 use Rattle.rx_machine_frames.specs.Choosing.{fill_all}
 use Rattle.rx_machine_driver.proofs.BindLemmas.{fills_on, fills_short, fills_by, last_of, none_last, drop_or, drop_end}

@@ -1,4 +1,4 @@
-use Rattle.rx_typed_tree.specs.PlainTree.{plain-Expr}
+use Rattle.rx_typed.specs.PlainTree.{plain-Expr}
 use Rattle.rx_machine_direct.specs.PlainReached.{plain-Reached}
 use Rattle.rx_machine_driver.proofs.ReachLemmas.{arrives_next}
 use Rattle.rx_machine_driver.proofs.data.Machine.goes_into.Goals as goal

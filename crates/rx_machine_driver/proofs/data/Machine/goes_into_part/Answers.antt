@@ -1,4 +1,4 @@
-use Rattle.rx_typed_tree.specs.PlainTree.{plain-Expr}
+use Rattle.rx_typed.specs.PlainTree.{plain-Expr}
 use Rattle.rx_machine_values.specs.PlainValues.{plain-Value}
 use Rattle.rx_machine_direct.specs.PlainReached.{plain-Reached}
 use Rattle.rx_machine_driver.proofs.ReachLemmas.{part_given, part_pushed}

@@ -1,6 +1,6 @@
 use Rattle.std.proofs.Common.{map, subst}
 use Rattle.rx_machine_values.specs.PlainValues.{plain-Value}
-use Rattle.rx_typed_tree.specs.PlainTree.{plain-Making}
+use Rattle.rx_typed.specs.PlainTree.{plain-Making}
 use Rattle.rx_machine_actions.specs.PlainActs.{written_fields}
 use Rattle.rx_machine_driver.specs.Running.{IsMade}
 use Rattle.rx_machine_driver.proofs.ActLemmas.{makes_lead}

@@ -1,6 +1,6 @@
 use Rattle.std.proofs.Common.{◌≡◌, IfOk, option_map, ap, subst, ◌∙◌}
 use Rattle.rx_machine_values.specs.PlainValues.{plain-Value}
-use Rattle.rx_typed_tree.specs.PlainTree.{plain-Place}
+use Rattle.rx_typed.specs.PlainTree.{plain-Place}
 use Rattle.rx_meaning.specs.Values.{and_then}
 use Rattle.rx_meaning.specs.Places.{whole_value}
 use Rattle.rx_machine_driver.specs.Running.{found_at, IsModified}

@@ -1,4 +1,4 @@
-use Rattle.rx_typed_tree.specs.PlainTree.{plain-Expr}
+use Rattle.rx_typed.specs.PlainTree.{plain-Expr}
 use Rattle.rx_machine_driver.proofs.FrameLemmas.{part_leads}
 use Rattle.rx_machine_driver.proofs.data.Machine.part.Goals as goal
 

@@ -1,5 +1,5 @@
 use Rattle.std.proofs.Common.{ap, sym, ◌∙◌}
-use Rattle.rx_typed_tree.specs.PlainTree.{plain-Mode}
+use Rattle.rx_typed.specs.PlainTree.{plain-Mode}
 use Rattle.rx_machine_driver.specs.Binding.{taken_of}
 use Rattle.rx_machine_driver.proofs.data.Machine.taken.Goals as goal
 

@@ -1,5 +1,5 @@
 use Rattle.std.proofs.Common.{[], refl, subst}
-use Rattle.rx_typed_tree.specs.PlainTree.{plain-Pattern}
+use Rattle.rx_typed.specs.PlainTree.{plain-Pattern}
 use Rattle.rx_lower_walks.specs.Matching.{bindings}
 use Rattle.rx_machine_frames.specs.Choosing.{bind_all}
 use Rattle.rx_machine_driver.specs.Running.{Changes}

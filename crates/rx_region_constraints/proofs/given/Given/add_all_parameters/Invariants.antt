@@ -1,5 +1,5 @@
 use Rattle.std.proofs.Common.{◌≡◌, ◌++◌, drop}
-use Rattle.rx_region_solutions.specs.Known.{parameters_ask}
+use Rattle.rx_region_constraints.specs.Known.{parameters_ask}
 use Rattle.rx_region_constraints.specs.PlainContext.{plain-Given}
 use Rattle.rx_region_constraints.proofs.given.Given.add_all_parameters.Given as goal
 

@@ -1,6 +1,6 @@
 use Rattle.std.proofs.Common.{◌≡◌, ◌++◌, map, OnOk, subst, ◌∙◌, ap}
 use Rattle.rx_lower_flow.specs.PlainFlow.{plain-Made, plain-Temporary}
-use Rattle.rx_region_solutions.specs.Constraints.{parts_flow, held}
+use Rattle.rx_region_constraints.specs.Constraints.{parts_flow, held}
 use Rattle.rx_region_constraints.specs.PlainContext.{plain-Given}
 use Rattle.rx_region_constraints.specs.Steps.{arguments_for, declared_parts}
 use Rattle.rx_region_constraints.proofs.Finding.{made_from}

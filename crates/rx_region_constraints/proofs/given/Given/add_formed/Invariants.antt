@@ -1,6 +1,6 @@
 use Rattle.std.proofs.Common.{◌≡◌, ◌++◌, map, drop}
 use Rattle.rx_typed.specs.Regions.{region-Ty}
-use Rattle.rx_region_solutions.specs.Constraints.{formed}
+use Rattle.rx_region_constraints.specs.Constraints.{formed}
 use Rattle.rx_region_constraints.specs.PlainContext.{plain-Given}
 use Rattle.rx_region_constraints.proofs.given.Given.add_formed.Given as goal
 

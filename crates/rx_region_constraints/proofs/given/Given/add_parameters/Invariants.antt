@@ -1,7 +1,7 @@
 use Rattle.std.proofs.Common.{◌≡◌, ◌++◌, map, drop}
 use Rattle.rx_typed.specs.Regions.{region-Ty, regions_of}
 use Rattle.rx_lower_flow.specs.PlainFlow.{plain-Temporary}
-use Rattle.rx_region_solutions.specs.Constraints.{parameters_flow}
+use Rattle.rx_region_constraints.specs.Constraints.{parameters_flow}
 use Rattle.rx_region_constraints.specs.PlainContext.{plain-Given}
 use Rattle.rx_region_constraints.proofs.given.Given.add_parameters.Given as goal
 

@@ -1,7 +1,7 @@
 use Rattle.std.proofs.Common.{◌≡◌, ◌++◌, map, drop}
 use Rattle.rx_lower_flow.specs.PlainFlow.{plain-Temporary}
 use Rattle.rx_typed_places.specs.Renaming.{all_renamed, argument}
-use Rattle.rx_region_solutions.specs.Constraints.{parts_flow}
+use Rattle.rx_region_constraints.specs.Constraints.{parts_flow}
 use Rattle.rx_region_constraints.specs.PlainContext.{plain-Given}
 use Rattle.rx_region_constraints.specs.Steps.{regions_in}
 use Rattle.rx_region_constraints.proofs.given.Given.add_parts.Given as goal

@@ -1,8 +1,8 @@
 use Rattle.std.proofs.Common.{◌≡◌, ◌++◌, map, drop}
-use Rattle.rx_lower_graph.specs.Text.{actions_of}
+use Rattle.rx_lower_walks.specs.Text.{actions_of}
 use Rattle.rx_lower_emit.specs.PlainSite.{plain-Site}
 use Rattle.rx_lower_lifetimes.specs.PlainOwn.{plain-Own}
-use Rattle.rx_region_solutions.specs.Constraints.{all_ask}
+use Rattle.rx_region_constraints.specs.Constraints.{all_ask}
 use Rattle.rx_region_constraints.specs.PlainContext.{plain-Given}
 use Rattle.rx_region_constraints.proofs.given.Given.add_sites.Given as goal
 

@@ -1,6 +1,6 @@
 use Rattle.std.proofs.Common.{◌≡◌, List, map, Option, Some, None, option_map, sym, ap, ◌∙◌}
 use Rattle.rx_tree.specs.PlainOf.{plain-Item}
-use Rattle.rx_resolve_scope.specs.declared.table.Known.{Known}
+use Rattle.rx_resolve_names.specs.declared.table.Known.{Known}
 use Rattle.rx_resolve_names.specs.Meant.{type_name, item_named, number_in, variants_of}
 use Rattle.rx_resolve.proofs.items.Items.variant.Goals as goal
 use Rattle.rx_resolve.proofs.ItemLemmas.{item_absent, variants_there, variants_are_of}

@@ -2,7 +2,7 @@ use Rattle.std.proofs.Common.{◌≡◌, ◌++◌, map, drop}
 use Rattle.rx_tree.specs.PlainOf.{plain-Pattern, plain-FieldPattern, patterns_of, field_patterns_of}
 use Rattle.rx_typed.specs.Naming.{of_patterns, of_field_patterns}
 use Rattle.rx_typed.specs.Elaborated.{subpatterns, field_patterns}
-use Rattle.rx_typed_tree.specs.PlainTree.{plain-Subpattern}
+use Rattle.rx_typed.specs.PlainTree.{plain-Subpattern}
 use Rattle.rx_typeck_elaborate_parts.specs.Coercing.{types_of}
 use Rattle.rx_typeck_elaborate_parts.specs.Listing.{parts_listed}
 use Rattle.rx_typeck_elaborate_parts.specs.Walks.{moved}

@@ -2,7 +2,7 @@ use Rattle.std.proofs.Common.{◌≡◌, ◌++◌, map, drop}
 use Rattle.rx_tree.specs.PlainOf.{plain-Param as plain-ParamTree}
 use Rattle.rx_typed.specs.Naming.{of_parameters}
 use Rattle.rx_typed.specs.Elaborated as elaborated
-use Rattle.rx_typed_tree.specs.PlainTree.{plain-Param}
+use Rattle.rx_typed.specs.PlainTree.{plain-Param}
 use Rattle.rx_typeck_elaborate_parts.specs.Walks.{moved}
 use Rattle.rx_typeck_elaborate_parts.proofs.walk.Walk.parameters.Given as goal
 

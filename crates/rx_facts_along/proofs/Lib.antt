@@ -1,6 +1,0 @@
-pub mod Ways
-pub mod Forward
-pub mod Backward
-pub mod Turns
-pub mod Telling
-pub mod Each

@@ -1,0 +1,5 @@
+pub mod NamesMeant
+pub mod Stands
+pub mod Placed
+pub mod Functions
+pub mod Scoped

@@ -1,4 +1,0 @@
-mod Meaning
-mod Outs
-mod Blocks
-mod Runs

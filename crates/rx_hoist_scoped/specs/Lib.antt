@@ -1,4 +1,0 @@
-pub mod Stands
-pub mod Placed
-pub mod Functions
-pub mod Scoped

@@ -1,5 +1,0 @@
-use Rattle.rx_lower_graph.proofs.Sites.{paths_are_walks_of}
-use Rattle.rx_lower_graph.proofs.laws.paths_are_walks.Goals as goal
-
-pub returns : goal.returns
-returns c f w = paths_are_walks_of f w

@@ -1,9 +1,0 @@
-//! The graph of a function.
-#![tactic(auto)]
-
-mod laws;
-
-pub use laws::{
-    actions_are_distinct, neighbours_follow, next_are_sites, paths_are_walks, sites_are_held,
-    sites_stand_in_order,
-};

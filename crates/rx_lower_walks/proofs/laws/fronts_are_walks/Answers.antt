@@ -1,6 +1,0 @@
-use Rattle.std.proofs.Common.{refl}
-use Rattle.rx_lower_walks.proofs.Fronts.{fronts}
-use Rattle.rx_lower_walks.proofs.laws.fronts_are_walks.Goals as goal
-
-pub returns : goal.returns
-returns c s us vs o h = fronts h us vs refl

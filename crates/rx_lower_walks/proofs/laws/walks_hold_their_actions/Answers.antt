@@ -1,5 +1,0 @@
-use Rattle.rx_lower_walks.proofs.Held.{held}
-use Rattle.rx_lower_walks.proofs.laws.walks_hold_their_actions.Goals as goal
-
-pub returns : goal.returns
-returns c s w o h a k = held h a k

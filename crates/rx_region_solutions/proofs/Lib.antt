@@ -1,2 +1,0 @@
-pub mod LeastLaws
-mod Examples

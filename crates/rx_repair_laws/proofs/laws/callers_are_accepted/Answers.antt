@@ -1,5 +1,0 @@
-use Rattle.rx_repair_laws.proofs.Callers.{caller_accepted}
-use Rattle.rx_repair_laws.proofs.laws.callers_are_accepted.Goals as goal
-
-pub returns : goal.returns
-returns c D P i bs all f ne = caller_accepted D P i bs all f ne

@@ -1,5 +1,0 @@
-use Rattle.rx_repair_laws.proofs.Existing.{least_sets, are_least}
-use Rattle.rx_repair_laws.proofs.laws.least_sets_exist.Goals as goal
-
-pub returns : goal.returns
-returns c C g = (least_sets C g, are_least C g)

@@ -1,7 +1,0 @@
-use Rattle.std.proofs.Common.{ap, ◌∙◌}
-use Rattle.rx_resolve_scope.specs.Scopes.{declared_as}
-use Rattle.rx_resolve_scope.proofs.table.Table.get.Goals as goal
-use Rattle.rx_resolve_scope.proofs.Lookups.{lookup_declared}
-
-pub returns : goal.returns
-returns c = c.copied.ensures ∙ c.get.ensures.value ∙ lookup_declared (λ n. n.now) c.args.name.now c.self.inside.names.entries ∙ ap (λ l. declared_as l c.args.name.now) c.self.view_is
