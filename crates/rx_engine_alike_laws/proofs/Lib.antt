@@ -4,3 +4,5 @@ pub mod Same
 pub mod Ways
 pub mod Variables
 pub mod Patterns
+pub mod Giving
+pub mod Units
