@@ -6,3 +6,5 @@ pub mod Variables
 pub mod Patterns
 pub mod Giving
 pub mod Units
+pub mod Found
+pub mod Leaving

@@ -5,6 +5,8 @@ use Rattle.rx_engine_alike_laws.proofs.Variables.{params_so}
 use Rattle.rx_engine_alike_laws.proofs.Patterns.{looks_behind_so}
 use Rattle.rx_engine_alike_laws.proofs.Giving.{pack_so}
 use Rattle.rx_engine_alike_laws.proofs.Units.{are_unit_if}
+use Rattle.rx_engine_alike_laws.proofs.Found.{found_both}
+use Rattle.rx_engine_alike_laws.proofs.Leaving.{number_is}
 use Rattle.rx_engine_alike_laws.proofs.laws.alike_items_are_same.Goals as goal
 
 pub returns : goal.returns
