@@ -8,3 +8,5 @@ pub mod Giving
 pub mod Units
 pub mod Found
 pub mod Leaving
+pub mod Letting
+pub mod Forms

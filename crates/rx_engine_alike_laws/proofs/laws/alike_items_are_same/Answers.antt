@@ -7,6 +7,8 @@ use Rattle.rx_engine_alike_laws.proofs.Giving.{pack_so}
 use Rattle.rx_engine_alike_laws.proofs.Units.{are_unit_if}
 use Rattle.rx_engine_alike_laws.proofs.Found.{found_both}
 use Rattle.rx_engine_alike_laws.proofs.Leaving.{number_is}
+use Rattle.rx_engine_alike_laws.proofs.Letting.{let_rest}
+use Rattle.rx_engine_alike_laws.proofs.Forms.{body_so}
 use Rattle.rx_engine_alike_laws.proofs.laws.alike_items_are_same.Goals as goal
 
 pub returns : goal.returns
