@@ -9,4 +9,6 @@ pub mod Units
 pub mod Found
 pub mod Leaving
 pub mod Letting
+pub mod Unmarked
 pub mod Forms
+pub mod Functions
