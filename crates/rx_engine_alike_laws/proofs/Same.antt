@@ -1,5 +1,5 @@
 -- What the tests of being the same say.
-use Rattle.std.proofs.Common.{◌≡◌, ℕ, zero, suc, nat_eq, Bool, true, false, ◌&&◌, ◌||◌, ℤ, pos, negsuc, List, [], ◌∷◌, length, refl, ap, subst, inl, inr, eq-eqb}
+use Rattle.std.proofs.Common.{◌≡◌, ℕ, zero, suc, Bool, true, false, ℤ, pos, negsuc, List, [], ◌∷◌, length, refl, ap, subst, inl, inr, eq-eqb}
 use Rattle.rx_core.specs.declared.types.Kind.{Kind}
 use Rattle.rx_core.specs.declared.types.Kind.TheVariants as kind
 use Rattle.rx_tree.specs.declared.tree.BinaryOp.{BinaryOp}
@@ -8,8 +8,8 @@ use Rattle.rx_typed.specs.Tree as tree
 use Rattle.rx_typed.specs.Tree.{Constant, Making}
 use Rattle.rx_lower_walks.specs.Matching.{Check, has_tag, equals}
 use Rattle.rx_engine_simulation.specs.Fits.{Has, HasAll, Complete, Fitting}
-use Rattle.rx_engine_alike.specs.Same.{same_bool, same_integer, same_kind, same_constant, same_check, same_operator, has, has_all, is_complete, like_making}
-use Rattle.rx_engine_alike_laws.proofs.Promised.{Says, says, silent, so, and_so, and_with, or_says, equal_so}
+use Rattle.rx_engine_alike.specs.Same.{same_bool, same_integer, same_kind, same_constant, same_check, same_operator, has, has_all, like_making}
+use Rattle.rx_engine_alike_laws.proofs.Promised.{Says, says, silent, so, and_so, or_says, equal_so}
 
 pub same_bool_so : (a b : Bool) → Says (a ≡ b) (same_bool a b)
 same_bool_so true true = says refl
