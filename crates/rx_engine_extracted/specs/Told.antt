@@ -31,15 +31,15 @@ pub record Told : Type 0 where
 
 -- params that are copied, or of which the reference is asked for again: nothing is to be written to them meanwhile
 abbrev pub is_closed : List ℕ → ℕ → Mode → Bool
-is_closed special x mode.Value = not (is_in x special)
-is_closed special x mode.Shared = false
-is_closed special x mode.Mut = false
-is_closed special x mode.Reborrow = true
-is_closed special x mode.View = true
+is_closed moved x mode.Value = not (is_in x moved)
+is_closed moved x mode.Shared = false
+is_closed moved x mode.Mut = false
+is_closed moved x mode.Reborrow = true
+is_closed moved x mode.View = true
 
 abbrev pub closed_of : List ℕ → List ℕ → List Mode → List ℕ
-closed_of special (x ∷ xs) (m ∷ ms) = if is_closed special x m then x ∷ closed_of special xs ms else closed_of special xs ms
-closed_of special _ _ = []
+closed_of moved (x ∷ xs) (m ∷ ms) = if is_closed moved x m then x ∷ closed_of moved xs ms else closed_of moved xs ms
+closed_of moved _ _ = []
 
 abbrev pub closed_in : Told → List ℕ
 closed_in T = closed_of T.elsewhere T.plan.params T.modes
