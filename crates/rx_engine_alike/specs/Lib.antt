@@ -4,6 +4,7 @@ pub mod Same
 pub mod Ways
 pub mod Variables
 pub mod Patterns
+pub mod Items
 pub mod Units
 pub mod Giving
 pub mod Leaving

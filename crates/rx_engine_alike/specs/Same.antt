@@ -7,7 +7,6 @@ use Rattle.rx_tree.specs.declared.tree.BinaryOp.{BinaryOp}
 use Rattle.rx_tree.specs.declared.tree.BinaryOp.TheVariants as operator
 use Rattle.rx_typed.specs.Tree as tree
 use Rattle.rx_typed.specs.Tree.{Constant, Making}
-use Rattle.rx_lower_walks.specs.Matching.{Check, has_tag, equals}
 
 abbrev pub same_bool : Bool → Bool → Bool
 same_bool true true = true
@@ -31,11 +30,6 @@ abbrev pub same_constant : Constant → Constant → Bool
 same_constant (tree.whole_number k i) (tree.whole_number l j) = same_kind k l && same_integer i j
 same_constant (tree.truth b) (tree.truth c) = same_bool b c
 same_constant _ _ = false
-
-abbrev pub same_check : Check → Check → Bool
-same_check (has_tag v) (has_tag w) = nat_eq v w
-same_check (equals c) (equals d) = same_constant c d
-same_check _ _ = false
 
 abbrev pub same_operator : BinaryOp → BinaryOp → Bool
 same_operator operator.Or operator.Or = true
