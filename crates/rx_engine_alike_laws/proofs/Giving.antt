@@ -103,7 +103,7 @@ gives_variant_so v qs _ = silent
 
 -- ---- variables that are elsewhere
 
-special_so : (h : How) → Says (h ≡ special) (is_special h)
+pub special_so : (h : How) → Says (h ≡ special) (is_special h)
 special_so special = says refl
 special_so _ = silent
 
