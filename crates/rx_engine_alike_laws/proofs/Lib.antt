@@ -12,3 +12,4 @@ pub mod Letting
 pub mod Unmarked
 pub mod Forms
 pub mod Functions
+mod Examples
