@@ -19,7 +19,7 @@ m n = record { node = n; typ = None }
 abbrev counted : ℕ → ℕ → ℕ → Body
 counted x y l = tree.lets 3 (tree.bind 4 y (tree.by_value true)) (tree.of_value (tree.build (m 5) (tree.constant (tree.whole_number kind.I64 (pos 0))) tree.no_operand))
     (tree.runs (tree.loop (m 6) l (tree.choose (m 7) (tree.at_place (m 8) (own y)) (tree.arm_and (tree.exactly 9 (tree.whole_number kind.I64 (pos 3))) (tree.jump (m 10) l false)
-        (tree.arm_and tree.any (tree.update (m 11) operator.Add (own y) (tree.read (m 12) true (own x))) tree.no_arm)))) (tree.ends (tree.give (m 2) (tree.read (m 13) true (own y)))))
+    (tree.arm_and tree.any (tree.update (m 11) operator.Add (own y) (tree.read (m 12) true (own x))) tree.no_arm)))) (tree.ends (tree.give (m 2) (tree.read (m 13) true (own y)))))
 
 abbrev counting : ℕ → ℕ → ℕ → ℕ → Function
 counting n x y l = record { params = record { node = 1; variable = x } ∷ []; body = tree.block (m n) (counted x y l) }
