@@ -1,3 +1,4 @@
+pub mod Undeclared
 pub mod Weaker
 pub mod Freed
 pub mod Same

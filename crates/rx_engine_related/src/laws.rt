@@ -1,6 +1,6 @@
 //! Laws, each the contract of a function that does nothing.
 
-ghost use Rattle.std.specs.Prelude.{◌*◌, ℕ, ℤ, Bool, List as ListOf, Option as OptionOf};
+ghost use Rattle.std.specs.Prelude.{◌≡◌, ◌*◌, ℕ, ℤ, Bool, List as ListOf, Option as OptionOf};
 ghost use Rattle.rx_typed.specs.Tree.{Function};
 ghost use Rattle.rx_exits_plan.specs.Asked.{Asked};
 ghost use Rattle.rx_exits_plan.specs.Plan.{Plan};
@@ -29,4 +29,9 @@ pub fn extracted_programs_run_alike()
 pub fn alike_items_are_the_same()
     ensures same { (items : ℕ → ℕ) (o p : OptionOf (OptionOf Function)) → LikeEntry items no_openings without_turns o p → SameEntry items o p }
     ensures itself { (P : Program) → ((f : ℕ) → LikeEntry (λ f. f) no_openings without_turns (element P.functions f) (element P.functions f)) → EachIsItself P }
+{}
+
+/// Scratch.
+pub fn scratch()
+    ensures { (n : ℕ) → n ≡ n }
 {}
