@@ -1,4 +1,5 @@
 pub mod Undeclared
+pub mod Inside
 pub mod Weaker
 pub mod Freed
 pub mod Same

@@ -105,16 +105,16 @@ module _ (x : ℕ) where
   testing_away S [] r h = h
   testing_away S (t ∷ ts) r h = ((λ d. d), (testing_away S ts r h, tt))
 
-  taking_away : (n : ℕ) (m : Mode) (S : Subject) (ss : List Step) (d : Temporary) → Undeclared (perhaps n (taking m S ss d))
+  pub taking_away : (n : ℕ) (m : Mode) (S : Subject) (ss : List Step) (d : Temporary) → Undeclared (perhaps n (taking m S ss d))
   taking_away n (by_reference v) S ss d = λ q. q
   taking_away n (by_value v) (in_place p) ss d = λ q. q
   taking_away n (by_value v) (in_temporary t) ss d = tt
 
-  binding_away : (S : Subject) (bs : List Binding) (n : ℕ) (r : Order) → Away (all_declared (map (λ (b : Binding). b.variable) bs)) → Undeclared r → Undeclared (binding S bs n r)
+  pub binding_away : (S : Subject) (bs : List Binding) (n : ℕ) (r : Order) → Away (all_declared (map (λ (b : Binding). b.variable) bs)) → Undeclared r → Undeclared (binding S bs n r)
   binding_away S [] n r i h = h
   binding_away S (b ∷ bs) n r i h = (taking_away b.node b.mode S b.steps (temporary_at b.node 0), (i.0, ((λ d. d), binding_away S bs n r i.1 h)))
 
-  declaring_away : (s : ℕ) (ys : List ℕ) (n : ℕ) (r : Order) → Away (all_declared ys) → Undeclared r → Undeclared (declaring s ys n r)
+  pub declaring_away : (s : ℕ) (ys : List ℕ) (n : ℕ) (r : Order) → Away (all_declared ys) → Undeclared r → Undeclared (declaring s ys n r)
   declaring_away s [] n r i h = h
   declaring_away s (y ∷ ys) n r i h = (i.0, declaring_away s ys n r i.1 h)
 

@@ -1,5 +1,5 @@
 use Rattle.std.proofs.Common.{refl}
-use Rattle.rx_engine_related.proofs.Undeclared.{exp_away}
+use Rattle.rx_engine_related.proofs.Inside.{TellsIn}
 use Rattle.rx_engine_related.proofs.laws.scratch.Goals as goal
 
 pub returns : goal.returns
