@@ -32,7 +32,7 @@ use Rattle.rx_engine_histories.proofs.Sole.{weighed, Free, AllFree, all_free, ta
 use Rattle.rx_engine_histories.proofs.Leading.{Loops, Forms, act_with, of_binding_part, of_declaring_part, of_beginning_part, Changing, no_weight, grown}
 use Rattle.rx_engine_related.proofs.Undeclared.{Undeclared, Away, away_front, away_rest, away_of, walk_away, binding_away, declaring_away, taking_away, exp_away, matched_away}
 
-any_loops : (s : Order) → Loops (λ l. Unit {0}) s
+pub any_loops : (s : Order) → Loops (λ l. Unit {0}) s
 any_loops order.nothing = tt
 any_loops order.nowhere = tt
 any_loops (order.act a) = tt

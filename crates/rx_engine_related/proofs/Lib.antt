@@ -1,5 +1,6 @@
 pub mod Undeclared
 pub mod Inside
+pub mod Entry
 pub mod Weaker
 pub mod Freed
 pub mod Same
