@@ -243,7 +243,7 @@ module _ (F : Frame) where
       by false f = absurd (none_some f)
 
   abbrev Jumps : Option ℕ → Pack → Type 0
-  Jumps o p = (mj : Mark) × (d : ℕ) × (o ≡ Some d) × BackArm asked_loop (true ∷ []) around arms_of p (tree.jump mj d false)
+  Jumps o p = (mj : Mark) × (d : ℕ) × (o ≡ Some d) × BackArm asked_loop (true ∷ []) plan_loop around arms_of p (tree.jump mj d false)
 
   breaks_on : (n : ℕ) (p : Pack) → packed plan_loop n false ≡ Some p → Jumps (loop_of ((0, 0) ∷ []) n) p
   breaks_on n p f = by (n == 0) refl f
@@ -291,6 +291,6 @@ module _ (F : Frame) where
     };
   }
     where
-      on : (n : ℕ) (again : Bool) (p : Pack) → packed plan_loop n again ≡ Some p → (mj : Mark) × (d : ℕ) × (loop_of ((0, 0) ∷ []) n ≡ Some d) × BackArm asked_loop (true ∷ []) around arms_of p (tree.jump mj d again)
+      on : (n : ℕ) (again : Bool) (p : Pack) → packed plan_loop n again ≡ Some p → (mj : Mark) × (d : ℕ) × (loop_of ((0, 0) ∷ []) n ≡ Some d) × BackArm asked_loop (true ∷ []) plan_loop around arms_of p (tree.jump mj d again)
       on n true p f = absurd (none_some f)
       on n false p f = breaks_on n p f
