@@ -1,5 +1,5 @@
 use Rattle.std.proofs.Common.{refl}
-use Rattle.rx_engine_related.proofs.Locals.{local_unlent}
+use Rattle.rx_engine_related.proofs.Examples.{local_extracts}
 use Rattle.rx_engine_related.proofs.laws.scratch.Goals as goal
 
 pub returns : goal.returns
