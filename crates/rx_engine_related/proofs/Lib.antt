@@ -6,6 +6,7 @@ pub mod Freed
 pub mod Same
 pub mod Loops
 pub mod Specials
+pub mod Outs
 pub mod Locals
 pub mod Entering
 pub mod Moving
