@@ -1,25 +1,25 @@
 -- The mark where the run is entered stands once in the text that runs: form by form, an order has no more of them than its tree has blocks of
 -- the run's node.
-use Rattle.std.proofs.Common.{◌≡◌, ℕ, ◌+◌, ◌*◌, ◌≤◌, ◌==◌, if◌then◌else◌, Bool, true, false, List, [], ◌∷◌, map, drop, refl, sym, ap, ◌∙◌, arith}
-use Rattle.rx_typed.specs.Tree.{Temporary, Mark, jump, Body, ends, runs, Function, mark_of, temporary_of}
+use Rattle.std.proofs.Common.{◌≡◌, ℕ, ◌+◌, ◌*◌, ◌≤◌, ◌==◌, if◌then◌else◌, Bool, true, false, List, [], ◌∷◌, map, drop, refl, ap, arith}
+use Rattle.rx_typed.specs.Tree.{Temporary, Mark, jump, Body, ends, Function, mark_of, temporary_of}
 use Rattle.rx_lower_walks.specs.Matching.{bindings}
-use Rattle.rx_lower_walks.specs.Actions.{Action, subject}
+use Rattle.rx_lower_walks.specs.Actions.{subject}
 use Rattle.rx_lower_walks.specs.Orders.{Order, binding, order, order_scrutinee, order_body, order_function}
 use Rattle.rx_lower_walks.specs.Orders as orders
 use Rattle.rx_exits_marks.specs.Blocks.{Statement, does, begins, binds, statements, tail, before}
 use Rattle.rx_exits_marks.specs.Spots.{Around, Spot, a_block, a_jump, a_return, spots, spots_matched, outermost, spots_of_function}
 use Rattle.rx_exits_marks.specs.Runs.{Run, in_front, inside, behind}
-use Rattle.rx_exits_marks.specs.Points.{Point, enters, leaves, next, jump_exit, number}
+use Rattle.rx_exits_marks.specs.Points.{enters, leaves, jump_exit, number}
 use Rattle.rx_exits_marks.specs.Changed.{changed, changed_matched, changed_statement}
-use Rattle.rx_exits_marks.specs.Marked.{mark, mark_then, shown, is_among, using, entering, ended}
+use Rattle.rx_exits_marks.specs.Marked.{mark_then, shown, is_among, using, entering, ended}
 use Rattle.rx_exits_marks.specs.Coming.{HasNoMark}
 use Rattle.rx_exits_plan.specs.Occurrences.{is_declared_in_run}
 use Rattle.rx_engine_histories.specs.OneSite.{StandsOnce}
 use Rattle.rx_engine_histories.specs.Running.{passing, running_body, in_the_block, running}
-use Rattle.rx_engine_histories.proofs.Counting.{one_if, is_it, count, stands_once}
+use Rattle.rx_engine_histories.proofs.Counting.{one_if, count, stands_once}
 use Rattle.rx_engine_histories.proofs.Bare.{NoMarks, no_marks, none_counted}
-use Rattle.rx_engine_histories.proofs.Sole.{weighed, Light, Free, AllFree, all_free, take_free, drop_free, light, differ, jump_weight, passing_light, free, of_beginning, anywhere}
-use Rattle.rx_engine_histories.proofs.Leading.{Loops, Forms, of_binding_part, of_declaring_part, of_beginning_part, Changing, no_weight, grown, grown_matched}
+use Rattle.rx_engine_histories.proofs.Sole.{weighed, Light, AllFree, all_free, take_free, drop_free, light, differ, jump_weight, passing_light, free, of_beginning, anywhere}
+use Rattle.rx_engine_histories.proofs.Leading.{Forms, of_binding_part, of_declaring_part, of_beginning_part, Changing, no_weight, grown, grown_matched}
 use Rattle.rx_engine_related.proofs.Inside.{any_loops, weighs}
 
 -- at most so many
@@ -58,7 +58,8 @@ unpassed c (does e ∷ ss) b n d h f = in_two c (order e (temporary_of e)) (orde
 unpassed c (begins s ys ∷ ss) b n d h f = of_declaring_part 0 Any AtMost forms c s ys n (order_body (before ss b) n d) (unpassed c ss b n d h.1 f)
 unpassed c (binds s p q ∷ ss) b n d h f =
     let r : Order = order_body (before ss b) n d in
-    in_two c (order_scrutinee q) (binding (subject q) (bindings [] p) n r) (unmarked (order_scrutinee q) h.0) (of_binding_part 0 Any AtMost forms c (subject q) (bindings [] p) n r (unpassed c ss b n d h.1 f))
+    in_two c (order_scrutinee q) (binding (subject q) (bindings [] p) n r) (unmarked (order_scrutinee q) h.0)
+        (of_binding_part 0 Any AtMost forms c (subject q) (bindings [] p) n r (unpassed c ss b n d h.1 f))
 
 -- no jump's mark is one
 other_number : (l : ℕ) (again : Bool) → (number (leaves (jump_exit l again)) == 0) ≡ false
@@ -85,10 +86,12 @@ weightless (a_return a n ∷ ss) = weightless ss
 abbrev nowhere_around : Around
 nowhere_around = record { scope = []; loops = [] }
 
-passed : (ls : List ℕ) (ss : List Statement) (b : Body) (n : ℕ) (d : Temporary) → AllFree ss → AtMost 0 (order_body b n d) → AtMost 0 (order_body (before (map (changed_statement (passing ls)) ss) b) n d)
+passed : (ls : List ℕ) (ss : List Statement) (b : Body) (n : ℕ) (d : Temporary) → AllFree ss → AtMost 0 (order_body b n d)
+    → AtMost 0 (order_body (before (map (changed_statement (passing ls)) ss) b) n d)
 passed ls [] b n d h f = f
 passed ls (does e ∷ ss) b n d h f =
-    let g = grown 0 Any AtMost forms (passing ls) light (passing_forms ls) light (jump_weight 0 ls) (passing_light 0 ls) e nowhere_around (temporary_of (changed (passing ls) e)) (temporary_of e) h.0 (any_loops (order e (temporary_of e))) in
+    let g = grown 0 Any AtMost forms (passing ls) light (passing_forms ls) light (jump_weight 0 ls) (passing_light 0 ls) e nowhere_around (temporary_of (changed (passing ls) e))
+        (temporary_of e) h.0 (any_loops (order e (temporary_of e))) in
     let z = weightless (spots nowhere_around e) in
     let r = passed ls ss b n d h.1 f in
     omega (arith, g, z, r)
@@ -96,7 +99,8 @@ passed ls (begins s ys ∷ ss) b n d h f = of_declaring_part 0 Any AtMost forms 
 passed ls (binds s p c ∷ ss) b n d h f =
     let g = grown_matched 0 Any AtMost forms (passing ls) light (passing_forms ls) light (jump_weight 0 ls) (passing_light 0 ls) c nowhere_around h.0 (any_loops (order_scrutinee c)) in
     let z = weightless (spots_matched nowhere_around c) in
-    let r = of_binding_part 0 Any AtMost forms 0 (subject (changed_matched (passing ls) c)) (bindings [] p) n (order_body (before (map (changed_statement (passing ls)) ss) b) n d) (passed ls ss b n d h.1 f) in
+    let r = of_binding_part 0 Any AtMost forms 0 (subject (changed_matched (passing ls) c)) (bindings [] p) n (order_body (before (map (changed_statement (passing ls)) ss) b) n d)
+        (passed ls ss b n d h.1 f) in
     omega (arith, g, z, r)
 
 used : (ys : List ℕ) (b : Body) (n : ℕ) (d : Temporary) → AtMost 0 (order_body b n d) → AtMost 0 (order_body (before (map using ys) b) n d)
@@ -148,5 +152,6 @@ module _ (x : ℕ) (r : Run) (ls xs : List ℕ) where
       let C = in_the_block r ls xs in
       let n = of_beginning f.params (mark_of f.body).node (order f.body (temporary_of f.body)) (no_marks (order_function f) h.none) in
       let z = of_beginning_part 0 Any AtMost forms _ f.params (mark_of (changed C f.body)).node (order (changed C f.body) (temporary_of (changed C f.body)))
-          (grown 0 Any AtMost forms C (weighs x r) placing (weighs x r) free weighing f.body (outermost f) (temporary_of (changed C f.body)) (temporary_of f.body) n (any_loops (order f.body (temporary_of f.body)))) in
+          (grown 0 Any AtMost forms C (weighs x r) placing (weighs x r) free weighing f.body (outermost f) (temporary_of (changed C f.body)) (temporary_of f.body) n
+              (any_loops (order f.body (temporary_of f.body)))) in
       stands_once (running r ls xs f) enters (omega (arith, z, few))

@@ -2,7 +2,7 @@
 -- declare: form by form, a mark of the exit stands in no part but the run's block, and in it behind the run's entry.
 use Rattle.std.proofs.Common.{◌≡◌, inl, inr, ◌⊎◌, ℕ, ◌+◌, ◌≤◌, ◌==◌, if◌then◌else◌, Bool, true, false, List, [], ◌∷◌, ◌++◌, map, drop, suc, refl, sym, ap, ◌∙◌, subst, true≢false, arith}
 use Rattle.std.proofs.lemmas.Bool.Decides.{Decides-eqb}
-use Rattle.rx_typed.specs.Tree.{Temporary, temporary_at, runs, Body, ends, Function, mark_of, temporary_of}
+use Rattle.rx_typed.specs.Tree.{Temporary, Body, ends, runs, Function, mark_of, temporary_at, temporary_of}
 use Rattle.rx_lower_walks.specs.Matching.{Binding, bindings}
 use Rattle.rx_lower_walks.specs.Actions.{Declare, Dead, Action, does, Subject, subject, taken, declared, written}
 use Rattle.rx_lower_walks.specs.Orders.{exit_node, Order, perhaps, binding, declaring, order, order_scrutinee, order_body, order_function}
@@ -10,27 +10,25 @@ use Rattle.rx_lower_walks.specs.Orders as order
 use Rattle.rx_lower_walks.specs.Walks.{Out, on, fails, IsAway, DoesNotFail, Passed, Walk, rests, stops, nothing, acts, both, first, one, other, leave, fail, holds, next, ends, jumps, halts, last, more, Among, here, there}
 use Rattle.rx_lower_walks.specs.Walks as walk
 use Rattle.rx_exits_marks.specs.Blocks as block
-use Rattle.rx_exits_marks.specs.Blocks.{Statement, statements, tail, before}
+use Rattle.rx_exits_marks.specs.Blocks.{Statement, statements, tail, before, bound}
 use Rattle.rx_exits_marks.specs.Spots.{Around, Spot, a_block, a_jump, a_return, outermost, spots_of_function}
-use Rattle.rx_exits_marks.specs.Runs.{Run, in_front, inside, behind}
+use Rattle.rx_exits_marks.specs.Runs.{Run, in_front, inside, behind, last_value}
 use Rattle.rx_exits_marks.specs.Points as point
 use Rattle.rx_exits_marks.specs.Points.{Exit, Point, enters, leaves, number}
 use Rattle.rx_exits_marks.specs.Changed.{changed, changed_matched, changed_statement}
 use Rattle.rx_exits_marks.specs.Marked.{mark, shown, using, entering, ended}
 use Rattle.rx_exits_marks.specs.Unmarked.{is_mark}
 use Rattle.rx_exits_marks.specs.Coming.{HasNoMark}
-use Rattle.rx_exits_plan.specs.Occurrences.{all_declared, occurrences, occurrences_matched, in_statement, in_statements, in_run, in_value, is_declared_in_run}
-use Rattle.rx_exits_marks.specs.Blocks.{bound}
-use Rattle.rx_exits_marks.specs.Runs.{last_value}
+use Rattle.rx_exits_plan.specs.Occurrences.{all_declared, occurrences, occurrences_matched, in_statements, in_run, in_value, is_declared_in_run}
 use Rattle.rx_engine_simulation.specs.Histories.{Declares, put}
 use Rattle.rx_engine_simulation.specs.Programs.{back, IsHistory}
 use Rattle.rx_engine_histories.specs.OneSite.{blocks_at}
 use Rattle.rx_engine_histories.specs.Running.{passing, running_body, in_the_block, running}
 use Rattle.rx_engine_histories.proofs.Counting.{one_if, is_it}
 use Rattle.rx_engine_histories.proofs.Bare.{NoMarks, no_marks}
-use Rattle.rx_engine_histories.proofs.Sole.{weighed, Free, AllFree, all_free, take_free, drop_free, of_run, free, block_light, block_there, of_beginning, anywhere, anywhere_body}
-use Rattle.rx_engine_histories.proofs.Leading.{Loops, Forms, act_with, of_binding_part, of_declaring_part, of_beginning_part, Changing, no_weight, grown}
-use Rattle.rx_engine_related.proofs.Undeclared.{Undeclared, Away, away_front, away_rest, away_of, walk_away, binding_away, declaring_away, taking_away, exp_away, matched_away}
+use Rattle.rx_engine_histories.proofs.Sole.{weighed, AllFree, all_free, take_free, drop_free, of_run, free, block_light, block_there, of_beginning, anywhere}
+use Rattle.rx_engine_histories.proofs.Leading.{Loops, Forms, of_binding_part, of_declaring_part, of_beginning_part, Changing, no_weight, grown}
+use Rattle.rx_engine_related.proofs.Undeclared.{Undeclared, Away, away_front, away_rest, away_of, walk_away, taking_away, exp_away, matched_away}
 
 pub any_loops : (s : Order) → Loops (λ l. Unit {0}) s
 any_loops order.nothing = tt
@@ -201,7 +199,8 @@ module _ (x : ℕ) where
     used_in [] b n d f = f
     used_in (y ∷ ys) b n d f = then_in _ (order_body (before (map using ys) b) n d) (λ q. q) (used_in ys b n d f)
 
-    passed_in : (ls : List ℕ) (ss : List Statement) (b : Body) (n : ℕ) (d : Temporary) → Away x (in_statements ss) → TellsIn (order_body b n d) → TellsIn (order_body (before (map (changed_statement (passing ls)) ss) b) n d)
+    passed_in : (ls : List ℕ) (ss : List Statement) (b : Body) (n : ℕ) (d : Temporary) → Away x (in_statements ss) → TellsIn (order_body b n d)
+        → TellsIn (order_body (before (map (changed_statement (passing ls)) ss) b) n d)
     passed_in ls [] b n d i f = f
     passed_in ls (block.does e ∷ ss) b n d i f =
         then_in (order (changed (passing ls) e) (temporary_of (changed (passing ls) e))) _ (exp_away x ls e (temporary_of (changed (passing ls) e)) (away_front x (occurrences e) (in_statements ss) i))
@@ -299,7 +298,8 @@ module _ (x : ℕ) where
     unpassed (block.does c ∷ ss) b n d h f = tells_then m refl (order c (temporary_of c)) _ (unmarked_tells m refl (order c (temporary_of c)) h.0) (unpassed ss b n d h.1 f)
     unpassed (block.begins s ys ∷ ss) b n d h f = of_declaring_part k Any Part forms 0 s ys n _ (λ i. unpassed ss b n d h.1 f) (omega arith)
     unpassed (block.binds s p c ∷ ss) b n d h f =
-        tells_then m refl (order_scrutinee c) _ (unmarked_tells m refl (order_scrutinee c) h.0) (of_binding_part k Any Part forms 0 (subject c) (bindings [] p) n _ (λ i. unpassed ss b n d h.1 f) (omega arith))
+        tells_then m refl (order_scrutinee c) _ (unmarked_tells m refl (order_scrutinee c) h.0) (of_binding_part k Any Part forms 0 (subject c) (bindings [] p) n _
+            (λ i. unpassed ss b n d h.1 f) (omega arith))
 
     run_says : (r : Run) (ls xs : List ℕ) (b : Body) (n : ℕ) (d f : Temporary) → is_declared_in_run r b x ≡ false → NoMarks (order_body b n f) → Says (order_body (running_body r ls xs b) n d)
     run_says r ls xs b n d f none h =
@@ -333,10 +333,12 @@ module _ (x : ℕ) where
         let C = in_the_block r ls xs in
         let n = of_beginning f.params (mark_of f.body).node (order f.body (temporary_of f.body)) (no_marks (order_function f) h.none) in
         of_beginning_part k Any Part forms _ f.params (mark_of (changed C f.body)).node (order (changed C f.body) (temporary_of (changed C f.body)))
-        (grown k Any Part forms C (weighs r) (placing r ls xs) (of_run k ls r) free (block_light k later r ls xs) f.body (outermost f) (temporary_of (changed C f.body)) (temporary_of f.body) n (any_loops (order f.body (temporary_of f.body)))) few
+        (grown k Any Part forms C (weighs r) (placing r ls xs) (of_run k ls r) free (block_light k later r ls xs) f.body (outermost f) (temporary_of (changed C f.body))
+            (temporary_of f.body) n (any_loops (order f.body (temporary_of f.body)))) few
 
     -- a history that comes to the exit's mark
-    pub came_in : (r : Run) (ls xs : List ℕ) (f : Function) → HasNoMark (order_function f) → weighed (weighs r) no_weight (spots_of_function f) ≤ 1 → (h : List Action) → IsHistory (running r ls xs f) (shown (leaves e) ∷ h) → IsIn h
+    pub came_in : (r : Run) (ls xs : List ℕ) (f : Function) → HasNoMark (order_function f) → weighed (weighs r) no_weight (spots_of_function f) ≤ 1 → (h : List Action)
+        → IsHistory (running r ls xs f) (shown (leaves e) ∷ h) → IsIn h
     came_in r ls xs f bare few h q = (told_at m refl h (shown (leaves e) ∷ q.0) (text_says r ls xs f bare few (back (shown (leaves e) ∷ h) q.0) q.1 q.2)).0 refl
 
   -- ---- one block has the run's node, and its run does not declare the variable
@@ -352,7 +354,8 @@ module _ (x : ℕ) where
   no_block r (a_jump a n j again ∷ ss) h = let z = no_block r ss h in omega (arith, z)
   no_block r (a_return a n ∷ ss) h = no_block r ss h
 
-  pub one_block : (r : Run) (c : Around) (w : Body) → is_declared_in_run r w x ≡ false → (ss : List Spot) → Among (a_block c r.block w) ss → blocks_at r.block ss ≤ 1 → weighed (weighs r) no_weight ss ≤ 1
+  pub one_block : (r : Run) (c : Around) (w : Body) → is_declared_in_run r w x ≡ false → (ss : List Spot) → Among (a_block c r.block w) ss → blocks_at r.block ss ≤ 1
+      → weighed (weighs r) no_weight ss ≤ 1
   one_block r c w e [] i h = elim i [ ]
   one_block r c w e (a_block _ _ _ ∷ ss) here h = by (r.block == r.block) ((Decides-eqb r.block r.block).1 refl) h
     where
@@ -360,7 +363,8 @@ module _ (x : ℕ) where
       counted true q z = absurd (true≢false q)
       counted false q z = omega (arith, z)
 
-      by : (t : Bool) → t ≡ true → (if t then suc (blocks_at r.block ss) else blocks_at r.block ss) ≤ 1 → (if t then (if is_declared_in_run r w x then 2 else 1) else 0) + weighed (weighs r) no_weight ss ≤ 1
+      by : (t : Bool) → t ≡ true → (if t then suc (blocks_at r.block ss) else blocks_at r.block ss) ≤ 1 → (if t then (if is_declared_in_run r w x then 2 else 1) else 0)
+          + weighed (weighs r) no_weight ss ≤ 1
       by true q g = counted (is_declared_in_run r w x) e (no_block r ss (omega (arith, g)))
       by false q g = absurd (true≢false (sym q))
   one_block r c w e (a_block a n b ∷ ss) (there i) h = by (n == r.block) h (λ g. one_block r c w e ss i g)

@@ -1,7 +1,7 @@
 -- A local that is handed out is lent on no history that comes where the run is entered. For with what such a history lends, a walk goes on in
 -- the run to the exit's mark, where the variable is needed; it isn't where the run is entered, so it is written between, and what may be
 -- elsewhere is not written once it was lent.
-use Rattle.std.proofs.Common.{◌≡◌, ◌≢◌, ◌⊎◌, inl, inr, ℕ, ◌==◌, Bool, true, false, not, ◌≤◌, List, [], ◌∷◌, ◌++◌, refl, sym, ap, ◌∙◌, subst, append-nil, append_assoc, arith}
+use Rattle.std.proofs.Common.{◌≡◌, ◌≢◌, inl, inr, ℕ, ◌==◌, Bool, true, false, not, ◌≤◌, List, [], ◌∷◌, ◌++◌, refl, sym, ap, ◌∙◌, subst, append-nil, append_assoc, arith}
 use Rattle.rx_core.specs.declared.types.Step.{Step}
 use Rattle.rx_typed.specs.Tree.{Temporary, Body, runs, Function}
 use Rattle.rx_lower_walks.specs.Actions.{Act, Declare, Dead, Read, Write, Borrow, Test, Call, Build, Input, Print, Give, Action}
@@ -68,7 +68,8 @@ not_returned (breaks l) n q = let i : number (leaves (breaks l)) ≡ 2 = ap (λ 
 not_returned (continues l) n q = let i : number (leaves (continues l)) ≡ 2 = ap (λ (a : Action). a.node) q in absurd (omega (arith, i))
 not_returned returns n q = n refl
 
-module _ (A : Asked) (muts : List Bool) (k : Plan) (had : Held A muts k) (u : Untouched (running_of A k.params) (about_run A k)) (x : ℕ) (local : Among x k.locals) (e : Exit) (exits : Among e k.exits) (out : Among x (k.outs e)) where
+module _ (A : Asked) (muts : List Bool) (k : Plan) (had : Held A muts k) (u : Untouched (running_of A k.params) (about_run A k)) (x : ℕ) (local : Among x k.locals) (e : Exit)
+    (exits : Among e k.exits) (out : Among x (k.outs e)) where
   abbrev text : Function
   text = running_of A k.params
 

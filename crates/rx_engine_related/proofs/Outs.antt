@@ -71,7 +71,8 @@ not_listed x (y ∷ l) h = by (x == y) refl (not_listed x l h.1)
 not_direct : (x : ℕ) (ss : List Statement) → Away x (in_statements ss) → has_number x (declared_by_all ss) ≡ false
 not_direct x [] h = refl
 not_direct x (does e ∷ ss) h = not_direct x ss (away_rest x (occurrences e) (in_statements ss) h)
-not_direct x (begins s ys ∷ ss) h = neither x ys (declared_by_all ss) (not_listed x ys (away_front x (all_declared ys) (in_statements ss) h)) (not_direct x ss (away_rest x (all_declared ys) (in_statements ss) h))
+not_direct x (begins s ys ∷ ss) h = neither x ys (declared_by_all ss) (not_listed x ys (away_front x (all_declared ys) (in_statements ss) h))
+    (not_direct x ss (away_rest x (all_declared ys) (in_statements ss) h))
 not_direct x (binds s p c ∷ ss) h =
     let i = away_front x (all_declared (bound p) ++ occurrences_matched c) (in_statements ss) h in
     neither x (bound p) (declared_by_all ss) (not_listed x (bound p) (away_front x (all_declared (bound p)) (occurrences_matched c) i))
