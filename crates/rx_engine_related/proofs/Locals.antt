@@ -82,6 +82,7 @@ module _ (A : Asked) (muts : List Bool) (k : Plan) (had : Held A muts k) (u : Un
       none_in : {y : ℕ} → Among y [] → ⊥
       none_in i = elim i [ ]
 
+  -- one block has the run's node, and its run does not declare the variable
   few : weighed (weighs x A.run) no_weight (spots_of_function A.function) ≤ 1
   few =
       let z = of_those (λ y. not (is_declared_in_run A.run A.home.body y)) (variables_of A) (chosen_is had.plan.locals local).0 in
@@ -107,6 +108,7 @@ module _ (A : Asked) (muts : List Bool) (k : Plan) (had : Held A muts k) (u : Un
   -- ---- behind a history that lends it, where the run is entered
 
   module _ (b : Body) (n : ℕ) (t : Temporary) (h : List Action) (comes : ComesTo text (order_body (runs (mark enters) b) n t) h) (lent : Borrowed h x) where
+    -- it goes on from there, and the variable has not begun again
     data From : List Action → Type 0 where
       at_entry : From (shown enters ∷ h)
       and_then : {a : Action} {g : List Action} → (Declares a.act x → ⊥) → From g → From (a ∷ g)
@@ -129,8 +131,8 @@ module _ (A : Asked) (muts : List Bool) (k : Plan) (had : Held A muts k) (u : Un
         record { list = shown enters ∷ h; from = at_entry; walk = subst (λ l. IsWalk text l) (sym (back_both h (shown enters ∷ us))) r }
     again (a ∷ g) us (inr (undeclared, i)) w = let z = again g (a ∷ us) i w in record { list = a ∷ z.list; from = and_then undeclared z.from; walk = z.walk }
 
-    unmarked_kill : (g : List Action) → Living (known_of A k u) x (m ∷ g) → Living (known_of A k u) x g
-    unmarked_kill g l = later m (λ (q : Kills m.act x). none q) l
+    in_front_of_mark : (g : List Action) → Living (known_of A k u) x (m ∷ g) → Living (known_of A k u) x g
+    in_front_of_mark g l = later m (λ (q : Kills m.act x). none q) l
       where
         none : Kills m.act x → ⊥
         none (inl d) = d
@@ -155,7 +157,7 @@ module _ (A : Asked) (muts : List Bool) (k : Plan) (had : Held A muts k) (u : Un
         let i = came_in x e (no_entry e) A.run A.home.around.loops k.params A.function had.unmarked few c.list c.history in
         let z = again c.list (m ∷ []) i (history_walk text (m ∷ c.list) c.history) in
         let q = walk_history text (m ∷ z.list) z.walk in
-        dies z.from (older text m z.list q) (unmarked_kill z.list (running_out_living A had.short k had.plan muts had.accepted u e x no_return (had.one_place e exits no_return) exits out z.list q))
+        dies z.from (older text m z.list q) (in_front_of_mark z.list (running_out_living A had.short k had.plan muts had.accepted u e x no_return (had.one_place e exits no_return) exits out z.list q))
 
   pub local_unlent : (b : Body) → IsUnlent (known_of A k u) (runs (mark enters) b) x
   local_unlent b n t h c lent = never_lent b n t h c lent

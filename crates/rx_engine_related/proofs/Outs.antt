@@ -5,10 +5,10 @@ use Rattle.std.specs.Bool.{Decides}
 use Rattle.std.proofs.lemmas.Bool.Decides.{Decides-eqb}
 use Rattle.rx_lower_walks.specs.Walks.{Among, here, there}
 use Rattle.rx_facts_init.proofs.Fronts.{not_so}
-use Rattle.rx_exits_marks.specs.Blocks.{Statement, does, begins, binds, bound, declared_by, declared_by_all}
+use Rattle.rx_exits_marks.specs.Blocks.{Statement, does, begins, binds, bound, declared_by_all}
 use Rattle.rx_exits_marks.specs.Runs.{inside, last_value}
 use Rattle.rx_exits_marks.specs.Points.{Exit}
-use Rattle.rx_exits_plan.specs.Occurrences.{has_number, all_declared, occurrences, occurrences_matched, in_statement, in_statements, in_run, in_value, is_declared_in_run, is_direct}
+use Rattle.rx_exits_plan.specs.Occurrences.{has_number, all_declared, occurrences, occurrences_matched, in_statements, in_run, in_value, is_declared_in_run, is_direct}
 use Rattle.rx_exits_plan.specs.Asked.{Asked}
 use Rattle.rx_exits_plan.specs.Plan.{Plan, IsPlan, variables_of, foreign_of, is_moved, is_offered}
 use Rattle.rx_exits_plan.specs.MixedInit.{MixedInit}
@@ -21,8 +21,8 @@ use Rattle.rx_modes_policy.specs.Allowed.{one, none, first_row, rows_written, ro
 use Rattle.rx_modes_policy.specs.declared.uses.Mode.TheVariants as mode
 use Rattle.rx_modes_uses.specs.First.{First, this, later}
 use Rattle.rx_modes_uses.specs.Uses.{IsDeclaredMut, IsLiveOut, IsSetIn, IsUses}
-use Rattle.rx_modes_uses.specs.Modes.{PassedIn, Each, no_more, with, IsModes}
-use Rattle.rx_modes_uses.specs.NotMut.{HasNoMode, NotMut}
+use Rattle.rx_modes_uses.specs.Modes.{Each, no_more, with, IsModes}
+use Rattle.rx_modes_uses.specs.NotMut.{NotMut}
 use Rattle.rx_modes_uses.proofs.Deciding.{told, are_uses}
 use Rattle.rx_modes_uses.proofs.Planned.{same_moves}
 use Rattle.rx_modes_uses.proofs.Table.{none_has_none}
