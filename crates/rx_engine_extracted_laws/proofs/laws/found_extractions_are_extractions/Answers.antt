@@ -1,5 +1,5 @@
-use Rattle.rx_engine_extracted_laws.proofs.Stretches.{a_lemma}
+use Rattle.rx_engine_extracted_laws.proofs.Stretches.{in_front}
 use Rattle.rx_engine_extracted_laws.proofs.laws.found_extractions_are_extractions.Goals as goal
 
 pub returns : goal.returns
-returns c = a_lemma
+returns c = λ n. ?
