@@ -2,3 +2,5 @@ pub mod Promised
 pub mod Read
 pub mod Same
 pub mod Ways
+pub mod Variables
+pub mod Patterns
