@@ -49,7 +49,7 @@ module _ (C : Between) (gain : Allowance) (J : Jumping) where
   declare_first : {n s s' : ℕ} {R Ra : Renaming} {xs ys : List ℕ} {b b1 b' : Body} {p : Passed} → tree.declares s' ys b1 ≡ b' → LikeDeclared V R xs ys Ra → FirstSo n Ra b b1 p → FirstSo (suc n) R (tree.declares s xs b) b' p
   declare_first {s' = s'} {ys = ys} q l (first_is {r = r} m k s t) = first_is (moved_declaration l m) (λ rest z. subst (λ c. RereadsBody c (tree.declares s' ys (before r rest))) q (in_declare (k rest z))) s t
 
-  let_moved : {n n' : ℕ} {R Ra Rb : Renaming} {q q' : Pattern} {c c' : Scrutinee} {r r' : Stretch} → LikeLet C gain J R Ra q c q' c' → Moved C.items gain C.units C.ways.elsewhere J Ra r r' Rb
+  let_moved : {n n' : ℕ} {R Ra Rb : Renaming} {r r' : Stretch} {q : Pattern} {c : Scrutinee} {q' : Pattern} {c' : Scrutinee} → LikeLet C gain J R Ra q c q' c' → Moved C.items gain C.units C.ways.elsewhere J Ra r r' Rb
       → Moved C.items gain C.units C.ways.elsewhere J R (lets_then n q c r) (lets_then n' q' c' r') Rb
   let_moved (let_matched l b) m = moved_let l b m
   let_moved (let_read l) m = moved_read (let_moved l m)
