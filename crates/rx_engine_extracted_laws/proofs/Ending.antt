@@ -25,7 +25,7 @@ use Rattle.rx_engine_extracted.specs.Stretches.{Passed, like_first, count_of}
 use Rattle.rx_engine_extracted.specs.Ending.{gives_in, gives_outs, has_none, gives_last, last_is, ends_as, ends_with, ran_but_last, ran_all, ran_by, ran}
 use Rattle.rx_engine_extracted_laws.specs.Statements.{stretch_of}
 use Rattle.rx_engine_alike_laws.proofs.Promised.{Promised, kept, nothing, Says, says, silent, then_so, where_so, so}
-use Rattle.rx_engine_alike_laws.proofs.Giving.{Reread, reread, numbers_so, gives_bare_so, gives_variant_so}
+use Rattle.rx_engine_alike_laws.proofs.Giving.{Reread, reread, GivesAgain, numbers_so, gives_bare_so, gives_variant_so}
 use Rattle.rx_engine_extracted_laws.proofs.Walked.{AlikeExp, alike_exp, Walked}
 use Rattle.rx_engine_extracted_laws.proofs.Stretches.{FirstSo, first_is, first_so}
 
@@ -68,15 +68,12 @@ module _ (C : Between) (gain : Allowance) (J : Jumping) where
 
   -- ---- behind all statements
 
+  given_by : {R : Renaming} {w : Way} {xs zs : List ℕ} {g : Exp} (m : Mark) → HaveThere R xs zs → GivesAgain w zs g → EndedBy R none_left w xs (tree.ends (tree.give m g))
+  given_by m h (reread z r t) = reread (tree.ends (tree.give m z)) (in_end (in_give r)) (moved.gives_outs h t)
+
   gives_so : (R : Renaming) (w : Way) (xs zs : List ℕ) (m : Mark) (g : Exp) → (w ≡ no_way → xs ≡ []) → HaveThere R xs zs → Says (EndedBy R none_left w xs (tree.ends (tree.give m g))) (gives_in w zs g)
-  gives_so R bare xs zs m g none h = so by (gives_bare_so zs g)
-    where
-      by : _ → EndedBy R none_left bare xs (tree.ends (tree.give m g))
-      by (reread z r t) = reread (tree.ends (tree.give m z)) (in_end (in_give r)) (moved.gives_outs h t)
-  gives_so R (as_variant v) xs zs m g none h = so by (gives_variant_so v zs g)
-    where
-      by : _ → EndedBy R none_left (as_variant v) xs (tree.ends (tree.give m g))
-      by (reread z r t) = reread (tree.ends (tree.give m z)) (in_end (in_give r)) (moved.gives_outs h t)
+  gives_so R bare xs zs m g none h = so (λ a. given_by m h a) (gives_bare_so zs g)
+  gives_so R (as_variant v) xs zs m g none h = so (λ a. given_by m h a) (gives_variant_so v zs g)
   gives_so R no_way xs zs m g none h = says (subst (λ xs. EndedBy R none_left no_way xs (tree.ends (tree.give m g))) (sym (none refl)) (reread (tree.ends (tree.give m g)) (self_body (tree.ends (tree.give m g))) moved.gives_never))
 
   given_so : (R : Renaming) (w : Way) (xs : List ℕ) (end : Body) → (w ≡ no_way → xs ≡ []) → Says (EndedBy R none_left w xs end) (gives_outs w R xs end)
@@ -85,5 +82,55 @@ module _ (C : Between) (gain : Allowance) (J : Jumping) where
 
   -- ---- or the last one is what the function gives
 
-  pub data LastSo (R : Renaming) : Way → List ℕ → Body → Body → Type 0 where
-    last_so : {w : Way} {e f : Exp} {b : Body} {m : Mark} → ((f : Exp) → Ended C.items gain C.units C.ways.elsewhere J R (a_marked (changed Out e) (leaves next)) w [] (tree.ends (tree.give m f))) → LastSo R w [] (tree.runs e b) (tree.ends (tree.give m f))
+  data LastSo (R : Renaming) (y : Way) : List ℕ → Body → Body → Type 0 where
+    last_so : {e f : Exp} {b : Body} {m : Mark} → EndedBy R (a_marked (changed Out e) (leaves next)) y [] (tree.ends (tree.give m f)) → LastSo R y [] (tree.runs e b) (tree.ends (tree.give m f))
+
+  as_last : (R : Renaming) (e f : Exp) (m : Mark) → AlikeExp C gain J R (changed Out e) f → EndedBy R (a_marked (changed Out e) (leaves next)) bare [] (tree.ends (tree.give m f))
+  as_last R e f m (alike_exp {f = d} z l) = reread (tree.ends (tree.give m d)) (in_end (in_give z)) (moved.gives_last l)
+
+  as_left : (R : Renaming) (e f : Exp) (m : Mark) → AlikeExp C gain J R (changed Out e) f → EndedBy R (a_marked (changed Out e) (leaves next)) no_way [] (tree.ends (tree.give m f))
+  as_left R e f m (alike_exp {f = d} z l) = reread (tree.ends (tree.give m d)) (in_end (in_give z)) (moved.gives_left l)
+
+  -- what was done of the run, with the statements left, and the function's end
+  pub data RanSo (n : ℕ) (R : Renaming) (b b' : Body) (y : Way) (xs : List ℕ) (Rb : Renaming) : Type 0 where
+    ran_is : {l : Last} {r r' : Stretch} {end : Body} → Divided (map (changed_statement Out) (take n (statements b))) l r → Moved C.items gain C.units C.ways.elsewhere J R r r' Rb
+        → Ended C.items gain C.units C.ways.elsewhere J Rb l y xs end → RereadsBody b' (before r' end) → RanSo n R b b' y xs Rb
+
+  all_ran : {n : ℕ} {R : Renaming} {b b' : Body} {y : Way} {xs : List ℕ} {p : Passed} → FirstSo C gain J n R b b' p → EndedBy p.inside none_left y xs p.answer → RanSo n R b b' y xs p.inside
+  all_ran (first_is m k s t) (reread d z e) = ran_is all_in_front m e (k d z)
+
+  last_ran : {n : ℕ} {R Rb : Renaming} {b b' t a : Body} {y : Way} {xs : List ℕ} {r : Stretch} → Moved C.items gain C.units C.ways.elsewhere J R (stretch_of (map (changed_statement Out) (take n (statements b)))) r Rb
+      → ((rest : Body) → RereadsBody a rest → RereadsBody b' (before r rest)) → statements t ≡ drop n (statements b) → LastSo Rb y xs t a → RanSo (suc n) R b b' y xs Rb
+  last_ran {n} {b = b} m k s (last_so {e = e} (reread d z x)) =
+      let cut = ap (λ l. map (changed_statement Out) l) (one_more n (statements b) s) ∙ map_behind (changed_statement Out) (take n (statements b)) (does e) in
+      ran_is (last_behind (map (changed_statement Out) (take n (statements b))) cut) m x (k d z)
+
+  module _ (too : (x : ℕ) → In x C.ways.elsewhere → V.Special x) (w : Walked C gain J) where
+    like_last : (y : Way) → ((R : Renaming) (e f : Exp) (m : Mark) → AlikeExp C gain J R (changed Out e) f → EndedBy R (a_marked (changed Out e) (leaves next)) y [] (tree.ends (tree.give m f)))
+        → (R : Renaming) (t a : Body) → Says (LastSo R y [] t a) (last_is C J R t a)
+    like_last y made R (tree.runs e b) (tree.ends (tree.give m f)) = so (λ a. last_so (made R e f m a)) (w.exp R e f)
+    like_last y made R _ _ = silent
+
+    last_found : (R : Renaming) (y : Way) (xs : List ℕ) (t a : Body) → Says (LastSo R y xs t a) (has_none xs && (gives_last y && last_is C J R t a))
+    last_found R y (x ∷ xs) t a = silent
+    last_found R bare [] t a = like_last bare as_last R t a
+    last_found R (as_variant v) [] t a = silent
+    last_found R no_way [] t a = like_last no_way as_left R t a
+
+    module _ (y : Way) (xs : List ℕ) (none : y ≡ no_way → xs ≡ []) where
+      ran_some : (n : ℕ) (R : Renaming) (b b' : Body) → Promised (λ Rb. RanSo n R b b' y xs Rb) (ran_but_last C J y xs n R b b')
+      ran_some zero R b b' = nothing
+      ran_some (suc n) R b b' = then_so (first_so C gain J too w n R b b') (λ p f. where_so (last_found p.inside y xs p.text p.answer) (λ g. kept (by f g)))
+        where
+          by : {p : Passed} → FirstSo C gain J n R b b' p → LastSo p.inside y xs p.text p.answer → RanSo (suc n) R b b' y xs p.inside
+          by (first_is m k s t) g = last_ran m k s g
+
+      ran_whole : (n : ℕ) (R : Renaming) (b b' : Body) → Promised (λ Rb. RanSo n R b b' y xs Rb) (ran_all C J y xs n R b b')
+      ran_whole n R b b' = then_so (first_so C gain J too w n R b b') (λ p f. where_so (given_so p.inside y xs p.answer none) (λ g. kept (all_ran f g)))
+
+      ran_as : (t : Bool) (n : ℕ) (R : Renaming) (b b' : Body) → Promised (λ Rb. RanSo n R b b' y xs Rb) (ran_by t C J y xs n R b b')
+      ran_as true n R b b' = ran_whole n R b b'
+      ran_as false n R b b' = ran_some n R b b'
+
+      pub ran_so : (n : ℕ) (R : Renaming) (b b' : Body) → Promised (λ Rb. RanSo n R b b' y xs Rb) (ran C J y xs n R b b')
+      ran_so n R b b' = ran_as (nat_eq (count_of b') n) n R b b'

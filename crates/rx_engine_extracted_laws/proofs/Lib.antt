@@ -1,2 +1,5 @@
 pub mod Walked
 pub mod Stretches
+pub mod Ending
+pub mod Unchanged
+pub mod Bodies
