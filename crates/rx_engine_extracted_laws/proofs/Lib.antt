@@ -3,3 +3,5 @@ pub mod Stretches
 pub mod Ending
 pub mod Unchanged
 pub mod Bodies
+pub mod Parts
+pub mod Block
