@@ -4,3 +4,7 @@ pub mod Same
 pub mod Ways
 pub mod Variables
 pub mod Patterns
+pub mod Giving
+pub mod Units
+pub mod Found
+pub mod Leaving

@@ -115,17 +115,17 @@ module _ (A : Asked) (T : Told) (parts : Parts A T) (same : T.elsewhere ≡ spec
         runs_so B.inside (subst (λ x. Rereads x (body_of m ls r' end)) q (in_block (subst (λ c. RereadsBody c (with_locals ls (stretch.before r' end))) (sym is) (with_locals_read ls x)))) ent div
         (subst (λ s. Moved T.items gain T.units s K.jumping B.inside r r' Rb) same moved) (subst (λ s. Ended T.items gain T.units s K.jumping Rb l K.way (k.outs next) end) same ended) z call
 
-    called_with : {b : Body} {B : Begun} {ls : List (ℕ × ℕ)} {es : Operands} (m : Mark) → tree.block m b ≡ T.new.function.body → EntersWith true k T.modes R es T.new.function.params ls B.inside → b ≡ with_locals ls B.rest
+    called_with : {b : Body} (B : Begun) {ls : List (ℕ × ℕ)} {es : Operands} (m : Mark) → tree.block m b ≡ T.new.function.body → EntersWith true k T.modes R es T.new.function.params ls B.inside → b ≡ with_locals ls B.rest
         → CalledSo A T J R e K es → Promised (λ Rb. RunsSo J R text K e Rb) (ran (between_in T) K.jumping K.way (k.outs next) T.run.count B.inside text B.rest)
-    called_with {B = B} m q ent is (called_so z call) =
+    called_with B m q ent is (called_so z call) =
         map_so (λ Rb x. made_run m q ent is z call x) (ran_so (between_in T) gain K.jumping (λ x i. i) (inner K.jumping) K.way (k.outs next) (λ y. no_outs (not_next call y)) T.run.count B.inside text B.rest)
 
-    entered_with : {b : Body} {B : Begun} (m : Mark) → tree.block m b ≡ T.new.function.body → CallsSo A T J R e K → EnteredSo T R K.operands b B
+    entered_with : {b : Body} (B : Begun) (m : Mark) → tree.block m b ≡ T.new.function.body → CallsSo A T J R e K → EnteredSo T R K.operands b B
         → Promised (λ Rb. RunsSo J R text K e Rb) (ran (between_in T) K.jumping K.way (k.outs next) T.run.count B.inside text B.rest)
-    entered_with m q calls (entered_so {fs = fs} z ent is) = called_with m q ent is (calls fs z)
+    entered_with B m q calls (entered_so {fs = fs} z ent is) = called_with B m q ent is (calls fs z)
 
     function_so : CallsSo A T J R e K → Promised (λ Rb. RunsSo J R text K e Rb) (function_runs T K R text)
-    function_so calls = then_so (block_so T.new.function.body) (λ b q. then_so (parts.enters R K.operands b) (λ B en. entered_with q.0 q.1 calls en))
+    function_so calls = then_so (block_so T.new.function.body) (λ b q. then_so (parts.enters R K.operands b) (λ B en. entered_with B q.0 q.1 calls en))
 
   -- ---- what stands for the run
 
@@ -174,10 +174,10 @@ module _ (A : Asked) (T : Told) (parts : Parts A T) (same : T.elsewhere ≡ spec
   abbrev from_run : List Statement → Exp → Body
   from_run ss e = before (entering k.params) (before (map (changed_statement (passing T.around)) (take T.run.count ss)) (before (ended false) (before (drop T.run.count ss) (tree.ends e))))
 
-  in_place : {J : Jumping} {text : Body} {D : Put} {R : Renaming} {rest d : Body} {f : Exp} {l : Last} {r : Stretch} {g : Body → Body} → Whole J → Divided (marked text) l r
+  in_place : {J : Jumping} (text : Body) (D : Put) {R : Renaming} {d : Body} {f : Exp} {l : Last} {r : Stretch} {g : Body → Body} → Whole J → Divided (marked text) l r
       → RunBecomesCall A T.muts k T.modes T.items gain T.units (new_with f) 1 J R D.inside (behind_run text) (λ b. stretch.before (marked_run k l r) (with_last l b)) g
       → LikeBody T.items (left T.units) gain (by_form T.elsewhere) 0 J D.inside (behind_run text) d → LikeBody T.items (The f) gain (by_form T.elsewhere) 1 J R (from_run (statements text) (tail text)) (g d)
-  in_place {J} {text} {D} {R} {d = d} {f = f} {l = l} {r = r} {g = g} whole div call like =
+  in_place {J} text D {R} {d = d} {f = f} {l = l} {r = r} {g = g} whole div call like =
       subst (λ c. LikeBody T.items (The f) gain (by_form T.elsewhere) 1 J R c (g d)) (marked_is k (behind_run text) div)
       (opens_in {b = behind_run text} {b' = d} {f = λ b. stretch.before (marked_run k l r) (with_last l b)} {f' = g} 1 0 (omega arith) call (body_whole T.items gain T.units T.elsewhere (The f) whole like))
 
@@ -185,7 +185,7 @@ module _ (A : Asked) (T : Told) (parts : Parts A T) (same : T.elsewhere ≡ spec
       → AlikeBody (between_around T) gain J D.inside (behind_run p.text) D.rest → BlockSo J R text answer
   whole_block {J} {R} {text} {p = p} {D = D} whole (first_is {r = r} m x s t) (stands_so {f = f} {g = g} y div call z) (alike_body {d = d} a like) =
       block_is y (x (g d) (z d a)) (subst (λ l. LikeBody T.items (The f) gain (by_form l) 1 J R (running_body T.run T.around k.params text) (stretch.before r (g d))) same
-      (subst (λ c. LikeBody T.items (The f) gain (by_form T.elsewhere) 1 J R c (stretch.before r (g d))) there (in_front T.items gain T.units T.elsewhere (The f) whole m (in_place {text = p.text} {D = D} whole div (call (behind_run p.text)) like))))
+      (subst (λ c. LikeBody T.items (The f) gain (by_form T.elsewhere) 1 J R c (stretch.before r (g d))) there (in_front T.items gain T.units T.elsewhere (The f) whole m (in_place p.text D whole div (call (behind_run p.text)) like))))
     where
       front : List Statement
       front = take T.run.first (statements text)
