@@ -5,3 +5,4 @@ pub mod Unchanged
 pub mod Bodies
 pub mod Parts
 pub mod Block
+pub mod Holes

@@ -1,3 +1,4 @@
+use Rattle.rx_engine_extracted_laws.proofs.Holes.{open_text}
 use Rattle.rx_engine_extracted_laws.proofs.Block.{block_found}
 use Rattle.rx_engine_extracted_laws.proofs.Bodies.{marked_is}
 use Rattle.rx_engine_extracted_laws.proofs.Unchanged.{statements_unchanged}
