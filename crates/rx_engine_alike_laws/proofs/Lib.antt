@@ -8,3 +8,7 @@ pub mod Giving
 pub mod Units
 pub mod Found
 pub mod Leaving
+pub mod Letting
+pub mod Unmarked
+pub mod Forms
+pub mod Functions
