@@ -46,11 +46,12 @@ use Rattle.rx_engine_extracted.specs.Ending.{ran}
 use Rattle.rx_engine_extracted.specs.Block.{between_around, between_in, block_of, function_runs, stands_for, rest_is_alike, is_put_so, run_is_call, loops_in, block_has_call}
 use Rattle.rx_engine_extracted_laws.specs.Statements.{stretch_of}
 use Rattle.rx_engine_alike_laws.proofs.Promised.{Promised, kept, nothing, Says, says, silent, map_so, then_so, where_so, so, and_with}
-use Rattle.rx_engine_extracted_laws.proofs.Walked.{AlikeBody, alike_body, Walked}
-use Rattle.rx_engine_extracted_laws.proofs.Stretches.{FirstSo, first_is, first_so, Whole, body_whole, in_front}
+use Rattle.rx_engine_alike_laws.proofs.Forms.{Whole}
+use Rattle.rx_engine_alike_laws.proofs.Unmarked.{same_body}
+use Rattle.rx_engine_extracted_laws.proofs.Walked.{AlikeBody, alike_body, body_alike}
+use Rattle.rx_engine_extracted_laws.proofs.Stretches.{FirstSo, first_is, first_so, body_whole, in_front}
 use Rattle.rx_engine_extracted_laws.proofs.Ending.{Divided, RanSo, ran_is, ran_so}
-use Rattle.rx_engine_extracted_laws.proofs.Unchanged.{body_unchanged, statements_unchanged}
-use Rattle.rx_engine_extracted_laws.proofs.Bodies.{behind_so, stretch_is, marked_is, never_divided}
+use Rattle.rx_engine_extracted_laws.proofs.Bodies.{behind_so, statements_unchanged, stretch_is, marked_is, never_divided}
 use Rattle.rx_engine_extracted_laws.proofs.Parts.{EnteredSo, entered_so, HandedSo, handed_so, HandsSo, RedeclaredSo, redeclared_so, CalledSo, called_so, CallsSo, Parts}
 
 -- ---- tests
@@ -82,8 +83,7 @@ with_locals_read : (ls : List (ℕ × ℕ)) {b c : Body} → RereadsBody b c →
 with_locals_read [] z = z
 with_locals_read (l ∷ ls) z = in_declare (with_locals_read ls z)
 
-module _ (A : Asked) (T : Told) (parts : Parts A T) (same : T.elsewhere ≡ special_of A T.plan) (no_outs : (Among next T.plan.exits → ⊥) → T.plan.outs next ≡ [])
-    (inner : (J : Jumping) → Walked (between_in T) (a_turn true) J) (outer : (J : Jumping) → Walked (between_around T) (a_turn true) J) where
+module _ (A : Asked) (T : Told) (parts : Parts A T) (same : T.elsewhere ≡ special_of A T.plan) (no_outs : (Among next T.plan.exits → ⊥) → T.plan.outs next ≡ []) where
   abbrev gain : Allowance
   gain = a_turn true
 
@@ -118,7 +118,7 @@ module _ (A : Asked) (T : Told) (parts : Parts A T) (same : T.elsewhere ≡ spec
     called_with : {b : Body} (B : Begun) {ls : List (ℕ × ℕ)} {es : Operands} (m : Mark) → tree.block m b ≡ T.new.function.body → EntersWith true k T.modes R es T.new.function.params ls B.inside → b ≡ with_locals ls B.rest
         → CalledSo A T J R e K es → Promised (λ Rb. RunsSo J R text K e Rb) (ran (between_in T) K.jumping K.way (k.outs next) T.run.count B.inside text B.rest)
     called_with B m q ent is (called_so z call) =
-        map_so (λ Rb x. made_run m q ent is z call x) (ran_so (between_in T) gain K.jumping (λ x i. i) (inner K.jumping) K.way (k.outs next) (λ y. no_outs (not_next call y)) T.run.count B.inside text B.rest)
+        map_so (λ Rb x. made_run m q ent is z call x) (ran_so (between_in T) gain K.jumping K.way (k.outs next) (λ y. no_outs (not_next call y)) T.run.count B.inside text B.rest)
 
     entered_with : {b : Body} (B : Begun) (m : Mark) → tree.block m b ≡ T.new.function.body → CallsSo A T J R e K → EnteredSo T R K.operands b B
         → Promised (λ Rb. RunsSo J R text K e Rb) (ran (between_in T) K.jumping K.way (k.outs next) T.run.count B.inside text B.rest)
@@ -163,7 +163,7 @@ module _ (A : Asked) (T : Told) (parts : Parts A T) (same : T.elsewhere ≡ spec
   behind_run text = before (drop T.run.count (statements text)) (tree.ends (tail text))
 
   rest_so : (J : Jumping) (text : Body) (D : Put) {o : Option Body} → Promised (λ c. c ≡ behind_run text) o → Says (AlikeBody (between_around T) gain J D.inside (behind_run text) D.rest) (rest_is_alike T J o D)
-  rest_so J text D (kept {a = c} q) = so (λ a. subst (λ b. AlikeBody (between_around T) gain J D.inside b D.rest) (body_unchanged c ∙ q) a) ((outer J).body D.inside c D.rest)
+  rest_so J text D (kept {a = c} q) = so (λ a. subst (λ b. AlikeBody (between_around T) gain J D.inside b D.rest) (same_body c ∙ q) a) (body_alike (between_around T) gain J D.inside c D.rest)
   rest_so J text D nothing = silent
 
   -- its statements, with the marks of the run; of the answer's, those of a body that is read
@@ -205,4 +205,4 @@ module _ (A : Asked) (T : Told) (parts : Parts A T) (same : T.elsewhere ≡ spec
         never_there (first_is m x s t) none = subst (λ l. NeverEnds none_left (stretch_of (map (changed_statement (passing T.around)) (take T.run.count l)))) (sym s) (never none)
 
     pub block_found : Says (BlockSo J R text answer) (run_is_call T J (like_first (between_around T) J T.run.first R text answer))
-    block_found = run_found (first_so (between_around T) gain J (λ x i. i) (outer J) T.run.first R text answer)
+    block_found = run_found (first_so (between_around T) gain J T.run.first R text answer)

@@ -5,17 +5,20 @@ use Rattle.rx_typed.specs.Tree as tree
 use Rattle.rx_typed.specs.Tree.{Exp, Body, own}
 use Rattle.rx_exits_marks.specs.Points.{Point, next, enters, leaves}
 use Rattle.rx_exits_marks.specs.Blocks.{Statement, does, begins, binds, statements, tail, before}
+use Rattle.rx_exits_marks.specs.Changed.{changed_statement}
 use Rattle.rx_exits_marks.specs.Marked.{at_point, mark, using, entering, ended}
 use Rattle.rx_exits_plan.specs.Plan.{Plan}
 use Rattle.rx_engine_simulation.specs.Blocks.{Stretch, done, does_then, declares_then, lets_then}
 use Rattle.rx_engine_simulation.specs.Blocks as stretch
 use Rattle.rx_engine_simulation.specs.Marks.{reading, closed_by}
 use Rattle.rx_engine_simulation.specs.Endings.{Last, none_left, a_marked, with_last}
+use Rattle.rx_engine_histories.specs.Running.{passing}
 use Rattle.rx_engine_related.specs.Never.{NeverPassed, does_never, does_later, declares_later, lets_never, lets_later, NeverEnds, first_never, last_never}
 use Rattle.rx_engine_related.specs.Standing.{marked_run}
 use Rattle.rx_engine_extracted.specs.Stretches.{behind_first}
 use Rattle.rx_engine_extracted_laws.specs.Statements.{stretch_of}
 use Rattle.rx_engine_alike_laws.proofs.Promised.{Promised, kept, nothing}
+use Rattle.rx_engine_alike_laws.proofs.Unmarked.{same_exp, same_matched}
 use Rattle.rx_engine_extracted_laws.proofs.Ending.{Divided, all_in_front, last_behind}
 
 -- ---- statements
@@ -32,6 +35,16 @@ behind_so (suc n) (tree.ends e) = nothing
 behind_so (suc n) (tree.runs e b) = behind_so n b
 behind_so (suc n) (tree.declares s xs b) = behind_so n b
 behind_so (suc n) (tree.lets s q c b) = behind_so n b
+
+-- in front of jumps out of no loop stands no mark
+statement_unchanged : (s : Statement) → changed_statement (passing []) s ≡ s
+statement_unchanged (does e) = ap (λ x. does x) (same_exp e)
+statement_unchanged (begins s xs) = refl
+statement_unchanged (binds s q c) = ap (λ x. binds s q x) (same_matched c)
+
+pub statements_unchanged : (ss : List Statement) → map (changed_statement (passing [])) ss ≡ ss
+statements_unchanged [] = refl
+statements_unchanged (s ∷ ss) = ap (λ x. x ∷ map (changed_statement (passing [])) ss) (statement_unchanged s) ∙ ap (λ x. s ∷ x) (statements_unchanged ss)
 
 pub stretch_is : (ss : List Statement) (b : Body) → stretch.before (stretch_of ss) b ≡ before ss b
 stretch_is [] b = refl

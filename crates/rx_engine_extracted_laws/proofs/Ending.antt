@@ -7,7 +7,7 @@ use Rattle.rx_exits_marks.specs.Changed.{Changes, changed, changed_statement}
 use Rattle.rx_exits_marks.specs.Points.{next, leaves}
 use Rattle.rx_engine_simulation.specs.Turns.{Allowance}
 use Rattle.rx_engine_simulation.specs.Histories.{Facts}
-use Rattle.rx_engine_simulation.specs.Sights.{In, Renaming}
+use Rattle.rx_engine_simulation.specs.Sights.{Renaming}
 use Rattle.rx_engine_simulation.specs.Jumps.{Jumping}
 use Rattle.rx_engine_simulation.specs.Blocks.{Stretch, before}
 use Rattle.rx_engine_simulation.specs.Endings.{Last, none_left, a_marked}
@@ -26,7 +26,7 @@ use Rattle.rx_engine_extracted.specs.Ending.{gives_in, gives_outs, has_none, giv
 use Rattle.rx_engine_extracted_laws.specs.Statements.{stretch_of}
 use Rattle.rx_engine_alike_laws.proofs.Promised.{Promised, kept, nothing, Says, says, silent, then_so, where_so, so}
 use Rattle.rx_engine_alike_laws.proofs.Giving.{Reread, reread, GivesAgain, numbers_so, gives_bare_so, gives_variant_so}
-use Rattle.rx_engine_extracted_laws.proofs.Walked.{AlikeExp, alike_exp, Walked}
+use Rattle.rx_engine_extracted_laws.proofs.Walked.{AlikeExp, alike_exp, exp_alike}
 use Rattle.rx_engine_extracted_laws.proofs.Stretches.{FirstSo, first_is, first_so}
 
 -- ---- statements, and one behind them
@@ -105,32 +105,31 @@ module _ (C : Between) (gain : Allowance) (J : Jumping) where
       let cut = ap (λ l. map (changed_statement Out) l) (one_more n (statements b) s) ∙ map_behind (changed_statement Out) (take n (statements b)) (does e) in
       ran_is (last_behind (map (changed_statement Out) (take n (statements b))) cut) m x (k d z)
 
-  module _ (too : (x : ℕ) → In x C.ways.elsewhere → V.Special x) (w : Walked C gain J) where
-    like_last : (y : Way) → ((R : Renaming) (e f : Exp) (m : Mark) → AlikeExp C gain J R (changed Out e) f → EndedBy R (a_marked (changed Out e) (leaves next)) y [] (tree.ends (tree.give m f)))
-        → (R : Renaming) (t a : Body) → Says (LastSo R y [] t a) (last_is C J R t a)
-    like_last y made R (tree.runs e b) (tree.ends (tree.give m f)) = so (λ a. last_so (made R e f m a)) (w.exp R e f)
-    like_last y made R _ _ = silent
+  like_last : (y : Way) → ((R : Renaming) (e f : Exp) (m : Mark) → AlikeExp C gain J R (changed Out e) f → EndedBy R (a_marked (changed Out e) (leaves next)) y [] (tree.ends (tree.give m f)))
+      → (R : Renaming) (t a : Body) → Says (LastSo R y [] t a) (last_is C J R t a)
+  like_last y made R (tree.runs e b) (tree.ends (tree.give m f)) = so (λ a. last_so (made R e f m a)) (exp_alike C gain J R e f)
+  like_last y made R _ _ = silent
 
-    last_found : (R : Renaming) (y : Way) (xs : List ℕ) (t a : Body) → Says (LastSo R y xs t a) (has_none xs && (gives_last y && last_is C J R t a))
-    last_found R y (x ∷ xs) t a = silent
-    last_found R bare [] t a = like_last bare as_last R t a
-    last_found R (as_variant v) [] t a = silent
-    last_found R no_way [] t a = like_last no_way as_left R t a
+  last_found : (R : Renaming) (y : Way) (xs : List ℕ) (t a : Body) → Says (LastSo R y xs t a) (has_none xs && (gives_last y && last_is C J R t a))
+  last_found R y (x ∷ xs) t a = silent
+  last_found R bare [] t a = like_last bare as_last R t a
+  last_found R (as_variant v) [] t a = silent
+  last_found R no_way [] t a = like_last no_way as_left R t a
 
-    module _ (y : Way) (xs : List ℕ) (none : y ≡ no_way → xs ≡ []) where
-      ran_some : (n : ℕ) (R : Renaming) (b b' : Body) → Promised (λ Rb. RanSo n R b b' y xs Rb) (ran_but_last C J y xs n R b b')
-      ran_some zero R b b' = nothing
-      ran_some (suc n) R b b' = then_so (first_so C gain J too w n R b b') (λ p f. where_so (last_found p.inside y xs p.text p.answer) (λ g. kept (by f g)))
-        where
-          by : {p : Passed} → FirstSo C gain J n R b b' p → LastSo p.inside y xs p.text p.answer → RanSo (suc n) R b b' y xs p.inside
-          by (first_is m k s t) g = last_ran m k s g
+  module _ (y : Way) (xs : List ℕ) (none : y ≡ no_way → xs ≡ []) where
+    ran_some : (n : ℕ) (R : Renaming) (b b' : Body) → Promised (λ Rb. RanSo n R b b' y xs Rb) (ran_but_last C J y xs n R b b')
+    ran_some zero R b b' = nothing
+    ran_some (suc n) R b b' = then_so (first_so C gain J n R b b') (λ p f. where_so (last_found p.inside y xs p.text p.answer) (λ g. kept (by f g)))
+      where
+        by : {p : Passed} → FirstSo C gain J n R b b' p → LastSo p.inside y xs p.text p.answer → RanSo (suc n) R b b' y xs p.inside
+        by (first_is m k s t) g = last_ran m k s g
 
-      ran_whole : (n : ℕ) (R : Renaming) (b b' : Body) → Promised (λ Rb. RanSo n R b b' y xs Rb) (ran_all C J y xs n R b b')
-      ran_whole n R b b' = then_so (first_so C gain J too w n R b b') (λ p f. where_so (given_so p.inside y xs p.answer none) (λ g. kept (all_ran f g)))
+    ran_whole : (n : ℕ) (R : Renaming) (b b' : Body) → Promised (λ Rb. RanSo n R b b' y xs Rb) (ran_all C J y xs n R b b')
+    ran_whole n R b b' = then_so (first_so C gain J n R b b') (λ p f. where_so (given_so p.inside y xs p.answer none) (λ g. kept (all_ran f g)))
 
-      ran_as : (t : Bool) (n : ℕ) (R : Renaming) (b b' : Body) → Promised (λ Rb. RanSo n R b b' y xs Rb) (ran_by t C J y xs n R b b')
-      ran_as true n R b b' = ran_whole n R b b'
-      ran_as false n R b b' = ran_some n R b b'
+    ran_as : (t : Bool) (n : ℕ) (R : Renaming) (b b' : Body) → Promised (λ Rb. RanSo n R b b' y xs Rb) (ran_by t C J y xs n R b b')
+    ran_as true n R b b' = ran_whole n R b b'
+    ran_as false n R b b' = ran_some n R b b'
 
-      pub ran_so : (n : ℕ) (R : Renaming) (b b' : Body) → Promised (λ Rb. RanSo n R b b' y xs Rb) (ran C J y xs n R b b')
-      ran_so n R b b' = ran_as (nat_eq (count_of b') n) n R b b'
+    pub ran_so : (n : ℕ) (R : Renaming) (b b' : Body) → Promised (λ Rb. RanSo n R b b' y xs Rb) (ran C J y xs n R b b')
+    ran_so n R b b' = ran_as (nat_eq (count_of b') n) n R b b'

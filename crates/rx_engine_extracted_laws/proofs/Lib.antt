@@ -1,7 +1,6 @@
 pub mod Walked
 pub mod Stretches
 pub mod Ending
-pub mod Unchanged
 pub mod Bodies
 pub mod Parts
 pub mod Block

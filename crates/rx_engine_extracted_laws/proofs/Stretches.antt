@@ -7,16 +7,16 @@ use Rattle.rx_exits_marks.specs.Blocks.{Statement, statements, tail}
 use Rattle.rx_exits_marks.specs.Changed.{Changes, changed, changed_matched, changed_statement}
 use Rattle.rx_engine_simulation.specs.Turns.{Allowance}
 use Rattle.rx_engine_simulation.specs.Histories.{Facts}
-use Rattle.rx_engine_simulation.specs.Sights.{In, Renaming}
+use Rattle.rx_engine_simulation.specs.Sights.{Renaming}
 use Rattle.rx_engine_simulation.specs.Binders.{LikeDeclared}
-use Rattle.rx_engine_simulation.specs.Jumps.{as_return, with_value, with_unit, Jumping}
+use Rattle.rx_engine_simulation.specs.Jumps.{Jumping}
 use Rattle.rx_engine_simulation.specs.Openings.{Openings}
 use Rattle.rx_engine_simulation.specs.Like.{LikeExp, LikeMatched, LikeBody, runs_on, declares_all, lets_in, reads_place, looks_behind}
 use Rattle.rx_engine_simulation.specs.Blocks.{Stretch, lets_then, before}
 use Rattle.rx_engine_simulation.specs.Rereads.{RereadsMatched, RereadsBody, in_run, in_declare, in_let}
 use Rattle.rx_engine_histories.specs.Running.{passing}
 use Rattle.rx_engine_related.specs.ByForm.{by_form}
-use Rattle.rx_engine_related.specs.Leaving.{Left, left_by_jump, left_by_return, left_with_value, left_with_unit, left}
+use Rattle.rx_engine_related.specs.Leaving.{left}
 use Rattle.rx_engine_related.specs.Moved.{Moved, moved_all, moved_statement, moved_declaration, moved_let, moved_read, moved_look}
 use Rattle.rx_engine_related.proofs.Weaker.{Opens, weaker_exp, weaker_matched, weaker_body}
 use Rattle.rx_engine_alike.specs.Likeness.{if_so, and_then, is_alike}
@@ -26,8 +26,10 @@ use Rattle.rx_engine_extracted.specs.Stretches.{Passed, like_first}
 use Rattle.rx_engine_extracted_laws.specs.Statements.{stretch_of}
 use Rattle.rx_engine_alike_laws.proofs.Promised.{Promised, kept, nothing, map_so, then_so, where_so}
 use Rattle.rx_engine_alike_laws.proofs.Read.{as_runs_so, as_declares_so, as_lets_so}
+use Rattle.rx_engine_alike_laws.proofs.Forms.{Whole}
+use Rattle.rx_engine_alike_laws.proofs.Functions.{never_left}
 use Rattle.rx_engine_alike_laws.proofs.Variables.{declared_so}
-use Rattle.rx_engine_extracted_laws.proofs.Walked.{AlikeExp, alike_exp, LikeLet, let_matched, let_read, let_look, AlikeLet, alike_let, Walked}
+use Rattle.rx_engine_extracted_laws.proofs.Walked.{AlikeExp, alike_exp, LikeLet, let_matched, let_read, let_look, AlikeLet, alike_let, exp_alike, let_alike}
 
 -- ---- statement by statement
 
@@ -62,42 +64,20 @@ module _ (C : Between) (gain : Allowance) (J : Jumping) where
   if_then true o f = refl
   if_then false o f = refl
 
-  module _ (too : (x : ℕ) → In x C.ways.elsewhere → V.Special x) (w : Walked C gain J) where
-    pub first_so : (n : ℕ) (R : Renaming) (b b' : Body) → Promised (λ p. FirstSo n R b b' p) (like_first C J n R b b')
-    first_so zero R b b' = kept (first_is moved_all (λ rest z. z) refl refl)
-    first_so (suc n) R (tree.ends e) b' = nothing
-    first_so (suc n) R (tree.runs e b) b' = then_so (as_runs_so b') (λ r q. where_so (w.exp R e r.0) (λ a. map_so (λ p x. run_first q a x) (first_so n R b r.1)))
-    first_so (suc n) R (tree.declares s xs b) b' = then_so (as_declares_so b') (λ r q. then_so (declared_so V C.ways too R xs r.1) (λ Ra l. map_so (λ p x. declare_first q l x) (first_so n Ra b r.2)))
-    first_so (suc n) R (tree.lets s t c b) b' = then_so (as_lets_so b') (λ r q.
-        subst (λ o. Promised (λ p. FirstSo (suc n) R (tree.lets s t c b) b' p) o) (if_then (is_alike (like_let C J R c r.1 r.2)) (like_bindings C.ways (way_of_let R c r.1 r.2) R t r.1) (λ Ra. like_first C J n Ra b r.3))
-        (then_so (w.lets R t c r.1 r.2) (λ Ra a. map_so (λ p x. let_first q a x) (first_so n Ra b r.3))))
+  pub first_so : (n : ℕ) (R : Renaming) (b b' : Body) → Promised (λ p. FirstSo n R b b' p) (like_first C J n R b b')
+  first_so zero R b b' = kept (first_is moved_all (λ rest z. z) refl refl)
+  first_so (suc n) R (tree.ends e) b' = nothing
+  first_so (suc n) R (tree.runs e b) b' = then_so (as_runs_so b') (λ r q. where_so (exp_alike C gain J R e r.0) (λ a. map_so (λ p x. run_first q a x) (first_so n R b r.1)))
+  first_so (suc n) R (tree.declares s xs b) b' = then_so (as_declares_so b') (λ r q. then_so (declared_so V C.ways (λ x i. i) R xs r.1) (λ Ra l. map_so (λ p x. declare_first q l x) (first_so n Ra b r.2)))
+  first_so (suc n) R (tree.lets s t c b) b' = then_so (as_lets_so b') (λ r q.
+      subst (λ o. Promised (λ p. FirstSo (suc n) R (tree.lets s t c b) b' p) o) (if_then (is_alike (like_let C J R c r.1 r.2)) (like_bindings C.ways (way_of_let R c r.1 r.2) R t r.1) (λ Ra. like_first C J n Ra b r.3))
+      (then_so (let_alike C gain J R t c r.1 r.2) (λ Ra a. map_so (λ p x. let_first q a x) (first_so n Ra b r.3))))
 
 -- ---- where nothing leaves, statements in front of a block that is alike
 
-abbrev pub Whole : Jumping → Type 0
-Whole J = ((l : ℕ) (again : Bool) → J.leaving l again ≡ None) × (J.returning ≡ as_return)
-
-none_left : {U : List ℕ} {a : ℕ} {J : Jumping} {R : Renaming} {e : Exp} {f f' : Exp → Exp} → Whole J → Left U a J R e f f' → ⊥
-none_left w (left_by_jump {l = l} {again = again} p q h g) = none_some (sym (w.0 l again) ∙ q)
-  where
-    none_some : {A : Type 0} {a : A} → None ≡ Some a → ⊥
-    none_some e = cc
-none_left w (left_by_return q g) = with_unit_not (sym w.1 ∙ q)
-  where
-    with_unit_not : {v : ℕ} → as_return ≡ with_unit v → ⊥
-    with_unit_not e = cc
-none_left w (left_with_value q) = with_value_not (sym w.1 ∙ q)
-  where
-    with_value_not : {v : ℕ} → as_return ≡ with_value v → ⊥
-    with_value_not e = cc
-none_left w (left_with_unit q u n g) = with_unit_not (sym w.1 ∙ q)
-  where
-    with_unit_not : {v : ℕ} → as_return ≡ with_unit v → ⊥
-    with_unit_not e = cc
-
 module _ (items : ℕ → ℕ) (gain : Allowance) (U special : List ℕ) (O : Openings) where
   opens_whole : Opens (left U) O (by_form special) (by_form special) Whole
-  opens_whole = record { special = λ x s. s; into = λ J l k w. w; expression = λ a J R e f f' w o. absurd (none_left w o); statements = λ a J R S b f f' w o. absurd o }
+  opens_whole = record { special = λ x s. s; into = λ J l k w. w; expression = λ a J R e f f' w o. absurd (never_left J J.loops w o); statements = λ a J R S b f f' w o. absurd o }
 
   exp_whole : {J : Jumping} {R : Renaming} {e e' : Exp} → Whole J → LikeExp items (left U) gain (by_form special) 0 J R e e' → LikeExp items O gain (by_form special) 0 J R e e'
   exp_whole w l = weaker_exp items (left U) O gain gain (omega arith) (by_form special) (by_form special) Whole opens_whole {k = 0} {k' = 0} (omega arith) w l
