@@ -1,9 +1,8 @@
 -- Where the walk finds parts alike they are, with the marks of jumps out of the run in the text: one induction over the forms.
-use Rattle.std.proofs.Common.{◌≡◌, ℕ, ◌+◌, ◌≤◌, nat_eq, Bool, true, false, not, ◌&&◌, List, [], ◌∷◌, Option, Some, None, if◌then◌else◌, refl, sym, ap, ◌∙◌, subst, arith}
+use Rattle.std.proofs.Common.{◌≡◌, ℕ, ◌≤◌, Bool, true, false, not, ◌&&◌, List, [], ◌∷◌, Option, Some, None, if◌then◌else◌, refl, sym, ap, ◌∙◌, subst, arith}
 use Rattle.rx_typed.specs.Tree as tree
 use Rattle.rx_typed.specs.Tree.{Mark, Making, Place, Exp, Operands, Scrutinee, Arms, Body, fields_of, temporary_of}
-use Rattle.rx_lower_walks.specs.Matching.{tests, bindings}
-use Rattle.rx_lower_walks.specs.Actions.{Subject, subject}
+use Rattle.rx_lower_walks.specs.Actions.{subject}
 use Rattle.rx_exits_marks.specs.Points.{leaves, jump_exit}
 use Rattle.rx_exits_marks.specs.Marked.{mark_then, is_among}
 use Rattle.rx_exits_marks.specs.Changed.{changed, changed_all, changed_matched, changed_arms, changed_body}
@@ -21,15 +20,15 @@ use Rattle.rx_engine_simulation.specs.Rereads.{Rereads, RereadsAll, RereadsMatch
 use Rattle.rx_engine_histories.specs.Running.{passing}
 use Rattle.rx_engine_related.specs.Leaving.{Left, left_by_jump, left_by_return, left_with_value, left_with_unit}
 use Rattle.rx_engine_related.proofs.Weaker.{Opens, weaker_exp}
-use Rattle.rx_engine_alike.specs.Likeness.{Hole, Likeness, alike, alike_but, provided, when, choose, but_open}
-use Rattle.rx_engine_alike.specs.Ways.{Way, from_value}
+use Rattle.rx_engine_alike.specs.Likeness.{Hole, Likeness, alike, provided, when, choose, but_open}
+use Rattle.rx_engine_alike.specs.Ways.{Way}
 use Rattle.rx_engine_alike.specs.Giving.{is_unit, gives_variant}
 use Rattle.rx_engine_alike.specs.Units.{gives_unit}
-use Rattle.rx_engine_alike.specs.Leaving.{gives_pack, bound_in_block, part_of_variant}
+use Rattle.rx_engine_alike.specs.Leaving.{gives_pack, bound_in_block}
 use Rattle.rx_engine_alike.specs.Variables.{is_new}
 use Rattle.rx_engine_alike.specs.Patterns.{way_of_matched, like_tests, like_bindings}
 use Rattle.rx_engine_alike.specs.Forms.{Between, is_open, jumped, returned, may_be_read, value_way, way_of_let, like_exp, like_all, like_matched, like_arms, like_let, like_body}
-use Rattle.rx_engine_alike_laws.proofs.Promised.{Promised, kept, nothing, Says, says, silent, given, said, so, and_so, and_with, equal_so}
+use Rattle.rx_engine_alike_laws.proofs.Promised.{Promised, kept, nothing, Says, says, silent, given, said, and_so, and_with, equal_so}
 use Rattle.rx_engine_alike_laws.proofs.Read.{as_read_so, as_borrow_so, as_share_so, as_build_so, as_unit_so, as_lazily_so, as_assign_so, as_update_so, as_call_so, as_input_so, as_print_so, as_block_so, as_choose_so, as_loop_so, as_jump_so, as_give_so, as_no_operand_so, as_operand_so, as_no_arm_so, as_arm_so, as_ends_so, as_runs_so, as_declares_so, as_lets_so}
 use Rattle.rx_engine_alike_laws.proofs.Same.{same_bool_so, same_operator_so, MadeAlike, made_same, made_structs, made_variants, like_making_so}
 use Rattle.rx_engine_alike_laws.proofs.Ways.{like_place_so}
@@ -39,7 +38,7 @@ use Rattle.rx_engine_alike_laws.proofs.Giving.{reread, GivesAgain, gives_variant
 use Rattle.rx_engine_alike_laws.proofs.Units.{marked_gives_so}
 use Rattle.rx_engine_alike_laws.proofs.Found.{Filling, filling, Found, all_alike, alike_around, not_alike, found_at, found, found_both, found_either, found_same, found_if, found_when, found_seen}
 use Rattle.rx_engine_alike_laws.proofs.Leaving.{PartOf, part_is, part_so, BoundFirst, bound_first, bound_so, UnitOrNot, the_unit, not_the_unit, unit_or_not, apart_so, stays_so, number_is}
-use Rattle.rx_engine_alike_laws.proofs.Letting.{Views, views_place_so, viewing, ReadFor, read_for, may_be_read_so, LetLike, let_like, RestLike, rest_like, let_rest}
+use Rattle.rx_engine_alike_laws.proofs.Letting.{views_place_so, viewing, ReadFor, read_for, may_be_read_so, LetLike, let_like, RestLike, rest_like, let_rest}
 
 none_some : {A : Type 0} {a : A} → None ≡ Some a → ⊥
 none_some e = cc
@@ -157,7 +156,7 @@ module _ (C : Between) (O : Openings) (gain : Allowance) (V : Facts) (J : Jumpin
     bound_found ls R m m' e q g (bound_first {mb = mb} {n = n} {k = k} {o = o} {mutable = mutable}) u (reread y s t) h = found_at (λ z. tree.give m' (tree.block mb (tree.lets n (tree.bind k o (tree.by_value mutable)) (tree.of_value z) (tree.ends y))))
         (λ z r. again.in_give (again.in_block (again.in_let (again.in_value_of r) (again.in_end s)))) (λ z w p. absurd (returns_so (sym (w.1) ∙ q)))
         (λ i z l. opens {f = λ e. tree.give m e} {f' = λ e. tree.give m' (tree.block mb (tree.lets n (tree.bind k o (tree.by_value mutable)) (tree.of_value e) (tree.ends y)))} 0 i (omega arith)
-            (opened 0 ls R (changed (passing C.outside) e) (λ e. tree.give m e) (λ e. tree.give m' (tree.block mb (tree.lets n (tree.bind k o (tree.by_value mutable)) (tree.of_value e) (tree.ends y)))) (left_with_unit q g u t)) l) h
+        (opened 0 ls R (changed (passing C.outside) e) (λ e. tree.give m e) (λ e. tree.give m' (tree.block mb (tree.lets n (tree.bind k o (tree.by_value mutable)) (tree.of_value e) (tree.ends y)))) (left_with_unit q g u t)) l) h
       where
         returns_so : {v : ℕ} → as_return ≡ with_unit v → ⊥
         returns_so e = cc
@@ -238,7 +237,7 @@ module _ (C : Between) (O : Openings) (gain : Allowance) (V : Facts) (J : Jumpin
         arms_so ls R w tree.no_arm l' = found_seen (λ r. tree.no_arm) (as_no_arm_so l') (λ r. found_same again.in_no_arm (λ k c c' s. no_arms))
         arms_so ls R w (tree.arm_and q e l) l' = found_seen (λ r. tree.arm_and r.0 r.1 r.2) (as_arm_so l') (λ r. found_if (as_test (like_tests w q r.0)) (λ t. found_when (as_given (like_bindings C.ways w R q r.0))
             (λ Ra b. found_either (λ z y. tree.arm_and r.0 z y) (λ z y x w. again.in_arm x w)
-                (λ k z y h i c c' s. arms_and Ra (said (like_tests w q r.0) (like_tests_so w q r.0 s) t) (given (like_bindings C.ways w R q r.0) (like_bindings_so V C.ways too w R q r.0 s) b) h (i c c' s)) (exp_so ls Ra e r.1) (arms_so ls R w l r.2))))
+            (λ k z y h i c c' s. arms_and Ra (said (like_tests w q r.0) (like_tests_so w q r.0 s) t) (given (like_bindings C.ways w R q r.0) (like_bindings_so V C.ways too w R q r.0 s) b) h (i c c' s)) (exp_so ls Ra e r.1) (arms_so ls R w l r.2))))
 
         pub let_so : (ls : List (ℕ × ℕ)) (R : Renaming) (c : Scrutinee) (q : tree.Pattern) (c' : Scrutinee)
             → Found Filled (Whole J) RereadsMatched (λ k z. LetLike C.items O gain V k (around J ls) R (way_of_let R c q c') (changed_matched (passing C.outside) c) q z) c' (like_let C (around J ls) R c q c')

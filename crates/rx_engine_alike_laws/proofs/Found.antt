@@ -1,7 +1,7 @@
 -- What a walk over two trees finds, and what is promised then: beside the answer's tree stands one in which references are read, which the
 -- text's is like; of one with an open block where that block is filled. Combinators that go with those of the walk.
-use Rattle.std.proofs.Common.{◌≡◌, ℕ, ◌+◌, ◌≤◌, Bool, true, false, Option, Some, None, refl, sym, ap, ◌∙◌, subst, arith}
-use Rattle.rx_engine_alike.specs.Likeness.{Hole, Likeness, unlike, alike, alike_but, both, provided, when, choose, but_open}
+use Rattle.std.proofs.Common.{◌≡◌, ℕ, ◌+◌, ◌≤◌, Bool, Option, refl, sym, ap, subst, arith}
+use Rattle.rx_engine_alike.specs.Likeness.{Hole, Likeness, unlike, alike, alike_but, both, provided, when}
 use Rattle.rx_engine_alike_laws.proofs.Promised.{Promised, kept, nothing, Says, says, silent}
 
 -- a tree in place of the answer's, which the text's is like with one turn more

@@ -1,5 +1,5 @@
 -- Where an expression is found to give the values of variables in a row, the one in which references are read does.
-use Rattle.std.proofs.Common.{◌≡◌, ℕ, suc, nat_eq, Bool, true, false, ◌&&◌, List, [], ◌∷◌, Option, Some, None, if◌then◌else◌, refl, sym, ap, ◌∙◌, subst}
+use Rattle.std.proofs.Common.{◌≡◌, ℕ, suc, Bool, true, false, List, [], ◌∷◌, Option, Some, None, if◌then◌else◌, refl, sym, ap, ◌∙◌, subst}
 use Rattle.rx_core.specs.declared.types.Step.{Step}
 use Rattle.rx_core.specs.declared.types.Step.TheVariants as step
 use Rattle.rx_typed.specs.Tree as tree
@@ -103,7 +103,7 @@ gives_variant_so v qs _ = silent
 
 -- ---- variables that are elsewhere
 
-special_so : (h : How) → Says (h ≡ special) (is_special h)
+pub special_so : (h : How) → Says (h ≡ special) (is_special h)
 special_so special = says refl
 special_so _ = silent
 

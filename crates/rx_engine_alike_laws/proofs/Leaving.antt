@@ -1,5 +1,5 @@
 -- What the tests of jumps and of what is returned say.
-use Rattle.std.proofs.Common.{◌≡◌, ℕ, zero, suc, nat_eq, Bool, true, false, not, ◌&&◌, List, [], ◌∷◌, Option, Some, None, if◌then◌else◌, refl, sym, ap, ◌∙◌, subst}
+use Rattle.std.proofs.Common.{◌≡◌, ℕ, zero, nat_eq, Bool, true, false, List, [], ◌∷◌, Option, Some, None, if◌then◌else◌, ap, subst}
 use Rattle.rx_typed.specs.Tree as tree
 use Rattle.rx_typed.specs.Tree.{Mark, Making, Exp, Operands, Pattern, Scrutinee, Body, by_value}
 use Rattle.rx_engine_simulation.specs.Jumps.{Jumping, loop_of}

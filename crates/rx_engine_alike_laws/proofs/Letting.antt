@@ -1,6 +1,6 @@
 -- References of the text that are shared in the answer: where the tests say so they are asked for again, and the place that a `let` of the
 -- answer looks into is read.
-use Rattle.std.proofs.Common.{◌≡◌, ℕ, ◌+◌, ◌≤◌, nat_eq, Bool, true, false, ◌&&◌, ◌||◌, List, [], ◌∷◌, Option, Some, None, refl, ap, ◌∙◌}
+use Rattle.std.proofs.Common.{◌≡◌, ℕ, ◌+◌, ◌≤◌, Bool, false, ◌&&◌, List, [], ◌∷◌, Option, Some, None, refl, ap, ◌∙◌}
 use Rattle.rx_core.specs.declared.types.Step.{Step}
 use Rattle.rx_core.specs.declared.types.Step.TheVariants as step
 use Rattle.rx_typed.specs.Tree as tree
@@ -19,7 +19,7 @@ use Rattle.rx_engine_simulation.specs.Like.{LikeExp, LikeMatched, LikeBody, read
 use Rattle.rx_engine_alike.specs.Ways.{Way}
 use Rattle.rx_engine_alike.specs.Patterns.{binds_value}
 use Rattle.rx_engine_alike.specs.Forms.{is_viewed, is_viewed_as, views_from, views_place, is_read_in, is_variable, looks_behind_place, views_exp, may_be_read}
-use Rattle.rx_engine_alike_laws.proofs.Promised.{Says, says, silent, so, and_so, and_with, or_says, equal_so}
+use Rattle.rx_engine_alike_laws.proofs.Promised.{Says, says, silent, so, and_so, or_says, equal_so}
 use Rattle.rx_engine_alike_laws.proofs.Ways.{like_place_so}
 use Rattle.rx_engine_alike_laws.proofs.Patterns.{StandAlike, looks_behind_so}
 

@@ -1,19 +1,18 @@
 -- Patterns that are found to test alike and to bind alike do, where what they are matched with stands as the way says.
-use Rattle.std.proofs.Common.{◌≡◌, ℕ, nat_eq, Bool, true, false, not, ◌&&◌, ◌||◌, List, [], ◌∷◌, ◌++◌, Option, Some, None, refl, sym, ap, subst, eqb-true, append_assoc, append-nil}
+use Rattle.std.proofs.Common.{ℕ, nat_eq, Bool, true, false, not, ◌&&◌, ◌||◌, List, [], ◌∷◌, ◌++◌, sym, ap, subst, append_assoc, append-nil}
 use Rattle.rx_core.specs.declared.types.Step.{Step}
 use Rattle.rx_core.specs.declared.types.Step.TheVariants as step
 use Rattle.rx_typed.specs.Tree as tree
 use Rattle.rx_typed.specs.Tree.{Root, variable, temporary, Temporary, Place, Mode, by_value, by_reference, Pattern, Subpatterns, Scrutinee}
 use Rattle.rx_lower_walks.specs.Matching.{PartTest, Binding, has_tag, equals, tag_test, tests, tests_in, bindings, bindings_in}
-use Rattle.rx_lower_walks.specs.Actions.{Act, Read, Borrow, Subject, in_place, in_temporary, subject, part, taking, source}
+use Rattle.rx_lower_walks.specs.Actions.{Subject, in_place, in_temporary, part, taking, source}
 use Rattle.rx_engine_simulation.specs.Histories.{Facts}
 use Rattle.rx_engine_simulation.specs.Sights.{In, Renaming}
 use Rattle.rx_engine_simulation.specs.Places.{Use, looking, use_of, LikePlace, LikeSteps, no_steps}
 use Rattle.rx_engine_simulation.specs.Binders.{LikeTaken, takes_none, takes_read, takes_borrow, LikeBindings, no_binding, binding_and, AreBehind, LikeTests, no_test, test_and}
-use Rattle.rx_engine_alike.specs.Same.{same_bool, same_constant}
-use Rattle.rx_engine_alike.specs.Ways.{Way, apart, from_value, then_step, by_dereference, way_of, may}
-use Rattle.rx_engine_alike.specs.Variables.{Ways, with_new}
-use Rattle.rx_engine_alike.specs.Patterns.{way_of_matched, like_tests, like_tests_in, like_mode, like_bindings, like_bindings_in, all_borrow, all_borrow_in, looks_behind}
+use Rattle.rx_engine_alike.specs.Ways.{Way, from_value, then_step, by_dereference, way_of, may}
+use Rattle.rx_engine_alike.specs.Variables.{Ways}
+use Rattle.rx_engine_alike.specs.Patterns.{like_tests, like_tests_in, like_mode, like_bindings, like_bindings_in, all_borrow, all_borrow_in, looks_behind}
 use Rattle.rx_engine_alike_laws.proofs.Promised.{Promised, kept, nothing, Says, says, silent, map_so, then_so, where_so, so, and_so, and_with, equal_so, unequal_so}
 use Rattle.rx_engine_alike_laws.proofs.Same.{same_bool_so, same_constant_so}
 use Rattle.rx_engine_alike_laws.proofs.Ways.{IsWay, not_known, of_values, step_so, way_so, may_so, Grown, way_grown}
@@ -71,8 +70,8 @@ mutual
   tests_so w (tree.parts ps) (tree.parts qs) l = tests_in_so w ps qs l
   tests_so {R} {S} {S'} {ss} {ts} w (tree.variant n i several v ps) (tree.variant n' j several' u qs) l = and_with (same_bool_so several several')
       (λ e. subst (λ b. Says (LikeTests R S S' (tag_test several n ss v ++ tests_in (ss ++ (step.Variant v ∷ [])) ps) (tag_test b n' ts u ++ tests_in (ts ++ (step.Variant u ∷ [])) qs))
-          ((not several || (may looking w && nat_eq v u)) && like_tests_in (then_step w (step.Variant v) (step.Variant u)) ps qs)) e
-          (and_so (tag_so n n' several v u l) (tests_in_so (then_step w (step.Variant v) (step.Variant u)) ps qs (stands_step (step.Variant v) (step.Variant u) l)) (λ a b. both_tests a b)))
+      ((not several || (may looking w && nat_eq v u)) && like_tests_in (then_step w (step.Variant v) (step.Variant u)) ps qs)) e
+      (and_so (tag_so n n' several v u l) (tests_in_so (then_step w (step.Variant v) (step.Variant u)) ps qs (stands_step (step.Variant v) (step.Variant u) l)) (λ a b. both_tests a b)))
   tests_so w (tree.behind m p) (tree.behind k q) l = tests_so (by_dereference w) p q (stands_step (step.Deref m) (step.Deref k) l)
   tests_so w _ _ l = silent
 

@@ -1,10 +1,9 @@
 -- New variables that are found alike are so, and the renaming has what it had.
-use Rattle.std.proofs.Common.{◌≡◌, ℕ, nat_eq, Bool, true, false, not, ◌&&◌, ◌||◌, List, [], ◌∷◌, Option, Some, None, if◌then◌else◌, refl, sym, ap, ◌∙◌, inl, inr, eqb-true}
+use Rattle.std.proofs.Common.{◌≡◌, ℕ, nat_eq, Bool, true, false, List, [], ◌∷◌, Option, Some, None, if◌then◌else◌, refl, sym, ap, ◌∙◌, inl, inr, eqb-true}
 use Rattle.rx_typed.specs.Tree.{Parameter}
 use Rattle.rx_engine_simulation.specs.Histories.{Facts}
 use Rattle.rx_engine_simulation.specs.Sights.{In, shut, free, How, plain, special, Sight, sight, Renaming, sight_of, IsNew}
 use Rattle.rx_engine_simulation.specs.Binders.{NewHow, new_plain, new_special, LikeDeclared, none_new, new_and, LikeParams, no_param, param_and}
-use Rattle.rx_engine_alike.specs.Likeness.{if_so, is_none}
 use Rattle.rx_engine_alike.specs.Variables.{Ways, is_in, seen_as, is_new, with_seen, with_new, like_declared, like_params}
 use Rattle.rx_engine_alike_laws.proofs.Promised.{Promised, kept, nothing, Says, says, silent, said, map_so, then_so, where_so, so, and_so, or_says, equal_so, unequal_so, none_so}
 use Rattle.rx_engine_alike_laws.proofs.Ways.{Grown, grown}

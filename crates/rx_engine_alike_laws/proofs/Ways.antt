@@ -1,13 +1,13 @@
 -- What a way says of two places, step by step; where it may be used so, the places are alike for that use.
-use Rattle.std.proofs.Common.{◌≡◌, ℕ, nat_eq, Bool, true, false, not, ◌&&◌, ◌||◌, List, [], ◌∷◌, ◌++◌, Option, Some, None, if◌then◌else◌, refl, ap, ◌∙◌, sym, subst, eqb-true, append_assoc, append-nil}
+use Rattle.std.proofs.Common.{◌≡◌, ℕ, nat_eq, Bool, true, false, not, ◌||◌, List, [], ◌∷◌, ◌++◌, Option, Some, None, if◌then◌else◌, refl, ap, ◌∙◌, sym, subst, eqb-true, append_assoc, append-nil}
 use Rattle.rx_core.specs.declared.types.Step.{Step}
 use Rattle.rx_core.specs.declared.types.Step.TheVariants as step
 use Rattle.rx_typed.specs.Tree.{Root, variable, temporary, Temporary, Place}
 use Rattle.rx_engine_simulation.specs.Histories.{IsOwn}
-use Rattle.rx_engine_simulation.specs.Sights.{Hold, free, fixed, shut, How, plain, special, through, copied, viewed, absent, Sight, sight, Renaming, sight_of}
-use Rattle.rx_engine_simulation.specs.Places.{LikeSteps, no_steps, fields, variants, derefs, Use, looking, sharing, changing, writing, NotCopied, IsFreed, IsMutable, Allowed, IsDirect, LikePlace, direct, behind, shared, of_temporary, at_variable}
-use Rattle.rx_engine_alike.specs.Ways.{Way, apart, from_value, in_front, from_variable, by_part, by_dereference, then_step, then_steps, behind_steps, way_seen, way_by, way_from, way_of, not_copied, is_freed, is_mutable, may_seen, may, like_place}
-use Rattle.rx_engine_alike_laws.proofs.Promised.{Says, says, silent, so, and_so, and_with, equal_so}
+use Rattle.rx_engine_simulation.specs.Sights.{Hold, free, How, plain, special, through, copied, viewed, absent, Sight, sight, Renaming, sight_of}
+use Rattle.rx_engine_simulation.specs.Places.{LikeSteps, no_steps, fields, variants, derefs, Use, looking, sharing, changing, writing, NotCopied, IsFreed, IsMutable, Allowed, IsDirect, LikePlace, direct, behind, shared, of_temporary}
+use Rattle.rx_engine_alike.specs.Ways.{Way, apart, from_value, in_front, from_variable, by_part, by_dereference, then_step, then_steps, way_seen, way_by, way_from, way_of, not_copied, is_freed, is_mutable, may_seen, may, like_place}
+use Rattle.rx_engine_alike_laws.proofs.Promised.{Says, says, silent, so, and_so}
 
 -- ---- steps that are the same way, with one more
 
