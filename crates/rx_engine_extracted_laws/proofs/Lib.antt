@@ -5,3 +5,4 @@ pub mod Bodies
 pub mod Parts
 pub mod Block
 pub mod Holes
+pub mod Programs

@@ -61,6 +61,7 @@ not_so true e q = true≢false (sym e)
 not_so false e q = true≢false (sym q)
 
 in_is : (x : ℕ) (l : List ℕ) → In x l → is_in x l ≡ true
+in_is x [] i = absurd i
 in_is x (y ∷ ys) (inl e) = by (nat_eq x y) (eq-eqb x y e)
   where
     by : (b : Bool) → b ≡ true → (b || is_in x ys) ≡ true
@@ -244,3 +245,49 @@ module _ (A : Asked) (T : Told) (item made : ℕ) (P Q : Program) (told : ToldOf
 
   units_there : (is_in item T.units ≡ true → ⊥) → all_are_unit P.functions T.units T.units ≡ true → UnitFunctions (with_element P.functions item (Some (running_of A T.plan.params))) T.units
   units_there n e f i g is = are_unit_if P.functions T.units e f i g (sym (put_other P.functions item f (Some (running_of A T.plan.params)) (λ s. n (subst (λ f. is_in f T.units ≡ true) s (in_is f T.units i)))) ∙ is)
+
+  record Holding : Type 0 where
+    pub call : function_has_call T (element P.functions item) (element Q.functions (T.items item)) ≡ true
+    pub stay : others_stay T item Q.functions 0 P.functions ≡ true
+    pub few : length Q.functions ≤ T.items (length P.functions)
+    pub main : Q.main ≡ T.items P.main
+    pub no_unit : is_in item T.units ≡ true → ⊥
+    pub units : all_are_unit P.functions T.units T.units ≡ true
+
+  holding : extracts T item P Q ≡ true → Holding
+  holding e =
+      let b5 : Bool = not (is_in item T.units) && all_are_unit P.functions T.units T.units in
+      let b4 : Bool = nat_eq Q.main (T.items P.main) && b5 in
+      let b3 : Bool = nat_le (length Q.functions) (T.items (length P.functions)) && b4 in
+      let b2 : Bool = others_stay T item Q.functions 0 P.functions && b3 in
+      let t1 = both_hold (function_has_call T (element P.functions item) (element Q.functions (T.items item))) b2 e in
+      let t2 = both_hold (others_stay T item Q.functions 0 P.functions) b3 t1.1 in
+      let t3 = both_hold (nat_le (length Q.functions) (T.items (length P.functions))) b4 t2.1 in
+      let t4 = both_hold (nat_eq Q.main (T.items P.main)) b5 t3.1 in
+      let t5 = both_hold (not (is_in item T.units)) (all_are_unit P.functions T.units T.units) t4.1 in
+      record { call = t1.0; stay = t2.0; few = leb-true (length Q.functions) (T.items (length P.functions)) t3.0; main = eqb-true Q.main (T.items P.main) t4.0; no_unit = not_so (is_in item T.units) t5.0; units = t5.1 }
+
+  extraction_with : {g' : Function} → Holding → element Q.functions (T.items item) ≡ Some (Some g') → CallThere g' → Extracts A T.muts T.plan T.modes P Q
+  extraction_with {g'} holds is (call_there {f = f} {z = z} x r related) = record {
+    item = item;
+    is_there = told.is_there;
+    read = record { functions = functions_read f z; main = Q.main };
+    rereads = record { all = rereads_each f z is x r; mains = refl };
+    again = true;
+    new = new_reading f;
+    new_is_there = new_there f z;
+    items = T.items;
+    main = holds.main;
+    others = λ i n. subst (λ o. SameEntry T.items (element P.functions i) o) (sym (others_there f z (T.items i) (told.apart i) (others_apart i n)))
+        (others_so T item (length P.functions) Q.functions (none_beyond holds.few) 0 P.functions (omega arith) holds.stay i i (omega arith) n);
+    units = T.units;
+    are_units = units_there holds.no_unit holds.units;
+    calling = z;
+    calling_is_there = calling_there f z is;
+    related = related;
+  }
+
+  pub extraction_found : extracts T item P Q ≡ true → Extracts A T.muts T.plan T.modes P Q
+  extraction_found e =
+      let holds = holding e in let c = function_found T A.function (element P.functions item) (element Q.functions (T.items item)) told.is_there holds.call in
+      extraction_with holds c.1 (function_called c.0 c.2)

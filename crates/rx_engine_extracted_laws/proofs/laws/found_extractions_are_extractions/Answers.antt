@@ -1,8 +1,5 @@
-use Rattle.rx_engine_extracted_laws.proofs.Holes.{open_text}
-use Rattle.rx_engine_extracted_laws.proofs.Block.{block_found}
-use Rattle.rx_engine_extracted_laws.proofs.Bodies.{marked_is}
-use Rattle.rx_engine_extracted_laws.proofs.Parts.{Parts}
+use Rattle.rx_engine_extracted_laws.proofs.Programs.{extraction_found}
 use Rattle.rx_engine_extracted_laws.proofs.laws.found_extractions_are_extractions.Goals as goal
 
 pub returns : goal.returns
-returns c = λ n. ?
+returns c A T item made P Q told e = extraction_found A T item made P Q told ? e
