@@ -105,17 +105,21 @@ module _ (A : Asked) (T : Told) (parts : Parts A T) (same : T.elsewhere ≡ spec
   -- it does what the run does, with a body that is read
   data RunsSo (J : Jumping) (R : Renaming) (text : Body) (K : Called) (e : Exp) (Rb : Renaming) : Type 0 where
     runs_so : {called : Exp} {mc mb : Mark} {l : Last} {r r' : Stretch} {end : Body} {ls : List (ℕ × ℕ)} {es : Operands} (Ra : Renaming) → Rereads T.new.function.body (body_of mb ls r' end)
-        → EntersWith true k T.modes R es T.new.function.params ls Ra → Divided (marked text) l r → Moved T.items gain T.units (special_of A k) K.jumping Ra r r' Rb → Ended T.items gain T.units (special_of A k) K.jumping Rb l K.way (k.outs next) end
+        → EntersWith true k T.modes R es T.new.function.params ls Ra → Divided (marked text) l r → Moved T.items gain T.units (special_of A k) K.jumping Ra r r' Rb
+        → Ended T.items gain T.units (special_of A k) K.jumping Rb l K.way (k.outs next) end
         → Rereads e called → CallOf A T.muts k J R (tree.call mc T.new.number es) K.jumping K.way called → RunsSo J R text K e Rb
 
   module _ (J : Jumping) (R : Renaming) (text : Body) (e : Exp) (K : Called) where
-    made_run : {b : Body} {B : Begun} {called : Exp} {mc : Mark} {ls : List (ℕ × ℕ)} {es : Operands} {Rb : Renaming} (m : Mark) → tree.block m b ≡ T.new.function.body → EntersWith true k T.modes R es T.new.function.params ls B.inside → b ≡ with_locals ls B.rest
-        → Rereads e called → CallOf A T.muts k J R (tree.call mc T.new.number es) K.jumping K.way called → RanSo (between_in T) gain K.jumping T.run.count B.inside text B.rest K.way (k.outs next) Rb → RunsSo J R text K e Rb
+    made_run : {b : Body} {B : Begun} {called : Exp} {mc : Mark} {ls : List (ℕ × ℕ)} {es : Operands} {Rb : Renaming} (m : Mark) → tree.block m b ≡ T.new.function.body
+        → EntersWith true k T.modes R es T.new.function.params ls B.inside → b ≡ with_locals ls B.rest
+        → Rereads e called → CallOf A T.muts k J R (tree.call mc T.new.number es) K.jumping K.way called
+        → RanSo (between_in T) gain K.jumping T.run.count B.inside text B.rest K.way (k.outs next) Rb → RunsSo J R text K e Rb
     made_run {B = B} {ls = ls} {Rb = Rb} m q ent is z call (ran_is {l = l} {r = r} {r' = r'} {end = end} div moved ended x) =
         runs_so B.inside (subst (λ x. Rereads x (body_of m ls r' end)) q (in_block (subst (λ c. RereadsBody c (with_locals ls (stretch.before r' end))) (sym is) (with_locals_read ls x)))) ent div
         (subst (λ s. Moved T.items gain T.units s K.jumping B.inside r r' Rb) same moved) (subst (λ s. Ended T.items gain T.units s K.jumping Rb l K.way (k.outs next) end) same ended) z call
 
-    called_with : {b : Body} (B : Begun) {ls : List (ℕ × ℕ)} {es : Operands} (m : Mark) → tree.block m b ≡ T.new.function.body → EntersWith true k T.modes R es T.new.function.params ls B.inside → b ≡ with_locals ls B.rest
+    called_with : {b : Body} (B : Begun) {ls : List (ℕ × ℕ)} {es : Operands} (m : Mark) → tree.block m b ≡ T.new.function.body → EntersWith true k T.modes R es T.new.function.params ls B.inside
+        → b ≡ with_locals ls B.rest
         → CalledSo A T J R e K es → Promised (λ Rb. RunsSo J R text K e Rb) (ran (between_in T) K.jumping K.way (k.outs next) T.run.count B.inside text B.rest)
     called_with B m q ent is (called_so z call) =
         map_so (λ Rb x. made_run m q ent is z call x) (ran_so (between_in T) gain K.jumping K.way (k.outs next) (λ y. no_outs (not_next call y)) T.run.count B.inside text B.rest)
@@ -141,16 +145,20 @@ module _ (A : Asked) (T : Told) (parts : Parts A T) (same : T.elsewhere ≡ spec
     abbrev Rs : Renaming
     Rs = without (k.outs next) p.inside
 
-    stood_with : {called : Exp} {mc mb : Mark} {l : Last} {r r' : Stretch} {end : Body} {ls : List (ℕ × ℕ)} {es : Operands} {Rb : Renaming} {Ji : Jumping} {w : Way} (S : Stood) (D : Put) (Ra : Renaming) → Rereads T.new.function.body (body_of mb ls r' end)
-        → EntersWith true k T.modes p.inside es T.new.function.params ls Ra → Divided (marked p.text) l r → Moved T.items gain T.units (special_of A k) Ji Ra r r' Rb → Ended T.items gain T.units (special_of A k) Ji Rb l w (k.outs next) end
-        → CallOf A T.muts k J p.inside (tree.call mc T.new.number es) Ji w called → HandedSo A T p.inside Rs (k.outs next) p.answer S called → RedeclaredSo Rb S.inside k.redeclared S.rest D → Within p.inside D.inside → StandsSo J p D
+    stood_with : {called : Exp} {mc mb : Mark} {l : Last} {r r' : Stretch} {end : Body} {ls : List (ℕ × ℕ)} {es : Operands} {Rb : Renaming} {Ji : Jumping} {w : Way} (S : Stood) (D : Put)
+        (Ra : Renaming) → Rereads T.new.function.body (body_of mb ls r' end)
+        → EntersWith true k T.modes p.inside es T.new.function.params ls Ra → Divided (marked p.text) l r → Moved T.items gain T.units (special_of A k) Ji Ra r r' Rb
+        → Ended T.items gain T.units (special_of A k) Ji Rb l w (k.outs next) end
+        → CallOf A T.muts k J p.inside (tree.call mc T.new.number es) Ji w called → HandedSo A T p.inside Rs (k.outs next) p.answer S called → RedeclaredSo Rb S.inside k.redeclared S.rest D
+        → Within p.inside D.inside → StandsSo J p D
     stood_with {mb = mb} {ls = ls} {Rb = Rb} S D Ra x ent div moved ended call (handed_so {g = g} back y) (redeclared_so {f = f} again z) within =
         stands_so {g = λ b. g (f b)} x div
         (λ rest. run_becomes_call {f' = λ b. g (f b)} Ra Rb mb ls refl ent moved ended (λ q. never_divided div (never (not_next call q))) call
             (handed_on {f = f} {g = g} Rs S.inside D.inside (parts.less (k.outs next) p.inside) apart back again (λ x e s. s) within))
         (λ rest a. y (f rest) (z rest a))
 
-    stood : (S : Stood) (K : Called) {Rb : Renaming} (D : Put) → HandsSo A T p.inside Rs (k.outs next) p.answer S → RunsSo J p.inside p.text K S.called Rb → RedeclaredSo Rb S.inside k.redeclared S.rest D → Within p.inside D.inside → StandsSo J p D
+    stood : (S : Stood) (K : Called) {Rb : Renaming} (D : Put) → HandsSo A T p.inside Rs (k.outs next) p.answer S → RunsSo J p.inside p.text K S.called Rb
+        → RedeclaredSo Rb S.inside k.redeclared S.rest D → Within p.inside D.inside → StandsSo J p D
     stood S K D hands (runs_so {called = called} Ra x ent div moved ended z call) again within = stood_with S D Ra x ent div moved ended call (hands called z) again within
 
     stands_found : (S : Stood) → HandsSo A T p.inside Rs (k.outs next) p.answer S → Promised (λ D. StandsSo J p D) (stands_for T J p S)
@@ -162,13 +170,15 @@ module _ (A : Asked) (T : Told) (parts : Parts A T) (same : T.elsewhere ≡ spec
   abbrev behind_run : Body → Body
   behind_run text = before (drop T.run.count (statements text)) (tree.ends (tail text))
 
-  rest_so : (J : Jumping) (text : Body) (D : Put) {o : Option Body} → Promised (λ c. c ≡ behind_run text) o → Says (AlikeBody (between_around T) gain J D.inside (behind_run text) D.rest) (rest_is_alike T J o D)
+  rest_so : (J : Jumping) (text : Body) (D : Put) {o : Option Body} → Promised (λ c. c ≡ behind_run text) o
+      → Says (AlikeBody (between_around T) gain J D.inside (behind_run text) D.rest) (rest_is_alike T J o D)
   rest_so J text D (kept {a = c} q) = so (λ a. subst (λ b. AlikeBody (between_around T) gain J D.inside b D.rest) (same_body c ∙ q) a) (body_alike (between_around T) gain J D.inside c D.rest)
   rest_so J text D nothing = silent
 
   -- its statements, with the marks of the run; of the answer's, those of a body that is read
   pub data BlockSo (J : Jumping) (R : Renaming) (text answer : Body) : Type 0 where
-    block_is : {f : Exp} {d : Body} → Rereads T.new.function.body f → RereadsBody answer d → LikeBody T.items (The f) gain (by_form (special_of A k)) 1 J R (running_body T.run T.around k.params text) d → BlockSo J R text answer
+    block_is : {f : Exp} {d : Body} → Rereads T.new.function.body f → RereadsBody answer d
+        → LikeBody T.items (The f) gain (by_form (special_of A k)) 1 J R (running_body T.run T.around k.params text) d → BlockSo J R text answer
 
   -- the run and what is behind it, by the statements from there on
   abbrev from_run : List Statement → Exp → Body
@@ -176,25 +186,30 @@ module _ (A : Asked) (T : Told) (parts : Parts A T) (same : T.elsewhere ≡ spec
 
   in_place : {J : Jumping} (text : Body) (D : Put) {R : Renaming} {d : Body} {f : Exp} {l : Last} {r : Stretch} {g : Body → Body} → Whole J → Divided (marked text) l r
       → RunBecomesCall A T.muts k T.modes T.items gain T.units (new_with f) 1 J R D.inside (behind_run text) (λ b. stretch.before (marked_run k l r) (with_last l b)) g
-      → LikeBody T.items (left T.units) gain (by_form T.elsewhere) 0 J D.inside (behind_run text) d → LikeBody T.items (The f) gain (by_form T.elsewhere) 1 J R (from_run (statements text) (tail text)) (g d)
+      → LikeBody T.items (left T.units) gain (by_form T.elsewhere) 0 J D.inside (behind_run text) d
+      → LikeBody T.items (The f) gain (by_form T.elsewhere) 1 J R (from_run (statements text) (tail text)) (g d)
   in_place {J} text D {R} {d = d} {f = f} {l = l} {r = r} {g = g} whole div call like =
       subst (λ c. LikeBody T.items (The f) gain (by_form T.elsewhere) 1 J R c (g d)) (marked_is k (behind_run text) div)
-      (opens_in {b = behind_run text} {b' = d} {f = λ b. stretch.before (marked_run k l r) (with_last l b)} {f' = g} 1 0 (omega arith) call (body_whole T.items gain T.units T.elsewhere (The f) whole like))
+      (opens_in {b = behind_run text} {b' = d} {f = λ b. stretch.before (marked_run k l r) (with_last l b)} {f' = g} 1 0 (omega arith) call
+          (body_whole T.items gain T.units T.elsewhere (The f) whole like))
 
   whole_block : {J : Jumping} {R : Renaming} {text answer : Body} {p : Passed} {D : Put} → Whole J → FirstSo (between_around T) gain J T.run.first R text answer p → StandsSo J p D
       → AlikeBody (between_around T) gain J D.inside (behind_run p.text) D.rest → BlockSo J R text answer
   whole_block {J} {R} {text} {p = p} {D = D} whole (first_is {r = r} m x s t) (stands_so {f = f} {g = g} y div call z) (alike_body {d = d} a like) =
       block_is y (x (g d) (z d a)) (subst (λ l. LikeBody T.items (The f) gain (by_form l) 1 J R (running_body T.run T.around k.params text) (stretch.before r (g d))) same
-      (subst (λ c. LikeBody T.items (The f) gain (by_form T.elsewhere) 1 J R c (stretch.before r (g d))) there (in_front T.items gain T.units T.elsewhere (The f) whole m (in_place p.text D whole div (call (behind_run p.text)) like))))
+      (subst (λ c. LikeBody T.items (The f) gain (by_form T.elsewhere) 1 J R c (stretch.before r (g d))) there
+          (in_front T.items gain T.units T.elsewhere (The f) whole m (in_place p.text D whole div (call (behind_run p.text)) like))))
     where
       front : List Statement
       front = take T.run.first (statements text)
 
       there : stretch.before (stretch_of (map (changed_statement (passing [])) front)) (from_run (statements p.text) (tail p.text)) ≡ running_body T.run T.around k.params text
-      there = stretch_is (map (changed_statement (passing [])) front) (from_run (statements p.text) (tail p.text)) ∙ ap (λ l. before l (from_run (statements p.text) (tail p.text))) (statements_unchanged front)
+      there = stretch_is (map (changed_statement (passing [])) front) (from_run (statements p.text) (tail p.text)) ∙ ap (λ l. before l (from_run (statements p.text) (tail p.text)))
+          (statements_unchanged front)
           ∙ ap (λ l. before front (from_run l (tail p.text))) s ∙ ap (λ e. before front (from_run (drop T.run.first (statements text)) e)) t
 
-  module _ (J : Jumping) (whole : Whole J) (R : Renaming) (text answer : Body) (never : (Among next k.exits → ⊥) → NeverEnds none_left (stretch_of (map (changed_statement (passing T.around)) (inside T.run text)))) where
+  module _ (J : Jumping) (whole : Whole J) (R : Renaming) (text answer : Body)
+      (never : (Among next k.exits → ⊥) → NeverEnds none_left (stretch_of (map (changed_statement (passing T.around)) (inside T.run text)))) where
     run_found : {o : Option Passed} → Promised (λ p. FirstSo (between_around T) gain J T.run.first R text answer p) o → Says (BlockSo J R text answer) (run_is_call T J o)
     run_found nothing = silent
     run_found (kept {a = p} first) = and_with (parts.not_handed p.inside) (λ apart.

@@ -74,7 +74,8 @@ module _ (C : Between) (gain : Allowance) (J : Jumping) where
   gives_so : (R : Renaming) (w : Way) (xs zs : List ℕ) (m : Mark) (g : Exp) → (w ≡ no_way → xs ≡ []) → HaveThere R xs zs → Says (EndedBy R none_left w xs (tree.ends (tree.give m g))) (gives_in w zs g)
   gives_so R bare xs zs m g none h = so (λ a. given_by m h a) (gives_bare_so zs g)
   gives_so R (as_variant v) xs zs m g none h = so (λ a. given_by m h a) (gives_variant_so v zs g)
-  gives_so R no_way xs zs m g none h = says (subst (λ xs. EndedBy R none_left no_way xs (tree.ends (tree.give m g))) (sym (none refl)) (reread (tree.ends (tree.give m g)) (self_body (tree.ends (tree.give m g))) moved.gives_never))
+  gives_so R no_way xs zs m g none h = says (subst (λ xs. EndedBy R none_left no_way xs (tree.ends (tree.give m g))) (sym (none refl))
+      (reread (tree.ends (tree.give m g)) (self_body (tree.ends (tree.give m g))) moved.gives_never))
 
   given_so : (R : Renaming) (w : Way) (xs : List ℕ) (end : Body) → (w ≡ no_way → xs ≡ []) → Says (EndedBy R none_left w xs end) (gives_outs w R xs end)
   given_so R w xs (tree.ends (tree.give m g)) none = these_so (numbers_so R xs) (λ zs h. gives_so R w xs zs m g none h)
@@ -99,7 +100,8 @@ module _ (C : Between) (gain : Allowance) (J : Jumping) where
   all_ran : {n : ℕ} {R : Renaming} {b b' : Body} {y : Way} {xs : List ℕ} {p : Passed} → FirstSo C gain J n R b b' p → EndedBy p.inside none_left y xs p.answer → RanSo n R b b' y xs p.inside
   all_ran (first_is m k s t) (reread d z e) = ran_is all_in_front m e (k d z)
 
-  last_ran : {n : ℕ} {R Rb : Renaming} {b b' t a : Body} {y : Way} {xs : List ℕ} {r : Stretch} → Moved C.items gain C.units C.ways.elsewhere J R (stretch_of (map (changed_statement Out) (take n (statements b)))) r Rb
+  last_ran : {n : ℕ} {R Rb : Renaming} {b b' t a : Body} {y : Way} {xs : List ℕ} {r : Stretch}
+      → Moved C.items gain C.units C.ways.elsewhere J R (stretch_of (map (changed_statement Out) (take n (statements b)))) r Rb
       → ((rest : Body) → RereadsBody a rest → RereadsBody b' (before r rest)) → statements t ≡ drop n (statements b) → LastSo Rb y xs t a → RanSo (suc n) R b b' y xs Rb
   last_ran {n} {b = b} m k s (last_so {e = e} (reread d z x)) =
       let cut = ap (λ l. map (changed_statement Out) l) (one_more n (statements b) s) ∙ map_behind (changed_statement Out) (take n (statements b)) (does e) in

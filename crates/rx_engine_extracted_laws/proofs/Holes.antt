@@ -15,7 +15,8 @@ use Rattle.rx_engine_simulation.specs.Programs.{whole_jumps}
 use Rattle.rx_engine_histories.specs.OneSite.{blocks_at}
 use Rattle.rx_engine_histories.proofs.Sole.{block_there}
 use Rattle.rx_engine_alike.specs.Likeness.{Hole, Likeness, unlike, alike, alike_but, both, provided, when, choose, but_open}
-use Rattle.rx_engine_alike.specs.Read.{as_read, as_borrow, as_share, as_build, as_unit, as_lazily, as_assign, as_update, as_call, as_input, as_print, as_block, as_choose, as_loop, as_jump, as_give, as_no_operand, as_operand, as_no_arm, as_arm, as_ends, as_runs, as_declares, as_lets}
+use Rattle.rx_engine_alike.specs.Read.{as_read, as_borrow, as_share, as_build, as_unit, as_lazily, as_assign, as_update, as_call, as_input, as_print, as_block, as_choose, as_loop, as_jump}
+use Rattle.rx_engine_alike.specs.Read.{as_give, as_no_operand, as_operand, as_no_arm, as_arm, as_ends, as_runs, as_declares, as_lets}
 use Rattle.rx_engine_alike.specs.Same.{same_bool}
 use Rattle.rx_engine_alike.specs.Ways.{Way, like_place}
 use Rattle.rx_engine_alike.specs.Variables.{like_params, like_declared}
@@ -119,15 +120,18 @@ module _ (C : Between) where
     exp_held a J R (tree.call m f es) e' = held_when (as_call e') (λ r. held_if _ (all_held a J R es r.2))
     exp_held a J R (tree.input m) e' = held_when (as_input e') (λ r. held_alike)
     exp_held a J R (tree.print m e) e' = held_when (as_print e') (λ r. exp_held a J R e r.1)
-    exp_held a J R (tree.block m b) e' = held_when (as_block e') (λ r. held_open (is_open C.left_open m.node) (record { loops = J.loops; inside = R; text = b; answer = r.1 }) (λ q. is_spot here q) (behind (body_held a J R b r.1)))
-    exp_held a J R (tree.choose m c l) e' = held_when (as_choose e') (λ r. held_both (in_left (spots_armed a l) (matched_held a J R c r.1)) (in_right (spots_matched a c) (arms_held a J R (way_of_matched R c r.1) l r.2)))
+    exp_held a J R (tree.block m b) e' = held_when (as_block e') (λ r. held_open (is_open C.left_open m.node) (record { loops = J.loops; inside = R; text = b; answer = r.1 }) (λ q. is_spot here q)
+        (behind (body_held a J R b r.1)))
+    exp_held a J R (tree.choose m c l) e' = held_when (as_choose e') (λ r. held_both (in_left (spots_armed a l) (matched_held a J R c r.1))
+        (in_right (spots_matched a c) (arms_held a J R (way_of_matched R c r.1) l r.2)))
     exp_held a J R (tree.loop m l e) e' = held_when (as_loop e') (λ r. held_if _ (exp_held (with_loop l a) (in_loop J l r.1) R e r.2))
     exp_held a J R (tree.jump m l back) e' = held_jump J R (is_among l C.outside) l back e'
     exp_held a J R (tree.give m e) e' = held_when (as_give e') (λ r. held_return C.units R J.returning e (λ f. in_left (a_return a m.node ∷ []) (exp_held a J R e f)) r.1)
 
     all_held : (a : Around) (J : Jumping) (R : Renaming) (es es' : Operands) → Held (IsSpot C (spots_in a es)) (like_all C J R es es')
     all_held a J R tree.no_operand es' = held_when (as_no_operand es') (λ r. held_alike)
-    all_held a J R (tree.operand_and n e es) es' = held_when (as_operand es') (λ r. held_if _ (held_both (in_left (spots_in a es) (exp_held a J R e r.1)) (in_right (spots a e) (all_held a J R es r.2))))
+    all_held a J R (tree.operand_and n e es) es' = held_when (as_operand es') (λ r. held_if _ (held_both (in_left (spots_in a es) (exp_held a J R e r.1))
+        (in_right (spots a e) (all_held a J R es r.2))))
 
     matched_held : (a : Around) (J : Jumping) (R : Renaming) (c c' : Scrutinee) → Held (IsSpot C (spots_matched a c)) (like_matched C J R c c')
     matched_held a J R (tree.at_place m p) (tree.at_place m' q) = held_alike
@@ -168,7 +172,8 @@ fewer k (a_jump a n m back) l le = le
 fewer k (a_return a n) l le = le
 
 -- one has the node, and another is behind
-no_other : (k : ℕ) (n : ℕ) (a : Around) (b : Body) {i : ℕ} {e : Around} {f : Body} (l : List Spot) → (n == k) ≡ true → (i == k) ≡ true → blocks_at k (a_block a n b ∷ l) ≤ 1 → Among (a_block e i f) l → ⊥
+no_other : (k : ℕ) (n : ℕ) (a : Around) (b : Body) {i : ℕ} {e : Around} {f : Body} (l : List Spot) → (n == k) ≡ true → (i == k) ≡ true → blocks_at k (a_block a n b ∷ l) ≤ 1
+    → Among (a_block e i f) l → ⊥
 no_other k n a b {i} {e} {f} l p q le j = by (n == k) p le (block_there k e f l (subst (λ i. Among (a_block e i f) l) ((Decides-eqb i k).0 q) j))
   where
     by : (t : Bool) → t ≡ true → (if t then suc (blocks_at k l) else blocks_at k l) ≤ 1 → 1 ≤ blocks_at k l → ⊥
@@ -183,7 +188,8 @@ same_block {a} {c} {n} {m} {b} {d} k (_ ∷ l) p q le (there i) here = absurd (n
 same_block k (s ∷ l) p q le (there i) (there j) = same_block k l p q (fewer k s l le) i j
 
 -- the block at this node is the one that was left open
-pub open_text : (C : Between) (k : ℕ) {h : Hole} (g g' : Function) {a : Around} {b : Body} → C.left_open ≡ Some k → blocks_at k (spots_of_function g) ≤ 1 → Among (a_block a k b) (spots_of_function g) → like_function C g g' ≡ alike_but h → b ≡ h.text
+pub open_text : (C : Between) (k : ℕ) {h : Hole} (g g' : Function) {a : Around} {b : Body} → C.left_open ≡ Some k → blocks_at k (spots_of_function g) ≤ 1
+    → Among (a_block a k b) (spots_of_function g) → like_function C g g' ≡ alike_but h → b ≡ h.text
 open_text C k {h} g g' {b = b} opened le i q = by (like_function C g g') (function_held C g g') q
   where
     found : IsSpot C (spots_of_function g) h → b ≡ h.text

@@ -1,6 +1,7 @@
 -- An answer that is found to be an extraction by its typed program is one. Beside it stands the program in which the new function, and the run's,
 -- read some references that they ask for again.
-use Rattle.std.proofs.Common.{◌≡◌, ◌⊎◌, inl, inr, ℕ, zero, suc, ◌+◌, ◌<◌, ◌≤◌, ◌==◌, nat_eq, nat_le, Bool, true, false, not, ◌&&◌, ◌||◌, List, [], ◌∷◌, length, map, Option, Some, None, if◌then◌else◌, refl, sym, ap, ◌∙◌, subst, arith, true≢false, eqb-true, eq-eqb, le-leb, leb-false, leb-true}
+use Rattle.std.proofs.Common.{◌≡◌, ◌⊎◌, inl, inr, ℕ, zero, suc, ◌+◌, ◌<◌, ◌≤◌, ◌==◌, nat_eq, nat_le, Bool, true, false, not, ◌&&◌, ◌||◌, List, [], ◌∷◌, length, map, Option, Some, None}
+use Rattle.std.proofs.Common.{if◌then◌else◌, refl, sym, ap, ◌∙◌, subst, arith, true≢false, eqb-true, eq-eqb, le-leb, leb-false, leb-true}
 use Rattle.rx_typed.specs.Tree as tree
 use Rattle.rx_typed.specs.Tree.{Mark, Exp, Body, Function}
 use Rattle.rx_lower_walks.specs.Walks.{Among}
@@ -183,19 +184,23 @@ module _ (A : Asked) (T : Told) (item made : ℕ) (P Q : Program) (told : ToldOf
     never_there : (Among next T.plan.exits → ⊥) → NeverAt T.around T.run h.text
     never_there n =
         let text_is = open_text (between_but_run T) A.run.block A.function g' (ap (λ (r : Run). Some r.block) told.run) told.had.one_block told.had.sits.block q in
-        subst (λ ls. NeverAt ls T.run h.text) (sym told.around) (subst (λ r. NeverAt A.home.around.loops r h.text) (sym told.run) (subst (λ b. NeverAt A.home.around.loops A.run b) text_is (told.never n)))
+        subst (λ ls. NeverAt ls T.run h.text) (sym told.around) (subst (λ r. NeverAt A.home.around.loops r h.text) (sym told.run)
+            (subst (λ b. NeverAt A.home.around.loops A.run b) text_is (told.never n)))
 
     -- the block is filled by what stands for the run
-    filled : {f : Exp} {d : Body} → RereadsBody h.answer d → LikeBody T.items (calls f) (a_turn true) (by_form (special_of A T.plan)) 1 (loops_in h) h.inside (running_body T.run T.around T.plan.params h.text) d
+    filled : {f : Exp} {d : Body} → RereadsBody h.answer d → LikeBody T.items (calls f) (a_turn true) (by_form (special_of A T.plan)) 1 (loops_in h) h.inside
+        (running_body T.run T.around T.plan.params h.text) d
         → (z : Function) × RereadsFunction g' z × Related f z
     filled {f} {d} y like = by (function_if (between_but_run T) (in_its_block A T.plan T.items (calls f) (a_turn true)) (a_turn true) refl A.function g' h q
-        (filled_by (between_but_run T) (in_its_block A T.plan T.items (calls f) (a_turn true)) (a_turn true) refl (omega arith) h d y (λ m m' o e. run_block (subst (λ (r : Run). (m.node == r.block) ≡ true) told.run o) there)))
+        (filled_by (between_but_run T) (in_its_block A T.plan T.items (calls f) (a_turn true)) (a_turn true) refl (omega arith) h d y
+            (λ m m' o e. run_block (subst (λ (r : Run). (m.node == r.block) ≡ true) told.run o) there)))
       where
         there : LikeBody T.items (calls f) (a_turn true) (by_form (special_of A T.plan)) 1 (loops_in h) h.inside (running_body A.run A.home.around.loops T.plan.params h.text) d
         there = subst (λ ls. LikeBody T.items (calls f) (a_turn true) (by_form (special_of A T.plan)) 1 (loops_in h) h.inside (running_body A.run ls T.plan.params h.text) d) told.around
             (subst (λ r. LikeBody T.items (calls f) (a_turn true) (by_form (special_of A T.plan)) 1 (loops_in h) h.inside (running_body r T.around T.plan.params h.text) d) told.run like)
 
-        by : (z : Function) × RereadsFunction g' z × RelatedFunction T.items (in_its_block A T.plan T.items (calls f) (a_turn true)) (a_turn true) T.elsewhere A.function z → (z : Function) × RereadsFunction g' z × Related f z
+        by : (z : Function) × RereadsFunction g' z × RelatedFunction T.items (in_its_block A T.plan T.items (calls f) (a_turn true)) (a_turn true) T.elsewhere A.function z
+            → (z : Function) × RereadsFunction g' z × Related f z
         by t = (t.0, t.1, subst (λ s. RelatedFunction T.items (in_its_block A T.plan T.items (calls f) (a_turn true)) (a_turn true) s A.function t.0) told.elsewhere t.2)
 
     call_is : block_has_call T h ≡ true → CallThere g'
@@ -223,7 +228,8 @@ module _ (A : Asked) (T : Told) (item made : ℕ) (P Q : Program) (told : ToldOf
     functions_read = with_element called_first T.new.number (Some (new_reading f).function)
 
     new_there : element functions_read T.new.number ≡ Some (Some (new_reading f).function)
-    new_there = put_same called_first T.new.number (Some T.new.function) (Some (new_reading f).function) (put_other Q.functions (T.items item) T.new.number (Some z) (λ e. told.apart item (sym e)) ∙ told.new_is_there)
+    new_there = put_same called_first T.new.number (Some T.new.function) (Some (new_reading f).function) (put_other Q.functions (T.items item) T.new.number (Some z)
+        (λ e. told.apart item (sym e)) ∙ told.new_is_there)
 
     calling_there : {g' : Function} → element Q.functions (T.items item) ≡ Some (Some g') → element functions_read (T.items item) ≡ Some (Some z)
     calling_there {g'} is = put_other called_first T.new.number (T.items item) (Some (new_reading f).function) (told.apart item) ∙ put_same Q.functions (T.items item) (Some g') (Some z) is
@@ -231,7 +237,8 @@ module _ (A : Asked) (T : Told) (item made : ℕ) (P Q : Program) (told : ToldOf
     others_there : (i : ℕ) → (i ≡ T.new.number → ⊥) → (i ≡ T.items item → ⊥) → element functions_read i ≡ element Q.functions i
     others_there i n m = put_other called_first T.new.number i (Some (new_reading f).function) n ∙ put_other Q.functions (T.items item) i (Some z) m
 
-    rereads_each : {g' : Function} → element Q.functions (T.items item) ≡ Some (Some g') → Rereads T.new.function.body f → RereadsFunction g' z → (i : ℕ) → RereadsEntry (element Q.functions i) (element functions_read i)
+    rereads_each : {g' : Function} → element Q.functions (T.items item) ≡ Some (Some g') → Rereads T.new.function.body f → RereadsFunction g' z → (i : ℕ)
+        → RereadsEntry (element Q.functions i) (element functions_read i)
     rereads_each is x r = at_each (λ i. RereadsEntry (element Q.functions i) (element functions_read i)) T.new.number (entry_at told.new_is_there new_there (in_function refl x))
         (λ i n. at_each (λ i. (i ≡ T.new.number → ⊥) → RereadsEntry (element Q.functions i) (element functions_read i)) (T.items item) (λ n. entry_at is (calling_there is) (entry_rereads r))
             (λ i m n. entry_at refl (others_there i n m) (entry_self (element Q.functions i))) i n)
@@ -244,7 +251,8 @@ module _ (A : Asked) (T : Told) (item made : ℕ) (P Q : Program) (told : ToldOf
       none_behind Q.functions (T.items g) (omega (arith, le, x, y, z))
 
   units_there : (is_in item T.units ≡ true → ⊥) → all_are_unit P.functions T.units T.units ≡ true → UnitFunctions (with_element P.functions item (Some (running_of A T.plan.params))) T.units
-  units_there n e f i g is = are_unit_if P.functions T.units e f i g (sym (put_other P.functions item f (Some (running_of A T.plan.params)) (λ s. n (subst (λ f. is_in f T.units ≡ true) s (in_is f T.units i)))) ∙ is)
+  units_there n e f i g is = are_unit_if P.functions T.units e f i g (sym (put_other P.functions item f (Some (running_of A T.plan.params))
+      (λ s. n (subst (λ f. is_in f T.units ≡ true) s (in_is f T.units i)))) ∙ is)
 
   record Holding : Type 0 where
     pub call : function_has_call T (element P.functions item) (element Q.functions (T.items item)) ≡ true
@@ -265,7 +273,8 @@ module _ (A : Asked) (T : Told) (item made : ℕ) (P Q : Program) (told : ToldOf
       let t3 = both_hold (nat_le (length Q.functions) (T.items (length P.functions))) b4 t2.1 in
       let t4 = both_hold (nat_eq Q.main (T.items P.main)) b5 t3.1 in
       let t5 = both_hold (not (is_in item T.units)) (all_are_unit P.functions T.units T.units) t4.1 in
-      record { call = t1.0; stay = t2.0; few = leb-true (length Q.functions) (T.items (length P.functions)) t3.0; main = eqb-true Q.main (T.items P.main) t4.0; no_unit = not_so (is_in item T.units) t5.0; units = t5.1 }
+      record { call = t1.0; stay = t2.0; few = leb-true (length Q.functions) (T.items (length P.functions)) t3.0; main = eqb-true Q.main (T.items P.main) t4.0;
+          no_unit = not_so (is_in item T.units) t5.0; units = t5.1 }
 
   extraction_with : {g' : Function} → Holding → element Q.functions (T.items item) ≡ Some (Some g') → CallThere g' → Extracts A T.muts T.plan T.modes P Q
   extraction_with {g'} holds is (call_there {f = f} {z = z} x r related) = record {

@@ -45,20 +45,26 @@ module _ (C : Between) (gain : Allowance) (J : Jumping) where
     first_is : {r : Stretch} → Moved C.items gain C.units C.ways.elsewhere J R (stretch_of (map (changed_statement Out) (take n (statements b)))) r p.inside
         → ((rest : Body) → RereadsBody p.answer rest → RereadsBody b' (before r rest)) → statements p.text ≡ drop n (statements b) → tail p.text ≡ tail b → FirstSo n R b b' p
 
-  run_first : {n : ℕ} {R : Renaming} {e e' : Exp} {b b1 b' : Body} {p : Passed} → tree.runs e' b1 ≡ b' → AlikeExp C gain J R (changed Out e) e' → FirstSo n R b b1 p → FirstSo (suc n) R (tree.runs e b) b' p
+  run_first : {n : ℕ} {R : Renaming} {e e' : Exp} {b b1 b' : Body} {p : Passed} → tree.runs e' b1 ≡ b' → AlikeExp C gain J R (changed Out e) e' → FirstSo n R b b1 p
+      → FirstSo (suc n) R (tree.runs e b) b' p
   run_first q (alike_exp {f = f} x l) (first_is {r = r} m k s t) = first_is (moved_statement l m) (λ rest z. subst (λ c. RereadsBody c (tree.runs f (before r rest))) q (in_run x (k rest z))) s t
 
-  declare_first : {n s s' : ℕ} {R Ra : Renaming} {xs ys : List ℕ} {b b1 b' : Body} {p : Passed} → tree.declares s' ys b1 ≡ b' → LikeDeclared V R xs ys Ra → FirstSo n Ra b b1 p → FirstSo (suc n) R (tree.declares s xs b) b' p
-  declare_first {s' = s'} {ys = ys} q l (first_is {r = r} m k s t) = first_is (moved_declaration l m) (λ rest z. subst (λ c. RereadsBody c (tree.declares s' ys (before r rest))) q (in_declare (k rest z))) s t
+  declare_first : {n s s' : ℕ} {R Ra : Renaming} {xs ys : List ℕ} {b b1 b' : Body} {p : Passed} → tree.declares s' ys b1 ≡ b' → LikeDeclared V R xs ys Ra → FirstSo n Ra b b1 p
+      → FirstSo (suc n) R (tree.declares s xs b) b' p
+  declare_first {s' = s'} {ys = ys} q l (first_is {r = r} m k s t) = first_is (moved_declaration l m) (λ rest z. subst (λ c. RereadsBody c (tree.declares s' ys (before r rest))) q
+      (in_declare (k rest z))) s t
 
-  let_moved : {n n' : ℕ} {R Ra Rb : Renaming} {r r' : Stretch} {q : Pattern} {c : Scrutinee} {q' : Pattern} {c' : Scrutinee} → LikeLet C gain J R Ra q c q' c' → Moved C.items gain C.units C.ways.elsewhere J Ra r r' Rb
+  let_moved : {n n' : ℕ} {R Ra Rb : Renaming} {r r' : Stretch} {q : Pattern} {c : Scrutinee} {q' : Pattern} {c' : Scrutinee} → LikeLet C gain J R Ra q c q' c'
+      → Moved C.items gain C.units C.ways.elsewhere J Ra r r' Rb
       → Moved C.items gain C.units C.ways.elsewhere J R (lets_then n q c r) (lets_then n' q' c' r') Rb
   let_moved (let_matched l b) m = moved_let l b m
   let_moved (let_read l) m = moved_read (let_moved l m)
   let_moved (let_look x seen behind l) m = moved_look x seen behind (let_moved l m)
 
-  let_first : {n s s' : ℕ} {R Ra : Renaming} {q q' : Pattern} {c c' : Scrutinee} {b b1 b' : Body} {p : Passed} → tree.lets s' q' c' b1 ≡ b' → AlikeLet C gain J R Ra q (changed_matched Out c) q' c' → FirstSo n Ra b b1 p → FirstSo (suc n) R (tree.lets s q c b) b' p
-  let_first {s' = s'} {q' = q'} t (alike_let {d = d} x l) (first_is {r = r} m k u v) = first_is (let_moved l m) (λ rest z. subst (λ c. RereadsBody c (tree.lets s' q' d (before r rest))) t (in_let x (k rest z))) u v
+  let_first : {n s s' : ℕ} {R Ra : Renaming} {q q' : Pattern} {c c' : Scrutinee} {b b1 b' : Body} {p : Passed} → tree.lets s' q' c' b1 ≡ b' → AlikeLet C gain J R Ra q (changed_matched Out c) q' c'
+      → FirstSo n Ra b b1 p → FirstSo (suc n) R (tree.lets s q c b) b' p
+  let_first {s' = s'} {q' = q'} t (alike_let {d = d} x l) (first_is {r = r} m k u v) = first_is (let_moved l m)
+      (λ rest z. subst (λ c. RereadsBody c (tree.lets s' q' d (before r rest))) t (in_let x (k rest z))) u v
 
   if_then : {A B : Type 0} (b : Bool) (o : Option A) (f : A → Option B) → and_then (if_so b o) f ≡ if_so b (and_then o f)
   if_then true o f = refl
@@ -68,9 +74,11 @@ module _ (C : Between) (gain : Allowance) (J : Jumping) where
   first_so zero R b b' = kept (first_is moved_all (λ rest z. z) refl refl)
   first_so (suc n) R (tree.ends e) b' = nothing
   first_so (suc n) R (tree.runs e b) b' = then_so (as_runs_so b') (λ r q. where_so (exp_alike C gain J R e r.0) (λ a. map_so (λ p x. run_first q a x) (first_so n R b r.1)))
-  first_so (suc n) R (tree.declares s xs b) b' = then_so (as_declares_so b') (λ r q. then_so (declared_so V C.ways (λ x i. i) R xs r.1) (λ Ra l. map_so (λ p x. declare_first q l x) (first_so n Ra b r.2)))
+  first_so (suc n) R (tree.declares s xs b) b' = then_so (as_declares_so b') (λ r q. then_so (declared_so V C.ways (λ x i. i) R xs r.1)
+      (λ Ra l. map_so (λ p x. declare_first q l x) (first_so n Ra b r.2)))
   first_so (suc n) R (tree.lets s t c b) b' = then_so (as_lets_so b') (λ r q.
-      subst (λ o. Promised (λ p. FirstSo (suc n) R (tree.lets s t c b) b' p) o) (if_then (is_alike (like_let C J R c r.1 r.2)) (like_bindings C.ways (way_of_let R c r.1 r.2) R t r.1) (λ Ra. like_first C J n Ra b r.3))
+      subst (λ o. Promised (λ p. FirstSo (suc n) R (tree.lets s t c b) b' p) o) (if_then (is_alike (like_let C J R c r.1 r.2)) (like_bindings C.ways (way_of_let R c r.1 r.2) R t r.1)
+          (λ Ra. like_first C J n Ra b r.3))
       (then_so (let_alike C gain J R t c r.1 r.2) (λ Ra a. map_so (λ p x. let_first q a x) (first_so n Ra b r.3))))
 
 -- ---- where nothing leaves, statements in front of a block that is alike

@@ -81,15 +81,18 @@ module _ (C : Between) (gain : Allowance) (J : Jumping) where
   -- ---- a `let`
 
   of_exp : {R Ra : Renaming} {q q' : Pattern} (e : Exp) {f d : Exp} → Rereads f d → LikeExp C.items O gain V 0 J R (changed Out e) d
-      → LikeBindings V (subject (changed_matched Out (tree.of_value e))) (subject (tree.of_value d)) R (bindings [] q) (bindings [] q') Ra → AlikeLet C gain J R Ra q (changed_matched Out (tree.of_value e)) q' (tree.of_value f)
+      → LikeBindings V (subject (changed_matched Out (tree.of_value e))) (subject (tree.of_value d)) R (bindings [] q) (bindings [] q') Ra
+      → AlikeLet C gain J R Ra q (changed_matched Out (tree.of_value e)) q' (tree.of_value f)
   of_exp e x l b = alike_let (in_value_of x) (let_matched (of_values l) b)
 
   values_alike : (R : Renaming) (q : Pattern) (e : Exp) (q' : Pattern) (f : Exp) → AlikeExp C gain J R (changed Out e) f
       → Promised (λ Ra. AlikeLet C gain J R Ra q (changed_matched Out (tree.of_value e)) q' (tree.of_value f)) (like_bindings C.ways from_value R q q')
-  values_alike R q e q' f (alike_exp {f = d} x l) = map_so (λ Ra b. of_exp e x l b) (like_bindings_so V C.ways (λ x i. i) from_value R q q' (matched_values R (temporary_of (changed Out e)) (temporary_of d)))
+  values_alike R q e q' f (alike_exp {f = d} x l) = map_so (λ Ra b. of_exp e x l b) (like_bindings_so V C.ways (λ x i. i) from_value R q q'
+      (matched_values R (temporary_of (changed Out e)) (temporary_of d)))
 
   -- the place is read for the text's value
-  read_there : {R Ra : Renaming} {q q' : Pattern} {c : Scrutinee} {m : Mark} {p : Place} → MayRead R q' p → LikeLet C gain J R Ra q c q' (tree.of_value (tree.read m false p)) → LikeLet C gain J R Ra q c q' (tree.at_place m p)
+  read_there : {R Ra : Renaming} {q q' : Pattern} {c : Scrutinee} {m : Mark} {p : Place} → MayRead R q' p → LikeLet C gain J R Ra q c q' (tree.of_value (tree.read m false p))
+      → LikeLet C gain J R Ra q c q' (tree.at_place m p)
   read_there by_binding l = let_read l
   read_there (by_looking x s k) l = let_look x s k l
 
@@ -104,6 +107,7 @@ module _ (C : Between) (gain : Allowance) (J : Jumping) where
       → Promised (λ Ra. AlikeLet C gain J R Ra q (changed_matched Out c) q' c') (if_so (is_alike (like_let C J R c q' c')) (like_bindings C.ways (way_of_let R c q' c') R q q'))
   let_alike R q (tree.of_value e) q' (tree.at_place m p) = place_alike R q e q' m p (may_be_read R e q' p)
       (and_so (read_in_so C.items O gain V Out R p e) (or_says (binds_so R q' p.root p.steps) (looks_so R e q' p.root p.steps)) (λ a b. (a, b)))
-  let_alike R q (tree.at_place m p) q' (tree.at_place m' p') = map_so (λ Ra b. alike_let in_place_of (let_matched at_places b)) (like_bindings_so V C.ways (λ x i. i) (way_of R p p') R q q' (matched_places R p p'))
+  let_alike R q (tree.at_place m p) q' (tree.at_place m' p') = map_so (λ Ra b. alike_let in_place_of (let_matched at_places b))
+      (like_bindings_so V C.ways (λ x i. i) (way_of R p p') R q q' (matched_places R p p'))
   let_alike R q (tree.of_value e) q' (tree.of_value f) = where_so (exp_alike R e f) (λ a. values_alike R q e q' f a)
   let_alike R q (tree.at_place m p) q' (tree.of_value f) = nothing
