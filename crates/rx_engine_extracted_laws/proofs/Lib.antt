@@ -6,3 +6,4 @@ pub mod Parts
 pub mod Block
 pub mod Holes
 pub mod Programs
+pub mod Examples

@@ -1,3 +1,4 @@
+use Rattle.rx_engine_extracted_laws.proofs.Examples.{local_is_found}
 use Rattle.rx_engine_extracted_laws.proofs.Programs.{extraction_found}
 use Rattle.rx_engine_extracted_laws.proofs.laws.found_extractions_are_extractions.Goals as goal
 
