@@ -1,0 +1,4 @@
+pub mod Promised
+pub mod Read
+pub mod Same
+pub mod Ways
