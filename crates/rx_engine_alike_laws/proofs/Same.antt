@@ -29,12 +29,12 @@ same_kind_so kind.I32 kind.I32 = says refl
 same_kind_so kind.I64 kind.I64 = says refl
 same_kind_so _ _ = silent
 
-same_constant_so : (c d : Constant) → Says (c ≡ d) (same_constant c d)
+pub same_constant_so : (c d : Constant) → Says (c ≡ d) (same_constant c d)
 same_constant_so (tree.whole_number k i) (tree.whole_number l j) = and_so (same_kind_so k l) (same_integer_so i j) (λ a b. cc)
 same_constant_so (tree.truth b) (tree.truth c) = so (λ e. ap tree.truth e) (same_bool_so b c)
 same_constant_so _ _ = silent
 
-pub same_check_so : (c d : Check) → Says (c ≡ d) (same_check c d)
+same_check_so : (c d : Check) → Says (c ≡ d) (same_check c d)
 same_check_so (has_tag v) (has_tag w) = so (λ e. ap has_tag e) (equal_so v w)
 same_check_so (equals c) (equals d) = so (λ e. ap equals e) (same_constant_so c d)
 same_check_so _ _ = silent

@@ -170,14 +170,16 @@ like_place_so R u p q = may_so u (way_so R p q)
 
 -- ---- where further variables have come
 
-pub Grown : Renaming → Renaming → Type 0
-Grown R S = (x : ℕ) (e : Sight) → sight_of R x ≡ Some e → sight_of S x ≡ Some e
+pub data Grown (R S : Renaming) : Type 0 where
+  grown : ((x : ℕ) (e : Sight) → sight_of R x ≡ Some e → sight_of S x ≡ Some e) → Grown R S
+
+way_in : {R S : Renaming} {w : Way} {r r' : Root} {ss ts : List Step} → ((x : ℕ) (e : Sight) → sight_of R x ≡ Some e → sight_of S x ≡ Some e) → IsWay R w r ss r' ts → IsWay S w r ss r' ts
+way_in g not_known = not_known
+way_in g (of_values l) = of_values l
+way_in g (in_front_of s) = in_front_of (g _ _ s)
+way_in g (directly h s d o l) = directly h (g _ _ s) d o l
+way_in g (behind_one w m s o l) = behind_one w m (g _ _ s) o l
+way_in g (behind_both s l) = behind_both (g _ _ s) l
 
 pub way_grown : {R S : Renaming} {w : Way} {r r' : Root} {ss ts : List Step} → Grown R S → IsWay R w r ss r' ts → IsWay S w r ss r' ts
-unfolding Grown
-way_grown g not_known = not_known
-way_grown g (of_values l) = of_values l
-way_grown g (in_front_of s) = in_front_of (g _ _ s)
-way_grown g (directly h s d o l) = directly h (g _ _ s) d o l
-way_grown g (behind_one w m s o l) = behind_one w m (g _ _ s) o l
-way_grown g (behind_both s l) = behind_both (g _ _ s) l
+way_grown (grown g) l = way_in g l
