@@ -1,2 +1,4 @@
+pub mod Parts
 pub mod Seeing
 pub mod Entering
+pub mod Handing
