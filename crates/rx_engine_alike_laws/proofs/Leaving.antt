@@ -1,5 +1,5 @@
 -- What the tests of jumps and of what is returned say.
-use Rattle.std.proofs.Common.{◌≡◌, ℕ, zero, suc, nat_eq, Bool, true, false, not, ◌&&◌, List, [], ◌∷◌, Option, Some, None, if◌then◌else◌, refl, sym, ap, ◌∙◌, subst}
+use Rattle.std.proofs.Common.{◌≡◌, ℕ, zero, nat_eq, Bool, true, false, List, [], ◌∷◌, Option, Some, None, if◌then◌else◌, ap, subst}
 use Rattle.rx_typed.specs.Tree as tree
 use Rattle.rx_typed.specs.Tree.{Mark, Making, Exp, Operands, Pattern, Scrutinee, Body, by_value}
 use Rattle.rx_engine_simulation.specs.Jumps.{Jumping, loop_of}
@@ -45,7 +45,8 @@ pub data BoundFirst : ℕ × Exp × Exp → Exp → Type 0 where
 binds_then : {o n : ℕ} {mb : Mark} {q : Pattern} {x g : Exp} → BindsOne o q → BoundFirst (o, x, g) (tree.block mb (tree.lets n q (tree.of_value x) (tree.ends g)))
 binds_then binds_one = bound_first
 
-then_so : {n : ℕ} {mb : Mark} {q : Pattern} {o : Option ℕ} (c : Scrutinee) (b : Body) → Promised (λ o. BindsOne o q) o → Promised (λ r. BoundFirst r (tree.block mb (tree.lets n q c b))) (bound_then o c b)
+then_so : {n : ℕ} {mb : Mark} {q : Pattern} {o : Option ℕ} (c : Scrutinee) (b : Body) → Promised (λ o. BindsOne o q) o
+    → Promised (λ r. BoundFirst r (tree.block mb (tree.lets n q c b))) (bound_then o c b)
 then_so (tree.of_value x) (tree.ends g) (kept i) = kept (binds_then i)
 then_so (tree.of_value x) (tree.runs e b) (kept i) = nothing
 then_so (tree.of_value x) (tree.declares n xs b) (kept i) = nothing

@@ -1,6 +1,6 @@
 -- References of the text that are shared in the answer: where the tests say so they are asked for again, and the place that a `let` of the
 -- answer looks into is read.
-use Rattle.std.proofs.Common.{◌≡◌, ℕ, ◌+◌, ◌≤◌, nat_eq, Bool, true, false, ◌&&◌, ◌||◌, List, [], ◌∷◌, Option, Some, None, refl, ap, ◌∙◌}
+use Rattle.std.proofs.Common.{◌≡◌, ℕ, ◌+◌, ◌≤◌, Bool, false, ◌&&◌, List, [], ◌∷◌, Option, Some, None, refl, ap, ◌∙◌}
 use Rattle.rx_core.specs.declared.types.Step.{Step}
 use Rattle.rx_core.specs.declared.types.Step.TheVariants as step
 use Rattle.rx_typed.specs.Tree as tree
@@ -19,7 +19,7 @@ use Rattle.rx_engine_simulation.specs.Like.{LikeExp, LikeMatched, LikeBody, read
 use Rattle.rx_engine_alike.specs.Ways.{Way}
 use Rattle.rx_engine_alike.specs.Patterns.{binds_value}
 use Rattle.rx_engine_alike.specs.Forms.{is_viewed, is_viewed_as, views_from, views_place, is_read_in, is_variable, looks_behind_place, views_exp, may_be_read}
-use Rattle.rx_engine_alike_laws.proofs.Promised.{Says, says, silent, so, and_so, and_with, or_says, equal_so}
+use Rattle.rx_engine_alike_laws.proofs.Promised.{Says, says, silent, so, and_so, or_says, equal_so}
 use Rattle.rx_engine_alike_laws.proofs.Ways.{like_place_so}
 use Rattle.rx_engine_alike_laws.proofs.Patterns.{StandAlike, looks_behind_so}
 
@@ -46,7 +46,7 @@ pub views_place_so : (R : Renaming) (b : Bool) (p p' : Place) → Says (Views R 
 views_place_so R b p p' = views_from_so R b p.root p.steps p'.root p'.steps
 
 -- the answer's place may be read
-data MayRead (R : Renaming) : Pattern → Place → Type 0 where
+pub data MayRead (R : Renaming) : Pattern → Place → Type 0 where
   by_binding : {n z y : ℕ} {v : Bool} → MayRead R (tree.bind n z (tree.by_value v)) (own y)
   by_looking : {y : ℕ} {q : Pattern} (x : ℕ) → sight_of R x ≡ Some (sight y viewed) → AreBehind y (bindings [] q) → MayRead R q (own y)
 
@@ -54,7 +54,7 @@ neither : {P Q : Type 0} {a : Bool} → Says P a → Says Q (a && false)
 neither (says p) = silent
 neither silent = silent
 
-binds_so : (R : Renaming) (q : Pattern) (r : Root) (ss : List Step) → Says (MayRead R q (place r ss)) (binds_value q && is_variable r ss)
+pub binds_so : (R : Renaming) (q : Pattern) (r : Root) (ss : List Step) → Says (MayRead R q (place r ss)) (binds_value q && is_variable r ss)
 binds_so R (tree.bind n z (tree.by_value v)) (variable y) [] = says by_binding
 binds_so R (tree.bind n z (tree.by_value v)) _ _ = silent
 binds_so R _ r ss = silent
@@ -62,7 +62,7 @@ binds_so R _ r ss = silent
 looked : {R : Renaming} {b : Bool} {p : Place} {y : ℕ} {q : Pattern} → Views R b p (own y) → AreBehind y (bindings [] q) → MayRead R q (own y)
 looked (a_view {x = x} s) k = by_looking x s k
 
-looks_so : (R : Renaming) (e : Exp) (q : Pattern) (r : Root) (ss : List Step) → Says (MayRead R q (place r ss)) (views_exp R e (place r ss) && looks_behind_place r ss q)
+pub looks_so : (R : Renaming) (e : Exp) (q : Pattern) (r : Root) (ss : List Step) → Says (MayRead R q (place r ss)) (views_exp R e (place r ss) && looks_behind_place r ss q)
 looks_so R (tree.borrow m b p) q (variable y) [] = and_so (views_place_so R b p (own y)) (looks_behind_so y q) (λ v k. looked {q = q} v k)
 looks_so R (tree.borrow m b p) q (variable y) (s ∷ ss) = neither (views_place_so R b p (place (variable y) (s ∷ ss)))
 looks_so R (tree.borrow m b p) q (temporary t) ss = neither (views_place_so R b p (place (temporary t) ss))
@@ -82,10 +82,11 @@ module _ (items : ℕ → ℕ) (O : Openings) (gain : Allowance) (V : Facts) whe
     -- and the text's value is that
     pub data ReadFor (R : Renaming) (e : Exp) (q : Pattern) (p : Place) : Type 0 where
       read_for : ((k : ℕ) (J : Jumping) (m : Mark) → LikeExp items O gain V k J R (changed C e) (tree.read m false p))
-          → ((k s' : ℕ) (J : Jumping) (m : Mark) (b b' : Body) → LikeBody items O gain V k J R b (tree.lets s' q (tree.of_value (tree.read m false p)) b') → LikeBody items O gain V k J R b (tree.lets s' q (tree.at_place m p) b'))
+          → ((k s' : ℕ) (J : Jumping) (m : Mark) (b b' : Body) → LikeBody items O gain V k J R b (tree.lets s' q (tree.of_value (tree.read m false p)) b')
+          → LikeBody items O gain V k J R b (tree.lets s' q (tree.at_place m p) b'))
           → ReadFor R e q p
 
-    read_in_so : (R : Renaming) (p : Place) (e : Exp) → Says ((k : ℕ) (J : Jumping) (m : Mark) → LikeExp items O gain V k J R (changed C e) (tree.read m false p)) (is_read_in R p e)
+    pub read_in_so : (R : Renaming) (p : Place) (e : Exp) → Says ((k : ℕ) (J : Jumping) (m : Mark) → LikeExp items O gain V k J R (changed C e) (tree.read m false p)) (is_read_in R p e)
     read_in_so R q (tree.read m v p) = so (λ l k J n. reads l) (like_place_so R looking p q)
     read_in_so R q (tree.borrow m b p) = so (λ s k J n. viewing s) (views_place_so R b p q)
     read_in_so R q _ = silent

@@ -1,19 +1,18 @@
 -- Patterns that are found to test alike and to bind alike do, where what they are matched with stands as the way says.
-use Rattle.std.proofs.Common.{◌≡◌, ℕ, nat_eq, Bool, true, false, not, ◌&&◌, ◌||◌, List, [], ◌∷◌, ◌++◌, Option, Some, None, refl, sym, ap, subst, eqb-true, append_assoc, append-nil}
+use Rattle.std.proofs.Common.{ℕ, nat_eq, Bool, true, false, not, ◌&&◌, ◌||◌, List, [], ◌∷◌, ◌++◌, sym, ap, subst, append_assoc, append-nil}
 use Rattle.rx_core.specs.declared.types.Step.{Step}
 use Rattle.rx_core.specs.declared.types.Step.TheVariants as step
 use Rattle.rx_typed.specs.Tree as tree
 use Rattle.rx_typed.specs.Tree.{Root, variable, temporary, Temporary, Place, Mode, by_value, by_reference, Pattern, Subpatterns, Scrutinee}
 use Rattle.rx_lower_walks.specs.Matching.{PartTest, Binding, has_tag, equals, tag_test, tests, tests_in, bindings, bindings_in}
-use Rattle.rx_lower_walks.specs.Actions.{Act, Read, Borrow, Subject, in_place, in_temporary, subject, part, taking, source}
+use Rattle.rx_lower_walks.specs.Actions.{Subject, in_place, in_temporary, part, taking, source}
 use Rattle.rx_engine_simulation.specs.Histories.{Facts}
 use Rattle.rx_engine_simulation.specs.Sights.{In, Renaming}
 use Rattle.rx_engine_simulation.specs.Places.{Use, looking, use_of, LikePlace, LikeSteps, no_steps}
 use Rattle.rx_engine_simulation.specs.Binders.{LikeTaken, takes_none, takes_read, takes_borrow, LikeBindings, no_binding, binding_and, AreBehind, LikeTests, no_test, test_and}
-use Rattle.rx_engine_alike.specs.Same.{same_bool, same_constant}
-use Rattle.rx_engine_alike.specs.Ways.{Way, apart, from_value, then_step, by_dereference, way_of, may}
-use Rattle.rx_engine_alike.specs.Variables.{Ways, with_new}
-use Rattle.rx_engine_alike.specs.Patterns.{way_of_matched, like_tests, like_tests_in, like_mode, like_bindings, like_bindings_in, all_borrow, all_borrow_in, looks_behind}
+use Rattle.rx_engine_alike.specs.Ways.{Way, from_value, then_step, by_dereference, way_of, may}
+use Rattle.rx_engine_alike.specs.Variables.{Ways}
+use Rattle.rx_engine_alike.specs.Patterns.{like_tests, like_tests_in, like_mode, like_bindings, like_bindings_in, all_borrow, all_borrow_in, looks_behind}
 use Rattle.rx_engine_alike_laws.proofs.Promised.{Promised, kept, nothing, Says, says, silent, map_so, then_so, where_so, so, and_so, and_with, equal_so, unequal_so}
 use Rattle.rx_engine_alike_laws.proofs.Same.{same_bool_so, same_constant_so}
 use Rattle.rx_engine_alike_laws.proofs.Ways.{IsWay, not_known, of_values, step_so, way_so, may_so, Grown, way_grown}
@@ -71,12 +70,13 @@ mutual
   tests_so w (tree.parts ps) (tree.parts qs) l = tests_in_so w ps qs l
   tests_so {R} {S} {S'} {ss} {ts} w (tree.variant n i several v ps) (tree.variant n' j several' u qs) l = and_with (same_bool_so several several')
       (λ e. subst (λ b. Says (LikeTests R S S' (tag_test several n ss v ++ tests_in (ss ++ (step.Variant v ∷ [])) ps) (tag_test b n' ts u ++ tests_in (ts ++ (step.Variant u ∷ [])) qs))
-          ((not several || (may looking w && nat_eq v u)) && like_tests_in (then_step w (step.Variant v) (step.Variant u)) ps qs)) e
-          (and_so (tag_so n n' several v u l) (tests_in_so (then_step w (step.Variant v) (step.Variant u)) ps qs (stands_step (step.Variant v) (step.Variant u) l)) (λ a b. both_tests a b)))
+      ((not several || (may looking w && nat_eq v u)) && like_tests_in (then_step w (step.Variant v) (step.Variant u)) ps qs)) e
+      (and_so (tag_so n n' several v u l) (tests_in_so (then_step w (step.Variant v) (step.Variant u)) ps qs (stands_step (step.Variant v) (step.Variant u) l)) (λ a b. both_tests a b)))
   tests_so w (tree.behind m p) (tree.behind k q) l = tests_so (by_dereference w) p q (stands_step (step.Deref m) (step.Deref k) l)
   tests_so w _ _ l = silent
 
-  tests_in_so : {R : Renaming} {S S' : Subject} {ss ts : List Step} (w : Way) (ps qs : Subpatterns) → Stands R w S ss S' ts → Says (LikeTests R S S' (tests_in ss ps) (tests_in ts qs)) (like_tests_in w ps qs)
+  tests_in_so : {R : Renaming} {S S' : Subject} {ss ts : List Step} (w : Way) (ps qs : Subpatterns) → Stands R w S ss S' ts
+      → Says (LikeTests R S S' (tests_in ss ps) (tests_in ts qs)) (like_tests_in w ps qs)
   tests_in_so w tree.no_part tree.no_part l = says no_test
   tests_in_so w (tree.part_and i p ps) (tree.part_and j q qs) l =
       and_so (tests_so (then_step w (step.Field i) (step.Field j)) p q (stands_step (step.Field i) (step.Field j) l)) (tests_in_so w ps qs l) (λ a b. both_tests a b)
@@ -105,7 +105,8 @@ mode_so d d' (by_value v) (by_reference k) l = silent
 mode_so d d' (by_reference k) (by_value v) l = silent
 
 module _ (V : Facts) where
-  both_bindings : {S S' : Subject} {R Ra Rb : Renaming} {bs bs' cs cs' : List Binding} → LikeBindings V S S' R bs bs' Ra → LikeBindings V S S' Ra cs cs' Rb → LikeBindings V S S' R (bs ++ cs) (bs' ++ cs') Rb
+  both_bindings : {S S' : Subject} {R Ra Rb : Renaming} {bs bs' cs cs' : List Binding} → LikeBindings V S S' R bs bs' Ra → LikeBindings V S S' Ra cs cs' Rb
+      → LikeBindings V S S' R (bs ++ cs) (bs' ++ cs') Rb
   both_bindings no_binding k = k
   both_bindings (binding_and w t s h a b l) k = binding_and w t s h a b (both_bindings l k)
 
@@ -125,22 +126,27 @@ module _ (V : Facts) where
 
   module _ (L : Ways) (too : (x : ℕ) → In x L.elsewhere → V.Special x) where
     mutual
-      bindings_so : {S S' : Subject} {ss ts : List Step} (w : Way) (R : Renaming) (p q : Pattern) → Stands R w S ss S' ts → Promised (λ Ra. Bound S S' R (bindings ss p) (bindings ts q) Ra) (like_bindings L w R p q)
+      bindings_so : {S S' : Subject} {ss ts : List Step} (w : Way) (R : Renaming) (p q : Pattern) → Stands R w S ss S' ts
+          → Promised (λ Ra. Bound S S' R (bindings ss p) (bindings ts q) Ra) (like_bindings L w R p q)
       bindings_so w R tree.any tree.any l = kept (bound no_binding grown_same)
-      bindings_so w R (tree.bind n x m) (tree.bind n' y m') l = where_so (mode_so (tree.temporary_at n 0) (tree.temporary_at n' 0) m m' l) (λ t. map_so (λ Ra s. bound_one t s) (with_new_so V L too R x y))
+      bindings_so w R (tree.bind n x m) (tree.bind n' y m') l = where_so (mode_so (tree.temporary_at n 0) (tree.temporary_at n' 0) m m' l)
+          (λ t. map_so (λ Ra s. bound_one t s) (with_new_so V L too R x y))
       bindings_so w R (tree.exactly n c) (tree.exactly n' d) l = kept (bound no_binding grown_same)
       bindings_so w R (tree.parts ps) (tree.parts qs) l = bindings_in_so w R ps qs l
-      bindings_so w R (tree.variant n i several v ps) (tree.variant n' j several' u qs) l = bindings_in_so (then_step w (step.Variant v) (step.Variant u)) R ps qs (stands_step (step.Variant v) (step.Variant u) l)
+      bindings_so w R (tree.variant n i several v ps) (tree.variant n' j several' u qs) l = bindings_in_so (then_step w (step.Variant v) (step.Variant u)) R ps qs
+          (stands_step (step.Variant v) (step.Variant u) l)
       bindings_so w R (tree.behind m p) (tree.behind k q) l = bindings_so (by_dereference w) R p q (stands_step (step.Deref m) (step.Deref k) l)
       bindings_so w R _ _ l = nothing
 
-      bindings_in_so : {S S' : Subject} {ss ts : List Step} (w : Way) (R : Renaming) (ps qs : Subpatterns) → Stands R w S ss S' ts → Promised (λ Ra. Bound S S' R (bindings_in ss ps) (bindings_in ts qs) Ra) (like_bindings_in L w R ps qs)
+      bindings_in_so : {S S' : Subject} {ss ts : List Step} (w : Way) (R : Renaming) (ps qs : Subpatterns) → Stands R w S ss S' ts
+          → Promised (λ Ra. Bound S S' R (bindings_in ss ps) (bindings_in ts qs) Ra) (like_bindings_in L w R ps qs)
       bindings_in_so w R tree.no_part tree.no_part l = kept (bound no_binding grown_same)
       bindings_in_so w R (tree.part_and i p ps) (tree.part_and j q qs) l = then_so (bindings_so (then_step w (step.Field i) (step.Field j)) R p q (stands_step (step.Field i) (step.Field j) l))
           (λ Ra b. map_so (λ Rb c. bound_both b c) (bindings_in_so w Ra ps qs (stands_grown (growth_of b) l)))
       bindings_in_so w R _ _ l = nothing
 
-    pub like_bindings_so : {S S' : Subject} (w : Way) (R : Renaming) (p q : Pattern) → StandAlike R w S S' → Promised (λ Ra. LikeBindings V S S' R (bindings [] p) (bindings [] q) Ra) (like_bindings L w R p q)
+    pub like_bindings_so : {S S' : Subject} (w : Way) (R : Renaming) (p q : Pattern) → StandAlike R w S S'
+        → Promised (λ Ra. LikeBindings V S S' R (bindings [] p) (bindings [] q) Ra) (like_bindings L w R p q)
     unfolding StandAlike
     like_bindings_so w R p q l = map_so (λ Ra b. by b) (bindings_so w R p q l)
       where

@@ -1,5 +1,5 @@
 -- What is made of the parts that were seen is what was looked at.
-use Rattle.std.proofs.Common.{◌≡◌, ℕ, Option, Some, None, refl}
+use Rattle.std.proofs.Common.{◌≡◌, refl}
 use Rattle.rx_typed.specs.Tree as tree
 use Rattle.rx_typed.specs.Tree.{Exp, Operands, Scrutinee, Arms, Body}
 use Rattle.rx_engine_alike.specs.Read.{as_read, as_borrow, as_share, as_build, as_unit, as_lazily, as_assign, as_update, as_call, as_input, as_print, as_block, as_choose, as_loop, as_jump, as_give, as_no_operand, as_operand, as_at_place, as_of_value, as_no_arm, as_arm, as_ends, as_runs, as_declares, as_lets}

@@ -1,15 +1,14 @@
 -- What the tests of being the same say.
-use Rattle.std.proofs.Common.{◌≡◌, ℕ, zero, suc, nat_eq, Bool, true, false, ◌&&◌, ◌||◌, ℤ, pos, negsuc, List, [], ◌∷◌, length, refl, ap, subst, inl, inr, eq-eqb}
+use Rattle.std.proofs.Common.{◌≡◌, ℕ, zero, suc, Bool, true, false, ℤ, pos, negsuc, List, [], ◌∷◌, length, refl, ap, subst, inl, inr, eq-eqb}
 use Rattle.rx_core.specs.declared.types.Kind.{Kind}
 use Rattle.rx_core.specs.declared.types.Kind.TheVariants as kind
 use Rattle.rx_tree.specs.declared.tree.BinaryOp.{BinaryOp}
 use Rattle.rx_tree.specs.declared.tree.BinaryOp.TheVariants as operator
 use Rattle.rx_typed.specs.Tree as tree
 use Rattle.rx_typed.specs.Tree.{Constant, Making}
-use Rattle.rx_lower_walks.specs.Matching.{Check, has_tag, equals}
 use Rattle.rx_engine_simulation.specs.Fits.{Has, HasAll, Complete, Fitting}
-use Rattle.rx_engine_alike.specs.Same.{same_bool, same_integer, same_kind, same_constant, same_check, same_operator, has, has_all, is_complete, like_making}
-use Rattle.rx_engine_alike_laws.proofs.Promised.{Says, says, silent, so, and_so, and_with, or_says, equal_so}
+use Rattle.rx_engine_alike.specs.Same.{same_bool, same_integer, same_kind, same_constant, same_operator, has, has_all, like_making}
+use Rattle.rx_engine_alike_laws.proofs.Promised.{Says, says, silent, so, and_so, or_says, equal_so}
 
 pub same_bool_so : (a b : Bool) → Says (a ≡ b) (same_bool a b)
 same_bool_so true true = says refl
@@ -33,11 +32,6 @@ pub same_constant_so : (c d : Constant) → Says (c ≡ d) (same_constant c d)
 same_constant_so (tree.whole_number k i) (tree.whole_number l j) = and_so (same_kind_so k l) (same_integer_so i j) (λ a b. cc)
 same_constant_so (tree.truth b) (tree.truth c) = so (λ e. ap tree.truth e) (same_bool_so b c)
 same_constant_so _ _ = silent
-
-same_check_so : (c d : Check) → Says (c ≡ d) (same_check c d)
-same_check_so (has_tag v) (has_tag w) = so (λ e. ap has_tag e) (equal_so v w)
-same_check_so (equals c) (equals d) = so (λ e. ap equals e) (same_constant_so c d)
-same_check_so _ _ = silent
 
 pub same_operator_so : (o p : BinaryOp) → Says (o ≡ p) (same_operator o p)
 same_operator_so operator.Or operator.Or = says refl
@@ -77,5 +71,6 @@ like_making_so (tree.operation o) (tree.operation p) js = so (λ e. subst (λ p.
 like_making_so tree.lazy tree.lazy js = says (made_same tt)
 like_making_so tree.tuple tree.tuple js = so (λ c. made_same c) (has_all_so js (length js) 0)
 like_making_so (tree.struct i) (tree.struct j) js = so (λ c. made_structs c) (has_all_so js (length js) 0)
-like_making_so (tree.variant_of i v) (tree.variant_of j w) js = and_so (equal_so v w) (has_all_so js (length js) 0) (λ e c. subst (λ w. MadeAlike js (tree.variant_of i v) (tree.variant_of j w)) e (made_variants c))
+like_making_so (tree.variant_of i v) (tree.variant_of j w) js = and_so (equal_so v w) (has_all_so js (length js) 0)
+    (λ e c. subst (λ w. MadeAlike js (tree.variant_of i v) (tree.variant_of j w)) e (made_variants c))
 like_making_so _ _ js = silent

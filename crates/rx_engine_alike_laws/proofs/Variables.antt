@@ -1,10 +1,9 @@
 -- New variables that are found alike are so, and the renaming has what it had.
-use Rattle.std.proofs.Common.{◌≡◌, ℕ, nat_eq, Bool, true, false, not, ◌&&◌, ◌||◌, List, [], ◌∷◌, Option, Some, None, if◌then◌else◌, refl, sym, ap, ◌∙◌, inl, inr, eqb-true}
+use Rattle.std.proofs.Common.{◌≡◌, ℕ, nat_eq, Bool, true, false, List, [], ◌∷◌, Option, Some, None, if◌then◌else◌, refl, sym, ap, ◌∙◌, inl, inr, eqb-true}
 use Rattle.rx_typed.specs.Tree.{Parameter}
 use Rattle.rx_engine_simulation.specs.Histories.{Facts}
 use Rattle.rx_engine_simulation.specs.Sights.{In, shut, free, How, plain, special, Sight, sight, Renaming, sight_of, IsNew}
 use Rattle.rx_engine_simulation.specs.Binders.{NewHow, new_plain, new_special, LikeDeclared, none_new, new_and, LikeParams, no_param, param_and}
-use Rattle.rx_engine_alike.specs.Likeness.{if_so, is_none}
 use Rattle.rx_engine_alike.specs.Variables.{Ways, is_in, seen_as, is_new, with_seen, with_new, like_declared, like_params}
 use Rattle.rx_engine_alike_laws.proofs.Promised.{Promised, kept, nothing, Says, says, silent, said, map_so, then_so, where_so, so, and_so, or_says, equal_so, unequal_so, none_so}
 use Rattle.rx_engine_alike_laws.proofs.Ways.{Grown, grown}
@@ -62,7 +61,8 @@ module _ (V : Facts) (L : Ways) (too : (x : ℕ) → In x L.elsewhere → V.Spec
   pub with_new_so : (R : Renaming) (x y : ℕ) → Promised (λ Ra. NewlySeen V R x y Ra) (with_new L R x y)
   with_new_so R x y = seen_new R x y (seen_as L x) (how_so x)
 
-  then_declared : {R Ra : Renaming} {x y : ℕ} {xs ys : List ℕ} {o : Option Renaming} → NewlySeen V R x y Ra → Promised (λ Rb. LikeDeclared V Ra xs ys Rb) o → Promised (λ Rb. LikeDeclared V R (x ∷ xs) (y ∷ ys) Rb) o
+  then_declared : {R Ra : Renaming} {x y : ℕ} {xs ys : List ℕ} {o : Option Renaming} → NewlySeen V R x y Ra → Promised (λ Rb. LikeDeclared V Ra xs ys Rb) o
+      → Promised (λ Rb. LikeDeclared V R (x ∷ xs) (y ∷ ys) Rb) o
   then_declared (newly w h a b) p = map_so (λ Rb l. new_and w h a b l) p
 
   pub declared_so : (R : Renaming) (xs ys : List ℕ) → Promised (λ Ra. LikeDeclared V R xs ys Ra) (like_declared L R xs ys)
@@ -71,7 +71,8 @@ module _ (V : Facts) (L : Ways) (too : (x : ℕ) → In x L.elsewhere → V.Spec
   declared_so R [] (y ∷ ys) = nothing
   declared_so R (x ∷ xs) [] = nothing
 
-  then_params : {R Ra : Renaming} {p q : Parameter} {ps qs : List Parameter} {o : Option Renaming} → NewlySeen V R p.variable q.variable Ra → Promised (λ Rb. LikeParams V Ra ps qs Rb) o → Promised (λ Rb. LikeParams V R (p ∷ ps) (q ∷ qs) Rb) o
+  then_params : {R Ra : Renaming} {p q : Parameter} {ps qs : List Parameter} {o : Option Renaming} → NewlySeen V R p.variable q.variable Ra → Promised (λ Rb. LikeParams V Ra ps qs Rb) o
+      → Promised (λ Rb. LikeParams V R (p ∷ ps) (q ∷ qs) Rb) o
   then_params (newly w h a b) p = map_so (λ Rb l. param_and w h a b l) p
 
   pub params_so : (R : Renaming) (ps qs : List Parameter) → Promised (λ Ra. LikeParams V R ps qs Ra) (like_params L R ps qs)

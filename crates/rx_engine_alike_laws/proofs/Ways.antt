@@ -1,13 +1,13 @@
 -- What a way says of two places, step by step; where it may be used so, the places are alike for that use.
-use Rattle.std.proofs.Common.{◌≡◌, ℕ, nat_eq, Bool, true, false, not, ◌&&◌, ◌||◌, List, [], ◌∷◌, ◌++◌, Option, Some, None, if◌then◌else◌, refl, ap, ◌∙◌, sym, subst, eqb-true, append_assoc, append-nil}
+use Rattle.std.proofs.Common.{◌≡◌, ℕ, nat_eq, Bool, true, false, not, ◌||◌, List, [], ◌∷◌, ◌++◌, Option, Some, None, if◌then◌else◌, refl, ap, ◌∙◌, sym, subst, eqb-true, append_assoc, append-nil}
 use Rattle.rx_core.specs.declared.types.Step.{Step}
 use Rattle.rx_core.specs.declared.types.Step.TheVariants as step
 use Rattle.rx_typed.specs.Tree.{Root, variable, temporary, Temporary, Place}
 use Rattle.rx_engine_simulation.specs.Histories.{IsOwn}
-use Rattle.rx_engine_simulation.specs.Sights.{Hold, free, fixed, shut, How, plain, special, through, copied, viewed, absent, Sight, sight, Renaming, sight_of}
-use Rattle.rx_engine_simulation.specs.Places.{LikeSteps, no_steps, fields, variants, derefs, Use, looking, sharing, changing, writing, NotCopied, IsFreed, IsMutable, Allowed, IsDirect, LikePlace, direct, behind, shared, of_temporary, at_variable}
-use Rattle.rx_engine_alike.specs.Ways.{Way, apart, from_value, in_front, from_variable, by_part, by_dereference, then_step, then_steps, behind_steps, way_seen, way_by, way_from, way_of, not_copied, is_freed, is_mutable, may_seen, may, like_place}
-use Rattle.rx_engine_alike_laws.proofs.Promised.{Says, says, silent, so, and_so, and_with, equal_so}
+use Rattle.rx_engine_simulation.specs.Sights.{Hold, free, How, plain, special, through, copied, viewed, absent, Sight, sight, Renaming, sight_of}
+use Rattle.rx_engine_simulation.specs.Places.{LikeSteps, no_steps, fields, variants, derefs, Use, looking, sharing, changing, writing, NotCopied, IsFreed, IsMutable, Allowed, IsDirect, LikePlace, direct, behind, shared, of_temporary}
+use Rattle.rx_engine_alike.specs.Ways.{Way, apart, from_value, in_front, from_variable, by_part, by_dereference, then_step, then_steps, way_seen, way_by, way_from, way_of, not_copied, is_freed, is_mutable, may_seen, may, like_place}
+use Rattle.rx_engine_alike_laws.proofs.Promised.{Says, says, silent, so, and_so}
 
 -- ---- steps that are the same way, with one more
 
@@ -47,10 +47,12 @@ pub data IsWay (R : Renaming) : Way → Root → List Step → Root → List Ste
   not_known : {r r' : Root} {ss ts : List Step} → IsWay R apart r ss r' ts
   of_values : {t u : Temporary} {ss ts : List Step} → LikeSteps ss ts → IsWay R from_value (temporary t) ss (temporary u) ts
   in_front_of : {x y : ℕ} → sight_of R x ≡ Some (sight y viewed) → IsWay R in_front (variable x) [] (variable y) []
-  directly : {x y : ℕ} {own : Bool} {ss ts : List Step} (h : How) → sight_of R x ≡ Some (sight y h) → IsDirect h → (IsOwn ss → own ≡ true) → LikeSteps ss ts → IsWay R (from_variable h own) (variable x) ss (variable y) ts
+  directly : {x y : ℕ} {own : Bool} {ss ts : List Step} (h : How) → sight_of R x ≡ Some (sight y h) → IsDirect h → (IsOwn ss → own ≡ true) → LikeSteps ss ts
+      → IsWay R (from_variable h own) (variable x) ss (variable y) ts
   behind_one : {x y : ℕ} {own k : Bool} {ss ts : List Step} (w : Hold) (m : Bool) → sight_of R x ≡ Some (sight y (through w m)) → (IsOwn ss → own ≡ true) → LikeSteps ss ts
       → IsWay R (from_variable (through w m) own) (variable x) ss (variable y) (step.Deref k ∷ ts)
-  behind_both : {x y : ℕ} {m k : Bool} {ss ts : List Step} → sight_of R x ≡ Some (sight y viewed) → LikeSteps ss ts → IsWay R (from_variable viewed false) (variable x) (step.Deref m ∷ ss) (variable y) (step.Deref k ∷ ts)
+  behind_both : {x y : ℕ} {m k : Bool} {ss ts : List Step} → sight_of R x ≡ Some (sight y viewed) → LikeSteps ss ts
+      → IsWay R (from_variable viewed false) (variable x) (step.Deref m ∷ ss) (variable y) (step.Deref k ∷ ts)
 
 -- ---- one step further
 
@@ -157,7 +159,8 @@ allowed_so ss {own = own} sharing h o = if_own ss own o (copied_so h)
 allowed_so ss {own = own} changing h o = and_so (if_own ss own o (freed_so h)) (mutable_so h) (λ a b. (a, b))
 allowed_so ss {own = own} writing h o = and_so (if_own ss own o (copied_so h)) (mutable_so h) (λ a b. (a, b))
 
-pub may_so : {R : Renaming} {w : Way} {r r' : Root} {ss ts : List Step} (u : Use) → IsWay R w r ss r' ts → Says (LikePlace R u (record { root = r; steps = ss }) (record { root = r'; steps = ts })) (may u w)
+pub may_so : {R : Renaming} {w : Way} {r r' : Root} {ss ts : List Step} (u : Use) → IsWay R w r ss r' ts
+    → Says (LikePlace R u (record { root = r; steps = ss }) (record { root = r'; steps = ts })) (may u w)
 may_so u not_known = silent
 may_so u (of_values l) = says (of_temporary l)
 may_so u (in_front_of s) = silent
