@@ -20,9 +20,9 @@ use Rattle.rx_engine_extracted.specs.Handing.{received_by, with_one, received_in
 use Rattle.rx_engine_alike_laws.proofs.Promised.{Promised, kept, nothing, Says, says, silent, map_so, then_so, where_so, so, and_so, and_with, or_says, equal_so, none_so}
 use Rattle.rx_engine_alike_laws.proofs.Same.{same_bool_so}
 use Rattle.rx_engine_alike_laws.proofs.Variables.{is_in_so, is_new_so}
-use Rattle.rx_engine_alike_laws.proofs.Giving.{Reread, reread, takes_so}
+use Rattle.rx_engine_alike_laws.proofs.Giving.{Reread, reread, takes_so, special_so}
 use Rattle.rx_engine_extracted_laws.proofs.Parts.{HandedSo, handed_so, HandsSo, RedeclaredSo, redeclared_so}
-use Rattle.rx_engine_extracted_laws.proofs.Seeing.{none_some, seen_first, Joins, joins, with_seen_so, special_so, special_sight_so}
+use Rattle.rx_engine_extracted_laws.proofs.Seeing.{none_some, seen_first, Joins, joins, with_seen_so, special_sight_so}
 
 -- a test that says nothing
 trivial_so : (b : Bool) → Says (Unit {0}) b

@@ -2,3 +2,4 @@ pub mod Parts
 pub mod Seeing
 pub mod Entering
 pub mod Handing
+pub mod Picking

@@ -6,6 +6,7 @@ use Rattle.rx_engine_simulation.specs.Variants.{AllSpecial}
 use Rattle.rx_lower_walks.specs.Walks.{Among, here, there}
 use Rattle.rx_engine_alike.specs.Variables.{is_in, is_new, with_seen}
 use Rattle.rx_engine_alike.specs.Giving.{is_special}
+use Rattle.rx_engine_alike_laws.proofs.Giving.{special_so}
 use Rattle.rx_engine_extracted.specs.Told.{is_special_sight, specials_among, all_special, without}
 use Rattle.rx_engine_alike_laws.proofs.Promised.{Promised, kept, Says, says, silent, where_so, so, and_so, none_so}
 use Rattle.rx_engine_alike_laws.proofs.Variables.{is_in_so, is_new_so}
@@ -63,10 +64,6 @@ pub with_seen_so : (R : Renaming) (x y : ℕ) (h : How) → Promised (λ Ra. Joi
 with_seen_so R x y h = where_so (and_so (none_so (sight_of R x)) (is_new_so R y) (λ a b. joins a b)) (λ p. kept p)
 
 -- ---- variables that are elsewhere
-
-pub special_so : (h : How) → Says (h ≡ special) (is_special h)
-special_so special = says refl
-special_so _ = silent
 
 pub special_sight_so : (o : Option Sight) → Says ((y : ℕ) × (o ≡ Some (sight y special))) (is_special_sight o)
 special_sight_so None = silent
