@@ -67,7 +67,8 @@ module _ (C : Between) (O : Openings) (gain : Allowance) where
 
   -- by an opening around no part
   pub filled_by : C.outside ≡ [] → 1 ≤ gain.turns → (h : Hole) (b : Body) → RereadsBody h.answer b
-      → ((m m' : Mark) → is_open C.left_open m.node ≡ true → (e : Exp) → O.expression (by_form C.ways.elsewhere) 1 (around whole_jumps h.loops) h.inside e (λ e. tree.block m h.text) (λ e. tree.block m' b)) → BlockFilled h
+      → ((m m' : Mark) → is_open C.left_open m.node ≡ true → (e : Exp) → O.expression (by_form C.ways.elsewhere) 1 (around whole_jumps h.loops) h.inside e (λ e. tree.block m h.text)
+      (λ e. tree.block m' b)) → BlockFilled h
   filled_by out le h b r o = record {
     turns = le;
     made = b;
@@ -91,11 +92,13 @@ module _ (C : Between) (O : Openings) (gain : Allowance) where
   }
 
   pub function_so : C.outside ≡ [] → (g g' : Function) → Found BlockFilled (Whole whole_jumps) RereadsFunction (RelatedBy g) g' (like_function C g g')
-  function_so out g g' = found_when (params_so (by_form C.ways.elsewhere) C.ways (λ x i. i) [] g.params g'.params) (λ R p. found (λ z. record { params = g'.params; body = z }) (λ z r. rereads_function refl r) (λ k z l. related g out p l)
+  function_so out g g' = found_when (params_so (by_form C.ways.elsewhere) C.ways (λ x i. i) [] g.params g'.params)
+      (λ R p. found (λ z. record { params = g'.params; body = z }) (λ z r. rereads_function refl r) (λ k z l. related g out p l)
       (exp_so C O gain (by_form C.ways.elsewhere) whole_jumps (λ a ls R e f f' l. absurd (never_left whole_jumps ls nothing_leaves l)) (λ x i. i) [] R g.body g'.body))
 
   -- the function that was found alike but for its open block is related to the text's, with references read and that block filled
-  pub function_if : C.outside ≡ [] → (g g' : Function) (h : Hole) → like_function C g g' ≡ alike_but h → BlockFilled h → (z : Function) × RereadsFunction g' z × RelatedFunction C.items O gain C.ways.elsewhere g z
+  pub function_if : C.outside ≡ [] → (g g' : Function) (h : Hole) → like_function C g g' ≡ alike_but h → BlockFilled h
+      → (z : Function) × RereadsFunction g' z × RelatedFunction C.items O gain C.ways.elsewhere g z
   function_if out g g' h e i = by (but_found (like_function C g g') (function_so out g g') e i)
     where
       by : ((z : Function) × RereadsFunction g' z × RelatedBy g 1 z) → (z : Function) × RereadsFunction g' z × RelatedFunction C.items O gain C.ways.elsewhere g z
@@ -109,9 +112,11 @@ alike_so unlike = silent
 alike_so (alike_but h) = silent
 
 related_so : (items : ℕ → ℕ) (g g' : Function) → Says (RelatedFunction items no_openings without_turns [] g g') (is_alike (like_function (plainly items) g g'))
-related_so items g g' = so (λ e. by (alike_found (like_function (plainly items) g g') (function_so (plainly items) no_openings without_turns refl g g') e)) (alike_so (like_function (plainly items) g g'))
+related_so items g g' = so (λ e. by (alike_found (like_function (plainly items) g g') (function_so (plainly items) no_openings without_turns refl g g') e))
+    (alike_so (like_function (plainly items) g g'))
   where
-    by : ((z : Function) × RereadsFunction g' z × (Whole whole_jumps → g' ≡ z) × ((k : ℕ) → RelatedBy (plainly items) no_openings without_turns g k z)) → RelatedFunction items no_openings without_turns [] g g'
+    by : ((z : Function) × RereadsFunction g' z × (Whole whole_jumps → g' ≡ z) × ((k : ℕ) → RelatedBy (plainly items) no_openings without_turns g k z))
+        → RelatedFunction items no_openings without_turns [] g g'
     by t = subst (λ z. RelatedFunction items no_openings without_turns [] g z) (sym (t.2 nothing_leaves)) (t.3 0 (omega arith))
 
 same_item_so : (items : ℕ → ℕ) (o o' : Option (Option Function)) → Says (SameEntry items o o') (same_item items o o')

@@ -94,7 +94,8 @@ variant_with : {qs : List ℕ} (m : Mark) (i v : ℕ) {es : Operands} → Reread
 variant_with m i v (reread zs rs ts) = reread (tree.build m (tree.variant_of i v) zs) (in_build rs) (packing.gives_variant ts)
 
 made_variant_so : (v : ℕ) (qs : List ℕ) (m : Mark) (w : Making) (es : Operands) → Says (GivesAgain (as_variant v) qs (tree.build m w es)) (gives_variant v qs (tree.build m w es))
-made_variant_so v qs m (tree.variant_of i u) es = and_with (equal_so v u) (λ k. so (λ t. subst (λ u. GivesAgain (as_variant v) qs (tree.build m (tree.variant_of i u) es)) k (variant_with m i v t)) (takes_all_so 0 qs es))
+made_variant_so v qs m (tree.variant_of i u) es = and_with (equal_so v u) (λ k. so (λ t. subst (λ u. GivesAgain (as_variant v) qs (tree.build m (tree.variant_of i u) es)) k
+    (variant_with m i v t)) (takes_all_so 0 qs es))
 made_variant_so v qs m _ es = silent
 
 pub gives_variant_so : (v : ℕ) (qs : List ℕ) (e : Exp) → Says (GivesAgain (as_variant v) qs e) (gives_variant v qs e)
@@ -115,7 +116,8 @@ number_so R x (Some e) q = by (is_special e.how) (special_so e.how)
     by true (says h) = kept (q ∙ ap (λ w. Some (sight e.to w)) h)
     by false silent = nothing
 
-there_so : {R : Renaming} {x : ℕ} {xs : List ℕ} {o : Option ℕ} {l : Option (List ℕ)} → Promised (λ z. sight_of R x ≡ Some (sight z special)) o → Promised (λ zs. HaveThere R xs zs) l → Promised (λ zs. HaveThere R (x ∷ xs) zs) (with_number o l)
+there_so : {R : Renaming} {x : ℕ} {xs : List ℕ} {o : Option ℕ} {l : Option (List ℕ)} → Promised (λ z. sight_of R x ≡ Some (sight z special)) o → Promised (λ zs. HaveThere R xs zs) l
+    → Promised (λ zs. HaveThere R (x ∷ xs) zs) (with_number o l)
 there_so (kept s) (kept h) = kept (there_and s h)
 there_so (kept s) nothing = nothing
 there_so nothing h = nothing

@@ -45,7 +45,8 @@ pub data BoundFirst : ℕ × Exp × Exp → Exp → Type 0 where
 binds_then : {o n : ℕ} {mb : Mark} {q : Pattern} {x g : Exp} → BindsOne o q → BoundFirst (o, x, g) (tree.block mb (tree.lets n q (tree.of_value x) (tree.ends g)))
 binds_then binds_one = bound_first
 
-then_so : {n : ℕ} {mb : Mark} {q : Pattern} {o : Option ℕ} (c : Scrutinee) (b : Body) → Promised (λ o. BindsOne o q) o → Promised (λ r. BoundFirst r (tree.block mb (tree.lets n q c b))) (bound_then o c b)
+then_so : {n : ℕ} {mb : Mark} {q : Pattern} {o : Option ℕ} (c : Scrutinee) (b : Body) → Promised (λ o. BindsOne o q) o
+    → Promised (λ r. BoundFirst r (tree.block mb (tree.lets n q c b))) (bound_then o c b)
 then_so (tree.of_value x) (tree.ends g) (kept i) = kept (binds_then i)
 then_so (tree.of_value x) (tree.runs e b) (kept i) = nothing
 then_so (tree.of_value x) (tree.declares n xs b) (kept i) = nothing

@@ -82,7 +82,8 @@ module _ (items : ℕ → ℕ) (O : Openings) (gain : Allowance) (V : Facts) whe
     -- and the text's value is that
     pub data ReadFor (R : Renaming) (e : Exp) (q : Pattern) (p : Place) : Type 0 where
       read_for : ((k : ℕ) (J : Jumping) (m : Mark) → LikeExp items O gain V k J R (changed C e) (tree.read m false p))
-          → ((k s' : ℕ) (J : Jumping) (m : Mark) (b b' : Body) → LikeBody items O gain V k J R b (tree.lets s' q (tree.of_value (tree.read m false p)) b') → LikeBody items O gain V k J R b (tree.lets s' q (tree.at_place m p) b'))
+          → ((k s' : ℕ) (J : Jumping) (m : Mark) (b b' : Body) → LikeBody items O gain V k J R b (tree.lets s' q (tree.of_value (tree.read m false p)) b')
+          → LikeBody items O gain V k J R b (tree.lets s' q (tree.at_place m p) b'))
           → ReadFor R e q p
 
     pub read_in_so : (R : Renaming) (p : Place) (e : Exp) → Says ((k : ℕ) (J : Jumping) (m : Mark) → LikeExp items O gain V k J R (changed C e) (tree.read m false p)) (is_read_in R p e)

@@ -75,7 +75,8 @@ mutual
   tests_so w (tree.behind m p) (tree.behind k q) l = tests_so (by_dereference w) p q (stands_step (step.Deref m) (step.Deref k) l)
   tests_so w _ _ l = silent
 
-  tests_in_so : {R : Renaming} {S S' : Subject} {ss ts : List Step} (w : Way) (ps qs : Subpatterns) → Stands R w S ss S' ts → Says (LikeTests R S S' (tests_in ss ps) (tests_in ts qs)) (like_tests_in w ps qs)
+  tests_in_so : {R : Renaming} {S S' : Subject} {ss ts : List Step} (w : Way) (ps qs : Subpatterns) → Stands R w S ss S' ts
+      → Says (LikeTests R S S' (tests_in ss ps) (tests_in ts qs)) (like_tests_in w ps qs)
   tests_in_so w tree.no_part tree.no_part l = says no_test
   tests_in_so w (tree.part_and i p ps) (tree.part_and j q qs) l =
       and_so (tests_so (then_step w (step.Field i) (step.Field j)) p q (stands_step (step.Field i) (step.Field j) l)) (tests_in_so w ps qs l) (λ a b. both_tests a b)
@@ -104,7 +105,8 @@ mode_so d d' (by_value v) (by_reference k) l = silent
 mode_so d d' (by_reference k) (by_value v) l = silent
 
 module _ (V : Facts) where
-  both_bindings : {S S' : Subject} {R Ra Rb : Renaming} {bs bs' cs cs' : List Binding} → LikeBindings V S S' R bs bs' Ra → LikeBindings V S S' Ra cs cs' Rb → LikeBindings V S S' R (bs ++ cs) (bs' ++ cs') Rb
+  both_bindings : {S S' : Subject} {R Ra Rb : Renaming} {bs bs' cs cs' : List Binding} → LikeBindings V S S' R bs bs' Ra → LikeBindings V S S' Ra cs cs' Rb
+      → LikeBindings V S S' R (bs ++ cs) (bs' ++ cs') Rb
   both_bindings no_binding k = k
   both_bindings (binding_and w t s h a b l) k = binding_and w t s h a b (both_bindings l k)
 
@@ -124,22 +126,27 @@ module _ (V : Facts) where
 
   module _ (L : Ways) (too : (x : ℕ) → In x L.elsewhere → V.Special x) where
     mutual
-      bindings_so : {S S' : Subject} {ss ts : List Step} (w : Way) (R : Renaming) (p q : Pattern) → Stands R w S ss S' ts → Promised (λ Ra. Bound S S' R (bindings ss p) (bindings ts q) Ra) (like_bindings L w R p q)
+      bindings_so : {S S' : Subject} {ss ts : List Step} (w : Way) (R : Renaming) (p q : Pattern) → Stands R w S ss S' ts
+          → Promised (λ Ra. Bound S S' R (bindings ss p) (bindings ts q) Ra) (like_bindings L w R p q)
       bindings_so w R tree.any tree.any l = kept (bound no_binding grown_same)
-      bindings_so w R (tree.bind n x m) (tree.bind n' y m') l = where_so (mode_so (tree.temporary_at n 0) (tree.temporary_at n' 0) m m' l) (λ t. map_so (λ Ra s. bound_one t s) (with_new_so V L too R x y))
+      bindings_so w R (tree.bind n x m) (tree.bind n' y m') l = where_so (mode_so (tree.temporary_at n 0) (tree.temporary_at n' 0) m m' l)
+          (λ t. map_so (λ Ra s. bound_one t s) (with_new_so V L too R x y))
       bindings_so w R (tree.exactly n c) (tree.exactly n' d) l = kept (bound no_binding grown_same)
       bindings_so w R (tree.parts ps) (tree.parts qs) l = bindings_in_so w R ps qs l
-      bindings_so w R (tree.variant n i several v ps) (tree.variant n' j several' u qs) l = bindings_in_so (then_step w (step.Variant v) (step.Variant u)) R ps qs (stands_step (step.Variant v) (step.Variant u) l)
+      bindings_so w R (tree.variant n i several v ps) (tree.variant n' j several' u qs) l = bindings_in_so (then_step w (step.Variant v) (step.Variant u)) R ps qs
+          (stands_step (step.Variant v) (step.Variant u) l)
       bindings_so w R (tree.behind m p) (tree.behind k q) l = bindings_so (by_dereference w) R p q (stands_step (step.Deref m) (step.Deref k) l)
       bindings_so w R _ _ l = nothing
 
-      bindings_in_so : {S S' : Subject} {ss ts : List Step} (w : Way) (R : Renaming) (ps qs : Subpatterns) → Stands R w S ss S' ts → Promised (λ Ra. Bound S S' R (bindings_in ss ps) (bindings_in ts qs) Ra) (like_bindings_in L w R ps qs)
+      bindings_in_so : {S S' : Subject} {ss ts : List Step} (w : Way) (R : Renaming) (ps qs : Subpatterns) → Stands R w S ss S' ts
+          → Promised (λ Ra. Bound S S' R (bindings_in ss ps) (bindings_in ts qs) Ra) (like_bindings_in L w R ps qs)
       bindings_in_so w R tree.no_part tree.no_part l = kept (bound no_binding grown_same)
       bindings_in_so w R (tree.part_and i p ps) (tree.part_and j q qs) l = then_so (bindings_so (then_step w (step.Field i) (step.Field j)) R p q (stands_step (step.Field i) (step.Field j) l))
           (λ Ra b. map_so (λ Rb c. bound_both b c) (bindings_in_so w Ra ps qs (stands_grown (growth_of b) l)))
       bindings_in_so w R _ _ l = nothing
 
-    pub like_bindings_so : {S S' : Subject} (w : Way) (R : Renaming) (p q : Pattern) → StandAlike R w S S' → Promised (λ Ra. LikeBindings V S S' R (bindings [] p) (bindings [] q) Ra) (like_bindings L w R p q)
+    pub like_bindings_so : {S S' : Subject} (w : Way) (R : Renaming) (p q : Pattern) → StandAlike R w S S'
+        → Promised (λ Ra. LikeBindings V S S' R (bindings [] p) (bindings [] q) Ra) (like_bindings L w R p q)
     unfolding StandAlike
     like_bindings_so w R p q l = map_so (λ Ra b. by b) (bindings_so w R p q l)
       where

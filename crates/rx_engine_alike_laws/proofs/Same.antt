@@ -71,5 +71,6 @@ like_making_so (tree.operation o) (tree.operation p) js = so (λ e. subst (λ p.
 like_making_so tree.lazy tree.lazy js = says (made_same tt)
 like_making_so tree.tuple tree.tuple js = so (λ c. made_same c) (has_all_so js (length js) 0)
 like_making_so (tree.struct i) (tree.struct j) js = so (λ c. made_structs c) (has_all_so js (length js) 0)
-like_making_so (tree.variant_of i v) (tree.variant_of j w) js = and_so (equal_so v w) (has_all_so js (length js) 0) (λ e c. subst (λ w. MadeAlike js (tree.variant_of i v) (tree.variant_of j w)) e (made_variants c))
+like_making_so (tree.variant_of i v) (tree.variant_of j w) js = and_so (equal_so v w) (has_all_so js (length js) 0)
+    (λ e c. subst (λ w. MadeAlike js (tree.variant_of i v) (tree.variant_of j w)) e (made_variants c))
 like_making_so _ _ js = silent

@@ -61,7 +61,8 @@ module _ (V : Facts) (L : Ways) (too : (x : ℕ) → In x L.elsewhere → V.Spec
   pub with_new_so : (R : Renaming) (x y : ℕ) → Promised (λ Ra. NewlySeen V R x y Ra) (with_new L R x y)
   with_new_so R x y = seen_new R x y (seen_as L x) (how_so x)
 
-  then_declared : {R Ra : Renaming} {x y : ℕ} {xs ys : List ℕ} {o : Option Renaming} → NewlySeen V R x y Ra → Promised (λ Rb. LikeDeclared V Ra xs ys Rb) o → Promised (λ Rb. LikeDeclared V R (x ∷ xs) (y ∷ ys) Rb) o
+  then_declared : {R Ra : Renaming} {x y : ℕ} {xs ys : List ℕ} {o : Option Renaming} → NewlySeen V R x y Ra → Promised (λ Rb. LikeDeclared V Ra xs ys Rb) o
+      → Promised (λ Rb. LikeDeclared V R (x ∷ xs) (y ∷ ys) Rb) o
   then_declared (newly w h a b) p = map_so (λ Rb l. new_and w h a b l) p
 
   pub declared_so : (R : Renaming) (xs ys : List ℕ) → Promised (λ Ra. LikeDeclared V R xs ys Ra) (like_declared L R xs ys)
@@ -70,7 +71,8 @@ module _ (V : Facts) (L : Ways) (too : (x : ℕ) → In x L.elsewhere → V.Spec
   declared_so R [] (y ∷ ys) = nothing
   declared_so R (x ∷ xs) [] = nothing
 
-  then_params : {R Ra : Renaming} {p q : Parameter} {ps qs : List Parameter} {o : Option Renaming} → NewlySeen V R p.variable q.variable Ra → Promised (λ Rb. LikeParams V Ra ps qs Rb) o → Promised (λ Rb. LikeParams V R (p ∷ ps) (q ∷ qs) Rb) o
+  then_params : {R Ra : Renaming} {p q : Parameter} {ps qs : List Parameter} {o : Option Renaming} → NewlySeen V R p.variable q.variable Ra → Promised (λ Rb. LikeParams V Ra ps qs Rb) o
+      → Promised (λ Rb. LikeParams V R (p ∷ ps) (q ∷ qs) Rb) o
   then_params (newly w h a b) p = map_so (λ Rb l. param_and w h a b l) p
 
   pub params_so : (R : Renaming) (ps qs : List Parameter) → Promised (λ Ra. LikeParams V R ps qs Ra) (like_params L R ps qs)

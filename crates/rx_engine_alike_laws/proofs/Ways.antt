@@ -47,10 +47,12 @@ pub data IsWay (R : Renaming) : Way → Root → List Step → Root → List Ste
   not_known : {r r' : Root} {ss ts : List Step} → IsWay R apart r ss r' ts
   of_values : {t u : Temporary} {ss ts : List Step} → LikeSteps ss ts → IsWay R from_value (temporary t) ss (temporary u) ts
   in_front_of : {x y : ℕ} → sight_of R x ≡ Some (sight y viewed) → IsWay R in_front (variable x) [] (variable y) []
-  directly : {x y : ℕ} {own : Bool} {ss ts : List Step} (h : How) → sight_of R x ≡ Some (sight y h) → IsDirect h → (IsOwn ss → own ≡ true) → LikeSteps ss ts → IsWay R (from_variable h own) (variable x) ss (variable y) ts
+  directly : {x y : ℕ} {own : Bool} {ss ts : List Step} (h : How) → sight_of R x ≡ Some (sight y h) → IsDirect h → (IsOwn ss → own ≡ true) → LikeSteps ss ts
+      → IsWay R (from_variable h own) (variable x) ss (variable y) ts
   behind_one : {x y : ℕ} {own k : Bool} {ss ts : List Step} (w : Hold) (m : Bool) → sight_of R x ≡ Some (sight y (through w m)) → (IsOwn ss → own ≡ true) → LikeSteps ss ts
       → IsWay R (from_variable (through w m) own) (variable x) ss (variable y) (step.Deref k ∷ ts)
-  behind_both : {x y : ℕ} {m k : Bool} {ss ts : List Step} → sight_of R x ≡ Some (sight y viewed) → LikeSteps ss ts → IsWay R (from_variable viewed false) (variable x) (step.Deref m ∷ ss) (variable y) (step.Deref k ∷ ts)
+  behind_both : {x y : ℕ} {m k : Bool} {ss ts : List Step} → sight_of R x ≡ Some (sight y viewed) → LikeSteps ss ts
+      → IsWay R (from_variable viewed false) (variable x) (step.Deref m ∷ ss) (variable y) (step.Deref k ∷ ts)
 
 -- ---- one step further
 
@@ -157,7 +159,8 @@ allowed_so ss {own = own} sharing h o = if_own ss own o (copied_so h)
 allowed_so ss {own = own} changing h o = and_so (if_own ss own o (freed_so h)) (mutable_so h) (λ a b. (a, b))
 allowed_so ss {own = own} writing h o = and_so (if_own ss own o (copied_so h)) (mutable_so h) (λ a b. (a, b))
 
-pub may_so : {R : Renaming} {w : Way} {r r' : Root} {ss ts : List Step} (u : Use) → IsWay R w r ss r' ts → Says (LikePlace R u (record { root = r; steps = ss }) (record { root = r'; steps = ts })) (may u w)
+pub may_so : {R : Renaming} {w : Way} {r r' : Root} {ss ts : List Step} (u : Use) → IsWay R w r ss r' ts
+    → Says (LikePlace R u (record { root = r; steps = ss }) (record { root = r'; steps = ts })) (may u w)
 may_so u not_known = silent
 may_so u (of_values l) = says (of_temporary l)
 may_so u (in_front_of s) = silent

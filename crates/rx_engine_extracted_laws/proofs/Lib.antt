@@ -1,3 +1,7 @@
+pub mod Seeing
+pub mod Entering
+pub mod Handing
+pub mod Picking
 pub mod Walked
 pub mod Stretches
 pub mod Ending
