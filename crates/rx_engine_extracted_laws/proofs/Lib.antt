@@ -3,3 +3,4 @@ pub mod Seeing
 pub mod Entering
 pub mod Handing
 pub mod Picking
+pub mod Arms
