@@ -4,3 +4,5 @@ pub mod Entering
 pub mod Handing
 pub mod Picking
 pub mod Arms
+pub mod Calls
+pub mod Found
