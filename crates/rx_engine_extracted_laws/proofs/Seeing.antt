@@ -93,7 +93,7 @@ all_special_so R (x ∷ xs) = and_so (special_sight_so (sight_of R x)) (all_spec
 -- ---- without some variables
 
 -- none of them is there
-pub without_these : (xs : List ℕ) (R : Renaming) (x : ℕ) (e : Sight) → sight_of (without xs R) x ≡ Some e → is_in x xs ≡ false
+without_these : (xs : List ℕ) (R : Renaming) (x : ℕ) (e : Sight) → sight_of (without xs R) x ≡ Some e → is_in x xs ≡ false
 without_these xs [] x e s = absurd (none_some s)
 without_these xs (b ∷ R) x e s = by (λ q. without_these xs R x e q) (is_in b.0 xs) refl s
   where
@@ -121,10 +121,16 @@ without_within xs (b ∷ R) x e s = by (λ q. without_within xs R x e q) (is_in 
     by rest true i n q = apart i n (nat_eq x b.0) refl (rest q)
     by rest false i n q = beside rest (nat_eq x b.0) q
 
-pub is_in_of : (x : ℕ) (xs : List ℕ) → Among x xs → is_in x xs ≡ true
+is_in_of : (x : ℕ) (xs : List ℕ) → Among x xs → is_in x xs ≡ true
 is_in_of x _ (here {l = l}) = ap (λ t. t || is_in x l) (eq-eqb x x refl)
 is_in_of x _ (there {b = b} {l = l} i) = by (nat_eq x b) (is_in_of x l i)
   where
     by : (t : Bool) → is_in x l ≡ true → (t || is_in x l) ≡ true
     by true e = refl
     by false e = e
+
+pub not_there : (xs : List ℕ) (R : Renaming) (x : ℕ) {e : Sight} → sight_of (without xs R) x ≡ Some e → Among x xs → ⊥
+not_there xs R x {e} s i = true_false (sym (is_in_of x xs i) ∙ without_these xs R x e s)
+  where
+    true_false : true ≡ false → ⊥
+    true_false e = cc
