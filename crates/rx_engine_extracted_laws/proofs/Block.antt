@@ -1,18 +1,17 @@
 -- Where the block of the run is found to be, in the answer, that block with the call in place of the run, it is so as an extraction has it.
-use Rattle.std.proofs.Common.{◌≡◌, ℕ, zero, suc, ◌<◌, Bool, true, false, ◌&&◌, List, [], ◌∷◌, map, take, drop, Option, Some, None, refl, sym, ap, ◌∙◌, subst, arith}
+use Rattle.std.proofs.Common.{◌≡◌, ℕ, Bool, true, false, List, [], ◌∷◌, map, take, drop, Option, refl, sym, ap, ◌∙◌, subst, arith}
 use Rattle.rx_typed.specs.Tree as tree
 use Rattle.rx_typed.specs.Tree.{Mark, Exp, Operands, Body}
 use Rattle.rx_lower_walks.specs.Walks.{Among}
 use Rattle.rx_exits_marks.specs.Points.{next}
 use Rattle.rx_exits_marks.specs.Blocks.{Statement, statements, tail, before}
-use Rattle.rx_exits_marks.specs.Changed.{changed_statement, changed_body}
+use Rattle.rx_exits_marks.specs.Changed.{changed_statement}
 use Rattle.rx_exits_marks.specs.Marked.{entering, ended}
-use Rattle.rx_exits_marks.specs.Runs.{Run, inside}
+use Rattle.rx_exits_marks.specs.Runs.{inside}
 use Rattle.rx_exits_plan.specs.Asked.{Asked}
 use Rattle.rx_exits_plan.specs.Plan.{Plan}
 use Rattle.rx_engine_simulation.specs.Turns.{Allowance}
 use Rattle.rx_engine_simulation.specs.Called.{a_turn}
-use Rattle.rx_engine_simulation.specs.Histories.{Facts}
 use Rattle.rx_engine_simulation.specs.Sights.{Renaming}
 use Rattle.rx_engine_simulation.specs.Jumps.{Jumping}
 use Rattle.rx_engine_simulation.specs.Passing.{New}
@@ -35,17 +34,15 @@ use Rattle.rx_engine_related.specs.Leaving.{left}
 use Rattle.rx_engine_related.specs.Moved.{Moved, Ended}
 use Rattle.rx_engine_related.specs.Never.{NeverEnds}
 use Rattle.rx_engine_related.specs.Standing.{marked_run, CallOf, call_alone, call_matched, call_left, RunBecomesCall, run_becomes_call, the_call}
-use Rattle.rx_engine_alike.specs.Likeness.{Hole, and_then, if_so, is_alike}
-use Rattle.rx_engine_alike.specs.Forms.{Between, like_body}
-use Rattle.rx_engine_extracted.specs.Told.{Told, ways_in, specials_among, without}
-use Rattle.rx_engine_extracted.specs.Entering.{Begun, entered}
-use Rattle.rx_engine_extracted.specs.Stretches.{Passed, like_first, behind_first}
-use Rattle.rx_engine_extracted.specs.Handing.{Put, Stood, hands_back, redeclared, is_within}
-use Rattle.rx_engine_extracted.specs.Calls.{Called, called_by}
+use Rattle.rx_engine_extracted.specs.Told.{Told, without}
+use Rattle.rx_engine_extracted.specs.Entering.{Begun}
+use Rattle.rx_engine_extracted.specs.Stretches.{Passed, like_first}
+use Rattle.rx_engine_extracted.specs.Handing.{Put, Stood}
+use Rattle.rx_engine_extracted.specs.Calls.{Called}
 use Rattle.rx_engine_extracted.specs.Ending.{ran}
-use Rattle.rx_engine_extracted.specs.Block.{between_around, between_in, block_of, function_runs, stands_for, rest_is_alike, is_put_so, run_is_call, loops_in, block_has_call}
+use Rattle.rx_engine_extracted.specs.Block.{between_around, between_in, block_of, function_runs, stands_for, rest_is_alike, is_put_so, run_is_call}
 use Rattle.rx_engine_extracted_laws.specs.Statements.{stretch_of}
-use Rattle.rx_engine_alike_laws.proofs.Promised.{Promised, kept, nothing, Says, says, silent, map_so, then_so, where_so, so, and_with}
+use Rattle.rx_engine_alike_laws.proofs.Promised.{Promised, kept, nothing, Says, silent, map_so, then_so, where_so, so, and_with}
 use Rattle.rx_engine_alike_laws.proofs.Forms.{Whole}
 use Rattle.rx_engine_alike_laws.proofs.Unmarked.{same_body}
 use Rattle.rx_engine_extracted_laws.proofs.Walked.{AlikeBody, alike_body, body_alike}

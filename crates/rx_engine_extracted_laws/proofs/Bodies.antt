@@ -1,6 +1,6 @@
 -- The text's block with the marks of its run, in both ways to write it: as a list of statements, and as a stretch in front of what follows. And
 -- what never ends, with the last statement apart.
-use Rattle.std.proofs.Common.{◌≡◌, ℕ, zero, suc, false, List, [], ◌∷◌, ◌++◌, map, drop, Option, Some, None, refl, sym, ap, ◌∙◌, subst}
+use Rattle.std.proofs.Common.{◌≡◌, ℕ, zero, suc, false, List, [], ◌∷◌, ◌++◌, map, drop, refl, sym, ap, ◌∙◌, subst}
 use Rattle.rx_typed.specs.Tree as tree
 use Rattle.rx_typed.specs.Tree.{Exp, Body, own}
 use Rattle.rx_exits_marks.specs.Points.{Point, next, enters, leaves}

@@ -1,5 +1,5 @@
 -- Where a new function is found to do what the run does, it does its statements, all of them or all but the last; and its end is that of the run.
-use Rattle.std.proofs.Common.{◌≡◌, ℕ, zero, suc, nat_eq, Bool, true, false, ◌&&◌, List, [], ◌∷◌, ◌++◌, map, take, drop, Option, Some, None, refl, sym, ap, ◌∙◌, subst}
+use Rattle.std.proofs.Common.{◌≡◌, ℕ, zero, suc, nat_eq, Bool, true, false, ◌&&◌, List, [], ◌∷◌, ◌++◌, map, take, drop, Option, refl, sym, ap, ◌∙◌, subst}
 use Rattle.rx_typed.specs.Tree as tree
 use Rattle.rx_typed.specs.Tree.{Mark, Exp, Body}
 use Rattle.rx_exits_marks.specs.Blocks.{Statement, does, statements}
@@ -19,10 +19,10 @@ use Rattle.rx_engine_related.specs.ByForm.{by_form}
 use Rattle.rx_engine_related.specs.Leaving.{HaveThere}
 use Rattle.rx_engine_related.specs.Moved.{Moved, Ended}
 use Rattle.rx_engine_related.specs.Moved as moved
-use Rattle.rx_engine_alike.specs.Giving.{numbers_of, if_these}
+use Rattle.rx_engine_alike.specs.Giving.{if_these}
 use Rattle.rx_engine_alike.specs.Forms.{Between}
-use Rattle.rx_engine_extracted.specs.Stretches.{Passed, like_first, count_of}
-use Rattle.rx_engine_extracted.specs.Ending.{gives_in, gives_outs, has_none, gives_last, last_is, ends_as, ends_with, ran_but_last, ran_all, ran_by, ran}
+use Rattle.rx_engine_extracted.specs.Stretches.{Passed, count_of}
+use Rattle.rx_engine_extracted.specs.Ending.{gives_in, gives_outs, has_none, gives_last, last_is, ran_but_last, ran_all, ran_by, ran}
 use Rattle.rx_engine_extracted_laws.specs.Statements.{stretch_of}
 use Rattle.rx_engine_alike_laws.proofs.Promised.{Promised, kept, nothing, Says, says, silent, then_so, where_so, so}
 use Rattle.rx_engine_alike_laws.proofs.Giving.{Reread, reread, GivesAgain, numbers_so, gives_bare_so, gives_variant_so}

@@ -1,6 +1,6 @@
 -- Answers that are found to be extractions: of a run that gives a local its value, and of one in a loop that writes a variable and leaves the loop,
 -- whose function borrows the variable and tells the `break` by a variant. One whose function does another thing isn't.
-use Rattle.std.proofs.Common.{◌≡◌, ℕ, zero, suc, pos, Bool, true, false, List, [], ◌∷◌, Option, Some, None, refl}
+use Rattle.std.proofs.Common.{◌≡◌, ℕ, pos, true, false, List, [], ◌∷◌, Some, None, refl}
 use Rattle.rx_core.specs.declared.types.Kind.{Kind}
 use Rattle.rx_core.specs.declared.types.Step.TheVariants as step
 use Rattle.rx_tree.specs.declared.tree.BinaryOp.{BinaryOp}
@@ -53,7 +53,8 @@ main_answer = record { params = []; body = tree.block (m 1) (tree.declares 2 (0 
 abbrev giving : ℕ → New
 giving z = record {
   number = 1;
-  function = record { params = []; body = tree.block (m 13) (tree.declares 14 (5 ∷ []) (tree.runs (tree.assign (m 5) (own 5) (number 6 z)) (tree.ends (tree.give (m 13) (tree.read (m 15) true (own 5)))))) };
+  function = record { params = []; body = tree.block (m 13) (tree.declares 14 (5 ∷ []) (tree.runs (tree.assign (m 5) (own 5) (number 6 z))
+      (tree.ends (tree.give (m 13) (tree.read (m 15) true (own 5)))))) };
 }
 
 abbrev told : New → Told
@@ -89,7 +90,8 @@ abbrev plan_loop : Plan
 plan_loop = record { exits = next ∷ breaks 0 ∷ []; params = 0 ∷ []; locals = []; outs = λ e. []; value = None; redeclared = []; loose = [] }
 
 abbrev arms_of : Arms
-arms_of = tree.arm_and (tree.variant 23 2 true 0 tree.no_part) (tree.block (m 24) (tree.ends (tree.unit (m 24)))) (tree.arm_and (tree.variant 25 2 true 1 tree.no_part) (tree.jump (m 26) 0 false) tree.no_arm)
+arms_of = tree.arm_and (tree.variant 23 2 true 0 tree.no_part) (tree.block (m 24) (tree.ends (tree.unit (m 24))))
+    (tree.arm_and (tree.variant 25 2 true 1 tree.no_part) (tree.jump (m 26) 0 false) tree.no_arm)
 
 -- let mut a = 7; loop { match step(&mut a) { Exit::Next => {} Exit::Break_0 => break } } println!("{}", a);
 abbrev loop_answer : Function
@@ -102,13 +104,15 @@ telling v = tree.give (m 28) (tree.build (m 29) (tree.variant_of 2 v) tree.no_op
 abbrev step_by : ℕ → New
 step_by v = record {
   number = 1;
-  function = record { params = record { node = 30; variable = 5 } ∷ []; body = tree.block (m 31) (adding (tree.update (m 5) BinaryOp.Add (under (own 5) (step.Deref true ∷ [])) (number 6 1)) (telling v)
+  function = record { params = record { node = 30; variable = 5 } ∷ []; body = tree.block (m 31) (adding (tree.update (m 5) BinaryOp.Add (under (own 5) (step.Deref true ∷ [])) (number 6 1))
+      (telling v)
       (tree.ends (tree.give (m 31) (tree.build (m 32) (tree.variant_of 2 0) tree.no_operand)))) };
 }
 
 abbrev told_loop : New → Told
 told_loop n = record {
-  run = record { block = 16; first = 0; count = 2; tail = false }; around = 0 ∷ []; plan = plan_loop; modes = mode.Mut ∷ []; elsewhere = []; muts = true ∷ []; new = n; beyond = 6; items = items_with 0 1; units = [];
+  run = record { block = 16; first = 0; count = 2; tail = false }; around = 0 ∷ []; plan = plan_loop; modes = mode.Mut ∷ []; elsewhere = []; muts = true ∷ []; new = n; beyond = 6;
+  items = items_with 0 1; units = [];
 }
 
 pub loop_is_found : extracts (told_loop (step_by 1)) 0 (alone loop_text) (pair_of loop_answer (step_by 1).function) ≡ true

@@ -1,6 +1,6 @@
 -- The block that a walk over two functions leaves open is a block of the text's function, at the node that it is told; where one block has the
 -- node it is that one.
-use Rattle.std.proofs.Common.{◌≡◌, ℕ, suc, ◌≤◌, ◌==◌, Bool, true, false, not, ◌&&◌, List, [], ◌∷◌, ◌++◌, Option, Some, None, if◌then◌else◌, refl, sym, ◌∙◌, subst, arith, true≢false}
+use Rattle.std.proofs.Common.{◌≡◌, ℕ, suc, ◌≤◌, ◌==◌, Bool, true, false, ◌&&◌, List, [], ◌∷◌, ◌++◌, Option, Some, None, if◌then◌else◌, refl, sym, subst, arith, true≢false}
 use Rattle.std.proofs.lemmas.Bool.Decides.{Decides-eqb}
 use Rattle.rx_typed.specs.Tree as tree
 use Rattle.rx_typed.specs.Tree.{Mark, Pattern, Exp, Operands, Scrutinee, Arms, Body, Function}
@@ -9,7 +9,7 @@ use Rattle.rx_exits_marks.specs.Blocks.{bound}
 use Rattle.rx_exits_marks.specs.Marked.{is_among}
 use Rattle.rx_exits_marks.specs.Spots.{Around, Spot, a_block, a_jump, a_return, with_variables, with_loop, spots, spots_in, spots_matched, spots_armed, spots_of, outermost, spots_of_function}
 use Rattle.rx_engine_simulation.specs.Sights.{Renaming}
-use Rattle.rx_engine_simulation.specs.Jumps.{Returning, as_return, with_value, with_unit, no_return, Jumping, in_loop, loop_of}
+use Rattle.rx_engine_simulation.specs.Jumps.{Returning, as_return, with_value, with_unit, no_return, Jumping, in_loop}
 use Rattle.rx_engine_simulation.specs.Places.{use_of}
 use Rattle.rx_engine_simulation.specs.Programs.{whole_jumps}
 use Rattle.rx_engine_histories.specs.OneSite.{blocks_at}

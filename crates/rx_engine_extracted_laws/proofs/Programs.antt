@@ -1,9 +1,8 @@
 -- An answer that is found to be an extraction by its typed program is one. Beside it stands the program in which the new function, and the run's,
 -- read some references that they ask for again.
-use Rattle.std.proofs.Common.{◌≡◌, ◌⊎◌, inl, inr, ℕ, zero, suc, ◌+◌, ◌<◌, ◌≤◌, ◌==◌, nat_eq, nat_le, Bool, true, false, not, ◌&&◌, ◌||◌, List, [], ◌∷◌, length, map, Option, Some, None}
+use Rattle.std.proofs.Common.{◌≡◌, inl, inr, ℕ, zero, suc, ◌+◌, ◌<◌, ◌≤◌, ◌==◌, nat_eq, nat_le, Bool, true, false, not, ◌&&◌, ◌||◌, List, [], ◌∷◌, length, map, Option, Some, None}
 use Rattle.std.proofs.Common.{if◌then◌else◌, refl, sym, ap, ◌∙◌, subst, arith, true≢false, eqb-true, eq-eqb, le-leb, leb-false, leb-true}
-use Rattle.rx_typed.specs.Tree as tree
-use Rattle.rx_typed.specs.Tree.{Mark, Exp, Body, Function}
+use Rattle.rx_typed.specs.Tree.{Exp, Body, Function}
 use Rattle.rx_lower_walks.specs.Walks.{Among}
 use Rattle.rx_exits_marks.specs.Points.{next}
 use Rattle.rx_exits_marks.specs.Runs.{Run, inside}
@@ -19,20 +18,19 @@ use Rattle.rx_engine_simulation.specs.Units.{UnitFunctions}
 use Rattle.rx_engine_simulation.specs.Endings.{none_left}
 use Rattle.rx_engine_simulation.specs.Like.{LikeBody}
 use Rattle.rx_engine_simulation.specs.Openings.{Openings}
-use Rattle.rx_engine_simulation.specs.Rereads.{Rereads, RereadsBody, RereadsEntry, no_function, in_function, RereadsProgram}
+use Rattle.rx_engine_simulation.specs.Rereads.{Rereads, RereadsBody, RereadsEntry, no_function, in_function}
 use Rattle.rx_engine_simulation.proofs.Rereads.{self_exp}
 use Rattle.rx_engine_histories.specs.AboutRun.{special_of}
 use Rattle.rx_engine_histories.specs.Running.{passing, running_body, running_of}
 use Rattle.rx_engine_related.specs.ByForm.{by_form, RelatedFunction, SameEntry}
 use Rattle.rx_engine_related.specs.ByForm as by_form
-use Rattle.rx_engine_related.specs.InBlock.{RunBlock, run_block, in_its_block}
+use Rattle.rx_engine_related.specs.InBlock.{run_block, in_its_block}
 use Rattle.rx_engine_related.specs.Never.{NeverEnds}
 use Rattle.rx_engine_related.specs.Standing.{the_call}
 use Rattle.rx_engine_related.specs.Extracts.{Extracts}
 use Rattle.rx_engine_alike.specs.Likeness.{Hole, Likeness, unlike, alike, alike_but}
 use Rattle.rx_engine_alike.specs.Items.{items_with}
 use Rattle.rx_engine_alike.specs.Variables.{is_in}
-use Rattle.rx_engine_alike.specs.Forms.{Between, is_open}
 use Rattle.rx_engine_alike.specs.Functions.{like_function, same_item}
 use Rattle.rx_engine_alike.specs.Units.{all_are_unit}
 use Rattle.rx_engine_extracted.specs.Told.{Told}
@@ -42,7 +40,7 @@ use Rattle.rx_engine_alike_laws.proofs.Promised.{said}
 use Rattle.rx_engine_alike_laws.proofs.Units.{are_unit_if}
 use Rattle.rx_engine_alike_laws.proofs.Functions.{RereadsFunction, entry_rereads, filled_by, function_if, nothing_leaves, same_if}
 use Rattle.rx_engine_extracted_laws.specs.Statements.{stretch_of}
-use Rattle.rx_engine_extracted_laws.specs.Telling.{NeverRuns, ToldOf}
+use Rattle.rx_engine_extracted_laws.specs.Telling.{ToldOf}
 use Rattle.rx_engine_extracted_laws.proofs.Parts.{Parts}
 use Rattle.rx_engine_extracted_laws.proofs.Block.{new_with, BlockSo, block_is, block_found}
 use Rattle.rx_engine_extracted_laws.proofs.Holes.{open_text}

@@ -1,9 +1,9 @@
 -- The first statements of a block, found alike one after another: beside each other they are a stretch of statements in both, behind which the
 -- blocks go on. With marks in front of jumps out of the run, in the text.
-use Rattle.std.proofs.Common.{◌≡◌, ℕ, zero, suc, Bool, true, false, List, [], ◌∷◌, map, take, drop, Option, Some, None, refl, sym, ◌∙◌, subst, arith}
+use Rattle.std.proofs.Common.{◌≡◌, ℕ, zero, suc, Bool, true, false, List, map, take, drop, Option, refl, subst, arith}
 use Rattle.rx_typed.specs.Tree as tree
 use Rattle.rx_typed.specs.Tree.{Pattern, Exp, Scrutinee, Body}
-use Rattle.rx_exits_marks.specs.Blocks.{Statement, statements, tail}
+use Rattle.rx_exits_marks.specs.Blocks.{statements, tail}
 use Rattle.rx_exits_marks.specs.Changed.{Changes, changed, changed_matched, changed_statement}
 use Rattle.rx_engine_simulation.specs.Turns.{Allowance}
 use Rattle.rx_engine_simulation.specs.Histories.{Facts}
@@ -13,7 +13,7 @@ use Rattle.rx_engine_simulation.specs.Jumps.{Jumping}
 use Rattle.rx_engine_simulation.specs.Openings.{Openings}
 use Rattle.rx_engine_simulation.specs.Like.{LikeExp, LikeMatched, LikeBody, runs_on, declares_all, lets_in, reads_place, looks_behind}
 use Rattle.rx_engine_simulation.specs.Blocks.{Stretch, lets_then, before}
-use Rattle.rx_engine_simulation.specs.Rereads.{RereadsMatched, RereadsBody, in_run, in_declare, in_let}
+use Rattle.rx_engine_simulation.specs.Rereads.{RereadsBody, in_run, in_declare, in_let}
 use Rattle.rx_engine_histories.specs.Running.{passing}
 use Rattle.rx_engine_related.specs.ByForm.{by_form}
 use Rattle.rx_engine_related.specs.Leaving.{left}

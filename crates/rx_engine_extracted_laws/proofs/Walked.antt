@@ -1,6 +1,6 @@
 -- What the walk over both trees finds, as it is used of a run: expressions, rests of blocks and `let`s that it finds alike are so, by their form,
 -- where the answer reads some references that it asks for again. In the text marks stand in front of jumps out of the run.
-use Rattle.std.proofs.Common.{◌≡◌, ℕ, ◌≤◌, Bool, true, false, ◌&&◌, List, [], Option, Some, arith}
+use Rattle.std.proofs.Common.{◌≡◌, ℕ, Bool, true, false, [], Some}
 use Rattle.rx_typed.specs.Tree as tree
 use Rattle.rx_typed.specs.Tree.{Mark, Pattern, Place, Exp, Scrutinee, Body, own, temporary_of}
 use Rattle.rx_lower_walks.specs.Matching.{bindings}

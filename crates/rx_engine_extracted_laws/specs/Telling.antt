@@ -1,12 +1,11 @@
 -- What is told of a run, its plan and the answer's new function is so: of an accepted text, a run in it that isn't refused, and an answer with
 -- further items behind the run's function (REM, "Extract method").
-use Rattle.std.specs.Prelude.{◌≡◌, ℕ, List, map, Some}
+use Rattle.std.specs.Prelude.{◌≡◌, ℕ, map, Some}
 use Rattle.rx_lower_walks.specs.Walks.{Among}
 use Rattle.rx_exits_marks.specs.Points.{next}
 use Rattle.rx_exits_marks.specs.Runs.{inside}
 use Rattle.rx_exits_marks.specs.Changed.{changed_statement}
 use Rattle.rx_exits_plan.specs.Asked.{Asked}
-use Rattle.rx_exits_plan.specs.Plan.{Plan}
 use Rattle.rx_meaning.specs.Values.{element}
 use Rattle.rx_meaning.specs.Programs.{Program}
 use Rattle.rx_engine_simulation.specs.Sights.{In}
