@@ -1,26 +1,23 @@
 -- Where the arms of the match are found to do as the text at each exit, their bodies can be read so that they do.
-use Rattle.std.proofs.Common.{◌≡◌, ℕ, suc, nat_eq, ◌==◌, Bool, true, false, not, ◌&&◌, ◌||◌, List, [], ◌∷◌, length, Option, Some, None, if◌then◌else◌, refl, ap, ◌∙◌, sym, subst}
+use Rattle.std.proofs.Common.{◌≡◌, ℕ, Bool, true, false, List, [], ◌∷◌, length, Option, Some, None, refl, ap, sym, subst}
 use Rattle.rx_typed.specs.Tree as tree
 use Rattle.rx_typed.specs.Tree.{Mark, Pattern, Subpatterns, Exp, Arms, Body}
 use Rattle.rx_lower_walks.specs.Walks.{Among, here, there}
-use Rattle.rx_exits_marks.specs.Points.{Exit, next, breaks, continues, returns, jump_exit}
+use Rattle.rx_exits_marks.specs.Points.{Exit, next, breaks, continues, returns}
 use Rattle.rx_exits_plan.specs.Asked.{Asked}
-use Rattle.rx_exits_plan.specs.Plan.{Plan}
-use Rattle.rx_engine_simulation.specs.Sights.{In, special, sight, Renaming, sight_of, IsNew}
+use Rattle.rx_engine_simulation.specs.Sights.{In, Renaming, sight_of, IsNew}
 use Rattle.rx_engine_simulation.specs.Arrivals.{Within}
-use Rattle.rx_engine_simulation.specs.Jumps.{Returning, as_return, with_value, with_unit, no_return, Jumping, loop_of, Pack}
-use Rattle.rx_engine_simulation.specs.Packing.{bare, Takes, Gives, Receives, receives_none, AreNew}
+use Rattle.rx_engine_simulation.specs.Jumps.{Returning, as_return, Jumping, loop_of}
+use Rattle.rx_engine_simulation.specs.Packing.{bare, Takes, Gives, Receives, AreNew}
 use Rattle.rx_engine_simulation.specs.Handing.{Receiving, received_none, received_and}
 use Rattle.rx_engine_simulation.specs.Variants.{JumpsBehind, jumps_alone, jumps_last, AllSpecial}
 use Rattle.rx_engine_simulation.specs.Rereads.{Rereads, same_jump, in_give, in_block, RereadsBody}
-use Rattle.rx_engine_simulation.proofs.Rereads.{self_exp, self_body}
+use Rattle.rx_engine_simulation.proofs.Rereads.{self_body}
 use Rattle.rx_engine_related.specs.Handed.{MayBeAssigned, PutBack, all_back}
 use Rattle.rx_engine_related.specs.Leaving.{pack_if, variant_for, packed, returning_if}
-use Rattle.rx_engine_alike.specs.Variables.{is_in, is_new}
-use Rattle.rx_engine_alike.specs.Giving.{is_unit, takes, gives_bare}
-use Rattle.rx_engine_alike.specs.Leaving.{is_number}
+use Rattle.rx_engine_alike.specs.Giving.{is_unit}
 use Rattle.rx_engine_extracted.specs.Told.{Told, without}
-use Rattle.rx_engine_extracted.specs.Handing.{Put, received_in, received, put_back, is_within}
+use Rattle.rx_engine_extracted.specs.Handing.{Put}
 use Rattle.rx_engine_extracted.specs.Arms as arms
 use Rattle.rx_engine_extracted.specs.Arms.{Arm, arm_for, jumps_to, is_put, jumps_bare, jumps_behind, is_renaming, are_numbers, is_arm, puts_back, jump_arm, has_no_part, returns_nothing, returns_own, returns_only, is_return, return_arm, exit_arm, exit_arms, all_new, end_arm}
 use Rattle.rx_engine_alike_laws.proofs.Promised.{Promised, kept, nothing, Says, says, silent, said, so, and_so, and_with, equal_so}
@@ -88,12 +85,14 @@ module _ (A : Asked) (T : Told) (locals : (x : ℕ) → In x T.plan.locals → M
   -- ---- a jump's arm puts back what is handed out, and jumps
 
   pub data GoesBack (outs : List ℕ) (l : ℕ) (again : Bool) (ps : Subpatterns) (e : Exp) : Type 0 where
-    goes_back_by : {qs : List ℕ} {f : Body → Body} {d : ℕ} (mj : Mark) (Rs Rr Rd : Renaming) → loop_of J.loops l ≡ Some d → AllSpecial R outs → Within Rs R → Receiving R Rs outs qs Rr → Receives 0 qs ps → PutBack A T.muts R Rr outs qs f Rd → Within R Rd
+    goes_back_by : {qs : List ℕ} {f : Body → Body} {d : ℕ} (mj : Mark) (Rs Rr Rd : Renaming) → loop_of J.loops l ≡ Some d → AllSpecial R outs → Within Rs R → Receiving R Rs outs qs Rr
+        → Receives 0 qs ps → PutBack A T.muts R Rr outs qs f Rd → Within R Rd
         → JumpsBehind f (tree.jump mj d again) e → GoesBack outs l again ps e
 
   -- from where it was received
   data JumpsFrom (outs qs : List ℕ) (Rr : Renaming) (o : Option ℕ) (again : Bool) (e : Exp) : Type 0 where
-    jumps_from : {f : Body → Body} {d : ℕ} (mj : Mark) (Rd : Renaming) → o ≡ Some d → PutBack A T.muts R Rr outs qs f Rd → Within R Rd → JumpsBehind f (tree.jump mj d again) e → JumpsFrom outs qs Rr o again e
+    jumps_from : {f : Body → Body} {d : ℕ} (mj : Mark) (Rd : Renaming) → o ≡ Some d → PutBack A T.muts R Rr outs qs f Rd → Within R Rd → JumpsBehind f (tree.jump mj d again) e
+        → JumpsFrom outs qs Rr o again e
 
   in_block_so : {outs qs : List ℕ} {Rr : Renaming} {o : Option ℕ} {again : Bool} {b : Body} (m : Mark) (D : Put) → PutSo A T locals R Rr outs qs b D → JumpsLast o again D.rest → Within R D.inside
       → Reread Rereads (λ z. JumpsFrom outs qs Rr o again z) (tree.block m b)
@@ -102,22 +101,26 @@ module _ (A : Asked) (T : Told) (locals : (x : ℕ) → In x T.plan.locals → M
       by : (c : Body) → JumpsLast o again c → ((rest : Body) → RereadsBody c rest → RereadsBody b (f rest)) → Reread Rereads (λ z. JumpsFrom outs qs Rr o again z) (tree.block m b)
       by c (last_so {mj = mj} {mu = mu} {k = k} q) g = reread (tree.block m (f c)) (in_block (g c (self_body c))) (jumps_from mj D.inside q p w (jumps_last mu))
 
-  bare_so : {outs qs : List ℕ} {Rr : Renaming} (o : Option ℕ) (again : Bool) (e : Exp) → Receiving R (without outs R) outs qs Rr → Says (Reread Rereads (λ z. JumpsFrom outs qs Rr o again z) e) (jumps_bare outs o again e)
+  bare_so : {outs qs : List ℕ} {Rr : Renaming} (o : Option ℕ) (again : Bool) (e : Exp) → Receiving R (without outs R) outs qs Rr
+      → Says (Reread Rereads (λ z. JumpsFrom outs qs Rr o again z) e) (jumps_bare outs o again e)
   bare_so o again e received_none = so (λ j. alone e j) (jumps_to_so o again e)
     where
       alone : (e : Exp) → JumpsTo o again e → Reread Rereads (λ z. JumpsFrom [] [] (without [] R) o again z) e
       alone _ (jumps_so {m = m} {k = k} p) = reread (tree.jump m k again) same_jump (jumps_from m (without [] R) p all_back (within_without R) jumps_alone)
   bare_so o again e (received_and none new newer r) = silent
 
-  behind_so : {outs qs : List ℕ} {Rr : Renaming} (o : Option ℕ) (again : Bool) (e : Exp) → Receiving R (without outs R) outs qs Rr → Says (Reread Rereads (λ z. JumpsFrom outs qs Rr o again z) e) (jumps_behind T R Rr outs qs o again e)
-  behind_so {outs} {qs} {Rr} o again (tree.block m b) r = is_put_so (put_back_so A T locals R Rr outs qs b) (λ D p. and_so (jumps_last_so o again D.rest) (within_so R D.inside) (λ j w. in_block_so m D p j w))
+  behind_so : {outs qs : List ℕ} {Rr : Renaming} (o : Option ℕ) (again : Bool) (e : Exp) → Receiving R (without outs R) outs qs Rr
+      → Says (Reread Rereads (λ z. JumpsFrom outs qs Rr o again z) e) (jumps_behind T R Rr outs qs o again e)
+  behind_so {outs} {qs} {Rr} o again (tree.block m b) r =
+      is_put_so (put_back_so A T locals R Rr outs qs b) (λ D p. and_so (jumps_last_so o again D.rest) (within_so R D.inside) (λ j w. in_block_so m D p j w))
   behind_so o again e r = bare_so o again e r
 
   puts_back_so : (outs : List ℕ) (l : ℕ) (again : Bool) (a : Arm) → Says (Reread Rereads (λ z. GoesBack outs l again a.parts z) a.body) (puts_back T J R outs l again a)
   puts_back_so outs l again a = and_with (all_special_so R outs) (λ s. numbers_so (received_in_so 0 a.parts) (λ qs c. renaming_so (received_so R (without outs R) outs qs) (λ Rr r.
       so (λ j. by qs Rr s c r j) (behind_so (loop_of J.loops l) again a.body r))))
     where
-      by : (qs : List ℕ) (Rr : Renaming) → AllSpecial R outs → Receives 0 qs a.parts → Receiving R (without outs R) outs qs Rr → Reread Rereads (λ z. JumpsFrom outs qs Rr (loop_of J.loops l) again z) a.body → Reread Rereads (λ z. GoesBack outs l again a.parts z) a.body
+      by : (qs : List ℕ) (Rr : Renaming) → AllSpecial R outs → Receives 0 qs a.parts → Receiving R (without outs R) outs qs Rr
+          → Reread Rereads (λ z. JumpsFrom outs qs Rr (loop_of J.loops l) again z) a.body → Reread Rereads (λ z. GoesBack outs l again a.parts z) a.body
       by qs Rr s c r (reread z k (jumps_from mj Rd d p w j)) = reread z k (goes_back_by mj (without outs R) Rr Rd d s (without_within outs R) r c p w j)
 
   -- ---- a return's arm returns
@@ -147,7 +150,8 @@ module _ (A : Asked) (T : Told) (locals : (x : ℕ) → In x T.plan.locals → M
   nothing_so q (tree.give m e) = so (λ g. given_nothing g q) (gives_bare_so [] e)
   nothing_so q _ = silent
 
-  given_own : {m : Mark} {e : Exp} {q : ℕ} {ps : Subpatterns} → J.returning ≡ as_return → IsNew R q → Receives 0 (q ∷ []) ps → Reread Rereads (λ z. Takes q z) e → Reread Rereads (λ z. ReturnsValue ps z) (tree.give m e)
+  given_own : {m : Mark} {e : Exp} {q : ℕ} {ps : Subpatterns} → J.returning ≡ as_return → IsNew R q → Receives 0 (q ∷ []) ps → Reread Rereads (λ z. Takes q z) e
+      → Reread Rereads (λ z. ReturnsValue ps z) (tree.give m e)
   given_own {m} r new c (reread z k t) = reread (tree.give m z) (in_give k) (returns_value r new c t)
 
   own_so : {q : ℕ} {ps : Subpatterns} → J.returning ≡ as_return → IsNew R q → Receives 0 (q ∷ []) ps → (e : Exp) → Says (Reread Rereads (λ z. ReturnsValue ps z) e) (returns_own q e)

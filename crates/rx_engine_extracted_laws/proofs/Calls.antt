@@ -1,6 +1,6 @@
 -- Where an expression is found to be the call of the new function, or the match of what it gives, it is that: with the arms read so that each
 -- does as the text at its exit.
-use Rattle.std.proofs.Common.{◌≡◌, ℕ, suc, ◌+◌, nat_eq, ◌==◌, Bool, true, false, ◌&&◌, List, [], ◌∷◌, length, Option, Some, None, if◌then◌else◌, slice_get, refl, ap, ◌∙◌, sym, subst, arith, eq-eqb}
+use Rattle.std.proofs.Common.{◌≡◌, ℕ, suc, ◌+◌, ◌==◌, Bool, true, false, List, [], ◌∷◌, length, Option, Some, None, if◌then◌else◌, slice_get, refl, ap, ◌∙◌, sym, subst, arith, eq-eqb}
 use Rattle.std.proofs.lemmas.Bool.Decides.{Decides-eqb}
 use Rattle.rx_typed.specs.Tree as tree
 use Rattle.rx_typed.specs.Tree.{Mark, Subpatterns, Exp, Operands, Scrutinee, Arms}
@@ -13,7 +13,7 @@ use Rattle.rx_engine_simulation.specs.Jumps.{Pack, Jumping, loop_of}
 use Rattle.rx_engine_simulation.specs.Packing.{Way, bare, as_variant, no_way, Picks}
 use Rattle.rx_engine_simulation.specs.Passing.{inner_jumps}
 use Rattle.rx_engine_simulation.specs.Variants.{unit_arm, value_arm, ReturnsOn}
-use Rattle.rx_engine_simulation.specs.Rereads.{Rereads, in_call, in_choose, RereadsMatched, in_value_of, RereadsAll}
+use Rattle.rx_engine_simulation.specs.Rereads.{Rereads, in_call, in_choose, in_value_of}
 use Rattle.rx_engine_simulation.proofs.Rereads.{self_exp}
 use Rattle.rx_engine_histories.specs.AboutRun.{special_of}
 use Rattle.rx_engine_related.specs.Handed.{MayBeAssigned}
@@ -21,16 +21,16 @@ use Rattle.rx_engine_related.specs.Leaving.{place_from, variant_for, pack_if, pa
 use Rattle.rx_engine_related.specs.Standing.{CallOf, call_alone, call_matched, call_left}
 use Rattle.rx_engine_related.proofs.Leaving.{variant_among}
 use Rattle.rx_engine_alike.specs.Leaving.{is_number}
-use Rattle.rx_engine_extracted.specs.Told.{Told, specials_among}
+use Rattle.rx_engine_extracted.specs.Told.{Told}
 use Rattle.rx_engine_extracted.specs.Arms.{Arm, arm_for, is_arm, exit_arms, gives_unit_by, end_arm}
-use Rattle.rx_engine_extracted.specs.Calls.{Called, operands_of, operands_in, is_only_next, jumps_in, way_to_end, matched, called_in, called_by}
+use Rattle.rx_engine_extracted.specs.Calls.{operands_of, operands_in, is_only_next, jumps_in, way_to_end, matched, called_in, called_by}
 use Rattle.rx_engine_alike_laws.proofs.Promised.{Promised, kept, nothing, Says, says, silent, said, map_so, then_so, where_so, so, and_so, equal_so}
 use Rattle.rx_engine_alike_laws.proofs.Leaving.{number_is}
 use Rattle.rx_engine_alike_laws.proofs.Giving.{Reread, reread}
-use Rattle.rx_engine_extracted_laws.proofs.Parts.{CalledSo, called_so, CallsSo}
+use Rattle.rx_engine_extracted_laws.proofs.Parts.{called_so, CallsSo}
 use Rattle.rx_engine_extracted_laws.proofs.Seeing.{some_same, none_some, specials_among_so}
 use Rattle.rx_engine_extracted_laws.proofs.Picking.{Asking, AllRead, PickedSo, picked_so, Together, together, all_at_once}
-use Rattle.rx_engine_extracted_laws.proofs.Arms.{GoesBack, goes_back_by, ReturnsUnit, returns_unit, ReturnsValue, returns_value, Returned, EndsSo, ends_so, end_so, Does, ArmThere, arm_there, HasArm, exits_so}
+use Rattle.rx_engine_extracted_laws.proofs.Arms.{goes_back_by, returns_unit, returns_value, Returned, ends_so, end_so, Does, ArmThere, arm_there, exits_so}
 
 -- ---- exits by their variants
 
@@ -56,7 +56,8 @@ place_is : (i : ℕ) (x : Exit) (xs : List Exit) {v : ℕ} → place_from i x xs
 place_is i x [] q = absurd (none_some q)
 place_is i x (y ∷ ys) {v} q = by (same_exit x y) (same_so x y) (λ p. place_is (suc i) x ys p) q
   where
-    by : (b : Bool) → Says (x ≡ y) b → (place_from (suc i) x ys ≡ Some v → (j : ℕ) × (v ≡ suc i + j) × (slice_get ys j ≡ Some x)) → (if b then Some i else place_from (suc i) x ys) ≡ Some v → (j : ℕ) × (v ≡ i + j) × (slice_get (y ∷ ys) j ≡ Some x)
+    by : (b : Bool) → Says (x ≡ y) b → (place_from (suc i) x ys ≡ Some v → (j : ℕ) × (v ≡ suc i + j) × (slice_get ys j ≡ Some x)) → (if b then Some i else place_from (suc i) x ys) ≡ Some v
+        → (j : ℕ) × (v ≡ i + j) × (slice_get (y ∷ ys) j ≡ Some x)
     by true s f p = let e = some_same p in (0, omega (arith, e), ap Some (sym (said true s refl)))
     by false s f p = let r = f p in (suc r.0, omega (arith, r.1), r.2)
 
@@ -92,7 +93,11 @@ module _ (A : Asked) (T : Told) (elsewhere : T.elsewhere ≡ special_of A T.plan
     abbrev Wanted : Asking
     Wanted = λ v ps e. (x : Exit) → variant_for T.plan x ≡ Some v → DoesSo x ps e
 
-    module _ (there_is : (x : Exit) (v : ℕ) → variant_for T.plan x ≡ Some v → There x v) where
+    -- each exit has its arm
+    abbrev AllThere : Type 0
+    AllThere = (x : Exit) (v : ℕ) → variant_for T.plan x ≡ Some v → There x v
+
+    module _ (there_is : AllThere) where
       read_for : (y : Exit) (v : ℕ) (a : Arm) → variant_for T.plan y ≡ Some v → There y v → arm_for v l ≡ Some a → Reread Rereads (λ e. Wanted v a.parts e) a.body
       read_for y v a q (arm_there b s r) i = by (some_same (sym s ∙ i)) r
         where
@@ -114,7 +119,8 @@ module _ (A : Asked) (T : Told) (elsewhere : T.elsewhere ≡ special_of A T.plan
               true_false : true ≡ false → ⊥
               true_false e = cc
 
-          found : (y : Exit) → slice_get T.plan.exits v ≡ Some y → (b : Bool) → is_number (variant_for T.plan y) v ≡ b → Says (variant_for T.plan y ≡ Some v) b → Reread Rereads (λ e. Wanted v a.parts e) a.body
+          found : (y : Exit) → slice_get T.plan.exits v ≡ Some y → (b : Bool) → is_number (variant_for T.plan y) v ≡ b → Says (variant_for T.plan y ≡ Some v) b
+              → Reread Rereads (λ e. Wanted v a.parts e) a.body
           found y e true n (says p) = read_for y v a p (there_is y v p) i
           found y e false n silent = unwanted v a (none_has y n e)
 
@@ -129,7 +135,7 @@ module _ (A : Asked) (T : Told) (elsewhere : T.elsewhere ≡ special_of A T.plan
     abbrev AllPicked : Arms → Type 0
     AllPicked k = (x : Exit) (v : ℕ) → variant_for T.plan x ≡ Some v → PickedFor k x v
 
-    all_picked : {k : Arms} → ((x : Exit) (v : ℕ) → variant_for T.plan x ≡ Some v → There x v) → ((v : ℕ) (a : Arm) → arm_for v l ≡ Some a → PickedSo Wanted k v a.parts) → AllPicked k
+    all_picked : {k : Arms} → AllThere → ((v : ℕ) (a : Arm) → arm_for v l ≡ Some a → PickedSo Wanted k v a.parts) → AllPicked k
     all_picked {k} f g x v p = by (f x v p)
       where
         of_it : {ps : Subpatterns} → PickedSo Wanted k v ps → PickedFor k x v
@@ -141,15 +147,17 @@ module _ (A : Asked) (T : Told) (elsewhere : T.elsewhere ≡ special_of A T.plan
     -- ---- the arms of what was picked
 
     module _ (k : Arms) (all : AllPicked k) where
-      back_so : (n : ℕ) (again : Bool) (v : ℕ) → variant_for T.plan (jump_exit n again) ≡ Some v
-          → (mj : Mark) × (d : ℕ) × (loop_of J.loops n ≡ Some d) × BackArm A T.muts R k (record { variant = v; outs = T.plan.outs (jump_exit n again) }) (tree.jump mj d again)
+      abbrev JumpsBack : ℕ → Bool → ℕ → Type 0
+      JumpsBack n again v = (mj : Mark) × (d : ℕ) × (loop_of J.loops n ≡ Some d) × BackArm A T.muts R k (record { variant = v; outs = T.plan.outs (jump_exit n again) }) (tree.jump mj d again)
+
+      back_so : (n : ℕ) (again : Bool) (v : ℕ) → variant_for T.plan (jump_exit n again) ≡ Some v → JumpsBack n again v
       back_so n true v p = by (all (continues n) v p)
         where
-          by : PickedFor k (continues n) v → (mj : Mark) × (d : ℕ) × (loop_of J.loops n ≡ Some d) × BackArm A T.muts R k (record { variant = v; outs = T.plan.outs (continues n) }) (tree.jump mj d true)
+          by : PickedFor k (continues n) v → JumpsBack n true v
           by (picked_for q (goes_back_by {d = d} mj Rs Rr Rd o s w r c b z j)) = (mj, d, o, back_arm Rs Rr Rd s w r c q b z j)
       back_so n false v p = by (all (breaks n) v p)
         where
-          by : PickedFor k (breaks n) v → (mj : Mark) × (d : ℕ) × (loop_of J.loops n ≡ Some d) × BackArm A T.muts R k (record { variant = v; outs = T.plan.outs (breaks n) }) (tree.jump mj d false)
+          by : PickedFor k (breaks n) v → JumpsBack n false v
           by (picked_for q (goes_back_by {d = d} mj Rs Rr Rd o s w r c b z j)) = (mj, d, o, back_arm Rs Rr Rd s w r c q b z j)
 
       jumps_so : (n : ℕ) (again : Bool) (p : Pack) → packed T.plan n again ≡ Some p → (mj : Mark) × (d : ℕ) × (loop_of J.loops n ≡ Some d) × BackArm A T.muts R k p (tree.jump mj d again)
@@ -191,7 +199,8 @@ module _ (A : Asked) (T : Told) (elsewhere : T.elsewhere ≡ special_of A T.plan
     ends_there (no_end q) v p = absurd (none_some (sym q ∙ p))
     ends_there (end_by u q t) v p = subst (λ v. There next v) (some_same (sym q ∙ p)) t
 
-    call_by : {w : Way} {m : Mark} {called : Exp} (k : Arms) → EndsBy w → AllPicked k → ArmsOf A T.muts T.plan unit J R k → CallOf A T.muts T.plan J R called (jumps_of A T.plan unit) w (tree.choose m (tree.of_value called) k)
+    call_by : {w : Way} {m : Mark} {called : Exp} (k : Arms) → EndsBy w → AllPicked k → ArmsOf A T.muts T.plan unit J R k
+        → CallOf A T.muts T.plan J R called (jumps_of A T.plan unit) w (tree.choose m (tree.of_value called) k)
     call_by k (no_end q) all arms = call_left unit (λ i. not_placed 0 T.plan.exits q i) arms
     call_by {m = m} {called = called} k (end_by v q t) all arms = by (all next v q)
       where
@@ -204,21 +213,27 @@ module _ (A : Asked) (T : Told) (elsewhere : T.elsewhere ≡ special_of A T.plan
     abbrev EndsThere : Type 0
     EndsThere = (v : ℕ) → variant_for T.plan next ≡ Some v → There next v
 
+    abbrev MayBeElsewhere : Type 0
+    MayBeElsewhere = (x y : ℕ) → sight_of R x ≡ Some (sight y special) → In x T.elsewhere
+
     -- each variable that is elsewhere may be; and each exit has its arm, if the run's end has
     data Tested : Type 0 where
-      tested : ((x y : ℕ) → sight_of R x ≡ Some (sight y special) → In x T.elsewhere) → (EndsThere → (x : Exit) → Among x T.plan.exits → (v : ℕ) → variant_for T.plan x ≡ Some v → There x v) → Tested
+      tested : MayBeElsewhere → (EndsThere → (x : Exit) → Among x T.plan.exits → (v : ℕ) → variant_for T.plan x ≡ Some v → There x v) → Tested
 
-    call_read : {es : Operands} {w : Way} (m mc : Mark) → EndsBy w → ((x y : ℕ) → sight_of R x ≡ Some (sight y special) → In x T.elsewhere) → ((x : Exit) (v : ℕ) → variant_for T.plan x ≡ Some v → There x v)
-        → Together Wanted l → CallsSo A T J R (tree.choose m (tree.of_value (tree.call mc T.new.number es)) l) (record { operands = es; jumping = jumps_in T unit; way = w })
-    call_read {w = w} m mc e s f (together k r g) = λ fs q. called_so {mc = mc} (in_choose (in_value_of (in_call q)) r)
-        (subst (λ J'. CallOf A T.muts T.plan J R (tree.call mc T.new.number fs) J' w (tree.choose m (tree.of_value (tree.call mc T.new.number fs)) k)) same_jumps
+    -- the match of a call with these operands, where the function ends so
+    abbrev IsMatch : Mark → Mark → Operands → Way → Type 0
+    IsMatch m mc es w = CallsSo A T J R (tree.choose m (tree.of_value (tree.call mc T.new.number es)) l) (record { operands = es; jumping = jumps_in T unit; way = w })
+
+    match_read : {es : Operands} {w : Way} (m mc : Mark) → EndsBy w → MayBeElsewhere → AllThere → Together Wanted l → IsMatch m mc es w
+    match_read {w = w} m mc e s f (together k r g) = λ fs q. called_so {mc = mc} (in_choose (in_value_of (in_call q)) r)
+        (subst (λ jumps. CallOf A T.muts T.plan J R (tree.call mc T.new.number fs) jumps w (tree.choose m (tree.of_value (tree.call mc T.new.number fs)) k)) same_jumps
         (call_by k e (all_picked f g) (arms_so k (all_picked f g) s)))
 
-    match_so : {es : Operands} {w : Way} (m mc : Mark) → Tested → EndsBy w → CallsSo A T J R (tree.choose m (tree.of_value (tree.call mc T.new.number es)) l) (record { operands = es; jumping = jumps_in T unit; way = w })
+    match_so : {es : Operands} {w : Way} (m mc : Mark) → Tested → EndsBy w → IsMatch m mc es w
     match_so {es} {w} m mc (tested s f) e = by (λ x v q. f (λ v p. ends_there e v p) x (variant_among T.plan x q) v q)
       where
-        by : ((x : Exit) (v : ℕ) → variant_for T.plan x ≡ Some v → There x v) → CallsSo A T J R (tree.choose m (tree.of_value (tree.call mc T.new.number es)) l) (record { operands = es; jumping = jumps_in T unit; way = w })
-        by there_is = call_read m mc e s there_is (all_at_once l Wanted (all_read there_is))
+        by : AllThere → IsMatch m mc es w
+        by there_is = match_read m mc e s there_is (all_at_once l Wanted (all_read there_is))
 
     under : {H X : Type 0} (b : Bool) → (H → Says X b) → Says (H → X) b
     under true f = says (λ h. said true (f h) refl)
@@ -252,7 +267,8 @@ module _ (A : Asked) (T : Told) (elsewhere : T.elsewhere ≡ special_of A T.plan
   only_next_so (next ∷ []) = says refl
   only_next_so _ = silent
 
-  alone_so : {J : Jumping} {R : Renaming} {es : Operands} {e : Exp} → T.plan.exits ≡ next ∷ [] → IsCall T.new.number es e → CallsSo A T J R e (record { operands = es; jumping = inner_jumps; way = bare })
+  alone_so : {J : Jumping} {R : Renaming} {es : Operands} {e : Exp} → T.plan.exits ≡ next ∷ [] → IsCall T.new.number es e
+      → CallsSo A T J R e (record { operands = es; jumping = inner_jumps; way = bare })
   alone_so q (is_call {m = m}) = λ fs r. called_so {mc = m} (in_call r) (call_alone q)
 
   then_matched : {J : Jumping} {R : Renaming} (m : Mark) {es : Operands} {c : Scrutinee} (l : Arms) → IsCallOf T.new.number es c

@@ -1,5 +1,5 @@
 -- Where the new function is found to be given what the plan says and to begin with its variables without a value, it is entered so.
-use Rattle.std.proofs.Common.{◌≡◌, ℕ, ◌+◌, nat_eq, nat_le, Bool, true, false, not, ◌&&◌, ◌||◌, List, [], ◌∷◌, Option, Some, None, if◌then◌else◌, refl, ap, ◌∙◌, sym, subst, inl, inr, ◌⊎◌}
+use Rattle.std.proofs.Common.{◌≡◌, ℕ, ◌+◌, nat_le, Bool, true, false, List, [], ◌∷◌, Option, Some, None, if◌then◌else◌, refl, ap, sym, subst, inl, inr}
 use Rattle.rx_core.specs.declared.types.Step.{Step}
 use Rattle.rx_core.specs.declared.types.Step.TheVariants as step
 use Rattle.rx_typed.specs.Tree as tree
@@ -11,13 +11,13 @@ use Rattle.rx_engine_simulation.specs.Passing.{reborrow_of, AreShut, Absents, no
 use Rattle.rx_engine_simulation.specs.Arrivals.{Within, Specials}
 use Rattle.rx_engine_simulation.specs.Packing.{Takes, takes_read}
 use Rattle.rx_engine_simulation.specs.Blocks.{with_locals}
-use Rattle.rx_engine_related.specs.Given.{GivenTo, given_all, moves_in, moves_again, is_copied, is_shared, is_lent, is_reborrowed, is_viewed, LocalsOf, all_locals, a_local, EntersWith, enters_with}
+use Rattle.rx_engine_related.specs.Given.{GivenTo, given_all, moves_in, moves_again, is_copied, is_shared, is_lent, is_reborrowed, is_viewed, LocalsOf, all_locals, a_local, enters_with}
 use Rattle.rx_engine_alike.specs.Likeness.{is_none, if_so, and_then}
 use Rattle.rx_engine_alike.specs.Variables.{is_in, with_seen}
 use Rattle.rx_engine_alike.specs.Giving.{is_own_at, is_own, leads_from_at, leads_from}
 use Rattle.rx_engine_extracted.specs.Told.{Told, closed_in}
 use Rattle.rx_engine_extracted.specs.Entering.{reads_own, borrows_own, asks_again, by_value_as, lent_as, again_as, passed_as, passed_if, given_to, Begun, with_locals_of, with_number, with_absent, specials_stay, is_shut, is_shut_sight, are_shut, entered}
-use Rattle.rx_engine_alike_laws.proofs.Promised.{Promised, kept, nothing, given, Says, says, silent, said, map_so, then_so, where_so, so, and_so, or_says, equal_so}
+use Rattle.rx_engine_alike_laws.proofs.Promised.{Promised, kept, nothing, Says, says, silent, map_so, then_so, where_so, so, and_so, or_says, equal_so}
 use Rattle.rx_engine_alike_laws.proofs.Variables.{is_in_so}
 use Rattle.rx_engine_simulation.proofs.Rereads.{self_all}
 use Rattle.rx_engine_extracted_laws.proofs.Parts.{EnteredSo, entered_so}
@@ -124,7 +124,8 @@ module _ (R : Renaming) (cold : List ℕ) where
   passed_so x m (Some b) e s = passed_as_so x b.to m b.how e s
 
   -- with those that follow
-  given_and : {Rp Rf : Renaming} {x i : ℕ} {m : Mode} {e : Exp} {h : How} {xs : List ℕ} {ms : List Mode} {p : Parameter} {es : Operands} {ps : List Parameter} → PassedAs x m e h → sight_of Rp x ≡ None → IsNew Rp p.variable
+  given_and : {Rp Rf : Renaming} {x i : ℕ} {m : Mode} {e : Exp} {h : How} {xs : List ℕ} {ms : List Mode} {p : Parameter} {es : Operands} {ps : List Parameter} → PassedAs x m e h
+      → sight_of Rp x ≡ None → IsNew Rp p.variable
       → GivenTo true R cold ((x, sight p.variable h) ∷ Rp) xs ms es ps Rf → GivenTo true R cold Rp (x ∷ xs) (m ∷ ms) (tree.operand_and i e es) (p ∷ ps) Rf
   given_and (by_move s takes_read) none new g = moves_in s none new g
   given_and (by_asking s asks_it) none new g = moves_again refl s none new g
@@ -134,7 +135,8 @@ module _ (R : Renaming) (cold : List ℕ) where
   given_and (by_reborrow s i asks_it) none new g = is_reborrowed refl s i none new g
   given_and (by_view s i asks_it) none new g = is_viewed refl s i none new g
 
-  then_given : {Rp Rq Rf : Renaming} {x i : ℕ} {m : Mode} {e : Exp} {h : How} {xs : List ℕ} {ms : List Mode} {p : Parameter} {es : Operands} {ps : List Parameter} → PassedAs x m e h → Joins Rp x p.variable h Rq
+  then_given : {Rp Rq Rf : Renaming} {x i : ℕ} {m : Mode} {e : Exp} {h : How} {xs : List ℕ} {ms : List Mode} {p : Parameter} {es : Operands} {ps : List Parameter} → PassedAs x m e h
+      → Joins Rp x p.variable h Rq
       → GivenTo true R cold Rq xs ms es ps Rf → GivenTo true R cold Rp (x ∷ xs) (m ∷ ms) (tree.operand_and i e es) (p ∷ ps) Rf
   then_given {p = p} f (joins none new) g = given_and {p = p} f none new g
 
@@ -150,12 +152,14 @@ module _ (R : Renaming) (cold : List ℕ) where
 data BeginsWith (R Rp : Renaming) (xs : List ℕ) (b : Body) (B : Begun) : Type 0 where
   begins_with : (ls : List (ℕ × ℕ)) → LocalsOf R Rp xs ls B.inside → b ≡ with_locals ls B.rest → BeginsWith R Rp xs b B
 
-local_and : {R Rp Rq : Renaming} {x z n : ℕ} {xs : List ℕ} {b : Body} (B : Begun) → (y : ℕ) × (sight_of R x ≡ Some (sight y special)) → Joins Rp x z special Rq → BeginsWith R Rq xs b B → BeginsWith R Rp (x ∷ xs) (tree.declares n (z ∷ []) b) B
+local_and : {R Rp Rq : Renaming} {x z n : ℕ} {xs : List ℕ} {b : Body} (B : Begun) → (y : ℕ) × (sight_of R x ≡ Some (sight y special)) → Joins Rp x z special Rq → BeginsWith R Rq xs b B
+    → BeginsWith R Rp (x ∷ xs) (tree.declares n (z ∷ []) b) B
 local_and {z = z} {n = n} B s (joins none new) (begins_with ls l e) = begins_with ((n, z) ∷ ls) (a_local s.1 none new l) (ap (λ b. tree.declares n (z ∷ []) b) e)
 
 locals_so : (R Rp : Renaming) (xs : List ℕ) (b : Body) → Promised (λ B. BeginsWith R Rp xs b B) (with_locals_of R Rp xs b)
 locals_so R Rp [] b = kept (begins_with [] all_locals refl)
-locals_so R Rp (x ∷ xs) (tree.declares n (z ∷ []) b) = where_so (special_sight_so (sight_of R x)) (λ s. then_so (with_seen_so Rp x z special) (λ Rq w. map_so (λ B l. local_and B s w l) (locals_so R Rq xs b)))
+locals_so R Rp (x ∷ xs) (tree.declares n (z ∷ []) b) =
+    where_so (special_sight_so (sight_of R x)) (λ s. then_so (with_seen_so Rp x z special) (λ Rq w. map_so (λ B l. local_and B s w l) (locals_so R Rq xs b)))
 locals_so R Rp (x ∷ xs) (tree.declares n (z ∷ w ∷ zs) b) = nothing
 locals_so R Rp (x ∷ xs) (tree.declares n [] b) = nothing
 locals_so R Rp (x ∷ xs) (tree.ends e) = nothing
@@ -174,7 +178,8 @@ with_absent_one : {Rp Rq : Renaming} {x y : ℕ} → Joins Rp x y absent Rq → 
 with_absent_one (joins none new) c = record { absents = absent_and none new c.absents; grown = λ z e s. c.grown z e (still_seen _ _ none z e s); covers = c.covers }
 
 covers_one : (b : ℕ × Sight) {R Rp Ra : Renaming} → (f : Sight) × (sight_of Rp b.0 ≡ Some f) → Completed R Rp Ra → Completed (b ∷ R) Rp Ra
-covers_one b {R} {Rp} {Ra} f c = record { absents = c.absents; grown = c.grown; covers = λ x e s. seen_first b R x s (λ i j. (f.0, subst (λ y. sight_of Ra y ≡ Some f.0) (sym i) (c.grown b.0 f.0 f.1))) (λ q. c.covers x e q) }
+covers_one b {R} {Rp} {Ra} f c =
+    record { absents = c.absents; grown = c.grown; covers = λ x e s. seen_first b R x s (λ i j. (f.0, subst (λ y. sight_of Ra y ≡ Some f.0) (sym i) (c.grown b.0 f.0 f.1))) (λ q. c.covers x e q) }
 
 seen_there : {Rp Rq : Renaming} {x y : ℕ} {h : How} → Joins Rp x y h Rq → (f : Sight) × (sight_of Rq x ≡ Some f)
 seen_there {Rp} {x = x} {y = y} {h = h} (joins none new) = (sight y h, first_seen x (sight y h) Rp)
@@ -194,7 +199,8 @@ absent_so : (beyond : ℕ) (R Rp : Renaming) → Promised (λ Ra. Completed R Rp
 absent_so beyond [] Rp = kept (record { absents = none_absent; grown = λ z e s. s; covers = λ x e s. absurd (none_some s) })
 absent_so beyond (b ∷ R) Rp = by (λ Rq. absent_so beyond R Rq) (is_none (sight_of Rp b.0)) refl
   where
-    by : ((Rq : Renaming) → Promised (λ Ra. Completed R Rq Ra) (with_absent beyond R Rq)) → (t : Bool) → is_none (sight_of Rp b.0) ≡ t → Promised (λ Ra. Completed (b ∷ R) Rp Ra) (and_then (if t then with_number Rp b.0 (beyond + b.0) else Some Rp) (λ Rq. with_absent beyond R Rq))
+    by : ((Rq : Renaming) → Promised (λ Ra. Completed R Rq Ra) (with_absent beyond R Rq)) → (t : Bool) → is_none (sight_of Rp b.0) ≡ t
+        → Promised (λ Ra. Completed (b ∷ R) Rp Ra) (and_then (if t then with_number Rp b.0 (beyond + b.0) else Some Rp) (λ Rq. with_absent beyond R Rq))
     by rest true q = then_so (with_number_so Rp b.0 (beyond + b.0)) (λ Rq n. map_so (λ Ra c. with_absent_one n (covers_one b (seen_there n) c)) (rest Rq))
     by rest false q = map_so (λ Ra c. covers_one b (some_there (sight_of Rp b.0) q) c) (rest Rp)
 
@@ -227,6 +233,7 @@ pub enters_so : (T : Told) (R : Renaming) (es : Operands) (b : Body) → Promise
 enters_so T R es b = where_so (are_shut_so R (closed_in T)) (λ cold. then_so (given_so R (closed_in T) [] T.plan.params T.modes es T.new.function.params) (λ Rp g.
     then_so (locals_so R Rp T.plan.locals b) (λ B l. then_so (absent_so T.beyond R B.inside) (λ Ra a. where_so (specials_so R Ra) (λ p. kept (by Rp B Ra cold g l a p))))))
   where
-    by : (Rp : Renaming) (B : Begun) (Ra : Renaming) → AreShut R (closed_in T) → GivenTo true R (closed_in T) [] T.plan.params T.modes es T.new.function.params Rp → BeginsWith R Rp T.plan.locals b B → Completed R B.inside Ra → Specials R Ra
+    by : (Rp : Renaming) (B : Begun) (Ra : Renaming) → AreShut R (closed_in T) → GivenTo true R (closed_in T) [] T.plan.params T.modes es T.new.function.params Rp
+        → BeginsWith R Rp T.plan.locals b B → Completed R B.inside Ra → Specials R Ra
         → EnteredSo T R es b (record { inside = Ra; rest = B.rest })
     by Rp B Ra cold g (begins_with ls l e) c p = entered_so (self_all es) (enters_with (closed_in T) Rp B.inside cold g l c.absents c.covers p) e

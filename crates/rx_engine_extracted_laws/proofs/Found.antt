@@ -1,6 +1,5 @@
 -- Each part of a call that is found is as the extraction has it: the parts that the law of a block with the run asks for.
 use Rattle.std.proofs.Common.{◌≡◌, ℕ, subst}
-use Rattle.rx_lower_walks.specs.Walks.{Among}
 use Rattle.rx_exits_marks.specs.Points.{next}
 use Rattle.rx_exits_plan.specs.Asked.{Asked}
 use Rattle.rx_engine_simulation.specs.Sights.{In, special, sight, Renaming, sight_of}
@@ -17,7 +16,10 @@ use Rattle.rx_engine_extracted_laws.proofs.Calls.{calls_so}
 
 module _ (A : Asked) (T : Told) (elsewhere : T.elsewhere ≡ special_of A T.plan) where
   not_handed_so : (R : Renaming) → Says (NotHanded A T.plan next (without (T.plan.outs next) R)) (specials_among R T.elsewhere)
-  not_handed_so R = so (λ f x y s. (subst (λ l. In x l) elsewhere (f x y (without_within (T.plan.outs next) R x (sight y special) s)), not_there (T.plan.outs next) R x s)) (specials_among_so R T.elsewhere)
+  not_handed_so R = so (λ f x y s. by f x y s) (specials_among_so R T.elsewhere)
+    where
+      by : ((x y : ℕ) → sight_of R x ≡ Some (sight y special) → In x T.elsewhere) → NotHanded A T.plan next (without (T.plan.outs next) R)
+      by f x y s = (subst (λ l. In x l) elsewhere (f x y (without_within (T.plan.outs next) R x (sight y special) s)), not_there (T.plan.outs next) R x s)
 
   -- what the plan has as a local of the run may be assigned
   pub found_parts : ((x : ℕ) → In x T.plan.locals → MayBeAssigned A T.muts x) → Parts A T

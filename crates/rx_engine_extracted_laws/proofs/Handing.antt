@@ -1,19 +1,17 @@
 -- Where the caller is found to do with what is handed out what the plan says, it does; with the answer's trees in which references are read.
-use Rattle.std.proofs.Common.{◌≡◌, ℕ, suc, nat_eq, Bool, true, false, not, ◌&&◌, ◌||◌, List, [], ◌∷◌, Option, Some, None, if◌then◌else◌, slice_get, refl, ap, ◌∙◌, sym, subst}
+use Rattle.std.proofs.Common.{◌≡◌, ℕ, suc, Bool, true, false, not, List, [], ◌∷◌, Option, Some, None, if◌then◌else◌, slice_get, refl, ap, ◌∙◌, sym, subst}
 use Rattle.rx_core.specs.declared.types.Step.{Step}
 use Rattle.rx_typed.specs.Tree as tree
 use Rattle.rx_typed.specs.Tree.{Root, variable, temporary, Place, Mark, Pattern, Subpatterns, by_value, by_reference, Exp, Scrutinee, Body, own}
 use Rattle.rx_exits_plan.specs.Asked.{Asked}
-use Rattle.rx_modes_uses.specs.Uses.{IsDeclaredMut}
 use Rattle.rx_engine_simulation.specs.Sights.{Hold, fixed, shut, free, In, How, plain, special, through, copied, viewed, absent, Sight, sight, Renaming, sight_of, IsNew}
 use Rattle.rx_engine_simulation.specs.Arrivals.{Within}
 use Rattle.rx_engine_simulation.specs.Packing.{Takes, Receives, receives_none, receives_and}
 use Rattle.rx_engine_simulation.specs.Handing.{Receiving, received_none, received_and}
 use Rattle.rx_engine_simulation.specs.Rereads.{Rereads, in_assign, in_value_of, RereadsBody, in_run, in_let, in_declare}
-use Rattle.rx_engine_related.specs.Handed.{MayBeAssigned, is_mut, PutBack, all_back, stays, goes_back, HandsBack, hands_none, hands_assigned, hands_declared, hands_several, Redeclared, none_again, again_and}
+use Rattle.rx_engine_related.specs.Handed.{MayBeAssigned, is_mut, PutBack, all_back, stays, goes_back, hands_none, hands_assigned, hands_declared, hands_several, none_again, again_and}
 use Rattle.rx_engine_alike.specs.Likeness.{is_none, if_so, and_then}
-use Rattle.rx_engine_alike.specs.Variables.{is_in, is_new}
-use Rattle.rx_engine_alike.specs.Giving.{is_special, takes}
+use Rattle.rx_engine_alike.specs.Giving.{takes}
 use Rattle.rx_engine_extracted.specs.Told.{Told, is_true, may_be_assigned}
 use Rattle.rx_engine_extracted.specs.Handing as handing
 use Rattle.rx_engine_extracted.specs.Handing.{received_by, with_one, received_in, received, variable_at, as_assigned, is_sight_in, with_assigned, Put, is_there, put_back, Stood, stood_if, hands_one, parts_of, hands_back, redeclared, same_hold, same_how, is_seen_so, is_within}
@@ -41,14 +39,16 @@ received_by_so _ = nothing
 received_one : {i q : ℕ} {qs : List ℕ} {p : Pattern} {ps : Subpatterns} → ReceivedBy q p → Receives (suc i) qs ps → Receives i (q ∷ qs) (tree.part_and i p ps)
 received_one received_as r = receives_and r
 
-one_so : {i : ℕ} {p : Pattern} {ps : Subpatterns} {o : Option ℕ} {l : Option (List ℕ)} → Promised (λ q. ReceivedBy q p) o → Promised (λ qs. Receives (suc i) qs ps) l → Promised (λ qs. Receives i qs (tree.part_and i p ps)) (with_one o l)
+one_so : {i : ℕ} {p : Pattern} {ps : Subpatterns} {o : Option ℕ} {l : Option (List ℕ)} → Promised (λ q. ReceivedBy q p) o → Promised (λ qs. Receives (suc i) qs ps) l
+    → Promised (λ qs. Receives i qs (tree.part_and i p ps)) (with_one o l)
 one_so (kept b) (kept r) = kept (received_one b r)
 one_so (kept b) nothing = nothing
 one_so nothing r = nothing
 
 pub received_in_so : (i : ℕ) (ps : Subpatterns) → Promised (λ qs. Receives i qs ps) (received_in i ps)
 received_in_so i tree.no_part = kept receives_none
-received_in_so i (tree.part_and j p ps) = where_so (equal_so i j) (λ e. subst (λ j. Promised (λ qs. Receives i qs (tree.part_and j p ps)) (with_one (received_by p) (received_in (suc i) ps))) e (one_so (received_by_so p) (received_in_so (suc i) ps)))
+received_in_so i (tree.part_and j p ps) = where_so (equal_so i j) (λ e.
+    subst (λ j. Promised (λ qs. Receives i qs (tree.part_and j p ps)) (with_one (received_by p) (received_in (suc i) ps))) e (one_so (received_by_so p) (received_in_so (suc i) ps)))
 
 received_next : {R Rc Rd Rr : Renaming} {x o : ℕ} {xs os : List ℕ} → IsNew R o → Joins Rc x o special Rd → Receiving R Rd xs os Rr → Receiving R Rc (x ∷ xs) (o ∷ os) Rr
 received_next new (joins none newer) r = received_and none new newer r
@@ -133,7 +133,8 @@ module _ (A : Asked) (T : Told) (locals : (x : ℕ) → In x T.plan.locals → M
   by_assignment none (assigned_to s n may) = λ called k. handed_so (hands_assigned none n s may) (λ rest l. in_run (in_assign k) l)
 
   then_assigned : {R Rs : Renaming} {x : ℕ} {e : Exp} {b : Body} {q : ℕ × Exp} → Assigns q e
-      → Promised (λ S. HandsSo A T R Rs (x ∷ []) (tree.runs e b) S) (if_so (is_none (sight_of Rs x)) (and_then (with_assigned T R Rs x q.0) (λ Rr. Some (record { called = q.1; inside = Rr; rest = b }))))
+      → Promised (λ S. HandsSo A T R Rs (x ∷ []) (tree.runs e b) S)
+        (if_so (is_none (sight_of Rs x)) (and_then (with_assigned T R Rs x q.0) (λ Rr. Some (record { called = q.1; inside = Rr; rest = b }))))
   then_assigned {R} {Rs} {x} (assigns_it {y = y}) = where_so (none_so (sight_of Rs x)) (λ none. then_so (with_assigned_so R Rs x y) (λ Rr a. kept (by_assignment none a)))
 
   by_declaration : {R Rs Rr : Renaming} {x y n : ℕ} {q : Pattern} {e : Exp} {b : Body} → ReceivedBy y q → Receiving R Rs (x ∷ []) (y ∷ []) Rr
@@ -151,12 +152,15 @@ module _ (A : Asked) (T : Told) (locals : (x : ℕ) → In x T.plan.locals → M
   parts_so (tree.parts ps) = kept refl
   parts_so _ = nothing
 
-  by_parts : {R Rs Rr : Renaming} {x z n : ℕ} {xs os : List ℕ} {q : Pattern} {ps : Subpatterns} {e : Exp} {b : Body} (D : Put) → q ≡ tree.parts ps → Receives 0 os ps → Receiving R Rs (x ∷ z ∷ xs) os Rr → PutSo R Rr (x ∷ z ∷ xs) os b D
+  by_parts : {R Rs Rr : Renaming} {x z n : ℕ} {xs os : List ℕ} {q : Pattern} {ps : Subpatterns} {e : Exp} {b : Body} (D : Put) → q ≡ tree.parts ps → Receives 0 os ps
+      → Receiving R Rs (x ∷ z ∷ xs) os Rr → PutSo R Rr (x ∷ z ∷ xs) os b D
       → HandsSo A T R Rs (x ∷ z ∷ xs) (tree.lets n q (tree.of_value e) b) (record { called = e; inside = D.inside; rest = D.rest })
-  by_parts {R} {Rs} {Rr} {x} {z} {n} {xs} {os} {q} {ps} {e} {b} D i c r (put_so p l) = λ called k. subst (λ q. HandedSo A T R Rs (x ∷ z ∷ xs) (tree.lets n q (tree.of_value e) b) (record { called = e; inside = D.inside; rest = D.rest }) called) (sym i)
+  by_parts {R} {Rs} {Rr} {x} {z} {n} {xs} {os} {q} {ps} {e} {b} D i c r (put_so p l) =
+      λ called k. subst (λ q. HandedSo A T R Rs (x ∷ z ∷ xs) (tree.lets n q (tree.of_value e) b) (record { called = e; inside = D.inside; rest = D.rest }) called) (sym i)
       (handed_so (hands_several r c p) (λ rest m. in_let (in_value_of k) (l rest m)))
 
-  stood_so : {P : Stood → Type 0} {Q : Put → Type 0} {o : Option Put} (e : Exp) → ((D : Put) → Q D → P (record { called = e; inside = D.inside; rest = D.rest })) → Promised Q o → Promised P (stood_if o e)
+  stood_so : {P : Stood → Type 0} {Q : Put → Type 0} {o : Option Put} (e : Exp) → ((D : Put) → Q D → P (record { called = e; inside = D.inside; rest = D.rest })) → Promised Q o
+      → Promised P (stood_if o e)
   stood_so e f (kept {a = D} q) = kept (f D q)
   stood_so e f nothing = nothing
 
@@ -175,12 +179,14 @@ module _ (A : Asked) (T : Told) (locals : (x : ℕ) → In x T.plan.locals → M
 
 -- ---- declared again
 
-again_next : {Rb Rc Rd : Renaming} {x y n : ℕ} {xs : List ℕ} {b : Body} (D : Put) → (z : ℕ) × (sight_of Rb x ≡ Some (sight z special)) → Joins Rc x y special Rd → RedeclaredSo Rb Rd xs b D → RedeclaredSo Rb Rc (x ∷ xs) (tree.declares n (y ∷ []) b) D
+again_next : {Rb Rc Rd : Renaming} {x y n : ℕ} {xs : List ℕ} {b : Body} (D : Put) → (z : ℕ) × (sight_of Rb x ≡ Some (sight z special)) → Joins Rc x y special Rd → RedeclaredSo Rb Rd xs b D
+    → RedeclaredSo Rb Rc (x ∷ xs) (tree.declares n (y ∷ []) b) D
 again_next D s (joins none new) (redeclared_so d r) = redeclared_so (again_and s.1 none new d) (λ rest l. in_declare (r rest l))
 
 pub declares_so : (Rb Rc : Renaming) (xs : List ℕ) (b : Body) → Promised (λ D. RedeclaredSo Rb Rc xs b D) (redeclared Rb Rc xs b)
 declares_so Rb Rc [] b = kept (redeclared_so none_again (λ rest l. l))
-declares_so Rb Rc (x ∷ xs) (tree.declares n (y ∷ []) b) = where_so (special_sight_so (sight_of Rb x)) (λ s. then_so (with_seen_so Rc x y special) (λ Rd j. map_so (λ D d. again_next D s j d) (declares_so Rb Rd xs b)))
+declares_so Rb Rc (x ∷ xs) (tree.declares n (y ∷ []) b) =
+    where_so (special_sight_so (sight_of Rb x)) (λ s. then_so (with_seen_so Rc x y special) (λ Rd j. map_so (λ D d. again_next D s j d) (declares_so Rb Rd xs b)))
 declares_so Rb Rc (x ∷ xs) (tree.declares n (y ∷ z ∷ zs) b) = nothing
 declares_so Rb Rc (x ∷ xs) (tree.declares n [] b) = nothing
 declares_so Rb Rc (x ∷ xs) (tree.ends e) = nothing

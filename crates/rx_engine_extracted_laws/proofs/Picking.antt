@@ -1,13 +1,13 @@
 -- The arm that is found for a variant is the one that is picked. And where each arm's body can be read as its variant asks, all can at once:
 -- an arm of a variant that stands behind another one is read as it is.
-use Rattle.std.proofs.Common.{◌≡◌, ℕ, nat_eq, Bool, true, false, Option, Some, None, if◌then◌else◌, refl, sym, ap, ◌∙◌, subst, eq-eqb, eqb-true}
+use Rattle.std.proofs.Common.{◌≡◌, ℕ, nat_eq, Bool, true, false, Some, None, if◌then◌else◌, refl, sym, ap, ◌∙◌, subst, eq-eqb, eqb-true}
 use Rattle.rx_typed.specs.Tree as tree
 use Rattle.rx_typed.specs.Tree.{Pattern, Subpatterns, Exp, Arms}
 use Rattle.rx_engine_simulation.specs.Packing.{Picks, picks_here, picks_later}
 use Rattle.rx_engine_simulation.specs.Rereads.{Rereads, RereadsArms, in_no_arm, in_arm}
 use Rattle.rx_engine_simulation.proofs.Rereads.{self_exp, self_arms}
 use Rattle.rx_engine_alike.specs.Likeness.{if_so}
-use Rattle.rx_engine_extracted.specs.Arms.{Arm, arm_by, arm_for}
+use Rattle.rx_engine_extracted.specs.Arms.{Arm, arm_for}
 use Rattle.rx_engine_alike_laws.proofs.Giving.{Reread, reread}
 use Rattle.rx_engine_extracted_laws.proofs.Seeing.{some_same, none_some}
 
@@ -53,7 +53,10 @@ module _ (W : Asking) (n i w : ℕ) (ps : Subpatterns) (e : Exp) (l : Arms) wher
   first_so several f = f w first (ap (λ t. if t then Some first else if_so several (arm_for w l)) (eq-eqb w w refl))
 
   picked_first : (several : Bool) {z : Exp} (k : Arms) {v : ℕ} {a : Arm} → W w ps z → w ≡ v → first ≡ a → PickedSo W (tree.arm_and (tree.variant n i several w ps) z k) v a.parts
-  picked_first several {z} k {v} {a} h d c = subst (λ v. PickedSo W (tree.arm_and (tree.variant n i several w ps) z k) v a.parts) d (subst (λ a. PickedSo W (tree.arm_and (tree.variant n i several w ps) z k) w a.parts) c (picked_so picks_here h))
+  picked_first several {z} k {v} {a} h d c = subst (λ v. PickedSo W whole v a.parts) d (subst (λ a. PickedSo W whole w a.parts) c (picked_so picks_here h))
+    where
+      abbrev whole : Arms
+      whole = tree.arm_and (tree.variant n i several w ps) z k
 
   picked_later : {z : Exp} (k : Arms) {v : ℕ} {qs : Subpatterns} → nat_eq w v ≡ false → PickedSo (Behind W w) k v qs → PickedSo W (tree.arm_and (tree.variant n i true w ps) z k) v qs
   picked_later k apart (picked_so p h) = picked_so (picks_later apart p) (h apart)

@@ -1,10 +1,10 @@
 -- What the tests say of the variables of a renaming: that one stands for none, that one is elsewhere, and what there is with one more.
-use Rattle.std.proofs.Common.{◌≡◌, ℕ, nat_eq, Bool, true, false, not, ◌&&◌, ◌||◌, List, [], ◌∷◌, Option, Some, None, if◌then◌else◌, refl, ap, ◌∙◌, sym, subst, ◌⊎◌, inl, inr, eq-eqb, eqb-true}
+use Rattle.std.proofs.Common.{◌≡◌, ℕ, nat_eq, Bool, true, false, not, ◌||◌, List, [], ◌∷◌, Option, Some, None, if◌then◌else◌, refl, ap, ◌∙◌, sym, subst, ◌⊎◌, inl, inr, eq-eqb, eqb-true}
 use Rattle.rx_engine_simulation.specs.Sights.{In, How, plain, special, through, copied, viewed, absent, Sight, sight, Renaming, sight_of, IsNew}
 use Rattle.rx_engine_simulation.specs.Arrivals.{Within}
 use Rattle.rx_engine_simulation.specs.Variants.{AllSpecial}
 use Rattle.rx_lower_walks.specs.Walks.{Among, here, there}
-use Rattle.rx_engine_alike.specs.Variables.{is_in, is_new, with_seen}
+use Rattle.rx_engine_alike.specs.Variables.{is_in, with_seen}
 use Rattle.rx_engine_alike.specs.Giving.{is_special}
 use Rattle.rx_engine_alike_laws.proofs.Giving.{special_so}
 use Rattle.rx_engine_extracted.specs.Told.{is_special_sight, specials_among, all_special, without}
@@ -117,7 +117,8 @@ without_within xs (b ∷ R) x e s = by (λ q. without_within xs R x e q) (is_in 
     beside rest true q = q
     beside rest false q = rest q
 
-    by : (sight_of (without xs R) x ≡ Some e → sight_of R x ≡ Some e) → (t : Bool) → is_in b.0 xs ≡ t → is_in x xs ≡ false → sight_of (if t then without xs R else b ∷ without xs R) x ≡ Some e → sight_of (b ∷ R) x ≡ Some e
+    by : (sight_of (without xs R) x ≡ Some e → sight_of R x ≡ Some e) → (t : Bool) → is_in b.0 xs ≡ t → is_in x xs ≡ false → sight_of (if t then without xs R else b ∷ without xs R) x ≡ Some e
+        → sight_of (b ∷ R) x ≡ Some e
     by rest true i n q = apart i n (nat_eq x b.0) refl (rest q)
     by rest false i n q = beside rest (nat_eq x b.0) q
 
