@@ -1,5 +1,5 @@
 -- Each part of a call that is found is as the extraction has it: the parts that the law of a block with the run asks for.
-use Rattle.std.proofs.Common.{◌≡◌, ℕ, subst}
+use Rattle.std.proofs.Common.{◌≡◌, ℕ, Some, subst}
 use Rattle.rx_exits_marks.specs.Points.{next}
 use Rattle.rx_exits_plan.specs.Asked.{Asked}
 use Rattle.rx_engine_simulation.specs.Sights.{In, special, sight, Renaming, sight_of}

@@ -53,10 +53,9 @@ module _ (W : Asking) (n i w : ℕ) (ps : Subpatterns) (e : Exp) (l : Arms) wher
   first_so several f = f w first (ap (λ t. if t then Some first else if_so several (arm_for w l)) (eq-eqb w w refl))
 
   picked_first : (several : Bool) {z : Exp} (k : Arms) {v : ℕ} {a : Arm} → W w ps z → w ≡ v → first ≡ a → PickedSo W (tree.arm_and (tree.variant n i several w ps) z k) v a.parts
-  picked_first several {z} k {v} {a} h d c = subst (λ v. PickedSo W whole v a.parts) d (subst (λ a. PickedSo W whole w a.parts) c (picked_so picks_here h))
-    where
-      abbrev whole : Arms
-      whole = tree.arm_and (tree.variant n i several w ps) z k
+  picked_first several {z} k {v} {a} h d c =
+      subst (λ v. PickedSo W (tree.arm_and (tree.variant n i several w ps) z k) v a.parts) d
+      (subst (λ a. PickedSo W (tree.arm_and (tree.variant n i several w ps) z k) w a.parts) c (picked_so picks_here h))
 
   picked_later : {z : Exp} (k : Arms) {v : ℕ} {qs : Subpatterns} → nat_eq w v ≡ false → PickedSo (Behind W w) k v qs → PickedSo W (tree.arm_and (tree.variant n i true w ps) z k) v qs
   picked_later k apart (picked_so p h) = picked_so (picks_later apart p) (h apart)
