@@ -13,7 +13,7 @@ use Rattle.rx_engine_simulation.specs.Handing.{Receiving, received_none, receive
 use Rattle.rx_engine_simulation.specs.Variants.{JumpsBehind, jumps_alone, jumps_last, AllSpecial}
 use Rattle.rx_engine_simulation.specs.Rereads.{Rereads, same_jump, in_give, in_block, RereadsBody}
 use Rattle.rx_engine_simulation.proofs.Rereads.{self_body}
-use Rattle.rx_engine_related.specs.Handed.{MayBeAssigned, PutBack, all_back}
+use Rattle.rx_engine_related.specs.Handed.{PutBack, all_back}
 use Rattle.rx_engine_related.specs.Leaving.{pack_if, variant_for, packed, returning_if}
 use Rattle.rx_engine_alike.specs.Giving.{is_unit}
 use Rattle.rx_engine_extracted.specs.Told.{Told, without}
@@ -81,20 +81,20 @@ within_without R x e s = subst (λ S. sight_of S x ≡ Some e) (sym (without_non
     without_none [] = refl
     without_none (b ∷ R) = ap (λ S. b ∷ S) (without_none R)
 
-module _ (A : Asked) (T : Told) (locals : (x : ℕ) → In x T.plan.locals → MayBeAssigned A T.muts x) (unit : Bool) (J : Jumping) (R : Renaming) where
+module _ (A : Asked) (T : Told) (unit : Bool) (J : Jumping) (R : Renaming) where
   -- ---- a jump's arm puts back what is handed out, and jumps
 
   pub data GoesBack (outs : List ℕ) (l : ℕ) (again : Bool) (ps : Subpatterns) (e : Exp) : Type 0 where
     goes_back_by : {qs : List ℕ} {f : Body → Body} {d : ℕ} (mj : Mark) (Rs Rr Rd : Renaming) → loop_of J.loops l ≡ Some d → AllSpecial R outs → Within Rs R → Receiving R Rs outs qs Rr
-        → Receives 0 qs ps → PutBack A T.muts R Rr outs qs f Rd → Within R Rd
+        → Receives 0 qs ps → PutBack A T.muts T.plan R Rr outs qs f Rd → Within R Rd
         → JumpsBehind f (tree.jump mj d again) e → GoesBack outs l again ps e
 
   -- from where it was received
   data JumpsFrom (outs qs : List ℕ) (Rr : Renaming) (o : Option ℕ) (again : Bool) (e : Exp) : Type 0 where
-    jumps_from : {f : Body → Body} {d : ℕ} (mj : Mark) (Rd : Renaming) → o ≡ Some d → PutBack A T.muts R Rr outs qs f Rd → Within R Rd → JumpsBehind f (tree.jump mj d again) e
+    jumps_from : {f : Body → Body} {d : ℕ} (mj : Mark) (Rd : Renaming) → o ≡ Some d → PutBack A T.muts T.plan R Rr outs qs f Rd → Within R Rd → JumpsBehind f (tree.jump mj d again) e
         → JumpsFrom outs qs Rr o again e
 
-  in_block_so : {outs qs : List ℕ} {Rr : Renaming} {o : Option ℕ} {again : Bool} {b : Body} (m : Mark) (D : Put) → PutSo A T locals R Rr outs qs b D → JumpsLast o again D.rest → Within R D.inside
+  in_block_so : {outs qs : List ℕ} {Rr : Renaming} {o : Option ℕ} {again : Bool} {b : Body} (m : Mark) (D : Put) → PutSo A T R Rr outs qs b D → JumpsLast o again D.rest → Within R D.inside
       → Reread Rereads (λ z. JumpsFrom outs qs Rr o again z) (tree.block m b)
   in_block_so {outs} {qs} {Rr} {o} {again} {b} m D (put_so {f = f} p r) j w = by D.rest j (λ rest k. r rest k)
     where
@@ -112,7 +112,7 @@ module _ (A : Asked) (T : Told) (locals : (x : ℕ) → In x T.plan.locals → M
   behind_so : {outs qs : List ℕ} {Rr : Renaming} (o : Option ℕ) (again : Bool) (e : Exp) → Receiving R (without outs R) outs qs Rr
       → Says (Reread Rereads (λ z. JumpsFrom outs qs Rr o again z) e) (jumps_behind T R Rr outs qs o again e)
   behind_so {outs} {qs} {Rr} o again (tree.block m b) r =
-      is_put_so (put_back_so A T locals R Rr outs qs b) (λ D p. and_so (jumps_last_so o again D.rest) (within_so R D.inside) (λ j w. in_block_so m D p j w))
+      is_put_so (put_back_so A T R Rr outs qs b) (λ D p. and_so (jumps_last_so o again D.rest) (within_so R D.inside) (λ j w. in_block_so m D p j w))
   behind_so o again e r = bare_so o again e r
 
   puts_back_so : (outs : List ℕ) (l : ℕ) (again : Bool) (a : Arm) → Says (Reread Rereads (λ z. GoesBack outs l again a.parts z) a.body) (puts_back T J R outs l again a)

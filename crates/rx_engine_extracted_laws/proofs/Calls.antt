@@ -16,7 +16,6 @@ use Rattle.rx_engine_simulation.specs.Variants.{unit_arm, value_arm, ReturnsOn}
 use Rattle.rx_engine_simulation.specs.Rereads.{Rereads, in_call, in_choose, in_value_of}
 use Rattle.rx_engine_simulation.proofs.Rereads.{self_exp}
 use Rattle.rx_engine_histories.specs.AboutRun.{special_of}
-use Rattle.rx_engine_related.specs.Handed.{MayBeAssigned}
 use Rattle.rx_engine_related.specs.Leaving.{place_from, variant_for, pack_if, packed, returning_if, BackArm, back_arm, jumps_of, ArmsOf}
 use Rattle.rx_engine_related.specs.Standing.{CallOf, call_alone, call_matched, call_left}
 use Rattle.rx_engine_related.proofs.Leaving.{variant_among}
@@ -79,15 +78,15 @@ pack_is : (xs : List ℕ) (o : Option ℕ) {p : Pack} → pack_if xs o ≡ Some 
 pack_is xs None q = absurd (none_some q)
 pack_is xs (Some v) q = (v, refl, sym (some_same q))
 
-module _ (A : Asked) (T : Told) (elsewhere : T.elsewhere ≡ special_of A T.plan) (locals : (x : ℕ) → In x T.plan.locals → MayBeAssigned A T.muts x) where
+module _ (A : Asked) (T : Told) (elsewhere : T.elsewhere ≡ special_of A T.plan) where
   -- ---- the match
 
   module _ (unit : Bool) (J : Jumping) (R : Renaming) (l : Arms) where
     abbrev There : Exit → ℕ → Type 0
-    There x v = ArmThere A T locals unit J R l x v
+    There x v = ArmThere A T unit J R l x v
 
     abbrev DoesSo : Exit → Subpatterns → Exp → Type 0
-    DoesSo x ps e = Does A T locals unit J R x ps e
+    DoesSo x ps e = Does A T unit J R x ps e
 
     -- what the arm of a variant is to do: as its exit, if there is one
     abbrev Wanted : Asking
@@ -148,7 +147,7 @@ module _ (A : Asked) (T : Told) (elsewhere : T.elsewhere ≡ special_of A T.plan
 
     module _ (k : Arms) (all : AllPicked k) where
       abbrev JumpsBack : ℕ → Bool → ℕ → Type 0
-      JumpsBack n again v = (mj : Mark) × (d : ℕ) × (loop_of J.loops n ≡ Some d) × BackArm A T.muts R k (record { variant = v; outs = T.plan.outs (jump_exit n again) }) (tree.jump mj d again)
+      JumpsBack n again v = (mj : Mark) × (d : ℕ) × (loop_of J.loops n ≡ Some d) × BackArm A T.muts T.plan R k (record { variant = v; outs = T.plan.outs (jump_exit n again) }) (tree.jump mj d again)
 
       back_so : (n : ℕ) (again : Bool) (v : ℕ) → variant_for T.plan (jump_exit n again) ≡ Some v → JumpsBack n again v
       back_so n true v p = by (all (continues n) v p)
@@ -160,11 +159,11 @@ module _ (A : Asked) (T : Told) (elsewhere : T.elsewhere ≡ special_of A T.plan
           by : PickedFor k (breaks n) v → JumpsBack n false v
           by (picked_for q (goes_back_by {d = d} mj Rs Rr Rd o s w r c b z j)) = (mj, d, o, back_arm Rs Rr Rd s w r c q b z j)
 
-      jumps_so : (n : ℕ) (again : Bool) (p : Pack) → packed T.plan n again ≡ Some p → (mj : Mark) × (d : ℕ) × (loop_of J.loops n ≡ Some d) × BackArm A T.muts R k p (tree.jump mj d again)
+      jumps_so : (n : ℕ) (again : Bool) (p : Pack) → packed T.plan n again ≡ Some p → (mj : Mark) × (d : ℕ) × (loop_of J.loops n ≡ Some d) × BackArm A T.muts T.plan R k p (tree.jump mj d again)
       jumps_so n again p q = let i = pack_is (T.plan.outs (jump_exit n again)) (variant_for T.plan (jump_exit n again)) q in
-          subst (λ p. (mj : Mark) × (d : ℕ) × (loop_of J.loops n ≡ Some d) × BackArm A T.muts R k p (tree.jump mj d again)) (sym i.2) (back_so n again i.0 i.1)
+          subst (λ p. (mj : Mark) × (d : ℕ) × (loop_of J.loops n ≡ Some d) × BackArm A T.muts T.plan R k p (tree.jump mj d again)) (sym i.2) (back_so n again i.0 i.1)
 
-      returned_so : (u : Bool) (v : ℕ) {ps : Subpatterns} {e : Exp} → Picks k v ps e → Returned A T locals unit J R u ps e → ReturnsOn J R k (returning_if u (Some v))
+      returned_so : (u : Bool) (v : ℕ) {ps : Subpatterns} {e : Exp} → Picks k v ps e → Returned A T unit J R u ps e → ReturnsOn J R k (returning_if u (Some v))
       returned_so true v q (returns_unit r g) = (r, unit_arm g q)
       returned_so false v q (returns_value r n c t) = (r, value_arm n c t q)
 
@@ -193,7 +192,7 @@ module _ (A : Asked) (T : Told) (elsewhere : T.elsewhere ≡ special_of A T.plan
       where
         by : (o : Option Arm) → arm_for v l ≡ o → Says (There next v) (is_arm o (λ a. end_arm R (length (T.plan.outs next)) a))
         by None i = silent
-        by (Some a) i = so (λ r. arm_there a i r) (end_so A T locals unit J R (length (T.plan.outs next)) a)
+        by (Some a) i = so (λ r. arm_there a i r) (end_so A T unit J R (length (T.plan.outs next)) a)
 
     ends_there : {w : Way} → EndsBy w → (v : ℕ) → variant_for T.plan next ≡ Some v → There next v
     ends_there (no_end q) v p = absurd (none_some (sym q ∙ p))
@@ -241,7 +240,7 @@ module _ (A : Asked) (T : Told) (elsewhere : T.elsewhere ≡ special_of A T.plan
 
     pub matched_so : (m mc : Mark) (es : Operands) → Promised (λ K. CallsSo A T J R (tree.choose m (tree.of_value (tree.call mc T.new.number es)) l) K) (matched T J R unit es l)
     matched_so m mc es = where_so
-        (and_so (specials_among_so R T.elsewhere) (under (exit_arms T unit J R l T.plan.exits) (λ (h : EndsThere). exits_so A T locals unit J R l h T.plan.exits)) (λ s f. tested s f))
+        (and_so (specials_among_so R T.elsewhere) (under (exit_arms T unit J R l T.plan.exits) (λ (h : EndsThere). exits_so A T unit J R l h T.plan.exits)) (λ s f. tested s f))
         (λ t. then_so (way_so (variant_for T.plan next) refl) (λ w e. kept (match_so m mc t e)))
 
   -- ---- the call, alone or matched

@@ -5,7 +5,6 @@ use Rattle.rx_exits_plan.specs.Asked.{Asked}
 use Rattle.rx_engine_simulation.specs.Sights.{In, special, sight, Renaming, sight_of}
 use Rattle.rx_engine_histories.specs.AboutRun.{special_of}
 use Rattle.rx_engine_histories.specs.Premises.{NotHanded}
-use Rattle.rx_engine_related.specs.Handed.{MayBeAssigned}
 use Rattle.rx_engine_extracted.specs.Told.{Told, specials_among, without}
 use Rattle.rx_engine_alike_laws.proofs.Promised.{Says, so}
 use Rattle.rx_engine_extracted_laws.proofs.Parts.{Parts}
@@ -21,13 +20,12 @@ module _ (A : Asked) (T : Told) (elsewhere : T.elsewhere ≡ special_of A T.plan
       by : ((x y : ℕ) → sight_of R x ≡ Some (sight y special) → In x T.elsewhere) → NotHanded A T.plan next (without (T.plan.outs next) R)
       by f x y s = (subst (λ l. In x l) elsewhere (f x y (without_within (T.plan.outs next) R x (sight y special) s)), not_there (T.plan.outs next) R x s)
 
-  -- what the plan has as a local of the run may be assigned
-  pub found_parts : ((x : ℕ) → In x T.plan.locals → MayBeAssigned A T.muts x) → Parts A T
-  found_parts locals = record {
+  pub found_parts : Parts A T
+  found_parts = record {
     enters = λ R es b. enters_so T R es b;
-    hands = λ R Rs outs b. hands_so A T locals R Rs outs b;
+    hands = λ R Rs outs b. hands_so A T R Rs outs b;
     declares = λ Rb Rc xs b. declares_so Rb Rc xs b;
-    calls = λ J R e. calls_so A T elsewhere locals J R e;
+    calls = λ J R e. calls_so A T elsewhere J R e;
     within = λ R S. within_so R S;
     less = λ xs R. without_within xs R;
     not_handed = not_handed_so;

@@ -9,7 +9,8 @@ use Rattle.rx_engine_simulation.specs.Arrivals.{Within}
 use Rattle.rx_engine_simulation.specs.Packing.{Takes, Receives, receives_none, receives_and}
 use Rattle.rx_engine_simulation.specs.Handing.{Receiving, received_none, received_and}
 use Rattle.rx_engine_simulation.specs.Rereads.{Rereads, in_assign, in_value_of, RereadsBody, in_run, in_let, in_declare}
-use Rattle.rx_engine_related.specs.Handed.{MayBeAssigned, is_mut, PutBack, all_back, stays, goes_back, hands_none, hands_assigned, hands_declared, hands_several, none_again, again_and}
+use Rattle.rx_engine_histories.proofs.Choosing.{in_list}
+use Rattle.rx_engine_related.specs.Handed.{MayBeAssigned, is_mut, is_local, PutBack, all_back, stays, goes_back, hands_none, hands_assigned, hands_declared, hands_several, none_again, again_and}
 use Rattle.rx_engine_alike.specs.Likeness.{is_none, if_so, and_then}
 use Rattle.rx_engine_alike.specs.Giving.{takes}
 use Rattle.rx_engine_extracted.specs.Told.{Told, is_true, may_be_assigned}
@@ -76,25 +77,24 @@ sight_in_so : (o : Option Sight) (y : ℕ) → Says (o ≡ Some (sight y special
 sight_in_so None y = silent
 sight_in_so (Some e) y = and_so (equal_so e.to y) (special_so e.how) (λ p q. ap (λ z. Some (sight z e.how)) p ∙ ap (λ h. Some (sight y h)) q)
 
--- what the plan has as a local may be assigned
-module _ (A : Asked) (T : Told) (locals : (x : ℕ) → In x T.plan.locals → MayBeAssigned A T.muts x) where
+module _ (A : Asked) (T : Told) where
   true_so : (o : Option Bool) → Says (o ≡ Some true) (is_true o)
   true_so None = silent
   true_so (Some true) = says refl
   true_so (Some false) = silent
 
-  may_so : (x : ℕ) → Says (MayBeAssigned A T.muts x) (may_be_assigned T x)
-  may_so x = or_says (so (λ e. is_mut e) (true_so (slice_get T.muts x))) (so (λ i. locals x i) (is_in_so x T.plan.locals))
+  may_so : (x : ℕ) → Says (MayBeAssigned A T.muts T.plan x) (may_be_assigned T x)
+  may_so x = or_says (so (λ e. is_mut e) (true_so (slice_get T.muts x))) (so (λ i. is_local (in_list i)) (is_in_so x T.plan.locals))
 
   -- the variable is the caller's own then
   data AssignedTo (R Rc : Renaming) (x y : ℕ) : Renaming → Type 0 where
-    assigned_to : sight_of R x ≡ Some (sight y special) → IsNew Rc y → MayBeAssigned A T.muts x → AssignedTo R Rc x y ((x, sight y special) ∷ Rc)
+    assigned_to : sight_of R x ≡ Some (sight y special) → IsNew Rc y → MayBeAssigned A T.muts T.plan x → AssignedTo R Rc x y ((x, sight y special) ∷ Rc)
 
   with_assigned_so : (R Rc : Renaming) (x y : ℕ) → Promised (λ Rd. AssignedTo R Rc x y Rd) (with_assigned T R Rc x y)
   with_assigned_so R Rc x y = where_so (and_with (sight_in_so (sight_of R x) y) (λ s. and_so (is_new_so Rc y) (may_so x) (λ n m. assigned_to s n m))) (λ a. kept a)
 
   pub data PutSo (R Rc : Renaming) (xs os : List ℕ) (b : Body) (D : Put) : Type 0 where
-    put_so : {f : Body → Body} → PutBack A T.muts R Rc xs os f D.inside → ((rest : Body) → RereadsBody D.rest rest → RereadsBody b (f rest)) → PutSo R Rc xs os b D
+    put_so : {f : Body → Body} → PutBack A T.muts T.plan R Rc xs os f D.inside → ((rest : Body) → RereadsBody D.rest rest → RereadsBody b (f rest)) → PutSo R Rc xs os b D
 
   stays_so : {R Rc : Renaming} {x o : ℕ} {xs os : List ℕ} {b : Body} (D : Put) → PutSo R Rc xs os b D → PutSo R Rc (x ∷ xs) (o ∷ os) b D
   stays_so D (put_so p r) = put_so (stays p) r

@@ -26,7 +26,7 @@ pub data EnteredSo (T : Told) (R : Renaming) (es : Operands) (b : Body) (B : Beg
 
 -- around any expression that is read for the one that is called
 pub data HandedSo (A : Asked) (T : Told) (R Rs : Renaming) (outs : List ℕ) (b : Body) (S : Stood) (called : Exp) : Type 0 where
-  handed_so : {g : Body → Body} → HandsBack A T.muts R called Rs outs S.inside g → ((rest : Body) → RereadsBody S.rest rest → RereadsBody b (g rest)) → HandedSo A T R Rs outs b S called
+  handed_so : {g : Body → Body} → HandsBack A T.muts T.plan R called Rs outs S.inside g → ((rest : Body) → RereadsBody S.rest rest → RereadsBody b (g rest)) → HandedSo A T R Rs outs b S called
 
 abbrev pub HandsSo : Asked → Told → Renaming → Renaming → List ℕ → Body → Stood → Type 0
 HandsSo A T R Rs outs b S = (called : Exp) → Rereads S.called called → HandedSo A T R Rs outs b S called
