@@ -5,7 +5,7 @@ use Rattle.rx_typed.specs.Tree.{Mark, Pattern, Subpatterns, Exp, Arms, Body}
 use Rattle.rx_lower_walks.specs.Walks.{Among, here, there}
 use Rattle.rx_exits_marks.specs.Points.{Exit, next, breaks, continues, returns}
 use Rattle.rx_exits_plan.specs.Asked.{Asked}
-use Rattle.rx_engine_simulation.specs.Sights.{In, Renaming, sight_of, IsNew}
+use Rattle.rx_engine_simulation.specs.Sights.{Renaming, sight_of, IsNew}
 use Rattle.rx_engine_simulation.specs.Arrivals.{Within}
 use Rattle.rx_engine_simulation.specs.Jumps.{Returning, as_return, Jumping, loop_of}
 use Rattle.rx_engine_simulation.specs.Packing.{bare, Takes, Gives, Receives, AreNew}

@@ -4,7 +4,7 @@ use Rattle.rx_core.specs.declared.types.Step.{Step}
 use Rattle.rx_typed.specs.Tree as tree
 use Rattle.rx_typed.specs.Tree.{Root, variable, temporary, Place, Mark, Pattern, Subpatterns, by_value, by_reference, Exp, Scrutinee, Body, own}
 use Rattle.rx_exits_plan.specs.Asked.{Asked}
-use Rattle.rx_engine_simulation.specs.Sights.{Hold, fixed, shut, free, In, How, plain, special, through, copied, viewed, absent, Sight, sight, Renaming, sight_of, IsNew}
+use Rattle.rx_engine_simulation.specs.Sights.{Hold, fixed, shut, free, How, plain, special, through, copied, viewed, absent, Sight, sight, Renaming, sight_of, IsNew}
 use Rattle.rx_engine_simulation.specs.Arrivals.{Within}
 use Rattle.rx_engine_simulation.specs.Packing.{Takes, Receives, receives_none, receives_and}
 use Rattle.rx_engine_simulation.specs.Handing.{Receiving, received_none, received_and}

@@ -8,11 +8,9 @@ use Rattle.rx_exits_marks.specs.Changed.{changed_statement}
 use Rattle.rx_exits_plan.specs.Asked.{Asked}
 use Rattle.rx_meaning.specs.Values.{element}
 use Rattle.rx_meaning.specs.Programs.{Program}
-use Rattle.rx_engine_simulation.specs.Sights.{In}
 use Rattle.rx_engine_simulation.specs.Endings.{none_left}
 use Rattle.rx_engine_histories.specs.AboutRun.{special_of}
 use Rattle.rx_engine_histories.specs.Running.{passing}
-use Rattle.rx_engine_related.specs.Handed.{MayBeAssigned}
 use Rattle.rx_engine_related.specs.Had.{Had}
 use Rattle.rx_engine_related.specs.Never.{NeverEnds}
 use Rattle.rx_engine_alike.specs.Items.{items_with}
@@ -29,7 +27,6 @@ pub record ToldOf (A : Asked) (T : Told) (item made : ℕ) (P Q : Program) : Typ
   pub elsewhere : T.elsewhere ≡ special_of A T.plan
   -- what is had of the text, with its plan
   pub had : Had A T.muts T.plan
-  pub assigned : (x : ℕ) → In x T.plan.locals → MayBeAssigned A T.muts x
   pub never : (Among next T.plan.exits → ⊥) → NeverRuns A
   -- the run's function is at this item, and so many items are behind it in the answer, which has the new function there
   pub is_there : element P.functions item ≡ Some (Some A.function)
