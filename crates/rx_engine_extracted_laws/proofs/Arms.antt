@@ -19,7 +19,8 @@ use Rattle.rx_engine_alike.specs.Giving.{is_unit}
 use Rattle.rx_engine_extracted.specs.Told.{Told, without}
 use Rattle.rx_engine_extracted.specs.Handing.{Put}
 use Rattle.rx_engine_extracted.specs.Arms as arms
-use Rattle.rx_engine_extracted.specs.Arms.{Arm, arm_for, jumps_to, is_put, jumps_bare, jumps_behind, is_renaming, are_numbers, is_arm, puts_back, jump_arm, has_no_part, returns_nothing, returns_own, returns_only, is_return, return_arm, exit_arm, exit_arms, all_new, end_arm}
+use Rattle.rx_engine_extracted.specs.Arms.{Arm, arm_for, jumps_to, is_put, jumps_bare, jumps_behind, is_renaming, are_numbers, is_arm, puts_back, jump_arm, has_no_part, returns_nothing}
+use Rattle.rx_engine_extracted.specs.Arms.{returns_own, returns_only, is_return, return_arm, exit_arm, exit_arms, all_new, end_arm}
 use Rattle.rx_engine_alike_laws.proofs.Promised.{Promised, kept, nothing, Says, says, silent, said, so, and_so, and_with, equal_so}
 use Rattle.rx_engine_alike_laws.proofs.Same.{same_bool_so}
 use Rattle.rx_engine_alike_laws.proofs.Variables.{is_new_so}

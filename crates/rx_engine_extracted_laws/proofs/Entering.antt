@@ -16,7 +16,8 @@ use Rattle.rx_engine_alike.specs.Likeness.{is_none, if_so, and_then}
 use Rattle.rx_engine_alike.specs.Variables.{is_in, with_seen}
 use Rattle.rx_engine_alike.specs.Giving.{is_own_at, is_own, leads_from_at, leads_from}
 use Rattle.rx_engine_extracted.specs.Told.{Told, closed_in}
-use Rattle.rx_engine_extracted.specs.Entering.{reads_own, borrows_own, asks_again, by_value_as, lent_as, again_as, passed_as, passed_if, given_to, Begun, with_locals_of, with_number, with_absent, specials_stay, is_shut, is_shut_sight, are_shut, entered}
+use Rattle.rx_engine_extracted.specs.Entering.{reads_own, borrows_own, asks_again, by_value_as, lent_as, again_as, passed_as, passed_if, given_to, Begun, with_locals_of, with_number}
+use Rattle.rx_engine_extracted.specs.Entering.{with_absent, specials_stay, is_shut, is_shut_sight, are_shut, entered}
 use Rattle.rx_engine_alike_laws.proofs.Promised.{Promised, kept, nothing, Says, says, silent, map_so, then_so, where_so, so, and_so, or_says, equal_so}
 use Rattle.rx_engine_alike_laws.proofs.Variables.{is_in_so}
 use Rattle.rx_engine_simulation.proofs.Rereads.{self_all}

@@ -15,7 +15,8 @@ use Rattle.rx_engine_alike.specs.Likeness.{is_none, if_so, and_then}
 use Rattle.rx_engine_alike.specs.Giving.{takes}
 use Rattle.rx_engine_extracted.specs.Told.{Told, is_true, may_be_assigned}
 use Rattle.rx_engine_extracted.specs.Handing as handing
-use Rattle.rx_engine_extracted.specs.Handing.{received_by, with_one, received_in, received, variable_at, as_assigned, is_sight_in, with_assigned, Put, is_there, put_back, Stood, stood_if, hands_one, parts_of, hands_back, redeclared, same_hold, same_how, is_seen_so, is_within}
+use Rattle.rx_engine_extracted.specs.Handing.{received_by, with_one, received_in, received, variable_at, as_assigned, is_sight_in, with_assigned, Put, is_there, put_back, Stood, stood_if}
+use Rattle.rx_engine_extracted.specs.Handing.{hands_one, parts_of, hands_back, redeclared, same_hold, same_how, is_seen_so, is_within}
 use Rattle.rx_engine_alike_laws.proofs.Promised.{Promised, kept, nothing, Says, says, silent, map_so, then_so, where_so, so, and_so, and_with, or_says, equal_so, none_so}
 use Rattle.rx_engine_alike_laws.proofs.Same.{same_bool_so}
 use Rattle.rx_engine_alike_laws.proofs.Variables.{is_in_so, is_new_so}
