@@ -47,11 +47,15 @@ abbrev pub is_put : Option Put → (Put → Bool) → Bool
 is_put None f = false
 is_put (Some p) f = f p
 
+-- where nothing is to be put back
+abbrev pub jumps_bare : List ℕ → Option ℕ → Bool → Exp → Bool
+jumps_bare [] d again e = jumps_to d again e
+jumps_bare (x ∷ xs) d again e = false
+
 -- behind assignments, with what is handed out and where it was received
 abbrev pub jumps_behind : Told → Renaming → Renaming → List ℕ → List ℕ → Option ℕ → Bool → Exp → Bool
 jumps_behind T R Rr xs os d again (tree.block m b) = is_put (put_back T R Rr xs os b) (λ p. jumps_last d again p.rest && is_within R p.inside)
-jumps_behind T R Rr [] os d again e = jumps_to d again e
-jumps_behind T R Rr (x ∷ xs) os d again _ = false
+jumps_behind T R Rr xs os d again e = jumps_bare xs d again e
 
 abbrev pub is_renaming : Option Renaming → (Renaming → Bool) → Bool
 is_renaming None f = false

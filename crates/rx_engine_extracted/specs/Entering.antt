@@ -1,6 +1,6 @@
 -- Whether the new function is given what the plan says, param by param in its mode, and begins with its variables without a value (REM,
 -- "Extract method"; Rust Reference, "Call expressions", "Coercion sites", "let statements"): and then its variables for the text's.
-use Rattle.std.specs.Prelude.{ℕ, ◌+◌, nat_eq, Bool, true, false, not, ◌&&◌, ◌||◌, List, [], ◌∷◌, Option, Some, None, if◌then◌else◌}
+use Rattle.std.specs.Prelude.{ℕ, ◌+◌, nat_eq, nat_le, Bool, true, false, not, ◌&&◌, ◌||◌, List, [], ◌∷◌, Option, Some, None, if◌then◌else◌}
 use Rattle.rx_core.specs.declared.types.Step.{Step}
 use Rattle.rx_core.specs.declared.types.Step.TheVariants as step
 use Rattle.rx_typed.specs.Tree as tree
@@ -75,11 +75,14 @@ with_locals_of R Rp [] b = Some (record { inside = Rp; rest = b })
 with_locals_of R Rp (x ∷ xs) (tree.declares n (z ∷ []) b) = if_so (is_special_sight (sight_of R x)) (and_then (with_seen Rp x z special) (λ Rq. with_locals_of R Rq xs b))
 with_locals_of R Rp (x ∷ xs) _ = None
 
--- ---- the other variables of the text are nowhere meanwhile, and have numbers that no variable has
+-- ---- the other variables of the text are nowhere meanwhile, and have numbers that no variable has, of 32 bits
+
+abbrev pub with_number : Renaming → ℕ → ℕ → Option Renaming
+with_number Rp x y = if_so (nat_le y 4294967295) (with_seen Rp x y absent)
 
 abbrev pub with_absent : ℕ → Renaming → Renaming → Option Renaming
 with_absent beyond [] Rp = Some Rp
-with_absent beyond (b ∷ R) Rp = and_then (if is_none (sight_of Rp b.0) then with_seen Rp b.0 (beyond + b.0) absent else Some Rp) (λ Rq. with_absent beyond R Rq)
+with_absent beyond (b ∷ R) Rp = and_then (if is_none (sight_of Rp b.0) then with_number Rp b.0 (beyond + b.0) else Some Rp) (λ Rq. with_absent beyond R Rq)
 
 -- what is elsewhere outside is the new function's own
 abbrev pub specials_stay : Renaming → Renaming → Bool

@@ -1,5 +1,5 @@
 -- Whether an answer's typed program is the text's with a call of a new function in place of the run (REM, "Extract method").
-use Rattle.std.specs.Prelude.{ℕ, zero, suc, nat_eq, nat_le, Bool, true, false, ◌&&◌, ◌||◌, List, [], ◌∷◌, length, Option, Some, None, if◌then◌else◌}
+use Rattle.std.specs.Prelude.{ℕ, zero, suc, nat_eq, nat_le, Bool, true, false, not, ◌&&◌, ◌||◌, List, [], ◌∷◌, length, Option, Some, None}
 use Rattle.rx_typed.specs.Tree.{Function}
 use Rattle.rx_meaning.specs.Values.{element}
 use Rattle.rx_meaning.specs.Expressions.{Functions}
@@ -35,7 +35,4 @@ extracts T item P Q =
     && (others_stay T item Q.functions 0 P.functions
     && (nat_le (length Q.functions) (T.items (length P.functions))
     && (nat_eq Q.main (T.items P.main)
-    && (not_in item T.units && all_are_unit P.functions T.units T.units))))
-  where
-    not_in : ℕ → List ℕ → Bool
-    not_in f l = if is_in f l then false else true
+    && (not (is_in item T.units) && all_are_unit P.functions T.units T.units))))

@@ -1,0 +1,16 @@
+pub mod Parts
+pub mod Seeing
+pub mod Entering
+pub mod Handing
+pub mod Picking
+pub mod Arms
+pub mod Calls
+pub mod Found
+pub mod Walked
+pub mod Stretches
+pub mod Ending
+pub mod Bodies
+pub mod Block
+pub mod Holes
+pub mod Programs
+pub mod Examples
