@@ -1,0 +1,8 @@
+//! What an accepted text gives of the premises of the law on extractions: laws.
+#![tactic(auto)]
+
+mod laws;
+
+pub use laws::{
+    accepted_programs_are_themselves, accepted_runs_find_references, diverging_runs_never_end,
+};
