@@ -1,5 +1,5 @@
 -- A run of an accepted program follows no value that is none of its references, also where its `main` is no function, or takes something.
-use Rattle.std.proofs.Common.{◌≡◌, ℕ, zero, suc, ℤ, List, [], ◌∷◌, Option, Some, None, refl, sym, ap, ◌∙◌, subst}
+use Rattle.std.proofs.Common.{◌≡◌, ℕ, zero, suc, ℤ, List, [], ◌∷◌, Option, Some, None, refl, sym, ap, ◌∙◌}
 use Rattle.rx_typed.specs.Tree.{Parameter, Function, mark_of, temporary_of}
 use Rattle.rx_meaning.specs.Endings.{wrong, mistyped, missing_reference}
 use Rattle.rx_meaning.specs.Values.{Value, element, new_frame, State, with_turns}

@@ -18,7 +18,7 @@ use Rattle.rx_lower_walks.specs.Walks.{Among}
 use Rattle.rx_typeck_typed.specs.declared.typed.Typed.{Typed}
 use Rattle.rx_typeck_typed.specs.declared.typed.TypedFn.{TypedFn}
 use Rattle.rx_typeck_typed.specs.Typing.{known_in, assigned, entries, IsTyped}
-use Rattle.rx_exits_marks.specs.Blocks.{Statement, statements, tail, written_tail}
+use Rattle.rx_exits_marks.specs.Blocks.{statements, tail, written_tail}
 use Rattle.rx_exits_marks.specs.Runs.{Run, Home, Sits, inside}
 use Rattle.rx_exits_marks.specs.Spots.{outermost}
 use Rattle.rx_exits_plan.specs.Diverging.{any_diverges, value_diverges, run_diverges}
