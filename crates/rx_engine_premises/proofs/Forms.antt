@@ -1,11 +1,12 @@
 -- What diverges by the plan never goes on by its form, where no `break` in the test of a loop leads to this loop.
-use Rattle.std.proofs.Common.{◌≡◌, ◌⊎◌, inl, inr, ℕ, ◌==◌, Bool, true, false, not, ◌&&◌, ◌||◌, List, [], ◌∷◌, ◌++◌, refl, sym, ◌∙◌, subst, true≢false, eq-eqb}
+use Rattle.std.proofs.Common.{◌≡◌, ◌⊎◌, inl, inr, ℕ, ◌==◌, Bool, true, false, not, ◌&&◌, ◌||◌, List, [], ◌∷◌, ◌++◌, refl, sym, ap, ◌∙◌, subst, true≢false, eq-eqb}
 use Rattle.rx_typed.specs.Tree as tree
 use Rattle.rx_typed.specs.Tree.{Exp, Operands, Scrutinee, Arms, Body}
-use Rattle.rx_exits_marks.specs.Blocks.{Statement, does, begins, binds, bound}
+use Rattle.rx_exits_marks.specs.Blocks.{Statement, does, begins, binds, bound, before}
 use Rattle.rx_exits_marks.specs.Spots.{Around, with_variables, with_loop, Spot, a_block, a_jump, a_return, spots, spots_in, spots_matched, spots_armed, spots_of}
 use Rattle.rx_exits_plan.specs.Diverging.{is_broken, nothing_around, diverges, some_diverges, matched_diverges, all_diverge, body_diverges, any_diverges}
 use Rattle.rx_engine_simulation.specs.Blocks.{Stretch}
+use Rattle.rx_engine_simulation.specs.Blocks as stretched
 use Rattle.rx_engine_simulation.specs.Endings.{Last}
 use Rattle.rx_engine_related.specs.Never.{HasNoBreak, NoneHasBreak, MatchedHasNoBreak, ArmsHaveNoBreak, BodyHasNoBreak, NeverOn, never_jump, never_return, never_share, never_build, never_lazily, never_assign, never_update, never_call, never_print, never_block, never_matched, never_armed, never_loop, never_tested, SomeNever, this_operand, later_operand, NeverMatched, never_value, AllNever, no_arm_goes, arm_never, NeverThrough, tail_never, statement_never, behind_statement, behind_declaration, let_never, behind_let, NeverPassed, does_never, does_later, declares_later, lets_never, lets_later, NeverEnds, first_never, last_never}
 use Rattle.rx_engine_premises.specs.Stretches.{stretch_of, Divided, all_in_front, last_behind}
@@ -210,6 +211,12 @@ passed_if [] h d = absurd (true≢false (sym d))
 passed_if (does e ∷ ss) h d = either (one_true (diverges e) (any_diverges ss) d) (λ x. does_never (never_if e h.0 x)) (λ x. does_later (passed_if ss h.1 x))
 passed_if (begins s xs ∷ ss) h d = declares_later (passed_if ss h.1 d)
 passed_if (binds s p c ∷ ss) h d = either (one_true (matched_diverges c) (any_diverges ss) d) (λ x. lets_never (matched_if c h.0 x)) (λ x. lets_later (passed_if ss h.1 x))
+
+pub stretch_before : (ss : List Statement) (b : Body) → stretched.before (stretch_of ss) b ≡ before ss b
+stretch_before [] b = refl
+stretch_before (does e ∷ ss) b = ap (λ (c : Body). tree.runs e c) (stretch_before ss b)
+stretch_before (begins n xs ∷ ss) b = ap (λ (c : Body). tree.declares n xs c) (stretch_before ss b)
+stretch_before (binds n q c ∷ ss) b = ap (λ (d : Body). tree.lets n q c d) (stretch_before ss b)
 
 -- in those in front, or in the last one
 in_front_or_last : (ss : List Statement) (e : Exp) → NeverPassed (stretch_of (ss ++ does e ∷ [])) → NeverPassed (stretch_of ss) ⊎ NeverOn e

@@ -87,7 +87,7 @@ parted [] (suc n) x e = absurd (cc)
 parted {A} (y ∷ l) zero x e = let same : y ≡ x = cc in ap (λ (z : A). z ∷ l) same
 parted {A} (y ∷ l) (suc n) x e = ap (λ (m : List A). y ∷ m) (parted l n x e)
 
-nothing_new : (p : ProgramTree) (n : ℕ) (s : Span) (f : plain.Function) → slice_get p n ≡ Some (plain.function_item s f) → Inserted p p
+abbrev nothing_new : (p : ProgramTree) (n : ℕ) (s : Span) (f : plain.Function) → slice_get p n ≡ Some (plain.function_item s f) → Inserted p p
 nothing_new p n s f at = record {
   before = take n p;
   place = s;

@@ -5,3 +5,6 @@ pub mod Spotted
 pub mod Runs
 pub mod References
 pub mod Itself
+pub mod Units
+pub mod UnitFunctions
+pub mod MarkedUnits
