@@ -95,7 +95,7 @@ fn if_all(
 
 /// A value of the type whose head is none of these, where there is one.
 #[cycle(least)]
-#[tactic(auto, using(rx_typed::proofs::Rules::typ_rules))]
+#[tactic(auto, using(rx_typed::proofs::TypedRules::typ_rules))]
 pub(crate) fn apart(
     alloc: Global,
     decls: &Decls,

@@ -159,7 +159,7 @@ fn item_has(decls: &Decls, item: u32, head: Head) -> bool
 }
 
 /// Whether values of the type have this head.
-#[tactic(auto, using(rx_typed::proofs::Rules::typ_rules))]
+#[tactic(auto, using(rx_typed::proofs::TypedRules::typ_rules))]
 fn is_head(decls: &Decls, ty: &Ty, head: Head) -> bool
     ensures { result ≡ heads_spec.is_head (declarations decls.now.items) (plain-Ty ty.now) (plain-Head head) }
 {

@@ -21,7 +21,7 @@ use rx_core::{Boxed, LetGo, List, Ty, keep, pushed};
 use rx_typed::Decls;
 use std::alloc::{AllocError, Global};
 
-#[tactic(auto, using(rx_typed::proofs::Rules::typ_rules, crate::proofs::MissingLemmas::value_rules))]
+#[tactic(auto, using(rx_typed::proofs::TypedRules::typ_rules, crate::proofs::MissingLemmas::value_rules))]
 fn composed(ty: &Ty, parts: List<Value>) -> Value
     ensures { plain-Value result ≡ heads_spec.with_head (plain-Ty ty.now) heads_spec.composed (plain_values parts) }
 {

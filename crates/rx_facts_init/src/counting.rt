@@ -25,7 +25,7 @@ fn told(sizes: &[u64], item: u32) -> u64
 
 /// How many parts a type has, by a table of those of structs and enums; at most `u64::MAX`.
 #[cycle(parts)]
-#[tactic(auto, using(rx_typed::proofs::Rules::typ_rules, crate::proofs::Sums::counting_rules))]
+#[tactic(auto, using(rx_typed::proofs::TypedRules::typ_rules, crate::proofs::Sums::counting_rules))]
 pub fn parts_of(sizes: &[u64], ty: &Ty) -> u64
     ensures { result ≡ sizing.capped (types.parts (sizing.told sizes.now) (plain-Ty ty.now)) }
 {

@@ -132,7 +132,7 @@ fn enum_variant<'t>(frame: &Frame<'t>, item: u32, number: u32, first: u64) -> Lo
 }
 
 /// A field of what has a type.
-#[tactic(auto, using(rx_typed::proofs::Rules::typ_rules, crate::proofs::Within::listed_again, crate::proofs::Within::at_least))]
+#[tactic(auto, using(rx_typed::proofs::TypedRules::typ_rules, crate::proofs::Within::listed_again, crate::proofs::Within::at_least))]
 fn type_field<'t>(frame: &Frame<'t>, ty: &'t Ty, number: u32, first: u64) -> Located<'t>
     requires sized { IsSized frame.now }
     requires fits { Fits (told frame.now.sizes.now) (spec.at first (spec.whole (plain-Ty ty.now))) }
@@ -146,7 +146,7 @@ fn type_field<'t>(frame: &Frame<'t>, ty: &'t Ty, number: u32, first: u64) -> Loc
 }
 
 /// The fields of a variant of what has a type.
-#[tactic(auto, using(rx_typed::proofs::Rules::typ_rules))]
+#[tactic(auto, using(rx_typed::proofs::TypedRules::typ_rules))]
 fn type_variant<'t>(frame: &Frame<'t>, ty: &'t Ty, number: u32, first: u64) -> Located<'t>
     requires sized { IsSized frame.now }
     requires fits { Fits (told frame.now.sizes.now) (spec.at first (spec.whole (plain-Ty ty.now))) }

@@ -19,7 +19,7 @@ use rx_modes_policy::Mode;
 
 /// The levels of a type.
 #[cycle(levels)]
-#[tactic(auto, using(rx_typed::proofs::Rules::typ_rules))]
+#[tactic(auto, using(rx_typed::proofs::TypedRules::typ_rules))]
 fn levels(ty: &Ty) -> u64
     ensures { result ≡ capped (types.levels (plain-Ty ty.now)) }
 {

@@ -43,7 +43,7 @@ fn referred(
 }
 
 /// The type of a `&mut T` as a `&T`; another type as it is.
-#[tactic(auto, using(rx_typed::proofs::Rules::typ_rules))]
+#[tactic(auto, using(rx_typed::proofs::TypedRules::typ_rules))]
 fn viewed(
     alloc: Global,
     program: &Program,

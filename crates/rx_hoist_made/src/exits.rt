@@ -65,7 +65,7 @@ pub fn has_enum(exits: &[Leaving]) -> bool
 }
 
 /// Whether a type is the unit.
-#[tactic(auto, using(rx_typed::proofs::Rules::typ_rules))]
+#[tactic(auto, using(rx_typed::proofs::TypedRules::typ_rules))]
 pub fn is_unit(ty: &Ty) -> bool
     ensures { result ≡ planned.is_unit (plain-Ty ty.now) }
 {

@@ -21,7 +21,7 @@ use rx_tree::Program;
 
 /// The positions of a type.
 #[cycle(positions)]
-#[tactic(auto, using(rx_typed::proofs::Rules::typ_rules, crate::proofs::RowLemmas::all_positions_is))]
+#[tactic(auto, using(rx_typed::proofs::TypedRules::typ_rules, crate::proofs::RowLemmas::all_positions_is))]
 pub fn positions(program: &Program, ty: &Ty) -> u64
     ensures { result ≡ capped (types.positions (plain-Program program.now) (plain-Ty ty.now)) }
 {

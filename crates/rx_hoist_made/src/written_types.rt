@@ -183,7 +183,7 @@ fn full_reference(
 
 /// A type with the lifetimes of the row.
 #[cycle(full)]
-#[tactic(auto, using(rx_typed::proofs::Rules::typ_rules, rx_tree::proofs::Rules::type_rules, crate::proofs::RowLemmas::row_rules))]
+#[tactic(auto, using(rx_typed::proofs::TypedRules::typ_rules, rx_tree::proofs::Rules::type_rules, crate::proofs::RowLemmas::row_rules))]
 pub fn full(
     alloc: Global,
     program: &Program,
@@ -249,7 +249,7 @@ fn elided_named(
 
 /// A type with all lifetimes elided.
 #[cycle(elided)]
-#[tactic(auto, using(rx_typed::proofs::Rules::typ_rules, rx_tree::proofs::Rules::type_rules, crate::proofs::RowLemmas::elided_rules))]
+#[tactic(auto, using(rx_typed::proofs::TypedRules::typ_rules, rx_tree::proofs::Rules::type_rules, crate::proofs::RowLemmas::elided_rules))]
 pub fn elided(alloc: Global, program: &Program, span: Span, ty: &Ty) -> Result<TypeText, AllocError>
     ensures { IfOk result (λ it. plain-TypeText it ≡ types.elided (plain-Program program.now) span (plain-Ty ty.now)) }
 {

@@ -23,7 +23,7 @@ use rx_tree_operations::Node;
 use rx_typeck_typed::TypedFn;
 use std::alloc::{AllocError, Global};
 
-#[tactic(auto, using(rx_typed::proofs::Rules::typ_rules))]
+#[tactic(auto, using(rx_typed::proofs::TypedRules::typ_rules))]
 fn kind_of_type(ty: &Ty) -> Kind
     ensures { result ≡ kind_in (plain-Ty ty.now) }
 {

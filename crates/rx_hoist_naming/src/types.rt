@@ -18,7 +18,7 @@ fn zeros(alloc: Global, count: usize) -> Result<List<u32>, AllocError> {
 
 /// The same type, in which each lifetime has the number 0.
 #[cycle(bare)]
-#[tactic(auto, using(rx_typed::proofs::Rules::typ_rules))]
+#[tactic(auto, using(rx_typed::proofs::TypedRules::typ_rules))]
 pub(crate) fn bare(alloc: Global, ty: &Ty) -> Result<Ty, AllocError>
     ensures { IfOk result (λ it. plain-Ty it ≡ plain-Ty ty.now) }
 {
@@ -51,7 +51,7 @@ fn all_bare(alloc: Global, parts: &[Ty]) -> Result<List<Ty>, AllocError>
 }
 
 /// The same type, and the unit where there is none.
-#[tactic(auto, using(rx_typed::proofs::Rules::typ_rules))]
+#[tactic(auto, using(rx_typed::proofs::TypedRules::typ_rules))]
 pub(crate) fn bare_or_unit(alloc: Global, ty: Option<&Ty>) -> Result<Ty, AllocError>
     ensures { IfOk result (λ it. plain-Ty it ≡ shape_of (option_copied ty.entry)) }
 {
@@ -62,7 +62,7 @@ pub(crate) fn bare_or_unit(alloc: Global, ty: Option<&Ty>) -> Result<Ty, AllocEr
 }
 
 /// A `&T` for a `&mut T`, and any other type as it is.
-#[tactic(auto, using(rx_typed::proofs::Rules::typ_rules))]
+#[tactic(auto, using(rx_typed::proofs::TypedRules::typ_rules))]
 fn shared(alloc: Global, ty: &Ty) -> Result<Ty, AllocError>
     ensures { IfOk result (λ it. plain-Ty it ≡ as_shared (plain-Ty ty.now)) }
 {
@@ -79,7 +79,7 @@ fn shared(alloc: Global, ty: &Ty) -> Result<Ty, AllocError>
     }
 }
 
-#[tactic(auto, using(rx_typed::proofs::Rules::typ_rules))]
+#[tactic(auto, using(rx_typed::proofs::TypedRules::typ_rules))]
 fn shared_or_unit(alloc: Global, ty: Option<&Ty>) -> Result<Ty, AllocError>
     ensures { IfOk result (λ it. plain-Ty it ≡ as_shared (shape_of (option_copied ty.entry))) }
 {

@@ -81,7 +81,7 @@ fn find_from(held: &[Held], first: usize, temporary: Temporary) -> usize
     held.len()
 }
 
-#[tactic(auto, using(rx_typed::proofs::Rules::region_rules))]
+#[tactic(auto, using(rx_typed::proofs::TypedRules::region_rules))]
 pub fn unit(alloc: Global) -> Ty
     ensures { region-Ty result ≡ unit_region }
 {

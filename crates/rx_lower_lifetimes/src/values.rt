@@ -45,7 +45,7 @@ fn zeros(alloc: Global, count: u32) -> Result<List<u32>, AllocError>
 }
 
 /// A struct or enum, in which each lifetime has the number 0.
-#[tactic(auto, using(rx_typed::proofs::Rules::region_rules))]
+#[tactic(auto, using(rx_typed::proofs::TypedRules::region_rules))]
 fn made_item(alloc: Global, decls: &Decls, item: u32) -> Result<Ty, AllocError>
     ensures { IfOk result (λ it. region-Ty it ≡ values.made_item decls.now.items item) }
 {
@@ -53,7 +53,7 @@ fn made_item(alloc: Global, decls: &Decls, item: u32) -> Result<Ty, AllocError>
     Ok(Ty::Adt(item, lifetimes))
 }
 
-#[tactic(auto, using(rx_typed::proofs::Rules::region_rules))]
+#[tactic(auto, using(rx_typed::proofs::TypedRules::region_rules))]
 fn constant_type(constant: Constant) -> Ty
     ensures { region-Ty result ≡ values.constant_type (plain-Constant constant) }
 {
@@ -124,7 +124,7 @@ fn first_type(
     }
 }
 
-#[tactic(auto, using(rx_typed::proofs::Rules::region_rules))]
+#[tactic(auto, using(rx_typed::proofs::TypedRules::region_rules))]
 fn operation_type(
     alloc: Global,
     decls: &Decls,
@@ -141,7 +141,7 @@ fn operation_type(
     }
 }
 
-#[tactic(auto, using(rx_typed::proofs::Rules::region_rules))]
+#[tactic(auto, using(rx_typed::proofs::TypedRules::region_rules))]
 fn making_type(
     alloc: Global,
     decls: &Decls,
@@ -162,7 +162,7 @@ fn making_type(
     }
 }
 
-#[tactic(auto, using(rx_typed::proofs::Rules::region_rules))]
+#[tactic(auto, using(rx_typed::proofs::TypedRules::region_rules))]
 fn made_type(
     alloc: Global,
     decls: &Decls,
@@ -207,7 +207,7 @@ fn borrow_type(
 }
 
 /// The type of what an action makes; its lifetimes say nothing.
-#[tactic(auto, using(rx_typed::proofs::Rules::region_rules))]
+#[tactic(auto, using(rx_typed::proofs::TypedRules::region_rules))]
 pub fn value_type(
     alloc: Global,
     decls: &Decls,

@@ -40,7 +40,7 @@ fn copies(ty: &Option<Ty>, decls: &Decls) -> bool
     }
 }
 
-#[tactic(auto, using(rx_typed::proofs::Rules::typ_rules))]
+#[tactic(auto, using(rx_typed::proofs::TypedRules::typ_rules))]
 fn is_borrowed_mutably(ty: &Ty) -> bool
     ensures { result ≡ spec.borrows_mutably (Some (plain-Ty ty.now)) }
 {

@@ -19,7 +19,7 @@ fn add_all(lifetimes: &mut List<u32>, list: &[u32]) -> Result<(), AllocError>
 
 /// Adds the lifetimes in a type, in order.
 #[cycle(lifetimes)]
-#[tactic(auto, using(rx_typed::proofs::Rules::region_rules, crate::proofs::Rules::appending))]
+#[tactic(auto, using(rx_typed::proofs::TypedRules::region_rules, crate::proofs::Rules::appending))]
 fn add_lifetimes(lifetimes: &mut List<u32>, ty: &Ty) -> Result<(), AllocError>
     ensures { OnOk result (lifetimes.new ≡ lifetimes.old ++ lifetimes_in (region-Ty ty.now)) }
 {

@@ -39,7 +39,7 @@ pub fn others<T>(items: &[T]) -> &[T]
     }
 }
 
-#[tactic(auto, using(rx_typed::proofs::Rules::region_rules))]
+#[tactic(auto, using(rx_typed::proofs::TypedRules::region_rules))]
 fn unit(alloc: Global) -> Ty
     ensures { region-Ty result ≡ unit_region }
 {

@@ -51,7 +51,7 @@ pub fn part(parts: Parts<'_>, number: usize) -> Option<&Ty>
     }
 }
 
-#[tactic(auto, using(rx_typed::proofs::Rules::region_rules))]
+#[tactic(auto, using(rx_typed::proofs::TypedRules::region_rules))]
 fn tuple_parts(ty: Option<&Ty>) -> Parts<'_>
     ensures { steps_of.regions_in result ≡ spec.tuple_parts (type_found (option_copied ty.entry)) }
 {
@@ -111,7 +111,7 @@ pub fn parts_of<'a>(decls: &'a Decls, made: Made, ty: Option<&'a Ty>) -> Parts<'
 }
 
 /// The lifetimes of a struct or enum.
-#[tactic(auto, using(rx_typed::proofs::Rules::region_rules))]
+#[tactic(auto, using(rx_typed::proofs::TypedRules::region_rules))]
 fn lifetimes_of(ty: Option<&Ty>) -> &[u32]
     ensures { result.now ≡ spec.lifetimes_of (type_found (option_copied ty.entry)) }
 {

@@ -41,7 +41,7 @@ fn goes_shared(steps: &[Step]) -> bool
 }
 
 /// Adds that the reference of a type outlives the borrow, where no later step goes through a shared one.
-#[tactic(auto, using(rx_typed::proofs::Rules::region_rules, crate::proofs::Rules::appending))]
+#[tactic(auto, using(rx_typed::proofs::TypedRules::region_rules, crate::proofs::Rules::appending))]
 fn add_through(
     pairs: &mut List<Bound>,
     ty: &Ty,

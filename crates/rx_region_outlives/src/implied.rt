@@ -78,7 +78,7 @@ fn add_outlived(pairs: &mut List<Bound>, lifetimes: &[u32], short: u32) -> Resul
 
 /// Adds the lifetimes in a type, in order.
 #[cycle(lifetimes)]
-#[tactic(auto, using(rx_typed::proofs::Rules::region_rules, crate::proofs::Appending::appending))]
+#[tactic(auto, using(rx_typed::proofs::TypedRules::region_rules, crate::proofs::Appending::appending))]
 fn add_lifetimes(lifetimes: &mut List<u32>, ty: &Ty) -> Result<(), AllocError>
     ensures { OnOk result (lifetimes.new ≡ lifetimes.old ++ lifetimes_in (region-Ty ty.now)) }
 {
@@ -139,7 +139,7 @@ fn told(table: &[List<Bound>], item: u32) -> &[Bound]
 
 /// Adds the pairs of a type, by those of the items that it names.
 #[cycle(implied)]
-#[tactic(auto, using(rx_typed::proofs::Rules::region_rules, crate::proofs::Appending::appending))]
+#[tactic(auto, using(rx_typed::proofs::TypedRules::region_rules, crate::proofs::Appending::appending))]
 fn add_implied(
     alloc: Global,
     pairs: &mut List<Bound>,

@@ -125,7 +125,7 @@ fn add_arguments(
 
 /// Adds what a type in the place of another asks.
 #[cycle(related)]
-#[tactic(auto, using(rx_typed::proofs::Rules::region_rules, crate::proofs::Appending::appending))]
+#[tactic(auto, using(rx_typed::proofs::TypedRules::region_rules, crate::proofs::Appending::appending))]
 fn add_related(
     pairs: &mut List<Bound>,
     items: &[Decl],
@@ -176,7 +176,7 @@ fn add_related(
 
 /// Adds what a type asks in the place of the first that is wanted.
 #[cycle(related)]
-#[tactic(auto, using(rx_typed::proofs::Rules::region_rules, crate::proofs::Appending::appending))]
+#[tactic(auto, using(rx_typed::proofs::TypedRules::region_rules, crate::proofs::Appending::appending))]
 fn add_first_related(
     pairs: &mut List<Bound>,
     items: &[Decl],
@@ -194,7 +194,7 @@ fn add_first_related(
 
 /// Adds what types in the places of others ask, one by one.
 #[cycle(related)]
-#[tactic(auto, using(rx_typed::proofs::Rules::region_rules, crate::proofs::Appending::appending, crate::proofs::Steps::all_related_step))]
+#[tactic(auto, using(rx_typed::proofs::TypedRules::region_rules, crate::proofs::Appending::appending, crate::proofs::Steps::all_related_step))]
 fn add_all_related(
     pairs: &mut List<Bound>,
     items: &[Decl],

@@ -12,7 +12,7 @@ use rx_core::{Kind, List, Step, Ty};
 use std::alloc::AllocError;
 
 /// Whether a type is a reference, and if so, whether it is mutable.
-#[tactic(auto, using(rx_typed::proofs::Rules::typ_rules))]
+#[tactic(auto, using(rx_typed::proofs::TypedRules::typ_rules))]
 pub(crate) fn reference_of(ty: Option<&Ty>) -> Option<bool>
     ensures { result ≡ coercing.reference_of (shape_of (option_copied ty.entry)) }
 {
@@ -28,7 +28,7 @@ pub(crate) fn reference_of(ty: Option<&Ty>) -> Option<bool>
 
 /// What stands under all references.
 #[cycle(peeled)]
-#[tactic(auto, using(rx_typed::proofs::Rules::typ_rules))]
+#[tactic(auto, using(rx_typed::proofs::TypedRules::typ_rules))]
 pub(crate) fn peeled(ty: &Ty) -> &Ty
     ensures { plain-Ty result.now ≡ types.peeled (plain-Ty ty.now) }
 {
@@ -41,7 +41,7 @@ pub(crate) fn peeled(ty: &Ty) -> &Ty
 
 /// Adds the dereferences that a step to a field of this type goes through.
 #[cycle(dereferences)]
-#[tactic(auto, using(rx_typed::proofs::Rules::typ_rules, crate::proofs::References::list_rules))]
+#[tactic(auto, using(rx_typed::proofs::TypedRules::typ_rules, crate::proofs::References::list_rules))]
 fn push_dereferences(steps: &mut List<Step>, ty: &Ty) -> Result<(), AllocError>
     ensures { OnOk result (steps.new ≡ steps.old ++ elaborated.dereferences (plain-Ty ty.now)) }
 {
@@ -80,7 +80,7 @@ pub(crate) fn push_one(steps: &mut List<Step>, ty: Option<&Ty>) -> Result<(), Al
 }
 
 /// The integer type that this is; where it is none, that of literals.
-#[tactic(auto, using(rx_typed::proofs::Rules::typ_rules))]
+#[tactic(auto, using(rx_typed::proofs::TypedRules::typ_rules))]
 pub fn kind_in(ty: Option<&Ty>) -> Kind
     ensures { result ≡ elaborated.kind_in (shape_of (option_copied ty.entry)) }
 {
@@ -94,7 +94,7 @@ pub fn kind_in(ty: Option<&Ty>) -> Kind
 }
 
 /// The integer type under all references.
-#[tactic(auto, using(rx_typed::proofs::Rules::typ_rules))]
+#[tactic(auto, using(rx_typed::proofs::TypedRules::typ_rules))]
 pub fn kind_behind(ty: Option<&Ty>) -> Kind
     ensures { result ≡ elaborated.kind_in (types.peeled (shape_of (option_copied ty.entry))) }
 {
@@ -106,7 +106,7 @@ pub fn kind_behind(ty: Option<&Ty>) -> Kind
 
 /// The references that were gone through, with those of a type.
 #[cycle(met)]
-#[tactic(auto, using(rx_typed::proofs::Rules::typ_rules))]
+#[tactic(auto, using(rx_typed::proofs::TypedRules::typ_rules))]
 fn met_in(ty: &Ty, round: Option<bool>) -> Option<bool>
     ensures { result ≡ elaborated.met (plain-Ty ty.now) round }
 {

@@ -45,7 +45,7 @@ pub fn field_of(items: &List<Decl>, item: u32, name: &Name) -> usize
 }
 
 /// The number of a field of what stands under all references; where that has none, 0.
-#[tactic(auto, using(rx_typed::proofs::Rules::typ_rules))]
+#[tactic(auto, using(rx_typed::proofs::TypedRules::typ_rules))]
 pub(crate) fn field_behind(items: &List<Decl>, ty: Option<&Ty>, name: &Name) -> usize
     ensures { result ≡ elaborated.field_in (declarations items.now) (types.peeled (shape_of (option_copied ty.entry))) name.now }
 {
@@ -55,7 +55,7 @@ pub(crate) fn field_behind(items: &List<Decl>, ty: Option<&Ty>, name: &Name) -> 
     }
 }
 
-#[tactic(auto, using(rx_typed::proofs::Rules::typ_rules))]
+#[tactic(auto, using(rx_typed::proofs::TypedRules::typ_rules))]
 fn field_in(items: &List<Decl>, ty: &Ty, name: &Name) -> usize
     ensures { result ≡ elaborated.field_in (declarations items.now) (plain-Ty ty.now) name.now }
 {

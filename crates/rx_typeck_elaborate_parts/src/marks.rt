@@ -37,7 +37,7 @@ pub struct Given<'t> {
 }
 
 /// A copy of a type, or the unit.
-#[tactic(auto, using(rx_typed::proofs::Rules::typ_rules))]
+#[tactic(auto, using(rx_typed::proofs::TypedRules::typ_rules))]
 fn shape(alloc: Global, ty: Option<&Ty>) -> Result<Ty, AllocError>
     ensures { IfOk result (λ it. plain-Ty it ≡ shape_of (option_copied ty.entry)) }
 {
@@ -48,7 +48,7 @@ fn shape(alloc: Global, ty: Option<&Ty>) -> Result<Ty, AllocError>
 }
 
 /// A copy of a type, or the unit, and a shared reference in place of a mutable one.
-#[tactic(auto, using(rx_typed::proofs::Rules::typ_rules))]
+#[tactic(auto, using(rx_typed::proofs::TypedRules::typ_rules))]
 fn shared_shape(alloc: Global, ty: Option<&Ty>) -> Result<Ty, AllocError>
     ensures { IfOk result (λ it. plain-Ty it ≡ elaborated.as_shared (shape_of (option_copied ty.entry))) }
 {
@@ -58,7 +58,7 @@ fn shared_shape(alloc: Global, ty: Option<&Ty>) -> Result<Ty, AllocError>
     }
 }
 
-#[tactic(auto, using(rx_typed::proofs::Rules::typ_rules))]
+#[tactic(auto, using(rx_typed::proofs::TypedRules::typ_rules))]
 fn shared(alloc: Global, ty: &Ty) -> Result<Ty, AllocError>
     ensures { IfOk result (λ it. plain-Ty it ≡ elaborated.as_shared (plain-Ty ty.now)) }
 {
@@ -84,7 +84,7 @@ pub(crate) fn no_mark(node: Node) -> Mark
 }
 
 /// The mark of a unit.
-#[tactic(auto, using(rx_typed::proofs::Rules::typ_rules))]
+#[tactic(auto, using(rx_typed::proofs::TypedRules::typ_rules))]
 pub(crate) fn unit_mark(alloc: Global, node: Node) -> Mark
     ensures { plain-Mark result ≡ elaborated.marked node.number (Some types.unit_shape) }
 {

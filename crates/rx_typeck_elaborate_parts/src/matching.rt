@@ -15,7 +15,7 @@ use std::alloc::{AllocError, Global};
 
 /// A pattern behind all references of a type.
 #[cycle(behind)]
-#[tactic(auto, using(rx_typed::proofs::Rules::typ_rules, rx_typed::proofs::Rules::typed_pattern_rules))]
+#[tactic(auto, using(rx_typed::proofs::TypedRules::typ_rules, rx_typed::proofs::Rules::typed_pattern_rules))]
 fn behind(alloc: Global, ty: &Ty, pattern: Pattern) -> Result<Pattern, AllocError>
     ensures { IfOk result (λ it. plain-Pattern it ≡ elaborated.behind_all (plain-Ty ty.now) (plain-Pattern pattern)) }
 {

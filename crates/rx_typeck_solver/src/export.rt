@@ -52,7 +52,7 @@ fn zeros(alloc: Global, count: u32) -> Result<List<u32>, AllocError>
 }
 
 /// A struct or enum, in which each lifetime has the number 0.
-#[tactic(auto, using(rx_typed::proofs::Rules::region_rules))]
+#[tactic(auto, using(rx_typed::proofs::TypedRules::region_rules))]
 fn named(alloc: Global, items: &List<Decl>, item: u32) -> Result<Ty, AllocError>
     ensures { IfOk result (λ it. region-Ty it ≡ region_named item (replicate (lifetimes_declared (slice_get (declarations items.now) item)) 0)) }
 {
@@ -61,7 +61,7 @@ fn named(alloc: Global, items: &List<Decl>, item: u32) -> Result<Ty, AllocError>
 }
 
 /// A reference whose lifetime has the number 0.
-#[tactic(auto, using(rx_typed::proofs::Rules::region_rules))]
+#[tactic(auto, using(rx_typed::proofs::TypedRules::region_rules))]
 fn reference(alloc: Global, mutable: bool, to: Ty) -> Result<Ty, AllocError>
     ensures { IfOk result (λ it. region-Ty it ≡ region_reference mutable 0 (region-Ty to)) }
 {
@@ -84,7 +84,7 @@ impl Solved {
 
     /// The type of an entry, in which each lifetime has the number 0.
     #[cycle(export)]
-    #[tactic(auto, using(rx_typed::proofs::Rules::region_rules))]
+    #[tactic(auto, using(rx_typed::proofs::TypedRules::region_rules))]
     pub fn typ(&self, alloc: Global, items: &List<Decl>, entry: usize) -> Result<Ty, AllocError>
         requires sound { IsSound self.now }
         requires entry { IsEntry self.now entry }

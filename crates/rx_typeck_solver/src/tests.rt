@@ -207,7 +207,7 @@ fn is_nothing(parts: &[Ty]) -> bool
 }
 
 /// Whether a type is the unit.
-#[tactic(auto, using(rx_typed::proofs::Rules::typ_rules))]
+#[tactic(auto, using(rx_typed::proofs::TypedRules::typ_rules))]
 fn is_unit(ty: &Ty) -> bool
     ensures { result ≡ facts_of.is_unit_typ (plain-Ty ty.now) }
 {

@@ -28,7 +28,7 @@ fn type_in(types: &List<Option<Ty>>, number: usize) -> Option<&Ty>
 }
 
 /// What becomes of a mutable reference where this type is expected.
-#[tactic(auto, using(rx_typed::proofs::Rules::typ_rules))]
+#[tactic(auto, using(rx_typed::proofs::TypedRules::typ_rules))]
 fn lent_as(expected: Option<&Ty>) -> Coercion
     ensures { (t : Typ) → plain-Coercion result ≡ elaborated.coercion (reference true t) (shape_of (option_copied expected.entry)) }
 {
@@ -43,7 +43,7 @@ fn lent_as(expected: Option<&Ty>) -> Coercion
 }
 
 /// What becomes of a value of this type where another is expected.
-#[tactic(auto, using(rx_typed::proofs::Rules::typ_rules))]
+#[tactic(auto, using(rx_typed::proofs::TypedRules::typ_rules))]
 fn passed_as(own: &Ty, expected: Option<&Ty>) -> Coercion
     ensures { plain-Coercion result ≡ elaborated.coercion (plain-Ty own.now) (shape_of (option_copied expected.entry)) }
 {

@@ -13,7 +13,7 @@ use std::alloc::AllocError;
 
 /// What stands behind all references.
 #[cycle(peeled)]
-#[tactic(auto, using(rx_typed::proofs::Rules::region_rules))]
+#[tactic(auto, using(rx_typed::proofs::TypedRules::region_rules))]
 pub(crate) fn peeled(ty: &Ty) -> &Ty
     ensures { region-Ty result.now ≡ spec.peeled (region-Ty ty.now) }
 {
@@ -35,7 +35,7 @@ fn meet(mutable: bool, round: Option<bool>) -> Option<bool>
 
 /// Whether references are gone through behind this type too, and if so, whether all are mutable.
 #[cycle(met)]
-#[tactic(auto, using(rx_typed::proofs::Rules::region_rules))]
+#[tactic(auto, using(rx_typed::proofs::TypedRules::region_rules))]
 pub(crate) fn met(ty: &Ty, round: Option<bool>) -> Option<bool>
     ensures { result ≡ elaborated.met (erased (region-Ty ty.now)) round }
 {
@@ -48,7 +48,7 @@ pub(crate) fn met(ty: &Ty, round: Option<bool>) -> Option<bool>
 
 impl<'t> Lets<'t> {
     /// What a variable has of a part of this type.
-    #[tactic(auto, using(rx_typed::proofs::Rules::region_rules))]
+    #[tactic(auto, using(rx_typed::proofs::TypedRules::region_rules))]
     pub(crate) fn bound(&self, round: Option<bool>, ty: &Ty) -> Result<Ty, AllocError>
         ensures { IfOk result (λ t. region-Ty t ≡ spec.bound self.now.free round (region-Ty ty.now)) }
     {

@@ -13,7 +13,7 @@ use std::alloc::{AllocError, Global};
 
 /// Adds the numbers of the structs and enums that a type names.
 #[cycle(held)]
-#[tactic(auto, using(rx_typed::proofs::Rules::typ_rules, crate::proofs::HeldLemmas::append_none))]
+#[tactic(auto, using(rx_typed::proofs::TypedRules::typ_rules, crate::proofs::HeldLemmas::append_none))]
 fn add_named(ty: &Ty, held: &mut List<u32>) -> Result<(), AllocError>
     ensures { OnOk result (held.new ≡ held.old ++ spec.named_in (plain-Ty ty.now)) }
 {

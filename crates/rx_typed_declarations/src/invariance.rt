@@ -64,7 +64,7 @@ fn told(table: &[List<Polarity>], item: u32) -> &[Polarity]
 
 /// Marks what is invariant in a type.
 #[cycle(fix)]
-#[tactic(auto, using(rx_typed::proofs::Rules::region_rules))]
+#[tactic(auto, using(rx_typed::proofs::TypedRules::region_rules))]
 fn fix_in(table: &[List<Polarity>], polarities: &mut Vec<Polarity>, under: bool, ty: &Ty)
     ensures { polarities.new.items ≡ spec.fix_in table.now under polarities.old.items (region-Ty ty.now) }
 {

@@ -38,7 +38,7 @@ fn told(sizes: &[u64], item: u32) -> u64
 
 /// The parts of a type by a table of those of structs and enums.
 #[cycle(parts)]
-#[tactic(auto, using(rx_typed::proofs::Rules::typ_rules))]
+#[tactic(auto, using(rx_typed::proofs::TypedRules::typ_rules))]
 fn told_parts(sizes: &[u64], ty: &Ty) -> u64
     ensures { result ≡ spec.told_parts sizes.now (plain-Ty ty.now) }
 {

@@ -16,7 +16,7 @@ fn add(a: u64, b: u64) -> u64
 
 /// A number and the lifetimes that stand in a type, or the greatest number.
 #[cycle(count)]
-#[tactic(auto, using(rx_typed::proofs::Rules::region_rules))]
+#[tactic(auto, using(rx_typed::proofs::TypedRules::region_rules))]
 pub fn count(before: u64, ty: &Ty) -> u64
     ensures { result ≡ spec.capped (before + length (lifetimes_in (region-Ty ty.now))) }
 {
@@ -75,7 +75,7 @@ fn numbers(
 }
 
 /// A reference to this type.
-#[tactic(auto, using(rx_typed::proofs::Rules::region_rules))]
+#[tactic(auto, using(rx_typed::proofs::TypedRules::region_rules))]
 pub fn reference(alloc: Global, mutable: bool, lifetime: u32, inner: Ty) -> Result<Ty, AllocError>
     ensures { IfOk result (λ it. region-Ty it ≡ region_reference mutable lifetime (region-Ty inner)) }
 {
@@ -90,7 +90,7 @@ pub fn reference(alloc: Global, mutable: bool, lifetime: u32, inner: Ty) -> Resu
 /// The type, in which each lifetime from this number on has a number of its own, from the next one on, in the order in
 /// which they stand in it. There are fewer than 2^32 - 1 numbers: behind them memory runs out.
 #[cycle(numbered)]
-#[tactic(auto, using(rx_typed::proofs::Rules::region_rules))]
+#[tactic(auto, using(rx_typed::proofs::TypedRules::region_rules))]
 pub fn numbered(alloc: Global, ty: &Ty, from: u32, next: &mut u32) -> Result<Ty, AllocError>
     ensures numbered { IfOk result (λ it. region-Ty it ≡ spec.numbered from next.old (region-Ty ty.now)) }
     ensures next { OnOk result (next.new ≡ next.old + spec.open_in from (region-Ty ty.now)) }

@@ -130,7 +130,7 @@ fn behind_reference<'a>(inner: &'a Ty, step: Step) -> Form<'a>
 }
 
 /// Behind a step from a type.
-#[tactic(auto, using(rx_typed::proofs::Rules::region_rules))]
+#[tactic(auto, using(rx_typed::proofs::TypedRules::region_rules))]
 fn behind_type<'a>(
     alloc: Global,
     decls: &'a Decls,
@@ -180,7 +180,7 @@ fn behind<'a>(
 }
 
 /// The type that stands there.
-#[tactic(auto, using(rx_typed::proofs::Rules::region_rules))]
+#[tactic(auto, using(rx_typed::proofs::TypedRules::region_rules))]
 fn type_there(alloc: Global, at: &Standing<'_>) -> Result<Ty, AllocError>
     ensures { IfOk result (λ it. region-Ty it ≡ stands at.now) }
 {

@@ -67,7 +67,7 @@ pub fn rename_all(
 
 /// The type, in which each lifetime is its argument.
 #[cycle(renamed)]
-#[tactic(auto, using(rx_typed::proofs::Rules::region_rules))]
+#[tactic(auto, using(rx_typed::proofs::TypedRules::region_rules))]
 pub fn renamed(alloc: Global, ty: &Ty, arguments: &Arguments) -> Result<Ty, AllocError>
     ensures { IfOk result (λ it. region-Ty it ≡ spec.renamed (spec.argument arguments.now) (region-Ty ty.now)) }
 {
@@ -155,7 +155,7 @@ fn signature_with(
     })
 }
 
-#[tactic(auto, using(rx_typed::proofs::Rules::region_rules))]
+#[tactic(auto, using(rx_typed::proofs::TypedRules::region_rules))]
 fn no_signature(alloc: Global) -> Signature
     ensures { plain-Signature result ≡ record { params = no_region; answer = spec.unit_region; bounds = [] } }
 {

@@ -1,0 +1,12 @@
+pub mod Likeness
+pub mod Read
+pub mod Same
+pub mod Ways
+pub mod Variables
+pub mod Patterns
+pub mod Items
+pub mod Units
+pub mod Giving
+pub mod Leaving
+pub mod Forms
+pub mod Functions

@@ -1,0 +1,9 @@
+pub mod Told
+pub mod Entering
+pub mod Stretches
+pub mod Handing
+pub mod Arms
+pub mod Calls
+pub mod Ending
+pub mod Block
+pub mod Programs

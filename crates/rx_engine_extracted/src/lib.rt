@@ -1,0 +1,2 @@
+//! Whether an answer's typed trees are those of an extraction.
+#![tactic(auto)]
