@@ -205,9 +205,10 @@ module _ (D : Declarations) (T : Assigned) where
     value_stays xs ls (named.loop n j k b) s h = (no_test j b, body_stays xs (j ∷ ls) b s.1 h.1)
     value_stays xs ls (named.while n j c b) s h =
         (value_unbroken j T xs (j ∷ ls) c (inl refl) s.1 h.0, (value_stays xs (j ∷ ls) c s.1 h.1, (body_stays xs (j ∷ ls) b s.2 h.2, (tt, tt))))
-    value_stays xs ls (named.while_let n j p e b) s h =
-        (matched_unbroken j T (is_place e) (elaborated.coercion_at T (node_of e)) e (elaborated.value T e) (value_unbroken j T xs (j ∷ ls) e (inl refl) s.2 h.0),
-        (matched_stays (is_place e) (elaborated.coercion_at T (node_of e)) e (elaborated.value T e) (value_stays xs (j ∷ ls) e s.2 h.1), (body_stays (entered xs (variables p)) (j ∷ ls) b s.3 h.2, (tt, tt))))
+    value_stays xs ls (named.while_let n j p e b) s h = (
+      matched_unbroken j T (is_place e) (elaborated.coercion_at T (node_of e)) e (elaborated.value T e) (value_unbroken j T xs (j ∷ ls) e (inl refl) s.2 h.0),
+      (matched_stays (is_place e) (elaborated.coercion_at T (node_of e)) e (elaborated.value T e) (value_stays xs (j ∷ ls) e s.2 h.1), (body_stays (entered xs (variables p)) (j ∷ ls) b s.3 h.2, (tt, tt))),
+    )
     value_stays xs ls (named.break n k) s h = tt
     value_stays xs ls (named.continue n k) s h = tt
     value_stays xs ls (named.return n o) s h = returned_stays xs ls n o s h
