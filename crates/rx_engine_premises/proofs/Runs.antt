@@ -1,5 +1,5 @@
 -- A run of an accepted text that diverges by its plan never goes on by its form.
-use Rattle.std.proofs.Common.{◌≡◌, ℕ, ◌+◌, Bool, true, false, ◌||◌, List, [], Option, Some, None, Ok, if◌then◌else◌, slice_get, refl, sym, ap, ◌∙◌, subst, arith, true≢false}
+use Rattle.std.proofs.Common.{◌≡◌, ℕ, ◌+◌, Bool, true, false, ◌||◌, List, [], ◌∷◌, ◌++◌, Option, Some, None, Ok, if◌then◌else◌, slice_get, refl, sym, ap, ◌∙◌, subst, arith, true≢false}
 use Rattle.rx_tree.specs.Plain as plain
 use Rattle.rx_tree.specs.Plain.{ProgramTree}
 use Rattle.rx_tree.specs.Size.{IsNumbered}
@@ -14,14 +14,16 @@ use Rattle.rx_typed.specs.Tree as tree
 use Rattle.rx_typed.specs.Tree.{Exp, Body}
 use Rattle.rx_typed_declarations.specs.WellFormed.{WellSigned}
 use Rattle.rx_typed_declarations.specs.Sizes.{Sized, told}
-use Rattle.rx_lower_walks.specs.Walks.{Among}
+use Rattle.rx_lower_walks.specs.Walks.{Among, here}
 use Rattle.rx_typeck_typed.specs.declared.typed.Typed.{Typed}
 use Rattle.rx_typeck_typed.specs.declared.typed.TypedFn.{TypedFn}
 use Rattle.rx_typeck_typed.specs.Typing.{known_in, assigned, entries, IsTyped}
 use Rattle.rx_exits_marks.specs.Blocks.{statements, tail, written_tail}
 use Rattle.rx_exits_marks.specs.Runs.{Run, Home, Sits, inside}
 use Rattle.rx_exits_marks.specs.Spots.{outermost}
+use Rattle.rx_exits_marks.specs.Points.{next, returns}
 use Rattle.rx_exits_plan.specs.Diverging.{any_diverges, value_diverges, run_diverges}
+use Rattle.rx_exits_plan.specs.Exits.{exits, jumps, of_loops, where_taken}
 use Rattle.rx_hoist_words.proofs.Programs as words
 use Rattle.rx_hoist_words.proofs.Programs.{table_at}
 use Rattle.rx_meaning_accepted.specs.Fitting.{FunctionFits}
@@ -63,6 +65,14 @@ run_never_ends g stays r h sits short d l rest divided = ends_if divided (run_ne
 pub marked_run_never_ends : (g : tree.Function) → TestsStay g.body → (r : Run) (h : Home) → Sits g r h → r.tail ≡ false → run_diverges r h.body ≡ true
     → (ls : List ℕ) (l : Last) (rest : Stretch) → Divided (with_marks ls (inside r h.body)) l rest → NeverEnds l rest
 marked_run_never_ends g stays r h sits short d ls l rest divided = ends_if divided (passed_still ls (inside r h.body) (run_never g stays r h sits short d))
+
+-- its end is no exit just where it diverges
+pub no_end : (r : Run) (h : Home) → (Among next (exits r h) → ⊥) → run_diverges r h.body ≡ true
+no_end r h f = by (run_diverges r h.body) f
+  where
+    by : (b : Bool) → (Among next ((if b then [] else next ∷ []) ++ (of_loops h.around.loops (jumps r h) ++ where_taken returns (jumps r h))) → ⊥) → b ≡ true
+    by true f = refl
+    by false f = absurd (f here)
 
 -- ---- in a function of a typed program whose names have a meaning
 

@@ -11,9 +11,11 @@ ghost use Rattle.rx_typeck_typed.specs.declared.typed.TypedFn.{TypedFn};
 ghost use Rattle.rx_lower_walks.specs.Walks.{Among};
 ghost use Rattle.rx_check.specs.Passes.{IsFront};
 ghost use Rattle.rx_exits_marks.specs.Blocks.{Statement, before};
+ghost use Rattle.rx_exits_marks.specs.Points.{next};
 ghost use Rattle.rx_exits_marks.specs.Runs.{Run, Home, Sits, inside};
 ghost use Rattle.rx_exits_marks.specs.Changed.{changed_statement};
 ghost use Rattle.rx_exits_plan.specs.Diverging.{run_diverges};
+ghost use Rattle.rx_exits_plan.specs.Exits.{exits};
 ghost use Rattle.rx_exits_plan.specs.Asked.{Asked};
 ghost use Rattle.rx_exits_plan.specs.Plan.{Plan};
 ghost use Rattle.rx_machine.specs.Functions.{program_of};
@@ -48,6 +50,11 @@ pub fn diverging_runs_never_end()
     signatures_are_well_formed();
     sizes_are_sized();
 }
+
+/// A run of which the end is no exit diverges.
+pub fn runs_without_an_end_diverge()
+    ensures { (r : Run) (h : Home) → (Among next (exits r h) → ⊥) → run_diverges r h.body ≡ true }
+{}
 
 /// A stretch of statements in front of a body is these statements in front of it.
 pub fn statements_stand_as_a_stretch()

@@ -5,5 +5,6 @@ mod laws;
 
 pub use laws::{
     accepted_programs_are_themselves, accepted_runs_find_references, diverging_runs_never_end,
-    marks_keep_unit_functions, statements_stand_as_a_stretch, unit_functions_give_the_unit,
+    marks_keep_unit_functions, runs_without_an_end_diverge, statements_stand_as_a_stretch,
+    unit_functions_give_the_unit,
 };
