@@ -1,0 +1,10 @@
+pub mod Forms
+pub mod Marked
+pub mod Elaborated
+pub mod Spotted
+pub mod Runs
+pub mod References
+pub mod Itself
+pub mod Units
+pub mod UnitFunctions
+pub mod MarkedUnits
