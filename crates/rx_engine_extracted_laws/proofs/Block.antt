@@ -41,7 +41,7 @@ use Rattle.rx_engine_extracted.specs.Handing.{Put, Stood}
 use Rattle.rx_engine_extracted.specs.Calls.{Called}
 use Rattle.rx_engine_extracted.specs.Ending.{ran}
 use Rattle.rx_engine_extracted.specs.Block.{between_around, between_in, block_of, function_runs, stands_for, rest_is_alike, is_put_so, run_is_call}
-use Rattle.rx_engine_extracted_laws.specs.Statements.{stretch_of}
+use Rattle.rx_engine_related.specs.Stretched.{stretch_of}
 use Rattle.rx_engine_alike_laws.proofs.Promised.{Promised, kept, nothing, Says, silent, map_so, then_so, where_so, so, and_with}
 use Rattle.rx_engine_alike_laws.proofs.Forms.{Whole}
 use Rattle.rx_engine_alike_laws.proofs.Unmarked.{same_body}
@@ -151,7 +151,7 @@ module _ (A : Asked) (T : Told) (parts : Parts A T) (same : T.elsewhere ≡ spec
     stood_with {mb = mb} {ls = ls} {Rb = Rb} S D Ra x ent div moved ended call (handed_so {g = g} back y) (redeclared_so {f = f} again z) within =
         stands_so {g = λ b. g (f b)} x div
         (λ rest. run_becomes_call {f' = λ b. g (f b)} Ra Rb mb ls refl ent moved ended (λ q. never_divided div (never (not_next call q))) call
-            (handed_on {f = f} {g = g} Rs S.inside D.inside (parts.less (k.outs next) p.inside) apart back again (λ x e s. s) within))
+        (handed_on {f = f} {g = g} Rs S.inside D.inside (parts.less (k.outs next) p.inside) apart back again (λ x e s. s) within))
         (λ rest a. y (f rest) (z rest a))
 
     stood : (S : Stood) (K : Called) {Rb : Renaming} (D : Put) → HandsSo A T p.inside Rs (k.outs next) p.answer S → RunsSo J p.inside p.text K S.called Rb
@@ -188,14 +188,14 @@ module _ (A : Asked) (T : Told) (parts : Parts A T) (same : T.elsewhere ≡ spec
   in_place {J} text D {R} {d = d} {f = f} {l = l} {r = r} {g = g} whole div call like =
       subst (λ c. LikeBody T.items (The f) gain (by_form T.elsewhere) 1 J R c (g d)) (marked_is k (behind_run text) div)
       (opens_in {b = behind_run text} {b' = d} {f = λ b. stretch.before (marked_run k l r) (with_last l b)} {f' = g} 1 0 (omega arith) call
-          (body_whole T.items gain T.units T.elsewhere (The f) whole like))
+      (body_whole T.items gain T.units T.elsewhere (The f) whole like))
 
   whole_block : {J : Jumping} {R : Renaming} {text answer : Body} {p : Passed} {D : Put} → Whole J → FirstSo (between_around T) gain J T.run.first R text answer p → StandsSo J p D
       → AlikeBody (between_around T) gain J D.inside (behind_run p.text) D.rest → BlockSo J R text answer
   whole_block {J} {R} {text} {p = p} {D = D} whole (first_is {r = r} m x s t) (stands_so {f = f} {g = g} y div call z) (alike_body {d = d} a like) =
       block_is y (x (g d) (z d a)) (subst (λ l. LikeBody T.items (The f) gain (by_form l) 1 J R (running_body T.run T.around k.params text) (stretch.before r (g d))) same
       (subst (λ c. LikeBody T.items (The f) gain (by_form T.elsewhere) 1 J R c (stretch.before r (g d))) there
-          (in_front T.items gain T.units T.elsewhere (The f) whole m (in_place p.text D whole div (call (behind_run p.text)) like))))
+      (in_front T.items gain T.units T.elsewhere (The f) whole m (in_place p.text D whole div (call (behind_run p.text)) like))))
     where
       front : List Statement
       front = take T.run.first (statements text)

@@ -16,7 +16,7 @@ use Rattle.rx_engine_histories.specs.Running.{passing}
 use Rattle.rx_engine_related.specs.Never.{NeverPassed, does_never, does_later, declares_later, lets_never, lets_later, NeverEnds, first_never, last_never}
 use Rattle.rx_engine_related.specs.Standing.{marked_run}
 use Rattle.rx_engine_extracted.specs.Stretches.{behind_first}
-use Rattle.rx_engine_extracted_laws.specs.Statements.{stretch_of}
+use Rattle.rx_engine_related.specs.Stretched.{stretch_of}
 use Rattle.rx_engine_alike_laws.proofs.Promised.{Promised, kept, nothing}
 use Rattle.rx_engine_alike_laws.proofs.Unmarked.{same_exp, same_matched}
 use Rattle.rx_engine_extracted_laws.proofs.Ending.{Divided, all_in_front, last_behind}

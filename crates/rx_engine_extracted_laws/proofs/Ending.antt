@@ -23,7 +23,7 @@ use Rattle.rx_engine_alike.specs.Giving.{if_these}
 use Rattle.rx_engine_alike.specs.Forms.{Between}
 use Rattle.rx_engine_extracted.specs.Stretches.{Passed, count_of}
 use Rattle.rx_engine_extracted.specs.Ending.{gives_in, gives_outs, has_none, gives_last, last_is, ran_but_last, ran_all, ran_by, ran}
-use Rattle.rx_engine_extracted_laws.specs.Statements.{stretch_of}
+use Rattle.rx_engine_related.specs.Stretched.{stretch_of}
 use Rattle.rx_engine_alike_laws.proofs.Promised.{Promised, kept, nothing, Says, says, silent, then_so, where_so, so}
 use Rattle.rx_engine_alike_laws.proofs.Giving.{Reread, reread, GivesAgain, numbers_so, gives_bare_so, gives_variant_so}
 use Rattle.rx_engine_extracted_laws.proofs.Walked.{AlikeExp, alike_exp, exp_alike}

@@ -53,13 +53,25 @@ main_answer = record { params = []; body = tree.block (m 1) (tree.declares 2 (0 
 abbrev giving : ℕ → New
 giving z = record {
   number = 1;
-  function = record { params = []; body = tree.block (m 13) (tree.declares 14 (5 ∷ []) (tree.runs (tree.assign (m 5) (own 5) (number 6 z))
-      (tree.ends (tree.give (m 13) (tree.read (m 15) true (own 5)))))) };
+  function = record {
+    params = [];
+    body = tree.block (m 13) (tree.declares 14 (5 ∷ []) (tree.runs (tree.assign (m 5) (own 5) (number 6 z))
+        (tree.ends (tree.give (m 13) (tree.read (m 15) true (own 5))))));
+  };
 }
 
 abbrev told : New → Told
 told n = record {
-  run = record { block = 1; first = 1; count = 1; tail = false }; around = []; plan = plan; modes = []; elsewhere = 0 ∷ []; muts = true ∷ []; new = n; beyond = 6; items = items_with 0 1; units = [];
+  run = record { block = 1; first = 1; count = 1; tail = false };
+  around = [];
+  plan = plan;
+  modes = [];
+  elsewhere = 0 ∷ [];
+  muts = true ∷ [];
+  new = n;
+  beyond = 6;
+  items = items_with 0 1;
+  units = [];
 }
 
 pub local_is_found : extracts (told (giving 7)) 0 (alone main_text) (pair_of main_answer (giving 7).function) ≡ true
@@ -104,15 +116,26 @@ telling v = tree.give (m 28) (tree.build (m 29) (tree.variant_of 2 v) tree.no_op
 abbrev step_by : ℕ → New
 step_by v = record {
   number = 1;
-  function = record { params = record { node = 30; variable = 5 } ∷ []; body = tree.block (m 31) (adding (tree.update (m 5) BinaryOp.Add (under (own 5) (step.Deref true ∷ [])) (number 6 1))
-      (telling v)
-      (tree.ends (tree.give (m 31) (tree.build (m 32) (tree.variant_of 2 0) tree.no_operand)))) };
+  function = record {
+    params = record { node = 30; variable = 5 } ∷ [];
+    body = tree.block (m 31) (adding (tree.update (m 5) BinaryOp.Add (under (own 5) (step.Deref true ∷ [])) (number 6 1))
+        (telling v)
+        (tree.ends (tree.give (m 31) (tree.build (m 32) (tree.variant_of 2 0) tree.no_operand))));
+  };
 }
 
 abbrev told_loop : New → Told
 told_loop n = record {
-  run = record { block = 16; first = 0; count = 2; tail = false }; around = 0 ∷ []; plan = plan_loop; modes = mode.Mut ∷ []; elsewhere = []; muts = true ∷ []; new = n; beyond = 6;
-  items = items_with 0 1; units = [];
+  run = record { block = 16; first = 0; count = 2; tail = false };
+  around = 0 ∷ [];
+  plan = plan_loop;
+  modes = mode.Mut ∷ [];
+  elsewhere = [];
+  muts = true ∷ [];
+  new = n;
+  beyond = 6;
+  items = items_with 0 1;
+  units = [];
 }
 
 pub loop_is_found : extracts (told_loop (step_by 1)) 0 (alone loop_text) (pair_of loop_answer (step_by 1).function) ≡ true

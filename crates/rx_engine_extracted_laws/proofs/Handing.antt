@@ -114,7 +114,7 @@ module _ (A : Asked) (T : Told) where
     where
       by : (t : Bool) → Promised (λ D. PutSo R Rc xs os (tree.runs e b) D) (put_back T R Rc xs os (tree.runs e b)) → ((Rd : Renaming) → Promised (λ D. PutSo R Rd xs os b D) (put_back T R Rd xs os b))
           → Promised (λ D. PutSo R Rc (x ∷ xs) (o ∷ os) (tree.runs e b) D)
-            (if t then and_then (as_assigned e) (λ r. if_so (takes o r.1) (and_then (with_assigned T R Rc x r.0) (λ Rd. put_back T R Rd xs os b))) else put_back T R Rc xs os (tree.runs e b))
+          (if t then and_then (as_assigned e) (λ r. if_so (takes o r.1) (and_then (with_assigned T R Rc x r.0) (λ Rd. put_back T R Rd xs os b))) else put_back T R Rc xs os (tree.runs e b))
       by true here rest = then_so (assigned_so e) (λ q a. then_goes a rest)
       by false here rest = map_so (λ D p. stays_so D p) here
   put_back_so R Rc (x ∷ xs) (o ∷ os) (tree.ends e) = where_so (trivial_so (not (is_there R x))) (λ u. map_so (λ D p. stays_so D p) (put_back_so R Rc xs os (tree.ends e)))
@@ -135,7 +135,7 @@ module _ (A : Asked) (T : Told) where
 
   then_assigned : {R Rs : Renaming} {x : ℕ} {e : Exp} {b : Body} {q : ℕ × Exp} → Assigns q e
       → Promised (λ S. HandsSo A T R Rs (x ∷ []) (tree.runs e b) S)
-        (if_so (is_none (sight_of Rs x)) (and_then (with_assigned T R Rs x q.0) (λ Rr. Some (record { called = q.1; inside = Rr; rest = b }))))
+      (if_so (is_none (sight_of Rs x)) (and_then (with_assigned T R Rs x q.0) (λ Rr. Some (record { called = q.1; inside = Rr; rest = b }))))
   then_assigned {R} {Rs} {x} (assigns_it {y = y}) = where_so (none_so (sight_of Rs x)) (λ none. then_so (with_assigned_so R Rs x y) (λ Rr a. kept (by_assignment none a)))
 
   by_declaration : {R Rs Rr : Renaming} {x y n : ℕ} {q : Pattern} {e : Exp} {b : Body} → ReceivedBy y q → Receiving R Rs (x ∷ []) (y ∷ []) Rr

@@ -39,7 +39,7 @@ use Rattle.rx_engine_extracted.specs.Programs.{between_but_run, has_call, functi
 use Rattle.rx_engine_alike_laws.proofs.Promised.{said}
 use Rattle.rx_engine_alike_laws.proofs.Units.{are_unit_if}
 use Rattle.rx_engine_alike_laws.proofs.Functions.{RereadsFunction, entry_rereads, filled_by, function_if, nothing_leaves, same_if}
-use Rattle.rx_engine_extracted_laws.specs.Statements.{stretch_of}
+use Rattle.rx_engine_related.specs.Stretched.{stretch_of}
 use Rattle.rx_engine_extracted_laws.specs.Telling.{ToldOf}
 use Rattle.rx_engine_extracted_laws.proofs.Parts.{Parts}
 use Rattle.rx_engine_extracted_laws.proofs.Block.{new_with, BlockSo, block_is, block_found}
@@ -183,7 +183,7 @@ module _ (A : Asked) (T : Told) (item made : ℕ) (P Q : Program) (told : ToldOf
     never_there n =
         let text_is = open_text (between_but_run T) A.run.block A.function g' (ap (λ (r : Run). Some r.block) told.run) told.had.one_block told.had.sits.block q in
         subst (λ ls. NeverAt ls T.run h.text) (sym told.around) (subst (λ r. NeverAt A.home.around.loops r h.text) (sym told.run)
-            (subst (λ b. NeverAt A.home.around.loops A.run b) text_is (told.never n)))
+        (subst (λ b. NeverAt A.home.around.loops A.run b) text_is (told.never n)))
 
     -- the block is filled by what stands for the run
     filled : {f : Exp} {d : Body} → RereadsBody h.answer d → LikeBody T.items (calls f) (a_turn true) (by_form (special_of A T.plan)) 1 (loops_in h) h.inside
@@ -191,7 +191,7 @@ module _ (A : Asked) (T : Told) (item made : ℕ) (P Q : Program) (told : ToldOf
         → (z : Function) × RereadsFunction g' z × Related f z
     filled {f} {d} y like = by (function_if (between_but_run T) (in_its_block A T.plan T.items (calls f) (a_turn true)) (a_turn true) refl A.function g' h q
         (filled_by (between_but_run T) (in_its_block A T.plan T.items (calls f) (a_turn true)) (a_turn true) refl (omega arith) h d y
-            (λ m m' o e. run_block (subst (λ (r : Run). (m.node == r.block) ≡ true) told.run o) there)))
+        (λ m m' o e. run_block (subst (λ (r : Run). (m.node == r.block) ≡ true) told.run o) there)))
       where
         there : LikeBody T.items (calls f) (a_turn true) (by_form (special_of A T.plan)) 1 (loops_in h) h.inside (running_body A.run A.home.around.loops T.plan.params h.text) d
         there = subst (λ ls. LikeBody T.items (calls f) (a_turn true) (by_form (special_of A T.plan)) 1 (loops_in h) h.inside (running_body A.run ls T.plan.params h.text) d) told.around
@@ -239,7 +239,7 @@ module _ (A : Asked) (T : Told) (item made : ℕ) (P Q : Program) (told : ToldOf
         → RereadsEntry (element Q.functions i) (element functions_read i)
     rereads_each is x r = at_each (λ i. RereadsEntry (element Q.functions i) (element functions_read i)) T.new.number (entry_at told.new_is_there new_there (in_function refl x))
         (λ i n. at_each (λ i. (i ≡ T.new.number → ⊥) → RereadsEntry (element Q.functions i) (element functions_read i)) (T.items item) (λ n. entry_at is (calling_there is) (entry_rereads r))
-            (λ i m n. entry_at refl (others_there i n m) (entry_self (element Q.functions i))) i n)
+        (λ i m n. entry_at refl (others_there i n m) (entry_self (element Q.functions i))) i n)
 
   -- ---- the whole
 
@@ -271,8 +271,14 @@ module _ (A : Asked) (T : Told) (item made : ℕ) (P Q : Program) (told : ToldOf
       let t3 = both_hold (nat_le (length Q.functions) (T.items (length P.functions))) b4 t2.1 in
       let t4 = both_hold (nat_eq Q.main (T.items P.main)) b5 t3.1 in
       let t5 = both_hold (not (is_in item T.units)) (all_are_unit P.functions T.units T.units) t4.1 in
-      record { call = t1.0; stay = t2.0; few = leb-true (length Q.functions) (T.items (length P.functions)) t3.0; main = eqb-true Q.main (T.items P.main) t4.0;
-          no_unit = not_so (is_in item T.units) t5.0; units = t5.1 }
+      record {
+        call = t1.0;
+        stay = t2.0;
+        few = leb-true (length Q.functions) (T.items (length P.functions)) t3.0;
+        main = eqb-true Q.main (T.items P.main) t4.0;
+        no_unit = not_so (is_in item T.units) t5.0;
+        units = t5.1;
+      }
 
   extraction_with : {g' : Function} → Holding → element Q.functions (T.items item) ≡ Some (Some g') → CallThere g' → Extracts A T.muts T.plan T.modes P Q
   extraction_with {g'} holds is (call_there {f = f} {z = z} x r related) = record {

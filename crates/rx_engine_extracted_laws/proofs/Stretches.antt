@@ -23,7 +23,7 @@ use Rattle.rx_engine_alike.specs.Likeness.{if_so, and_then, is_alike}
 use Rattle.rx_engine_alike.specs.Patterns.{like_bindings}
 use Rattle.rx_engine_alike.specs.Forms.{Between, like_let, way_of_let}
 use Rattle.rx_engine_extracted.specs.Stretches.{Passed, like_first}
-use Rattle.rx_engine_extracted_laws.specs.Statements.{stretch_of}
+use Rattle.rx_engine_related.specs.Stretched.{stretch_of}
 use Rattle.rx_engine_alike_laws.proofs.Promised.{Promised, kept, nothing, map_so, then_so, where_so}
 use Rattle.rx_engine_alike_laws.proofs.Read.{as_runs_so, as_declares_so, as_lets_so}
 use Rattle.rx_engine_alike_laws.proofs.Forms.{Whole}
@@ -78,7 +78,7 @@ module _ (C : Between) (gain : Allowance) (J : Jumping) where
       (λ Ra l. map_so (λ p x. declare_first q l x) (first_so n Ra b r.2)))
   first_so (suc n) R (tree.lets s t c b) b' = then_so (as_lets_so b') (λ r q.
       subst (λ o. Promised (λ p. FirstSo (suc n) R (tree.lets s t c b) b' p) o) (if_then (is_alike (like_let C J R c r.1 r.2)) (like_bindings C.ways (way_of_let R c r.1 r.2) R t r.1)
-          (λ Ra. like_first C J n Ra b r.3))
+      (λ Ra. like_first C J n Ra b r.3))
       (then_so (let_alike C gain J R t c r.1 r.2) (λ Ra a. map_so (λ p x. let_first q a x) (first_so n Ra b r.3))))
 
 -- ---- where nothing leaves, statements in front of a block that is alike

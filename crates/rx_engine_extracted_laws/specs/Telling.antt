@@ -15,7 +15,7 @@ use Rattle.rx_engine_related.specs.Had.{Had}
 use Rattle.rx_engine_related.specs.Never.{NeverEnds}
 use Rattle.rx_engine_alike.specs.Items.{items_with}
 use Rattle.rx_engine_extracted.specs.Told.{Told}
-use Rattle.rx_engine_extracted_laws.specs.Statements.{stretch_of}
+use Rattle.rx_engine_related.specs.Stretched.{stretch_of}
 
 -- the run never goes on to its end, by its form, with marks in front of jumps out of it
 abbrev pub NeverRuns : Asked → Type 0

@@ -3,4 +3,4 @@
 
 mod laws;
 
-pub use laws::{found_extractions_are_extractions};
+pub use laws::found_extractions_are_extractions;

@@ -9,7 +9,8 @@ use Rattle.rx_engine_simulation.specs.Blocks.{Stretch}
 use Rattle.rx_engine_simulation.specs.Blocks as stretched
 use Rattle.rx_engine_simulation.specs.Endings.{Last}
 use Rattle.rx_engine_related.specs.Never.{HasNoBreak, NoneHasBreak, MatchedHasNoBreak, ArmsHaveNoBreak, BodyHasNoBreak, NeverOn, never_jump, never_return, never_share, never_build, never_lazily, never_assign, never_update, never_call, never_print, never_block, never_matched, never_armed, never_loop, never_tested, SomeNever, this_operand, later_operand, NeverMatched, never_value, AllNever, no_arm_goes, arm_never, NeverThrough, tail_never, statement_never, behind_statement, behind_declaration, let_never, behind_let, NeverPassed, does_never, does_later, declares_later, lets_never, lets_later, NeverEnds, first_never, last_never}
-use Rattle.rx_engine_premises.specs.Stretches.{stretch_of, Divided, all_in_front, last_behind}
+use Rattle.rx_engine_related.specs.Stretched.{stretch_of}
+use Rattle.rx_engine_premises.specs.Stretches.{Divided, all_in_front, last_behind}
 
 -- ---- no `break` in the test of a loop leads to it
 

@@ -8,7 +8,7 @@ use Rattle.rx_exits_marks.specs.Changed.{changed, changed_all, changed_matched, 
 use Rattle.rx_exits_marks.specs.Marked.{is_among, mark_then}
 use Rattle.rx_engine_histories.specs.Running.{passing}
 use Rattle.rx_engine_related.specs.Never.{HasNoBreak, NoneHasBreak, MatchedHasNoBreak, ArmsHaveNoBreak, BodyHasNoBreak, NeverOn, never_jump, never_return, never_share, never_build, never_lazily, never_assign, never_update, never_call, never_print, never_block, never_matched, never_armed, never_loop, never_tested, SomeNever, this_operand, later_operand, NeverMatched, never_value, AllNever, no_arm_goes, arm_never, NeverThrough, tail_never, statement_never, behind_statement, behind_declaration, let_never, behind_let, NeverPassed, does_never, does_later, declares_later, lets_never, lets_later}
-use Rattle.rx_engine_premises.specs.Stretches.{stretch_of}
+use Rattle.rx_engine_related.specs.Stretched.{stretch_of}
 
 module _ (ls : List ℕ) where
   -- ---- no further `break`

@@ -34,7 +34,8 @@ use Rattle.rx_engine_typing.proofs.ScopedFunctions.{item_scoped}
 use Rattle.rx_engine_simulation.specs.Blocks.{Stretch}
 use Rattle.rx_engine_simulation.specs.Endings.{Last}
 use Rattle.rx_engine_related.specs.Never.{NeverPassed, NeverEnds}
-use Rattle.rx_engine_premises.specs.Stretches.{stretch_of, Divided}
+use Rattle.rx_engine_related.specs.Stretched.{stretch_of}
+use Rattle.rx_engine_premises.specs.Stretches.{Divided}
 use Rattle.rx_engine_premises.proofs.Forms.{TestsStay, StatementsStay, passed_if, ends_if}
 use Rattle.rx_engine_premises.proofs.Marked.{with_marks, passed_still}
 use Rattle.rx_engine_premises.proofs.Elaborated.{function_stays}

@@ -2,15 +2,10 @@
 use Rattle.std.specs.Prelude.{◌≡◌, List, [], ◌∷◌, ◌++◌}
 use Rattle.rx_typed.specs.Tree.{Exp}
 use Rattle.rx_exits_marks.specs.Points.{Point}
-use Rattle.rx_exits_marks.specs.Blocks.{Statement, does, begins, binds}
-use Rattle.rx_engine_simulation.specs.Blocks.{Stretch, done, does_then, declares_then, lets_then}
+use Rattle.rx_exits_marks.specs.Blocks.{Statement, does}
+use Rattle.rx_engine_simulation.specs.Blocks.{Stretch}
 use Rattle.rx_engine_simulation.specs.Endings.{Last, none_left, a_marked}
-
-abbrev pub stretch_of : List Statement → Stretch
-stretch_of [] = done
-stretch_of (does e ∷ ss) = does_then e (stretch_of ss)
-stretch_of (begins n xs ∷ ss) = declares_then n xs (stretch_of ss)
-stretch_of (binds n q c ∷ ss) = lets_then n q c (stretch_of ss)
+use Rattle.rx_engine_related.specs.Stretched.{stretch_of}
 
 -- what is left of statements behind those of a stretch: nothing, or the last one with a mark behind it
 pub data Divided (ss : List Statement) : Last → Stretch → Type 0 where

@@ -31,7 +31,8 @@ ghost use Rattle.rx_engine_histories.specs.Running.{passing};
 ghost use Rattle.rx_engine_related.specs.ByForm.{EachIsItself};
 ghost use Rattle.rx_engine_related.specs.Extracts.{with_its_marks};
 ghost use Rattle.rx_engine_related.specs.Never.{NeverEnds};
-ghost use Rattle.rx_engine_premises.specs.Stretches.{stretch_of, Divided};
+ghost use Rattle.rx_engine_related.specs.Stretched.{stretch_of};
+ghost use Rattle.rx_engine_premises.specs.Stretches.{Divided};
 ghost use Rattle.rx_engine_premises.specs.UnitReads.{unit_items, ReadsNoUnit};
 
 use rx_engine_related::alike_items_are_the_same;

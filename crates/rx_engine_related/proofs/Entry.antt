@@ -59,7 +59,7 @@ unpassed c (begins s ys ∷ ss) b n d h f = of_declaring_part 0 Any AtMost forms
 unpassed c (binds s p q ∷ ss) b n d h f =
     let r : Order = order_body (before ss b) n d in
     in_two c (order_scrutinee q) (binding (subject q) (bindings [] p) n r) (unmarked (order_scrutinee q) h.0)
-        (of_binding_part 0 Any AtMost forms c (subject q) (bindings [] p) n r (unpassed c ss b n d h.1 f))
+    (of_binding_part 0 Any AtMost forms c (subject q) (bindings [] p) n r (unpassed c ss b n d h.1 f))
 
 -- no jump's mark is one
 other_number : (l : ℕ) (again : Bool) → (number (leaves (jump_exit l again)) == 0) ≡ false
@@ -91,7 +91,7 @@ passed : (ls : List ℕ) (ss : List Statement) (b : Body) (n : ℕ) (d : Tempora
 passed ls [] b n d h f = f
 passed ls (does e ∷ ss) b n d h f =
     let g = grown 0 Any AtMost forms (passing ls) light (passing_forms ls) light (jump_weight 0 ls) (passing_light 0 ls) e nowhere_around (temporary_of (changed (passing ls) e))
-        (temporary_of e) h.0 (any_loops (order e (temporary_of e))) in
+    (temporary_of e) h.0 (any_loops (order e (temporary_of e))) in
     let z = weightless (spots nowhere_around e) in
     let r = passed ls ss b n d h.1 f in
     omega (arith, g, z, r)
@@ -100,7 +100,7 @@ passed ls (binds s p c ∷ ss) b n d h f =
     let g = grown_matched 0 Any AtMost forms (passing ls) light (passing_forms ls) light (jump_weight 0 ls) (passing_light 0 ls) c nowhere_around h.0 (any_loops (order_scrutinee c)) in
     let z = weightless (spots_matched nowhere_around c) in
     let r = of_binding_part 0 Any AtMost forms 0 (subject (changed_matched (passing ls) c)) (bindings [] p) n (order_body (before (map (changed_statement (passing ls)) ss) b) n d)
-        (passed ls ss b n d h.1 f) in
+    (passed ls ss b n d h.1 f) in
     omega (arith, g, z, r)
 
 used : (ys : List ℕ) (b : Body) (n : ℕ) (d : Temporary) → AtMost 0 (order_body b n d) → AtMost 0 (order_body (before (map using ys) b) n d)
@@ -152,6 +152,6 @@ module _ (x : ℕ) (r : Run) (ls xs : List ℕ) where
       let C = in_the_block r ls xs in
       let n = of_beginning f.params (mark_of f.body).node (order f.body (temporary_of f.body)) (no_marks (order_function f) h.none) in
       let z = of_beginning_part 0 Any AtMost forms _ f.params (mark_of (changed C f.body)).node (order (changed C f.body) (temporary_of (changed C f.body)))
-          (grown 0 Any AtMost forms C (weighs x r) placing (weighs x r) free weighing f.body (outermost f) (temporary_of (changed C f.body)) (temporary_of f.body) n
-              (any_loops (order f.body (temporary_of f.body)))) in
+      (grown 0 Any AtMost forms C (weighs x r) placing (weighs x r) free weighing f.body (outermost f) (temporary_of (changed C f.body)) (temporary_of f.body) n
+      (any_loops (order f.body (temporary_of f.body)))) in
       stands_once (running r ls xs f) enters (omega (arith, z, few))

@@ -299,7 +299,7 @@ module _ (x : ℕ) where
     unpassed (block.begins s ys ∷ ss) b n d h f = of_declaring_part k Any Part forms 0 s ys n _ (λ i. unpassed ss b n d h.1 f) (omega arith)
     unpassed (block.binds s p c ∷ ss) b n d h f =
         tells_then m refl (order_scrutinee c) _ (unmarked_tells m refl (order_scrutinee c) h.0) (of_binding_part k Any Part forms 0 (subject c) (bindings [] p) n _
-            (λ i. unpassed ss b n d h.1 f) (omega arith))
+        (λ i. unpassed ss b n d h.1 f) (omega arith))
 
     run_says : (r : Run) (ls xs : List ℕ) (b : Body) (n : ℕ) (d f : Temporary) → is_declared_in_run r b x ≡ false → NoMarks (order_body b n f) → Says (order_body (running_body r ls xs b) n d)
     run_says r ls xs b n d f none h =
@@ -334,7 +334,7 @@ module _ (x : ℕ) where
         let n = of_beginning f.params (mark_of f.body).node (order f.body (temporary_of f.body)) (no_marks (order_function f) h.none) in
         of_beginning_part k Any Part forms _ f.params (mark_of (changed C f.body)).node (order (changed C f.body) (temporary_of (changed C f.body)))
         (grown k Any Part forms C (weighs r) (placing r ls xs) (of_run k ls r) free (block_light k later r ls xs) f.body (outermost f) (temporary_of (changed C f.body))
-            (temporary_of f.body) n (any_loops (order f.body (temporary_of f.body)))) few
+        (temporary_of f.body) n (any_loops (order f.body (temporary_of f.body)))) few
 
     -- a history that comes to the exit's mark
     pub came_in : (r : Run) (ls xs : List ℕ) (f : Function) → HasNoMark (order_function f) → weighed (weighs r) no_weight (spots_of_function f) ≤ 1 → (h : List Action)

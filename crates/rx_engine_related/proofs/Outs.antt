@@ -112,7 +112,7 @@ module _ (A : Asked) (muts : List Bool) (k : Plan) (p : IsPlan A k) (e : Exit) (
       by true q = are.declared_mut.0 q
       by false q =
           let all : (u.moved && u.live_out && not u.declared_mut) ≡ true =
-              ap (λ b. b && u.live_out && not u.declared_mut) (same_moves A muts k x u are ∙ moved) ∙ ap (λ b. b && not u.declared_mut) (are.live_out.1 live) ∙ ap not q in
+          ap (λ b. b && u.live_out && not u.declared_mut) (same_moves A muts k x u are ∙ moved) ∙ ap (λ b. b && not u.declared_mut) (are.live_out.1 live) ∙ ap not q in
           absurd (none_has_none (subst (λ b. HasMember (if b then none else rest)) all some))
 
   module _ (sure : ¬ (MixedInit A x)) (whole : ¬ (PartlyMoved A k x)) where

@@ -136,25 +136,35 @@ module _ (x : ℕ) where
       exp_away (build m v es) d h = (all_away es h, λ q. q)
       exp_away (unit m) d h = tt
       exp_away (lazily m b e f) d h =
-          let C = passing ls in
-          (exp_away e (temporary_of (changed C e)) (away_front (occurrences e) (occurrences f) h), ((λ q. q),
-              ((exp_away f (temporary_of (changed C f)) (away_rest (occurrences e) (occurrences f) h), tt), λ q. q)))
+          let C = passing ls in (
+            exp_away e (temporary_of (changed C e)) (away_front (occurrences e) (occurrences f) h),
+            (
+              (λ q. q),
+              ((exp_away f (temporary_of (changed C f)) (away_rest (occurrences e) (occurrences f) h), tt), λ q. q),
+            ),
+          )
       exp_away (assign m p e) d h = (exp_away e (temporary_of (changed (passing ls) e)) (away_rest (named_place p) (occurrences e) h), λ q. q)
       exp_away (update m o p e) d h = (exp_away e (temporary_of (changed (passing ls) e)) (away_rest (named_place p) (occurrences e) h), ((λ q. q), ((λ q. q), λ q. q)))
       exp_away (call m f es) d h = (all_away es h, λ q. q)
       exp_away (input m) d h = λ q. q
       exp_away (print m e) d h = (exp_away e (temporary_of (changed (passing ls) e)) h, λ q. q)
       exp_away (block m b) d h = body_away b m.node d h
-      exp_away (choose m s l) d h = (matched_away s (away_front (occurrences_matched s) (occurrences_armed l) h), arms_away (subject (changed_matched (passing ls) s)) l d
-          (away_rest (occurrences_matched s) (occurrences_armed l) h))
+      exp_away (choose m s l) d h = (
+        matched_away s (away_front (occurrences_matched s) (occurrences_armed l) h),
+        arms_away (subject (changed_matched (passing ls) s)) l d
+            (away_rest (occurrences_matched s) (occurrences_armed l) h),
+      )
       exp_away (loop m l e) d h = exp_away e (temporary_of (changed (passing ls) e)) h
       exp_away (jump m l again) d h = jump_away m l again d
       exp_away (give m e) d h = (exp_away e (temporary_of (changed (passing ls) e)) h, ((λ q. q), tt))
 
       all_away : (es : Operands) → Away (occurrences_in es) → Undeclared (order_all (changed_all (passing ls) es))
       all_away no_operand h = tt
-      all_away (operand_and i e es) h = (exp_away e (temporary_of (changed (passing ls) e)) (away_front (occurrences e) (occurrences_in es) h), all_away es
-          (away_rest (occurrences e) (occurrences_in es) h))
+      all_away (operand_and i e es) h = (
+        exp_away e (temporary_of (changed (passing ls) e)) (away_front (occurrences e) (occurrences_in es) h),
+        all_away es
+            (away_rest (occurrences e) (occurrences_in es) h),
+      )
 
       pub matched_away : (s : Scrutinee) → Away (occurrences_matched s) → Undeclared (order_scrutinee (changed_matched (passing ls) s))
       matched_away (at_place m p) h = tt
@@ -165,20 +175,25 @@ module _ (x : ℕ) where
       arms_away S (arm_and p e l) d h =
           let C = passing ls in
           let r : Order = order (changed C e) d in
-          let i = away_rest (all_declared (bound p)) (occurrences e ++ occurrences_armed l) h in
-          (testing_away S (tests [] p) (binding S (bindings [] p) (mark_of (changed C e)).node r)
-          (binding_away S (bindings [] p) (mark_of (changed C e)).node r (away_front (all_declared (bound p)) (occurrences e ++ occurrences_armed l) h)
-              (exp_away e d (away_front (occurrences e) (occurrences_armed l) i))),
-          arms_away S l d (away_rest (occurrences e) (occurrences_armed l) i))
+          let i = away_rest (all_declared (bound p)) (occurrences e ++ occurrences_armed l) h in (
+            testing_away S (tests [] p) (binding S (bindings [] p) (mark_of (changed C e)).node r)
+                (binding_away S (bindings [] p) (mark_of (changed C e)).node r (away_front (all_declared (bound p)) (occurrences e ++ occurrences_armed l) h)
+                (exp_away e d (away_front (occurrences e) (occurrences_armed l) i))),
+            arms_away S l d (away_rest (occurrences e) (occurrences_armed l) i),
+          )
 
       body_away : (b : Body) (n : ℕ) (d : Temporary) → Away (occurrences_of b) → Undeclared (order_body (changed_body (passing ls) b) n d)
       body_away (ends e) n d h = exp_away e d h
-      body_away (runs e b) n d h = (exp_away e (temporary_of (changed (passing ls) e)) (away_front (occurrences e) (occurrences_of b) h), body_away b n d
-          (away_rest (occurrences e) (occurrences_of b) h))
+      body_away (runs e b) n d h = (
+        exp_away e (temporary_of (changed (passing ls) e)) (away_front (occurrences e) (occurrences_of b) h),
+        body_away b n d
+            (away_rest (occurrences e) (occurrences_of b) h),
+      )
       body_away (declares s ys b) n d h =
           declaring_away s ys n (order_body (changed_body (passing ls) b) n d) (away_front (all_declared ys) (occurrences_of b) h) (body_away b n d (away_rest (all_declared ys) (occurrences_of b) h))
       body_away (lets s p c b) n d h =
-          let i = away_rest (all_declared (bound p)) (occurrences_matched c ++ occurrences_of b) h in
-          (matched_away c (away_front (occurrences_matched c) (occurrences_of b) i),
-          binding_away (subject (changed_matched (passing ls) c)) (bindings [] p) n (order_body (changed_body (passing ls) b) n d)
-          (away_front (all_declared (bound p)) (occurrences_matched c ++ occurrences_of b) h) (body_away b n d (away_rest (occurrences_matched c) (occurrences_of b) i)))
+          let i = away_rest (all_declared (bound p)) (occurrences_matched c ++ occurrences_of b) h in (
+            matched_away c (away_front (occurrences_matched c) (occurrences_of b) i),
+            binding_away (subject (changed_matched (passing ls) c)) (bindings [] p) n (order_body (changed_body (passing ls) b) n d)
+                (away_front (all_declared (bound p)) (occurrences_matched c ++ occurrences_of b) h) (body_away b n d (away_rest (occurrences_matched c) (occurrences_of b) i)),
+          )

@@ -8,3 +8,4 @@ pub mod Standing
 pub mod InBlock
 pub mod Extracts
 pub mod Had
+pub mod Stretched

@@ -25,10 +25,17 @@ returns-clause-answer c = λ p q t u main other x given n.
     let had = subst (λ (l : List Bool). Had (asked_in x) l x.told.plan) (sym x.muts) (c.accepted_runs_are_had.ensures p t x.few x.front x.function x.among x.told.run x.home x.sits x.short x.told.plan x.plan x.kept) in
     c.extracted_programs_run_alike.ensures.answer (asked_in x) x.told.muts x.told.plan had x.told.modes (program_of t main) (program_of u other)
     (c.found_extractions_are_extractions.ensures (asked_in x) x.told x.item x.made (program_of t main) (program_of u other) (record {
-        run = refl; around = x.around; elsewhere = x.elsewhere; had = had;
-        never = λ none. c.diverging_runs_never_end.ensures.marked p t x.few x.front x.function x.among x.told.run x.home x.sits x.short
-            (c.runs_without_an_end_diverge.ensures x.told.run x.home (subst (λ l. Among next l → ⊥) x.plan.exits none)) x.home.around.loops _ _ all_in_front;
-        is_there = x.is_there; items = x.items; new_is_there = x.new_is_there; apart = x.apart }) x.found)
+      run = refl;
+      around = x.around;
+      elsewhere = x.elsewhere;
+      had = had;
+      never = λ none. c.diverging_runs_never_end.ensures.marked p t x.few x.front x.function x.among x.told.run x.home x.sits x.short
+          (c.runs_without_an_end_diverge.ensures x.told.run x.home (subst (λ l. Among next l → ⊥) x.plan.exits none)) x.home.around.loops _ _ all_in_front;
+      is_there = x.is_there;
+      items = x.items;
+      new_is_there = x.new_is_there;
+      apart = x.apart;
+    }) x.found)
     (c.accepted_programs_are_themselves.ensures p t x.few x.front main) given n (c.accepted_runs_find_references.ensures q u x.few_there x.accepted other given n)
 
 pub returns-clause-text : goal.returns-clause-text
@@ -36,8 +43,15 @@ returns-clause-text c = λ p q t u main other x given n.
     let had = subst (λ (l : List Bool). Had (asked_in x) l x.told.plan) (sym x.muts) (c.accepted_runs_are_had.ensures p t x.few x.front x.function x.among x.told.run x.home x.sits x.short x.told.plan x.plan x.kept) in
     c.extracted_programs_run_alike.ensures.text (asked_in x) x.told.muts x.told.plan had x.told.modes (program_of t main) (program_of u other)
     (c.found_extractions_are_extractions.ensures (asked_in x) x.told x.item x.made (program_of t main) (program_of u other) (record {
-        run = refl; around = x.around; elsewhere = x.elsewhere; had = had;
-        never = λ none. c.diverging_runs_never_end.ensures.marked p t x.few x.front x.function x.among x.told.run x.home x.sits x.short
-            (c.runs_without_an_end_diverge.ensures x.told.run x.home (subst (λ l. Among next l → ⊥) x.plan.exits none)) x.home.around.loops _ _ all_in_front;
-        is_there = x.is_there; items = x.items; new_is_there = x.new_is_there; apart = x.apart }) x.found)
+      run = refl;
+      around = x.around;
+      elsewhere = x.elsewhere;
+      had = had;
+      never = λ none. c.diverging_runs_never_end.ensures.marked p t x.few x.front x.function x.among x.told.run x.home x.sits x.short
+          (c.runs_without_an_end_diverge.ensures x.told.run x.home (subst (λ l. Among next l → ⊥) x.plan.exits none)) x.home.around.loops _ _ all_in_front;
+      is_there = x.is_there;
+      items = x.items;
+      new_is_there = x.new_is_there;
+      apart = x.apart;
+    }) x.found)
     (c.accepted_programs_are_themselves.ensures p t x.few x.front main) given n (c.accepted_runs_find_references.ensures q u x.few_there x.accepted other given (2 * n))
