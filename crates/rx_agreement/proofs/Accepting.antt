@@ -14,9 +14,9 @@ use Rattle.rx_resolve_names.specs.Causes.{Meant}
 use Rattle.rx_typed.specs.declared.declarations.Decl.{Decl}
 use Rattle.rx_typed.specs.Naming.{function_named}
 use Rattle.rx_typeck_solver.specs.Facts.{MeetsEach}
-use Rattle.rx_typeck_rules.specs.Demands as rules
-use Rattle.rx_typeck_declare.specs.Steps.{on_ok}
-use Rattle.rx_typeck_declare.specs.Items.{declared_item, declared_items, entries_of}
+use Rattle.rx_typeck_typed.specs.Demands as rules
+use Rattle.rx_typeck_typed.specs.Steps.{on_ok}
+use Rattle.rx_typeck_typed.specs.Items.{declared_item, declared_items, entries_of}
 use Rattle.rx_typeck_typed.specs.declared.typed.TypedFn.{TypedFn}
 use Rattle.rx_typeck_typed.specs.declared.typed.Typed.{Typed}
 use Rattle.rx_typeck_typed.specs.Typing as typing

@@ -25,9 +25,9 @@ use Rattle.rx_typed.specs.Types.{Declared, parameters_declared, result_declared}
 use Rattle.rx_typeck_solver.specs.declared.facts.Op.TheVariants as op
 use Rattle.rx_typeck_solver.specs.declared.facts.Demand.{Demand}
 use Rattle.rx_typeck_solver.specs.Facts.{Types, Known, MeetsEach, coerced}
-use Rattle.rx_typeck_rules.specs.Asking.{type_of, expected}
-use Rattle.rx_typeck_rules.specs.Demands as rules
-use Rattle.rx_typeck_rules.specs.Demands.{Listed, argument_count}
+use Rattle.rx_typeck_typed.specs.Asking.{type_of, expected}
+use Rattle.rx_typeck_typed.specs.Demands as rules
+use Rattle.rx_typeck_typed.specs.Demands.{Listed, argument_count}
 use Rattle.rx_first_check.specs.Accepted as accepted
 use Rattle.rx_first_check.specs.Accepted.{ValueType, integer, unit, Scope, type_in, Signature, signature_of, IsArithmetic, HasType, AreIntegers}
 use Rattle.rx_first_check.specs.FirstGrammar.{is_arithmetic, is_first_value, are_variables}

@@ -29,8 +29,8 @@ use Rattle.rx_typed.specs.Types.{Typ, result_declared}
 use Rattle.rx_typeck_solver.specs.declared.facts.Subject.TheVariants as subject
 use Rattle.rx_typeck_solver.specs.declared.facts.Demand.{Demand}
 use Rattle.rx_typeck_solver.specs.Facts.{Types, Known, MeetsEach}
-use Rattle.rx_typeck_rules.specs.Asking.{expected}
-use Rattle.rx_typeck_rules.specs.Demands as rules
+use Rattle.rx_typeck_typed.specs.Asking.{expected}
+use Rattle.rx_typeck_typed.specs.Demands as rules
 use Rattle.rx_first_check.specs.Accepted.{integer, Scope, Signature, given_by, scope_from, IsI64, IsParameter, parameter_names, IsTyped}
 use Rattle.rx_first_check.specs.FirstGrammar.{is_i64_type, is_first_parameter, is_first_result, is_first_statement, is_first_tail}
 use Rattle.rx_agreement.proofs.Meeting.{typ_of, front, last, result_is}

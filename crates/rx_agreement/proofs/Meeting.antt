@@ -19,8 +19,8 @@ use Rattle.rx_typeck_solver.specs.declared.facts.Passing.{Passing}
 use Rattle.rx_typeck_solver.specs.declared.facts.Fact.{Fact}
 use Rattle.rx_typeck_solver.specs.declared.facts.Demand.{Demand}
 use Rattle.rx_typeck_solver.specs.Facts.{Types, Known, MeetsAll, MeetsEach, coerced, made, types_at, is_plain, has}
-use Rattle.rx_typeck_rules.specs.Asking.{ask, asks, type_of, expected, alike, passes, just, fitting}
-use Rattle.rx_typeck_rules.specs.Demands as rules
+use Rattle.rx_typeck_typed.specs.Asking.{ask, asks, type_of, expected, alike, passes, just, fitting}
+use Rattle.rx_typeck_typed.specs.Demands as rules
 use Rattle.rx_first_check.specs.Accepted.{ValueType, integer, unit, greatest_literal}
 use Rattle.rx_first_check.specs.FirstGrammar.{is_arithmetic}
 

@@ -29,14 +29,14 @@ use Rattle.rx_typed.specs.Types.{Typ, Declared, function_declared, parameters_de
 use Rattle.rx_typed.specs.PlainTypes.{plain-Ty, plain-Decl, declarations, typ_integer, typ_tuple}
 use Rattle.rx_typed.specs.Naming.{function_named}
 use Rattle.rx_typeck_solver.specs.Facts.{Types, Known, MeetsEach}
-use Rattle.rx_typeck_rules.specs.Demands as rules
+use Rattle.rx_typeck_typed.specs.Demands as rules
 use Rattle.rx_typeck_solver.specs.declared.facts.Rule.{Rule}
-use Rattle.rx_typeck_declare.specs.declared.fault.DeclareFault.TheVariants as fault
-use Rattle.rx_typeck_declare.specs.Steps as steps
-use Rattle.rx_typeck_declare.specs.Steps.{Reading, on_ok}
-use Rattle.rx_typeck_declare.specs.Written.{elided, type_of}
-use Rattle.rx_typeck_declare.specs.Items.{begins, bounded, bounds_of, entry_of, parameters_of, answer_of, declared_item, declared_items, entries_of}
-use Rattle.rx_typeck_declare.specs.Programs.{main_of, is_nothing, is_bare, main_fits}
+use Rattle.rx_typeck_typed.specs.declared.fault.DeclareFault.TheVariants as fault
+use Rattle.rx_typeck_typed.specs.Steps as steps
+use Rattle.rx_typeck_typed.specs.Steps.{Reading, on_ok}
+use Rattle.rx_typeck_typed.specs.Written.{elided, type_of}
+use Rattle.rx_typeck_typed.specs.Items.{begins, bounded, bounds_of, entry_of, parameters_of, answer_of, declared_item, declared_items, entries_of}
+use Rattle.rx_typeck_typed.specs.Programs.{main_of, is_nothing, is_bare, main_fits}
 use Rattle.rx_first_check.specs.Accepted.{unit, Signature, signature, given_by, signatures, signature_of, IsTyped, HasMain}
 use Rattle.rx_first_check.specs.FirstGrammar.{is_i64_type, is_empty, is_first_parameter, is_first_result, is_first_statement, is_first_tail, is_first_function, is_first_item, is_first_program}
 use Rattle.rx_agreement.proofs.Meeting.{typ_of}

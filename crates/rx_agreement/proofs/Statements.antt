@@ -26,8 +26,8 @@ use Rattle.rx_typed.specs.Types.{Typ}
 use Rattle.rx_typeck_solver.specs.declared.facts.Subject.TheVariants as subject
 use Rattle.rx_typeck_solver.specs.declared.facts.Demand.{Demand}
 use Rattle.rx_typeck_solver.specs.Facts.{Types, Known, MeetsEach, coerced}
-use Rattle.rx_typeck_rules.specs.Asking.{type_of, expected}
-use Rattle.rx_typeck_rules.specs.Demands as rules
+use Rattle.rx_typeck_typed.specs.Asking.{type_of, expected}
+use Rattle.rx_typeck_typed.specs.Demands as rules
 use Rattle.rx_first_check.specs.Accepted as accepted
 use Rattle.rx_first_check.specs.Accepted.{ValueType, integer, unit, Scope, Signature, HasType, AreTyped, Gives}
 use Rattle.rx_first_check.specs.FirstGrammar.{is_first_value, is_first_call, is_first_print, is_first_statement, is_first_tail}

@@ -9,12 +9,12 @@ use Rattle.rx_typed_declarations.specs.Variance.{unrecorded}
 use Rattle.rx_lower_walks.specs.Actions.{Act, Declare, Dead, Read, Write, Borrow, Test, Call, Build, Input, Print, Give, Action}
 use Rattle.rx_region_outlives.specs.Implied.{HasPair, ImpliesOf, implied_in, implied_among}
 use Rattle.rx_region_outlives.proofs.ImpliedLemmas.{has_front, has_behind, has_either, implied_told, among_told}
-use Rattle.rx_typed_places.specs.Renaming.{Signature, unit_region}
-use Rattle.rx_typed_places.specs.Places.{part_at}
+use Rattle.rx_typed.specs.Renaming.{Signature, unit_region}
+use Rattle.rx_typed.specs.Places.{part_at}
 use Rattle.rx_lower_lifetimes.specs.Numbered.{Own, none, region, signed}
 use Rattle.rx_lower_lifetimes.specs.Lowered.{Lifetimes}
-use Rattle.rx_region_constraints.specs.Constraints.{Context, root_type, type_in, type_at, held, flows, parts_flow, parameters_flow, made_parts, signature_asks, asks, all_ask, is_among, formed, imposed}
-use Rattle.rx_region_constraints.specs.Known.{parameters_ask, told}
+use Rattle.rx_region.specs.Constraints.{Context, root_type, type_in, type_at, held, flows, parts_flow, parameters_flow, made_parts, signature_asks, asks, all_ask, is_among, formed, imposed}
+use Rattle.rx_region.specs.Known.{parameters_ask, told}
 use Rattle.rx_check.specs.Contexts.{AreAsked}
 use Rattle.rx_check.proofs.Declared.{regions_alike, place_alike, made_alike, reborrows_alike}
 

@@ -9,9 +9,9 @@ use Rattle.rx_typed.specs.Tree.{Making, constant, negation, inversion, operation
 use Rattle.rx_core.specs.declared.types.Bound.{Bound}
 use Rattle.rx_core.specs.declared.types.Step.TheVariants as step
 use Rattle.rx_typed_declarations.specs.Variance.{unrecorded}
-use Rattle.rx_typed_places.specs.Places as places
-use Rattle.rx_typed_places.specs.Places.{fields_of, behind, place_type}
-use Rattle.rx_region_constraints.specs.Constraints.{lifetimes_of, instances, made_parts, through, reborrows}
+use Rattle.rx_typed.specs.Places as places
+use Rattle.rx_typed.specs.Places.{fields_of, behind, place_type}
+use Rattle.rx_region.specs.Constraints.{lifetimes_of, instances, made_parts, through, reborrows}
 use Rattle.rx_facts.proofs.Positions.{unrecorded_option, fields_same, variant_same, behind_same, place_same}
 
 held_same : (d : Decl) → held_regions (unrecorded d) ≡ held_regions d

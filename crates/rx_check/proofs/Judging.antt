@@ -6,12 +6,12 @@ use Rattle.rx_lower_walks.specs.Actions.{Action}
 use Rattle.rx_lower_lifetimes.specs.Lowered.{Lifetimes}
 use Rattle.rx_core.specs.declared.types.Bound.{Bound}
 use Rattle.rx_typed.specs.declared.declarations.Decl.{Decl}
-use Rattle.rx_region_constraints.specs.Constraints.{Context, imposed}
-use Rattle.rx_region_constraints.specs.Solutions.{Point, Sets, Solution, Least, whole, ends, live, longer, AreLeast}
-use Rattle.rx_region_constraints.specs.Known.{Known, itself, by, told, Missing}
+use Rattle.rx_region.specs.Constraints.{Context, imposed}
+use Rattle.rx_region.specs.Solutions.{Point, Sets, Solution, Least, whole, ends, live, longer, AreLeast}
+use Rattle.rx_region.specs.Known.{Known, itself, by, told, Missing}
 use Rattle.rx_region.specs.Passing.{IsFirst}
-use Rattle.rx_loan_check.specs.Accepted.{AcceptedBy, IsAccepted}
-use Rattle.rx_loan_check.specs.Answer.{IsForbidden}
+use Rattle.rx_loan.specs.Accepted.{AcceptedBy, IsAccepted}
+use Rattle.rx_loan.specs.Answer.{IsForbidden}
 use Rattle.rx_check.proofs.Asking.{Within}
 
 abbrev pub context : List Decl → (ℕ → List Bound) → Lifetimes → Context

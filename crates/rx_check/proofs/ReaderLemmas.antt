@@ -11,7 +11,7 @@ use Rattle.rx_typed.specs.PlainTypes.{plain-Ty, declarations}
 use Rattle.rx_typed_declarations.specs.Sizes.{told}
 use Rattle.rx_typeck_typed.specs.declared.typed.TypedFn.{TypedFn}
 use Rattle.rx_lower.specs.Functions.{function_at, trimmed}
-use Rattle.rx_facts_init.specs.Places.{Frame}
+use Rattle.rx_facts_tables.specs.Places.{Frame}
 use Rattle.rx_facts.specs.Functions.{IsTypedProgram, frame_of}
 use Rattle.rx_facts.specs.Passing.{Each}
 use Rattle.rx_facts.proofs.Passing.{as_long, each_at}

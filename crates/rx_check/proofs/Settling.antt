@@ -11,13 +11,13 @@ use Rattle.rx_lower_walks.specs.Pieces.{graph}
 use Rattle.rx_region_outlives.specs.Implied.{ImpliesOf}
 use Rattle.rx_lower_lifetimes.specs.Lowered.{Lifetimes, lifetimes}
 use Rattle.rx_lower.specs.Functions.{function}
-use Rattle.rx_region_constraints.specs.Constraints.{Context, variances}
-use Rattle.rx_region_constraints.specs.Solutions.{Sets, AreLeast}
-use Rattle.rx_region_constraints.specs.Known.{Missing}
+use Rattle.rx_region.specs.Constraints.{Context, variances}
+use Rattle.rx_region.specs.Solutions.{Sets, AreLeast}
+use Rattle.rx_region.specs.Known.{Missing}
 use Rattle.rx_region.specs.Passing.{IsFirst}
-use Rattle.rx_loan_check.specs.Accepted.{IsAccepted}
-use Rattle.rx_loan_check.specs.Answer.{IsForbidden}
-use Rattle.rx_loan_check.proofs.Found.{missing_or_accepted, forbidden_or_accepted}
+use Rattle.rx_loan.specs.Accepted.{IsAccepted}
+use Rattle.rx_loan.specs.Answer.{IsForbidden}
+use Rattle.rx_loan.proofs.Found.{missing_or_accepted, forbidden_or_accepted}
 use Rattle.rx_typeck_typed.specs.declared.typed.Typed.{Typed}
 use Rattle.rx_typeck_typed.specs.declared.typed.TypedFn.{TypedFn}
 use Rattle.rx_facts.specs.Functions.{sites_of, span_of}

@@ -2,8 +2,8 @@
 use Rattle.std.proofs.Common.{◌≡◌, ◌≤◌, ◌<◌, ℕ, zero, suc, List, [], ◌∷◌, length, get_or, Result, Ok, Err, map, refl, sym, ap, ◌∙◌, subst, arith}
 use Rattle.std.proofs.lemmas.List.{length-map}
 use Rattle.rx_core.specs.declared.types.Span.{Span}
-use Rattle.rx_lower_emit.specs.declared.site.Site as code_site
-use Rattle.rx_lower_emit.specs.PlainSite.{plain-Site}
+use Rattle.rx_lower_walks.specs.declared.site.Site as code_site
+use Rattle.rx_lower_walks.specs.PlainSite.{plain-Site}
 use Rattle.rx_core.specs.declared.types.Bound.{Bound}
 use Rattle.rx_typed.specs.declared.declarations.Decl.{Decl}
 use Rattle.rx_typeck_typed.specs.declared.typed.Typed.{Typed}
@@ -13,15 +13,15 @@ use Rattle.rx_lower_lifetimes.specs.declared.numbering.Own.{Own}
 use Rattle.rx_lower_lifetimes.specs.PlainOwn.{plain-Own}
 use Rattle.rx_lower_lifetimes.specs.Lowered.{Lifetimes}
 use Rattle.rx_loan.specs.declared.table.LoanTable.{LoanTable}
-use Rattle.rx_region_constraints.specs.Constraints.{Context}
-use Rattle.rx_loan_check.specs.Answer.{Judges}
-use Rattle.rx_loan_check.specs.declared.judging.BorrowFault.{BorrowFault}
+use Rattle.rx_region.specs.Constraints.{Context}
+use Rattle.rx_loan.specs.Answer.{Judges}
+use Rattle.rx_loan.specs.declared.judging.BorrowFault.{BorrowFault}
 use Rattle.rx_facts.specs.declared.lowering.Lowered.{Lowered}
 use Rattle.rx_facts.specs.Answers.{IsGraphOf}
 use Rattle.rx_region.specs.Passing.{RegionAnswer}
 use Rattle.rx_region.specs.Tables.{sets_of}
-use Rattle.rx_loan_check.proofs.Found.{nothing_missing}
-use Rattle.rx_facts_live.specs.Tables.{Lives}
+use Rattle.rx_loan.proofs.Found.{nothing_missing}
+use Rattle.rx_facts_tables.specs.LiveTables.{Lives}
 use Rattle.rx_facts.specs.declared.finding.FunctionFacts.{FunctionFacts}
 use Rattle.rx_facts.specs.Passing.{Each, FirstNot}
 use Rattle.rx_facts.specs.Functions.{sites_of, span_of}

@@ -7,7 +7,7 @@ use Rattle.rx_typed.specs.Regions.{regions}
 use Rattle.rx_region_outlives.specs.Implied.{ImpliesOf}
 use Rattle.rx_lower_lifetimes.specs.Lowered.{lifetimes}
 use Rattle.rx_lower.specs.Functions.{function}
-use Rattle.rx_region_constraints.specs.Constraints.{Context}
+use Rattle.rx_region.specs.Constraints.{Context}
 use Rattle.rx_typeck_typed.specs.declared.typed.TypedFn.{TypedFn}
 
 -- of each item, a list of exactly the pairs of its lifetimes that its fields ask

@@ -5,10 +5,10 @@ use Rattle.rx_core.specs.declared.types.Bound.{Bound}
 use Rattle.rx_core.specs.declared.types.Span.{Span}
 use Rattle.rx_typed.specs.declared.declarations.Decl.{Decl}
 use Rattle.rx_lower_walks.specs.Graph.{Site, site_at}
-use Rattle.rx_region_constraints.specs.Known.{Missing}
+use Rattle.rx_region.specs.Known.{Missing}
 use Rattle.rx_region.specs.Passing.{IsFirst, RegionAnswer}
-use Rattle.rx_loan_check.specs.Accepted.{IsAccepted}
-use Rattle.rx_loan_check.specs.Answer as borrows
+use Rattle.rx_loan.specs.Accepted.{IsAccepted}
+use Rattle.rx_loan.specs.Answer as borrows
 use Rattle.rx_typeck_typed.specs.declared.typed.TypedFn.{TypedFn}
 use Rattle.rx_facts.specs.Functions.{sites_of, span_of}
 use Rattle.rx_check.specs.Contexts.{context_of}

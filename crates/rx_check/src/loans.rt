@@ -4,7 +4,7 @@ ghost use Rattle.std.specs.Prelude.{◌≡◌, ◌≤◌, ◌++◌, ◌∷◌, [
 ghost use Rattle.rx_core.specs.declared.types.Bound.{Bound};
 ghost use Rattle.rx_typed.specs.declared.declarations.Decl.{Decl};
 ghost use Rattle.rx_lower_walks.specs.Graph.{site_at};
-ghost use Rattle.rx_lower_emit.specs.PlainSite.{plain-Site};
+ghost use Rattle.rx_lower_walks.specs.PlainSite.{plain-Site};
 ghost use Rattle.rx_facts.specs.Functions.{span_of as span_is};
 ghost use Rattle.rx_facts.specs.Answers.{IsGraphOf, AreGraphs};
 ghost use Rattle.rx_check.specs.Functions.{node_at, AreRegionsOf, AreLoansOf, MeetsLoan};
@@ -14,9 +14,8 @@ ghost use Rattle.rx_check.specs.declared.loans.FunctionLoans.{FunctionLoans as L
 use crate::regions::FunctionRegions;
 use rx_core::{LetGo, List, Span, keep, pushed};
 use rx_facts::Lowered;
-use rx_loan::LoanTable;
-use rx_loan_check::{BorrowFault, check_loans};
-use rx_lower_emit::Site;
+use rx_loan::{BorrowFault, LoanTable, check_loans};
+use rx_lower_walks::Site;
 use rx_typeck_typed::{Typed, TypedFn};
 use std::alloc::Global;
 

@@ -8,7 +8,7 @@ ghost use Rattle.rx_typed.specs.declared.declarations.Decl.{Decl};
 ghost use Rattle.rx_typeck_typed.specs.declared.typed.Typed.{Typed};
 ghost use Rattle.rx_typeck_typed.specs.declared.typed.TypedFn.{TypedFn};
 ghost use Rattle.rx_typeck_typed.specs.Typing.{IsTyped};
-ghost use Rattle.rx_region_constraints.specs.Solutions.{Sets, AreLeast};
+ghost use Rattle.rx_region.specs.Solutions.{Sets, AreLeast};
 ghost use Rattle.rx_facts.specs.Functions.{sites_of};
 ghost use Rattle.rx_check.specs.Contexts.{AreAsked, context_of};
 ghost use Rattle.rx_check.specs.Answers.{AllBorrow, FirstLacks, FirstMeets};

@@ -2,7 +2,7 @@
 
 ghost use Rattle.std.specs.Prelude.{◌≡◌, ◌++◌, ◌∷◌, [], IfOk, IfErr};
 ghost use Rattle.rx_region_outlives.specs.Implied.{pairs_of};
-ghost use Rattle.rx_facts_live.specs.Tables.{Lives};
+ghost use Rattle.rx_facts_tables.specs.LiveTables.{Lives};
 ghost use Rattle.rx_facts.specs.Functions.{IsTypedProgram, sites_of};
 ghost use Rattle.rx_facts.specs.Passing.{Each};
 ghost use Rattle.rx_facts.specs.Answers.{IsGraphOf, AreGraphs, AreFacts};
@@ -12,8 +12,7 @@ ghost use Rattle.rx_check.specs.declared.regions.FunctionRegions.{FunctionRegion
 
 use rx_core::{LetGo, List, keep, pushed};
 use rx_facts::{FunctionFacts, Lowered, ProgramFacts};
-use rx_region::{RegionFault as PairFault, Regions, check_regions};
-use rx_region_constraints::Given;
+use rx_region::{Given, RegionFault as PairFault, Regions, check_regions};
 use rx_region_outlives::{Implied, implied_by_fields};
 use rx_typeck_typed::{Typed, TypedFn};
 use rx_typed::Decls;

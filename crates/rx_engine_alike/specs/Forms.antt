@@ -5,7 +5,7 @@ use Rattle.rx_core.specs.declared.types.Step.{Step}
 use Rattle.rx_core.specs.declared.types.Step.TheVariants as step
 use Rattle.rx_typed.specs.Tree as tree
 use Rattle.rx_typed.specs.Tree.{Root, Place, Pattern, Mark, Exp, Operands, Scrutinee, Arms, Body, fields_of, variable}
-use Rattle.rx_exits_marks.specs.Marked.{is_among}
+use Rattle.rx_exits_plan.specs.Marked.{is_among}
 use Rattle.rx_engine_simulation.specs.Sights.{How, viewed, Sight, Renaming, sight_of}
 use Rattle.rx_engine_simulation.specs.Jumps.{Returning, as_return, with_value, with_unit, no_return, Jumping, in_loop, loop_of}
 use Rattle.rx_engine_simulation.specs.Places.{looking, writing, use_of}

@@ -3,9 +3,9 @@ use Rattle.std.proofs.Common.{◌≡◌, ℕ, ◌≤◌, Bool, true, false, not,
 use Rattle.rx_typed.specs.Tree as tree
 use Rattle.rx_typed.specs.Tree.{Mark, Making, Place, Exp, Operands, Scrutinee, Arms, Body, fields_of, temporary_of}
 use Rattle.rx_lower_walks.specs.Actions.{subject}
-use Rattle.rx_exits_marks.specs.Points.{leaves, jump_exit}
-use Rattle.rx_exits_marks.specs.Marked.{mark_then, is_among}
-use Rattle.rx_exits_marks.specs.Changed.{changed, changed_all, changed_matched, changed_arms, changed_body}
+use Rattle.rx_exits_plan.specs.Points.{leaves, jump_exit}
+use Rattle.rx_exits_plan.specs.Marked.{mark_then, is_among}
+use Rattle.rx_exits_plan.specs.Changed.{changed, changed_all, changed_matched, changed_arms, changed_body}
 use Rattle.rx_engine_simulation.specs.Turns.{Allowance}
 use Rattle.rx_engine_simulation.specs.Histories.{Facts}
 use Rattle.rx_engine_simulation.specs.Sights.{In, Renaming, IsNew}
@@ -17,7 +17,7 @@ use Rattle.rx_engine_simulation.specs.Openings.{Openings}
 use Rattle.rx_engine_simulation.specs.Like.{LikeExp, LikeAll, LikeMatched, LikeArms, LikeBody, opens, reads, borrows, shares, builds, builds_structs, builds_variants, units, lazies, assigns, updates, calls, inputs, prints, blocks, chooses, loops, stays, gives, no_operands, operands_and, at_places, of_values, no_arms, arms_and, ends_in, runs_on, declares_all}
 use Rattle.rx_engine_simulation.specs.Rereads as again
 use Rattle.rx_engine_simulation.specs.Rereads.{Rereads, RereadsAll, RereadsMatched, RereadsArms, RereadsBody}
-use Rattle.rx_engine_histories.specs.Running.{passing}
+use Rattle.rx_engine_related.specs.Running.{passing}
 use Rattle.rx_engine_related.specs.Leaving.{Left, left_by_jump, left_by_return, left_with_value, left_with_unit}
 use Rattle.rx_engine_related.proofs.Weaker.{Opens, weaker_exp}
 use Rattle.rx_engine_alike.specs.Likeness.{Hole, Likeness, alike, provided, when, choose, but_open}

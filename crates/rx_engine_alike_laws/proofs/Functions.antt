@@ -2,7 +2,7 @@
 use Rattle.std.proofs.Common.{◌≡◌, ℕ, zero, suc, ◌≤◌, true, List, [], ◌∷◌, Option, Some, None, refl, sym, ◌∙◌, subst, arith}
 use Rattle.rx_typed.specs.Tree as tree
 use Rattle.rx_typed.specs.Tree.{Mark, Exp, Body, Function}
-use Rattle.rx_exits_marks.specs.Changed.{changed}
+use Rattle.rx_exits_plan.specs.Changed.{changed}
 use Rattle.rx_meaning.specs.Values.{element}
 use Rattle.rx_meaning.specs.Expressions.{Functions}
 use Rattle.rx_meaning.specs.Programs.{Program}
@@ -15,7 +15,7 @@ use Rattle.rx_engine_simulation.specs.Like.{LikeExp, opens, units}
 use Rattle.rx_engine_simulation.specs.Marking.{without_turns}
 use Rattle.rx_engine_simulation.specs.Programs.{whole_jumps}
 use Rattle.rx_engine_simulation.specs.Rereads.{Rereads, RereadsBody, RereadsEntry, in_function}
-use Rattle.rx_engine_histories.specs.Running.{passing}
+use Rattle.rx_engine_related.specs.Running.{passing}
 use Rattle.rx_engine_related.specs.ByForm.{by_form, RelatedFunction, SameEntry, same_function, no_function, IsItself, is_itself, is_none, EachIsItself}
 use Rattle.rx_engine_related.specs.Leaving.{Left, left_by_jump, left_by_return, left_with_value, left_with_unit}
 use Rattle.rx_engine_related.proofs.Weaker.{weaker_exp}

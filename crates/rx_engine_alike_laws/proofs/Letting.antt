@@ -7,7 +7,7 @@ use Rattle.rx_typed.specs.Tree as tree
 use Rattle.rx_typed.specs.Tree.{Root, Place, Pattern, Mark, Exp, Scrutinee, Body, variable, temporary, own}
 use Rattle.rx_lower_walks.specs.Matching.{bindings}
 use Rattle.rx_lower_walks.specs.Actions.{Subject, subject}
-use Rattle.rx_exits_marks.specs.Changed.{Changes, changed}
+use Rattle.rx_exits_plan.specs.Changed.{Changes, changed}
 use Rattle.rx_engine_simulation.specs.Turns.{Allowance}
 use Rattle.rx_engine_simulation.specs.Histories.{Facts}
 use Rattle.rx_engine_simulation.specs.Sights.{How, viewed, Sight, sight, Renaming, sight_of}

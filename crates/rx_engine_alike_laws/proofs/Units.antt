@@ -2,14 +2,14 @@
 use Rattle.std.proofs.Common.{◌≡◌, ℕ, Bool, true, false, List, [], ◌∷◌, Option, Some, None, if◌then◌else◌, sym, ap, ◌∙◌, subst, inl, inr}
 use Rattle.rx_typed.specs.Tree as tree
 use Rattle.rx_typed.specs.Tree.{Mark, Exp, Operands, Scrutinee, Arms, Body, Function}
-use Rattle.rx_exits_marks.specs.Points.{leaves, jump_exit}
-use Rattle.rx_exits_marks.specs.Marked.{mark_then, is_among}
-use Rattle.rx_exits_marks.specs.Changed.{changed, changed_arms, changed_body}
+use Rattle.rx_exits_plan.specs.Points.{leaves, jump_exit}
+use Rattle.rx_exits_plan.specs.Marked.{mark_then, is_among}
+use Rattle.rx_exits_plan.specs.Changed.{changed, changed_arms, changed_body}
 use Rattle.rx_meaning.specs.Values.{element}
 use Rattle.rx_meaning.specs.Expressions.{Functions}
 use Rattle.rx_engine_simulation.specs.Sights.{In}
 use Rattle.rx_engine_simulation.specs.Units.{GivesUnit, of_unit, of_assignment, of_update, of_print, of_call, of_block, of_choice, of_loop, of_jump, of_return, AllGiveUnit, no_arm_gives, each_gives, EndsInUnit, tail_gives, behind_run, behind_declaration, behind_let, ReturnsUnit, in_read, in_borrow, in_share, in_build, in_unit, in_lazy, in_assignment, in_update, in_call, in_input, in_print, in_block, in_choice, in_loop, in_jump, in_return, AllReturnUnit, no_operand_returns, operands_return, MatchedReturnsUnit, in_place, in_value, ArmsReturnUnit, no_arm_returns, arms_return, BodyReturnsUnit, tail_returns, run_returns, declaration_returns, let_returns, UnitFunctions}
-use Rattle.rx_engine_histories.specs.Running.{passing}
+use Rattle.rx_engine_related.specs.Running.{passing}
 use Rattle.rx_engine_alike.specs.Units.{gives_unit, all_give_unit, ends_in_unit, returns_unit, all_return_unit, matched_returns_unit, arms_return_unit, body_returns_unit, function_returns_unit, all_are_unit}
 use Rattle.rx_engine_alike_laws.proofs.Promised.{Says, says, silent, said, so, and_so}
 use Rattle.rx_engine_alike_laws.proofs.Variables.{is_in_so}

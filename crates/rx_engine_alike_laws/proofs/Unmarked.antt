@@ -2,8 +2,8 @@
 use Rattle.std.proofs.Common.{◌≡◌, ℕ, List, [], refl, ap, ◌∙◌}
 use Rattle.rx_typed.specs.Tree as tree
 use Rattle.rx_typed.specs.Tree.{Exp, Operands, Scrutinee, Arms, Body}
-use Rattle.rx_exits_marks.specs.Changed.{changed, changed_all, changed_matched, changed_arms, changed_body}
-use Rattle.rx_engine_histories.specs.Running.{passing}
+use Rattle.rx_exits_plan.specs.Changed.{changed, changed_all, changed_matched, changed_arms, changed_body}
+use Rattle.rx_engine_related.specs.Running.{passing}
 
 mutual
   pub same_exp : (e : Exp) → changed (passing []) e ≡ e

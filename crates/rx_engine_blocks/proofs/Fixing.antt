@@ -7,8 +7,8 @@ use Rattle.rx_typed.specs.Named.{Written, WrittenTypes, Parameter, written_node}
 use Rattle.rx_typeck_solver.specs.declared.facts.Subject.TheVariants as subject
 use Rattle.rx_typeck_solver.specs.declared.facts.Demand.{Demand}
 use Rattle.rx_typeck_solver.specs.Facts.{Types, Known, coerced, types_at, MeetsAll, MeetsEach}
-use Rattle.rx_typeck_rules.specs.Asking.{type_of}
-use Rattle.rx_typeck_rules.specs.Demands as rules
+use Rattle.rx_typeck_typed.specs.Asking.{type_of}
+use Rattle.rx_typeck_typed.specs.Demands as rules
 use Rattle.rx_engine_blocks.specs.Signature.{typ_written, typs_written, AsWritten}
 use Rattle.rx_engine_blocks.proofs.Meets.{first}
 

@@ -12,9 +12,9 @@ use Rattle.rx_typeck_solver.specs.declared.facts.Op.TheVariants as op
 use Rattle.rx_typeck_solver.specs.declared.facts.Subject.TheVariants as subject
 use Rattle.rx_typeck_solver.specs.declared.facts.Demand.{Demand}
 use Rattle.rx_typeck_solver.specs.Facts.{Types, Known, coerced, fixed, MeetsAll, MeetsEach}
-use Rattle.rx_typeck_rules.specs.Asking.{Asking, ask, is, when, type_of, expected}
-use Rattle.rx_typeck_rules.specs.Demands as rules
-use Rattle.rx_typeck_rules.specs.Demands.{Listed, members, values, parameters, parts_of}
+use Rattle.rx_typeck_typed.specs.Asking.{Asking, ask, is, when, type_of, expected}
+use Rattle.rx_typeck_typed.specs.Demands as rules
+use Rattle.rx_typeck_typed.specs.Demands.{Listed, members, values, parameters, parts_of}
 use Rattle.rx_engine_blocks.specs.Given.{IsGiven, AreGiven, given_type, FitsType, EachFits}
 use Rattle.rx_engine_blocks.proofs.Meets.{first}
 

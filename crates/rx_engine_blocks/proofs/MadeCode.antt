@@ -7,9 +7,9 @@ use Rattle.rx_typed.specs.Named.{Written, Pattern, Exp, Exps, Else, Arms, Body, 
 use Rattle.rx_typeck_solver.specs.declared.facts.Subject.{Subject}
 use Rattle.rx_typeck_solver.specs.declared.facts.Demand.{Demand}
 use Rattle.rx_typeck_solver.specs.Valid.{IsIn, literals_of}
-use Rattle.rx_typeck_rules.specs.Asking.{type_of}
-use Rattle.rx_typeck_rules.specs.Demands as rules
-use Rattle.rx_typeck_rules.specs.Demands.{Matched, a_value, a_place, an_initialiser, Listed, members, values, parameters, parts_of}
+use Rattle.rx_typeck_typed.specs.Asking.{type_of}
+use Rattle.rx_typeck_typed.specs.Demands as rules
+use Rattle.rx_typeck_typed.specs.Demands.{Matched, a_value, a_place, an_initialiser, Listed, members, values, parameters, parts_of}
 use Rattle.rx_engine_blocks.specs.Parts.{EachOf, AllAbout, EachAbout}
 use Rattle.rx_engine_blocks.specs.Made.{AtNode, MadeOptionalType, MadePattern, MadeExp, MadeExps, MadeElse, MadeArms, MadeBody, MadeStatement, MadeStatements, MadeParameters}
 use Rattle.rx_engine_blocks.proofs.MadeRules.{Keeps, asks_keep, nothing_keeps, type_node, limits_keep, whole_type_keeps, never_keeps, place_keeps, own_keeps, expects_keep, named_keeps, borrowed_keeps, MadeMatched, whole_keeps, join_keeps, before_keeps, after_keeps, unit_keeps, not_never_keeps, given_keeps, one_variable_keeps}

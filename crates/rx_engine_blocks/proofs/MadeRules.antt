@@ -11,9 +11,9 @@ use Rattle.rx_typeck_solver.specs.declared.facts.Passing.{Passing}
 use Rattle.rx_typeck_solver.specs.declared.facts.Op.{Op}
 use Rattle.rx_typeck_solver.specs.declared.facts.Fact.{Fact}
 use Rattle.rx_typeck_solver.specs.declared.facts.Demand.{Demand}
-use Rattle.rx_typeck_rules.specs.Asking.{Asking, asks, when}
-use Rattle.rx_typeck_rules.specs.Demands as rules
-use Rattle.rx_typeck_rules.specs.Demands.{Matched, a_value, a_place, an_initialiser}
+use Rattle.rx_typeck_typed.specs.Asking.{Asking, asks, when}
+use Rattle.rx_typeck_typed.specs.Demands as rules
+use Rattle.rx_typeck_typed.specs.Demands.{Matched, a_value, a_place, an_initialiser}
 use Rattle.rx_engine_blocks.specs.Parts.{EachOf, EachPassing, AllAbout}
 use Rattle.rx_engine_blocks.specs.Made.{AtNode, AtVariable, MadeType, MadeTypes, MadePattern, MadePatterns, MadeGiving}
 

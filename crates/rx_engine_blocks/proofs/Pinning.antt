@@ -8,7 +8,7 @@ use Rattle.rx_typeck_solver.specs.declared.facts.Subject.{Subject}
 use Rattle.rx_typeck_solver.specs.declared.facts.Subject.TheVariants as subject
 use Rattle.rx_typeck_solver.specs.declared.facts.Demand.{Demand}
 use Rattle.rx_typeck_solver.specs.Facts.{Types, Known, has}
-use Rattle.rx_typeck_rules.specs.Asking.{all, just}
+use Rattle.rx_typeck_typed.specs.Asking.{all, just}
 use Rattle.rx_engine_blocks.specs.Renumbering.{Renumbering, shape_at}
 use Rattle.rx_engine_blocks.specs.Knows.{Knows}
 use Rattle.rx_engine_blocks.specs.Along.{PartialInverse, Viewed, Sees, shared, composed}

@@ -12,7 +12,7 @@ use Rattle.rx_typeck_solver.specs.declared.facts.Op.TheVariants as op
 use Rattle.rx_typeck_solver.specs.declared.facts.Demand.{Demand}
 use Rattle.rx_typeck_solver.specs.Facts.{Types, Known, MeetsAll, MeetsEach, coerced, made}
 use Rattle.rx_typeck_solver.specs.Valid.{Told}
-use Rattle.rx_typeck_rules.specs.Demands.{a_value, declared, of_exp, of_parameters, of_statement, whole_pattern}
+use Rattle.rx_typeck_typed.specs.Demands.{a_value, declared, of_exp, of_parameters, of_statement, whole_pattern}
 use Rattle.rx_engine_blocks.specs.Renumbering.{Renumbering, shape_at, subject_at}
 use Rattle.rx_engine_blocks.specs.Along.{Viewed, shared}
 use Rattle.rx_engine_blocks.specs.Blocks.{Fixes}

@@ -6,7 +6,7 @@ use Rattle.rx_typed.specs.Named as named
 use Rattle.rx_typed.specs.Named.{Written, WrittenTypes, Pattern, Patterns, Exp, Exps, Else, Arms, Body, Statement, Statements, Parameter}
 use Rattle.rx_typeck_solver.specs.declared.facts.Subject.{Subject}
 use Rattle.rx_typeck_solver.specs.declared.facts.Subject.TheVariants as subject
-use Rattle.rx_typeck_rules.specs.Asking.{type_of, expected}
+use Rattle.rx_typeck_typed.specs.Asking.{type_of, expected}
 
 module _ (P : Subject → Type 0) where
   -- what a node has, and what is expected there

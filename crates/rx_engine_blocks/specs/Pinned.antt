@@ -10,7 +10,7 @@ use Rattle.rx_typeck_solver.specs.declared.facts.Subject.TheVariants as subject
 use Rattle.rx_typeck_solver.specs.declared.facts.Fact.TheVariants as fact
 use Rattle.rx_typeck_solver.specs.declared.facts.Demand.{Demand}
 use Rattle.rx_typeck_solver.specs.Facts.{Types}
-use Rattle.rx_typeck_rules.specs.Asking.{all, just}
+use Rattle.rx_typeck_typed.specs.Asking.{all, just}
 use Rattle.rx_engine_blocks.specs.Renumbering.{Renumbering}
 
 -- what a literal asks: its kinds, those that hold it, whether it has no suffix

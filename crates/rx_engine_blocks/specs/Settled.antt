@@ -13,7 +13,7 @@ use Rattle.rx_typeck_solver.specs.declared.facts.Op.TheVariants as op
 use Rattle.rx_typeck_solver.specs.declared.facts.Fact.TheVariants as fact
 use Rattle.rx_typeck_solver.specs.declared.facts.Demand.{Demand}
 use Rattle.rx_typeck_solver.specs.Facts.{Known, coerced, made}
-use Rattle.rx_typeck_rules.specs.Demands.{declared, of_exp, of_parameters, of_statement}
+use Rattle.rx_typeck_typed.specs.Demands.{declared, of_exp, of_parameters, of_statement}
 use Rattle.rx_engine_blocks.specs.Gets.{Gets, IsAsked}
 use Rattle.rx_engine_blocks.specs.Given.{AreGiven}
 use Rattle.rx_engine_blocks.specs.Signature.{typ_written}

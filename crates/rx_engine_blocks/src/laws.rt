@@ -8,7 +8,7 @@ ghost use Rattle.rx_core.specs.declared.types.Kind.{Kind};
 ghost use Rattle.rx_typed.specs.declared.nodes.Node.{Node};
 ghost use Rattle.rx_typed.specs.Named.{bind, call, variant, Exps, Parameter, Statements, Written};
 ghost use Rattle.rx_typed.specs.Types.{integer, outline, parameters_declared, peeled, reference, variant_parts, Typ};
-ghost use Rattle.rx_typeck_rules.specs.Demands.{declared, of_exp, of_parameter, of_parameters, of_statements};
+ghost use Rattle.rx_typeck_typed.specs.Demands.{declared, of_exp, of_parameter, of_parameters, of_statements};
 ghost use Rattle.rx_typeck_solver.specs.Facts.{coerced, Known, MeetsEach, Types};
 ghost use Rattle.rx_typeck_solver.specs.Ordered.{Orderly};
 ghost use Rattle.rx_typeck_solver.specs.Valid.{literals_of, IsIn, Task, Told, Valid};

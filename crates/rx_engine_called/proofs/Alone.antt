@@ -5,9 +5,9 @@ use Rattle.std.specs.Option.{is_some}
 use Rattle.rx_typed.specs.Types.{Typ}
 use Rattle.rx_typed.specs.Tree.{Exp}
 use Rattle.rx_typeck_typed.specs.declared.typed.TypedFn.{TypedFn}
-use Rattle.rx_exits_marks.specs.Blocks.{statements, tail, written_tail, Statement}
-use Rattle.rx_exits_marks.specs.Runs.{behind, Home, Run, Sits}
-use Rattle.rx_exits_marks.specs.Points.{next}
+use Rattle.rx_exits_plan.specs.Blocks.{statements, tail, written_tail, Statement}
+use Rattle.rx_exits_plan.specs.Runs.{behind, Home, Run, Sits}
+use Rattle.rx_exits_plan.specs.Points.{next}
 use Rattle.rx_exits_plan.specs.Asked.{Asked}
 use Rattle.rx_exits_plan.specs.Occurrences.{has_number, in_statements, is_direct, is_named_behind, occurrences, those, variables_among}
 use Rattle.rx_exits_plan.specs.Plan.{handed_value, is_redeclared, variables_of}

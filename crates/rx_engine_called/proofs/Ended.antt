@@ -7,10 +7,10 @@ use Rattle.rx_lower_walks.specs.Orders.{Exit, exit_node, Order}
 use Rattle.rx_lower_walks.specs.Orders as order
 use Rattle.rx_lower_walks.specs.Walks as walk
 use Rattle.rx_lower_walks.specs.Walks.{by_break, by_continue, by_end, by_outer_break, by_outer_continue, by_return, by_stop, IsAway, Left, Out, Passed, Walk}
-use Rattle.rx_facts_live.specs.Along.{after}
-use Rattle.rx_facts_live.proofs.Forward.{after_append}
-use Rattle.rx_facts_init.specs.Wholes.{loses, regains, standing}
-use Rattle.rx_exits_marks.specs.Unmarked.{is_mark}
+use Rattle.rx_facts_tables.specs.Along.{after}
+use Rattle.rx_facts_tables.proofs.Forward.{after_append}
+use Rattle.rx_facts_tables.specs.Wholes.{loses, regains, standing}
+use Rattle.rx_exits_plan.specs.Unmarked.{is_mark}
 use Rattle.rx_engine_called.specs.Ended.{AllEnd, e_act, e_ending, e_fail, e_leave, e_nothing, e_or, e_otherwise, e_passes, e_then, Ends, EndsBehind, i_act, i_ending, i_fail, i_leave, i_loop, i_nothing, i_or, i_otherwise, i_passes, i_then, in_scope, Inside, IsOf, IsStopped, l_act, l_ending, l_fail, l_jump, l_leave, l_nothing, l_or, l_otherwise, l_passes, l_then, Leaving}
 
 -- ---- lists

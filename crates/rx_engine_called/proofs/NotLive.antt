@@ -7,12 +7,12 @@ use Rattle.rx_typed.specs.Tree.{Function, Root, temporary, variable}
 use Rattle.rx_lower_walks.specs.Actions.{Act, Action, Borrow, Build, Call, Dead, Declare, Give, Input, Print, Read, Test, Write}
 use Rattle.rx_lower_walks.specs.Orders.{order_function}
 use Rattle.rx_lower_walks.specs.Walks.{EndsVariable, IsWalk, Walk}
-use Rattle.rx_facts_live.specs.Along.{after, ahead}
-use Rattle.rx_facts_live.proofs.Forward.{after_append}
-use Rattle.rx_facts_init.specs.Wholes.{is_variable, loses, regains, standing}
-use Rattle.rx_facts_live.specs.Live.{has_root, living, roots_of, used, whole, written}
-use Rattle.rx_typed.specs.Places.{is_front}
-use Rattle.rx_exits_marks.specs.Unmarked.{is_mark}
+use Rattle.rx_facts_tables.specs.Along.{after, ahead}
+use Rattle.rx_facts_tables.proofs.Forward.{after_append}
+use Rattle.rx_facts_tables.specs.Wholes.{is_variable, loses, regains, standing}
+use Rattle.rx_facts_tables.specs.Live.{has_root, living, roots_of, used, whole, written}
+use Rattle.rx_typed.specs.TypedPlaces.{is_front}
+use Rattle.rx_exits_plan.specs.Unmarked.{is_mark}
 use Rattle.rx_engine_called.specs.Ended.{AllEnd, Inside, IsStopped}
 use Rattle.rx_engine_called.proofs.Ended.{ends_behind, still, to_end}
 

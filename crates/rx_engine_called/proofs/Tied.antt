@@ -10,11 +10,11 @@ use Rattle.rx_tree.specs.Plain.{Function}
 use Rattle.rx_typed.specs.Types.{Typ}
 use Rattle.rx_typeck_typed.specs.declared.typed.TypedFn.{TypedFn}
 use Rattle.rx_lower_walks.specs.Walks.{Among, here, there}
-use Rattle.rx_exits_marks.specs.Blocks.{begins, binds, bound, declared_by_all, does, Statement}
-use Rattle.rx_exits_marks.specs.Blocks as marks
-use Rattle.rx_exits_marks.specs.Points.{breaks, continues, Exit, next, returns, same_exit}
-use Rattle.rx_exits_marks.specs.Runs.{inside, last_value}
-use Rattle.rx_exits_marks.specs.Spots.{Around, with_variables}
+use Rattle.rx_exits_plan.specs.Blocks.{begins, binds, bound, declared_by_all, does, Statement}
+use Rattle.rx_exits_plan.specs.Blocks as marks
+use Rattle.rx_exits_plan.specs.Points.{breaks, continues, Exit, next, returns, same_exit}
+use Rattle.rx_exits_plan.specs.Runs.{inside, last_value}
+use Rattle.rx_exits_plan.specs.Spots.{Around, with_variables}
 use Rattle.rx_exits_plan.specs.declared.plan.Exit.{Exit as ListedExit}
 use Rattle.rx_exits_plan.specs.declared.plan.Exit.TheVariants as exit
 use Rattle.rx_exits_plan.specs.declared.plan.ExitOuts.{ExitOuts}
@@ -33,7 +33,7 @@ use Rattle.rx_hoist_extraction.specs.Plan.{has_exit, Leaving, names_of, outs_of,
 use Rattle.rx_hoist_extraction.specs.Values.{held, held_by, next_values, result_if_any, result_of, Value}
 use Rattle.rx_hoist_extraction.specs.Call.{is_own}
 use Rattle.rx_hoist_naming.specs.NamedPlan.{named_exit, named_leaving, named_params, named_plan, named_variable, named_variables, names_in, place_of, Told}
-use Rattle.rx_hoist_words.specs.Words.{OutsAgree}
+use Rattle.rx_hoist_naming.specs.Words.{OutsAgree}
 use Rattle.rx_engine_names.proofs.Scoped.{among_append}
 use Rattle.rx_engine_called.specs.Outside.{a_break, a_continue, a_name, Outer, outside_of}
 use Rattle.rx_engine_called.specs.Tells.{BehindTells, ExitTells, held_names, NamesIt, RunTells, told_behind, ValueTells}

@@ -15,10 +15,10 @@ use Rattle.rx_exits_plan.specs.Plan.{variables_of}
 use Rattle.rx_exits_plan.specs.PlainPlan.{IsExitPlan}
 use Rattle.rx_hoist_extraction.specs.Names.{Names}
 use Rattle.rx_hoist_extraction.specs.Plan.{Leaving, Variable}
-use Rattle.rx_hoist_names.specs.DeclaredNames.{declared_names}
+use Rattle.rx_hoist_naming.specs.DeclaredNames.{declared_names}
 use Rattle.rx_hoist_naming.specs.NamedPlan.{named_leaving, named_plan, named_variables, names_in, Told}
-use Rattle.rx_hoist_words.specs.Words.{NamesTypes, OutsAgree}
-use Rattle.rx_hoist_words.proofs.Plans.{exits_few, Few, redeclared_few, run_few}
+use Rattle.rx_hoist_naming.specs.Words.{NamesTypes, OutsAgree}
+use Rattle.rx_hoist_naming.proofs.Plans.{exits_few, Few, redeclared_few, run_few}
 
 pub nth_slice : {A : Type 0} (l : List A) (n : ℕ) → nth l n ≡ slice_get l n
 nth_slice [] n = refl

@@ -5,8 +5,8 @@ use Rattle.rx_lower_walks.specs.Actions.{Action}
 use Rattle.rx_lower_walks.specs.Orders.{breaks, continues, Exit, Order, returns}
 use Rattle.rx_lower_walks.specs.Orders as order
 use Rattle.rx_lower_walks.specs.Walks.{EndsVariable, Out, stopped}
-use Rattle.rx_facts_live.specs.Along.{after}
-use Rattle.rx_facts_init.specs.Wholes.{regains, standing}
+use Rattle.rx_facts_tables.specs.Along.{after}
+use Rattle.rx_facts_tables.specs.Wholes.{regains, standing}
 
 -- it is written only where it ends with a part
 pub data Ends (x : ℕ) : Order → Type 0 where

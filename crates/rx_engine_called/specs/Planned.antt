@@ -11,14 +11,14 @@ use Rattle.rx_typed.specs.PlainTree.{plain-TypedTree}
 use Rattle.rx_typeck_typed.specs.declared.typed.Typed.{Typed}
 use Rattle.rx_typeck_typed.specs.Typing.{IsTyped}
 use Rattle.rx_lower_walks.specs.Walks.{Among}
-use Rattle.rx_exits_marks.specs.Runs.{Sits}
+use Rattle.rx_exits_plan.specs.Runs.{Sits}
 use Rattle.rx_exits_plan.specs.Asked.{Asked}
 use Rattle.rx_exits_plan.specs.PlainPlan.{plan_of, IsExitPlan}
 use Rattle.rx_exits.specs.Refusing.{same_name, NoneShadowed}
 use Rattle.rx_hoist_nodes.specs.TypedRun.{typed_run}
 use Rattle.rx_hoist_extraction.specs.NewFunction.{signature_positions}
 use Rattle.rx_hoist_naming.specs.NamedPlan.{named_plan, names_in, Told}
-use Rattle.rx_hoist_words.specs.Words.{OutsAgree}
+use Rattle.rx_hoist_naming.specs.Words.{OutsAgree}
 
 pub record Planned (A : Told) (q : Asked) (bytes : List ℕ) (names : List ItemNames) (t : Typed) : Type 0 where
   -- the text and its types

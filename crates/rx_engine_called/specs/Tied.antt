@@ -5,9 +5,9 @@ use Rattle.rx_tree.specs.declared.tree.Ident.{Ident}
 use Rattle.rx_tree.specs.Lists.{statements, tail}
 use Rattle.rx_tree.specs.Plain.{Function}
 use Rattle.rx_lower_walks.specs.Walks.{Among}
-use Rattle.rx_exits_marks.specs.Blocks.{declared_by_all}
-use Rattle.rx_exits_marks.specs.Points.{breaks, continues, Exit, next}
-use Rattle.rx_exits_marks.specs.Runs.{inside}
+use Rattle.rx_exits_plan.specs.Blocks.{declared_by_all}
+use Rattle.rx_exits_plan.specs.Points.{breaks, continues, Exit, next}
+use Rattle.rx_exits_plan.specs.Runs.{inside}
 use Rattle.rx_exits_plan.specs.Asked.{Asked}
 use Rattle.rx_exits_plan.specs.Exits.{at_start, exits}
 use Rattle.rx_exits_plan.specs.Occurrences.{is_direct, is_named_behind}

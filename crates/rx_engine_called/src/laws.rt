@@ -14,10 +14,10 @@ ghost use Rattle.rx_typeck_typed.specs.declared.typed.Typed.{Typed};
 ghost use Rattle.rx_lower_walks.specs.Actions.{Action};
 ghost use Rattle.rx_lower_walks.specs.Orders.{Order, order_function};
 ghost use Rattle.rx_lower_walks.specs.Walks.{IsWalk, Out, Walk};
-ghost use Rattle.rx_facts_live.specs.Along.{after, ahead};
-ghost use Rattle.rx_facts_init.specs.Wholes.{standing};
-ghost use Rattle.rx_facts_live.specs.Live.{has_root, living, used};
-ghost use Rattle.rx_exits_marks.specs.Unmarked.{is_mark};
+ghost use Rattle.rx_facts_tables.specs.Along.{after, ahead};
+ghost use Rattle.rx_facts_tables.specs.Wholes.{standing};
+ghost use Rattle.rx_facts_tables.specs.Live.{has_root, living, used};
+ghost use Rattle.rx_exits_plan.specs.Unmarked.{is_mark};
 ghost use Rattle.rx_exits_plan.specs.Asked.{Asked};
 ghost use Rattle.rx_exits_plan.specs.PlainPlan.{plan_of};
 ghost use Rattle.rx_hoist_extraction.specs.Names.{declared_by, is_among, Distinct, Names};
@@ -25,11 +25,11 @@ ghost use Rattle.rx_hoist_extraction.specs.Run.{labels_round, run_parts, Run};
 ghost use Rattle.rx_hoist_extraction.specs.Plan.{Leaving, Pins, Plan, Variable};
 ghost use Rattle.rx_hoist_extraction.specs.Pinned.{pinned_function};
 ghost use Rattle.rx_hoist_extraction.specs.FreeName.{FreeName};
-ghost use Rattle.rx_hoist_names.specs.Words.{identifiers};
+ghost use Rattle.rx_hoist_naming.specs.NamesWords.{identifiers};
 ghost use Rattle.rx_select.specs.RunOf.{RunOf};
 ghost use Rattle.rx_hoist_extraction.specs.Values.{next_values, result_of, values_of};
 ghost use Rattle.rx_hoist_naming.specs.NamedPlan.{named_plan, names_in, Told};
-ghost use Rattle.rx_hoist_words.specs.Words.{NamesTypes};
+ghost use Rattle.rx_hoist_naming.specs.Words.{NamesTypes};
 ghost use Rattle.rx_engine_names.specs.HandsOver.{received_names};
 ghost use Rattle.rx_engine_names.specs.CalledRuns.{RunStands};
 ghost use Rattle.rx_engine_names.specs.Extractions.{goes_to_end, CallNames, RunSays};
@@ -45,7 +45,7 @@ use rx_hoist_meant::{
     named_plans_have_distinct_names, outs_have_their_own_names,
     runs_tell_params_and_locals_by_names,
 };
-use rx_hoist_words::{named_plans_are_formed, runs_have_names, types_name_types};
+use rx_hoist_naming::{named_plans_are_formed, runs_have_names, types_name_types};
 
 /// What the call hands out by the plan of an accepted text: the types of what is redeclared name structs and enums; where the run's value
 /// alone is handed out nothing is redeclared, since nothing follows the run; names of outs and of what is redeclared are words of the text;

@@ -7,7 +7,7 @@ use Rattle.rx_tree.specs.Plain.{TypeTree, TypeTrees, FieldOf, VariantOf, Paramet
 use Rattle.rx_resolve_names.specs.Meant.{number, type_name, item_named, as_type}
 use Rattle.rx_resolve_names.specs.Steps.{known}
 use Rattle.rx_typed.specs.Types.{Typ, reference, tuple_of, named, shapes_of, shape_and, FieldDeclared, VariantDeclared, Declared, struct_declared, enum_declared, function_declared}
-use Rattle.rx_typeck_declare.specs.Items.{derives_copy}
+use Rattle.rx_typeck_typed.specs.Items.{derives_copy}
 use Rattle.rx_engine_names.proofs.KeptItems.{Keeps, keeps_fits, known_some}
 use Rattle.rx_engine_blocks.specs.Renumbering.{Renumbering, shape_at, shapes_at, field_at, variant_at, declared_at}
 use Rattle.rx_engine_declared.specs.Denoting.{Denotes, DenoteEach}

@@ -12,7 +12,7 @@ use Rattle.rx_typed.specs.PlainTypes.{declarations}
 use Rattle.rx_typed.specs.declared.declarations.Decl.{Decl}
 use Rattle.rx_typed_declarations.specs.Sizes.{Sized, IsSizes}
 use Rattle.rx_typeck_solver.specs.Stepping.{known}
-use Rattle.rx_typeck_declare.specs.Items.{declared_items}
+use Rattle.rx_typeck_typed.specs.Items.{declared_items}
 use Rattle.rx_hoist_extraction.specs.Run.{Run, run_parts, loops_round}
 use Rattle.rx_hoist_extraction.specs.Plan.{Bounds, Plan, has_enum, enum_name}
 use Rattle.rx_hoist_extraction.specs.Pinned.{pinned_function}

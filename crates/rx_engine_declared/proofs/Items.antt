@@ -22,10 +22,10 @@ use Rattle.rx_typed.specs.declared.declarations.Decl.{Decl}
 use Rattle.rx_typed.specs.declared.declarations.Decl.TheVariants as decl
 use Rattle.rx_typed.specs.declared.declarations.FieldDecl.{FieldDecl}
 use Rattle.rx_typed.specs.declared.declarations.VariantDecl.{VariantDecl}
-use Rattle.rx_typeck_declare.specs.Steps as steps
-use Rattle.rx_typeck_declare.specs.Steps.{Reading, on_ok}
-use Rattle.rx_typeck_declare.specs.Written.{type_of, types_of}
-use Rattle.rx_typeck_declare.specs.Items.{declared_item, field_of, fields_of, variant_of, variants_of, begins, all_used, derives_copy, one_each, bounded, bounds_of, entry_of, parameters_of, the_only, answer_of}
+use Rattle.rx_typeck_typed.specs.Steps as steps
+use Rattle.rx_typeck_typed.specs.Steps.{Reading, on_ok}
+use Rattle.rx_typeck_typed.specs.Written.{type_of, types_of}
+use Rattle.rx_typeck_typed.specs.Items.{declared_item, field_of, fields_of, variant_of, variants_of, begins, all_used, derives_copy, one_each, bounded, bounds_of, entry_of, parameters_of, the_only, answer_of}
 use Rattle.rx_engine_names.proofs.SideBySide.{named_ok, the_same}
 use Rattle.rx_engine_declared.specs.Denoting.{Denotes}
 use Rattle.rx_engine_declared.specs.Declaring.{AreFields, AreVariants, AreParameters, IsResult, DeclaresAs}

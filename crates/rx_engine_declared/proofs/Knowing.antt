@@ -12,7 +12,7 @@ use Rattle.rx_typed.specs.PlainTypes.{declarations}
 use Rattle.rx_typed.specs.declared.declarations.Decl.{Decl}
 use Rattle.rx_typed_declarations.specs.Sizes.{Sized, IsSizes}
 use Rattle.rx_typeck_solver.specs.Stepping.{known}
-use Rattle.rx_typeck_declare.specs.Items.{declared_items}
+use Rattle.rx_typeck_typed.specs.Items.{declared_items}
 use Rattle.rx_engine_names.specs.Insertion.{Inserted, past, number_there}
 use Rattle.rx_engine_names.proofs.KeptItems.{inserted_keeps}
 use Rattle.rx_engine_blocks.specs.Renumbering.{Renumbering, declared_at}

@@ -11,7 +11,7 @@ use Rattle.rx_resolve_names.specs.Meant.{number, type_name, item_named, as_type,
 use Rattle.rx_resolve_names.specs.Items.{in_program}
 use Rattle.rx_typed.specs.Types as types
 use Rattle.rx_typed.specs.Types.{Typ, Shape, Shapes, integer, boolean, tuple_of, reference, no_shape, shape_and, shapes_of, shapes_listed, Declared, enum_declared}
-use Rattle.rx_hoist_words.specs.Words.{NamesTypes, NameTypes}
+use Rattle.rx_hoist_naming.specs.Words.{NamesTypes, NameTypes}
 use Rattle.rx_hoist_extraction.specs.Run.{Parts}
 use Rattle.rx_hoist_extraction.specs.Plan.{Leaving, Mode, by_value, by_reborrow, by_view, by_shared, by_mut, Param, Bounds, Plan, has_enum, enum_name}
 use Rattle.rx_hoist_extraction.specs.Values.{next_values, types_of}

@@ -15,9 +15,9 @@ use Rattle.rx_resolve_names.specs.Steps.{Inside, child, next, entry, with_names,
 use Rattle.rx_resolve_names.specs.Names.{in_lifetime, in_type, in_types, lifetime_in, lifetimes_in, type_in, written}
 use Rattle.rx_typed.specs.Types.{reference}
 use Rattle.rx_typed.specs.PlainTypes.{plain-Ty, typ_integer, typ_boolean, typ_tuple, typ_shared, typ_mut, typ_item}
-use Rattle.rx_typeck_declare.specs.Steps as steps
-use Rattle.rx_typeck_declare.specs.Steps.{Reading, on_ok, in_front, others}
-use Rattle.rx_typeck_declare.specs.Written.{lifetimes_of, elided, all_elided, one_listed, left_by, listed, as_many, lifetimes_at, pointing, type_of, types_of}
+use Rattle.rx_typeck_typed.specs.Steps as steps
+use Rattle.rx_typeck_typed.specs.Steps.{Reading, on_ok, in_front, others}
+use Rattle.rx_typeck_typed.specs.Written.{lifetimes_of, elided, all_elided, one_listed, left_by, listed, as_many, lifetimes_at, pointing, type_of, types_of}
 use Rattle.rx_engine_names.proofs.SideBySide.{named_ok, the_same}
 use Rattle.rx_engine_names.proofs.KeptItems.{known_some}
 use Rattle.rx_engine_declared.specs.Denoting.{Denotes, DenoteEach}

@@ -8,9 +8,9 @@ use Rattle.rx_typed.specs.Types.{Declared}
 use Rattle.rx_typed.specs.PlainTypes.{plain-Decl, declarations}
 use Rattle.rx_typed.specs.declared.declarations.Decl.{Decl}
 use Rattle.rx_typed.proofs.Items.{declared_at}
-use Rattle.rx_typeck_declare.specs.Steps.{on_ok}
-use Rattle.rx_typeck_declare.specs.Items.{declared_item, declared_items, entries_of}
-use Rattle.rx_hoist_words.proofs.Programs.{table_at}
+use Rattle.rx_typeck_typed.specs.Steps.{on_ok}
+use Rattle.rx_typeck_typed.specs.Items.{declared_item, declared_items, entries_of}
+use Rattle.rx_hoist_naming.proofs.Programs.{table_at}
 use Rattle.rx_engine_names.specs.Insertion.{past}
 use Rattle.rx_engine_names.proofs.SideBySide.{named_ok}
 use Rattle.rx_engine_declared.specs.Declaring.{DeclaresAs}

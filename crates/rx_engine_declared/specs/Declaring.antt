@@ -4,7 +4,7 @@ use Rattle.rx_tree.specs.Plain as plain
 use Rattle.rx_tree.specs.Plain.{TypeTree, FieldOf, VariantOf, Parameter, Function, ItemTree, ProgramTree}
 use Rattle.rx_resolve_names.specs.Meant.{number}
 use Rattle.rx_typed.specs.Types.{Typ, unit_shape, FieldDeclared, VariantDeclared, Declared, rt_declared, struct_declared, enum_declared, function_declared}
-use Rattle.rx_typeck_declare.specs.Items.{derives_copy}
+use Rattle.rx_typeck_typed.specs.Items.{derives_copy}
 use Rattle.rx_engine_declared.specs.Denoting.{Denotes, DenoteEach}
 
 abbrev pub AreFields : ProgramTree → List FieldOf → List FieldDeclared → Type 0

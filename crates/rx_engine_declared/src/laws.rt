@@ -12,8 +12,8 @@ ghost use Rattle.rx_typed.specs.PlainTypes.{plain-Decl, declarations};
 ghost use Rattle.rx_typed.specs.declared.declarations.Decl.{Decl};
 ghost use Rattle.rx_typed_declarations.specs.Sizes.{IsSizes};
 ghost use Rattle.rx_typeck_solver.specs.Stepping.{known};
-ghost use Rattle.rx_typeck_declare.specs.Items.{declared_item};
-ghost use Rattle.rx_typeck_declare.specs.Programs.{Declares};
+ghost use Rattle.rx_typeck_typed.specs.Items.{declared_item};
+ghost use Rattle.rx_typeck_typed.specs.Programs.{Declares};
 ghost use Rattle.rx_typeck_typed.specs.declared.typed.Typed.{Typed};
 ghost use Rattle.rx_typeck_typed.specs.Typing.{known_in, IsTyped};
 ghost use Rattle.rx_hoist_extraction.specs.Run.{Run};
@@ -27,7 +27,7 @@ ghost use Rattle.rx_engine_blocks.specs.Knows.{Knows};
 ghost use Rattle.rx_engine_declared.specs.Declaring.{DeclaresAs, SameSignature};
 ghost use Rattle.rx_engine_declared.specs.NewItems.{declared_enum, declared_function};
 
-use rx_typeck_declare::declared_are_finite;
+use rx_typeck_typed::declared_are_finite;
 use rx_typed_declarations::one_size_each;
 
 /// What a program declares of an item is what the item's text declares, whose types name what is found by their names.

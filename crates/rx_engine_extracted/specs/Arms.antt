@@ -4,7 +4,7 @@
 use Rattle.std.specs.Prelude.{ℕ, nat_eq, ◌==◌, Bool, true, false, not, ◌&&◌, ◌||◌, List, [], ◌∷◌, length, Option, Some, None, if◌then◌else◌}
 use Rattle.rx_typed.specs.Tree as tree
 use Rattle.rx_typed.specs.Tree.{Pattern, Subpatterns, Exp, Arms, Body}
-use Rattle.rx_exits_marks.specs.Points.{Exit, next, breaks, continues, returns, same_exit}
+use Rattle.rx_exits_plan.specs.Points.{Exit, next, breaks, continues, returns, same_exit}
 use Rattle.rx_exits_plan.specs.Plan.{Plan}
 use Rattle.rx_engine_simulation.specs.Sights.{Renaming}
 use Rattle.rx_engine_simulation.specs.Jumps.{Returning, as_return, with_value, with_unit, no_return, Jumping, loop_of, Pack}

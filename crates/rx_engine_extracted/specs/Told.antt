@@ -2,7 +2,7 @@
 use Rattle.std.specs.Prelude.{ℕ, ◌+◌, Bool, true, false, not, ◌&&◌, ◌||◌, if◌then◌else◌, List, [], ◌∷◌, Option, Some, None, slice_get}
 use Rattle.rx_modes_policy.specs.declared.uses.Mode.TheVariants as mode
 use Rattle.rx_modes_policy.specs.declared.uses.Mode.{Mode}
-use Rattle.rx_exits_marks.specs.Runs.{Run}
+use Rattle.rx_exits_plan.specs.Runs.{Run}
 use Rattle.rx_exits_plan.specs.Plan.{Plan}
 use Rattle.rx_engine_simulation.specs.Sights.{plain, shut, special, Hold, How, Sight, Renaming, sight_of}
 use Rattle.rx_engine_simulation.specs.Passing.{New}

@@ -25,8 +25,8 @@ use Rattle.rx_lower_walks.specs.Graph.{Site}
 use Rattle.rx_lower.specs.Functions.{function_at}
 use Rattle.rx_region_outlives.specs.Implied.{ImpliedAmong, ImpliedBy, in_held, pairs_of, implied_among, ImpliesOf}
 use Rattle.rx_region_outlives.proofs.ImpliedLemmas.{among_told}
-use Rattle.rx_region_constraints.specs.Constraints.{Context}
-use Rattle.rx_region_constraints.specs.Known.{Missing}
+use Rattle.rx_region.specs.Constraints.{Context}
+use Rattle.rx_region.specs.Known.{Missing}
 use Rattle.rx_facts.specs.Functions.{sites_of}
 use Rattle.rx_facts.specs.Same.{SameFunction, AreSame}
 use Rattle.rx_check.specs.Contexts.{AreAsked, context_of}

@@ -17,7 +17,7 @@ use Rattle.rx_typeck_typed.specs.Typing.{type_at}
 use Rattle.rx_exits_plan.specs.declared.plan.ExitOuts.{ExitOuts}
 use Rattle.rx_modes_policy.specs.declared.uses.Mode.{Mode}
 use Rattle.rx_hoist_extraction.specs.Names.{Names}
-use Rattle.rx_hoist_names.specs.DeclaredNames.{declared_names}
+use Rattle.rx_hoist_naming.specs.DeclaredNames.{declared_names}
 use Rattle.rx_hoist_nodes.specs.Nodes.{nodes_of}
 use Rattle.rx_hoist_naming.specs.NamedPlan.{named_variable, named_variables, named_param, named_params, named_exit, named_leaving, passed, value_if, lacks_type, is_never, Told, item_of, names_in, last_number, last_node, result_of, named_plan}
 use Rattle.rx_hoist_naming.specs.Pinning.{open_literal, kind_pin, kind_pins, open_pattern, type_pin, type_pins, pins_if}

@@ -13,8 +13,8 @@ use Rattle.rx_typed.specs.Regions.{RegionTyp, region_tuple, region_reference, re
 use Rattle.rx_typed.specs.Tree.{Temporary, temporary, Making, struct, variant_of}
 use Rattle.rx_typed.specs.Tree as tree
 use Rattle.rx_typed_declarations.specs.Variance.{unrecorded, variances_recorded, Recorded, polarity, TellsOf, Invariant}
-use Rattle.rx_typed_places.specs.Places as places
-use Rattle.rx_typed_places.specs.Places.{fields_of, behind, place_type, part_at}
+use Rattle.rx_typed.specs.Places as places
+use Rattle.rx_typed.specs.Places.{fields_of, behind, place_type, part_at}
 use Rattle.rx_lower_walks.specs.Graph.{Site}
 use Rattle.rx_lower_walks.specs.Pieces.{graph}
 use Rattle.rx_lower_walks.specs.Text.{actions_of}
@@ -24,9 +24,9 @@ use Rattle.rx_lower_lifetimes.specs.Numbered.{Own, region, signed}
 use Rattle.rx_lower.specs.Functions.{function}
 use Rattle.rx_region_outlives.specs.Implied.{HasPair, ImpliesOf}
 use Rattle.rx_region_outlives.specs.Related.{in_place, within, first_polarity, other_polarities, arguments, related, all_related, subtypes}
-use Rattle.rx_region_constraints.specs.Constraints.{Context, lifetimes_of, instances, through, reborrows, made_parts, root_type, type_at, type_in, held, variances, flows, parts_flow, parameters_flow, signature_asks, asks, all_ask, formed, imposed}
-use Rattle.rx_region_constraints.specs.Known.{Known, itself, by, Missing}
-use Rattle.rx_region_constraints.specs.Solutions.{Point, Least, whole, ends, live, longer}
+use Rattle.rx_region.specs.Constraints.{Context, lifetimes_of, instances, through, reborrows, made_parts, root_type, type_at, type_in, held, variances, flows, parts_flow, parameters_flow, signature_asks, asks, all_ask, formed, imposed}
+use Rattle.rx_region.specs.Known.{Known, itself, by, Missing}
+use Rattle.rx_region.specs.Solutions.{Point, Least, whole, ends, live, longer}
 use Rattle.rx_facts.specs.Functions.{sites_of}
 use Rattle.rx_facts.specs.Same.{SameFunction}
 use Rattle.rx_facts.proofs.Lifetimes.{same_lifetimes}

@@ -3,7 +3,7 @@
 use Rattle.std.proofs.Common.{◌≡◌, ◌⊎◌, inl, inr, ℕ, Bool, true, false, ◌==◌, List, [], ◌∷◌, map, refl, sym, ap, subst, ◌∙◌}
 use Rattle.std.proofs.lemmas.Bool.{eqb-true, eq-eqb, true≢false}
 use Rattle.rx_lower_walks.specs.Walks.{Among, here, there}
-use Rattle.rx_exits_marks.specs.Points.{Exit, next, breaks, continues, returns}
+use Rattle.rx_exits_plan.specs.Points.{Exit, next, breaks, continues, returns}
 use Rattle.rx_exits_plan.specs.declared.plan.Exit.{Exit as CodeExit}
 use Rattle.rx_exits_plan.specs.declared.plan.Exit.TheVariants as exit
 use Rattle.rx_exits_plan.specs.declared.plan.ExitOuts.{ExitOuts}
@@ -12,7 +12,7 @@ use Rattle.rx_exits_plan.specs.Asked.{Asked}
 use Rattle.rx_exits_plan.specs.Plan.{Plan, IsPlan}
 use Rattle.rx_exits_plan.specs.PlainPlan.{plain-Exit, outs_in, plan_of, IsExitPlan}
 use Rattle.rx_exits_plan.proofs.One.{same_exits, same_params, same_locals, same_value, same_outs, same_loose, same_redeclared}
-use Rattle.rx_hoist_words.specs.Words.{OutsAgree}
+use Rattle.rx_hoist_naming.specs.Words.{OutsAgree}
 
 -- ---- exits
 

@@ -13,7 +13,7 @@ use Rattle.rx_typed.specs.PlainTypes.{declarations}
 use Rattle.rx_typed_declarations.specs.Held.{held}
 use Rattle.rx_typed_declarations.specs.Sizes.{Sized}
 use Rattle.rx_typed_declarations.proofs.Polarities.{same_declared}
-use Rattle.rx_typeck_declare.specs.Programs.{Fits as Declared}
+use Rattle.rx_typeck_typed.specs.Programs.{Fits as Declared}
 use Rattle.rx_typeck_typed.specs.declared.typed.Typed.{Typed}
 use Rattle.rx_typeck_typed.specs.declared.typed.TypedFn.{TypedFn}
 use Rattle.rx_typeck_typed.specs.Typing.{IsTyped}

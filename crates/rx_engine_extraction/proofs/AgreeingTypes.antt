@@ -19,7 +19,7 @@ use Rattle.rx_typed.specs.Naming.{function_named}
 use Rattle.rx_typed_declarations.specs.Held.{held}
 use Rattle.rx_typed_declarations.specs.Sizes.{Sized, IsSizes}
 use Rattle.rx_typed_declarations.proofs.RegionLemmas.{is_erased}
-use Rattle.rx_typeck_declare.specs.Programs.{Fits}
+use Rattle.rx_typeck_typed.specs.Programs.{Fits}
 use Rattle.rx_typeck_solver.specs.declared.facts.Subject.{Subject}
 use Rattle.rx_typeck_solver.specs.Facts.{Types, Known}
 use Rattle.rx_typeck_typed.specs.declared.typed.TypedFn.{TypedFn}

@@ -11,10 +11,10 @@ use Rattle.rx_facts.specs.Functions.{body, frame_of}
 use Rattle.rx_exits_plan.specs.Asked.{Asked}
 use Rattle.rx_exits_plan.specs.PlainPlan.{plain-Run, plan_of, IsExitPlan}
 use Rattle.rx_exits_plan.specs.declared.plan.ExitPlan.{ExitPlan}
-use Rattle.rx_exits_syntax.specs.PlainSyntax.{plain-Home}
-use Rattle.rx_exits_points.specs.AskedOf.{asked_of}
-use Rattle.rx_exits_points.specs.Points.{IsPoints}
-use Rattle.rx_exits_points.specs.declared.run_points.RunPoints.{RunPoints}
+use Rattle.rx_exits_plan.specs.PlainSyntax.{plain-Home}
+use Rattle.rx_exits.specs.AskedOf.{asked_of}
+use Rattle.rx_exits.specs.Points.{IsPoints}
+use Rattle.rx_exits.specs.declared.run_points.RunPoints.{RunPoints}
 use Rattle.rx_exits.specs.Asking.{IsAskedOf}
 use Rattle.rx_modes.specs.Answer as modes
 use Rattle.rx_modes.specs.declared.plan.ModeFault.{ModeFault}

@@ -15,11 +15,11 @@ use Rattle.rx_typed_runs.specs.declared.runs.RunPos.{RunPos}
 use Rattle.rx_resolve_names.specs.Causes.{Meant}
 use Rattle.rx_typeck_typed.specs.Typing.{IsTyped}
 use Rattle.rx_typeck_typed.specs.declared.typed.TypedFn.{TypedFn}
-use Rattle.rx_exits_marks.specs.Runs.{Home}
+use Rattle.rx_exits_plan.specs.Runs.{Home}
 use Rattle.rx_exits_plan.specs.PlainPlan.{IsExitPlan}
 use Rattle.rx_hoist_extraction.specs.Plan.{Plan}
 use Rattle.rx_hoist_extraction.specs.Limits.{count_lifetimes}
-use Rattle.rx_hoist_words.specs.Words.{OutsAgree}
+use Rattle.rx_hoist_naming.specs.Words.{OutsAgree}
 use Rattle.rx_hoist_extraction.specs.Extraction.{extraction}
 use Rattle.rx_engine_extraction.specs.Source.{Text, Wish}
 use Rattle.rx_engine_extraction.specs.Case.{Case, asked}

@@ -17,7 +17,7 @@ use Rattle.rx_resolve_names.specs.Causes.{Meant}
 use Rattle.rx_typeck_typed.specs.Typing.{IsTyped}
 use Rattle.rx_exits_plan.specs.PlainPlan.{IsExitPlan}
 use Rattle.rx_hoist_extraction.specs.Limits.{count_lifetimes, made_levels}
-use Rattle.rx_hoist_words.specs.Words.{OutsAgree}
+use Rattle.rx_hoist_naming.specs.Words.{OutsAgree}
 use Rattle.rx_repair.specs.Repaired.{repaired}
 use Rattle.rx_repair.proofs.Extracting.{repaired_extraction}
 use Rattle.rx_repair.proofs.Once.{all_distinct}

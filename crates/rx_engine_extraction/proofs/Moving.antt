@@ -4,7 +4,7 @@ use Rattle.rx_core.specs.declared.types.Which.TheVariants as which
 use Rattle.rx_tree.specs.Plain.{ProgramTree}
 use Rattle.rx_typed_runs.specs.declared.runs.RunPos.{RunPos}
 use Rattle.rx_typeck_typed.specs.declared.typed.TypedFn.{TypedFn}
-use Rattle.rx_exits_marks.specs.Runs.{Home}
+use Rattle.rx_exits_plan.specs.Runs.{Home}
 use Rattle.rx_hoist_extraction.specs.Plan.{Plan}
 use Rattle.rx_engine_extraction.specs.declared.refusal.Fault.{Fault}
 use Rattle.rx_engine_extraction.specs.declared.refusal.Fault.TheVariants as fault

@@ -3,7 +3,7 @@ use Rattle.std.proofs.Common.{◌≡◌, ℕ, Bool, List, [], map, refl, sym, ap
 use Rattle.rx_core.specs.declared.types.Span.{Span}
 use Rattle.rx_typed_runs.specs.declared.runs.RunPos.{RunPos}
 use Rattle.rx_typeck_typed.specs.declared.typed.TypedFn.{TypedFn}
-use Rattle.rx_exits_marks.specs.Runs.{Home}
+use Rattle.rx_exits_plan.specs.Runs.{Home}
 use Rattle.rx_exits_plan.specs.Asked.{Asked}
 use Rattle.rx_exits_plan.specs.Plan.{Plan, is_moved}
 use Rattle.rx_exits_plan.specs.PlainPlan.{plan_of, IsExitPlan}

@@ -17,7 +17,7 @@ use Rattle.rx_lower_walks.specs.Walks.{Among}
 use Rattle.rx_lower_walks.specs.Walks as walks
 use Rattle.rx_select.specs.RunOf.{RunOf}
 use Rattle.rx_typed.specs.Tree.{Function}
-use Rattle.rx_exits_marks.specs.Runs.{Run, Home, Sits}
+use Rattle.rx_exits_plan.specs.Runs.{Run, Home, Sits}
 use Rattle.rx_exits_jumps.specs.Seen.{first_home}
 use Rattle.rx_exits_jumps.proofs.HomeLemmas.{sits_first, sits_nowhere}
 use Rattle.rx_hoist_nodes.specs.TypedRun.{typed_run}

@@ -13,7 +13,7 @@ use Rattle.rx_check.specs.Causes.{Causes}
 use Rattle.rx_check.specs.Front.{Front, Judged, IsCheckedOf}
 use Rattle.rx_hoist_extraction.specs.Names.{Names}
 use Rattle.rx_hoist_extraction.specs.FreeName.{FreeName}
-use Rattle.rx_hoist_names.specs.NameTest.{is_taken}
+use Rattle.rx_hoist_naming.specs.NameTest.{is_taken}
 use Rattle.rx_engine_extraction.specs.declared.refusal.Answer.{Answer}
 use Rattle.rx_engine_extraction.specs.declared.refusal.Fault.{Fault}
 use Rattle.rx_engine_extraction.specs.declared.refusal.Fault.TheVariants as fault

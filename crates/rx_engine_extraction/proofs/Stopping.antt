@@ -6,7 +6,7 @@ use Rattle.rx_tree.specs.Lists.{Every}
 use Rattle.rx_typed_runs.specs.declared.runs.RunPos.{RunPos}
 use Rattle.rx_typeck_typed.specs.declared.typed.TypedFn.{TypedFn}
 use Rattle.rx_select.specs.RunOf.{RunOf}
-use Rattle.rx_exits_marks.specs.Runs.{Home}
+use Rattle.rx_exits_plan.specs.Runs.{Home}
 use Rattle.rx_exits_plan.specs.declared.plan.ExitPlan.{ExitPlan}
 use Rattle.rx_engine_extraction.specs.declared.refusal.Fault.{Fault}
 use Rattle.rx_engine_extraction.specs.declared.refusal.Fault.TheVariants as fault

@@ -8,8 +8,8 @@ use Rattle.rx_typeck_typed.specs.declared.typed.TypedFn.{TypedFn}
 use Rattle.rx_lower.specs.Functions.{function_at}
 use Rattle.rx_lower_walks.specs.Walks.{Among}
 use Rattle.rx_lower_walks.specs.Walks as walks
-use Rattle.rx_exits_marks.specs.Blocks.{tail, written_tail}
-use Rattle.rx_exits_marks.specs.Runs.{last_value}
+use Rattle.rx_exits_plan.specs.Blocks.{tail, written_tail}
+use Rattle.rx_exits_plan.specs.Runs.{last_value}
 use Rattle.rx_exits_plan.specs.Plan.{handed_value}
 use Rattle.rx_hoist_nodes.specs.TypedRun.{typed_run}
 

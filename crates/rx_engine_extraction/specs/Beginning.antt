@@ -13,8 +13,8 @@ use Rattle.rx_select.specs.RunOf.{RunOf}
 use Rattle.rx_check.specs.declared.fault.CheckFault.{CheckFault}
 use Rattle.rx_check.specs.declared.fault.CheckFault.TheVariants as check_fault
 use Rattle.rx_check.specs.Causes.{Causes}
-use Rattle.rx_hoist_names.specs.NameTest.{is_taken}
-use Rattle.rx_hoist_names.specs.Words.{identifiers}
+use Rattle.rx_hoist_naming.specs.NameTest.{is_taken}
+use Rattle.rx_hoist_naming.specs.NamesWords.{identifiers}
 use Rattle.rx_engine_extraction.specs.declared.refusal.Fault.{Fault}
 use Rattle.rx_engine_extraction.specs.declared.refusal.Fault.TheVariants as fault
 use Rattle.rx_engine_extraction.specs.declared.refusal.Refusal.TheVariants as refusal

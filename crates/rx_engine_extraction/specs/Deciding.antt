@@ -9,15 +9,15 @@ use Rattle.rx_typed.specs.PlainTypes.{declarations}
 use Rattle.rx_typed_declarations.specs.Sizes.{told}
 use Rattle.rx_typed_runs.specs.declared.runs.RunPos.{RunPos}
 use Rattle.rx_typeck_typed.specs.declared.typed.TypedFn.{TypedFn}
-use Rattle.rx_exits_marks.specs.Runs.{Home}
+use Rattle.rx_exits_plan.specs.Runs.{Home}
 use Rattle.rx_exits_plan.specs.Asked.{Asked}
 use Rattle.rx_exits_plan.specs.Plan.{Plan}
 use Rattle.rx_exits_plan.specs.PlainPlan.{plan_of, IsExitPlan}
 use Rattle.rx_exits_plan.specs.declared.plan.ExitPlan.{ExitPlan}
 use Rattle.rx_exits_plan.specs.Unreachable.{At}
 use Rattle.rx_exits_plan.specs.Unreachable as unreachable
-use Rattle.rx_exits_points.specs.AskedOf.{asked_of}
-use Rattle.rx_exits_syntax.specs.PlainSyntax.{plain-Home}
+use Rattle.rx_exits.specs.AskedOf.{asked_of}
+use Rattle.rx_exits_plan.specs.PlainSyntax.{plain-Home}
 use Rattle.rx_exits.specs.Asking.{plain-At}
 use Rattle.rx_exits.specs.declared.answering.ExitFault.{ExitFault}
 use Rattle.rx_exits.specs.declared.reaching.ReachFault.{ReachFault}
@@ -30,7 +30,7 @@ use Rattle.rx_modes_policy.specs.declared.uses.Uses.{Uses}
 use Rattle.rx_modes_uses.specs.NotMut.{NotMut}
 use Rattle.rx_modes_uses.specs.Aliased.{Aliased}
 use Rattle.rx_hoist_extraction.specs.Plan as names
-use Rattle.rx_hoist_words.specs.Words.{OutsAgree}
+use Rattle.rx_hoist_naming.specs.Words.{OutsAgree}
 use Rattle.rx_engine_extraction.specs.declared.given.Given.{Given}
 use Rattle.rx_engine_extraction.specs.declared.given.Seat.{Seat}
 use Rattle.rx_engine_extraction.specs.declared.refusal.Fault.{Fault}

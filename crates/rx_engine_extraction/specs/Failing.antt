@@ -19,8 +19,8 @@ use Rattle.rx_modes_uses.specs.Aliased.{Aliased}
 use Rattle.rx_modes_uses.specs.First.{First}
 use Rattle.rx_modes_uses.specs.NotMut.{NotMut}
 use Rattle.rx_hoist_extraction.specs.Limits.{first_past, count_parameters, count_lifetimes, made_parts}
-use Rattle.rx_hoist_names.specs.NameTest.{is_taken}
-use Rattle.rx_hoist_names.specs.Words.{identifiers}
+use Rattle.rx_hoist_naming.specs.NameTest.{is_taken}
+use Rattle.rx_hoist_naming.specs.NamesWords.{identifiers}
 use Rattle.rx_hoist_made.specs.Counts.{capped}
 use Rattle.rx_print_spelling.specs.Items.{print_program}
 use Rattle.rx_check.specs.declared.fault.CheckFault.{CheckFault}

@@ -10,7 +10,7 @@ use Rattle.rx_typeck_typed.specs.declared.typed.Typed.{Typed}
 use Rattle.rx_typeck_typed.specs.declared.typed.TypedFn.{TypedFn}
 use Rattle.rx_select.specs.RunOf.{RunOf}
 use Rattle.rx_facts.specs.Functions.{body}
-use Rattle.rx_exits_marks.specs.Runs.{Home, Sits}
+use Rattle.rx_exits_plan.specs.Runs.{Home, Sits}
 use Rattle.rx_exits_jumps.specs.Seen.{first_home}
 use Rattle.rx_exits_plan.specs.MixedInit.{MixedInit}
 use Rattle.rx_exits_plan.specs.PartlyMoved.{PartlyMoved}
@@ -32,10 +32,10 @@ use Rattle.rx_hoist_extraction.specs.Run.{Parts, Run, run_parts}
 use Rattle.rx_hoist_extraction.specs.Pinned.{pinned_function}
 use Rattle.rx_hoist_extraction.specs.Limits.{first_past, count_parameters, count_lifetimes, made_levels, made_parts}
 use Rattle.rx_hoist_naming.specs.NamedPlan.{names_in}
-use Rattle.rx_hoist_names.specs.NameTest.{is_taken}
+use Rattle.rx_hoist_naming.specs.NameTest.{is_taken}
 use Rattle.rx_hoist_nodes.specs.TypedRun.{typed_run}
-use Rattle.rx_hoist_names.specs.Words.{identifiers}
-use Rattle.rx_hoist_words.specs.Words.{OutsAgree}
+use Rattle.rx_hoist_naming.specs.NamesWords.{identifiers}
+use Rattle.rx_hoist_naming.specs.Words.{OutsAgree}
 use Rattle.rx_print_spelling.specs.Items.{print_program}
 use Rattle.rx_print_spelling.specs.Levels.{levels_of}
 use Rattle.rx_check.specs.declared.fault.CheckFault.{CheckFault}

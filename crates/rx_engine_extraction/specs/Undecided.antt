@@ -4,7 +4,7 @@ use Rattle.rx_typed.specs.Tree as tree
 use Rattle.rx_typed.specs.declared.tree.Form.TheVariants as form
 use Rattle.rx_typed_runs.specs.declared.runs.RunPos.{RunPos}
 use Rattle.rx_typeck_typed.specs.declared.typed.TypedFn.{TypedFn}
-use Rattle.rx_exits_marks.specs.Runs.{Home}
+use Rattle.rx_exits_plan.specs.Runs.{Home}
 use Rattle.rx_exits_plan.specs.declared.plan.ExitPlan.{ExitPlan}
 use Rattle.rx_exits_plan.specs.Plan.{Plan}
 use Rattle.rx_engine_extraction.specs.Case.{Case}

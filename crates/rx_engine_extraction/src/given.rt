@@ -2,8 +2,7 @@
 
 use crate::refusal::Selection;
 use rx_check::FrontEnd;
-use rx_exits_plan::Run;
-use rx_exits_syntax::Home;
+use rx_exits_plan::{Home, Run};
 use rx_lex::Tokens;
 use rx_tree::Program;
 

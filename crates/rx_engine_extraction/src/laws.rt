@@ -19,7 +19,7 @@ ghost use Rattle.rx_hoist_extraction.specs.Run.{run_block, goes_past};
 ghost use Rattle.rx_hoist_extraction.specs.Pinned.{pinned_function};
 ghost use Rattle.rx_hoist_extraction.specs.FormedPlan.{FormedPlan};
 ghost use Rattle.rx_hoist_extraction.specs.Limits.{count_lifetimes};
-ghost use Rattle.rx_hoist_words.specs.Words.{OutsAgree};
+ghost use Rattle.rx_hoist_naming.specs.Words.{OutsAgree};
 ghost use Rattle.rx_engine_extraction.specs.declared.refusal.Refusal.{Refusal as RefusalOf};
 ghost use Rattle.rx_engine_extraction.specs.Alike.{AreOne};
 ghost use Rattle.rx_engine_extraction.specs.Source.{Text, Wish};
@@ -32,13 +32,12 @@ ghost use Rattle.rx_engine_extraction.specs.Verdict.{IsRefused};
 use rx_check::{causes_are_one, passed_or_faulty};
 use rx_facts::one_typing;
 use rx_hoist_extraction::extractions_are_formed;
-use rx_hoist_words::{named_plans_are_formed, tails_go_past};
+use rx_hoist_naming::{named_plans_are_formed, tails_go_past};
 use rx_lex::one_token_list;
 use rx_parse_grammar::one_tree;
 use rx_print_spelling::{print_parses, texts_are_formed};
 use rx_repair::{functions_without_bounds_declare_none, least_bounds_are_missing};
-use rx_typeck_declare::declared_are_finite;
-use rx_typeck_typed::typed_declarations_are_finite;
+use rx_typeck_typed::{declared_are_finite, typed_declarations_are_finite};
 use rx_typed_declarations::one_size_each;
 
 /// The plan by names of a run is formed: what it names are words of the text. Where it has a value, the run holds its block's tail.

@@ -2,11 +2,11 @@
 
 ghost use Rattle.std.specs.Prelude.{◌≡◌, ◌++◌, ◌∷◌, [], map, slice_get, IfOk};
 ghost use Rattle.rx_tree.specs.PlainOf.{plain-Program};
-ghost use Rattle.rx_hoist_names.specs.DeclaredNames as spec;
+ghost use Rattle.rx_hoist_naming.specs.DeclaredNames as spec;
 
 use rx_core::{List, Name, keep, pushed};
 use rx_hoist_finding::item_nodes;
-use rx_hoist_names::declared_names;
+use rx_hoist_naming::declared_names;
 use rx_tree::Program;
 use std::alloc::{AllocError, Global};
 

@@ -3,7 +3,7 @@ use Rattle.std.proofs.Common.{◌≡◌, ℕ, Bool, true, false, ◌||◌, List,
 use Rattle.rx_typed.specs.Named as named
 use Rattle.rx_typed.specs.Named.{Exp, Body, Else, Statements, body_node, body_diverges, body_never, some_diverges}
 use Rattle.rx_typeck_solver.specs.declared.facts.Demand.{Demand}
-use Rattle.rx_typeck_rules.specs.Demands as rules
+use Rattle.rx_typeck_typed.specs.Demands as rules
 use Rattle.rx_engine_blocks.specs.Renumbering.{Renumbering}
 use Rattle.rx_engine_blocks.specs.DemandsLike.{Is, DemandsLike}
 use Rattle.rx_engine_blocks.specs.DemandsLike.DemandsLike.{like_other_demands}

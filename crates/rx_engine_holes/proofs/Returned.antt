@@ -15,9 +15,9 @@ use Rattle.rx_typeck_solver.specs.declared.facts.Test.{Test}
 use Rattle.rx_typeck_solver.specs.declared.facts.Fact.TheVariants as fact
 use Rattle.rx_typeck_solver.specs.declared.facts.Demand.{Demand}
 use Rattle.rx_typeck_solver.specs.Facts.{Types, Known, made}
-use Rattle.rx_typeck_rules.specs.Asking.{asks as asks_at}
-use Rattle.rx_typeck_rules.specs.Demands as rules
-use Rattle.rx_typeck_rules.specs.Demands.{Matched}
+use Rattle.rx_typeck_typed.specs.Asking.{asks as asks_at}
+use Rattle.rx_typeck_typed.specs.Demands as rules
+use Rattle.rx_typeck_typed.specs.Demands.{Matched}
 use Rattle.rx_engine_blocks.specs.Renumbering.{Renumbering, node_at, shape_at}
 use Rattle.rx_engine_blocks.specs.DemandsLike.{Is, DemandsLike}
 use Rattle.rx_engine_blocks.specs.DemandsLike.Is.{itself}

@@ -6,8 +6,8 @@ use Rattle.rx_typed.specs.declared.nodes.Site.{Site}
 use Rattle.rx_typed.specs.Named as named
 use Rattle.rx_typed.specs.Named.{Arms, Body, Else, Exp, is_place, never, node_of}
 use Rattle.rx_typeck_solver.specs.declared.facts.Demand.{Demand}
-use Rattle.rx_typeck_rules.specs.Demands as rules
-use Rattle.rx_typeck_rules.specs.Demands.{Matched}
+use Rattle.rx_typeck_typed.specs.Demands as rules
+use Rattle.rx_typeck_typed.specs.Demands.{Matched}
 use Rattle.rx_engine_holes.specs.Sited.{sited, at_site}
 
 abbrev E : Node → Node

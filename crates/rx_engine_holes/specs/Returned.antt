@@ -10,7 +10,7 @@ use Rattle.rx_typed.specs.Named.{Exp, Written, node_of}
 use Rattle.rx_typeck_solver.specs.declared.facts.Subject.TheVariants as subject
 use Rattle.rx_typeck_solver.specs.declared.facts.Op.TheVariants as op
 use Rattle.rx_typeck_solver.specs.Facts.{Types, Known, made}
-use Rattle.rx_typeck_rules.specs.Asking.{expected}
+use Rattle.rx_typeck_typed.specs.Asking.{expected}
 use Rattle.rx_engine_blocks.specs.Renumbering.{Renumbering, node_at, shape_at}
 use Rattle.rx_engine_blocks.specs.Along.{PartialInverse, Viewed, composed}
 use Rattle.rx_engine_blocks.specs.Blocks.{Behind}

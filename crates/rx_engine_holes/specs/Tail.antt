@@ -5,8 +5,8 @@ use Rattle.rx_core.specs.declared.types.Span.{Span}
 use Rattle.rx_typed.specs.declared.nodes.Node.{Node}
 use Rattle.rx_typed.specs.Named as named
 use Rattle.rx_typed.specs.Named.{Body, Else, Statements, some_diverges}
-use Rattle.rx_typeck_rules.specs.Asking.{Asking}
-use Rattle.rx_typeck_rules.specs.Demands.{of_returned, of_statements, tail_after, tail_before}
+use Rattle.rx_typeck_typed.specs.Asking.{Asking}
+use Rattle.rx_typeck_typed.specs.Demands.{of_returned, of_statements, tail_after, tail_before}
 use Rattle.rx_engine_blocks.specs.Renumbering.{Renumbering, node_at}
 use Rattle.rx_engine_typing.specs.Renumbered.{Holes, RenumberedStatements}
 use Rattle.rx_engine_holes.specs.Run.{append}

@@ -7,7 +7,7 @@ ghost use Rattle.rx_typed.specs.declared.nodes.Site.{Site};
 ghost use Rattle.rx_typed.specs.Named.{else_diverges, some_diverges, is_place, node_of, tail_never, Body, Else, Exp, Function, Statements};
 ghost use Rattle.rx_typeck_solver.specs.declared.facts.Demand.{Demand};
 ghost use Rattle.rx_typeck_solver.specs.Facts.{Known, MeetsEach, Types};
-ghost use Rattle.rx_typeck_rules.specs.Demands.{demands, hands_on, of_body, of_exp, of_statements};
+ghost use Rattle.rx_typeck_typed.specs.Demands.{demands, hands_on, of_body, of_exp, of_statements};
 ghost use Rattle.rx_engine_blocks.specs.Renumbering.{node_at, Renumbering};
 ghost use Rattle.rx_engine_blocks.specs.DemandsLike.{DemandsLike, Is};
 ghost use Rattle.rx_engine_blocks.specs.Knows.{Knows};

@@ -4,7 +4,7 @@ use Rattle.rx_typed.specs.Tree.{variable}
 use Rattle.rx_lower_walks.specs.Actions.{Dead, Action, does}
 use Rattle.rx_lower_walks.specs.Orders.{Exit, exit_node, Order}
 use Rattle.rx_lower_walks.specs.Walks.{Out, on, leaves, fails, stopped, Walk, IsWalk, Among}
-use Rattle.rx_facts_live.specs.Along.{Switch, behind, after, ahead}
+use Rattle.rx_facts_tables.specs.Along.{Switch, behind, after, ahead}
 use Rattle.rx_meaning_keeping.proofs.Parts.{Parted}
 use Rattle.rx_engine_initial.specs.Tracing.{View, IsQuiet, Traced, only_new, only_old}
 use Rattle.rx_engine_initial.specs.Matching.{Hist, Reach, Good, SameOut, Piece, doing, ending, fill, Runs, Fronts, Aways, Stays, dead, closing, IsCall, Closes, Maps, Keeps}

@@ -2,16 +2,16 @@
 use Rattle.std.proofs.Common.{◌≡◌, ◌⊎◌, inl, inr, ℕ, Bool, true, false, not, ◌&&◌, ◌||◌, ◌==◌, List, [], ◌∷◌, ◌++◌, refl, sym, ◌∙◌, subst, ap, eqb-true}
 use Rattle.rx_core.specs.declared.types.Step.{Step}
 use Rattle.rx_typed.specs.Tree.{Temporary, Parameter, temporary_at, own}
-use Rattle.rx_typed.specs.Places.{is_front}
+use Rattle.rx_typed.specs.TypedPlaces.{is_front}
 use Rattle.rx_lower_walks.specs.Actions.{Act, Declare, Dead, Write, Action, does}
 use Rattle.rx_lower_walks.specs.Orders.{Exit, exit_node, Order, beginning, declaring}
 use Rattle.rx_lower_walks.specs.Orders as order
 use Rattle.rx_lower_walks.specs.Walks.{Out, on, leaves, fails, stopped, IsAway, Walk, rests, stops, acts, both, first, ends, jumps, halts, IsWalk, Among, here, there}
-use Rattle.rx_facts_live.specs.Along.{Switch, behind, after}
-use Rattle.rx_facts_init.specs.Places.{is_part}
-use Rattle.rx_facts_init.specs.Setting.{is_behind, setting, is_set}
-use Rattle.rx_facts_init.specs.Wholes.{placed, is_all, standing, stands, assigning, was_assigned}
-use Rattle.rx_facts_init.specs.Initialised.{InOrder, Initialised}
+use Rattle.rx_facts_tables.specs.Along.{Switch, behind, after}
+use Rattle.rx_facts_tables.specs.Places.{is_part}
+use Rattle.rx_facts_tables.specs.Setting.{is_behind, setting, is_set}
+use Rattle.rx_facts_tables.specs.Wholes.{placed, is_all, standing, stands, assigning, was_assigned}
+use Rattle.rx_facts_tables.specs.Initialised.{InOrder, Initialised}
 use Rattle.rx_meaning_keeping.proofs.Parts.{Parted}
 use Rattle.rx_engine_initial.specs.Tracing.{View, IsQuiet, Traced, start, only_new}
 use Rattle.rx_engine_initial.specs.Matching.{Hist, Reach, Good, SameOut, both_on, both_leave, Comes, cut, gone, whole, Answer, Maps, Keeps}

@@ -2,13 +2,13 @@
 use Rattle.std.proofs.Common.{◌≡◌, ℕ, true, false, List, [], ◌∷◌, ◌++◌, subst}
 use Rattle.rx_lower_walks.specs.Orders.{Order}
 use Rattle.rx_lower_walks.specs.Walks.{IsWalk, Among}
-use Rattle.rx_facts_init.specs.Wholes.{stands, was_assigned}
-use Rattle.rx_exits_marks.specs.Points as points
-use Rattle.rx_exits_marks.specs.Marked.{shown}
+use Rattle.rx_facts_tables.specs.Wholes.{stands, was_assigned}
+use Rattle.rx_exits_plan.specs.Points as points
+use Rattle.rx_exits_plan.specs.Marked.{shown}
 use Rattle.rx_exits_plan.specs.Asked.{Asked}
 use Rattle.rx_exits_plan.specs.Plan.{Plan, IsPlan}
-use Rattle.rx_engine_histories.specs.AboutRun.{text_of}
-use Rattle.rx_engine_histories.specs.Accepted.{Accepted}
+use Rattle.rx_engine_related.specs.AboutRun.{text_of}
+use Rattle.rx_engine_related.specs.Accepted.{Accepted}
 use Rattle.rx_engine_initial.specs.Variables.{Sides}
 use Rattle.rx_engine_initial.specs.Entered.{OnEach}
 use Rattle.rx_engine_initial.specs.Planned.{IsTextOf, MeetsMark}

@@ -5,19 +5,19 @@ use Rattle.rx_typed_declarations.specs.Sizes.{Sized}
 use Rattle.rx_lower_walks.specs.Actions.{Action}
 use Rattle.rx_lower_walks.specs.Orders.{Order}
 use Rattle.rx_lower_walks.specs.Walks.{IsWalk, Among}
-use Rattle.rx_facts_live.specs.Along.{ahead}
-use Rattle.rx_facts_init.specs.Places.{Frame}
-use Rattle.rx_facts_init.specs.Setting.{AllSet}
-use Rattle.rx_facts_live.specs.Live.{living}
-use Rattle.rx_exits_marks.specs.Points.{Exit, leaves}
-use Rattle.rx_exits_marks.specs.Marked.{shown}
+use Rattle.rx_facts_tables.specs.Along.{ahead}
+use Rattle.rx_facts_tables.specs.Places.{Frame}
+use Rattle.rx_facts_tables.specs.Setting.{AllSet}
+use Rattle.rx_facts_tables.specs.Live.{living}
+use Rattle.rx_exits_plan.specs.Points.{Exit, leaves}
+use Rattle.rx_exits_plan.specs.Marked.{shown}
 use Rattle.rx_exits_plan.specs.Asked.{Asked}
 use Rattle.rx_exits_plan.specs.Plan.{Plan, IsPlan}
 use Rattle.rx_exits_plan.specs.PartlyMoved.{PartlyMoved}
 use Rattle.rx_meaning_keeping.proofs.Parts.{parted}
-use Rattle.rx_engine_histories.specs.AboutRun.{text_of}
-use Rattle.rx_engine_histories.specs.OneSite.{StandsOnce}
-use Rattle.rx_engine_histories.specs.Accepted.{Accepted}
+use Rattle.rx_engine_related.specs.AboutRun.{text_of}
+use Rattle.rx_engine_related.specs.OneSite.{StandsOnce}
+use Rattle.rx_engine_related.specs.Accepted.{Accepted}
 use Rattle.rx_engine_initial.specs.Matching.{Reach, Matches, is_gone}
 use Rattle.rx_engine_initial.specs.Variables.{as_itself, Sides, Known}
 use Rattle.rx_engine_initial.specs.Copies.{world}

@@ -2,14 +2,14 @@
 use Rattle.std.proofs.Common.{◌≡◌, ℕ, Bool, true, false, not, ◌&&◌, ◌||◌, ◌==◌, List, [], ◌∷◌, ◌++◌, refl, sym, ◌∙◌, subst, ap, eqb-true}
 use Rattle.rx_core.specs.declared.types.Step.{Step}
 use Rattle.rx_typed.specs.Tree.{Root, variable, temporary, Place, Temporary, own}
-use Rattle.rx_typed.specs.Places.{is_front, same_steps}
+use Rattle.rx_typed.specs.TypedPlaces.{is_front, same_steps}
 use Rattle.rx_lower_walks.specs.Actions.{Act, Declare, Dead, Read, Write, Borrow, Test, Call, Build, Input, Print, Give, Action, does}
 use Rattle.rx_lower_walks.specs.Walks.{IsWalk, Among, here, there}
-use Rattle.rx_facts_live.specs.Along.{Switch, behind, after, ahead}
-use Rattle.rx_facts_init.specs.Places.{Frame, is_part}
-use Rattle.rx_facts_init.specs.Setting.{is_behind, setting, AllSet}
-use Rattle.rx_facts_init.specs.Wholes.{is_variable, is_all, standing, assigning, was_assigned}
-use Rattle.rx_facts_live.specs.Live.{living, has_root, roots_of, written}
+use Rattle.rx_facts_tables.specs.Along.{Switch, behind, after, ahead}
+use Rattle.rx_facts_tables.specs.Places.{Frame, is_part}
+use Rattle.rx_facts_tables.specs.Setting.{is_behind, setting, AllSet}
+use Rattle.rx_facts_tables.specs.Wholes.{is_variable, is_all, standing, assigning, was_assigned}
+use Rattle.rx_facts_tables.specs.Live.{living, has_root, roots_of, written}
 use Rattle.rx_meaning_keeping.proofs.Parts.{Parted}
 use Rattle.rx_engine_initial.specs.Tracing.{View, IsQuiet, IsKept, Traced, start, kept, over, unset}
 use Rattle.rx_engine_initial.specs.Matching.{Hist}

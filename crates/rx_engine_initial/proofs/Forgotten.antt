@@ -3,7 +3,7 @@ use Rattle.std.proofs.Common.{◌≡◌, ℕ, true, false, List, [], ◌∷◌, 
 use Rattle.rx_typed.specs.Tree.{own, temporary_at}
 use Rattle.rx_lower_walks.specs.Actions.{Declare, Read, Call, Action, does}
 use Rattle.rx_lower_walks.specs.Walks.{stopped, stops, nothing, acts, both, first, halts, IsWalk}
-use Rattle.rx_facts_init.specs.Initialised.{Initialised}
+use Rattle.rx_facts_tables.specs.Initialised.{Initialised}
 use Rattle.rx_engine_initial.specs.Forgotten.{one_boolean, none_mut, forgetting}
 use Rattle.rx_engine_initial.proofs.Ways.{no}
 

@@ -4,7 +4,7 @@ use Rattle.rx_typed.specs.Tree.{Function}
 use Rattle.rx_lower_walks.specs.Actions.{Action}
 use Rattle.rx_lower_walks.specs.Orders.{Order, order_function}
 use Rattle.rx_lower_walks.specs.Walks.{Out, Walk, IsWalk}
-use Rattle.rx_facts_init.specs.Initialised.{InOrder, Initialised}
+use Rattle.rx_facts_tables.specs.Initialised.{InOrder, Initialised}
 use Rattle.rx_meaning_keeping.proofs.Parts.{Parted}
 use Rattle.rx_engine_initial.specs.Tracing.{View, Traced}
 use Rattle.rx_engine_initial.specs.Matching.{Hist, Reach, Matches}

@@ -5,11 +5,11 @@ use Rattle.rx_core.specs.declared.types.Step.TheVariants as step
 use Rattle.rx_typed.specs.Tree.{temporary, Place, Temporary, own}
 use Rattle.rx_lower_walks.specs.Actions.{Act, Read, Borrow, Write, Give, Action, does}
 use Rattle.rx_lower_walks.specs.Walks.{Among, here, there}
-use Rattle.rx_facts_live.specs.Along.{Switch, behind, after}
-use Rattle.rx_facts_init.specs.Places.{is_part}
-use Rattle.rx_facts_init.specs.Setting.{unsets, setting, is_set, AllSet}
-use Rattle.rx_facts_init.specs.Wholes.{loses, standing, stands}
-use Rattle.rx_facts_init.specs.Initialised.{InOrder}
+use Rattle.rx_facts_tables.specs.Along.{Switch, behind, after}
+use Rattle.rx_facts_tables.specs.Places.{is_part}
+use Rattle.rx_facts_tables.specs.Setting.{unsets, setting, is_set, AllSet}
+use Rattle.rx_facts_tables.specs.Wholes.{loses, standing, stands}
+use Rattle.rx_facts_tables.specs.Initialised.{InOrder}
 use Rattle.rx_meaning_keeping.proofs.Parts.{Parted}
 use Rattle.rx_engine_initial.specs.Matching.{Good}
 use Rattle.rx_engine_initial.specs.Variables.{Kept, by_reference, Sides}

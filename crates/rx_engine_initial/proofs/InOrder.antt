@@ -4,15 +4,15 @@ use Rattle.std.proofs.Common.{◌≡◌, ◌⊎◌, inl, inr, ℕ, Bool, true, f
 use Rattle.rx_core.specs.declared.types.Step.{Step}
 use Rattle.rx_core.specs.declared.types.Step.TheVariants as step
 use Rattle.rx_typed.specs.Tree.{Root, variable, temporary, Temporary, Place, own}
-use Rattle.rx_typed.specs.Places.{is_front}
+use Rattle.rx_typed.specs.TypedPlaces.{is_front}
 use Rattle.rx_lower_walks.specs.Actions.{Act, Declare, Dead, Read, Write, Borrow, Test, Action, does}
 use Rattle.rx_lower_walks.specs.Walks.{IsWalk, Among, here, there}
-use Rattle.rx_facts_live.specs.Along.{Switch, behind, after}
-use Rattle.rx_facts_init.specs.Places.{Frame, is_part}
-use Rattle.rx_facts_init.specs.Setting.{is_behind, setting, is_set, looked_at, AllSet}
-use Rattle.rx_facts_init.specs.Wholes.{placed, holds_in, is_variable, is_all, enters, assigns, standing, stands, was_assigned}
-use Rattle.rx_facts_init.specs.Initialised.{IsFixed, InOrder, Initialised}
-use Rattle.rx_facts_live.specs.Live.{living, used, has_root}
+use Rattle.rx_facts_tables.specs.Along.{Switch, behind, after}
+use Rattle.rx_facts_tables.specs.Places.{Frame, is_part}
+use Rattle.rx_facts_tables.specs.Setting.{is_behind, setting, is_set, looked_at, AllSet}
+use Rattle.rx_facts_tables.specs.Wholes.{placed, holds_in, is_variable, is_all, enters, assigns, standing, stands, was_assigned}
+use Rattle.rx_facts_tables.specs.Initialised.{IsFixed, InOrder, Initialised}
+use Rattle.rx_facts_tables.specs.Live.{living, used, has_root}
 use Rattle.rx_meaning_keeping.proofs.Parts.{Parted}
 use Rattle.rx_engine_initial.specs.Tracing.{View, Traced, start, copied}
 use Rattle.rx_engine_initial.specs.Matching.{Hist}

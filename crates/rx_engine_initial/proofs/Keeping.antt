@@ -3,14 +3,14 @@ use Rattle.std.proofs.Common.{◌≡◌, ◌⊎◌, inl, inr, ℕ, Bool, true, f
 use Rattle.rx_core.specs.declared.types.Step.{Step}
 use Rattle.rx_core.specs.declared.types.Step.TheVariants as step
 use Rattle.rx_typed.specs.Tree.{Root, variable, temporary, Temporary, Place, own}
-use Rattle.rx_typed.specs.Places.{is_front, same_steps}
+use Rattle.rx_typed.specs.TypedPlaces.{is_front, same_steps}
 use Rattle.rx_lower_walks.specs.Actions.{Act, Declare, Dead, Read, Write, Borrow, Test, Call, Build, Input, Print, Give, Action, does}
 use Rattle.rx_lower_walks.specs.Walks.{Among, here, there}
-use Rattle.rx_facts_live.specs.Along.{Switch, behind, after}
-use Rattle.rx_facts_init.specs.Places.{Frame, is_part}
-use Rattle.rx_facts_init.specs.Setting.{is_behind, sets, unsets, setting}
-use Rattle.rx_facts_init.specs.Wholes.{placed, is_variable, is_all, regains, loses, standing, assigns, begins}
-use Rattle.rx_facts_live.specs.Live.{living}
+use Rattle.rx_facts_tables.specs.Along.{Switch, behind, after}
+use Rattle.rx_facts_tables.specs.Places.{Frame, is_part}
+use Rattle.rx_facts_tables.specs.Setting.{is_behind, sets, unsets, setting}
+use Rattle.rx_facts_tables.specs.Wholes.{placed, is_variable, is_all, regains, loses, standing, assigns, begins}
+use Rattle.rx_facts_tables.specs.Live.{living}
 use Rattle.rx_meaning_keeping.proofs.Parts.{Parted}
 use Rattle.rx_engine_initial.specs.Tracing.{View, Alike, WholeGives}
 use Rattle.rx_engine_initial.specs.Variables.{Kept, as_itself, by_reference, Sides, SameWay, both_end, LikePart, Known, lost, standing_in, fresh, steady, set_view, whole_view, fresh_view, sure_view, IsSeen, part_set, there_as_a_whole, not_assigned, reference_set, reference_there}

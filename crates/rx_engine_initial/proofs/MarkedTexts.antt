@@ -5,21 +5,21 @@ use Rattle.rx_core.specs.declared.types.Step.{Step}
 use Rattle.rx_typed.specs.Tree.{Temporary, Place, Function, own}
 use Rattle.rx_lower_walks.specs.Actions.{Act, Declare, Dead, Read, Write, Borrow, Test, Call, Build, Input, Print, Give, Action, does}
 use Rattle.rx_lower_walks.specs.Walks.{IsWalk, Among}
-use Rattle.rx_facts_live.specs.Along.{Switch, behind, after}
-use Rattle.rx_facts_init.specs.Places.{Frame, is_part}
-use Rattle.rx_facts_init.specs.Setting.{setting, is_set, looked_at, AllSet}
-use Rattle.rx_facts_init.specs.Wholes.{enters, assigns, begins, standing, stands, assigning, was_assigned, placed}
-use Rattle.rx_facts_init.specs.Initialised.{IsFixed, InOrder, Initialised}
-use Rattle.rx_exits_marks.specs.Points as points
-use Rattle.rx_exits_marks.specs.Marked.{shown, marked}
-use Rattle.rx_exits_marks.specs.Unmarked.{is_mark, unfilled}
+use Rattle.rx_facts_tables.specs.Along.{Switch, behind, after}
+use Rattle.rx_facts_tables.specs.Places.{Frame, is_part}
+use Rattle.rx_facts_tables.specs.Setting.{setting, is_set, looked_at, AllSet}
+use Rattle.rx_facts_tables.specs.Wholes.{enters, assigns, begins, standing, stands, assigning, was_assigned, placed}
+use Rattle.rx_facts_tables.specs.Initialised.{IsFixed, InOrder, Initialised}
+use Rattle.rx_exits_plan.specs.Points as points
+use Rattle.rx_exits_plan.specs.Marked.{shown, marked}
+use Rattle.rx_exits_plan.specs.Unmarked.{is_mark, unfilled}
 use Rattle.rx_exits_plan.specs.Asked.{Asked, IsParam, IsLocal}
 use Rattle.rx_exits_plan.specs.Plan.{Plan, IsPlan}
-use Rattle.rx_engine_histories.specs.Reads.{entry_read, Wider}
-use Rattle.rx_engine_histories.specs.AboutRun.{marked_with, text_of}
-use Rattle.rx_engine_histories.specs.Accepted.{Accepted}
-use Rattle.rx_engine_histories.proofs.Blind.{Blind, setting_blind, standing_blind}
-use Rattle.rx_engine_histories.proofs.Plainly.{without_reads, LastOf, held, read, Behind, behind_mark, last_wider, Unturned, after_wider, Acts, of_held}
+use Rattle.rx_engine_related.specs.Reads.{entry_read, Wider}
+use Rattle.rx_engine_related.specs.AboutRun.{marked_with, text_of}
+use Rattle.rx_engine_related.specs.Accepted.{Accepted}
+use Rattle.rx_engine_related.proofs.Blind.{Blind, setting_blind, standing_blind}
+use Rattle.rx_engine_related.proofs.Plainly.{without_reads, LastOf, held, read, Behind, behind_mark, last_wider, Unturned, after_wider, Acts, of_held}
 use Rattle.rx_engine_initial.proofs.Tracing.{after_one}
 use Rattle.rx_engine_initial.proofs.Ways.{no, clash}
 use Rattle.rx_engine_initial.proofs.Uses.{some_is, none_is}

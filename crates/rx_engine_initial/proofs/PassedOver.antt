@@ -5,9 +5,9 @@ use Rattle.rx_typed.specs.Tree.{Root, variable, temporary}
 use Rattle.rx_lower_walks.specs.Actions.{Act, Declare, Dead, Read, Write, Borrow, Test, Call, Build, Input, Print, Give, Action, does}
 use Rattle.rx_lower_walks.specs.Orders.{Order}
 use Rattle.rx_lower_walks.specs.Walks.{on, nothing, acts, both, Walk, IsWalk, Among, here, there}
-use Rattle.rx_facts_init.specs.Setting.{sets}
-use Rattle.rx_facts_init.specs.Wholes.{regains, begins}
-use Rattle.rx_facts_live.specs.Live.{living, has_root, roots_of, written}
+use Rattle.rx_facts_tables.specs.Setting.{sets}
+use Rattle.rx_facts_tables.specs.Wholes.{regains, begins}
+use Rattle.rx_facts_tables.specs.Live.{living, has_root, roots_of, written}
 use Rattle.rx_meaning_keeping.proofs.Parts.{Parted}
 use Rattle.rx_engine_initial.specs.Tracing.{View, Traced, only_old}
 use Rattle.rx_engine_initial.specs.Matching.{Hist, IsPassedOver}

@@ -2,32 +2,32 @@
 use Rattle.std.proofs.Common.{◌≡◌, ◌≢◌, ◌⊎◌, ℕ, Bool, true, false, not, ◌&&◌, ◌||◌, ◌==◌, List, [], ◌∷◌, ◌++◌, refl, sym, ◌∙◌, subst, ap}
 use Rattle.rx_core.specs.declared.types.Step.{Step}
 use Rattle.rx_typed.specs.Tree.{variable, Temporary, Function, own}
-use Rattle.rx_typed.specs.Places.{is_front}
+use Rattle.rx_typed.specs.TypedPlaces.{is_front}
 use Rattle.rx_lower_walks.specs.Actions.{Act, Declare, Dead, Read, Write, Borrow, Test, Call, Build, Input, Print, Give, Action, does}
 use Rattle.rx_lower_walks.specs.Orders.{Order}
 use Rattle.rx_lower_walks.specs.Walks.{Out, Walk, IsWalk, Among}
-use Rattle.rx_facts_live.specs.Along.{Switch, behind, after, ahead}
-use Rattle.rx_facts_init.specs.Places.{Frame, is_part}
-use Rattle.rx_facts_init.specs.Setting.{setting, is_set, AllSet}
-use Rattle.rx_facts_init.specs.Wholes.{placed, is_variable, is_all, assigns, begins, regains, loses, standing, stands, assigning, was_assigned}
-use Rattle.rx_facts_init.specs.Initialised.{Initialised}
-use Rattle.rx_facts_live.specs.Live.{living}
-use Rattle.rx_exits_marks.specs.Points as points
-use Rattle.rx_exits_marks.specs.Points.{Exit, returns, leaves}
-use Rattle.rx_exits_marks.specs.Marked.{shown, marked}
+use Rattle.rx_facts_tables.specs.Along.{Switch, behind, after, ahead}
+use Rattle.rx_facts_tables.specs.Places.{Frame, is_part}
+use Rattle.rx_facts_tables.specs.Setting.{setting, is_set, AllSet}
+use Rattle.rx_facts_tables.specs.Wholes.{placed, is_variable, is_all, assigns, begins, regains, loses, standing, stands, assigning, was_assigned}
+use Rattle.rx_facts_tables.specs.Initialised.{Initialised}
+use Rattle.rx_facts_tables.specs.Live.{living}
+use Rattle.rx_exits_plan.specs.Points as points
+use Rattle.rx_exits_plan.specs.Points.{Exit, returns, leaves}
+use Rattle.rx_exits_plan.specs.Marked.{shown, marked}
 use Rattle.rx_exits_plan.specs.Asked.{Asked, ComesTo, IsParam, IsLocal, IsLiveAt}
 use Rattle.rx_exits_plan.specs.Plan.{Plan, IsPlan}
 use Rattle.rx_exits_plan.specs.PartlyMoved.{PartlyMoved, at_exit}
 use Rattle.rx_meaning_keeping.specs.Ready.{HasPart}
 use Rattle.rx_meaning_keeping.proofs.Parts.{Parted, parted}
 use Rattle.rx_engine_simulation.specs.Sights.{In}
-use Rattle.rx_engine_histories.specs.Reads.{entry_read, Wider}
-use Rattle.rx_engine_histories.specs.AboutRun.{special_of, marked_with, text_of}
-use Rattle.rx_engine_histories.specs.OneSite.{StandsOnce}
-use Rattle.rx_engine_histories.specs.Accepted.{Accepted}
-use Rattle.rx_engine_histories.proofs.Plainly.{without_reads, LastOf, held, read, last_wider, after_wider}
-use Rattle.rx_engine_histories.proofs.Recombining.{recombined}
-use Rattle.rx_engine_histories.proofs.Choosing.{param_named, local_named, out_is, not_chosen, elsewhere_offered, special_is}
+use Rattle.rx_engine_related.specs.Reads.{entry_read, Wider}
+use Rattle.rx_engine_related.specs.AboutRun.{special_of, marked_with, text_of}
+use Rattle.rx_engine_related.specs.OneSite.{StandsOnce}
+use Rattle.rx_engine_related.specs.Accepted.{Accepted}
+use Rattle.rx_engine_related.proofs.Plainly.{without_reads, LastOf, held, read, last_wider, after_wider}
+use Rattle.rx_engine_related.proofs.Recombining.{recombined}
+use Rattle.rx_engine_related.proofs.Choosing.{param_named, local_named, out_is, not_chosen, elsewhere_offered, special_is}
 use Rattle.rx_engine_initial.specs.Matching.{Hist, Reach, Good, IsGone, Maps}
 use Rattle.rx_engine_initial.specs.Variables.{as_itself, Sides, both_end, LikePart, Known, set_view, part_set}
 use Rattle.rx_engine_initial.specs.Copies.{world}

@@ -2,8 +2,8 @@
 use Rattle.std.proofs.Common.{◌≡◌, ℕ, List, [], ◌∷◌, refl, ap}
 use Rattle.rx_core.specs.declared.types.Step.{Step}
 use Rattle.rx_typed.specs.Types.{Declarations}
-use Rattle.rx_facts_init.specs.Places.{Frame, Located, Spot, located, field_of, variant_of, nth_variable, is_part, spans}
-use Rattle.rx_facts_init.specs.Wholes.{placed}
+use Rattle.rx_facts_tables.specs.Places.{Frame, Located, Spot, located, field_of, variant_of, nth_variable, is_part, spans}
+use Rattle.rx_facts_tables.specs.Wholes.{placed}
 use Rattle.rx_engine_initial.specs.Variables.{SameWay, both_end, both_field, both_variant, both_behind}
 
 same_spot : (D : Declarations) (P : ℕ → ℕ) {ss rs : List Step} → SameWay ss rs → (n : ℕ) (s : Spot) → located D P ss n s ≡ located D P rs n s

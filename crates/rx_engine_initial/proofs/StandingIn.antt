@@ -2,10 +2,10 @@
 -- came since it was written.
 use Rattle.std.proofs.Common.{◌≡◌, ◌⊎◌, inl, inr, ℕ, Bool, true, false, not, ◌&&◌, ◌||◌, ◌==◌, List, [], ◌∷◌, refl, sym, ◌∙◌, subst, ap}
 use Rattle.rx_core.specs.declared.types.Step.{Step}
-use Rattle.rx_typed.specs.Places.{is_front, same_steps}
+use Rattle.rx_typed.specs.TypedPlaces.{is_front, same_steps}
 use Rattle.rx_lower_walks.specs.Actions.{Act, Declare, Dead, Read, Write, Borrow, Test, Call, Build, Input, Print, Give, Action}
-use Rattle.rx_facts_live.specs.Along.{behind, after}
-use Rattle.rx_facts_init.specs.Wholes.{is_variable, is_all, regains, loses, standing, stands}
+use Rattle.rx_facts_tables.specs.Along.{behind, after}
+use Rattle.rx_facts_tables.specs.Wholes.{is_variable, is_all, regains, loses, standing, stands}
 use Rattle.rx_engine_initial.specs.Variables.{lost, standing_in}
 use Rattle.rx_engine_initial.proofs.Ways.{no, and_left, and_right, and_both, or_left, or_right, either, clash, same_steps_self, front_self, front_trans}
 

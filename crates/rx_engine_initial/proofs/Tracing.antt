@@ -1,7 +1,7 @@
 -- Where a walk of the new program comes from one of the text, what holds there of a variable that is live there holds here.
 use Rattle.std.proofs.Common.{◌≡◌, Bool, true, false, not, ◌&&◌, ◌||◌, List, [], ◌∷◌, ◌++◌, refl, sym, ◌∙◌, subst, ap}
 use Rattle.rx_lower_walks.specs.Actions.{Action}
-use Rattle.rx_facts_live.specs.Along.{Switch, behind, after, ahead}
+use Rattle.rx_facts_tables.specs.Along.{Switch, behind, after, ahead}
 use Rattle.rx_engine_initial.specs.Tracing.{View, Alike, IsQuiet, IsKept, Traced, start, copied, only_new, only_old, handed, kept, unset, over, WholeGives}
 
 -- ---- facts on lists

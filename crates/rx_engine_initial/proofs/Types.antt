@@ -4,9 +4,9 @@ use Rattle.rx_core.specs.declared.types.Step.{Step}
 use Rattle.rx_core.specs.declared.types.Step.TheVariants as step
 use Rattle.rx_typed.specs.Types.{Typ, integer, boolean, tuple_of, reference, named, shapes_listed, shapes_of, parts, sum_of_parts, Declarations, VariantDeclared, variants_declared}
 use Rattle.rx_typed.specs.Tree.{own}
-use Rattle.rx_facts_init.specs.Places.{Frame, Spot, whole, fields, nowhere, Located, spot_parts, nth_field, nth_variant, struct_fields, field_of, variant_of, located, typed_spot, nth_variable, is_part, spans}
-use Rattle.rx_facts_init.specs.Wholes.{placed}
-use Rattle.rx_facts_init.specs.Initialised.{IsFixed}
+use Rattle.rx_facts_tables.specs.Places.{Frame, Spot, whole, fields, nowhere, Located, spot_parts, nth_field, nth_variant, struct_fields, field_of, variant_of, located, typed_spot, nth_variable, is_part, spans}
+use Rattle.rx_facts_tables.specs.Wholes.{placed}
+use Rattle.rx_facts_tables.specs.Initialised.{IsFixed}
 use Rattle.rx_engine_initial.specs.Variables.{Sides, SameWay, LikePart, LikeVariable, type_at}
 use Rattle.rx_engine_initial.proofs.Ways.{and_left, and_right, and_both, agree}
 use Rattle.rx_engine_initial.proofs.SameParts.{same_part}

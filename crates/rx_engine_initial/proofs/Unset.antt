@@ -2,15 +2,15 @@
 use Rattle.std.proofs.Common.{◌≡◌, ◌⊎◌, inl, inr, ℕ, Bool, true, false, not, ◌&&◌, ◌||◌, ◌==◌, List, [], ◌∷◌, ◌++◌, refl, sym, ◌∙◌, subst, ap, eqb-true, eq-eqb}
 use Rattle.rx_core.specs.declared.types.Step.{Step}
 use Rattle.rx_typed.specs.Tree.{Root, variable, temporary, Temporary, Place, Function, own}
-use Rattle.rx_typed.specs.Places.{is_front, same_steps}
+use Rattle.rx_typed.specs.TypedPlaces.{is_front, same_steps}
 use Rattle.rx_lower_walks.specs.Actions.{Act, Declare, Dead, Read, Write, Borrow, Test, Call, Build, Input, Print, Give, Action}
 use Rattle.rx_lower_walks.specs.Walks.{IsWalk}
-use Rattle.rx_facts_live.specs.Along.{Switch, behind, after}
-use Rattle.rx_facts_init.specs.Places.{Frame, is_part}
-use Rattle.rx_facts_init.specs.Setting.{is_behind, sets, unsets, setting, is_set}
-use Rattle.rx_facts_init.specs.Wholes.{placed, holds_in, is_variable, is_all, enters, regains, loses, standing, stands}
-use Rattle.rx_facts_init.specs.Wholes as wholes
-use Rattle.rx_facts_init.specs.Initialised.{Initialised}
+use Rattle.rx_facts_tables.specs.Along.{Switch, behind, after}
+use Rattle.rx_facts_tables.specs.Places.{Frame, is_part}
+use Rattle.rx_facts_tables.specs.Setting.{is_behind, sets, unsets, setting, is_set}
+use Rattle.rx_facts_tables.specs.Wholes.{placed, holds_in, is_variable, is_all, enters, regains, loses, standing, stands}
+use Rattle.rx_facts_tables.specs.Wholes as wholes
+use Rattle.rx_facts_tables.specs.Initialised.{Initialised}
 use Rattle.rx_meaning_keeping.proofs.Parts.{Parted}
 use Rattle.rx_engine_initial.specs.Variables.{lost, standing_in}
 use Rattle.rx_engine_initial.proofs.Tracing.{nil_right, joined, after_one}

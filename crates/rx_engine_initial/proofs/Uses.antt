@@ -5,11 +5,11 @@ use Rattle.rx_core.specs.declared.types.Step.TheVariants as step
 use Rattle.rx_typed.specs.Types.{Declarations}
 use Rattle.rx_typed.specs.Tree.{Root, variable, temporary, Temporary, Place, own}
 use Rattle.rx_lower_walks.specs.Actions.{Act, Declare, Dead, Read, Write, Borrow, Test, Call, Build, Input, Print, Give, Action, does}
-use Rattle.rx_facts_live.specs.Along.{Switch, behind, after, ahead}
-use Rattle.rx_facts_init.specs.Places.{Frame, is_part, located, at, nowhere, spans}
-use Rattle.rx_facts_init.specs.Setting.{looked_at, setting}
-use Rattle.rx_facts_init.specs.Wholes.{placed, holds_in, is_variable, enters, assigns, begins, assigning, was_assigned}
-use Rattle.rx_facts_live.specs.Live.{living, used, written, has_root, roots_of}
+use Rattle.rx_facts_tables.specs.Along.{Switch, behind, after, ahead}
+use Rattle.rx_facts_tables.specs.Places.{Frame, is_part, located, at, nowhere, spans}
+use Rattle.rx_facts_tables.specs.Setting.{looked_at, setting}
+use Rattle.rx_facts_tables.specs.Wholes.{placed, holds_in, is_variable, enters, assigns, begins, assigning, was_assigned}
+use Rattle.rx_facts_tables.specs.Live.{living, used, written, has_root, roots_of}
 use Rattle.rx_engine_initial.specs.Variables.{fresh}
 use Rattle.rx_engine_initial.proofs.Ways.{no, and_left, and_right, same_self}
 

@@ -2,10 +2,10 @@
 use Rattle.std.proofs.Common.{◌≡◌, ◌⊎◌, inl, inr, ℕ, Bool, true, false, not, ◌&&◌, ◌||◌, ◌==◌, List, [], ◌∷◌, refl, sym, ◌∙◌, subst, ap, eqb-true, eq-eqb}
 use Rattle.rx_core.specs.declared.types.Step.{Step}
 use Rattle.rx_core.specs.declared.types.Step.TheVariants as step
-use Rattle.rx_typed.specs.Places.{same_step, is_front, same_steps}
-use Rattle.rx_facts_init.specs.Setting.{is_behind}
-use Rattle.rx_facts_init.specs.Wholes.{holds_in, is_all}
-use Rattle.rx_facts_init.proofs.Fronts.{same_step_is}
+use Rattle.rx_typed.specs.TypedPlaces.{same_step, is_front, same_steps}
+use Rattle.rx_facts_tables.specs.Setting.{is_behind}
+use Rattle.rx_facts_tables.specs.Wholes.{holds_in, is_all}
+use Rattle.rx_facts_tables.proofs.Fronts.{same_step_is}
 use Rattle.rx_engine_initial.specs.Variables.{SameWay, both_end, both_field, both_variant, both_behind}
 
 -- ---- truth values

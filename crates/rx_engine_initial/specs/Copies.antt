@@ -7,8 +7,8 @@ use Rattle.rx_typed.specs.Tree.{Root, variable, temporary, Temporary, Place, Mak
 use Rattle.rx_lower_walks.specs.Matching.{Check}
 use Rattle.rx_lower_walks.specs.Actions.{Act, Declare, Dead, Read, Write, Borrow, Test, Call, Build, Input, Print, Give, Action, does}
 use Rattle.rx_lower_walks.specs.Walks.{IsWalk, Among}
-use Rattle.rx_facts_init.specs.Wholes.{placed}
-use Rattle.rx_facts_init.specs.Initialised.{InOrder}
+use Rattle.rx_facts_tables.specs.Wholes.{placed}
+use Rattle.rx_facts_tables.specs.Initialised.{InOrder}
 use Rattle.rx_engine_initial.specs.Tracing.{View}
 use Rattle.rx_engine_initial.specs.Matching.{World}
 use Rattle.rx_engine_initial.specs.Variables.{Kept, as_itself, by_reference, Sides, SameWay, Known, IsSeen}

@@ -5,7 +5,7 @@ use Rattle.rx_typed.specs.Tree.{Temporary, Parameter, own}
 use Rattle.rx_lower_walks.specs.Actions.{Declare, Write, Action, does}
 use Rattle.rx_lower_walks.specs.Orders.{Order, beginning, declaring}
 use Rattle.rx_lower_walks.specs.Walks.{Among}
-use Rattle.rx_facts_init.specs.Wholes.{stands, was_assigned}
+use Rattle.rx_facts_tables.specs.Wholes.{stands, was_assigned}
 use Rattle.rx_engine_initial.specs.Matching.{Reach}
 use Rattle.rx_engine_initial.specs.Variables.{Kept, as_itself, by_reference, Sides, Known}
 use Rattle.rx_engine_initial.specs.Copies.{world}

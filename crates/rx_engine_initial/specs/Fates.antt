@@ -5,10 +5,10 @@ use Rattle.rx_core.specs.declared.types.Step.{Step}
 use Rattle.rx_typed.specs.Tree.{variable, Temporary, own}
 use Rattle.rx_lower_walks.specs.Actions.{Act, Declare, Dead, Read, Write, Action, does}
 use Rattle.rx_lower_walks.specs.Walks.{IsWalk, Among}
-use Rattle.rx_facts_live.specs.Along.{after, ahead}
-use Rattle.rx_facts_init.specs.Setting.{AllSet}
-use Rattle.rx_facts_init.specs.Wholes.{assigns, begins, was_assigned}
-use Rattle.rx_facts_live.specs.Live.{living}
+use Rattle.rx_facts_tables.specs.Along.{after, ahead}
+use Rattle.rx_facts_tables.specs.Setting.{AllSet}
+use Rattle.rx_facts_tables.specs.Wholes.{assigns, begins, was_assigned}
+use Rattle.rx_facts_tables.specs.Live.{living}
 use Rattle.rx_engine_initial.specs.Variables.{Kept, as_itself, by_reference, Sides, Known, standing_in}
 use Rattle.rx_engine_initial.specs.Copies.{IsOther}
 

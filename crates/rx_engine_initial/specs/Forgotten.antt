@@ -3,7 +3,7 @@ use Rattle.std.specs.Prelude.{ℕ, Bool, false, List, [], ◌∷◌, Some, None}
 use Rattle.rx_typed.specs.Types.{boolean}
 use Rattle.rx_typed.specs.Tree as tree
 use Rattle.rx_typed.specs.Tree.{Mark, Function, own}
-use Rattle.rx_facts_init.specs.Places.{Frame}
+use Rattle.rx_facts_tables.specs.Places.{Frame}
 
 abbrev pub at : ℕ → Mark
 at n = record { node = n; typ = None }

@@ -4,11 +4,11 @@ use Rattle.std.specs.Prelude.{◌≡◌, ℕ, List, [], ◌∷◌, ◌++◌}
 use Rattle.rx_lower_walks.specs.Actions.{Action}
 use Rattle.rx_lower_walks.specs.Orders.{Order}
 use Rattle.rx_lower_walks.specs.Walks.{IsWalk, Among}
-use Rattle.rx_exits_marks.specs.Points.{Point}
-use Rattle.rx_exits_marks.specs.Marked.{shown}
+use Rattle.rx_exits_plan.specs.Points.{Point}
+use Rattle.rx_exits_plan.specs.Marked.{shown}
 use Rattle.rx_exits_plan.specs.Asked.{Asked}
 use Rattle.rx_exits_plan.specs.Plan.{Plan}
-use Rattle.rx_engine_histories.specs.AboutRun.{text_of}
+use Rattle.rx_engine_related.specs.AboutRun.{text_of}
 use Rattle.rx_engine_initial.specs.Matching.{Reach}
 use Rattle.rx_engine_initial.specs.Variables.{as_itself, Sides, Known}
 use Rattle.rx_engine_initial.specs.Copies.{world}

@@ -2,7 +2,7 @@
 -- the text as far as this fact goes. (Rust Reference, "Variables"; RFC 2094, "Liveness".)
 use Rattle.std.specs.Prelude.{◌≡◌, Bool, true, false, List, [], ◌∷◌, ◌++◌}
 use Rattle.rx_lower_walks.specs.Actions.{Action}
-use Rattle.rx_facts_live.specs.Along.{Switch, behind, after, ahead}
+use Rattle.rx_facts_tables.specs.Along.{Switch, behind, after, ahead}
 
 -- the fact in the new program and in the text, and whether the variable is live in the text
 pub record View : Type 0 where

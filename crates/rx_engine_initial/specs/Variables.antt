@@ -5,15 +5,15 @@ use Rattle.rx_core.specs.declared.types.Step.{Step}
 use Rattle.rx_core.specs.declared.types.Step.TheVariants as step
 use Rattle.rx_typed.specs.Types.{Typ}
 use Rattle.rx_typed.specs.Tree.{variable, Function, own}
-use Rattle.rx_typed.specs.Places.{is_front}
+use Rattle.rx_typed.specs.TypedPlaces.{is_front}
 use Rattle.rx_lower_walks.specs.Actions.{Act, Declare, Dead, Read}
 use Rattle.rx_lower_walks.specs.Walks.{Among}
-use Rattle.rx_facts_live.specs.Along.{Switch}
-use Rattle.rx_facts_init.specs.Places.{Frame, is_part}
-use Rattle.rx_facts_init.specs.Setting.{is_behind, setting}
-use Rattle.rx_facts_init.specs.Wholes.{placed, is_variable, regains, standing, assigns, begins}
-use Rattle.rx_facts_init.specs.Initialised.{IsFixed}
-use Rattle.rx_facts_live.specs.Live.{living}
+use Rattle.rx_facts_tables.specs.Along.{Switch}
+use Rattle.rx_facts_tables.specs.Places.{Frame, is_part}
+use Rattle.rx_facts_tables.specs.Setting.{is_behind, setting}
+use Rattle.rx_facts_tables.specs.Wholes.{placed, is_variable, regains, standing, assigns, begins}
+use Rattle.rx_facts_tables.specs.Initialised.{IsFixed}
+use Rattle.rx_facts_tables.specs.Live.{living}
 use Rattle.rx_engine_initial.specs.Tracing.{View}
 
 pub data Kept : Type 0 where

@@ -14,7 +14,7 @@ use Rattle.rx_hoist_extraction.specs.Names.{is_among, behind_all}
 use Rattle.rx_hoist_extraction.specs.Run.{Run, Parts, as_statements, run_block, in_front, chosen, behind, goes_past, rest_tail, with_parts, labels_round}
 use Rattle.rx_hoist_extraction.specs.Plan.{Exit, Variable, Plan}
 use Rattle.rx_hoist_extraction.specs.Values.{next_values}
-use Rattle.rx_hoist_words.specs.Words.{NamesTypes}
+use Rattle.rx_hoist_naming.specs.Words.{NamesTypes}
 use Rattle.rx_engine_names.specs.ParameterNames.{parameter_names}
 use Rattle.rx_engine_names.specs.Insertion.{Inserted, number_there}
 use Rattle.rx_engine_names.specs.Within.{OptionalWithin, StatementsWithin}

@@ -18,7 +18,7 @@ use Rattle.rx_typed.specs.Types.{Typ, Shape, Shapes, integer, boolean, tuple_of,
 use Rattle.rx_hoist_extraction.specs.Made.{ident}
 use Rattle.rx_hoist_extraction.specs.WrittenTypes.{item_name, name_of}
 use Rattle.rx_hoist_extraction.specs.Plan.{Variable}
-use Rattle.rx_hoist_words.specs.Words.{is_type_item, NamesTypes, NameTypes}
+use Rattle.rx_hoist_naming.specs.Words.{is_type_item, NamesTypes, NameTypes}
 use Rattle.rx_engine_names.proofs.SideBySide.{named_ok, the_same}
 use Rattle.rx_engine_names.proofs.NoDoubles.{none_pop, behind_none}
 

@@ -21,8 +21,8 @@ use Rattle.rx_typed_runs.specs.declared.runs.RunPos.{RunPos}
 use Rattle.rx_select.specs.OneText.{OneText}
 use Rattle.rx_select.specs.RunOf.{RunOf}
 use Rattle.rx_select.specs.Selected.{IsToken}
-use Rattle.rx_hoist_names.specs.Words.{identifiers, is_identifier_class, words_of}
-use Rattle.rx_hoist_names.specs.DeclaredNames.{declared_names, names_bound}
+use Rattle.rx_hoist_naming.specs.NamesWords.{identifiers, is_identifier_class, words_of}
+use Rattle.rx_hoist_naming.specs.DeclaredNames.{declared_names, names_bound}
 use Rattle.rx_hoist_nodes.specs.Nodes.{nodes_of}
 use Rattle.rx_hoist_extraction.specs.Names.{Names, bound, is_among}
 use Rattle.rx_hoist_extraction.specs.Run.{as_block, run_block, Run}

@@ -28,7 +28,7 @@ use Rattle.rx_hoist_extraction.specs.NewBody.{declared, next_outs, ended}
 use Rattle.rx_hoist_extraction.specs.NewEnum.{fields_at}
 use Rattle.rx_hoist_extraction.specs.NewFunction.{lifetimes_at, new_lifetimes, new_function, parameter_positions, signature_positions}
 use Rattle.rx_hoist_extraction.proofs.Signatures.{declared_once}
-use Rattle.rx_hoist_words.specs.Words.{NamesTypes}
+use Rattle.rx_hoist_naming.specs.Words.{NamesTypes}
 use Rattle.rx_engine_names.specs.Renaming.{Renaming, Made}
 use Rattle.rx_engine_names.specs.NamedLifetimes.{LifetimeFits}
 use Rattle.rx_engine_names.specs.Within.{OptionalWithin, StatementsWithin}

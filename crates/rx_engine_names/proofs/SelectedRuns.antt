@@ -11,7 +11,7 @@ use Rattle.rx_select.specs.OneText.{OneText}
 use Rattle.rx_select.specs.RunOf.{RunOf}
 use Rattle.rx_resolve_names.specs.declared.resolved.ItemNames.{ItemNames}
 use Rattle.rx_resolve_names.specs.Items.{apart, in_item, in_items, in_program}
-use Rattle.rx_hoist_names.specs.Words.{identifiers}
+use Rattle.rx_hoist_naming.specs.NamesWords.{identifiers}
 use Rattle.rx_hoist_extraction.specs.Run.{run_block, Run}
 use Rattle.rx_hoist_extraction.specs.Plan.{Plan}
 use Rattle.rx_hoist_extraction.specs.FreeName.{FreeName}

@@ -22,7 +22,7 @@ use Rattle.rx_hoist_extraction.specs.Values.{next_values, result_of, values_of}
 use Rattle.rx_hoist_extraction.specs.Pinned.{pinned_function}
 use Rattle.rx_hoist_extraction.specs.NewFunction.{new_function}
 use Rattle.rx_hoist_extraction.specs.Extraction.{extraction, new_number}
-use Rattle.rx_hoist_words.specs.Words.{NamesTypes}
+use Rattle.rx_hoist_naming.specs.Words.{NamesTypes}
 use Rattle.rx_engine_names.specs.Alike.{same_numbers}
 use Rattle.rx_engine_names.specs.Insertion.{Inserted, number_there}
 use Rattle.rx_engine_names.specs.LikeNamed.{LikeFunction, no_holes}

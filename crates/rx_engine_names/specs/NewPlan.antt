@@ -14,7 +14,7 @@ use Rattle.rx_hoist_extraction.specs.Moved.{referred, leaves}
 use Rattle.rx_hoist_extraction.specs.NewEnum.{new_enum}
 use Rattle.rx_hoist_extraction.specs.NewFunction.{copied_lifetimes, signature_positions}
 use Rattle.rx_hoist_extraction.specs.OwnLifetimes.{idents}
-use Rattle.rx_hoist_words.specs.Words.{NamesTypes}
+use Rattle.rx_hoist_naming.specs.Words.{NamesTypes}
 use Rattle.rx_engine_names.specs.Within.{Claims}
 use Rattle.rx_engine_names.specs.Moves.{Moves, HandsOut}
 use Rattle.rx_engine_names.specs.NewFunction.{param_names}

@@ -12,7 +12,7 @@ use Rattle.rx_typed.specs.Named as named
 use Rattle.rx_typed.specs.Named.{Written, WrittenTypes, Exp}
 use Rattle.rx_hoist_extraction.specs.Plan.{Pins}
 use Rattle.rx_hoist_extraction.specs.Pinned.{at_place, suffix_of}
-use Rattle.rx_hoist_words.specs.Words.{NamesTypes}
+use Rattle.rx_hoist_naming.specs.Words.{NamesTypes}
 use Rattle.rx_engine_names.specs.Renaming.{Renaming}
 use Rattle.rx_engine_names.specs.LikeNamed.{Holes, no_holes, SameSpan}
 

@@ -2,22 +2,22 @@
 use Rattle.std.proofs.Common.{◌≡◌, ℕ, Bool, true, false, if◌then◌else◌, List, [], ◌∷◌, ◌++◌, refl, sym, ap, ◌∙◌, subst}
 use Rattle.rx_lower_walks.specs.Walks.{Among, here, there, IsWalk}
 use Rattle.rx_lower_walks.specs.Actions.{Action}
-use Rattle.rx_facts_live.specs.Along.{after}
-use Rattle.rx_facts_init.specs.Setting.{setting, AllSet}
-use Rattle.rx_facts_init.specs.Wholes.{standing}
+use Rattle.rx_facts_tables.specs.Along.{after}
+use Rattle.rx_facts_tables.specs.Setting.{setting, AllSet}
+use Rattle.rx_facts_tables.specs.Wholes.{standing}
 use Rattle.rx_typed.specs.Tree.{own}
-use Rattle.rx_exits_marks.specs.Points.{enters}
-use Rattle.rx_exits_marks.specs.Marked.{shown, marked}
-use Rattle.rx_exits_marks.proofs.Marks.{none_new}
+use Rattle.rx_exits_plan.specs.Points.{enters}
+use Rattle.rx_exits_plan.specs.Marked.{shown, marked}
+use Rattle.rx_exits_plan.proofs.Marks.{none_new}
 use Rattle.rx_exits_plan.specs.Asked.{Asked, ComesTo, IsLocal, IsParam}
 use Rattle.rx_exits_plan.specs.Occurrences.{those}
 use Rattle.rx_exits_plan.specs.Plan.{foreign_of, variables_of, Chosen, none, taken, left, IsPlan, Plan}
 use Rattle.rx_exits_plan.specs.Unreachable.{NoneComes}
 use Rattle.rx_meaning_keeping.specs.Ready.{HasPart}
 use Rattle.rx_meaning_keeping.proofs.Parts.{parted}
-use Rattle.rx_engine_histories.specs.Accepted.{Accepted}
-use Rattle.rx_engine_histories.proofs.Blind.{after_alike, setting_blind, standing_blind}
-use Rattle.rx_engine_histories.proofs.Points.{shorter, stands_when_set}
+use Rattle.rx_engine_related.specs.Accepted.{Accepted}
+use Rattle.rx_engine_related.proofs.Blind.{after_alike, setting_blind, standing_blind}
+use Rattle.rx_engine_related.proofs.Points.{shorter, stands_when_set}
 
 -- what is chosen is one of the list, of which that holds
 pub chosen_holds : {Q : ℕ → Type 0} {l m : List ℕ} → Chosen Q l m → (x : ℕ) → Among x m → Q x × Among x l

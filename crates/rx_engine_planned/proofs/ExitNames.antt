@@ -8,9 +8,9 @@ use Rattle.std.proofs.lemmas.List.{append_cancel_left}
 use Rattle.rx_tree.specs.Lists.{Every}
 use Rattle.rx_tree.proofs.NodesLaws.{every_both}
 use Rattle.rx_typeck_typed.specs.declared.typed.TypedFn.{TypedFn}
-use Rattle.rx_exits_marks.specs.Points as points
-use Rattle.rx_exits_marks.specs.Points.{next, breaks, continues, returns}
-use Rattle.rx_exits_marks.specs.Runs.{Home, Run}
+use Rattle.rx_exits_plan.specs.Points as points
+use Rattle.rx_exits_plan.specs.Points.{next, breaks, continues, returns}
+use Rattle.rx_exits_plan.specs.Runs.{Home, Run}
 use Rattle.rx_exits_plan.specs.Asked.{Asked}
 use Rattle.rx_exits_plan.specs.Diverging.{run_diverges}
 use Rattle.rx_exits_plan.specs.Exits.{exits, is_taken, jumps, of_loops, where_taken, Jump}

@@ -21,11 +21,11 @@ use Rattle.rx_typeck_typed.specs.declared.typed.Typed.{Typed}
 use Rattle.rx_typeck_typed.specs.declared.typed.TypedFn.{TypedFn}
 use Rattle.rx_typeck_typed.specs.Typing.{assigned, known_in, Given, IsTyped}
 use Rattle.rx_lower_walks.specs.Walks.{Among, here, there}
-use Rattle.rx_exits_marks.specs.Runs.{Home, Run, Sits}
-use Rattle.rx_exits_marks.specs.Spots.{spots_of_function, Spot}
-use Rattle.rx_exits_marks.specs.Spots as spots
-use Rattle.rx_hoist_words.proofs.Counting.{once_few}
-use Rattle.rx_hoist_words.proofs.Programs as programs
+use Rattle.rx_exits_plan.specs.Runs.{Home, Run, Sits}
+use Rattle.rx_exits_plan.specs.Spots.{spots_of_function, Spot}
+use Rattle.rx_exits_plan.specs.Spots as spots
+use Rattle.rx_hoist_naming.proofs.Counting.{once_few}
+use Rattle.rx_hoist_naming.proofs.Programs as programs
 use Rattle.rx_engine_planned.specs.Loops.{LoopsApart}
 use Rattle.rx_engine_planned.proofs.LoopNumbers.{loops_rise}
 use Rattle.rx_engine_planned.proofs.TypedLoops.{all_good, Good}

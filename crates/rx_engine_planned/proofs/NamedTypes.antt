@@ -20,7 +20,7 @@ use Rattle.rx_hoist_extraction.specs.Plan.{Leaving, Param, Variable}
 use Rattle.rx_hoist_naming.specs.Pinning.{node_type, open_pattern, pins_if, type_pin, type_pins}
 use Rattle.rx_hoist_naming.specs.NamedPlan.{item_of, last_number, named_leaving, named_params, named_plan, named_variables, names_in, passed, result_of, value_if, Told}
 use Rattle.rx_hoist_nodes.specs.Nodes.{nodes_of}
-use Rattle.rx_hoist_words.specs.Words.{NamesTypes}
+use Rattle.rx_hoist_naming.specs.Words.{NamesTypes}
 use Rattle.rx_engine_names.specs.NewPlan.{MaybeNames, TypesNamed}
 use Rattle.rx_engine_names.specs.WrittenOut.{PinsName}
 

@@ -9,8 +9,8 @@ use Rattle.rx_exits_plan.specs.declared.plan.ExitOuts.{ExitOuts}
 use Rattle.rx_hoist_extraction.specs.Names.{Names}
 use Rattle.rx_hoist_extraction.specs.Plan.{names_of, outs_of, same_exit, Exit, Leaving}
 use Rattle.rx_hoist_naming.specs.NamedPlan.{named_leaving, named_plan, named_variables, names_in, Told}
-use Rattle.rx_hoist_words.specs.Words.{OutsAgree}
-use Rattle.rx_hoist_words.proofs.Plans.{exits_few, run_few, Few}
+use Rattle.rx_hoist_naming.specs.Words.{OutsAgree}
+use Rattle.rx_hoist_naming.proofs.Plans.{exits_few, run_few, Few}
 
 word_at : (W : List ℕ → Type 0) (ns : Names) (x : ℕ) → Every W ns → x < length ns → W (get_or ns x [])
 word_at W [] x h l = absurd (omega (arith, l))

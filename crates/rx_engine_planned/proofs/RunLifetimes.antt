@@ -23,7 +23,7 @@ use Rattle.rx_hoist_extraction.specs.Changed.{changed_body}
 use Rattle.rx_hoist_extraction.specs.Pinned.{pinning, pinned_function}
 use Rattle.rx_hoist_extraction.specs.NewFunction.{copied_lifetimes, firsts_of, lifetimes_at, lifetimes_at_all}
 use Rattle.rx_hoist_extraction.specs.OwnLifetimes.{idents}
-use Rattle.rx_hoist_names.specs.Words.{is_lifetime_class, lifetimes}
+use Rattle.rx_hoist_naming.specs.NamesWords.{is_lifetime_class, lifetimes}
 use Rattle.rx_engine_planned.proofs.PinnedLifetimes.{same_body}
 use Rattle.rx_engine_planned.proofs.RoundRuns.{row_child}
 use Rattle.rx_engine_planned.proofs.TextLifetimes.{Lives, file_lifetimes, function_lifetimes}

@@ -10,8 +10,8 @@ use Rattle.rx_typed.specs.Tree as tree
 use Rattle.rx_typed.specs.Tree.{Place}
 use Rattle.rx_typed.specs.Elaborated as elaborated
 use Rattle.rx_typed.specs.Elaborated.{Assigned, Coercion, place, value, body, tail, nested, statement, arms, operands, fields}
-use Rattle.rx_exits_marks.specs.Spots.{Around, Spot, a_block, a_jump, a_return, with_variables, with_loop, spots, spots_in, spots_matched, spots_armed, spots_of, outermost, spots_of_function}
-use Rattle.rx_exits_marks.specs.Blocks.{bound}
+use Rattle.rx_exits_plan.specs.Spots.{Around, Spot, a_block, a_jump, a_return, with_variables, with_loop, spots, spots_in, spots_matched, spots_armed, spots_of, outermost, spots_of_function}
+use Rattle.rx_exits_plan.specs.Blocks.{bound}
 use Rattle.rx_exits_plan.specs.Occurrences.{has_number}
 use Rattle.rx_engine_planned.specs.Loops.{EachOnce}
 use Rattle.rx_engine_planned.proofs.LoopNumbers.{LExp, LExps, LElse, LFields, LArms, LBody, LStatement, LStatements}

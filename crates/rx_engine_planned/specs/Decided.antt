@@ -13,15 +13,15 @@ use Rattle.rx_typeck_typed.specs.declared.typed.Typed.{Typed}
 use Rattle.rx_typeck_typed.specs.Typing.{IsTyped}
 use Rattle.rx_select.specs.RunOf.{RunOf}
 use Rattle.rx_lower_walks.specs.Walks.{Among}
-use Rattle.rx_exits_marks.specs.Runs.{Sits}
+use Rattle.rx_exits_plan.specs.Runs.{Sits}
 use Rattle.rx_exits_plan.specs.Asked.{Asked}
 use Rattle.rx_exits_plan.specs.PlainPlan.{IsExitPlan}
 use Rattle.rx_exits_plan.specs.Unreachable.{At, Unreachable}
 use Rattle.rx_hoist_extraction.specs.NewFunction.{signature_positions}
 use Rattle.rx_hoist_extraction.specs.Run.{Run}
 use Rattle.rx_hoist_naming.specs.NamedPlan.{named_plan, Told}
-use Rattle.rx_hoist_words.specs.Words.{OutsAgree}
-use Rattle.rx_engine_histories.specs.Accepted.{Accepted}
+use Rattle.rx_hoist_naming.specs.Words.{OutsAgree}
+use Rattle.rx_engine_related.specs.Accepted.{Accepted}
 
 -- the run by the way to its block from the function's body on
 abbrev pub run_at : RunPos → Run

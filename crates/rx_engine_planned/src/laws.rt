@@ -20,7 +20,7 @@ ghost use Rattle.rx_typeck_typed.specs.Typing.{IsTyped};
 ghost use Rattle.rx_select.specs.OneText.{OneText};
 ghost use Rattle.rx_select.specs.RunOf.{RunOf};
 ghost use Rattle.rx_lower_walks.specs.Walks.{Among};
-ghost use Rattle.rx_exits_marks.specs.Runs.{Home, Run as TypedRun, Sits};
+ghost use Rattle.rx_exits_plan.specs.Runs.{Home, Run as TypedRun, Sits};
 ghost use Rattle.rx_exits_plan.specs.Asked.{Asked};
 ghost use Rattle.rx_exits_plan.specs.Plan.{IsPlan, Plan};
 ghost use Rattle.rx_exits_plan.specs.PlainPlan.{IsExitPlan};
@@ -32,9 +32,9 @@ ghost use Rattle.rx_hoist_extraction.specs.FreeName.{FreeName};
 ghost use Rattle.rx_hoist_extraction.specs.OwnLifetimes.{idents};
 ghost use Rattle.rx_hoist_extraction.specs.Pinned.{pinned_function};
 ghost use Rattle.rx_hoist_extraction.specs.Run.{as_statements, run_parts, Run};
-ghost use Rattle.rx_hoist_names.specs.Words.{identifiers};
+ghost use Rattle.rx_hoist_naming.specs.NamesWords.{identifiers};
 ghost use Rattle.rx_hoist_naming.specs.NamedPlan.{Told, named_plan};
-ghost use Rattle.rx_hoist_words.specs.Words.{OutsAgree};
+ghost use Rattle.rx_hoist_naming.specs.Words.{OutsAgree};
 ghost use Rattle.rx_engine_names.specs.Extractions.{moves_there, RunNames};
 ghost use Rattle.rx_engine_names.specs.KeptWays.{KeepsMaybe};
 ghost use Rattle.rx_engine_names.specs.Moves.{rounds, Moves};
@@ -43,14 +43,14 @@ ghost use Rattle.rx_engine_names.specs.NewPlan.{exit_names, run_claims, TypesNam
 ghost use Rattle.rx_engine_names.specs.SelectedRuns.{RunSelected};
 ghost use Rattle.rx_engine_names.specs.Within.{OptionalWithin, StatementsWithin};
 ghost use Rattle.rx_engine_names.specs.WrittenOut.{PinsName};
-ghost use Rattle.rx_engine_histories.specs.Accepted.{Accepted};
+ghost use Rattle.rx_engine_related.specs.Accepted.{Accepted};
 ghost use Rattle.rx_engine_planned.specs.Decided.{run_at, Decided};
 ghost use Rattle.rx_engine_planned.specs.Loops.{LoopsApart};
 ghost use Rattle.rx_engine_planned.specs.RunMeans.{RunMeans};
 
 use rx_hoist_meant::{named_plans_have_distinct_names, runs_tell_params_and_locals_by_names};
-use rx_hoist_words::{named_plans_are_formed, runs_have_names, types_name_types};
-use rx_typeck_laws::{signatures_are_well_formed, sizes_are_sized};
+use rx_hoist_naming::{named_plans_are_formed, runs_have_names, types_name_types};
+use rx_typeck_typed::{signatures_are_well_formed, sizes_are_sized};
 
 /// A run of a text stands in a block of its function's body, and no type is written out at a `let` on the way there, by the plan by names
 /// of the run.

@@ -5,9 +5,9 @@ use Rattle.rx_typed.specs.Tree as tree
 use Rattle.rx_typed.specs.Tree.{Mark, Exp, Operands, Scrutinee, Arms, Body, Function, mark_of, fields_of, temporary_at}
 use Rattle.rx_lower_walks.specs.Matching.{tests, bindings}
 use Rattle.rx_lower_walks.specs.Actions.{in_temporary, subject}
-use Rattle.rx_exits_marks.specs.Blocks.{bound}
-use Rattle.rx_exits_marks.specs.Spots.{Around, Spot, a_block, a_jump, a_return, with_variables, with_loop, spots, spots_in, spots_matched, spots_armed, spots_of, outermost, spots_of_function}
-use Rattle.rx_exits_marks.specs.Changed.{Changes, changed, changed_all, changed_matched, changed_arms, changed_body}
+use Rattle.rx_exits_plan.specs.Blocks.{bound}
+use Rattle.rx_exits_plan.specs.Spots.{Around, Spot, a_block, a_jump, a_return, with_variables, with_loop, spots, spots_in, spots_matched, spots_armed, spots_of, outermost, spots_of_function}
+use Rattle.rx_exits_plan.specs.Changed.{Changes, changed, changed_all, changed_matched, changed_arms, changed_body}
 use Rattle.rx_exits_plan.specs.Asked.{Asked}
 use Rattle.rx_exits_plan.specs.Plan.{Plan}
 use Rattle.rx_engine_simulation.specs.Fits.{Complete, Fitting}
@@ -18,9 +18,9 @@ use Rattle.rx_engine_simulation.specs.Jumps.{Jumping}
 use Rattle.rx_engine_simulation.specs.Openings.{Openings, no_openings}
 use Rattle.rx_engine_simulation.specs.Like.{LikeExp, opens, LikeAll, LikeMatched, LikeArms, LikeBody, opens_in, reads, borrows, views, shares, builds, builds_structs, builds_variants, units, lazies, assigns, updates, calls, inputs, prints, blocks, chooses, loops, stays, gives, no_operands, operands_and, at_places, of_values, no_arms, arms_and, ends_in, runs_on, declares_all, lets_in, reads_place, looks_behind}
 use Rattle.rx_engine_simulation.specs.Programs.{whole_jumps}
-use Rattle.rx_engine_histories.specs.AboutRun.{special_of}
-use Rattle.rx_engine_histories.specs.OneSite.{blocks_at}
-use Rattle.rx_engine_histories.specs.Running.{running_body, in_the_block, running_of}
+use Rattle.rx_engine_related.specs.AboutRun.{special_of}
+use Rattle.rx_engine_related.specs.OneSite.{blocks_at}
+use Rattle.rx_engine_related.specs.Running.{running_body, in_the_block, running_of}
 use Rattle.rx_engine_related.specs.ByForm.{by_form, RelatedFunction}
 use Rattle.rx_engine_related.specs.InBlock.{run_block, in_its_block}
 use Rattle.rx_engine_related.proofs.Weaker.{Opens, weaker_body}

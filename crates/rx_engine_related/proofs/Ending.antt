@@ -3,8 +3,8 @@ use Rattle.std.proofs.Common.{◌≡◌, ℕ, false, List, refl, subst}
 use Rattle.rx_typed.specs.Tree.{Exp, Body}
 use Rattle.rx_lower_walks.specs.Actions.{Action}
 use Rattle.rx_lower_walks.specs.Walks.{Among, here, there}
-use Rattle.rx_exits_marks.specs.Points.{next, enters, leaves}
-use Rattle.rx_exits_marks.specs.Marked.{mark}
+use Rattle.rx_exits_plan.specs.Points.{next, enters, leaves}
+use Rattle.rx_exits_plan.specs.Marked.{mark}
 use Rattle.rx_exits_plan.specs.Asked.{Asked}
 use Rattle.rx_exits_plan.specs.Plan.{Plan}
 use Rattle.rx_engine_simulation.specs.Turns.{Allowance}
@@ -19,9 +19,9 @@ use Rattle.rx_engine_simulation.specs.Packing.{Way, no_way}
 use Rattle.rx_engine_simulation.specs.Endings.{Last, none_left, a_marked, with_last, aim_of, LikeEnd, left_marked, end_gives, end_is, end_never, end_left}
 use Rattle.rx_engine_simulation.specs.Variants.{leaving}
 use Rattle.rx_engine_simulation.proofs.Arriving.{behind_closed, behind_statement}
-use Rattle.rx_engine_histories.specs.AboutRun.{about_run}
-use Rattle.rx_engine_histories.specs.Running.{running_of}
-use Rattle.rx_engine_histories.specs.Premises.{ByMark}
+use Rattle.rx_engine_related.specs.AboutRun.{about_run}
+use Rattle.rx_engine_related.specs.Running.{running_of}
+use Rattle.rx_engine_related.specs.Premises.{ByMark}
 use Rattle.rx_engine_related.specs.ByForm.{by_form}
 use Rattle.rx_engine_related.specs.Leaving.{HaveThere, none_there, there_and, left}
 use Rattle.rx_engine_related.specs.Moved.{Ended, gives_outs, gives_last, gives_never, gives_left}

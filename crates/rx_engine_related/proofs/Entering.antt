@@ -5,7 +5,7 @@ use Rattle.rx_modes_policy.specs.declared.uses.Mode.{Mode}
 use Rattle.rx_lower_walks.specs.Actions.{Action}
 use Rattle.rx_lower_walks.specs.Orders.{Order, order_body}
 use Rattle.rx_lower_walks.specs.Walks.{Among, here, there}
-use Rattle.rx_exits_marks.specs.Points.{enters}
+use Rattle.rx_exits_plan.specs.Points.{enters}
 use Rattle.rx_exits_plan.specs.Asked.{Asked}
 use Rattle.rx_exits_plan.specs.Plan.{Plan, IsPlan}
 use Rattle.rx_engine_simulation.specs.Histories.{Facts, Living, Written}
@@ -16,11 +16,11 @@ use Rattle.rx_engine_simulation.specs.Blocks.{Stretch, before}
 use Rattle.rx_engine_simulation.specs.Marks.{with_mark}
 use Rattle.rx_engine_simulation.specs.Statements.{Entered}
 use Rattle.rx_engine_simulation.specs.Statements as statements
-use Rattle.rx_engine_histories.specs.AboutRun.{about_run}
-use Rattle.rx_engine_histories.specs.Running.{running_of}
-use Rattle.rx_engine_histories.specs.Accepted.{Accepted}
-use Rattle.rx_engine_histories.specs.Premises.{known_of}
-use Rattle.rx_engine_histories.proofs.Premises.{param_lives, param_written, local_dead}
+use Rattle.rx_engine_related.specs.AboutRun.{about_run}
+use Rattle.rx_engine_related.specs.Running.{running_of}
+use Rattle.rx_engine_related.specs.Accepted.{Accepted}
+use Rattle.rx_engine_related.specs.Premises.{known_of}
+use Rattle.rx_engine_related.proofs.Premises.{param_lives, param_written, local_dead}
 use Rattle.rx_engine_related.specs.Given.{GivenTo, given_all, moves_in, moves_again, is_copied, is_shared, is_lent, is_reborrowed, is_viewed, LocalsOf, all_locals, a_local, EntersWith, enters_with}
 
 -- ---- a variable that moves is not one that is copied

@@ -6,20 +6,20 @@ use Rattle.rx_lower_walks.specs.Matching.{bindings}
 use Rattle.rx_lower_walks.specs.Actions.{subject}
 use Rattle.rx_lower_walks.specs.Orders.{Order, binding, order, order_scrutinee, order_body, order_function}
 use Rattle.rx_lower_walks.specs.Orders as orders
-use Rattle.rx_exits_marks.specs.Blocks.{Statement, does, begins, binds, statements, tail, before}
-use Rattle.rx_exits_marks.specs.Spots.{Around, Spot, a_block, a_jump, a_return, spots, spots_matched, outermost, spots_of_function}
-use Rattle.rx_exits_marks.specs.Runs.{Run, in_front, inside, behind}
-use Rattle.rx_exits_marks.specs.Points.{enters, leaves, jump_exit, number}
-use Rattle.rx_exits_marks.specs.Changed.{changed, changed_matched, changed_statement}
-use Rattle.rx_exits_marks.specs.Marked.{mark_then, shown, is_among, using, entering, ended}
-use Rattle.rx_exits_marks.specs.Coming.{HasNoMark}
+use Rattle.rx_exits_plan.specs.Blocks.{Statement, does, begins, binds, statements, tail, before}
+use Rattle.rx_exits_plan.specs.Spots.{Around, Spot, a_block, a_jump, a_return, spots, spots_matched, outermost, spots_of_function}
+use Rattle.rx_exits_plan.specs.Runs.{Run, in_front, inside, behind}
+use Rattle.rx_exits_plan.specs.Points.{enters, leaves, jump_exit, number}
+use Rattle.rx_exits_plan.specs.Changed.{changed, changed_matched, changed_statement}
+use Rattle.rx_exits_plan.specs.Marked.{mark_then, shown, is_among, using, entering, ended}
+use Rattle.rx_exits_plan.specs.Coming.{HasNoMark}
 use Rattle.rx_exits_plan.specs.Occurrences.{is_declared_in_run}
-use Rattle.rx_engine_histories.specs.OneSite.{StandsOnce}
-use Rattle.rx_engine_histories.specs.Running.{passing, running_body, in_the_block, running}
-use Rattle.rx_engine_histories.proofs.Counting.{one_if, count, stands_once}
-use Rattle.rx_engine_histories.proofs.Bare.{NoMarks, no_marks, none_counted}
-use Rattle.rx_engine_histories.proofs.Sole.{weighed, Light, AllFree, all_free, take_free, drop_free, light, differ, jump_weight, passing_light, free, of_beginning, anywhere}
-use Rattle.rx_engine_histories.proofs.Leading.{Forms, of_binding_part, of_declaring_part, of_beginning_part, Changing, no_weight, grown, grown_matched}
+use Rattle.rx_engine_related.specs.OneSite.{StandsOnce}
+use Rattle.rx_engine_related.specs.Running.{passing, running_body, in_the_block, running}
+use Rattle.rx_engine_related.proofs.Counting.{one_if, count, stands_once}
+use Rattle.rx_engine_related.proofs.Bare.{NoMarks, no_marks, none_counted}
+use Rattle.rx_engine_related.proofs.Sole.{weighed, Light, AllFree, all_free, take_free, drop_free, light, differ, jump_weight, passing_light, free, of_beginning, anywhere}
+use Rattle.rx_engine_related.proofs.Leading.{Forms, of_binding_part, of_declaring_part, of_beginning_part, Changing, no_weight, grown, grown_matched}
 use Rattle.rx_engine_related.proofs.Inside.{any_loops, weighs}
 
 -- at most so many

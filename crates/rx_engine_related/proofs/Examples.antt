@@ -9,12 +9,12 @@ use Rattle.rx_tree.specs.declared.tree.BinaryOp.{BinaryOp}
 use Rattle.rx_typed.specs.Tree as tree
 use Rattle.rx_typed.specs.Tree.{Mark, Exp, Arms, Body, Function, own, under}
 use Rattle.rx_lower_walks.specs.Walks.{here}
-use Rattle.rx_facts_init.specs.Places.{Frame}
+use Rattle.rx_facts_tables.specs.Places.{Frame}
 use Rattle.rx_modes_policy.specs.declared.uses.Mode.TheVariants as mode
 use Rattle.rx_meaning.specs.Values.{element}
 use Rattle.rx_meaning.specs.Programs.{Program}
-use Rattle.rx_exits_marks.specs.Points.{Exit, next, breaks, leaves}
-use Rattle.rx_exits_marks.specs.Marked.{mark_then}
+use Rattle.rx_exits_plan.specs.Points.{Exit, next, breaks, leaves}
+use Rattle.rx_exits_plan.specs.Marked.{mark_then}
 use Rattle.rx_exits_plan.specs.Asked.{Asked}
 use Rattle.rx_exits_plan.specs.Plan.{Plan}
 use Rattle.rx_engine_simulation.specs.Sights.{How, plain, free, special, through, Sight, sight, Renaming, sight_of, IsNew}

@@ -9,25 +9,25 @@ use Rattle.rx_lower_walks.specs.Orders.{exit_node, Order, perhaps, binding, decl
 use Rattle.rx_lower_walks.specs.Orders as order
 use Rattle.rx_lower_walks.specs.Walks.{Out, on, fails, IsAway, DoesNotFail, Passed, Walk, rests, stops, nothing, acts, both, first, one, other, leave, fail, holds, next, ends, jumps, halts, last, more, Among, here, there}
 use Rattle.rx_lower_walks.specs.Walks as walk
-use Rattle.rx_exits_marks.specs.Blocks as block
-use Rattle.rx_exits_marks.specs.Blocks.{Statement, statements, tail, before, bound}
-use Rattle.rx_exits_marks.specs.Spots.{Around, Spot, a_block, a_jump, a_return, outermost, spots_of_function}
-use Rattle.rx_exits_marks.specs.Runs.{Run, in_front, inside, behind, last_value}
-use Rattle.rx_exits_marks.specs.Points as point
-use Rattle.rx_exits_marks.specs.Points.{Exit, Point, enters, leaves, number}
-use Rattle.rx_exits_marks.specs.Changed.{changed, changed_matched, changed_statement}
-use Rattle.rx_exits_marks.specs.Marked.{mark, shown, using, entering, ended}
-use Rattle.rx_exits_marks.specs.Unmarked.{is_mark}
-use Rattle.rx_exits_marks.specs.Coming.{HasNoMark}
+use Rattle.rx_exits_plan.specs.Blocks as block
+use Rattle.rx_exits_plan.specs.Blocks.{Statement, statements, tail, before, bound}
+use Rattle.rx_exits_plan.specs.Spots.{Around, Spot, a_block, a_jump, a_return, outermost, spots_of_function}
+use Rattle.rx_exits_plan.specs.Runs.{Run, in_front, inside, behind, last_value}
+use Rattle.rx_exits_plan.specs.Points as point
+use Rattle.rx_exits_plan.specs.Points.{Exit, Point, enters, leaves, number}
+use Rattle.rx_exits_plan.specs.Changed.{changed, changed_matched, changed_statement}
+use Rattle.rx_exits_plan.specs.Marked.{mark, shown, using, entering, ended}
+use Rattle.rx_exits_plan.specs.Unmarked.{is_mark}
+use Rattle.rx_exits_plan.specs.Coming.{HasNoMark}
 use Rattle.rx_exits_plan.specs.Occurrences.{all_declared, occurrences, occurrences_matched, in_statements, in_run, in_value, is_declared_in_run}
 use Rattle.rx_engine_simulation.specs.Histories.{Declares, put}
 use Rattle.rx_engine_simulation.specs.Programs.{back, IsHistory}
-use Rattle.rx_engine_histories.specs.OneSite.{blocks_at}
-use Rattle.rx_engine_histories.specs.Running.{passing, running_body, in_the_block, running}
-use Rattle.rx_engine_histories.proofs.Counting.{one_if, is_it}
-use Rattle.rx_engine_histories.proofs.Bare.{NoMarks, no_marks}
-use Rattle.rx_engine_histories.proofs.Sole.{weighed, AllFree, all_free, take_free, drop_free, of_run, free, block_light, block_there, of_beginning, anywhere}
-use Rattle.rx_engine_histories.proofs.Leading.{Loops, Forms, of_binding_part, of_declaring_part, of_beginning_part, Changing, no_weight, grown}
+use Rattle.rx_engine_related.specs.OneSite.{blocks_at}
+use Rattle.rx_engine_related.specs.Running.{passing, running_body, in_the_block, running}
+use Rattle.rx_engine_related.proofs.Counting.{one_if, is_it}
+use Rattle.rx_engine_related.proofs.Bare.{NoMarks, no_marks}
+use Rattle.rx_engine_related.proofs.Sole.{weighed, AllFree, all_free, take_free, drop_free, of_run, free, block_light, block_there, of_beginning, anywhere}
+use Rattle.rx_engine_related.proofs.Leading.{Loops, Forms, of_binding_part, of_declaring_part, of_beginning_part, Changing, no_weight, grown}
 use Rattle.rx_engine_related.proofs.Undeclared.{Undeclared, Away, away_front, away_rest, away_of, walk_away, taking_away, exp_away, matched_away}
 
 pub any_loops : (s : Order) → Loops (λ l. Unit {0}) s

@@ -7,8 +7,8 @@ use Rattle.rx_typed.specs.Tree.{Mark, Exp, Arms, Body, temporary_at}
 use Rattle.rx_lower_walks.specs.Orders.{order_body}
 use Rattle.rx_lower_walks.specs.Walks as walk
 use Rattle.rx_lower_walks.specs.Walks.{Among, here, there}
-use Rattle.rx_exits_marks.specs.Points.{Exit, next, breaks, continues, returns, enters, leaves, same_exit, jump_exit}
-use Rattle.rx_exits_marks.specs.Marked.{mark}
+use Rattle.rx_exits_plan.specs.Points.{Exit, next, breaks, continues, returns, enters, leaves, same_exit, jump_exit}
+use Rattle.rx_exits_plan.specs.Marked.{mark}
 use Rattle.rx_exits_plan.specs.Asked.{Asked}
 use Rattle.rx_exits_plan.specs.Plan.{Plan}
 use Rattle.rx_engine_simulation.specs.Histories.{Living}
@@ -20,12 +20,12 @@ use Rattle.rx_engine_simulation.specs.Arrivals.{IsReady, IsUnlent}
 use Rattle.rx_engine_simulation.specs.Variants.{leaving, Leaves, leaves_marked, leaves_function, leaves_value, leaves_unit, at_marked, DeadAt, DeadBehind, JumpArm, jump_arm, JumpOn}
 use Rattle.rx_engine_simulation.proofs.Arriving.{behind_jump}
 use Rattle.rx_engine_simulation.proofs.MarksTell.{comes_on}
-use Rattle.rx_engine_histories.specs.AboutRun.{special_of, about_run}
-use Rattle.rx_engine_histories.specs.Running.{running_of}
-use Rattle.rx_engine_histories.specs.Premises.{known_of, ByMark}
-use Rattle.rx_engine_histories.proofs.Closing.{given_dead}
-use Rattle.rx_engine_histories.proofs.Premises.{out_ready, whole_unlent}
-use Rattle.rx_engine_histories.proofs.Runs.{running_others_dead, running_lent}
+use Rattle.rx_engine_related.specs.AboutRun.{special_of, about_run}
+use Rattle.rx_engine_related.specs.Running.{running_of}
+use Rattle.rx_engine_related.specs.Premises.{known_of, ByMark}
+use Rattle.rx_engine_related.proofs.Closing.{given_dead}
+use Rattle.rx_engine_related.proofs.Premises.{out_ready, whole_unlent}
+use Rattle.rx_engine_related.proofs.Runs.{running_others_dead, running_lent}
 use Rattle.rx_engine_related.specs.ByForm.{by_form}
 use Rattle.rx_engine_related.specs.Handed.{MayBeAssigned, is_mut, is_local, not_lent}
 use Rattle.rx_engine_related.specs.Leaving.{place_from, variant_for, pack_if, jumps_of, Left, left_by_jump, left_by_return, left_with_value, left_with_unit, left, BackArm, back_arm, ArmsOf}

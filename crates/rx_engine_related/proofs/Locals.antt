@@ -7,31 +7,31 @@ use Rattle.rx_typed.specs.Tree.{Temporary, Body, runs, Function}
 use Rattle.rx_lower_walks.specs.Actions.{Act, Declare, Dead, Read, Write, Borrow, Test, Call, Build, Input, Print, Give, Action}
 use Rattle.rx_lower_walks.specs.Orders.{order_body, order_function}
 use Rattle.rx_lower_walks.specs.Walks.{stopped, Walk, IsWalk, Among}
-use Rattle.rx_lower_walks.proofs.Fronts.{fronts}
-use Rattle.rx_facts_init.proofs.Fronts.{not_so}
-use Rattle.rx_exits_marks.specs.Spots.{spots_of_function}
-use Rattle.rx_exits_marks.specs.Points.{Exit, next, breaks, continues, returns, enters, leaves, number}
-use Rattle.rx_exits_marks.specs.Marked.{mark, shown}
+use Rattle.rx_lower_walks.proofs.WalksFronts.{fronts}
+use Rattle.rx_facts_tables.proofs.Fronts.{not_so}
+use Rattle.rx_exits_plan.specs.Spots.{spots_of_function}
+use Rattle.rx_exits_plan.specs.Points.{Exit, next, breaks, continues, returns, enters, leaves, number}
+use Rattle.rx_exits_plan.specs.Marked.{mark, shown}
 use Rattle.rx_exits_plan.specs.Occurrences.{is_declared_in_run}
 use Rattle.rx_exits_plan.specs.Asked.{Asked}
 use Rattle.rx_exits_plan.specs.Plan.{Plan, variables_of}
 use Rattle.rx_engine_simulation.specs.Histories.{IsOwn, IsWhole, Declares, WritesWhole, WritesOwn, Kills, Borrowed, put, Living, later}
 use Rattle.rx_engine_simulation.specs.Programs.{back, IsHistory, ComesTo, Untouched}
 use Rattle.rx_engine_simulation.specs.Arrivals.{IsUnlent}
-use Rattle.rx_engine_histories.specs.AboutRun.{about_run}
-use Rattle.rx_engine_histories.specs.Running.{running_of}
-use Rattle.rx_engine_histories.specs.OneSite.{StandsOnce}
-use Rattle.rx_engine_histories.specs.Premises.{known_of}
-use Rattle.rx_engine_histories.proofs.Since.{back_put, back_both, history_walk, next_walk, walk_history, older}
-use Rattle.rx_engine_histories.proofs.Points.{comes_to_mark, shorter}
-use Rattle.rx_engine_histories.proofs.Further.{returned}
-use Rattle.rx_engine_histories.proofs.Returning.{running_further}
-use Rattle.rx_engine_histories.proofs.Nearer.{without_returns, cut_back}
-use Rattle.rx_engine_histories.proofs.Recombining.{recombined}
-use Rattle.rx_engine_histories.proofs.Sole.{weighed, jump_numbers}
-use Rattle.rx_engine_histories.proofs.Leading.{no_weight}
-use Rattle.rx_engine_histories.proofs.Choosing.{of_those, chosen_is, out_is}
-use Rattle.rx_engine_histories.proofs.Runs.{running_local_dead, running_out_living}
+use Rattle.rx_engine_related.specs.AboutRun.{about_run}
+use Rattle.rx_engine_related.specs.Running.{running_of}
+use Rattle.rx_engine_related.specs.OneSite.{StandsOnce}
+use Rattle.rx_engine_related.specs.Premises.{known_of}
+use Rattle.rx_engine_related.proofs.Since.{back_put, back_both, history_walk, next_walk, walk_history, older}
+use Rattle.rx_engine_related.proofs.Points.{comes_to_mark, shorter}
+use Rattle.rx_engine_related.proofs.Further.{returned}
+use Rattle.rx_engine_related.proofs.Returning.{running_further}
+use Rattle.rx_engine_related.proofs.Nearer.{without_returns, cut_back}
+use Rattle.rx_engine_related.proofs.Recombining.{recombined}
+use Rattle.rx_engine_related.proofs.Sole.{weighed, jump_numbers}
+use Rattle.rx_engine_related.proofs.Leading.{no_weight}
+use Rattle.rx_engine_related.proofs.Choosing.{of_those, chosen_is, out_is}
+use Rattle.rx_engine_related.proofs.Runs.{running_local_dead, running_out_living}
 use Rattle.rx_engine_related.proofs.Inside.{IsIn, weighs, one_block, came_in}
 use Rattle.rx_engine_related.proofs.Entry.{entry_stands_once}
 use Rattle.rx_engine_related.proofs.Loops.{Held}

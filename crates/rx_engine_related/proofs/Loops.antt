@@ -8,11 +8,11 @@ use Rattle.rx_lower_walks.specs.Matching.{PartTest, Binding, tests, bindings}
 use Rattle.rx_lower_walks.specs.Actions.{Act, Subject, subject, taken}
 use Rattle.rx_lower_walks.specs.Orders.{Order, order, order_all, order_scrutinee, order_arms, order_body, order_function, testing, binding, declaring, perhaps}
 use Rattle.rx_lower_walks.specs.Walks.{Among, here, there}
-use Rattle.rx_exits_marks.specs.Blocks.{Statement, statements, bound}
-use Rattle.rx_exits_marks.specs.Blocks as block
-use Rattle.rx_exits_marks.specs.Spots.{Around, Spot, a_block, a_jump, a_return, with_variables, with_loop, spots, spots_in, spots_matched, spots_armed, spots_of, outermost, spots_of_function}
-use Rattle.rx_exits_marks.specs.Runs.{Run, Home, inside}
-use Rattle.rx_exits_marks.specs.Marked.{is_among}
+use Rattle.rx_exits_plan.specs.Blocks.{Statement, statements, bound}
+use Rattle.rx_exits_plan.specs.Blocks as block
+use Rattle.rx_exits_plan.specs.Spots.{Around, Spot, a_block, a_jump, a_return, with_variables, with_loop, spots, spots_in, spots_matched, spots_armed, spots_of, outermost, spots_of_function}
+use Rattle.rx_exits_plan.specs.Runs.{Run, Home, inside}
+use Rattle.rx_exits_plan.specs.Marked.{is_among}
 use Rattle.rx_engine_simulation.specs.Turns.{Allowance}
 use Rattle.rx_engine_simulation.specs.Histories.{Facts}
 use Rattle.rx_engine_simulation.specs.Sights.{Renaming}
@@ -21,22 +21,22 @@ use Rattle.rx_engine_simulation.specs.Openings.{no_openings}
 use Rattle.rx_engine_simulation.specs.Like.{LikeExp, opens, LikeAll, LikeMatched, LikeArms, LikeBody, opens_in, reads, borrows, views, shares, builds, builds_structs, builds_variants, units, lazies, assigns, updates, calls, inputs, prints, blocks, chooses, loops, stays, gives, no_operands, operands_and, at_places, of_values, no_arms, arms_and, ends_in, runs_on, declares_all, lets_in, reads_place, looks_behind}
 use Rattle.rx_engine_simulation.specs.Marking.{without_turns}
 use Rattle.rx_engine_simulation.proofs.Declaring.{eq_self}
-use Rattle.rx_exits_marks.specs.Points.{Exit, next, breaks, continues, returns, leaves, jump_exit}
-use Rattle.rx_exits_marks.specs.Marked.{shown}
-use Rattle.rx_exits_marks.specs.Coming.{HasNoMark}
+use Rattle.rx_exits_plan.specs.Points.{Exit, next, breaks, continues, returns, leaves, jump_exit}
+use Rattle.rx_exits_plan.specs.Marked.{shown}
+use Rattle.rx_exits_plan.specs.Coming.{HasNoMark}
 use Rattle.rx_exits_plan.specs.Diverging.{run_diverges}
 use Rattle.rx_exits_plan.specs.Exits.{Jump, jumps, is_taken, where_taken, of_loops, exits}
 use Rattle.rx_exits_plan.specs.Asked.{Asked}
 use Rattle.rx_exits_plan.specs.Plan.{Plan, IsPlan}
 use Rattle.rx_exits_plan.specs.PartlyMoved.{PartlyMoved}
 use Rattle.rx_modes_uses.specs.Aliased.{Aliased}
-use Rattle.rx_engine_histories.specs.Running.{running_of}
-use Rattle.rx_engine_histories.specs.OneSite.{blocks_at}
-use Rattle.rx_engine_histories.specs.OnePlace.{LeadsToOnePlace, loops_in, loops_of}
-use Rattle.rx_engine_histories.specs.Accepted.{Accepted}
-use Rattle.rx_engine_histories.proofs.Recombining.{sole_leads}
-use Rattle.rx_engine_histories.proofs.Sole.{end_stands_once}
-use Rattle.rx_engine_histories.proofs.Jumps.{jumps_meet}
+use Rattle.rx_engine_related.specs.Running.{running_of}
+use Rattle.rx_engine_related.specs.OneSite.{blocks_at}
+use Rattle.rx_engine_related.specs.OnePlace.{LeadsToOnePlace, loops_in, loops_of}
+use Rattle.rx_engine_related.specs.Accepted.{Accepted}
+use Rattle.rx_engine_related.proofs.Recombining.{sole_leads}
+use Rattle.rx_engine_related.proofs.Sole.{end_stands_once}
+use Rattle.rx_engine_related.proofs.Jumps.{jumps_meet}
 use Rattle.rx_engine_related.specs.ByForm.{by_form, RelatedFunction, IsItself, is_itself, is_none}
 use Rattle.rx_engine_related.specs.Had.{Had}
 

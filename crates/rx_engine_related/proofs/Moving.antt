@@ -1,8 +1,8 @@
 -- The run's statements beside those of the new function, with the marks of the run.
 use Rattle.std.proofs.Common.{◌≡◌, ℕ, false, List, [], ◌∷◌, refl, ap, arith}
 use Rattle.rx_typed.specs.Tree.{Exp, Scrutinee, read, own}
-use Rattle.rx_exits_marks.specs.Points.{Point, enters}
-use Rattle.rx_exits_marks.specs.Marked.{at_point}
+use Rattle.rx_exits_plan.specs.Points.{Point, enters}
+use Rattle.rx_exits_plan.specs.Marked.{at_point}
 use Rattle.rx_engine_simulation.specs.Turns.{Allowance}
 use Rattle.rx_engine_simulation.specs.Histories.{Facts}
 use Rattle.rx_engine_simulation.specs.Sights.{Renaming}

@@ -8,7 +8,7 @@ use Rattle.rx_lower_walks.specs.Orders as order
 use Rattle.rx_lower_walks.specs.Orders.{Exit, breaks, Order, testing, binding, declaring, order_all, order_scrutinee, order_arms, order_body}
 use Rattle.rx_lower_walks.specs.Walks as walk
 use Rattle.rx_lower_walks.specs.Walks.{Out, on, leaves, Walk}
-use Rattle.rx_exits_marks.specs.Points.{Point}
+use Rattle.rx_exits_plan.specs.Points.{Point}
 use Rattle.rx_engine_simulation.specs.Blocks.{Stretch, Through, through_run, through_declaration, through_let}
 use Rattle.rx_engine_simulation.specs.Marks.{reading, with_mark, closed_by}
 use Rattle.rx_engine_related.specs.Never.{HasNoBreak, NoneHasBreak, MatchedHasNoBreak, ArmsHaveNoBreak, BodyHasNoBreak, NeverOn, never_jump, never_return, never_share, never_build, never_lazily, never_assign, never_update, never_call, never_print, never_block, never_matched, never_armed, never_loop, never_tested, SomeNever, this_operand, later_operand, NeverMatched, never_value, AllNever, no_arm_goes, arm_never, NeverThrough, tail_never, statement_never, behind_statement, behind_declaration, let_never, behind_let, NeverPassed, does_never, does_later, declares_later, lets_never, lets_later}

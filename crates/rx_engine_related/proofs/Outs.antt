@@ -4,10 +4,10 @@ use Rattle.std.proofs.Common.{◌≡◌, ◌⊎◌, inl, inr, ℕ, ◌==◌, Boo
 use Rattle.std.specs.Bool.{Decides}
 use Rattle.std.proofs.lemmas.Bool.Decides.{Decides-eqb}
 use Rattle.rx_lower_walks.specs.Walks.{Among, here, there}
-use Rattle.rx_facts_init.proofs.Fronts.{not_so}
-use Rattle.rx_exits_marks.specs.Blocks.{Statement, does, begins, binds, bound, declared_by_all}
-use Rattle.rx_exits_marks.specs.Runs.{inside, last_value}
-use Rattle.rx_exits_marks.specs.Points.{Exit}
+use Rattle.rx_facts_tables.proofs.Fronts.{not_so}
+use Rattle.rx_exits_plan.specs.Blocks.{Statement, does, begins, binds, bound, declared_by_all}
+use Rattle.rx_exits_plan.specs.Runs.{inside, last_value}
+use Rattle.rx_exits_plan.specs.Points.{Exit}
 use Rattle.rx_exits_plan.specs.Occurrences.{has_number, all_declared, occurrences, occurrences_matched, in_statements, in_run, in_value, is_declared_in_run, is_direct}
 use Rattle.rx_exits_plan.specs.Asked.{Asked}
 use Rattle.rx_exits_plan.specs.Plan.{Plan, IsPlan, variables_of, foreign_of, is_moved, is_offered}
@@ -26,8 +26,8 @@ use Rattle.rx_modes_uses.specs.NotMut.{NotMut}
 use Rattle.rx_modes_uses.proofs.Deciding.{told, are_uses}
 use Rattle.rx_modes_uses.proofs.Planned.{same_moves}
 use Rattle.rx_modes_uses.proofs.Table.{none_has_none}
-use Rattle.rx_engine_histories.proofs.Choosing.{of_those, out_is}
-use Rattle.rx_engine_histories.proofs.Setting.{either}
+use Rattle.rx_engine_related.proofs.Choosing.{of_those, out_is}
+use Rattle.rx_engine_related.proofs.Setting.{either}
 use Rattle.rx_engine_related.proofs.Undeclared.{Away, away_front, away_rest, away_of}
 
 -- ---- lists

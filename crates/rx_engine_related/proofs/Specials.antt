@@ -1,14 +1,14 @@
 -- Which variables may be elsewhere by a plan: what an exit hands out, and what is declared again, which the run's end does not hand out.
 use Rattle.std.proofs.Common.{◌≡◌, inl, inr, ℕ, Bool, true, false, not, ◌&&◌, List, [], ◌∷◌, ◌++◌, refl, sym, subst, true≢false}
 use Rattle.rx_lower_walks.specs.Walks.{Among, here, there}
-use Rattle.rx_facts_init.proofs.Fronts.{both_true}
-use Rattle.rx_exits_marks.specs.Points.{Exit, next}
+use Rattle.rx_facts_tables.proofs.Fronts.{both_true}
+use Rattle.rx_exits_plan.specs.Points.{Exit, next}
 use Rattle.rx_exits_plan.specs.Occurrences.{those, has_number, is_direct, is_named_behind}
 use Rattle.rx_exits_plan.specs.Asked.{Asked}
 use Rattle.rx_exits_plan.specs.Plan.{Plan, IsPlan, variables_of, is_moved, is_redeclared}
 use Rattle.rx_engine_simulation.specs.Sights.{In}
-use Rattle.rx_engine_histories.specs.AboutRun.{handed, special_of}
-use Rattle.rx_engine_histories.proofs.Choosing.{of_those, number_there}
+use Rattle.rx_engine_related.specs.AboutRun.{handed, special_of}
+use Rattle.rx_engine_related.proofs.Choosing.{of_those, number_there}
 
 pub in_list : {x : ℕ} {l : List ℕ} → Among x l → In x l
 in_list here = inl refl

@@ -4,8 +4,8 @@ use Rattle.rx_typed.specs.Tree as tree
 use Rattle.rx_typed.specs.Tree.{Exp, Body, Mark, Operands, temporary_of}
 use Rattle.rx_lower_walks.specs.Actions.{Action}
 use Rattle.rx_lower_walks.specs.Walks.{Among, here}
-use Rattle.rx_exits_marks.specs.Points.{next, returns, enters, leaves}
-use Rattle.rx_exits_marks.specs.Marked.{mark, shown}
+use Rattle.rx_exits_plan.specs.Points.{next, returns, enters, leaves}
+use Rattle.rx_exits_plan.specs.Marked.{mark, shown}
 use Rattle.rx_exits_plan.specs.Asked.{Asked}
 use Rattle.rx_exits_plan.specs.Plan.{Plan}
 use Rattle.rx_modes_policy.specs.declared.uses.Mode.{Mode}
@@ -22,12 +22,12 @@ use Rattle.rx_engine_simulation.specs.Packing.{Way, bare, as_variant, no_way}
 use Rattle.rx_engine_simulation.specs.Stretches.{LikeStretch, only_marks}
 use Rattle.rx_engine_simulation.specs.Endings.{Last, none_left, a_marked, a_tail, with_last, aim_of, LikeEnd}
 use Rattle.rx_engine_simulation.specs.Statements.{body_of, Calling, calls_alone, matches, matches_jumps, goes_on, goes_on_marked, Following, Handing, hands_on, StatementsBecomeCall, statements_become_call}
-use Rattle.rx_engine_histories.specs.AboutRun.{special_of, about_run}
-use Rattle.rx_engine_histories.specs.Running.{running_of}
-use Rattle.rx_engine_histories.specs.Premises.{known_of, ByMark, NotHanded}
-use Rattle.rx_engine_histories.proofs.Premises.{others_dead, out_ready}
-use Rattle.rx_engine_histories.proofs.Choosing as choosing
-use Rattle.rx_engine_histories.proofs.Runs.{running_others_dead, running_param_written}
+use Rattle.rx_engine_related.specs.AboutRun.{special_of, about_run}
+use Rattle.rx_engine_related.specs.Running.{running_of}
+use Rattle.rx_engine_related.specs.Premises.{known_of, ByMark, NotHanded}
+use Rattle.rx_engine_related.proofs.Premises.{others_dead, out_ready}
+use Rattle.rx_engine_related.proofs.Choosing as choosing
+use Rattle.rx_engine_related.proofs.Runs.{running_others_dead, running_param_written}
 use Rattle.rx_engine_related.specs.Moved.{Moved, Ended, gives_outs, gives_last, gives_never, gives_left}
 use Rattle.rx_engine_related.specs.Handed.{MayBeAssigned, Handed, handed_on}
 use Rattle.rx_engine_related.specs.Never.{NeverEnds, first_never, last_never}

@@ -10,13 +10,13 @@ use Rattle.rx_lower_walks.specs.Orders.{Order, testing, perhaps, binding, declar
 use Rattle.rx_lower_walks.specs.Orders as order
 use Rattle.rx_lower_walks.specs.Walks.{Out, Walk, actions_in, Among, here, there, EndsVariable}
 use Rattle.rx_lower_walks.proofs.Held.{Own, held}
-use Rattle.rx_exits_marks.specs.Blocks.{bound}
-use Rattle.rx_exits_marks.specs.Points.{leaves, jump_exit}
-use Rattle.rx_exits_marks.specs.Changed.{changed, changed_all, changed_matched, changed_arms, changed_body}
-use Rattle.rx_exits_marks.specs.Marked.{mark_then, is_among}
+use Rattle.rx_exits_plan.specs.Blocks.{bound}
+use Rattle.rx_exits_plan.specs.Points.{leaves, jump_exit}
+use Rattle.rx_exits_plan.specs.Changed.{changed, changed_all, changed_matched, changed_arms, changed_body}
+use Rattle.rx_exits_plan.specs.Marked.{mark_then, is_among}
 use Rattle.rx_exits_plan.specs.Occurrences.{Occurrence, names, declared, named_place, all_declared, occurrences, occurrences_in, occurrences_matched, occurrences_armed, occurrences_of, declared_among, has_number}
 use Rattle.rx_engine_simulation.specs.Histories.{Declares}
-use Rattle.rx_engine_histories.specs.Running.{passing}
+use Rattle.rx_engine_related.specs.Running.{passing}
 
 module _ (x : ℕ) where
   -- no action of an order begins the variable

@@ -1,7 +1,7 @@
 -- Whole programs: the text with the marks of its run runs as the text, and the answer is related to it.
 use Rattle.std.proofs.Common.{◌≡◌, ◌⊎◌, inl, inr, ◌≤◌, ℕ, zero, suc, ◌*◌, ℤ, Bool, true, false, nat_eq, List, [], ◌∷◌, Option, Some, refl, sym, ap, ◌∙◌, subst, arith, eqb-true, true≢false}
 use Rattle.rx_typed.specs.Tree.{Function}
-use Rattle.rx_exits_marks.specs.Points.{enters}
+use Rattle.rx_exits_plan.specs.Points.{enters}
 use Rattle.rx_exits_plan.specs.Asked.{Asked}
 use Rattle.rx_exits_plan.specs.Plan.{Plan}
 use Rattle.rx_modes_policy.specs.declared.uses.Mode.{Mode}
@@ -16,13 +16,13 @@ use Rattle.rx_engine_simulation.specs.Marking.{no_one, facts_alone, without_turn
 use Rattle.rx_engine_simulation.specs.Astray.{FindsReferences}
 use Rattle.rx_engine_simulation.proofs.Declaring.{eq_self}
 use Rattle.rx_engine_simulation.proofs.Rightly.{answer_runs_so, text_runs_so}
-use Rattle.rx_engine_histories.specs.AboutRun.{special_of, about_run}
-use Rattle.rx_engine_histories.specs.Running.{running_of}
-use Rattle.rx_engine_histories.specs.Reading.{ReadingEntry, reading_run, as_it_stands, not_there}
-use Rattle.rx_engine_histories.specs.Premises.{known_of}
-use Rattle.rx_engine_histories.proofs.Choosing as choosing
-use Rattle.rx_engine_histories.proofs.ReadingRun.{reading_alike}
-use Rattle.rx_engine_histories.proofs.Runs.{running_param_written, running_untouched}
+use Rattle.rx_engine_related.specs.AboutRun.{special_of, about_run}
+use Rattle.rx_engine_related.specs.Running.{running_of}
+use Rattle.rx_engine_related.specs.Reading.{ReadingEntry, reading_run, as_it_stands, not_there}
+use Rattle.rx_engine_related.specs.Premises.{known_of}
+use Rattle.rx_engine_related.proofs.Choosing as choosing
+use Rattle.rx_engine_related.proofs.ReadingRun.{reading_alike}
+use Rattle.rx_engine_related.proofs.Runs.{running_param_written, running_untouched}
 use Rattle.rx_engine_related.specs.ByForm.{by_form, RelatedFunction, SameEntry, same_function, no_function, IsItself, is_itself, is_none, EachIsItself}
 use Rattle.rx_engine_related.specs.Standing.{the_call}
 use Rattle.rx_engine_related.specs.Extracts.{with_its_marks, Extracts}

@@ -1,6 +1,6 @@
 -- The answer's typed program is the text's with a call of a new function in place of a run (REM, "Extract method"), by its trees alone: no
 -- history, walk or run is spoken of. In the run's block the text is read with marks where the run is entered and where it is left
--- (rx_exits_marks).
+-- (rx_exits_plan).
 use Rattle.std.specs.Prelude.{◌≡◌, ℕ, Bool, List, Some}
 use Rattle.rx_typed.specs.Tree.{Function}
 use Rattle.rx_meaning.specs.Values.{element, with_element}
@@ -12,8 +12,8 @@ use Rattle.rx_engine_simulation.specs.Passing.{New}
 use Rattle.rx_engine_simulation.specs.Called.{a_turn}
 use Rattle.rx_engine_simulation.specs.Units.{UnitFunctions}
 use Rattle.rx_engine_simulation.specs.Rereads.{RereadsProgram}
-use Rattle.rx_engine_histories.specs.AboutRun.{special_of}
-use Rattle.rx_engine_histories.specs.Running.{running_of}
+use Rattle.rx_engine_related.specs.AboutRun.{special_of}
+use Rattle.rx_engine_related.specs.Running.{running_of}
 use Rattle.rx_engine_related.specs.ByForm.{RelatedFunction, SameEntry}
 use Rattle.rx_engine_related.specs.InBlock.{in_its_block}
 use Rattle.rx_engine_related.specs.Standing.{the_call}

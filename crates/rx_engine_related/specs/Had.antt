@@ -1,15 +1,15 @@
 -- What is had of an accepted text and a run in it that isn't refused: its plan, and what acceptance gives (REM, "Extract method").
 use Rattle.std.specs.Prelude.{◌≡◌, ℕ, ◌≤◌, Bool, false, List}
 use Rattle.rx_lower_walks.specs.Orders.{order_function}
-use Rattle.rx_exits_marks.specs.Runs.{Sits}
-use Rattle.rx_exits_marks.specs.Coming.{HasNoMark}
-use Rattle.rx_exits_marks.specs.Spots.{spots_of_function}
+use Rattle.rx_exits_plan.specs.Runs.{Sits}
+use Rattle.rx_exits_plan.specs.Coming.{HasNoMark}
+use Rattle.rx_exits_plan.specs.Spots.{spots_of_function}
 use Rattle.rx_exits_plan.specs.Asked.{Asked}
 use Rattle.rx_exits_plan.specs.Plan.{Plan, IsPlan}
 use Rattle.rx_exits_plan.specs.PartlyMoved.{PartlyMoved}
 use Rattle.rx_modes_uses.specs.Aliased.{Aliased}
-use Rattle.rx_engine_histories.specs.OneSite.{blocks_at}
-use Rattle.rx_engine_histories.specs.Accepted.{Accepted}
+use Rattle.rx_engine_related.specs.OneSite.{blocks_at}
+use Rattle.rx_engine_related.specs.Accepted.{Accepted}
 
 pub record Had (A : Asked) (muts : List Bool) (k : Plan) : Type 0 where
   -- the run hasn't its block's tail

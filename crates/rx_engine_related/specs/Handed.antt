@@ -5,7 +5,7 @@ use Rattle.std.specs.Prelude.{◌≡◌, ℕ, Bool, List, [], ◌∷◌, Some, N
 use Rattle.rx_typed.specs.Tree as tree
 use Rattle.rx_typed.specs.Tree.{Mark, Exp, Body, Subpatterns, own}
 use Rattle.rx_lower_walks.specs.Walks.{Among}
-use Rattle.rx_exits_marks.specs.Points.{next}
+use Rattle.rx_exits_plan.specs.Points.{next}
 use Rattle.rx_exits_plan.specs.Asked.{Asked}
 use Rattle.rx_exits_plan.specs.Plan.{Plan}
 use Rattle.rx_modes_uses.specs.Paths.{OwnPath}
@@ -16,7 +16,7 @@ use Rattle.rx_engine_simulation.specs.Sights.{special, sight, Renaming, sight_of
 use Rattle.rx_engine_simulation.specs.Arrivals.{Within}
 use Rattle.rx_engine_simulation.specs.Packing.{Takes, Receives}
 use Rattle.rx_engine_simulation.specs.Handing.{Receiving}
-use Rattle.rx_engine_histories.specs.Premises.{NotHanded}
+use Rattle.rx_engine_related.specs.Premises.{NotHanded}
 
 -- A variable that may be assigned: it is declared `mut`, it has no value where the run is entered, or nothing of the function borrows its
 -- own storage.

@@ -10,8 +10,8 @@ use Rattle.rx_engine_simulation.specs.Sights.{Renaming}
 use Rattle.rx_engine_simulation.specs.Jumps.{Jumping}
 use Rattle.rx_engine_simulation.specs.Openings.{Openings}
 use Rattle.rx_engine_simulation.specs.Like.{LikeBody}
-use Rattle.rx_engine_histories.specs.AboutRun.{special_of}
-use Rattle.rx_engine_histories.specs.Running.{running_body}
+use Rattle.rx_engine_related.specs.AboutRun.{special_of}
+use Rattle.rx_engine_related.specs.Running.{running_body}
 use Rattle.rx_engine_related.specs.ByForm.{by_form}
 
 -- with such openings in it

@@ -4,8 +4,8 @@
 use Rattle.std.specs.Prelude.{◌≡◌, ℕ, suc, Bool, true, false, if◌then◌else◌, List, [], ◌∷◌, Option, Some, None}
 use Rattle.rx_typed.specs.Tree as tree
 use Rattle.rx_typed.specs.Tree.{Mark, Exp, Arms, Body, Subpatterns}
-use Rattle.rx_exits_marks.specs.Points.{Exit, returns, leaves, same_exit, jump_exit}
-use Rattle.rx_exits_marks.specs.Marked.{mark_then}
+use Rattle.rx_exits_plan.specs.Points.{Exit, returns, leaves, same_exit, jump_exit}
+use Rattle.rx_exits_plan.specs.Marked.{mark_then}
 use Rattle.rx_exits_plan.specs.Asked.{Asked}
 use Rattle.rx_exits_plan.specs.Plan.{Plan}
 use Rattle.rx_engine_simulation.specs.Sights.{In, special, sight, Renaming, sight_of, IsNew}
@@ -16,7 +16,7 @@ use Rattle.rx_engine_simulation.specs.Packing.{as_variant, Gives, Receives, Pick
 use Rattle.rx_engine_simulation.specs.Handing.{Receiving}
 use Rattle.rx_engine_simulation.specs.Units.{GivesUnit}
 use Rattle.rx_engine_simulation.specs.Variants.{JumpsBehind, AllSpecial, ReturnsOn}
-use Rattle.rx_engine_histories.specs.AboutRun.{special_of}
+use Rattle.rx_engine_related.specs.AboutRun.{special_of}
 use Rattle.rx_engine_related.specs.Handed.{PutBack}
 
 -- ---- variants, by the numbers of the exits in the plan

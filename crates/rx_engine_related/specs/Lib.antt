@@ -1,3 +1,12 @@
+pub mod Reads
+pub mod AboutRun
+pub mod Accepted
+pub mod Ambiguous
+pub mod OneSite
+pub mod Running
+pub mod Reading
+pub mod Premises
+pub mod OnePlace
 pub mod ByForm
 pub mod Given
 pub mod Handed

@@ -5,7 +5,7 @@ use Rattle.rx_typed.specs.Tree as tree
 use Rattle.rx_typed.specs.Tree.{Mark, Pattern, Exp, Scrutinee, Body, own}
 use Rattle.rx_lower_walks.specs.Matching.{bindings}
 use Rattle.rx_lower_walks.specs.Actions.{subject}
-use Rattle.rx_exits_marks.specs.Points.{next, leaves}
+use Rattle.rx_exits_plan.specs.Points.{next, leaves}
 use Rattle.rx_engine_simulation.specs.Turns.{Allowance}
 use Rattle.rx_engine_simulation.specs.Sights.{viewed, sight, Renaming, sight_of}
 use Rattle.rx_engine_simulation.specs.Binders.{LikeDeclared, LikeBindings, AreBehind}

@@ -4,7 +4,7 @@ use Rattle.std.specs.Prelude.{◌≡◌, ℕ, Bool, true, false, List}
 use Rattle.rx_tree.specs.declared.tree.BinaryOp.{BinaryOp}
 use Rattle.rx_typed.specs.Tree as tree
 use Rattle.rx_typed.specs.Tree.{Mark, Place, Pattern, Making, Exp, Operands, Scrutinee, Arms, Body}
-use Rattle.rx_exits_marks.specs.Points.{Point}
+use Rattle.rx_exits_plan.specs.Points.{Point}
 use Rattle.rx_engine_simulation.specs.Blocks.{Stretch, does_then, declares_then, lets_then}
 use Rattle.rx_engine_simulation.specs.Endings.{Last, a_marked}
 

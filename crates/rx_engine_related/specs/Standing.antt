@@ -1,9 +1,9 @@
--- Where the run stands in the text, told by marks (rx_exits_marks), the call stands in the answer (REM, "Extract method").
+-- Where the run stands in the text, told by marks (rx_exits_plan), the call stands in the answer (REM, "Extract method").
 use Rattle.std.specs.Prelude.{◌≡◌, ℕ, Bool, List, [], ◌∷◌, length, Some}
 use Rattle.rx_typed.specs.Tree as tree
 use Rattle.rx_typed.specs.Tree.{Mark, Exp, Operands, Arms, Body, Subpatterns}
 use Rattle.rx_lower_walks.specs.Walks.{Among}
-use Rattle.rx_exits_marks.specs.Points.{next, enters, leaves}
+use Rattle.rx_exits_plan.specs.Points.{next, enters, leaves}
 use Rattle.rx_exits_plan.specs.Asked.{Asked}
 use Rattle.rx_exits_plan.specs.Plan.{Plan}
 use Rattle.rx_modes_policy.specs.declared.uses.Mode.{Mode}
@@ -17,7 +17,7 @@ use Rattle.rx_engine_simulation.specs.Marks.{with_mark, closed_by}
 use Rattle.rx_engine_simulation.specs.Endings.{Last, none_left, with_last}
 use Rattle.rx_engine_simulation.specs.Packing.{Way, bare, as_variant, no_way, Gives, Receives, Picks, AreNew}
 use Rattle.rx_engine_simulation.specs.Statements.{body_of}
-use Rattle.rx_engine_histories.specs.AboutRun.{special_of}
+use Rattle.rx_engine_related.specs.AboutRun.{special_of}
 use Rattle.rx_engine_related.specs.Given.{EntersWith}
 use Rattle.rx_engine_related.specs.Moved.{Moved, Ended}
 use Rattle.rx_engine_related.specs.Handed.{Handed}

@@ -1,6 +1,6 @@
 -- The statements of a run as a stretch of a block (Rust Reference, "Statements").
 use Rattle.std.specs.Prelude.{List, [], ◌∷◌}
-use Rattle.rx_exits_marks.specs.Blocks.{Statement, does, begins, binds}
+use Rattle.rx_exits_plan.specs.Blocks.{Statement, does, begins, binds}
 use Rattle.rx_engine_simulation.specs.Blocks.{Stretch, done, does_then, declares_then, lets_then}
 
 abbrev pub stretch_of : List Statement → Stretch

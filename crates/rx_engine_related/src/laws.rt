@@ -3,7 +3,7 @@
 ghost use Rattle.std.specs.Prelude.{◌≡◌, ◌⊎◌, ◌*◌, ℕ, ℤ, Bool, true, List as ListOf, Option as OptionOf, Some, slice_get};
 ghost use Rattle.rx_typed.specs.Tree.{Function};
 ghost use Rattle.rx_lower_walks.specs.Walks.{Among};
-ghost use Rattle.rx_exits_marks.specs.Points.{Exit};
+ghost use Rattle.rx_exits_plan.specs.Points.{Exit};
 ghost use Rattle.rx_exits_plan.specs.Asked.{Asked};
 ghost use Rattle.rx_exits_plan.specs.Plan.{Plan, IsPlan, foreign_of};
 ghost use Rattle.rx_exits_plan.specs.MixedInit.{MixedInit};

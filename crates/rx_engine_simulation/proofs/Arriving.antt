@@ -6,8 +6,8 @@ use Rattle.rx_lower_walks.specs.Actions.{Action, Give, at_mark}
 use Rattle.rx_lower_walks.specs.Orders.{order, order_body}
 use Rattle.rx_lower_walks.specs.Walks as walk
 use Rattle.rx_lower_walks.specs.Walks.{Walk}
-use Rattle.rx_exits_marks.specs.Points.{Point}
-use Rattle.rx_exits_marks.specs.Marked.{mark, shown}
+use Rattle.rx_exits_plan.specs.Points.{Point}
+use Rattle.rx_exits_plan.specs.Marked.{mark, shown}
 use Rattle.rx_engine_simulation.specs.Histories.{put}
 use Rattle.rx_engine_simulation.specs.Programs.{IsHistory, About, Untouched, facts_of}
 use Rattle.rx_engine_simulation.specs.Blocks.{Stretch, done, does_then, declares_then, lets_then, before, declared_all, Through, through_none, through_run, through_declaration, through_let}

@@ -5,7 +5,7 @@ use Rattle.rx_lower_walks.specs.Matching.{Binding}
 use Rattle.rx_lower_walks.specs.Actions.{Action, Subject, declared, written}
 use Rattle.rx_lower_walks.specs.Orders.{Order, order_body, declaring, binding}
 use Rattle.rx_lower_walks.specs.Walks as walk
-use Rattle.rx_exits_marks.specs.Coming.{Into, all, in_second, in_scope}
+use Rattle.rx_exits_plan.specs.Coming.{Into, all, in_second, in_scope}
 use Rattle.rx_engine_simulation.specs.Histories.{Facts}
 use Rattle.rx_engine_simulation.specs.Blocks.{Stretch, before, declared_all, Binds, binds_none, binds_and, Through, through_none, through_run, through_declaration, through_let}
 use Rattle.rx_engine_simulation.specs.Arrivals.{to_rest, Arrives, arrives_rest}

@@ -5,7 +5,7 @@ use Rattle.rx_typed.specs.Tree as tree
 use Rattle.rx_typed.specs.Tree.{Mark, Exp, Operands, Scrutinee, Body, Place, Temporary, own, temporary_of, temporaries_of, temporary_at, fields_of, under}
 use Rattle.rx_lower_walks.specs.Actions.{Action, Read, Write, Give, Build, at_mark, does}
 use Rattle.rx_lower_walks.specs.Orders.{Exit, returns, order, order_body}
-use Rattle.rx_exits_marks.specs.Marked.{shown}
+use Rattle.rx_exits_plan.specs.Marked.{shown}
 use Rattle.rx_meaning.specs.Values.{Value, tagged, unit_value, is_set, State}
 use Rattle.rx_meaning.specs.Results.{Result, on, jumps, stops, bind, after, result_of}
 use Rattle.rx_meaning.specs.Operators.{fields}

@@ -10,9 +10,9 @@ use Rattle.rx_lower_walks.specs.Orders.{Order, order, order_body, order_function
 use Rattle.rx_lower_walks.specs.Walks as walk
 use Rattle.rx_lower_walks.specs.Walks.{Walk, actions_in, Among, here, there, EndsVariable}
 use Rattle.rx_lower_walks.proofs.Held.{Own}
-use Rattle.rx_exits_marks.specs.Points.{enters, leaves, next}
-use Rattle.rx_exits_marks.specs.Marked.{mark, shown}
-use Rattle.rx_exits_marks.specs.Coming.{Into, in_first, in_second, in_scope}
+use Rattle.rx_exits_plan.specs.Points.{enters, leaves, next}
+use Rattle.rx_exits_plan.specs.Marked.{mark, shown}
+use Rattle.rx_exits_plan.specs.Coming.{Into, in_first, in_second, in_scope}
 use Rattle.rx_meaning.specs.declared.outcome.End.{End}
 use Rattle.rx_meaning.specs.Values.{element}
 use Rattle.rx_meaning.specs.Results.{bind, after, result_of}

@@ -11,7 +11,7 @@ use Rattle.rx_typed.specs.Tree.{Mark, Exp, Body, Function, Temporary, own, under
 use Rattle.rx_lower_walks.specs.Actions.{Declare, Write, Action, does}
 use Rattle.rx_lower_walks.specs.Orders as orders
 use Rattle.rx_lower_walks.specs.Orders.{Exit, Order, order, order_body, order_function}
-use Rattle.rx_exits_marks.specs.Coming.{Into, all, in_first, in_second, in_scope}
+use Rattle.rx_exits_plan.specs.Coming.{Into, all, in_first, in_second, in_scope}
 use Rattle.rx_meaning.specs.Values.{element}
 use Rattle.rx_meaning.specs.Results.{bind, after, result_of}
 use Rattle.rx_meaning.specs.Patterns.{decided, tested, closed, bound, took, begun}

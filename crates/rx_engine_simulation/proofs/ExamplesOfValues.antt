@@ -12,7 +12,7 @@ use Rattle.rx_lower_walks.specs.Orders as orders
 use Rattle.rx_lower_walks.specs.Orders.{Order, order, order_body, order_function}
 use Rattle.rx_lower_walks.specs.Walks as walk
 use Rattle.rx_lower_walks.specs.Walks.{Walk, Among, here, there, actions_in}
-use Rattle.rx_exits_marks.specs.Coming.{Into, all, in_first, in_second, in_scope}
+use Rattle.rx_exits_plan.specs.Coming.{Into, all, in_first, in_second, in_scope}
 use Rattle.rx_meaning.specs.Values.{element}
 use Rattle.rx_meaning.specs.Results.{bind, after, result_of}
 use Rattle.rx_meaning.specs.Patterns.{decided, tested, closed, bound, took, begun}

@@ -4,8 +4,8 @@ use Rattle.rx_typed.specs.Tree as tree
 use Rattle.rx_typed.specs.Tree.{Mark, Parameter, Exp, Operands, Scrutinee, Arms, Body, Function, fields_of, mark_of, temporary_at}
 use Rattle.rx_lower_walks.specs.Matching.{Binding, tests, bindings}
 use Rattle.rx_lower_walks.specs.Actions.{Subject, in_temporary, subject}
-use Rattle.rx_exits_marks.specs.Points.{Point}
-use Rattle.rx_exits_marks.specs.Marked.{mark_then}
+use Rattle.rx_exits_plan.specs.Points.{Point}
+use Rattle.rx_exits_plan.specs.Marked.{mark_then}
 use Rattle.rx_meaning.specs.Programs.{Program, run}
 use Rattle.rx_engine_simulation.specs.Turns.{Allowance}
 use Rattle.rx_engine_simulation.specs.Fits.{Complete, Fitting}

@@ -6,8 +6,8 @@ use Rattle.rx_lower_walks.specs.Actions.{Action, Read, at_mark}
 use Rattle.rx_lower_walks.specs.Orders.{order, order_body}
 use Rattle.rx_lower_walks.specs.Walks as walk
 use Rattle.rx_lower_walks.specs.Walks.{Walk}
-use Rattle.rx_exits_marks.specs.Points.{Point, enters}
-use Rattle.rx_exits_marks.specs.Marked.{at_point, mark, mark_then, shown}
+use Rattle.rx_exits_plan.specs.Points.{Point, enters}
+use Rattle.rx_exits_plan.specs.Marked.{at_point, mark, mark_then, shown}
 use Rattle.rx_meaning.specs.Endings.{lacks}
 use Rattle.rx_meaning.specs.Straying.{why_not_found}
 use Rattle.rx_meaning.specs.Values.{Value, element, is_set, slot_of, State}

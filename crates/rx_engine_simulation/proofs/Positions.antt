@@ -7,7 +7,7 @@ use Rattle.rx_lower_walks.specs.Orders as order
 use Rattle.rx_lower_walks.specs.Orders.{Order, perhaps, order_scrutinee}
 use Rattle.rx_lower_walks.specs.Walks as walk
 use Rattle.rx_lower_walks.specs.Walks.{Out, Walk, Passed}
-use Rattle.rx_exits_marks.specs.Coming.{all, in_first, in_second, in_one, in_arm, in_next, in_scope, in_pass, in_later}
+use Rattle.rx_exits_plan.specs.Coming.{all, in_first, in_second, in_one, in_arm, in_next, in_scope, in_pass, in_later}
 use Rattle.rx_meaning.specs.Values.{Value, State}
 use Rattle.rx_meaning.specs.Results as results
 use Rattle.rx_meaning.specs.Results.{Done, gives, Result, on, jumps, stops, after, bind, result_of}

@@ -5,8 +5,8 @@ use Rattle.rx_typed.specs.Tree.{Mark, Exp, Temporary, temporary_of, mark_of}
 use Rattle.rx_lower_walks.specs.Actions.{Give, Action, at_mark, Build}
 use Rattle.rx_lower_walks.specs.Orders.{exit, returns, order}
 use Rattle.rx_lower_walks.specs.Walks as walk
-use Rattle.rx_exits_marks.specs.Points.{Point}
-use Rattle.rx_exits_marks.specs.Marked.{mark_then, shown}
+use Rattle.rx_exits_plan.specs.Points.{Point}
+use Rattle.rx_exits_plan.specs.Marked.{mark_then, shown}
 use Rattle.rx_meaning.specs.Values.{Value, tagged, unit_value, no_value, State, value_and, are_set}
 use Rattle.rx_meaning.specs.Results.{on, jumps, after, bind, result_of}
 use Rattle.rx_meaning.specs.Acting.{plainly, performed}

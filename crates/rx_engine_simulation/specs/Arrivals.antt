@@ -4,8 +4,8 @@ use Rattle.rx_typed.specs.Tree.{Exp, Body, Temporary, temporary_of}
 use Rattle.rx_lower_walks.specs.Actions.{Action}
 use Rattle.rx_lower_walks.specs.Orders.{order_body, order}
 use Rattle.rx_lower_walks.specs.Walks.{on, Walk}
-use Rattle.rx_exits_marks.specs.Points.{Point}
-use Rattle.rx_exits_marks.specs.Marked.{shown}
+use Rattle.rx_exits_plan.specs.Points.{Point}
+use Rattle.rx_exits_plan.specs.Marked.{shown}
 use Rattle.rx_engine_simulation.specs.Histories.{Facts, Living, Written, Borrowed, put}
 use Rattle.rx_engine_simulation.specs.Blocks.{Stretch, Through}
 use Rattle.rx_engine_simulation.specs.Sights.{special, Sight, sight, Renaming, sight_of}

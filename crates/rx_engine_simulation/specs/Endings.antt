@@ -4,8 +4,8 @@ use Rattle.std.specs.Prelude.{ℕ, Bool, true, false, List, [], ◌∷◌}
 use Rattle.rx_typed.specs.Tree as tree
 use Rattle.rx_typed.specs.Tree.{Mark, Place, Exp, Operands, Scrutinee, Body, temporary_of}
 use Rattle.rx_lower_walks.specs.Actions.{Action, Give, at_mark}
-use Rattle.rx_exits_marks.specs.Points.{Point}
-use Rattle.rx_exits_marks.specs.Marked.{mark}
+use Rattle.rx_exits_plan.specs.Points.{Point}
+use Rattle.rx_exits_plan.specs.Marked.{mark}
 use Rattle.rx_engine_simulation.specs.Turns.{Allowance}
 use Rattle.rx_engine_simulation.specs.Histories.{Facts}
 use Rattle.rx_engine_simulation.specs.Sights.{In, Renaming, IsNew}

@@ -5,7 +5,7 @@ use Rattle.rx_core.specs.declared.types.Step.{Step}
 use Rattle.rx_core.specs.declared.types.Step.TheVariants as step
 use Rattle.rx_typed.specs.Tree.{Root, variable, temporary}
 use Rattle.rx_lower_walks.specs.Orders.{Order}
-use Rattle.rx_exits_marks.specs.Coming.{Into}
+use Rattle.rx_exits_plan.specs.Coming.{Into}
 use Rattle.rx_lower_walks.specs.Actions.{Act, Declare, Read, Write, Borrow, Test, Action}
 
 abbrev pub IsRoot : Root → ℕ → Type 0

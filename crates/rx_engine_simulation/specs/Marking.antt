@@ -4,8 +4,8 @@ use Rattle.std.specs.Prelude.{◌≡◌, ℕ, Bool, false, List, [], ◌∷◌, 
 use Rattle.rx_tree.specs.declared.tree.BinaryOp.{BinaryOp}
 use Rattle.rx_typed.specs.Tree as tree
 use Rattle.rx_typed.specs.Tree.{Mark, Making, Place, Pattern, Exp, Operands, Scrutinee, Arms, Body, Function}
-use Rattle.rx_exits_marks.specs.Points.{Point}
-use Rattle.rx_exits_marks.specs.Marked.{mark_then}
+use Rattle.rx_exits_plan.specs.Points.{Point}
+use Rattle.rx_exits_plan.specs.Marked.{mark_then}
 use Rattle.rx_meaning.specs.Values.{element}
 use Rattle.rx_meaning.specs.Programs.{Program}
 use Rattle.rx_engine_simulation.specs.Turns.{Allowance}

@@ -5,8 +5,8 @@ use Rattle.rx_typed.specs.Tree as tree
 use Rattle.rx_typed.specs.Tree.{Exp, Body, Temporary, own}
 use Rattle.rx_lower_walks.specs.Actions.{Action}
 use Rattle.rx_lower_walks.specs.Orders.{order_body}
-use Rattle.rx_exits_marks.specs.Points.{Point, enters}
-use Rattle.rx_exits_marks.specs.Marked.{at_point, mark, mark_then}
+use Rattle.rx_exits_plan.specs.Points.{Point, enters}
+use Rattle.rx_exits_plan.specs.Marked.{at_point, mark, mark_then}
 use Rattle.rx_engine_simulation.specs.Histories.{Facts, Written}
 use Rattle.rx_engine_simulation.specs.Sights.{In, Renaming}
 use Rattle.rx_engine_simulation.specs.Openings.{Openings}

@@ -4,7 +4,7 @@ use Rattle.rx_typed.specs.Tree.{Function}
 use Rattle.rx_lower_walks.specs.Actions.{Action}
 use Rattle.rx_lower_walks.specs.Orders.{Order, order_function}
 use Rattle.rx_lower_walks.specs.Walks.{Out, Walk}
-use Rattle.rx_exits_marks.specs.Coming.{Into}
+use Rattle.rx_exits_plan.specs.Coming.{Into}
 use Rattle.rx_meaning.specs.Values.{element}
 use Rattle.rx_meaning.specs.Expressions.{Functions}
 use Rattle.rx_meaning.specs.Programs.{Program}

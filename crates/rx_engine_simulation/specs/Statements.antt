@@ -6,7 +6,7 @@ use Rattle.rx_typed.specs.Tree.{Mark, Exp, Operands, Arms, Body, Temporary, Para
 use Rattle.rx_lower_walks.specs.Actions.{Action}
 use Rattle.rx_lower_walks.specs.Orders.{order_body, order}
 use Rattle.rx_lower_walks.specs.Walks.{on, Walk}
-use Rattle.rx_exits_marks.specs.Points.{Point}
+use Rattle.rx_exits_plan.specs.Points.{Point}
 use Rattle.rx_engine_simulation.specs.Turns.{Allowance}
 use Rattle.rx_engine_simulation.specs.Histories.{Facts, Living, put}
 use Rattle.rx_engine_simulation.specs.Sights.{In, special, sight, Renaming, sight_of, IsNew}

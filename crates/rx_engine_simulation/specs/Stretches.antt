@@ -14,7 +14,7 @@ use Rattle.rx_engine_simulation.specs.Like.{LikeExp, LikeMatched}
 use Rattle.rx_engine_simulation.specs.Variants.{leaving}
 use Rattle.rx_engine_simulation.specs.Blocks.{Stretch, done, does_then, declares_then, lets_then}
 use Rattle.rx_engine_simulation.specs.Marks.{with_mark, AreWritten}
-use Rattle.rx_exits_marks.specs.Points.{Point}
+use Rattle.rx_exits_plan.specs.Points.{Point}
 
 -- the text's statements, and those in the new function, with no other opening than jumps out of it; and the variables behind them
 pub data LikeStretch (items : ℕ → ℕ) (gain : Allowance) (U : List ℕ) (V : Facts) (J : Jumping) : Renaming → Stretch → Stretch → Renaming → Type 0 where

@@ -6,8 +6,8 @@ use Rattle.rx_typed.specs.Tree.{Mark, Exp, Arms, Body, Subpatterns, temporary_at
 use Rattle.rx_lower_walks.specs.Actions.{Action, Give, at_mark}
 use Rattle.rx_lower_walks.specs.Orders as orders
 use Rattle.rx_lower_walks.specs.Orders.{returns}
-use Rattle.rx_exits_marks.specs.Points.{Point}
-use Rattle.rx_exits_marks.specs.Marked.{mark_then}
+use Rattle.rx_exits_plan.specs.Points.{Point}
+use Rattle.rx_exits_plan.specs.Marked.{mark_then}
 use Rattle.rx_engine_simulation.specs.Histories.{Facts, Living}
 use Rattle.rx_engine_simulation.specs.Sights.{In, special, sight, Renaming, sight_of, IsNew}
 use Rattle.rx_engine_simulation.specs.Jumps.{Pack, Returning, as_return, with_unit, no_return, Jumping, loop_of, with_value}

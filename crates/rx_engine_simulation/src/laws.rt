@@ -3,8 +3,8 @@
 ghost use Rattle.std.specs.Prelude.{◌≡◌, ◌*◌, ℕ, ℤ, true, ◌∷◌, ◌⊎◌, List as ListOf};
 ghost use Rattle.rx_typed.specs.Tree.{Mark, Exp, Body, Function, temporary_of};
 ghost use Rattle.rx_lower_walks.specs.Actions.{Give, Action, at_mark};
-ghost use Rattle.rx_exits_marks.specs.Points.{Point};
-ghost use Rattle.rx_exits_marks.specs.Marked.{shown};
+ghost use Rattle.rx_exits_plan.specs.Points.{Point};
+ghost use Rattle.rx_exits_plan.specs.Marked.{shown};
 ghost use Rattle.rx_meaning.specs.Programs.{Program, run, ending, UpTo};
 ghost use Rattle.rx_engine_simulation.specs.Programs.{About, IsHistory, Renamed, Untouched, facts_of};
 ghost use Rattle.rx_engine_simulation.specs.Passing.{New};

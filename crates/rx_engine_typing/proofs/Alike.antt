@@ -22,8 +22,8 @@ use Rattle.rx_typeck_solver.specs.declared.facts.Passing.{Passing}
 use Rattle.rx_typeck_solver.specs.declared.facts.Fact.TheVariants as fact
 use Rattle.rx_typeck_solver.specs.declared.facts.Demand.{Demand}
 use Rattle.rx_typeck_solver.specs.Facts.{Types, Known, names_of, exactly}
-use Rattle.rx_typeck_rules.specs.Asking.{Asking, asks}
-use Rattle.rx_typeck_rules.specs.Demands as rules
+use Rattle.rx_typeck_typed.specs.Asking.{Asking, asks}
+use Rattle.rx_typeck_typed.specs.Demands as rules
 use Rattle.rx_engine_blocks.specs.Renumbering.{Renumbering, node_at}
 use Rattle.rx_engine_blocks.specs.DemandsLike.{Is}
 use Rattle.rx_engine_blocks.specs.DemandsLike.Is.{itself}

@@ -16,8 +16,8 @@ use Rattle.rx_typeck_solver.specs.declared.facts.Fact.{Fact}
 use Rattle.rx_typeck_solver.specs.declared.facts.Fact.TheVariants as fact
 use Rattle.rx_typeck_solver.specs.declared.facts.Demand.{Demand}
 use Rattle.rx_typeck_solver.specs.Facts.{Types, Known, MeetsAll, MeetsEach}
-use Rattle.rx_typeck_rules.specs.Asking.{Asking, ◌>>◌, nothing, asks, when}
-use Rattle.rx_typeck_rules.specs.Demands as rules
+use Rattle.rx_typeck_typed.specs.Asking.{Asking, ◌>>◌, nothing, asks, when}
+use Rattle.rx_typeck_typed.specs.Demands as rules
 
 pub record Asks (K : Known) (A : Types) (R : Type 0) (a : Asking) : Type 0 where
   pub more : List Demand

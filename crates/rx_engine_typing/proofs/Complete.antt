@@ -12,7 +12,7 @@ use Rattle.rx_typed.specs.Tree.{fields_of}
 use Rattle.rx_typed.specs.Elaborated as elaborated
 use Rattle.rx_typed.specs.Elaborated.{Assigned}
 use Rattle.rx_typeck_solver.specs.Facts.{names_of, is_among, all_among, exactly}
-use Rattle.rx_typeck_rules.specs.Demands as rules
+use Rattle.rx_typeck_typed.specs.Demands as rules
 use Rattle.rx_engine_simulation.specs.Fits.{Has, HasAll, Complete}
 use Rattle.rx_engine_typing.specs.Corresponding.{FieldsApart}
 

@@ -13,9 +13,9 @@ use Rattle.rx_typeck_solver.specs.declared.facts.Test.{Test}
 use Rattle.rx_typeck_solver.specs.declared.facts.Test.TheVariants as test
 use Rattle.rx_typeck_solver.specs.declared.facts.Fact.TheVariants as fact
 use Rattle.rx_typeck_solver.specs.declared.facts.Demand.{Demand}
-use Rattle.rx_typeck_rules.specs.Asking.{type_of}
-use Rattle.rx_typeck_rules.specs.Demands as rules
-use Rattle.rx_typeck_rules.specs.Demands.{Matched}
+use Rattle.rx_typeck_typed.specs.Asking.{type_of}
+use Rattle.rx_typeck_typed.specs.Demands as rules
+use Rattle.rx_typeck_typed.specs.Demands.{Matched}
 use Rattle.rx_engine_blocks.specs.Renumbering.{Renumbering, node_at, passing_at, subject_at}
 use Rattle.rx_engine_blocks.specs.DemandsLike.{DemandsLike, Is}
 use Rattle.rx_engine_blocks.specs.DemandsLike.Is.{itself}

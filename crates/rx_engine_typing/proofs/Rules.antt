@@ -18,9 +18,9 @@ use Rattle.rx_typeck_solver.specs.declared.facts.Test.TheVariants as test
 use Rattle.rx_typeck_solver.specs.declared.facts.Fact.{Fact}
 use Rattle.rx_typeck_solver.specs.declared.facts.Fact.TheVariants as fact
 use Rattle.rx_typeck_solver.specs.declared.facts.Demand.{Demand}
-use Rattle.rx_typeck_rules.specs.Asking.{asks, when, typed, type_of}
-use Rattle.rx_typeck_rules.specs.Demands as rules
-use Rattle.rx_typeck_rules.specs.Demands.{Matched, Listed}
+use Rattle.rx_typeck_typed.specs.Asking.{asks, when, typed, type_of}
+use Rattle.rx_typeck_typed.specs.Demands as rules
+use Rattle.rx_typeck_typed.specs.Demands.{Matched, Listed}
 use Rattle.rx_engine_blocks.specs.Renumbering.{Renumbering, node_at, passing_at, subject_at, op_at, fact_at}
 use Rattle.rx_engine_blocks.specs.DemandsLike.{Is, FactsLike, DemandsLike}
 use Rattle.rx_engine_blocks.specs.DemandsLike.Is.{itself}

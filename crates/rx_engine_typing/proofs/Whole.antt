@@ -8,7 +8,7 @@ use Rattle.rx_typed.specs.Tree as tree
 use Rattle.rx_typeck_solver.specs.declared.facts.Demand.{Demand}
 use Rattle.rx_typeck_solver.specs.declared.facts.Subject.TheVariants as subject_of
 use Rattle.rx_typeck_solver.specs.Facts.{Types, Known, MeetsEach}
-use Rattle.rx_typeck_rules.specs.Demands as rules
+use Rattle.rx_typeck_typed.specs.Demands as rules
 use Rattle.rx_engine_blocks.specs.Renumbering.{Renumbering, node_at}
 use Rattle.rx_engine_blocks.specs.DemandsLike.{DemandsLike, NoSpecial}
 use Rattle.rx_engine_blocks.specs.DemandsLike.DemandsLike.{like_other_demands}

@@ -13,7 +13,7 @@ ghost use Rattle.rx_typed.specs.Named.{Function};
 ghost use Rattle.rx_typeck_solver.specs.Facts.{Known, MeetsEach, Types};
 ghost use Rattle.rx_typeck_solver.specs.Ordered.{Orderly};
 ghost use Rattle.rx_typeck_solver.specs.Valid.{Valid};
-ghost use Rattle.rx_typeck_rules.specs.Demands.{demands, task};
+ghost use Rattle.rx_typeck_typed.specs.Demands.{demands, task};
 ghost use Rattle.rx_engine_blocks.specs.Renumbering.{Renumbering};
 ghost use Rattle.rx_engine_blocks.specs.DemandsLike.{DemandsLike, NoSpecial};
 ghost use Rattle.rx_engine_blocks.specs.Knows.{Knows};

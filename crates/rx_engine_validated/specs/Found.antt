@@ -11,12 +11,12 @@ use Rattle.rx_lower_walks.specs.Walks.{Among}
 use Rattle.rx_check.specs.Passes.{IsFront}
 use Rattle.rx_meaning.specs.Values.{element}
 use Rattle.rx_machine.specs.Functions.{program_of}
-use Rattle.rx_exits_marks.specs.Runs.{Home, Sits}
+use Rattle.rx_exits_plan.specs.Runs.{Home, Sits}
 use Rattle.rx_exits_plan.specs.Asked.{Asked}
 use Rattle.rx_exits_plan.specs.Plan.{IsPlan}
-use Rattle.rx_engine_histories.specs.AboutRun.{special_of}
-use Rattle.rx_engine_ready.specs.AskedOf.{asked_of}
-use Rattle.rx_engine_accepted.specs.Refused.{NotRefused}
+use Rattle.rx_engine_related.specs.AboutRun.{special_of}
+use Rattle.rx_engine_validated.specs.AskedOf.{asked_of}
+use Rattle.rx_engine_validated.specs.Refused.{NotRefused}
 use Rattle.rx_engine_alike.specs.Items.{items_with}
 use Rattle.rx_engine_extracted.specs.Told.{Told}
 use Rattle.rx_engine_extracted.specs.Programs.{extracts}

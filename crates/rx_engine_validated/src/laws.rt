@@ -7,11 +7,9 @@ ghost use Rattle.rx_machine.specs.Functions.{program_of};
 ghost use Rattle.rx_meaning.specs.Programs.{run, UpTo};
 ghost use Rattle.rx_engine_validated.specs.Found.{IsFound};
 
-use rx_engine_accepted::accepted_runs_are_had;
-use rx_engine_extracted_laws::found_extractions_are_extractions;
-use rx_engine_premises::{
-    accepted_programs_are_themselves, accepted_runs_find_references, diverging_runs_never_end,
-    runs_without_an_end_diverge,
+use crate::{
+    accepted_programs_are_themselves, accepted_runs_are_had, accepted_runs_find_references,
+    diverging_runs_never_end, found_extractions_are_extractions, runs_without_an_end_diverge,
 };
 use rx_engine_related::extracted_programs_run_alike;
 

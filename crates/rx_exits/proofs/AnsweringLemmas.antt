@@ -10,7 +10,7 @@ use Rattle.rx_exits_plan.specs.MixedInit.{MixedInit}
 use Rattle.rx_exits_plan.specs.PartlyMoved.{PartlyMoved}
 use Rattle.rx_exits_plan.specs.Shadowed.{Shadowed}
 use Rattle.rx_modes_uses.specs.First.{First}
-use Rattle.rx_exits_syntax.specs.PlainSyntax.{plain-Jump}
+use Rattle.rx_exits_plan.specs.PlainSyntax.{plain-Jump}
 use Rattle.rx_exits.specs.declared.facts.Facts.{Facts}
 use Rattle.rx_exits.specs.declared.planning.Planned.{Planned}
 use Rattle.rx_exits.specs.Planning.{IsFacts, IsPlanned, OutsAgree}

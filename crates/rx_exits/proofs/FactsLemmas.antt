@@ -1,19 +1,19 @@
 -- What is told of the run and the block that are asked of.
 use Rattle.std.proofs.Common.{◌≡◌, ℕ, List, map, Result, Ok, IfOk, sym, ap, ◌∙◌, subst}
 use Rattle.std.specs.declared.alloc.AllocError.{AllocError}
-use Rattle.rx_exits_marks.specs.Runs.{Run, Home}
+use Rattle.rx_exits_plan.specs.Runs.{Run, Home}
 use Rattle.rx_exits_plan.specs.Asked.{Asked, IsParam, IsLocal}
 use Rattle.rx_exits_plan.specs.Plan.{Chosen, foreign_of}
-use Rattle.rx_exits_points.specs.Living.{IsLiving}
-use Rattle.rx_exits_points.specs.declared.run_living.RunLiving.{RunLiving}
+use Rattle.rx_exits.specs.Living.{IsLiving}
+use Rattle.rx_exits.specs.declared.run_living.RunLiving.{RunLiving}
 use Rattle.rx_exits_plan.specs.Exits as plan
 use Rattle.rx_exits_plan.specs.Exits.{at_end}
 use Rattle.rx_exits_plan.specs.Occurrences.{variables_of_run, foreign, those, is_direct, is_named_behind}
 use Rattle.rx_exits_plan.specs.declared.plan.Exit.{Exit}
 use Rattle.rx_exits_plan.specs.PlainPlan.{plain-Exit}
 use Rattle.rx_exits_jumps.specs.ExitsBy.{exits_by}
-use Rattle.rx_exits_syntax.specs.declared.parts.Jump.{Jump}
-use Rattle.rx_exits_syntax.specs.PlainSyntax.{plain-Jump}
+use Rattle.rx_exits_plan.specs.declared.parts.Jump.{Jump}
+use Rattle.rx_exits_plan.specs.PlainSyntax.{plain-Jump}
 use Rattle.rx_exits_occurrences.specs.declared.naming.Variables.{Variables}
 use Rattle.rx_exits.specs.declared.facts.Facts.{Facts}
 use Rattle.rx_exits.specs.Planning.{IsFacts, IsEntry}

@@ -4,9 +4,9 @@ use Rattle.std.proofs.lemmas.List.{append_assoc, append-nil, map-append, take_mo
 use Rattle.rx_typed.specs.Tree.{Root, variable, temporary}
 use Rattle.rx_lower_walks.specs.Actions.{Act, Read, Declare, Dead, Write, Borrow, Test, Call, Build, Input, Print, Give, Action}
 use Rattle.rx_lower_walks.specs.Walks.{actions_in}
-use Rattle.rx_lower_flow.specs.Flows.{Flow, Item, doing, ending, may, trying, last, items_of, order_of, order_of_items}
-use Rattle.rx_facts_init.specs.Setting.{is_behind}
-use Rattle.rx_facts_init.specs.Wholes.{is_variable}
+use Rattle.rx_lower_walks.specs.Flows.{Flow, Item, doing, ending, may, trying, last, items_of, order_of, order_of_items}
+use Rattle.rx_facts_tables.specs.Setting.{is_behind}
+use Rattle.rx_facts_tables.specs.Wholes.{is_variable}
 use Rattle.rx_exits_plan.specs.Occurrences.{has_number}
 use Rattle.rx_exits_plan.specs.Plan.{moves, some_moves}
 use Rattle.rx_exits.proofs.Listing.{number_turned}

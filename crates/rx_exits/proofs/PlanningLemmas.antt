@@ -2,7 +2,7 @@
 use Rattle.std.proofs.Common.{◌≡◌, ◌≢◌, ◌⊎◌, inl, inr, ℕ, Bool, true, false, not, ◌&&◌, ◌||◌, if◌then◌else◌, Result, Ok, IfOk, List, [], ◌∷◌, map, refl, sym, ap, ◌∙◌, subst}
 use Rattle.std.proofs.lemmas.Bool.{eqb-true, eq-eqb, true≢false, false≢true}
 use Rattle.rx_lower_walks.specs.Walks.{Among, here, there}
-use Rattle.rx_exits_marks.specs.Points.{Exit, next, breaks, continues, returns, same_exit}
+use Rattle.rx_exits_plan.specs.Points.{Exit, next, breaks, continues, returns, same_exit}
 use Rattle.rx_exits_plan.specs.declared.plan.ExitOuts.{ExitOuts}
 use Rattle.rx_exits_plan.specs.declared.plan.ExitPlan.{ExitPlan}
 use Rattle.rx_exits_plan.specs.Occurrences.{has_number, those, is_direct, is_named_behind, is_declared_in_run, foreign}
@@ -10,14 +10,14 @@ use Rattle.rx_exits_plan.specs.Exits as exit
 use Rattle.rx_exits_plan.specs.Asked.{Asked, IsLiveAt}
 use Rattle.rx_exits_plan.specs.Plan.{Plan, Chosen, variables_of, is_moved, run_actions, is_offered, offered, is_redeclared, is_named_outside, out_of_some, is_loose, handed_value}
 use Rattle.rx_exits_plan.specs.PlainPlan.{plain-Exit, outs_in, plan_of, IsExitPlan}
-use Rattle.rx_exits_marks.specs.Runs.{last_value}
+use Rattle.rx_exits_plan.specs.Runs.{last_value}
 use Rattle.std.specs.Option.{is_some}
 use Rattle.rx_exits.specs.Moving.{moved_in}
 use Rattle.rx_exits.specs.Choosing.{AllHandOut, outs_among}
 use Rattle.rx_exits.specs.Planning.{IsFacts, IsEntry, IsGiven, IsPlanned, OutsAgree}
 use Rattle.rx_exits.specs.declared.planning.Planned.{Planned}
-use Rattle.rx_exits_points.specs.declared.run_living.RunLiving.{RunLiving}
-use Rattle.rx_exits_points.specs.Living.{IsLiving}
+use Rattle.rx_exits.specs.declared.run_living.RunLiving.{RunLiving}
+use Rattle.rx_exits.specs.Living.{IsLiving}
 use Rattle.std.specs.declared.alloc.AllocError.{AllocError}
 use Rattle.rx_exits.specs.declared.facts.Facts.{Facts}
 use Rattle.rx_exits.proofs.Listing.{has_those, those_agree}

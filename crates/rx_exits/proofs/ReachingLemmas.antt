@@ -11,7 +11,7 @@ use Rattle.rx_exits_plan.specs.declared.plan.Exit.{Exit as CodeExit}
 use Rattle.rx_exits_plan.specs.PlainPlan.{plain-Exit}
 use Rattle.rx_typed.specs.Tree.{Mark, Exp, mark_of}
 use Rattle.rx_lower_walks.specs.Walks.{Among}
-use Rattle.rx_exits_marks.specs.Points.{Exit, next, breaks, continues, returns, same_exit, Point, enters, leaves}
+use Rattle.rx_exits_plan.specs.Points.{Exit, next, breaks, continues, returns, same_exit, Point, enters, leaves}
 use Rattle.rx_exits_plan.specs.Asked.{Asked}
 use Rattle.rx_exits_plan.specs.Exits as plan
 use Rattle.rx_exits_plan.specs.Exits.{Jump}

@@ -1,8 +1,8 @@
 -- That what the code refuses is what the definitions refuse.
 use Rattle.std.proofs.Common.{◌≡◌, ◌≢◌, inl, inr, ℕ, Bool, true, false, not, if◌then◌else◌, List, [], ◌∷◌, map, Some, refl, sym, ap, ◌∙◌, subst}
 use Rattle.rx_lower_walks.specs.Walks.{Among, here, there}
-use Rattle.rx_facts_init.specs.Setting.{is_set}
-use Rattle.rx_exits_marks.specs.Points.{Exit, next, returns, same_exit, enters, leaves}
+use Rattle.rx_facts_tables.specs.Setting.{is_set}
+use Rattle.rx_exits_plan.specs.Points.{Exit, next, returns, same_exit, enters, leaves}
 use Rattle.rx_exits_plan.specs.declared.plan.ExitOuts.{ExitOuts}
 use Rattle.rx_exits_plan.specs.Occurrences.{those, is_declared_in_run}
 use Rattle.rx_exits_plan.specs.Asked.{Asked, IsLiveAt}
@@ -12,7 +12,7 @@ use Rattle.rx_exits_plan.specs.PlainPlan.{plain-Exit, outs_in}
 use Rattle.rx_exits_plan.specs.MixedInit.{MixedInit}
 use Rattle.rx_exits_plan.specs.PartlyMoved.{PartlyMoved, at_entry, at_exit}
 use Rattle.rx_exits_plan.specs.Shadowed.{Shadowed, at_jump, at_the_end, meant}
-use Rattle.rx_exits_points.specs.Points.{MayBeUnset, MayStand}
+use Rattle.rx_exits.specs.Points.{MayBeUnset, MayStand}
 use Rattle.rx_modes_uses.specs.First.{First, this, later}
 use Rattle.rx_exits.specs.Telling.{IsPartly, IsMixed, IsShadowed}
 use Rattle.rx_exits.specs.Refusing.{same_name, NoneMixed, NonePartly, NoneShadowed}

@@ -5,10 +5,10 @@ use Rattle.rx_exits_plan.specs.PlainPlan.{plain-Run}
 use Rattle.rx_exits_plan.specs.Asked.{Asked}
 use Rattle.rx_exits_plan.specs.Unreachable as plan
 use Rattle.rx_exits_plan.specs.Unreachable.{Unreachable, Endless}
-use Rattle.rx_exits_points.specs.Points.{IsPoints}
-use Rattle.rx_exits_points.specs.declared.run_points.RunPoints.{RunPoints}
-use Rattle.rx_exits_syntax.specs.declared.parts.Home.{Home}
-use Rattle.rx_exits_syntax.specs.PlainSyntax.{plain-Home}
+use Rattle.rx_exits.specs.Points.{IsPoints}
+use Rattle.rx_exits.specs.declared.run_points.RunPoints.{RunPoints}
+use Rattle.rx_exits_plan.specs.declared.parts.Home.{Home}
+use Rattle.rx_exits_plan.specs.PlainSyntax.{plain-Home}
 use Rattle.rx_exits.specs.declared.reaching.At.{At}
 use Rattle.rx_exits.specs.declared.reaching.ReachFault.{ReachFault}
 

@@ -1,14 +1,14 @@
 -- What is chosen of lists of variables, and what private functions tell of it.
 use Rattle.std.specs.Prelude.{◌≡◌, ◌≢◌, ℕ, Bool, false, not, ◌&&◌, ◌||◌, List, [], ◌∷◌, ◌++◌}
 use Rattle.rx_lower_walks.specs.Walks.{Among}
-use Rattle.rx_exits_marks.specs.Points.{returns}
+use Rattle.rx_exits_plan.specs.Points.{returns}
 use Rattle.rx_exits_plan.specs.Occurrences.{has_number}
 use Rattle.rx_exits_plan.specs.Asked.{Asked, IsParam, IsLocal, IsLiveAt}
 use Rattle.rx_exits_plan.specs.Plan.{Chosen}
 use Rattle.rx_exits_plan.specs.declared.plan.ExitOuts.{ExitOuts}
 use Rattle.rx_exits_plan.specs.PlainPlan.{plain-Exit}
-use Rattle.rx_exits_points.specs.Points.{IsPoints, IsReady}
-use Rattle.rx_exits_points.specs.Living.{IsLiving, IsAsked}
+use Rattle.rx_exits.specs.Points.{IsPoints, IsReady}
+use Rattle.rx_exits.specs.Living.{IsLiving, IsAsked}
 use Rattle.rx_exits.specs.declared.choosing.Choice.{Choice}
 use Rattle.rx_exits.specs.declared.choosing.Pick.{Pick}
 

@@ -1,3 +1,8 @@
+pub mod AskedOf
+pub mod Marks
+pub mod Facts
+pub mod Points
+pub mod Living
 pub mod Asking
 pub mod Reaching
 pub mod Refusing

@@ -3,8 +3,8 @@ use Rattle.std.specs.Prelude.{ℕ, Bool, true, false, List, [], ◌∷◌, ◌++
 use Rattle.rx_typed.specs.Tree.{Root, variable, temporary}
 use Rattle.rx_lower_walks.specs.Actions.{Act, Read, Action}
 use Rattle.rx_lower_walks.specs.Walks.{actions_in}
-use Rattle.rx_lower_flow.specs.Flows.{Flow, Items, Item, doing, ending, may, trying, order_of, order_of_items}
-use Rattle.rx_facts_init.specs.Setting.{is_behind}
+use Rattle.rx_lower_walks.specs.Flows.{Flow, Items, Item, doing, ending, may, trying, order_of, order_of_items}
+use Rattle.rx_facts_tables.specs.Setting.{is_behind}
 
 -- unless the place is behind a dereference
 abbrev pub of_root : Root → Bool → List ℕ

@@ -9,8 +9,8 @@ use Rattle.rx_exits_plan.specs.Occurrences.{those, is_direct, is_named_behind}
 use Rattle.rx_exits_plan.specs.Plan.{Chosen, variables_of, foreign_of, offered}
 use Rattle.rx_exits_plan.specs.declared.plan.ExitOuts.{ExitOuts}
 use Rattle.rx_exits_plan.specs.PlainPlan.{plain-Exit, outs_in, IsExitPlan}
-use Rattle.rx_exits_points.specs.Living.{IsLiving}
-use Rattle.rx_exits_syntax.specs.PlainSyntax.{plain-Jump}
+use Rattle.rx_exits.specs.Living.{IsLiving}
+use Rattle.rx_exits_plan.specs.PlainSyntax.{plain-Jump}
 use Rattle.rx_exits.specs.Choosing.{AllHandOut}
 use Rattle.rx_exits.specs.declared.facts.Facts.{Facts}
 use Rattle.rx_exits.specs.declared.planning.Planned.{Planned}

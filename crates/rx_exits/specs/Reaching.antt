@@ -2,8 +2,8 @@
 use Rattle.std.specs.Prelude.{◌≡◌, ◌≢◌, ◌⊎◌, ℕ, Bool, true, false, List, Option, Some}
 use Rattle.rx_typed.specs.Tree.{Exp}
 use Rattle.rx_lower_walks.specs.Walks.{Among}
-use Rattle.rx_exits_marks.specs.Runs.{last_value}
-use Rattle.rx_exits_marks.specs.Points.{Exit, next, leaves}
+use Rattle.rx_exits_plan.specs.Runs.{last_value}
+use Rattle.rx_exits_plan.specs.Points.{Exit, next, leaves}
 use Rattle.rx_exits_plan.specs.Asked.{Asked}
 use Rattle.rx_exits_plan.specs.Exits as plan
 use Rattle.rx_exits_plan.specs.Exits.{Jump}

@@ -3,7 +3,7 @@ use Rattle.std.specs.Prelude.{ℕ, Bool, false, List, Option, Some, slice_get}
 use Rattle.rx_core.specs.Bytes.{same_bytes}
 use Rattle.rx_exits_plan.specs.Asked.{Asked}
 use Rattle.rx_exits_plan.specs.PlainPlan.{plan_of, IsExitPlan}
-use Rattle.rx_exits_points.specs.Living.{IsLiving}
+use Rattle.rx_exits.specs.Living.{IsLiving}
 use Rattle.rx_exits_plan.specs.Plan.{Plan, IsPlan, variables_of}
 use Rattle.rx_exits_plan.specs.MixedInit.{MixedInit}
 use Rattle.rx_exits_plan.specs.PartlyMoved.{PartlyMoved}

@@ -1,16 +1,16 @@
 -- What private functions tell of one variable.
 use Rattle.std.specs.Prelude.{◌≡◌, ◌≢◌, ◌⊎◌, ℕ, true, List, Some}
 use Rattle.rx_lower_walks.specs.Walks.{Among}
-use Rattle.rx_exits_marks.specs.Points.{Exit, next, enters, leaves}
+use Rattle.rx_exits_plan.specs.Points.{Exit, next, enters, leaves}
 use Rattle.rx_exits_plan.specs.Asked.{Asked}
 use Rattle.rx_exits_plan.specs.Occurrences.{has_number}
 use Rattle.rx_exits_plan.specs.Exits.{Jump}
 use Rattle.rx_exits_plan.specs.Shadowed.{meant}
 use Rattle.rx_exits_plan.specs.declared.plan.ExitOuts.{ExitOuts}
 use Rattle.rx_exits_plan.specs.PlainPlan.{plain-Exit, outs_in}
-use Rattle.rx_exits_points.specs.Points as points
-use Rattle.rx_exits_points.specs.Points.{IsPoints, IsReady, MayBeUnset, MayStand}
-use Rattle.rx_exits_syntax.specs.PlainSyntax.{plain-Jump}
+use Rattle.rx_exits.specs.Points as points
+use Rattle.rx_exits.specs.Points.{IsPoints, IsReady, MayBeUnset, MayStand}
+use Rattle.rx_exits_plan.specs.PlainSyntax.{plain-Jump}
 use Rattle.rx_exits.specs.Refusing.{same_name}
 use Rattle.rx_exits.specs.declared.refusing.Refusal.{Refusal}
 use Rattle.std.specs.Prelude.{map}

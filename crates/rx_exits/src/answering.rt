@@ -4,18 +4,17 @@ ghost use Rattle.std.specs.Prelude.{◌≡◌, MatchResult, MatchOption};
 ghost use Rattle.rx_typed.specs.PlainTree.{plain-TypedTree};
 ghost use Rattle.rx_exits_plan.specs.Asked.{Asked};
 ghost use Rattle.rx_exits_plan.specs.PlainPlan.{plan_of};
-ghost use Rattle.rx_exits_points.specs.Points.{IsReady, IsPoints};
+ghost use Rattle.rx_exits.specs.Points.{IsReady, IsPoints};
 ghost use Rattle.rx_exits.specs.Asking.{IsAskedOf};
 ghost use Rattle.rx_exits.specs.Planning.{IsFacts, IsPlanned};
 ghost use Rattle.rx_exits.specs.Refusing.{NoneMixed, NonePartly, Answers, Refuses, same_name};
 
+use crate::RunPoints;
 use crate::facts::{Facts, facts_of};
 use crate::planning::{Planned, planned_of};
 use crate::refusing::{Refusal, first_refused};
 use rx_core::{LetGo, Name};
-use rx_exits_plan::Run;
-use rx_exits_points::RunPoints;
-use rx_exits_syntax::Home;
+use rx_exits_plan::{Home, Run};
 use rx_typed::TypedTree;
 use std::alloc::{AllocError, Global};
 

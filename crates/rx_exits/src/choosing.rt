@@ -8,9 +8,9 @@ ghost use Rattle.rx_exits_plan.specs.Plan.{Chosen};
 ghost use Rattle.rx_exits.specs.Choosing.{IsReadyFor, IsOf, Means, Added, offers, redeclares, loosens, picks};
 
 use crate::listed::{is_in_both, is_in_either, is_listed, is_out};
+use crate::{RunLiving, RunPoints};
 use rx_core::{List, pushed};
 use rx_exits_plan::{Exit, ExitOuts};
-use rx_exits_points::{RunLiving, RunPoints};
 use std::alloc::{AllocError, Global};
 
 /// By walks to the points of a run, and on from these.

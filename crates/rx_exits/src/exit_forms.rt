@@ -1,13 +1,12 @@
 //! Exits, by their forms.
 
 ghost use Rattle.std.specs.Prelude.{◌≡◌, map};
-ghost use Rattle.rx_exits_marks.specs.Points as points;
+ghost use Rattle.rx_exits_plan.specs.Points as points;
 ghost use Rattle.rx_exits_plan.specs.PlainPlan.{plain-Exit, outs_in};
 ghost use Rattle.rx_exits_plan.specs.Unreachable.{first_of};
-ghost use Rattle.rx_exits_syntax.specs.PlainSyntax.{plain-Jump};
+ghost use Rattle.rx_exits_plan.specs.PlainSyntax.{plain-Jump};
 
-use rx_exits_plan::{Exit, ExitOuts};
-use rx_exits_syntax::Jump;
+use rx_exits_plan::{Exit, ExitOuts, Jump};
 
 pub(crate) fn is_next(exit: Exit) -> bool
     ensures { result ≡ points.same_exit points.next (plain-Exit exit) }

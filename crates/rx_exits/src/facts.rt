@@ -3,14 +3,13 @@
 ghost use Rattle.std.specs.Prelude.{◌≡◌, IfOk};
 ghost use Rattle.rx_exits_plan.specs.Asked.{Asked};
 ghost use Rattle.rx_exits_plan.specs.PlainPlan.{plain-Run};
-ghost use Rattle.rx_exits_syntax.specs.PlainSyntax.{plain-Home};
+ghost use Rattle.rx_exits_plan.specs.PlainSyntax.{plain-Home};
 ghost use Rattle.rx_exits.specs.Planning.{IsFacts};
 
 use rx_core::{LetGo, List, keep};
 use rx_exits_jumps::{end_scope, jumps};
 use rx_exits_occurrences::{Variables, variables_of};
-use rx_exits_plan::Run;
-use rx_exits_syntax::{Home, Jump};
+use rx_exits_plan::{Home, Jump, Run};
 use std::alloc::{AllocError, Global};
 
 /// The variables of a run, its jumps, and the variables in scope behind it, the last declared first.

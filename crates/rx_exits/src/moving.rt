@@ -1,22 +1,21 @@
 //! Variables that a run moves, in whole or in part, whether or not some walk comes there.
 
 ghost use Rattle.std.specs.Prelude.{◌≡◌, ◌++◌, map, IfOk};
-ghost use Rattle.rx_lower_flow.specs.Flows as flows;
-ghost use Rattle.rx_lower_flow.specs.PlainFlow.{plain-Act, plain-Flow, plain-Item, plain-Place, plain-Root};
+ghost use Rattle.rx_lower_walks.specs.Flows as flows;
+ghost use Rattle.rx_lower_walks.specs.PlainFlow.{plain-Act, plain-Flow, plain-Item, plain-Place, plain-Root};
 ghost use Rattle.rx_typed.specs.Tree.{Temporary};
 ghost use Rattle.rx_lower_walks.specs.Actions as actions;
-ghost use Rattle.rx_facts_init.specs.Setting as setting;
+ghost use Rattle.rx_facts_tables.specs.Setting as setting;
 ghost use Rattle.rx_exits_plan.specs.PlainPlan.{plain-Run};
 ghost use Rattle.rx_exits_plan.specs.Plan.{run_actions};
-ghost use Rattle.rx_exits_syntax.specs.PlainSyntax.{plain-Home};
+ghost use Rattle.rx_exits_plan.specs.PlainSyntax.{plain-Home};
 ghost use Rattle.rx_exits.specs.Moving as moving;
 
 use rx_core::{LetGo, List, Step, pushed};
-use rx_exits_plan::Run;
-use rx_exits_syntax::Home;
+use rx_exits_plan::{Home, Run};
 use rx_exits_tree::run_alone;
-use rx_lower_flow::{Act, Flow, Item, Place, Root};
 use rx_lower_order::flow_of;
+use rx_lower_walks::{Act, Flow, Item, Place, Root};
 use std::alloc::{AllocError, Global};
 
 /// Whether the steps go through a dereference.
@@ -81,7 +80,7 @@ fn with_moved(found: List<u32>, act: &Act) -> Result<List<u32>, AllocError>
 
 /// The variables, and those that a flow moves.
 #[cycle(moving)]
-#[tactic(auto, using(rx_lower_flow::proofs::Rules::flow_rules, crate::proofs::MovingLemmas::moving_rules))]
+#[tactic(auto, using(rx_lower_walks::proofs::Rules::flow_rules, crate::proofs::MovingLemmas::moving_rules))]
 fn with_flow(found: List<u32>, flow: &Flow) -> Result<List<u32>, AllocError>
     ensures { IfOk result (λ it. it ≡ found ++ moving.moved_in_flow (plain-Flow flow.now)) }
 {
@@ -119,7 +118,7 @@ fn with_items(found: List<u32>, items: &[Item]) -> Result<List<u32>, AllocError>
 }
 
 #[cycle(moving)]
-#[tactic(auto, using(rx_lower_flow::proofs::Rules::flow_rules, crate::proofs::MovingLemmas::moving_rules))]
+#[tactic(auto, using(rx_lower_walks::proofs::Rules::flow_rules, crate::proofs::MovingLemmas::moving_rules))]
 fn with_item(found: List<u32>, item: &Item) -> Result<List<u32>, AllocError>
     ensures { IfOk result (λ it. it ≡ found ++ moving.moved_in_item (plain-Item item.now)) }
 {

@@ -1,24 +1,23 @@
 //! Whether a run is reached, and each of its exits.
 
 ghost use Rattle.std.specs.Prelude.{◌≡◌, ◌≢◌, ◌⊎◌, ◌↔◌, [], None, IsTrue, map, IfOk, MatchResult, MatchOption};
-ghost use Rattle.rx_exits_marks.specs.Points as points;
+ghost use Rattle.rx_exits_plan.specs.Points as points;
 ghost use Rattle.rx_typed.specs.Tree.{mark_of};
 ghost use Rattle.rx_typed.specs.PlainTree.{plain-Expr};
 ghost use Rattle.rx_lower_walks.specs.Walks.{Among};
 ghost use Rattle.rx_exits_plan.specs.PlainPlan.{plain-Exit};
 ghost use Rattle.rx_exits_plan.specs.Asked.{Asked};
 ghost use Rattle.rx_exits_plan.specs.Unreachable.{HasValue, Unreachable, Endless};
-ghost use Rattle.rx_exits_points.specs.Points.{IsPoints};
-ghost use Rattle.rx_exits_syntax.specs.PlainSyntax.{plain-Jump, plain-Value};
+ghost use Rattle.rx_exits.specs.Points.{IsPoints};
+ghost use Rattle.rx_exits_plan.specs.PlainSyntax.{plain-Jump, plain-Value};
 ghost use Rattle.rx_exits.specs.Asking.{IsAskedOf, IsReached, Hinders, plain-At};
 ghost use Rattle.rx_exits.specs.Reaching as reach;
 
 use crate::exit_forms::{first_jump, is_next};
+use crate::{Point, RunPoints};
 use rx_core::keep;
 use rx_exits_jumps::{exits, jumps};
-use rx_exits_plan::{Exit, Run};
-use rx_exits_points::{Point, RunPoints};
-use rx_exits_syntax::{Home, Jump, last_value};
+use rx_exits_plan::{Exit, Home, Jump, Run, last_value};
 use rx_typed::Expr;
 use std::alloc::{AllocError, Global};
 

@@ -4,18 +4,17 @@ ghost use Rattle.std.specs.Prelude.{map, MatchOption};
 ghost use Rattle.rx_exits_plan.specs.Asked.{Asked};
 ghost use Rattle.rx_modes_uses.specs.First.{First};
 ghost use Rattle.rx_exits_plan.specs.PlainPlan.{plain-Exit};
-ghost use Rattle.rx_exits_points.specs.Points.{IsReady, IsPoints};
-ghost use Rattle.rx_exits_syntax.specs.PlainSyntax.{plain-Jump};
+ghost use Rattle.rx_exits.specs.Points.{IsReady, IsPoints};
+ghost use Rattle.rx_exits_plan.specs.PlainSyntax.{plain-Jump};
 ghost use Rattle.rx_exits.specs.Reaching.{Tells};
 ghost use Rattle.rx_exits.specs.Telling as telling;
 
 use crate::exit_forms::outs_of;
 use crate::listed::is_listed;
 use crate::names::is_other;
+use crate::{Point, RunPoints};
 use rx_core::Name;
-use rx_exits_plan::{Exit, ExitOuts};
-use rx_exits_points::{Point, RunPoints};
-use rx_exits_syntax::Jump;
+use rx_exits_plan::{Exit, ExitOuts, Jump};
 
 /// Why a variable is refused.
 #[derive(Clone, Copy)]

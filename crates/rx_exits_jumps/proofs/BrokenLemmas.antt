@@ -6,10 +6,10 @@ use Rattle.rx_typed.specs.Tree.{Exp, read, borrow, share, build, unit, lazily, a
 use Rattle.rx_typed.specs.declared.tree.Form.TheOpen as open_form
 use Rattle.rx_typed.specs.declared.tree.Stmt.{Stmt, Stmt-F, fold_out-Stmt}
 use Rattle.rx_typed.specs.PlainTree.{plain-Form, plain-Matched, plain-Stmt, plain-Arm, plain-Expr, plain-Operand, form_step, matched_step, stmt_step, arm_step, expr_step, operand_step, nested_of}
-use Rattle.rx_exits_marks.specs.Blocks.{Statement, does, begins, binds, bound}
-use Rattle.rx_exits_marks.specs.Spots.{Around, with_variables, with_loop, Spot, a_block, a_jump, a_return, spots, spots_in, spots_matched, spots_armed, spots_of}
+use Rattle.rx_exits_plan.specs.Blocks.{Statement, does, begins, binds, bound}
+use Rattle.rx_exits_plan.specs.Spots.{Around, with_variables, with_loop, Spot, a_block, a_jump, a_return, spots, spots_in, spots_matched, spots_armed, spots_of}
 use Rattle.rx_exits_plan.specs.Diverging.{is_broken, nothing_around, diverges, body_diverges, any_diverges}
-use Rattle.rx_exits_syntax.specs.PlainSyntax.{plain-Statement, first_of, no_more}
+use Rattle.rx_exits_plan.specs.PlainSyntax.{plain-Statement, first_of, no_more}
 use Rattle.rx_exits_jumps.specs.Broken.{breaks, breaks_in, breaks_matched, breaks_armed, breaks_of, breaks_statement, breaks_statements, statement_diverges, is_choose, test_diverges}
 
 or_assoc : (a b c : Bool) → (a || b) || c ≡ a || (b || c)

@@ -3,12 +3,12 @@ use Rattle.std.proofs.Common.{◌≡◌, ℕ, zero, suc, List, [], ◌∷◌, �
 use Rattle.std.proofs.lemmas.List.{append-nil}
 use Rattle.rx_typed.specs.declared.tree.TypedTree.{TypedTree}
 use Rattle.rx_typed.specs.PlainTree.{plain-Expr, plain-Param, plain-TypedTree}
-use Rattle.rx_exits_marks.specs.Spots.{Around, spots, spots_of_function}
-use Rattle.rx_exits_marks.specs.Runs as runs
-use Rattle.rx_exits_syntax.specs.declared.parts.Home.{Home}
-use Rattle.rx_exits_syntax.specs.declared.around.Around as stack
-use Rattle.rx_exits_syntax.specs.Bound.{variables_of_params}
-use Rattle.rx_exits_syntax.specs.PlainSyntax.{plain-Home, plain-Around}
+use Rattle.rx_exits_plan.specs.Spots.{Around, spots, spots_of_function}
+use Rattle.rx_exits_plan.specs.Runs as runs
+use Rattle.rx_exits_plan.specs.declared.parts.Home.{Home}
+use Rattle.rx_exits_plan.specs.declared.around.Around as stack
+use Rattle.rx_exits_plan.specs.Bound.{variables_of_params}
+use Rattle.rx_exits_plan.specs.PlainSyntax.{plain-Home, plain-Around}
 use Rattle.rx_exits_jumps.specs.Seen.{homes, first_of_homes, Found, the_run, with_spots}
 
 pub homes_are : (r : runs.Run) (f : TypedTree) (g g1 : Found) (a : stack.Around) → g.homes ≡ [] → a.scope ≡ variables_of_params (map plain-Param f.params) → a.loops ≡ []

@@ -3,11 +3,11 @@ use Rattle.std.proofs.Common.{◌≡◌, ℕ, ◌+◌, ◌==◌, ◌<◌, ◌≤
 use Rattle.std.proofs.lemmas.Bool.{eqb-true, eq-eqb, leb-true, le-leb, ltb-true, lt-ltb, and_parts, and_from, false≢true}
 use Rattle.rx_typed.specs.Tree.{Body, Function}
 use Rattle.rx_lower_walks.specs.Walks.{Among, here, there}
-use Rattle.rx_exits_marks.specs.Blocks.{statements}
-use Rattle.rx_exits_marks.specs.Spots.{Around, Spot, a_block, a_jump, a_return, spots_of_function}
-use Rattle.rx_exits_marks.specs.Runs.{Run, Home, Sits}
-use Rattle.rx_exits_syntax.specs.declared.parts.Home as code
-use Rattle.rx_exits_syntax.specs.PlainSyntax.{plain-Home}
+use Rattle.rx_exits_plan.specs.Blocks.{statements}
+use Rattle.rx_exits_plan.specs.Spots.{Around, Spot, a_block, a_jump, a_return, spots_of_function}
+use Rattle.rx_exits_plan.specs.Runs.{Run, Home, Sits}
+use Rattle.rx_exits_plan.specs.declared.parts.Home as code
+use Rattle.rx_exits_plan.specs.PlainSyntax.{plain-Home}
 use Rattle.rx_exits_jumps.specs.Seen.{has_tail, has_run, home_at, homes, first_of_homes, first_home}
 
 -- ---- what a block of so many statements has

@@ -3,12 +3,12 @@ use Rattle.std.proofs.Common.{◌≡◌, ℕ, List, [], ◌++◌, reverse, Optio
 use Rattle.std.proofs.lemmas.List.{reverse-append, reverse-reverse}
 use Rattle.std.specs.declared.alloc.AllocError.{AllocError}
 use Rattle.rx_typed.specs.Tree.{Exp}
-use Rattle.rx_exits_marks.specs.Blocks.{Statement, declared_by_all}
-use Rattle.rx_exits_marks.specs.Spots.{Around, Spot}
+use Rattle.rx_exits_plan.specs.Blocks.{Statement, declared_by_all}
+use Rattle.rx_exits_plan.specs.Spots.{Around, Spot}
 use Rattle.rx_exits_plan.specs.Exits.{Jump, leaving, past, spots_in_statements, spots_in_value}
-use Rattle.rx_exits_syntax.specs.declared.around.Around as stack
-use Rattle.rx_exits_syntax.specs.PlainSyntax.{plain-Around, grown}
-use Rattle.rx_exits_syntax.proofs.AroundLemmas.{plain_grown}
+use Rattle.rx_exits_plan.specs.declared.around.Around as stack
+use Rattle.rx_exits_plan.specs.PlainSyntax.{plain-Around, grown}
+use Rattle.rx_exits_plan.proofs.AroundLemmas.{plain_grown}
 use Rattle.rx_exits_jumps.specs.Seen.{ways_out, Found, with_spots}
 use Rattle.rx_exits_jumps.proofs.SeenLemmas.{past_is, both_seen}
 

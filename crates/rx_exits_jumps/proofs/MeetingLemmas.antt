@@ -5,14 +5,14 @@ use Rattle.std.proofs.lemmas.List.{append-nil, map-append, length-map}
 use Rattle.rx_typed.specs.Tree.{Exp}
 use Rattle.rx_typed.specs.declared.tree.Stmt.{Stmt}
 use Rattle.rx_typed.specs.PlainTree.{plain-Stmt, nested_of}
-use Rattle.rx_exits_marks.specs.Blocks.{statements}
-use Rattle.rx_exits_marks.specs.Spots.{Around, a_block}
-use Rattle.rx_exits_marks.specs.Runs as runs
+use Rattle.rx_exits_plan.specs.Blocks.{statements}
+use Rattle.rx_exits_plan.specs.Spots.{Around, a_block}
+use Rattle.rx_exits_plan.specs.Runs as runs
 use Rattle.rx_exits_plan.specs.declared.plan.Run.{Run}
 use Rattle.rx_exits_plan.specs.PlainPlan.{plain-Run}
-use Rattle.rx_exits_syntax.specs.declared.parts.Home.{Home}
-use Rattle.rx_exits_syntax.specs.PlainSyntax.{plain-Home, plain-Jump, plain-Statement}
-use Rattle.rx_exits_syntax.proofs.StatementLemmas.{body_statements}
+use Rattle.rx_exits_plan.specs.declared.parts.Home.{Home}
+use Rattle.rx_exits_plan.specs.PlainSyntax.{plain-Home, plain-Jump, plain-Statement}
+use Rattle.rx_exits_plan.proofs.StatementLemmas.{body_statements}
 use Rattle.rx_exits_jumps.specs.declared.sought.Sought as code
 use Rattle.rx_exits_jumps.specs.declared.sought.Found as found
 use Rattle.rx_exits_jumps.specs.PlainSought.{plain-Sought, plain-Found}

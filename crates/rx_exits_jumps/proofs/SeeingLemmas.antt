@@ -16,13 +16,13 @@ use Rattle.rx_typed.specs.declared.tree.Arm.{Arm}
 use Rattle.rx_typed.specs.declared.tree.Operand.{Operand}
 use Rattle.rx_typed.specs.PlainTree.{plain-Mark, plain-Pattern, plain-Form, plain-Matched, plain-Stmt, plain-Arm, plain-Expr, plain-Operand, form_step, matched_step, stmt_step, arm_step, expr_step, operand_step, nested_of, arms_of, operands_of, form_lazily, form_block, form_choose, stmt_runs, stmt_declares, stmt_lets}
 use Rattle.rx_typed.proofs.Rules.{expr_by_form, arm_by_parts, operand_by_parts}
-use Rattle.rx_exits_marks.specs.Blocks.{does, begins, binds, bound, declared_by, declared_by_all}
-use Rattle.rx_exits_marks.specs.Spots.{Around, with_variables, with_loop, Spot, a_block, a_return, spots, spots_in, spots_matched, spots_armed, spots_of}
+use Rattle.rx_exits_plan.specs.Blocks.{does, begins, binds, bound, declared_by, declared_by_all}
+use Rattle.rx_exits_plan.specs.Spots.{Around, with_variables, with_loop, Spot, a_block, a_return, spots, spots_in, spots_matched, spots_armed, spots_of}
 use Rattle.rx_exits_plan.specs.Exits.{past, spots_in_statements}
-use Rattle.rx_exits_syntax.specs.PlainSyntax.{plain-Statement, plain-Around, grown, first_of, no_more}
-use Rattle.rx_exits_syntax.specs.declared.around.Around as stack
-use Rattle.rx_exits_syntax.proofs.AroundLemmas.{plain_grown, plain_looped}
-use Rattle.rx_exits_syntax.proofs.Turns.{next_of}
+use Rattle.rx_exits_plan.specs.PlainSyntax.{plain-Statement, plain-Around, grown, first_of, no_more}
+use Rattle.rx_exits_plan.specs.declared.around.Around as stack
+use Rattle.rx_exits_plan.proofs.AroundLemmas.{plain_grown, plain_looped}
+use Rattle.rx_exits_plan.proofs.Turns.{next_of}
 use Rattle.rx_exits_jumps.specs.Seen.{Sought, Found, with_spots}
 use Rattle.rx_exits_jumps.proofs.SeenLemmas.{with_none, statements_split, past_is}
 

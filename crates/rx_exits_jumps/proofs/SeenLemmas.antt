@@ -2,11 +2,11 @@
 use Rattle.std.proofs.Common.{◌≡◌, ℕ, Bool, true, false, if◌then◌else◌, List, [], ◌∷◌, ◌++◌, reverse, Result, Ok, Err, OnOk, refl, sym, ap, ◌∙◌}
 use Rattle.std.proofs.lemmas.List.{append_assoc, append-nil, reverse-append}
 use Rattle.std.specs.declared.alloc.AllocError.{AllocError}
-use Rattle.rx_exits_marks.specs.Blocks.{Statement, does, begins, binds, declared_by, declared_by_all}
-use Rattle.rx_exits_marks.specs.Spots.{Around, with_variables, Spot, a_block, a_jump, a_return, spots, spots_matched}
-use Rattle.rx_exits_marks.specs.Runs.{Run, Home}
-use Rattle.rx_exits_marks.specs.Points.{returns, jump_exit}
-use Rattle.rx_exits_marks.specs.Marked.{is_among}
+use Rattle.rx_exits_plan.specs.Blocks.{Statement, does, begins, binds, declared_by, declared_by_all}
+use Rattle.rx_exits_plan.specs.Spots.{Around, with_variables, Spot, a_block, a_jump, a_return, spots, spots_matched}
+use Rattle.rx_exits_plan.specs.Runs.{Run, Home}
+use Rattle.rx_exits_plan.specs.Points.{returns, jump_exit}
+use Rattle.rx_exits_plan.specs.Marked.{is_among}
 use Rattle.rx_exits_plan.specs.Exits.{Jump, leaving, past, spots_in_statements}
 use Rattle.rx_exits_jumps.specs.Seen.{home_at, homes, Sought, the_run, ways_out, Found, with_spots}
 

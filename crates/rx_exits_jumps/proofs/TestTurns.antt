@@ -6,7 +6,7 @@ use Rattle.rx_typed.specs.declared.tree.Operand.{Operand}
 use Rattle.rx_typed.specs.PlainTree.{plain-Expr, plain-Operand, plain-Arm, operands_of, arms_of}
 use Rattle.rx_typed.proofs.Rules.{arm_by_parts, operand_by_parts}
 use Rattle.rx_exits_plan.specs.Diverging.{diverges, some_diverges, all_diverge}
-use Rattle.rx_exits_syntax.proofs.Turns.{next_of}
+use Rattle.rx_exits_plan.proofs.Turns.{next_of}
 use Rattle.rx_exits_jumps.specs.Broken.{breaks, breaks_in, breaks_armed}
 
 pub or_next : {A : Type 0} (f : List A → Bool) (xs : List A) (i : ℕ) (x : A) (here all : Bool) → i < length xs → x ≡ get_or xs i x

@@ -1,7 +1,7 @@
 -- Whether some `break` in an expression leads to a loop. (Rust Reference, "break expressions".)
 use Rattle.std.specs.Prelude.{ℕ, ◌==◌, Bool, true, false, not, ◌&&◌, ◌||◌, List, [], ◌∷◌}
 use Rattle.rx_typed.specs.Tree.{Exp, read, borrow, share, build, unit, lazily, assign, update, call, input, print, block, choose, loop, jump, give, Operands, no_operand, operand_and, Scrutinee, at_place, of_value, Arms, no_arm, arm_and, Body, ends, runs, declares, lets}
-use Rattle.rx_exits_marks.specs.Blocks.{Statement, does, begins, binds}
+use Rattle.rx_exits_plan.specs.Blocks.{Statement, does, begins, binds}
 use Rattle.rx_exits_plan.specs.Diverging.{diverges, matched_diverges}
 
 abbrev mutual

@@ -1,7 +1,7 @@
 -- The exits of a run that has some jumps. (Rust Reference, "break expressions", "continue expressions", "return expressions".)
 use Rattle.std.specs.Prelude.{if◌then◌else◌, List, [], ◌∷◌, ◌++◌}
-use Rattle.rx_exits_marks.specs.Points.{Exit, next, returns}
-use Rattle.rx_exits_marks.specs.Runs.{Run, Home}
+use Rattle.rx_exits_plan.specs.Points.{Exit, next, returns}
+use Rattle.rx_exits_plan.specs.Runs.{Run, Home}
 use Rattle.rx_exits_plan.specs.Diverging.{run_diverges}
 use Rattle.rx_exits_plan.specs.Exits.{Jump, of_loops, where_taken}
 

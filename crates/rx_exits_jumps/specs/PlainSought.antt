@@ -3,7 +3,7 @@ use Rattle.std.specs.Prelude.{map}
 use Rattle.rx_exits_plan.specs.PlainPlan.{plain-Run}
 use Rattle.rx_exits_jumps.specs.declared.sought.Sought as code
 use Rattle.rx_exits_jumps.specs.declared.sought.Found as found
-use Rattle.rx_exits_syntax.specs.PlainSyntax.{plain-Home, plain-Jump}
+use Rattle.rx_exits_plan.specs.PlainSyntax.{plain-Home, plain-Jump}
 use Rattle.rx_exits_jumps.specs.Seen.{Sought, the_run, ways_out, Found}
 
 abbrev pub plain-Sought : code.Sought → Sought

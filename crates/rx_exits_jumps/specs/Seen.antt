@@ -2,9 +2,9 @@
 -- "break expressions", "return expressions".)
 use Rattle.std.specs.Prelude.{ℕ, ◌+◌, ◌==◌, nat_le, nat_lt, Bool, ◌&&◌, if◌then◌else◌, List, [], ◌∷◌, ◌++◌, length, Option, Some, None}
 use Rattle.rx_typed.specs.Tree.{Body, Function}
-use Rattle.rx_exits_marks.specs.Blocks.{statements}
-use Rattle.rx_exits_marks.specs.Spots.{Around, Spot, a_block, a_jump, a_return, spots_of_function}
-use Rattle.rx_exits_marks.specs.Runs.{Run, Home}
+use Rattle.rx_exits_plan.specs.Blocks.{statements}
+use Rattle.rx_exits_plan.specs.Spots.{Around, Spot, a_block, a_jump, a_return, spots_of_function}
+use Rattle.rx_exits_plan.specs.Runs.{Run, Home}
 use Rattle.rx_exits_plan.specs.Exits.{Jump, leaving}
 
 -- a block of so many statements has the run's

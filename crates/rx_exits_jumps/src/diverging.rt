@@ -4,7 +4,7 @@ ghost use Rattle.std.specs.Prelude.{◌≡◌, map};
 ghost use Rattle.rx_typed.specs.PlainTree.{plain-Expr, plain-Operand, plain-Arm, plain-Matched, plain-Mark, operands_of, arms_of};
 ghost use Rattle.rx_typed.specs.Tree.{loop};
 ghost use Rattle.rx_exits_plan.specs.Diverging as diverging;
-ghost use Rattle.rx_exits_syntax.specs.PlainSyntax.{plain-Statement};
+ghost use Rattle.rx_exits_plan.specs.PlainSyntax.{plain-Statement};
 ghost use Rattle.rx_exits_jumps.specs.Broken as broken;
 
 use crate::breaking::breaks;

@@ -2,17 +2,16 @@
 
 ghost use Rattle.std.specs.Prelude.{◌≡◌, IfOk, MatchOption, map, option_map};
 ghost use Rattle.rx_typed.specs.PlainTree.{plain-TypedTree};
-ghost use Rattle.rx_exits_marks.specs.Runs as runs;
-ghost use Rattle.rx_exits_marks.specs.Spots.{spots_of_function};
+ghost use Rattle.rx_exits_plan.specs.Runs as runs;
+ghost use Rattle.rx_exits_plan.specs.Spots.{spots_of_function};
 ghost use Rattle.rx_exits_plan.specs.PlainPlan.{plain-Run};
-ghost use Rattle.rx_exits_syntax.specs.PlainSyntax.{plain-Home};
+ghost use Rattle.rx_exits_plan.specs.PlainSyntax.{plain-Home};
 ghost use Rattle.rx_exits_jumps.specs.Seen.{homes, first_of_homes, first_home};
 
 use crate::seeing::see;
 use crate::sought::{Found, Sought};
 use rx_core::List;
-use rx_exits_plan::Run;
-use rx_exits_syntax::{Around, Home, push_params};
+use rx_exits_plan::{Around, Home, Run, push_params};
 use rx_typed::TypedTree;
 use std::alloc::{AllocError, Global};
 

@@ -1,12 +1,12 @@
 //! How a run is left.
 
 ghost use Rattle.std.specs.Prelude.{◌≡◌, ◌++◌, ◌∷◌, [], IfOk, OnOk, if◌then◌else◌, map};
-ghost use Rattle.rx_exits_marks.specs.Points as points;
-ghost use Rattle.rx_exits_marks.specs.Runs as runs;
+ghost use Rattle.rx_exits_plan.specs.Points as points;
+ghost use Rattle.rx_exits_plan.specs.Runs as runs;
 ghost use Rattle.rx_exits_plan.specs.Diverging as diverging;
 ghost use Rattle.rx_exits_plan.specs.Exits as exits;
 ghost use Rattle.rx_exits_plan.specs.PlainPlan.{plain-Run, plain-Exit};
-ghost use Rattle.rx_exits_syntax.specs.PlainSyntax.{plain-Around, plain-Home, plain-Jump, plain-Value};
+ghost use Rattle.rx_exits_plan.specs.PlainSyntax.{plain-Around, plain-Home, plain-Jump, plain-Value};
 ghost use Rattle.rx_exits_jumps.specs.ExitsBy.{exits_by};
 ghost use Rattle.rx_exits_jumps.specs.PlainSought.{plain-Sought, plain-Found};
 ghost use Rattle.rx_exits_jumps.specs.Seen.{with_spots, ways_out};
@@ -15,9 +15,8 @@ use crate::diverging::{any_diverges, diverges};
 use crate::seeing::{see, see_stmts};
 use crate::sought::{Found, Sought};
 use rx_core::List;
-use rx_exits_plan::{Exit, Run};
-use rx_exits_syntax::{
-    Around, Home, Jump, in_front, inside, last_value, push_all_declared, reversed,
+use rx_exits_plan::{
+    Around, Exit, Home, Jump, Run, in_front, inside, last_value, push_all_declared, reversed,
 };
 use rx_typed::Expr;
 use std::alloc::{AllocError, Global};

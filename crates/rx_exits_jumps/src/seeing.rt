@@ -2,16 +2,16 @@
 
 ghost use Rattle.std.specs.Prelude.{◌≡◌, ◌++◌, ◌∷◌, [], OnOk, take, map};
 ghost use Rattle.rx_typed.specs.PlainTree.{plain-Expr, plain-Operand, plain-Arm, plain-Matched, plain-Pattern, operands_of, arms_of};
-ghost use Rattle.rx_exits_marks.specs.Blocks.{bound, declared_by, declared_by_all};
-ghost use Rattle.rx_exits_marks.specs.Spots.{with_variables, with_loop, a_return, spots, spots_in, spots_matched, spots_armed};
+ghost use Rattle.rx_exits_plan.specs.Blocks.{bound, declared_by, declared_by_all};
+ghost use Rattle.rx_exits_plan.specs.Spots.{with_variables, with_loop, a_return, spots, spots_in, spots_matched, spots_armed};
 ghost use Rattle.rx_exits_plan.specs.Exits.{spots_in_statements};
-ghost use Rattle.rx_exits_syntax.specs.PlainSyntax.{plain-Statement, plain-Around, grown};
+ghost use Rattle.rx_exits_plan.specs.PlainSyntax.{plain-Statement, plain-Around, grown};
 ghost use Rattle.rx_exits_jumps.specs.PlainSought.{plain-Sought, plain-Found};
 ghost use Rattle.rx_exits_jumps.specs.Seen.{with_spots};
 
 use crate::sought::{Found, Sought, meet_block, meet_jump, meet_return};
 use rx_core::Boxed;
-use rx_exits_syntax::{Around, cut, push_all, push_bound};
+use rx_exits_plan::{Around, cut, push_all, push_bound};
 use rx_typed::{Arm, Expr, Form, Matched, Operand, Pattern, Stmt};
 use std::alloc::{AllocError, Global};
 

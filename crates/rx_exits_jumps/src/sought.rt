@@ -2,17 +2,16 @@
 
 ghost use Rattle.std.specs.Prelude.{◌≡◌, ◌∷◌, [], IfOk, OnOk, map};
 ghost use Rattle.rx_typed.specs.PlainTree.{plain-Expr, plain-Stmt, nested_of};
-ghost use Rattle.rx_exits_marks.specs.Spots.{a_block, a_jump, a_return};
-ghost use Rattle.rx_exits_marks.specs.Points as points;
-ghost use Rattle.rx_exits_marks.specs.Marked.{is_among};
+ghost use Rattle.rx_exits_plan.specs.Spots.{a_block, a_jump, a_return};
+ghost use Rattle.rx_exits_plan.specs.Points as points;
+ghost use Rattle.rx_exits_plan.specs.Marked.{is_among};
 ghost use Rattle.rx_exits_plan.specs.PlainPlan.{plain-Run, plain-Exit};
-ghost use Rattle.rx_exits_syntax.specs.PlainSyntax.{plain-Around, plain-Home, plain-Jump};
+ghost use Rattle.rx_exits_plan.specs.PlainSyntax.{plain-Around, plain-Home, plain-Jump};
 ghost use Rattle.rx_exits_jumps.specs.PlainSought.{plain-Sought, plain-Found};
 ghost use Rattle.rx_exits_jumps.specs.Seen as seen;
 
 use rx_core::{LetGo, List};
-use rx_exits_plan::{Exit, Run};
-use rx_exits_syntax::{Around, Home, Jump, reversed};
+use rx_exits_plan::{Around, Exit, Home, Jump, Run, reversed};
 use rx_typed::{Expr, Stmt};
 use std::alloc::{AllocError, Global};
 

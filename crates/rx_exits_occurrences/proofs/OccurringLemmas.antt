@@ -14,10 +14,10 @@ use Rattle.rx_typed.specs.declared.tree.Matched.{Matched}
 use Rattle.rx_typed.specs.declared.tree.Operand.{Operand}
 use Rattle.rx_typed.specs.PlainTree.{plain-Mark, plain-Pattern, plain-Form, plain-Matched, plain-Stmt, plain-Arm, plain-Expr, plain-Operand, form_step, matched_step, stmt_step, arm_step, expr_step, operand_step, nested_of, operands_of, arms_of, form_lazily, form_block, form_choose}
 use Rattle.rx_typed.proofs.Rules.{expr_by_form, arm_by_parts, operand_by_parts}
-use Rattle.rx_exits_marks.specs.Blocks.{Statement, bound, tail}
+use Rattle.rx_exits_plan.specs.Blocks.{Statement, bound, tail}
 use Rattle.rx_exits_plan.specs.Occurrences.{Occurrence, all_declared, occurrences, occurrences_in, occurrences_matched, occurrences_armed, occurrences_of, in_statement, in_statements, in_value}
-use Rattle.rx_exits_syntax.specs.PlainSyntax.{plain-Statement, first_of, no_more}
-use Rattle.rx_exits_syntax.proofs.StatementLemmas.{body_tail}
+use Rattle.rx_exits_plan.specs.PlainSyntax.{plain-Statement, first_of, no_more}
+use Rattle.rx_exits_plan.proofs.StatementLemmas.{body_tail}
 
 layer_occurrences : (x : Stmt-F (tree.Mark → Exp) Scrutinee (Body → Body) (Pattern × Exp) Exp (ℕ × Exp)) (b : Body)
     → occurrences_of (stmt_step x b) ≡ in_statement (first_of (stmt_step x no_more)) ++ occurrences_of b

@@ -2,19 +2,18 @@
 
 ghost use Rattle.std.specs.Prelude.{◌≡◌, false, ◌++◌, ◌∷◌, [], IfOk, OnOk, if◌then◌else◌, map};
 ghost use Rattle.rx_typed.specs.PlainTree.{plain-Expr};
-ghost use Rattle.rx_exits_marks.specs.Blocks.{tail};
-ghost use Rattle.rx_exits_marks.specs.Runs as runs;
+ghost use Rattle.rx_exits_plan.specs.Blocks.{tail};
+ghost use Rattle.rx_exits_plan.specs.Runs as runs;
 ghost use Rattle.rx_exits_plan.specs.Occurrences as occurrences;
 ghost use Rattle.rx_exits_plan.specs.PlainPlan.{plain-Run};
-ghost use Rattle.rx_exits_syntax.specs.PlainSyntax.{plain-Home, plain-Value};
+ghost use Rattle.rx_exits_plan.specs.PlainSyntax.{plain-Home, plain-Value};
 ghost use Rattle.rx_exits_occurrences.specs.Wanted.{is_wanted, declared_one};
 ghost use Rattle.rx_exits_occurrences.specs.PlainOccurrence.{plain-Occurrence};
 
 use crate::occurring::{Occurrence, push_occurrences, push_statements};
 use indexmap::IndexSet;
 use rx_core::{LetGo, List};
-use rx_exits_plan::Run;
-use rx_exits_syntax::{Home, behind, inside, last_value, push_all_declared};
+use rx_exits_plan::{Home, Run, behind, inside, last_value, push_all_declared};
 use rx_typed::Expr;
 use std::alloc::{AllocError, Global};
 

@@ -2,13 +2,13 @@
 
 ghost use Rattle.std.specs.Prelude.{◌≡◌, ◌++◌, OnOk, map};
 ghost use Rattle.rx_typed.specs.PlainTree.{plain-Expr, plain-Operand, plain-Arm, plain-Matched, plain-Pattern, plain-Place, operands_of, arms_of};
-ghost use Rattle.rx_exits_marks.specs.Blocks.{bound};
+ghost use Rattle.rx_exits_plan.specs.Blocks.{bound};
 ghost use Rattle.rx_exits_plan.specs.Occurrences as occurrences;
-ghost use Rattle.rx_exits_syntax.specs.PlainSyntax.{plain-Statement};
+ghost use Rattle.rx_exits_plan.specs.PlainSyntax.{plain-Statement};
 ghost use Rattle.rx_exits_occurrences.specs.PlainOccurrence.{plain-Occurrence};
 
 use rx_core::{Boxed, LetGo, List, Place};
-use rx_exits_syntax::push_bound;
+use rx_exits_plan::push_bound;
 use rx_typed::{Arm, Expr, Form, Matched, Operand, Pattern, Stmt};
 use std::alloc::{AllocError, Global};
 

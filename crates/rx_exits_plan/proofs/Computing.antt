@@ -6,15 +6,15 @@ use Rattle.rx_typed.specs.Tree.{Exp, variable, own, mark_of}
 use Rattle.rx_lower_walks.specs.Actions.{Action}
 use Rattle.rx_lower_walks.specs.Graph.{Site}
 use Rattle.rx_lower_walks.specs.Pieces.{graph}
-use Rattle.rx_facts_live.specs.Along.{Switch, behind}
-use Rattle.rx_facts_init.specs.Places.{is_part, all_parts}
-use Rattle.rx_facts_init.specs.Setting.{setting}
-use Rattle.rx_facts_init.specs.Wholes.{standing}
-use Rattle.rx_facts_live.specs.Live.{living}
-use Rattle.rx_exits_marks.specs.Runs.{last_value}
-use Rattle.rx_exits_marks.specs.Points.{Exit, next, returns, same_exit, Point, enters, leaves, number}
-use Rattle.rx_exits_marks.specs.Marked.{marked}
-use Rattle.rx_exits_marks.specs.Unmarked.{is_mark}
+use Rattle.rx_facts_tables.specs.Along.{Switch, behind}
+use Rattle.rx_facts_tables.specs.Places.{is_part, all_parts}
+use Rattle.rx_facts_tables.specs.Setting.{setting}
+use Rattle.rx_facts_tables.specs.Wholes.{standing}
+use Rattle.rx_facts_tables.specs.Live.{living}
+use Rattle.rx_exits_plan.specs.Runs.{last_value}
+use Rattle.rx_exits_plan.specs.Points.{Exit, next, returns, same_exit, Point, enters, leaves, number}
+use Rattle.rx_exits_plan.specs.Marked.{marked}
+use Rattle.rx_exits_plan.specs.Unmarked.{is_mark}
 use Rattle.rx_exits_plan.specs.Occurrences.{has_number, those}
 use Rattle.rx_exits_plan.specs.Exits.{Jump, exits, jumps, at_end}
 use Rattle.rx_exits_plan.specs.Asked.{Asked}

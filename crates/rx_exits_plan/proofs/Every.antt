@@ -4,10 +4,10 @@ use Rattle.std.proofs.Common.{◌≡◌, ◌⊎◌, inl, inr, ℕ, Bool, true, f
 use Rattle.rx_typed.specs.Tree.{own}
 use Rattle.rx_lower_walks.specs.Actions.{Action}
 use Rattle.rx_lower_walks.specs.Walks.{Among, here, there}
-use Rattle.rx_facts_init.specs.Places.{is_part}
-use Rattle.rx_facts_init.specs.Setting.{is_set}
-use Rattle.rx_facts_init.specs.Wholes.{stands}
-use Rattle.rx_exits_marks.specs.Points.{enters}
+use Rattle.rx_facts_tables.specs.Places.{is_part}
+use Rattle.rx_facts_tables.specs.Setting.{is_set}
+use Rattle.rx_facts_tables.specs.Wholes.{stands}
+use Rattle.rx_exits_plan.specs.Points.{enters}
 use Rattle.rx_exits_plan.specs.Asked.{Asked, ComesTo, IsParam, IsLocal}
 use Rattle.rx_exits_plan.specs.Plan.{Plan, Chosen, none, taken, left, IsPlan, foreign_of}
 use Rattle.rx_exits_plan.specs.Unreachable.{At, Unreachable, not_begun, not_ended, not_left, SameCase}

@@ -5,10 +5,10 @@ use Rattle.rx_core.specs.declared.types.Step.TheVariants as step
 use Rattle.rx_tree.specs.declared.tree.BinaryOp.{BinaryOp}
 use Rattle.rx_typed.specs.Types.{Typ, integer, boolean, tuple_of, no_shape, shape_and, unit_shape}
 use Rattle.rx_typed.specs.Tree.{Mark, Place, any, bind, exactly, by_value, whole_number, truth, constant, operation, Exp, read, build, unit, assign, call, input, print, block, choose, loop, jump, give, no_operand, operand_and, of_value, at_place, no_arm, arm_and, Body, ends, runs, declares, lets, Function, own, under}
-use Rattle.rx_facts_init.specs.Places.{Frame}
-use Rattle.rx_exits_marks.specs.Spots.{Spot, a_block, spots_of_function}
-use Rattle.rx_exits_marks.specs.Runs.{Run, Home}
-use Rattle.rx_exits_marks.specs.Points.{Exit, next, breaks, continues, returns}
+use Rattle.rx_facts_tables.specs.Places.{Frame}
+use Rattle.rx_exits_plan.specs.Spots.{Spot, a_block, spots_of_function}
+use Rattle.rx_exits_plan.specs.Runs.{Run, Home}
+use Rattle.rx_exits_plan.specs.Points.{Exit, next, breaks, continues, returns}
 use Rattle.rx_exits_plan.specs.Asked.{Asked}
 use Rattle.rx_exits_plan.proofs.Computing.{planned, Shown, shown, fine, unreachable_first, unreachable_last, unreachable_jump, endless, mixed_init, partly_moved, shadowed, first_row}
 

@@ -1,4 +1,14 @@
+pub mod Alike
+pub mod Trees
+pub mod Marks
+pub mod Behind
+pub mod Coming
+pub mod Way
 pub mod One
 pub mod Every
 pub mod Computing
 pub mod Examples
+pub mod BoundLemmas
+pub mod StatementLemmas
+pub mod Turns
+pub mod AroundLemmas

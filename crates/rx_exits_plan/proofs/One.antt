@@ -2,7 +2,7 @@
 -- params first, then locals, the outs of each exit, and what rests on them.
 use Rattle.std.proofs.Common.{◌≡◌, ◌≢◌, ◌⊎◌, inl, inr, ℕ, Bool, not, ◌&&◌, ◌||◌, if◌then◌else◌, List, [], ◌∷◌, refl, sym, ◌∙◌, subst, ap}
 use Rattle.rx_lower_walks.specs.Walks.{Among, here, there}
-use Rattle.rx_exits_marks.specs.Points.{Exit, next, breaks, continues, returns}
+use Rattle.rx_exits_plan.specs.Points.{Exit, next, breaks, continues, returns}
 use Rattle.rx_exits_plan.specs.Occurrences.{has_number, those}
 use Rattle.rx_exits_plan.specs.Asked.{Asked, IsLiveAt}
 use Rattle.rx_exits_plan.specs.Plan.{Plan, Chosen, none, taken, left, IsPlan, variables_of, offered, out_of_some, is_redeclared, is_named_outside, is_loose}

@@ -4,15 +4,15 @@ use Rattle.std.specs.Prelude.{◌≡◌, ℕ, true, false, List, [], ◌∷◌, 
 use Rattle.rx_typed.specs.Tree.{variable, Function, own}
 use Rattle.rx_lower_walks.specs.Actions.{Action}
 use Rattle.rx_lower_walks.specs.Walks.{IsWalk}
-use Rattle.rx_facts_live.specs.Along.{ahead}
-use Rattle.rx_facts_init.specs.Places.{Frame}
-use Rattle.rx_facts_init.specs.Setting.{AllSet}
-use Rattle.rx_facts_init.specs.Wholes.{stands}
-use Rattle.rx_facts_live.specs.Live.{living}
-use Rattle.rx_exits_marks.specs.Runs.{Run, Home}
-use Rattle.rx_exits_marks.specs.Points.{Exit, Point, enters, leaves}
-use Rattle.rx_exits_marks.specs.Marked.{shown, marked}
-use Rattle.rx_exits_marks.specs.Marked as marks
+use Rattle.rx_facts_tables.specs.Along.{ahead}
+use Rattle.rx_facts_tables.specs.Places.{Frame}
+use Rattle.rx_facts_tables.specs.Setting.{AllSet}
+use Rattle.rx_facts_tables.specs.Wholes.{stands}
+use Rattle.rx_facts_tables.specs.Live.{living}
+use Rattle.rx_exits_plan.specs.Runs.{Run, Home}
+use Rattle.rx_exits_plan.specs.Points.{Exit, Point, enters, leaves}
+use Rattle.rx_exits_plan.specs.Marked.{shown, marked}
+use Rattle.rx_exits_plan.specs.Marked as marks
 
 -- the run's block, and the types of the function's variables
 pub record Asked : Type 0 where

@@ -1,9 +1,9 @@
 -- When a part of a function never goes on, by its syntax. (Rust Reference, "Never type"; "Loop expressions", "break expressions".)
 use Rattle.std.specs.Prelude.{ℕ, ◌==◌, Bool, true, false, not, ◌&&◌, ◌||◌, List, [], ◌∷◌, Option, Some, None}
 use Rattle.rx_typed.specs.Tree.{Exp, read, borrow, share, build, unit, lazily, assign, update, call, input, print, block, choose, loop, jump, give, Operands, no_operand, operand_and, Scrutinee, at_place, of_value, Arms, no_arm, arm_and, Body, ends, runs, declares, lets}
-use Rattle.rx_exits_marks.specs.Blocks.{Statement, does, begins, binds}
-use Rattle.rx_exits_marks.specs.Spots.{Around, Spot, a_block, a_jump, a_return, spots}
-use Rattle.rx_exits_marks.specs.Runs.{Run, inside, last_value}
+use Rattle.rx_exits_plan.specs.Blocks.{Statement, does, begins, binds}
+use Rattle.rx_exits_plan.specs.Spots.{Around, Spot, a_block, a_jump, a_return, spots}
+use Rattle.rx_exits_plan.specs.Runs.{Run, inside, last_value}
 
 -- some `break` leads to the loop of this number
 abbrev pub is_broken : ℕ → List Spot → Bool

@@ -3,11 +3,11 @@
 -- expressions"; REM, OOPSLA 2023, on control flow that leaves the extracted part.)
 use Rattle.std.specs.Prelude.{ℕ, Bool, false, ◌||◌, if◌then◌else◌, List, [], ◌∷◌, ◌++◌, Option, Some, None}
 use Rattle.rx_typed.specs.Tree.{Exp}
-use Rattle.rx_exits_marks.specs.Blocks.{Statement, does, begins, binds, declared_by}
-use Rattle.rx_exits_marks.specs.Spots.{Around, with_variables, Spot, a_block, a_jump, a_return, spots, spots_matched}
-use Rattle.rx_exits_marks.specs.Runs.{Run, Home, in_front, inside, last_value}
-use Rattle.rx_exits_marks.specs.Points.{Exit, next, breaks, continues, returns, same_exit, jump_exit}
-use Rattle.rx_exits_marks.specs.Marked.{is_among}
+use Rattle.rx_exits_plan.specs.Blocks.{Statement, does, begins, binds, declared_by}
+use Rattle.rx_exits_plan.specs.Spots.{Around, with_variables, Spot, a_block, a_jump, a_return, spots, spots_matched}
+use Rattle.rx_exits_plan.specs.Runs.{Run, Home, in_front, inside, last_value}
+use Rattle.rx_exits_plan.specs.Points.{Exit, next, breaks, continues, returns, same_exit, jump_exit}
+use Rattle.rx_exits_plan.specs.Marked.{is_among}
 use Rattle.rx_exits_plan.specs.Diverging.{run_diverges}
 
 -- ---- jumps

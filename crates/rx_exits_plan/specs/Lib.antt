@@ -1,3 +1,12 @@
+pub mod Blocks
+pub mod Spots
+pub mod Runs
+pub mod Points
+pub mod Changed
+pub mod Marked
+pub mod Unmarked
+pub mod Through
+pub mod Coming
 pub mod Occurrences
 pub mod Diverging
 pub mod Exits
@@ -8,3 +17,5 @@ pub mod MixedInit
 pub mod PartlyMoved
 pub mod Shadowed
 pub mod PlainPlan
+pub mod PlainSyntax
+pub mod Bound

@@ -3,9 +3,9 @@ use Rattle.std.specs.Prelude.{◌≡◌, ℕ, true, false, List}
 use Rattle.rx_typed.specs.Tree.{own}
 use Rattle.rx_lower_walks.specs.Actions.{Action}
 use Rattle.rx_lower_walks.specs.Walks.{Among}
-use Rattle.rx_facts_init.specs.Places.{is_part}
-use Rattle.rx_facts_init.specs.Setting.{is_set}
-use Rattle.rx_exits_marks.specs.Points.{enters}
+use Rattle.rx_facts_tables.specs.Places.{is_part}
+use Rattle.rx_facts_tables.specs.Setting.{is_set}
+use Rattle.rx_exits_plan.specs.Points.{enters}
 use Rattle.rx_exits_plan.specs.Asked.{Asked, ComesTo}
 use Rattle.rx_exits_plan.specs.Plan.{foreign_of}
 

@@ -2,8 +2,8 @@
 -- tree: `let _ = x;` names x, though it does nothing. (Rust Reference, "Scopes"; "Path expressions".)
 use Rattle.std.specs.Prelude.{ℕ, ◌==◌, Bool, false, not, ◌||◌, if◌then◌else◌, List, [], ◌∷◌, ◌++◌, map, Option, Some, None}
 use Rattle.rx_typed.specs.Tree.{Root, variable, temporary, Place, Exp, read, borrow, share, build, unit, lazily, assign, update, call, input, print, block, choose, loop, jump, give, Operands, no_operand, operand_and, Scrutinee, at_place, of_value, Arms, no_arm, arm_and, Body, ends, runs, declares, lets}
-use Rattle.rx_exits_marks.specs.Blocks.{Statement, does, begins, binds, bound, declared_by_all, tail}
-use Rattle.rx_exits_marks.specs.Runs.{Run, inside, behind, last_value}
+use Rattle.rx_exits_plan.specs.Blocks.{Statement, does, begins, binds, bound, declared_by_all, tail}
+use Rattle.rx_exits_plan.specs.Runs.{Run, inside, behind, last_value}
 
 pub data Occurrence : Type 0 where
   names : ℕ → Occurrence

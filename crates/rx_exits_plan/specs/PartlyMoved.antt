@@ -4,9 +4,9 @@ use Rattle.std.specs.Prelude.{◌≡◌, ℕ, true, List, []}
 use Rattle.rx_typed.specs.Tree.{own}
 use Rattle.rx_lower_walks.specs.Actions.{Action}
 use Rattle.rx_lower_walks.specs.Walks.{Among}
-use Rattle.rx_facts_init.specs.Setting.{SomeUnset}
-use Rattle.rx_facts_init.specs.Wholes.{stands}
-use Rattle.rx_exits_marks.specs.Points.{Exit, enters, leaves}
+use Rattle.rx_facts_tables.specs.Setting.{SomeUnset}
+use Rattle.rx_facts_tables.specs.Wholes.{stands}
+use Rattle.rx_exits_plan.specs.Points.{Exit, enters, leaves}
 use Rattle.rx_exits_plan.specs.Asked.{Asked, ComesTo}
 use Rattle.rx_exits_plan.specs.Plan.{Plan, foreign_of}
 

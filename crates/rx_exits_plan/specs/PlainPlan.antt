@@ -2,10 +2,10 @@
 use Rattle.std.specs.Prelude.{◌≡◌, if◌then◌else◌, ℕ, List, [], ◌∷◌, map, Option}
 use Rattle.std.specs.Option.{is_some}
 use Rattle.rx_typed.specs.Types.{Typ}
-use Rattle.rx_exits_marks.specs.Runs as runs
-use Rattle.rx_exits_marks.specs.Runs.{last_value}
-use Rattle.rx_exits_marks.specs.Points as points
-use Rattle.rx_exits_marks.specs.Points.{same_exit}
+use Rattle.rx_exits_plan.specs.Runs as runs
+use Rattle.rx_exits_plan.specs.Runs.{last_value}
+use Rattle.rx_exits_plan.specs.Points as points
+use Rattle.rx_exits_plan.specs.Points.{same_exit}
 use Rattle.rx_exits_plan.specs.declared.plan.Run.{Run}
 use Rattle.rx_exits_plan.specs.declared.plan.Exit.{Exit}
 use Rattle.rx_exits_plan.specs.declared.plan.Exit.TheVariants as exit

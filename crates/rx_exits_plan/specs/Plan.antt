@@ -6,11 +6,11 @@ use Rattle.rx_typed.specs.Tree.{Exp, Body, mark_of, temporary_of}
 use Rattle.rx_lower_walks.specs.Actions.{Act, Read, Action}
 use Rattle.rx_lower_walks.specs.Orders.{order}
 use Rattle.rx_lower_walks.specs.Walks.{actions_in, Among}
-use Rattle.rx_facts_init.specs.Setting.{is_behind}
-use Rattle.rx_facts_init.specs.Wholes.{is_variable}
-use Rattle.rx_exits_marks.specs.Runs.{Run, inside, last_value}
-use Rattle.rx_exits_marks.specs.Points.{Exit, next, returns}
-use Rattle.rx_exits_marks.specs.Through.{actions_of}
+use Rattle.rx_facts_tables.specs.Setting.{is_behind}
+use Rattle.rx_facts_tables.specs.Wholes.{is_variable}
+use Rattle.rx_exits_plan.specs.Runs.{Run, inside, last_value}
+use Rattle.rx_exits_plan.specs.Points.{Exit, next, returns}
+use Rattle.rx_exits_plan.specs.Through.{actions_of}
 use Rattle.rx_exits_plan.specs.Occurrences.{has_number, variables_of_run, foreign, is_declared_in_run, is_direct, is_named_behind, those}
 use Rattle.rx_exits_plan.specs.Exits.{exits}
 use Rattle.rx_exits_plan.specs.Asked.{Asked, IsParam, IsLocal, IsLiveAt}

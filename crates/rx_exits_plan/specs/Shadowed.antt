@@ -1,7 +1,7 @@
 -- When the name of a variable that an exit hands out means another variable there. (Rust Reference, "Scopes", "Shadowing".)
 use Rattle.std.specs.Prelude.{◌≢◌, ℕ, Bool, if◌then◌else◌, List, [], ◌∷◌, Option, Some, None}
 use Rattle.rx_lower_walks.specs.Walks.{Among}
-use Rattle.rx_exits_marks.specs.Points.{next}
+use Rattle.rx_exits_plan.specs.Points.{next}
 use Rattle.rx_exits_plan.specs.Exits.{Jump, jumps, at_end}
 use Rattle.rx_exits_plan.specs.Asked.{Asked}
 use Rattle.rx_exits_plan.specs.Plan.{Plan}

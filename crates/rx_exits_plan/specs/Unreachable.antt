@@ -3,8 +3,8 @@ use Rattle.std.specs.Prelude.{◌≡◌, ◌≢◌, ◌⊎◌, ℕ, if◌then◌
 use Rattle.rx_typed.specs.Tree.{Exp, mark_of}
 use Rattle.rx_lower_walks.specs.Actions.{Action}
 use Rattle.rx_lower_walks.specs.Walks.{Among}
-use Rattle.rx_exits_marks.specs.Runs.{last_value}
-use Rattle.rx_exits_marks.specs.Points.{Exit, next, same_exit, Point, enters, leaves}
+use Rattle.rx_exits_plan.specs.Runs.{last_value}
+use Rattle.rx_exits_plan.specs.Points.{Exit, next, same_exit, Point, enters, leaves}
 use Rattle.rx_exits_plan.specs.Exits.{Jump, exits, jumps}
 use Rattle.rx_exits_plan.specs.Asked.{Asked, ComesTo}
 

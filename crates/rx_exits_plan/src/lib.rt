@@ -1,8 +1,20 @@
-//! What is known of a run of statements, and when it cannot become a function: definitions and laws.
+//! The block of a run in a typed tree, its parts, and what is around it.
 #![tactic(auto)]
 
+mod around;
+mod bound;
 mod laws;
+mod marks_laws;
+mod parts;
 mod plan;
+mod statements;
 
+pub use around::{Around, cut, push_all, push_params, reversed};
+pub use bound::push_bound;
 pub use laws::{cases_are_one, plans_are_one, variables_are_params_or_locals};
+pub use marks_laws::{
+    marks_are_held_where_walks_come, marks_are_in_the_block_of_the_run, marks_change_no_walk,
+};
+pub use parts::{Home, Jump};
 pub use plan::{Exit, ExitOuts, ExitPlan, Run};
+pub use statements::{behind, in_front, inside, last_value, push_all_declared, push_declared};

@@ -7,9 +7,9 @@ use Rattle.rx_lower_walks.specs.Actions as action
 use Rattle.rx_lower_walks.specs.Actions.{Act, Declare, Subject, subject, taken, declared, written}
 use Rattle.rx_lower_walks.specs.Orders.{Order, perhaps, binding, declaring, order, order_scrutinee, order_body, order_function}
 use Rattle.rx_lower_walks.specs.Walks.{actions_in}
-use Rattle.rx_exits_marks.specs.Blocks.{Statement, does, begins, binds, before}
-use Rattle.rx_exits_marks.specs.Runs.{Run, inside, last_value}
-use Rattle.rx_exits_marks.specs.Through.{all_begun, is_taken, all_bound, actions_of}
+use Rattle.rx_exits_plan.specs.Blocks.{Statement, does, begins, binds, before}
+use Rattle.rx_exits_plan.specs.Runs.{Run, inside, last_value}
+use Rattle.rx_exits_plan.specs.Through.{all_begun, is_taken, all_bound, actions_of}
 use Rattle.rx_exits_plan.specs.Plan.{actions_of_value, run_actions}
 use Rattle.rx_exits_tree.specs.Shapes.{mark_at}
 use Rattle.rx_exits_tree.specs.Alone.{value_as_statement, alone}

@@ -13,7 +13,7 @@ use Rattle.rx_typed.specs.declared.tree.Expr.{Expr}
 use Rattle.rx_typed.specs.declared.tree.Operand.{Operand}
 use Rattle.rx_typed.specs.PlainTree.{plain-Mark, plain-Form, plain-Matched, plain-Stmt, plain-Arm, plain-Expr, plain-Operand, form_step, matched_step, stmt_step, arm_step, expr_step, operand_step, form_give}
 use Rattle.rx_typed.proofs.Rules.{expr_by_form}
-use Rattle.rx_exits_marks.specs.Blocks.{written_tail}
+use Rattle.rx_exits_plan.specs.Blocks.{written_tail}
 use Rattle.rx_exits_tree.specs.Shapes.{gives_at}
 use Rattle.rx_exits_tree.proofs.Shapes.{expr_mark}
 

@@ -1,8 +1,8 @@
 -- A copy without changes is the same.
 use Rattle.std.proofs.Common.{◌≡◌, List, [], ◌∷◌, map, refl, ap, ◌∙◌}
 use Rattle.rx_typed.specs.Tree.{Exp, read, borrow, share, build, unit, lazily, assign, update, call, input, print, block, choose, loop, jump, give, Operands, no_operand, operand_and, Scrutinee, at_place, of_value, Arms, no_arm, arm_and, Body, ends, runs, declares, lets}
-use Rattle.rx_exits_marks.specs.Blocks.{Statement, does, begins, binds}
-use Rattle.rx_exits_marks.specs.Changed.{changed, changed_all, changed_matched, changed_arms, changed_body, changed_statement}
+use Rattle.rx_exits_plan.specs.Blocks.{Statement, does, begins, binds}
+use Rattle.rx_exits_plan.specs.Changed.{changed, changed_all, changed_matched, changed_arms, changed_body, changed_statement}
 use Rattle.rx_exits_tree.specs.Changing.{keeping}
 
 mutual

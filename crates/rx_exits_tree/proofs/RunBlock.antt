@@ -8,11 +8,11 @@ use Rattle.rx_typed.specs.declared.tree.Param.{Param}
 use Rattle.rx_typed.specs.declared.tree.Form.TheVariants as form
 use Rattle.rx_typed.proofs.Rules.{expr_by_form}
 use Rattle.rx_typed.specs.PlainTree.{plain-Form, form_block, plain-Expr, plain-Mark, plain-Param, plain-Stmt, plain-TypedTree, nested_of}
-use Rattle.rx_exits_marks.specs.Blocks.{Statement, does, begins, binds, statements, tail, before, written_tail}
-use Rattle.rx_exits_marks.specs.Runs.{Run, in_front, inside, behind, last_value}
-use Rattle.rx_exits_marks.specs.Points.{next, leaves}
-use Rattle.rx_exits_marks.specs.Changed.{Changes, changed, changed_matched, changed_body, changed_statement}
-use Rattle.rx_exits_marks.specs.Marked.{then_mark, marking, entering, ended, ended_value, ended_tail}
+use Rattle.rx_exits_plan.specs.Blocks.{Statement, does, begins, binds, statements, tail, before, written_tail}
+use Rattle.rx_exits_plan.specs.Runs.{Run, in_front, inside, behind, last_value}
+use Rattle.rx_exits_plan.specs.Points.{next, leaves}
+use Rattle.rx_exits_plan.specs.Changed.{Changes, changed, changed_matched, changed_body, changed_statement}
+use Rattle.rx_exits_plan.specs.Marked.{then_mark, marking, entering, ended, ended_value, ended_tail}
 use Rattle.rx_exits_plan.specs.PlainPlan.{plain-Run}
 use Rattle.rx_exits_tree.specs.declared.changes.AtBlock.{AtBlock}
 use Rattle.rx_exits_tree.specs.Changing.{keeping, body_of, marked_list, cut_list, statements_at, tail_at}

@@ -14,7 +14,7 @@ use Rattle.rx_typed.specs.declared.tree.Matched.{Matched}
 use Rattle.rx_typed.specs.declared.tree.Pattern as code
 use Rattle.rx_typed.specs.PlainTree.{plain-Pattern, plain-Mark, plain-Form, plain-Matched, plain-Stmt, plain-Arm, plain-Expr, plain-Operand, form_step, matched_step, stmt_step, arm_step, expr_step, operand_step, nested_of, form_block, stmt_runs, stmt_declares, stmt_lets}
 use Rattle.rx_typed.proofs.Rules.{expr_by_form}
-use Rattle.rx_exits_marks.specs.Blocks.{Statement, does, begins, binds, statements, tail, before}
+use Rattle.rx_exits_plan.specs.Blocks.{Statement, does, begins, binds, statements, tail, before}
 use Rattle.rx_exits_tree.specs.Shapes.{mark_at, first_of, stated, plain-Statement}
 
 -- ---- by form

@@ -5,7 +5,7 @@ use Rattle.std.specs.declared.alloc.AllocError.{AllocError}
 use Rattle.std.proofs.lemmas.List.{append_assoc, map-append, take_more, take_all}
 use Rattle.rx_typed.specs.Tree.{Exp, Pattern, operand_and, arm_and}
 use Rattle.rx_typed.specs.PlainTree.{operands_of, arms_of}
-use Rattle.rx_exits_marks.specs.Changed.{Changes, changed, changed_all, changed_arms}
+use Rattle.rx_exits_plan.specs.Changed.{Changes, changed, changed_all, changed_arms}
 
 -- what is so of a call's value
 pub of_value : {A : Type 0} (P : A → Type 0) (r : Result A AllocError) (a : A) → r ≡ Ok a → IfOk r P → P a

@@ -2,8 +2,8 @@
 -- actions of the run. (REM, OOPSLA 2023.)
 use Rattle.std.specs.Prelude.{List, [], ◌∷◌, Option, Some, None}
 use Rattle.rx_typed.specs.Tree.{Exp, unit, block, Body, ends, Function}
-use Rattle.rx_exits_marks.specs.Blocks.{Statement, does, before}
-use Rattle.rx_exits_marks.specs.Runs.{Run, inside, last_value}
+use Rattle.rx_exits_plan.specs.Blocks.{Statement, does, before}
+use Rattle.rx_exits_plan.specs.Runs.{Run, inside, last_value}
 use Rattle.rx_exits_tree.specs.Shapes.{mark_at}
 
 abbrev pub value_as_statement : Option Exp → List Statement

@@ -2,11 +2,11 @@
 use Rattle.std.specs.Prelude.{ℕ, if◌then◌else◌, List, ◌++◌, map, take, drop}
 use Rattle.rx_typed.specs.Tree.{Exp, jump, unit, Body, mark_of}
 use Rattle.rx_exits_plan.specs.PlainPlan.{plain-Run, plain-Exit}
-use Rattle.rx_exits_marks.specs.Points as points
-use Rattle.rx_exits_marks.specs.Changed.{Changes, changed, changed_statement}
-use Rattle.rx_exits_marks.specs.Blocks.{Statement}
-use Rattle.rx_exits_marks.specs.Runs.{Run}
-use Rattle.rx_exits_marks.specs.Marked.{marking, entering, ended, ended_tail, marked_body, at_the_block}
+use Rattle.rx_exits_plan.specs.Points as points
+use Rattle.rx_exits_plan.specs.Changed.{Changes, changed, changed_statement}
+use Rattle.rx_exits_plan.specs.Blocks.{Statement}
+use Rattle.rx_exits_plan.specs.Runs.{Run}
+use Rattle.rx_exits_plan.specs.Marked.{marking, entering, ended, ended_tail, marked_body, at_the_block}
 use Rattle.rx_modes_uses.specs.Outside as outside
 use Rattle.rx_modes_uses.specs.Outside.{cutting}
 use Rattle.rx_exits_tree.specs.declared.changes.Change.{Change}

@@ -3,7 +3,7 @@ use Rattle.std.specs.Prelude.{ℕ, ◌==◌, Bool, false, List, [], ◌∷◌, N
 use Rattle.rx_typed.specs.Tree.{Mark, Exp, unit, give, Body, ends}
 use Rattle.rx_typed.specs.declared.tree.Stmt.{Stmt}
 use Rattle.rx_typed.specs.PlainTree.{plain-Stmt}
-use Rattle.rx_exits_marks.specs.Blocks.{Statement, does, statements}
+use Rattle.rx_exits_plan.specs.Blocks.{Statement, does, statements}
 
 -- a mark of this node without a value
 abbrev pub mark_at : ℕ → Mark

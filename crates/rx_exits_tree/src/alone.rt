@@ -3,7 +3,7 @@
 ghost use Rattle.std.specs.Prelude.{◌≡◌, ◌++◌, IfOk, map};
 ghost use Rattle.rx_typed.specs.PlainTree.{plain-Expr, plain-Stmt, plain-TypedTree, nested_of};
 ghost use Rattle.rx_exits_plan.specs.PlainPlan.{plain-Run};
-ghost use Rattle.rx_exits_marks.specs.Runs.{last_value};
+ghost use Rattle.rx_exits_plan.specs.Runs.{last_value};
 ghost use Rattle.rx_exits_tree.specs.Alone.{alone, value_as_statement};
 ghost use Rattle.rx_exits_tree.specs.Shapes.{plain-Statement};
 

@@ -3,7 +3,7 @@
 ghost use Rattle.std.specs.Prelude.{◌≡◌, IfOk, map};
 ghost use Rattle.rx_typed.specs.Tree as tree;
 ghost use Rattle.rx_typed.specs.PlainTree.{plain-Expr, plain-Making, plain-Mark, plain-Operand, plain-Place, operands_of};
-ghost use Rattle.rx_exits_marks.specs.Changed.{changed, changed_all};
+ghost use Rattle.rx_exits_plan.specs.Changed.{changed, changed_all};
 ghost use Rattle.rx_exits_tree.specs.Changing.{changes_of};
 
 use crate::changes::Change;

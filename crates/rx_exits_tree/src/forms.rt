@@ -2,7 +2,7 @@
 
 ghost use Rattle.std.specs.Prelude.{◌≡◌, IfOk};
 ghost use Rattle.rx_typed.specs.PlainTree.{plain-Expr};
-ghost use Rattle.rx_exits_marks.specs.Changed.{changed};
+ghost use Rattle.rx_exits_plan.specs.Changed.{changed};
 ghost use Rattle.rx_exits_tree.specs.Changing.{changes_of};
 
 use crate::changes::{Change, at_block};

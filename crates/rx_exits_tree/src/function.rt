@@ -3,8 +3,8 @@
 ghost use Rattle.std.specs.Prelude.{◌≡◌, IfOk};
 ghost use Rattle.rx_typed.specs.PlainTree.{plain-TypedTree};
 ghost use Rattle.rx_exits_plan.specs.PlainPlan.{plain-Run};
-ghost use Rattle.rx_exits_marks.specs.Changed.{changed_function};
-ghost use Rattle.rx_exits_marks.specs.Marked as marks;
+ghost use Rattle.rx_exits_plan.specs.Changed.{changed_function};
+ghost use Rattle.rx_exits_plan.specs.Marked as marks;
 ghost use Rattle.rx_modes_uses.specs.Outside.{cutting};
 ghost use Rattle.rx_exits_tree.specs.Changing.{changes_of};
 

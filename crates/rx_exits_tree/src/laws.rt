@@ -4,7 +4,7 @@ ghost use Rattle.std.specs.Prelude.{◌≡◌};
 ghost use Rattle.rx_typed.specs.Tree.{Body};
 ghost use Rattle.rx_lower_walks.specs.Orders.{order_function};
 ghost use Rattle.rx_lower_walks.specs.Walks.{actions_in};
-ghost use Rattle.rx_exits_marks.specs.Runs.{Run};
+ghost use Rattle.rx_exits_plan.specs.Runs.{Run};
 ghost use Rattle.rx_exits_plan.specs.Plan.{run_actions};
 ghost use Rattle.rx_exits_tree.specs.Alone.{alone};
 

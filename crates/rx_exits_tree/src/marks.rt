@@ -4,9 +4,9 @@ ghost use Rattle.std.specs.Prelude.{◌≡◌, ◌++◌, ◌∷◌, [], Bool, if
 ghost use Rattle.rx_typed.specs.Tree as tree;
 ghost use Rattle.rx_typed.specs.PlainTree.{plain-Expr, plain-Mark};
 ghost use Rattle.rx_exits_plan.specs.PlainPlan.{plain-Exit};
-ghost use Rattle.rx_exits_marks.specs.Blocks as blocks;
-ghost use Rattle.rx_exits_marks.specs.Points as points;
-ghost use Rattle.rx_exits_marks.specs.Marked as marks;
+ghost use Rattle.rx_exits_plan.specs.Blocks as blocks;
+ghost use Rattle.rx_exits_plan.specs.Points as points;
+ghost use Rattle.rx_exits_plan.specs.Marked as marks;
 ghost use Rattle.rx_exits_tree.specs.Changing.{plain-Point, changes_of};
 ghost use Rattle.rx_exits_tree.specs.Shapes.{plain-Statement, mark_at};
 

@@ -4,10 +4,10 @@ ghost use Rattle.std.specs.Prelude.{◌≡◌, ◌++◌, if◌then◌else◌, If
 ghost use Rattle.rx_typed.specs.Tree as tree;
 ghost use Rattle.rx_typed.specs.PlainTree.{plain-Arm, plain-Expr, plain-Mark, plain-Matched, plain-Pattern, arms_of};
 ghost use Rattle.rx_exits_plan.specs.PlainPlan.{plain-Run};
-ghost use Rattle.rx_exits_marks.specs.Blocks as blocks;
-ghost use Rattle.rx_exits_marks.specs.Blocks.{written_tail};
-ghost use Rattle.rx_exits_marks.specs.Changed.{changed, changed_matched, changed_arms, changed_statement};
-ghost use Rattle.rx_exits_marks.specs.Marked as marks;
+ghost use Rattle.rx_exits_plan.specs.Blocks as blocks;
+ghost use Rattle.rx_exits_plan.specs.Blocks.{written_tail};
+ghost use Rattle.rx_exits_plan.specs.Changed.{changed, changed_matched, changed_arms, changed_statement};
+ghost use Rattle.rx_exits_plan.specs.Marked as marks;
 ghost use Rattle.rx_exits_tree.specs.Changing.{changes_of, marked_list, cut_list, statements_at, tail_at};
 ghost use Rattle.rx_exits_tree.specs.Shapes.{plain-Statement};
 

@@ -10,7 +10,7 @@ use Rattle.rx_lower_walks.specs.Actions.{Act, Declare, Dead, Read, Write, Borrow
 use Rattle.rx_lower_walks.specs.Text.{actions_of}
 use Rattle.rx_lower_walks.specs.Pieces.{graph}
 use Rattle.rx_typed_declarations.specs.Variance.{unrecorded}
-use Rattle.rx_typed_places.specs.Renaming.{Signature, signature_from}
+use Rattle.rx_typed.specs.Renaming.{Signature, signature_from}
 use Rattle.rx_lower_lifetimes.specs.Values.{Open, Held, lifetimes_of, held_by, result_type}
 use Rattle.rx_lower_lifetimes.specs.Variables.{Written, open_types}
 use Rattle.rx_lower_lifetimes.specs.Numbered as numbered

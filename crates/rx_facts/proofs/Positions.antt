@@ -14,9 +14,9 @@ use Rattle.rx_lower_walks.specs.Actions.{Act, Declare, Dead, Read, Write, Borrow
 use Rattle.rx_lower_walks.specs.Text.{actions_of}
 use Rattle.rx_lower_walks.specs.Pieces.{graph}
 use Rattle.rx_typed_declarations.specs.Variance.{unrecorded}
-use Rattle.rx_typed_places.specs.Renaming.{unit_region, instance}
-use Rattle.rx_typed_places.specs.Places as places
-use Rattle.rx_typed_places.specs.Places.{fields_of, part_at, item_behind, behind, place_type}
+use Rattle.rx_typed.specs.Renaming.{unit_region, instance}
+use Rattle.rx_typed.specs.Places as places
+use Rattle.rx_typed.specs.Places.{fields_of, part_at, item_behind, behind, place_type}
 use Rattle.rx_lower_lifetimes.specs.Values.{Open, Known, Held, lifetimes_of, root_type, made_item, made_type, result_type, value_type, hold, held_by, held_type}
 use Rattle.rx_lower_lifetimes.specs.Variables.{Written, parameter_type, written_type, told, open_type, open_types}
 use Rattle.rx_lower_lifetimes.specs.Positions.{own_lifetimes, all_own, in_variables, in_held, positions}

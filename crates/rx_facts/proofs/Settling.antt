@@ -11,12 +11,12 @@ use Rattle.rx_typed.specs.Tree.{Place}
 use Rattle.rx_lower_walks.specs.Pieces.{graph}
 use Rattle.rx_typed_declarations.specs.Variance.{unrecorded}
 use Rattle.rx_typed_declarations.proofs.RegionLemmas.{is_erased}
-use Rattle.rx_typed_places.specs.Numbers.{capped}
+use Rattle.rx_typed.specs.Numbers.{capped}
 use Rattle.rx_lower_lifetimes.specs.declared.whole.LowerFault.{LowerFault}
 use Rattle.rx_lower_lifetimes.specs.declared.whole.LowerFault.TheVariants as lower_fault
 use Rattle.rx_typeck_typed.specs.declared.typed.TypedFn.{TypedFn}
-use Rattle.rx_facts_init.specs.Places.{Frame}
-use Rattle.rx_facts_init.specs.Initialised.{Initialised, IsUnset, looked, entered, IsAgain, again}
+use Rattle.rx_facts_tables.specs.Places.{Frame}
+use Rattle.rx_facts_tables.specs.Initialised.{Initialised, IsUnset, looked, entered, IsAgain, again}
 use Rattle.rx_lower.specs.Functions.{trimmed}
 use Rattle.rx_facts.specs.declared.fault.InitFault.{InitFault}
 use Rattle.rx_facts.specs.declared.fault.InitFault.TheVariants as fault

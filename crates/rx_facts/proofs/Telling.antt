@@ -4,16 +4,16 @@ use Rattle.rx_core.specs.declared.types.Ty.{Ty}
 use Rattle.rx_typed.specs.declared.declarations.Decl.{Decl}
 use Rattle.rx_typed.specs.Types.{Declarations}
 use Rattle.rx_typed.specs.PlainTypes.{plain-Ty, declarations}
-use Rattle.rx_lower_emit.specs.declared.site.Site as code_site
-use Rattle.rx_lower_emit.specs.PlainSite.{plain-Site}
+use Rattle.rx_lower_walks.specs.declared.site.Site as code_site
+use Rattle.rx_lower_walks.specs.PlainSite.{plain-Site}
 use Rattle.rx_lower_walks.specs.Graph.{Site}
-use Rattle.rx_facts_init.specs.Places.{Frame}
-use Rattle.rx_facts_live.specs.Tables.{Lives}
-use Rattle.rx_facts_init.specs.Answer.{IsTable, Answers}
-use Rattle.rx_facts_init.specs.Initialised.{Initialised, IsUnset, IsAgain}
-use Rattle.rx_facts_init.specs.Wholes.{placed}
-use Rattle.rx_facts_init.specs.declared.whole.InitFault.{InitFault as NodeFault}
-use Rattle.rx_facts_init.specs.declared.whole.InitFault.TheVariants as node_fault
+use Rattle.rx_facts_tables.specs.Places.{Frame}
+use Rattle.rx_facts_tables.specs.LiveTables.{Lives}
+use Rattle.rx_facts_tables.specs.Answer.{IsTable, Answers}
+use Rattle.rx_facts_tables.specs.Initialised.{Initialised, IsUnset, IsAgain}
+use Rattle.rx_facts_tables.specs.Wholes.{placed}
+use Rattle.rx_facts_tables.specs.declared.whole.InitFault.{InitFault as NodeFault}
+use Rattle.rx_facts_tables.specs.declared.whole.InitFault.TheVariants as node_fault
 use Rattle.rx_lower_lifetimes.specs.declared.whole.LowerFault.{LowerFault}
 use Rattle.rx_lower_lifetimes.specs.declared.whole.LowerFault.TheVariants as lower_fault
 use Rattle.rx_typeck_typed.specs.declared.typed.TypedFn.{TypedFn}

@@ -18,7 +18,7 @@ use Rattle.rx_typed.specs.Elaborated.{elaborated}
 use Rattle.rx_typed_declarations.specs.Held.{held}
 use Rattle.rx_typed_declarations.specs.Sizes.{Sized, IsSizes}
 use Rattle.rx_typed_declarations.specs.Variance.{unrecorded}
-use Rattle.rx_typeck_declare.specs.Programs.{Fits}
+use Rattle.rx_typeck_typed.specs.Programs.{Fits}
 use Rattle.rx_typeck_elaborate_parts.specs.Assigning.{joined}
 use Rattle.rx_typeck_typed.specs.declared.variables.AnnotatedVariable.{AnnotatedVariable}
 use Rattle.rx_typeck_typed.specs.Walks.{plain-Variable}

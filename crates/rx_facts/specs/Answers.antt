@@ -6,12 +6,12 @@ use Rattle.rx_typed.specs.PlainTypes.{declarations}
 use Rattle.rx_typeck_typed.specs.declared.typed.Typed.{Typed}
 use Rattle.rx_typeck_typed.specs.declared.typed.TypedFn.{TypedFn}
 use Rattle.rx_typed_declarations.specs.Sizes.{Sized, told}
-use Rattle.rx_facts_live.specs.Tables.{Lives}
-use Rattle.rx_facts_init.specs.Answer.{IsTable}
-use Rattle.rx_facts_init.specs.Wholes.{placed}
-use Rattle.rx_facts_init.specs.Initialised.{IsUnset, IsAgain}
-use Rattle.rx_facts_init.specs.declared.whole.InitFault.{InitFault as NodeFault}
-use Rattle.rx_facts_init.specs.declared.whole.InitFault.TheVariants as node_fault
+use Rattle.rx_facts_tables.specs.LiveTables.{Lives}
+use Rattle.rx_facts_tables.specs.Answer.{IsTable}
+use Rattle.rx_facts_tables.specs.Wholes.{placed}
+use Rattle.rx_facts_tables.specs.Initialised.{IsUnset, IsAgain}
+use Rattle.rx_facts_tables.specs.declared.whole.InitFault.{InitFault as NodeFault}
+use Rattle.rx_facts_tables.specs.declared.whole.InitFault.TheVariants as node_fault
 use Rattle.rx_lower_lifetimes.specs.declared.whole.LowerFault.{LowerFault}
 use Rattle.rx_lower_lifetimes.specs.declared.whole.LowerFault.TheVariants as lower_fault
 use Rattle.rx_lower_lifetimes.specs.Answer.{IsLowered}

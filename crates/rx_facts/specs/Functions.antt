@@ -15,9 +15,9 @@ use Rattle.rx_lower_walks.specs.Pieces.{graph}
 use Rattle.rx_typeck_typed.specs.declared.typed.Typed.{Typed}
 use Rattle.rx_typeck_typed.specs.declared.typed.TypedFn.{TypedFn}
 use Rattle.rx_typeck_typed.specs.Typing.{IsTyped}
-use Rattle.rx_facts_init.specs.Places.{Frame}
-use Rattle.rx_facts_init.specs.Wholes.{placed}
-use Rattle.rx_facts_init.specs.Initialised.{Initialised, IsUnset, IsAgain}
+use Rattle.rx_facts_tables.specs.Places.{Frame}
+use Rattle.rx_facts_tables.specs.Wholes.{placed}
+use Rattle.rx_facts_tables.specs.Initialised.{Initialised, IsUnset, IsAgain}
 use Rattle.rx_lower_lifetimes.specs.Positions.{positions}
 use Rattle.rx_lower_lifetimes.specs.Lowered.{known, actions}
 use Rattle.rx_lower_lifetimes.specs.declared.whole.LowerFault.{LowerFault}

@@ -6,7 +6,7 @@ ghost use Rattle.rx_facts.specs.Functions as spec;
 ghost use Rattle.rx_facts.specs.Answers as answers;
 
 use rx_core::{Place, Span};
-use rx_facts_init::InitFault as NodeFault;
+use rx_facts_tables::InitFault as NodeFault;
 use rx_typeck_typed::TypedFn;
 
 /// Why a function is not initialised.

@@ -11,11 +11,9 @@ ghost use Rattle.rx_facts.specs.Answers.{IsGraphOf, AreGraphs, AreFactsOf, Funct
 use crate::fault::{InitFault, placed};
 use crate::lowering::Lowered;
 use rx_core::{LetGo, List, keep, pushed};
-use rx_facts_init::{Frame, InitTable, init};
-use rx_facts_live::{LiveTable, live};
+use rx_facts_tables::{Frame, InitTable, LiveTable, init, live};
 use rx_lower::trimmed;
-use rx_typeck_laws::typed_sizes_are_sized;
-use rx_typeck_typed::{Typed, TypedFn, typed_declarations_are_finite};
+use rx_typeck_typed::{Typed, TypedFn, typed_declarations_are_finite, typed_sizes_are_sized};
 use rx_typed::Decls;
 use rx_typed_declarations::sizes;
 use std::alloc::Global;

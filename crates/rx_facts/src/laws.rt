@@ -7,7 +7,7 @@ ghost use Rattle.rx_typeck_typed.specs.Typing.{IsTyped};
 ghost use Rattle.rx_typeck_typed.specs.declared.typed.Typed.{Typed};
 ghost use Rattle.rx_facts.specs.Same.{AreSame};
 
-use rx_typeck_declare::declared_are_finite;
+use rx_typeck_typed::declared_are_finite;
 use rx_typed_declarations::one_size_each;
 
 /// Two typed programs of one text are the same, but for how they record polarities and what they have of variables

@@ -11,8 +11,8 @@ use Rattle.rx_lower_walks.specs.Pieces.{graph}
 use Rattle.rx_lower_walks.specs.Text.{actions_of}
 use Rattle.rx_lower_walks.proofs.Sites.{paths_are_walks_of, reached}
 use Rattle.rx_lower_walks.proofs.Distinct.{one_site}
-use Rattle.rx_facts_live.specs.Along.{Arrives}
-use Rattle.rx_facts_live.proofs.Ways.{site_within, comes_to, path_through, through, only}
+use Rattle.rx_facts_tables.specs.Along.{Arrives}
+use Rattle.rx_facts_tables.proofs.Ways.{site_within, comes_to, path_through, through, only}
 
 -- the front of a walk is a walk
 pub front_walks : (f : Function) (us vs : List Action) → IsWalk f (us ++ vs) → IsWalk f us

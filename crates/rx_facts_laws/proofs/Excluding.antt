@@ -1,8 +1,8 @@
 -- A fault is of an action that some walk holds, and says that it isn't in order there.
 use Rattle.std.proofs.Common.{ℕ, Bool, List, sym, ◌∙◌, true≢false}
 use Rattle.rx_typed.specs.Tree.{Place, Function}
-use Rattle.rx_facts_init.specs.Places.{Frame}
-use Rattle.rx_facts_init.specs.Initialised.{Initialised, IsUnset, looked, entered, IsAgain, again}
+use Rattle.rx_facts_tables.specs.Places.{Frame}
+use Rattle.rx_facts_tables.specs.Initialised.{Initialised, IsUnset, looked, entered, IsAgain, again}
 
 pub unset_excludes : (F : Frame) (muts : List Bool) (f : Function) (n : ℕ) (p : Place) → IsUnset F f n p → Initialised F muts f → ⊥
 unset_excludes F muts f n p (looked w a walk e at u) h = true≢false (sym ((h w a walk).looks p at u.0 u.1) ∙ u.2)

@@ -8,10 +8,10 @@ use Rattle.rx_lower_walks.specs.Walks.{IsWalk, Among, here, there}
 use Rattle.rx_lower_walks.specs.Graph.{site_at, Path, stop, go, EachOnce}
 use Rattle.rx_lower_walks.specs.Pieces.{graph}
 use Rattle.rx_lower_walks.specs.Text.{actions_of}
-use Rattle.rx_facts_live.specs.Along.{Switch, ahead}
-use Rattle.rx_facts_live.proofs.Ways.{one_of, only}
-use Rattle.rx_facts_live.proofs.Forward.{gave, stayed, unkilled}
-use Rattle.rx_facts_live.specs.Live.{living, IsLive}
+use Rattle.rx_facts_tables.specs.Along.{Switch, ahead}
+use Rattle.rx_facts_tables.proofs.Ways.{one_of, only}
+use Rattle.rx_facts_tables.proofs.Forward.{gave, stayed, unkilled}
+use Rattle.rx_facts_tables.specs.Live.{living, IsLive}
 use Rattle.rx_facts_laws.specs.LiveOnWalks.{LiveOnSomeWalk}
 use Rattle.rx_facts_laws.proofs.Arriving.{front_walks, way_to, walk_on, on_walk}
 

@@ -6,7 +6,7 @@ use Rattle.rx_lower_walks.specs.Actions.{Action}
 use Rattle.rx_lower_walks.specs.Walks.{IsWalk, Among}
 use Rattle.rx_lower_walks.specs.Graph.{Site, site_at}
 use Rattle.rx_lower_walks.specs.Pieces.{graph}
-use Rattle.rx_facts_live.specs.Live.{has_root, used, written, roots_of}
+use Rattle.rx_facts_tables.specs.Live.{has_root, used, written, roots_of}
 
 pub record LiveOnSomeWalk (f : Function) (r : Root) (p : ℕ) : Type 0 where
   pub site : Site

@@ -17,10 +17,10 @@ ghost use Rattle.rx_lower_walks.specs.Walks.{IsWalk, Among};
 ghost use Rattle.rx_lower_walks.specs.Graph.{Site, site_at, EachOnce};
 ghost use Rattle.rx_lower_walks.specs.Pieces.{graph};
 ghost use Rattle.rx_lower_walks.specs.Text.{actions_of};
-ghost use Rattle.rx_facts_live.specs.Along.{Arrives};
-ghost use Rattle.rx_facts_init.specs.Places.{Frame};
-ghost use Rattle.rx_facts_live.specs.Live.{IsLive};
-ghost use Rattle.rx_facts_init.specs.Initialised.{Initialised, IsUnset, IsAgain, MayBeSet, MayBeUnset};
+ghost use Rattle.rx_facts_tables.specs.Along.{Arrives};
+ghost use Rattle.rx_facts_tables.specs.Places.{Frame};
+ghost use Rattle.rx_facts_tables.specs.Live.{IsLive};
+ghost use Rattle.rx_facts_tables.specs.Initialised.{Initialised, IsUnset, IsAgain, MayBeSet, MayBeUnset};
 ghost use Rattle.rx_facts_laws.specs.LiveOnWalks.{LiveOnSomeWalk};
 ghost use Rattle.rx_facts_laws.specs.SetOnWalks.{SetOnSomeWalk, UnsetOnSomeWalk};
 

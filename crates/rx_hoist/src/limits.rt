@@ -14,7 +14,7 @@ ghost use Rattle.rx_hoist_made.specs.PlainHanded.{plain-Handed};
 ghost use Rattle.rx_hoist.specs.Parts as spec;
 
 use rx_core::Ty;
-use rx_facts_init::parts_of;
+use rx_facts_tables::parts_of;
 use rx_hoist_made::{Handed, count, handed_by, handed_on, has_enum};
 use rx_hoist_plan::{Leaving, NamedPlan, Param, Variable};
 use rx_modes_policy::Mode;

@@ -19,8 +19,8 @@ use Rattle.rx_typeck_solver.specs.declared.facts.Passing.{Passing}
 use Rattle.rx_typeck_solver.specs.declared.facts.Fact.{Fact}
 use Rattle.rx_typeck_solver.specs.declared.facts.Fact.TheVariants as fact
 use Rattle.rx_typeck_solver.specs.declared.facts.Demand.{Demand}
-use Rattle.rx_typeck_rules.specs.Asking.{Asking, ◌>>◌, nothing, asks, ask, when, passes, fitting, is_open}
-use Rattle.rx_typeck_rules.specs.Demands as rules
+use Rattle.rx_typeck_typed.specs.Asking.{Asking, ◌>>◌, nothing, asks, ask, when, passes, fitting, is_open}
+use Rattle.rx_typeck_typed.specs.Demands as rules
 
 abbrev pub Longer : List Demand → List Demand → Type 0
 Longer ds ds' = (es : List Demand) × (ds' ≡ ds ++ es)

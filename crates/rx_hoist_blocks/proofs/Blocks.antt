@@ -8,8 +8,8 @@ use Rattle.rx_typed.specs.Elaborated.{Assigned, Coercion, matched_as}
 use Rattle.rx_typed.specs.Tree as tree
 use Rattle.rx_typed.specs.Tree.{Exp, Operands, Scrutinee, Body, Mark}
 use Rattle.rx_lower_walks.specs.Walks.{Among, here, there}
-use Rattle.rx_exits_marks.specs.Blocks.{statements, bound}
-use Rattle.rx_exits_marks.specs.Spots.{Around, Spot, a_block, with_variables, with_loop, spots, spots_in, spots_matched, spots_armed, spots_of}
+use Rattle.rx_exits_plan.specs.Blocks.{statements, bound}
+use Rattle.rx_exits_plan.specs.Spots.{Around, Spot, a_block, with_variables, with_loop, spots, spots_in, spots_matched, spots_armed, spots_of}
 
 -- ---- in lists
 

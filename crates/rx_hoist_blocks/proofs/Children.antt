@@ -9,8 +9,8 @@ use Rattle.rx_tree.specs.Nodes.{below}
 use Rattle.rx_hoist_nodes.specs.Nodes.{within, within_all, in_front}
 use Rattle.rx_hoist_nodes.proofs.Within.{below_is}
 use Rattle.rx_typed.specs.Tree as tree
-use Rattle.rx_exits_marks.specs.Blocks.{statements as typed_statements}
-use Rattle.rx_exits_marks.specs.Spots.{Around, Spot, a_block as spot_block, spots_of}
+use Rattle.rx_exits_plan.specs.Blocks.{statements as typed_statements}
+use Rattle.rx_exits_plan.specs.Spots.{Around, Spot, a_block as spot_block, spots_of}
 use Rattle.rx_hoist_blocks.proofs.Blocks.{Has, Goes, this_block, behind}
 
 -- from the number i on; the next one is j; the part of the typed tree is S

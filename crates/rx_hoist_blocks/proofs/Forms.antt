@@ -22,11 +22,11 @@ use Rattle.rx_typeck_solver.specs.declared.facts.Op.TheVariants as op
 use Rattle.rx_typeck_solver.specs.declared.facts.Rule.{Rule}
 use Rattle.rx_typeck_solver.specs.declared.facts.Demand.{Demand}
 use Rattle.rx_typeck_solver.specs.Facts.{Types, Known, MeetsEach}
-use Rattle.rx_typeck_rules.specs.Asking.{◌>>◌, type_of}
-use Rattle.rx_typeck_rules.specs.Demands as rules
-use Rattle.rx_typeck_rules.specs.Demands.{Listed, members, values, parameters, parts_of, matched, through}
-use Rattle.rx_exits_marks.specs.Blocks.{bound}
-use Rattle.rx_exits_marks.specs.Spots.{Around, Spot, a_return, with_variables, with_loop, spots, spots_in, spots_matched, spots_armed, spots_of}
+use Rattle.rx_typeck_typed.specs.Asking.{◌>>◌, type_of}
+use Rattle.rx_typeck_typed.specs.Demands as rules
+use Rattle.rx_typeck_typed.specs.Demands.{Listed, members, values, parameters, parts_of, matched, through}
+use Rattle.rx_exits_plan.specs.Blocks.{bound}
+use Rattle.rx_exits_plan.specs.Spots.{Around, Spot, a_return, with_variables, with_loop, spots, spots_in, spots_matched, spots_armed, spots_of}
 use Rattle.rx_hoist_blocks.proofs.Adding as adding
 use Rattle.rx_hoist_blocks.proofs.Blocks as blocks
 use Rattle.rx_hoist_blocks.proofs.Blocks.{Has, Goes, as_it_is, in_left, in_right, further, in_passed, in_matched, in_first, in_rest, in_tuple, in_left_operand, in_right_operand, in_behind, in_last, nested_long}

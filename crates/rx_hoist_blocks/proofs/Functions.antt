@@ -17,9 +17,9 @@ use Rattle.rx_typed.specs.Tree as tree
 use Rattle.rx_typeck_solver.specs.declared.facts.Op.TheVariants as op
 use Rattle.rx_typeck_solver.specs.declared.facts.Demand.{Demand}
 use Rattle.rx_typeck_solver.specs.Facts.{Types, Known, MeetsEach}
-use Rattle.rx_typeck_rules.specs.Demands as rules
+use Rattle.rx_typeck_typed.specs.Demands as rules
 use Rattle.rx_lower_walks.specs.Walks.{Among}
-use Rattle.rx_exits_marks.specs.Spots.{Around, Spot, a_block as spot_block, a_return, outermost, spots}
+use Rattle.rx_exits_plan.specs.Spots.{Around, Spot, a_block as spot_block, a_return, outermost, spots}
 use Rattle.rx_hoist_nodes.specs.Nodes.{in_front}
 use Rattle.rx_hoist_blocks.specs.TypedBlocks.{TypedBlock}
 use Rattle.rx_hoist_blocks.proofs.Adding as adding

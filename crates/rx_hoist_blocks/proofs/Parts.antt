@@ -10,7 +10,7 @@ use Rattle.rx_typed.specs.declared.nodes.Stage.{Stage}
 use Rattle.rx_typed.specs.Named.{Pattern, whole_binding, pattern_node}
 use Rattle.rx_typed.specs.Naming as naming
 use Rattle.rx_typed.specs.Naming.{Cursor, a_node, an_entry, taken, of_type, of_types, of_pattern, of_patterns, of_field_patterns}
-use Rattle.rx_exits_marks.specs.Spots.{Around, Spot}
+use Rattle.rx_exits_plan.specs.Spots.{Around, Spot}
 use Rattle.rx_hoist_blocks.proofs.Children.{Walked, WalkedAll, from, upto, no_child, child_and, one_child, node_with}
 
 -- ---- kinds of nodes

@@ -18,9 +18,9 @@ use Rattle.rx_typeck_solver.specs.declared.facts.Subject.{Subject}
 use Rattle.rx_typeck_solver.specs.declared.facts.Fact.TheVariants as fact
 use Rattle.rx_typeck_solver.specs.declared.facts.Demand.{Demand}
 use Rattle.rx_typeck_solver.specs.Facts.{Types, Known, MeetsAll, MeetsEach}
-use Rattle.rx_typeck_rules.specs.Asking.{Asking, ◌>>◌, asks, type_of}
-use Rattle.rx_typeck_rules.specs.Demands as rules
-use Rattle.rx_exits_marks.specs.Spots.{Around, Spot}
+use Rattle.rx_typeck_typed.specs.Asking.{Asking, ◌>>◌, asks, type_of}
+use Rattle.rx_typeck_typed.specs.Demands as rules
+use Rattle.rx_exits_plan.specs.Spots.{Around, Spot}
 use Rattle.rx_hoist_blocks.proofs.Adding.{Adds, asks_add, each_adds, step_behind}
 use Rattle.rx_hoist_blocks.proofs.Children.{Walked, upto, no_child, one_child, node_with}
 use Rattle.rx_hoist_blocks.proofs.Parts.{no_expression_block, entry_number}

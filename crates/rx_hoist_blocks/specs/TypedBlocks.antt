@@ -5,8 +5,8 @@ use Rattle.rx_tree.specs.Plain as plain
 use Rattle.rx_tree.specs.Lists.{statements}
 use Rattle.rx_typed.specs.Tree.{Body, Function}
 use Rattle.rx_lower_walks.specs.Walks.{Among}
-use Rattle.rx_exits_marks.specs.Blocks.{statements as typed_statements}
-use Rattle.rx_exits_marks.specs.Spots.{Around, a_block, spots_of_function}
+use Rattle.rx_exits_plan.specs.Blocks.{statements as typed_statements}
+use Rattle.rx_exits_plan.specs.Spots.{Around, a_block, spots_of_function}
 
 pub record TypedBlock (f : Function) (number : ℕ) (b : plain.Body) : Type 0 where
   pub around : Around

@@ -8,7 +8,7 @@ ghost use Rattle.rx_resolve_names.specs.declared.resolved.NodeNames.{NodeNames};
 ghost use Rattle.rx_typed.specs.Naming.{function_named};
 ghost use Rattle.rx_typed.specs.Elaborated.{Assigned, elaborated};
 ghost use Rattle.rx_typeck_solver.specs.Facts.{Types, Known, MeetsEach};
-ghost use Rattle.rx_typeck_rules.specs.Demands.{demands};
+ghost use Rattle.rx_typeck_typed.specs.Demands.{demands};
 ghost use Rattle.rx_hoist_nodes.specs.Nodes.{in_front};
 ghost use Rattle.rx_hoist_blocks.specs.TypedBlocks.{TypedBlock};
 

@@ -16,9 +16,9 @@ use Rattle.rx_typed.specs.Elaborated as elaborated
 use Rattle.rx_typed.specs.Elaborated.{Assigned, Coercion, variables}
 use Rattle.rx_typed.specs.Tree as tree
 use Rattle.rx_lower_walks.specs.Walks.{Among, here, there}
-use Rattle.rx_exits_marks.specs.Blocks.{bound}
-use Rattle.rx_exits_marks.specs.Spots as spots
-use Rattle.rx_exits_marks.specs.Spots.{Spot, with_loop, with_variables, spots_in, spots_matched, spots_armed, spots_of}
+use Rattle.rx_exits_plan.specs.Blocks.{bound}
+use Rattle.rx_exits_plan.specs.Spots as spots
+use Rattle.rx_exits_plan.specs.Spots.{Spot, with_loop, with_variables, spots_in, spots_matched, spots_armed, spots_of}
 use Rattle.rx_hoist_extraction.specs.Run.{label_of, labels_on}
 use Rattle.rx_hoist_nodes.specs.Nodes.{within, within_all, in_front}
 use Rattle.rx_hoist_nodes.proofs.Within.{below_is}

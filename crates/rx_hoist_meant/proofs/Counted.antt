@@ -11,7 +11,7 @@ use Rattle.rx_resolve_names.specs.declared.resolved.ItemNames.{ItemNames}
 use Rattle.rx_resolve_names.specs.Meant.{number, Around, a_loop, a_test}
 use Rattle.rx_resolve_names.specs.Steps.{Outcome, and_then, Naming, ◌>>◌, nothing, Inside, child, next, with_loop, position}
 use Rattle.rx_resolve_names.specs.Names.{in_pattern, pattern_then, in_loop, in_optional_type, initialiser_at, Scoped, in_expression, in_expressions, in_optional, in_arguments, in_fields, in_arms, in_block, in_statements, in_statement}
-use Rattle.rx_hoist_words.proofs.Steps.{named_ok, the_same, one_more}
+use Rattle.rx_hoist_naming.proofs.Steps.{named_ok, the_same, one_more}
 use Rattle.rx_hoist_meant.proofs.Loops.{Keeps, callee_keeps, names_keep, optional_type_keeps, pattern_keeps}
 
 abbrev T : List NodeTree → ℕ

@@ -30,10 +30,10 @@ use Rattle.rx_exits.specs.Refusing.{same_name}
 use Rattle.rx_hoist_nodes.specs.Nodes.{within_all}
 use Rattle.rx_hoist_extraction.specs.Names.{bound}
 use Rattle.rx_hoist_meant.specs.NamesMeant.{MeansIt}
-use Rattle.rx_hoist_words.proofs.Claims.{Claims, OfAnnotation}
-use Rattle.rx_hoist_words.proofs.Steps as old
-use Rattle.rx_hoist_words.proofs.Steps.{named_ok, the_same, binds, binds_append, IsEntry, at_entry, from_zero, entry_part}
-use Rattle.rx_hoist_words.proofs.Types.{no_result_binds, Sees, one_part, optional_type_taken}
+use Rattle.rx_hoist_naming.proofs.Claims.{Claims, OfAnnotation}
+use Rattle.rx_hoist_naming.proofs.Steps as old
+use Rattle.rx_hoist_naming.proofs.Steps.{named_ok, the_same, binds, binds_append, IsEntry, at_entry, from_zero, entry_part}
+use Rattle.rx_hoist_naming.proofs.Types.{no_result_binds, Sees, one_part, optional_type_taken}
 use Rattle.rx_hoist_meant.proofs.Scopes.{Bound, front_of, behind_of, ScopeIs, scope_means}
 use Rattle.rx_hoist_meant.specs.Stands as stands
 use Rattle.rx_hoist_meant.specs.Stands.{BlockComes, ScopeMeans, StandsPattern, StandsExp, StandsExps, StandsElse, StandsArguments, StandsFields, StandsArms, StandsBody, StandsStatement, StandsRow, IsFunction, brought, loop_numbers}

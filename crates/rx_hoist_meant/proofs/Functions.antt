@@ -22,13 +22,13 @@ use Rattle.rx_typed.specs.Naming as numbering
 use Rattle.rx_typed.specs.Naming.{Cursor, function_named, has_entry, entry_if, of_type}
 use Rattle.rx_lower_walks.specs.Walks.{Among}
 use Rattle.rx_hoist_nodes.specs.Nodes.{within, within_all}
-use Rattle.rx_hoist_names.specs.DeclaredNames.{declared_names, names_bound}
+use Rattle.rx_hoist_naming.specs.DeclaredNames.{declared_names, names_bound}
 use Rattle.rx_hoist_blocks.proofs.Parts as parts
-use Rattle.rx_hoist_words.proofs.Claims.{Claims, OfAnnotation}
-use Rattle.rx_hoist_words.proofs.Steps as old
-use Rattle.rx_hoist_words.proofs.Steps.{Counts, named_ok, the_same}
-use Rattle.rx_hoist_words.proofs.Types.{no_result_binds, Sees, optional_type_taken}
-use Rattle.rx_hoist_words.proofs.Functions.{EntryTaken, entry_taken, function_entry, no_parameters_bind}
+use Rattle.rx_hoist_naming.proofs.Claims.{Claims, OfAnnotation}
+use Rattle.rx_hoist_naming.proofs.Steps as old
+use Rattle.rx_hoist_naming.proofs.Steps.{Counts, named_ok, the_same}
+use Rattle.rx_hoist_naming.proofs.Types.{no_result_binds, Sees, optional_type_taken}
+use Rattle.rx_hoist_naming.proofs.Functions.{EntryTaken, entry_taken, function_entry, no_parameters_bind}
 use Rattle.rx_hoist_meant.proofs.Scopes.{in_left, in_right, Stand, Bound, behind_of, ScopeIs, entered_is}
 use Rattle.rx_hoist_meant.proofs.NamedFunctions.{OfParameters, parameters_taken}
 use Rattle.rx_hoist_meant.specs.Stands.{StandsBody}

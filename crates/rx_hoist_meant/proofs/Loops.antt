@@ -18,10 +18,10 @@ use Rattle.rx_typed.specs.Naming.{Cursor, a_node, an_entry, taken, of_type, of_t
 use Rattle.rx_typed.specs.Elaborated.{variables, variables_in, variables_in_fields}
 use Rattle.rx_lower_walks.specs.Walks.{Among, here, there}
 use Rattle.rx_hoist_nodes.specs.Nodes.{within, within_all}
-use Rattle.rx_hoist_names.specs.DeclaredNames.{names_bound}
+use Rattle.rx_hoist_naming.specs.DeclaredNames.{names_bound}
 use Rattle.rx_hoist_extraction.specs.Names as extraction
 use Rattle.rx_hoist_extraction.specs.Names.{bound, all_bound, fields_bound}
-use Rattle.rx_hoist_words.proofs.Steps.{named_ok, the_same, bound_append}
+use Rattle.rx_hoist_naming.proofs.Steps.{named_ok, the_same, bound_append}
 use Rattle.rx_hoist_blocks.proofs.Children.{no_child}
 use Rattle.rx_hoist_blocks.proofs.Parts as parts
 use Rattle.rx_hoist_meant.proofs.Steps.{entry_loops}

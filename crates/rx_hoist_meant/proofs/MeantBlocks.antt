@@ -2,9 +2,9 @@
 use Rattle.std.proofs.Common.{◌≡◌, ℕ, zero, suc, ◌+◌, Bool, true, false, ◌==◌, if◌then◌else◌, List, [], ◌∷◌, ◌++◌, length, take, drop, Option, Some, None, refl, sym, subst, ◌⊎◌, inl, inr, arith}
 use Rattle.rx_typed.specs.Tree.{Exp, read, borrow, share, build, unit, lazily, assign, update, call, input, print, block, choose, loop, jump, give, Operands, no_operand, operand_and, Scrutinee, at_place, of_value, Arms, no_arm, arm_and, Body, ends, runs, declares, lets, Function}
 use Rattle.rx_lower_walks.specs.Walks.{Among, here, there}
-use Rattle.rx_exits_marks.specs.Blocks.{Statement, does, begins, binds, statements, tail, bound, written_tail, declared_by}
-use Rattle.rx_exits_marks.specs.Spots.{Around, Spot, a_block, a_jump, a_return, with_variables, with_loop, spots, spots_in, spots_matched, spots_armed, spots_of, outermost}
-use Rattle.rx_exits_marks.specs.Runs.{Run, Home, Sits, inside, last_value}
+use Rattle.rx_exits_plan.specs.Blocks.{Statement, does, begins, binds, statements, tail, bound, written_tail, declared_by}
+use Rattle.rx_exits_plan.specs.Spots.{Around, Spot, a_block, a_jump, a_return, with_variables, with_loop, spots, spots_in, spots_matched, spots_armed, spots_of, outermost}
+use Rattle.rx_exits_plan.specs.Runs.{Run, Home, Sits, inside, last_value}
 use Rattle.rx_exits_plan.specs.Exits.{past, at_start, at_end}
 use Rattle.rx_hoist_meant.specs.NamesMeant.{InExp, InOperands, InScrutinee, InArms, InBody, NamesMeant}
 

@@ -21,11 +21,11 @@ use Rattle.rx_typeck_typed.specs.declared.typed.TypedFn.{TypedFn}
 use Rattle.rx_typeck_typed.specs.Typing.{Given, known_in, assigned, IsTyped}
 use Rattle.rx_lower_walks.specs.Walks.{Among}
 use Rattle.rx_exits.specs.Refusing.{same_name}
-use Rattle.rx_exits_marks.specs.Spots.{outermost}
-use Rattle.rx_hoist_names.specs.DeclaredNames.{declared_names}
-use Rattle.rx_hoist_words.proofs.Counting.{names_few}
-use Rattle.rx_hoist_words.proofs.Declaring.{of_program, sees, kinds}
-use Rattle.rx_hoist_words.proofs.Programs as programs
+use Rattle.rx_exits_plan.specs.Spots.{outermost}
+use Rattle.rx_hoist_naming.specs.DeclaredNames.{declared_names}
+use Rattle.rx_hoist_naming.proofs.Counting.{names_few}
+use Rattle.rx_hoist_naming.proofs.Declaring.{of_program, sees, kinds}
+use Rattle.rx_hoist_naming.proofs.Programs as programs
 use Rattle.rx_hoist_meant.specs.NamesMeant.{NamesMeant}
 use Rattle.rx_hoist_meant.proofs.Scopes.{NBody}
 use Rattle.rx_hoist_meant.proofs.NamedFunctions.{function_means}

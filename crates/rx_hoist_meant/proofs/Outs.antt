@@ -1,7 +1,7 @@
 -- The outs of an exit, by the jumps that take it: an exit but the run's end is taken by one.
 use Rattle.std.proofs.Common.{◌≡◌, ℕ, Bool, true, false, ◌||◌, if◌then◌else◌, List, [], ◌∷◌, ◌++◌, get_or, Some, refl, sym, ap, subst, ◌⊎◌, inl, inr, eqb-true}
 use Rattle.rx_lower_walks.specs.Walks.{Among, here, there}
-use Rattle.rx_exits_marks.specs.Points.{Exit, next, breaks, continues, returns, same_exit}
+use Rattle.rx_exits_plan.specs.Points.{Exit, next, breaks, continues, returns, same_exit}
 use Rattle.rx_exits_plan.specs.Asked.{Asked}
 use Rattle.rx_exits_plan.specs.Diverging.{run_diverges}
 use Rattle.rx_exits_plan.specs.Exits.{Jump, jumps, at_end, is_taken, where_taken, of_loops}

@@ -17,9 +17,9 @@ use Rattle.rx_lower_walks.specs.Walks.{Among, here, there}
 use Rattle.rx_hoist_nodes.specs.Nodes.{within}
 use Rattle.rx_hoist_extraction.specs.Names as extraction
 use Rattle.rx_hoist_extraction.specs.Names.{bound}
-use Rattle.rx_hoist_words.proofs.Claims.{Claims}
-use Rattle.rx_hoist_words.proofs.Steps.{binds}
-use Rattle.rx_hoist_words.proofs.Types.{Sees}
+use Rattle.rx_hoist_naming.proofs.Claims.{Claims}
+use Rattle.rx_hoist_naming.proofs.Steps.{binds}
+use Rattle.rx_hoist_naming.proofs.Types.{Sees}
 use Rattle.rx_hoist_meant.proofs.Scopes.{Bound, ScopeIs, entered_is}
 use Rattle.rx_hoist_meant.proofs.NamedPatterns as meant
 use Rattle.rx_hoist_meant.specs.Stands.{StandsPattern}

@@ -9,11 +9,11 @@ use Rattle.rx_typeck_solver.specs.declared.facts.Demand.{Demand}
 use Rattle.rx_typeck_solver.specs.Facts.{Types, Known, MeetsEach}
 use Rattle.rx_typeck_solver.specs.declared.facts.Broken.{Broken}
 use Rattle.rx_typeck_solver.specs.declared.facts.Fact.{Fact}
-use Rattle.rx_typeck_rules.specs.Asking.{Asking, ◌>>◌, nothing, asks}
-use Rattle.rx_typeck_rules.specs.Demands as rules
-use Rattle.rx_hoist_words.proofs.Claims.{Claims, IsPlaced, OfExp, OfExps, OfElse, OfFields, OfArms, OfBody, OfStatement, OfStatements, OfFunction}
-use Rattle.rx_hoist_words.proofs.Good.{GoodFact}
-use Rattle.rx_hoist_words.proofs.Asked as asked
+use Rattle.rx_typeck_typed.specs.Asking.{Asking, ◌>>◌, nothing, asks}
+use Rattle.rx_typeck_typed.specs.Demands as rules
+use Rattle.rx_hoist_naming.proofs.Claims.{Claims, IsPlaced, OfExp, OfExps, OfElse, OfFields, OfArms, OfBody, OfStatement, OfStatements, OfFunction}
+use Rattle.rx_hoist_naming.proofs.Good.{GoodFact}
+use Rattle.rx_hoist_naming.proofs.Asked as asked
 use Rattle.rx_hoist_meant.specs.Placed.{Placed, PlacedAll, PlacedElse, PlacedFields, PlacedArms, PlacedBody, PlacedStatement, PlacedRow}
 
 module _ (C : Claims) (K : Known) (A : Types) where

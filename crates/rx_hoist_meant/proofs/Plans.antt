@@ -4,7 +4,7 @@ use Rattle.std.proofs.Common.{◌≡◌, ℕ, Bool, true, false, ◌||◌, if◌
 use Rattle.std.specs.Prelude.{◌==◌}
 use Rattle.std.specs.Str.{bytes_eq}
 use Rattle.rx_lower_walks.specs.Walks.{Among, here, there}
-use Rattle.rx_exits_marks.specs.Points.{Exit, next, breaks, continues, returns}
+use Rattle.rx_exits_plan.specs.Points.{Exit, next, breaks, continues, returns}
 use Rattle.rx_exits_plan.specs.declared.plan.ExitOuts.{ExitOuts}
 use Rattle.rx_exits_plan.specs.Occurrences.{has_number, those}
 use Rattle.rx_exits_plan.specs.Asked.{Asked}
@@ -16,8 +16,8 @@ use Rattle.rx_hoist_extraction.specs.Names.{Names, is_among, Distinct}
 use Rattle.rx_hoist_extraction.specs.Plan.{Param, Leaving, names_of}
 use Rattle.rx_hoist_extraction.proofs.FreshNames.{unlike}
 use Rattle.rx_hoist_naming.specs.NamedPlan.{Told, named_plan, names_in, named_params, named_variables, named_leaving}
-use Rattle.rx_hoist_words.specs.Words.{OutsAgree}
-use Rattle.rx_hoist_words.proofs.Counting.{Once, once_firsts}
+use Rattle.rx_hoist_naming.specs.Words.{OutsAgree}
+use Rattle.rx_hoist_naming.proofs.Counting.{Once, once_firsts}
 
 -- ---- numbers once
 

@@ -24,14 +24,14 @@ use Rattle.rx_typeck_typed.specs.declared.typed.Typed.{Typed}
 use Rattle.rx_typeck_typed.specs.declared.typed.TypedFn.{TypedFn}
 use Rattle.rx_typeck_typed.specs.Typing.{Given, known_in, assigned, IsTyped}
 use Rattle.rx_lower_walks.specs.Walks.{Among}
-use Rattle.rx_exits_marks.specs.Spots as spots
-use Rattle.rx_exits_marks.specs.Spots.{Spot, outermost, spots_of_function}
+use Rattle.rx_exits_plan.specs.Spots as spots
+use Rattle.rx_exits_plan.specs.Spots.{Spot, outermost, spots_of_function}
 use Rattle.rx_hoist_extraction.specs.Run.{labels_on}
 use Rattle.rx_hoist_nodes.specs.Nodes.{within, within_all, in_front}
-use Rattle.rx_hoist_names.specs.DeclaredNames.{declared_names}
-use Rattle.rx_hoist_words.proofs.Counting.{names_few}
-use Rattle.rx_hoist_words.proofs.Declaring.{of_program, sees, kinds}
-use Rattle.rx_hoist_words.proofs.Programs as programs
+use Rattle.rx_hoist_naming.specs.DeclaredNames.{declared_names}
+use Rattle.rx_hoist_naming.proofs.Counting.{names_few}
+use Rattle.rx_hoist_naming.proofs.Declaring.{of_program, sees, kinds}
+use Rattle.rx_hoist_naming.proofs.Programs as programs
 use Rattle.rx_hoist_meant.specs.Stands as stands
 use Rattle.rx_hoist_meant.specs.Stands.{loop_labels, StandsBody}
 use Rattle.rx_hoist_meant.specs.Placed.{PlacedBody}

@@ -12,9 +12,9 @@ use Rattle.rx_typed.specs.Elaborated as elaborated
 use Rattle.rx_typed.specs.Elaborated.{Assigned, Coercion, variables}
 use Rattle.rx_typed.specs.Tree as tree
 use Rattle.rx_lower_walks.specs.Walks.{Among, here, there}
-use Rattle.rx_exits_marks.specs.Blocks.{bound}
-use Rattle.rx_exits_marks.specs.Spots as spots
-use Rattle.rx_exits_marks.specs.Spots.{Spot, with_loop, with_variables, spots_in, spots_matched, spots_armed, spots_of}
+use Rattle.rx_exits_plan.specs.Blocks.{bound}
+use Rattle.rx_exits_plan.specs.Spots as spots
+use Rattle.rx_exits_plan.specs.Spots.{Spot, with_loop, with_variables, spots_in, spots_matched, spots_armed, spots_of}
 use Rattle.rx_hoist_meant.specs.Stands as stands
 use Rattle.rx_hoist_meant.specs.Stands.{StandsPattern, StandsExp, StandsExps, StandsElse, StandsArguments, StandsFields, StandsArms, StandsBody, StandsStatement, StandsRow}
 use Rattle.rx_hoist_meant.specs.Placed.{Placed, PlacedAll, PlacedElse, PlacedFields, PlacedArms, PlacedBody, PlacedStatement, PlacedRow}

@@ -5,9 +5,9 @@ use Rattle.std.proofs.lemmas.Grind.{reverse_onto}
 use Rattle.rx_typed.specs.Tree.{Root, variable, temporary, Exp, read, borrow, share, build, unit, lazily, assign, update, call, input, print, block, choose, loop, jump, give, Operands, no_operand, operand_and, Scrutinee, at_place, of_value, Arms, no_arm, arm_and, Body, ends, runs, declares, lets, Function}
 use Rattle.rx_tree.specs.Lists.{Every}
 use Rattle.rx_lower_walks.specs.Walks.{Among, here, there}
-use Rattle.rx_exits_marks.specs.Blocks.{Statement, does, begins, binds, bound, declared_by}
-use Rattle.rx_exits_marks.specs.Spots.{Around, with_variables, with_loop}
-use Rattle.rx_exits_marks.specs.Runs.{Run, Home, Sits, inside, last_value}
+use Rattle.rx_exits_plan.specs.Blocks.{Statement, does, begins, binds, bound, declared_by}
+use Rattle.rx_exits_plan.specs.Spots.{Around, with_variables, with_loop}
+use Rattle.rx_exits_plan.specs.Runs.{Run, Home, Sits, inside, last_value}
 use Rattle.rx_exits_plan.specs.Asked.{Asked}
 use Rattle.rx_exits_plan.specs.Exits.{past, at_start, at_end}
 use Rattle.rx_exits_plan.specs.Occurrences.{Occurrence, names, declared, the_variable, named_root, named_place, all_declared, occurrences, occurrences_in, occurrences_matched, occurrences_armed, occurrences_of, in_statement, in_statements, in_value, in_run as occurrences_in_run, variables_among, declared_among, has_number, drops, firsts, variables_of_run, is_declared_in_run, those, foreign}

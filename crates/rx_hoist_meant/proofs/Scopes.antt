@@ -13,8 +13,8 @@ use Rattle.rx_typed.specs.Named.{Exp, Exps, Else, Fields, Arms, Body, Statement,
 use Rattle.rx_typed.specs.Elaborated.{variables}
 use Rattle.rx_exits_plan.specs.Shadowed.{meant}
 use Rattle.rx_exits.specs.Refusing.{same_names, same_name}
-use Rattle.rx_hoist_names.specs.DeclaredNames.{names_bound}
-use Rattle.rx_hoist_words.proofs.Steps.{binds, bound_append}
+use Rattle.rx_hoist_naming.specs.DeclaredNames.{names_bound}
+use Rattle.rx_hoist_naming.proofs.Steps.{binds, bound_append}
 use Rattle.rx_hoist_meant.specs.NamesMeant.{MeansIt}
 
 -- ---- lists

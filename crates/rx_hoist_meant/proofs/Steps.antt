@@ -1,4 +1,4 @@
--- Resolving and numbering go along one text, as in rx_hoist_words; here nodes and loops are counted too. What is shown of a part knows the
+-- Resolving and numbering go along one text, as in rx_hoist_naming; here nodes and loops are counted too. What is shown of a part knows the
 -- number of its first node, and of the node behind its last.
 use Rattle.std.proofs.Common.{◌≡◌, ℕ, zero, suc, ◌+◌, ◌≤◌, Bool, true, false, List, [], ◌∷◌, ◌++◌, length, slice_set, Option, Some, None, Ok, refl, sym, ap, ◌∙◌, subst, append_assoc, append-nil, arith}
 use Rattle.rx_core.specs.declared.types.Span.{Span}
@@ -13,9 +13,9 @@ use Rattle.rx_typed.specs.declared.nodes.Use.{Use}
 use Rattle.rx_typed.specs.Named as named
 use Rattle.rx_typed.specs.Naming as numbering
 use Rattle.rx_typed.specs.Naming.{Cursor, Numbering, give, a_node, an_entry, taken}
-use Rattle.rx_hoist_words.proofs.Steps as old
-use Rattle.rx_hoist_words.proofs.Steps.{the_same}
-use Rattle.rx_hoist_words.proofs.Expressions as quiet
+use Rattle.rx_hoist_naming.proofs.Steps as old
+use Rattle.rx_hoist_naming.proofs.Steps.{the_same}
+use Rattle.rx_hoist_naming.proofs.Expressions as quiet
 
 -- ---- a numbering that takes these entries from the first tables to the second
 
@@ -86,7 +86,7 @@ takes_quiet {t = t} {m = m} q K = record {
   holds = λ c rest r d e. (K (m c).0 (q.fits c)).holds (m c).1 rest ((q.still c).3 ∙ r) (still_at c (m c).1 t (q.still c) d) (q.names c ∙ e);
 }
 
--- one of rx_hoist_words, where it keeps loops and numbers
+-- one of rx_hoist_naming, where it keeps loops and numbers
 also_still : {A : Type 0} {S : A → Type 0} {m : Numbering A} → old.Quiet S m → ((c : Cursor) → length (m c).1.loops ≡ length c.loops) → ((c : Cursor) → (m c).1.number ≡ c.number) → Quiet S m
 also_still q l n = record { fits = q.fits; names = q.names; still = λ c. ((q.declared c).0, (q.declared c).1, l c, n c) }
 
@@ -161,7 +161,7 @@ taken_loops (n ∷ ns) c = refl
 pub entry_loops : (c : Cursor) → length (an_entry c).1.loops ≡ length c.loops
 entry_loops c = taken_loops c.names c
 
--- ---- what rx_hoist_words shows of a numbering, where it begins no loop and makes so many nodes
+-- ---- what rx_hoist_naming shows of a numbering, where it begins no loop and makes so many nodes
 
 pub counted_too : {A : Type 0} {S : A → Type 0} {t t' : ItemNames} {es : List NodeNames} {m : Numbering A} (n : ℕ) → old.Takes S t t' es m → ((c : Cursor) → (m c).1.number ≡ c.number + n) → ((c : Cursor) → length (m c).1.loops ≡ length c.loops)
     → length t'.loops ≡ length t.loops → (i : ℕ) → Takes i (λ j a. (j ≡ i + n) × S a) t t' es m

@@ -14,18 +14,18 @@ use Rattle.rx_typed.specs.Elaborated as elaborated
 use Rattle.rx_typed.specs.Elaborated.{Assigned, Coercion, plain, reborrow, share, Met, variables, variables_in, variables_in_fields}
 use Rattle.rx_typed.specs.Tree as tree
 use Rattle.rx_lower_walks.specs.Matching.{Binding, bindings, bindings_in}
-use Rattle.rx_exits_marks.specs.Blocks.{bound}
-use Rattle.rx_exits_marks.specs.Spots.{Around, with_variables, with_loop}
+use Rattle.rx_exits_plan.specs.Blocks.{bound}
+use Rattle.rx_exits_plan.specs.Spots.{Around, with_variables, with_loop}
 use Rattle.rx_typeck_solver.specs.declared.facts.Op.TheVariants as op
 use Rattle.rx_typeck_solver.specs.declared.facts.Demand.{Demand}
 use Rattle.rx_typeck_solver.specs.Facts.{Types, Known, MeetsEach}
 use Rattle.rx_typeck_solver.specs.declared.facts.Broken.{Broken}
 use Rattle.rx_typeck_solver.specs.declared.facts.Fact.{Fact}
-use Rattle.rx_typeck_rules.specs.Asking.{Asking, ◌>>◌, nothing, asks}
-use Rattle.rx_typeck_rules.specs.Demands as rules
-use Rattle.rx_hoist_words.proofs.Claims.{Claims, IsPlaced, OfExp, OfExps, OfElse, OfFields, OfArms, OfBody, OfStatement, OfStatements, OfFunction}
-use Rattle.rx_hoist_words.proofs.Good.{GoodFact}
-use Rattle.rx_hoist_words.proofs.Asked as asked
+use Rattle.rx_typeck_typed.specs.Asking.{Asking, ◌>>◌, nothing, asks}
+use Rattle.rx_typeck_typed.specs.Demands as rules
+use Rattle.rx_hoist_naming.proofs.Claims.{Claims, IsPlaced, OfExp, OfExps, OfElse, OfFields, OfArms, OfBody, OfStatement, OfStatements, OfFunction}
+use Rattle.rx_hoist_naming.proofs.Good.{GoodFact}
+use Rattle.rx_hoist_naming.proofs.Asked as asked
 use Rattle.rx_hoist_meant.specs.NamesMeant.{AtRoot, InExp, InOperands, InScrutinee, InArms, InBody}
 use Rattle.rx_hoist_meant.proofs.Scopes.{declared_in, NExp, NExps, NElse, NFields, NArms, NBody, NStatement, NRow}
 

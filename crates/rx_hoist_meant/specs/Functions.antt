@@ -7,7 +7,7 @@ use Rattle.rx_tree.specs.Positions.{optional_type_nodes, parameter_nodes}
 use Rattle.rx_resolve_names.specs.Steps.{Inside}
 use Rattle.rx_typed.specs.Named as named
 use Rattle.rx_hoist_nodes.specs.Nodes.{within_all}
-use Rattle.rx_hoist_names.specs.DeclaredNames.{declared_names}
+use Rattle.rx_hoist_naming.specs.DeclaredNames.{declared_names}
 use Rattle.rx_hoist_meant.specs.Stands.{StandsBody}
 
 abbrev pub in_scope_of : named.Function → List ℕ

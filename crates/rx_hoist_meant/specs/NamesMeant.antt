@@ -2,8 +2,8 @@
 -- newest in scope of that name. `same` tells which variables have one name.
 use Rattle.std.specs.Prelude.{◌≡◌, ℕ, Bool, List, Some}
 use Rattle.rx_typed.specs.Tree.{Root, variable, temporary, Exp, read, borrow, share, build, unit, lazily, assign, update, call, input, print, block, choose, loop, jump, give, Operands, no_operand, operand_and, Scrutinee, at_place, of_value, Arms, no_arm, arm_and, Body, ends, runs, declares, lets, Function}
-use Rattle.rx_exits_marks.specs.Blocks.{bound}
-use Rattle.rx_exits_marks.specs.Spots.{Around, with_variables, with_loop, outermost}
+use Rattle.rx_exits_plan.specs.Blocks.{bound}
+use Rattle.rx_exits_plan.specs.Spots.{Around, with_variables, with_loop, outermost}
 use Rattle.rx_exits_plan.specs.Shadowed.{meant}
 
 -- the name of a variable means it in a scope

@@ -17,11 +17,11 @@ use Rattle.rx_typed.specs.Tree as tree
 use Rattle.rx_typed.specs.PlainTree.{plain-TypedTree}
 use Rattle.rx_typeck_typed.specs.declared.typed.TypedFn.{TypedFn}
 use Rattle.rx_lower_walks.specs.Walks.{Among}
-use Rattle.rx_exits_marks.specs.Spots as spots
-use Rattle.rx_exits_marks.specs.Spots.{Spot, spots_of_function}
+use Rattle.rx_exits_plan.specs.Spots as spots
+use Rattle.rx_exits_plan.specs.Spots.{Spot, spots_of_function}
 use Rattle.rx_hoist_extraction.specs.Run.{labels_on}
 use Rattle.rx_hoist_nodes.specs.Nodes.{in_front}
-use Rattle.rx_hoist_names.specs.DeclaredNames.{declared_names}
+use Rattle.rx_hoist_naming.specs.DeclaredNames.{declared_names}
 use Rattle.rx_hoist_meant.specs.Stands.{loop_labels, loop_numbers, StandsBody}
 use Rattle.rx_hoist_meant.specs.Placed.{PlacedBody}
 

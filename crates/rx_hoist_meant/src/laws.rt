@@ -12,7 +12,7 @@ ghost use Rattle.rx_typeck_typed.specs.Typing.{IsTyped};
 ghost use Rattle.rx_lower_walks.specs.Walks.{Among};
 ghost use Rattle.rx_hoist_meant.specs.Scoped.{BlockScoped};
 
-use rx_typeck_laws::{signatures_are_well_formed, sizes_are_sized};
+use rx_typeck_typed::{signatures_are_well_formed, sizes_are_sized};
 
 /// In each function of a typed program whose names have a meaning, each block of the text is one of the typed tree, by its number: it
 /// is elaborated from the block's tree with numbers, which resolves in a scope whose names mean just the variables that the typed tree

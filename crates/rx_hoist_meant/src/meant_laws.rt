@@ -10,7 +10,7 @@ ghost use Rattle.rx_typeck_typed.specs.declared.typed.Typed.{Typed};
 ghost use Rattle.rx_typeck_typed.specs.declared.typed.TypedFn.{TypedFn};
 ghost use Rattle.rx_typeck_typed.specs.Typing.{IsTyped};
 ghost use Rattle.rx_lower_walks.specs.Walks.{Among};
-ghost use Rattle.rx_exits_marks.specs.Runs.{Sits};
+ghost use Rattle.rx_exits_plan.specs.Runs.{Sits};
 ghost use Rattle.rx_exits_plan.specs.Asked.{Asked};
 ghost use Rattle.rx_exits_plan.specs.Exits.{at_start};
 ghost use Rattle.rx_exits_plan.specs.Plan.{Plan, IsPlan};
@@ -20,12 +20,12 @@ ghost use Rattle.rx_exits_plan.specs.PlainPlan.{plan_of, IsExitPlan};
 ghost use Rattle.rx_hoist_extraction.specs.Names.{Distinct};
 ghost use Rattle.rx_hoist_extraction.specs.Plan.{Leaving, Param, names_of};
 ghost use Rattle.rx_hoist_naming.specs.NamedPlan.{Told, named_plan, names_in};
-ghost use Rattle.rx_hoist_words.specs.Words.{OutsAgree};
-ghost use Rattle.rx_hoist_names.specs.DeclaredNames.{declared_names};
+ghost use Rattle.rx_hoist_naming.specs.Words.{OutsAgree};
+ghost use Rattle.rx_hoist_naming.specs.DeclaredNames.{declared_names};
 ghost use Rattle.rx_hoist_meant.specs.NamesMeant.{NamesMeant};
 
 use crate::{outs_have_their_own_names, params_and_locals_have_their_own_names};
-use rx_typeck_laws::{signatures_are_well_formed, sizes_are_sized};
+use rx_typeck_typed::{signatures_are_well_formed, sizes_are_sized};
 
 /// In each function of a typed program whose names have a meaning, each name means, where it stands, the variable that the typed tree
 /// names there: the newest in scope of that name.

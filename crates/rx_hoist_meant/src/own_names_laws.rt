@@ -2,9 +2,9 @@
 
 ghost use Rattle.std.specs.Prelude.{◌≡◌, ◌⊎◌, ℕ, List, [], get_or, Some};
 ghost use Rattle.rx_lower_walks.specs.Walks.{Among};
-ghost use Rattle.rx_exits_marks.specs.Points.{Exit, next};
+ghost use Rattle.rx_exits_plan.specs.Points.{Exit, next};
 ghost use Rattle.rx_exits_plan.specs.Asked.{Asked};
-ghost use Rattle.rx_exits_marks.specs.Runs.{Sits};
+ghost use Rattle.rx_exits_plan.specs.Runs.{Sits};
 ghost use Rattle.rx_exits_plan.specs.Exits.{Jump, jumps, at_start, at_end};
 ghost use Rattle.rx_exits_plan.specs.Plan.{Plan, IsPlan};
 ghost use Rattle.rx_exits_plan.specs.Shadowed.{meant};

@@ -23,8 +23,8 @@ use Rattle.rx_hoist_extraction.specs.Plan as plan
 use Rattle.rx_hoist_extraction.specs.Plan.{Variable, Param, Leaving, Plan}
 use Rattle.rx_hoist_plan.specs.PlainPlan.{plain-Mode}
 use Rattle.rx_hoist_nodes.specs.Nodes.{nodes_of, number_at}
-use Rattle.rx_hoist_names.specs.Words.{identifiers, lifetimes}
-use Rattle.rx_hoist_names.specs.DeclaredNames.{declared_names}
+use Rattle.rx_hoist_naming.specs.NamesWords.{identifiers, lifetimes}
+use Rattle.rx_hoist_naming.specs.DeclaredNames.{declared_names}
 use Rattle.rx_hoist_naming.specs.Pinning.{node_type, pins_if}
 
 -- ---- variables, by the names of all of the function

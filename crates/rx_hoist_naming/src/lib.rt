@@ -1,15 +1,24 @@
-//! From a run and what is decided of it by numbers to what it is by names: the run in the typed tree, the plan, and whether a
-//! function may have a name.
+//! Laws of what a run's plan names: types of structs and enums of the text, and variables that have names there.
 #![tactic(auto)]
 
+mod declared;
 mod ends;
 mod exits;
+mod laws;
+mod names;
 mod pins;
 mod plan;
 mod runs;
 mod types;
 mod variables;
+mod words;
 
+pub use crate::{NameRefusal, name_free};
+pub use declared::declared_names;
+pub use laws::{
+    named_plans_are_formed, runs_have_names, tails_go_past, types_name_types, variables_have_names,
+};
+pub use names::{NameRefusal, name_free};
 pub use plan::{Decided, Source, named_plan};
 pub use runs::typed_run;
-pub use rx_hoist_names::{NameRefusal, name_free};
+pub use words::{identifiers, lifetimes};

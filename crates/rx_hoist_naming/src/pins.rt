@@ -129,7 +129,7 @@ fn stands_in(part: Span, whole: Span) -> bool
 }
 
 /// Whether a run stands in an expression.
-#[tactic(auto, using(rx_typeck_numbering::proofs::Next::span_is))]
+#[tactic(auto, using(rx_typeck_elaborate_parts::proofs::Next::span_is))]
 fn is_round(run: Span, expr: &Expr) -> bool
     ensures { result ≡ spec.stands_in run (expression_span (plain-Expr expr.now)) }
 {
@@ -147,7 +147,7 @@ fn is_open(run: Span, diverging: &[usize], number: usize, init: &Option<Expr>) -
 }
 
 /// Where the pattern of a `let` stands that has no type and is open.
-#[tactic(auto, using(rx_tree::proofs::Rules::statement_rules, rx_typeck_numbering::proofs::Next::pattern_span_is))]
+#[tactic(auto, using(rx_tree::proofs::Rules::statement_rules, rx_typeck_elaborate_parts::proofs::Next::pattern_span_is))]
 fn open_pattern(run: Span, diverging: &[usize], number: usize, stmt: &Stmt) -> Option<Span>
     ensures { result ≡ spec.open_pattern run diverging.now number (a_statement (plain-Stmt stmt.now)) }
 {

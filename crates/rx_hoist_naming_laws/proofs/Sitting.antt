@@ -26,15 +26,15 @@ use Rattle.rx_typed_runs.specs.declared.runs.RunPos.{RunPos}
 use Rattle.rx_typeck_solver.specs.declared.facts.Op.TheVariants as op
 use Rattle.rx_typeck_solver.specs.declared.facts.Demand.{Demand}
 use Rattle.rx_typeck_solver.specs.Facts.{Types, Known, MeetsEach}
-use Rattle.rx_typeck_rules.specs.Asking.{◌>>◌}
-use Rattle.rx_typeck_rules.specs.Demands as rules
+use Rattle.rx_typeck_typed.specs.Asking.{◌>>◌}
+use Rattle.rx_typeck_typed.specs.Demands as rules
 use Rattle.rx_typeck_typed.specs.declared.typed.Typed.{Typed}
 use Rattle.rx_typeck_typed.specs.declared.typed.TypedFn.{TypedFn}
 use Rattle.rx_typeck_typed.specs.Typing.{Given, known_in, assigned, entries, variables_at, FunctionTyped, FunctionsTyped, IsTyped}
 use Rattle.rx_lower_walks.specs.Walks.{Among, here, there}
-use Rattle.rx_exits_marks.specs.Blocks.{statements as typed_statements}
-use Rattle.rx_exits_marks.specs.Spots.{Around, Spot, a_block as spot_block, a_return, outermost, spots, spots_of, spots_of_function}
-use Rattle.rx_exits_marks.specs.Runs.{Run, Home, Sits}
+use Rattle.rx_exits_plan.specs.Blocks.{statements as typed_statements}
+use Rattle.rx_exits_plan.specs.Spots.{Around, Spot, a_block as spot_block, a_return, outermost, spots, spots_of, spots_of_function}
+use Rattle.rx_exits_plan.specs.Runs.{Run, Home, Sits}
 use Rattle.rx_select.specs.RunOf.{RunOf}
 use Rattle.rx_select.specs.Parts.{parts_of, tail_place, end_of}
 use Rattle.rx_hoist_nodes.specs.Nodes.{in_front, number_at}

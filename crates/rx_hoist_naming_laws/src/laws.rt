@@ -10,7 +10,7 @@ ghost use Rattle.rx_typeck_typed.specs.declared.typed.Typed.{Typed};
 ghost use Rattle.rx_typeck_typed.specs.declared.typed.TypedFn.{TypedFn};
 ghost use Rattle.rx_typeck_typed.specs.Typing.{IsTyped};
 ghost use Rattle.rx_lower_walks.specs.Walks.{Among};
-ghost use Rattle.rx_exits_marks.specs.Runs.{Home, Sits};
+ghost use Rattle.rx_exits_plan.specs.Runs.{Home, Sits};
 ghost use Rattle.rx_select.specs.RunOf.{RunOf};
 ghost use Rattle.rx_hoist_nodes.specs.TypedRun.{typed_run};
 

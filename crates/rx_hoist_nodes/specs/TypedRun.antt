@@ -3,7 +3,7 @@
 use Rattle.std.specs.Prelude.{ℕ, suc, ◌-◌, Bool, true, false}
 use Rattle.rx_tree.specs.Plain.{ProgramTree}
 use Rattle.rx_typed_runs.specs.declared.runs.RunPos.{RunPos}
-use Rattle.rx_exits_marks.specs.Runs.{Run}
+use Rattle.rx_exits_plan.specs.Runs.{Run}
 use Rattle.rx_hoist_nodes.specs.Nodes.{number_at}
 
 -- the statements from one number to another, which is left out where it is that of the tail

@@ -7,7 +7,7 @@ use Rattle.rx_lower_walks.specs.Walks.{Among, here, there}
 use Rattle.rx_graph.specs.Tables.{at}
 use Rattle.rx_lower_walks.specs.Graph.{Site, site_at}
 use Rattle.rx_lower_lifetimes.specs.Numbered.{Own}
-use Rattle.rx_facts_live.proofs.Ways.{site_within}
+use Rattle.rx_facts_tables.proofs.Ways.{site_within}
 use Rattle.rx_loan.specs.Accesses.{Loan, acts_against}
 use Rattle.rx_loan.specs.Loans.{loans_of, InScope, Meets, IsLegal}
 use Rattle.rx_loan.specs.PlainOf.{plain-Loan}

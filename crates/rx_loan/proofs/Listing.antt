@@ -2,13 +2,13 @@
 use Rattle.std.proofs.Common.{◌≡◌, ℕ, ◌+◌, ◌<◌, ◌≤◌, List, [], ◌∷◌, ◌++◌, length, drop, get_or, map, refl, ap, sym, ◌∙◌}
 use Rattle.std.proofs.lemmas.List.{drop_more, append_assoc, append-nil}
 use Rattle.rx_lower_walks.specs.Graph as graph
-use Rattle.rx_lower_emit.specs.PlainSite.{plain-Site}
-use Rattle.rx_lower_emit.specs.declared.site.Site.{Site}
+use Rattle.rx_lower_walks.specs.PlainSite.{plain-Site}
+use Rattle.rx_lower_walks.specs.declared.site.Site.{Site}
 use Rattle.rx_lower_lifetimes.specs.PlainOwn.{plain-Own}
 use Rattle.rx_lower_lifetimes.specs.declared.numbering.Own.{Own}
 use Rattle.rx_loan.specs.Accesses.{Loan}
 use Rattle.rx_loan.specs.Loans.{loan_at, loans_from, loans_of}
-use Rattle.rx_lower_flow.proofs.Fronts.{none_left}
+use Rattle.rx_lower_walks.proofs.Fronts.{none_left}
 
 -- what is left to list
 abbrev pub left : List Site → List Own → ℕ → List Loan

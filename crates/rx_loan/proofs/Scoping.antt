@@ -9,7 +9,7 @@ use Rattle.rx_graph_bits.specs.Rows.{holds}
 use Rattle.rx_graph.specs.Tables.{at}
 use Rattle.rx_graph.proofs.Spreading.{different}
 use Rattle.rx_lower_walks.specs.Graph.{Site, site_at}
-use Rattle.rx_facts_live.specs.Along.{edges_of}
+use Rattle.rx_facts_tables.specs.Along.{edges_of}
 use Rattle.rx_graph_reach.specs.Reached.{Reached, next, further}
 use Rattle.rx_graph_reach.proofs.Seeing.{leads_within}
 use Rattle.rx_loan.specs.declared.accesses.Loan as code

@@ -7,8 +7,8 @@ use Rattle.rx_lower_walks.specs.Walks as walks
 use Rattle.rx_graph.specs.Facts.{has, targets}
 use Rattle.rx_graph.proofs.Spreading.{one_of}
 use Rattle.rx_lower_walks.specs.Graph.{Site, site_at}
-use Rattle.rx_facts_live.specs.Along.{Arrives, there, by, edges_of}
-use Rattle.rx_facts_live.proofs.Ways.{targets_at, site_here, site_within, arrives_on}
+use Rattle.rx_facts_tables.specs.Along.{Arrives, there, by, edges_of}
+use Rattle.rx_facts_tables.proofs.Ways.{targets_at, site_here, site_within, arrives_on}
 use Rattle.rx_graph_reach.specs.Reached.{next, further}
 use Rattle.rx_graph_reach.proofs.Seeing.{leads_within}
 use Rattle.rx_loan.specs.Accesses.{Loan}

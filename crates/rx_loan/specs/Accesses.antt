@@ -3,7 +3,7 @@ use Rattle.std.specs.Prelude.{ℕ, Bool, true, false, ◌&&◌, ◌||◌, if◌t
 use Rattle.rx_typed.specs.Tree.{Place, own}
 use Rattle.rx_lower_walks.specs.Matching.{Check, has_tag, equals}
 use Rattle.rx_lower_walks.specs.Actions.{Act, Dead, Read, Write, Borrow, Test}
-use Rattle.rx_typed.specs.Places.{is_prefix}
+use Rattle.rx_typed.specs.TypedPlaces.{is_prefix}
 use Rattle.rx_loan.specs.Places.{is_shallow_prefix, is_supporting_prefix}
 
 pub record Access : Type 0 where

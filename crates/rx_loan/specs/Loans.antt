@@ -6,9 +6,9 @@ use Rattle.rx_lower_walks.specs.Actions.{Act, Borrow, Write}
 use Rattle.rx_lower_walks.specs.Walks.{Among}
 use Rattle.rx_lower_walks.specs.Graph.{Site, site_at}
 use Rattle.rx_lower_lifetimes.specs.Numbered.{Own, region}
-use Rattle.rx_facts_live.specs.Along.{edges_of}
+use Rattle.rx_facts_tables.specs.Along.{edges_of}
 use Rattle.rx_graph_reach.specs.Reached.{Reached}
-use Rattle.rx_typed.specs.Places.{is_prefix}
+use Rattle.rx_typed.specs.TypedPlaces.{is_prefix}
 use Rattle.rx_loan.specs.Accesses.{Loan, acts_against}
 
 -- each borrow makes a loan, whose region is the site's own

@@ -3,7 +3,7 @@ use Rattle.std.specs.Prelude.{Bool, true, false, ◌&&◌, List, [], ◌∷◌, 
 use Rattle.rx_core.specs.declared.types.Step.{Step}
 use Rattle.rx_core.specs.declared.types.Step.TheVariants as step
 use Rattle.rx_typed.specs.Tree.{Place}
-use Rattle.rx_typed.specs.Places.{is_prefix}
+use Rattle.rx_typed.specs.TypedPlaces.{is_prefix}
 
 abbrev pub behind : Place → Place → List Step
 behind p q = drop (length p.steps) q.steps

@@ -1,5 +1,5 @@
 -- The plain loans and accesses of those in code.
-use Rattle.rx_lower_flow.specs.PlainFlow.{plain-Root, plain-Place}
+use Rattle.rx_lower_walks.specs.PlainFlow.{plain-Root, plain-Place}
 use Rattle.rx_loan.specs.Accesses as spec
 use Rattle.rx_loan.specs.declared.accesses.Access.{Access}
 use Rattle.rx_loan.specs.declared.accesses.Loan.{Loan}

@@ -1,13 +1,13 @@
 //! What actions access, and which loans conflict with that.
 
 ghost use Rattle.std.specs.Prelude.{◌≡◌, option_map};
-ghost use Rattle.rx_lower_flow.specs.PlainFlow.{plain-Act, plain-Check, plain-Place};
+ghost use Rattle.rx_lower_walks.specs.PlainFlow.{plain-Act, plain-Check, plain-Place};
 ghost use Rattle.rx_loan.specs.Accesses as spec;
 ghost use Rattle.rx_loan.specs.PlainOf.{plain-Access, plain-Loan};
 
 use crate::places::{strips_parts, strips_unshared};
 use rx_core::Step;
-use rx_lower_flow::{Act, Check, Place, Root, is_prefix};
+use rx_lower_walks::{Act, Check, Place, Root, is_prefix};
 
 /// What an action accesses: a place, by its root and steps.
 #[derive(Clone, Copy)]

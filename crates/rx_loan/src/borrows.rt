@@ -1,8 +1,8 @@
 //! The loans of a function, and what ends them.
 
 ghost use Rattle.std.specs.Prelude.{◌≡◌, ◌≤◌, ◌++◌, length, map, option_map, IfOk, OnOk};
-ghost use Rattle.rx_lower_flow.specs.PlainFlow.{plain-Act, plain-Place};
-ghost use Rattle.rx_lower_emit.specs.PlainSite.{plain-Site};
+ghost use Rattle.rx_lower_walks.specs.PlainFlow.{plain-Act, plain-Place};
+ghost use Rattle.rx_lower_walks.specs.PlainSite.{plain-Site};
 ghost use Rattle.rx_lower_lifetimes.specs.PlainOwn.{plain-Own};
 ghost use Rattle.rx_loan.specs.Loans as spec;
 ghost use Rattle.rx_loan.specs.PlainOf.{plain-Loan};
@@ -10,9 +10,8 @@ ghost use Rattle.rx_loan.specs.Tables.{listed};
 
 use crate::accesses::Loan;
 use rx_core::{LetGo, List};
-use rx_lower_emit::Site;
-use rx_lower_flow::{Act, Place, is_prefix};
 use rx_lower_lifetimes::Own;
+use rx_lower_walks::{Act, Place, Site, is_prefix};
 use std::alloc::{AllocError, Global};
 
 impl LetGo for Loan {

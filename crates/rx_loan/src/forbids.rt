@@ -2,8 +2,8 @@
 
 ghost use Rattle.std.specs.Prelude.{◌≡◌, ◌≤◌, ◌&&◌, ℕ, Bool, List as ListOf, length, map, MatchOption, MatchResult};
 ghost use Rattle.rx_graph.specs.Tables.{at};
-ghost use Rattle.rx_lower_flow.specs.PlainFlow.{plain-Act};
-ghost use Rattle.rx_lower_emit.specs.PlainSite.{plain-Site};
+ghost use Rattle.rx_lower_walks.specs.PlainFlow.{plain-Act};
+ghost use Rattle.rx_lower_walks.specs.PlainSite.{plain-Site};
 ghost use Rattle.rx_lower_lifetimes.specs.Numbered as numbered;
 ghost use Rattle.rx_loan.specs.Accesses as accesses;
 ghost use Rattle.rx_loan.specs.Loans as spec;
@@ -12,8 +12,7 @@ ghost use Rattle.rx_loan.specs.Tables as tables;
 
 use crate::accesses::{Access, Loan, accessed, conflict};
 use crate::table::LoanTable;
-use rx_lower_emit::Site;
-use rx_lower_flow::Act;
+use rx_lower_walks::{Act, Site};
 
 /// An access that meets a loan which forbids it: the site of the loan's borrow, and that of the access.
 #[derive(Clone, Copy)]

@@ -4,8 +4,8 @@ ghost use Rattle.std.specs.Prelude.{◌≡◌, ◌↔◌, ◌≤◌, ◌<◌, �
 ghost use Rattle.rx_graph_bits.specs.Rows.{holds as has_bit};
 ghost use Rattle.rx_graph.specs.Tables.{at};
 ghost use Rattle.rx_lower_walks.specs.Graph as graphs;
-ghost use Rattle.rx_lower_flow.specs.PlainFlow.{plain-Place};
-ghost use Rattle.rx_lower_emit.specs.PlainSite.{plain-Site};
+ghost use Rattle.rx_lower_walks.specs.PlainFlow.{plain-Place};
+ghost use Rattle.rx_lower_walks.specs.PlainSite.{plain-Site};
 ghost use Rattle.rx_lower_lifetimes.specs.Numbered as numbered;
 ghost use Rattle.rx_lower_lifetimes.specs.PlainOwn.{plain-Own};
 ghost use Rattle.rx_loan.specs.Accesses as accesses;
@@ -16,12 +16,11 @@ ghost use Rattle.rx_loan.specs.Tables as tables;
 use crate::accesses::Loan;
 use crate::borrows::{all_loans, ends};
 use rx_core::List;
-use rx_facts_live::Onward;
+use rx_facts_tables::Onward;
 use rx_graph_bits::Row;
 use rx_graph_reach::reached;
-use rx_lower_emit::Site;
-use rx_lower_flow::Place;
 use rx_lower_lifetimes::Own;
+use rx_lower_walks::{Place, Site};
 use std::alloc::{AllocError, Global};
 
 /// The loans of a function, and the sites at which each is in scope.

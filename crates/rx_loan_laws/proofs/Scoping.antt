@@ -11,9 +11,9 @@ use Rattle.rx_lower_walks.specs.Text.{actions_of}
 use Rattle.rx_lower_walks.proofs.Distinct.{one_site}
 use Rattle.rx_lower_walks.proofs.Bounds.{next_are_sites}
 use Rattle.rx_lower_walks.specs.Orders.{order_function}
-use Rattle.rx_facts_live.specs.Along.{Arrives, edges_of}
-use Rattle.rx_facts_live.specs.Along as ways
-use Rattle.rx_facts_live.proofs.Ways.{SiteThere, site_of, site_here, leads, arrives_on}
+use Rattle.rx_facts_tables.specs.Along.{Arrives, edges_of}
+use Rattle.rx_facts_tables.specs.Along as ways
+use Rattle.rx_facts_tables.proofs.Ways.{SiteThere, site_of, site_here, leads, arrives_on}
 use Rattle.rx_facts_laws.proofs.Arriving.{way_to, walk_on, on_walk}
 use Rattle.rx_graph_reach.specs.Reached.{next, further}
 use Rattle.rx_loan.specs.Accesses.{Loan, acts_against}

@@ -13,8 +13,7 @@ ghost use Rattle.rx_lower.specs.Functions.{function_at, written, function, with_
 use rx_core::{LetGo, List, Ty, keep, pushed};
 use rx_lower_lifetimes::{Graph, LowerFault, Told, lower_function_within};
 use rx_typeck_typed::{AnnotatedVariable, Typed, TypedFn};
-use rx_typed::{Decls, TypedTree};
-use rx_typed_places::place_type;
+use rx_typed::{Decls, TypedTree, place_type};
 use std::alloc::{AllocError, Global};
 
 /// The function of an item.

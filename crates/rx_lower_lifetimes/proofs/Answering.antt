@@ -1,6 +1,6 @@
 -- What is answered of a flow is answered of the function whose order it stands for.
 use Rattle.std.proofs.Common.{◌≡◌, ℕ, suc, ◌+◌, ◌<◌, ◌≤◌, inl, inr, Bool, List, [], ◌∷◌, ◌++◌, length, map, Result, Ok, Err, IfOk, ◌↔◌, refl, sym, ap, subst, ◌∙◌, arith}
-use Rattle.rx_typed_places.specs.Numbers.{capped, open_in, numbered}
+use Rattle.rx_typed.specs.Numbers.{capped, open_in, numbered}
 use Rattle.rx_lower_walks.specs.Orders.{order_function}
 use Rattle.rx_lower_walks.specs.Walks.{IsWalk}
 use Rattle.rx_lower_walks.specs.Graph.{Path}
@@ -9,12 +9,12 @@ use Rattle.rx_lower_walks.specs.Pieces.{part, graph_of, graph}
 use Rattle.rx_lower_walks.specs.Text.{actions_of}
 use Rattle.rx_lower_walks.proofs.Sites.{paths_are_walks_of}
 use Rattle.rx_lower_walks.proofs.Whole.{size_is}
-use Rattle.rx_lower_flow.specs.Flows.{Flow, order_of}
-use Rattle.rx_lower_emit.specs.declared.site.Site.{Site}
-use Rattle.rx_lower_emit.specs.declared.whole.GraphFault.{GraphFault}
-use Rattle.rx_lower_emit.specs.declared.whole.GraphFault.TheVariants as fault
-use Rattle.rx_lower_emit.specs.PlainSite.{plain-Site}
-use Rattle.rx_lower_emit.specs.Refusal as refusal
+use Rattle.rx_lower_walks.specs.Flows.{Flow, order_of}
+use Rattle.rx_lower_walks.specs.declared.site.Site.{Site}
+use Rattle.rx_lower_walks.specs.declared.whole.GraphFault.{GraphFault}
+use Rattle.rx_lower_walks.specs.declared.whole.GraphFault.TheVariants as fault
+use Rattle.rx_lower_walks.specs.PlainSite.{plain-Site}
+use Rattle.rx_lower_walks.specs.Refusal as refusal
 use Rattle.rx_lower_lifetimes.specs.declared.whole.Graph.{Graph}
 use Rattle.rx_lower_lifetimes.specs.declared.whole.LowerFault.{LowerFault}
 use Rattle.rx_lower_lifetimes.specs.declared.whole.LowerFault.TheVariants.{TooLarge}

@@ -12,8 +12,8 @@ use Rattle.rx_typed.specs.declared.declarations.Decl.{Decl}
 use Rattle.rx_typed.specs.declared.declarations.Decl.TheVariants as decl
 use Rattle.rx_typed.specs.Regions.{RegionTyp, region_integer, region_reference, region_named, no_region, region_and, region-Ty, region_of_integer, region_of_shared, region_of_mut, region_of_item}
 use Rattle.rx_typed.specs.Tree.{Mark, Exp, Parameter, whole_number, constant, struct, by_value, bind, borrow, build, unit, call, block, give, read, no_operand, operand_and, of_value, ends, lets, own, temporary_at}
-use Rattle.rx_typed_places.specs.Renaming.{unit_region}
-use Rattle.rx_typed_places.specs.Places.{place_type}
+use Rattle.rx_typed.specs.Renaming.{unit_region}
+use Rattle.rx_typed.specs.Places.{place_type}
 use Rattle.rx_lower_lifetimes.specs.Variables.{open_types}
 use Rattle.rx_lower_lifetimes.specs.Positions.{positions}
 use Rattle.rx_lower_lifetimes.specs.Numbered.{all_numbered, none, region, signed}

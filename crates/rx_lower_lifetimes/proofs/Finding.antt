@@ -7,9 +7,9 @@ use Rattle.std.proofs.lemmas.Bool.Decides.{Decides-eqb}
 use Rattle.rx_typed.specs.Tree.{Temporary, Parameter}
 use Rattle.rx_typed.specs.declared.tree.Param.{Param}
 use Rattle.rx_typed.specs.PlainTree.{plain-Param}
-use Rattle.rx_lower_flow.specs.declared.actions.Temporary as code
-use Rattle.rx_lower_flow.specs.PlainFlow.{plain-Temporary}
-use Rattle.rx_typed_places.specs.Renaming.{unit_region}
+use Rattle.rx_lower_walks.specs.declared.actions.Temporary as code
+use Rattle.rx_lower_walks.specs.PlainFlow.{plain-Temporary}
+use Rattle.rx_typed.specs.Renaming.{unit_region}
 use Rattle.rx_lower_lifetimes.specs.declared.held.Open.{Open}
 use Rattle.rx_lower_lifetimes.specs.declared.held.Held.{Held}
 use Rattle.rx_lower_lifetimes.specs.Values as values

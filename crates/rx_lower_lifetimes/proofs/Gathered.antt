@@ -9,12 +9,12 @@ use Rattle.rx_lower_walks.specs.Orders as order
 use Rattle.rx_lower_walks.specs.Graph.{Site}
 use Rattle.rx_lower_walks.specs.Pieces.{Way, ahead, failing, exit_way, same, Scope, Variable, Looped, left, Exits, nowhere_part, act_part, then_ends, then_part, loop_ends, leaving_part, onto, entry, distinct, part, graph_of, no_exits}
 use Rattle.rx_lower_walks.specs.Text.{actions_of}
-use Rattle.rx_lower_flow.specs.Flows.{Flow, nothing, nowhere, act, items, or, leave, passes, Items, last, do_and, ends_and, may_and, else_and, order_of, order_of_items}
-use Rattle.rx_lower_emit.specs.Around.{nothing_around}
-use Rattle.rx_lower_emit.specs.Sums.{sum}
-use Rattle.rx_lower_emit.proofs.Standing.{alone}
-use Rattle.rx_lower_emit.proofs.Agrees.{sum_like}
-use Rattle.rx_typed_places.specs.Numbers.{capped}
+use Rattle.rx_lower_walks.specs.Flows.{Flow, nothing, nowhere, act, items, or, leave, passes, Items, last, do_and, ends_and, may_and, else_and, order_of, order_of_items}
+use Rattle.rx_lower_walks.specs.Around.{nothing_around}
+use Rattle.rx_lower_walks.specs.Sums.{sum}
+use Rattle.rx_lower_walks.proofs.Standing.{alone}
+use Rattle.rx_lower_walks.proofs.Agrees.{sum_like}
+use Rattle.rx_typed.specs.Numbers.{capped}
 use Rattle.rx_lower_lifetimes.specs.Values.{Known, Held, value_type, hold, held_by}
 use Rattle.rx_lower_lifetimes.specs.Positions.{own_lifetimes, all_own}
 use Rattle.rx_lower_lifetimes.specs.Held.{held_acts, held_items, all_noted}

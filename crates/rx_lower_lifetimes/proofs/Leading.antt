@@ -2,14 +2,14 @@
 use Rattle.std.proofs.Common.{◌≡◌, ℕ, ◌<◌, ◌==◌, ◌+◌, ◌-◌, List, [], ◌∷◌, ◌++◌, length, drop, map, get_or, append_assoc, append-nil, Bool, true, false, ◌||◌, if◌then◌else◌, refl, sym, ap, ◌∙◌}
 use Rattle.std.proofs.lemmas.Bool.Decides.{Decides-eqb}
 use Rattle.rx_lower_walks.specs.Orders as orders
-use Rattle.rx_lower_flow.specs.Flows.{Flow, nothing, nowhere, act, items, or, leave, passes, Items, last, do_and, ends_and, may_and, else_and, Item, doing, ending, may, trying, item_and, items_of}
-use Rattle.rx_lower_flow.specs.declared.flow.Item as code
-use Rattle.rx_lower_flow.specs.PlainFlow.{plain-Item}
-use Rattle.rx_lower_emit.specs.declared.sums.Sum.{Sum}
-use Rattle.rx_lower_emit.specs.declared.around.Around.{Around}
-use Rattle.rx_lower_emit.specs.Around.{nothing_around, with_variable, with_loop, depth}
-use Rattle.rx_lower_emit.specs.Sums.{exit_way, has, joined, without, breaks_of, leaving_sum, then_sum, else_sum, or_sum, sum, sum_items}
-use Rattle.rx_lower_emit.proofs.Agrees.{or_false, has_both}
+use Rattle.rx_lower_walks.specs.Flows.{Flow, nothing, nowhere, act, items, or, leave, passes, Items, last, do_and, ends_and, may_and, else_and, Item, doing, ending, may, trying, item_and, items_of}
+use Rattle.rx_lower_walks.specs.declared.flow.Item as code
+use Rattle.rx_lower_walks.specs.PlainFlow.{plain-Item}
+use Rattle.rx_lower_walks.specs.declared.sums.Sum.{Sum}
+use Rattle.rx_lower_walks.specs.declared.around.Around.{Around}
+use Rattle.rx_lower_walks.specs.Around.{nothing_around, with_variable, with_loop, depth}
+use Rattle.rx_lower_walks.specs.Sums.{exit_way, has, joined, without, breaks_of, leaving_sum, then_sum, else_sum, or_sum, sum, sum_items}
+use Rattle.rx_lower_walks.proofs.Agrees.{or_false, has_both}
 use Rattle.rx_lower_lifetimes.specs.declared.onward.Onward.{Onward}
 use Rattle.rx_lower_lifetimes.specs.declared.onward.Front.{Front}
 use Rattle.rx_lower_lifetimes.specs.Held.{goes_on}

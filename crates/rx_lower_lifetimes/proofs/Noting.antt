@@ -2,9 +2,9 @@
 use Rattle.std.proofs.Common.{◌<◌, ◌+◌, length, drop, map, get_or, ◌≡◌, ℕ, List, [], ◌∷◌, ◌++◌, Bool, if◌then◌else◌, refl, sym, ap, ◌∙◌}
 use Rattle.rx_lower_walks.specs.Actions.{Action}
 use Rattle.std.proofs.lemmas.List.{at_drop_more}
-use Rattle.rx_lower_flow.specs.declared.flow.Item as code
-use Rattle.rx_lower_flow.specs.Flows.{Items, Item, doing, ending, may, trying, item_and, items_of}
-use Rattle.rx_lower_flow.specs.PlainFlow.{plain-Item}
+use Rattle.rx_lower_walks.specs.declared.flow.Item as code
+use Rattle.rx_lower_walks.specs.Flows.{Items, Item, doing, ending, may, trying, item_and, items_of}
+use Rattle.rx_lower_walks.specs.PlainFlow.{plain-Item}
 use Rattle.rx_lower_lifetimes.specs.Values.{Known}
 use Rattle.rx_lower_lifetimes.specs.Held.{held_items, item_acts, goes_on, Notes, noted, all_noted}
 

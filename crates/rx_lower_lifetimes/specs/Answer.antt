@@ -5,9 +5,9 @@ use Rattle.rx_lower_walks.specs.Actions.{Action}
 use Rattle.rx_lower_walks.specs.Walks.{IsWalk}
 use Rattle.rx_lower_walks.specs.Graph.{Path}
 use Rattle.rx_lower_walks.specs.Pieces.{graph}
-use Rattle.rx_lower_flow.specs.PlainFlow.{plain-Temporary}
-use Rattle.rx_lower_emit.specs.PlainSite.{plain-Site}
-use Rattle.rx_typed_places.specs.Numbers.{capped}
+use Rattle.rx_lower_walks.specs.PlainFlow.{plain-Temporary}
+use Rattle.rx_lower_walks.specs.PlainSite.{plain-Site}
+use Rattle.rx_typed.specs.Numbers.{capped}
 use Rattle.rx_lower_lifetimes.specs.declared.whole.Graph.{Graph}
 use Rattle.rx_lower_lifetimes.specs.declared.whole.Lifetimes.{Lifetimes}
 use Rattle.rx_lower_lifetimes.specs.declared.whole.LowerFault.{LowerFault}

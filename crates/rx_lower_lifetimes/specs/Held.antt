@@ -2,10 +2,10 @@
 -- many lifetimes they have of their own.
 use Rattle.std.specs.Prelude.{ℕ, ◌+◌, List, [], ◌∷◌, ◌++◌, if◌then◌else◌, Bool, true}
 use Rattle.rx_lower_walks.specs.Actions.{Action, filled}
-use Rattle.rx_lower_flow.specs.Flows.{Flow, nothing, nowhere, act, items, or, leave, passes, Items, last, do_and, ends_and, may_and, else_and, Item, doing, ending, may, trying}
-use Rattle.rx_lower_emit.specs.Around.{nothing_around}
-use Rattle.rx_lower_emit.specs.Sums.{sum}
-use Rattle.rx_typed_places.specs.Numbers.{capped}
+use Rattle.rx_lower_walks.specs.Flows.{Flow, nothing, nowhere, act, items, or, leave, passes, Items, last, do_and, ends_and, may_and, else_and, Item, doing, ending, may, trying}
+use Rattle.rx_lower_walks.specs.Around.{nothing_around}
+use Rattle.rx_lower_walks.specs.Sums.{sum}
+use Rattle.rx_typed.specs.Numbers.{capped}
 use Rattle.rx_lower_lifetimes.specs.Values.{Known, Held, value_type, hold}
 use Rattle.rx_lower_lifetimes.specs.Positions.{own_lifetimes}
 

@@ -1,8 +1,8 @@
 -- Where flows lead, by their own form: to what follows, to where a test has failed, and out of which loops. Nothing of what is
 -- around them is asked.
 use Rattle.std.specs.Prelude.{ℕ, List, [], ◌++◌, if◌then◌else◌, Bool, true, false, ◌&&◌, ◌||◌}
-use Rattle.rx_lower_flow.specs.Flows.{Flow, nothing, nowhere, act, items, or, leave, passes, Items, last, do_and, ends_and, may_and, else_and, Item, doing, ending, may, trying}
-use Rattle.rx_lower_emit.specs.Sums.{has, without, breaks_of, exit_way}
+use Rattle.rx_lower_walks.specs.Flows.{Flow, nothing, nowhere, act, items, or, leave, passes, Items, last, do_and, ends_and, may_and, else_and, Item, doing, ending, may, trying}
+use Rattle.rx_lower_walks.specs.Sums.{has, without, breaks_of, exit_way}
 use Rattle.rx_lower_lifetimes.specs.declared.onward.Onward.{Onward}
 use Rattle.rx_lower_lifetimes.specs.declared.onward.Front.{Front}
 

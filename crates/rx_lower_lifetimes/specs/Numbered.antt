@@ -5,8 +5,8 @@ use Rattle.std.specs.Prelude.{ℕ, ◌+◌, List, [], ◌∷◌, map}
 use Rattle.rx_typed.specs.declared.declarations.Decl.{Decl}
 use Rattle.rx_typed.specs.Regions.{RegionTyp}
 use Rattle.rx_lower_walks.specs.Actions.{Act, Borrow, Call, Action}
-use Rattle.rx_typed_places.specs.Numbers.{open_in, numbered}
-use Rattle.rx_typed_places.specs.Renaming.{Signature, signature}
+use Rattle.rx_typed.specs.Numbers.{open_in, numbered}
+use Rattle.rx_typed.specs.Renaming.{Signature, signature}
 use Rattle.rx_lower_lifetimes.specs.Values.{Open, Held}
 use Rattle.rx_lower_lifetimes.specs.Positions.{own_lifetimes}
 

@@ -2,7 +2,7 @@
 use Rattle.std.specs.Prelude.{List, map}
 use Rattle.rx_typed.specs.declared.declarations.Decl.{Decl}
 use Rattle.rx_typed.specs.Regions.{region-Ty}
-use Rattle.rx_lower_flow.specs.PlainFlow.{plain-Temporary}
+use Rattle.rx_lower_walks.specs.PlainFlow.{plain-Temporary}
 use Rattle.rx_lower_lifetimes.specs.declared.held.Open.{Open}
 use Rattle.rx_lower_lifetimes.specs.declared.held.Held.{Held}
 use Rattle.rx_lower_lifetimes.specs.declared.notes.Notes.{Notes}

@@ -1,5 +1,5 @@
 -- What a site has of its own, in code.
-use Rattle.rx_typed_places.specs.PlainSignature.{plain-Signature}
+use Rattle.rx_typed.specs.PlainSignature.{plain-Signature}
 use Rattle.rx_lower_lifetimes.specs.declared.numbering.Own.{Own}
 use Rattle.rx_lower_lifetimes.specs.Numbered as numbered
 

@@ -10,8 +10,8 @@ use Rattle.rx_typed.specs.declared.declarations.Decl.TheVariants as decl
 use Rattle.rx_typed.specs.Regions.{RegionTyp, region_integer, region_boolean, region_tuple, region_reference, region_named, regions_of, region-Ty}
 use Rattle.rx_typed.specs.Tree.{Temporary, Root, variable, temporary, Place, Constant, whole_number, truth, Making, constant, negation, inversion, operation, lazy, tuple, struct, variant_of}
 use Rattle.rx_lower_walks.specs.Actions.{Act, Read, Borrow, Call, Build, Input, Action, filled}
-use Rattle.rx_typed_places.specs.Renaming.{unit_region}
-use Rattle.rx_typed_places.specs.Places.{place_type}
+use Rattle.rx_typed.specs.Renaming.{unit_region}
+use Rattle.rx_typed.specs.Places.{place_type}
 
 -- how many lifetimes an item has
 abbrev pub lifetimes_of : Option Decl → ℕ

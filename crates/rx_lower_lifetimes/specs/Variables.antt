@@ -4,7 +4,7 @@ use Rattle.std.specs.Prelude.{ℕ, suc, ◌==◌, if◌then◌else◌, List, [],
 use Rattle.rx_core.specs.declared.types.Ty.{Ty}
 use Rattle.rx_typed.specs.Regions.{RegionTyp, region-Ty}
 use Rattle.rx_typed.specs.Tree.{Parameter}
-use Rattle.rx_typed_places.specs.Renaming.{unit_region}
+use Rattle.rx_typed.specs.Renaming.{unit_region}
 use Rattle.rx_lower_lifetimes.specs.Values.{Open}
 
 -- of a parameter

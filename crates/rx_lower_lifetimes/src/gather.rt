@@ -2,8 +2,8 @@
 //! is gone over twice.
 
 ghost use Rattle.std.specs.Prelude.{◌≡◌, ◌++◌, map, IfOk, OnOk, if◌then◌else◌};
-ghost use Rattle.rx_lower_flow.specs.Flows as flows;
-ghost use Rattle.rx_lower_flow.specs.PlainFlow.{plain-Flow, plain-Item};
+ghost use Rattle.rx_lower_walks.specs.Flows as flows;
+ghost use Rattle.rx_lower_walks.specs.PlainFlow.{plain-Flow, plain-Item};
 ghost use Rattle.rx_lower_lifetimes.specs.Held as acts;
 ghost use Rattle.rx_lower_lifetimes.specs.Leads as leads;
 ghost use Rattle.rx_lower_lifetimes.specs.PlainOf.{plain-Notes, known};
@@ -15,13 +15,13 @@ use crate::onward::{
     with_part, with_test, with_tried,
 };
 use rx_core::List;
-use rx_lower_flow::{Flow, Item};
+use rx_lower_walks::{Flow, Item};
 use rx_typed::Decls;
 use std::alloc::{AllocError, Global};
 
 /// Notes the actions of a flow, and adds the loops that it breaks. Where it leads.
 #[cycle(gather)]
-#[tactic(auto, using(rx_lower_flow::proofs::Rules::flow_rules, crate::proofs::Leading::none_broken))]
+#[tactic(auto, using(rx_lower_walks::proofs::Rules::flow_rules, crate::proofs::Leading::none_broken))]
 pub fn gather(
     alloc: Global,
     decls: &Decls,
@@ -119,7 +119,7 @@ fn gather_passes(
 
 /// Notes the actions of an item, and adds the loops that it breaks. Whether what follows is reached.
 #[cycle(gather)]
-#[tactic(auto, using(rx_lower_flow::proofs::Rules::flow_rules, crate::proofs::Leading::none_broken))]
+#[tactic(auto, using(rx_lower_walks::proofs::Rules::flow_rules, crate::proofs::Leading::none_broken))]
 fn gather_item(
     alloc: Global,
     decls: &Decls,

@@ -3,9 +3,9 @@
 ghost use Rattle.std.specs.Prelude.{◌≡◌, ◌≤◌, ◌<◌, ℕ, map, length, get_or, slice_get, Some, IfOk};
 ghost use Rattle.std.specs.Option.{option_copied};
 ghost use Rattle.rx_typed.specs.Regions.{region-Ty};
-ghost use Rattle.rx_lower_flow.specs.PlainFlow.{plain-Temporary, plain-Place};
-ghost use Rattle.rx_typed_places.specs.Renaming.{unit_region};
-ghost use Rattle.rx_typed_places.specs.Places.{place_type as place_type_of};
+ghost use Rattle.rx_lower_walks.specs.PlainFlow.{plain-Temporary, plain-Place};
+ghost use Rattle.rx_typed.specs.Renaming.{unit_region};
+ghost use Rattle.rx_typed.specs.Places.{place_type as place_type_of};
 ghost use Rattle.rx_lower_lifetimes.specs.declared.held.Held.{Held as HeldOf};
 ghost use Rattle.rx_lower_lifetimes.specs.Values as values;
 ghost use Rattle.rx_lower_lifetimes.specs.Finding.{place_of};
@@ -13,9 +13,8 @@ ghost use Rattle.rx_lower_lifetimes.specs.PlainOf.{plain-Open, plain-Held, known
 
 use crate::noted::{HasNode, Noted};
 use rx_core::{LetGo, List, Step, Ty};
-use rx_lower_flow::{Place, Root, Temporary};
-use rx_typed::Decls;
-use rx_typed_places::place_type;
+use rx_lower_walks::{Place, Root, Temporary};
+use rx_typed::{Decls, place_type};
 use std::alloc::{AllocError, Global};
 
 /// A type, in which each lifetime from a number on is open.

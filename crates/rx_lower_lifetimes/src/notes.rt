@@ -1,7 +1,7 @@
 //! What is noted of actions: the temporaries that they fill, and how many lifetimes they have of their own.
 
 ghost use Rattle.std.specs.Prelude.{◌≡◌, map, OnOk};
-ghost use Rattle.rx_lower_flow.specs.PlainFlow.{plain-Act, plain-Action};
+ghost use Rattle.rx_lower_walks.specs.PlainFlow.{plain-Act, plain-Action};
 ghost use Rattle.rx_lower_walks.specs.Actions as actions;
 ghost use Rattle.rx_lower_lifetimes.specs.Values as values;
 ghost use Rattle.rx_lower_lifetimes.specs.Held as acts;
@@ -10,7 +10,7 @@ ghost use Rattle.rx_lower_lifetimes.specs.PlainOf.{plain-Held, plain-Notes, know
 use crate::held::{Held, Open, find};
 use crate::noted::Noted;
 use crate::values::{filled, own_lifetimes, value_type};
-use rx_lower_flow::{Act, Action};
+use rx_lower_walks::{Act, Action};
 use rx_typed::Decls;
 use std::alloc::{AllocError, Global};
 

@@ -3,8 +3,8 @@
 ghost use Rattle.std.specs.Prelude.{◌≡◌, ◌+◌, ◌++◌, map, IfOk, OnOk};
 ghost use Rattle.rx_typed.specs.Regions.{region-Ty};
 ghost use Rattle.rx_lower_walks.specs.Text.{actions_of};
-ghost use Rattle.rx_lower_emit.specs.PlainSite.{plain-Site};
-ghost use Rattle.rx_lower_flow.specs.PlainFlow.{plain-Act};
+ghost use Rattle.rx_lower_walks.specs.PlainSite.{plain-Site};
+ghost use Rattle.rx_lower_walks.specs.PlainFlow.{plain-Act};
 ghost use Rattle.rx_lower_lifetimes.specs.Positions as positions;
 ghost use Rattle.rx_lower_lifetimes.specs.Numbered as spec;
 ghost use Rattle.rx_lower_lifetimes.specs.PlainOwn.{plain-Own};
@@ -13,10 +13,8 @@ ghost use Rattle.rx_lower_lifetimes.specs.PlainOf.{plain-Open, plain-Held};
 use crate::held::{Held, Open};
 use crate::values::own_lifetimes;
 use rx_core::{LetGo, List, Ty, keep, pushed};
-use rx_lower_emit::Site;
-use rx_lower_flow::Act;
-use rx_typed::Decls;
-use rx_typed_places::{Signature, call_signature, numbered};
+use rx_lower_walks::{Act, Site};
+use rx_typed::{Decls, Signature, call_signature, numbered};
 use std::alloc::{AllocError, Global};
 
 /// What a site has of its own: a borrow its region, a call its signature.

@@ -1,12 +1,12 @@
 //! Where the parts of a flow lead.
 
 ghost use Rattle.std.specs.Prelude.{◌≡◌, ◌++◌, IfOk, OnOk, true, false, if◌then◌else◌};
-ghost use Rattle.rx_lower_flow.specs.PlainFlow.{plain-Exit};
-ghost use Rattle.rx_lower_emit.specs.Sums.{has, without, breaks_of, exit_way};
+ghost use Rattle.rx_lower_walks.specs.PlainFlow.{plain-Exit};
+ghost use Rattle.rx_lower_walks.specs.Sums.{has, without, breaks_of, exit_way};
 ghost use Rattle.rx_lower_lifetimes.specs.Leads as leads;
 
 use rx_core::List;
-use rx_lower_flow::Exit;
+use rx_lower_walks::Exit;
 use std::alloc::AllocError;
 
 /// Where a part leads, besides out of loops and out of the function.

@@ -1,12 +1,12 @@
 //! How many lifetime positions a function has.
 
 ghost use Rattle.std.specs.Prelude.{◌≡◌, ◌+◌, map};
-ghost use Rattle.rx_typed_places.specs.Numbers.{capped};
+ghost use Rattle.rx_typed.specs.Numbers.{capped};
 ghost use Rattle.rx_lower_lifetimes.specs.Positions as spec;
 ghost use Rattle.rx_lower_lifetimes.specs.PlainOf.{plain-Open, plain-Held};
 
 use crate::held::{Held, Open};
-use rx_typed_places::count;
+use rx_typed::count;
 
 /// A number and the lifetimes in the types of variables, or the greatest number.
 pub fn count_variables(before: u64, variables: &[Open]) -> u64

@@ -5,7 +5,7 @@ ghost use Rattle.rx_typed.specs.Regions.{region-Ty, region_reference};
 ghost use Rattle.rx_typed.specs.Tree.{operation};
 ghost use Rattle.rx_typed.specs.PlainTree.{plain-Constant, plain-Making};
 ghost use Rattle.rx_lower_walks.specs.Actions as actions;
-ghost use Rattle.rx_lower_flow.specs.PlainFlow.{plain-Act, plain-Made, plain-Place, plain-Temporary};
+ghost use Rattle.rx_lower_walks.specs.PlainFlow.{plain-Act, plain-Made, plain-Place, plain-Temporary};
 ghost use Rattle.rx_lower_lifetimes.specs.Values as values;
 ghost use Rattle.rx_lower_lifetimes.specs.Positions as positions;
 ghost use Rattle.rx_lower_lifetimes.specs.PlainOf.{plain-Held, known};
@@ -13,10 +13,9 @@ ghost use Rattle.rx_lower_lifetimes.specs.PlainOf.{plain-Held, known};
 use crate::held::{Held, Open, from_temporary, type_in, unit};
 use crate::noted::Noted;
 use rx_core::{Kind, List, Ty, keep, pushed};
-use rx_lower_flow::{Act, Made, Place, Temporary};
+use rx_lower_walks::{Act, Made, Place, Temporary};
 use rx_tree::BinaryOp;
-use rx_typed::{Constant, Decl, Decls, Making};
-use rx_typed_places::{place_type, reference};
+use rx_typed::{Constant, Decl, Decls, Making, place_type, reference};
 use std::alloc::{AllocError, Global};
 
 /// How many lifetimes an item has.

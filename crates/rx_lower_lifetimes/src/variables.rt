@@ -9,8 +9,7 @@ ghost use Rattle.rx_lower_lifetimes.specs.PlainOf.{plain-Open, plain-Told};
 
 use crate::held::{Open, unit};
 use rx_core::{LetGo, List, Ty, keep, pushed};
-use rx_typed::{Decls, Param};
-use rx_typed_places::place_type;
+use rx_typed::{Decls, Param, place_type};
 use std::alloc::{AllocError, Global};
 
 /// What a `let` writes as the type of a variable. A lifetime that it leaves out has the number of the function's own.

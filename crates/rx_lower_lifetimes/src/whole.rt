@@ -1,14 +1,14 @@
 //! The graph of a function with its lifetimes.
 
 ghost use Rattle.std.specs.Prelude.{◌≡◌, ◌+◌, ◌++◌, [], map, slice_get, IfOk, Err};
-ghost use Rattle.rx_typed_places.specs.Numbers.{capped};
+ghost use Rattle.rx_typed.specs.Numbers.{capped};
 ghost use Rattle.rx_typed.specs.Regions.{region-Ty};
 ghost use Rattle.rx_typed.specs.PlainTree.{plain-TypedTree, plain-Param};
 ghost use Rattle.rx_lower_walks.specs.Orders.{order_function};
 ghost use Rattle.rx_lower_walks.specs.Text.{actions_of};
-ghost use Rattle.rx_lower_flow.specs.Flows.{order_of};
-ghost use Rattle.rx_lower_flow.specs.PlainFlow.{plain-Flow, plain-Temporary};
-ghost use Rattle.rx_lower_emit.specs.PlainSite.{plain-Site};
+ghost use Rattle.rx_lower_walks.specs.Flows.{order_of};
+ghost use Rattle.rx_lower_walks.specs.PlainFlow.{plain-Flow, plain-Temporary};
+ghost use Rattle.rx_lower_walks.specs.PlainSite.{plain-Site};
 ghost use Rattle.rx_lower_lifetimes.specs.Held as acts;
 ghost use Rattle.rx_lower_lifetimes.specs.Positions as positions;
 ghost use Rattle.rx_lower_lifetimes.specs.Numbered as numbers;
@@ -27,9 +27,8 @@ use crate::positions::{count_held, count_variables};
 use crate::values::{lifetimes_of, result_type};
 use crate::variables::{Told, open_types};
 use rx_core::{Bound, LetGo, List, Ty, keep};
-use rx_lower_emit::{GraphFault, Site, graph_within};
-use rx_lower_flow::{Flow, Temporary};
 use rx_lower_order::flow_of;
+use rx_lower_walks::{Flow, GraphFault, Site, Temporary, graph_within};
 use rx_typed::{Decl, Decls, Param, TypedTree};
 use std::alloc::{AllocError, Global};
 

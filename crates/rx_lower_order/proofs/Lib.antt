@@ -1,1 +1,4 @@
+pub mod Orders
+pub mod Listed
+pub mod Marks
 pub mod Turns

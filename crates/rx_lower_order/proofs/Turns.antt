@@ -12,15 +12,15 @@ use Rattle.rx_lower_walks.specs.Matching.{Binding, tests, bindings}
 use Rattle.rx_lower_walks.specs.Actions.{Subject}
 use Rattle.rx_lower_walks.specs.Orders as order
 use Rattle.rx_lower_walks.specs.Orders.{Order, order_all, order_arms, order_body, testing, binding}
-use Rattle.rx_lower_flow.specs.declared.flow.Flow.{Flow}
-use Rattle.rx_lower_flow.specs.declared.flow.Flow.TheVariants as form
-use Rattle.rx_lower_flow.specs.declared.flow.Item.{Item}
-use Rattle.rx_lower_flow.specs.Flows as flows
-use Rattle.rx_lower_flow.specs.Flows.{order_of}
-use Rattle.rx_lower_flow.specs.PlainFlow.{plain-Flow, plain-Item, flow_nothing, flow_nowhere}
-use Rattle.rx_lower_order_parts.specs.Items.{ordered, binding_items, test_items, parameter_items}
-use Rattle.rx_lower_order_parts.proofs.Orders.{ordered_more, tests_ordered, bindings_ordered, parameters_ordered}
-use Rattle.rx_lower_order_parts.proofs.Listed.{next_of}
+use Rattle.rx_lower_walks.specs.declared.flow.Flow.{Flow}
+use Rattle.rx_lower_walks.specs.declared.flow.Flow.TheVariants as form
+use Rattle.rx_lower_walks.specs.declared.flow.Item.{Item}
+use Rattle.rx_lower_walks.specs.Flows as flows
+use Rattle.rx_lower_walks.specs.Flows.{order_of}
+use Rattle.rx_lower_walks.specs.PlainFlow.{plain-Flow, plain-Item, flow_nothing, flow_nowhere}
+use Rattle.rx_lower_order.specs.Items.{ordered, binding_items, test_items, parameter_items}
+use Rattle.rx_lower_order.proofs.Orders.{ordered_more, tests_ordered, bindings_ordered, parameters_ordered}
+use Rattle.rx_lower_order.proofs.Listed.{next_of}
 
 -- what is so of a call's value
 pub of_value : {A : Type 0} (P : A → Type 0) (r : Result A AllocError) (a : A) → r ≡ Ok a → IfOk r P → P a

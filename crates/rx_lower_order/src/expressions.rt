@@ -7,14 +7,14 @@ ghost use Rattle.rx_lower_walks.specs.Matching as matching;
 ghost use Rattle.rx_lower_walks.specs.Actions as actions;
 ghost use Rattle.rx_lower_walks.specs.Actions.{at_mark};
 ghost use Rattle.rx_lower_walks.specs.Orders as order;
-ghost use Rattle.rx_lower_flow.specs.Flows.{order_of};
-ghost use Rattle.rx_lower_flow.specs.PlainFlow.{plain-Flow, plain-Temporary};
+ghost use Rattle.rx_lower_walks.specs.Flows.{order_of};
+ghost use Rattle.rx_lower_walks.specs.PlainFlow.{plain-Flow, plain-Temporary};
 
 use crate::forms::{expression, value};
+use crate::{sequence, temporary_of, then_flow, with_act};
 use rx_core::{Boxed, List, Place, keep};
-use rx_lower_flow::{Act, Flow, Temporary};
-use rx_lower_order_parts as parts;
-use rx_lower_order_parts::{sequence, temporary_of, then_flow, with_act};
+use rx_lower_order as parts;
+use rx_lower_walks::{Act, Flow, Temporary};
 use rx_tree::BinaryOp;
 use rx_typed::{Expr, Making, Mark, Operand};
 use std::alloc::{AllocError, Global};
@@ -176,7 +176,7 @@ fn operand_flow(alloc: Global, operand: &Operand) -> Result<Flow, AllocError>
 
 /// Operands from left to right.
 #[cycle(expression)]
-#[tactic(auto, using(rx_lower_order_parts::proofs::Orders::ordered_rules))]
+#[tactic(auto, using(crate::proofs::Orders::ordered_rules))]
 fn operand_flows(alloc: Global, operands: &[Operand]) -> Result<Flow, AllocError>
     ensures { IfOk result (λ it. order_of (plain-Flow it) ≡ order.order_all (operands_of (map plain-Operand operands.now))) }
 {

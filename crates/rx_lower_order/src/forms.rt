@@ -4,19 +4,19 @@ ghost use Rattle.std.specs.Prelude.{◌≡◌, IfOk};
 ghost use Rattle.rx_typed.specs.Tree as tree;
 ghost use Rattle.rx_typed.specs.PlainTree.{plain-Expr};
 ghost use Rattle.rx_lower_walks.specs.Orders as order;
-ghost use Rattle.rx_lower_flow.specs.Flows.{order_of};
-ghost use Rattle.rx_lower_flow.specs.PlainFlow.{plain-Flow, plain-Temporary};
+ghost use Rattle.rx_lower_walks.specs.Flows.{order_of};
+ghost use Rattle.rx_lower_walks.specs.PlainFlow.{plain-Flow, plain-Temporary};
 
 use crate::expressions::{assign, build, call, give, lazily, print, repeat, share, update};
 use crate::statements::{arm_flows, matched_items, statement_items, then_last};
-use rx_lower_flow::{Act, Flow, Temporary};
-use rx_lower_order_parts::{acts, borrow, jump, read, subject_of, temporary_of};
+use crate::{acts, borrow, jump, read, subject_of, temporary_of};
+use rx_lower_walks::{Act, Flow, Temporary};
 use rx_typed::{Expr, Form};
 use std::alloc::{AllocError, Global};
 
 /// The flow of an expression, whose value goes to this temporary.
 #[cycle(expression)]
-#[tactic(auto, using(rx_typed::proofs::Rules::typed_tree_rules, rx_lower_flow::proofs::Rules::flow_rules))]
+#[tactic(auto, using(rx_typed::proofs::Rules::typed_tree_rules, rx_lower_walks::proofs::Rules::flow_rules))]
 pub(crate) fn expression(alloc: Global, expr: &Expr, into: Temporary) -> Result<Flow, AllocError>
     ensures { IfOk result (λ it. order_of (plain-Flow it) ≡ order.order (plain-Expr expr.now) (plain-Temporary into)) }
 {

@@ -6,23 +6,21 @@ ghost use Rattle.rx_typed.specs.PlainTree.{plain-Arm, plain-Expr, plain-Mark, pl
 ghost use Rattle.rx_lower_walks.specs.Matching as matching;
 ghost use Rattle.rx_lower_walks.specs.Actions as actions;
 ghost use Rattle.rx_lower_walks.specs.Orders as order;
-ghost use Rattle.rx_lower_flow.specs.Flows.{order_of};
-ghost use Rattle.rx_lower_flow.specs.PlainFlow.{plain-Flow, plain-Item, plain-Temporary};
-ghost use Rattle.rx_lower_order_parts.specs.Items.{ordered};
-ghost use Rattle.rx_lower_order_parts.specs.PlainParts.{plain-Subject};
+ghost use Rattle.rx_lower_walks.specs.Flows.{order_of};
+ghost use Rattle.rx_lower_walks.specs.PlainFlow.{plain-Flow, plain-Item, plain-Temporary};
+ghost use Rattle.rx_lower_order.specs.Items.{ordered};
+ghost use Rattle.rx_lower_order.specs.PlainParts.{plain-Subject};
 
 use crate::forms::{expression, value};
+use crate::{Subject, bound, declared, node_of, sequence, subject_of, tested, then_flow, then_try};
 use rx_core::{Boxed, List, keep};
-use rx_lower_flow::{Flow, Item, Temporary};
-use rx_lower_order_parts::{
-    Subject, bound, declared, node_of, sequence, subject_of, tested, then_flow, then_try,
-};
+use rx_lower_walks::{Flow, Item, Temporary};
 use rx_typed::{Arm, Expr, Mark, Matched, Pattern, Stmt};
 use std::alloc::{AllocError, Global};
 
 /// What is matched: a value, or a place, which has no action.
 #[cycle(expression)]
-#[tactic(auto, using(rx_typed::proofs::Rules::typed_tree_rules, rx_lower_flow::proofs::Rules::flow_rules))]
+#[tactic(auto, using(rx_typed::proofs::Rules::typed_tree_rules, rx_lower_walks::proofs::Rules::flow_rules))]
 fn matched_flow(alloc: Global, matched: &Matched) -> Result<Flow, AllocError>
     ensures { IfOk result (λ it. order_of (plain-Flow it) ≡ order.order_scrutinee (plain-Matched matched.now)) }
 {
@@ -34,7 +32,7 @@ fn matched_flow(alloc: Global, matched: &Matched) -> Result<Flow, AllocError>
 
 /// The flow of an arm.
 #[cycle(expression)]
-#[tactic(auto, using(rx_lower_order_parts::proofs::Orders::ordered_rules))]
+#[tactic(auto, using(crate::proofs::Orders::ordered_rules))]
 fn arm_flow(
     alloc: Global,
     arm: &Arm,
@@ -53,7 +51,7 @@ fn arm_flow(
 
 /// What is matched, as the first item.
 #[cycle(expression)]
-#[tactic(auto, using(rx_lower_order_parts::proofs::Orders::ordered_rules))]
+#[tactic(auto, using(crate::proofs::Orders::ordered_rules))]
 pub(crate) fn matched_items(alloc: Global, matched: &Matched) -> Result<List<Item>, AllocError>
     ensures { IfOk result (λ it. (s : order.Order) → ordered (map plain-Item it) s ≡ order.then (order.order_scrutinee (plain-Matched matched.now)) s) }
 {
@@ -63,7 +61,7 @@ pub(crate) fn matched_items(alloc: Global, matched: &Matched) -> Result<List<Ite
 
 /// The items, and the arms behind them.
 #[cycle(expression)]
-#[tactic(auto, using(rx_lower_order_parts::proofs::Orders::ordered_rules))]
+#[tactic(auto, using(crate::proofs::Orders::ordered_rules))]
 pub(crate) fn arm_flows(
     alloc: Global,
     arms: &[Arm],
@@ -100,7 +98,7 @@ fn with_statement(
 }
 
 #[cycle(expression)]
-#[tactic(auto, using(rx_lower_order_parts::proofs::Orders::ordered_rules))]
+#[tactic(auto, using(crate::proofs::Orders::ordered_rules))]
 fn runs(
     alloc: Global,
     expr: &Expr,
@@ -113,7 +111,7 @@ fn runs(
     then_flow(items, flow)
 }
 
-#[tactic(auto, using(rx_lower_order_parts::proofs::Orders::ordered_rules))]
+#[tactic(auto, using(crate::proofs::Orders::ordered_rules))]
 fn declares(
     items: List<Item>,
     at: usize,
@@ -126,7 +124,7 @@ fn declares(
 }
 
 #[cycle(expression)]
-#[tactic(auto, using(rx_lower_order_parts::proofs::Orders::ordered_rules))]
+#[tactic(auto, using(crate::proofs::Orders::ordered_rules))]
 fn lets(
     alloc: Global,
     matched: &Matched,

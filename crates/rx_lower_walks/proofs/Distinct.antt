@@ -11,7 +11,7 @@ use Rattle.rx_typed.specs.Tree as tree
 use Rattle.rx_typed.specs.Tree.{Root, variable, temporary, Place, Temporary, Constant, truth, Mode, by_value, by_reference, Pattern, Mark, Exp, Operands, Scrutinee, Making, mark_of, temporary_of, temporary_at}
 use Rattle.rx_typed.specs.Elaborated as elaborated
 use Rattle.rx_typed.specs.Elaborated.{Assigned, Coercion, Met, place, mark, mark_if, no_mark, pattern, subpatterns, field_patterns, behind_all, has_several, value, body, tail, nested, statement, arms, operands, fields, parameters, variables, variables_in, variables_in_fields}
-use Rattle.rx_typed.specs.Numbers.{AreFrom, type_nodes, optional_nodes, pattern_nodes, exp_nodes, exps_nodes, else_nodes, fields_nodes, arms_nodes, body_nodes, statement_nodes, statements_nodes, parameters_nodes, nodes, exp_variables, exps_variables, else_variables, fields_variables, arms_variables, body_variables, statements_variables, parameters_variables, declared}
+use Rattle.rx_typed.specs.TypedNumbers.{AreFrom, type_nodes, optional_nodes, pattern_nodes, exp_nodes, exps_nodes, else_nodes, fields_nodes, arms_nodes, body_nodes, statement_nodes, statements_nodes, parameters_nodes, nodes, exp_variables, exps_variables, else_variables, fields_variables, arms_variables, body_variables, statements_variables, parameters_variables, declared}
 use Rattle.rx_lower_walks.specs.Matching.{PartTest, Binding, tag_test, tests, tests_in, bindings, bindings_in}
 use Rattle.rx_lower_walks.specs.Actions.{Declare, Dead, Read, Write, Test, Build, Input, Print, Subject, in_temporary, subject, part}
 use Rattle.rx_lower_walks.specs.Orders.{Order, perhaps, testing, binding, declaring, order_all, order_scrutinee, order_arms, order_body, argument, written_parameter, beginning, order_function}

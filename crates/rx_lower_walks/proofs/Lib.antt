@@ -1,4 +1,4 @@
-pub mod Fronts
+pub mod WalksFronts
 pub mod Held
 pub mod Short
 pub mod Programs
@@ -28,3 +28,15 @@ pub mod Weights
 pub mod Forms
 pub mod Distinct
 pub mod Examples
+pub mod Rules
+pub mod Fronts
+pub mod Standing
+pub mod Agrees
+pub mod Same
+pub mod Lists
+pub mod Rows
+pub mod Alike
+pub mod Depths
+pub mod Closing
+pub mod Emitting
+pub mod Graphs

@@ -5,3 +5,11 @@ pub mod Walks
 pub mod Graph
 pub mod Pieces
 pub mod Text
+pub mod Flows
+pub mod PlainFlow
+pub mod Around
+pub mod Sums
+pub mod Rows
+pub mod PlainSite
+pub mod Emitted
+pub mod Refusal

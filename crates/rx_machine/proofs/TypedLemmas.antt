@@ -17,8 +17,8 @@ use Rattle.rx_typed.specs.Naming.{function_named}
 use Rattle.rx_typed.specs.Elaborated.{Assigned, elaborated}
 use Rattle.rx_typed_declarations.specs.Variance.{unrecorded}
 use Rattle.rx_meaning.specs.Programs.{functions_in, main_in}
-use Rattle.rx_typeck_declare.specs.Steps.{Outcome, on_ok}
-use Rattle.rx_typeck_declare.specs.Items.{begins, fields_of, variants_of, derives_copy, all_used, bounded, bounds_of, entry_of, parameters_of, answer_of, declared_struct, declared_enum, declared_function, declared_item, entries_of, declared_items}
+use Rattle.rx_typeck_typed.specs.Steps.{Outcome, on_ok}
+use Rattle.rx_typeck_typed.specs.Items.{begins, fields_of, variants_of, derives_copy, all_used, bounded, bounds_of, entry_of, parameters_of, answer_of, declared_struct, declared_enum, declared_function, declared_item, entries_of, declared_items}
 use Rattle.rx_typeck_typed.specs.declared.typed.TypedFn.{TypedFn}
 use Rattle.rx_typeck_typed.specs.declared.typed.Typed.{Typed}
 use Rattle.rx_typeck_typed.specs.Typing.{Given, known_in, assigned, FunctionsTyped, IsTyped}

@@ -9,7 +9,7 @@ use Rattle.rx_typed.specs.Naming.{function_named}
 use Rattle.rx_typed.specs.Elaborated.{Assigned}
 use Rattle.rx_typeck_solver.specs.Facts.{Types}
 use Rattle.rx_typeck_solver.specs.Valid.{Valid}
-use Rattle.rx_typeck_rules.specs.Demands.{task}
+use Rattle.rx_typeck_typed.specs.Demands.{task}
 use Rattle.rx_meaning.specs.Programs.{Program, typed_program}
 use Rattle.rx_typeck_typed.specs.Typing.{Given, known_in, assigned, entries}
 

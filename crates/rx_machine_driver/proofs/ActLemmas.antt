@@ -27,8 +27,8 @@ use Rattle.rx_machine_actions.specs.PlainActs.{found_from, Wrote, Printed}
 use Rattle.rx_machine_frames.specs.Frames as frames
 use Rattle.rx_machine_frames.specs.Frames.{Around}
 use Rattle.rx_machine_frames.specs.Stepping.{done, decided_by, modified, or_wrong}
-use Rattle.rx_machine_steps.specs.declared.next.Next.{Next}
-use Rattle.rx_machine_steps.specs.PlainSteps.{plain-Next}
+use Rattle.rx_machine_driver.specs.declared.next.Next.{Next}
+use Rattle.rx_machine_driver.specs.PlainSteps.{plain-Next}
 use Rattle.rx_machine_driver.specs.declared.data.Machine.{Machine}
 use Rattle.rx_machine_driver.specs.declared.data.Turn.{Turn}
 use Rattle.rx_machine_driver.specs.declared.data.Step.{Step}

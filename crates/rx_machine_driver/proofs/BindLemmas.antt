@@ -24,9 +24,9 @@ use Rattle.rx_meaning.specs.declared.outcome.End.{End}
 use Rattle.rx_machine_frames.specs.Frames as frames
 use Rattle.rx_machine_frames.specs.Frames.{Around}
 use Rattle.rx_machine_frames.specs.Stepping.{goes, config, or_wrong}
-use Rattle.rx_machine_steps.specs.declared.next.Next.{Next}
-use Rattle.rx_machine_steps.specs.declared.next.Subject.{Subject}
-use Rattle.rx_machine_steps.specs.PlainSteps.{plain-Subject, held_of, plain-Next, arms_in}
+use Rattle.rx_machine_driver.specs.declared.next.Next.{Next}
+use Rattle.rx_machine_driver.specs.declared.next.Subject.{Subject}
+use Rattle.rx_machine_driver.specs.PlainSteps.{plain-Subject, held_of, plain-Next, arms_in}
 use Rattle.rx_machine_driver.specs.declared.slots.Slots.{Slots}
 use Rattle.rx_machine_driver.specs.declared.data.Machine.{Machine}
 use Rattle.rx_machine_driver.specs.declared.data.Step.{Step}

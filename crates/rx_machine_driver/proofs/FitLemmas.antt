@@ -5,7 +5,7 @@ use Rattle.rx_machine_values.specs.PlainMemory.{plain-Memory}
 use Rattle.rx_machine_frames.specs.Frames.{Around, hole, pass, call_from}
 use Rattle.rx_machine_frames.specs.Sizes.{around_size, sizes}
 use Rattle.rx_typed.specs.PlainTree.{plain-Mark, plain-Expr}
-use Rattle.rx_machine_steps.specs.PlainSteps.{plain-Hole}
+use Rattle.rx_machine_driver.specs.PlainSteps.{plain-Hole}
 use Rattle.rx_machine_driver.specs.declared.data.Frame.{Frame}
 use Rattle.rx_machine_driver.specs.declared.data.Frame.TheVariants as frame
 use Rattle.rx_machine_driver.specs.declared.data.Machine.{Machine}

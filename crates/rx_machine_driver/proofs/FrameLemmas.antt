@@ -16,9 +16,9 @@ use Rattle.rx_machine_frames.specs.Frames as frames
 use Rattle.rx_machine_frames.specs.Frames.{Around, hole, pass, call_from}
 use Rattle.rx_machine_frames.specs.Choosing.{fill_all}
 use Rattle.rx_machine_frames.specs.Stepping.{Led, goes, step, config, behind_pass, entered, called, with_turn, or_wrong}
-use Rattle.rx_machine_steps.specs.declared.next.Next.{Next}
-use Rattle.rx_machine_steps.specs.declared.next.Hole.{Hole}
-use Rattle.rx_machine_steps.specs.PlainSteps.{plain-Hole, plain-Next}
+use Rattle.rx_machine_driver.specs.declared.next.Next.{Next}
+use Rattle.rx_machine_driver.specs.declared.next.Hole.{Hole}
+use Rattle.rx_machine_driver.specs.PlainSteps.{plain-Hole, plain-Next}
 use Rattle.rx_machine_driver.specs.declared.slots.Slots.{Slots}
 use Rattle.rx_machine_driver.specs.declared.data.Frame.{Frame}
 use Rattle.rx_machine_driver.specs.declared.data.Frame.TheVariants as frame

@@ -1,3 +1,5 @@
+pub mod StepRules
+pub mod Marks
 pub mod SlotLemmas
 pub mod FitLemmas
 pub mod ActLemmas

@@ -18,9 +18,9 @@ use Rattle.rx_machine_actions.specs.Matching as matching
 use Rattle.rx_machine_actions.specs.Matching.{deeper}
 use Rattle.rx_machine_frames.specs.Choosing.{both, holds, all_hold, if_holds, first_arm, takes}
 use Rattle.rx_machine_frames.specs.Frames.{Around}
-use Rattle.rx_machine_steps.specs.declared.next.Subject.{Subject}
-use Rattle.rx_machine_steps.specs.declared.next.Subject.TheVariants as subject
-use Rattle.rx_machine_steps.specs.PlainSteps.{plain-Subject, held_of}
+use Rattle.rx_machine_driver.specs.declared.next.Subject.{Subject}
+use Rattle.rx_machine_driver.specs.declared.next.Subject.TheVariants as subject
+use Rattle.rx_machine_driver.specs.PlainSteps.{plain-Subject, held_of}
 use Rattle.rx_machine_driver.specs.declared.data.Machine.{Machine}
 use Rattle.rx_machine_direct.specs.Direct.{recorded}
 use Rattle.rx_machine_driver.specs.Fitting.{Fits}

@@ -22,9 +22,9 @@ use Rattle.rx_machine_frames.proofs.StepLemmas.{step_keeps, step_less, turn_keep
 use Rattle.rx_machine_direct.specs.Reaching.{Reach, into, statements, gave, Shows, reached, reach_size}
 use Rattle.rx_machine_direct.specs.declared.reaching.Reached.{Reached}
 use Rattle.rx_machine_direct.specs.PlainReached.{plain-Reached}
-use Rattle.rx_machine_steps.specs.declared.next.Next.{Next}
-use Rattle.rx_machine_steps.specs.declared.next.Hole.{Hole}
-use Rattle.rx_machine_steps.specs.PlainSteps.{plain-Hole, plain-Next}
+use Rattle.rx_machine_driver.specs.declared.next.Next.{Next}
+use Rattle.rx_machine_driver.specs.declared.next.Hole.{Hole}
+use Rattle.rx_machine_driver.specs.PlainSteps.{plain-Hole, plain-Next}
 use Rattle.rx_machine_driver.specs.declared.data.Frame.{Frame}
 use Rattle.rx_machine_driver.specs.declared.data.Frame.TheVariants as frame
 use Rattle.rx_machine_driver.specs.declared.data.Machine.{Machine}

@@ -17,8 +17,8 @@ use Rattle.rx_machine_frames.specs.Sizes.{next_size, sizes}
 use Rattle.rx_machine_frames.specs.Laws.{Keeps, Lessens}
 use Rattle.rx_meaning.proofs.Sequences.{after_after, after_nothing}
 use Rattle.rx_machine_frames.proofs.StepLemmas.{turn_keeps, run_begins}
-use Rattle.rx_machine_steps.specs.declared.next.Next.{Next}
-use Rattle.rx_machine_steps.specs.PlainSteps.{plain-Next}
+use Rattle.rx_machine_driver.specs.declared.next.Next.{Next}
+use Rattle.rx_machine_driver.specs.PlainSteps.{plain-Next}
 use Rattle.rx_machine_driver.specs.declared.data.Machine.{Machine}
 use Rattle.rx_machine_driver.specs.declared.data.Step.{Step}
 use Rattle.rx_machine_driver.specs.declared.data.Step.TheVariants as step_to

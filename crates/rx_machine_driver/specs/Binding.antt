@@ -15,9 +15,9 @@ use Rattle.rx_machine_values.specs.PlainMemory.{plain-Memory}
 use Rattle.rx_machine_actions.specs.Matching as matching
 use Rattle.rx_machine_frames.specs.Choosing.{if_holds, bind_all}
 use Rattle.rx_machine_frames.specs.Frames as frames
-use Rattle.rx_machine_steps.specs.declared.next.Subject.{Subject}
-use Rattle.rx_machine_steps.specs.declared.next.Subject.TheVariants as subject
-use Rattle.rx_machine_steps.specs.PlainSteps.{plain-Subject, held_of, plain-Next}
+use Rattle.rx_machine_driver.specs.declared.next.Subject.{Subject}
+use Rattle.rx_machine_driver.specs.declared.next.Subject.TheVariants as subject
+use Rattle.rx_machine_driver.specs.PlainSteps.{plain-Subject, held_of, plain-Next}
 use Rattle.rx_machine_driver.specs.declared.data.Machine.{Machine}
 use Rattle.rx_machine_driver.specs.declared.data.Step.{Step}
 use Rattle.rx_machine_driver.specs.declared.data.Step.TheVariants as step_to

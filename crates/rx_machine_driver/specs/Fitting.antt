@@ -10,7 +10,7 @@ use Rattle.rx_machine_direct.specs.Direct.{recorded}
 use Rattle.rx_machine_values.specs.PlainMemory.{plain-Memory}
 use Rattle.rx_machine_frames.specs.Frames as frames
 use Rattle.rx_machine_frames.specs.Frames.{Around}
-use Rattle.rx_machine_steps.specs.PlainSteps.{plain-Hole}
+use Rattle.rx_machine_driver.specs.PlainSteps.{plain-Hole}
 use Rattle.rx_machine_driver.specs.declared.slots.Slots.{Slots}
 use Rattle.rx_machine_driver.specs.declared.data.Frame.{Frame}
 use Rattle.rx_machine_driver.specs.declared.data.Frame.TheVariants as frame

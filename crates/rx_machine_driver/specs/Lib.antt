@@ -1,3 +1,4 @@
+pub mod PlainSteps
 pub mod Fitting
 pub mod Running
 pub mod Binding

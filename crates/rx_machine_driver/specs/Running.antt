@@ -28,7 +28,7 @@ use Rattle.rx_machine_frames.specs.Stepping.{Led, step, config, means, behind_pa
 use Rattle.rx_machine_frames.specs.Sizes.{hole_size, next_size}
 use Rattle.rx_machine_frames.specs.Laws.{Keeps, Lessens}
 use Rattle.rx_machine_direct.specs.Reaching.{Reach, reached, reach_size, Comes}
-use Rattle.rx_machine_steps.specs.PlainSteps.{plain-Hole, plain-Next}
+use Rattle.rx_machine_driver.specs.PlainSteps.{plain-Hole, plain-Next}
 use Rattle.rx_machine_driver.specs.declared.slots.Slots.{Slots}
 use Rattle.rx_machine_driver.specs.declared.data.Frame.{Frame}
 use Rattle.rx_machine_driver.specs.declared.data.Frame.TheVariants as frame

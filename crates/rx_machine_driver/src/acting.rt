@@ -7,16 +7,16 @@ ghost use Rattle.rx_meaning.specs.Values as plain;
 ghost use Rattle.rx_machine_values.specs.PlainNumber.{plain-Number};
 ghost use Rattle.rx_machine_values.specs.PlainValues.{plain-Value};
 ghost use Rattle.rx_machine_actions.specs.PlainActs.{plain-Made};
-ghost use Rattle.rx_machine_steps.specs.PlainSteps.{plain-Next};
-ghost use Rattle.rx_machine_steps.specs.declared.next.Next.TheVariants as next;
-ghost use Rattle.rx_machine_steps.specs.declared.next.Work.TheVariants.{Makes as MakesWork};
+ghost use Rattle.rx_machine_driver.specs.PlainSteps.{plain-Next};
+ghost use Rattle.rx_machine_driver.specs.declared.next.Next.TheVariants as next;
+ghost use Rattle.rx_machine_driver.specs.declared.next.Work.TheVariants.{Makes as MakesWork};
 ghost use Rattle.rx_machine_driver.specs.Running.{IsMade, IsDone, IsDecided, IsWrittenBack, IsModified, Leads};
 
 use crate::data::{Machine, Step};
 use crate::places::given;
+use crate::{Hole, Next};
 use rx_core::{Kind, LetGo, List, Place, keep};
 use rx_machine_actions::{Made, equals_truth, made, operated, print, share, write};
-use rx_machine_steps::{Hole, Next};
 use rx_machine_values::{Number, Value};
 use rx_meaning::End;
 use rx_tree::BinaryOp;
@@ -35,7 +35,7 @@ fn of_made<'a>(made: Made) -> Step<'a>
 }
 
 /// The unit comes next where a write was done.
-#[tactic(auto, using(rx_machine_steps::proofs::StepRules::unit_is))]
+#[tactic(auto, using(crate::proofs::StepRules::unit_is))]
 fn of_write<'a>(done: bool) -> Step<'a>
     ensures { IsDone done result }
 {

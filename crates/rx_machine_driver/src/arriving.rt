@@ -6,19 +6,19 @@ ghost use Rattle.rx_meaning.specs.Values.{Value as ValueOf};
 ghost use Rattle.rx_machine_values.specs.PlainValues.{plain-Value};
 ghost use Rattle.rx_machine_direct.specs.Reaching.{gave};
 ghost use Rattle.rx_machine_direct.specs.PlainReached.{plain-Reached};
-ghost use Rattle.rx_machine_steps.specs.PlainSteps.{plain-Next};
-ghost use Rattle.rx_machine_steps.specs.declared.next.Next.TheVariants as next;
+ghost use Rattle.rx_machine_driver.specs.PlainSteps.{plain-Next};
+ghost use Rattle.rx_machine_driver.specs.declared.next.Next.TheVariants as next;
 ghost use Rattle.rx_machine_driver.specs.Running.{Arrives, Begins, Reaches};
 
 use crate::data::{Frame, Machine, Step};
+use crate::{Hole, Next, filled, opened, opened_body};
 use rx_machine_direct::{Reached, reach};
-use rx_machine_steps::{Hole, Next, filled, opened, opened_body};
 use rx_machine_values::Value;
 use rx_typed::Expr;
 use std::alloc::{AllocError, Global};
 
 /// The value that was given; none only where something is left.
-#[tactic(auto, using(rx_machine_steps::proofs::StepRules::unit_is))]
+#[tactic(auto, using(crate::proofs::StepRules::unit_is))]
 pub fn given_value<'a>(reached: Reached<'a>) -> Option<Value>
     ensures some { IfSome result (λ v. plain-Reached reached.entry ≡ gave (plain-Value v)) }
     ensures none { IfNone result ((v : ValueOf) → plain-Reached reached.entry ≡ gave v → ⊥) }

@@ -11,15 +11,15 @@ ghost use Rattle.rx_machine_values.specs.PlainValues.{plain-Value, plain-Part};
 ghost use Rattle.rx_machine_values.specs.PlainMemory.{plain-Memory};
 ghost use Rattle.rx_machine_frames.specs.Choosing.{with_value, bind_all, declare_all, fill_all};
 ghost use Rattle.rx_machine_frames.specs.Frames as frames;
-ghost use Rattle.rx_machine_steps.specs.PlainSteps.{plain-Subject, held_of, plain-Next, arms_in};
-ghost use Rattle.rx_machine_steps.specs.declared.next.Next.TheVariants as next;
+ghost use Rattle.rx_machine_driver.specs.PlainSteps.{plain-Subject, held_of, plain-Next, arms_in};
+ghost use Rattle.rx_machine_driver.specs.declared.next.Next.TheVariants as next;
 ghost use Rattle.rx_machine_driver.specs.Binding.{taken_of, seen_at, arm_of, TakesArm, NoneLeft};
 ghost use Rattle.rx_machine_driver.specs.Running.{Through, Changes, Leads};
 
 use crate::data::{Machine, Step};
+use crate::{Next, Subject};
 use rx_core::{LetGo, List, Step as PlaceStep, keep};
 use rx_machine_actions::{Spot, at_place, borrow, holds};
-use rx_machine_steps::{Next, Subject};
 use rx_machine_values::{Lack, Memory, Part, Value, at_path, copied_part};
 use rx_meaning::End;
 use rx_typed::{Arm, Expr, Mode, Param, Pattern, Stmt, Subpattern};

@@ -1,8 +1,8 @@
 //! The machine's data.
 
 use crate::slots::Slots;
+use crate::{Hole, Next};
 use rx_core::{LetGo, List, Text};
-use rx_machine_steps::{Hole, Next};
 use rx_machine_values::{Memory, Value};
 use rx_meaning::End;
 use rx_typed::{Expr, Mark};

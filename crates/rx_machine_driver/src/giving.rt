@@ -3,15 +3,15 @@
 ghost use Rattle.std.specs.Prelude.{◌≡◌, IfOk};
 ghost use Rattle.rx_typed.specs.PlainTree.{plain-Mark, plain-Expr};
 ghost use Rattle.rx_machine_values.specs.PlainValues.{plain-Value};
-ghost use Rattle.rx_machine_steps.specs.declared.next.Next.TheVariants as next;
+ghost use Rattle.rx_machine_driver.specs.declared.next.Next.TheVariants as next;
 ghost use Rattle.rx_machine_frames.specs.Stepping.{behind_pass};
-ghost use Rattle.rx_machine_steps.specs.PlainSteps.{plain-Exit, plain-Next};
+ghost use Rattle.rx_machine_driver.specs.PlainSteps.{plain-Exit, plain-Next};
 ghost use Rattle.rx_machine_driver.specs.Running.{GivesTo, LeavesCall, LeavesFrame, Leads};
 
 use crate::data::{Frame, Machine, Step};
 use crate::slots::Slots;
+use crate::{Exit, Next, filled};
 use rx_core::LetGo;
-use rx_machine_steps::{Exit, Next, filled};
 use rx_machine_values::Value;
 use rx_meaning::End;
 use rx_typed::{Expr, Mark};
@@ -40,7 +40,7 @@ fn give_to<'a>(frame: Frame<'a>, value: Value) -> Result<Step<'a>, AllocError>
 }
 
 /// A jump leaves a pass of a loop: it ends the loop, or the pass alone, or it goes further out.
-#[tactic(auto, using(rx_machine_steps::proofs::StepRules::unit_is))]
+#[tactic(auto, using(crate::proofs::StepRules::unit_is))]
 fn leave_pass<'a>(mark: &'a Mark, number: u32, body: &'a Expr, exit: Exit, value: Value) -> Next<'a>
     ensures { plain-Next result ≡ behind_pass (plain-Mark mark.entry.now) number (plain-Expr body.entry.now) (plain-Exit exit) (plain-Value value) }
 {

@@ -6,10 +6,10 @@ ghost use Rattle.rx_meaning.specs.Places.{in_slot, whole_value, reference_to};
 ghost use Rattle.rx_machine_values.specs.PlainValues.{plain-Value};
 ghost use Rattle.rx_machine_driver.specs.Running.{spot_at, found_at, IsGiven};
 
+use crate::Next;
 use crate::data::{Machine, Step};
 use rx_core::{List, Step as PlaceStep};
 use rx_machine_actions::{Spot, borrow, read};
-use rx_machine_steps::Next;
 use rx_machine_values::Value;
 use rx_meaning::End;
 use std::alloc::{AllocError, Global};

@@ -3,13 +3,13 @@
 ghost use Rattle.std.specs.Prelude.{◌≡◌, ◌<◌, ℕ, IfOk};
 ghost use Rattle.rx_meaning.specs.Expressions.{Functions};
 ghost use Rattle.rx_meaning.specs.declared.outcome.Outcome.{Outcome as OutcomeOf};
-ghost use Rattle.rx_machine_steps.specs.PlainSteps.{plain-Next};
-ghost use Rattle.rx_machine_steps.specs.declared.next.Next.TheVariants as next;
+ghost use Rattle.rx_machine_driver.specs.PlainSteps.{plain-Next};
+ghost use Rattle.rx_machine_driver.specs.declared.next.Next.TheVariants as next;
 ghost use Rattle.rx_machine_driver.specs.Running.{Leads, Reaches, Stands, Pauses};
 
 use crate::data::{Frame, Machine, Paused, Step, Turn};
+use crate::{Hole, Next, Work, opened, opened_body};
 use rx_core::{LetGo, List};
-use rx_machine_steps::{Hole, Next, Work, opened, opened_body};
 use rx_machine_values::Value;
 use rx_typed::Expr;
 use std::alloc::{AllocError, Global};

@@ -10,11 +10,11 @@ ghost use Rattle.rx_machine_values.specs.PlainValues.{plain-Value};
 ghost use Rattle.rx_machine_driver.specs.Fitting.{functions_of, plain-Turn};
 ghost use Rattle.rx_machine_driver.specs.Running.{IsFunction, Enters, Turns, Stands, Pauses, IsCutOff};
 
+use crate::Next;
 use crate::arriving::{begun, given_value};
 use crate::data::{Frame, Machine, Paused, Step, Turn};
 use crate::slots::Slots;
 use rx_core::{LetGo, List};
-use rx_machine_steps::Next;
 use rx_machine_values::Value;
 use rx_meaning::End;
 use rx_typed::{Expr, Mark, TypedTree};

@@ -21,9 +21,9 @@ use Rattle.rx_typed.specs.PlainTypes.{declarations}
 use Rattle.rx_typed.specs.Named as named
 use Rattle.rx_typed.specs.Naming as numbering
 use Rattle.rx_typed.specs.Naming.{Cursor, function_named, has_entry, entry_if}
-use Rattle.rx_typeck_declare.specs.Items.{declared_items}
+use Rattle.rx_typeck_typed.specs.Items.{declared_items}
 use Rattle.rx_typeck_typed.specs.Typing.{entries}
-use Rattle.rx_hoist_words.proofs.Programs.{table_at}
+use Rattle.rx_hoist_naming.proofs.Programs.{table_at}
 use Rattle.rx_engine_typing.specs.Scoped.{parameter_variables}
 use Rattle.rx_engine_typing.proofs.Steps.{Counts, named_ok, Takes, Few, Part, in_turn4}
 use Rattle.rx_engine_typing.proofs.ScopedPatterns.{optional_type_taken, from_number}

@@ -4,7 +4,7 @@ use Rattle.rx_tree.specs.Lists.{Every}
 use Rattle.rx_typed.specs.declared.nodes.Site.{Site}
 use Rattle.rx_typed.specs.Types.{Typ, unit_shape, parameters_declared, result_declared}
 use Rattle.rx_typed.specs.Named.{Parameter, Function, written_node, body_node}
-use Rattle.rx_typed.specs.Numbers.{AreFrom, nodes, type_nodes, optional_nodes}
+use Rattle.rx_typed.specs.TypedNumbers.{AreFrom, nodes, type_nodes, optional_nodes}
 use Rattle.rx_typed.specs.Elaborated as elaborated
 use Rattle.rx_typed.specs.Tree as tree
 use Rattle.rx_typed.specs.Tree.{Temporary, mark_of, temporary_of, temporary_at}
@@ -14,19 +14,19 @@ use Rattle.rx_lower_walks.specs.Orders.{Order, order_function, beginning, argume
 use Rattle.rx_lower_walks.specs.Walks.{IsWalk}
 use Rattle.rx_typeck_solver.specs.declared.facts.Subject.TheVariants as subject
 use Rattle.rx_typeck_solver.specs.Facts.{MeetsEach, Types, Known}
-use Rattle.rx_typeck_rules.specs.Asking.{Asking}
-use Rattle.rx_typeck_rules.specs.Demands as rules
+use Rattle.rx_typeck_typed.specs.Asking.{Asking}
+use Rattle.rx_typeck_typed.specs.Demands as rules
 use Rattle.rx_meaning_typed.specs.TypedActs.{Typing, ActsTyped}
 use Rattle.rx_meaning_typed.specs.TypedFunctions.{UnitsTyped, RightsTyped}
-use Rattle.rx_repair_renaming.specs.TemporaryTypes as given_types
-use Rattle.rx_repair_renaming.specs.TemporaryTypes.{Entry, silent, temporary_types}
-use Rattle.rx_repair_renaming.proofs.Sites.{BodySited}
-use Rattle.rx_repair_renaming.proofs.Entries.{Found, all_found}
-use Rattle.rx_repair_renaming.proofs.Asking.{Asks, asks_map, both, then_first, then_second, result_u, never_given_u}
-use Rattle.rx_repair_renaming.proofs.Pieces.{T, wished}
-use Rattle.rx_repair_renaming.proofs.Patterns.{every_front, every_behind}
-use Rattle.rx_repair_renaming.proofs.Writing.{written_typ, Taken, parameters_given, AgreeAs}
-use Rattle.rx_repair_renaming.proofs.Acting.{body_site}
+use Rattle.rx_repair.specs.TemporaryTypes as given_types
+use Rattle.rx_repair.specs.TemporaryTypes.{Entry, silent, temporary_types}
+use Rattle.rx_repair.proofs.Sites.{BodySited}
+use Rattle.rx_repair.proofs.Entries.{Found, all_found}
+use Rattle.rx_repair.proofs.Asking.{Asks, asks_map, both, then_first, then_second, result_u, never_given_u}
+use Rattle.rx_repair.proofs.Pieces.{T, wished}
+use Rattle.rx_repair.proofs.Patterns.{every_front, every_behind}
+use Rattle.rx_repair.proofs.Writing.{written_typ, Taken, parameters_given, AgreeAs}
+use Rattle.rx_repair.proofs.Acting.{body_site}
 use Rattle.rx_meaning_accepted.specs.Fitting.{FunctionFits}
 use Rattle.rx_meaning_accepted.specs.Typings.{result_or, typing_of}
 use Rattle.rx_meaning_accepted.proofs.Walking.{of_walk}

@@ -12,16 +12,16 @@ use Rattle.rx_typed.specs.Naming.{function_named}
 use Rattle.rx_typed.specs.Tree.{Function}
 use Rattle.rx_typed.specs.PlainTree.{plain-TypedTree}
 use Rattle.rx_lower_walks.specs.Walks.{Among, here, there}
-use Rattle.rx_typeck_declare.specs.Steps as steps
-use Rattle.rx_typeck_declare.specs.Items.{declared_item, declared_items, entries_of}
+use Rattle.rx_typeck_typed.specs.Steps as steps
+use Rattle.rx_typeck_typed.specs.Items.{declared_item, declared_items, entries_of}
 use Rattle.rx_typeck_typed.specs.declared.typed.TypedFn.{TypedFn}
 use Rattle.rx_typeck_typed.specs.Typing.{Given, entries, variables_at, FunctionTyped, FunctionsTyped}
 use Rattle.rx_machine.specs.Functions.{is_function, first_of, behind, typed_functions}
 use Rattle.rx_meaning.specs.Values.{element}
 use Rattle.rx_meaning_keeping.specs.Keeping.{IsFunction}
-use Rattle.rx_meaning_initial.proofs.Calls.{DeclaredAs, declared_as}
-use Rattle.rx_repair_renaming.proofs.Writing.{AgreeAs}
-use Rattle.rx_repair_renaming.proofs.Programs.{function_agrees, read_ok, read_same, entries_same}
+use Rattle.rx_meaning_accepted.proofs.Calls.{DeclaredAs, declared_as}
+use Rattle.rx_repair.proofs.Writing.{AgreeAs}
+use Rattle.rx_repair.proofs.Programs.{function_agrees, read_ok, read_same, entries_same}
 
 -- at a number of a list of items, the first of which has the number `n`
 record Stands (G : Given) (ns : List ItemNames) (n : ℕ) (is : ProgramTree) (ds : List Decl) (ts : List TypedFn) (k : ℕ) (F : Function) : Type 0 where

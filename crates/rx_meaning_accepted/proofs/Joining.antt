@@ -15,7 +15,7 @@ use Rattle.rx_typed.specs.Types as types
 use Rattle.rx_typed.specs.Types.{Typ, integer, boolean, tuple_of, reference, unit_shape, shapes_of, peeled, result_declared, parameters_declared, FieldDeclared, VariantDeclared, struct_declared, enum_declared, fields_declared, variant_parts}
 use Rattle.rx_typed.specs.Named as named
 use Rattle.rx_typed.specs.Named.{Written, Pattern, Exp, Exps, Else, Fields, Arms, Body, Statement, Statements, Parameter, Function, written_node, pattern_node, whole_binding, node_of, body_node, is_place, is_variable, root, never, body_never, else_never, all_never, diverges, any_diverges, else_diverges, any_field_diverges, all_diverge, body_diverges, statement_diverges, some_diverges, is_strict}
-use Rattle.rx_typed.specs.Numbers.{optional_nodes}
+use Rattle.rx_typed.specs.TypedNumbers.{optional_nodes}
 use Rattle.rx_typed.specs.Naming.{passed_on, initialiser_site}
 use Rattle.rx_typed.specs.Elaborated as elaborated
 use Rattle.rx_typed.specs.Elaborated.{Coercion}
@@ -27,20 +27,20 @@ use Rattle.rx_lower_walks.specs.Orders as order
 use Rattle.rx_lower_walks.specs.Orders.{Order, order_all, order_scrutinee, order_arms, order_body, order_function, beginning}
 use Rattle.rx_typeck_solver.specs.declared.facts.Subject.{Subject}
 use Rattle.rx_typeck_solver.specs.Facts.{MeetsEach, Types, Known, types_at, names_of}
-use Rattle.rx_typeck_rules.specs.Asking.{Asking, ask, expected}
-use Rattle.rx_typeck_rules.specs.Demands as rules
+use Rattle.rx_typeck_typed.specs.Asking.{Asking, ask, expected}
+use Rattle.rx_typeck_typed.specs.Demands as rules
 use Rattle.rx_meaning_keeping.specs.Units.{GoesOn}
 use Rattle.rx_meaning_typed.specs.TypedActs.{Typing, typ_along, types_of_fields, shape_at, Fill, no_field, field_and, Operates, Makes, constants, negates, inverts, operates, tuples, structs, variants, constant_typ}
-use Rattle.rx_repair_renaming.specs.TemporaryTypes as given_types
-use Rattle.rx_repair_renaming.specs.TemporaryTypes.{Entry, silent, at_site, own_or}
-use Rattle.rx_repair_renaming.proofs.Sites.{Sited, EachSited, ElseSited, FieldsSited, ArmsSited, BodySited, StatementSited, StatementsSited, branch_site}
-use Rattle.rx_repair_renaming.proofs.Asking.{Asks, NoPlace, asks_map, none, both, then_first, then_second, then_u, one_asked, quiet, refused, whole_type_u, never_asks, join_asks, not_never_u, one_variable_u, evaluated_u, each_after_u, parameters_u, result_u, never_given_u, when_u, loop_asks}
-use Rattle.rx_repair_renaming.proofs.Places.{some_same}
-use Rattle.rx_repair_renaming.proofs.Settling.{NotLent, Passing, own_settled, Before, After, part_fits, lone_fits, passed_twice}
-use Rattle.rx_repair_renaming.proofs.Pieces as pieces
-use Rattle.rx_repair_renaming.proofs.Pieces.{T, own, wished, Stands, passing, Has}
-use Rattle.rx_repair_renaming.proofs.Patterns.{every_front, every_behind}
-use Rattle.rx_repair_renaming.proofs.Acting.{place_stays, body_site}
+use Rattle.rx_repair.specs.TemporaryTypes as given_types
+use Rattle.rx_repair.specs.TemporaryTypes.{Entry, silent, at_site, own_or}
+use Rattle.rx_repair.proofs.Sites.{Sited, EachSited, ElseSited, FieldsSited, ArmsSited, BodySited, StatementSited, StatementsSited, branch_site}
+use Rattle.rx_repair.proofs.Asking.{Asks, NoPlace, asks_map, none, both, then_first, then_second, then_u, one_asked, quiet, refused, whole_type_u, never_asks, join_asks, not_never_u, one_variable_u, evaluated_u, each_after_u, parameters_u, result_u, never_given_u, when_u, loop_asks}
+use Rattle.rx_repair.proofs.Places.{some_same}
+use Rattle.rx_repair.proofs.Settling.{NotLent, Passing, own_settled, Before, After, part_fits, lone_fits, passed_twice}
+use Rattle.rx_repair.proofs.Pieces as pieces
+use Rattle.rx_repair.proofs.Pieces.{T, own, wished, Stands, passing, Has}
+use Rattle.rx_repair.proofs.Patterns.{every_front, every_behind}
+use Rattle.rx_repair.proofs.Acting.{place_stays, body_site}
 use Rattle.rx_meaning_accepted.specs.Fitting.{IsStruct, IsVariant, BodyBreaksNot, BreaksNot, Fits, EachFits, ElseFits, FieldsFit, ArmsFit, BodyFits, StatementFits, StatementsFit}
 use Rattle.rx_meaning_accepted.proofs.Walking.{first_on, second_on, nowhere_on, leave_on, binding_on, declaring_on, arms_on, loop_stays, test_stays}
 use Rattle.rx_meaning_accepted.proofs.Steps.{listed_at, part_is, field_is, field_at, pointee_is, peeled_step}

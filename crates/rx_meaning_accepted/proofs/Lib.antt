@@ -1,3 +1,17 @@
+pub mod Holding
+pub mod Making
+pub mod Placed
+pub mod Facts
+pub mod Asking
+pub mod Having
+pub mod Fields
+pub mod Calls
+pub mod Finding
+pub mod InitialPrograms
+pub mod Uses
+pub mod Declared
+pub mod Mutable
+pub mod Writing
 pub mod Walking
 pub mod Steps
 pub mod Lists

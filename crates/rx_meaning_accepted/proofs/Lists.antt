@@ -9,10 +9,10 @@ use Rattle.rx_typed.specs.Elaborated as elaborated
 use Rattle.rx_typed.specs.Elaborated.{Assigned}
 use Rattle.rx_typed.specs.Tree.{fields_of}
 use Rattle.rx_typeck_solver.specs.Facts.{Types, Known, types_at, names_of}
-use Rattle.rx_typeck_rules.specs.Demands.{argument_count, names_given, exp_nodes}
+use Rattle.rx_typeck_typed.specs.Demands.{argument_count, names_given, exp_nodes}
 use Rattle.rx_meaning_typed.specs.TypedActs.{types_of_fields, Fill, no_field, field_and}
-use Rattle.rx_repair_renaming.proofs.Places.{some_same}
-use Rattle.rx_repair_renaming.proofs.Pieces.{own}
+use Rattle.rx_repair.proofs.Places.{some_same}
+use Rattle.rx_repair.proofs.Pieces.{own}
 use Rattle.rx_meaning_accepted.proofs.Steps.{listed_at, field_at}
 
 -- the types of a list of values, by their nodes

@@ -19,12 +19,12 @@ use Rattle.rx_typed.specs.declared.declarations.Decl.TheVariants as decl
 use Rattle.rx_typed.specs.declared.declarations.VariantDecl.{VariantDecl}
 use Rattle.rx_typed.specs.Types as types
 use Rattle.rx_typed.specs.PlainTypes.{plain-FieldDecl, plain-VariantDecl, plain-Decl, declarations}
-use Rattle.rx_typeck_declare.specs.Steps as steps
-use Rattle.rx_typeck_declare.specs.Steps.{Reading}
-use Rattle.rx_typeck_declare.specs.Items as items
-use Rattle.rx_typeck_declare.specs.Items.{declared_item, declared_items, entries_of, fields_of, variant_of, begins, all_used, derives_copy}
+use Rattle.rx_typeck_typed.specs.Steps as steps
+use Rattle.rx_typeck_typed.specs.Steps.{Reading}
+use Rattle.rx_typeck_typed.specs.Items as items
+use Rattle.rx_typeck_typed.specs.Items.{declared_item, declared_items, entries_of, fields_of, variant_of, begins, all_used, derives_copy}
 use Rattle.rx_engine_typing.proofs.Steps.{named_ok, the_same}
-use Rattle.rx_repair_renaming.proofs.Programs.{read_ok, read_same}
+use Rattle.rx_repair.proofs.Programs.{read_ok, read_same}
 use Rattle.rx_meaning_accepted.specs.Fitting.{IsStruct, IsVariant}
 use Rattle.rx_meaning_accepted.proofs.Meaning.{Sees}
 

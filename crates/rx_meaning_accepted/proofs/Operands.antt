@@ -18,15 +18,15 @@ use Rattle.rx_typeck_solver.specs.declared.facts.Fact.{Fact}
 use Rattle.rx_typeck_solver.specs.declared.facts.Fact.TheVariants as fact
 use Rattle.rx_typeck_solver.specs.declared.facts.Kinds.{Kinds}
 use Rattle.rx_typeck_solver.specs.Facts.{MeetsAll, Types, Known, AnInteger, is_plain, is_unit, names_of, exactly, all_among}
-use Rattle.rx_typeck_rules.specs.Asking.{Asking, ask, passes, all, signed}
-use Rattle.rx_typeck_rules.specs.Demands as rules
+use Rattle.rx_typeck_typed.specs.Asking.{Asking, ask, passes, all, signed}
+use Rattle.rx_typeck_typed.specs.Demands as rules
 use Rattle.rx_meaning_typed.specs.TypedActs.{Operates, adds, subtracts, multiplies, divides, leaves, equal_numbers, equal_truths, unequal_numbers, unequal_truths, less, at_most, greater, at_least, IsShown}
-use Rattle.rx_repair_renaming.specs.TemporaryTypes.{at_site}
-use Rattle.rx_repair_renaming.proofs.Asking.{Asks, NoPlace, asks_map, none, both, then_first, then_second, then_u, one_asked, quiet, refused, not_never_u, never_asks}
-use Rattle.rx_repair_renaming.proofs.Places.{some_same, fixed_same}
-use Rattle.rx_repair_renaming.proofs.Settling.{Settles}
-use Rattle.rx_repair_renaming.proofs.Pieces as pieces
-use Rattle.rx_repair_renaming.proofs.Pieces.{own, wished, Stands, Has, value_given, when_given}
+use Rattle.rx_repair.specs.TemporaryTypes.{at_site}
+use Rattle.rx_repair.proofs.Asking.{Asks, NoPlace, asks_map, none, both, then_first, then_second, then_u, one_asked, quiet, refused, not_never_u, never_asks}
+use Rattle.rx_repair.proofs.Places.{some_same, fixed_same}
+use Rattle.rx_repair.proofs.Settling.{Settles}
+use Rattle.rx_repair.proofs.Pieces as pieces
+use Rattle.rx_repair.proofs.Pieces.{own, wished, Stands, Has, value_given, when_given}
 
 -- ---- plain types
 

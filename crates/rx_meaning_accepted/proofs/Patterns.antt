@@ -26,16 +26,16 @@ use Rattle.rx_typeck_solver.specs.declared.facts.Subject.TheVariants as subject
 use Rattle.rx_typeck_solver.specs.declared.facts.Test.TheVariants as test
 use Rattle.rx_typeck_solver.specs.declared.facts.Passing.{Passing as Gone}
 use Rattle.rx_typeck_solver.specs.Facts.{Types, Known, passed, gone_through, bound, all_mutable, is_item, is_integer, is_truth}
-use Rattle.rx_typeck_rules.specs.Asking.{Asking}
-use Rattle.rx_typeck_rules.specs.Demands as rules
+use Rattle.rx_typeck_typed.specs.Asking.{Asking}
+use Rattle.rx_typeck_typed.specs.Demands as rules
 use Rattle.rx_meaning_typed.specs.TypedActs.{Typing, typ_along, root_typ, place_typ, IsEnum, constant_typ, ActTyped}
-use Rattle.rx_repair_renaming.specs.TemporaryTypes as given_types
-use Rattle.rx_repair_renaming.specs.TemporaryTypes.{Entry}
-use Rattle.rx_repair_renaming.proofs.Entries.{Found}
-use Rattle.rx_repair_renaming.proofs.Asking.{Asks, asks_map, none, both, then_first, then_second, then_u, one_asked, quiet, when_u, binding_u}
-use Rattle.rx_repair_renaming.proofs.Places.{some_same}
-use Rattle.rx_repair_renaming.proofs.Patterns.{every_front, every_behind, every_both}
-use Rattle.rx_repair_renaming.proofs.Pieces.{T, own}
+use Rattle.rx_repair.specs.TemporaryTypes as given_types
+use Rattle.rx_repair.specs.TemporaryTypes.{Entry}
+use Rattle.rx_repair.proofs.Entries.{Found}
+use Rattle.rx_repair.proofs.Asking.{Asks, asks_map, none, both, then_first, then_second, then_u, one_asked, quiet, when_u, binding_u}
+use Rattle.rx_repair.proofs.Places.{some_same}
+use Rattle.rx_repair.proofs.Patterns.{every_front, every_behind, every_both}
+use Rattle.rx_repair.proofs.Pieces.{T, own}
 use Rattle.rx_meaning_accepted.proofs.Walking.{Holds}
 use Rattle.rx_meaning_accepted.proofs.Steps.{along_append, along_one, part_is, field_is, variant_part_is}
 

@@ -12,7 +12,7 @@ use Rattle.rx_typed.specs.Named as named
 use Rattle.rx_typed.specs.Elaborated.{elaborated}
 use Rattle.rx_typed.specs.PlainTypes.{declarations}
 use Rattle.rx_typed.specs.Naming.{function_named, function_spans}
-use Rattle.rx_typed.specs.Numbers.{AreFrom, nodes}
+use Rattle.rx_typed.specs.TypedNumbers.{AreFrom, nodes}
 use Rattle.rx_typed.specs.Tree.{Function}
 use Rattle.rx_typed.specs.PlainTree.{plain-TypedTree}
 use Rattle.rx_typed_declarations.proofs.Polarities.{same_declared}
@@ -20,7 +20,7 @@ use Rattle.rx_lower_walks.specs.Orders.{argument}
 use Rattle.rx_lower_walks.specs.Walks.{Among}
 use Rattle.rx_typeck_solver.specs.declared.facts.Subject.TheVariants as subject
 use Rattle.rx_typeck_solver.specs.Facts.{Known, Types, MeetsEach}
-use Rattle.rx_typeck_rules.specs.Demands as rules
+use Rattle.rx_typeck_typed.specs.Demands as rules
 use Rattle.rx_typeck_typed.specs.declared.typed.Typed.{Typed}
 use Rattle.rx_typeck_typed.specs.declared.typed.TypedFn.{TypedFn}
 use Rattle.rx_typeck_typed.specs.Typing.{Given, known_in, assigned, entries, IsTyped}
@@ -30,7 +30,7 @@ use Rattle.rx_meaning.specs.Expressions.{Functions}
 use Rattle.rx_meaning_keeping.specs.Keeping.{IsFunction}
 use Rattle.rx_meaning_typed.specs.TypedActs.{Typing, ActsTyped, IsSigned}
 use Rattle.rx_meaning_typed.specs.TypedFunctions.{UnitsTyped, RightsTyped, MakesWholes, FunctionTyped, ProgramTyped}
-use Rattle.rx_repair_renaming.proofs.Sites.{BodySited, function_sited}
+use Rattle.rx_repair.proofs.Sites.{BodySited, function_sited}
 use Rattle.rx_meaning_accepted.specs.Fitting.{FunctionFits}
 use Rattle.rx_meaning_accepted.specs.Typings.{typing_of}
 use Rattle.rx_meaning_accepted.proofs.Functions as functions

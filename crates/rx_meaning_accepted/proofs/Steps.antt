@@ -10,7 +10,7 @@ use Rattle.rx_typed.specs.Elaborated as elaborated
 use Rattle.rx_typeck_solver.specs.Facts.{fixed, field_of, part_of, pointee}
 use Rattle.rx_meaning.specs.Values.{and_then}
 use Rattle.rx_meaning_typed.specs.TypedActs.{shape_at, types_of_fields, item_behind, parts_behind, typ_behind, typ_along}
-use Rattle.rx_repair_renaming.proofs.Places.{some_same, fixed_same}
+use Rattle.rx_repair.proofs.Places.{some_same, fixed_same}
 
 -- ---- one step behind others
 

@@ -5,7 +5,7 @@ use Rattle.rx_typed.specs.Types.{Typ, unit_shape, result_declared}
 use Rattle.rx_typed.specs.Named.{Function}
 use Rattle.rx_typed.specs.Elaborated.{Assigned}
 use Rattle.rx_meaning_typed.specs.TypedActs.{Typing}
-use Rattle.rx_repair_renaming.specs.TemporaryTypes.{temporary_types}
+use Rattle.rx_repair.specs.TemporaryTypes.{temporary_types}
 
 -- of what is no function, the unit
 abbrev pub result_or : Option Typ → Typ

@@ -28,12 +28,12 @@ ghost use Rattle.rx_meaning_typed.specs.ValueTypes.{Store};
 ghost use Rattle.rx_meaning_typed.specs.TypedStates.{StateTyped};
 ghost use Rattle.rx_meaning_typed.specs.NoReferences.{NoReferences, RemainsWithoutReferences};
 
-use rx_meaning_initial::{accepted_programs_are_initial, typed_functions_are_ready};
+use crate::{accepted_programs_are_initial, typed_functions_are_ready};
 use rx_meaning_typed::{
     runs_without_references, typed_runs_are_not_mistyped, typed_runs_follow_references,
     typed_values_stay_typed,
 };
-use rx_typeck_laws::sizes_are_sized;
+use rx_typeck_typed::sizes_are_sized;
 use rx_typed::numbers_stand_in_order;
 
 /// The functions of a typed program whose names have a meaning act by types of their variables and temporaries.

@@ -10,7 +10,7 @@ use Rattle.rx_meaning.specs.Results as results
 use Rattle.rx_meaning.specs.Results.{Done, gives, or_ends}
 use Rattle.rx_meaning.specs.Places.{Spot, in_slot, follow, spot, found, whole_value, reference_to, after_write}
 use Rattle.rx_meaning.specs.Acting.{does_plainly}
-use Rattle.rx_facts_init.specs.Setting.{is_behind}
+use Rattle.rx_facts_tables.specs.Setting.{is_behind}
 use Rattle.rx_meaning_keeping.specs.Strict.{looks_at_lack, with_slot, marked_in, marked_slot, marked_at, marked, then_marks, does_strictly}
 use Rattle.rx_meaning_typed.proofs.Parts.{some_is, split}
 use Rattle.rx_meaning_covered.specs.Ways.{Where, OnWay, IsHeld, root_value, Leads}

@@ -13,7 +13,7 @@ use Rattle.rx_meaning.specs.Values.{Value, number, truth, whole, tagged, pointer
 use Rattle.rx_meaning.specs.Results.{Done, gives, or_ends}
 use Rattle.rx_meaning.specs.Places.{Spot, in_slot, in_value, content, follow, found}
 use Rattle.rx_meaning.specs.Acting.{checked}
-use Rattle.rx_facts_init.specs.Setting.{is_behind}
+use Rattle.rx_facts_tables.specs.Setting.{is_behind}
 use Rattle.rx_meaning_keeping.specs.Strict.{does_strictly}
 use Rattle.rx_meaning_keeping.proofs.Lost.{follow_plain}
 use Rattle.rx_meaning_typed.specs.TypedActs.{Typing, parts_behind, item_behind, typ_behind, typ_along, root_typ, place_typ}

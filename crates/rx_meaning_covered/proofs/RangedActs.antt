@@ -18,7 +18,7 @@ use Rattle.rx_meaning.specs.Operators as operators
 use Rattle.rx_meaning.specs.Operators.{Computed, make, shown}
 use Rattle.rx_meaning.specs.Acting.{checked, computed, next_input, does_plainly}
 use Rattle.rx_meaning.specs.Expressions.{Functions}
-use Rattle.rx_facts_init.specs.Setting.{is_behind}
+use Rattle.rx_facts_tables.specs.Setting.{is_behind}
 use Rattle.rx_meaning_keeping.specs.Pending.{Pending, Paired, no_pair, pair_and, holds, pushes, Thin, none, keeps, skips, swaps, arguments}
 use Rattle.rx_meaning_keeping.specs.Using.{Taken, Does, Gives}
 use Rattle.rx_meaning_keeping.specs.Using as using

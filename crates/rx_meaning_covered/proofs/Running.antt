@@ -18,7 +18,7 @@ use Rattle.rx_meaning.specs.Acting.{Acting, plainly}
 use Rattle.rx_meaning.specs.Telling.{Told, Alike, alike_on, alike_stop, SameSaid}
 use Rattle.rx_meaning.specs.Programs.{Program, begins, ending_of, run_by}
 use Rattle.rx_meaning.proofs.Told.{runs_say}
-use Rattle.rx_facts_init.specs.Places.{Frame}
+use Rattle.rx_facts_tables.specs.Places.{Frame}
 use Rattle.rx_meaning_keeping.specs.Pending.{Pending, holding, Fits, of_place, of_held, AsMany, arguments}
 use Rattle.rx_meaning_keeping.specs.Units.{GoesOn}
 use Rattle.rx_meaning_keeping.specs.RightOperands.{IsRightOf}

@@ -16,7 +16,7 @@ use Rattle.rx_meaning.specs.Operators as operators
 use Rattle.rx_meaning.specs.Operators.{Computed, make, shown}
 use Rattle.rx_meaning.specs.Acting.{checked, computed, next_input, does_plainly}
 use Rattle.rx_meaning.specs.Expressions.{Functions}
-use Rattle.rx_facts_init.specs.Setting.{is_behind}
+use Rattle.rx_facts_tables.specs.Setting.{is_behind}
 use Rattle.rx_meaning_keeping.specs.Pending.{Pending}
 use Rattle.rx_meaning_keeping.specs.Reaching.{Reached, starts, performs, comes_back, takes_turn, gets_unit, lets_go}
 use Rattle.rx_meaning_keeping.specs.Strict.{marked_slot, marked_at, marked, does_strictly, strictly}

@@ -20,7 +20,7 @@ use Rattle.rx_meaning.specs.Places.{Spot, in_slot, in_value, content, follow, sp
 use Rattle.rx_meaning.specs.Operators as operators
 use Rattle.rx_meaning.specs.Operators.{Computed, make, shown}
 use Rattle.rx_meaning.specs.Acting.{checked, computed, next_input, does_plainly}
-use Rattle.rx_facts_init.specs.Setting.{is_behind}
+use Rattle.rx_facts_tables.specs.Setting.{is_behind}
 use Rattle.rx_meaning_keeping.specs.Strict.{looks_at_lack, then_marks, does_strictly}
 use Rattle.rx_meaning_keeping.proofs.Lost.{follow_plain}
 use Rattle.rx_meaning_typed.specs.TypedActs.{Typing, shape_at, item_behind, typ_behind, typ_along, root_typ, place_typ, ActTyped}

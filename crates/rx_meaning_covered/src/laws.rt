@@ -7,7 +7,7 @@ ghost use Rattle.rx_lower_walks.specs.Matching.{tests, bindings};
 ghost use Rattle.rx_lower_walks.specs.Actions.{subject};
 ghost use Rattle.rx_cover.specs.Choices.{choices};
 ghost use Rattle.rx_cover.specs.Causes.{AllCovered};
-ghost use Rattle.rx_facts_init.specs.Places.{Frame};
+ghost use Rattle.rx_facts_tables.specs.Places.{Frame};
 ghost use Rattle.rx_meaning.specs.Endings.{Cause, wrong};
 ghost use Rattle.rx_meaning.specs.Values.{Value, State};
 ghost use Rattle.rx_meaning.specs.Acting.{plainly};

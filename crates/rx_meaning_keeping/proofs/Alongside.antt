@@ -16,8 +16,8 @@ use Rattle.rx_meaning.specs.Operators.{Computed, make, shown}
 use Rattle.rx_meaning.specs.Acting.{checked, computed, next_input, does_plainly, plainly}
 use Rattle.rx_meaning.specs.Expressions.{Functions, called}
 use Rattle.rx_meaning.specs.Programs.{Program, begins, run_by}
-use Rattle.rx_facts_init.specs.Places.{Frame}
-use Rattle.rx_facts_init.specs.Setting.{is_behind}
+use Rattle.rx_facts_tables.specs.Places.{Frame}
+use Rattle.rx_facts_tables.specs.Setting.{is_behind}
 use Rattle.rx_meaning_keeping.specs.Keeping.{IsFunction}
 use Rattle.rx_meaning_keeping.specs.Relating.{Relation, DecideAlike, by_truth, by_none, DoneRelated, gave, ended, excused, Related, both_on, both_jump, both_stop, excused_stop, have_parted, AllRelated, no_more, and_one, IsRelated}
 use Rattle.rx_meaning_keeping.specs.Strict.{looks_at_lack, with_slot, marked_slot, marked_at, marked, then_marks, strictly}

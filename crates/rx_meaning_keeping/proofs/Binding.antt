@@ -3,7 +3,7 @@ use Rattle.std.proofs.Common.{◌≡◌, ℕ, suc, ◌≤◌, ◌<◌, List, [],
 use Rattle.rx_core.specs.declared.types.Step.{Step}
 use Rattle.rx_typed.specs.Types.{Typ, integer, boolean, tuple_of, reference, named, peeled}
 use Rattle.rx_typed.specs.Named as numbered
-use Rattle.rx_typed.specs.Numbers.{AreFrom, pattern_nodes, patterns_nodes, field_patterns_nodes}
+use Rattle.rx_typed.specs.TypedNumbers.{AreFrom, pattern_nodes, patterns_nodes, field_patterns_nodes}
 use Rattle.rx_typed.specs.Tree as tree
 use Rattle.rx_typed.specs.Tree.{Temporary, temporary_at}
 use Rattle.rx_typed.specs.Elaborated.{Assigned, Met, met, field_in, kind_in, with_sign, has_several, pattern, subpatterns, field_patterns, behind_all}

@@ -16,11 +16,11 @@ use Rattle.rx_meaning.specs.Places.{Spot, in_slot, in_value, content, follow, st
 use Rattle.rx_meaning.specs.Operators as operators
 use Rattle.rx_meaning.specs.Operators.{Computed, make, shown}
 use Rattle.rx_meaning.specs.Acting.{checked, computed, next_input, does_plainly}
-use Rattle.rx_facts_init.specs.Places.{Frame, is_part}
-use Rattle.rx_facts_init.specs.Setting.{is_behind, looked_at, AllSet}
-use Rattle.rx_facts_init.specs.Wholes as wholes
-use Rattle.rx_facts_init.specs.Wholes.{placed, stands, holds_in}
-use Rattle.rx_facts_init.specs.Initialised.{InOrder}
+use Rattle.rx_facts_tables.specs.Places.{Frame, is_part}
+use Rattle.rx_facts_tables.specs.Setting.{is_behind, looked_at, AllSet}
+use Rattle.rx_facts_tables.specs.Wholes as wholes
+use Rattle.rx_facts_tables.specs.Wholes.{placed, stands, holds_in}
+use Rattle.rx_facts_tables.specs.Initialised.{InOrder}
 use Rattle.rx_meaning_keeping.specs.Pending.{Pending, holds}
 use Rattle.rx_meaning_keeping.specs.RightOperands.{IsRightOf}
 use Rattle.rx_meaning_keeping.specs.Using.{Does}

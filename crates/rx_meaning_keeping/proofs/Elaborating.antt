@@ -5,7 +5,7 @@ use Rattle.rx_tree.specs.declared.tree.BinaryOp.{BinaryOp}
 use Rattle.rx_typed.specs.declared.nodes.Node.{Node}
 use Rattle.rx_typed.specs.Named as numbered
 use Rattle.rx_typed.specs.Named.{is_place, node_of, body_node, body_never, else_never, all_never}
-use Rattle.rx_typed.specs.Numbers.{AreFrom, optional_nodes, pattern_nodes, exp_nodes, exps_nodes, else_nodes, fields_nodes, arms_nodes, body_nodes, statement_nodes, statements_nodes, parameters_nodes, nodes}
+use Rattle.rx_typed.specs.TypedNumbers.{AreFrom, optional_nodes, pattern_nodes, exp_nodes, exps_nodes, else_nodes, fields_nodes, arms_nodes, body_nodes, statement_nodes, statements_nodes, parameters_nodes, nodes}
 use Rattle.rx_typed.specs.Tree as tree
 use Rattle.rx_typed.specs.Tree.{Temporary, Place, Exp, Operands, Mark, mark_of, temporary_at, temporary_of}
 use Rattle.rx_typed.specs.Elaborated as elaborated

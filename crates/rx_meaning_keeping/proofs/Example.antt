@@ -8,10 +8,10 @@ use Rattle.rx_lower_walks.specs.Orders.{Order, order_function}
 use Rattle.rx_lower_walks.specs.Orders as order
 use Rattle.rx_lower_walks.specs.Walks.{Walk, rests, stops, nothing, acts, both, first, one, other, leave, fail, holds, next, ends, jumps, halts, last, more, IsWalk, Among, here, there, actions_in}
 use Rattle.rx_meaning.specs.Expressions.{Functions}
-use Rattle.rx_facts_init.specs.Places.{Frame}
-use Rattle.rx_facts_init.specs.Setting.{looked_at}
-use Rattle.rx_facts_init.specs.Wholes as wholes
-use Rattle.rx_facts_init.specs.Initialised.{Initialised}
+use Rattle.rx_facts_tables.specs.Places.{Frame}
+use Rattle.rx_facts_tables.specs.Setting.{looked_at}
+use Rattle.rx_facts_tables.specs.Wholes as wholes
+use Rattle.rx_facts_tables.specs.Initialised.{Initialised}
 use Rattle.rx_meaning_keeping.specs.Formed.{Any, Formed}
 use Rattle.rx_meaning_keeping.specs.Keeping.{IsFunction}
 use Rattle.rx_meaning_keeping.specs.Ready.{Ready, IsInitial}

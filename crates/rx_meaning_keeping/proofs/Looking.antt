@@ -10,7 +10,7 @@ use Rattle.rx_meaning.specs.Results as results
 use Rattle.rx_meaning.specs.Results.{Done, gives, stops}
 use Rattle.rx_meaning.specs.Acting.{does_plainly}
 use Rattle.rx_meaning.specs.Programs.{Program, begins, run_by}
-use Rattle.rx_facts_init.specs.Places.{Frame}
+use Rattle.rx_facts_tables.specs.Places.{Frame}
 use Rattle.rx_meaning_keeping.specs.Pending.{Pending, arguments}
 use Rattle.rx_meaning_keeping.specs.RightOperands.{IsRightOf}
 use Rattle.rx_meaning_keeping.specs.Using.{Does}

@@ -4,15 +4,15 @@ use Rattle.std.proofs.lemmas.Bool.{eqb-false}
 use Rattle.std.proofs.lemmas.Bool.Decides.{Decides-eqb}
 use Rattle.rx_core.specs.declared.types.Step.{Step}
 use Rattle.rx_typed.specs.Tree.{Place, Root, variable, temporary, Temporary}
-use Rattle.rx_typed.specs.Places.{is_front}
+use Rattle.rx_typed.specs.TypedPlaces.{is_front}
 use Rattle.rx_lower_walks.specs.Actions.{Write, Action, does}
 use Rattle.rx_meaning.specs.Values.{Value, slot_of, and_then, Frame as MeaningFrame}
 use Rattle.rx_meaning.specs.Places.{Spot, in_slot, follow, start}
-use Rattle.rx_facts_live.specs.Along.{Switch, behind, after}
-use Rattle.rx_facts_init.specs.Places.{Frame, is_part}
-use Rattle.rx_facts_init.specs.Setting as setting
-use Rattle.rx_facts_init.specs.Setting.{is_behind, sets, unsets}
-use Rattle.rx_facts_init.specs.Wholes.{placed, standing, regains, loses, is_variable}
+use Rattle.rx_facts_tables.specs.Along.{Switch, behind, after}
+use Rattle.rx_facts_tables.specs.Places.{Frame, is_part}
+use Rattle.rx_facts_tables.specs.Setting as setting
+use Rattle.rx_facts_tables.specs.Setting.{is_behind, sets, unsets}
+use Rattle.rx_facts_tables.specs.Wholes.{placed, standing, regains, loses, is_variable}
 use Rattle.rx_meaning_keeping.specs.Pending.{Pending, Thin, none, keeps, skips, swaps, holds, pushes, Paired, no_pair, pair_and}
 use Rattle.rx_meaning_keeping.specs.Ready.{HasPart, AllHere}
 use Rattle.rx_meaning_keeping.specs.Lacking.{Off, Lost, Here}

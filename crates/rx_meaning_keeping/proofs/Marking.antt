@@ -16,9 +16,9 @@ use Rattle.rx_meaning.specs.Operators as operators
 use Rattle.rx_meaning.specs.Operators.{Computed, make, shown}
 use Rattle.rx_meaning.specs.Acting.{checked, computed, next_input, does_plainly}
 use Rattle.rx_meaning.specs.Expressions.{Functions}
-use Rattle.rx_facts_init.specs.Places.{Frame}
-use Rattle.rx_facts_init.specs.Setting.{is_behind, sets}
-use Rattle.rx_facts_init.specs.Wholes.{placed, regains}
+use Rattle.rx_facts_tables.specs.Places.{Frame}
+use Rattle.rx_facts_tables.specs.Setting.{is_behind, sets}
+use Rattle.rx_facts_tables.specs.Wholes.{placed, regains}
 use Rattle.rx_meaning_keeping.specs.Pending.{Pending, holds, pushes, arguments}
 use Rattle.rx_meaning_keeping.specs.Units.{IsUnitOf}
 use Rattle.rx_meaning_keeping.specs.RightOperands.{IsRightOf}

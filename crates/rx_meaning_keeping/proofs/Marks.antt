@@ -7,9 +7,9 @@ use Rattle.rx_typed.specs.Tree.{Place, Temporary}
 use Rattle.rx_lower_walks.specs.Actions.{Declare, Write, Action, does}
 use Rattle.rx_meaning.specs.Values.{Lack, unset, Value, lacking, is_set, get, put, element, with_element, slot_of, and_then, State}
 use Rattle.rx_meaning.specs.Places.{in_slot, spot}
-use Rattle.rx_facts_init.specs.Places.{Frame, is_part}
-use Rattle.rx_facts_init.specs.Setting.{is_behind, sets, unsets}
-use Rattle.rx_facts_init.specs.Wholes.{placed, regains, loses, is_variable}
+use Rattle.rx_facts_tables.specs.Places.{Frame, is_part}
+use Rattle.rx_facts_tables.specs.Setting.{is_behind, sets, unsets}
+use Rattle.rx_facts_tables.specs.Wholes.{placed, regains, loses, is_variable}
 use Rattle.rx_meaning_keeping.specs.Pending.{Pending}
 use Rattle.rx_meaning_keeping.specs.Ready.{HasPart}
 use Rattle.rx_meaning_keeping.specs.Strict.{with_slot, marked_slot}

@@ -6,10 +6,10 @@ use Rattle.rx_core.specs.declared.types.Step.{Step}
 use Rattle.rx_core.specs.declared.types.Step.TheVariants as step
 use Rattle.rx_typed.specs.Types.{Typ, integer, boolean, tuple_of, reference, named, shapes_of, shapes_listed, parts, sum_of_parts, Declarations, VariantDeclared, variants_declared}
 use Rattle.rx_typed_declarations.specs.Sizes.{Sized}
-use Rattle.rx_facts_init.specs.Places.{Spot, whole, fields, nowhere, Located, at, spot_parts, nth_field, nth_variant, struct_fields, field_of, variant_of, located, typed_spot, nth_variable, Frame, is_part, spans}
-use Rattle.rx_facts_init.specs.Wholes.{placed}
+use Rattle.rx_facts_tables.specs.Places.{Spot, whole, fields, nowhere, Located, at, spot_parts, nth_field, nth_variant, struct_fields, field_of, variant_of, located, typed_spot, nth_variable, Frame, is_part, spans}
+use Rattle.rx_facts_tables.specs.Wholes.{placed}
 use Rattle.rx_meaning_keeping.specs.Lacking.{Off, off_field, off_under}
-use Rattle.rx_facts_init.proofs.Within.{steps_within}
+use Rattle.rx_facts_tables.proofs.Within.{steps_within}
 
 -- a part is of what is there
 abbrev In : (ℕ → ℕ) → Located → ℕ → Type 0

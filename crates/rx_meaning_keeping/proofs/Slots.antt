@@ -4,8 +4,8 @@ use Rattle.std.proofs.lemmas.Bool.{eqb-false}
 use Rattle.std.proofs.lemmas.Bool.Decides.{Decides-eqb}
 use Rattle.rx_core.specs.declared.types.Step.{Step}
 use Rattle.rx_meaning.specs.Values.{Lack, Value, Values, number, truth, whole, tagged, pointer, lacking, no_value, value_and, is_set, are_set, and_then, field, with_field, part, with_part, get, put, element, with_element}
-use Rattle.rx_facts_init.specs.Setting.{is_behind}
-use Rattle.rx_typed.specs.Places.{same_step, is_front}
+use Rattle.rx_facts_tables.specs.Setting.{is_behind}
+use Rattle.rx_typed.specs.TypedPlaces.{same_step, is_front}
 use Rattle.rx_meaning_keeping.specs.Lacking.{Plain, Off, off_field, off_under}
 
 abbrev pub holds_in : Option Value → (Value → Bool) → Bool

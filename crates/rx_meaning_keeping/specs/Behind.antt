@@ -9,7 +9,7 @@ use Rattle.rx_meaning.specs.Results as results
 use Rattle.rx_meaning.specs.Results.{Result, on, jumps, stops}
 use Rattle.rx_meaning.specs.Acting.{Acting}
 use Rattle.rx_meaning.specs.Expressions.{Functions}
-use Rattle.rx_facts_init.specs.Setting.{is_behind}
+use Rattle.rx_facts_tables.specs.Setting.{is_behind}
 use Rattle.rx_meaning_keeping.specs.Pending.{Pending}
 use Rattle.rx_meaning_keeping.specs.RightOperands.{IsRightOf}
 use Rattle.rx_meaning_keeping.specs.Using.{Does}

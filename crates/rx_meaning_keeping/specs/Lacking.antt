@@ -4,9 +4,9 @@ use Rattle.rx_core.specs.declared.types.Step.{Step}
 use Rattle.rx_core.specs.declared.types.Step.TheVariants as step
 use Rattle.rx_lower_walks.specs.Actions.{Action}
 use Rattle.rx_meaning.specs.Values.{Value, Lack, lacking, is_set, get, element, slot_of, State}
-use Rattle.rx_facts_init.specs.Places.{Frame, is_part}
-use Rattle.rx_facts_init.specs.Setting as setting
-use Rattle.rx_facts_init.specs.Wholes.{placed, stands}
+use Rattle.rx_facts_tables.specs.Places.{Frame, is_part}
+use Rattle.rx_facts_tables.specs.Setting as setting
+use Rattle.rx_facts_tables.specs.Wholes.{placed, stands}
 use Rattle.rx_meaning_keeping.specs.Pending.{Pending}
 use Rattle.rx_meaning_keeping.specs.Ready.{HasPart}
 

@@ -9,10 +9,10 @@ use Rattle.rx_meaning.specs.Operators as operators
 use Rattle.rx_meaning.specs.Operators.{make}
 use Rattle.rx_meaning.specs.Expressions.{Functions}
 use Rattle.rx_typed_declarations.specs.Sizes.{Sized}
-use Rattle.rx_facts_init.specs.Places.{Frame, is_part}
-use Rattle.rx_facts_init.specs.Setting.{is_behind, looked_at}
-use Rattle.rx_facts_init.specs.Wholes.{placed}
-use Rattle.rx_facts_init.specs.Initialised.{Initialised}
+use Rattle.rx_facts_tables.specs.Places.{Frame, is_part}
+use Rattle.rx_facts_tables.specs.Setting.{is_behind, looked_at}
+use Rattle.rx_facts_tables.specs.Wholes.{placed}
+use Rattle.rx_facts_tables.specs.Initialised.{Initialised}
 use Rattle.rx_meaning_keeping.specs.Pending.{Paired}
 use Rattle.rx_meaning_keeping.specs.Formed.{Any, AllFormed}
 use Rattle.rx_meaning_keeping.specs.Keeping.{IsFunction}

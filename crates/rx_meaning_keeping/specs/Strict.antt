@@ -11,7 +11,7 @@ use Rattle.rx_meaning.specs.Results as results
 use Rattle.rx_meaning.specs.Results.{Done, gives}
 use Rattle.rx_meaning.specs.Places.{Spot, found}
 use Rattle.rx_meaning.specs.Acting.{Acting, does_plainly}
-use Rattle.rx_facts_init.specs.Setting.{is_behind}
+use Rattle.rx_facts_tables.specs.Setting.{is_behind}
 
 -- some part of what is there lacks a value
 abbrev pub lacks_there : Option (Spot × Value) → Bool

@@ -7,7 +7,7 @@ ghost use Rattle.rx_resolve_names.specs.declared.resolved.NodeNames.{NodeNames};
 ghost use Rattle.rx_typed.specs.Naming.{function_named};
 ghost use Rattle.rx_typed.specs.Tree.{Function, temporary_of};
 ghost use Rattle.rx_typed.specs.Elaborated.{Assigned, elaborated};
-ghost use Rattle.rx_facts_init.specs.Places.{Frame};
+ghost use Rattle.rx_facts_tables.specs.Places.{Frame};
 ghost use Rattle.rx_meaning.specs.Endings.{Ending, wrong, lacks};
 ghost use Rattle.rx_meaning.specs.Values.{Value, State};
 ghost use Rattle.rx_meaning.specs.Results.{stops};

@@ -9,7 +9,7 @@ use Rattle.rx_meaning.specs.Values.{Lack, moved, ended, Value, lacking, and_then
 use Rattle.rx_meaning.specs.Results as results
 use Rattle.rx_meaning.specs.Results.{Done, gives}
 use Rattle.rx_meaning.specs.Acting.{does_plainly, plainly}
-use Rattle.rx_facts_init.specs.Setting.{is_behind}
+use Rattle.rx_facts_tables.specs.Setting.{is_behind}
 use Rattle.rx_meaning_keeping.specs.Pending.{Pending}
 use Rattle.rx_meaning_keeping.specs.Using.{Does, Gives}
 use Rattle.rx_meaning_keeping.specs.Keeping.{Kept}

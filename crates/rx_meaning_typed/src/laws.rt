@@ -5,7 +5,7 @@ ghost use Rattle.rx_typed.specs.Types.{Typ, Declarations};
 ghost use Rattle.rx_typed.specs.Tree.{Temporary, Function};
 ghost use Rattle.rx_lower_walks.specs.Actions.{Action};
 ghost use Rattle.rx_lower_walks.specs.Walks.{Among};
-ghost use Rattle.rx_facts_init.specs.Places.{Frame};
+ghost use Rattle.rx_facts_tables.specs.Places.{Frame};
 ghost use Rattle.rx_meaning.specs.Endings.{Cause, wrong, immutable, mistyped, missing_reference};
 ghost use Rattle.rx_meaning.specs.Values.{Value, is_set, slot_of, element, State};
 ghost use Rattle.rx_meaning.specs.Results.{stops};

@@ -6,7 +6,7 @@ use Rattle.std.proofs.lemmas.Bool.Decides.{Decides-at, Decides-and, Decides-or, 
 use Rattle.rx_typed.specs.Tree.{Place}
 use Rattle.rx_lower_walks.specs.Actions.{Act, Declare, Dead, Read, Write, Borrow, Test, Call, Build, Input, Print, Give, Action}
 use Rattle.rx_lower_walks.specs.Walks.{Among, here, there}
-use Rattle.rx_exits_marks.specs.Points.{Exit}
+use Rattle.rx_exits_plan.specs.Points.{Exit}
 use Rattle.rx_exits_plan.specs.Asked.{Asked}
 use Rattle.rx_exits_plan.specs.Occurrences.{has_number}
 use Rattle.rx_exits_plan.specs.Plan.{out_of_some}

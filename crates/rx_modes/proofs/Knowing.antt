@@ -4,14 +4,14 @@ use Rattle.std.specs.Bool.{Decides}
 use Rattle.rx_typed.specs.PlainTypes.{declarations, plain-Ty}
 use Rattle.rx_typeck_typed.specs.declared.typed.TypedFn.{TypedFn}
 use Rattle.rx_lower.specs.Functions.{trimmed}
-use Rattle.rx_exits_marks.specs.Points.{enters}
-use Rattle.rx_exits_marks.specs.Runs.{Home}
+use Rattle.rx_exits_plan.specs.Points.{enters}
+use Rattle.rx_exits_plan.specs.Runs.{Home}
 use Rattle.rx_exits_plan.specs.declared.plan.Run.{Run}
 use Rattle.rx_exits_plan.specs.Asked.{Asked}
 use Rattle.rx_exits_plan.specs.PlainPlan.{IsExitPlan}
 use Rattle.rx_exits_plan.specs.Unreachable.{SomeComes}
-use Rattle.rx_exits_points.specs.AskedOf.{asked_of}
-use Rattle.rx_exits_points.specs.Living.{IsLiving}
+use Rattle.rx_exits.specs.AskedOf.{asked_of}
+use Rattle.rx_exits.specs.Living.{IsLiving}
 use Rattle.rx_modes_uses.specs.Outside.{in_run, outside_run, in_function}
 use Rattle.rx_modes_deeds.specs.declared.deeds.Deeds.{Deeds}
 use Rattle.rx_modes_deeds.specs.Doings.{AreDeeds, deeds_at}

@@ -9,7 +9,7 @@ use Rattle.rx_lower_walks.specs.Walks.{Among, here, there}
 use Rattle.rx_exits_plan.specs.Asked.{Asked}
 use Rattle.rx_exits_plan.specs.declared.plan.ExitOuts.{ExitOuts}
 use Rattle.rx_exits_plan.specs.PlainPlan.{plan_of}
-use Rattle.rx_exits_points.specs.Living.{IsLiving}
+use Rattle.rx_exits.specs.Living.{IsLiving}
 use Rattle.rx_modes_policy.specs.declared.uses.Uses.{Uses}
 use Rattle.rx_modes_uses.specs.Uses.{IsUses}
 use Rattle.rx_modes_deeds.specs.declared.deeds.Deeds.{Deeds}

@@ -5,14 +5,14 @@ use Rattle.std.specs.Option.{is_some}
 use Rattle.rx_typed.specs.Types.{Typ, reference, Declarations, copies}
 use Rattle.rx_typed.specs.PlainTypes.{declarations, plain-Ty}
 use Rattle.rx_lower_walks.specs.Walks.{Among}
-use Rattle.rx_exits_marks.specs.Points.{Exit, enters}
+use Rattle.rx_exits_plan.specs.Points.{Exit, enters}
 use Rattle.rx_exits_plan.specs.declared.plan.ExitOuts.{ExitOuts}
 use Rattle.rx_exits_plan.specs.Asked.{Asked, IsParam, IsLiveAt}
 use Rattle.rx_exits_plan.specs.Occurrences.{has_number}
 use Rattle.rx_exits_plan.specs.Plan.{out_of_some}
 use Rattle.rx_exits_plan.specs.PlainPlan.{plain-Exit, outs_in}
 use Rattle.rx_exits_plan.specs.Unreachable.{SomeComes}
-use Rattle.rx_exits_points.specs.Living.{IsLiving}
+use Rattle.rx_exits.specs.Living.{IsLiving}
 use Rattle.rx_modes_policy.specs.declared.uses.Mode.{Mode}
 use Rattle.rx_modes_policy.specs.declared.uses.Uses.{Uses}
 use Rattle.rx_modes_policy.specs.Allowed.{allowed_by, HasMember}

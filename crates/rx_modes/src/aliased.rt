@@ -1,7 +1,7 @@
 //! The first variable of a run that would get another storage while there is a reference of its own somewhere.
 
 ghost use Rattle.std.specs.Prelude.{◌≡◌};
-ghost use Rattle.rx_exits_marks.specs.Points as points;
+ghost use Rattle.rx_exits_plan.specs.Points as points;
 ghost use Rattle.rx_exits_plan.specs.Occurrences.{has_number};
 ghost use Rattle.rx_exits_plan.specs.Plan.{out_of_some};
 ghost use Rattle.rx_exits_plan.specs.PlainPlan.{plain-Exit, outs_in};

@@ -5,12 +5,12 @@ ghost use Rattle.std.specs.Bool.{Decides};
 ghost use Rattle.rx_typed.specs.PlainTypes.{declarations, plain-Ty};
 ghost use Rattle.rx_exits_plan.specs.Asked.{Asked, IsLiveAt};
 ghost use Rattle.rx_exits_plan.specs.PlainPlan.{plain-Exit};
-ghost use Rattle.rx_exits_points.specs.Living.{IsAsked, IsLiving};
+ghost use Rattle.rx_exits.specs.Living.{IsAsked, IsLiving};
 ghost use Rattle.rx_modes.specs.Told as spec;
 
 use rx_core::Ty;
+use rx_exits::RunLiving;
 use rx_exits_plan::{ExitOuts, ExitPlan};
-use rx_exits_points::RunLiving;
 use rx_modes_deeds::Deeds;
 use rx_typed::{Decls, is_copy};
 

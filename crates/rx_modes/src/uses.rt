@@ -4,7 +4,7 @@ ghost use Rattle.std.specs.Prelude.{◌≡◌, ℕ, Bool, List as ListOf, length
 ghost use Rattle.rx_lower_walks.specs.Walks.{Among};
 ghost use Rattle.rx_exits_plan.specs.Asked.{Asked};
 ghost use Rattle.rx_exits_plan.specs.PlainPlan.{plan_of};
-ghost use Rattle.rx_exits_points.specs.Living.{IsAsked};
+ghost use Rattle.rx_exits.specs.Living.{IsAsked};
 ghost use Rattle.rx_modes_uses.specs.Uses.{IsUses};
 ghost use Rattle.rx_modes.specs.Told as spec;
 

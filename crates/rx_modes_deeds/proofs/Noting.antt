@@ -3,9 +3,9 @@ use Rattle.std.proofs.Common.{◌≡◌, refl, sym, ap, ◌∙◌, ◌<◌, ◌+
 use Rattle.std.proofs.lemmas.List.{at_drop_more}
 use Rattle.rx_lower_walks.specs.Actions.{Action}
 use Rattle.rx_lower_walks.specs.Walks.{actions_in}
-use Rattle.rx_lower_flow.specs.declared.flow.Item as code
-use Rattle.rx_lower_flow.specs.Flows.{Items, Item, doing, ending, may, trying, item_and, items_of, order_of_items}
-use Rattle.rx_lower_flow.specs.PlainFlow.{plain-Item}
+use Rattle.rx_lower_walks.specs.declared.flow.Item as code
+use Rattle.rx_lower_walks.specs.Flows.{Items, Item, doing, ending, may, trying, item_and, items_of, order_of_items}
+use Rattle.rx_lower_walks.specs.PlainFlow.{plain-Item}
 use Rattle.rx_modes_deeds.specs.declared.deeds.Deeds.{Deeds}
 use Rattle.rx_modes_deeds.specs.Doings.{all_noted, noted, item_actions}
 

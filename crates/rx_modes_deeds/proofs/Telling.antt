@@ -6,8 +6,8 @@ use Rattle.std.proofs.lemmas.Bool.Decides.{Decides-at, Decides-and, Decides-like
 use Rattle.std.proofs.lemmas.Bool.{eq-eqb, eqb-true}
 use Rattle.rx_typed.specs.Tree.{Place, Root, variable, temporary}
 use Rattle.rx_lower_walks.specs.Actions.{Act, Declare, Dead, Read, Write, Borrow, Test, Call, Build, Input, Print, Give, Action}
-use Rattle.rx_facts_init.specs.Setting.{is_behind}
-use Rattle.rx_facts_init.specs.Wholes.{is_variable}
+use Rattle.rx_facts_tables.specs.Setting.{is_behind}
+use Rattle.rx_facts_tables.specs.Wholes.{is_variable}
 use Rattle.rx_modes_uses.specs.Paths.{PathBehind}
 use Rattle.rx_modes_uses.specs.Deeds as deeds
 use Rattle.rx_modes_uses.specs.Deeds.{Done}

@@ -5,8 +5,8 @@ use Rattle.std.specs.Bool.{Decides}
 use Rattle.rx_typed.specs.Tree.{Root, variable, temporary, Place}
 use Rattle.rx_lower_walks.specs.Actions.{Act, Read, Write, Borrow, Action}
 use Rattle.rx_lower_walks.specs.Walks.{actions_in}
-use Rattle.rx_lower_flow.specs.Flows.{Item, doing, ending, may, trying, order_of}
-use Rattle.rx_facts_init.specs.Setting.{is_behind}
+use Rattle.rx_lower_walks.specs.Flows.{Item, doing, ending, may, trying, order_of}
+use Rattle.rx_facts_tables.specs.Setting.{is_behind}
 use Rattle.rx_modes_uses.specs.Paths.{OwnPath, PathBehind}
 use Rattle.rx_modes_uses.specs.Deeds as deeds
 use Rattle.rx_modes_uses.specs.Deeds.{Done}

@@ -1,12 +1,12 @@
 //! What actions do to the paths of each variable, in a table by variable.
 
 ghost use Rattle.std.specs.Prelude.{◌≡◌, ◌<◌, ℕ, ◌==◌, if◌then◌else◌, length, OnOk};
-ghost use Rattle.rx_lower_flow.specs.PlainFlow.{plain-Act, plain-Action, plain-Place};
-ghost use Rattle.rx_facts_init.specs.Setting as setting;
+ghost use Rattle.rx_lower_walks.specs.PlainFlow.{plain-Act, plain-Action, plain-Place};
+ghost use Rattle.rx_facts_tables.specs.Setting as setting;
 ghost use Rattle.rx_modes_deeds.specs.Doings as spec;
 
 use rx_core::Step;
-use rx_lower_flow::{Act, Action, Place, Root};
+use rx_lower_walks::{Act, Action, Place, Root};
 use std::alloc::AllocError;
 
 /// What some actions do to a variable: its own storage is what its paths in front of the first dereference name.

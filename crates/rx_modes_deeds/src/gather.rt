@@ -1,19 +1,19 @@
 //! What the actions of a flow do to each variable: of all that the flow names, whether or not some walk holds them.
 
 ghost use Rattle.std.specs.Prelude.{◌≡◌, ℕ, map, IfOk, OnOk};
-ghost use Rattle.rx_lower_flow.specs.Flows as flows;
-ghost use Rattle.rx_lower_flow.specs.Flows.{order_of, order_of_items};
-ghost use Rattle.rx_lower_flow.specs.PlainFlow.{plain-Flow, plain-Item};
+ghost use Rattle.rx_lower_walks.specs.Flows as flows;
+ghost use Rattle.rx_lower_walks.specs.Flows.{order_of, order_of_items};
+ghost use Rattle.rx_lower_walks.specs.PlainFlow.{plain-Flow, plain-Item};
 ghost use Rattle.rx_lower_walks.specs.Walks.{actions_in};
 ghost use Rattle.rx_modes_deeds.specs.Doings as spec;
 
 use crate::deeds::{Deeds, note};
-use rx_lower_flow::{Flow, Item};
+use rx_lower_walks::{Flow, Item};
 use std::alloc::{AllocError, Global};
 
 /// Notes the actions of a flow.
 #[cycle(gather)]
-#[tactic(auto, using(rx_lower_flow::proofs::Rules::flow_rules, crate::proofs::Noting::noted_append))]
+#[tactic(auto, using(rx_lower_walks::proofs::Rules::flow_rules, crate::proofs::Noting::noted_append))]
 fn gather(table: &mut Vec<Deeds>, flow: &Flow) -> Result<(), AllocError>
     ensures { OnOk result (spec.deeds_at table.new.items ≡ spec.all_noted (spec.deeds_at table.old.items) (actions_in (order_of (plain-Flow flow.now)))) }
 {
@@ -37,7 +37,7 @@ fn gather_both(table: &mut Vec<Deeds>, first: &Flow, second: &Flow) -> Result<()
 
 /// Notes the actions of an item.
 #[cycle(gather)]
-#[tactic(auto, using(rx_lower_flow::proofs::Rules::flow_rules))]
+#[tactic(auto, using(rx_lower_walks::proofs::Rules::flow_rules))]
 fn gather_item(table: &mut Vec<Deeds>, item: &Item) -> Result<(), AllocError>
     ensures { OnOk result (spec.deeds_at table.new.items ≡ spec.all_noted (spec.deeds_at table.old.items) (spec.item_actions (plain-Item item.now))) }
 {

@@ -11,10 +11,10 @@ use Rattle.rx_lower_walks.specs.Walks.{Among, here, there}
 use Rattle.rx_lower_walks.specs.Graph.{Site, site_at, Path, stop, go, Comes, at_hand, along}
 use Rattle.rx_lower_walks.specs.Pieces.{graph}
 use Rattle.rx_lower_walks.proofs.Sites.{paths_are_walks_of, reached}
-use Rattle.rx_facts_live.specs.Along.{Switch, behind, ahead}
-use Rattle.rx_facts_live.specs.Live.{living}
-use Rattle.rx_exits_marks.specs.Points.{Exit, Point, leaves, number}
-use Rattle.rx_exits_marks.specs.Marked.{shown, marked}
+use Rattle.rx_facts_tables.specs.Along.{Switch, behind, ahead}
+use Rattle.rx_facts_tables.specs.Live.{living}
+use Rattle.rx_exits_plan.specs.Points.{Exit, Point, leaves, number}
+use Rattle.rx_exits_plan.specs.Marked.{shown, marked}
 use Rattle.rx_exits_plan.specs.Asked.{Asked, IsLiveAt}
 use Rattle.rx_exits_plan.specs.Plan.{Plan}
 use Rattle.rx_modes_policy.specs.declared.uses.Uses.{Uses}

@@ -8,8 +8,8 @@ use Rattle.rx_typed.specs.Types.{Typ, integer, boolean, tuple_of, reference, nam
 use Rattle.rx_typed.specs.Tree.{Root, variable, temporary, Place}
 use Rattle.rx_lower_walks.specs.Actions.{Act, Action}
 use Rattle.rx_lower_walks.specs.Walks.{Among, here, there}
-use Rattle.rx_facts_init.specs.Setting.{is_behind}
-use Rattle.rx_facts_init.specs.Wholes.{is_variable}
+use Rattle.rx_facts_tables.specs.Setting.{is_behind}
+use Rattle.rx_facts_tables.specs.Wholes.{is_variable}
 use Rattle.rx_exits_plan.specs.Asked.{Asked}
 use Rattle.rx_exits_plan.specs.Plan.{Plan}
 use Rattle.rx_modes_policy.specs.declared.uses.Uses.{Uses}

@@ -8,11 +8,11 @@ use Rattle.rx_lower_walks.specs.Actions.{Action}
 use Rattle.rx_lower_walks.specs.Walks.{Among, here, there}
 use Rattle.rx_lower_walks.specs.Graph.{Site, site_at, Path, stop, go}
 use Rattle.rx_lower_walks.proofs.Sites.{paths_are_walks_of}
-use Rattle.rx_facts_init.specs.Places.{Frame, place_at, spot_parts}
-use Rattle.rx_facts_init.specs.Setting.{is_set, AllSet}
-use Rattle.rx_facts_init.proofs.Numbers.{in_between}
-use Rattle.rx_exits_marks.specs.Points.{enters}
-use Rattle.rx_exits_marks.specs.Marked.{shown, marked}
+use Rattle.rx_facts_tables.specs.Places.{Frame, place_at, spot_parts}
+use Rattle.rx_facts_tables.specs.Setting.{is_set, AllSet}
+use Rattle.rx_facts_tables.proofs.Numbers.{in_between}
+use Rattle.rx_exits_plan.specs.Points.{enters}
+use Rattle.rx_exits_plan.specs.Marked.{shown, marked}
 use Rattle.rx_exits_plan.specs.Asked.{Asked}
 use Rattle.rx_modes_uses.specs.Uses.{IsSetIn}
 use Rattle.rx_modes_uses.proofs.Computing.{graph_of}

@@ -7,9 +7,9 @@ use Rattle.rx_typed.specs.Types.{Typ, tuple_of, no_shape, shape_and, reference, 
 use Rattle.rx_typed.specs.Tree.{variable, Place, any, bind, exactly, parts, behind, part_and, no_part, by_value, by_reference, truth, operation, struct, Exp, read, borrow, build, assign, input, block, choose, loop, give, no_operand, operand_and, of_value, at_place, no_arm, arm_and, Body, ends, runs, lets, Function, own, under}
 use Rattle.rx_lower_walks.specs.Actions.{Act, Dead}
 use Rattle.rx_lower_walks.specs.Walks.{here}
-use Rattle.rx_facts_live.specs.Along.{Switch}
-use Rattle.rx_facts_live.specs.Live.{living}
-use Rattle.rx_exits_marks.specs.Points.{Exit, next, returns, leaves}
+use Rattle.rx_facts_tables.specs.Along.{Switch}
+use Rattle.rx_facts_tables.specs.Live.{living}
+use Rattle.rx_exits_plan.specs.Points.{Exit, next, returns, leaves}
 use Rattle.rx_exits_plan.specs.Asked.{Asked}
 use Rattle.rx_exits_plan.specs.Plan.{Plan}
 use Rattle.rx_exits_plan.proofs.Computing.{planned, shown}

@@ -2,7 +2,7 @@
 -- storage: its value is handed in or out. (Rust Reference, "Moved and copied types"; REM, OOPSLA 2023.)
 use Rattle.std.specs.Prelude.{ℕ, Bool, List}
 use Rattle.rx_lower_walks.specs.Walks.{Among}
-use Rattle.rx_exits_marks.specs.Points.{Exit}
+use Rattle.rx_exits_plan.specs.Points.{Exit}
 use Rattle.rx_exits_plan.specs.Asked.{Asked}
 use Rattle.rx_exits_plan.specs.Plan.{Plan, variables_of}
 use Rattle.rx_modes_uses.specs.First.{First}

@@ -5,9 +5,9 @@ use Rattle.rx_typed.specs.Tree.{unit, jump, Body, ends, Function, mark_of}
 use Rattle.rx_lower_walks.specs.Actions.{Action}
 use Rattle.rx_lower_walks.specs.Orders.{order_function}
 use Rattle.rx_lower_walks.specs.Walks.{actions_in}
-use Rattle.rx_exits_marks.specs.Blocks.{tail, before}
-use Rattle.rx_exits_marks.specs.Runs.{Run, in_front, behind}
-use Rattle.rx_exits_marks.specs.Changed.{Changes, changed_function}
+use Rattle.rx_exits_plan.specs.Blocks.{tail, before}
+use Rattle.rx_exits_plan.specs.Runs.{Run, in_front, behind}
+use Rattle.rx_exits_plan.specs.Changed.{Changes, changed_function}
 use Rattle.rx_exits_plan.specs.Asked.{Asked}
 use Rattle.rx_exits_plan.specs.Plan as plan
 

@@ -2,7 +2,7 @@
 -- (Rust Reference, "Place expressions and value expressions"; RFC 2094, "Reborrow constraints", shallow prefixes.)
 use Rattle.std.specs.Prelude.{◌≡◌, ℕ, true, false}
 use Rattle.rx_typed.specs.Tree.{Place, variable}
-use Rattle.rx_facts_init.specs.Setting.{is_behind}
+use Rattle.rx_facts_tables.specs.Setting.{is_behind}
 
 -- a path without a dereference
 pub record OwnPath (x : ℕ) (p : Place) : Type 0 where

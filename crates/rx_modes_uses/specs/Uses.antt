@@ -6,8 +6,8 @@ use Rattle.rx_typed.specs.Types.{Typ, reference, copies}
 use Rattle.rx_typed.specs.Tree.{own}
 use Rattle.rx_lower_walks.specs.Actions.{Action}
 use Rattle.rx_lower_walks.specs.Walks.{Among}
-use Rattle.rx_facts_init.specs.Setting.{AllSet}
-use Rattle.rx_exits_marks.specs.Points.{Exit, enters}
+use Rattle.rx_facts_tables.specs.Setting.{AllSet}
+use Rattle.rx_exits_plan.specs.Points.{Exit, enters}
 use Rattle.rx_exits_plan.specs.Asked.{Asked, ComesTo, IsLiveAt}
 use Rattle.rx_exits_plan.specs.Plan.{Plan}
 use Rattle.rx_modes_policy.specs.declared.uses.Uses.{Uses}

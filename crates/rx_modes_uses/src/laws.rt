@@ -2,7 +2,7 @@
 
 ghost use Rattle.std.specs.Prelude.{◌≡◌, ◌⊎◌, ℕ, Bool, true, List as ListOf};
 ghost use Rattle.rx_lower_walks.specs.Walks.{Among};
-ghost use Rattle.rx_exits_marks.specs.Points.{enters};
+ghost use Rattle.rx_exits_plan.specs.Points.{enters};
 ghost use Rattle.rx_exits_plan.specs.Asked.{Asked};
 ghost use Rattle.rx_exits_plan.specs.Plan.{Plan, IsPlan, is_moved};
 ghost use Rattle.rx_exits_plan.specs.Unreachable.{SomeComes};

@@ -14,10 +14,10 @@ use Rattle.rx_graph_closure.proofs.Listed as listing
 use Rattle.rx_lower_walks.specs.Graph.{Site}
 use Rattle.rx_region_outlives.specs.Related.{outlives}
 use Rattle.rx_region_outlives.specs.Implied.{HasPair}
-use Rattle.rx_region_constraints.specs.Constraints.{Context}
-use Rattle.rx_region_constraints.specs.Known.{told}
-use Rattle.rx_region_constraints.specs.Known as known
-use Rattle.rx_region_constraints.specs.Solutions.{Sets, AreLeast, end}
+use Rattle.rx_region.specs.Constraints.{Context}
+use Rattle.rx_region.specs.Known.{told}
+use Rattle.rx_region.specs.Known as known
+use Rattle.rx_region.specs.Solutions.{Sets, AreLeast, end}
 use Rattle.rx_region.specs.Tables.{Follows, ClosedFrom, Misses, Keeps}
 use Rattle.rx_region.specs.Tables as tables
 use Rattle.rx_region.proofs.Points.{there, within_words}

@@ -1,3 +1,8 @@
+pub mod LeastLaws
+mod Examples
+mod ConstraintsRules
+mod Finding
+mod Zips
 mod Rules
 mod Counting
 mod Points

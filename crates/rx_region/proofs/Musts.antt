@@ -6,12 +6,12 @@ use Rattle.rx_graph_cycles.specs.Reaches.{IsIn}
 use Rattle.rx_typed.specs.Regions.{RegionTyp, region-Ty, lifetimes_in}
 use Rattle.rx_typed.specs.Tree.{Root, variable, temporary}
 use Rattle.rx_lower_walks.specs.Graph.{Site}
-use Rattle.rx_typed_places.specs.Renaming.{unit_region}
-use Rattle.rx_facts_live.specs.declared.table.LiveTable.{LiveTable}
-use Rattle.rx_facts_live.specs.Live.{IsLive}
-use Rattle.rx_facts_live.specs.Tables.{Lives}
-use Rattle.rx_region_constraints.specs.Constraints.{Context, root_type, variables_of, temporary_type}
-use Rattle.rx_region_constraints.specs.Solutions.{Point, site, end}
+use Rattle.rx_typed.specs.Renaming.{unit_region}
+use Rattle.rx_facts_tables.specs.declared.table.LiveTable.{LiveTable}
+use Rattle.rx_facts_tables.specs.Live.{IsLive}
+use Rattle.rx_facts_tables.specs.LiveTables.{Lives}
+use Rattle.rx_region.specs.Constraints.{Context, root_type, variables_of, temporary_type}
+use Rattle.rx_region.specs.Solutions.{Point, site, end}
 use Rattle.rx_region.specs.Points.{number, has_point}
 use Rattle.rx_region.specs.Seeds.{AllBelow}
 use Rattle.rx_region.specs.Tables.{Must, AllLived, Seeded}

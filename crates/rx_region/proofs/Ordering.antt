@@ -4,7 +4,7 @@ use Rattle.rx_core.specs.declared.types.Bound.{Bound}
 use Rattle.rx_graph_closure.specs.Listing.{pair_if, pairs_of, pairs_from, pairs_below}
 use Rattle.rx_region_outlives.specs.Implied.{HasPair}
 use Rattle.rx_lower_walks.specs.Graph.{Site}
-use Rattle.rx_region_constraints.specs.Constraints.{Context}
+use Rattle.rx_region.specs.Constraints.{Context}
 use Rattle.rx_region.specs.declared.regions.Regions.{Regions}
 use Rattle.rx_region.specs.declared.pass.RegionFault.{RegionFault}
 use Rattle.rx_region.specs.Passing.{RegionAnswer, Precedes, FirstIsLeast, Solved, FirstOf}

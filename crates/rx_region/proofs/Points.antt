@@ -6,7 +6,7 @@ use Rattle.std.specs.Int.{bit_at}
 use Rattle.rx_graph_bits.specs.Rows.{holds}
 use Rattle.rx_graph.specs.Tables.{at, Regular}
 use Rattle.rx_graph.proofs.Spreading.{both_of}
-use Rattle.rx_region_constraints.specs.Solutions.{Point, site, end}
+use Rattle.rx_region.specs.Solutions.{Point, site, end}
 use Rattle.rx_region.specs.Points.{number, point, has_point}
 
 -- ---- what stands in a table is inside it

@@ -6,9 +6,9 @@ use Rattle.rx_graph_cycles.specs.Reaches.{IsIn}
 use Rattle.rx_graph.proofs.Spreading.{both_of}
 use Rattle.rx_typed.specs.Regions.{region-Ty, lifetimes_in}
 use Rattle.rx_typed.specs.Tree.{Temporary}
-use Rattle.rx_typed_places.specs.Renaming.{unit_region}
+use Rattle.rx_typed.specs.Renaming.{unit_region}
 use Rattle.rx_lower_lifetimes.specs.Values.{same}
-use Rattle.rx_region_constraints.specs.Constraints.{temporary_type}
+use Rattle.rx_region.specs.Constraints.{temporary_type}
 
 -- a type of the list has the lifetime in it
 pub record Named (ts : List Ty) (l : ℕ) : Type 0 where

@@ -11,10 +11,10 @@ use Rattle.rx_graph_cycles.specs.Reaches.{IsIn}
 use Rattle.rx_typed.specs.Tree.{Root, variable, temporary, Temporary}
 use Rattle.rx_lower_walks.specs.Walks.{Among, here, there}
 use Rattle.rx_lower_walks.specs.Graph.{Site, site_at, Path, go}
-use Rattle.rx_facts_live.specs.Along.{ahead}
+use Rattle.rx_facts_tables.specs.Along.{ahead}
 use Rattle.rx_lower_lifetimes.specs.Lowered.{Lifetimes}
-use Rattle.rx_facts_live.specs.declared.table.LiveTable.{LiveTable}
-use Rattle.rx_facts_live.specs.Live.{IsLive, living}
+use Rattle.rx_facts_tables.specs.declared.table.LiveTable.{LiveTable}
+use Rattle.rx_facts_tables.specs.Live.{IsLive, living}
 use Rattle.rx_region.specs.Seeds.{LiveBefore, LivedAmong, Lived, VariableLived, TemporaryLived, Grows, InsertedIf}
 
 -- ---- one row

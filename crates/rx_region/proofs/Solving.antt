@@ -7,9 +7,9 @@ use Rattle.rx_graph_closure.specs.Closing as closing
 use Rattle.rx_lower_walks.specs.Graph.{Site}
 use Rattle.rx_region_outlives.specs.Related.{outlives}
 use Rattle.rx_region_outlives.specs.Implied.{HasPair}
-use Rattle.rx_region_constraints.specs.Constraints.{Context}
-use Rattle.rx_region_constraints.specs.Solutions.{Point, Sets, Solution, Least, AreLeast}
-use Rattle.rx_region_constraints.specs.Solutions as solutions
+use Rattle.rx_region.specs.Constraints.{Context}
+use Rattle.rx_region.specs.Solutions.{Point, Sets, Solution, Least, AreLeast}
+use Rattle.rx_region.specs.Solutions as solutions
 use Rattle.rx_region.specs.Points.{number, point, has_point}
 use Rattle.rx_region.specs.Tables.{Must, Asks, IsTable, Meets}
 use Rattle.rx_region.specs.Tables as tables

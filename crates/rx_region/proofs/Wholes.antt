@@ -11,18 +11,18 @@ use Rattle.rx_graph_cycles.specs.Reaches.{IsIn}
 use Rattle.rx_typed.specs.Regions.{region-Ty, lifetimes_in}
 use Rattle.rx_typed.specs.Tree.{Root}
 use Rattle.rx_lower_walks.specs.Graph.{Site}
-use Rattle.rx_lower_emit.specs.declared.site.Site as code_site
-use Rattle.rx_lower_emit.specs.PlainSite.{plain-Site}
-use Rattle.rx_lower_flow.specs.declared.actions.Temporary as code
-use Rattle.rx_lower_flow.specs.PlainFlow.{plain-Temporary}
-use Rattle.rx_typed_places.specs.Renaming.{unit_region}
+use Rattle.rx_lower_walks.specs.declared.site.Site as code_site
+use Rattle.rx_lower_walks.specs.PlainSite.{plain-Site}
+use Rattle.rx_lower_walks.specs.declared.actions.Temporary as code
+use Rattle.rx_lower_walks.specs.PlainFlow.{plain-Temporary}
+use Rattle.rx_typed.specs.Renaming.{unit_region}
 use Rattle.rx_lower_lifetimes.specs.Lowered.{Lifetimes}
-use Rattle.rx_facts_live.specs.declared.table.LiveTable.{LiveTable}
-use Rattle.rx_facts_live.specs.Tables.{Lives}
-use Rattle.rx_region_constraints.specs.Constraints.{Context, root_type, variables_of}
-use Rattle.rx_region_constraints.specs.Known.{told}
-use Rattle.rx_region_constraints.specs.Known as known
-use Rattle.rx_region_constraints.specs.Solutions.{Point}
+use Rattle.rx_facts_tables.specs.declared.table.LiveTable.{LiveTable}
+use Rattle.rx_facts_tables.specs.LiveTables.{Lives}
+use Rattle.rx_region.specs.Constraints.{Context, root_type, variables_of}
+use Rattle.rx_region.specs.Known.{told}
+use Rattle.rx_region.specs.Known as known
+use Rattle.rx_region.specs.Solutions.{Point}
 use Rattle.rx_region.specs.Points.{has_point}
 use Rattle.rx_region.specs.Seeds.{Lived, VariableLived, TemporaryLived, Grows, AllBelow}
 use Rattle.rx_region.specs.Tables.{Must, AllLived, Seeded, ClosedFrom, Knows}

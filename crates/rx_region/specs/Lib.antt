@@ -1,3 +1,8 @@
+pub mod Constraints
+pub mod Solutions
+pub mod Known
+pub mod PlainContext
+pub mod Steps
 pub mod Points
 pub mod Seeds
 pub mod Tables

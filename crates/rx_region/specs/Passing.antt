@@ -3,9 +3,9 @@ use Rattle.std.specs.Prelude.{◌≡◌, ◌⊎◌, ℕ, ◌<◌, ◌≤◌, Lis
 use Rattle.rx_core.specs.declared.types.Bound.{Bound}
 use Rattle.rx_region_outlives.specs.Implied.{HasPair}
 use Rattle.rx_lower_walks.specs.Graph.{Site}
-use Rattle.rx_region_constraints.specs.Constraints.{Context}
-use Rattle.rx_region_constraints.specs.Known.{Missing}
-use Rattle.rx_region_constraints.specs.Solutions.{AreLeast}
+use Rattle.rx_region.specs.Constraints.{Context}
+use Rattle.rx_region.specs.Known.{Missing}
+use Rattle.rx_region.specs.Solutions.{AreLeast}
 use Rattle.rx_region.specs.Tables.{sets_of, Misses, Keeps}
 use Rattle.rx_region.specs.declared.regions.Regions.{Regions}
 use Rattle.rx_region.specs.declared.pass.RegionFault.{RegionFault}

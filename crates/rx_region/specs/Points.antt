@@ -1,7 +1,7 @@
 -- The points of a function by numbers: its sites first, then the ends of its own lifetimes.
 use Rattle.std.specs.Prelude.{ℕ, ◌+◌, ◌-◌, nat_lt, Bool, ◌&&◌, if◌then◌else◌, List}
 use Rattle.rx_graph.specs.Tables.{at}
-use Rattle.rx_region_constraints.specs.Solutions.{Point, site, end}
+use Rattle.rx_region.specs.Solutions.{Point, site, end}
 
 abbrev pub number : ℕ → Point → ℕ
 number n (site p) = p

@@ -4,15 +4,15 @@ use Rattle.rx_core.specs.declared.types.Ty.{Ty}
 use Rattle.rx_graph_bits.specs.Rows.{holds, Bounded}
 use Rattle.rx_graph.specs.Tables.{Regular}
 use Rattle.rx_graph_closure.specs.Filling.{Added}
-use Rattle.rx_facts_live.specs.declared.table.LiveTable.{LiveTable}
-use Rattle.rx_facts_live.specs.Tables.{Lives}
+use Rattle.rx_facts_tables.specs.declared.table.LiveTable.{LiveTable}
+use Rattle.rx_facts_tables.specs.LiveTables.{Lives}
 use Rattle.rx_graph_cycles.specs.Reaches.{IsIn}
 use Rattle.rx_typed.specs.Regions.{region-Ty, lifetimes_in}
 use Rattle.rx_typed.specs.Tree.{Root, variable, temporary, Temporary}
 use Rattle.rx_lower_walks.specs.Graph.{Site}
-use Rattle.rx_facts_live.specs.Live.{IsLive}
+use Rattle.rx_facts_tables.specs.Live.{IsLive}
 use Rattle.rx_lower_lifetimes.specs.Lowered.{Lifetimes}
-use Rattle.rx_region_constraints.specs.Constraints.{root_type}
+use Rattle.rx_region.specs.Constraints.{root_type}
 
 -- at the first sites where a variable or temporary is live
 pub record LiveBefore (g : List Site) (r : Root) (n i : ℕ) : Type 0 where

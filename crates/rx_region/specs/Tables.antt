@@ -9,15 +9,15 @@ use Rattle.rx_typed.specs.Regions.{lifetimes_in}
 use Rattle.rx_typed.specs.Tree.{Root}
 use Rattle.rx_lower_walks.specs.Graph.{Site}
 use Rattle.rx_lower_walks.specs.Text.{actions_of}
-use Rattle.rx_facts_live.specs.Live.{IsLive}
+use Rattle.rx_facts_tables.specs.Live.{IsLive}
 use Rattle.rx_region_outlives.specs.Implied.{HasPair}
 use Rattle.rx_lower_lifetimes.specs.Lowered.{Lifetimes}
-use Rattle.rx_facts_live.specs.declared.table.LiveTable.{LiveTable}
-use Rattle.rx_facts_live.specs.Tables.{Lives}
+use Rattle.rx_facts_tables.specs.declared.table.LiveTable.{LiveTable}
+use Rattle.rx_facts_tables.specs.LiveTables.{Lives}
 use Rattle.rx_region.specs.Seeds.{VariableLived, TemporaryLived}
-use Rattle.rx_region_constraints.specs.Constraints.{Context, root_type, imposed, variables_of}
-use Rattle.rx_region_constraints.specs.Known as knowing
-use Rattle.rx_region_constraints.specs.Solutions.{Point, site, end, Sets}
+use Rattle.rx_region.specs.Constraints.{Context, root_type, imposed, variables_of}
+use Rattle.rx_region.specs.Known as knowing
+use Rattle.rx_region.specs.Solutions.{Point, site, end, Sets}
 use Rattle.rx_region.specs.Points.{has_point}
 use Rattle.rx_region.specs.declared.outlives.Outlives.{Outlives}
 use Rattle.rx_region.specs.declared.regions.Regions.{Regions}

@@ -3,13 +3,13 @@
 ghost use Rattle.std.specs.Prelude.{IfOk, OnOk};
 ghost use Rattle.rx_graph_bits.specs.Rows as bits;
 ghost use Rattle.rx_graph.specs.Tables as tables;
-ghost use Rattle.rx_region_constraints.specs.PlainContext.{plain-Given};
+ghost use Rattle.rx_region.specs.PlainContext.{plain-Given};
 ghost use Rattle.rx_region.specs.Tables as spec;
 
+use crate::Given;
 use rx_core::{Bound, List};
 use rx_graph_bits::Row;
 use rx_graph_closure::{close, count, empty_rows, pairs_where, put_diagonal};
-use rx_region_constraints::Given;
 use std::alloc::{AllocError, Global};
 
 /// Which of a function's own lifetimes are known to outlive which.

@@ -2,9 +2,9 @@
 
 ghost use Rattle.std.specs.Prelude.{◌↔◌, ℕ, List as ListOf};
 ghost use Rattle.rx_lower_walks.specs.Graph.{Site};
-ghost use Rattle.rx_region_constraints.specs.Constraints.{Context};
-ghost use Rattle.rx_region_constraints.specs.Known.{Missing};
-ghost use Rattle.rx_region_constraints.specs.Solutions.{Sets, Solution};
+ghost use Rattle.rx_region.specs.Constraints.{Context};
+ghost use Rattle.rx_region.specs.Known.{Missing};
+ghost use Rattle.rx_region.specs.Solutions.{Sets, Solution};
 ghost use Rattle.rx_region.specs.Tables.{Asks, Meets, Keeps};
 ghost use Rattle.rx_region.specs.declared.outlives.Outlives.{Outlives as OutlivesOf};
 

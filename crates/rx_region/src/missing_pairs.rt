@@ -4,8 +4,8 @@ ghost use Rattle.std.specs.Prelude.{List as ListOf, [], IfOk, ◌≡◌, ◌&&�
 ghost use Rattle.rx_graph.specs.Tables.{at};
 ghost use Rattle.rx_lower_walks.specs.Graph as graphs;
 ghost use Rattle.rx_graph_closure.specs.Listing.{pairs_below};
-ghost use Rattle.rx_region_constraints.specs.Constraints.{Context};
-ghost use Rattle.rx_region_constraints.specs.Solutions.{AreLeast, end as end_point};
+ghost use Rattle.rx_region.specs.Constraints.{Context};
+ghost use Rattle.rx_region.specs.Solutions.{AreLeast, end as end_point};
 ghost use Rattle.rx_region.specs.Passing.{FirstIsLeast};
 ghost use Rattle.rx_region.specs.Tables as spec;
 

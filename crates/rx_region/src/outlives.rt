@@ -4,10 +4,10 @@ ghost use Rattle.std.specs.Prelude.{◌≡◌, ◌≤◌, length, map, IfOk, OnO
 ghost use Rattle.rx_graph_bits.specs.Rows as bits;
 ghost use Rattle.rx_graph.specs.Tables as tables;
 ghost use Rattle.rx_graph.specs.Tables.{at};
-ghost use Rattle.rx_lower_emit.specs.PlainSite.{plain-Site};
-ghost use Rattle.rx_facts_live.specs.Tables.{IsIndex, Lives};
-ghost use Rattle.rx_region_constraints.specs.Solutions.{site as site_point};
-ghost use Rattle.rx_region_constraints.specs.PlainContext.{plain-Given};
+ghost use Rattle.rx_lower_walks.specs.PlainSite.{plain-Site};
+ghost use Rattle.rx_facts_tables.specs.LiveTables.{IsIndex, Lives};
+ghost use Rattle.rx_region.specs.Solutions.{site as site_point};
+ghost use Rattle.rx_region.specs.PlainContext.{plain-Given};
 ghost use Rattle.rx_region.specs.Points.{has_point};
 ghost use Rattle.rx_lower_lifetimes.specs.Answer.{plain-Lifetimes};
 ghost use Rattle.rx_region.specs.Seeds.{Grows};
@@ -15,13 +15,13 @@ ghost use Rattle.rx_region.specs.Tables as spec;
 
 use crate::seeds::{add_temporaries, add_variables};
 use crate::types::behind_types;
+use crate::{Given, variables};
 use rx_core::{Bound, List};
-use rx_facts_live::LiveTable;
+use rx_facts_tables::LiveTable;
 use rx_graph_bits::Row;
 use rx_graph_closure::{all_below, count, empty_rows, join_first, put_diagonal};
-use rx_lower_emit::Site;
 use rx_lower_lifetimes::Lifetimes;
-use rx_region_constraints::{Given, variables};
+use rx_lower_walks::Site;
 use std::alloc::{AllocError, Global};
 
 /// What a function asks of its lifetimes: pairs, of which the set of `long` contains that of `short`, and what each set must

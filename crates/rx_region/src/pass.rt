@@ -1,19 +1,19 @@
 //! Whether the least sets of a function keep to what is known of its own lifetimes.
 
 ghost use Rattle.std.specs.Prelude.{◌≤◌, length, map, IfOk};
-ghost use Rattle.rx_lower_emit.specs.PlainSite.{plain-Site};
-ghost use Rattle.rx_facts_live.specs.Tables.{IsIndex, Lives};
-ghost use Rattle.rx_region_constraints.specs.PlainContext.{plain-Given};
+ghost use Rattle.rx_lower_walks.specs.PlainSite.{plain-Site};
+ghost use Rattle.rx_facts_tables.specs.LiveTables.{IsIndex, Lives};
+ghost use Rattle.rx_region.specs.PlainContext.{plain-Given};
 ghost use Rattle.rx_region.specs.Passing as spec;
 
+use crate::Given;
 use crate::known::known_pairs;
 use crate::missing_pairs::missing;
 use crate::outlives::constraints;
 use crate::regions::{Regions, solve};
 use rx_core::{Bound, List};
-use rx_facts_live::LiveTable;
-use rx_lower_emit::Site;
-use rx_region_constraints::Given;
+use rx_facts_tables::LiveTable;
+use rx_lower_walks::Site;
 use std::alloc::{AllocError, Global};
 
 /// Why a function's lifetimes do not fit.

@@ -5,8 +5,8 @@ ghost use Rattle.rx_graph_bits.specs.Rows as bits;
 ghost use Rattle.rx_graph.specs.Tables.{Regular};
 ghost use Rattle.rx_graph_closure.specs.Closing.{Closed};
 ghost use Rattle.rx_lower_walks.specs.Graph as graphs;
-ghost use Rattle.rx_region_constraints.specs.Constraints.{Context};
-ghost use Rattle.rx_region_constraints.specs.Solutions.{AreLeast, site as site_point, end as end_point};
+ghost use Rattle.rx_region.specs.Constraints.{Context};
+ghost use Rattle.rx_region.specs.Solutions.{AreLeast, site as site_point, end as end_point};
 ghost use Rattle.rx_region.specs.Tables as spec;
 
 use crate::outlives::{Outlives, has};

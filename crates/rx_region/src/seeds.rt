@@ -4,20 +4,20 @@ ghost use Rattle.std.specs.Prelude.{◌≡◌, ◌<◌, ◌≤◌, ◌+◌, ℕ,
 ghost use Rattle.rx_graph_bits.specs.Rows as bits;
 ghost use Rattle.rx_graph.specs.Tables as tables;
 ghost use Rattle.rx_lower_walks.specs.Graph as graphs;
-ghost use Rattle.rx_lower_flow.specs.PlainFlow.{plain-Root, plain-Temporary};
+ghost use Rattle.rx_lower_walks.specs.PlainFlow.{plain-Root, plain-Temporary};
 ghost use Rattle.rx_graph_closure.specs.Filling.{HasExactly, Added};
 ghost use Rattle.rx_lower_lifetimes.specs.Answer.{plain-Lifetimes};
-ghost use Rattle.rx_facts_live.specs.Live.{IsLive};
-ghost use Rattle.rx_facts_live.specs.Tables.{IsIndex, Lives};
+ghost use Rattle.rx_facts_tables.specs.Live.{IsLive};
+ghost use Rattle.rx_facts_tables.specs.LiveTables.{IsIndex, Lives};
 ghost use Rattle.rx_region.specs.Seeds as spec;
 
+use crate::root_type;
 use crate::types::lifetimes_of;
-use rx_facts_live::LiveTable;
+use rx_facts_tables::LiveTable;
 use rx_graph_bits::Row;
 use rx_graph_closure::join_all;
-use rx_lower_flow::{Root, Temporary};
 use rx_lower_lifetimes::Lifetimes;
-use rx_region_constraints::root_type;
+use rx_lower_walks::{Root, Temporary};
 use std::alloc::{AllocError, Global};
 
 /// Adds a number where it is wanted.

@@ -11,16 +11,16 @@ use Rattle.rx_lower_lifetimes.specs.Lowered.{bounds_of}
 use Rattle.rx_lower_lifetimes.specs.Numbered.{Own}
 use Rattle.rx_typeck_typed.specs.declared.typed.TypedFn.{TypedFn}
 use Rattle.rx_facts.specs.Functions.{sites_of}
-use Rattle.rx_region_constraints.specs.Constraints.{Context}
-use Rattle.rx_region_constraints.specs.Solutions.{site, end, Sets, AreLeast}
-use Rattle.rx_region_constraints.specs.Known as knowing
-use Rattle.rx_region_constraints.specs.Known.{told, Missing}
-use Rattle.rx_region_constraints.proofs.LeastLaws.{least_serves, least_is_within}
+use Rattle.rx_region.specs.Constraints.{Context}
+use Rattle.rx_region.specs.Solutions.{site, end, Sets, AreLeast}
+use Rattle.rx_region.specs.Known as knowing
+use Rattle.rx_region.specs.Known.{told, Missing}
+use Rattle.rx_region.proofs.LeastLaws.{least_serves, least_is_within}
 use Rattle.rx_region.specs.Tables.{Follows, itself, by}
 use Rattle.rx_loan.specs.Accesses.{Loan}
 use Rattle.rx_loan.specs.Loans.{loans_of, Meets, IsLegal}
 use Rattle.rx_loan.proofs.Walking.{fewer_legal}
-use Rattle.rx_loan_check.specs.Accepted.{at_sites, IsAccepted}
+use Rattle.rx_loan.specs.Accepted.{at_sites, IsAccepted}
 use Rattle.rx_check.specs.Contexts.{context_of}
 use Rattle.rx_repair.specs.Bounded.{bounded, with_bounds, IsFunction}
 use Rattle.rx_repair.specs.Calls.{CallsNotItself}

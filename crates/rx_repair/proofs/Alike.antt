@@ -6,18 +6,18 @@ use Rattle.rx_lower.specs.Functions.{function}
 use Rattle.rx_lower_lifetimes.specs.Lowered.{Lifetimes, lifetimes}
 use Rattle.rx_typeck_typed.specs.declared.typed.TypedFn.{TypedFn}
 use Rattle.rx_facts.specs.Functions.{sites_of}
-use Rattle.rx_region_constraints.specs.Known.{Missing}
+use Rattle.rx_region.specs.Known.{Missing}
 use Rattle.rx_region.specs.Tables.{Misses}
 use Rattle.rx_check.specs.Contexts.{AreAsked, context_of}
-use Rattle.rx_repair.proofs.Asking.{missing_alike}
-use Rattle.rx_region_constraints.specs.Constraints.{Context}
+use Rattle.rx_repair.proofs.RepairAsking.{missing_alike}
+use Rattle.rx_region.specs.Constraints.{Context}
 use Rattle.rx_lower_walks.specs.Graph.{Site}
-use Rattle.rx_lower_emit.specs.declared.site.Site.{Site as CodeSite}
-use Rattle.rx_lower_emit.specs.PlainSite.{plain-Site}
+use Rattle.rx_lower_walks.specs.declared.site.Site.{Site as CodeSite}
+use Rattle.rx_lower_walks.specs.PlainSite.{plain-Site}
 use Rattle.rx_lower_lifetimes.specs.declared.whole.Graph.{Graph}
 use Rattle.rx_lower_lifetimes.specs.Answer.{plain-Lifetimes, IsLowered}
-use Rattle.rx_facts_live.specs.declared.table.LiveTable.{LiveTable}
-use Rattle.rx_facts_live.specs.Tables.{Lives}
+use Rattle.rx_facts_tables.specs.declared.table.LiveTable.{LiveTable}
+use Rattle.rx_facts_tables.specs.LiveTables.{Lives}
 use Rattle.rx_repair.specs.LeastBounds.{IsLeastBound}
 use Rattle.rx_repair.specs.Lacking.{AreMissing, Lacks, Needs}
 

@@ -4,17 +4,17 @@ use Rattle.std.proofs.Common.{◌≡◌, ℕ, ◌<◌, ◌-◌, true, List, leng
 use Rattle.rx_graph_cycles.specs.Reaches.{IsIn}
 use Rattle.rx_typed.specs.Regions.{RegionTyp, lifetimes_in}
 use Rattle.rx_typed.specs.Tree.{Root, variable, temporary}
-use Rattle.rx_typed_places.specs.Renaming.{unit_region}
+use Rattle.rx_typed.specs.Renaming.{unit_region}
 use Rattle.rx_lower_walks.specs.Graph.{Site}
 use Rattle.rx_lower_walks.specs.Text.{actions_of}
 use Rattle.rx_lower_lifetimes.specs.Lowered.{Lifetimes}
-use Rattle.rx_region_constraints.specs.Constraints.{Context, root_type, temporary_type, imposed}
-use Rattle.rx_region_constraints.specs.Solutions.{Point, site, Sets, Solution, Least, whole, ends, live, longer, AreLeast}
+use Rattle.rx_region.specs.Constraints.{Context, root_type, temporary_type, imposed}
+use Rattle.rx_region.specs.Solutions.{Point, site, Sets, Solution, Least, whole, ends, live, longer, AreLeast}
 use Rattle.rx_region.specs.Tables.{Follows, itself, by}
 use Rattle.rx_loan.specs.Accesses.{Loan}
 use Rattle.rx_loan.specs.Loans.{InScope, IsLegal}
 use Rattle.rx_loan.proofs.Walking.{more_scope, fewer_legal}
-use Rattle.rx_loan_check.specs.Accepted.{at_sites}
+use Rattle.rx_loan.specs.Accepted.{at_sites}
 use Rattle.rx_repair.specs.Asking.{AsksNoMore}
 
 -- ---- along pairs

@@ -1,133 +1,295 @@
--- What a function lacks is the same by any lists of the pairs that fields ask: they impose the same on its lifetimes, and tell the same of
--- its own.
-use Rattle.std.proofs.Common.{◌≡◌, inl, inr, ℕ, ◌+◌, Bool, true, false, if◌then◌else◌, List, [], ◌∷◌, ◌++◌, get_or, refl, ap, subst, ◌∙◌}
-use Rattle.rx_core.specs.declared.types.Bound.{Bound}
-use Rattle.rx_typed.specs.declared.declarations.Decl.{Decl}
-use Rattle.rx_typed.specs.Regions.{RegionTyp, RegionTyps, no_region, region_and, regions}
-use Rattle.rx_typed.specs.Tree.{Temporary}
-use Rattle.rx_lower_walks.specs.Graph.{Site}
-use Rattle.rx_lower_walks.specs.Text.{actions_of}
-use Rattle.rx_lower_walks.specs.Actions.{Act, Declare, Dead, Read, Write, Borrow, Test, Call, Build, Input, Print, Give, Action}
-use Rattle.rx_region_outlives.specs.Implied.{HasPair, implied_in, implied_among}
-use Rattle.rx_region_outlives.proofs.ImpliedLemmas.{has_front, has_behind, has_either, implied_told, among_told}
-use Rattle.rx_typed_places.specs.Renaming.{Signature, unit_region}
-use Rattle.rx_typed_places.specs.Places.{part_at}
-use Rattle.rx_lower_lifetimes.specs.Numbered.{Own, none, region, signed}
-use Rattle.rx_lower_lifetimes.specs.Lowered.{Lifetimes}
-use Rattle.rx_region_constraints.specs.Constraints.{Context, held, flows, parts_flow, parameters_flow, made_parts, signature_asks, asks, all_ask, is_among, formed, imposed}
-use Rattle.rx_region_constraints.specs.Known.{Known, itself, by, parameters_ask, told, Missing}
-use Rattle.rx_region_constraints.specs.Solutions.{Point, Least, whole, ends, live, longer}
-use Rattle.rx_check.specs.Contexts.{AreAsked}
+-- What the rules of types ask, one piece behind the other, and what holds where it is met.
+use Rattle.std.proofs.Common.{◌≡◌, ℕ, Bool, true, false, not, List, [], ◌∷◌, ◌++◌, Option, Some, None, refl, sym, ap, ◌∙◌, append_assoc, append-nil}
+use Rattle.rx_core.specs.declared.types.Kind.{Kind}
+use Rattle.rx_tree.specs.declared.tree.BinaryOp.{BinaryOp}
+use Rattle.rx_typed.specs.declared.nodes.Node.{Node}
+use Rattle.rx_typed.specs.declared.nodes.Site.{Site}
+use Rattle.rx_typed.specs.declared.nodes.Use.{Use}
+use Rattle.rx_typed.specs.Named as named
+use Rattle.rx_typed.specs.Named.{Written, WrittenTypes, Pattern, Patterns, FieldPatterns, Exp, Exps, Else, Fields, Arms, Body, Statement, Statements, Parameter, Function, written_node, pattern_node, whole_binding, node_of, body_node, is_place, is_variable, root, never, body_never, else_never, some_diverges}
+use Rattle.rx_typeck_solver.specs.declared.facts.Broken.{Broken}
+use Rattle.rx_typeck_solver.specs.declared.facts.Subject.{Subject}
+use Rattle.rx_typeck_solver.specs.declared.facts.Op.{Op}
+use Rattle.rx_typeck_solver.specs.declared.facts.Op.TheVariants as op
+use Rattle.rx_typeck_solver.specs.declared.facts.Passing.{Passing}
+use Rattle.rx_typeck_solver.specs.declared.facts.Fact.{Fact}
+use Rattle.rx_typeck_solver.specs.declared.facts.Fact.TheVariants as fact
+use Rattle.rx_typeck_solver.specs.declared.facts.Demand.{Demand}
+use Rattle.rx_typeck_solver.specs.Facts.{Types, Known, MeetsAll, MeetsEach}
+use Rattle.rx_typeck_typed.specs.Asking.{Asking, ◌>>◌, nothing, asks, when}
+use Rattle.rx_typeck_typed.specs.Demands as rules
 
--- the second list has all pairs of the first
-abbrev Within : List Bound → List Bound → Type 0
-Within ps qs = (l k : ℕ) → HasPair ps l k → HasPair qs l k
+pub record Asks (K : Known) (A : Types) (R : Type 0) (a : Asking) : Type 0 where
+  pub more : List Demand
+  pub adds : (ds : List Demand) → a ds ≡ ds ++ more
+  pub gives : MeetsEach K A more → R
 
-both_within : (ps qs rs ss : List Bound) → Within ps rs → Within qs ss → Within (ps ++ qs) (rs ++ ss)
-both_within ps qs rs ss a b l k h =
-    elim (has_either ps qs l k h) [ inl x ↦ has_front rs ss l k (a l k x) | inr y ↦ has_behind rs ss l k (b l k y) ]
+abbrev pub U : Known → Types → Asking → Type 0
+U K A a = Asks K A (Unit {0}) a
 
-chosen_within : (b : Bool) (ps qs : List Bound) → Within ps qs → Within (if b then [] else ps) (if b then [] else qs)
-chosen_within true ps qs a l k h = h
-chosen_within false ps qs a l k h = a l k h
+pub met_front : (K : Known) (A : Types) (x y : List Demand) → MeetsEach K A (x ++ y) → MeetsEach K A x
+met_front K A [] y h = tt
+met_front K A (d ∷ x) y h = (h.0, met_front K A x y h.1)
 
-equal_within : (ps qs : List Bound) → ps ≡ qs → Within ps qs
-equal_within ps qs e l k h = subst (λ (x : List Bound). HasPair x l k) e h
+pub met_behind : (K : Known) (A : Types) (x y : List Demand) → MeetsEach K A (x ++ y) → MeetsEach K A y
+met_behind K A [] y h = h
+met_behind K A (d ∷ x) y h = met_behind K A x y h.1
 
-abbrev pub context : List Decl → (ℕ → List Bound) → Lifetimes → Context
-context D P L = record { items = D; implied = P; lifetimes = L }
+-- no place is wanted there
+abbrev pub NoPlace : Site → Type 0
+NoPlace t = t ≡ Site.Place → ⊥
 
-module _ (D : List Decl) (P Q : ℕ → List Bound) (asked : AreAsked D P) (other : AreAsked D Q) where
-  implied_within : (t : RegionTyp) → Within (implied_in P t) (implied_in Q t)
-  implied_within t l k h = (implied_told (regions D) Q t (λ i n. other i) l k).1 ((implied_told (regions D) P t (λ i n. asked i) l k).0 h)
+-- an `if` is no place, whether it has one branch or two
+abbrev pub OnePart : Node → Else → Type 0
+OnePart n named.absent = NoPlace n.site
+OnePart n (named.present e) = Unit {0}
 
-  among_within : (ts : RegionTyps) → Within (implied_among P ts) (implied_among Q ts)
-  among_within ts l k h = (among_told (regions D) Q ts (λ i n. other i) l k).1 ((among_told (regions D) P ts (λ i n. asked i) l k).0 h)
+abbrev pub TwoParts : Node → Else → Type 0
+TwoParts n named.absent = Unit {0}
+TwoParts n (named.present e) = NoPlace n.site
 
-  module _ (L : Lifetimes) where
-    abbrev first : Context
-    first = context D P L
+pub no_if_place : (n : Node) (o : Else) → OnePart n o → TwoParts n o → NoPlace n.site
+no_if_place n named.absent a b = a
+no_if_place n (named.present e) a b = b
 
-    abbrev second : Context
-    second = context D Q L
+module _ {K : Known} {A : Types} where
+  pub asks_map : {R S : Type 0} {a : Asking} → (R → S) → Asks K A R a → Asks K A S a
+  asks_map f x = record { more = x.more; adds = x.adds; gives = λ h. f (x.gives h) }
 
-    signature_within : (S : Signature) → Within (signature_asks first S) (signature_asks second S)
-    signature_within S = both_within S.bounds (implied_among P S.params ++ implied_in P S.answer) S.bounds (implied_among Q S.params ++ implied_in Q S.answer) (λ l k h. h)
-        (both_within (implied_among P S.params) (implied_in P S.answer) (implied_among Q S.params) (implied_in Q S.answer) (among_within S.params) (implied_within S.answer))
+  pub quietly : {R : Type 0} {a : Asking} → Asks K A R a → U K A a
+  quietly x = record { more = x.more; adds = x.adds; gives = λ h. tt }
 
-    formed_within : (x : ℕ) (ts : List RegionTyp) → Within (formed first x ts) (formed second x ts)
-    formed_within x [] = λ l k h. h
-    formed_within x (t ∷ ts) =
-        both_within (if is_among x L.params then [] else implied_in P t) (formed first (x + 1) ts) (if is_among x L.params then [] else implied_in Q t) (formed second (x + 1) ts)
-        (chosen_within (is_among x L.params) (implied_in P t) (implied_in Q t) (implied_within t)) (formed_within (x + 1) ts)
+  pub none : U K A nothing
+  none = record { more = []; adds = λ ds. sym (append-nil ds); gives = λ h. tt }
 
-    parameters_within : (xs : List ℕ) → Within (parameters_ask first xs) (parameters_ask second xs)
-    parameters_within [] = λ l k h. h
-    parameters_within (x ∷ xs) =
-        both_within (implied_in P (get_or L.types x unit_region)) (parameters_ask first xs) (implied_in Q (get_or L.types x unit_region)) (parameters_ask second xs)
-        (implied_within (get_or L.types x unit_region)) (parameters_within xs)
-
-    told_within : Within (told first) (told second)
-    told_within =
-        both_within L.bounds (parameters_ask first L.params ++ implied_in P L.answer) L.bounds (parameters_ask second L.params ++ implied_in Q L.answer) (λ l k h. h)
-        (both_within (parameters_ask first L.params) (implied_in P L.answer) (parameters_ask second L.params) (implied_in Q L.answer) (parameters_within L.params) (implied_within L.answer))
-
-    parts_alike : (us : RegionTyps) (is : List ℕ) (ts : List Temporary) → parts_flow first us is ts ≡ parts_flow second us is ts
-    parts_alike us [] ts = refl
-    parts_alike us (i ∷ is) [] = refl
-    parts_alike us (i ∷ is) (t ∷ ts) = λ j. flows first (held first t) (part_at us i) ++ parts_alike us is ts j
-
-    parameters_alike : (us : RegionTyps) (ts : List Temporary) → parameters_flow first us ts ≡ parameters_flow second us ts
-    parameters_alike no_region ts = refl
-    parameters_alike (region_and u us) [] = refl
-    parameters_alike (region_and u us) (t ∷ ts) = λ j. flows first (held first t) u ++ parameters_alike us ts j
-
-    asks_within : (a : Act) (o : Own) → Within (asks first a o) (asks second a o)
-    asks_within (Call f ts d) (signed S) =
-        both_within (signature_asks first S) (parameters_flow first S.params ts ++ flows first S.answer (held first d))
-        (signature_asks second S) (parameters_flow second S.params ts ++ flows second S.answer (held second d)) (signature_within S)
-        (equal_within (parameters_flow first S.params ts ++ flows first S.answer (held first d)) (parameters_flow second S.params ts ++ flows second S.answer (held second d))
-        (λ j. parameters_alike S.params ts j ++ flows first S.answer (held first d)))
-    asks_within (Build w is ts d) o = equal_within (asks first (Build w is ts d) o) (asks second (Build w is ts d) o) (parts_alike (made_parts D w (held second d)) is ts)
-    asks_within (Read m p d) o = λ l k h. h
-    asks_within (Write p t ss) o = λ l k h. h
-    asks_within (Borrow s p d) (region r) = λ l k h. h
-    asks_within (Borrow s p d) none = λ l k h. h
-    asks_within (Borrow s p d) (signed S) = λ l k h. h
-    asks_within (Call f ts d) none = λ l k h. h
-    asks_within (Call f ts d) (region r) = λ l k h. h
-    asks_within (Give t) o = λ l k h. h
-    asks_within (Declare x) o = λ l k h. h
-    asks_within (Dead x) o = λ l k h. h
-    asks_within (Test p c) o = λ l k h. h
-    asks_within (Input d) o = λ l k h. h
-    asks_within (Print t) o = λ l k h. h
-
-    all_within : (us : List Action) (os : List Own) → Within (all_ask first us os) (all_ask second us os)
-    all_within [] os = λ l k h. h
-    all_within (a ∷ us) [] = λ l k h. h
-    all_within (a ∷ us) (o ∷ os) =
-        both_within (asks first a.act o) (all_ask first us os) (asks second a.act o) (all_ask second us os) (asks_within a.act o) (all_within us os)
-
-    imposed_within : (us : List Action) → Within (imposed first us) (imposed second us)
-    imposed_within us =
-        both_within (all_ask first us L.owned) (formed first 0 L.types) (all_ask second us L.owned) (formed second 0 L.types) (all_within us L.owned) (formed_within 0 L.types)
-
-    least_alike : (g : List Site) (l : ℕ) (x : Point) → Least first g l x → Least second g l x
-    least_alike g l x (whole own there) = whole own there
-    least_alike g l x (ends own) = ends own
-    least_alike g l x (live r is there) = live r is there
-    least_alike g l x (longer k pair h) = longer k (imposed_within (actions_of g) l k pair) (least_alike g k x h)
-
-    known_alike : (l k : ℕ) → Known first l k → Known second l k
-    known_alike l k itself = itself
-    known_alike l k (by m pair h) = by m (told_within l m pair) (known_alike m k h)
-
-module _ (D : List Decl) (P Q : ℕ → List Bound) (asked : AreAsked D P) (other : AreAsked D Q) (L : Lifetimes) where
-  pub missing_alike : (g : List Site) (l k : ℕ) → Missing (context D P L) g l k → Missing (context D Q L) g l k
-  missing_alike g l k m = record {
-    long = m.long;
-    short = m.short;
-    needed = least_alike D P Q asked other L g l _ m.needed;
-    unknown = λ h. m.unknown (known_alike D Q P other asked L l k h);
+  pub both : {R S : Type 0} {a b : Asking} → Asks K A R a → Asks K A S b → Asks K A (R × S) (a >> b)
+  both {a = a} {b = b} x y = record {
+    more = x.more ++ y.more;
+    adds = λ ds. y.adds (a ds) ∙ ap (λ (l : List Demand). l ++ y.more) (x.adds ds) ∙ append_assoc ds x.more y.more;
+    gives = λ h. (x.gives (met_front K A x.more y.more h), y.gives (met_behind K A x.more y.more h));
   }
+
+  -- the first, the second, or none of what they give
+  pub then_first : {R S : Type 0} {a b : Asking} → Asks K A R a → Asks K A S b → Asks K A R (a >> b)
+  then_first x y = asks_map (λ h. h.0) (both x y)
+
+  pub then_second : {R S : Type 0} {a b : Asking} → Asks K A R a → Asks K A S b → Asks K A S (a >> b)
+  then_second x y = asks_map (λ h. h.1) (both x y)
+
+  pub then_u : {R S : Type 0} {a b : Asking} → Asks K A R a → Asks K A S b → U K A (a >> b)
+  then_u x y = quietly (both x y)
+
+  pub one_asked : (n : Node) (b : Broken) (o : Bool) (fs : List Fact) → Asks K A (MeetsAll K A fs) (asks n b o fs)
+  one_asked n b o fs = record { more = record { node = n.number; span = n.span; broken = b; unsuffixed = o; facts = fs } ∷ []; adds = λ ds. refl; gives = λ h. h.0 }
+
+  pub quiet : (n : Node) (b : Broken) (o : Bool) (fs : List Fact) → U K A (asks n b o fs)
+  quiet n b o fs = quietly (one_asked n b o fs)
+
+  pub when_u : (b : Bool) (a : Asking) → U K A a → U K A (when b a)
+  when_u true a x = x
+  when_u false a x = none
+
+  pub lifetimes_u : (n : Node) (i : ℕ) (l : Option ℕ) → U K A (rules.lifetimes_asked n i l)
+  lifetimes_u n i None = none
+  lifetimes_u n i (Some k) = quiet n _ _ _
+
+  mutual
+    pub type_u : (t : Written) → U K A (rules.of_type t)
+    type_u (named.a_kind n k) = quiet n _ _ _
+    type_u (named.a_bool n) = quiet n _ _ _
+    type_u (named.a_tuple n ts) = then_u (types_u ts) (quiet n _ _ _)
+    type_u (named.a_reference n m t) = then_u (type_u t) (quiet n _ _ _)
+    type_u (named.an_item n i ls) = then_u (lifetimes_u n i ls) (quiet n _ _ _)
+
+    pub types_u : (ts : WrittenTypes) → U K A (rules.of_types ts)
+    types_u named.no_written = none
+    types_u (named.written_and t ts) = then_u (type_u t) (types_u ts)
+
+  pub whole_type_u : (t : Written) → U K A (rules.whole_type t)
+  whole_type_u t = then_u (type_u t) (quiet (written_node t) _ _ _)
+
+  pub refused : (n : Node) (b : Broken) → Asks K A ⊥ (asks n b false (fact.Never ∷ []))
+  refused n b = asks_map (λ h. h.0) (one_asked n b false (fact.Never ∷ []))
+
+  pub value_asks : (n : Node) (t : Site) → Asks K A (NoPlace t) (rules.value_in n t)
+  value_asks n Site.Place = asks_map (λ h e. h) (refused n _)
+  value_asks n Site.Expects = asks_map (λ h e. cc) (quiet n _ _ _)
+  value_asks n Site.Initialises = asks_map (λ h e. cc) (quiet n _ _ _)
+  value_asks n Site.Reborrows = asks_map (λ h e. cc) (quiet n _ _ _)
+  value_asks n Site.Value = asks_map (λ h e. cc) none
+  value_asks n Site.Scrutinee = asks_map (λ h e. cc) none
+
+  pub never_asks : (n : Node) (t : Site) → Asks K A (NoPlace t) (rules.never_in n t)
+  never_asks n Site.Place = asks_map (λ h e. h) (refused n _)
+  never_asks n Site.Value = asks_map (λ h e. cc) none
+  never_asks n Site.Scrutinee = asks_map (λ h e. cc) none
+  never_asks n Site.Expects = asks_map (λ h e. cc) none
+  never_asks n Site.Initialises = asks_map (λ h e. cc) none
+  never_asks n Site.Reborrows = asks_map (λ h e. cc) none
+
+  pub joins_asks : (n : Node) (t : Site) → Asks K A (NoPlace t) (rules.joins n t)
+  joins_asks n Site.Place = asks_map (λ h e. h) (refused n _)
+  joins_asks n Site.Value = asks_map (λ h e. cc) none
+  joins_asks n Site.Scrutinee = asks_map (λ h e. cc) none
+  joins_asks n Site.Reborrows = asks_map (λ h e. cc) (quiet n _ _ _)
+  joins_asks n Site.Expects = asks_map (λ h e. cc) (quiet n _ _ _)
+  joins_asks n Site.Initialises = asks_map (λ h e. cc) (quiet n _ _ _)
+
+  pub join_asks : (n : Node) (v : Bool) → Asks K A (NoPlace n.site) (rules.join n v)
+  join_asks n true = never_asks n n.site
+  join_asks n false = joins_asks n n.site
+
+  pub own_asks : (n : Node) (o : Op) (xs : List Subject) → Asks K A (NoPlace n.site) (rules.own n o xs)
+  own_asks n o xs = then_second (quiet n _ _ _) (value_asks n n.site)
+
+  pub borrowed_asks : (n : Node) (m : Bool) (e : Node) (x : Use) (ps : List Passing) → Asks K A (NoPlace n.site) (rules.borrowed n m e x ps)
+  borrowed_asks n m e x ps = then_second (quiet n _ _ _) (then_second (quiet n _ _ _) (then_second (when_u m _ (quiet n _ _ _)) (value_asks n n.site)))
+
+  pub binding_u : (n : Node) (anc : List Passing) (s : rules.Matched) → U K A (rules.binding_of n anc s)
+  binding_u n anc rules.a_value = none
+  binding_u n anc (rules.a_place x qs) = then_u (quiet n _ _ _) (quiet n _ _ _)
+  binding_u n anc (rules.an_initialiser e x qs) = then_u (quiet n _ _ _) (quiet n _ _ _)
+
+  pub bound_u : (s : rules.Matched) (anc : List Passing) (n : Node) (x : ℕ) (m : Bool) → U K A (rules.bound_at s anc n x m)
+  bound_u s anc n x m = then_u (quiet n _ _ _) (then_u (quiet n _ _ _) (then_u (when_u m _ (quiet n _ _ _)) (binding_u n anc s)))
+
+  pub literal_u : (n : Node) (g : Bool) (v : ℕ) (k : Option Kind) → U K A (rules.literal_at n g v k)
+  literal_u n g v k = then_u (quiet n _ _ _) (then_u (when_u g _ (quiet n _ _ _)) (then_u (quiet n _ _ _) (quiet n _ _ _)))
+
+  pub part_u : (n : Node) (v : Bool) (m : Node) → U K A (rules.as_part n v m)
+  part_u n v m = when_u (not v) _ (quiet n _ _ _)
+
+  pub before_u : (n : Node) (t : Site) (m : Node) → U K A (rules.part_before n t m)
+  before_u n Site.Expects m = quiet m _ _ _
+  before_u n Site.Initialises m = quiet m _ _ _
+  before_u n Site.Value m = none
+  before_u n Site.Place m = none
+  before_u n Site.Scrutinee m = none
+  before_u n Site.Reborrows m = none
+
+  pub after_u : (n : Node) (t : Site) (v : Bool) (m : Node) → U K A (rules.part_after n t v m)
+  after_u n Site.Expects v m = none
+  after_u n Site.Initialises v m = none
+  after_u n Site.Value v m = part_u n v m
+  after_u n Site.Place v m = part_u n v m
+  after_u n Site.Scrutinee v m = part_u n v m
+  after_u n Site.Reborrows v m = part_u n v m
+
+  pub tested_u : (n : Node) (v : Bool) → U K A (rules.tested n v)
+  tested_u n v = when_u (not v) _ (quiet n _ _ _)
+
+  pub printed_u : (n : Node) (v : Bool) → U K A (rules.printed n v)
+  printed_u n v = when_u (not v) _ (quiet n _ _ _)
+
+  pub unit_u : (n : Node) (v : Bool) → U K A (rules.nothing_given n v)
+  unit_u n v = when_u (not v) _ (quiet n _ _ _)
+
+  pub not_never_u : (n : Node) (v : Bool) → U K A (rules.not_never n v)
+  not_never_u n v = when_u v _ (quiet n _ _ _)
+
+  pub equality_asks : (n a : Node) (x : Bool) (b : Node) (y : Bool) → Asks K A (NoPlace n.site) (rules.equality n a x b y)
+  equality_asks n a x b y = then_second (quiet n _ _ _) (own_asks n op.Truth [])
+
+  pub order_asks : (n a : Node) (x : Bool) (b : Node) (y : Bool) → Asks K A (NoPlace n.site) (rules.order n a x b y)
+  order_asks n a x b y = then_second (quiet n _ _ _) (own_asks n op.Truth [])
+
+  pub lazy_asks : (n a : Node) (x : Bool) (b : Node) (y : Bool) → Asks K A (NoPlace n.site) (rules.lazy n a x b y)
+  lazy_asks n a x b y = then_second (quiet n _ _ _) (own_asks n op.Truth [])
+
+  pub arithmetic_asks : (n a : Node) (x : Bool) (b : Node) (y : Bool) → Asks K A (NoPlace n.site) (rules.arithmetic n a x b y)
+  arithmetic_asks n a x b y = then_second (quiet n _ _ _) (value_asks n n.site)
+
+  pub operation_asks : (o : BinaryOp) (n a : Node) (x : Bool) (b : Node) (y : Bool) → Asks K A (NoPlace n.site) (rules.operation o n a x b y)
+  operation_asks BinaryOp.Or n a x b y = lazy_asks n a x b y
+  operation_asks BinaryOp.And n a x b y = lazy_asks n a x b y
+  operation_asks BinaryOp.Eq n a x b y = equality_asks n a x b y
+  operation_asks BinaryOp.Ne n a x b y = equality_asks n a x b y
+  operation_asks BinaryOp.Lt n a x b y = order_asks n a x b y
+  operation_asks BinaryOp.Le n a x b y = order_asks n a x b y
+  operation_asks BinaryOp.Gt n a x b y = order_asks n a x b y
+  operation_asks BinaryOp.Ge n a x b y = order_asks n a x b y
+  operation_asks _ n a x b y = arithmetic_asks n a x b y
+
+  pub updated_u : (n a : Node) (x : Bool) (b : Node) (y : Bool) → U K A (rules.updated n a x b y)
+  updated_u n a x b y = quiet n _ _ _
+
+  pub negated_asks : (n a : Node) (x : Bool) → Asks K A (NoPlace n.site) (rules.negated n a x)
+  negated_asks n a x = then_second (quiet n _ _ _) (value_asks n n.site)
+
+  pub inverted_asks : (n a : Node) (x : Bool) → Asks K A (NoPlace n.site) (rules.inverted n a x)
+  inverted_asks n a x = then_second (quiet n _ _ _) (own_asks n op.Truth [])
+
+  pub named_u : (n : Node) (x : Use) (k : Bool) → U K A (rules.named_at n x k)
+  named_u n x true = quiet n _ _ _
+  named_u n x false = quiet n _ _ _
+
+  pub fits_given_u : (x : ℕ) (e : Node) (v : Bool) → U K A (rules.fits_given x e v)
+  fits_given_u x e true = none
+  fits_given_u x e false = quiet e _ _ _
+
+  pub given_u : (n p : Node) (x : Use) (d : Option ℕ) (e : Node) (v : Bool) → U K A (rules.given n p x d e v)
+  given_u n p x (Some d) e v = then_u (not_never_u e v) (then_u (quiet n _ _ _) (quiet p _ _ _))
+  given_u n p x None e v = then_u (named_u p x x.known) (fits_given_u x.number e v)
+
+  pub returns_u : (f : ℕ) (n : Node) (o : Else) → U K A (rules.returns_unit f n o)
+  returns_u f n named.absent = quiet n _ _ _
+  returns_u f n (named.present e) = quiet (node_of e) _ _ _
+
+  pub branch_before_u : (n : Node) (o : Else) (b : Body) → U K A (rules.branch_before n o b)
+  branch_before_u n named.absent b = none
+  branch_before_u n (named.present e) b = before_u n n.site (body_node b)
+
+  pub branch_after_asks : (n : Node) (o : Else) (b : Body) → Asks K A (OnePart n o) (rules.branch_after n o b)
+  branch_after_asks n named.absent b = then_second (unit_u (body_node b) (body_never b)) (own_asks n op.Unit [])
+  branch_after_asks n (named.present e) b = after_u n n.site (body_never b) (body_node b)
+
+  pub if_joins_asks : (n : Node) (o : Else) (v : Bool) → Asks K A (TwoParts n o) (rules.if_joins n o v)
+  if_joins_asks n named.absent v = none
+  if_joins_asks n (named.present e) v = join_asks n v
+
+  pub one_variable_u : (n : Node) (o : Option ℕ) → U K A (rules.one_variable_at n o)
+  one_variable_u n (Some x) = none
+  one_variable_u n None = quiet n _ _ _
+
+  pub evaluated_u : (s : Bool) (n : Node) (v : Bool) → U K A (rules.evaluated s n v)
+  evaluated_u true n v = none
+  evaluated_u false n v = unit_u n v
+
+  pub tail_before_u : (n : Node) (o : Else) → U K A (rules.tail_before n o)
+  tail_before_u n named.absent = none
+  tail_before_u n (named.present e) = before_u n n.site (node_of e)
+
+  pub tail_after_u : (n : Node) (d : Bool) (o : Else) → U K A (rules.tail_after n d o)
+  tail_after_u n d named.absent = unit_u n d
+  tail_after_u n d (named.present e) = after_u n n.site (never e) (node_of e)
+
+  pub loop_asks : (n : Node) (k : Bool) → Asks K A (NoPlace n.site) (rules.loop_given n k)
+  loop_asks n true = own_asks n op.Unit []
+  loop_asks n false = never_asks n n.site
+
+  pub each_before_u : (w : rules.Listed) (k : ℕ) (n : Node) → U K A (rules.each_before w k n)
+  each_before_u rules.members k n = none
+  each_before_u rules.values k n = none
+  each_before_u (rules.parameters g) k n = quiet n _ _ _
+  each_before_u (rules.parts_of i v) k n = quiet n _ _ _
+
+  pub each_after_u : (w : rules.Listed) (e : Exp) → U K A (rules.each_after w e)
+  each_after_u rules.members e = not_never_u (node_of e) (never e)
+  each_after_u rules.values e = none
+  each_after_u (rules.parameters g) e = none
+  each_after_u (rules.parts_of i v) e = none
+
+  pub integer_asks : (n : Node) (m : Bool) (v : ℕ) (k : Option Kind) → Asks K A (NoPlace n.site) (rules.integer_at n m v k)
+  integer_asks n m v k = then_second (quiet n _ _ _) (then_second (quiet n _ _ _) (value_asks n n.site))
+
+  pub never_given_u : (ns : List Node) → U K A (rules.of_never_given ns)
+  never_given_u [] = none
+  never_given_u (n ∷ ns) = then_u (quiet n _ _ _) (never_given_u ns)
+
+  pub parameters_u : (xs : List Parameter) → U K A (rules.of_parameters xs)
+  parameters_u [] = none
+  parameters_u (x ∷ xs) = then_u (then_u (whole_type_u x.typ) (quiet (written_node x.typ) _ _ _)) (parameters_u xs)
+
+  pub result_u : (t : Option Written) → U K A (rules.of_result t)
+  result_u None = none
+  result_u (Some t) = whole_type_u t

@@ -6,12 +6,12 @@ use Rattle.rx_lower.specs.Functions.{function}
 use Rattle.rx_typeck_typed.specs.declared.typed.Typed.{Typed}
 use Rattle.rx_typeck_typed.specs.declared.typed.TypedFn.{TypedFn}
 use Rattle.rx_facts.specs.Functions.{sites_of}
-use Rattle.rx_lower_emit.specs.declared.site.Site.{Site as CodeSite}
-use Rattle.rx_lower_emit.specs.PlainSite.{plain-Site}
+use Rattle.rx_lower_walks.specs.declared.site.Site.{Site as CodeSite}
+use Rattle.rx_lower_walks.specs.PlainSite.{plain-Site}
 use Rattle.rx_lower_lifetimes.specs.declared.whole.Graph.{Graph}
 use Rattle.rx_lower_lifetimes.specs.Answer.{plain-Lifetimes, IsLowered}
-use Rattle.rx_facts_live.specs.declared.table.LiveTable.{LiveTable}
-use Rattle.rx_facts_live.specs.Tables.{Lives}
+use Rattle.rx_facts_tables.specs.declared.table.LiveTable.{LiveTable}
+use Rattle.rx_facts_tables.specs.LiveTables.{Lives}
 use Rattle.rx_region_outlives.specs.Implied.{AreImplied, pairs_of}
 use Rattle.rx_check.specs.Contexts.{AreAsked}
 use Rattle.rx_repair.specs.Lacking.{AreMissing, Lacks}

@@ -13,7 +13,7 @@ use Rattle.rx_lower_walks.specs.Text.{actions_of}
 use Rattle.rx_lower_walks.specs.Pieces.{graph}
 use Rattle.rx_region_outlives.specs.Implied.{HasPair, implied_in, implied_among}
 use Rattle.rx_region_outlives.proofs.ImpliedLemmas.{has_front, has_behind, has_either}
-use Rattle.rx_typed_places.specs.Renaming.{Signature, signature_from, of_list, from, renamed, all_renamed, bound_renamed}
+use Rattle.rx_typed.specs.Renaming.{Signature, signature_from, of_list, from, renamed, all_renamed, bound_renamed}
 use Rattle.rx_lower_lifetimes.specs.Values.{Open, lifetimes_of}
 use Rattle.rx_lower_lifetimes.specs.Numbered as numbered
 use Rattle.rx_lower_lifetimes.specs.Numbered.{Own, signed, own_of, all_owned, all_open}
@@ -21,13 +21,13 @@ use Rattle.rx_lower_lifetimes.specs.Positions.{own_lifetimes}
 use Rattle.rx_lower_lifetimes.specs.Lowered.{bounds_of}
 use Rattle.rx_typeck_typed.specs.declared.typed.TypedFn.{TypedFn}
 use Rattle.rx_facts.specs.Functions.{body, sites_of}
-use Rattle.rx_region_constraints.specs.Constraints.{Context, held, flows, parameters_flow, signature_asks, asks, all_ask, formed, imposed}
-use Rattle.rx_region_constraints.specs.Solutions.{Sets}
-use Rattle.rx_region_constraints.specs.Known.{Known, told}
+use Rattle.rx_region.specs.Constraints.{Context, held, flows, parameters_flow, signature_asks, asks, all_ask, formed, imposed}
+use Rattle.rx_region.specs.Solutions.{Sets}
+use Rattle.rx_region.specs.Known.{Known, told}
 use Rattle.rx_region.specs.Tables.{Follows, itself, by}
 use Rattle.rx_loan.specs.Accesses.{Loan}
 use Rattle.rx_loan.specs.Loans.{loan_at, loans_from, loans_of, IsLegal}
-use Rattle.rx_loan_check.specs.Accepted.{at_sites, AcceptedBy, IsAccepted}
+use Rattle.rx_loan.specs.Accepted.{at_sites, AcceptedBy, IsAccepted}
 use Rattle.rx_check.specs.Contexts.{context_of}
 use Rattle.rx_repair.specs.Asking.{AsksNoMore}
 use Rattle.rx_repair.specs.Bounded.{bounded, with_bounds}

@@ -6,13 +6,13 @@ use Rattle.rx_graph_cycles.specs.Reaches.{IsIn}
 use Rattle.rx_graph.proofs.Spreading.{both_of}
 use Rattle.rx_typed.specs.Regions.{RegionTyp, lifetimes_in}
 use Rattle.rx_typed.specs.Tree.{Root, variable, temporary, Temporary}
-use Rattle.rx_typed_places.specs.Renaming.{unit_region}
+use Rattle.rx_typed.specs.Renaming.{unit_region}
 use Rattle.rx_lower_walks.specs.Graph.{Site}
 use Rattle.rx_lower_walks.specs.Text.{actions_of}
-use Rattle.rx_facts_live.specs.Live.{living, IsLive}
+use Rattle.rx_facts_tables.specs.Live.{living, IsLive}
 use Rattle.rx_lower_lifetimes.specs.Values.{same}
-use Rattle.rx_region_constraints.specs.Constraints.{Context, root_type, temporary_type, variables_of, imposed}
-use Rattle.rx_region_constraints.specs.Solutions.{Point, site, end, Sets, Least, whole, ends, live, longer, AreLeast}
+use Rattle.rx_region.specs.Constraints.{Context, root_type, temporary_type, variables_of, imposed}
+use Rattle.rx_region.specs.Solutions.{Point, site, end, Sets, Least, whole, ends, live, longer, AreLeast}
 use Rattle.rx_region.specs.Tables.{Follows, itself, by}
 use Rattle.rx_repair.proofs.Asked.{least_along}
 use Rattle.rx_repair.proofs.Deciding.{Decided, Below, any_below, Within, any_within, same_or, follows_or}

@@ -6,11 +6,11 @@ use Rattle.rx_typed.specs.Regions.{RegionTyp, region_reference, RegionTyps, no_r
 use Rattle.rx_typed.specs.Tree.{Temporary, temporary, Place, Making}
 use Rattle.rx_lower_walks.specs.Actions.{Act, Declare, Dead, Read, Write, Borrow, Test, Call, Build, Input, Print, Give, Action}
 use Rattle.rx_region_outlives.specs.Implied.{implied_in, implied_among}
-use Rattle.rx_typed_places.specs.Renaming.{Signature, unit_region}
-use Rattle.rx_typed_places.specs.Places.{part_at, place_type}
+use Rattle.rx_typed.specs.Renaming.{Signature, unit_region}
+use Rattle.rx_typed.specs.Places.{part_at, place_type}
 use Rattle.rx_lower_lifetimes.specs.Numbered.{Own, none, region, signed}
-use Rattle.rx_region_constraints.specs.Constraints.{Context, root_type, type_in, type_at, held, flows, parts_flow, parameters_flow, made_parts, reborrows, signature_asks, asks, all_ask, is_among, formed, imposed}
-use Rattle.rx_region_constraints.specs.Known.{parameters_ask}
+use Rattle.rx_region.specs.Constraints.{Context, root_type, type_in, type_at, held, flows, parts_flow, parameters_flow, made_parts, reborrows, signature_asks, asks, all_ask, is_among, formed, imposed}
+use Rattle.rx_region.specs.Known.{parameters_ask}
 use Rattle.rx_repair.specs.LeastBounds.{by_types}
 use Rattle.rx_repair.proofs.Asked.{root_same}
 

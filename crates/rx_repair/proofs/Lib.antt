@@ -13,15 +13,45 @@ pub mod Callers
 pub mod Parameters
 pub mod Saying
 pub mod Typings
-pub mod Programs
+pub mod RepairPrograms
 pub mod Steps
 pub mod Numbers
 pub mod Extracting
 pub mod Unbounded
 pub mod Numbering
 pub mod Outcomes
-pub mod Asking
+pub mod RepairAsking
 pub mod Alike
 pub mod Bounds
 pub mod Once
 pub mod Written
+mod Types
+mod RenamingPlaces
+mod RenamingAsking
+mod Verdicts
+mod Having
+mod Holding
+mod Annotated
+mod RenamingLetsMet
+mod RenamingNoting
+mod LetTypes
+mod Typed
+mod Filling
+mod Building
+pub mod Sites
+pub mod Entries
+pub mod Places
+pub mod Settling
+pub mod Asking
+pub mod Pieces
+pub mod Patterns
+pub mod Acting
+pub mod Erasing
+pub mod Making
+pub mod Writing
+pub mod Letting
+pub mod LetsMet
+pub mod Noting
+pub mod Bound
+pub mod Lets
+pub mod Programs

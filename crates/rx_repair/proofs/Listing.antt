@@ -8,9 +8,9 @@ use Rattle.rx_graph_closure.proofs.Listed as closing
 use Rattle.rx_graph_closure.proofs.Listed.{listed, lists}
 use Rattle.rx_region_outlives.specs.Implied.{HasPair}
 use Rattle.rx_region_outlives.proofs.ImpliedLemmas.{has_either}
-use Rattle.rx_region_constraints.specs.Constraints.{Context}
-use Rattle.rx_region_constraints.specs.Solutions.{end, Least}
-use Rattle.rx_region_constraints.proofs.LeastLaws.{least_serves, least_is_within}
+use Rattle.rx_region.specs.Constraints.{Context}
+use Rattle.rx_region.specs.Solutions.{end, Least}
+use Rattle.rx_region.proofs.LeastLaws.{least_serves, least_is_within}
 use Rattle.rx_region.specs.Tables.{Follows}
 use Rattle.rx_repair.specs.LeastBounds.{by_types, IsLeastBound, Before, InOrder, AreLeastBounds}
 use Rattle.rx_repair.proofs.Deciding.{Decided, same_or, follows_or}

@@ -3,7 +3,7 @@ use Rattle.std.proofs.Common.{◌≡◌, ◌↔◌, ◌⊎◌, inl, inr, ℕ, �
 use Rattle.rx_core.specs.declared.types.Bound.{Bound}
 use Rattle.rx_lower_walks.specs.Graph.{Site}
 use Rattle.rx_region_outlives.specs.Implied.{HasPair}
-use Rattle.rx_region_constraints.specs.Constraints.{Context}
+use Rattle.rx_region.specs.Constraints.{Context}
 use Rattle.rx_repair.specs.LeastBounds.{Before, InOrder, AreLeastBounds}
 
 not_before_itself : (b c : Bound) → b ≡ c → Before b c → ⊥

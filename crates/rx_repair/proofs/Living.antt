@@ -6,8 +6,8 @@ use Rattle.rx_lower_walks.specs.Walks.{Among}
 use Rattle.rx_lower_walks.specs.Walks as walks
 use Rattle.rx_lower_walks.specs.Actions.{Action}
 use Rattle.rx_lower_walks.specs.Graph.{Site, site_at, Path, stop, go}
-use Rattle.rx_facts_live.specs.Along.{Switch, ahead, LiesAhead}
-use Rattle.rx_facts_live.proofs.Ways.{site_within}
+use Rattle.rx_facts_tables.specs.Along.{Switch, ahead, LiesAhead}
+use Rattle.rx_facts_tables.proofs.Ways.{site_within}
 use Rattle.rx_region_outlives.specs.Implied.{HasPair}
 use Rattle.rx_region_outlives.specs.Related.{outlives}
 use Rattle.rx_region_outlives.proofs.ImpliedLemmas.{has_front, has_behind, has_either}

@@ -10,9 +10,9 @@ use Rattle.rx_typed.specs.declared.declarations.Decl.TheVariants as decl
 use Rattle.rx_typed.specs.Regions.{RegionTyp, region_integer, region_boolean, region_tuple, region_reference, region_named, RegionTyps, held_regions, regions}
 use Rattle.rx_typed.specs.Tree.{Making, constant, negation, inversion, operation, lazy, tuple, struct, variant_of}
 use Rattle.rx_lower_walks.specs.Actions.{Act, Declare, Dead, Read, Write, Borrow, Test, Call, Build, Input, Print, Give, Action, filled}
-use Rattle.rx_typed_places.specs.Renaming.{instance}
-use Rattle.rx_typed_places.specs.Places as places
-use Rattle.rx_typed_places.specs.Places.{fields_of, part_at, item_behind, behind, place_type}
+use Rattle.rx_typed.specs.Renaming.{instance}
+use Rattle.rx_typed.specs.Places as places
+use Rattle.rx_typed.specs.Places.{fields_of, part_at, item_behind, behind, place_type}
 use Rattle.rx_lower_lifetimes.specs.Values.{Open, Known, Held, lifetimes_of, root_type, made_item, made_type, result_type, value_type, hold, held_by, held_type}
 use Rattle.rx_lower_lifetimes.specs.Positions.{own_lifetimes}
 use Rattle.rx_lower_lifetimes.specs.Lowered.{parameters}

@@ -16,8 +16,8 @@ use Rattle.rx_lower_walks.specs.Text.{actions_of}
 use Rattle.rx_lower_walks.specs.Pieces.{graph}
 use Rattle.rx_region_outlives.specs.Implied.{HasPair}
 use Rattle.rx_region_outlives.specs.Related.{subtypes}
-use Rattle.rx_typed_places.specs.Renaming.{Signature, signature_from}
-use Rattle.rx_typed_places.specs.Places.{behind, place_type}
+use Rattle.rx_typed.specs.Renaming.{Signature, signature_from}
+use Rattle.rx_typed.specs.Places.{behind, place_type}
 use Rattle.rx_lower_lifetimes.specs.Values.{Open, Held, lifetimes_of, held_by}
 use Rattle.rx_lower_lifetimes.specs.Variables.{Written, open_types}
 use Rattle.rx_lower_lifetimes.specs.Numbered as numbered
@@ -27,9 +27,9 @@ use Rattle.rx_lower_lifetimes.specs.Lowered.{parameters}
 use Rattle.rx_lower.specs.Functions.{trimmed, written}
 use Rattle.rx_typeck_typed.specs.declared.typed.TypedFn.{TypedFn}
 use Rattle.rx_facts.specs.Functions.{body, sites_of}
-use Rattle.rx_region_constraints.specs.Constraints as constraints
-use Rattle.rx_region_constraints.specs.Constraints.{Context, instances, through, reborrows, made_parts, flows, imposed}
-use Rattle.rx_region_constraints.specs.Solutions.{Point, Sets, Solution, Least}
+use Rattle.rx_region.specs.Constraints as constraints
+use Rattle.rx_region.specs.Constraints.{Context, instances, through, reborrows, made_parts, flows, imposed}
+use Rattle.rx_region.specs.Solutions.{Point, Sets, Solution, Least}
 use Rattle.rx_region.specs.Tables.{Follows, itself, by}
 use Rattle.rx_check.specs.Contexts.{context_of}
 use Rattle.rx_repair.specs.Asking.{AsksNoMore}

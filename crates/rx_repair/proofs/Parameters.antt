@@ -13,8 +13,8 @@ use Rattle.rx_typed.specs.Regions.{RegionTyp, region_integer, region_boolean, re
 use Rattle.rx_typed.specs.Types.{Declarations}
 use Rattle.rx_typed.specs.Tree as tree
 use Rattle.rx_typed_declarations.specs.WellFormed.{is_adt, all_below, fits, all_fit, bounds_fit, signature_fits}
-use Rattle.rx_typed_places.specs.Numbers.{open_one, open_in, number, numbers, numbered, all_numbered as types_numbered}
-use Rattle.rx_typed_places.specs.Renaming.{unit_region}
+use Rattle.rx_typed.specs.Numbers.{open_one, open_in, number, numbers, numbered, all_numbered as types_numbered}
+use Rattle.rx_typed.specs.Renaming.{unit_region}
 use Rattle.rx_region_outlives.specs.Implied.{HasPair, pair_of, with_arguments, all_outlive, implied_in, implied_among}
 use Rattle.rx_region_outlives.specs.Related.{outlives}
 use Rattle.rx_region_outlives.proofs.ImpliedLemmas.{has_front, has_behind, has_either}

@@ -1,177 +1,371 @@
--- A program that is accepted is so with the least bounds of a function: the function itself, since each of its solutions needs them;
--- its callers, since what each of its solutions needs is known where it is accepted, and so is said by the signature that it had.
-use Rattle.std.proofs.Common.{◌≡◌, ◌↔◌, inl, inr, ℕ, zero, suc, true, List, [], ◌∷◌, ◌++◌, Option, Some, None, option_map, slice_get, get_or, refl, sym, ap, subst, ◌∙◌, length}
+-- Each struct or enum that a function of a typed program makes goes to a temporary of its type: by the types of its variables, which are
+-- those of the assignment, with lifetimes and without.
+use Rattle.std.proofs.Common.{◌≡◌, ℕ, zero, suc, ◌+◌, ◌-◌, Bool, true, false, ◌==◌, if◌then◌else◌, List, [], ◌∷◌, ◌++◌, length, map, drop, Option, Some, None, Ok, Err, slice_get, refl, sym, ap, ◌∙◌, subst, arith}
+use Rattle.std.specs.Prelude.{get_or}
+use Rattle.std.proofs.lemmas.Bool.{eqb-true}
+use Rattle.std.proofs.lemmas.List.{length-map}
 use Rattle.rx_core.specs.declared.types.Bound.{Bound}
+use Rattle.rx_core.specs.declared.types.Span.{Span}
+use Rattle.rx_core.specs.declared.types.Ty.{Ty}
+use Rattle.rx_tree.specs.Lists.{Every}
+use Rattle.rx_tree.specs.Plain as plain
+use Rattle.rx_tree.specs.Plain.{ItemTree, ProgramTree}
+use Rattle.rx_resolve_names.specs.Meant.{number}
+use Rattle.rx_resolve_names.specs.declared.resolved.ItemNames.{ItemNames}
+use Rattle.rx_resolve_names.specs.declared.resolved.NodeNames.{NodeNames}
 use Rattle.rx_typed.specs.declared.declarations.Decl.{Decl}
 use Rattle.rx_typed.specs.declared.declarations.Decl.TheVariants as decl
-use Rattle.rx_core.specs.declared.types.Ty.{Ty}
-use Rattle.rx_typed.specs.Types.{Declarations}
-use Rattle.rx_typed.specs.PlainTypes.{declarations}
-use Rattle.rx_typed.specs.Regions.{RegionTyp, regions}
-use Rattle.rx_typed_declarations.specs.WellFormed.{WellSigned, bounds_fit}
-use Rattle.rx_typed_places.specs.Renaming.{unit_region}
-use Rattle.rx_tree.specs.Plain.{ProgramTree}
-use Rattle.rx_resolve_names.specs.declared.resolved.ItemNames.{ItemNames}
-use Rattle.rx_lower_walks.specs.Walks.{Among}
-use Rattle.rx_lower_walks.specs.Walks as walks
-use Rattle.rx_lower_lifetimes.specs.Values.{lifetimes_of}
-use Rattle.rx_lower_lifetimes.specs.Lowered.{parameters}
-use Rattle.rx_region_outlives.specs.Implied.{HasPair, ImpliesOf, implied_in}
-use Rattle.rx_region_outlives.proofs.ImpliedLemmas.{has_front, has_behind, has_either, implied_told}
-use Rattle.rx_region_constraints.specs.Constraints.{Context}
-use Rattle.rx_region_constraints.specs.Solutions.{end}
-use Rattle.rx_region_constraints.specs.Known.{parameters_ask}
-use Rattle.rx_region_constraints.proofs.LeastLaws.{least_serves, least_is_within}
+use Rattle.rx_typed.specs.declared.nodes.Site.{Site}
+use Rattle.rx_typed.specs.Types as types
+use Rattle.rx_typed.specs.Types.{Typ, Declared, Declarations, unit_shape, parameters_declared}
+use Rattle.rx_typed.specs.PlainTypes.{plain-Ty, plain-Decl, declarations}
+use Rattle.rx_typed.specs.Regions.{RegionTyp, region_integer, region_boolean, region_tuple, region_reference, region_named, RegionTyps, no_region, region_and, erased, all_erased, region-Ty}
+use Rattle.rx_typed.specs.Named.{Parameter, Function}
+use Rattle.rx_typed.specs.Naming as naming
+use Rattle.rx_typed.specs.Naming.{function_named, function_spans, function_annotations}
+use Rattle.rx_typed.specs.TypedNumbers.{AreFrom, nodes}
+use Rattle.rx_typed.specs.Elaborated as elaborated
+use Rattle.rx_typed.specs.Tree as tree
+use Rattle.rx_typed.specs.Tree.{Temporary, Making, struct, variant_of}
+use Rattle.rx_typed.specs.PlainTree.{plain-TypedTree}
+use Rattle.rx_typed.specs.Numbers.{open_one, open_in, numbered}
+use Rattle.rx_typed.specs.Numbers as numbers_of
+use Rattle.rx_typed_declarations.proofs.RegionLemmas.{is_erased}
+use Rattle.rx_typed_declarations.proofs.Polarities.{same_declared}
+use Rattle.rx_lower_walks.specs.Actions.{Act, Build, Action, does, filled}
+use Rattle.rx_lower_walks.specs.Orders.{order_function}
+use Rattle.rx_lower_walks.specs.Walks.{Among, here, there}
+use Rattle.rx_lower_walks.specs.Pieces.{graph}
+use Rattle.rx_lower_walks.specs.Text.{text, actions_of, Sublist}
+use Rattle.rx_lower_lifetimes.specs.Values.{Open, Held, same, is_held, held_type, open_unit, lifetimes_of}
+use Rattle.rx_lower_lifetimes.specs.Variables.{parameter_type, Written, written_type, told, raw_type, open_type, open_types}
+use Rattle.rx_lower_lifetimes.specs.Numbered.{all_numbered, opened}
+use Rattle.rx_lower_lifetimes.specs.Lowered.{known, actions, temporaries, parameters}
+use Rattle.rx_lower.specs.Functions.{trimmed, trimmed_and, written, function}
+use Rattle.rx_region.specs.Constraints.{held, temporary_type}
+use Rattle.rx_typeck_elaborate_parts.specs.Assigning.{joined}
+use Rattle.rx_typeck_typed.specs.Steps as steps
+use Rattle.rx_typeck_typed.specs.Items.{declared_item, declared_items, entries_of, begins, bounded, entry_of, parameters_of, answer_of, bounds_of}
+use Rattle.rx_typeck_typed.specs.declared.variables.AnnotatedVariable.{AnnotatedVariable}
+use Rattle.rx_typeck_typed.specs.Bindings.{lifetimes as let_lifetimes}
+use Rattle.rx_typeck_typed.specs.Walks.{plain-Variable}
+use Rattle.rx_typeck_solver.specs.declared.facts.Subject.TheVariants as subject
+use Rattle.rx_typeck_solver.specs.Facts as facts
+use Rattle.rx_typeck_solver.specs.Facts.{Types, MeetsEach}
+use Rattle.rx_typeck_typed.specs.Demands as rules
 use Rattle.rx_typeck_typed.specs.declared.typed.Typed.{Typed}
 use Rattle.rx_typeck_typed.specs.declared.typed.TypedFn.{TypedFn}
-use Rattle.rx_typeck_typed.specs.Typing.{IsTyped}
-use Rattle.rx_facts.specs.Functions.{body, sites_of}
-use Rattle.rx_facts.specs.Passing.{AllAre}
-use Rattle.rx_check.specs.Contexts.{AreAsked, context_of}
-use Rattle.rx_check.specs.Functions.{Borrows}
-use Rattle.rx_check.specs.Answers.{AllBorrow}
-use Rattle.rx_check.proofs.Settling.{any_pairs}
-use Rattle.rx_repair.specs.Bounded.{bounded, with_bounds, IsFunction, IsBounded}
-use Rattle.rx_repair.specs.Calls.{CallsNotItself}
-use Rattle.rx_repair.specs.LeastBounds.{by_types, IsLeastBound, AreLeastBounds}
-use Rattle.rx_repair.specs.Signatures.{signature_says}
-use Rattle.rx_repair.proofs.Accepting.{known_follows, least_accepted}
-use Rattle.rx_repair.proofs.Callers.{AllFollow, caller_accepted}
-use Rattle.rx_repair.proofs.Deciding.{same_or, follows_more}
-use Rattle.rx_repair.proofs.Existing.{least_sets, are_least}
-use Rattle.rx_repair.proofs.Observed.{at_item, parameters_at, regions_same}
-use Rattle.rx_repair.proofs.OtherBounds.{same_needed}
-use Rattle.rx_repair.proofs.Parameters.{Fitting, fitting}
-use Rattle.rx_repair.proofs.Saying.{follows_said}
-use Rattle.rx_repair.proofs.Typings.{only_one, as_many, a_function}
+use Rattle.rx_typeck_typed.specs.Typing.{Given, known_in, assigned, entries, variables_at, TypeIs, FunctionTyped, FunctionsTyped, IsTyped}
+use Rattle.rx_facts.specs.Functions.{sites_of}
+use Rattle.rx_check.specs.Contexts.{context_of}
+use Rattle.rx_hoist_naming.proofs.Programs.{same_typ}
+use Rattle.rx_repair.specs.Making.{IsOfItem, ActIsOfItem, AreOfItems}
+use Rattle.rx_repair.specs.TemporaryTypes.{temporary_types}
+use Rattle.rx_repair.proofs.Sites.{function_sited}
+use Rattle.rx_repair.proofs.Entries.{all_found}
+use Rattle.rx_repair.proofs.Patterns as acting
+use Rattle.rx_repair.proofs.Acting.{function_holds}
+use Rattle.rx_repair.proofs.Erasing.{plain_at, plain_option}
+use Rattle.rx_repair.proofs.Making as making
+use Rattle.rx_repair.proofs.Making.{IsOf, sites_hold, one_of, right_if}
+use Rattle.rx_repair.proofs.Writing.{Taken, parameters_given, well_is, parameters_read, Agree, AgreeAs, agree_plain, entry_read}
+use Rattle.rx_repair.proofs.Bound.{Told}
+use Rattle.rx_repair.proofs.LetsMet.{parameters_met}
+use Rattle.rx_repair.proofs.Lets as lets
+use Rattle.rx_repair.proofs.Lets.{notes_are, lets_told}
 
--- ---- by any lists of the pairs that fields ask
+-- ---- the types of variables, with lifetimes
 
-module _ (D : List Decl) (P Q : ℕ → List Bound) (asked : AreAsked D P) (other : AreAsked D Q) (f : TypedFn) where
-  abbrev first : Context
-  first = context_of D P f
+one_is : (own : ℕ) (o : Option Ty) (w : Option RegionTyp) (r : Option Ty) (v : Typ) → ((t : Ty) → o ≡ Some t → plain-Ty t ≡ v) → ((t : RegionTyp) → w ≡ Some t → erased t ≡ v) → erased (raw_type r) ≡ v → erased (open_type own (told o w) r).typ ≡ v
+one_is own (Some t) w r v p l h = is_erased t ∙ p t refl
+one_is own None (Some t) r v p l h = l t refl
+one_is own None None r v p l h = h
 
-  abbrev second : Context
-  second = context_of D Q f
+-- those that are found, from a number on
+abbrev RawAre : (ℕ → Typ) → ℕ → List (Option Ty) → Type 0
+RawAre V n [] = (k : ℕ) → V (n + k) ≡ unit_shape
+RawAre V n (r ∷ rs) = (erased (raw_type r) ≡ V n) × RawAre V (suc n) rs
 
-  implied_too : (t : RegionTyp) (l k : ℕ) → HasPair (implied_in Q t) l k → HasPair (implied_in P t) l k
-  implied_too t l k h = (implied_told (regions D) P t (λ i n. asked i) l k).1 ((implied_told (regions D) Q t (λ i n. other i) l k).0 h)
+module _ (V : ℕ → Typ) where
+  plus_suc : (n k : ℕ) → V (suc n + k) ≡ V (n + suc k)
+  plus_suc n k = ap V (let h : suc n + k ≡ n + suc k = omega arith in h)
 
-  parameters_too : (xs : List ℕ) (l k : ℕ) → HasPair (parameters_ask second xs) l k → HasPair (parameters_ask first xs) l k
-  parameters_too [] l k h = h
-  parameters_too (x ∷ xs) l k h = elim (has_either (implied_in Q (get_or first.lifetimes.types x unit_region)) (parameters_ask second xs) l k h) [
-    | inl a ↦ has_front (implied_in P (get_or first.lifetimes.types x unit_region)) (parameters_ask first xs) l k (implied_too (get_or first.lifetimes.types x unit_region) l k a)
-    | inr b ↦ has_behind (implied_in P (get_or first.lifetimes.types x unit_region)) (parameters_ask first xs) l k (parameters_too xs l k b)
-  ]
+  plus_zero : (n : ℕ) → V n ≡ V (n + zero)
+  plus_zero n = ap V (let h : n ≡ n + zero = omega arith in h)
 
-  by_types_too : (l k : ℕ) → HasPair (by_types second) l k → HasPair (by_types first) l k
-  by_types_too l k h = elim (has_either (parameters_ask second second.lifetimes.params) (implied_in Q second.lifetimes.answer) l k h) [
-    | inl a ↦ has_front (parameters_ask first first.lifetimes.params) (implied_in P first.lifetimes.answer) l k (parameters_too first.lifetimes.params l k a)
-    | inr b ↦ has_behind (parameters_ask first first.lifetimes.params) (implied_in P first.lifetimes.answer) l k (implied_too first.lifetimes.answer l k b)
-  ]
+  raws_are : (vs : List (Option Ty)) (n : ℕ) → ((k : ℕ) → erased (raw_type (joined (slice_get vs k))) ≡ V (n + k)) → RawAre V n vs
+  raws_are [] n h = λ k. sym (h k)
+  raws_are (v ∷ vs) n h = (h zero ∙ sym (plus_zero n), raws_are vs (suc n) (λ k. h (suc k) ∙ sym (plus_suc n k)))
 
-  pub bound_by_any : (l k : ℕ) → IsLeastBound first (sites_of f) l k → IsLeastBound second (sites_of f) l k
-  bound_by_any l k b =
-      let R = least_sets first (sites_of f) in
-      let least = are_least first (sites_of f) in
-      let there = (any_pairs D P Q asked other f R least l (end k)).0 (b.needed R (least_serves first (sites_of f) R least)) in
-      record {
-        long = b.long;
-        short = b.short;
-        different = b.different;
-        needed = λ S s. least_is_within second (sites_of f) S s l (end k) there;
-        unknown = λ w. b.unknown (follows_more (by_types second) (by_types first) by_types_too l k w);
-      }
+  trimmed_one : (o : Option Ty) (vs : List (Option Ty)) (n : ℕ) → erased (raw_type o) ≡ V n → RawAre V (suc n) vs → RawAre V n (trimmed_and o vs)
+  trimmed_one None [] n h g = by
+    where
+      by : (k : ℕ) → V (n + k) ≡ unit_shape
+      by zero = sym (plus_zero n) ∙ sym h
+      by (suc k) = sym (plus_suc n k) ∙ g k
+  trimmed_one None (v ∷ vs) n h g = (h, g)
+  trimmed_one (Some t) vs n h g = (h, g)
 
-pub list_by_any : (D : List Decl) (P Q : ℕ → List Bound) → AreAsked D P → AreAsked D Q → (f : TypedFn) (bs : List Bound) → AreLeastBounds (context_of D P f) (sites_of f) bs → AreLeastBounds (context_of D Q f) (sites_of f) bs
-list_by_any D P Q asked other f bs are = record {
-  exact = λ l k. (λ h. bound_by_any D P Q asked other f l k ((are.exact l k).0 h), λ b. (are.exact l k).1 (bound_by_any D Q P other asked f l k b));
-  ordered = are.ordered;
-}
+  trimmed_are : (vs : List (Option Ty)) (n : ℕ) → RawAre V n vs → RawAre V n (trimmed vs)
+  trimmed_are [] n h = h
+  trimmed_are (v ∷ vs) n h = trimmed_one v (trimmed vs) n h.0 (trimmed_are vs (suc n) h.1)
 
--- ---- with other bounds twice
+  variables_are : (own : ℕ) (ps : List tree.Parameter) (ts : List Ty) (ws : List Written) → ((x : ℕ) (t : Ty) → parameter_type ps ts x ≡ Some t → plain-Ty t ≡ V x) → ((x : ℕ) (t : RegionTyp) → written_type ws x ≡ Some t → erased t ≡ V x)
+      → (n : ℕ) (rs : List (Option Ty)) → RawAre V n rs → (x : ℕ) → erased (get_or (open_types own ps ts ws n rs) x open_unit).typ ≡ V (n + x)
+  variables_are own ps ts ws p l n [] h x = sym (h x)
+  variables_are own ps ts ws p l n (r ∷ rs) h zero = one_is own (parameter_type ps ts n) (written_type ws n) r (V n) (p n) (l n) h.0 ∙ plus_zero n
+  variables_are own ps ts ws p l n (r ∷ rs) h (suc x) = variables_are own ps ts ws p l (suc n) rs h.1 x ∙ plus_suc n x
 
-bounded_twice : (bs cs : List Bound) (d : Decl) → bounded cs (bounded bs d) ≡ bounded cs d
-bounded_twice bs cs decl.Rt = refl
-bounded_twice bs cs (decl.Struct c l vs fs) = refl
-bounded_twice bs cs (decl.Enum c l vs ds) = refl
-bounded_twice bs cs (decl.Func l ps t old) = refl
+  written_is : (free : ℕ) (D : List Decl) (xs : List AnnotatedVariable) → Every (Told D V free) (map plain-Variable xs) → (x : ℕ) (t : RegionTyp) → written_type (map written xs) x ≡ Some t → erased t ≡ V x
+  written_is free D [] h x t e = absurd (cc)
+  written_is free D (a ∷ xs) h x t e = by (a.variable == x) refl e (written_is free D xs h.1 x t)
+    where
+      some_same : (r s : RegionTyp) → ◌≡◌ {A = Option RegionTyp} (Some r) (Some s) → r ≡ s
+      some_same r s q = cc
 
-with_twice : (D : List Decl) (i : ℕ) (bs cs : List Bound) → with_bounds (with_bounds D i bs) i cs ≡ with_bounds D i cs
-with_twice [] i bs cs = refl
-with_twice (d ∷ D) zero bs cs = ap (λ (x : Decl). x ∷ D) (bounded_twice bs cs d)
-with_twice (d ∷ D) (suc i) bs cs = ap (λ (l : List Decl). d ∷ l) (with_twice D i bs cs)
+      by : (b : Bool) → (a.variable == x) ≡ b → (if b then Some (region-Ty a.ty) else written_type (map written xs) x) ≡ Some t → (written_type (map written xs) x ≡ Some t → erased t ≡ V x) → erased t ≡ V x
+      by true q s k = ap erased (sym (some_same (region-Ty a.ty) t s)) ∙ (h.0 ∙ ap V (eqb-true a.variable x q))
+      by false q s k = k s
 
--- a signature fits with bounds of its lifetimes
-fitting_with : (E : Declarations) (bs : List Bound) (o : Option Decl) → bounds_fit (lifetimes_of o) bs ≡ true → Fitting E o → Fitting E (option_map (bounded bs) o)
-fitting_with E bs None e f = f
-fitting_with E bs (Some decl.Rt) e f = f
-fitting_with E bs (Some (decl.Struct c l vs fs)) e f = f
-fitting_with E bs (Some (decl.Enum c l vs ds)) e f = f
-fitting_with E bs (Some (decl.Func l ps t old)) e f = record { params = f.params; answer = f.answer; bounds = e }
+param_is : (K : facts.Known) (A : Types) (xs : List Parameter) (ts : List Ty) → AgreeAs xs (map plain-Ty ts) → Every (Taken K A) xs → (x : ℕ) (t : Ty) → parameter_type (elaborated.parameters xs) ts x ≡ Some t → plain-Ty t ≡ A (subject.Variable x)
+param_is K A [] ts h g x t e = absurd (no_param ts e)
+  where
+    no_param : (ts : List Ty) → parameter_type [] ts x ≡ Some t → ⊥
+    no_param [] e = cc
+    no_param (u ∷ ts) e = cc
+param_is K A (y ∷ xs) [] h g x t e = absurd h
+param_is K A (y ∷ xs) (u ∷ ts) h g x t e = by (y.variable == x) refl e (param_is K A xs ts h.1 g.1 x t)
+  where
+    some_same : (r s : Ty) → ◌≡◌ {A = Option Ty} (Some r) (Some s) → r ≡ s
+    some_same r s q = cc
 
--- ---- a program
+    by : (b : Bool) → (y.variable == x) ≡ b → (if b then Some u else parameter_type (elaborated.parameters xs) ts x) ≡ Some t → (parameter_type (elaborated.parameters xs) ts x ≡ Some t → plain-Ty t ≡ A (subject.Variable x)) → plain-Ty t ≡ A (subject.Variable x)
+    by true q s k = ap plain-Ty (sym (some_same u t s)) ∙ (h.0 ∙ (sym g.0 ∙ ap (λ (z : ℕ). A (subject.Variable z)) (eqb-true y.variable x q)))
+    by false q s k = k s
 
-each_mapped : {A : Type 0} (G H : A → Type 0) (xs : List A) → ((a : A) → Among a xs → G a → H a) → AllAre G xs → AllAre H xs
-each_mapped G H [] k h = tt
-each_mapped G H (a ∷ xs) k h = (k a walks.here h.0, each_mapped G H xs (λ b w. k b (walks.there w)) h.1)
+plain_parameters : (o : Option Decl) → parameters_declared (plain_option o) ≡ map plain-Ty (parameters o)
+plain_parameters None = refl
+plain_parameters (Some decl.Rt) = refl
+plain_parameters (Some (decl.Struct c l vs fs)) = refl
+plain_parameters (Some (decl.Enum c l vs ds)) = refl
+plain_parameters (Some (decl.Func l ps t bs)) = refl
 
-one_of_all : {A : Type 0} (G : A → Type 0) (xs : List A) → AllAre G xs → (a : A) → Among a xs → G a
-one_of_all G [] h a w = elim w [ ]
-one_of_all G (a ∷ xs) h _ walks.here = h.0
-one_of_all G (x ∷ xs) h a (walks.there w) = one_of_all G xs h.1 a w
+-- ---- a function where it stands, with what is declared of it
 
-module _ (p : ProgramTree) (names : List ItemNames) (q : Typed) (signed : WellSigned q.decls.items) (typed : IsTyped p names q) (f : TypedFn) (among : Among f q.functions) (never : CallsNotItself f)
-    (bs least : List Bound) (fit : bounds_fit (lifetimes_of (slice_get q.decls.items f.item)) bs ≡ true) where
+pub read_ok : {A B : Type 0} (m : steps.Outcome A) (f : A → steps.Outcome B) (b : B) → steps.on_ok m f ≡ Ok b → (a : A) × (m ≡ Ok a) × (f a ≡ Ok b)
+read_ok (Ok a) f b e = (a, refl, e)
+read_ok (Err x) f b e = absurd (cc)
+
+pub read_same : {A : Type 0} (a b : A) → ◌≡◌ {A = steps.Outcome A} (Ok a) (Ok b) → a ≡ b
+read_same a b e = cc
+
+pub entries_same : (o : Option ItemNames) → entries_of o ≡ entries o
+entries_same None = refl
+entries_same (Some n) = refl
+
+pub function_agrees : (p : ProgramTree) (es : List NodeNames) (i : ℕ) (s : Span) (f : plain.Function) (d : Decl) → declared_item p es (plain.function_item s f) ≡ Ok d → AgreeAs (function_named i s f es).params (parameters_declared (Some (plain-Decl d)))
+function_agrees p es i s f d e =
+    let B = bounded 0 f.lifetimes in
+    let x = read_ok (entry_of B f.params (begins es (number (length f.lifetimes)))) (λ e. steps.on_ok (parameters_of p f.params e.1) (λ ps. steps.on_ok (answer_of p f.result ps.1) (λ a. Ok (decl.Func ps.1.next ps.0 a.0 (bounds_of B e.0))))) d e in
+    let y = read_ok (parameters_of p f.params x.0.1) (λ ps. steps.on_ok (answer_of p f.result ps.1) (λ a. Ok (decl.Func ps.1.next ps.0 a.0 (bounds_of B x.0.0)))) d x.2 in
+    let z = read_ok (answer_of p f.result y.0.1) (λ a. Ok (decl.Func y.0.1.next y.0.0 a.0 (bounds_of B x.0.0))) d y.2 in
+    let c1 = (naming.a_node s Site.Value (naming.begins es)).1 in
+    let c2 = (naming.entry_if (naming.has_entry f) c1).1 in
+    let at = well_is (λ (q : List ℕ × steps.Reading). q.1.names ≡ c2.names) (entry_of B f.params (begins es (number (length f.lifetimes)))) x.0 (entry_read f (begins es (number (length f.lifetimes))) c1 refl) x.1 in
+    let a = well_is (λ (q : List Ty × steps.Reading). Agree (naming.of_parameters f.params c2).0 q.0) (parameters_of p f.params x.0.1) y.0 (parameters_read p f.params x.0.1 c2 at) y.1 in
+    subst (λ (k : Decl). AgreeAs (function_named i s f es).params (parameters_declared (Some (plain-Decl k)))) (read_same (decl.Func y.0.1.next y.0.0 z.0.0 (bounds_of B x.0.0)) d z.2) (agree_plain (function_named i s f es).params y.0.0 a)
+
+record StandsAt (G : Given) (ns : List ItemNames) (n : ℕ) (ds : List Decl) (h : TypedFn) : Type 0 where
+  place : ℕ
+  span : Span
+  text : plain.Function
+  typed : FunctionTyped G (n + place) span text (entries (slice_get ns (n + place))) (variables_at (slice_get ns (n + place))) h
+  agrees : AgreeAs (function_named (n + place) span text (entries (slice_get ns (n + place)))).params (parameters_declared (slice_get (declarations ds) place))
+
+later : (G : Given) (ns : List ItemNames) (n : ℕ) (d : Decl) (ds : List Decl) (h : TypedFn) → StandsAt G ns (suc n) ds h → StandsAt G ns n (d ∷ ds) h
+later G ns n d ds h x =
+    let same : suc n + x.place ≡ n + suc x.place = omega arith in record {
+      place = suc x.place;
+      span = x.span;
+      text = x.text;
+      typed = subst (λ (k : ℕ). FunctionTyped G k x.span x.text (entries (slice_get ns k)) (variables_at (slice_get ns k)) h) same x.typed;
+      agrees = subst (λ (k : ℕ). AgreeAs (function_named k x.span x.text (entries (slice_get ns k))).params (parameters_declared (slice_get (declarations ds) x.place))) same x.agrees;
+    }
+
+stands_at : (G : Given) (p : ProgramTree) (ns : List ItemNames) (n : ℕ) (is : ProgramTree) (ds : List Decl) (ts : List TypedFn) → declared_items p ns n is ≡ Ok ds → FunctionsTyped G ns n is ts → (h : TypedFn) → Among h ts → StandsAt G ns n ds h
+stands_at G p ns n [] ds ts e k h a = absurd (elim (subst (λ (l : List TypedFn). Among h l) k a) [ ])
+stands_at G p ns n (x ∷ is) ds ts e k h a =
+    let y = read_ok (declared_item p (entries_of (slice_get ns n)) x) (λ d. steps.on_ok (declared_items p ns (suc n) is) (λ ds. Ok (d ∷ ds))) ds e in
+    let z = read_ok (declared_items p ns (suc n) is) (λ ds. Ok (y.0 ∷ ds)) ds y.2 in
+    subst (λ (l : List Decl). StandsAt G ns n l h) (read_same (y.0 ∷ z.0) ds z.2) (by x ts y.0 z.0 y.1 k a (λ ts k a. stands_at G p ns (suc n) is z.0 ts z.1 k h a))
+  where
+    first : (s : Span) (f : plain.Function) (d : Decl) (ds : List Decl) → declared_item p (entries_of (slice_get ns n)) (plain.function_item s f) ≡ Ok d → FunctionTyped G n s f (entries (slice_get ns n)) (variables_at (slice_get ns n)) h → StandsAt G ns n (d ∷ ds) h
+    first s f d ds q t =
+        let same : n ≡ n + zero = omega arith in record {
+          place = zero;
+          span = s;
+          text = f;
+          typed = subst (λ (k : ℕ). FunctionTyped G k s f (entries (slice_get ns k)) (variables_at (slice_get ns k)) h) same t;
+          agrees = subst (λ (k : ℕ). AgreeAs (function_named k s f (entries (slice_get ns k))).params (parameters_declared (Some (plain-Decl d)))) same
+              (subst (λ (es : List NodeNames). AgreeAs (function_named n s f es).params (parameters_declared (Some (plain-Decl d)))) (entries_same (slice_get ns n)) (function_agrees p (entries_of (slice_get ns n)) n s f d q));
+        }
+
+    by : (x : ItemTree) (ts : List TypedFn) (d : Decl) (es : List Decl) → declared_item p (entries_of (slice_get ns n)) x ≡ Ok d → FunctionsTyped G ns n (x ∷ is) ts → Among h ts
+        → ((ts : List TypedFn) → FunctionsTyped G ns (suc n) is ts → Among h ts → StandsAt G ns (suc n) es h) → StandsAt G ns n (d ∷ es) h
+    by (plain.rt_item s r) ts d es q k a f = later G ns n d es h (f ts k a)
+    by (plain.struct_item s r) ts d es q k a f = later G ns n d es h (f ts k a)
+    by (plain.enum_item s r) ts d es q k a f = later G ns n d es h (f ts k a)
+    by (plain.function_item s r) [] d es q k a f = absurd k
+    by (plain.function_item s r) (_ ∷ ts) d es q k here f = first s r d es q k.0
+    by (plain.function_item s r) (_ ∷ ts) d es q k (there a) f = later G ns n d es h (f ts k.1 a)
+
+-- ---- numbers of lifetimes say nothing of what a type is without them
+
+mutual
+  erased_same : (from next : ℕ) (t : RegionTyp) → erased (numbered from next t) ≡ erased t
+  erased_same from next (region_integer k) = refl
+  erased_same from next region_boolean = refl
+  erased_same from next (region_tuple ts) = ap types.tuple_of (all_erased_same from next ts)
+  erased_same from next (region_reference m l t) = ap (types.reference m) (erased_same from (next + open_one from l) t)
+  erased_same from next (region_named i ls) = refl
+
+  all_erased_same : (from next : ℕ) (ts : RegionTyps) → all_erased (numbers_of.all_numbered from next ts) ≡ all_erased ts
+  all_erased_same from next no_region = refl
+  all_erased_same from next (region_and t ts) = λ j. types.shape_and (erased_same from next t j) (all_erased_same from (next + open_in from t) ts j)
+
+many : (n : ℕ) (V : List Open) (H : List Held) → length (all_numbered n (V ++ opened H)) ≡ length V + length H
+many n [] [] = omega arith
+many n [] (h ∷ H) = let more = many (n + open_in 0 h.typ) [] H in omega (arith, more)
+many n (o ∷ V) H = let more = many (n + open_in o.from o.typ) V H in omega (arith, more)
+
+temporaries_behind : (n : ℕ) (V : List Open) (H : List Held) → (m : ℕ) × (drop (length V) (all_numbered n (V ++ opened H)) ≡ all_numbered m (opened H))
+temporaries_behind n [] H = (n, refl)
+temporaries_behind n (o ∷ V) H = temporaries_behind (n + open_in o.from o.typ) V H
+
+held_erased : (m : ℕ) (H : List Held) (d : Temporary) → erased (temporary_type (map (λ h. h.temporary) H) (all_numbered m (opened H)) d) ≡ erased (held_type H d)
+held_erased m [] d = refl
+held_erased m (h ∷ H) d = by (same h.temporary d) (held_erased (m + open_in 0 h.typ) H d)
+  where
+    by : (b : Bool) → erased (temporary_type (map (λ h. h.temporary) H) (all_numbered (m + open_in 0 h.typ) (opened H)) d) ≡ erased (held_type H d)
+        → erased (if b then numbered 0 m h.typ else temporary_type (map (λ h. h.temporary) H) (all_numbered (m + open_in 0 h.typ) (opened H)) d) ≡ erased (if b then h.typ else held_type H d)
+    by true e = erased_same 0 m h.typ
+    by false e = e
+
+held_is : (n : ℕ) (V : List Open) (H : List Held) (d : Temporary)
+    → erased (temporary_type (map (λ h. h.temporary) H) (drop (length (all_numbered n (V ++ opened H)) - length (map (λ h. h.temporary) H)) (all_numbered n (V ++ opened H))) d) ≡ erased (held_type H d)
+held_is n V H d =
+    let all = many n V H in
+    let some_held = length-map H (λ (h : Held). h.temporary) in
+    let front : length (all_numbered n (V ++ opened H)) - length (map (λ (h : Held). h.temporary) H) ≡ length V = omega (arith, all, some_held) in
+    let rest = temporaries_behind n V H in
+    ap (λ (k : ℕ). erased (temporary_type (map (λ h. h.temporary) H) (drop k (all_numbered n (V ++ opened H))) d)) front
+    ∙ (ap (λ (ts : List RegionTyp). erased (temporary_type (map (λ h. h.temporary) H) ts d)) rest.1 ∙ held_erased rest.0 H d)
+
+-- ---- a function of a typed program
+
+module _ (p : ProgramTree) (ns : List ItemNames) (t : Typed) (typed : IsTyped p ns t) (f : TypedFn) (among : Among f t.functions)
+    (numbers_stand : (i : ℕ) (s : Span) (g : plain.Function) (es : List NodeNames) → AreFrom 0 (nodes (function_named i s g es)) (length (function_spans s g es)))
+    (sites_stand : (G : tree.Function) → Sublist (actions_of (graph G)) (text G)) where
+  abbrev G : Given
+  G = record { program = p; declared = typed.declared; sizes = typed.sizes }
+
+  abbrev K : facts.Known
+  K = known_in G
+
   abbrev D : List Decl
-  D = q.decls.items
+  D = t.decls.items
 
-  abbrev E : List Decl
-  E = with_bounds D f.item bs
+  declared_same : declarations D ≡ K.items
+  declared_same = same_declared D typed.declared typed.same
 
-  is : IsFunction (slice_get D f.item)
-  is = a_function _ p names q.functions D typed.declared f typed.functions typed.declares.items typed.same among
+  S : StandsAt G ns 0 typed.declared f
+  S = stands_at G p ns 0 p typed.declared t.functions typed.declares.items typed.functions f among
 
-  as_many_with : length (body f).params ≡ length (parameters (slice_get E f.item))
-  as_many_with = as_many _ p names q.functions D typed.declared f typed.functions typed.declares.items typed.same among ∙ ap (λ (ts : List Ty). length ts) (sym (parameters_at bs D f.item f.item))
+  abbrev Item : ℕ
+  Item = 0 + S.place
 
-  fits_with : Fitting (declarations D) (slice_get E f.item)
-  fits_with = subst (Fitting (declarations D)) (sym (at_item bs D f.item))
-      (fitting_with (declarations D) bs (slice_get D f.item) fit (fitting (declarations D) (slice_get D f.item) (λ d e. signed.signatures f.item d e)))
+  abbrev Names : List NodeNames
+  Names = entries (slice_get ns Item)
 
-  module _ (P : ℕ → List Bound) (are : AreLeastBounds (context_of D P f) (sites_of f) least) where
-    -- what is needed is known where the function is accepted, so its signature says it
-    all_said : Borrows E P f → AllFollow least (signature_says P (slice_get E f.item))
-    all_said a l k h =
-        let b = (same_needed D P f bs never l k).0 ((are.exact l k).0 h) in
-        follows_said E P f (declarations D) fits_with as_many_with l k b.long
-        (known_follows (context_of E P f) l k (a.1.known l k b.long b.short (b.needed a.0 a.1.solution)))
+  abbrev F : Function
+  F = function_named Item S.span S.text Names
 
-    one_accepted : Borrows E P f → (h : TypedFn) → Among h q.functions → Borrows E P h → Borrows (with_bounds D f.item least) P h
-    one_accepted a h w b = elim (same_or h.item f.item) [
-      | inl e ↦ subst (λ (g : TypedFn). Borrows (with_bounds D f.item least) P g) (sym (only_one _ p names 0 p q.functions h f typed.functions w among e))
-          (least_accepted D P f bs least never is (least_sets (context_of D P f) (sites_of f)) (are_least (context_of D P f) (sites_of f)) are a)
-      | inr ne ↦ subst (λ (F : List Decl). Borrows F P h) (with_twice D f.item bs least) (caller_accepted E P f.item least (all_said a) h ne b)
-    ]
+  abbrev A : Types
+  A = S.typed.types
 
-    all_accepted : AllAre (Borrows E P) q.functions → AllAre (Borrows (with_bounds D f.item least) P) q.functions
-    all_accepted all = each_mapped (Borrows E P) (Borrows (with_bounds D f.item least) P) q.functions (one_accepted (one_of_all (Borrows E P) q.functions all f among)) all
+  abbrev V : ℕ → Typ
+  V x = A (subject.Variable x)
 
-  asked_same : (P : ℕ → List Bound) (F : List Decl) (cs : List Bound) → F ≡ with_bounds D f.item cs → AreAsked F P ↔ AreAsked D P
-  asked_same P F cs e =
-      let same : regions F ≡ regions D = ap regions e ∙ regions_same cs D f.item in
-      (λ h i. subst (λ (H : List (List RegionTyp)). ImpliesOf H i (P i)) same (h i), λ h i. subst (λ (H : List (List RegionTyp)). ImpliesOf H i (P i)) (sym same) (h i))
+  abbrev U : Temporary → Typ
+  U = temporary_types (assigned K A) V F
 
-  pub program_accepted : (P : ℕ → List Bound) → AreAsked D P → AreLeastBounds (context_of D P f) (sites_of f) least → (t u : Typed) → IsBounded q f.item bs t → IsBounded q f.item least u
-      → AllBorrow t → AllBorrow u
-  program_accepted P asked are t u before after all =
-      let now = (asked_same all.implied t.decls.items bs before.items).0 all.asked in
-      let given : AllAre (Borrows E all.implied) q.functions =
-      subst (λ (fs : List TypedFn). AllAre (Borrows E all.implied) fs) before.functions (subst (λ (F : List Decl). AllAre (Borrows F all.implied) t.functions) before.items all.each) in
-      record {
-        implied = all.implied;
-        asked = (asked_same all.implied u.decls.items least after.items).1 now;
-        each = subst (λ (F : List Decl). AllAre (Borrows F all.implied) u.functions) (sym after.items)
-            (subst (λ (fs : List TypedFn). AllAre (Borrows (with_bounds D f.item least) all.implied) fs) (sym after.functions)
-            (all_accepted all.implied (list_by_any D P all.implied asked now f least are) given));
-      }
+  met : MeetsEach K A (rules.demands F)
+  met = S.typed.valid.prefers.typed
+
+  fills : acting.H K A U (order_function (plain-TypedTree f.tree))
+  fills = subst (λ (T : tree.Function). acting.H K A U (order_function T)) (sym S.typed.tree)
+      (function_holds K A U F (function_sited Item S.span S.text Names) (all_found (assigned K A) V F (length (function_spans S.span S.text Names)) (numbers_stand Item S.span S.text Names)) met)
+
+  sites_fill : Every (λ (a : Action). acting.Fills K A U a.act) (actions_of (sites_of f))
+  sites_fill = sites_hold (acting.Fills K A U) (λ x. tt) (plain-TypedTree f.tree) (sites_stand (plain-TypedTree f.tree)) fills
+
+  -- ---- its variables
+
+  raw_is : (x : ℕ) → erased (raw_type (joined (slice_get f.variables x))) ≡ V x
+  raw_is x = by (joined (slice_get f.variables x)) (S.typed.found (subject.Variable x))
+    where
+      by : (o : Option Ty) → TypeIs K F A (subject.Variable x) o → erased (raw_type o) ≡ V x
+      by None h = sym (S.typed.untold (subject.Variable x) h)
+      by (Some u) h = is_erased u ∙ sym (same_typ K.items u (V x) h.1)
+
+  item_is : f.item ≡ S.place
+  item_is = let e = S.typed.item in omega (arith, e)
+
+  params_are : (x : ℕ) (u : Ty) → parameter_type (plain-TypedTree f.tree).params (parameters (slice_get D f.item)) x ≡ Some u → plain-Ty u ≡ V x
+  params_are =
+      let a : AgreeAs F.params (parameters_declared (slice_get (declarations D) f.item)) =
+      subst (λ (E : Declarations). AgreeAs F.params (parameters_declared (slice_get E f.item))) (sym declared_same) (subst (λ (k : ℕ). AgreeAs F.params (parameters_declared (slice_get K.items k))) (sym item_is) S.agrees) in
+      let b : AgreeAs F.params (map plain-Ty (parameters (slice_get D f.item))) =
+      subst (λ (us : List Typ). AgreeAs F.params us) (ap parameters_declared (plain_at D f.item) ∙ plain_parameters (slice_get D f.item)) a in
+      let g = parameters_given K A F.params in
+      let k = g.gives (subst (λ (l : List _). MeetsEach K A l) (g.adds []) (parameters_met K A (lets.LetAs K A) (lets.declared_as K A) (lets.IsWritten K A) (lets.typed_as K A) (lets.let_as K A) F met)) in
+      subst (λ (T : tree.Function). (x : ℕ) (u : Ty) → parameter_type T.params (parameters (slice_get D f.item)) x ≡ Some u → plain-Ty u ≡ V x) (sym S.typed.tree) (param_is K A F.params (parameters (slice_get D f.item)) b k)
+
+  abbrev Free : ℕ
+  Free = let_lifetimes (slice_get typed.declared Item)
+
+  lets_are : (x : ℕ) (r : RegionTyp) → written_type (map written f.annotations) x ≡ Some r → erased r ≡ V x
+  lets_are = written_is V Free typed.declared f.annotations
+      (subst (λ (l : List (ℕ × RegionTyp)). Every (Told typed.declared V Free) l) (sym S.typed.annotated)
+      (lets_told K A typed.declared refl p Free (function_annotations S.span S.text Names) (notes_are K A Item S.span S.text Names met)))
+
+  variables_have : (x : ℕ) → erased (get_or (known (function D f)).variables x open_unit).typ ≡ V x
+  variables_have x =
+      variables_are V (lifetimes_of (slice_get D f.item)) (plain-TypedTree f.tree).params (parameters (slice_get D f.item)) (map written f.annotations) params_are lets_are 0 (trimmed f.variables)
+      (trimmed_are V f.variables 0 (raws_are V f.variables 0 (λ k. raw_is k ∙ ap V (let h : k ≡ 0 + k = omega arith in h)))) x
+      ∙ ap V (let h : 0 + x ≡ x = omega arith in h)
+
+  -- ---- what it makes
+
+  all_right : (us : List Action) → Every (λ (a : Action). acting.Fills K A U a.act) us → Every (λ (a : Action). making.Right (known (function D f)) U a.act) us
+  all_right [] h = tt
+  all_right (a ∷ us) h = (right_if K A U (known (function D f)) declared_same variables_have a.act h.0, all_right us h.1)
+
+  held_of : (filled_held : (a : Action) (d : Temporary) → Among a (actions (function D f)) → filled a.act ≡ Some d → is_held (temporaries (function D f)) d ≡ true)
+      → (P : ℕ → List Bound) (a : Action) (d : Temporary) → Among a (actions_of (sites_of f)) → filled a.act ≡ Some d → IsOf (U d) (held (context_of D P f) d)
+  held_of filled_held P a d w e i q =
+      held_is (lifetimes_of (slice_get D f.item)) (function D f).variables (temporaries (function D f)) d
+      ∙ making.all_found (known (function D f)) U (actions_of (sites_of f)) (all_right (actions_of (sites_of f)) sites_fill) d (filled_held a d w e) i q
+
+  pub are_of_items : (filled_held : (a : Action) (d : Temporary) → Among a (actions (function D f)) → filled a.act ≡ Some d → is_held (temporaries (function D f)) d ≡ true)
+      → (P : ℕ → List Bound) → AreOfItems (context_of D P f) (actions_of (sites_of f))
+  are_of_items filled_held P a w = by a.node a.act w (one_of (λ (b : Action). acting.Fills K A U b.act) (actions_of (sites_of f)) sites_fill a w)
+    where
+      of_making : (m : Making) (d : Temporary) → IsOf (U d) (held (context_of D P f) d) → acting.Gets K A U m (U d) → IsOfItem m (held (context_of D P f) d)
+      of_making (struct i) d h g = h i g
+      of_making (variant_of i v) d h g = h i g
+      of_making _ d h g = tt
+
+      by : (n : ℕ) (b : Act) → Among (does n b) (actions_of (sites_of f)) → acting.Fills K A U b → ActIsOfItem (context_of D P f) b
+      by n (Build m js ts d) k g = of_making m d (held_of filled_held P (does n (Build m js ts d)) d k refl) g
+      by n _ k g = tt

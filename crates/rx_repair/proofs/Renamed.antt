@@ -7,7 +7,7 @@ use Rattle.rx_typed.specs.Regions.{RegionTyp, region_integer, region_boolean, re
 use Rattle.rx_region_outlives.specs.Related.{outlives}
 use Rattle.rx_region_outlives.specs.Implied.{HasPair, pair_of, with_arguments, all_outlive, implied_in, implied_among}
 use Rattle.rx_region_outlives.proofs.ImpliedLemmas.{has_front, has_behind, has_either}
-use Rattle.rx_typed_places.specs.Renaming.{renamed, all_renamed, bound_renamed}
+use Rattle.rx_typed.specs.Renaming.{renamed, all_renamed, bound_renamed}
 use Rattle.rx_region.specs.Tables.{Follows, itself, by}
 
 map_append : (r : ℕ → ℕ) (ls ks : List ℕ) → map r (ls ++ ks) ≡ map r ls ++ map r ks

@@ -6,7 +6,7 @@ use Rattle.rx_graph_cycles.specs.Reaches.{IsIn}
 use Rattle.rx_typed.specs.declared.declarations.Decl.{Decl}
 use Rattle.rx_typed.specs.Regions.{regions_of, region-Ty}
 use Rattle.rx_typed.specs.Types.{Declarations}
-use Rattle.rx_typed_places.specs.Renaming.{unit_region}
+use Rattle.rx_typed.specs.Renaming.{unit_region}
 use Rattle.rx_region_outlives.specs.Implied.{HasPair, implied_in, implied_among}
 use Rattle.rx_region_outlives.proofs.ImpliedLemmas.{has_front, has_behind, has_either}
 use Rattle.rx_lower.specs.Functions.{trimmed, written}
@@ -14,8 +14,8 @@ use Rattle.rx_lower_lifetimes.specs.Values.{lifetimes_of, result_type}
 use Rattle.rx_lower_lifetimes.specs.Lowered.{parameters, bounds_of}
 use Rattle.rx_typeck_typed.specs.declared.typed.TypedFn.{TypedFn}
 use Rattle.rx_facts.specs.Functions.{body}
-use Rattle.rx_region_constraints.specs.Constraints.{Context}
-use Rattle.rx_region_constraints.specs.Known.{parameters_ask, told}
+use Rattle.rx_region.specs.Constraints.{Context}
+use Rattle.rx_region.specs.Known.{parameters_ask, told}
 use Rattle.rx_region.specs.Tables.{Follows, itself, by}
 use Rattle.rx_check.specs.Contexts.{context_of}
 use Rattle.rx_repair.specs.Signatures.{signature_says}

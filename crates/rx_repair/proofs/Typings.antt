@@ -21,10 +21,10 @@ use Rattle.rx_typed_declarations.specs.Variance.{unrecorded}
 use Rattle.rx_lower_walks.specs.Walks.{Among}
 use Rattle.rx_lower_walks.specs.Walks as walks
 use Rattle.rx_lower_lifetimes.specs.Lowered.{parameters}
-use Rattle.rx_typeck_declare.specs.Steps as steps
-use Rattle.rx_typeck_declare.specs.Steps.{Reading, on_ok}
-use Rattle.rx_typeck_declare.specs.Written.{type_of}
-use Rattle.rx_typeck_declare.specs.Items.{begins, bounded, bounds_of, entry_of, parameters_of, answer_of, declared_function, declared_item, declared_items, entries_of}
+use Rattle.rx_typeck_typed.specs.Steps as steps
+use Rattle.rx_typeck_typed.specs.Steps.{Reading, on_ok}
+use Rattle.rx_typeck_typed.specs.Written.{type_of}
+use Rattle.rx_typeck_typed.specs.Items.{begins, bounded, bounds_of, entry_of, parameters_of, answer_of, declared_function, declared_item, declared_items, entries_of}
 use Rattle.rx_typeck_typed.specs.declared.typed.TypedFn.{TypedFn}
 use Rattle.rx_typeck_typed.specs.Typing.{Given, entries, variables_at, FunctionTyped, FunctionsTyped}
 use Rattle.rx_facts.specs.Functions.{body}

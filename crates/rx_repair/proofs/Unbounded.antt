@@ -19,10 +19,10 @@ use Rattle.rx_typed.specs.declared.declarations.Decl.TheVariants as decl
 use Rattle.rx_typed_declarations.specs.Variance.{unrecorded}
 use Rattle.rx_lower_lifetimes.specs.Lowered as lowered
 use Rattle.rx_lower.specs.Functions.{function_at}
-use Rattle.rx_typeck_declare.specs.Steps as steps
-use Rattle.rx_typeck_declare.specs.Steps.{Reading, on_ok}
-use Rattle.rx_typeck_declare.specs.Items.{begins, one_each, bounded, bounds_of, entry_of, parameters_of, answer_of, declared_function, declared_item, declared_items, entries_of}
-use Rattle.rx_typeck_declare.specs.Programs.{Declares}
+use Rattle.rx_typeck_typed.specs.Steps as steps
+use Rattle.rx_typeck_typed.specs.Steps.{Reading, on_ok}
+use Rattle.rx_typeck_typed.specs.Items.{begins, one_each, bounded, bounds_of, entry_of, parameters_of, answer_of, declared_function, declared_item, declared_items, entries_of}
+use Rattle.rx_typeck_typed.specs.Programs.{Declares}
 use Rattle.rx_typeck_typed.specs.declared.typed.Typed.{Typed}
 use Rattle.rx_typeck_typed.specs.declared.typed.TypedFn.{TypedFn}
 use Rattle.rx_typeck_typed.specs.Typing.{Given, FunctionTyped, FunctionsTyped, IsTyped}

@@ -2,7 +2,7 @@
 use Rattle.std.specs.Prelude.{◌≡◌, ℕ, List}
 use Rattle.rx_lower_walks.specs.Actions.{Action}
 use Rattle.rx_region_outlives.specs.Implied.{HasPair}
-use Rattle.rx_region_constraints.specs.Constraints.{Context, imposed}
+use Rattle.rx_region.specs.Constraints.{Context, imposed}
 use Rattle.rx_region.specs.Tables.{Follows}
 
 -- by these actions: the lifetimes of its own and its types are the same, and each pair that is imposed on the first follows from those

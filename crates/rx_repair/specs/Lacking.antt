@@ -5,8 +5,8 @@ use Rattle.rx_typed.specs.declared.declarations.Decl.{Decl}
 use Rattle.rx_typeck_typed.specs.declared.typed.TypedFn.{TypedFn}
 use Rattle.rx_lower_walks.specs.Graph.{Site}
 use Rattle.rx_region_outlives.specs.Implied.{HasPair}
-use Rattle.rx_region_constraints.specs.Constraints.{Context}
-use Rattle.rx_region_constraints.specs.Known.{Missing}
+use Rattle.rx_region.specs.Constraints.{Context}
+use Rattle.rx_region.specs.Known.{Missing}
 use Rattle.rx_facts.specs.Functions.{sites_of}
 use Rattle.rx_check.specs.Contexts.{AreAsked, context_of}
 use Rattle.rx_repair.specs.LeastBounds.{InOrder, AreLeastBounds}

@@ -7,9 +7,9 @@ use Rattle.std.specs.Prelude.{◌≡◌, ◌≢◌, ◌↔◌, ◌⊎◌, ℕ, �
 use Rattle.rx_core.specs.declared.types.Bound.{Bound}
 use Rattle.rx_lower_walks.specs.Graph.{Site}
 use Rattle.rx_region_outlives.specs.Implied.{HasPair, implied_in}
-use Rattle.rx_region_constraints.specs.Constraints.{Context}
-use Rattle.rx_region_constraints.specs.Solutions.{end, Sets, Solution}
-use Rattle.rx_region_constraints.specs.Known.{parameters_ask}
+use Rattle.rx_region.specs.Constraints.{Context}
+use Rattle.rx_region.specs.Solutions.{end, Sets, Solution}
+use Rattle.rx_region.specs.Known.{parameters_ask}
 use Rattle.rx_region.specs.Tables.{Follows}
 
 -- the pairs that the types of the parameters and of the result ask

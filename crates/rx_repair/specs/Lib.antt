@@ -6,3 +6,7 @@ pub mod Asking
 pub mod Repaired
 pub mod Named
 pub mod Lacking
+pub mod Renaming
+pub mod Fitting
+pub mod Making
+pub mod TemporaryTypes

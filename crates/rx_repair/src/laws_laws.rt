@@ -17,13 +17,13 @@ ghost use Rattle.rx_lower_walks.specs.Graph.{Site};
 ghost use Rattle.rx_lower_walks.specs.Text.{actions_of};
 ghost use Rattle.rx_graph_closure.specs.Listing.{pairs_below};
 ghost use Rattle.rx_region_outlives.specs.Implied.{HasPair};
-ghost use Rattle.rx_region_constraints.specs.Constraints.{Context};
-ghost use Rattle.rx_region_constraints.specs.Solutions.{Point, Sets, Solution, Least, AreLeast};
-ghost use Rattle.rx_region_constraints.specs.Known.{Missing};
+ghost use Rattle.rx_region.specs.Constraints.{Context};
+ghost use Rattle.rx_region.specs.Solutions.{Point, Sets, Solution, Least, AreLeast};
+ghost use Rattle.rx_region.specs.Known.{Missing};
 ghost use Rattle.rx_region.specs.Tables.{Follows};
 ghost use Rattle.rx_loan.specs.Accesses.{Loan};
 ghost use Rattle.rx_loan.specs.Loans.{loans_of, InScope, Meets, IsLegal};
-ghost use Rattle.rx_loan_check.specs.Accepted.{at_sites};
+ghost use Rattle.rx_loan.specs.Accepted.{at_sites};
 ghost use Rattle.rx_facts.specs.Functions.{sites_of};
 ghost use Rattle.rx_check.specs.Contexts.{AreAsked, context_of};
 ghost use Rattle.rx_check.specs.Functions.{Borrows};
@@ -34,7 +34,7 @@ ghost use Rattle.rx_repair.specs.Calls.{CallsNotItself};
 ghost use Rattle.rx_repair.specs.Signatures.{signature_says};
 ghost use Rattle.rx_repair.specs.LeastBounds.{by_types, IsLeastBound, InOrder, AreLeastBounds};
 
-use rx_typeck_laws::signatures_are_well_formed;
+use rx_typeck_typed::signatures_are_well_formed;
 
 /// There are least sets.
 pub fn least_sets_exist()

@@ -2,9 +2,9 @@
 
 ghost use Rattle.std.specs.Prelude.{◌≡◌, ◌≤◌, length, map, IfOk, Some as SomeOf};
 ghost use Rattle.std.specs.Option.{IsSome};
-ghost use Rattle.rx_lower_emit.specs.PlainSite.{plain-Site};
-ghost use Rattle.rx_facts_live.specs.Tables.{IsIndex, Lives};
-ghost use Rattle.rx_region_constraints.specs.PlainContext.{plain-Given};
+ghost use Rattle.rx_lower_walks.specs.PlainSite.{plain-Site};
+ghost use Rattle.rx_facts_tables.specs.LiveTables.{IsIndex, Lives};
+ghost use Rattle.rx_region.specs.PlainContext.{plain-Given};
 ghost use Rattle.rx_lower.specs.Functions.{function_at};
 ghost use Rattle.rx_typeck_typed.specs.declared.typed.TypedFn.{TypedFn as FnOf};
 ghost use Rattle.rx_repair.specs.Lacking.{AreMissing, Lacks, Needs};
@@ -12,10 +12,9 @@ ghost use Rattle.rx_repair.specs.Lacking.{AreMissing, Lacks, Needs};
 use crate::least_bounds_are_missing;
 use rx_check::FrontEnd;
 use rx_core::{Bound, List};
-use rx_facts_live::LiveTable;
-use rx_lower_emit::Site;
-use rx_region::{constraints, known_pairs, missing, solve};
-use rx_region_constraints::Given;
+use rx_facts_tables::LiveTable;
+use rx_lower_walks::Site;
+use rx_region::{Given, constraints, known_pairs, missing, solve};
 use rx_region_outlives::implied_by_fields;
 use std::alloc::{AllocError, Global};
 

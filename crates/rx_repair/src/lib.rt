@@ -1,19 +1,26 @@
-//! The least bounds of a new function, found, and written into its list of lifetimes.
+//! Each struct or enum that a typed function makes goes to a temporary of its type: laws.
 #![tactic(auto)]
 
 mod bounding;
 mod laws;
 mod laws_laws;
 mod least;
+mod renaming_laws;
+mod repair_laws;
 mod repairing;
 
-pub use laws::{
-    functions_without_bounds_declare_none, lifetimes_are_distinct, repaired_is_extraction,
-    repaired_programs_are_numbered,
-};
+pub use laws::{items_get_their_types, verdicts_are_kept};
 pub use laws_laws::{
     accepted_where_least_bounds_follow, callers_are_accepted, fewer_pairs_ask_less,
     least_bounds_are_missing, least_bounds_serve, least_sets_exist, own_bounds_ask_nothing,
 };
 pub use least::least_bounds;
+pub use renaming_laws::{
+    renamings_change_no_verdict, typed_functions_fit, typed_verdicts_are_kept,
+    values_have_the_types_of_temporaries,
+};
+pub use repair_laws::{
+    functions_without_bounds_declare_none, lifetimes_are_distinct, repaired_is_extraction,
+    repaired_programs_are_numbered,
+};
 pub use repairing::{Repaired, repair};

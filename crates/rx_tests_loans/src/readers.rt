@@ -6,7 +6,7 @@ ghost use Rattle.rx_lower.specs.Functions.{function_at};
 use crate::holding::hold;
 use rx_check::{Checked, FrontEnd, check, covers};
 use rx_core::{LetGo, List};
-use rx_lower_flow::{Place, Root};
+use rx_lower_walks::{Place, Root};
 use rx_parse::{parse, parsed_programs_are_numbered};
 use rx_tests_tables::{BANK, Outcome};
 use std::alloc::{AllocError, Global};

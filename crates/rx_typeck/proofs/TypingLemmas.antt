@@ -36,7 +36,7 @@ use Rattle.rx_typeck_solver.specs.Valid.{Task, Told, Valid, Breaks, MeetsChosen,
 use Rattle.rx_typeck_solver.specs.Solving.{types_of, HasType, IsSolved, IsUnsolved}
 use Rattle.rx_typeck_solver.specs.Views as views
 use Rattle.rx_typeck_solver.specs.Views.{unnumbered, all_unnumbered, kind_found, IsFound}
-use Rattle.rx_typeck_rules.specs.Demands.{demands, task}
+use Rattle.rx_typeck_typed.specs.Demands.{demands, task}
 use Rattle.rx_typeck_elaborate_parts.specs.declared.assigned.NodeTypes.{NodeTypes}
 use Rattle.rx_typeck_elaborate_parts.specs.Assigning as parts
 use Rattle.rx_typeck_elaborate_parts.specs.Assigning.{joined, shape_of}

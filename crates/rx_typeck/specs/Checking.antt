@@ -20,9 +20,9 @@ use Rattle.rx_typed_declarations.specs.Sizes.{IsSizes}
 use Rattle.rx_typed_declarations.specs.WellFormed.{WellFormed}
 use Rattle.rx_typed_declarations.specs.Variance.{Recorded, unrecorded}
 use Rattle.rx_typeck_elaborate_parts.specs.Assigning.{joined, shape_of}
-use Rattle.rx_typeck_declare.specs.declared.fault.DeclareFault.{DeclareFault}
-use Rattle.rx_typeck_declare.specs.declared.fault.DeclareFault.TheVariants as declare_fault
-use Rattle.rx_typeck_declare.specs.Programs.{Declares, Wrong}
+use Rattle.rx_typeck_typed.specs.declared.fault.DeclareFault.{DeclareFault}
+use Rattle.rx_typeck_typed.specs.declared.fault.DeclareFault.TheVariants as declare_fault
+use Rattle.rx_typeck_typed.specs.Programs.{Declares, Wrong}
 use Rattle.rx_typeck_typed.specs.declared.variables.AnnotatedVariable.{AnnotatedVariable}
 use Rattle.rx_typeck_typed.specs.Bindings.{annotated}
 use Rattle.rx_typeck_typed.specs.Walks.{plain-Variable}
@@ -37,7 +37,7 @@ use Rattle.rx_typeck_solver.specs.Facts.{Types, Known}
 use Rattle.rx_typeck_solver.specs.Stepping.{known}
 use Rattle.rx_typeck_solver.specs.Valid.{Valid, Breaks, IsUnclear, Asked, Told}
 use Rattle.rx_typeck_solver.specs.Views.{unnumbered}
-use Rattle.rx_typeck_rules.specs.Demands.{demands, task}
+use Rattle.rx_typeck_typed.specs.Demands.{demands, task}
 use Rattle.rx_typeck_typed.specs.declared.typed.TypedFn.{TypedFn}
 use Rattle.rx_typeck_typed.specs.declared.typed.Typed.{Typed}
 use Rattle.rx_typeck_typed.specs.declared.typed.TypeFault.{TypeFault}

@@ -10,8 +10,8 @@ ghost use Rattle.rx_typed.specs.PlainTypes.{declarations};
 ghost use Rattle.rx_typeck_solver.specs.declared.solver.Solved as solver;
 ghost use Rattle.rx_typeck_solver.specs.Solving.{IsSolved};
 ghost use Rattle.rx_typeck_solver.specs.Views.{IsFound};
-ghost use Rattle.rx_typeck_rules.specs.Demands.{task};
-ghost use Rattle.rx_typeck_declare.specs.Programs.{Declares};
+ghost use Rattle.rx_typeck_typed.specs.Demands.{task};
+ghost use Rattle.rx_typeck_typed.specs.Programs.{Declares};
 ghost use Rattle.rx_typeck.specs.Checking as checking;
 ghost use Rattle.rx_typeck_typed.specs.Typing as typing;
 ghost use Rattle.rx_typeck_typed.specs.declared.typed.TypeFault.TheVariants as fault;
@@ -19,13 +19,14 @@ ghost use Rattle.rx_typeck_typed.specs.declared.typed.TypeFault.TheVariants as f
 use rx_core::{List, Span, keep, pushed};
 use rx_resolve_names::{NodeNames, Resolved};
 use rx_tree::{Func, Item, ItemNode, Program};
-use rx_typeck_declare::{DeclareFault, declare, declared_are_finite, declared_are_well_formed};
 use rx_typeck_demands::asked;
 use rx_typeck_elaborate::elaborate;
 use rx_typeck_elaborate_parts::NodeTypes;
-use rx_typeck_rules::demands_are_orderly;
 use rx_typeck_solver::{Broken, Demand, Found, Unsolved, solve};
-use rx_typeck_typed::{AnnotatedVariable, TypeFault, Typed, TypedFn, annotated};
+use rx_typeck_typed::{
+    AnnotatedVariable, DeclareFault, TypeFault, Typed, TypedFn, annotated, declare,
+    declared_are_finite, declared_are_well_formed, demands_are_orderly,
+};
 use rx_typed::{Declaration, Decls};
 use rx_typed_declarations::{recorded, sizes};
 use std::alloc::{AllocError, Global};

@@ -6,7 +6,7 @@ use Rattle.rx_tree.specs.declared.tree.FieldPattern.{FieldPattern}
 use Rattle.rx_tree.specs.PlainOf.{plain-Pattern, plain-FieldPattern, patterns_of, field_patterns_of}
 use Rattle.rx_tree.proofs.Rules.{field_pattern_by_parts}
 use Rattle.rx_typed.specs.Naming.{Cursor, of_pattern, of_patterns, of_field_patterns}
-use Rattle.rx_typeck_rules.specs.Demands.{count, field_names}
+use Rattle.rx_typeck_typed.specs.Demands.{count, field_names}
 use Rattle.rx_typeck_demand_parts.specs.Matching.{fields_named}
 
 pub patterns_counted : (l : List Pattern) (c : Cursor) → count (of_patterns (patterns_of (map plain-Pattern l)) c).0 ≡ length l

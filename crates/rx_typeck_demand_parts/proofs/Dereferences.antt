@@ -15,8 +15,8 @@ use Rattle.rx_typed.specs.declared.nodes.Site.{Site}
 use Rattle.rx_typed.specs.Named.{Exp, Exps, node_of}
 use Rattle.rx_typed.specs.Naming.{Cursor, Numbering, of_expression, of_expressions, a_node, an_entry, waits_for, called, assigned}
 use Rattle.rx_typeck_solver.specs.declared.facts.Passing.{Passing}
-use Rattle.rx_typeck_rules.specs.Demands.{through}
-use Rattle.rx_typeck_numbering.proofs.Numbered.{expression_numbered}
+use Rattle.rx_typeck_typed.specs.Demands.{through}
+use Rattle.rx_typeck_elaborate_parts.proofs.Numbered.{expression_numbered}
 use Rattle.rx_typeck_demand_parts.specs.Places.{through_at}
 
 -- ---- the dereferences of a place

@@ -11,7 +11,7 @@ use Rattle.rx_typed.specs.declared.nodes.Stage.{Stage}
 use Rattle.rx_typed.specs.declared.nodes.Declaration.{Declaration}
 use Rattle.rx_typed.specs.Named as named
 use Rattle.rx_typed.specs.Naming.{Cursor, Numbering, give, and_then, a_node, taken, an_entry, declare, first, second, of_pattern, of_patterns, of_field_patterns}
-use Rattle.rx_typeck_numbering.specs.Entries.{left_at}
+use Rattle.rx_typeck_elaborate_parts.specs.Entries.{left_at}
 
 -- what a step gives, and where it leads, depend on the place alone
 abbrev Blind : {A : Type 0} → Numbering A → Type 0

@@ -8,11 +8,11 @@ use Rattle.rx_typed.specs.Named as named
 use Rattle.rx_typed.specs.Named.{Exp, node_of}
 use Rattle.rx_typed.specs.Naming.{Cursor, of_expression}
 use Rattle.rx_typeck_solver.specs.declared.facts.Demand.{Demand}
-use Rattle.rx_typeck_rules.specs.Demands.{through, of_exp, of_form}
+use Rattle.rx_typeck_typed.specs.Demands.{through, of_exp, of_form}
 use Rattle.rx_typeck_demand_parts.specs.Places.{through_at}
-use Rattle.rx_typeck_numbering.specs.Seeing.{seen_of}
+use Rattle.rx_typeck_elaborate_parts.specs.Seeing.{seen_of}
 use Rattle.rx_typeck_demand_parts.specs.Placing.{placed}
-use Rattle.rx_typeck_numbering.proofs.Numbered.{expression_numbered}
+use Rattle.rx_typeck_elaborate_parts.proofs.Numbered.{expression_numbered}
 use Rattle.rx_typeck_demand_parts.proofs.Dereferences.{through_numbered}
 
 form_placed : (f : ℕ) (e : Exp) (ds : List Demand) → of_exp f e ds ≡ placed (seen_of e) (through e) (of_form f e ds)

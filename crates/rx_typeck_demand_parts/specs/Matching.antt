@@ -5,7 +5,7 @@ use Rattle.rx_typed.specs.Named.{Pattern, pattern_node, whole_binding}
 use Rattle.rx_typeck_demand_parts.specs.declared.matched.Matched as code
 use Rattle.rx_typeck_demand_parts.specs.declared.matched.Matched.TheVariants as form
 use Rattle.rx_typeck_demand_parts.specs.declared.matched.Declares.{Declares}
-use Rattle.rx_typeck_rules.specs.Demands.{Matched, a_value, a_place, an_initialiser}
+use Rattle.rx_typeck_typed.specs.Demands.{Matched, a_value, a_place, an_initialiser}
 
 abbrev pub matched_as : code.Matched → Matched
 matched_as form.Value = a_value

@@ -1,9 +1,9 @@
 -- What a place asks where it stands.
 use Rattle.std.specs.Prelude.{List}
 use Rattle.rx_typeck_solver.specs.declared.facts.Passing.{Passing}
-use Rattle.rx_typeck_numbering.specs.declared.seen.Seen.{Seen}
-use Rattle.rx_typeck_rules.specs.Asking.{Asking, when}
-use Rattle.rx_typeck_rules.specs.Demands.{place_in}
+use Rattle.rx_typeck_elaborate_parts.specs.declared.seen.Seen.{Seen}
+use Rattle.rx_typeck_typed.specs.Asking.{Asking, when}
+use Rattle.rx_typeck_typed.specs.Demands.{place_in}
 
 -- what a place asks where it stands, with the dereferences that it goes through
 abbrev pub placed : Seen → List Passing → Asking

@@ -3,7 +3,7 @@ use Rattle.std.specs.Prelude.{◌≡◌, List, Result, Ok, Err}
 use Rattle.rx_typed.specs.Naming.{Cursor, Numbering}
 use Rattle.rx_typeck_solver.specs.declared.facts.Demand.{Demand}
 use Rattle.rx_typeck_demand_parts.specs.declared.walk.Walk.{Walk}
-use Rattle.rx_typeck_rules.specs.Asking.{Asking}
+use Rattle.rx_typeck_typed.specs.Asking.{Asking}
 
 -- the walk with another cursor and other demands
 abbrev pub stepped : Cursor → List Demand → Walk → Walk

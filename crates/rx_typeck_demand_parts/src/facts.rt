@@ -3,8 +3,8 @@
 ghost use Rattle.std.specs.Prelude.{◌≡◌, Bool, [], ◌∷◌, ◌++◌, Ok, Err, Option, Some, None, IfOk};
 ghost use Rattle.rx_typeck_solver.specs.declared.facts.Op.TheVariants as op;
 ghost use Rattle.rx_typeck_solver.specs.declared.facts.Fact.TheVariants as fact;
-ghost use Rattle.rx_typeck_rules.specs.Asking as asking;
-ghost use Rattle.rx_typeck_rules.specs.Demands as demands;
+ghost use Rattle.rx_typeck_typed.specs.Asking as asking;
+ghost use Rattle.rx_typeck_typed.specs.Demands as demands;
 
 use rx_core::{Kind, List, keep, pushed};
 use rx_typeck_solver::{Fact, Kinds, Op, Passing, Subject, Test};

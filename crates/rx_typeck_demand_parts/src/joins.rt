@@ -2,7 +2,7 @@
 
 ghost use Rattle.std.specs.Prelude.{◌≡◌, Bool, [], ◌∷◌, ◌++◌, OnOk};
 ghost use Rattle.rx_typeck_solver.specs.declared.facts.Op.TheVariants as op;
-ghost use Rattle.rx_typeck_rules.specs.Demands as demands;
+ghost use Rattle.rx_typeck_typed.specs.Demands as demands;
 ghost use Rattle.rx_typeck_demand_parts.specs.Walks as walks;
 
 use crate::facts::{
@@ -11,7 +11,7 @@ use crate::facts::{
 use crate::walk::Walk;
 use rx_core::{List, pushed};
 use rx_tree::BinaryOp;
-use rx_typeck_numbering::Seen;
+use rx_typeck_elaborate_parts::Seen;
 use rx_typeck_solver::{Fact, Op, Rule, Test};
 use rx_typed::{Node, Site};
 use std::alloc::AllocError;

@@ -4,9 +4,9 @@
 ghost use Rattle.std.specs.Prelude.{◌≡◌, [], ◌∷◌, map, Ok, Err, None, OnOk, IfOk};
 ghost use Rattle.rx_tree.specs.PlainOf.{plain-Pattern, plain-FieldPattern, patterns_of, field_patterns_of};
 ghost use Rattle.rx_typed.specs.Naming as naming;
-ghost use Rattle.rx_typeck_rules.specs.Asking as asking;
-ghost use Rattle.rx_typeck_rules.specs.Demands as demands;
-ghost use Rattle.rx_typeck_numbering.specs.Entries.{marked};
+ghost use Rattle.rx_typeck_typed.specs.Asking as asking;
+ghost use Rattle.rx_typeck_typed.specs.Demands as demands;
+ghost use Rattle.rx_typeck_elaborate_parts.specs.Entries.{marked};
 ghost use Rattle.rx_typeck_demand_parts.specs.Matching as matching;
 ghost use Rattle.rx_typeck_demand_parts.specs.Walks as walks;
 
@@ -14,7 +14,7 @@ use crate::matched::{Declares, Matched};
 use crate::walk::Walk;
 use rx_core::Span;
 use rx_tree::{FieldPattern, Pattern, PatternNode};
-use rx_typeck_numbering::{Cursor, Mark};
+use rx_typeck_elaborate_parts::{Cursor, Mark};
 use rx_typeck_solver::Subject;
 use rx_typed::{Declaration, Node, Site, Stage};
 use std::alloc::AllocError;

@@ -1,10 +1,10 @@
 //! What patterns are matched with.
 
 ghost use Rattle.std.specs.Prelude.{◌≡◌};
-ghost use Rattle.rx_typeck_rules.specs.Demands as demands;
+ghost use Rattle.rx_typeck_typed.specs.Demands as demands;
 ghost use Rattle.rx_typeck_demand_parts.specs.Matching as matching;
 
-use rx_typeck_numbering::Seen;
+use rx_typeck_elaborate_parts::Seen;
 use rx_typeck_solver::Passing;
 use rx_typed::{Node, Site};
 

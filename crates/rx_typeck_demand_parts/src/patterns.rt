@@ -6,8 +6,8 @@ ghost use Rattle.rx_typeck_solver.specs.declared.facts.Op.TheVariants as op;
 ghost use Rattle.rx_tree.specs.PlainOf.{plain-Pattern, plain-FieldPattern, patterns_of, field_patterns_of};
 ghost use Rattle.rx_tree.specs.Plain as plain;
 ghost use Rattle.rx_typed.specs.Naming as naming;
-ghost use Rattle.rx_typeck_rules.specs.Asking as asking;
-ghost use Rattle.rx_typeck_rules.specs.Demands as demands;
+ghost use Rattle.rx_typeck_typed.specs.Asking as asking;
+ghost use Rattle.rx_typeck_typed.specs.Demands as demands;
 ghost use Rattle.rx_typeck_demand_parts.specs.Matching as matching;
 ghost use Rattle.rx_typeck_demand_parts.specs.Walks as walks;
 
@@ -16,7 +16,7 @@ use crate::matched::{Declares, Matched};
 use crate::walk::Walk;
 use rx_core::{Kind, List, Name, Span, pushed};
 use rx_tree::{FieldPattern, Ident, Pattern, PatternNode};
-use rx_typeck_numbering::Entry;
+use rx_typeck_elaborate_parts::Entry;
 use rx_typeck_solver::{Broken, Fact, Op, Passing, Rule, Subject, Test};
 use rx_typed::{Declaration, Node, Site, Stage};
 use std::alloc::{AllocError, Global};
@@ -426,7 +426,7 @@ impl<'t> Walk<'t> {
 
     /// A part that has the type that is made of these.
     #[cycle(pattern)]
-    #[tactic(auto, using(rx_typeck_numbering::proofs::Next::next_pattern))]
+    #[tactic(auto, using(rx_typeck_elaborate_parts::proofs::Next::next_pattern))]
     fn part(
         &mut self,
         matched: Matched<'_>,
@@ -476,7 +476,7 @@ impl<'t> Walk<'t> {
     }
 
     /// A whole pattern, matched against what has the type of a subject.
-    #[tactic(auto, using(rx_typeck_numbering::proofs::Next::next_pattern))]
+    #[tactic(auto, using(rx_typeck_elaborate_parts::proofs::Next::next_pattern))]
     pub fn whole_pattern(
         &mut self,
         matched: Matched<'_>,

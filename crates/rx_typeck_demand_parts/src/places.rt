@@ -3,7 +3,7 @@
 ghost use Rattle.std.specs.Prelude.{◌≡◌, suc, Bool, [], ◌∷◌, ◌++◌, OnOk, IfOk};
 ghost use Rattle.rx_typeck_solver.specs.declared.facts.Op.TheVariants as op;
 ghost use Rattle.rx_tree.specs.PlainOf.{plain-Expr};
-ghost use Rattle.rx_typeck_rules.specs.Demands as demands;
+ghost use Rattle.rx_typeck_typed.specs.Demands as demands;
 ghost use Rattle.rx_typeck_demand_parts.specs.Places.{through_at};
 ghost use Rattle.rx_typeck_demand_parts.specs.Walks as walks;
 

@@ -5,7 +5,7 @@ ghost use Rattle.rx_tree.specs.PlainOf.{plain-TypeText, types_of};
 ghost use Rattle.rx_tree.specs.Plain as plain;
 ghost use Rattle.rx_typed.specs.Named.{written_node};
 ghost use Rattle.rx_typed.specs.Naming as naming;
-ghost use Rattle.rx_typeck_rules.specs.Demands as demands;
+ghost use Rattle.rx_typeck_typed.specs.Demands as demands;
 ghost use Rattle.rx_typeck_demand_parts.specs.Walks as walks;
 
 use crate::facts::type_of;

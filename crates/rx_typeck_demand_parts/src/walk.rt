@@ -4,14 +4,14 @@ ghost use Rattle.std.specs.Prelude.{◌≡◌, Bool, false, [], ◌∷◌, ◌++
 ghost use Rattle.rx_typeck_solver.specs.declared.facts.Rule.TheVariants as rule;
 ghost use Rattle.rx_typeck_solver.specs.declared.facts.Fact.TheVariants as fact;
 ghost use Rattle.rx_typed.specs.Naming as naming;
-ghost use Rattle.rx_typeck_rules.specs.Asking as asking;
-ghost use Rattle.rx_typeck_rules.specs.Demands as demands;
-ghost use Rattle.rx_typeck_numbering.specs.Entries.{entry_of};
+ghost use Rattle.rx_typeck_typed.specs.Asking as asking;
+ghost use Rattle.rx_typeck_typed.specs.Demands as demands;
+ghost use Rattle.rx_typeck_elaborate_parts.specs.Entries.{entry_of};
 ghost use Rattle.rx_typeck_demand_parts.specs.Walks as walks;
 
 use crate::facts::{alike, expected, is, passes, type_of};
 use rx_core::{List, Span, pushed};
-use rx_typeck_numbering::{Cursor, Entry};
+use rx_typeck_elaborate_parts::{Cursor, Entry};
 use rx_typeck_solver::{Broken, Demand, Fact, Op, Rule, Subject, Test};
 use rx_typed::{Node, Site};
 use std::alloc::{AllocError, Global};

@@ -17,10 +17,10 @@ use Rattle.rx_typed.specs.Named as named
 use Rattle.rx_typed.specs.Named.{Exp, never, diverges, node_of, is_place, is_variable, root, body_never}
 use Rattle.rx_typed.specs.Naming.{Cursor, Numbering, a_node, of_expression, of_optional, of_body, of_arms, passed_on, assigned}
 use Rattle.rx_typeck_solver.specs.declared.facts.Passing.{Passing}
-use Rattle.rx_typeck_numbering.specs.declared.seen.Seen.{Seen}
-use Rattle.rx_typeck_numbering.specs.Seeing.{seen_of, value_seen}
-use Rattle.rx_typeck_rules.specs.Asking.{Asking}
-use Rattle.rx_typeck_rules.specs.Demands.{of_exp, of_form, of_scrutinee, matched_if, through}
+use Rattle.rx_typeck_elaborate_parts.specs.declared.seen.Seen.{Seen}
+use Rattle.rx_typeck_elaborate_parts.specs.Seeing.{seen_of, value_seen}
+use Rattle.rx_typeck_typed.specs.Asking.{Asking}
+use Rattle.rx_typeck_typed.specs.Demands.{of_exp, of_form, of_scrutinee, matched_if, through}
 use Rattle.rx_typeck_demand_parts.specs.declared.walk.Walk.{Walk}
 use Rattle.rx_typeck_demand_parts.specs.Places.{through_at}
 use Rattle.rx_typeck_demand_parts.specs.Walks.{Walks, over, stepped, asked}

@@ -6,7 +6,7 @@ use Rattle.rx_tree.specs.PlainOf.{plain-Expr, plain-FieldExpr, expressions_of, f
 use Rattle.rx_tree.proofs.Rules.{field_expression_by_parts}
 use Rattle.rx_typed.specs.declared.nodes.Site.{Site}
 use Rattle.rx_typed.specs.Naming.{Cursor, of_expression, of_expressions, of_fields}
-use Rattle.rx_typeck_rules.specs.Demands.{argument_count, names_given}
+use Rattle.rx_typeck_typed.specs.Demands.{argument_count, names_given}
 use Rattle.rx_typeck_demands.specs.Pieces as pieces
 
 pub arguments_counted : (t : Site) (l : List Expr) (c : Cursor) → argument_count (of_expressions t (expressions_of (map plain-Expr l)) c).0 ≡ length l

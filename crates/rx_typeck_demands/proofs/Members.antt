@@ -6,10 +6,10 @@ use Rattle.rx_typed.specs.declared.nodes.Site.{Site}
 use Rattle.rx_typed.specs.Named.{node_of, diverges}
 use Rattle.rx_typed.specs.Naming.{of_expression, of_expressions}
 use Rattle.rx_typeck_solver.specs.declared.facts.Subject.{Subject}
-use Rattle.rx_typeck_numbering.specs.declared.seen.Seen.{Seen}
-use Rattle.rx_typeck_numbering.specs.Seeing.{seen_of}
-use Rattle.rx_typeck_rules.specs.Asking.{type_of}
-use Rattle.rx_typeck_rules.specs.Demands.{members, of_each, of_element}
+use Rattle.rx_typeck_elaborate_parts.specs.declared.seen.Seen.{Seen}
+use Rattle.rx_typeck_elaborate_parts.specs.Seeing.{seen_of}
+use Rattle.rx_typeck_typed.specs.Asking.{type_of}
+use Rattle.rx_typeck_typed.specs.Demands.{members, of_each, of_element}
 use Rattle.rx_typeck_demand_parts.specs.declared.walk.Walk.{Walk}
 use Rattle.rx_typeck_demand_parts.specs.Walks.{over, stepped}
 use Rattle.rx_typeck_demands.specs.declared.listed.Members.{Members}

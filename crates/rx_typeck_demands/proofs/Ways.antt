@@ -7,8 +7,8 @@ use Rattle.rx_typed.specs.declared.nodes.Site.{Site}
 use Rattle.rx_typed.specs.Named.{Exp, Body, body_node, body_never}
 use Rattle.rx_typed.specs.Naming.{Cursor, of_expression, of_optional, branch_site, assigned}
 use Rattle.rx_typeck_solver.specs.declared.facts.Demand.{Demand}
-use Rattle.rx_typeck_numbering.specs.Seeing.{seen_of}
-use Rattle.rx_typeck_rules.specs.Demands.{each_after, branch_before, branch_after, of_form, through}
+use Rattle.rx_typeck_elaborate_parts.specs.Seeing.{seen_of}
+use Rattle.rx_typeck_typed.specs.Demands.{each_after, branch_before, branch_after, of_form, through}
 use Rattle.rx_typeck_demands.specs.declared.listed.Each as code
 use Rattle.rx_typeck_demands.specs.declared.listed.Each.TheVariants as each
 use Rattle.rx_typeck_demands.specs.Pieces.{each_as, is_there, branch_place, before_branch, after_branch, numbered_value, of_left, of_value, value_told}

@@ -12,11 +12,11 @@ use Rattle.rx_typed.specs.Naming.{Numbering, give, and_then, a_use, gives_here, 
 use Rattle.rx_typeck_solver.specs.declared.facts.Subject.{Subject}
 use Rattle.rx_typeck_solver.specs.declared.facts.Passing.{Passing}
 use Rattle.rx_typeck_solver.specs.declared.facts.Op.TheVariants as op
-use Rattle.rx_typeck_numbering.specs.declared.seen.Seen.{Seen}
-use Rattle.rx_typeck_numbering.specs.Seeing.{seen_of, value_seen}
-use Rattle.rx_typeck_rules.specs.Asking.{Asking, ◌>>◌, nothing}
-use Rattle.rx_typeck_rules.specs.Demands as demands
-use Rattle.rx_typeck_rules.specs.Demands.{Matched, Listed, values, parameters, parts_of, exp_nodes, of_exp, of_body, of_else, of_arms, tested, not_never, updated, assignable_at, own, part_before, part_after, nothing_given, if_joins, join, expects}
+use Rattle.rx_typeck_elaborate_parts.specs.declared.seen.Seen.{Seen}
+use Rattle.rx_typeck_elaborate_parts.specs.Seeing.{seen_of, value_seen}
+use Rattle.rx_typeck_typed.specs.Asking.{Asking, ◌>>◌, nothing}
+use Rattle.rx_typeck_typed.specs.Demands as demands
+use Rattle.rx_typeck_typed.specs.Demands.{Matched, Listed, values, parameters, parts_of, exp_nodes, of_exp, of_body, of_else, of_arms, tested, not_never, updated, assignable_at, own, part_before, part_after, nothing_given, if_joins, join, expects}
 use Rattle.rx_typeck_demands.specs.declared.assignments.Left.{Left}
 use Rattle.rx_typeck_demands.specs.declared.listed.Each as code
 use Rattle.rx_typeck_demands.specs.declared.listed.Each.TheVariants as form

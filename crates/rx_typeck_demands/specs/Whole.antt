@@ -4,7 +4,7 @@ use Rattle.std.specs.Prelude.{List}
 use Rattle.rx_core.specs.declared.types.Span.{Span}
 use Rattle.rx_typed.specs.declared.nodes.Declaration.{Declaration}
 use Rattle.rx_typeck_solver.specs.Valid as valid
-use Rattle.rx_typeck_numbering.specs.declared.cursor.Annotation.{Annotation}
+use Rattle.rx_typeck_elaborate_parts.specs.declared.cursor.Annotation.{Annotation}
 use Rattle.rx_typeck_demands.specs.declared.function.Task.{Task}
 
 abbrev pub task_of : valid.Task → List Span → List Declaration → List Annotation → Task

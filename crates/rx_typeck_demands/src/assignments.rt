@@ -6,8 +6,8 @@ ghost use Rattle.rx_tree.specs.Plain as plain;
 ghost use Rattle.rx_typed.specs.declared.nodes.Site.TheVariants as site_of;
 ghost use Rattle.rx_typed.specs.Named as named;
 ghost use Rattle.rx_typed.specs.Naming as naming;
-ghost use Rattle.rx_typeck_rules.specs.Demands as demands;
-ghost use Rattle.rx_typeck_numbering.specs.Seeing as seeing;
+ghost use Rattle.rx_typeck_typed.specs.Demands as demands;
+ghost use Rattle.rx_typeck_elaborate_parts.specs.Seeing as seeing;
 ghost use Rattle.rx_typeck_demand_parts.specs.Places.{through_at};
 ghost use Rattle.rx_typeck_demand_parts.specs.Walks as walks;
 ghost use Rattle.rx_typeck_demands.specs.Pieces as pieces;
@@ -16,7 +16,7 @@ use crate::expressions::expression;
 use rx_core::{Name, Span};
 use rx_tree::{Expr, ExprNode};
 use rx_typeck_demand_parts::{Walk, type_of};
-use rx_typeck_numbering::{Seen, value_seen, variable_seen};
+use rx_typeck_elaborate_parts::{Seen, value_seen, variable_seen};
 use rx_typeck_solver::Op;
 use rx_typed::{Node, Site};
 use std::alloc::AllocError;
@@ -30,7 +30,7 @@ pub(crate) struct Left {
 }
 
 #[cycle(expression)]
-#[tactic(auto, using(rx_tree::proofs::Rules::expression_rules, rx_typeck_numbering::proofs::Next::nothing_waits))]
+#[tactic(auto, using(rx_tree::proofs::Rules::expression_rules, rx_typeck_elaborate_parts::proofs::Next::nothing_waits))]
 pub(crate) fn left_side<'t>(walk: &mut Walk<'t>, place: &'t Expr) -> Result<Left, AllocError>
     ensures { walks.Walks (pieces.numbered_left (plain-Expr place.now)) (λ r. pieces.of_left walk.old.item r.1 r.0) pieces.left_told walk.old result walk.new }
 {
@@ -82,7 +82,7 @@ pub(crate) fn assign<'t>(
 
 /// An assignment of what has a type.
 #[cycle(expression)]
-#[tactic(auto, using(rx_typeck_numbering::proofs::Next::next_expression))]
+#[tactic(auto, using(rx_typeck_elaborate_parts::proofs::Next::next_expression))]
 fn assigns<'t>(
     walk: &mut Walk<'t>,
     node: Node,

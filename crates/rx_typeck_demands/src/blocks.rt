@@ -6,8 +6,8 @@ ghost use Rattle.rx_tree.specs.PlainOf.{plain-Expr, plain-Block, optional_of};
 ghost use Rattle.rx_tree.specs.Plain as plain;
 ghost use Rattle.rx_typed.specs.declared.nodes.Site.TheVariants as site_of;
 ghost use Rattle.rx_typed.specs.Naming as naming;
-ghost use Rattle.rx_typeck_rules.specs.Demands as demands;
-ghost use Rattle.rx_typeck_numbering.specs.Seeing as seeing;
+ghost use Rattle.rx_typeck_typed.specs.Demands as demands;
+ghost use Rattle.rx_typeck_elaborate_parts.specs.Seeing as seeing;
 ghost use Rattle.rx_typeck_demand_parts.specs.Walks as walks;
 ghost use Rattle.rx_typeck_demands.specs.Pieces as pieces;
 
@@ -17,7 +17,7 @@ use crate::statements::statements;
 use rx_core::{Boxed, Span};
 use rx_tree::{Block, Expr};
 use rx_typeck_demand_parts::Walk;
-use rx_typeck_numbering::{Seen, value_seen};
+use rx_typeck_elaborate_parts::{Seen, value_seen};
 use rx_typeck_solver::Op;
 use rx_typed::{Node, Site};
 use std::alloc::AllocError;
@@ -50,7 +50,7 @@ pub(crate) fn block<'t>(
 
 /// A block that is a part of what joins values.
 #[cycle(expression)]
-#[tactic(auto, using(rx_typeck_numbering::proofs::Next::next_body))]
+#[tactic(auto, using(rx_typeck_elaborate_parts::proofs::Next::next_body))]
 pub(crate) fn body_part<'t>(
     walk: &mut Walk<'t>,
     node: Node,
@@ -124,7 +124,7 @@ fn tail<'t>(
 
 /// An expression that is a part of what joins values.
 #[cycle(expression)]
-#[tactic(auto, using(rx_typeck_numbering::proofs::Next::next_expression))]
+#[tactic(auto, using(rx_typeck_elaborate_parts::proofs::Next::next_expression))]
 pub(crate) fn joined_part<'t>(
     walk: &mut Walk<'t>,
     node: Node,

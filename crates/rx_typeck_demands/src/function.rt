@@ -5,8 +5,8 @@ ghost use Rattle.rx_typeck_solver.specs.Valid.{literals_of};
 ghost use Rattle.rx_tree.specs.PlainOf.{plain-Func, plain-Param, plain-TypeText, plain-Block};
 ghost use Rattle.rx_typed.specs.declared.nodes.Site.TheVariants as site_of;
 ghost use Rattle.rx_typed.specs.Naming as naming;
-ghost use Rattle.rx_typeck_numbering.specs.Entries.{plain_annotation};
-ghost use Rattle.rx_typeck_rules.specs.Demands as demands;
+ghost use Rattle.rx_typeck_elaborate_parts.specs.Entries.{plain_annotation};
+ghost use Rattle.rx_typeck_typed.specs.Demands as demands;
 ghost use Rattle.rx_typeck_demand_parts.specs.Walks as walks;
 ghost use Rattle.rx_typeck_demands.specs.Pieces as pieces;
 ghost use Rattle.rx_typeck_demands.specs.Whole as whole;
@@ -16,7 +16,7 @@ use rx_core::{List, Span};
 use rx_resolve_names::NodeNames;
 use rx_tree::{Block, BoundLifetime, Func, Param, TypeText};
 use rx_typeck_demand_parts::{Walk, type_of};
-use rx_typeck_numbering::{Annotation, Cursor};
+use rx_typeck_elaborate_parts::{Annotation, Cursor};
 use rx_typeck_solver::{Demand, Op, Rule, Subject};
 use rx_typed::{Declaration, Node, Site, Stage};
 use std::alloc::{AllocError, Global};
@@ -167,7 +167,7 @@ fn result_type<'t>(walk: &mut Walk<'t>, typ: &'t Option<TypeText>) -> Result<(),
 }
 
 /// The body, which is expected to have the type of the result.
-#[tactic(auto, using(rx_typeck_numbering::proofs::Next::next_body))]
+#[tactic(auto, using(rx_typeck_elaborate_parts::proofs::Next::next_body))]
 fn function_body<'t>(walk: &mut Walk<'t>, block: &'t Block) -> Result<(), AllocError>
     ensures { walks.Goes (naming.of_body site_of.Expects (plain-Block block.now)) (pieces.of_function_body walk.old.item) walk.old result walk.new }
 {

@@ -6,8 +6,8 @@ ghost use Rattle.rx_tree.specs.PlainOf.{plain-Expr, plain-Block, optional_of};
 ghost use Rattle.rx_tree.specs.Plain as plain;
 ghost use Rattle.rx_typed.specs.declared.nodes.Site.TheVariants as site_of;
 ghost use Rattle.rx_typed.specs.Naming as naming;
-ghost use Rattle.rx_typeck_rules.specs.Demands as demands;
-ghost use Rattle.rx_typeck_numbering.specs.Seeing as seeing;
+ghost use Rattle.rx_typeck_typed.specs.Demands as demands;
+ghost use Rattle.rx_typeck_elaborate_parts.specs.Seeing as seeing;
 ghost use Rattle.rx_typeck_demand_parts.specs.Walks as walks;
 ghost use Rattle.rx_typeck_demands.specs.Pieces as pieces;
 
@@ -16,7 +16,7 @@ use crate::expressions::expression;
 use rx_core::{Boxed, Span};
 use rx_tree::{Block, Expr, Ident};
 use rx_typeck_demand_parts::Walk;
-use rx_typeck_numbering::{Seen, value_seen};
+use rx_typeck_elaborate_parts::{Seen, value_seen};
 use rx_typeck_solver::{Op, Rule, Test};
 use rx_typed::{Node, Site};
 use std::alloc::AllocError;
@@ -85,7 +85,7 @@ fn returned<'t>(
 
 /// A value that is returned.
 #[cycle(expression)]
-#[tactic(auto, using(rx_typeck_numbering::proofs::Next::next_expression))]
+#[tactic(auto, using(rx_typeck_elaborate_parts::proofs::Next::next_expression))]
 fn returned_value<'t>(walk: &mut Walk<'t>, value: &'t Expr) -> Result<(), AllocError>
     ensures { walks.Goes (naming.of_expression false site_of.Expects (plain-Expr value.now)) (pieces.of_returned_value walk.old.item) walk.old result walk.new }
 {

@@ -6,9 +6,9 @@ ghost use Rattle.rx_tree.specs.Plain as plain;
 ghost use Rattle.rx_typed.specs.declared.nodes.Site.TheVariants as site_of;
 ghost use Rattle.rx_typed.specs.Named as named;
 ghost use Rattle.rx_typed.specs.Naming as naming;
-ghost use Rattle.rx_typeck_rules.specs.Demands as demands;
-ghost use Rattle.rx_typeck_numbering.specs.Entries.{marked};
-ghost use Rattle.rx_typeck_numbering.specs.Seeing as seeing;
+ghost use Rattle.rx_typeck_typed.specs.Demands as demands;
+ghost use Rattle.rx_typeck_elaborate_parts.specs.Entries.{marked};
+ghost use Rattle.rx_typeck_elaborate_parts.specs.Seeing as seeing;
 ghost use Rattle.rx_typeck_demand_parts.specs.Places.{through_at};
 ghost use Rattle.rx_typeck_demand_parts.specs.Walks as walks;
 
@@ -16,7 +16,7 @@ use crate::expressions::expression;
 use rx_core::Span;
 use rx_tree::{Expr, Pattern, Stmt, StmtNode, TypeText};
 use rx_typeck_demand_parts::{Declares, Matched, Walk, as_matched, through, type_of};
-use rx_typeck_numbering::{Mark, Seen};
+use rx_typeck_elaborate_parts::{Mark, Seen};
 use rx_typeck_solver::{Op, Rule, Subject};
 use rx_typed::{Site, Stage};
 use std::alloc::AllocError;
@@ -235,7 +235,7 @@ fn lets_typed<'t>(
 
 /// A value that is expected to have the type of something.
 #[cycle(expression)]
-#[tactic(auto, using(rx_typeck_numbering::proofs::Next::next_expression))]
+#[tactic(auto, using(rx_typeck_elaborate_parts::proofs::Next::next_expression))]
 fn expected_value<'t>(
     walk: &mut Walk<'t>,
     subject: Subject,

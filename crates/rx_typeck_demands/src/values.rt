@@ -6,8 +6,8 @@ ghost use Rattle.rx_tree.specs.Plain as plain;
 ghost use Rattle.rx_typed.specs.declared.nodes.Site.TheVariants as site_of;
 ghost use Rattle.rx_typed.specs.Named as named;
 ghost use Rattle.rx_typed.specs.Naming as naming;
-ghost use Rattle.rx_typeck_rules.specs.Demands as demands;
-ghost use Rattle.rx_typeck_numbering.specs.Seeing as seeing;
+ghost use Rattle.rx_typeck_typed.specs.Demands as demands;
+ghost use Rattle.rx_typeck_elaborate_parts.specs.Seeing as seeing;
 ghost use Rattle.rx_typeck_demand_parts.specs.Walks as walks;
 ghost use Rattle.rx_typeck_demands.specs.Pieces as pieces;
 
@@ -16,7 +16,7 @@ use crate::listed::{Each, Members, either};
 use rx_core::{List, Name, Span};
 use rx_tree::{Expr, FieldExpr, Ident};
 use rx_typeck_demand_parts::{Walk, type_of};
-use rx_typeck_numbering::{Entry, Seen, value_seen};
+use rx_typeck_elaborate_parts::{Entry, Seen, value_seen};
 use rx_typeck_solver::{Op, Rule, Test};
 use rx_typed::{Node, Site};
 use std::alloc::{AllocError, Global};
@@ -167,7 +167,7 @@ fn each<'t>(
 
 /// An element of a list of values.
 #[cycle(expression)]
-#[tactic(auto, using(rx_typeck_numbering::proofs::Next::next_expression, crate::proofs::Ways::each_nothing))]
+#[tactic(auto, using(rx_typeck_elaborate_parts::proofs::Next::next_expression, crate::proofs::Ways::each_nothing))]
 fn element<'t>(
     walk: &mut Walk<'t>,
     listed: Each,
@@ -261,7 +261,7 @@ fn values_of_fields<'t>(
 }
 
 #[cycle(expression)]
-#[tactic(auto, using(rx_typeck_numbering::proofs::Next::next_expression, rx_tree::proofs::Rules::expression_rules))]
+#[tactic(auto, using(rx_typeck_elaborate_parts::proofs::Next::next_expression, rx_tree::proofs::Rules::expression_rules))]
 fn value_of_field<'t>(
     walk: &mut Walk<'t>,
     item: u32,

@@ -17,8 +17,8 @@ use Rattle.rx_typed.specs.declared.tree.Pattern.{Pattern as PatternOf}
 use Rattle.rx_typed.specs.declared.tree.Matched.{Matched}
 use Rattle.rx_typed.specs.declared.tree.Stmt.TheVariants as stmt
 use Rattle.rx_typed.specs.PlainTree.{plain-Expr, plain-Pattern, plain-Matched, plain-Stmt}
-use Rattle.rx_typeck_numbering.specs.declared.seen.Seen.{Seen}
-use Rattle.rx_typeck_numbering.specs.Seeing.{seen_of, value_seen}
+use Rattle.rx_typeck_elaborate_parts.specs.declared.seen.Seen.{Seen}
+use Rattle.rx_typeck_elaborate_parts.specs.Seeing.{seen_of, value_seen}
 use Rattle.rx_typeck_elaborate_parts.specs.declared.walk.Walk.{Walk}
 use Rattle.rx_typeck_elaborate_parts.specs.declared.told.Ways.{Ways}
 use Rattle.rx_typeck_elaborate_parts.specs.declared.patterns.Declares.{Declares}

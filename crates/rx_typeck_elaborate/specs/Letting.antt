@@ -3,8 +3,8 @@ use Rattle.std.specs.Prelude.{Option}
 use Rattle.rx_tree.specs.Plain.{TypeTree, PatternTree, Expression}
 use Rattle.rx_typed.specs.Named as named
 use Rattle.rx_typed.specs.Naming.{Numbering, and_then, give, counted, known_between, of_pattern}
-use Rattle.rx_typeck_numbering.specs.declared.seen.Seen.{Seen}
-use Rattle.rx_typeck_numbering.specs.Seeing.{seen_of}
+use Rattle.rx_typeck_elaborate_parts.specs.declared.seen.Seen.{Seen}
+use Rattle.rx_typeck_elaborate_parts.specs.Seeing.{seen_of}
 use Rattle.rx_typeck_elaborate_parts.specs.declared.patterns.Declares.{Declares}
 use Rattle.rx_typeck_elaborate_parts.specs.Declaring.{declares_of}
 use Rattle.rx_typeck_elaborate_parts.specs.Telling.{an_initialiser}

@@ -7,7 +7,7 @@ ghost use Rattle.rx_typed.specs.Named as named;
 ghost use Rattle.rx_typed.specs.Naming as naming;
 ghost use Rattle.rx_typed.specs.Elaborated as elaborated;
 ghost use Rattle.rx_typed.specs.PlainTree.{plain-Expr, plain-Matched, plain-Arm, plain-Pattern};
-ghost use Rattle.rx_typeck_numbering.specs.Seeing.{seen_of};
+ghost use Rattle.rx_typeck_elaborate_parts.specs.Seeing.{seen_of};
 ghost use Rattle.rx_typeck_elaborate_parts.specs.Coercing.{types_of};
 ghost use Rattle.rx_typeck_elaborate_parts.specs.Listing.{arms_listed};
 ghost use Rattle.rx_typeck_elaborate_parts.specs.Telling as telling;
@@ -19,10 +19,9 @@ use crate::walked_places::matched;
 use rx_core::{Boxed, List, Span, keep, pushed};
 use rx_tree::{Arm as ArmTree, Block, Expr as ExprTree, Pattern as PatternTree};
 use rx_typeck_elaborate_parts::{
-    Branch, Given, Walk, Ways, both, branch_site, either, end_unit, give, looks, no_branch,
-    passed_on, tests, with_arm,
+    Branch, Given, Seen, Walk, Ways, both, branch_site, either, end_unit, give, looks, no_branch,
+    passed_on, tests, value_seen, with_arm,
 };
-use rx_typeck_numbering::{Seen, value_seen};
 use rx_typed::{Arm, Expr, Matched, Node, Pattern, Site};
 use std::alloc::AllocError;
 

@@ -8,7 +8,7 @@ ghost use Rattle.rx_typed.specs.Naming as naming;
 ghost use Rattle.rx_typed.specs.Elaborated as elaborated;
 ghost use Rattle.rx_typed.specs.Tree as tree;
 ghost use Rattle.rx_typed.specs.PlainTree.{plain-Expr, plain-Place};
-ghost use Rattle.rx_typeck_numbering.specs.Seeing.{seen_of, value_seen};
+ghost use Rattle.rx_typeck_elaborate_parts.specs.Seeing.{seen_of, value_seen};
 ghost use Rattle.rx_typeck_elaborate_parts.specs.Telling as telling;
 ghost use Rattle.rx_typeck_elaborate_parts.specs.Walks as walks;
 ghost use Rattle.rx_typed.specs.declared.nodes.Site.{Site as SiteOf};
@@ -17,8 +17,7 @@ use crate::forms::expression;
 use crate::walked_places::place;
 use rx_core::{LetGo, Place, Span, keep};
 use rx_tree::{BinaryOp, Expr as ExprTree, UpdateOp};
-use rx_typeck_elaborate_parts::{Walk, both, either, is_strict, own};
-use rx_typeck_numbering::{Seen, value_seen};
+use rx_typeck_elaborate_parts::{Seen, Walk, both, either, is_strict, own, value_seen};
 use rx_typed::{Expr, Making, Node, Site};
 use std::alloc::AllocError;
 

@@ -4,7 +4,7 @@ ghost use Rattle.rx_tree.specs.PlainOf.{plain-Expr as plain-ExprTree};
 ghost use Rattle.rx_typed.specs.Naming as naming;
 ghost use Rattle.rx_typed.specs.Elaborated as elaborated;
 ghost use Rattle.rx_typed.specs.PlainTree.{plain-Expr};
-ghost use Rattle.rx_typeck_numbering.specs.Seeing.{seen_of};
+ghost use Rattle.rx_typeck_elaborate_parts.specs.Seeing.{seen_of};
 ghost use Rattle.rx_typeck_elaborate_parts.specs.Walks as walks;
 
 use crate::branches::{block, if_at, if_let, match_at, return_at};
@@ -13,8 +13,7 @@ use crate::operands::{call_tree, make_tree, tuple_tree, variant_tree};
 use crate::statements::{loop_at, while_at, while_let};
 use crate::walked_places::{deref_value, field_value, part_value};
 use rx_tree::{Expr as ExprTree, ExprNode};
-use rx_typeck_elaborate_parts::Walk;
-use rx_typeck_numbering::Seen;
+use rx_typeck_elaborate_parts::{Seen, Walk};
 use rx_typed::{Expr, Site};
 use std::alloc::AllocError;
 

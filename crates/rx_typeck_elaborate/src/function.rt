@@ -13,8 +13,7 @@ use crate::statements::body_parts;
 use rx_core::{List, Span, keep};
 use rx_resolve_names::NodeNames;
 use rx_tree::{Block, Func};
-use rx_typeck_elaborate_parts::{Given, NodeTypes, Walk, give, has_entry};
-use rx_typeck_numbering::Cursor;
+use rx_typeck_elaborate_parts::{Cursor, Given, NodeTypes, Walk, give, has_entry};
 use rx_typed::{Decls, Expr, Site, TypedTree};
 use std::alloc::{AllocError, Global};
 

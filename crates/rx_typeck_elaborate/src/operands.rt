@@ -8,7 +8,7 @@ ghost use Rattle.rx_typed.specs.Naming as naming;
 ghost use Rattle.rx_typed.specs.Types as types;
 ghost use Rattle.rx_typed.specs.Elaborated as elaborated;
 ghost use Rattle.rx_typed.specs.PlainTree.{plain-Expr, plain-Operand};
-ghost use Rattle.rx_typeck_numbering.specs.Seeing.{seen_of};
+ghost use Rattle.rx_typeck_elaborate_parts.specs.Seeing.{seen_of};
 ghost use Rattle.rx_typeck_elaborate_parts.specs.Listing.{operands_listed};
 ghost use Rattle.rx_typeck_elaborate_parts.specs.Walks as walks;
 ghost use Rattle.rx_typed.specs.declared.nodes.Site.{Site as SiteOf};
@@ -16,8 +16,7 @@ ghost use Rattle.rx_typed.specs.declared.nodes.Site.{Site as SiteOf};
 use crate::forms::expression;
 use rx_core::{LetGo, List, Span, keep, pushed};
 use rx_tree::{Expr as ExprTree, FieldExpr, Ident};
-use rx_typeck_elaborate_parts::{Walk, either, field_of, nothing};
-use rx_typeck_numbering::{Seen, value_seen};
+use rx_typeck_elaborate_parts::{Seen, Walk, either, field_of, nothing, value_seen};
 use rx_typed::{Expr, Making, Node, Operand, Site};
 use std::alloc::AllocError;
 

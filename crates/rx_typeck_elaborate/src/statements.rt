@@ -7,7 +7,7 @@ ghost use Rattle.rx_typed.specs.Named as named;
 ghost use Rattle.rx_typed.specs.Naming as naming;
 ghost use Rattle.rx_typed.specs.Elaborated as elaborated;
 ghost use Rattle.rx_typed.specs.PlainTree.{plain-Expr, plain-Matched, plain-Stmt};
-ghost use Rattle.rx_typeck_numbering.specs.Seeing.{seen_of};
+ghost use Rattle.rx_typeck_elaborate_parts.specs.Seeing.{seen_of};
 ghost use Rattle.rx_typeck_elaborate_parts.specs.Telling as telling;
 ghost use Rattle.rx_typeck_elaborate_parts.specs.Walks as walks;
 ghost use Rattle.rx_typeck_elaborate.specs.Letting as letting;
@@ -20,9 +20,9 @@ use rx_tree::{
     Block, Expr as ExprTree, Ident, Pattern as PatternTree, Stmt as StmtTree, StmtNode, TypeText,
 };
 use rx_typeck_elaborate_parts::{
-    Declares, Ends, Walk, body_never, both, either, has_no_type, initialiser_site, jump, tests,
+    Declares, Ends, Seen, Walk, body_never, both, either, has_no_type, initialiser_site, jump,
+    tests, value_seen,
 };
-use rx_typeck_numbering::{Seen, value_seen};
 use rx_typed::{Expr, Matched, Pattern, Site, Stmt};
 use std::alloc::AllocError;
 

@@ -8,7 +8,7 @@ ghost use Rattle.rx_typed.specs.Naming as naming;
 ghost use Rattle.rx_typed.specs.Elaborated as elaborated;
 ghost use Rattle.rx_typed.specs.Tree as tree;
 ghost use Rattle.rx_typed.specs.PlainTree.{plain-Expr, plain-Place, plain-Matched};
-ghost use Rattle.rx_typeck_numbering.specs.Seeing.{seen_of};
+ghost use Rattle.rx_typeck_elaborate_parts.specs.Seeing.{seen_of};
 ghost use Rattle.rx_typeck_elaborate_parts.specs.Coercing as coercing;
 ghost use Rattle.rx_typeck_elaborate_parts.specs.Walks as walks;
 ghost use Rattle.rx_typed.specs.declared.nodes.Site.{Site as SiteOf};
@@ -16,8 +16,7 @@ ghost use Rattle.rx_typed.specs.declared.nodes.Site.{Site as SiteOf};
 use crate::forms::expression;
 use rx_core::{Boxed, LetGo, Place, Span};
 use rx_tree::{Expr as ExprTree, ExprNode, Ident};
-use rx_typeck_elaborate_parts::{Walk, own};
-use rx_typeck_numbering::{Seen, part_seen};
+use rx_typeck_elaborate_parts::{Seen, Walk, own, part_seen};
 use rx_typed::{Expr, Matched, Site};
 use std::alloc::AllocError;
 

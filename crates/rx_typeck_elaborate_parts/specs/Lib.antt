@@ -1,3 +1,6 @@
+pub mod Entries
+pub mod Seeing
+pub mod Coding
 pub mod Assigning
 pub mod Coercing
 pub mod Reaching

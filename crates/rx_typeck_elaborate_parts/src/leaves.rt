@@ -7,7 +7,7 @@ ghost use Rattle.rx_typed.specs.Named as named;
 ghost use Rattle.rx_typed.specs.Naming as naming;
 ghost use Rattle.rx_typed.specs.Elaborated as elaborated;
 ghost use Rattle.rx_typed.specs.PlainTree.{plain-Expr, plain-Place, plain-Stmt};
-ghost use Rattle.rx_typeck_numbering.specs.Seeing.{seen_of};
+ghost use Rattle.rx_typeck_elaborate_parts.specs.Seeing.{seen_of};
 ghost use Rattle.rx_typeck_elaborate_parts.specs.Telling as telling;
 ghost use Rattle.rx_typeck_elaborate_parts.specs.Walks as walks;
 
@@ -17,9 +17,9 @@ use crate::patterns::Declares;
 use crate::read::own;
 use crate::told::{has_no_type, numbers};
 use crate::walk::Walk;
+use crate::{Seen, value_seen, variable_seen};
 use rx_core::{Kind, LetGo, Name, Place, Span};
 use rx_tree::{Ident, Pattern as PatternTree, TypeText};
-use rx_typeck_numbering::{Seen, value_seen, variable_seen};
 use rx_typed::{Constant, Expr, Site, Stage, Stmt};
 use std::alloc::AllocError;
 

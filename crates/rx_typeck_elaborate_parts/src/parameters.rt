@@ -54,7 +54,7 @@ impl<'t> Walk<'t> {
         }
     }
 
-    #[tactic(auto, using(rx_tree::proofs::Rules::type_rules, rx_typeck_numbering::proofs::Numbered::type_numbered))]
+    #[tactic(auto, using(rx_tree::proofs::Rules::type_rules, crate::proofs::Numbered::type_numbered))]
     fn parameter(&mut self, param: &ParamTree) -> Result<Param, AllocError>
         ensures { walks.Builds plain-Param (naming.of_parameter (plain-ParamTree param.now)) (λ _ p. record { node = (named.written_node p.typ).number; variable = p.variable }) self.old result self.new }
     {

@@ -5,9 +5,9 @@ ghost use Rattle.rx_typed.specs.Named as named;
 ghost use Rattle.rx_typed.specs.Naming as naming;
 ghost use Rattle.rx_typeck_elaborate_parts.specs.Telling as telling;
 
+use crate::Seen;
 use rx_core::{Boxed, List};
 use rx_tree::{BinaryOp, Expr, TypeText};
-use rx_typeck_numbering::Seen;
 use rx_typed::{Node, Site};
 use std::alloc::{AllocError, Global};
 

@@ -3,13 +3,13 @@
 ghost use Rattle.std.specs.Prelude.{◌≡◌, option_map};
 ghost use Rattle.rx_tree.specs.PlainOf.{plain-Pattern, plain-TypeText};
 ghost use Rattle.rx_typed.specs.Naming as naming;
-ghost use Rattle.rx_typeck_numbering.specs.Entries.{entry_of};
+ghost use Rattle.rx_typeck_elaborate_parts.specs.Entries.{entry_of};
 ghost use Rattle.rx_typeck_elaborate_parts.specs.Walks as walks;
 
 use crate::marks::Given;
+use crate::{Cursor, Entry};
 use rx_core::Span;
 use rx_tree::{Pattern, TypeText};
-use rx_typeck_numbering::{Cursor, Entry};
 use rx_typed::{Node, Site};
 use std::alloc::AllocError;
 

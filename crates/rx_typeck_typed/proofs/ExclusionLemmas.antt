@@ -12,9 +12,9 @@ use Rattle.rx_typed.specs.Types.{Declarations}
 use Rattle.rx_typed.specs.PlainTypes.{declarations}
 use Rattle.rx_typed_declarations.specs.Held.{held}
 use Rattle.rx_typed_declarations.specs.Sizes.{Sized, IsSizes}
-use Rattle.rx_typeck_declare.specs.declared.fault.DeclareFault.{DeclareFault}
-use Rattle.rx_typeck_declare.specs.Steps.{Outcome}
-use Rattle.rx_typeck_declare.specs.Programs.{Fits, Unfit, derived_wrong, past_limit, main_wrong, Declares, Wrong, in_types, unfit}
+use Rattle.rx_typeck_typed.specs.declared.fault.DeclareFault.{DeclareFault}
+use Rattle.rx_typeck_typed.specs.Steps.{Outcome}
+use Rattle.rx_typeck_typed.specs.Programs.{Fits, Unfit, derived_wrong, past_limit, main_wrong, Declares, Wrong, in_types, unfit}
 use Rattle.rx_typeck_solver.specs.Stepping.{known}
 use Rattle.rx_typeck_typed.specs.declared.typed.TypedFn.{TypedFn}
 use Rattle.rx_typeck_typed.specs.declared.typed.Typed.{Typed}

@@ -13,9 +13,9 @@ use Rattle.rx_typed.specs.Named as named
 use Rattle.rx_typed.specs.Named.{Pattern, Patterns, FieldPatterns}
 use Rattle.rx_typed.specs.Naming.{Cursor, Annotation, of_pattern}
 use Rattle.rx_typed.specs.Elaborated.{Met, met, field_in}
-use Rattle.rx_typed_places.specs.Places.{place_type}
-use Rattle.rx_typeck_numbering.specs.Entries.{in_front}
-use Rattle.rx_typeck_declare.specs.Lets.{let_type}
+use Rattle.rx_typed.specs.Places.{place_type}
+use Rattle.rx_typeck_elaborate_parts.specs.Entries.{in_front}
+use Rattle.rx_typeck_typed.specs.Lets.{let_type}
 
 -- what stands behind all references
 abbrev pub peeled : RegionTyp → RegionTyp

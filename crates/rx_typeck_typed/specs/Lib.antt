@@ -1,4 +1,17 @@
+pub mod Asking
+pub mod Demands
+pub mod Steps
+pub mod Written
+pub mod Readers
+pub mod Items
+pub mod Lets
+pub mod Marks
+pub mod Limits
+pub mod Programs
 pub mod Bindings
 pub mod Walks
 pub mod Typing
 pub mod Alike
+pub mod Nodes
+pub mod HaveTypes
+pub mod WellTyped

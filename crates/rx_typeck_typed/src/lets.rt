@@ -2,16 +2,16 @@
 
 ghost use Rattle.std.specs.Prelude.{◌≡◌, ◌++◌, map, slice_get, IfOk, OnOk};
 ghost use Rattle.rx_tree.specs.PlainOf.{plain-Item};
-ghost use Rattle.rx_typeck_numbering.specs.Entries.{plain_annotation};
+ghost use Rattle.rx_typeck_elaborate_parts.specs.Entries.{plain_annotation};
 ghost use Rattle.rx_typeck_typed.specs.Bindings as spec;
 ghost use Rattle.rx_typeck_typed.specs.Walks as walks;
 
+use crate::let_type;
 use crate::variables::AnnotatedVariable;
 use rx_core::{LetGo, List, Ty};
 use rx_resolve_names::NodeNames;
 use rx_tree::Item;
-use rx_typeck_declare::let_type;
-use rx_typeck_numbering::Annotation;
+use rx_typeck_elaborate_parts::Annotation;
 use rx_typed::{Decl, Decls};
 use std::alloc::{AllocError, Global};
 

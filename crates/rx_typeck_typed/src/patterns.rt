@@ -17,8 +17,7 @@ use crate::types::{met, peeled};
 use crate::variables::AnnotatedVariable;
 use rx_core::{LetGo, List, Span, Ty};
 use rx_tree::{FieldPattern, Ident, Pattern, PatternNode};
-use rx_typeck_elaborate_parts::field_of;
-use rx_typeck_numbering::Cursor;
+use rx_typeck_elaborate_parts::{Cursor, field_of};
 use rx_typed::{Declaration, Site, Stage};
 use std::alloc::AllocError;
 

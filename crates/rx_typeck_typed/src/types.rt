@@ -8,7 +8,7 @@ ghost use Rattle.rx_typeck_typed.specs.Walks as walks;
 
 use crate::lets::Lets;
 use rx_core::{Boxed, Step, Ty};
-use rx_typed_places::place_type;
+use rx_typed::place_type;
 use std::alloc::AllocError;
 
 /// What stands behind all references.

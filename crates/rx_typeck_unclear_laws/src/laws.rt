@@ -8,10 +8,10 @@ ghost use Rattle.rx_typed.specs.Naming.{function_named};
 ghost use Rattle.rx_typeck_solver.specs.declared.facts.Subject.TheVariants as subject;
 ghost use Rattle.rx_typeck_solver.specs.Facts.{Known};
 ghost use Rattle.rx_typeck_solver.specs.Valid.{Open, IsUnclear, Told, Asked};
-ghost use Rattle.rx_typeck_rules.specs.Demands.{task, demands};
+ghost use Rattle.rx_typeck_typed.specs.Demands.{task, demands};
 ghost use Rattle.rx_typeck_unclear_laws.specs.Unclear.{HasUnclearType};
 
-use rx_typeck_rules::demands_are_orderly;
+use rx_typeck_typed::demands_are_orderly;
 
 /// In a function each open literal has a type; and where it isn't clear at some node which type is meant, it isn't at one that has
 /// a type, and at which something is asked. What has no type is a statement, or Never (Rust Reference, "Never type").

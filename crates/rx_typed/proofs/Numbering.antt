@@ -12,7 +12,7 @@ use Rattle.rx_typed.specs.Named.{Pattern, node_of, root, whole_binding, pattern_
 use Rattle.rx_typed.specs.Naming as naming
 use Rattle.rx_typed.specs.Naming.{Cursor, a_node, an_entry, taken, passed_on, of_type, of_types, of_pattern, of_patterns, of_field_patterns, function_named, function_spans}
 use Rattle.rx_typed.specs.Elaborated.{variables, variables_in, variables_in_fields}
-use Rattle.rx_typed.specs.Numbers.{AreFrom, type_nodes, types_nodes, optional_nodes, pattern_nodes, patterns_nodes, field_patterns_nodes, exp_nodes, exps_nodes, else_nodes, fields_nodes, arms_nodes, body_nodes, statement_nodes, statements_nodes, parameters_nodes, nodes, exp_variables, exps_variables, else_variables, fields_variables, arms_variables, body_variables, statement_variables, statements_variables, parameters_variables, declared}
+use Rattle.rx_typed.specs.TypedNumbers.{AreFrom, type_nodes, types_nodes, optional_nodes, pattern_nodes, patterns_nodes, field_patterns_nodes, exp_nodes, exps_nodes, else_nodes, fields_nodes, arms_nodes, body_nodes, statement_nodes, statements_nodes, parameters_nodes, nodes, exp_variables, exps_variables, else_variables, fields_variables, arms_variables, body_variables, statement_variables, statements_variables, parameters_variables, declared}
 
 -- ---- numbers in order
 

@@ -3,8 +3,13 @@ pub mod PlainTypes
 pub mod Named
 pub mod Naming
 pub mod Tree
-pub mod Places
+pub mod TypedPlaces
 pub mod Elaborated
 pub mod Regions
-pub mod Numbers
+pub mod TypedNumbers
 pub mod PlainTree
+pub mod Numbers
+pub mod Renaming
+pub mod PlainSignature
+pub mod Places
+pub mod Standing

@@ -5,7 +5,7 @@ ghost use Rattle.rx_core.specs.declared.types.Span.{Span};
 ghost use Rattle.rx_tree.specs.Plain.{Function};
 ghost use Rattle.rx_resolve_names.specs.declared.resolved.NodeNames.{NodeNames};
 ghost use Rattle.rx_typed.specs.Naming.{function_named, function_spans};
-ghost use Rattle.rx_typed.specs.Numbers.{AreFrom, nodes, declared};
+ghost use Rattle.rx_typed.specs.TypedNumbers.{AreFrom, nodes, declared};
 
 /// The nodes of a function, and the variables that it declares, have the numbers from 0 on in the order of the text: so no two
 /// nodes have one number, nor do two variables.

@@ -5,8 +5,8 @@ use Rattle.rx_typed.specs.Tree.{block, ends}
 use Rattle.rx_typed.proofs.tree.Stmt.TheLaws as stmt
 use Rattle.rx_typed.specs.PlainTree.{plain-Operand, plain-Arm, plain-Expr, plain-Mark, operands_of, arms_of}
 use Rattle.rx_exits_plan.specs.PlainPlan.{plain-Run}
-use Rattle.rx_exits_marks.specs.Blocks.{before}
-use Rattle.rx_exits_marks.specs.Changed.{changed, changed_statement}
+use Rattle.rx_exits_plan.specs.Blocks.{before}
+use Rattle.rx_exits_plan.specs.Changed.{changed, changed_statement}
 use Rattle.rx_exits_tree.specs.Changing.{keeping, changes_of, tail_at}
 use Rattle.rx_exits_tree.specs.Shapes.{plain-Statement}
 use Rattle.rx_exits_tree.proofs.Giving.{written_at, written_elsewhere, no_give_written}

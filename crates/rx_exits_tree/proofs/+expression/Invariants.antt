@@ -1,7 +1,7 @@
 -- The copies so far are those of the elements so far.
 use Rattle.std.proofs.Common.{◌≡◌, ◌++◌, map, take}
 use Rattle.rx_typed.specs.PlainTree.{plain-Operand, plain-Arm}
-use Rattle.rx_exits_marks.specs.Changed.{changed, changed_statement}
+use Rattle.rx_exits_plan.specs.Changed.{changed, changed_statement}
 use Rattle.rx_exits_tree.specs.Changing.{changes_of}
 use Rattle.rx_exits_tree.specs.Shapes.{plain-Statement}
 use Rattle.rx_exits_tree.proofs.+expression.Given as goal

@@ -1,9 +1,9 @@
 use Rattle.std.proofs.Common.{◌++◌, [], map, ap, ◌∙◌}
 use Rattle.rx_typed.specs.PlainTree.{plain-Pattern}
 use Rattle.rx_lower_walks.specs.Matching.{tests}
-use Rattle.rx_lower_flow.specs.PlainFlow.{plain-Item, plain-Temporary}
-use Rattle.rx_lower_order_parts.specs.Items.{test_items}
-use Rattle.rx_lower_order_parts.specs.PlainParts.{plain-Subject}
+use Rattle.rx_lower_walks.specs.PlainFlow.{plain-Item, plain-Temporary}
+use Rattle.rx_lower_order.specs.Items.{test_items}
+use Rattle.rx_lower_order.specs.PlainParts.{plain-Subject}
 use Rattle.rx_lower_order.proofs.Turns.{operands_turn, operands_end, arms_turn, arms_end, arm_made}
 use Rattle.rx_lower_order.proofs.+expression.Goals as goal
 

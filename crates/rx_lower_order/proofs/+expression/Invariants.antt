@@ -3,9 +3,9 @@ use Rattle.std.proofs.Common.{◌≡◌, map, drop}
 use Rattle.rx_typed.specs.Tree.{Exp, Temporary}
 use Rattle.rx_typed.specs.PlainTree.{plain-Operand, plain-Arm, plain-Stmt, operands_of, arms_of, nested_of}
 use Rattle.rx_lower_walks.specs.Orders.{order_all, order_arms, order_body}
-use Rattle.rx_lower_flow.specs.PlainFlow.{plain-Item, plain-Temporary}
-use Rattle.rx_lower_order_parts.specs.Items.{ordered}
-use Rattle.rx_lower_order_parts.specs.PlainParts.{plain-Subject}
+use Rattle.rx_lower_walks.specs.PlainFlow.{plain-Item, plain-Temporary}
+use Rattle.rx_lower_order.specs.Items.{ordered}
+use Rattle.rx_lower_order.specs.PlainParts.{plain-Subject}
 use Rattle.rx_lower_order.proofs.+expression.Given as goal
 
 abbrev pub invariant-expressions::operand_flows-loop-operand : goal.invariant-expressions::operand_flows-loop-operand

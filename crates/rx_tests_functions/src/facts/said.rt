@@ -3,16 +3,15 @@
 ghost use Rattle.std.specs.Prelude.{◌≡◌, ◌<◌, length};
 ghost use Rattle.rx_tree.specs.PlainOf.{plain-Program};
 ghost use Rattle.rx_tree.specs.Size.{IsNumbered};
-ghost use Rattle.rx_facts_live.specs.Tables.{IsIndex};
+ghost use Rattle.rx_facts_tables.specs.LiveTables.{IsIndex};
 ghost use Rattle.rx_facts.specs.Functions.{IsTypedProgram};
 ghost use Rattle.rx_facts.specs.Answers.{AreGraphs, AreFacts};
 
 use rx_core::{LetGo, List, Place as Kept, Span, Step};
 use rx_facts::{InitFault, Lowered, ProgramFacts, facts, lower_all};
-use rx_facts_init::Frame;
-use rx_facts_live::LiveTable;
+use rx_facts_tables::{Frame, LiveTable};
 use rx_lower::trimmed;
-use rx_lower_flow::{Place, Root, Temporary};
+use rx_lower_walks::{Place, Root, Temporary};
 use rx_parse::{parse, parsed_programs_are_numbered};
 use rx_resolve::resolve;
 use rx_tree::Program;

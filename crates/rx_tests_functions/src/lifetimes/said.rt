@@ -7,12 +7,11 @@ ghost use Rattle.rx_tree.specs.PlainOf.{plain-Program};
 ghost use Rattle.rx_tree.specs.Size.{IsNumbered};
 
 use rx_core::{Bound, LetGo};
-use rx_facts_live::live;
+use rx_facts_tables::live;
 use rx_lower::lower_typed;
 use rx_lower_lifetimes::Graph;
 use rx_parse::{parse, parsed_programs_are_numbered};
-use rx_region::{constraints, known_pairs, missing, solve};
-use rx_region_constraints::Given;
+use rx_region::{Given, constraints, known_pairs, missing, solve};
 use rx_region_outlives::implied_by_fields;
 use rx_resolve::resolve;
 use rx_resolve_names::Resolved;

@@ -1,16 +1,14 @@
 //! All runs of a function, and what is answered of each beside what its walks say.
 
-ghost use Rattle.rx_exits_points.specs.Points.{IsReady};
+ghost use Rattle.rx_exits.specs.Points.{IsReady};
 
 use crate::plans::points::{States, Walked, is_right};
 use crate::sites::walks::{Walk, walks};
 use rx_check::FrontEnd;
 use rx_core::{LetGo, List, Name};
-use rx_exits::{At, ExitFault, ReachFault, exits, reached};
+use rx_exits::{At, ExitFault, ReachFault, RunPoints, exits, points, reached};
 use rx_exits_jumps::home_of;
-use rx_exits_plan::Run;
-use rx_exits_points::{RunPoints, points};
-use rx_exits_syntax::Home;
+use rx_exits_plan::{Home, Run};
 use rx_exits_tree::marked;
 use rx_lower_order::flow_of;
 use rx_typeck_typed::TypedFn;

@@ -3,9 +3,8 @@
 use crate::sites::said::action_text;
 use crate::sites::walks::{Walk, walks};
 use rx_core::LetGo;
-use rx_lower_emit::{Site, graph};
-use rx_lower_flow::Flow;
 use rx_lower_order::flow_of;
+use rx_lower_walks::{Flow, Site, graph};
 use rx_typed::TypedTree;
 use std::alloc::{AllocError, Global};
 

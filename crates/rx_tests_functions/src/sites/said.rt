@@ -4,9 +4,8 @@ ghost use Rattle.rx_tree.specs.PlainOf.{plain-Program};
 ghost use Rattle.rx_tree.specs.Size.{IsNumbered};
 
 use rx_core::{LetGo, List, Step};
-use rx_lower_emit::{GraphFault, Site, graph};
-use rx_lower_flow::{Act, Action, Made, Place, Root, Temporary};
 use rx_lower_order::flow_of;
+use rx_lower_walks::{Act, Action, GraphFault, Made, Place, Root, Site, Temporary, graph};
 use rx_parse::{parse, parsed_programs_are_numbered};
 use rx_resolve::resolve;
 use rx_tree::Program;

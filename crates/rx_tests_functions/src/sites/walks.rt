@@ -1,7 +1,7 @@
 //! The walks of a flow up to a length, by the rules that say what a walk is: slow, and with nothing of how graphs are made.
 
 use crate::sites::said::action_text;
-use rx_lower_flow::{Action, Exit, Flow, Item};
+use rx_lower_walks::{Action, Exit, Flow, Item};
 use rx_tests_tables::joined;
 use std::alloc::{AllocError, Global};
 

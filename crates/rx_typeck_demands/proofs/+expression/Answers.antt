@@ -2,7 +2,7 @@ use Rattle.std.proofs.Common.{◌≡◌, ◌++◌, [], ◌∷◌, ap, refl, arit
 use Rattle.rx_tree.specs.PlainOf.{plain-Expr, expression_call, expression_make}
 use Rattle.rx_tree.proofs.Rules.{expression_by_node}
 use Rattle.rx_typeck_demands.proofs.Arms.{assign_walks, update_walks, block_walks, if_walks, if_let_walks, match_walks}
-use Rattle.rx_typeck_rules.specs.Asking.{type_of}
+use Rattle.rx_typeck_typed.specs.Asking.{type_of}
 use Rattle.rx_typeck_demand_parts.specs.Places.{through_at}
 use denote.Param.Weighed.{most}
 use Rattle.rx_tree.proofs.tree.Arm.TheLaws as arm

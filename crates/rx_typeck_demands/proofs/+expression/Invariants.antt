@@ -3,7 +3,7 @@ use Rattle.rx_tree.specs.PlainOf.{plain-Expr, plain-FieldExpr, plain-Arm, plain-
 use Rattle.rx_typed.specs.declared.nodes.Site.{Site}
 use Rattle.rx_typed.specs.Named.{any_diverges, any_field_diverges, some_diverges}
 use Rattle.rx_typed.specs.Naming as naming
-use Rattle.rx_typeck_rules.specs.Demands as demands
+use Rattle.rx_typeck_typed.specs.Demands as demands
 use Rattle.rx_typeck_demand_parts.specs.Matching.{matched_as}
 use Rattle.rx_typeck_demand_parts.specs.Walks.{over}
 use Rattle.rx_typeck_demands.specs.Pieces as pieces

@@ -14,7 +14,7 @@ use Rattle.rx_typed.specs.Elaborated.{value, place, matched, statement}
 use Rattle.rx_typed.specs.Tree as tree
 use Rattle.rx_typed.specs.PlainTree.{plain-Expr as plain-ExprOf}
 use Rattle.rx_typed.specs.PlainTree.{plain-Place, plain-Matched, plain-Stmt}
-use Rattle.rx_typeck_numbering.specs.Seeing.{seen_of}
+use Rattle.rx_typeck_elaborate_parts.specs.Seeing.{seen_of}
 use Rattle.rx_typeck_elaborate_parts.specs.Coercing.{types_of, place_matched}
 use Rattle.rx_typeck_elaborate_parts.specs.Telling.{plain_ways, both_ways, ways_made, ways_of_both}
 use Rattle.rx_typeck_elaborate_parts.specs.declared.walk.Walk.{Walk}

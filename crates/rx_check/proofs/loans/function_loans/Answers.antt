@@ -1,6 +1,6 @@
 use Rattle.std.proofs.Common.{Ok, Err, ap, ◌∙◌, subst}
-use Rattle.rx_loan_check.specs.declared.judging.BorrowFault.{BorrowFault}
-use Rattle.rx_loan_check.specs.Answer.{Judges}
+use Rattle.rx_loan.specs.declared.judging.BorrowFault.{BorrowFault}
+use Rattle.rx_loan.specs.Answer.{Judges}
 use Rattle.rx_facts.specs.Functions.{sites_of, span_of}
 use Rattle.rx_check.specs.Contexts.{context_of}
 use Rattle.rx_check.proofs.Telling.{judged, place_of}

@@ -1,5 +1,5 @@
 use Rattle.std.proofs.Common.{ap, sym}
-use Rattle.rx_facts_live.proofs.Each.{site_there}
+use Rattle.rx_facts_tables.proofs.Each.{site_there}
 use Rattle.rx_check.specs.Functions.{node_at}
 use Rattle.rx_check.proofs.Telling.{no_node}
 use Rattle.rx_check.proofs.loans.node_of.Goals as goal

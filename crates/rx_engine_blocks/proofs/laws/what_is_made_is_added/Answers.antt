@@ -1,5 +1,5 @@
 use Rattle.std.proofs.Common.{[]}
-use Rattle.rx_typeck_rules.specs.Demands.{of_parameters, of_statements}
+use Rattle.rx_typeck_typed.specs.Demands.{of_parameters, of_statements}
 use Rattle.rx_engine_blocks.specs.Along.{composed}
 use Rattle.rx_engine_blocks.specs.Parts.{SameAs}
 use Rattle.rx_engine_blocks.proofs.MadeCode.{parameters_keep, statements_keep, EachMade, one_made, made_about, no_literals}

@@ -1,6 +1,6 @@
 use Rattle.std.proofs.Common.{[], Some}
 use Rattle.rx_typed.specs.Named.{bind}
-use Rattle.rx_typeck_rules.specs.Demands.{declared, of_parameters}
+use Rattle.rx_typeck_typed.specs.Demands.{declared, of_parameters}
 use Rattle.rx_engine_blocks.proofs.Meets.{first}
 use Rattle.rx_engine_blocks.proofs.Fixing.{parameters_are, declared_is}
 use Rattle.rx_engine_blocks.proofs.laws.what_is_written_is_fixed.Goals as goal

@@ -8,7 +8,7 @@ use Rattle.rx_tree.specs.Size.{IsNumbered}
 use Rattle.rx_resolve_names.specs.declared.resolved.ItemNames.{ItemNames}
 use Rattle.rx_typed.specs.Tree as tree
 use Rattle.rx_typeck_typed.specs.declared.typed.Typed.{Typed}
-use Rattle.rx_exits_marks.specs.Runs.{Sits}
+use Rattle.rx_exits_plan.specs.Runs.{Sits}
 use Rattle.rx_exits_plan.specs.Asked.{Asked}
 use Rattle.rx_exits_plan.specs.Plan.{variables_of}
 use Rattle.rx_hoist_extraction.specs.FormedPlan.{FormedPlan}

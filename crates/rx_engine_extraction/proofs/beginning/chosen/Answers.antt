@@ -1,9 +1,9 @@
 use Rattle.std.proofs.Common.{◌≡◌, sym, subst, ◌∙◌}
 use Rattle.rx_lex.specs.Tok.{toks}
 use Rattle.rx_select.specs.declared.selecting.SelectFault.TheVariants as select_fault
-use Rattle.rx_hoist_names.specs.declared.names.NameRefusal.{NameRefusal}
-use Rattle.rx_hoist_names.specs.NameTest.{RefusedName}
-use Rattle.rx_hoist_names.specs.Words.{identifiers}
+use Rattle.rx_hoist_naming.specs.declared.names.NameRefusal.{NameRefusal}
+use Rattle.rx_hoist_naming.specs.NameTest.{RefusedName}
+use Rattle.rx_hoist_naming.specs.NamesWords.{identifiers}
 use Rattle.rx_engine_extraction.proofs.Starting.{free_unused}
 use Rattle.rx_engine_extraction.proofs.beginning.chosen.Goals as goal
 

@@ -1,5 +1,5 @@
 use Rattle.std.proofs.Common.{sym, subst}
-use Rattle.rx_exits_syntax.specs.PlainSyntax.{plain-Home}
+use Rattle.rx_exits_plan.specs.PlainSyntax.{plain-Home}
 use Rattle.rx_hoist_plan.specs.declared.plan.NamedPlan.{NamedPlan}
 use Rattle.rx_hoist_plan.specs.PlainPlan.{plain-Plan}
 use Rattle.rx_engine_extraction.specs.declared.refusal.Fault.{Fault}

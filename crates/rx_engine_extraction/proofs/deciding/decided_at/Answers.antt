@@ -1,7 +1,7 @@
 use Rattle.std.proofs.Common.{sym, subst, ◌∙◌}
 use Rattle.rx_exits_plan.specs.Asked.{Asked}
 use Rattle.rx_exits_plan.specs.PlainPlan.{plan_of, IsExitPlan}
-use Rattle.rx_exits_syntax.specs.PlainSyntax.{plain-Home}
+use Rattle.rx_exits_plan.specs.PlainSyntax.{plain-Home}
 use Rattle.rx_modes.specs.Answer.{HasModes}
 use Rattle.rx_hoist_plan.specs.PlainPlan.{plain-Plan}
 use Rattle.rx_engine_extraction.specs.Deciding.{text_of, IsUnpassed}

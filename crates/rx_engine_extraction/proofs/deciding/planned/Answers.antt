@@ -1,7 +1,7 @@
 use Rattle.std.proofs.Common.{ℕ, List, refl, sym, subst, ◌∙◌}
 use Rattle.rx_exits.specs.Refusing.{Answers, Refuses, same_name}
 use Rattle.rx_exits_plan.specs.Asked.{Asked}
-use Rattle.rx_exits_syntax.specs.PlainSyntax.{plain-Home}
+use Rattle.rx_exits_plan.specs.PlainSyntax.{plain-Home}
 use Rattle.rx_engine_extraction.specs.declared.refusal.Fault.{Fault}
 use Rattle.rx_engine_extraction.specs.Case.{asked}
 use Rattle.rx_engine_extraction.specs.Source.{Text}

@@ -1,11 +1,11 @@
 use Rattle.std.proofs.Common.{◌≡◌, Some, option_map, subst, sym}
 use Rattle.std.specs.Prelude.{MatchOption, Option}
 use Rattle.rx_typed.specs.PlainTree.{plain-TypedTree}
-use Rattle.rx_exits_marks.specs.Runs as runs
-use Rattle.rx_exits_marks.specs.Runs.{Sits}
+use Rattle.rx_exits_plan.specs.Runs as runs
+use Rattle.rx_exits_plan.specs.Runs.{Sits}
 use Rattle.rx_exits_jumps.specs.Seen.{first_home}
-use Rattle.rx_exits_syntax.specs.declared.parts.Home.{Home}
-use Rattle.rx_exits_syntax.specs.PlainSyntax.{plain-Home}
+use Rattle.rx_exits_plan.specs.declared.parts.Home.{Home}
+use Rattle.rx_exits_plan.specs.PlainSyntax.{plain-Home}
 use Rattle.rx_exits_plan.specs.PlainPlan.{plain-Run}
 use Rattle.rx_engine_extraction.proofs.deciding.seat.Goals as goal
 

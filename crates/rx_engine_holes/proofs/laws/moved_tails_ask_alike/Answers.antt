@@ -1,6 +1,6 @@
 use Rattle.std.proofs.Common.{[], ◌∷◌}
 use Rattle.rx_typeck_solver.specs.declared.facts.Op.TheVariants as op
-use Rattle.rx_typeck_rules.specs.Asking.{expected}
+use Rattle.rx_typeck_typed.specs.Asking.{expected}
 use Rattle.rx_engine_blocks.specs.Blocks.{ToldIn}
 use Rattle.rx_engine_blocks.specs.DemandsLike.DemandsLike.{like_no_demand}
 use Rattle.rx_engine_blocks.specs.Parts.{StandsFor}

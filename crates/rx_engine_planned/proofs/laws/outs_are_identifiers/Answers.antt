@@ -2,8 +2,8 @@ use Rattle.std.proofs.Common.{◌≡◌, ◌∙◌, List, Option, subst, sym, tr
 use Rattle.rx_tree.specs.Lists.{Every}
 use Rattle.rx_tree.specs.Plain.{ItemTree}
 use Rattle.rx_hoist_extraction.specs.Names.{is_among}
-use Rattle.rx_hoist_names.specs.DeclaredNames.{declared_names}
-use Rattle.rx_hoist_names.specs.Words.{identifiers}
+use Rattle.rx_hoist_naming.specs.DeclaredNames.{declared_names}
+use Rattle.rx_hoist_naming.specs.NamesWords.{identifiers}
 use Rattle.rx_engine_names.proofs.FreeRuns.{declared_are_known}
 use Rattle.rx_engine_planned.proofs.OutWords.{outs_are_words}
 use Rattle.rx_engine_planned.proofs.RoundRuns.{found}

@@ -1,6 +1,6 @@
 use Rattle.std.proofs.Common.{length, refl, subst, sym, ap, ◌∙◌}
 use Rattle.rx_typed.specs.Tree.{Function as TypedFunction}
-use Rattle.rx_exits_marks.specs.Runs.{Sits}
+use Rattle.rx_exits_plan.specs.Runs.{Sits}
 use Rattle.rx_select.specs.OneText.{OneText}
 use Rattle.rx_parse_grammar.proofs.Numbered.{text_numbered}
 use Rattle.rx_tree.specs.Lists.{nth}

@@ -1,4 +1,4 @@
-use Rattle.rx_typeck_rules.specs.Demands.{demands}
+use Rattle.rx_typeck_typed.specs.Demands.{demands}
 use Rattle.rx_engine_blocks.specs.DemandsLike.{NoSpecial}
 use Rattle.rx_engine_blocks.proofs.Renumbered.{renumbered_valid}
 use Rattle.rx_engine_typing.specs.Renumbered.{no_holes}

@@ -3,16 +3,16 @@ use Rattle.rx_typed.specs.PlainTypes.{declarations}
 use Rattle.rx_typeck_typed.specs.declared.typed.Typed.{Typed}
 use Rattle.rx_tree.specs.Plain.{ProgramTree}
 use Rattle.rx_lower_walks.specs.Walks.{Among}
-use Rattle.rx_exits_marks.specs.Points.{next}
-use Rattle.rx_exits_marks.specs.Runs.{inside}
+use Rattle.rx_exits_plan.specs.Points.{next}
+use Rattle.rx_exits_plan.specs.Runs.{inside}
 use Rattle.rx_exits_plan.specs.Asked.{Asked}
 use Rattle.rx_meaning.specs.Programs.{Program}
 use Rattle.rx_machine.specs.Functions.{program_of}
-use Rattle.rx_engine_ready.specs.AskedOf.{asked_of}
+use Rattle.rx_engine_validated.specs.AskedOf.{asked_of}
 use Rattle.rx_engine_related.specs.Had.{Had}
 use Rattle.rx_engine_related.specs.Extracts.{Extracts}
-use Rattle.rx_engine_premises.specs.Stretches.{all_in_front}
-use Rattle.rx_engine_extracted_laws.specs.Telling.{NeverRuns, ToldOf}
+use Rattle.rx_engine_validated.specs.Stretches.{all_in_front}
+use Rattle.rx_engine_validated.specs.Telling.{NeverRuns, ToldOf}
 use Rattle.rx_engine_validated.specs.Found.{IsFound}
 use Rattle.rx_engine_validated.proofs.laws.found_extractions_run_alike.Goals as goal
 

@@ -1,5 +1,5 @@
 use Rattle.std.proofs.Common.{map, ap}
-use Rattle.rx_exits_syntax.specs.PlainSyntax.{plain-Jump}
+use Rattle.rx_exits_plan.specs.PlainSyntax.{plain-Jump}
 use Rattle.rx_exits.proofs.AnsweringLemmas.{shadowed_found, answered}
 use Rattle.rx_exits.proofs.answering.shadowed.Goals as goal
 

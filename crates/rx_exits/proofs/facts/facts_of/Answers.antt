@@ -1,6 +1,6 @@
 use Rattle.std.proofs.Common.{Ok, sym, ap, ◌∙◌}
 use Rattle.rx_exits_plan.specs.PlainPlan.{plain-Run}
-use Rattle.rx_exits_syntax.specs.PlainSyntax.{plain-Home}
+use Rattle.rx_exits_plan.specs.PlainSyntax.{plain-Home}
 use Rattle.rx_exits.proofs.FactsLemmas.{facts_are}
 use Rattle.rx_exits.proofs.facts.facts_of.Goals as goal
 

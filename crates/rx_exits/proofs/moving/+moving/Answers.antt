@@ -1,6 +1,6 @@
 use Rattle.std.proofs.Common.{◌++◌, ap, ◌∙◌, map}
 use Rattle.std.proofs.lemmas.List.{take_all}
-use Rattle.rx_lower_flow.specs.PlainFlow.{plain-Item}
+use Rattle.rx_lower_walks.specs.PlainFlow.{plain-Item}
 use Rattle.rx_exits.specs.Moving.{moved_in_each}
 use Rattle.rx_exits.proofs.MovingLemmas.{each_turn}
 use Rattle.rx_exits.proofs.moving.+moving.Goals as goal

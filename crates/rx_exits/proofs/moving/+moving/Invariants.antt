@@ -1,9 +1,9 @@
 -- The variables so far are those that the items so far move; and the measures of the calls.
 use Rattle.std.proofs.Common.{◌≡◌, ◌+◌, ◌*◌, ◌++◌, max, take, map}
 use denote.Param.Weighed.{most}
-use Rattle.rx_lower_flow.specs.PlainFlow.{plain-Item}
-use Rattle.rx_lower_flow.proofs.flow.Flow.TheLaws as flow
-use Rattle.rx_lower_flow.proofs.flow.Item.TheLaws as item
+use Rattle.rx_lower_walks.specs.PlainFlow.{plain-Item}
+use Rattle.rx_lower_walks.proofs.flow.Flow.TheLaws as flow
+use Rattle.rx_lower_walks.proofs.flow.Item.TheLaws as item
 use Rattle.rx_exits.specs.Moving.{moved_in_each}
 use Rattle.rx_exits.proofs.moving.+moving.Given as goal
 

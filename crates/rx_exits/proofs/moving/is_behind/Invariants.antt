@@ -1,6 +1,6 @@
 -- The steps so far are no dereferences.
 use Rattle.std.proofs.Common.{◌≡◌, drop}
-use Rattle.rx_facts_init.specs.Setting.{is_behind}
+use Rattle.rx_facts_tables.specs.Setting.{is_behind}
 use Rattle.rx_exits.proofs.moving.is_behind.Given as goal
 
 abbrev pub invariant-loop-step : goal.invariant-loop-step

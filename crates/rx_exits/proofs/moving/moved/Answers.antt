@@ -1,9 +1,9 @@
 use Rattle.std.proofs.Common.{◌++◌, ap, ◌∙◌}
 use Rattle.rx_lower_walks.specs.Orders.{order_function}
 use Rattle.rx_lower_walks.specs.Walks.{actions_in}
-use Rattle.rx_lower_flow.specs.PlainFlow.{plain-Flow}
+use Rattle.rx_lower_walks.specs.PlainFlow.{plain-Flow}
 use Rattle.rx_exits_plan.specs.PlainPlan.{plain-Run}
-use Rattle.rx_exits_syntax.specs.PlainSyntax.{plain-Home}
+use Rattle.rx_exits_plan.specs.PlainSyntax.{plain-Home}
 use Rattle.rx_exits_tree.proofs.Actions.{alone_actions}
 use Rattle.rx_exits.specs.Moving.{moved_in, moved_in_flow}
 use Rattle.rx_exits.proofs.Listing.{if_ok}

@@ -1,5 +1,5 @@
 use Rattle.std.proofs.Common.{◌≡◌, ◌++◌, IfOk, sym, subst}
-use Rattle.rx_lower_flow.specs.PlainFlow.{plain-Act, plain-Temporary}
+use Rattle.rx_lower_walks.specs.PlainFlow.{plain-Act, plain-Temporary}
 use Rattle.rx_exits.specs.Moving.{moved_by}
 use Rattle.rx_exits.proofs.moving.with_moved.Goals as goal
 

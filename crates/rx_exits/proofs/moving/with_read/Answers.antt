@@ -1,7 +1,7 @@
 use Rattle.std.proofs.Common.{◌≡◌, ◌++◌, IfOk, sym, ap, ◌∙◌, subst}
 use Rattle.std.proofs.lemmas.List.{append-nil}
 use Rattle.rx_lower_walks.specs.Actions.{Read}
-use Rattle.rx_lower_flow.specs.PlainFlow.{plain-Place}
+use Rattle.rx_lower_walks.specs.PlainFlow.{plain-Place}
 use Rattle.rx_exits.specs.Moving.{moved_by}
 use Rattle.rx_exits.proofs.moving.with_read.Goals as goal
 

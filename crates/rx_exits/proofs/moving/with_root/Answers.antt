@@ -1,7 +1,7 @@
 use Rattle.std.proofs.Common.{true, false, ◌++◌, sym, ap, ◌∙◌}
 use Rattle.std.proofs.lemmas.List.{append-nil}
-use Rattle.rx_lower_flow.specs.PlainFlow.{plain-Root}
-use Rattle.rx_facts_init.specs.Setting.{is_behind}
+use Rattle.rx_lower_walks.specs.PlainFlow.{plain-Root}
+use Rattle.rx_facts_tables.specs.Setting.{is_behind}
 use Rattle.rx_exits.specs.Moving.{of_root}
 use Rattle.rx_exits.proofs.Listing.{if_ok}
 use Rattle.rx_exits.proofs.MovingLemmas.{root_is}

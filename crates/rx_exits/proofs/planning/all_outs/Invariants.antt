@@ -3,7 +3,7 @@ use Rattle.std.proofs.Common.{◌≡◌, ℕ, List, take, map}
 use Rattle.rx_exits_plan.specs.declared.plan.ExitOuts.{ExitOuts}
 use Rattle.rx_exits_plan.specs.PlainPlan.{plain-Exit}
 use Rattle.rx_exits_plan.specs.Asked.{Asked}
-use Rattle.rx_exits_points.specs.Living.{IsLiving}
+use Rattle.rx_exits.specs.Living.{IsLiving}
 use Rattle.rx_exits.specs.Choosing.{AllHandOut}
 use Rattle.rx_exits.proofs.planning.all_outs.Given as goal
 

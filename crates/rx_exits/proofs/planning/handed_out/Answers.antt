@@ -1,6 +1,6 @@
 use Rattle.std.proofs.Common.{◌∙◌, subst}
 use Rattle.rx_exits_plan.specs.PlainPlan.{plain-Run}
-use Rattle.rx_exits_syntax.specs.PlainSyntax.{plain-Home}
+use Rattle.rx_exits_plan.specs.PlainSyntax.{plain-Home}
 use Rattle.rx_exits.specs.Choosing.{AllHandOut}
 use Rattle.rx_exits.proofs.Listing.{if_ok}
 use Rattle.rx_exits.proofs.FactsLemmas.{exits_found}

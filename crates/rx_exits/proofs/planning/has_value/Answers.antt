@@ -1,7 +1,7 @@
 use Rattle.std.proofs.Common.{sym, ap, ◌∙◌}
 use Rattle.std.specs.Option.{is_some}
 use Rattle.rx_exits_plan.specs.Plan.{handed_value}
-use Rattle.rx_exits_syntax.specs.PlainSyntax.{plain-Value}
+use Rattle.rx_exits_plan.specs.PlainSyntax.{plain-Value}
 use Rattle.rx_exits.proofs.planning.has_value.Goals as goal
 
 pub returns-in-Some : goal.returns-in-Some

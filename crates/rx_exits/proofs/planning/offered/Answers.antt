@@ -1,7 +1,7 @@
 use Rattle.std.proofs.Common.{sym, ap, ◌∙◌}
-use Rattle.rx_exits_marks.specs.Runs.{Home}
+use Rattle.rx_exits_plan.specs.Runs.{Home}
 use Rattle.rx_exits_plan.specs.Plan.{run_actions}
-use Rattle.rx_exits_syntax.specs.PlainSyntax.{plain-Home}
+use Rattle.rx_exits_plan.specs.PlainSyntax.{plain-Home}
 use Rattle.rx_exits.specs.Moving.{moved_in}
 use Rattle.rx_exits.proofs.Listing.{if_ok}
 use Rattle.rx_exits.proofs.PlanningLemmas.{offered_is}

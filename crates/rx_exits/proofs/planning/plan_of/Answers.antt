@@ -1,9 +1,9 @@
 use Rattle.std.proofs.Common.{ap, ◌∙◌}
 use Rattle.std.specs.Option.{is_some}
-use Rattle.rx_exits_marks.specs.Runs.{last_value}
+use Rattle.rx_exits_plan.specs.Runs.{last_value}
 use Rattle.rx_exits_plan.specs.Plan.{handed_value}
 use Rattle.rx_exits_plan.specs.PlainPlan.{plain-Run}
-use Rattle.rx_exits_syntax.specs.PlainSyntax.{plain-Home}
+use Rattle.rx_exits_plan.specs.PlainSyntax.{plain-Home}
 use Rattle.rx_exits.proofs.Listing.{if_ok}
 use Rattle.rx_exits.proofs.FactsLemmas.{at_asked}
 use Rattle.rx_exits.proofs.PlanningLemmas.{plan_made}

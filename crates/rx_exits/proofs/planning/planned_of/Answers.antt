@@ -1,6 +1,6 @@
 use Rattle.std.proofs.Common.{[], sym, ap, ◌∙◌}
-use Rattle.rx_exits_marks.specs.Runs.{Home}
-use Rattle.rx_exits_points.specs.Living.{IsAsked}
+use Rattle.rx_exits_plan.specs.Runs.{Home}
+use Rattle.rx_exits.specs.Living.{IsAsked}
 use Rattle.rx_exits.proofs.Listing.{if_ok}
 use Rattle.rx_exits.proofs.FactsLemmas.{of_ok, entry_is, living_is}
 use Rattle.rx_exits.proofs.planning.planned_of.Goals as goal

@@ -1,7 +1,7 @@
 use Rattle.std.proofs.Common.{map, get_or, sym, ◌∙◌, subst}
 use Rattle.std.proofs.lemmas.List.{get_or_default}
 use Rattle.rx_lower_walks.specs.Walks.{Among}
-use Rattle.rx_exits_marks.specs.Points.{next}
+use Rattle.rx_exits_plan.specs.Points.{next}
 use Rattle.rx_exits_plan.specs.declared.plan.Exit.{Exit}
 use Rattle.rx_exits_plan.specs.declared.plan.Exit.TheVariants as exit
 use Rattle.rx_exits_plan.specs.PlainPlan.{plain-Exit}

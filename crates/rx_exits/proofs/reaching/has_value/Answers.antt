@@ -1,6 +1,6 @@
 use Rattle.std.proofs.Common.{false, sym, subst}
 use Rattle.rx_exits_plan.specs.Unreachable.{HasValue}
-use Rattle.rx_exits_syntax.specs.PlainSyntax.{plain-Value}
+use Rattle.rx_exits_plan.specs.PlainSyntax.{plain-Value}
 use Rattle.rx_exits.specs.Reaching.{Tells}
 use Rattle.rx_exits.proofs.reaching.has_value.Goals as goal
 

@@ -1,8 +1,8 @@
 use Rattle.std.proofs.Common.{map, sym, ap, ◌∙◌}
-use Rattle.rx_exits_marks.specs.Runs.{last_value}
+use Rattle.rx_exits_plan.specs.Runs.{last_value}
 use Rattle.rx_exits_plan.specs.PlainPlan.{plain-Run}
 use Rattle.rx_exits_plan.specs.Exits as plan
-use Rattle.rx_exits_syntax.specs.PlainSyntax.{plain-Home, plain-Jump}
+use Rattle.rx_exits_plan.specs.PlainSyntax.{plain-Home, plain-Jump}
 use Rattle.rx_exits.proofs.FactsLemmas.{at_asked, exits_found}
 use Rattle.rx_exits.proofs.reaching.hindrance_of.Goals as goal
 

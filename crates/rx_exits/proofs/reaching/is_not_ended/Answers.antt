@@ -1,4 +1,4 @@
-use Rattle.rx_exits_marks.specs.Points.{next, leaves}
+use Rattle.rx_exits_plan.specs.Points.{next, leaves}
 use Rattle.rx_exits.specs.Reaching.{come}
 use Rattle.rx_exits.proofs.ReachingLemmas.{end_told, none_comes, some_comes}
 use Rattle.rx_exits.proofs.reaching.is_not_ended.Goals as goal

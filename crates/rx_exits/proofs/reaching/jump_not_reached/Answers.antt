@@ -1,7 +1,7 @@
 use Rattle.std.proofs.Common.{map, sym, ◌∙◌}
-use Rattle.rx_exits_marks.specs.Points.{leaves}
+use Rattle.rx_exits_plan.specs.Points.{leaves}
 use Rattle.rx_exits_plan.specs.PlainPlan.{plain-Exit}
-use Rattle.rx_exits_syntax.specs.PlainSyntax.{plain-Jump}
+use Rattle.rx_exits_plan.specs.PlainSyntax.{plain-Jump}
 use Rattle.rx_exits.proofs.ReachingLemmas.{next_is, next_is_not, first_tells, none_comes, some_comes}
 use Rattle.rx_exits.proofs.reaching.jump_not_reached.Goals as goal
 

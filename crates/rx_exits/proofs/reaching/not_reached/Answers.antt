@@ -1,8 +1,8 @@
 use Rattle.std.proofs.Common.{map}
-use Rattle.rx_exits_marks.specs.Points.{enters}
+use Rattle.rx_exits_plan.specs.Points.{enters}
 use Rattle.rx_exits_plan.specs.PlainPlan.{plain-Exit}
 use Rattle.rx_exits_plan.specs.Unreachable.{not_begun}
-use Rattle.rx_exits_syntax.specs.PlainSyntax.{plain-Jump, plain-Value}
+use Rattle.rx_exits_plan.specs.PlainSyntax.{plain-Jump, plain-Value}
 use Rattle.rx_exits.proofs.ReachingLemmas.{at_last, at_exits, at_a_jump, none_comes, comes_not}
 use Rattle.rx_exits.proofs.reaching.not_reached.Goals as goal
 

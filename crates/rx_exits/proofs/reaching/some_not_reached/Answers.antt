@@ -3,7 +3,7 @@ use Rattle.std.proofs.lemmas.List.{get_or_default}
 use Rattle.rx_exits_plan.specs.declared.plan.Exit.{Exit}
 use Rattle.rx_exits_plan.specs.declared.plan.Exit.TheVariants as exit
 use Rattle.rx_exits_plan.specs.PlainPlan.{plain-Exit}
-use Rattle.rx_exits_syntax.specs.PlainSyntax.{plain-Jump}
+use Rattle.rx_exits_plan.specs.PlainSyntax.{plain-Jump}
 use Rattle.rx_exits.specs.Reaching.{AllLeft}
 use Rattle.rx_exits.proofs.ReachingLemmas.{left_more, exit_among, all_taken}
 use Rattle.rx_exits.proofs.reaching.some_not_reached.Goals as goal

@@ -2,8 +2,8 @@
 use Rattle.std.proofs.Common.{take, map}
 use Rattle.rx_exits_plan.specs.PlainPlan.{plain-Exit}
 use Rattle.rx_exits_plan.specs.Asked.{Asked}
-use Rattle.rx_exits_points.specs.Points.{IsPoints}
-use Rattle.rx_exits_syntax.specs.PlainSyntax.{plain-Jump}
+use Rattle.rx_exits.specs.Points.{IsPoints}
+use Rattle.rx_exits_plan.specs.PlainSyntax.{plain-Jump}
 use Rattle.rx_exits.specs.Reaching.{AllLeft}
 use Rattle.rx_exits.proofs.reaching.some_not_reached.Given as goal
 

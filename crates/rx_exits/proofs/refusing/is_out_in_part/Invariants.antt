@@ -2,7 +2,7 @@
 use Rattle.std.proofs.Common.{take, map}
 use Rattle.rx_exits_plan.specs.declared.plan.ExitOuts.{ExitOuts}
 use Rattle.rx_exits_plan.specs.Asked.{Asked}
-use Rattle.rx_exits_points.specs.Points.{IsPoints}
+use Rattle.rx_exits.specs.Points.{IsPoints}
 use Rattle.rx_exits.specs.Telling.{NoneOf, OutAt}
 use Rattle.rx_exits.proofs.refusing.is_out_in_part.Given as goal
 

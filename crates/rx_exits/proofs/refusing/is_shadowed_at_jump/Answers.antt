@@ -1,7 +1,7 @@
 use Rattle.std.proofs.Common.{map, subst}
 use Rattle.rx_exits_plan.specs.PlainPlan.{plain-Exit}
 use Rattle.rx_exits_plan.specs.Exits.{Jump}
-use Rattle.rx_exits_syntax.specs.PlainSyntax.{plain-Jump}
+use Rattle.rx_exits_plan.specs.PlainSyntax.{plain-Jump}
 use Rattle.rx_exits.specs.Reaching.{Tells}
 use Rattle.rx_exits.specs.Telling.{ShadowedAt}
 use Rattle.rx_exits.proofs.Listing.{some_turn, none_turn, none_end, some_none}

@@ -1,7 +1,7 @@
 -- At none so far its name means another.
 use Rattle.std.proofs.Common.{take, map}
 use Rattle.rx_exits_plan.specs.Exits.{Jump}
-use Rattle.rx_exits_syntax.specs.PlainSyntax.{plain-Jump}
+use Rattle.rx_exits_plan.specs.PlainSyntax.{plain-Jump}
 use Rattle.rx_exits.specs.Telling.{NoneOf, ShadowedAt}
 use Rattle.rx_exits.proofs.refusing.is_shadowed_at_jump.Given as goal
 

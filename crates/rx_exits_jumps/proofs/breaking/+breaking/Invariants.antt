@@ -1,6 +1,6 @@
 use Rattle.std.proofs.Common.{◌≡◌, map, drop}
 use Rattle.rx_typed.specs.PlainTree.{plain-Operand, plain-Arm, operands_of, arms_of}
-use Rattle.rx_exits_syntax.specs.PlainSyntax.{plain-Statement}
+use Rattle.rx_exits_plan.specs.PlainSyntax.{plain-Statement}
 use Rattle.rx_exits_jumps.specs.Broken as broken
 use Rattle.rx_exits_jumps.proofs.breaking.+breaking.Given as goal
 

@@ -2,7 +2,7 @@ use Rattle.std.proofs.Common.{◌+◌, not, ap, sym, ◌∙◌, map, drop}
 use Rattle.rx_typed.specs.Tree.{loop}
 use Rattle.rx_typed.specs.PlainTree.{plain-Expr, plain-Mark, plain-Operand, plain-Arm, operands_of, arms_of}
 use Rattle.rx_exits_plan.specs.Diverging as diverging
-use Rattle.rx_exits_syntax.specs.PlainSyntax.{plain-Statement}
+use Rattle.rx_exits_plan.specs.PlainSyntax.{plain-Statement}
 use Rattle.rx_exits_jumps.proofs.TestTurns.{or_next, or_found, and_next, and_found, operand_diverges, arm_diverges}
 use Rattle.rx_exits_jumps.proofs.BrokenLemmas.{any_more, choosing_loop, other_loop}
 use Rattle.rx_exits_jumps.proofs.diverging.+diverging.Goals as goal

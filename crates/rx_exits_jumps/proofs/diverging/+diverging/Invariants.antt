@@ -1,7 +1,7 @@
 use Rattle.std.proofs.Common.{◌≡◌, map, drop}
 use Rattle.rx_typed.specs.PlainTree.{plain-Operand, plain-Arm, operands_of, arms_of}
 use Rattle.rx_exits_plan.specs.Diverging as diverging
-use Rattle.rx_exits_syntax.specs.PlainSyntax.{plain-Statement}
+use Rattle.rx_exits_plan.specs.PlainSyntax.{plain-Statement}
 use Rattle.rx_exits_jumps.proofs.diverging.+diverging.Given as goal
 
 abbrev pub invariant-some_diverges-loop-operand : goal.invariant-some_diverges-loop-operand

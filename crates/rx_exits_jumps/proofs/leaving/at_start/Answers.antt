@@ -1,8 +1,8 @@
 use Rattle.std.proofs.Common.{◌++◌, reverse, map, ap, ◌∙◌}
-use Rattle.rx_exits_marks.specs.Blocks.{declared_by_all}
-use Rattle.rx_exits_marks.specs.Runs as runs
+use Rattle.rx_exits_plan.specs.Blocks.{declared_by_all}
+use Rattle.rx_exits_plan.specs.Runs as runs
 use Rattle.rx_exits_plan.specs.PlainPlan.{plain-Run}
-use Rattle.rx_exits_syntax.specs.PlainSyntax.{plain-Statement, plain-Home}
+use Rattle.rx_exits_plan.specs.PlainSyntax.{plain-Statement, plain-Home}
 use Rattle.rx_exits_jumps.proofs.LeavingLemmas.{start_is}
 use Rattle.rx_exits_jumps.proofs.leaving.at_start.Goals as goal
 

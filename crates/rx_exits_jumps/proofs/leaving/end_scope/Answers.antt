@@ -1,9 +1,9 @@
 use Rattle.std.proofs.Common.{◌++◌, reverse, ap, ◌∙◌}
-use Rattle.rx_exits_marks.specs.Blocks.{declared_by_all}
-use Rattle.rx_exits_marks.specs.Runs as runs
+use Rattle.rx_exits_plan.specs.Blocks.{declared_by_all}
+use Rattle.rx_exits_plan.specs.Runs as runs
 use Rattle.rx_exits_plan.specs.Exits as exits
 use Rattle.rx_exits_plan.specs.PlainPlan.{plain-Run}
-use Rattle.rx_exits_syntax.specs.PlainSyntax.{plain-Home}
+use Rattle.rx_exits_plan.specs.PlainSyntax.{plain-Home}
 use Rattle.rx_exits_jumps.proofs.LeavingLemmas.{end_is, scope_as}
 use Rattle.rx_exits_jumps.proofs.leaving.end_scope.Goals as goal
 

@@ -1,9 +1,9 @@
 use Rattle.std.proofs.Common.{List, ◌++◌, map, ap, ◌∙◌}
-use Rattle.rx_exits_marks.specs.Runs as runs
-use Rattle.rx_exits_marks.specs.Spots.{Around, Spot}
+use Rattle.rx_exits_plan.specs.Runs as runs
+use Rattle.rx_exits_plan.specs.Spots.{Around, Spot}
 use Rattle.rx_exits_plan.specs.Exits as exits
 use Rattle.rx_exits_plan.specs.PlainPlan.{plain-Run}
-use Rattle.rx_exits_syntax.specs.PlainSyntax.{plain-Around, plain-Home, plain-Jump}
+use Rattle.rx_exits_plan.specs.PlainSyntax.{plain-Around, plain-Home, plain-Jump}
 use Rattle.rx_exits_jumps.specs.PlainSought.{plain-Found}
 use Rattle.rx_exits_jumps.proofs.LeavingLemmas.{jumps_of}
 use Rattle.rx_exits_jumps.proofs.leaving.jumps.Goals as goal

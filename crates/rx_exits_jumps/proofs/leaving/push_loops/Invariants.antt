@@ -1,7 +1,7 @@
 use Rattle.std.proofs.Common.{◌≡◌, ◌++◌, map, drop}
 use Rattle.rx_exits_plan.specs.Exits as exits
 use Rattle.rx_exits_plan.specs.PlainPlan.{plain-Exit}
-use Rattle.rx_exits_syntax.specs.PlainSyntax.{plain-Jump}
+use Rattle.rx_exits_plan.specs.PlainSyntax.{plain-Jump}
 use Rattle.rx_exits_jumps.proofs.leaving.push_loops.Given as goal
 
 abbrev pub invariant-loop-number : goal.invariant-loop-number

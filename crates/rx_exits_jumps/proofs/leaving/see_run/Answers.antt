@@ -1,8 +1,8 @@
 use Rattle.std.proofs.Common.{◌++◌, map}
-use Rattle.rx_exits_marks.specs.Runs as runs
+use Rattle.rx_exits_plan.specs.Runs as runs
 use Rattle.rx_exits_plan.specs.Exits as exits
 use Rattle.rx_exits_plan.specs.PlainPlan.{plain-Run}
-use Rattle.rx_exits_syntax.specs.PlainSyntax.{plain-Statement, plain-Around, plain-Home, plain-Value}
+use Rattle.rx_exits_plan.specs.PlainSyntax.{plain-Statement, plain-Around, plain-Home, plain-Value}
 use Rattle.rx_exits_jumps.specs.PlainSought.{plain-Found}
 use Rattle.rx_exits_jumps.proofs.LeavingLemmas.{run_seen, run_seen_as}
 use Rattle.rx_exits_jumps.proofs.leaving.see_run.Goals as goal

@@ -1,10 +1,10 @@
 use Rattle.std.proofs.Common.{◌+◌, [], ◌∷◌, refl, ap, ◌∙◌, map, drop}
 use Rattle.rx_typed.specs.PlainTree.{plain-Expr, plain-Operand, plain-Arm, plain-Matched, plain-Stmt, nested_of, operands_of, arms_of}
-use Rattle.rx_exits_marks.specs.Blocks.{bound, declared_by, declared_by_all}
-use Rattle.rx_exits_marks.specs.Spots.{with_variables, a_block, a_return, spots, spots_in, spots_matched, spots_armed}
+use Rattle.rx_exits_plan.specs.Blocks.{bound, declared_by, declared_by_all}
+use Rattle.rx_exits_plan.specs.Spots.{with_variables, a_block, a_return, spots, spots_in, spots_matched, spots_armed}
 use Rattle.rx_exits_plan.specs.Exits.{spots_in_statements}
-use Rattle.rx_exits_syntax.specs.PlainSyntax.{plain-Statement, plain-Around, grown}
-use Rattle.rx_exits_syntax.specs.declared.around.Around as stack
+use Rattle.rx_exits_plan.specs.PlainSyntax.{plain-Statement, plain-Around, grown}
+use Rattle.rx_exits_plan.specs.declared.around.Around as stack
 use Rattle.rx_exits_jumps.specs.PlainSought.{plain-Sought, plain-Found}
 use Rattle.rx_exits_jumps.specs.Seen.{with_spots}
 use Rattle.rx_exits_jumps.proofs.SeenLemmas.{both_seen, two_seen, seen_turn, seen_as, on_same}

@@ -1,9 +1,9 @@
 use Rattle.std.proofs.Common.{◌≡◌, map, drop}
 use Rattle.rx_typed.specs.PlainTree.{plain-Operand, plain-Arm, operands_of, arms_of}
-use Rattle.rx_exits_marks.specs.Blocks.{declared_by_all}
-use Rattle.rx_exits_marks.specs.Spots.{spots_in, spots_armed}
+use Rattle.rx_exits_plan.specs.Blocks.{declared_by_all}
+use Rattle.rx_exits_plan.specs.Spots.{spots_in, spots_armed}
 use Rattle.rx_exits_plan.specs.Exits.{spots_in_statements}
-use Rattle.rx_exits_syntax.specs.PlainSyntax.{plain-Statement, plain-Around, grown}
+use Rattle.rx_exits_plan.specs.PlainSyntax.{plain-Statement, plain-Around, grown}
 use Rattle.rx_exits_jumps.specs.PlainSought.{plain-Sought, plain-Found}
 use Rattle.rx_exits_jumps.specs.Seen.{with_spots}
 use Rattle.rx_exits_jumps.proofs.seeing.+seeing.Given as goal

@@ -1,5 +1,5 @@
 use Rattle.std.proofs.Common.{◌≡◌, drop}
-use Rattle.rx_exits_marks.specs.Marked.{is_among}
+use Rattle.rx_exits_plan.specs.Marked.{is_among}
 use Rattle.rx_exits_jumps.proofs.sought.is_among.Given as goal
 
 abbrev pub invariant-loop-other : goal.invariant-loop-other

@@ -1,5 +1,5 @@
 use Rattle.rx_typed.specs.PlainTree.{plain-Expr}
-use Rattle.rx_exits_syntax.specs.PlainSyntax.{plain-Around}
+use Rattle.rx_exits_plan.specs.PlainSyntax.{plain-Around}
 use Rattle.rx_exits_jumps.proofs.MeetingLemmas.{home_added, other_node, no_run}
 use Rattle.rx_exits_jumps.proofs.sought.meet_block.Goals.{else-node-run-via-then-node-run+else-has_run, else-node-run-via-else-node-run}
 use Rattle.rx_exits_jumps.proofs.sought.meet_block.Goals as goal

@@ -1,8 +1,8 @@
 use Rattle.std.proofs.Common.{map, ap}
 use Rattle.rx_typed.specs.PlainTree.{plain-Expr}
-use Rattle.rx_exits_marks.specs.Runs as runs
+use Rattle.rx_exits_plan.specs.Runs as runs
 use Rattle.rx_exits_plan.specs.PlainPlan.{plain-Run}
-use Rattle.rx_exits_syntax.specs.PlainSyntax.{plain-Statement, plain-Home}
+use Rattle.rx_exits_plan.specs.PlainSyntax.{plain-Statement, plain-Home}
 use Rattle.rx_exits_occurrences.specs.PlainOccurrence.{plain-Occurrence}
 use Rattle.rx_exits_occurrences.proofs.OccurringLemmas.{behind_found}
 use Rattle.rx_exits_occurrences.proofs.naming.found_behind.Goals as goal

@@ -1,7 +1,7 @@
 use Rattle.std.proofs.Common.{map, ap}
-use Rattle.rx_exits_marks.specs.Runs as runs
+use Rattle.rx_exits_plan.specs.Runs as runs
 use Rattle.rx_exits_plan.specs.PlainPlan.{plain-Run}
-use Rattle.rx_exits_syntax.specs.PlainSyntax.{plain-Statement, plain-Home, plain-Value}
+use Rattle.rx_exits_plan.specs.PlainSyntax.{plain-Statement, plain-Home, plain-Value}
 use Rattle.rx_exits_occurrences.specs.PlainOccurrence.{plain-Occurrence}
 use Rattle.rx_exits_occurrences.proofs.OccurringLemmas.{run_found}
 use Rattle.rx_exits_occurrences.proofs.naming.in_run.Goals as goal

@@ -1,9 +1,9 @@
 use Rattle.std.proofs.Common.{true, ◌++◌, [], if◌then◌else◌, map, ap, ◌∙◌}
-use Rattle.rx_exits_marks.specs.Blocks.{tail}
-use Rattle.rx_exits_marks.specs.Runs as runs
+use Rattle.rx_exits_plan.specs.Blocks.{tail}
+use Rattle.rx_exits_plan.specs.Runs as runs
 use Rattle.rx_exits_plan.specs.Occurrences as occurrences
 use Rattle.rx_exits_plan.specs.PlainPlan.{plain-Run}
-use Rattle.rx_exits_syntax.specs.PlainSyntax.{plain-Home}
+use Rattle.rx_exits_plan.specs.PlainSyntax.{plain-Home}
 use Rattle.rx_exits_occurrences.specs.PlainOccurrence.{plain-Occurrence}
 use Rattle.rx_exits_occurrences.proofs.NamingLemmas.{chosen_as}
 use Rattle.rx_exits_occurrences.proofs.naming.named_behind.Goals as goal

@@ -1,7 +1,7 @@
 use Rattle.std.proofs.Common.{ℕ, not, List, map, ap, ◌∙◌}
 use Rattle.rx_exits_plan.specs.Occurrences as occurrences
 use Rattle.rx_exits_plan.specs.PlainPlan.{plain-Run}
-use Rattle.rx_exits_syntax.specs.PlainSyntax.{plain-Home}
+use Rattle.rx_exits_plan.specs.PlainSyntax.{plain-Home}
 use Rattle.rx_exits_occurrences.specs.PlainOccurrence.{plain-Occurrence}
 use Rattle.rx_exits_occurrences.proofs.naming.variables_of.Goals as goal
 

@@ -1,9 +1,9 @@
 use Rattle.std.proofs.Common.{ap, map, drop, ◌+◌, ◌++◌, refl}
 use Rattle.rx_typed.specs.PlainTree.{plain-Expr, plain-Arm, plain-Operand, plain-Matched, plain-Pattern, plain-Place, arms_of, operands_of}
-use Rattle.rx_exits_marks.specs.Blocks.{bound}
+use Rattle.rx_exits_plan.specs.Blocks.{bound}
 use Rattle.rx_exits_plan.specs.Occurrences.{named_place, all_declared, occurrences, occurrences_in, occurrences_matched, occurrences_armed, in_statement, in_statements}
-use Rattle.rx_exits_syntax.specs.PlainSyntax.{plain-Statement}
-use Rattle.rx_exits_syntax.proofs.Turns.{turned}
+use Rattle.rx_exits_plan.specs.PlainSyntax.{plain-Statement}
+use Rattle.rx_exits_plan.proofs.Turns.{turned}
 use Rattle.rx_exits_occurrences.specs.PlainOccurrence.{plain-Occurrence}
 use Rattle.rx_exits_occurrences.proofs.OccurringLemmas.{on_more, lazily_is, block_is, choose_is, operands_more, arms_more, arm_is}
 use Rattle.rx_exits_occurrences.proofs.occurring.+occurring.Goals as goal

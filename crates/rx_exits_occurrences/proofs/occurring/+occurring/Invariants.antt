@@ -1,7 +1,7 @@
 use Rattle.std.proofs.Common.{◌≡◌, ◌++◌, map, drop}
 use Rattle.rx_typed.specs.PlainTree.{plain-Operand, plain-Arm, operands_of, arms_of}
 use Rattle.rx_exits_plan.specs.Occurrences.{occurrences_in, occurrences_armed, in_statements}
-use Rattle.rx_exits_syntax.specs.PlainSyntax.{plain-Statement}
+use Rattle.rx_exits_plan.specs.PlainSyntax.{plain-Statement}
 use Rattle.rx_exits_occurrences.specs.PlainOccurrence.{plain-Occurrence}
 use Rattle.rx_exits_occurrences.proofs.occurring.+occurring.Given as goal
 

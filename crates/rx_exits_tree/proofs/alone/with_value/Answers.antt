@@ -1,8 +1,8 @@
 use Rattle.std.proofs.Common.{◌≡◌}
 use Rattle.rx_typed.specs.PlainTree.{plain-Expr}
 use Rattle.rx_exits_plan.specs.PlainPlan.{plain-Run}
-use Rattle.rx_exits_marks.specs.Blocks.{written_tail}
-use Rattle.rx_exits_marks.specs.Changed.{changed}
+use Rattle.rx_exits_plan.specs.Blocks.{written_tail}
+use Rattle.rx_exits_plan.specs.Changed.{changed}
 use Rattle.rx_exits_tree.specs.Changing.{keeping}
 use Rattle.rx_exits_tree.proofs.RunBlock.{value_behind}
 use Rattle.rx_exits_tree.proofs.Turns.{of_value}

@@ -1,6 +1,6 @@
 -- The mark, and the uses so far.
 use Rattle.std.proofs.Common.{◌≡◌, ◌++◌, map, take}
-use Rattle.rx_exits_marks.specs.Marked.{entering}
+use Rattle.rx_exits_plan.specs.Marked.{entering}
 use Rattle.rx_exits_tree.specs.Shapes.{plain-Statement}
 use Rattle.rx_exits_tree.proofs.marks.entering.Given as goal
 

@@ -1,7 +1,7 @@
 use Rattle.std.proofs.Common.{slice_get, sym, subst}
 use Rattle.rx_typed.specs.Tree.{Function}
 use Rattle.rx_exits.specs.Refusing.{same_name}
-use Rattle.rx_hoist_names.specs.DeclaredNames.{declared_names}
+use Rattle.rx_hoist_naming.specs.DeclaredNames.{declared_names}
 use Rattle.rx_hoist_meant.specs.NamesMeant.{NamesMeant}
 use Rattle.rx_hoist_meant.proofs.meant_laws.runs_tell_params_and_locals_by_names.Goals as goal
 

@@ -1,6 +1,6 @@
 use Rattle.std.proofs.Common.{rules, ◌≡◌, ℕ, List, map, min, length, Bor}
 use Rattle.rx_hoist_naming.proofs.Params.{params_ended}
-use Rattle.rx_hoist_naming.proofs.Steps.{all_made}
+use Rattle.rx_hoist_naming.proofs.NamingSteps.{all_made}
 use Rattle.rx_hoist_naming.proofs.variables.params.Goals as goal
 
 pub returns : goal.returns

@@ -1,7 +1,7 @@
 use Rattle.std.proofs.Common.{map, get_or, refl, subst, sym, ◌≤◌}
 use Rattle.std.proofs.lemmas.List.{length-map}
-use Rattle.rx_lower_emit.specs.PlainSite.{plain-Site}
-use Rattle.rx_facts_live.proofs.Each.{site_there}
+use Rattle.rx_lower_walks.specs.PlainSite.{plain-Site}
+use Rattle.rx_facts_tables.proofs.Each.{site_there}
 use Rattle.rx_loan.specs.Loans.{loans_of}
 use Rattle.rx_loan.proofs.Forbidding.{legal_next, legal_at_all, one_met}
 use Rattle.rx_loan.proofs.forbids.legal.Goals as goal

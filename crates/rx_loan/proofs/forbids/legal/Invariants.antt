@@ -1,5 +1,5 @@
 use Rattle.std.proofs.Common.{ℕ, Bool, List, map}
-use Rattle.rx_lower_emit.specs.PlainSite.{plain-Site}
+use Rattle.rx_lower_walks.specs.PlainSite.{plain-Site}
 use Rattle.rx_lower_lifetimes.specs.Numbered.{Own}
 use Rattle.rx_loan.specs.Loans.{loans_of}
 use Rattle.rx_loan.specs.Tables.{IsTable}

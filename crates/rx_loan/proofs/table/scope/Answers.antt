@@ -1,8 +1,8 @@
 use Rattle.std.proofs.Common.{map, length, refl}
 use Rattle.std.proofs.lemmas.Option.{slice_get_read}
 use Rattle.rx_graph.specs.Tables.{at}
-use Rattle.rx_facts_live.specs.Along.{edges_of}
-use Rattle.rx_lower_emit.specs.PlainSite.{plain-Site}
+use Rattle.rx_facts_tables.specs.Along.{edges_of}
+use Rattle.rx_lower_walks.specs.PlainSite.{plain-Site}
 use Rattle.rx_loan.specs.PlainOf.{plain-Loan}
 use Rattle.rx_loan.proofs.Scoping.{scoped, never, row_there}
 use Rattle.rx_loan.proofs.table.scope.Goals as goal

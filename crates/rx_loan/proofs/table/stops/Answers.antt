@@ -1,8 +1,8 @@
 use Rattle.std.proofs.Common.{map, get_or, refl, subst, sym, ◌<◌}
 use Rattle.std.proofs.lemmas.List.{length-map}
-use Rattle.rx_lower_flow.specs.PlainFlow.{plain-Place}
-use Rattle.rx_lower_emit.specs.PlainSite.{plain-Site}
-use Rattle.rx_facts_live.proofs.Each.{site_there}
+use Rattle.rx_lower_walks.specs.PlainFlow.{plain-Place}
+use Rattle.rx_lower_walks.specs.PlainSite.{plain-Site}
+use Rattle.rx_facts_tables.proofs.Each.{site_there}
 use Rattle.rx_loan.proofs.Scoping.{stops_next}
 use Rattle.rx_loan.proofs.table.stops.Goals as goal
 

@@ -1,6 +1,6 @@
 use Rattle.std.proofs.Common.{map}
-use Rattle.rx_lower_flow.specs.PlainFlow.{plain-Place}
-use Rattle.rx_lower_emit.specs.PlainSite.{plain-Site}
+use Rattle.rx_lower_walks.specs.PlainFlow.{plain-Place}
+use Rattle.rx_lower_walks.specs.PlainSite.{plain-Site}
 use Rattle.rx_loan.proofs.Scoping.{Stopping}
 use Rattle.rx_loan.proofs.table.stops.Given as goal
 

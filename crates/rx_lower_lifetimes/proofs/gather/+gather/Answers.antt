@@ -1,6 +1,6 @@
 use Rattle.std.proofs.Common.{sym, ap, ◌∙◌, true, false}
-use Rattle.rx_lower_flow.specs.Flows.{last}
-use Rattle.rx_lower_flow.specs.PlainFlow.{plain-Flow, plain-Item}
+use Rattle.rx_lower_walks.specs.Flows.{last}
+use Rattle.rx_lower_walks.specs.PlainFlow.{plain-Flow, plain-Item}
 use Rattle.rx_lower_lifetimes.specs.Leads.{finished}
 use Rattle.rx_lower_lifetimes.specs.PlainOf.{plain-Notes, known}
 use Rattle.rx_lower_lifetimes.proofs.Noting.{notes_turn}

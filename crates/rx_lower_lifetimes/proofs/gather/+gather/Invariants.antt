@@ -1,10 +1,10 @@
 -- What is noted, the loops that are broken, and what is left of the sequence; and the measures of the calls.
 use Rattle.std.proofs.Common.{◌≡◌, ◌+◌, ◌*◌, ◌++◌, max, drop, map}
 use denote.Param.Weighed.{most}
-use Rattle.rx_lower_flow.specs.Flows.{last, items_of}
-use Rattle.rx_lower_flow.specs.PlainFlow.{plain-Flow, plain-Item}
-use Rattle.rx_lower_flow.proofs.flow.Flow.TheLaws as flow
-use Rattle.rx_lower_flow.proofs.flow.Item.TheLaws as item
+use Rattle.rx_lower_walks.specs.Flows.{last, items_of}
+use Rattle.rx_lower_walks.specs.PlainFlow.{plain-Flow, plain-Item}
+use Rattle.rx_lower_walks.proofs.flow.Flow.TheLaws as flow
+use Rattle.rx_lower_walks.proofs.flow.Item.TheLaws as item
 use Rattle.rx_lower_lifetimes.specs.Held.{all_noted, held_items}
 use Rattle.rx_lower_lifetimes.specs.Leads.{leads_items, broken_items, finished}
 use Rattle.rx_lower_lifetimes.specs.PlainOf.{plain-Notes, known}

@@ -1,5 +1,5 @@
 use Rattle.std.proofs.Common.{◌≡◌, ◌+◌, map, drop}
-use Rattle.rx_lower_flow.specs.PlainFlow.{plain-Temporary}
+use Rattle.rx_lower_walks.specs.PlainFlow.{plain-Temporary}
 use Rattle.rx_lower_lifetimes.specs.Finding.{place_of}
 use Rattle.rx_lower_lifetimes.specs.PlainOf.{plain-Held}
 use Rattle.rx_lower_lifetimes.proofs.held.find_from.Given as goal

@@ -1,6 +1,6 @@
 use Rattle.std.proofs.Common.{map}
 use Rattle.rx_lower_walks.specs.Actions as actions
-use Rattle.rx_lower_flow.specs.PlainFlow.{plain-Temporary, plain-Act}
+use Rattle.rx_lower_walks.specs.PlainFlow.{plain-Temporary, plain-Act}
 use Rattle.rx_lower_lifetimes.specs.Values.{value_type}
 use Rattle.rx_lower_lifetimes.specs.PlainOf.{plain-Held, known}
 use Rattle.rx_lower_lifetimes.proofs.Finding.{held_stays, held_grows, on_weaker}

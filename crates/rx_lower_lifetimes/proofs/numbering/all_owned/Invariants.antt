@@ -1,6 +1,6 @@
 use Rattle.std.proofs.Common.{◌≡◌, ◌+◌, ◌++◌, map, drop}
 use Rattle.rx_lower_walks.specs.Text.{actions_of}
-use Rattle.rx_lower_emit.specs.PlainSite.{plain-Site}
+use Rattle.rx_lower_walks.specs.PlainSite.{plain-Site}
 use Rattle.rx_lower_lifetimes.specs.Positions.{all_own}
 use Rattle.rx_lower_lifetimes.specs.Numbered.{all_owned}
 use Rattle.rx_lower_lifetimes.specs.PlainOwn.{plain-Own}

@@ -1,5 +1,5 @@
 use Rattle.std.proofs.Common.{◌≡◌, ◌++◌, ◌||◌, drop}
-use Rattle.rx_lower_emit.specs.Sums.{has, without}
+use Rattle.rx_lower_walks.specs.Sums.{has, without}
 use Rattle.rx_lower_lifetimes.proofs.onward.push_others.Given as goal
 
 abbrev pub invariant-loop-one : goal.invariant-loop-one

@@ -1,5 +1,5 @@
 use Rattle.std.proofs.Common.{◌≡◌, ◌+◌, ◌<◌, map, drop}
-use Rattle.rx_typed_places.specs.Numbers.{capped}
+use Rattle.rx_typed.specs.Numbers.{capped}
 use Rattle.rx_lower_lifetimes.specs.Positions.{in_variables}
 use Rattle.rx_lower_lifetimes.specs.PlainOf.{plain-Open}
 use Rattle.rx_lower_lifetimes.proofs.positions.count_variables.Given as goal

@@ -1,6 +1,6 @@
 use Rattle.std.proofs.Common.{◌≡◌, ◌++◌, map, drop}
 use Rattle.rx_typed.specs.Regions.{region-Ty}
-use Rattle.rx_lower_flow.specs.PlainFlow.{plain-Temporary}
+use Rattle.rx_lower_walks.specs.PlainFlow.{plain-Temporary}
 use Rattle.rx_lower_lifetimes.specs.Values.{held_type}
 use Rattle.rx_lower_lifetimes.specs.PlainOf.{plain-Held}
 use Rattle.rx_lower_lifetimes.proofs.values.operand_types.Given as goal

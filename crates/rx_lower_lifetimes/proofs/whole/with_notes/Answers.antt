@@ -1,6 +1,6 @@
 use Rattle.std.proofs.Common.{map}
 use Rattle.rx_typed.specs.PlainTree.{plain-TypedTree}
-use Rattle.rx_lower_flow.specs.PlainFlow.{plain-Flow}
+use Rattle.rx_lower_walks.specs.PlainFlow.{plain-Flow}
 use Rattle.rx_lower_lifetimes.specs.Lowered.{Function}
 use Rattle.rx_lower_lifetimes.specs.PlainOf.{plain-Open, plain-Notes}
 use Rattle.rx_lower_lifetimes.proofs.Answering.{too_many_sites, too_many_positions, lowered}

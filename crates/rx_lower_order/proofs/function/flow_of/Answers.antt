@@ -1,6 +1,6 @@
 use Rattle.std.proofs.Common.{map, ap, ◌∙◌}
 use Rattle.rx_typed.specs.PlainTree.{plain-Param}
-use Rattle.rx_lower_order_parts.specs.Items.{parameter_items}
+use Rattle.rx_lower_order.specs.Items.{parameter_items}
 use Rattle.rx_lower_order.proofs.Turns.{function_made}
 use Rattle.rx_lower_order.proofs.function.flow_of.Goals as goal
 

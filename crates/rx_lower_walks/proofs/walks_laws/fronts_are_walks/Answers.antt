@@ -1,5 +1,5 @@
 use Rattle.std.proofs.Common.{refl}
-use Rattle.rx_lower_walks.proofs.Fronts.{fronts}
+use Rattle.rx_lower_walks.proofs.WalksFronts.{fronts}
 use Rattle.rx_lower_walks.proofs.walks_laws.fronts_are_walks.Goals as goal
 
 pub returns : goal.returns

@@ -4,7 +4,7 @@ use Rattle.rx_meaning.specs.Values.{unit_value}
 use Rattle.rx_machine_values.specs.PlainValues.{value_unit}
 use Rattle.rx_machine_frames.specs.Frames as frames
 use Rattle.rx_machine_direct.specs.PlainScalar.{plain-Scalar}
-use Rattle.rx_machine_steps.specs.PlainSteps.{plain-Next, rest_of}
+use Rattle.rx_machine_driver.specs.PlainSteps.{plain-Next, rest_of}
 use Rattle.rx_machine_driver.proofs.ReachLemmas.{begins_gave, begins_into, begins_statements, begins_where}
 use Rattle.rx_machine_driver.proofs.arriving.begun.Goals as goal
 

@@ -3,7 +3,7 @@ use Rattle.rx_typed.specs.PlainTree.{plain-Pattern, plain-Expr}
 use Rattle.rx_machine_values.specs.PlainValues.{plain-Part}
 use Rattle.rx_machine_values.specs.PlainMemory.{plain-Memory}
 use Rattle.rx_machine_frames.specs.Choosing.{if_holds}
-use Rattle.rx_machine_steps.specs.PlainSteps.{arms_in}
+use Rattle.rx_machine_driver.specs.PlainSteps.{arms_in}
 use Rattle.rx_machine_driver.specs.Binding.{arm_of}
 use Rattle.rx_machine_driver.proofs.BindLemmas.{arms_at}
 use Rattle.rx_machine_driver.proofs.binding.first_arm.Goals as goal

@@ -1,7 +1,7 @@
 use Rattle.std.proofs.Common.{◌≡◌, option_map, drop}
 use Rattle.rx_machine_values.specs.PlainMemory.{plain-Memory}
 use Rattle.rx_machine_values.specs.PlainValues.{plain-Part}
-use Rattle.rx_machine_steps.specs.PlainSteps.{arms_in}
+use Rattle.rx_machine_driver.specs.PlainSteps.{arms_in}
 use Rattle.rx_machine_driver.specs.Binding.{arm_of}
 use Rattle.rx_machine_driver.proofs.binding.first_arm.Given as goal
 

@@ -1,6 +1,6 @@
 use Rattle.rx_typed.specs.PlainTypes.{declarations}
 use Rattle.rx_machine.specs.Functions.{program_of}
-use Rattle.rx_meaning_initial.specs.Frames.{frames, mutables}
+use Rattle.rx_meaning_accepted.specs.Frames.{frames, mutables}
 use Rattle.rx_meaning_accepted.proofs.laws.accepted_runs_without_references.Goals as goal
 
 pub returns : goal.returns

@@ -1,8 +1,8 @@
 use Rattle.std.proofs.Common.{sym}
 use Rattle.rx_typed.specs.PlainTypes.{declarations}
 use Rattle.rx_typed_declarations.specs.Sizes.{told}
-use Rattle.rx_exits_points.specs.AskedOf.{asked_of}
-use Rattle.rx_exits_syntax.specs.PlainSyntax.{plain-Home}
+use Rattle.rx_exits.specs.AskedOf.{asked_of}
+use Rattle.rx_exits_plan.specs.PlainSyntax.{plain-Home}
 use Rattle.rx_modes.proofs.deciding.is_entered.Goals as goal
 
 pub returns-in-Ok : goal.returns-in-Ok

@@ -3,8 +3,8 @@ use Rattle.rx_typed.specs.PlainTypes.{declarations}
 use Rattle.rx_typed_declarations.specs.Sizes.{told}
 use Rattle.rx_lower.specs.Functions.{trimmed}
 use Rattle.rx_exits_plan.specs.PlainPlan.{plan_of}
-use Rattle.rx_exits_points.specs.AskedOf.{asked_of}
-use Rattle.rx_exits_syntax.specs.PlainSyntax.{plain-Home}
+use Rattle.rx_exits.specs.AskedOf.{asked_of}
+use Rattle.rx_exits_plan.specs.PlainSyntax.{plain-Home}
 use Rattle.rx_modes.proofs.Answering.{answer_ok, answer_err}
 use Rattle.rx_modes.proofs.Knowing.{known_told}
 use Rattle.rx_modes.proofs.deciding.modes.Goals as goal

@@ -1,6 +1,6 @@
 use Rattle.std.proofs.Common.{ℕ, List, drop}
 use Rattle.rx_exits_plan.specs.Asked.{Asked}
-use Rattle.rx_exits_points.specs.Living.{IsLiving}
+use Rattle.rx_exits.specs.Living.{IsLiving}
 use Rattle.rx_modes.specs.Told.{LiveBehind}
 use Rattle.rx_modes.proofs.known.is_live_out.Given as goal
 

@@ -1,5 +1,5 @@
 use Rattle.std.proofs.Common.{◌≡◌, drop}
-use Rattle.rx_facts_init.specs.Setting.{is_behind}
+use Rattle.rx_facts_tables.specs.Setting.{is_behind}
 use Rattle.rx_modes_deeds.proofs.deeds.is_behind.Given as goal
 
 abbrev pub invariant-loop-step : goal.invariant-loop-step

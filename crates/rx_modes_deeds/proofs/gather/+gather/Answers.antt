@@ -1,6 +1,6 @@
 use Rattle.std.proofs.Common.{◌∙◌}
-use Rattle.rx_lower_flow.specs.Flows.{last}
-use Rattle.rx_lower_flow.specs.PlainFlow.{plain-Flow}
+use Rattle.rx_lower_walks.specs.Flows.{last}
+use Rattle.rx_lower_walks.specs.PlainFlow.{plain-Flow}
 use Rattle.rx_modes_deeds.specs.Doings.{deeds_at}
 use Rattle.rx_modes_deeds.proofs.Noting.{noted_turn}
 use Rattle.rx_modes_deeds.proofs.gather.+gather.Goals as goal

@@ -3,10 +3,10 @@
 use Rattle.std.proofs.Common.{◌≡◌, ◌+◌, ◌*◌, max, drop, map}
 use denote.Param.Weighed.{most}
 use Rattle.rx_lower_walks.specs.Walks.{actions_in}
-use Rattle.rx_lower_flow.specs.Flows.{last, items_of, order_of_items}
-use Rattle.rx_lower_flow.specs.PlainFlow.{plain-Flow, plain-Item}
-use Rattle.rx_lower_flow.proofs.flow.Flow.TheLaws as flow
-use Rattle.rx_lower_flow.proofs.flow.Item.TheLaws as item
+use Rattle.rx_lower_walks.specs.Flows.{last, items_of, order_of_items}
+use Rattle.rx_lower_walks.specs.PlainFlow.{plain-Flow, plain-Item}
+use Rattle.rx_lower_walks.proofs.flow.Flow.TheLaws as flow
+use Rattle.rx_lower_walks.proofs.flow.Item.TheLaws as item
 use Rattle.rx_modes_deeds.specs.Doings.{all_noted, deeds_at}
 use Rattle.rx_modes_deeds.proofs.gather.+gather.Given as goal
 

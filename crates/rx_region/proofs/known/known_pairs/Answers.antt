@@ -1,4 +1,4 @@
-use Rattle.rx_region_constraints.specs.PlainContext.{plain-Given}
+use Rattle.rx_region.specs.PlainContext.{plain-Given}
 use Rattle.rx_region.proofs.Wholes.{knows_so}
 use Rattle.rx_region.proofs.known.known_pairs.Goals as goal
 

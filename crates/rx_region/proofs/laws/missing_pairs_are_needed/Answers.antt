@@ -1,5 +1,5 @@
-use Rattle.rx_region_constraints.specs.Solutions.{end}
-use Rattle.rx_region_constraints.proofs.LeastLaws.{least_is_within}
+use Rattle.rx_region.specs.Solutions.{end}
+use Rattle.rx_region.proofs.LeastLaws.{least_is_within}
 use Rattle.rx_region.proofs.laws.missing_pairs_are_needed.Goals as goal
 
 pub returns : goal.returns

@@ -1,6 +1,6 @@
 use Rattle.std.proofs.Common.{◌∙◌, not, ◌&&◌}
 use Rattle.rx_graph.specs.Tables.{at}
-use Rattle.rx_region_constraints.specs.Solutions.{end}
+use Rattle.rx_region.specs.Solutions.{end}
 use Rattle.rx_region.specs.Tables.{sets_of}
 use Rattle.rx_region.proofs.Wholes.{same_lists}
 use Rattle.rx_region.proofs.Knowing.{misses, keeps}

@@ -1,7 +1,7 @@
 use Rattle.std.proofs.Common.{map, refl, length, ◌+◌}
 use Rattle.rx_graph_bits.specs.Rows.{words}
-use Rattle.rx_lower_emit.specs.PlainSite.{plain-Site}
-use Rattle.rx_region_constraints.specs.PlainContext.{plain-Given}
+use Rattle.rx_lower_walks.specs.PlainSite.{plain-Site}
+use Rattle.rx_region.specs.PlainContext.{plain-Given}
 use Rattle.rx_region.proofs.Wholes.{asked, length_sites, table_regular, table_within}
 use Rattle.rx_region.proofs.outlives.constraints.Goals as goal
 

@@ -1,6 +1,6 @@
 use Rattle.std.proofs.Common.{map}
-use Rattle.rx_lower_emit.specs.PlainSite.{plain-Site}
-use Rattle.rx_region_constraints.specs.PlainContext.{plain-Given}
+use Rattle.rx_lower_walks.specs.PlainSite.{plain-Site}
+use Rattle.rx_region.specs.PlainContext.{plain-Given}
 use Rattle.rx_region.proofs.Ordering.{answered}
 use Rattle.rx_region.proofs.pass.check_regions.Goals as goal
 

@@ -1,7 +1,7 @@
 use Rattle.std.proofs.Common.{length, sym, subst}
 use Rattle.rx_graph_bits.specs.Rows.{words}
 use Rattle.rx_graph.specs.Tables.{Regular}
-use Rattle.rx_lower_flow.specs.PlainFlow.{plain-Root}
+use Rattle.rx_lower_walks.specs.PlainFlow.{plain-Root}
 use Rattle.rx_region.proofs.Seeding.{spread_lived}
 use Rattle.rx_region.proofs.seeds.add_live.Goals as goal
 

@@ -1,5 +1,5 @@
 use Rattle.rx_graph_bits.specs.Rows.{words}
-use Rattle.rx_lower_flow.specs.PlainFlow.{plain-Root}
+use Rattle.rx_lower_walks.specs.PlainFlow.{plain-Root}
 use Rattle.rx_lower_lifetimes.specs.Answer.{plain-Lifetimes}
 use Rattle.rx_region.specs.Seeds.{Lived}
 use Rattle.rx_region.proofs.Seeding.{grows_none}

@@ -1,7 +1,7 @@
 use Rattle.std.proofs.Common.{map, length, get_or}
 use Rattle.rx_graph_bits.specs.Rows.{words}
-use Rattle.rx_lower_flow.specs.declared.actions.Temporary.{Temporary}
-use Rattle.rx_lower_flow.specs.PlainFlow.{plain-Temporary}
+use Rattle.rx_lower_walks.specs.declared.actions.Temporary.{Temporary}
+use Rattle.rx_lower_walks.specs.PlainFlow.{plain-Temporary}
 use Rattle.rx_lower_lifetimes.specs.Answer.{plain-Lifetimes}
 use Rattle.rx_region.proofs.Seeding.{temporary_more, temporary_end}
 use Rattle.rx_region.proofs.Wholes.{at_temporary}

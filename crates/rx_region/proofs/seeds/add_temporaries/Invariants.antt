@@ -1,6 +1,6 @@
 use Rattle.std.proofs.Common.{map}
 use Rattle.rx_graph_bits.specs.Rows.{words}
-use Rattle.rx_lower_flow.specs.PlainFlow.{plain-Temporary}
+use Rattle.rx_lower_walks.specs.PlainFlow.{plain-Temporary}
 use Rattle.rx_lower_lifetimes.specs.Answer.{plain-Lifetimes}
 use Rattle.rx_region.specs.Seeds.{Grows, TemporaryLived}
 use Rattle.rx_region.proofs.seeds.add_temporaries.Given as goal

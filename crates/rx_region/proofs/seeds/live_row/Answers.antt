@@ -1,6 +1,6 @@
 use Rattle.std.proofs.Common.{◌<◌, subst, ◌∙◌}
 use Rattle.rx_graph_bits.specs.Rows.{words}
-use Rattle.rx_lower_flow.specs.PlainFlow.{plain-Root}
+use Rattle.rx_lower_walks.specs.PlainFlow.{plain-Root}
 use Rattle.rx_region.proofs.Seeding.{site_more}
 use Rattle.rx_region.proofs.seeds.live_row.Goals as goal
 

@@ -1,9 +1,9 @@
 use Rattle.std.proofs.Common.{◌≡◌, List, length}
 use Rattle.rx_graph_bits.specs.Rows.{words}
 use Rattle.rx_graph_closure.specs.Filling.{HasExactly}
-use Rattle.rx_lower_flow.specs.PlainFlow.{plain-Root}
+use Rattle.rx_lower_walks.specs.PlainFlow.{plain-Root}
 use Rattle.rx_lower_walks.specs.Graph.{Site}
-use Rattle.rx_facts_live.specs.Tables.{Lives, IsNumberOf}
+use Rattle.rx_facts_tables.specs.LiveTables.{Lives, IsNumberOf}
 use Rattle.rx_region.specs.Seeds.{LiveBefore}
 use Rattle.rx_region.proofs.seeds.live_row.Given as goal
 

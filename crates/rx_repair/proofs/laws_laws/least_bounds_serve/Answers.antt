@@ -1,4 +1,4 @@
-use Rattle.rx_repair.proofs.Programs.{program_accepted}
+use Rattle.rx_repair.proofs.RepairPrograms.{program_accepted}
 use Rattle.rx_repair.proofs.laws_laws.least_bounds_serve.Goals as goal
 
 pub returns : goal.returns

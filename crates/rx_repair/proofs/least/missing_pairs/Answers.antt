@@ -1,7 +1,7 @@
 use Rattle.std.proofs.Common.{List, map, sym, subst}
 use Rattle.rx_core.specs.declared.types.Bound.{Bound}
-use Rattle.rx_lower_emit.specs.PlainSite.{plain-Site}
-use Rattle.rx_region_constraints.specs.PlainContext.{plain-Given}
+use Rattle.rx_lower_walks.specs.PlainSite.{plain-Site}
+use Rattle.rx_region.specs.PlainContext.{plain-Given}
 use Rattle.rx_repair.specs.LeastBounds.{InOrder}
 use Rattle.rx_repair.proofs.least.missing_pairs.Goals as goal
 

@@ -1,7 +1,7 @@
 use Rattle.std.proofs.Common.{◌≡◌, map, drop}
 use Rattle.rx_tree.specs.PlainOf.{plain-Param}
 use Rattle.rx_typed.specs.Naming.{of_parameters}
-use Rattle.rx_typeck_rules.specs.Demands as demands
+use Rattle.rx_typeck_typed.specs.Demands as demands
 use Rattle.rx_typeck_demand_parts.specs.Walks.{behind}
 use Rattle.rx_typeck_demands.proofs.function.parameters.Given as goal
 

@@ -1,5 +1,5 @@
 use Rattle.std.proofs.Common.{◌≡◌, drop}
-use Rattle.rx_typeck_rules.specs.Demands.{of_never_given}
+use Rattle.rx_typeck_typed.specs.Demands.{of_never_given}
 use Rattle.rx_typeck_demand_parts.specs.Walks.{asked}
 use Rattle.rx_typeck_demands.proofs.function.refuse_all.Given as goal
 

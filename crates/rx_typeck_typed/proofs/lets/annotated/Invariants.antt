@@ -1,6 +1,6 @@
 use Rattle.std.proofs.Common.{◌≡◌, ◌++◌, map, drop}
 use Rattle.rx_tree.specs.PlainOf.{plain-Item}
-use Rattle.rx_typeck_numbering.specs.Entries.{plain_annotation}
+use Rattle.rx_typeck_elaborate_parts.specs.Entries.{plain_annotation}
 use Rattle.rx_typeck_typed.specs.Bindings.{of_lets, annotated}
 use Rattle.rx_typeck_typed.specs.Walks.{plain-Variable, declared, program}
 use Rattle.rx_typeck_typed.proofs.lets.annotated.Given as goal

@@ -1,5 +1,5 @@
 use Rattle.rx_typed.specs.Naming.{function_named}
-use Rattle.rx_typeck_rules.specs.Demands.{task}
+use Rattle.rx_typeck_typed.specs.Demands.{task}
 use Rattle.rx_typeck_unclear_laws.proofs.Finding.{open_told, some_told}
 use Rattle.rx_typeck_unclear_laws.proofs.laws.unclear_nodes_have_types.Goals as goal
 

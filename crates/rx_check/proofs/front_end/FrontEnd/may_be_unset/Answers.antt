@@ -1,11 +1,11 @@
 use Rattle.std.proofs.Common.{◌≡◌, ◌↔◌, true, sym, subst}
 use Rattle.rx_typed.specs.PlainTypes.{declarations}
 use Rattle.rx_typed_declarations.specs.Sizes.{told}
-use Rattle.rx_lower_flow.specs.PlainFlow.{plain-Place}
-use Rattle.rx_facts_init.specs.Places.{Frame}
-use Rattle.rx_facts_init.specs.Layouts.{plain-Frame, IsLayout}
-use Rattle.rx_facts_init.specs.Answer.{IsTable}
-use Rattle.rx_facts_init.specs.Initialised.{MayBeUnset}
+use Rattle.rx_lower_walks.specs.PlainFlow.{plain-Place}
+use Rattle.rx_facts_tables.specs.Places.{Frame}
+use Rattle.rx_facts_tables.specs.Layouts.{plain-Frame, IsLayout}
+use Rattle.rx_facts_tables.specs.Answer.{IsTable}
+use Rattle.rx_facts_tables.specs.Initialised.{MayBeUnset}
 use Rattle.rx_facts.specs.Functions.{sites_of, frame_of}
 use Rattle.rx_check.proofs.ReaderLemmas.{some_found}
 use Rattle.rx_check.proofs.front_end.FrontEnd.may_be_unset.Goals as goal

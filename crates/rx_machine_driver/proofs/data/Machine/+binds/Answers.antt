@@ -3,7 +3,7 @@ use Rattle.rx_core.specs.declared.types.Step.TheVariants.{Field}
 use Rattle.rx_lower_walks.specs.Matching.{bindings, bindings_in}
 use Rattle.rx_typed.specs.PlainTree.{plain-Mode, plain-Pattern, plain-Subpattern, subpatterns_of, pattern_bind}
 use Rattle.rx_machine_frames.specs.Choosing.{bind_all}
-use Rattle.rx_machine_steps.specs.PlainSteps.{plain-Subject, held_of}
+use Rattle.rx_machine_driver.specs.PlainSteps.{plain-Subject, held_of}
 use Rattle.rx_machine_driver.specs.Running.{Changes}
 use Rattle.rx_machine_driver.proofs.BindLemmas.{changes_bindings, binds_on, binds_wrong, binds_end, parts_next, drop_end}
 use Rattle.rx_machine_driver.proofs.data.Machine.+binds.Goals as goal

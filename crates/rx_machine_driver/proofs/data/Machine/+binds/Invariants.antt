@@ -1,7 +1,7 @@
 use Rattle.std.proofs.Common.{map, drop}
 use Rattle.rx_lower_walks.specs.Matching.{bindings_in}
 use Rattle.rx_typed.specs.PlainTree.{plain-Subpattern, subpatterns_of}
-use Rattle.rx_machine_steps.specs.PlainSteps.{plain-Subject, held_of}
+use Rattle.rx_machine_driver.specs.PlainSteps.{plain-Subject, held_of}
 use Rattle.rx_machine_driver.proofs.BindLemmas.{Binds}
 use Rattle.rx_machine_driver.proofs.data.Machine.+binds.Given as goal
 

@@ -1,4 +1,4 @@
-use Rattle.rx_machine_steps.specs.PlainSteps.{plain-Next}
+use Rattle.rx_machine_driver.specs.PlainSteps.{plain-Next}
 use Rattle.rx_machine_driver.proofs.ReachLemmas.{one_step, reaches_next}
 use Rattle.rx_machine_driver.proofs.data.Machine.advance.Goals as goal
 

@@ -1,6 +1,6 @@
 use Rattle.std.proofs.Common.{refl}
-use Rattle.rx_machine_steps.specs.PlainSteps.{rest_of}
-use Rattle.rx_machine_steps.specs.declared.next.Next.TheVariants as next
+use Rattle.rx_machine_driver.specs.PlainSteps.{rest_of}
+use Rattle.rx_machine_driver.specs.declared.next.Next.TheVariants as next
 use Rattle.rx_machine_driver.proofs.BindLemmas.{begins_next}
 use Rattle.rx_machine_driver.proofs.data.Machine.begins.Goals as goal
 

@@ -3,8 +3,8 @@ use Rattle.rx_typed.specs.PlainTree.{plain-Pattern}
 use Rattle.rx_lower_walks.specs.Matching.{bindings}
 use Rattle.rx_machine_frames.specs.Choosing.{bind_all}
 use Rattle.rx_machine_driver.specs.Running.{Changes}
-use Rattle.rx_machine_steps.specs.PlainSteps.{plain-Subject, held_of, rest_of}
-use Rattle.rx_machine_steps.specs.declared.next.Next.TheVariants as next
+use Rattle.rx_machine_driver.specs.PlainSteps.{plain-Subject, held_of, rest_of}
+use Rattle.rx_machine_driver.specs.declared.next.Next.TheVariants as next
 use Rattle.rx_machine_driver.proofs.BindLemmas.{binds_next, binds_end_wrong}
 use Rattle.rx_machine_driver.proofs.data.Machine.binds.Goals as goal
 

@@ -2,7 +2,7 @@ use Rattle.std.proofs.Common.{[], ◌∷◌, ◌++◌, map, reverse, refl, sym, 
 use Rattle.rx_typed.specs.PlainTree.{plain-Param, plain-TypedTree}
 use Rattle.rx_machine_values.specs.PlainValues.{plain-Value}
 use Rattle.rx_machine_frames.specs.Choosing.{fill_all}
-use Rattle.rx_machine_steps.specs.declared.next.Next.TheVariants as next
+use Rattle.rx_machine_driver.specs.declared.next.Next.TheVariants as next
 use Rattle.rx_machine_driver.specs.declared.data.Frame.TheVariants as frame
 use Rattle.rx_machine_driver.specs.Running.{Changes}
 use Rattle.rx_machine_driver.proofs.FrameLemmas.{enters_done, enters_wrong}

@@ -1,7 +1,7 @@
 use Rattle.std.proofs.Common.{map, refl, ap}
 use Rattle.rx_machine_values.specs.PlainValues.{plain-Value}
-use Rattle.rx_machine_steps.specs.declared.next.Next.TheVariants as next
-use Rattle.rx_machine_steps.specs.declared.next.Work.TheVariants as work
+use Rattle.rx_machine_driver.specs.declared.next.Next.TheVariants as next
+use Rattle.rx_machine_driver.specs.declared.next.Work.TheVariants as work
 use Rattle.rx_machine_driver.specs.declared.data.Step.TheVariants as step_to
 use Rattle.rx_machine_driver.specs.declared.data.Turn.TheVariants as turn_form
 use Rattle.rx_machine_driver.proofs.ActLemmas.{leads_next, calls_wait}

@@ -3,7 +3,7 @@ use Rattle.std.specs.Prelude.{FitsSigned}
 use Rattle.std.proofs.lemmas.Int.{to_z-of_z}
 use Rattle.rx_core.specs.declared.types.Kind.TheVariants.{I64}
 use Rattle.rx_meaning.specs.Values.{number}
-use Rattle.rx_machine_steps.specs.declared.next.Next.TheVariants as next
+use Rattle.rx_machine_driver.specs.declared.next.Next.TheVariants as next
 use Rattle.rx_machine_values.specs.declared.value.Value.TheVariants as value
 use Rattle.rx_machine_values.specs.PlainValues.{value_number}
 use Rattle.rx_machine_frames.specs.Frames as frames

@@ -1,5 +1,5 @@
 use Rattle.rx_machine_values.specs.PlainValues.{plain-Value}
-use Rattle.rx_machine_steps.specs.PlainSteps.{plain-Exit}
+use Rattle.rx_machine_driver.specs.PlainSteps.{plain-Exit}
 use Rattle.rx_machine_driver.proofs.FrameLemmas.{leaves_lead, leaves_end}
 use Rattle.rx_machine_driver.proofs.data.Machine.leave.Goals as goal
 

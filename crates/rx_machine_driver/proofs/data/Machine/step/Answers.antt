@@ -1,5 +1,5 @@
 use Rattle.rx_typed.specs.PlainTree.{plain-Mark, plain-Expr}
-use Rattle.rx_machine_steps.specs.PlainSteps.{rest_of}
+use Rattle.rx_machine_driver.specs.PlainSteps.{rest_of}
 use Rattle.std.proofs.Common.{refl}
 use Rattle.rx_machine_driver.specs.declared.data.Step.TheVariants as step_to
 use Rattle.rx_machine_driver.specs.declared.data.Turn.TheVariants as turn_form

@@ -3,7 +3,7 @@ use Rattle.rx_typed.specs.PlainTree.{plain-Pattern}
 use Rattle.rx_lower_walks.specs.Matching.{bindings}
 use Rattle.rx_machine_frames.specs.Choosing.{bind_all}
 use Rattle.rx_machine_driver.specs.Running.{Changes}
-use Rattle.rx_machine_steps.specs.PlainSteps.{plain-Subject, held_of}
+use Rattle.rx_machine_driver.specs.PlainSteps.{plain-Subject, held_of}
 use Rattle.rx_machine_driver.proofs.data.Machine.takes_arm.Goals as goal
 
 pub returns-then-done : goal.returns-then-done

@@ -1,7 +1,7 @@
 use Rattle.std.proofs.Common.{option_map, ap, sym, ◌∙◌}
 use Rattle.rx_typed.specs.PlainTree.{plain-Pattern, plain-Expr}
 use Rattle.rx_machine_values.specs.PlainMemory.{plain-Memory}
-use Rattle.rx_machine_steps.specs.PlainSteps.{arms_in}
+use Rattle.rx_machine_driver.specs.PlainSteps.{arms_in}
 use Rattle.rx_machine_driver.specs.Binding.{arm_of}
 use Rattle.rx_machine_driver.proofs.BindLemmas.{tries_arm, tries_none}
 use Rattle.rx_machine_driver.proofs.data.Machine.tries.Goals as goal

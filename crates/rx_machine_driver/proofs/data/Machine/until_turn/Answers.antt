@@ -1,5 +1,5 @@
 use Rattle.std.proofs.Common.{subst}
-use Rattle.rx_machine_steps.specs.PlainSteps.{plain-Next}
+use Rattle.rx_machine_driver.specs.PlainSteps.{plain-Next}
 use Rattle.rx_machine_driver.specs.Running.{Reaches}
 use Rattle.rx_machine_driver.proofs.RunLemmas.{stands_next, stands_turn, stands_end, step_lessens}
 use Rattle.rx_machine_driver.proofs.data.Machine.until_turn.Goals as goal

@@ -1,7 +1,7 @@
 use Rattle.std.proofs.Common.{ℕ, ◌<◌}
 use Rattle.rx_meaning.specs.Expressions.{Functions}
 use Rattle.rx_meaning.specs.declared.outcome.Outcome.{Outcome}
-use Rattle.rx_machine_steps.specs.PlainSteps.{plain-Next}
+use Rattle.rx_machine_driver.specs.PlainSteps.{plain-Next}
 use Rattle.rx_machine_driver.specs.Running.{Stands, left_size}
 use Rattle.rx_machine_driver.proofs.data.Machine.until_turn.Given as goal
 

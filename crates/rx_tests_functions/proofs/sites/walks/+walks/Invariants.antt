@@ -1,7 +1,7 @@
 use Rattle.std.proofs.Common.{◌+◌, ◌*◌, max}
 use denote.Param.Weighed.{most}
-use Rattle.rx_lower_flow.proofs.flow.Flow.TheLaws as flow
-use Rattle.rx_lower_flow.proofs.flow.Item.TheLaws as item
+use Rattle.rx_lower_walks.proofs.flow.Flow.TheLaws as flow
+use Rattle.rx_lower_walks.proofs.flow.Item.TheLaws as item
 use Rattle.rx_tests_functions.proofs.sites.walks.+walks.Given as goal
 
 -- by the depth of the flow, and in one depth by the rank of the function

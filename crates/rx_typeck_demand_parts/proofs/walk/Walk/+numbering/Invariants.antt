@@ -1,7 +1,7 @@
 use Rattle.std.proofs.Common.{◌≡◌, map, drop}
 use Rattle.rx_tree.specs.PlainOf.{plain-Pattern, plain-FieldPattern, patterns_of, field_patterns_of}
 use Rattle.rx_typed.specs.Naming as naming
-use Rattle.rx_typeck_rules.specs.Asking.{nothing}
+use Rattle.rx_typeck_typed.specs.Asking.{nothing}
 use Rattle.rx_typeck_demand_parts.specs.Walks.{behind}
 use Rattle.rx_typeck_demand_parts.proofs.walk.Walk.+numbering.Given as goal
 

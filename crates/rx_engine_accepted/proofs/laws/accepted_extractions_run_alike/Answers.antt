@@ -1,9 +1,0 @@
-use Rattle.rx_engine_accepted.proofs.laws.accepted_extractions_run_alike.Goals as goal
-
-pub returns-clause-answer : goal.returns-clause-answer
-returns-clause-answer c = λ p t few front f a r h sits short k plan kept modes main Q x each given n found.
-    c.extracted_programs_run_alike.ensures.answer _ f.mutable k (c.accepted_runs_are_had.ensures p t few front f a r h sits short k plan kept) modes _ Q x each given n found
-
-pub returns-clause-text : goal.returns-clause-text
-returns-clause-text c = λ p t few front f a r h sits short k plan kept modes main Q x each given n found.
-    c.extracted_programs_run_alike.ensures.text _ f.mutable k (c.accepted_runs_are_had.ensures p t few front f a r h sits short k plan kept) modes _ Q x each given n found

@@ -1,5 +1,0 @@
-use Rattle.rx_engine_histories.proofs.ReadingRun.{reading_alike}
-use Rattle.rx_engine_histories.proofs.laws.entry_reads_change_no_run.Goals as goal
-
-pub returns : goal.returns
-returns c = reading_alike

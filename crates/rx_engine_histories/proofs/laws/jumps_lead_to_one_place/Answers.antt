@@ -1,5 +1,0 @@
-use Rattle.rx_engine_histories.proofs.Jumps.{jumps_meet}
-use Rattle.rx_engine_histories.proofs.laws.jumps_lead_to_one_place.Goals as goal
-
-pub returns : goal.returns
-returns c = jumps_meet

@@ -1,6 +1,0 @@
-use Rattle.rx_engine_histories.specs.AboutRun.{special_of}
-use Rattle.rx_engine_histories.proofs.Entered.{local_dead}
-use Rattle.rx_engine_histories.proofs.laws.locals_are_not_living.Goals as goal
-
-pub returns : goal.returns
-returns c A muts acc k p u x m b i t h q v = local_dead A muts acc k p k.params (λ y j. j) (special_of A k) u x m b i t h q v

@@ -1,5 +1,0 @@
-use Rattle.rx_engine_histories.proofs.MarkedRun.{marked_run_alike}
-use Rattle.rx_engine_histories.proofs.laws.marks_change_no_run.Goals as goal
-
-pub returns : goal.returns
-returns c = marked_run_alike

@@ -1,5 +1,0 @@
-use Rattle.rx_engine_histories.proofs.Closing.{given_dead}
-use Rattle.rx_engine_histories.proofs.laws.nothing_is_living_behind_what_is_given.Goals as goal
-
-pub returns : goal.returns
-returns c = given_dead

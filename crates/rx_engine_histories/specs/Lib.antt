@@ -1,9 +1,0 @@
-pub mod Reads
-pub mod AboutRun
-pub mod Accepted
-pub mod Ambiguous
-pub mod OneSite
-pub mod Running
-pub mod Reading
-pub mod Premises
-pub mod OnePlace

@@ -1,9 +1,0 @@
-//! Functions of accepted programs are as the laws of histories ask.
-#![tactic(auto)]
-
-mod laws;
-
-pub use laws::{
-    accepted_functions_are_ready, blocks_have_their_nodes, ends_of_runs_stand_once,
-    single_jumps_of_runs_stand_once,
-};

@@ -1,0 +1,195 @@
+//! Laws of histories, each the contract of a function that does nothing.
+
+ghost use Rattle.std.specs.Prelude.{◌≡◌, ◌≢◌, ◌≤◌, ℕ, ℤ, Bool, true, false, List as ListOf, [], ◌∷◌, ◌++◌, Some, slice_get};
+ghost use Rattle.rx_typed.specs.Tree.{Temporary, Body, runs, Function, own};
+ghost use Rattle.rx_lower_walks.specs.Actions.{Give, Action, does};
+ghost use Rattle.rx_lower_walks.specs.Orders.{order_body, order_function};
+ghost use Rattle.rx_lower_walks.specs.Walks.{IsWalk, Among};
+ghost use Rattle.rx_typed_declarations.specs.Sizes.{Sized};
+ghost use Rattle.rx_facts_tables.specs.Places.{Frame, is_part};
+ghost use Rattle.rx_facts_tables.specs.Setting.{is_set};
+ghost use Rattle.rx_facts_tables.specs.Initialised.{Initialised};
+ghost use Rattle.rx_exits_plan.specs.Blocks.{before};
+ghost use Rattle.rx_exits_plan.specs.Runs.{Run, Home, inside};
+ghost use Rattle.rx_exits_plan.specs.Points.{Exit, next, returns, jump_exit, Point, enters, leaves};
+ghost use Rattle.rx_exits_plan.specs.Marked.{mark, entering, shown, marked, is_among};
+ghost use Rattle.rx_exits_plan.specs.Spots.{a_block, spots_of_function};
+ghost use Rattle.rx_exits_plan.specs.Exits.{leaving, spots_in_statements, at_start};
+ghost use Rattle.rx_exits_plan.specs.Coming.{HasNoMark};
+ghost use Rattle.rx_exits_plan.specs.Asked.{Asked};
+ghost use Rattle.rx_exits_plan.specs.Plan.{Plan, IsPlan};
+ghost use Rattle.rx_exits_plan.specs.PartlyMoved.{PartlyMoved};
+ghost use Rattle.rx_meaning.specs.Values.{element};
+ghost use Rattle.rx_meaning.specs.Programs.{Program, run};
+ghost use Rattle.rx_modes_uses.specs.Aliased.{Aliased};
+ghost use Rattle.rx_engine_simulation.specs.Histories.{Written, Borrowed, Living};
+ghost use Rattle.rx_engine_simulation.specs.Sights.{In, sight, special, Renaming};
+ghost use Rattle.rx_engine_simulation.specs.Programs.{back, IsHistory, ComesTo, About, Untouched, facts_of};
+ghost use Rattle.rx_engine_simulation.specs.Blocks.{Stretch, done};
+ghost use Rattle.rx_engine_simulation.specs.Arrivals.{Aim, past, AreDead, IsReady, IsUnlent};
+ghost use Rattle.rx_engine_related.specs.Reads.{Wider};
+ghost use Rattle.rx_engine_related.specs.Premises.{known_of, InFront, ByMark, NotHanded};
+ghost use Rattle.rx_engine_related.specs.Reading.{ReadingEntry};
+ghost use Rattle.rx_engine_related.specs.Running.{running, running_of, MarkedEntry};
+ghost use Rattle.rx_engine_related.specs.OneSite.{StandsOnce, blocks_at, times_taken};
+ghost use Rattle.rx_engine_related.specs.OnePlace.{LeadsToOnePlace, loops_of};
+ghost use Rattle.rx_engine_related.specs.AboutRun.{special_of, about_run, marked_with, text_of};
+ghost use Rattle.rx_engine_related.specs.Accepted.{Accepted};
+ghost use Rattle.rx_engine_related.specs.Ambiguous.{moves_perhaps, behind_it, branching};
+
+/// That a variable which one branch of a run's last statement moves is needed no more behind the run is not to be had from histories
+/// alone: the history with which the other branch comes there goes on in the first one too.
+pub fn histories_do_not_tell_what_a_test_gave()
+    ensures { (K : About) (u : Untouched branching K) (y : ℕ) → AreDead (facts_of branching K u) ((0, sight y special) ∷ []) (past (runs moves_perhaps behind_it) done moves_perhaps) → ⊥ }
+{}
+
+/// Of a function that is initialised a variable of which some part is set was written as a whole since it began.
+pub fn set_variables_were_written()
+    ensures { (F : Frame) (muts : ListOf Bool) (f : Function) → Sized F.declared F.sizes → Initialised F muts f → (x n : ℕ) → is_part F (own x) n ≡ true
+        → (h : ListOf Action) → IsHistory f h → is_set F (back h []) n ≡ true → Written h x }
+{}
+
+/// Reads of variables where a run is entered change no walk but for themselves.
+pub fn entry_reads_change_no_walk()
+    ensures { (f : Function) (r : Run) (ls xs : ListOf ℕ) (u : ListOf Action) → IsWalk (marked r ls xs f) u → (w : ListOf Action) × IsWalk (marked r ls [] f) w × Wider xs false w u }
+{}
+
+/// Where the run is entered, a param was written, and is living, whichever of them the text with marks uses there.
+pub fn params_are_written_and_living()
+    ensures written { (A : Asked) (muts : ListOf Bool) → Accepted A muts → (k : Plan) → IsPlan A k → (xs : ListOf ℕ) (x : ℕ) → Among x k.params → (b : Body) (i : ℕ) (t : Temporary) (h : ListOf Action)
+        → ComesTo (marked_with A xs) (order_body (runs (mark enters) b) i t) h → Written h x }
+    ensures living { (A : Asked) (k : Plan) (u : Untouched (text_of A k) (about_run A k)) (x : ℕ) → Among x k.params → (b : Body) (i : ℕ) (t : Temporary) (h : ListOf Action)
+        → ComesTo (text_of A k) (order_body (before (entering k.params) b) i t) h → Living (facts_of (text_of A k) (about_run A k) u) x h }
+{}
+
+/// A local is not living there.
+pub fn locals_are_not_living()
+    ensures { (A : Asked) (muts : ListOf Bool) → Accepted A muts → (k : Plan) → IsPlan A k → (u : Untouched (text_of A k) (about_run A k)) (x : ℕ) → Among x k.locals
+        → (b : Body) (i : ℕ) (t : Temporary) (h : ListOf Action) → ComesTo (text_of A k) (order_body (runs (mark enters) b) i t) h → Living (facts_of (text_of A k) (about_run A k) u) x h → ⊥ }
+{}
+
+/// Where the run is left by an exit, what the exit hands out was written.
+pub fn outs_are_written()
+    ensures { (A : Asked) (muts : ListOf Bool) → Accepted A muts → (k : Plan) → IsPlan A k → (xs : ListOf ℕ) (e : Exit) (x : ℕ) → ¬ (PartlyMoved A k x) → Among e k.exits → Among x (k.outs e)
+        → (h : ListOf Action) → IsHistory (marked_with A xs) (shown (leaves e) ∷ h) → Written h x }
+{}
+
+/// It is living behind each mark of the exit, where these lead to one place.
+pub fn outs_are_living()
+    ensures { (A : Asked) (muts : ListOf Bool) → Accepted A muts → (k : Plan) → IsPlan A k → (u : Untouched (text_of A k) (about_run A k)) (e : Exit) (x : ℕ)
+        → LeadsToOnePlace (text_of A k) (shown (leaves e)) → Among e k.exits → Among x (k.outs e)
+        → (h : ListOf Action) → IsHistory (text_of A k) (shown (leaves e) ∷ h) → Living (facts_of (text_of A k) (about_run A k) u) x (shown (leaves e) ∷ h) }
+{}
+
+/// Behind an action that stands at one place, a walk may go on as any other does that holds the action.
+pub fn walks_go_on_alike()
+    ensures { (f : Function) (a : Action) → StandsOnce f a → (w v us : ListOf Action) → IsWalk f (w ++ a ∷ us) → IsWalk f (v ++ a ∷ []) → IsWalk f (v ++ a ∷ us) }
+{}
+
+/// So such an action leads to one place.
+pub fn sole_actions_lead_to_one_place()
+    ensures { (f : Function) (a : Action) → StandsOnce f a → LeadsToOnePlace f a }
+{}
+
+/// The mark at the end of a run stands at one place of the text that runs, where the function has no mark of its own and one block of the run's node.
+pub fn ends_stand_once()
+    ensures { (r : Run) (ls xs : ListOf ℕ) (f : Function) → HasNoMark (order_function f) → blocks_at r.block (spots_of_function f) ≤ 1 → StandsOnce (running r ls xs f) (shown (leaves next)) }
+{}
+
+/// And so does that of a `break` or `continue` which one jump of the run takes.
+pub fn single_jumps_stand_once()
+    ensures { (r : Run) (h : Home) (xs : ListOf ℕ) (f : Function) (l : ℕ) (again : Bool) → HasNoMark (order_function f) → blocks_at r.block (spots_of_function f) ≤ 1
+        → Among (a_block h.around r.block h.body) (spots_of_function f) → times_taken (jump_exit l again) (leaving h.around.loops (spots_in_statements (at_start r h) (inside r h.body))) ≤ 1
+        → StandsOnce (running r h.around.loops xs f) (shown (leaves (jump_exit l again))) }
+{}
+
+/// The marks of a `break` or `continue` lead to one place, however many jumps of the run take it, where no loop in the run has the number of
+/// the loop that they leave.
+pub fn jumps_lead_to_one_place()
+    ensures { (r : Run) (h : Home) (xs : ListOf ℕ) (f : Function) (l : ℕ) (again : Bool) → HasNoMark (order_function f) → blocks_at r.block (spots_of_function f) ≤ 1
+        → Among (a_block h.around r.block h.body) (spots_of_function f) → is_among l (loops_of (inside r h.body)) ≡ false
+        → LeadsToOnePlace (running r h.around.loops xs f) (shown (leaves (jump_exit l again))) }
+{}
+
+/// A history that comes to a body that begins with a mark goes on to the mark.
+pub fn histories_come_to_marks()
+    ensures { (f : Function) (p : Point) (b : Body) (i : ℕ) (t : Temporary) (h : ListOf Action) → ComesTo f (order_body (runs (mark p) b) i t) h → IsHistory f (shown p ∷ h) }
+{}
+
+/// And of the variables that may be elsewhere the others are not living behind the exit's mark.
+pub fn what_is_not_handed_out_is_not_living()
+    ensures { (A : Asked) (k : Plan) → IsPlan A k → (u : Untouched (text_of A k) (about_run A k)) (e : Exit) (x : ℕ) → Among e k.exits → e ≢ returns → In x (special_of A k)
+        → (Among x (k.outs e) → ⊥) → (h : ListOf Action) → Living (facts_of (text_of A k) (about_run A k) u) x (shown (leaves e) ∷ h) → ⊥ }
+{}
+
+/// Behind what a function gives nothing is living: variables end there, and nothing else is done.
+pub fn nothing_is_living_behind_what_is_given()
+    ensures { (f : Function) (l : ListOf ℕ) (u : Untouched f (record { special = l; asked = [] })) (n : ℕ) (t : Temporary) (x : ℕ) (h : ListOf Action)
+        → Living (facts_of f (record { special = l; asked = [] }) u) x (does n (Give t) ∷ h) → ⊥ }
+{}
+
+/// Where no variable would be aliased, one that may be elsewhere is not written once its own storage was borrowed; nor is it borrowed at all
+/// if it is declared `mut`.
+pub fn special_variables_are_untouched()
+    ensures untouched { (A : Asked) (muts : ListOf Bool) → Accepted A muts → (k : Plan) → IsPlan A k → ((x : ℕ) → ¬ (Aliased A muts k x)) → Untouched (text_of A k) (about_run A k) }
+    ensures unlent { (A : Asked) (muts : ListOf Bool) → Accepted A muts → (k : Plan) → IsPlan A k → ((x : ℕ) → ¬ (Aliased A muts k x)) → (x : ℕ) → In x (special_of A k) → slice_get muts x ≡ Some true
+        → (h : ListOf Action) → IsHistory (text_of A k) h → Borrowed h x → ⊥ }
+{}
+
+/// The same of the text that runs as the function does, of a run without its block's tail: where the run is entered, params were written and
+/// are living, and locals are not.
+pub fn running_texts_are_entered_so()
+    ensures written { (A : Asked) → A.run.tail ≡ false → (xs : ListOf ℕ) (muts : ListOf Bool) → Accepted A muts → (k : Plan) → IsPlan A k → (x : ℕ) → Among x k.params
+        → (b : Body) (i : ℕ) (t : Temporary) (h : ListOf Action) → ComesTo (running_of A xs) (order_body (runs (mark enters) b) i t) h → Written h x }
+    ensures living { (A : Asked) (k : Plan) (u : Untouched (running_of A k.params) (about_run A k)) (x : ℕ) → Among x k.params → (b : Body) (i : ℕ) (t : Temporary) (h : ListOf Action)
+        → ComesTo (running_of A k.params) (order_body (before (entering k.params) b) i t) h → Living (facts_of (running_of A k.params) (about_run A k) u) x h }
+    ensures locals { (A : Asked) → A.run.tail ≡ false → (k : Plan) → IsPlan A k → (muts : ListOf Bool) → Accepted A muts → (u : Untouched (running_of A k.params) (about_run A k)) (x : ℕ) → Among x k.locals
+        → (b : Body) (i : ℕ) (t : Temporary) (h : ListOf Action) → ComesTo (running_of A k.params) (order_body (runs (mark enters) b) i t) h
+        → Living (facts_of (running_of A k.params) (about_run A k) u) x h → ⊥ }
+{}
+
+/// And where the run is left by its end or by a `break` or a `continue`: what is handed out was written, and is living
+/// where the exit's marks lead to one place, and nothing else that may be elsewhere is.
+pub fn running_texts_are_left_so()
+    ensures written { (A : Asked) → A.run.tail ≡ false → (xs : ListOf ℕ) (muts : ListOf Bool) → Accepted A muts → (k : Plan) → IsPlan A k → (e : Exit) (x : ℕ) → ¬ (PartlyMoved A k x)
+        → Among e k.exits → Among x (k.outs e) → (h : ListOf Action) → IsHistory (running_of A xs) (shown (leaves e) ∷ h) → Written h x }
+    ensures others { (A : Asked) → A.run.tail ≡ false → (k : Plan) → IsPlan A k → (u : Untouched (running_of A k.params) (about_run A k)) (e : Exit) (x : ℕ) → Among e k.exits → e ≢ returns
+        → In x (special_of A k) → (Among x (k.outs e) → ⊥) → (h : ListOf Action) → Living (facts_of (running_of A k.params) (about_run A k) u) x (shown (leaves e) ∷ h) → ⊥ }
+    ensures living { (A : Asked) → A.run.tail ≡ false → (k : Plan) → IsPlan A k → (muts : ListOf Bool) → Accepted A muts → (u : Untouched (running_of A k.params) (about_run A k)) (e : Exit) (x : ℕ)
+        → e ≢ returns → LeadsToOnePlace (running_of A k.params) (shown (leaves e)) → Among e k.exits → Among x (k.outs e)
+        → (h : ListOf Action) → IsHistory (running_of A k.params) (shown (leaves e) ∷ h) → Living (facts_of (running_of A k.params) (about_run A k) u) x (shown (leaves e) ∷ h) }
+    ensures untouched { (A : Asked) → A.run.tail ≡ false → (k : Plan) → IsPlan A k → (muts : ListOf Bool) → Accepted A muts → ((x : ℕ) → ¬ (Aliased A muts k x))
+        → Untouched (running_of A k.params) (about_run A k) }
+    ensures unlent { (A : Asked) → A.run.tail ≡ false → (k : Plan) → IsPlan A k → (muts : ListOf Bool) → Accepted A muts → ((x : ℕ) → ¬ (Aliased A muts k x)) → (x : ℕ) → In x (special_of A k)
+        → slice_get muts x ≡ Some true → (h : ListOf Action) → IsHistory (running_of A k.params) h → Borrowed h x → ⊥ }
+{}
+
+/// A program in which some functions have the marks that do nothing, and no reads, has the program's runs.
+pub fn marks_change_no_run()
+    ensures { (P Q : Program) → Q.main ≡ P.main → ((f : ℕ) → MarkedEntry (element P.functions f) (element Q.functions f)) → (given : ListOf ℤ) (n : ℕ) → run Q given n ≡ run P given n }
+{}
+
+/// A program in which some functions are that text with reads of variables which were written where the run is entered has the program's
+/// runs, if each function is like itself.
+pub fn entry_reads_change_no_run()
+    ensures { (P T : Program) → T.main ≡ P.main → ((f : ℕ) → ReadingEntry (element P.functions f) (element T.functions f)) → (given : ListOf ℤ) (n : ℕ) → run T given n ≡ run P given n }
+{}
+
+/// So of the text that runs, what a call that stands for the run asks of histories: where the run is entered, params were written and are
+/// living, and locals are not; where it is left by an exit, with its mark as the newest action, nothing is living that is not handed out, and what
+/// is handed out is ready; and what is put back was not lent.
+pub fn plans_give_what_calls_ask()
+    ensures living { (A : Asked) (k : Plan) (u : Untouched (running_of A k.params) (about_run A k)) (r : Stretch) (rest : Body) (x : ℕ) (h : ListOf Action) → Among x k.params → InFront A k u r rest h
+        → Living (known_of A k u) x h }
+    ensures written { (A : Asked) (k : Plan) (u : Untouched (running_of A k.params) (about_run A k)) → A.run.tail ≡ false → IsPlan A k → (muts : ListOf Bool) → Accepted A muts
+        → (r : Stretch) (rest : Body) (x : ℕ) (h : ListOf Action) → Among x k.params → InFront A k u r rest h → Written h x }
+    ensures locals { (A : Asked) (k : Plan) (u : Untouched (running_of A k.params) (about_run A k)) → A.run.tail ≡ false → IsPlan A k → (muts : ListOf Bool) → Accepted A muts
+        → (r : Stretch) (rest : Body) (x : ℕ) (h : ListOf Action) → Among x k.locals → InFront A k u r rest h → Living (known_of A k u) x h → ⊥ }
+    ensures dead { (A : Asked) (k : Plan) (u : Untouched (running_of A k.params) (about_run A k)) → A.run.tail ≡ false → IsPlan A k → (e : Exit) (a : Aim) (R : Renaming)
+        → ByMark A k u e a → e ≢ returns → Among e k.exits → NotHanded A k e R → AreDead (known_of A k u) R a }
+    ensures ready { (A : Asked) (k : Plan) (u : Untouched (running_of A k.params) (about_run A k)) → A.run.tail ≡ false → IsPlan A k → (muts : ListOf Bool) → Accepted A muts
+        → (e : Exit) (a : Aim) (x : ℕ) → ByMark A k u e a → e ≢ returns → LeadsToOnePlace (running_of A k.params) (shown (leaves e)) → ¬ (PartlyMoved A k x) → Among e k.exits → Among x (k.outs e)
+        → IsReady (known_of A k u) a x }
+    ensures unlent { (A : Asked) (k : Plan) (u : Untouched (running_of A k.params) (about_run A k)) → A.run.tail ≡ false → IsPlan A k → (muts : ListOf Bool) → Accepted A muts
+        → ((x : ℕ) → ¬ (Aliased A muts k x)) → (b : Body) (x : ℕ) → In x (special_of A k) → slice_get muts x ≡ Some true → IsUnlent (known_of A k u) b x }
+{}

@@ -1,9 +1,0 @@
-pub mod InStep
-pub mod Parts
-pub mod KeptPatterns
-pub mod KeptExpressions
-pub mod KeptFunctions
-pub mod Staying
-pub mod Programs
-pub mod Entries
-pub mod AllStay

@@ -1,9 +1,0 @@
-pub mod Among
-pub mod Marking
-pub mod Coming
-pub mod Telling
-pub mod Reading
-pub mod Lives
-pub mod Looking
-pub mod Asking
-pub mod Settling

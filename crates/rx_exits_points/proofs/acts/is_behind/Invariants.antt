@@ -1,6 +1,0 @@
-use Rattle.std.proofs.Common.{◌≡◌, drop}
-use Rattle.rx_facts_init.specs.Setting.{is_behind}
-use Rattle.rx_exits_points.proofs.acts.is_behind.Given as goal
-
-abbrev pub invariant-loop-step : goal.invariant-loop-step
-invariant-loop-step l = is_behind (drop l.step-index l.steps) ≡ is_behind l.steps

@@ -1,9 +1,0 @@
-use Rattle.rx_facts_init.specs.Layouts.{plain-Frame}
-use Rattle.rx_facts_init.specs.Tables.{DoesAt}
-use Rattle.rx_exits_points.specs.Facts.{switches}
-use Rattle.rx_facts_live.proofs.Each.{all_do}
-use Rattle.rx_exits_points.proofs.facts.effects.Goals as goal
-
-pub returns : goal.returns
-returns c = all_do (DoesAt (switches (plain-Frame c.args.setup.now.frame.now) c.args.kind)) c.loop-site.all.items c.args.sites.now c.loop-site.site-index
-    c.loop-site-test.false c.loop-site.invariant

@@ -1,7 +1,0 @@
-use Rattle.std.proofs.Common.{map}
-use Rattle.rx_lower_emit.specs.PlainSite.{plain-Site}
-use Rattle.rx_exits_points.proofs.Marking.{Noting}
-use Rattle.rx_exits_points.proofs.marks.marks_of.Given as goal
-
-abbrev pub invariant-loop-i : goal.invariant-loop-i
-invariant-loop-i l = Noting (map plain-Site l.sites) l.marks l.i

@@ -1,5 +1,0 @@
-use Rattle.rx_exits_points.proofs.Reading.{param}
-use Rattle.rx_exits_points.proofs.run_points.RunPoints.is_param.Goals as goal
-
-pub returns : goal.returns
-returns c A is = param A c.args.variable c.may_be_unset.result (c.may_be_unset.ensures A is)

@@ -1,4 +1,0 @@
-pub mod BoundLemmas
-pub mod StatementLemmas
-pub mod Turns
-pub mod AroundLemmas

@@ -1,5 +1,0 @@
-use Rattle.std.proofs.Common.{◌≡◌, ◌++◌, drop}
-use Rattle.rx_exits_syntax.proofs.around.push_all.Given as goal
-
-abbrev pub invariant-loop-item : goal.invariant-loop-item
-invariant-loop-item l = l.items ++ drop l.item-index l.more ≡ l.fn.items ++ l.fn.more

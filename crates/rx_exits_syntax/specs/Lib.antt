@@ -1,2 +1,0 @@
-pub mod PlainSyntax
-pub mod Bound

@@ -1,7 +1,0 @@
-use Rattle.rx_lower_flow.specs.PlainFlow.{plain-Act}
-use Rattle.rx_facts_init.specs.Wholes.{regains}
-use Rattle.rx_facts_init.proofs.Numbers.{Picked}
-use Rattle.rx_facts_init.proofs.acts.regained.Given as goal
-
-abbrev pub invariant-loop-k : goal.invariant-loop-k
-invariant-loop-k l = Picked l.all (λ q. regains q.var q.steps (plain-Act l.act)) l.watched l.k

@@ -1,5 +1,0 @@
-use Rattle.rx_facts_live.proofs.Turns.{TurnedTo}
-use Rattle.rx_facts_live.proofs.turning.turned.Given as goal
-
-abbrev pub invariant-loop-p : goal.invariant-loop-p
-invariant-loop-p g l = TurnedTo (g.G.Leads.edges l.graph) l.back.items l.p

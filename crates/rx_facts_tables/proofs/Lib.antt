@@ -1,0 +1,17 @@
+pub mod Ways
+pub mod Forward
+pub mod Backward
+pub mod Turns
+pub mod Telling
+pub mod Each
+pub mod Roots
+pub mod Numbering
+pub mod Effecting
+pub mod Living
+pub mod Sums
+pub mod Within
+pub mod Walking
+pub mod Numbers
+pub mod Fronts
+pub mod Exact
+pub mod Deciding

@@ -1,0 +1,14 @@
+pub mod Along
+pub mod Turning
+pub mod Tracking
+pub mod Live
+pub mod LiveTables
+pub mod Effects
+pub mod Places
+pub mod Layouts
+pub mod Setting
+pub mod Wholes
+pub mod Initialised
+pub mod Tables
+pub mod Judged
+pub mod Answer

@@ -1,3 +1,0 @@
-pub mod Beginnings
-pub mod SomeIdentifier
-pub mod Free

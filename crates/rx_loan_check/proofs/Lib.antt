@@ -1,2 +1,0 @@
-pub mod Fewest
-pub mod Found

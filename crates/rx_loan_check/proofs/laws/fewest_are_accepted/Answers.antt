@@ -1,5 +1,0 @@
-use Rattle.rx_loan_check.proofs.Fewest.{least_too}
-use Rattle.rx_loan_check.proofs.laws.fewest_are_accepted.Goals as goal
-
-pub returns : goal.returns
-returns c C g R S = least_too C g R S

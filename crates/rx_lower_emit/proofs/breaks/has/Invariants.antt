@@ -1,6 +1,0 @@
-use Rattle.std.proofs.Common.{◌≡◌, drop}
-use Rattle.rx_lower_emit.specs.Sums.{has}
-use Rattle.rx_lower_emit.proofs.breaks.has.Given as goal
-
-abbrev pub invariant-loop-one : goal.invariant-loop-one
-invariant-loop-one l = has l.number (drop l.one-index l.among) ≡ has l.number l.among

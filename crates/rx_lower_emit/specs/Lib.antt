@@ -1,6 +1,0 @@
-pub mod Around
-pub mod Sums
-pub mod Rows
-pub mod PlainSite
-pub mod Emitted
-pub mod Refusal

@@ -1,8 +1,0 @@
-use Rattle.std.proofs.Common.{◌≡◌, ◌++◌, map, drop}
-use Rattle.rx_typed.specs.Tree as tree
-use Rattle.rx_typed.specs.PlainTree.{plain-Operand, operands_of}
-use Rattle.rx_lower_flow.specs.PlainFlow.{plain-Temporary}
-use Rattle.rx_lower_order_parts.proofs.operands.temporaries_of.Given as goal
-
-abbrev pub invariant-loop-operand : goal.invariant-loop-operand
-invariant-loop-operand l = map plain-Temporary l.all ++ tree.temporaries_of (operands_of (map plain-Operand (drop l.operand-index l.operands))) ≡ tree.temporaries_of (operands_of (map plain-Operand l.fn.operands))

@@ -1,5 +1,0 @@
-use Rattle.std.proofs.Common.{◌≡◌, ◌++◌, drop}
-use Rattle.rx_lower_order_parts.proofs.subject.joined.Given as goal
-
-abbrev pub invariant-loop-step : goal.invariant-loop-step
-invariant-loop-step l = l.all ++ drop l.step-index l.second ≡ l.fn.first ++ l.fn.second

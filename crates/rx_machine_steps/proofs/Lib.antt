@@ -1,2 +1,0 @@
-pub mod StepRules
-pub mod Marks

@@ -1,0 +1,9 @@
+use Rattle.std.proofs.Common.{◌≡◌, ◌++◌, map, drop}
+use Rattle.rx_typed.specs.Regions.{region-Ty, regions_of}
+use Rattle.rx_region_outlives.specs.Implied.{implied_among}
+use Rattle.rx_region.specs.PlainContext.{plain-Given}
+use Rattle.rx_region.proofs.given.Given.add_implied_among.Given as goal
+
+abbrev pub invariant-loop-ty : goal.invariant-loop-ty
+invariant-loop-ty l = l.pairs ++ implied_among (plain-Given l.self).implied (regions_of (map region-Ty (drop l.ty-index l.types)))
+    ≡ l.fn.pairs ++ implied_among (plain-Given l.fn.self).implied (regions_of (map region-Ty l.fn.types))

@@ -1,5 +1,0 @@
-pub mod LeastLaws
-mod Examples
-mod Rules
-mod Finding
-mod Zips

@@ -1,5 +1,0 @@
-pub mod Constraints
-pub mod Solutions
-pub mod Known
-pub mod PlainContext
-pub mod Steps

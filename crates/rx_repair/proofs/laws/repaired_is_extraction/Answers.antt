@@ -1,5 +1,0 @@
-use Rattle.rx_repair.proofs.Extracting.{repaired_extraction}
-use Rattle.rx_repair.proofs.laws.repaired_is_extraction.Goals as goal
-
-pub returns : goal.returns
-returns c p r plan s f bounds there once words = repaired_extraction p r plan bounds s f there once words

@@ -1,5 +1,0 @@
-use Rattle.rx_repair.proofs.Numbering.{still_numbered}
-use Rattle.rx_repair.proofs.laws.repaired_programs_are_numbered.Goals as goal
-
-pub returns : goal.returns
-returns c p n bounds h = still_numbered bounds p n h

@@ -1,4 +1,0 @@
-pub mod Renaming
-pub mod Fitting
-pub mod Making
-pub mod TemporaryTypes

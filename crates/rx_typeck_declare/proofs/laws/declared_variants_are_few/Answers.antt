@@ -1,5 +1,0 @@
-use Rattle.rx_typeck_declare.proofs.NamedLemmas.{few_variants}
-use Rattle.rx_typeck_declare.proofs.laws.declared_variants_are_few.Goals as goal
-
-pub returns : goal.returns
-returns c p names items few declares i = few_variants p names items few declares i

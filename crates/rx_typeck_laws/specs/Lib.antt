@@ -1,3 +1,0 @@
-pub mod Nodes
-pub mod HaveTypes
-pub mod WellTyped

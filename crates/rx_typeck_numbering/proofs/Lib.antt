@@ -1,3 +1,0 @@
-pub mod CursorLemmas
-pub mod Numbered
-pub mod Next

@@ -1,7 +1,0 @@
-mod Reach
-mod Variables
-mod PatternsTold
-mod PatternsNamed
-mod SitesTold
-mod ExpressionsTold
-mod FunctionsTold

@@ -1,6 +1,0 @@
-use Rattle.std.proofs.Common.{◌≡◌, ◌+◌, ◌-◌, ◌++◌}
-use Rattle.rx_typed_places.specs.Renaming.{from}
-use Rattle.rx_typed_places.proofs.renaming.fresh.Given as goal
-
-abbrev pub invariant-loop-turn : goal.invariant-loop-turn
-invariant-loop-turn l = l.list ++ from (l.next + l.turn) (l.count - l.turn) ≡ from l.next l.count
