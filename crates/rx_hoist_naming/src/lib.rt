@@ -13,7 +13,6 @@ mod types;
 mod variables;
 mod words;
 
-pub use crate::{NameRefusal, name_free};
 pub use declared::declared_names;
 pub use laws::{
     named_plans_are_formed, runs_have_names, tails_go_past, types_name_types, variables_have_names,
