@@ -1,4 +1,4 @@
-//! The block of a run in a typed tree, its parts, and what is around it.
+//! The points, the plan and the block of a run that is to become a function.
 #![tactic(auto)]
 
 mod around;

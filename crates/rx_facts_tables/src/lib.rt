@@ -1,4 +1,4 @@
-//! Which functions are initialised, and what may be set where.
+//! Which functions are initialised, what may be set where, and what is live where.
 #![tactic(auto)]
 
 mod acts;

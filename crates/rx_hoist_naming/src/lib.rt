@@ -1,4 +1,4 @@
-//! Laws of what a run's plan names: types of structs and enums of the text, and variables that have names there.
+//! The plan of a run by names, and laws of what it names.
 #![tactic(auto)]
 
 mod declared;

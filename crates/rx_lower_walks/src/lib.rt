@@ -1,4 +1,4 @@
-//! The graph of a function, in code.
+//! Which actions a function performs, in which orders: walks, flows, and the graph of a flow.
 #![tactic(auto)]
 
 mod actions;

@@ -1,19 +1,19 @@
-//! Each struct or enum that a typed function makes goes to a temporary of its type: laws.
+//! The least bounds of a function's lifetimes, the program that has them, and laws on renamed lifetimes.
 #![tactic(auto)]
 
 mod bounding;
+mod bounds_laws;
 mod laws;
-mod laws_laws;
 mod least;
 mod renaming_laws;
 mod repair_laws;
 mod repairing;
 
-pub use laws::{items_get_their_types, verdicts_are_kept};
-pub use laws_laws::{
+pub use bounds_laws::{
     accepted_where_least_bounds_follow, callers_are_accepted, fewer_pairs_ask_less,
     least_bounds_are_missing, least_bounds_serve, least_sets_exist, own_bounds_ask_nothing,
 };
+pub use laws::{items_get_their_types, verdicts_are_kept};
 pub use least::least_bounds;
 pub use renaming_laws::{
     renamings_change_no_verdict, typed_functions_fit, typed_verdicts_are_kept,

@@ -1,4 +1,4 @@
-//! What the typings of programs have.
+//! What a program declares, the rules of types, and programs with their types.
 #![tactic(auto)]
 
 mod copying;

@@ -1,4 +1,4 @@
-//! Types with their lifetimes: numbers for those that are open, the types of places, and the signatures of calls.
+//! Types, declarations, typed trees, the types of places, and the signatures of calls.
 #![tactic(auto)]
 
 mod copying;

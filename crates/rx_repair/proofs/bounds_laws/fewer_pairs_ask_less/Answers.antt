@@ -1,5 +1,5 @@
 use Rattle.rx_repair.proofs.Asked.{solution_too, least_grows, scope_grows, legal_too}
-use Rattle.rx_repair.proofs.laws_laws.fewer_pairs_ask_less.Goals as goal
+use Rattle.rx_repair.proofs.bounds_laws.fewer_pairs_ask_less.Goals as goal
 
 pub returns-clause-solutions : goal.returns-clause-solutions
 returns-clause-solutions c C K g R a s = solution_too C K g a R s

@@ -2,7 +2,7 @@ use Rattle.rx_repair.proofs.Accepting.{all_follow, accepted_with, legal_by_least
 use Rattle.rx_repair.proofs.Existing.{least_sets, are_least}
 use Rattle.rx_facts.specs.Functions.{sites_of}
 use Rattle.rx_check.specs.Contexts.{context_of}
-use Rattle.rx_repair.proofs.laws_laws.accepted_where_least_bounds_follow.Goals as goal
+use Rattle.rx_repair.proofs.bounds_laws.accepted_where_least_bounds_follow.Goals as goal
 
 pub returns-clause-exactly : goal.returns-clause-exactly
 returns-clause-exactly c D P f bs R never is least legal = (all_follow D P f bs never is, accepted_with D P f bs never is R least legal)

@@ -1,5 +1,5 @@
 use Rattle.rx_repair.proofs.RepairPrograms.{program_accepted}
-use Rattle.rx_repair.proofs.laws_laws.least_bounds_serve.Goals as goal
+use Rattle.rx_repair.proofs.bounds_laws.least_bounds_serve.Goals as goal
 
 pub returns : goal.returns
 returns c p names q few meant typed f among never P asked least are bs fit =

@@ -1,5 +1,5 @@
 use Rattle.rx_repair.proofs.OtherBounds.{same_solutions, same_least, same_needed}
-use Rattle.rx_repair.proofs.laws_laws.own_bounds_ask_nothing.Goals as goal
+use Rattle.rx_repair.proofs.bounds_laws.own_bounds_ask_nothing.Goals as goal
 
 pub returns-clause-solutions : goal.returns-clause-solutions
 returns-clause-solutions c D P f bs never = same_solutions D P f bs never

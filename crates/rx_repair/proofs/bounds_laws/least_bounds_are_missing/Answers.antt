@@ -2,7 +2,7 @@ use Rattle.rx_repair.proofs.Accepting.{lacking, lacked}
 use Rattle.rx_repair.proofs.Existing.{least_sets, are_least}
 use Rattle.rx_repair.proofs.Listing.{below_ordered, least_list, are_listed}
 use Rattle.rx_repair.proofs.Lists.{one_list}
-use Rattle.rx_repair.proofs.laws_laws.least_bounds_are_missing.Goals as goal
+use Rattle.rx_repair.proofs.bounds_laws.least_bounds_are_missing.Goals as goal
 
 pub returns-clause-exist : goal.returns-clause-exist
 returns-clause-exist c C g = (least_list C g, are_listed C g)
