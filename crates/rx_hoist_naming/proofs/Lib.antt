@@ -5,7 +5,7 @@ pub mod NamingSteps
 pub mod Params
 pub mod Claims
 pub mod Steps
-pub mod Types
+pub mod TypeLemmas
 pub mod Expressions
 pub mod Good
 pub mod Renamed
@@ -14,7 +14,7 @@ pub mod Asked
 pub mod Functions
 pub mod Declaring
 pub mod Programs
-pub mod Runs
+pub mod RunLemmas
 pub mod Wording
 pub mod Counting
 pub mod Plans

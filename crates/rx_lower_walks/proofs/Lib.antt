@@ -1,5 +1,5 @@
 pub mod WalksFronts
-pub mod Held
+pub mod HeldLemmas
 pub mod Short
 pub mod Programs
 pub mod ProgramsOfTypes
@@ -14,7 +14,7 @@ pub mod Passes
 pub mod Scoped
 pub mod Settled
 pub mod Reached
-pub mod Whole
+pub mod WholeLemmas
 pub mod Entry
 pub mod Sites
 pub mod Bounds

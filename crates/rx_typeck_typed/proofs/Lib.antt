@@ -1,5 +1,5 @@
 mod Reach
-mod Variables
+mod VariableLemmas
 mod PatternsTold
 mod PatternsNamed
 mod SitesTold
