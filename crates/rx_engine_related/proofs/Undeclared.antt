@@ -9,7 +9,7 @@ use Rattle.rx_lower_walks.specs.Actions.{Act, Declare, Dead, Read, Write, Borrow
 use Rattle.rx_lower_walks.specs.Orders.{Order, testing, perhaps, binding, declaring, order, order_all, order_scrutinee, order_arms, order_body}
 use Rattle.rx_lower_walks.specs.Orders as order
 use Rattle.rx_lower_walks.specs.Walks.{Out, Walk, actions_in, Among, here, there, EndsVariable}
-use Rattle.rx_lower_walks.proofs.Held.{Own, held}
+use Rattle.rx_lower_walks.proofs.HeldLemmas.{Own, held}
 use Rattle.rx_exits_plan.specs.Blocks.{bound}
 use Rattle.rx_exits_plan.specs.Points.{leaves, jump_exit}
 use Rattle.rx_exits_plan.specs.Changed.{changed, changed_all, changed_matched, changed_arms, changed_body}

@@ -8,7 +8,7 @@ use Rattle.rx_typed.specs.Tree.{Root, variable, temporary, Place, Temporary}
 use Rattle.rx_lower_walks.specs.Actions.{Act, Declare, Dead, Read, Write, Borrow, Test, Call, Build, Input, Print, Give, Action}
 use Rattle.rx_lower_walks.specs.Orders.{order_function}
 use Rattle.rx_lower_walks.specs.Walks.{IsWalk, Among, here, there, actions_in, EndsVariable}
-use Rattle.rx_lower_walks.proofs.Held as held
+use Rattle.rx_lower_walks.proofs.HeldLemmas as held
 use Rattle.rx_facts_tables.specs.Along.{Switch, after}
 use Rattle.rx_facts_tables.specs.Setting.{is_behind}
 use Rattle.rx_facts_tables.proofs.Fronts.{both_true, not_so}

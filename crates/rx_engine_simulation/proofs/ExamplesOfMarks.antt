@@ -9,7 +9,7 @@ use Rattle.rx_lower_walks.specs.Orders as orders
 use Rattle.rx_lower_walks.specs.Orders.{Order, order, order_body, order_function, declared_parameter, written_parameter}
 use Rattle.rx_lower_walks.specs.Walks as walk
 use Rattle.rx_lower_walks.specs.Walks.{Walk, actions_in, Among, here, there, EndsVariable}
-use Rattle.rx_lower_walks.proofs.Held.{Own}
+use Rattle.rx_lower_walks.proofs.HeldLemmas.{Own}
 use Rattle.rx_exits_plan.specs.Points.{enters, leaves, next}
 use Rattle.rx_exits_plan.specs.Marked.{mark, shown}
 use Rattle.rx_exits_plan.specs.Coming.{Into, in_first, in_second, in_scope}

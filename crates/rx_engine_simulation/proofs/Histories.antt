@@ -5,7 +5,7 @@ use Rattle.rx_typed.specs.Tree.{Function}
 use Rattle.rx_lower_walks.specs.Actions.{Act, Dead, Action}
 use Rattle.rx_lower_walks.specs.Orders.{Order, order_function}
 use Rattle.rx_lower_walks.specs.Walks.{Walk, actions_in, Among, here, there, EndsVariable}
-use Rattle.rx_lower_walks.proofs.Held.{held}
+use Rattle.rx_lower_walks.proofs.HeldLemmas.{held}
 use Rattle.rx_exits_plan.specs.Coming.{Into, all, in_first, in_second, in_one, in_other, in_arm, in_next, in_scope, in_pass, in_later}
 use Rattle.rx_meaning.specs.Values.{Value, State}
 use Rattle.rx_meaning.specs.Acting.{plainly}

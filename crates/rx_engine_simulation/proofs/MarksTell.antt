@@ -8,7 +8,7 @@ use Rattle.rx_lower_walks.specs.Orders as order
 use Rattle.rx_lower_walks.specs.Orders.{Order, order_function, exit_node}
 use Rattle.rx_lower_walks.specs.Walks as walk
 use Rattle.rx_lower_walks.specs.Walks.{Out, Walk, actions_in, Among, here, there, EndsVariable}
-use Rattle.rx_lower_walks.proofs.Held.{Own, held}
+use Rattle.rx_lower_walks.proofs.HeldLemmas.{Own, held}
 use Rattle.rx_exits_plan.specs.Coming.{Into, all, in_first, in_second, in_one, in_other, in_arm, in_next, in_scope, in_pass, in_later}
 use Rattle.rx_engine_simulation.specs.Histories.{put, Uses, Written, Declares}
 use Rattle.rx_engine_simulation.specs.Programs.{back, IsHistory, ComesTo}

@@ -7,7 +7,7 @@ use Rattle.rx_lower_walks.specs.Actions.{Act, Declare, Dead, Action, does, Subje
 use Rattle.rx_lower_walks.specs.Orders.{exit_node, Order, perhaps, binding, declaring, order, order_scrutinee, order_body}
 use Rattle.rx_lower_walks.specs.Orders as order
 use Rattle.rx_lower_walks.specs.Walks.{Out, on, leaves, stopped, Walk, rests, stops, nothing, acts, both, first, ends, jumps, halts, actions_in, Among, here, there, EndsVariable}
-use Rattle.rx_lower_walks.proofs.Held.{held}
+use Rattle.rx_lower_walks.proofs.HeldLemmas.{held}
 use Rattle.rx_exits_plan.specs.Blocks.{Statement, begins, binds, before}
 use Rattle.rx_exits_plan.specs.Blocks as statement
 use Rattle.rx_exits_plan.specs.Points.{Point}

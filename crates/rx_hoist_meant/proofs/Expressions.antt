@@ -33,7 +33,7 @@ use Rattle.rx_hoist_meant.specs.NamesMeant.{MeansIt}
 use Rattle.rx_hoist_naming.proofs.Claims.{Claims, OfAnnotation}
 use Rattle.rx_hoist_naming.proofs.Steps as old
 use Rattle.rx_hoist_naming.proofs.Steps.{named_ok, the_same, binds, binds_append, IsEntry, at_entry, from_zero, entry_part}
-use Rattle.rx_hoist_naming.proofs.Types.{no_result_binds, Sees, one_part, optional_type_taken}
+use Rattle.rx_hoist_naming.proofs.TypeLemmas.{no_result_binds, Sees, one_part, optional_type_taken}
 use Rattle.rx_hoist_meant.proofs.Scopes.{Bound, front_of, behind_of, ScopeIs, scope_means}
 use Rattle.rx_hoist_meant.specs.Stands as stands
 use Rattle.rx_hoist_meant.specs.Stands.{BlockComes, ScopeMeans, StandsPattern, StandsExp, StandsExps, StandsElse, StandsArguments, StandsFields, StandsArms, StandsBody, StandsStatement, StandsRow, IsFunction, brought, loop_numbers}

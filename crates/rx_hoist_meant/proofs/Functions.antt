@@ -27,7 +27,7 @@ use Rattle.rx_hoist_blocks.proofs.Parts as parts
 use Rattle.rx_hoist_naming.proofs.Claims.{Claims, OfAnnotation}
 use Rattle.rx_hoist_naming.proofs.Steps as old
 use Rattle.rx_hoist_naming.proofs.Steps.{Counts, named_ok, the_same}
-use Rattle.rx_hoist_naming.proofs.Types.{no_result_binds, Sees, optional_type_taken}
+use Rattle.rx_hoist_naming.proofs.TypeLemmas.{no_result_binds, Sees, optional_type_taken}
 use Rattle.rx_hoist_naming.proofs.Functions.{EntryTaken, entry_taken, function_entry, no_parameters_bind}
 use Rattle.rx_hoist_meant.proofs.Scopes.{in_left, in_right, Stand, Bound, behind_of, ScopeIs, entered_is}
 use Rattle.rx_hoist_meant.proofs.NamedFunctions.{OfParameters, parameters_taken}

@@ -24,7 +24,7 @@ use Rattle.rx_typed.specs.Elaborated.{variables}
 use Rattle.rx_exits.specs.Refusing.{same_name}
 use Rattle.rx_hoist_naming.proofs.Claims.{Claims}
 use Rattle.rx_hoist_naming.proofs.Steps.{named_ok, the_same, binds, binds_append, Takes, takes_then, takes_last, takes_give, takes_map, takes_node, takes_made, takes_entry, takes_quiet, IsEntry, at_entry, Part, in_turn, in_turn3, in_turn4, in_new_loop, takes_in_loop, from_zero, restated, unchanged, entry_part}
-use Rattle.rx_hoist_naming.proofs.Types.{no_result_binds, Sees, one_part, optional_type_taken}
+use Rattle.rx_hoist_naming.proofs.TypeLemmas.{no_result_binds, Sees, one_part, optional_type_taken}
 use Rattle.rx_hoist_naming.proofs.Expressions.{RootHas, Waits, quiet_counted, quiet_between, quiet_annotates, quiet_loop, quiet_leads, quiet_is_left, quiet_gives_here, quiet_waits, quiet_use, quiet_waits_for}
 use Rattle.rx_hoist_meant.specs.NamesMeant.{MeansIt}
 use Rattle.rx_hoist_meant.proofs.Scopes.{Bound, front_of, behind_of, ScopeIs, entered_is, scope_means, declared_in, NExp, NExps, NElse, NFields, NArms, NBody, NStatement, NRow}

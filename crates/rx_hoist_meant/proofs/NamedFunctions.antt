@@ -23,7 +23,7 @@ use Rattle.rx_exits.specs.Refusing.{same_name}
 use Rattle.rx_hoist_naming.specs.DeclaredNames.{declared_names, names_bound}
 use Rattle.rx_hoist_naming.proofs.Claims.{Claims, OfAnnotation}
 use Rattle.rx_hoist_naming.proofs.Steps.{Counts, named_ok, the_same, binds, Takes, takes_then, takes_give, takes_map, takes_declare, one_more, Part, in_turn, in_turn4}
-use Rattle.rx_hoist_naming.proofs.Types.{no_result_binds, Sees, type_taken, optional_type_taken}
+use Rattle.rx_hoist_naming.proofs.TypeLemmas.{no_result_binds, Sees, type_taken, optional_type_taken}
 use Rattle.rx_hoist_naming.proofs.Functions.{EntryTaken, entry_taken, function_entry, no_parameters_bind}
 use Rattle.rx_hoist_meant.proofs.Scopes.{in_left, in_right, Stand, Bound, behind_of, ScopeIs, entered_is, NBody}
 use Rattle.rx_hoist_meant.proofs.NamedPatterns.{kept, declared_behind_is, Binds}

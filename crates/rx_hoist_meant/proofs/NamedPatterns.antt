@@ -20,7 +20,7 @@ use Rattle.rx_typed.specs.Named as named
 use Rattle.rx_typed.specs.Elaborated.{variables, variables_in, variables_in_fields}
 use Rattle.rx_hoist_naming.proofs.Claims.{Claims}
 use Rattle.rx_hoist_naming.proofs.Steps.{named_ok, the_same, binds, binds_append, Takes, takes_then, takes_give, takes_map, takes_node, takes_made, takes_new, takes_entry, one_more, Part, in_turn, from_zero, restated, entry_part}
-use Rattle.rx_hoist_naming.proofs.Types.{Sees, one_part}
+use Rattle.rx_hoist_naming.proofs.TypeLemmas.{Sees, one_part}
 use Rattle.rx_hoist_meant.proofs.Scopes.{Bound, front_of, behind_of, NumbersAre, both_numbers}
 
 -- the greatest number that is kept

@@ -19,7 +19,7 @@ use Rattle.rx_hoist_extraction.specs.Names as extraction
 use Rattle.rx_hoist_extraction.specs.Names.{bound}
 use Rattle.rx_hoist_naming.proofs.Claims.{Claims}
 use Rattle.rx_hoist_naming.proofs.Steps.{binds}
-use Rattle.rx_hoist_naming.proofs.Types.{Sees}
+use Rattle.rx_hoist_naming.proofs.TypeLemmas.{Sees}
 use Rattle.rx_hoist_meant.proofs.Scopes.{Bound, ScopeIs, entered_is}
 use Rattle.rx_hoist_meant.proofs.NamedPatterns as meant
 use Rattle.rx_hoist_meant.specs.Stands.{StandsPattern}

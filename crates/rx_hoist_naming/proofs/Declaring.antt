@@ -34,7 +34,7 @@ use Rattle.rx_hoist_naming.specs.Words.{is_type_item}
 use Rattle.rx_hoist_naming.proofs.Good.{if_holds}
 use Rattle.rx_hoist_naming.proofs.Claims.{Claims}
 use Rattle.rx_hoist_naming.proofs.Steps.{named_ok, the_same}
-use Rattle.rx_hoist_naming.proofs.Types.{Sees}
+use Rattle.rx_hoist_naming.proofs.TypeLemmas.{Sees}
 use Rattle.rx_hoist_naming.proofs.Renamed.{Names, AllNames, DeclaredWell, Renames}
 
 -- ---- truth values

@@ -25,7 +25,7 @@ use Rattle.rx_typed.specs.Naming as numbering
 use Rattle.rx_typed.specs.Naming.{Cursor, Numbering, give, an_entry, first, second, of_expression}
 use Rattle.rx_hoist_naming.proofs.Claims.{Claims, OfPattern, OfAnnotation, OfExp, OfExps, OfElse, OfFields, OfArms, OfBody, OfStatement, OfStatements}
 use Rattle.rx_hoist_naming.proofs.Steps.{named_ok, the_same, binds, binds_append, Takes, takes_then, takes_last, takes_give, takes_map, takes_node, takes_made, takes_entry, Quiet, takes_quiet, IsEntry, at_entry, Part, in_turn, in_turn3, in_turn4, in_new_loop, takes_in_loop, from_zero, restated, unchanged, entry_part}
-use Rattle.rx_hoist_naming.proofs.Types.{no_result_binds, ScopeBelow, scope_later, scope_entered, Sees, one_part, optional_type_taken, pattern_taken}
+use Rattle.rx_hoist_naming.proofs.TypeLemmas.{no_result_binds, ScopeBelow, scope_later, scope_entered, Sees, one_part, optional_type_taken, pattern_taken}
 
 -- ---- steps of numbering that touch no names
 

@@ -24,7 +24,7 @@ use Rattle.rx_typed.specs.Naming.{Cursor, Numbering, function_named, function_va
 use Rattle.rx_hoist_naming.specs.DeclaredNames.{declared_names, parameter_names, names_bound}
 use Rattle.rx_hoist_naming.proofs.Claims.{Claims, OfWritten, OfAnnotation, OfBody, OfParameters, OfFunction}
 use Rattle.rx_hoist_naming.proofs.Steps.{Counts, named_ok, the_same, binds, binds_append, Takes, takes_then, takes_give, takes_map, takes_declare, one_more, Part, in_turn, in_turn4, restated, unchanged, entry_part}
-use Rattle.rx_hoist_naming.proofs.Types.{no_type_binds, no_result_binds, ScopeBelow, scope_entered, DeclaredBelow, declared_later, declare_below, Sees, type_taken, optional_type_taken, Binds}
+use Rattle.rx_hoist_naming.proofs.TypeLemmas.{no_type_binds, no_result_binds, ScopeBelow, scope_entered, DeclaredBelow, declared_later, declare_below, Sees, type_taken, optional_type_taken, Binds}
 use Rattle.rx_hoist_naming.proofs.Expressions.{body_taken, on}
 
 -- ---- the entry of a function

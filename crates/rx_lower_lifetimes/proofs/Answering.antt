@@ -8,7 +8,7 @@ use Rattle.rx_lower_walks.specs.Graph as graphs
 use Rattle.rx_lower_walks.specs.Pieces.{part, graph_of, graph}
 use Rattle.rx_lower_walks.specs.Text.{actions_of}
 use Rattle.rx_lower_walks.proofs.Sites.{paths_are_walks_of}
-use Rattle.rx_lower_walks.proofs.Whole.{size_is}
+use Rattle.rx_lower_walks.proofs.WholeLemmas.{size_is}
 use Rattle.rx_lower_walks.specs.Flows.{Flow, order_of}
 use Rattle.rx_lower_walks.specs.declared.site.Site.{Site}
 use Rattle.rx_lower_walks.specs.declared.whole.GraphFault.{GraphFault}

@@ -12,7 +12,7 @@ use Rattle.rx_lower_walks.proofs.Choices.{or_fits}
 use Rattle.rx_lower_walks.proofs.Passes.{Rounds, rounds, last_ends, loop_fits}
 use Rattle.rx_lower_walks.proofs.Passes as passes
 use Rattle.rx_lower_walks.proofs.Scoped.{leaving_fits, part_fits}
-use Rattle.rx_lower_walks.proofs.Whole.{size_is}
+use Rattle.rx_lower_walks.proofs.WholeLemmas.{size_is}
 
 abbrev Below : ℕ → List ℕ → Type 0
 Below N ps = (p : ℕ) → Among p ps → p < N

@@ -9,7 +9,7 @@ use Rattle.rx_lower_walks.specs.Graph.{Site, Comes, at_hand, along}
 use Rattle.rx_lower_walks.specs.Pieces.{Way, ahead, failing, exit_way, same, Turn, once_more, out, cut_off, turn, Scope, Variable, Looped, left, Begin, starts, through, entry, Piece, moved, then_begins, turned, round, leaving_part, part, no_exits, graph_of, entries}
 use Rattle.rx_lower_walks.proofs.Fits.{none_among}
 use Rattle.rx_lower_walks.proofs.Reached.{Reach, part_reach}
-use Rattle.rx_lower_walks.proofs.Whole.{has_all, size_is}
+use Rattle.rx_lower_walks.proofs.WholeLemmas.{has_all, size_is}
 
 -- its first site, one way without an action, or none
 pub data Single (bs : List Begin) : Type 0 where

@@ -2,7 +2,7 @@
 use Rattle.std.proofs.Common.{◌≡◌, ℕ, suc, ◌<◌, ◌≤◌, List, [], ◌∷◌, length, map, refl, sym, ap, ◌∙◌, arith}
 use mathlib.Core.Path.{fun_ext}
 use Rattle.rx_lower_walks.specs.Pieces.{Way, ahead, breaking, continuing, returning, failing, part, no_exits, graph_of}
-use Rattle.rx_lower_walks.proofs.Whole.{size_is}
+use Rattle.rx_lower_walks.proofs.WholeLemmas.{size_is}
 use Rattle.rx_lower_walks.specs.Flows.{Flow, order_of}
 use Rattle.rx_lower_walks.specs.declared.site.Site.{Site}
 use Rattle.rx_lower_walks.specs.PlainSite.{plain-Site}

@@ -6,7 +6,7 @@ use Rattle.rx_lower_walks.specs.Orders.{order_function}
 use Rattle.rx_lower_walks.specs.Walks.{IsWalk, IsSite, Follows, Among}
 use Rattle.rx_lower_walks.specs.Graph.{Site, site_at, Path, stop, go, Comes, at_hand, along, HasSite, has_site, Joins, joins}
 use Rattle.rx_lower_walks.specs.Pieces.{graph}
-use Rattle.rx_lower_walks.proofs.Whole.{path_walks, walk_paths, each_is_reached}
+use Rattle.rx_lower_walks.proofs.WholeLemmas.{path_walks, walk_paths, each_is_reached}
 use Rattle.rx_lower_walks.proofs.Entry.{Entry, at_zero, empty, function_entry}
 
 no_site : {B : Type 0} (g : List Site) (p : ℕ) (s : Site) → g ≡ [] → site_at g p ≡ Some s → B

@@ -30,7 +30,7 @@ use Rattle.rx_typeck_typed.specs.Asking.{ask, type_of, expected, alike, signed, 
 use Rattle.rx_typeck_typed.specs.Demands as rules
 use Rattle.rx_typeck_typed.specs.Demands.{Listed, members, values, parameters, parts_of, through, matched, a_value}
 use Rattle.rx_typeck_typed.proofs.Reach.{Sure, Known, Passed, Reach, stays, ◌⇒◌, Tells, TellsAll, sure_kept, sure_passed, equals_asked, passes_asked, integer_asked, never_asked, asked, and_true, known_none, known_and, known_one, passed_none, passed_and}
-use Rattle.rx_typeck_typed.proofs.Variables.{Agrees, agrees_then, known_set, known_within, known_length}
+use Rattle.rx_typeck_typed.proofs.VariableLemmas.{Agrees, agrees_then, known_set, known_within, known_length}
 use Rattle.rx_typeck_typed.proofs.PatternsTold.{VariablesTold, limits_reach, whole_type_told, whole_told}
 use Rattle.rx_typeck_typed.proofs.PatternsNamed.{Names, entry_variables, optional_type_names, pattern_names, same_names, entry_names}
 use Rattle.rx_typeck_typed.proofs.SitesTold.{Wanted, wanted_kept, nothing_wanted, ToldIf, told_if, told_sure, told_kept, told_place, value_reach, place_reach, own_told, never_told, not_never_told, tested_reach, unit_told, nothing_reach, print_reach, GivenIf, given_kept, given_none, given_sure, given_both, before_same, before_told, after_told, join_told, sure_to_match, place_typed, negated_told, inverted_told, updated_reach, operation_told, borrowed_reach, assignable_reach}

@@ -21,7 +21,7 @@ use Rattle.rx_typeck_solver.specs.Ordered.{Orderly}
 use Rattle.rx_typeck_typed.specs.Asking.{type_of, expected}
 use Rattle.rx_typeck_typed.specs.Demands as rules
 use Rattle.rx_typeck_typed.proofs.Reach.{Sure, Reach, stays, ◌⇒◌, sure_kept, equals_asked, never_asked, known_none, known_one, passed_none, flagged_literals}
-use Rattle.rx_typeck_typed.proofs.Variables.{KnownAt, Agrees, agrees_then, known_behind}
+use Rattle.rx_typeck_typed.proofs.VariableLemmas.{KnownAt, Agrees, agrees_then, known_behind}
 use Rattle.rx_typeck_typed.proofs.PatternsTold.{whole_type_told}
 use Rattle.rx_typeck_typed.proofs.PatternsNamed.{type_names, optional_type_names, longer_by}
 use Rattle.rx_typeck_typed.proofs.ExpressionsTold.{agrees_entry, agrees_names, agrees_node, WalkedList, body_told}

@@ -19,7 +19,7 @@ mod AlikeLemmas
 mod Resolving
 mod Lifetimes
 mod Reading
-mod Items
+mod DeclaredLemmas
 mod Adding
 mod Meeting
 mod Counting

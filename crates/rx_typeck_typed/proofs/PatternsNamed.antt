@@ -11,7 +11,7 @@ use Rattle.rx_typed.specs.declared.nodes.Declaration.{Declaration}
 use Rattle.rx_typed.specs.Naming.{Cursor, taken, an_entry, a_node, declare, is_known, lifetime_entry, of_type, of_types, of_optional_type, of_pattern, of_patterns, of_field_patterns}
 use Rattle.rx_typed.specs.Elaborated.{variables, variables_in, variables_in_fields}
 use Rattle.rx_typeck_solver.specs.Valid.{IsIn}
-use Rattle.rx_typeck_typed.proofs.Variables.{KnownAt, known_behind}
+use Rattle.rx_typeck_typed.proofs.VariableLemmas.{KnownAt, known_behind}
 
 -- these are the new variables, and none of them is known
 pub record Names (c c' : Cursor) (xs : List ℕ) : Type 0 where

@@ -30,7 +30,7 @@ use Rattle.rx_typeck_typed.specs.Typing.{Given, known_in, entries, variables_at,
 use Rattle.rx_typeck_typed.proofs.Lifetimes.{read_ok, both_true}
 use Rattle.rx_typeck_typed.proofs.Reading.{Within, ParametersCounted, ResultCounted}
 use Rattle.rx_typeck_typed.proofs.Counting.{function_parameters_counted, function_result_counted}
-use Rattle.rx_typeck_typed.proofs.Items.{lifetimes_below, few_number, lifetimes_within, Program, program, adt_at, item_there, declared_there, named_there, struct_is, enum_is}
+use Rattle.rx_typeck_typed.proofs.DeclaredLemmas.{lifetimes_below, few_number, lifetimes_within, Program, program, adt_at, item_there, declared_there, named_there, struct_is, enum_is}
 use Rattle.rx_typeck_typed.proofs.Signatures.{signature_read}
 
 -- ---- what is recorded of lifetimes counts for nothing

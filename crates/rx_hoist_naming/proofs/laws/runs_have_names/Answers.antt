@@ -1,7 +1,7 @@
 use Rattle.std.proofs.Common.{ℕ, ◌<◌, length, slice_get}
 use Rattle.rx_typed.specs.PlainTree.{plain-TypedTree}
 use Rattle.rx_hoist_naming.specs.DeclaredNames.{declared_names}
-use Rattle.rx_hoist_naming.proofs.Runs.{in_a_run}
+use Rattle.rx_hoist_naming.proofs.RunLemmas.{in_a_run}
 use Rattle.rx_hoist_naming.proofs.laws.runs_have_names.Goals as goal
 
 pub returns : goal.returns

@@ -1,5 +1,5 @@
 use Rattle.rx_lower_walks.specs.Orders.{order_function}
-use Rattle.rx_lower_walks.proofs.Whole.{size_is}
+use Rattle.rx_lower_walks.proofs.WholeLemmas.{size_is}
 use Rattle.rx_lower_walks.proofs.Sites.{reached, has_held, site_held}
 use Rattle.rx_lower_walks.proofs.laws.sites_are_held.Goals as goal
 

@@ -1,4 +1,4 @@
-use Rattle.rx_lower_walks.proofs.Held.{held}
+use Rattle.rx_lower_walks.proofs.HeldLemmas.{held}
 use Rattle.rx_lower_walks.proofs.walks_laws.walks_hold_their_actions.Goals as goal
 
 pub returns : goal.returns
