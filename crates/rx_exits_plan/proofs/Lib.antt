@@ -1,7 +1,7 @@
 pub mod Alike
 pub mod Trees
 pub mod Marks
-pub mod Behind
+pub mod BehindLemmas
 pub mod Coming
 pub mod Way
 pub mod One

@@ -1,4 +1,4 @@
-use Rattle.rx_exits_plan.proofs.Behind.{comes_to_mark, mark_is_behind}
+use Rattle.rx_exits_plan.proofs.BehindLemmas.{comes_to_mark, mark_is_behind}
 use Rattle.rx_exits_plan.proofs.marks_laws.marks_are_held_where_walks_come.Goals as goal
 
 pub returns-clause-held : goal.returns-clause-held
