@@ -10,10 +10,10 @@ ghost use Rattle.rx_lower_walks.specs.Orders as order;
 ghost use Rattle.rx_lower_walks.specs.Flows.{order_of};
 ghost use Rattle.rx_lower_walks.specs.PlainFlow.{plain-Flow, plain-Temporary};
 
+use crate as parts;
 use crate::forms::{expression, value};
 use crate::{sequence, temporary_of, then_flow, with_act};
 use rx_core::{Boxed, List, Place, keep};
-use crate as parts;
 use rx_lower_walks::{Act, Flow, Temporary};
 use rx_tree::BinaryOp;
 use rx_typed::{Expr, Making, Mark, Operand};
