@@ -8,7 +8,10 @@ mod premises_laws;
 mod ready_laws;
 mod staying_laws;
 
-pub use accepted_laws::{accepted_extractions_run_alike, accepted_runs_are_had};
+pub use accepted_laws::{
+    accepted_extractions_run_alike, accepted_runs_are_had, accepted_tail_extractions_run_alike,
+    accepted_tails_are_had,
+};
 pub use found_laws::found_extractions_are_extractions;
 pub use laws::found_extractions_run_alike;
 pub use premises_laws::{
