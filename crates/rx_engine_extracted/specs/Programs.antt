@@ -1,5 +1,5 @@
 -- Whether an answer's typed program is the text's with a call of a new function in place of the run (REM, "Extract method").
-use Rattle.std.specs.Prelude.{ℕ, zero, suc, nat_eq, nat_le, Bool, true, false, not, ◌&&◌, ◌||◌, List, [], ◌∷◌, length, Option, Some, None}
+use Rattle.std.specs.Prelude.{ℕ, zero, suc, nat_eq, nat_le, Bool, true, false, not, ◌&&◌, ◌||◌, List, [], ◌∷◌, length, Option, Some, None, if◌then◌else◌}
 use Rattle.rx_typed.specs.Tree.{Function}
 use Rattle.rx_meaning.specs.Values.{element}
 use Rattle.rx_meaning.specs.Expressions.{Functions}

@@ -1,6 +1,2 @@
 //! An answer that is found to be an extraction by its typed trees is one: laws.
 #![tactic(auto)]
-
-mod laws;
-
-pub use laws::found_extractions_are_extractions;

@@ -61,7 +61,7 @@ pub(crate) fn checked(alloc: Global, program: &Program) -> Result<Checked, Fault
 }
 
 /// The tokens of a text that has them.
-pub(crate) fn tokens_of(alloc: Global, text: &[u8]) -> Result<Tokens<'_>, Fault>
+pub fn tokens_of(alloc: Global, text: &[u8]) -> Result<Tokens<'_>, Fault>
     requires { spec.HasTokens text.now }
     ensures found { IfOk result (λ t. spec.AreTokens text.now t) }
     ensures fault { IfErr result (λ f. f ≡ Fault.OutOfMemory) }
@@ -73,7 +73,7 @@ pub(crate) fn tokens_of(alloc: Global, text: &[u8]) -> Result<Tokens<'_>, Fault>
 }
 
 /// The run that a range of bytes selects, where a function may have the name.
-pub(crate) fn chosen(
+pub fn chosen(
     alloc: Global,
     tokens: &Tokens<'_>,
     program: &Program,

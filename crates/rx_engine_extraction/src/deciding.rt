@@ -36,7 +36,7 @@ use rx_typed_runs::RunPos;
 use std::alloc::Global;
 
 /// The run in the typed tree of its function.
-fn seat<'t>(
+pub fn seat<'t>(
     alloc: Global,
     program: &Program,
     function: &'t TypedFn,
@@ -157,7 +157,7 @@ fn of_reach(program: &Program, function: &TypedFn, run: &RunPos, fault: ReachFau
 }
 
 /// The plan of a run.
-fn planned(
+pub fn planned(
     alloc: Global,
     given: &Given<'_, '_>,
     run: &RunPos,
@@ -202,7 +202,7 @@ fn planned(
 }
 
 /// How the params of a plan are passed.
-fn passed<P: Policy>(
+pub fn passed<P: Policy>(
     alloc: Global,
     given: &Given<'_, '_>,
     function: &TypedFn,

@@ -9,7 +9,7 @@ use rx_tree::Program;
 
 /// An accepted text: its tokens, its program, and what the passes know of it.
 #[derive(Clone, Copy)]
-pub(crate) struct Given<'t, 's> {
+pub struct Given<'t, 's> {
     pub tokens: &'t Tokens<'s>,
     pub program: &'t Program,
     pub front: &'t FrontEnd,
@@ -24,7 +24,7 @@ pub(crate) struct Request<'t> {
 
 /// A run in the typed tree of its function, and its block.
 #[derive(Drop)]
-pub(crate) struct Seat<'t> {
+pub struct Seat<'t> {
     pub run: Run,
     pub home: Home<'t>,
 }

@@ -11,6 +11,9 @@ mod laws;
 mod names;
 mod refusal;
 
+pub use beginning::{chosen, tokens_of};
+pub use deciding::{passed, planned, seat};
 pub use extraction::{extract, extract_checked};
+pub use given::{Given, Seat};
 pub use laws::{answers_are_one, conditions_are_one, extractions_are_answers, refusals_are_one};
 pub use refusal::{Answer, Fault, Refusal, Selection};

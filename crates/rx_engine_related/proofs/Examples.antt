@@ -1,6 +1,5 @@
--- Programs that stand to each other as an extraction's do: a run that gives a local its value, which isn't declared `mut` and is lent behind
--- the run, and one in a loop that writes a variable and leaves the loop, whose function borrows the variable and tells the `break` by a
--- variant.
+-- Programs that stand to each other as an extraction's do: a run that gives a local its value, and one in a loop that writes a variable and
+-- leaves the loop, whose function borrows the variable and tells the `break` by a variant.
 use Rattle.std.proofs.Common.{◌≡◌, ℕ, zero, suc, pos, ◌==◌, Bool, true, false, nat_eq, if◌then◌else◌, List, [], ◌∷◌, Option, Some, None, refl, sym, subst, arith, inl}
 use Rattle.std.proofs.lemmas.Bool.Decides.{Decides-eqb}
 use Rattle.rx_core.specs.declared.types.Kind.{Kind}
@@ -8,7 +7,6 @@ use Rattle.rx_core.specs.declared.types.Step.TheVariants as step
 use Rattle.rx_tree.specs.declared.tree.BinaryOp.{BinaryOp}
 use Rattle.rx_typed.specs.Tree as tree
 use Rattle.rx_typed.specs.Tree.{Mark, Exp, Arms, Body, Function, own, under}
-use Rattle.rx_lower_walks.specs.Walks.{here}
 use Rattle.rx_facts_init.specs.Places.{Frame}
 use Rattle.rx_modes_policy.specs.declared.uses.Mode.TheVariants as mode
 use Rattle.rx_meaning.specs.Values.{element}
@@ -21,7 +19,7 @@ use Rattle.rx_engine_simulation.specs.Sights.{How, plain, free, special, through
 use Rattle.rx_engine_simulation.specs.Places.{direct, behind, no_steps, of_temporary}
 use Rattle.rx_engine_simulation.specs.Binders.{no_param, new_plain, new_special, none_new, new_and, takes_none, no_binding, binding_and, no_test, test_and}
 use Rattle.rx_engine_simulation.specs.Jumps.{Pack, loop_of}
-use Rattle.rx_engine_simulation.specs.Like.{opens, opens_in, reads, borrows, builds, assigns, updates, units, prints, blocks, chooses, loops, gives, no_operands, of_values, no_arms, arms_and, ends_in, runs_on, declares_all, lets_in}
+use Rattle.rx_engine_simulation.specs.Like.{opens, opens_in, reads, builds, assigns, updates, units, prints, blocks, chooses, loops, gives, no_operands, of_values, no_arms, arms_and, ends_in, runs_on, declares_all, lets_in}
 use Rattle.rx_engine_simulation.specs.Passing.{New, none_absent}
 use Rattle.rx_engine_simulation.specs.Blocks.{Stretch, done, does_then, before}
 use Rattle.rx_engine_simulation.specs.Packing.{takes_read, gives_one, gives_empty, gives_variant, receives_none, picks_here, picks_later}
@@ -35,7 +33,7 @@ use Rattle.rx_engine_simulation.proofs.Rereads.{self_exp}
 use Rattle.rx_engine_related.specs.ByForm as by_form
 use Rattle.rx_engine_related.specs.ByForm.{SameEntry}
 use Rattle.rx_engine_related.specs.Given.{given_all, is_lent, all_locals, a_local, enters_with}
-use Rattle.rx_engine_related.specs.Handed.{is_local, hands_none, hands_assigned, all_back, none_again, handed_on}
+use Rattle.rx_engine_related.specs.Handed.{is_mut, hands_none, hands_assigned, all_back, none_again, handed_on}
 use Rattle.rx_engine_related.specs.Leaving.{pack_if, packed, none_there, there_and, left_by_jump, back_arm, BackArm}
 use Rattle.rx_engine_related.specs.Moved.{moved_all, moved_statement, gives_outs}
 use Rattle.rx_engine_related.specs.Standing.{marked_run, call_alone, call_matched, run_becomes_call}
@@ -94,13 +92,9 @@ module _ (F : Frame) where
   abbrev giving : ℕ → Stretch
   giving x = does_then (tree.assign (m 5) (own x) (number 6 7)) done
 
-  -- &a; println!("{}", a);
-  abbrev lending : Body
-  lending = tree.runs (tree.borrow (m 18) false (own 0)) rest
-
-  -- let a; a = 7; &a; println!("{}", a);
+  -- let mut a; a = 7; println!("{}", a);
   abbrev main_body : Body
-  main_body = tree.declares 2 (0 ∷ []) (before (giving 0) lending)
+  main_body = tree.declares 2 (0 ∷ []) (before (giving 0) rest)
 
   abbrev asked : Asked
   asked = record { function = record { params = []; body = tree.block (m 1) main_body }; run = record { block = 1; first = 1; count = 1; tail = false }; home = record { around = record { scope = []; loops = [] }; body = main_body }; frame = F }
@@ -112,14 +106,14 @@ module _ (F : Frame) where
   abbrev plan : Plan
   plan = record { exits = next ∷ []; params = []; locals = 0 ∷ []; outs = local_out; value = None; redeclared = []; loose = [] }
 
-  -- let a; a = new(); &a; println!("{}", a);
+  -- let mut a; a = new(); println!("{}", a);
   abbrev calling : Body → Body
   calling b = tree.runs (tree.assign (m 9) (own 0) (tree.call (m 10) 1 tree.no_operand)) b
 
   abbrev main_answer : Function
-  main_answer = record { params = []; body = tree.block (m 1) (tree.declares 2 (0 ∷ []) (calling lending)) }
+  main_answer = record { params = []; body = tree.block (m 1) (tree.declares 2 (0 ∷ []) (calling rest)) }
 
-  -- fn new() -> i64 { let a; a = 7; a }
+  -- fn new() -> i64 { let mut a; a = 7; a }
   abbrev new : New
   new = record { number = 1; function = record { params = []; body = body_of (m 13) ((14, 5) ∷ []) (giving 5) (tree.ends (tree.give (m 13) (tree.read (m 15) true (own 5)))) } }
 
@@ -143,7 +137,7 @@ module _ (F : Frame) where
       by true f = (5, refl)
       by false f = absurd (none_some f)
 
-  pub local_extracts : Extracts asked (false ∷ []) plan [] (record { functions = Some asked.function ∷ []; main = 0 }) (pair_of main_answer new.function)
+  pub local_extracts : Extracts asked (true ∷ []) plan [] (record { functions = Some asked.function ∷ []; main = 0 }) (pair_of main_answer new.function)
   local_extracts = record {
     item = 0;
     is_there = refl;
@@ -162,12 +156,12 @@ module _ (F : Frame) where
     related = record {
       inside = [];
       params = no_param;
-      body = opens {e = tree.unit (m 1)} {e' = tree.unit (m 1)} {f = λ e. tree.block (m 1) main_body} {f' = λ e. tree.block (m 1) (tree.declares 2 (0 ∷ []) (calling lending))} 1 0 (omega arith) (run_block refl (declares_all outside (new_and special (new_special (inl refl)) refl (none_seen 0) none_new)
-          (opens_in {Ra = outside} {b = lending} {b' = lending} {f = λ b. before (marked_run plan none_left (giving 0)) b} {f' = calling} 1 0 (omega arith)
+      body = opens {e = tree.unit (m 1)} {e' = tree.unit (m 1)} {f = λ e. tree.block (m 1) main_body} {f' = λ e. tree.block (m 1) (tree.declares 2 (0 ∷ []) (calling rest))} 1 0 (omega arith) (run_block refl (declares_all outside (new_and special (new_special (inl refl)) refl (none_seen 0) none_new)
+          (opens_in {Ra = outside} {b = rest} {b' = rest} {f = λ b. before (marked_run plan none_left (giving 0)) b} {f' = calling} 1 0 (omega arith)
           (run_becomes_call {r = giving 0} {l = none_left} {mc = m 10} inside inside (m 13) ((14, 5) ∷ []) refl (enters_with [] [] inside (λ x i. absurd i) given_all (a_local refl refl (none_seen 5) all_locals) none_absent covers its_own)
           (moved_statement (assigns (direct special refl tt ((λ o. tt), tt) no_steps) (builds tt no_operands)) moved_all) (gives_outs (there_and refl none_there) (gives_one takes_read)) (λ q. absurd (bare_ends q)) (call_alone refl)
-          (handed_on [] outside outside (λ x e f. absurd (none_some f)) (λ x y e. absurd (none_some e)) (hands_assigned refl (none_seen 0) refl (is_local here)) none_again (λ x e f. f) (λ x e f. f)))
-          (runs_on 0 0 (omega arith) (borrows (direct special refl tt (λ o. tt) no_steps)) (runs_on 0 0 (omega arith) (prints (reads (direct special refl tt tt no_steps))) (ends_in (gives refl units))))))) units;
+          (handed_on [] outside outside (λ x e f. absurd (none_some f)) (λ x y e. absurd (none_some e)) (hands_assigned refl (none_seen 0) refl (is_mut refl)) none_again (λ x e f. f) (λ x e f. f)))
+          (runs_on 0 0 (omega arith) (prints (reads (direct special refl tt tt no_steps))) (ends_in (gives refl units)))))) units;
     };
   }
 
@@ -249,7 +243,7 @@ module _ (F : Frame) where
       by false f = absurd (none_some f)
 
   abbrev Jumps : Option ℕ → Pack → Type 0
-  Jumps o p = (mj : Mark) × (d : ℕ) × (o ≡ Some d) × BackArm asked_loop (true ∷ []) plan_loop around arms_of p (tree.jump mj d false)
+  Jumps o p = (mj : Mark) × (d : ℕ) × (o ≡ Some d) × BackArm asked_loop (true ∷ []) around arms_of p (tree.jump mj d false)
 
   breaks_on : (n : ℕ) (p : Pack) → packed plan_loop n false ≡ Some p → Jumps (loop_of ((0, 0) ∷ []) n) p
   breaks_on n p f = by (n == 0) refl f
@@ -297,6 +291,6 @@ module _ (F : Frame) where
     };
   }
     where
-      on : (n : ℕ) (again : Bool) (p : Pack) → packed plan_loop n again ≡ Some p → (mj : Mark) × (d : ℕ) × (loop_of ((0, 0) ∷ []) n ≡ Some d) × BackArm asked_loop (true ∷ []) plan_loop around arms_of p (tree.jump mj d again)
+      on : (n : ℕ) (again : Bool) (p : Pack) → packed plan_loop n again ≡ Some p → (mj : Mark) × (d : ℕ) × (loop_of ((0, 0) ∷ []) n ≡ Some d) × BackArm asked_loop (true ∷ []) around arms_of p (tree.jump mj d again)
       on n true p f = absurd (none_some f)
       on n false p f = breaks_on n p f

@@ -4,24 +4,23 @@ use Rattle.rx_typed.specs.Tree.{Exp, Body}
 use Rattle.rx_lower_walks.specs.Actions.{Action}
 use Rattle.rx_lower_walks.specs.Walks.{Among, here, there}
 use Rattle.rx_exits_plan.specs.Asked.{Asked}
-use Rattle.rx_exits_plan.specs.Plan.{Plan}
 use Rattle.rx_engine_simulation.specs.Histories.{Facts, Living}
 use Rattle.rx_engine_simulation.specs.Sights.{Renaming}
 use Rattle.rx_engine_simulation.specs.Arrivals.{Aim, Arrives, IsUnlent}
 use Rattle.rx_engine_simulation.specs.Handing.{PuttingBack, puts_none, stays_there, puts_and, Using, drops, assigns, declares, spreads, Redeclaring, redeclares_none, redeclares_and}
 use Rattle.rx_engine_related.specs.Handed.{MayBeAssigned, PutBack, all_back, stays, goes_back, HandsBack, hands_none, hands_assigned, hands_declared, hands_several, Redeclared, none_again, again_and}
 
-module _ (A : Asked) (V : Facts) (muts : List Bool) (k : Plan) (R : Renaming) (block : Body) where
+module _ (A : Asked) (V : Facts) (muts : List Bool) (R : Renaming) (block : Body) where
   -- what may be assigned was not lent
   abbrev pub Unlent : List ℕ → Type 0
-  Unlent xs = (x : ℕ) → Among x xs → MayBeAssigned A muts k x → IsUnlent V block x
+  Unlent xs = (x : ℕ) → Among x xs → MayBeAssigned A muts x → IsUnlent V block x
 
-  pub back_so : {Rc Rd : Renaming} {xs os : List ℕ} {f : Body → Body} → Unlent xs → PutBack A muts k R Rc xs os f Rd → PuttingBack V R block Rc xs os f Rd
+  pub back_so : {Rc Rd : Renaming} {xs os : List ℕ} {f : Body → Body} → Unlent xs → PutBack A muts R Rc xs os f Rd → PuttingBack V R block Rc xs os f Rd
   back_so unlent all_back = puts_none
   back_so unlent (stays p) = stays_there (back_so (λ y i. unlent y (there i)) p)
   back_so unlent (goes_back {x = x} seen new m t p) = puts_and seen new (unlent x here m) t (back_so (λ y i. unlent y (there i)) p)
 
-  pub hands_so : {e : Exp} {Rs Rr : Renaming} {xs : List ℕ} {g : Body → Body} → Unlent xs → HandsBack A muts k R e Rs xs Rr g → Using V R block e Rs xs Rr g
+  pub hands_so : {e : Exp} {Rs Rr : Renaming} {xs : List ℕ} {g : Body → Body} → Unlent xs → HandsBack A muts R e Rs xs Rr g → Using V R block e Rs xs Rr g
   hands_so unlent hands_none = drops
   hands_so unlent (hands_assigned {x = x} none new seen m) = assigns none new seen (unlent x here m)
   hands_so unlent (hands_declared received) = declares received

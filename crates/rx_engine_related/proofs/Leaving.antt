@@ -7,8 +7,7 @@ use Rattle.rx_typed.specs.Tree.{Mark, Exp, Arms, Body, temporary_at}
 use Rattle.rx_lower_walks.specs.Orders.{order_body}
 use Rattle.rx_lower_walks.specs.Walks as walk
 use Rattle.rx_lower_walks.specs.Walks.{Among, here, there}
-use Rattle.rx_exits_marks.specs.Points.{Exit, next, breaks, continues, returns, enters, leaves, same_exit, jump_exit}
-use Rattle.rx_exits_marks.specs.Marked.{mark}
+use Rattle.rx_exits_marks.specs.Points.{Exit, next, breaks, continues, returns, leaves, same_exit, jump_exit}
 use Rattle.rx_exits_plan.specs.Asked.{Asked}
 use Rattle.rx_exits_plan.specs.Plan.{Plan}
 use Rattle.rx_engine_simulation.specs.Histories.{Living}
@@ -27,12 +26,11 @@ use Rattle.rx_engine_histories.proofs.Closing.{given_dead}
 use Rattle.rx_engine_histories.proofs.Premises.{out_ready, whole_unlent}
 use Rattle.rx_engine_histories.proofs.Runs.{running_others_dead, running_lent}
 use Rattle.rx_engine_related.specs.ByForm.{by_form}
-use Rattle.rx_engine_related.specs.Handed.{MayBeAssigned, is_mut, is_local, not_lent}
+use Rattle.rx_engine_related.specs.Handed.{MayBeAssigned, is_mut, not_lent}
 use Rattle.rx_engine_related.specs.Leaving.{place_from, variant_for, pack_if, jumps_of, Left, left_by_jump, left_by_return, left_with_value, left_with_unit, left, BackArm, back_arm, ArmsOf}
 use Rattle.rx_engine_related.proofs.Loops.{Held}
 use Rattle.rx_engine_related.proofs.Weaker.{Opens}
 use Rattle.rx_engine_related.proofs.Specials.{in_list, out_special}
-use Rattle.rx_engine_related.proofs.Locals.{local_unlent}
 use Rattle.rx_engine_related.proofs.Ending.{ready_so}
 use Rattle.rx_engine_related.proofs.Handing.{back_so}
 
@@ -136,25 +134,23 @@ module _ (A : Asked) (muts : List Bool) (k : Plan) (had : Held A muts k) (u : Un
 
   -- ---- in the caller
 
-  -- what is handed out and may be assigned was not lent where the run is entered
-  pub assigned_unlent : (b : Body) (e : Exit) (x : ℕ) → Among e k.exits → Among x (k.outs e) → MayBeAssigned A muts k x → IsUnlent (known_of A k u) (tree.runs (mark enters) b) x
-  assigned_unlent b e x i o (is_mut m) = whole_unlent A k u had.short had.plan muts had.accepted had.unaliased (tree.runs (mark enters) b) x (out_special A k e x i o) m
-  assigned_unlent b e x i o (is_local l) = local_unlent A muts k had u x l e i o b
-  assigned_unlent b e x i o (not_lent none) =
-      λ n t h c w. none (running_lent A had.short k.params muts had.accepted x h (comes_on (running_of A k.params) (order_body (tree.runs (mark enters) b) n t) h [] c walk.rests) w)
+  -- what may be assigned was not lent in front of the run
+  pub assigned_unlent : (block : Body) (x : ℕ) → In x (special_of A k) → MayBeAssigned A muts x → IsUnlent (known_of A k u) block x
+  assigned_unlent block x i (is_mut m) = whole_unlent A k u had.short had.plan muts had.accepted had.unaliased block x i m
+  assigned_unlent block x i (not_lent none) = λ n t h c b. none (running_lent A had.short k.params muts had.accepted x h (comes_on (running_of A k.params) (order_body block n t) h [] c walk.rests) b)
 
-  arm_so : {R : Renaming} {l : Arms} {p : Pack} {jump : Exp} (b : Body) (e : Exit) → Among e k.exits → p.outs ≡ k.outs e → BackArm A muts k R l p jump → JumpArm (known_of A k u) R (tree.runs (mark enters) b) l p jump
-  arm_so b e i same (back_arm Rs Rr Rd all within received receives picks put back jumps) =
+  arm_so : {R : Renaming} {l : Arms} {p : Pack} {jump : Exp} (block : Body) (e : Exit) → Among e k.exits → p.outs ≡ k.outs e → BackArm A muts R l p jump → JumpArm (known_of A k u) R block l p jump
+  arm_so block e i same (back_arm Rs Rr Rd all within received receives picks put back jumps) =
       jump_arm Rs Rr Rd all within received receives picks
-      (back_so A (known_of A k u) muts k _ (tree.runs (mark enters) b) (λ x o m. assigned_unlent b e x i (subst (λ xs. Among x xs) same o) m) put) back jumps
+      (back_so A (known_of A k u) muts _ block (λ x o m. assigned_unlent block x (out_special A k e x i (subst (λ xs. Among x xs) same o)) m) put) back jumps
 
-  pub arms_so : {unit : Bool} {J : Jumping} {R : Renaming} {l : Arms} (b : Body) → ArmsOf A muts k unit J R l → JumpOn (known_of A k u) J (jumps_of A k unit) R (tree.runs (mark enters) b) l
-  arms_so {unit} b arms = record {
+  pub arms_so : {unit : Bool} {J : Jumping} {R : Renaming} {l : Arms} (block : Body) → ArmsOf A muts k unit J R l → JumpOn (known_of A k u) J (jumps_of A k unit) R block l
+  arms_so {unit} block arms = record {
     all_dead = arms.all_special;
     no_loops = refl;
     jumps_on = λ n again p e.
         let z = arms.jumps n again p e in
         let q = (jumps_by_plan A k unit).jumps n again p e in
-        (z.0, z.1, z.2, arm_so b (jump_exit n again) q.0 q.1 z.3);
+        (z.0, z.1, z.2, arm_so block (jump_exit n again) q.0 q.1 z.3);
     returns_on = arms.return;
   }

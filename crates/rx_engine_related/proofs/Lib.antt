@@ -1,13 +1,8 @@
-pub mod Undeclared
-pub mod Inside
-pub mod Entry
 pub mod Weaker
 pub mod Freed
 pub mod Same
 pub mod Loops
 pub mod Specials
-pub mod Outs
-pub mod Locals
 pub mod Entering
 pub mod Moving
 pub mod Ending

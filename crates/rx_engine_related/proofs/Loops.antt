@@ -6,7 +6,7 @@ use Rattle.rx_typed.specs.Tree as tree
 use Rattle.rx_typed.specs.Tree.{Exp, Operands, Scrutinee, Arms, Body, Function, Temporary, mark_of, temporary_of, temporary_at}
 use Rattle.rx_lower_walks.specs.Matching.{PartTest, Binding, tests, bindings}
 use Rattle.rx_lower_walks.specs.Actions.{Act, Subject, subject, taken}
-use Rattle.rx_lower_walks.specs.Orders.{Order, order, order_all, order_scrutinee, order_arms, order_body, order_function, testing, binding, declaring, perhaps}
+use Rattle.rx_lower_walks.specs.Orders.{Order, order, order_all, order_scrutinee, order_arms, order_body, testing, binding, declaring, perhaps}
 use Rattle.rx_lower_walks.specs.Walks.{Among, here, there}
 use Rattle.rx_exits_marks.specs.Blocks.{Statement, statements, bound}
 use Rattle.rx_exits_marks.specs.Blocks as block
@@ -23,7 +23,6 @@ use Rattle.rx_engine_simulation.specs.Marking.{without_turns}
 use Rattle.rx_engine_simulation.proofs.Declaring.{eq_self}
 use Rattle.rx_exits_marks.specs.Points.{Exit, next, breaks, continues, returns, leaves, jump_exit}
 use Rattle.rx_exits_marks.specs.Marked.{shown}
-use Rattle.rx_exits_marks.specs.Coming.{HasNoMark}
 use Rattle.rx_exits_plan.specs.Diverging.{run_diverges}
 use Rattle.rx_exits_plan.specs.Exits.{Jump, jumps, is_taken, where_taken, of_loops, exits}
 use Rattle.rx_exits_plan.specs.Asked.{Asked}
@@ -378,8 +377,6 @@ pub record Held (A : Asked) (muts : List Bool) (k : Plan) : Type 0 where
   pub short : A.run.tail ≡ false
   pub plan : IsPlan A k
   pub accepted : Accepted A muts
-  pub sits : Among (a_block A.home.around A.run.block A.home.body) (spots_of_function A.function)
-  pub unmarked : HasNoMark (order_function A.function)
   pub one_block : blocks_at A.run.block (spots_of_function A.function) ≤ 1
   pub whole : (x : ℕ) → ¬ (PartlyMoved A k x)
   pub unaliased : (x : ℕ) → ¬ (Aliased A muts k x)
@@ -391,8 +388,6 @@ held_of A muts k had (is_itself self) = record {
   short = had.short;
   plan = had.plan;
   accepted = had.accepted;
-  sits = had.sits.block;
-  unmarked = had.unmarked;
   one_block = had.one_block;
   whole = had.whole;
   unaliased = had.unaliased;

@@ -5,7 +5,7 @@ use Rattle.rx_typed.specs.Tree.{Exp, Body, Mark, Operands, temporary_of}
 use Rattle.rx_lower_walks.specs.Actions.{Action}
 use Rattle.rx_lower_walks.specs.Walks.{Among, here}
 use Rattle.rx_exits_marks.specs.Points.{next, returns, enters, leaves}
-use Rattle.rx_exits_marks.specs.Marked.{mark, shown}
+use Rattle.rx_exits_marks.specs.Marked.{shown}
 use Rattle.rx_exits_plan.specs.Asked.{Asked}
 use Rattle.rx_exits_plan.specs.Plan.{Plan}
 use Rattle.rx_modes_policy.specs.declared.uses.Mode.{Mode}
@@ -15,9 +15,9 @@ use Rattle.rx_engine_simulation.specs.Sights.{In, Renaming}
 use Rattle.rx_engine_simulation.specs.Jumps.{Jumping}
 use Rattle.rx_engine_simulation.specs.Programs.{Untouched}
 use Rattle.rx_engine_simulation.specs.Passing.{New, inner_jumps}
-use Rattle.rx_engine_simulation.specs.Arrivals.{Aim, to_rest, Arrives, arrives_rest, arrives_past, arrives_then, AreDead, IsReady, IsUnlent}
+use Rattle.rx_engine_simulation.specs.Arrivals.{Aim, to_rest, Arrives, arrives_rest, arrives_past, arrives_then, AreDead, IsReady}
 use Rattle.rx_engine_simulation.specs.Blocks.{Stretch, before}
-use Rattle.rx_engine_simulation.specs.Marks.{reading, with_mark, closed_by, AreWritten}
+use Rattle.rx_engine_simulation.specs.Marks.{with_mark, closed_by, AreWritten}
 use Rattle.rx_engine_simulation.specs.Packing.{Way, bare, as_variant, no_way}
 use Rattle.rx_engine_simulation.specs.Stretches.{LikeStretch, only_marks}
 use Rattle.rx_engine_simulation.specs.Endings.{Last, none_left, a_marked, a_tail, with_last, aim_of, LikeEnd}
@@ -29,13 +29,13 @@ use Rattle.rx_engine_histories.proofs.Premises.{others_dead, out_ready}
 use Rattle.rx_engine_histories.proofs.Choosing as choosing
 use Rattle.rx_engine_histories.proofs.Runs.{running_others_dead, running_param_written}
 use Rattle.rx_engine_related.specs.Moved.{Moved, Ended, gives_outs, gives_last, gives_never, gives_left}
-use Rattle.rx_engine_related.specs.Handed.{MayBeAssigned, Handed, handed_on}
+use Rattle.rx_engine_related.specs.Handed.{Handed, handed_on}
 use Rattle.rx_engine_related.specs.Never.{NeverEnds, first_never, last_never}
 use Rattle.rx_engine_related.specs.Leaving.{jumps_of}
 use Rattle.rx_engine_related.specs.Standing.{marked_run, call_alone, call_matched, call_left, CallOf, RunBecomesCall, run_becomes_call}
 use Rattle.rx_engine_related.specs.Given.{EntersWith}
 use Rattle.rx_engine_related.proofs.Loops.{Held}
-use Rattle.rx_engine_related.proofs.Specials.{again_special, again_not_out}
+use Rattle.rx_engine_related.proofs.Specials.{out_special, again_special, again_not_out}
 use Rattle.rx_engine_related.proofs.Entering.{entered}
 use Rattle.rx_engine_related.proofs.Moving.{moved_so, moved_closed}
 use Rattle.rx_engine_related.proofs.Leaving.{ByPlan, inner_by_plan, jumps_by_plan, variant_among, all_left, assigned_unlent, arms_so}
@@ -91,16 +91,15 @@ module _ (A : Asked) (muts : List Bool) (k : Plan) (had : Held A muts k) (u : Un
         by (as_variant v) e never h0 l = running_others_dead A had.short k had.plan u next x e not_returns (again_special A k x i) (again_not_out A k had.plan x i) h0 l
         by no_way e never h0 l = never refl h c
 
-    -- what is assigned there is of that exit
-    assigned_so : (w : Way) → Ends w → (b : Body) (x : ℕ) → Among x (k.outs next) → MayBeAssigned A muts k x → IsUnlent (known_of A k u) (tree.runs (mark enters) b) x
-    assigned_so bare e b x o m = assigned_unlent A muts k had u b next x e o m
-    assigned_so (as_variant v) e b x o m = assigned_unlent A muts k had u b next x e o m
-    assigned_so no_way e b x o m = absurd (no_outs e x o)
+    out_is_special : (w : Way) → Ends w → (x : ℕ) → Among x (k.outs next) → In x (special_of A k)
+    out_is_special bare e x o = out_special A k next x e o
+    out_is_special (as_variant v) e x o = out_special A k next x e o
+    out_is_special no_way e x o = absurd (no_outs e x o)
 
-    handed_so : {J : Jumping} {R Rb Rn : Renaming} {e : Exp} {f' : Body → Body} (l : Last) (w : Way) (b : Body) → Ends w → Unreached w → Following J l (λ b. b) → Handed A muts k R Rb e Rn f' → Handing (known_of A k u) J R Rb (tree.runs (mark enters) b) a e l false w (k.outs next) Rn f'
-    handed_so {R = R} l w b ends never follows (handed_on {f = f} {g = g} Rs Rr Rd within handed back again there back_in) =
+    handed_so : {J : Jumping} {R Rb Rn : Renaming} {e : Exp} {f' : Body → Body} (l : Last) (w : Way) (block : Body) → Ends w → Unreached w → Following J l (λ b. b) → Handed A muts k R Rb e Rn f' → Handing (known_of A k u) J R Rb block a e l false w (k.outs next) Rn f'
+    handed_so {R = R} l w block ends never follows (handed_on {f = f} {g = g} Rs Rr Rd within handed back again there back_in) =
         hands_on {f = f} {g = g} {k = λ b. b} Rs Rr Rd within (end_dead w ends never Rs handed)
-        (hands_so A (known_of A k u) muts k R (tree.runs (mark enters) b) (λ x i m. assigned_so w ends b x i m) back)
+        (hands_so A (known_of A k u) muts R block (λ x i m. assigned_unlent A muts k had u block x (out_is_special w ends x i) m) back)
         (again_so a (again_dead w ends never) again) follows there back_in
 
   -- where its statements never end
@@ -136,7 +135,7 @@ module _ (A : Asked) (muts : List Bool) (k : Plan) (had : Held A muts k) (u : Un
 
     module _ {J : Jumping} {R Rn Ra Rb : Renaming} {r r' : Stretch} {w : Way} {xs : List ℕ} {end : Body} {es : Operands} {mc : Mark} {called : Exp} {f' : Body → Body} (rest : Body) (mb : Mark) (ls : List (ℕ × ℕ)) (same : xs ≡ k.outs next)
         (is : N.function.body ≡ body_of mb ls r' end) (en : EntersWith gain.strays k modes R es N.function.params ls Ra) (moved : Moved items gain U (special_of A k) Ji Ra r r' Rb)
-        (ends : Ends w) (calling : (b : Body) → Calling V J R (tree.runs (mark enters) b) (tree.call mc N.number es) Ji w (length (k.outs next)) called) (handed : Handed A muts k R Rb called Rn f') where
+        (ends : Ends w) (calling : (block : Body) → Calling V J R block (tree.call mc N.number es) Ji w (length (k.outs next)) called) (handed : Handed A muts k R Rb called Rn f') where
       -- all statements are in front, or one is left
       all_in_front : (w ≡ no_way → NeverEnds none_left r) → Ended items gain U (special_of A k) Ji Rb none_left w xs end → StatementsBecomeCall items gain U N V 1 J R Rn rest (λ b. before (marked_run k none_left r) b) f'
       all_in_front never ended =
@@ -144,8 +143,8 @@ module _ (A : Asked) (muts : List Bool) (k : Plan) (had : Held A muts k) (u : Un
           let told = by_mark_behind A k u r rest in
           let unreached : w ≡ no_way → (h : List Action) → Arrives V aim h → ⊥ = λ q h c. none_behind r rest (never q) h c in
           statements_become_call {r = marked_run k none_left r} {l = none_left} {has = false} {mc = mc} Ra Rb mb ls is (entered A k u had.short had.plan muts had.accepted (closed_by r (leaves next)) rest en)
-          (closed_so moved) (end_so aim same unreached (outs_ready aim told w ends) ended) (λ e f. absurd (not_a_tail e f)) (calling (before (reading k.params (closed_by r (leaves next))) rest))
-          (handed_so aim told none_left w (before (reading k.params (closed_by r (leaves next))) rest) ends unreached goes_on handed)
+          (closed_so moved) (end_so aim same unreached (outs_ready aim told w ends) ended) (λ e f. absurd (not_a_tail e f)) (calling (before (marked_run k none_left r) rest))
+          (handed_so aim told none_left w (before (marked_run k none_left r) rest) ends unreached goes_on handed)
 
       one_left : (e : Exp) → (w ≡ no_way → NeverEnds (a_marked e (leaves next)) r) → Ended items gain U (special_of A k) Ji Rb (a_marked e (leaves next)) w xs end
           → StatementsBecomeCall items gain U N V 1 J R Rn rest (λ b. before (marked_run k (a_marked e (leaves next)) r) (with_last (a_marked e (leaves next)) b)) f'
@@ -155,12 +154,12 @@ module _ (A : Asked) (muts : List Bool) (k : Plan) (had : Held A muts k) (u : Un
           let told = by_mark_last A k u r e rest in
           let unreached : w ≡ no_way → (h : List Action) → Arrives V aim h → ⊥ = λ q h c. none_past r e rest (never q) h c in
           statements_become_call {r = marked_run k l r} {l = l} {has = false} {mc = mc} Ra Rb mb ls is (entered A k u had.short had.plan muts had.accepted r (with_last l rest) en)
-          (stretch_so moved) (end_so aim same unreached (outs_ready aim told w ends) ended) (λ f q. absurd (marked_no_tail e f q)) (calling (before (reading k.params r) (with_last l rest)))
-          (handed_so aim told l w (before (reading k.params r) (with_last l rest)) ends unreached goes_on_marked handed)
+          (stretch_so moved) (end_so aim same unreached (outs_ready aim told w ends) ended) (λ f q. absurd (marked_no_tail e f q)) (calling (before (marked_run k l r) (with_last l rest)))
+          (handed_so aim told l w (before (marked_run k l r) (with_last l rest)) ends unreached goes_on_marked handed)
 
     becomes : {J : Jumping} {R Rn Ra Rb : Renaming} {r r' : Stretch} {l : Last} {w : Way} {xs : List ℕ} {end : Body} {es : Operands} {mc : Mark} {called : Exp} {f' : Body → Body} (rest : Body) (mb : Mark) (ls : List (ℕ × ℕ)) → xs ≡ k.outs next
         → N.function.body ≡ body_of mb ls r' end → EntersWith gain.strays k modes R es N.function.params ls Ra → Moved items gain U (special_of A k) Ji Ra r r' Rb → Ended items gain U (special_of A k) Ji Rb l w xs end
-        → (w ≡ no_way → NeverEnds l r) → Ends w → ((b : Body) → Calling V J R (tree.runs (mark enters) b) (tree.call mc N.number es) Ji w (length (k.outs next)) called) → Handed A muts k R Rb called Rn f'
+        → (w ≡ no_way → NeverEnds l r) → Ends w → ((block : Body) → Calling V J R block (tree.call mc N.number es) Ji w (length (k.outs next)) called) → Handed A muts k R Rb called Rn f'
         → StatementsBecomeCall items gain U N V 1 J R Rn rest (λ b. before (marked_run k l r) (with_last l b)) f'
     becomes rest mb ls same is en moved (gives_outs have gives) never ends calling handed = all_in_front rest mb ls same is en moved ends calling handed never (gives_outs have gives)
     becomes rest mb ls same is en moved (gives_last {e = e} like) never ends calling handed = one_left rest mb ls same is en moved ends calling handed e never (gives_last like)
@@ -173,11 +172,11 @@ module _ (A : Asked) (muts : List Bool) (k : Plan) (had : Held A muts k) (u : Un
         → (w ≡ no_way → NeverEnds l r) → CallOf A muts k J R (tree.call mc N.number es) Ji w called → Handed A muts k R Rb called Rn f'
         → StatementsBecomeCall items gain U N (known_of A k u) 1 J R Rn rest (λ b. before (marked_run k l r) (with_last l b)) f'
     with_call rest mb ls is en moved ended never (call_alone only) handed =
-        becomes modes items gain U N inner_jumps (inner_by_plan A k) rest mb ls refl is en moved ended never (subst (λ l. Among next l) (sym only) here) (λ b. calls_alone) handed
+        becomes modes items gain U N inner_jumps (inner_by_plan A k) rest mb ls refl is en moved ended never (subst (λ l. Among next l) (sym only) here) (λ block. calls_alone) handed
     with_call rest mb ls is en moved ended never (call_matched unit has arms picks receives new gives many) handed =
-        becomes modes items gain U N (jumps_of A k unit) (jumps_by_plan A k unit) rest mb ls refl is en moved ended never (variant_among k next has) (λ b. matches (arms_so A muts k had u b arms) picks receives new gives many) handed
+        becomes modes items gain U N (jumps_of A k unit) (jumps_by_plan A k unit) rest mb ls refl is en moved ended never (variant_among k next has) (λ block. matches (arms_so A muts k had u block arms) picks receives new gives many) handed
     with_call rest mb ls is en moved ended never (call_left unit none arms) handed =
-        becomes modes items gain U N (jumps_of A k unit) (jumps_by_plan A k unit) rest mb ls refl is en moved ended never none (λ b. matches_jumps (arms_so A muts k had u b arms)) handed
+        becomes modes items gain U N (jumps_of A k unit) (jumps_by_plan A k unit) rest mb ls refl is en moved ended never none (λ block. matches_jumps (arms_so A muts k had u block arms)) handed
 
     pub stands_so : {a : ℕ} {J : Jumping} {R Rn : Renaming} {rest : Body} {f f' : Body → Body} → RunBecomesCall A muts k modes items gain U N a J R Rn rest f f' → StatementsBecomeCall items gain U N (known_of A k u) a J R Rn rest f f'
     stands_so (run_becomes_call {rest = rest} Ra Rb mb ls is en moved ended never call handed) = with_call rest mb ls is en moved ended never call handed

@@ -68,12 +68,12 @@ left U = record { expression = λ V a J R e f g. Left U a J R e f g; statements 
 -- ---- in the caller
 
 -- the arm of a jump's variant puts back what the exit hands out, and jumps
-pub data BackArm (A : Asked) (muts : List Bool) (k : Plan) (R : Renaming) (l : Arms) (p : Pack) (jump : Exp) : Type 0 where
+pub data BackArm (A : Asked) (muts : List Bool) (R : Renaming) (l : Arms) (p : Pack) (jump : Exp) : Type 0 where
   back_arm : {qs : List ℕ} {ps : Subpatterns} {e : Exp} {f : Body → Body} (Rs Rr Rd : Renaming) → AllSpecial R p.outs → Within Rs R → Receiving R Rs p.outs qs Rr → Receives 0 qs ps → Picks l p.variant ps e
-      → PutBack A muts k R Rr p.outs qs f Rd → Within R Rd → JumpsBehind f jump e → BackArm A muts k R l p jump
+      → PutBack A muts R Rr p.outs qs f Rd → Within R Rd → JumpsBehind f jump e → BackArm A muts R l p jump
 
 -- under the jumps there
 pub record ArmsOf (A : Asked) (muts : List Bool) (k : Plan) (unit : Bool) (J : Jumping) (R : Renaming) (l : Arms) : Type 0 where
   pub all_special : (x y : ℕ) → sight_of R x ≡ Some (sight y special) → In x (special_of A k)
-  pub jumps : (n : ℕ) (again : Bool) (p : Pack) → packed k n again ≡ Some p → (mj : Mark) × (d : ℕ) × (loop_of J.loops n ≡ Some d) × BackArm A muts k R l p (tree.jump mj d again)
+  pub jumps : (n : ℕ) (again : Bool) (p : Pack) → packed k n again ≡ Some p → (mj : Mark) × (d : ℕ) × (loop_of J.loops n ≡ Some d) × BackArm A muts R l p (tree.jump mj d again)
   pub return : ReturnsOn J R l (returning_if unit (variant_for k returns))

@@ -8,4 +8,3 @@ pub mod Standing
 pub mod InBlock
 pub mod Extracts
 pub mod Had
-pub mod Stretched

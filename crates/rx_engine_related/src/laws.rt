@@ -1,17 +1,10 @@
 //! Laws, each the contract of a function that does nothing.
 
-ghost use Rattle.std.specs.Prelude.{◌≡◌, ◌⊎◌, ◌*◌, ℕ, ℤ, Bool, true, List as ListOf, Option as OptionOf, Some, slice_get};
+ghost use Rattle.std.specs.Prelude.{◌*◌, ℕ, ℤ, Bool, List as ListOf, Option as OptionOf};
 ghost use Rattle.rx_typed.specs.Tree.{Function};
-ghost use Rattle.rx_lower_walks.specs.Walks.{Among};
-ghost use Rattle.rx_exits_marks.specs.Points.{Exit};
 ghost use Rattle.rx_exits_plan.specs.Asked.{Asked};
-ghost use Rattle.rx_exits_plan.specs.Plan.{Plan, IsPlan, foreign_of};
-ghost use Rattle.rx_exits_plan.specs.MixedInit.{MixedInit};
-ghost use Rattle.rx_exits_plan.specs.PartlyMoved.{PartlyMoved};
+ghost use Rattle.rx_exits_plan.specs.Plan.{Plan};
 ghost use Rattle.rx_modes_policy.specs.declared.uses.Mode.{Mode};
-ghost use Rattle.rx_modes_policy.specs.declared.uses.Uses.{Uses};
-ghost use Rattle.rx_modes_uses.specs.Modes.{IsModes};
-ghost use Rattle.rx_modes_uses.specs.NotMut.{NotMut};
 ghost use Rattle.rx_meaning.specs.Values.{element};
 ghost use Rattle.rx_meaning.specs.Programs.{Program, run, UpTo};
 ghost use Rattle.rx_engine_simulation.specs.Openings.{no_openings};
@@ -36,13 +29,4 @@ pub fn extracted_programs_run_alike()
 pub fn alike_items_are_the_same()
     ensures same { (items : ℕ → ℕ) (o p : OptionOf (OptionOf Function)) → LikeEntry items no_openings without_turns o p → SameEntry items o p }
     ensures itself { (P : Program) → ((f : ℕ) → LikeEntry (λ f. f) no_openings without_turns (element P.functions f) (element P.functions f)) → EachIsItself P }
-{}
-
-/// What an exit hands out and the run does not declare is declared `mut`, or a local, so it may be assigned in the caller: of a run that is
-/// refused for no variable, each param having a mode.
-pub fn outs_may_be_assigned()
-    ensures with_modes { (A : Asked) (muts : ListOf Bool) (k : Plan) → IsPlan A k → (e : Exit) → Among e k.exits → (x : ℕ) → Among x (k.outs e) → Among x (foreign_of A)
-        → ¬ (MixedInit A x) → ¬ (PartlyMoved A k x) → (choice : Uses → Mode) (ms : ListOf Mode) → IsModes A muts k choice ms → (slice_get muts x ≡ Some true) ⊎ Among x k.locals }
-    ensures unrefused { (A : Asked) (muts : ListOf Bool) (k : Plan) → IsPlan A k → (e : Exit) → Among e k.exits → (x : ℕ) → Among x (k.outs e) → Among x (foreign_of A)
-        → ¬ (MixedInit A x) → ¬ (PartlyMoved A k x) → ((y : ℕ) → ¬ (NotMut A muts k y)) → (slice_get muts x ≡ Some true) ⊎ Among x k.locals }
 {}

@@ -3,4 +3,4 @@
 
 mod laws;
 
-pub use laws::{alike_items_are_the_same, extracted_programs_run_alike, outs_may_be_assigned};
+pub use laws::{alike_items_are_the_same, extracted_programs_run_alike};

@@ -23,6 +23,7 @@ use rx_check::{Checked, check};
 use rx_core::{LetGo, Sink};
 use rx_engine::{Fault, Refusal, Selection, extract};
 use rx_engine_extraction::extract_checked;
+use rx_engine_validation::validated;
 use rx_modes_policy::{ByCopy, ByReference};
 use rx_parse::{parse, parsed_programs_are_numbered};
 use rx_tree::Program;
@@ -69,13 +70,26 @@ fn moved(
         start: selection.start,
         end: selection.end,
     };
-    match preference {
+    let answer = match preference {
         Preference::Copy => {
             extract_checked(alloc, text, program, checked, selection, name, &ByCopy)
         }
         Preference::Reference => {
             extract_checked(alloc, text, program, checked, selection, name, &ByReference)
         }
+    };
+    let answer = match answer {
+        Ok(answer) => answer,
+        Err(fault) => return Err(fault),
+    };
+    let seen = match preference {
+        Preference::Copy => validated(alloc, text, program, checked, selection, name, &ByCopy, &answer),
+        Preference::Reference => validated(alloc, text, program, checked, selection, name, &ByReference, &answer),
+    };
+    match seen {
+        Ok(true) => Ok(answer),
+        Ok(false) => Err(rx_engine_extraction::Fault::Refused(rx_engine_extraction::Refusal::Endless)),
+        Err(fault) => Err(fault),
     }
 }
 
