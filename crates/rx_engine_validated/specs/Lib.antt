@@ -6,4 +6,3 @@ pub mod Changed
 pub mod Refused
 pub mod Stretches
 pub mod UnitReads
-pub mod Found
