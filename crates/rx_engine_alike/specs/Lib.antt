@@ -10,3 +10,10 @@ pub mod Giving
 pub mod Leaving
 pub mod Forms
 pub mod Functions
+pub mod PlainSights
+pub mod PlainSame
+pub mod PlainWays
+pub mod PlainJumping
+pub mod PlainParts
+pub mod PlainLikeness
+pub mod PlainTarget

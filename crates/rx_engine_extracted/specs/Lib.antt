@@ -7,3 +7,13 @@ pub mod Calls
 pub mod Ending
 pub mod Block
 pub mod Programs
+pub mod Reading
+pub mod PlainTold
+pub mod PlainEntering
+pub mod PlainHanding
+pub mod PlainArms
+pub mod PlainCalls
+pub mod PlainStretches
+pub mod PlainEnding
+pub mod PlainBlock
+pub mod PlainPrograms
