@@ -16,11 +16,11 @@ NoMarks (order.ending n x s) = NoMarks s
 NoMarks (order.passes l s) = NoMarks s
 NoMarks _ = Unit {0}
 
-in_first : {a : Action} {us : List Action} (vs : List Action) → Among a us → Among a (us ++ vs)
+pub in_first : {a : Action} {us : List Action} (vs : List Action) → Among a us → Among a (us ++ vs)
 in_first vs here = here
 in_first vs (there h) = there (in_first vs h)
 
-in_second : {a : Action} (us : List Action) {vs : List Action} → Among a vs → Among a (us ++ vs)
+pub in_second : {a : Action} (us : List Action) {vs : List Action} → Among a vs → Among a (us ++ vs)
 in_second [] h = h
 in_second (u ∷ us) h = there (in_second us h)
 

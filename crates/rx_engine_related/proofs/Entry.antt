@@ -1,157 +1,161 @@
--- The mark where the run is entered stands once in the text that runs: form by form, an order has no more of them than its tree has blocks of
--- the run's node.
-use Rattle.std.proofs.Common.{◌≡◌, ℕ, ◌+◌, ◌*◌, ◌≤◌, ◌==◌, if◌then◌else◌, Bool, true, false, List, [], ◌∷◌, map, drop, refl, ap, arith}
-use Rattle.rx_typed.specs.Tree.{Temporary, Mark, jump, Body, ends, Function, mark_of, temporary_of}
-use Rattle.rx_lower_walks.specs.Matching.{bindings}
-use Rattle.rx_lower_walks.specs.Actions.{subject}
-use Rattle.rx_lower_walks.specs.Orders.{Order, binding, order, order_scrutinee, order_body, order_function}
-use Rattle.rx_lower_walks.specs.Orders as orders
-use Rattle.rx_exits_plan.specs.Blocks.{Statement, does, begins, binds, statements, tail, before}
-use Rattle.rx_exits_plan.specs.Spots.{Around, Spot, a_block, a_jump, a_return, spots, spots_matched, outermost, spots_of_function}
+-- How many marks of one point the marked function has, but for those behind what is returned: no more than its run, form by form. So the mark
+-- where the run is entered stands once, where one block has the run's node.
+use Rattle.std.proofs.Common.{◌≡◌, ℕ, suc, ◌+◌, ◌≤◌, ◌==◌, if◌then◌else◌, Bool, true, false, List, [], ◌∷◌, map, drop, refl, ap, arith, ◌*◌}
+use Rattle.rx_typed.specs.Tree.{Temporary, Mark, Exp, read, borrow, share, build, unit, lazily, assign, update, call, input, print, block, choose, loop, jump, give, Body, ends, Function, mark_of, temporary_of}
+use Rattle.rx_lower_walks.specs.Orders.{order, order_body, order_function}
+use Rattle.rx_exits_plan.specs.Blocks.{statements, tail, before}
+use Rattle.rx_exits_plan.specs.Spots.{Around, Spot, a_block, a_jump, a_return, spots, outermost, spots_of_function}
 use Rattle.rx_exits_plan.specs.Runs.{Run, in_front, inside, behind}
-use Rattle.rx_exits_plan.specs.Points.{enters, leaves, jump_exit, number}
-use Rattle.rx_exits_plan.specs.Changed.{changed, changed_matched, changed_statement}
-use Rattle.rx_exits_plan.specs.Marked.{mark_then, shown, is_among, using, entering, ended}
+use Rattle.rx_exits_plan.specs.Points.{next, enters, leaves, jump_exit, number}
+use Rattle.rx_exits_plan.specs.Changed.{changed, changed_statement}
+use Rattle.rx_exits_plan.specs.Marked.{mark_then, then_mark, shown, is_among, marking, entering, ended, ended_value, ended_tail, marked_body, at_the_block, marked}
 use Rattle.rx_exits_plan.specs.Coming.{HasNoMark}
-use Rattle.rx_exits_plan.specs.Occurrences.{is_declared_in_run}
-use Rattle.rx_engine_related.specs.OneSite.{StandsOnce}
-use Rattle.rx_engine_related.specs.Running.{passing, running_body, in_the_block, running}
+use Rattle.rx_exits_plan.specs.Exits.{past, spots_in_statements}
+use Rattle.rx_engine_related.specs.OneSite.{StandsOnce, blocks_at}
 use Rattle.rx_engine_related.proofs.Counting.{one_if, count, stands_once}
 use Rattle.rx_engine_related.proofs.Bare.{NoMarks, no_marks, none_counted}
-use Rattle.rx_engine_related.proofs.Sole.{weighed, Light, AllFree, all_free, take_free, drop_free, light, differ, jump_weight, passing_light, free, of_beginning, anywhere}
-use Rattle.rx_engine_related.proofs.Leading.{Forms, of_binding_part, of_declaring_part, of_beginning_part, Changing, no_weight, grown, grown_matched}
-use Rattle.rx_engine_related.proofs.Inside.{any_loops, weighs}
+use Rattle.rx_engine_related.proofs.Sole.{Light, few, weighed, weighed_both, all_free, take_free, drop_free, before_count, changed_count, beginning_count, reads_count, light, differ, jump_weight, free, of_beginning, anywhere}
 
--- at most so many
-abbrev AtMost : ℕ → Order → Type 0
-AtMost b s = count 0 s ≤ b
+-- ---- inside the run
 
-abbrev Any : ℕ → Type 0
-Any l = Unit {0}
+jump_keeps : (t : Bool) (m : Mark) (l : ℕ) (again : Bool) → mark_of (if t then mark_then (leaves (jump_exit l again)) (jump m l again) else jump m l again) ≡ m
+jump_keeps true m l again = refl
+jump_keeps false m l again = refl
 
-forms : Forms 0 Any AtMost
-forms = record {
-  of_nothing = omega arith;
-  of_nowhere = omega arith;
-  of_fail = omega arith;
-  of_act = λ b e. omega (arith, e);
-  of_leave = λ j. omega arith;
-  of_then = λ b c s t f g. omega (arith, f, g);
-  of_or = λ b c s t f g. omega (arith, f, g);
-  of_otherwise = λ b c s t f g. omega (arith, f, g);
-  of_ending = λ b n y s f. f;
-  of_passes = λ b l s q f. f;
-  weak = λ b c s le f. omega (arith, le, f);
-}
+jump_count : (k : ℕ) (t : Bool) (m : Mark) (l : ℕ) (again : Bool) (d : Temporary)
+    → count k (order (if t then mark_then (leaves (jump_exit l again)) (jump m l again) else jump m l again) d) ≤ (if t then one_if (number (leaves (jump_exit l again)) == k) else 0)
+jump_count k true m l again d = omega arith
+jump_count k false m l again d = omega arith
 
-unmarked : (s : Order) → NoMarks s → AtMost 0 s
-unmarked s h = let e = none_counted 0 s h in omega (arith, e)
-
-in_two : (b : ℕ) (s t : Order) → AtMost 0 s → AtMost b t → AtMost b (orders.then s t)
-in_two b s t f g = omega (arith, f, g)
-
--- ---- statements
-
-unpassed : (c : ℕ) (ss : List Statement) (b : Body) (n : ℕ) (d : Temporary) → AllFree ss → AtMost c (order_body b n d) → AtMost c (order_body (before ss b) n d)
-unpassed c [] b n d h f = f
-unpassed c (does e ∷ ss) b n d h f = in_two c (order e (temporary_of e)) (order_body (before ss b) n d) (unmarked (order e (temporary_of e)) h.0) (unpassed c ss b n d h.1 f)
-unpassed c (begins s ys ∷ ss) b n d h f = of_declaring_part 0 Any AtMost forms c s ys n (order_body (before ss b) n d) (unpassed c ss b n d h.1 f)
-unpassed c (binds s p q ∷ ss) b n d h f =
-    let r : Order = order_body (before ss b) n d in
-    in_two c (order_scrutinee q) (binding (subject q) (bindings [] p) n r) (unmarked (order_scrutinee q) h.0)
-    (of_binding_part 0 Any AtMost forms c (subject q) (bindings [] p) n r (unpassed c ss b n d h.1 f))
-
--- no jump's mark is one
-other_number : (l : ℕ) (again : Bool) → (number (leaves (jump_exit l again)) == 0) ≡ false
-other_number l true = differ (4 + 2 * l) 0 (λ e. omega (arith, e))
-other_number l false = differ (3 + 2 * l) 0 (λ e. omega (arith, e))
-
-passing_forms : (ls : List ℕ) → Changing 0 Any AtMost (passing ls) light
-passing_forms ls = record {
-  of_block = λ a n was b d f i h q g. omega (arith, g);
-  of_jump = λ m l again d. by (is_among l ls) m l again d;
-  of_return = λ e. refl;
-}
-  where
-    by : (t : Bool) (m : Mark) (l : ℕ) (again : Bool) (d : Temporary) → AtMost 0 (order (if t then mark_then (leaves (jump_exit l again)) (jump m l again) else jump m l again) d)
-    by true m l again d = let e : one_if (number (leaves (jump_exit l again)) == 0) ≡ 0 = ap one_if (other_number l again) in omega (arith, e)
-    by false m l again d = omega arith
-
-weightless : (ss : List Spot) → weighed light no_weight ss ≡ 0
-weightless [] = refl
-weightless (a_block a n b ∷ ss) = let h = weightless ss in omega (arith, h)
-weightless (a_jump a n l again ∷ ss) = let h = weightless ss in omega (arith, h)
-weightless (a_return a n ∷ ss) = weightless ss
-
-abbrev nowhere_around : Around
-nowhere_around = record { scope = []; loops = [] }
-
-passed : (ls : List ℕ) (ss : List Statement) (b : Body) (n : ℕ) (d : Temporary) → AllFree ss → AtMost 0 (order_body b n d)
-    → AtMost 0 (order_body (before (map (changed_statement (passing ls)) ss) b) n d)
-passed ls [] b n d h f = f
-passed ls (does e ∷ ss) b n d h f =
-    let g = grown 0 Any AtMost forms (passing ls) light (passing_forms ls) light (jump_weight 0 ls) (passing_light 0 ls) e nowhere_around (temporary_of (changed (passing ls) e))
-    (temporary_of e) h.0 (any_loops (order e (temporary_of e))) in
-    let z = weightless (spots nowhere_around e) in
-    let r = passed ls ss b n d h.1 f in
-    omega (arith, g, z, r)
-passed ls (begins s ys ∷ ss) b n d h f = of_declaring_part 0 Any AtMost forms 0 s ys n (order_body (before (map (changed_statement (passing ls)) ss) b) n d) (passed ls ss b n d h.1 f)
-passed ls (binds s p c ∷ ss) b n d h f =
-    let g = grown_matched 0 Any AtMost forms (passing ls) light (passing_forms ls) light (jump_weight 0 ls) (passing_light 0 ls) c nowhere_around h.0 (any_loops (order_scrutinee c)) in
-    let z = weightless (spots_matched nowhere_around c) in
-    let r = of_binding_part 0 Any AtMost forms 0 (subject (changed_matched (passing ls) c)) (bindings [] p) n (order_body (before (map (changed_statement (passing ls)) ss) b) n d)
-    (passed ls ss b n d h.1 f) in
-    omega (arith, g, z, r)
-
-used : (ys : List ℕ) (b : Body) (n : ℕ) (d : Temporary) → AtMost 0 (order_body b n d) → AtMost 0 (order_body (before (map using ys) b) n d)
-used [] b n d f = f
-used (y ∷ ys) b n d f = let g = used ys b n d f in omega (arith, g)
-
--- ---- the run's block
-
-block_count : (r : Run) (ls xs : List ℕ) (b : Body) (n : ℕ) (d f : Temporary) → NoMarks (order_body b n f) → AtMost 1 (order_body (running_body r ls xs b) n d)
-block_count r ls xs b n d f h =
-    let z = all_free b n f h in
-    let last : Body = ends (tail b) in
-    let rest : Body = before (behind r b) last in
-    let after_end : Body = before (ended false) rest in
-    let run : Body = before (map (changed_statement (passing ls)) (inside r b)) after_end in
-    let x0 = unmarked (order (tail b) d) (anywhere (tail b) d f z.1) in
-    let x1 = unpassed 0 (behind r b) last n d (drop_free r.count (drop r.first (statements b)) (drop_free r.first (statements b) z.0)) x0 in
-    let x2 : AtMost 0 (order_body after_end n d) = omega (arith, x1) in
-    let x3 = passed ls (inside r b) after_end n d (take_free r.count (drop r.first (statements b)) (drop_free r.first (statements b) z.0)) x2 in
-    let x4 = used xs run n d x3 in
-    let x5 : AtMost 1 (order_body (before (entering xs) run) n d) = omega (arith, x4) in
-    unpassed 1 (in_front r b) (before (entering xs) run) n d (take_free r.first (statements b) z.0) x5
-
-module _ (x : ℕ) (r : Run) (ls xs : List ℕ) where
-  in_block : (t u : Bool) (was b : Body) (n : ℕ) (d f : Temporary) (i : ℕ) → NoMarks (order_body was n f) → AtMost i (order_body b n d)
-      → AtMost ((if t then (if u then 2 else 1) else 0) + i) (order_body (if t then running_body r ls xs was else b) n d)
-  in_block true true was b n d f i h g = let z = block_count r ls xs was n d f h in omega (arith, z)
-  in_block true false was b n d f i h g = let z = block_count r ls xs was n d f h in omega (arith, z)
-  in_block false u was b n d f i h g = omega (arith, g)
-
-  placing : Changing 0 Any AtMost (in_the_block r ls xs) (weighs x r)
-  placing = record {
-    of_block = λ a n was b d f i h q g. in_block (n == r.block) (is_declared_in_run r was x) was b n d f i h g;
-    of_jump = λ n j c d. omega arith;
-    of_return = λ q. refl;
+module _ (k : ℕ) (other : (2 == k) ≡ false) (ls : List ℕ) where
+  marking_light : Light k (marking ls) light (jump_weight k ls)
+  marking_light = record {
+    jump_mark = λ m l again. jump_keeps (is_among l ls) m l again;
+    return_mark = λ e. refl;
+    at_block = λ a n was b d f i h c. omega (arith, c);
+    at_jump = λ m l again d. jump_count k (is_among l ls) m l again d;
+    at_return = λ e. let q : one_if (2 == k) ≡ 0 = ap one_if other in omega (arith, q);
   }
 
-  weighing : Light 0 (in_the_block r ls xs) (weighs x r) free
-  weighing = record {
+  -- ---- its tail
+
+  ended_count : (e : Exp) (a : Around) (d f : Temporary) → NoMarks (order e f)
+      → count k (order (then_mark (leaves next) (changed (marking ls) e)) d) ≤ one_if (1 == k) + weighed light (jump_weight k ls) (spots a e)
+  ended_count e a d f h = let x = few k (marking ls) light (jump_weight k ls) marking_light e a (temporary_of (changed (marking ls) e)) f h in omega (arith, x)
+
+  given_count : (t : Bool) (m : Mark) (e : Exp) (a : Around) (d f : Temporary) → NoMarks (order (give m e) f)
+      → count k (order (if t then give m (then_mark (leaves next) (changed (marking ls) e)) else then_mark (leaves next) (changed (marking ls) (give m e))) d)
+      ≤ one_if (1 == k) + weighed light (jump_weight k ls) (spots a (give m e))
+  given_count true m e a d f h =
+      let x = ended_count e a (temporary_of (changed (marking ls) e)) (temporary_of e) h.0 in
+      let z = weighed_both light (jump_weight k ls) (spots a e) (a_return a m.node ∷ []) in
+      omega (arith, x, z)
+  given_count false m e a d f h = ended_count (give m e) a d f h
+
+  value_count : (n : ℕ) (v : Exp) (a : Around) (d f : Temporary) → NoMarks (order v f) → count k (order (ended_value n ls v) d) ≤ one_if (1 == k) + weighed light (jump_weight k ls) (spots a v)
+  value_count n (read m v p) a d f h = ended_count (read m v p) a d f h
+  value_count n (borrow m b p) a d f h = ended_count (borrow m b p) a d f h
+  value_count n (share m e) a d f h = ended_count (share m e) a d f h
+  value_count n (build m w es) a d f h = ended_count (build m w es) a d f h
+  value_count n (unit m) a d f h = ended_count (unit m) a d f h
+  value_count n (lazily m b e g) a d f h = ended_count (lazily m b e g) a d f h
+  value_count n (assign m p e) a d f h = ended_count (assign m p e) a d f h
+  value_count n (update m o p e) a d f h = ended_count (update m o p e) a d f h
+  value_count n (call m g es) a d f h = ended_count (call m g es) a d f h
+  value_count n (input m) a d f h = ended_count (input m) a d f h
+  value_count n (print m e) a d f h = ended_count (print m e) a d f h
+  value_count n (block m b) a d f h = ended_count (block m b) a d f h
+  value_count n (choose m s l) a d f h = ended_count (choose m s l) a d f h
+  value_count n (loop m l e) a d f h = ended_count (loop m l e) a d f h
+  value_count n (jump m l again) a d f h = ended_count (jump m l again) a d f h
+  value_count n (give m e) a d f h = given_count (m.node == n) m e a d f h
+
+  -- ---- the run's block
+
+  -- the marks of its entry and its end, and those of the jumps of the run
+  abbrev inner : Run → Around → Body → ℕ
+  inner r a b =
+      one_if (0 == k) + (one_if (1 == k) + (weighed light (jump_weight k ls) (spots_in_statements (past (in_front r b) a) (inside r b)) + weighed light (jump_weight k ls) (spots a (tail b))))
+
+  -- the run's end, and what stands behind it
+  end_count : (t : Bool) (r : Run) (a : Around) (b : Body) (n : ℕ) (d f : Temporary) → NoMarks (order_body b n f)
+      → count k (order_body (before (ended t) (before (behind r b) (ends (ended_tail t r.block ls (tail b))))) n d) ≤ one_if (1 == k) + weighed light (jump_weight k ls) (spots a (tail b))
+  end_count true r a b n d f h =
+      let z = all_free b n f h in
+      let x = value_count r.block (tail b) a d f z.1 in
+      let y = before_count k (behind r b) (ends (ended_value r.block ls (tail b))) n d (drop_free r.count (drop r.first (statements b)) (drop_free r.first (statements b) z.0)) in
+      omega (arith, x, y)
+  end_count false r a b n d f h =
+      let z = all_free b n f h in
+      let x = none_counted k (order (tail b) d) (anywhere (tail b) d f z.1) in
+      let y = before_count k (behind r b) (ends (tail b)) n d (drop_free r.count (drop r.first (statements b)) (drop_free r.first (statements b) z.0)) in
+      omega (arith, x, y)
+
+  block_count : (r : Run) (xs : List ℕ) (a : Around) (b : Body) (n : ℕ) (d f : Temporary) → NoMarks (order_body b n f) → count k (order_body (marked_body r ls xs b) n d) ≤ inner r a b
+  block_count r xs a b n d f h =
+      let z = all_free b n f h in
+      let rest : Body = before (ended r.tail) (before (behind r b) (ends (ended_tail r.tail r.block ls (tail b)))) in
+      let run : Body = before (map (changed_statement (marking ls)) (inside r b)) rest in
+      let x1 = end_count r.tail r a b n d f h in
+      let ours = take_free r.count (drop r.first (statements b)) (drop_free r.first (statements b) z.0) in
+      let x2 = changed_count k (marking ls) (jump_weight k ls) marking_light (inside r b) (past (in_front r b) a) rest n d ours in
+      let x3 = reads_count k xs run n d in
+      let x4 = before_count k (in_front r b) (before (entering xs) run) n d (take_free r.first (statements b) z.0) in
+      omega (arith, x1, x2, x3, x4)
+
+  chosen : (t : Bool) (r : Run) (xs : List ℕ) (a : Around) (was b : Body) (n : ℕ) (d f : Temporary) (i : ℕ) → NoMarks (order_body was n f) → count k (order_body b n d) ≤ i
+      → count k (order_body (if t then marked_body r ls xs was else b) n d) ≤ (if t then inner r a was else 0) + i
+  chosen true r xs a was b n d f i h c = let x = block_count r xs a was n d f h in omega (arith, x)
+  chosen false r xs a was b n d f i h c = omega (arith, c)
+
+  abbrev pub of_run : Run → Around → ℕ → Body → ℕ
+  of_run r a n b = if n == r.block then inner r a b else 0
+
+  pub marked_light : (r : Run) (xs : List ℕ) → Light k (at_the_block r ls xs) (of_run r) free
+  marked_light r xs = record {
     jump_mark = λ m l again. refl;
     return_mark = λ e. refl;
-    at_block = λ a n was b d f i h c. in_block (n == r.block) (is_declared_in_run r was x) was b n d f i h c;
+    at_block = λ a n was b d f i h c. chosen (n == r.block) r xs a was b n d f i h c;
     at_jump = λ m l again d. omega arith;
     at_return = λ e. omega arith;
   }
 
-  pub entry_stands_once : (f : Function) → HasNoMark (order_function f) → weighed (weighs x r) no_weight (spots_of_function f) ≤ 1 → StandsOnce (running r ls xs f) (shown enters)
-  entry_stands_once f h few =
-      let C = in_the_block r ls xs in
+  function_count : (r : Run) (xs : List ℕ) (f : Function) → HasNoMark (order_function f) → count k (order_function (marked r ls xs f)) ≤ weighed (of_run r) free (spots_of_function f)
+  function_count r xs f h =
+      let C = at_the_block r ls xs in
       let n = of_beginning f.params (mark_of f.body).node (order f.body (temporary_of f.body)) (no_marks (order_function f) h.none) in
-      let z = of_beginning_part 0 Any AtMost forms _ f.params (mark_of (changed C f.body)).node (order (changed C f.body) (temporary_of (changed C f.body)))
-      (grown 0 Any AtMost forms C (weighs x r) placing (weighs x r) free weighing f.body (outermost f) (temporary_of (changed C f.body)) (temporary_of f.body) n
-      (any_loops (order f.body (temporary_of f.body)))) in
-      stands_once (running r ls xs f) enters (omega (arith, z, few))
+      let x = few k C (of_run r) free (marked_light r xs) f.body (outermost f) (temporary_of (changed C f.body)) (temporary_of f.body) n in
+      let y = beginning_count k f.params (mark_of (changed C f.body)).node (order (changed C f.body) (temporary_of (changed C f.body))) in
+      omega (arith, x, y)
+
+-- ---- where the run is entered
+
+module _ (ls : List ℕ) where
+  -- no jump's mark is one
+  no_jump : (l : List Spot) → weighed light (jump_weight 0 ls) l ≡ 0
+  no_jump [] = refl
+  no_jump (a_block a n b ∷ l) = let h = no_jump l in omega (arith, h)
+  no_jump (a_jump a n j again ∷ l) = by (is_among j ls) again (no_jump l)
+    where
+      by : (t again : Bool) → weighed light (jump_weight 0 ls) l ≡ 0 → (if t then one_if (number (leaves (jump_exit j again)) == 0) else 0) + weighed light (jump_weight 0 ls) l ≡ 0
+      by true true h = let e : one_if ((4 + 2 * j) == 0) ≡ 0 = ap one_if (differ (4 + 2 * j) 0 (λ e. omega (arith, e))) in omega (arith, h, e)
+      by true false h = let e : one_if ((3 + 2 * j) == 0) ≡ 0 = ap one_if (differ (3 + 2 * j) 0 (λ e. omega (arith, e))) in omega (arith, h, e)
+      by false again h = omega (arith, h)
+  no_jump (a_return a n ∷ l) = no_jump l
+
+  once_each : (r : Run) (l : List Spot) → weighed (of_run 0 refl ls r) free l ≡ blocks_at r.block l
+  once_each r [] = refl
+  once_each r (a_block a n b ∷ l) = by (n == r.block) (once_each r l)
+    where
+      by : (t : Bool) → weighed (of_run 0 refl ls r) free l ≡ blocks_at r.block l
+          → (if t then inner 0 refl ls r a b else 0) + weighed (of_run 0 refl ls r) free l ≡ (if t then suc (blocks_at r.block l) else blocks_at r.block l)
+      by true h = let e = no_jump (spots_in_statements (past (in_front r b) a) (inside r b)) in let c = no_jump (spots a (tail b)) in omega (arith, h, e, c)
+      by false h = omega (arith, h)
+  once_each r (a_jump a n j again ∷ l) = let h = once_each r l in omega (arith, h)
+  once_each r (a_return a n ∷ l) = once_each r l
+
+  pub entry_stands_once : (r : Run) (xs : List ℕ) (f : Function) → HasNoMark (order_function f) → blocks_at r.block (spots_of_function f) ≤ 1 → StandsOnce (marked r ls xs f) (shown enters)
+  entry_stands_once r xs f h one =
+      let x = function_count 0 refl ls r xs f h in
+      let z = once_each r (spots_of_function f) in
+      stands_once (marked r ls xs f) enters (omega (arith, x, z, one))

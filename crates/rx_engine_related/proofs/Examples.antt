@@ -42,32 +42,32 @@ use Rattle.rx_engine_related.specs.Standing.{marked_run, call_alone, call_matche
 use Rattle.rx_engine_related.specs.InBlock.{run_block}
 use Rattle.rx_engine_related.specs.Extracts.{Extracts}
 
-abbrev m : ℕ → Mark
+abbrev pub m : ℕ → Mark
 m n = record { node = n; typ = None }
 
-abbrev number : ℕ → ℕ → Exp
+abbrev pub number : ℕ → ℕ → Exp
 number n z = tree.build (m n) (tree.constant (tree.whole_number Kind.I64 (pos z))) tree.no_operand
 
-none_some : {A : Type 0} {a : A} → None ≡ Some a → ⊥
+pub none_some : {A : Type 0} {a : A} → None ≡ Some a → ⊥
 none_some e = cc
 
 some_same : {A : Type 0} {a b : A} → Some a ≡ Some b → a ≡ b
 some_same e = cc
 
-bare_ends : packing.bare ≡ packing.no_way → ⊥
+pub bare_ends : packing.bare ≡ packing.no_way → ⊥
 bare_ends e = cc
 
 variant_ends : {v : ℕ} → packing.as_variant v ≡ packing.no_way → ⊥
 variant_ends e = cc
 
-none_seen : (y : ℕ) → IsNew [] y
+pub none_seen : (y : ℕ) → IsNew [] y
 none_seen y z e f g = none_some f
 
 -- a program of a function that calls a new one
-abbrev pair_of : Function → Function → Program
+abbrev pub pair_of : Function → Function → Program
 pair_of f g = record { functions = Some f ∷ Some g ∷ []; main = 0 }
 
-itself : (f g : Function) → RereadsProgram (pair_of f g) (pair_of f g)
+pub itself : (f g : Function) → RereadsProgram (pair_of f g) (pair_of f g)
 itself f g = record { all = entries; mains = refl }
   where
     entries : (n : ℕ) → RereadsEntry (element (pair_of f g).functions n) (element (pair_of f g).functions n)
@@ -75,11 +75,11 @@ itself f g = record { all = entries; mains = refl }
     entries (suc zero) = in_function refl (self_exp g.body)
     entries (suc (suc n)) = no_function tt tt
 
-abbrev items : ℕ → ℕ
+abbrev pub items : ℕ → ℕ
 items zero = 0
 items (suc f) = suc (suc f)
 
-no_others : (f g h : Function) (n : ℕ) → (n ≡ 0 → ⊥) → SameEntry items (element (Some f ∷ []) n) (element (pair_of g h).functions (items n))
+pub no_others : (f g h : Function) (n : ℕ) → (n ≡ 0 → ⊥) → SameEntry items (element (Some f ∷ []) n) (element (pair_of g h).functions (items n))
 no_others f g h zero other = absurd (other refl)
 no_others f g h (suc n) other = by_form.no_function tt tt
 

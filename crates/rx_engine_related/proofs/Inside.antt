@@ -1,36 +1,41 @@
--- In the text that runs, a walk that comes to the mark of an exit has entered the run since each variable began that the run does not
+-- In the marked function, a walk that comes to the mark of an exit has entered the run since each variable began that the run does not
 -- declare: form by form, a mark of the exit stands in no part but the run's block, and in it behind the run's entry.
-use Rattle.std.proofs.Common.{◌≡◌, inl, inr, ◌⊎◌, ℕ, ◌+◌, ◌≤◌, ◌==◌, if◌then◌else◌, Bool, true, false, List, [], ◌∷◌, ◌++◌, map, drop, suc, refl, sym, ap, ◌∙◌, subst, true≢false, arith}
+use Rattle.std.proofs.Common.{◌≡◌, inl, inr, ◌⊎◌, ℕ, ◌+◌, ◌≤◌, ◌==◌, if◌then◌else◌, Bool, true, false, ◌&&◌, ◌||◌, Some, None, List, [], ◌∷◌, ◌++◌, map, drop, suc, refl, sym, ap, ◌∙◌, subst, true≢false, arith}
 use Rattle.std.proofs.lemmas.Bool.Decides.{Decides-eqb}
 use Rattle.rx_typed.specs.Tree.{Temporary, Body, ends, runs, Function, mark_of, temporary_at, temporary_of}
 use Rattle.rx_lower_walks.specs.Matching.{Binding, bindings}
 use Rattle.rx_lower_walks.specs.Actions.{Declare, Dead, Action, does, Subject, subject, taken, declared, written}
 use Rattle.rx_lower_walks.specs.Orders.{exit_node, Order, perhaps, binding, declaring, order, order_scrutinee, order_body, order_function}
 use Rattle.rx_lower_walks.specs.Orders as order
-use Rattle.rx_lower_walks.specs.Walks.{Out, on, fails, IsAway, DoesNotFail, Passed, Walk, rests, stops, nothing, acts, both, first, one, other, leave, fail, holds, next, ends, jumps, halts, last, more, Among, here, there}
+use Rattle.rx_lower_walks.specs.Walks.{Out, on, fails, IsAway, Walk, rests, stops, nothing, acts, both, first, one, other, leave, fail, holds, next, ends, jumps, halts, last, more, Among, here, there}
 use Rattle.rx_lower_walks.specs.Walks as walk
 use Rattle.rx_exits_plan.specs.Blocks as block
-use Rattle.rx_exits_plan.specs.Blocks.{Statement, statements, tail, before, bound}
+use Rattle.rx_exits_plan.specs.Blocks.{Statement, statements, tail, written_tail, before, bound}
 use Rattle.rx_exits_plan.specs.Spots.{Around, Spot, a_block, a_jump, a_return, outermost, spots_of_function}
 use Rattle.rx_exits_plan.specs.Runs.{Run, in_front, inside, behind, last_value}
 use Rattle.rx_exits_plan.specs.Points as point
 use Rattle.rx_exits_plan.specs.Points.{Exit, Point, enters, leaves, number}
 use Rattle.rx_exits_plan.specs.Changed.{changed, changed_matched, changed_statement}
-use Rattle.rx_exits_plan.specs.Marked.{mark, shown, using, entering, ended}
+use Rattle.rx_exits_plan.specs.Marked.{mark, shown, marking, using, entering, ended, ended_value, ended_tail, marked_body, at_the_block, marked}
 use Rattle.rx_exits_plan.specs.Unmarked.{is_mark}
 use Rattle.rx_exits_plan.specs.Coming.{HasNoMark}
 use Rattle.rx_exits_plan.specs.Occurrences.{all_declared, occurrences, occurrences_matched, in_statements, in_run, in_value, is_declared_in_run}
 use Rattle.rx_engine_simulation.specs.Histories.{Declares, put}
 use Rattle.rx_engine_simulation.specs.Programs.{back, IsHistory}
 use Rattle.rx_engine_related.specs.OneSite.{blocks_at}
-use Rattle.rx_engine_related.specs.Running.{passing, running_body, in_the_block, running}
 use Rattle.rx_engine_related.proofs.Counting.{one_if, is_it}
 use Rattle.rx_engine_related.proofs.Bare.{NoMarks, no_marks}
-use Rattle.rx_engine_related.proofs.Sole.{weighed, AllFree, all_free, take_free, drop_free, of_run, free, block_light, block_there, of_beginning, anywhere}
+use Rattle.rx_engine_related.proofs.Sole.{weighed, AllFree, all_free, take_free, drop_free, free, block_there, of_beginning, anywhere}
 use Rattle.rx_engine_related.proofs.Leading.{Loops, Forms, of_binding_part, of_declaring_part, of_beginning_part, Changing, no_weight, grown}
-use Rattle.rx_engine_related.proofs.Undeclared.{Undeclared, Away, away_front, away_rest, away_of, walk_away, taking_away, exp_away, matched_away}
+use Rattle.rx_engine_related.proofs.Undeclared.{Undeclared, Away, away_front, away_rest, away_of, either_false, walk_away, taking_away, exp_away, matched_away, value_away}
+use Rattle.rx_engine_related.proofs.Entry.{of_run, marked_light}
 
-pub any_loops : (s : Order) → Loops (λ l. Unit {0}) s
+-- there is a statement
+abbrev pub has_some : List Statement → Bool
+has_some [] = false
+has_some (s ∷ ss) = true
+
+any_loops : (s : Order) → Loops (λ l. Unit {0}) s
 any_loops order.nothing = tt
 any_loops order.nowhere = tt
 any_loops (order.act a) = tt
@@ -175,6 +180,9 @@ module _ (x : ℕ) where
     then_in s t n g u o (both {us = us} {vs = vs} w k) h i = told_both h us vs (told_in h us (walk_away x n w) i) (g vs o k (put us h) (stays_in h us (walk_away x n w) i))
     then_in s t n g u o (first a w) h i = told_in h u (walk_away x n w) i
 
+    undeclared_in : (s : Order) → Undeclared x s → TellsIn s
+    undeclared_in s n u o w h i = told_in h u (walk_away x n w) i
+
     ending_in : (n y : ℕ) (s : Order) → TellsIn s → TellsIn (order.ending n y s)
     ending_in n y s f u o rests h i = tt
     ending_in n y s f u o (stops w) h i = ending_in n y s f u _ w h i
@@ -200,17 +208,17 @@ module _ (x : ℕ) where
     used_in (y ∷ ys) b n d f = then_in _ (order_body (before (map using ys) b) n d) (λ q. q) (used_in ys b n d f)
 
     passed_in : (ls : List ℕ) (ss : List Statement) (b : Body) (n : ℕ) (d : Temporary) → Away x (in_statements ss) → TellsIn (order_body b n d)
-        → TellsIn (order_body (before (map (changed_statement (passing ls)) ss) b) n d)
+        → TellsIn (order_body (before (map (changed_statement (marking ls)) ss) b) n d)
     passed_in ls [] b n d i f = f
     passed_in ls (block.does e ∷ ss) b n d i f =
-        then_in (order (changed (passing ls) e) (temporary_of (changed (passing ls) e))) _ (exp_away x ls e (temporary_of (changed (passing ls) e)) (away_front x (occurrences e) (in_statements ss) i))
+        then_in (order (changed (marking ls) e) (temporary_of (changed (marking ls) e))) _ (exp_away x ls e (temporary_of (changed (marking ls) e)) (away_front x (occurrences e) (in_statements ss) i))
         (passed_in ls ss b n d (away_rest x (occurrences e) (in_statements ss) i) f)
     passed_in ls (block.begins s ys ∷ ss) b n d i f =
         declaring_in s ys n _ (away_front x (all_declared ys) (in_statements ss) i) (passed_in ls ss b n d (away_rest x (all_declared ys) (in_statements ss) i) f)
     passed_in ls (block.binds s p c ∷ ss) b n d i f =
         let here_it = away_front x (all_declared (bound p) ++ occurrences_matched c) (in_statements ss) i in
-        then_in (order_scrutinee (changed_matched (passing ls) c)) _ (matched_away x ls c (away_rest x (all_declared (bound p)) (occurrences_matched c) here_it))
-        (binding_in (subject (changed_matched (passing ls) c)) (bindings [] p) n _ (away_front x (all_declared (bound p)) (occurrences_matched c) here_it)
+        then_in (order_scrutinee (changed_matched (marking ls) c)) _ (matched_away x ls c (away_rest x (all_declared (bound p)) (occurrences_matched c) here_it))
+        (binding_in (subject (changed_matched (marking ls) c)) (bindings [] p) n _ (away_front x (all_declared (bound p)) (occurrences_matched c) here_it)
         (passed_in ls ss b n d (away_rest x (all_declared (bound p) ++ occurrences_matched c) (in_statements ss) i) f))
 
     -- ---- where it is entered
@@ -245,11 +253,15 @@ module _ (x : ℕ) where
 
   -- ---- of one exit
 
-  -- a block of the run that declares the variable weighs too much
-  abbrev pub weighs : Run → Around → ℕ → Body → ℕ
-  weighs r a n b = if n == r.block then (if is_declared_in_run r b x then 2 else 1) else 0
+  -- the variable may begin between the run's entry and its end: the run declares it, or something stands in front of its tail
+  abbrev pub may_begin : Run → Body → Bool
+  may_begin r b = is_declared_in_run r b x || (r.tail && has_some (behind r b))
 
-  module _ (e : Exit) (later : (0 == number (leaves e)) ≡ false) where
+  -- so a block of the run weighs too much
+  abbrev pub weighs : Run → Around → ℕ → Body → ℕ
+  weighs r a n b = if n == r.block then (if may_begin r b then 2 else 1) else 0
+
+  module _ (e : Exit) (later : (0 == number (leaves e)) ≡ false) (no_return : (2 == number (leaves e)) ≡ false) where
     abbrev k : ℕ
     k = number (leaves e)
 
@@ -301,60 +313,72 @@ module _ (x : ℕ) where
         tells_then m refl (order_scrutinee c) _ (unmarked_tells m refl (order_scrutinee c) h.0) (of_binding_part k Any Part forms 0 (subject c) (bindings [] p) n _
         (λ i. unpassed ss b n d h.1 f) (omega arith))
 
-    run_says : (r : Run) (ls xs : List ℕ) (b : Body) (n : ℕ) (d f : Temporary) → is_declared_in_run r b x ≡ false → NoMarks (order_body b n f) → Says (order_body (running_body r ls xs b) n d)
-    run_says r ls xs b n d f none h =
+    -- what stands between the run's entry and its end does not begin the variable
+    end_says : (t : Bool) (r : Run) (ls : List ℕ) (b : Body) (n : ℕ) (d f : Temporary) → t && has_some (behind r b) ≡ false
+        → Away x (in_value (if t then Some (written_tail r.block (tail b)) else None)) → NoMarks (order_body b n f) → TellsIn m refl (order_body (before (ended t) (before (behind r b) (ends (ended_tail t r.block ls (tail b))))) n d)
+    end_says true r ls b n d f none away h = by (behind r b) none
+      where
+        by : (ss : List Statement) → has_some ss ≡ false → TellsIn m refl (order_body (before ss (ends (ended_value r.block ls (tail b)))) n d)
+        by [] e = undeclared_in m refl (order (ended_value r.block ls (tail b)) d) (value_away x ls r.block (tail b) d away)
+        by (s ∷ ss) e = absurd (true≢false e)
+    end_says false r ls b n d f none away h =
         let z = all_free b n f h in
         let t = anywhere (tail b) d f z.1 in
-        let last_of : Body = ends (tail b) in
-        let rest : Body = before (behind r b) last_of in
-        let after_end : Body = before (ended false) rest in
-        let run : Body = before (map (changed_statement (passing ls)) (inside r b)) after_end in
-        let away = away_front x (in_statements (inside r b)) (in_value (last_value r b)) (away_of x (in_run r b) none) in
-        let x0 = unpassed (behind r b) last_of n d (drop_free r.count (drop r.first (statements b)) (drop_free r.first (statements b) z.0)) (unmarked_tells m refl (order (tail b) d) t) in
-        let x1 = mark_in m refl (leaves point.next) rest n d (tells_in m refl (order_body rest n d) x0) in
-        let x2 = used_in m refl xs run n d (passed_in m refl ls (inside r b) after_end n d away x1) in
+        let rest : Body = before (behind r b) (ends (tail b)) in
+        let x0 = unpassed (behind r b) (ends (tail b)) n d (drop_free r.count (drop r.first (statements b)) (drop_free r.first (statements b) z.0)) (unmarked_tells m refl (order (tail b) d) t) in
+        mark_in m refl (leaves point.next) rest n d (tells_in m refl (order_body rest n d) x0)
+
+    run_says : (r : Run) (ls xs : List ℕ) (b : Body) (n : ℕ) (d f : Temporary) → may_begin r b ≡ false → NoMarks (order_body b n f) → Says (order_body (marked_body r ls xs b) n d)
+    run_says r ls xs b n d f none h =
+        let q = either_false x (is_declared_in_run r b x) (r.tail && has_some (behind r b)) none in
+        let z = all_free b n f h in
+        let at_end : Body = before (ended r.tail) (before (behind r b) (ends (ended_tail r.tail r.block ls (tail b)))) in
+        let run : Body = before (map (changed_statement (marking ls)) (inside r b)) at_end in
+        let away = away_of x (in_run r b) q.0 in
+        let x1 = end_says r.tail r ls b n d f q.1 (away_rest x (in_statements (inside r b)) (in_value (last_value r b)) away) h in
+        let x2 = used_in m refl xs run n d (passed_in m refl ls (inside r b) at_end n d (away_front x (in_statements (inside r b)) (in_value (last_value r b)) away) x1) in
         unpassed (in_front r b) (before (entering xs) run) n d (take_free r.first (statements b) z.0) (tells_entered m refl not_entry (order_body (before (map using xs) run) n d) x2)
 
-    block_part : (r : Run) (ls xs : List ℕ) (t u : Bool) (was b : Body) (n : ℕ) (d f : Temporary) (i : ℕ) → is_declared_in_run r was x ≡ u → NoMarks (order_body was n f) → Part i (order_body b n d)
-        → Part ((if t then (if u then 2 else 1) else 0) + i) (order_body (if t then running_body r ls xs was else b) n d)
+    block_part : (r : Run) (ls xs : List ℕ) (t u : Bool) (was b : Body) (n : ℕ) (d f : Temporary) (i : ℕ) → may_begin r was ≡ u → NoMarks (order_body was n f) → Part i (order_body b n d)
+        → Part ((if t then (if u then 2 else 1) else 0) + i) (order_body (if t then marked_body r ls xs was else b) n d)
     block_part r ls xs true true was b n d f i q h g = λ le. absurd (omega (arith, le))
     block_part r ls xs true false was b n d f i q h g = λ le. run_says r ls xs was n d f q h
     block_part r ls xs false u was b n d f i q h g = λ le. g (omega (arith, le))
 
-    placing : (r : Run) (ls xs : List ℕ) → Changing k Any Part (in_the_block r ls xs) (weighs r)
+    placing : (r : Run) (ls xs : List ℕ) → Changing k Any Part (at_the_block r ls xs) (weighs r)
     placing r ls xs = record {
-      of_block = λ a n was b d f i h q g. block_part r ls xs (n == r.block) (is_declared_in_run r was x) was b n d f i refl h g;
+      of_block = λ a n was b d f i h q g. block_part r ls xs (n == r.block) (may_begin r was) was b n d f i refl h g;
       of_jump = λ n j c d i. tells_leave m refl (order.exit n.node j c);
       of_return = λ q. refl;
     }
 
-    text_says : (r : Run) (ls xs : List ℕ) (f : Function) → HasNoMark (order_function f) → weighed (weighs r) no_weight (spots_of_function f) ≤ 1 → Says (order_function (running r ls xs f))
+    text_says : (r : Run) (ls xs : List ℕ) (f : Function) → HasNoMark (order_function f) → weighed (weighs r) no_weight (spots_of_function f) ≤ 1 → Says (order_function (marked r ls xs f))
     text_says r ls xs f h few =
-        let C = in_the_block r ls xs in
+        let C = at_the_block r ls xs in
         let n = of_beginning f.params (mark_of f.body).node (order f.body (temporary_of f.body)) (no_marks (order_function f) h.none) in
         of_beginning_part k Any Part forms _ f.params (mark_of (changed C f.body)).node (order (changed C f.body) (temporary_of (changed C f.body)))
-        (grown k Any Part forms C (weighs r) (placing r ls xs) (of_run k ls r) free (block_light k later r ls xs) f.body (outermost f) (temporary_of (changed C f.body))
+        (grown k Any Part forms C (weighs r) (placing r ls xs) (of_run k no_return ls r) free (marked_light k no_return ls r xs) f.body (outermost f) (temporary_of (changed C f.body))
         (temporary_of f.body) n (any_loops (order f.body (temporary_of f.body)))) few
 
     -- a history that comes to the exit's mark
     pub came_in : (r : Run) (ls xs : List ℕ) (f : Function) → HasNoMark (order_function f) → weighed (weighs r) no_weight (spots_of_function f) ≤ 1 → (h : List Action)
-        → IsHistory (running r ls xs f) (shown (leaves e) ∷ h) → IsIn h
+        → IsHistory (marked r ls xs f) (shown (leaves e) ∷ h) → IsIn h
     came_in r ls xs f bare few h q = (told_at m refl h (shown (leaves e) ∷ q.0) (text_says r ls xs f bare few (back (shown (leaves e) ∷ h) q.0) q.1 q.2)).0 refl
 
-  -- ---- one block has the run's node, and its run does not declare the variable
+  -- ---- one block has the run's node, and the variable does not begin in its run
 
   no_block : (r : Run) (ss : List Spot) → blocks_at r.block ss ≤ 0 → weighed (weighs r) no_weight ss ≡ 0
   no_block r [] h = refl
   no_block r (a_block a n b ∷ ss) h = by (n == r.block) h (λ g. no_block r ss g)
     where
       by : (t : Bool) → (if t then suc (blocks_at r.block ss) else blocks_at r.block ss) ≤ 0 → (blocks_at r.block ss ≤ 0 → weighed (weighs r) no_weight ss ≡ 0)
-          → (if t then (if is_declared_in_run r b x then 2 else 1) else 0) + weighed (weighs r) no_weight ss ≡ 0
+          → (if t then (if may_begin r b then 2 else 1) else 0) + weighed (weighs r) no_weight ss ≡ 0
       by true g ih = absurd (omega (arith, g))
       by false g ih = let z = ih g in omega (arith, z)
   no_block r (a_jump a n j again ∷ ss) h = let z = no_block r ss h in omega (arith, z)
   no_block r (a_return a n ∷ ss) h = no_block r ss h
 
-  pub one_block : (r : Run) (c : Around) (w : Body) → is_declared_in_run r w x ≡ false → (ss : List Spot) → Among (a_block c r.block w) ss → blocks_at r.block ss ≤ 1
+  pub one_block : (r : Run) (c : Around) (w : Body) → may_begin r w ≡ false → (ss : List Spot) → Among (a_block c r.block w) ss → blocks_at r.block ss ≤ 1
       → weighed (weighs r) no_weight ss ≤ 1
   one_block r c w e [] i h = elim i [ ]
   one_block r c w e (a_block _ _ _ ∷ ss) here h = by (r.block == r.block) ((Decides-eqb r.block r.block).1 refl) h
@@ -363,14 +387,14 @@ module _ (x : ℕ) where
       counted true q z = absurd (true≢false q)
       counted false q z = omega (arith, z)
 
-      by : (t : Bool) → t ≡ true → (if t then suc (blocks_at r.block ss) else blocks_at r.block ss) ≤ 1 → (if t then (if is_declared_in_run r w x then 2 else 1) else 0)
+      by : (t : Bool) → t ≡ true → (if t then suc (blocks_at r.block ss) else blocks_at r.block ss) ≤ 1 → (if t then (if may_begin r w then 2 else 1) else 0)
           + weighed (weighs r) no_weight ss ≤ 1
-      by true q g = counted (is_declared_in_run r w x) e (no_block r ss (omega (arith, g)))
+      by true q g = counted (may_begin r w) e (no_block r ss (omega (arith, g)))
       by false q g = absurd (true≢false (sym q))
   one_block r c w e (a_block a n b ∷ ss) (there i) h = by (n == r.block) h (λ g. one_block r c w e ss i g)
     where
       by : (t : Bool) → (if t then suc (blocks_at r.block ss) else blocks_at r.block ss) ≤ 1 → (blocks_at r.block ss ≤ 1 → weighed (weighs r) no_weight ss ≤ 1)
-          → (if t then (if is_declared_in_run r b x then 2 else 1) else 0) + weighed (weighs r) no_weight ss ≤ 1
+          → (if t then (if may_begin r b then 2 else 1) else 0) + weighed (weighs r) no_weight ss ≤ 1
       by true g ih = let z = block_there r.block c w ss i in absurd (omega (arith, g, z))
       by false g ih = let z = ih g in omega (arith, z)
   one_block r c w e (a_jump a n j again ∷ ss) (there i) h = let z = one_block r c w e ss i h in omega (arith, z)

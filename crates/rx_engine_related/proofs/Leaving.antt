@@ -1,6 +1,6 @@
 -- Jumps out of the run beside the returns of variants: in front of a jump the mark of its exit tells what is needed where it leads, and behind
 -- what a return gives nothing is. And the arms of the match.
-use Rattle.std.proofs.Common.{◌≡◌, ◌≢◌, ℕ, suc, ◌==◌, Bool, true, false, if◌then◌else◌, List, [], ◌∷◌, Option, Some, None, refl, sym, ap, subst, true≢false}
+use Rattle.std.proofs.Common.{◌≡◌, ◌≢◌, ℕ, suc, ◌==◌, Bool, true, false, ◌&&◌, if◌then◌else◌, List, [], ◌∷◌, Option, Some, None, refl, sym, ap, subst, true≢false}
 use Rattle.std.proofs.lemmas.Bool.Decides.{Decides-eqb}
 use Rattle.rx_typed.specs.Tree as tree
 use Rattle.rx_typed.specs.Tree.{Mark, Exp, Arms, Body, temporary_at}
@@ -8,7 +8,8 @@ use Rattle.rx_lower_walks.specs.Orders.{order_body}
 use Rattle.rx_lower_walks.specs.Walks as walk
 use Rattle.rx_lower_walks.specs.Walks.{Among, here, there}
 use Rattle.rx_exits_plan.specs.Points.{Exit, next, breaks, continues, returns, enters, leaves, same_exit, jump_exit}
-use Rattle.rx_exits_plan.specs.Marked.{mark}
+use Rattle.rx_exits_plan.specs.Runs.{behind}
+use Rattle.rx_exits_plan.specs.Marked.{mark, shown}
 use Rattle.rx_exits_plan.specs.Asked.{Asked}
 use Rattle.rx_exits_plan.specs.Plan.{Plan}
 use Rattle.rx_engine_simulation.specs.Histories.{Living}
@@ -25,14 +26,16 @@ use Rattle.rx_engine_related.specs.Running.{running_of}
 use Rattle.rx_engine_related.specs.Premises.{known_of, ByMark}
 use Rattle.rx_engine_related.proofs.Closing.{given_dead}
 use Rattle.rx_engine_related.proofs.Premises.{out_ready, whole_unlent}
-use Rattle.rx_engine_related.proofs.Runs.{running_others_dead, running_lent}
+use Rattle.rx_engine_related.proofs.Points.{comes_to_mark}
+use Rattle.rx_engine_related.proofs.Runs.{running_others_dead, running_lent, running_lent_there}
 use Rattle.rx_engine_related.specs.ByForm.{by_form}
 use Rattle.rx_engine_related.specs.Handed.{MayBeAssigned, is_mut, is_local, not_lent}
 use Rattle.rx_engine_related.specs.Leaving.{place_from, variant_for, pack_if, jumps_of, Left, left_by_jump, left_by_return, left_with_value, left_with_unit, left, BackArm, back_arm, ArmsOf}
 use Rattle.rx_engine_related.proofs.Loops.{Held}
 use Rattle.rx_engine_related.proofs.Weaker.{Opens}
 use Rattle.rx_engine_related.proofs.Specials.{in_list, out_special}
-use Rattle.rx_engine_related.proofs.Locals.{local_unlent}
+use Rattle.rx_engine_related.proofs.Inside.{has_some}
+use Rattle.rx_engine_related.proofs.Locals.{Premises, never_lent}
 use Rattle.rx_engine_related.proofs.Ending.{ready_so}
 use Rattle.rx_engine_related.proofs.Handing.{back_so}
 
@@ -136,10 +139,24 @@ module _ (A : Asked) (muts : List Bool) (k : Plan) (had : Held A muts k) (u : Un
 
   -- ---- in the caller
 
+  premises : Premises A muts k
+  premises = record {
+    plan = had.plan;
+    accepted = had.accepted;
+    sits = had.sits;
+    none_behind = ap (λ t. t && has_some (behind A.run A.home.body)) had.short;
+    unmarked = had.unmarked;
+    one_block = had.one_block;
+    whole = had.whole;
+    unaliased = had.unaliased;
+  }
+
   -- what is handed out and may be assigned was not lent where the run is entered
   pub assigned_unlent : (b : Body) (e : Exit) (x : ℕ) → Among e k.exits → Among x (k.outs e) → MayBeAssigned A muts k x → IsUnlent (known_of A k u) (tree.runs (mark enters) b) x
   assigned_unlent b e x i o (is_mut m) = whole_unlent A k u had.short had.plan muts had.accepted had.unaliased (tree.runs (mark enters) b) x (out_special A k e x i o) m
-  assigned_unlent b e x i o (is_local l) = local_unlent A muts k had u x l e i o b
+  assigned_unlent b e x i o (is_local l) = λ n t h c w.
+      let z = running_lent_there A had.short k.params x (shown enters) h (comes_to_mark (running_of A k.params) enters b n t h c) w in
+      never_lent A muts k premises x l e i o z.0 z.1 z.2
   assigned_unlent b e x i o (not_lent none) =
       λ n t h c w. none (running_lent A had.short k.params muts had.accepted x h (comes_on (running_of A k.params) (order_body (tree.runs (mark enters) b) n t) h [] c walk.rests) w)
 

@@ -1,6 +1,6 @@
 -- In a function that is like itself no loop has the number of a loop round it. So the marks of an exit lead to one place.
-use Rattle.std.proofs.Common.{◌≡◌, ◌≢◌, ◌⊎◌, inl, inr, ℕ, zero, suc, ◌≤◌, ◌==◌, Bool, true, false, ◌||◌, nat_eq, if◌then◌else◌, List, [], ◌∷◌, ◌++◌, Option, Some, None, refl, sym, ap, ◌∙◌, subst, true≢false, eqb-true}
-use Rattle.std.specs.Prelude.{take, drop}
+use Rattle.std.proofs.Common.{◌≡◌, ◌≢◌, ◌⊎◌, inl, inr, ℕ, zero, suc, ◌≤◌, ◌==◌, Bool, true, false, ◌||◌, nat_eq, if◌then◌else◌, List, [], ◌∷◌, ◌++◌, Option, Some, None, refl, sym, ap, ◌∙◌, subst, true≢false, eqb-true, arith}
+use Rattle.std.specs.Prelude.{◌+◌, ◌&&◌, length, take, drop}
 use Rattle.std.proofs.lemmas.Bool.Decides.{Decides-eqb}
 use Rattle.rx_typed.specs.Tree as tree
 use Rattle.rx_typed.specs.Tree.{Exp, Operands, Scrutinee, Arms, Body, Function, Temporary, mark_of, temporary_of, temporary_at}
@@ -8,10 +8,10 @@ use Rattle.rx_lower_walks.specs.Matching.{PartTest, Binding, tests, bindings}
 use Rattle.rx_lower_walks.specs.Actions.{Act, Subject, subject, taken}
 use Rattle.rx_lower_walks.specs.Orders.{Order, order, order_all, order_scrutinee, order_arms, order_body, order_function, testing, binding, declaring, perhaps}
 use Rattle.rx_lower_walks.specs.Walks.{Among, here, there}
-use Rattle.rx_exits_plan.specs.Blocks.{Statement, statements, bound}
+use Rattle.rx_exits_plan.specs.Blocks.{Statement, statements, tail, bound}
 use Rattle.rx_exits_plan.specs.Blocks as block
 use Rattle.rx_exits_plan.specs.Spots.{Around, Spot, a_block, a_jump, a_return, with_variables, with_loop, spots, spots_in, spots_matched, spots_armed, spots_of, outermost, spots_of_function}
-use Rattle.rx_exits_plan.specs.Runs.{Run, Home, inside}
+use Rattle.rx_exits_plan.specs.Runs.{Run, Home, inside, behind}
 use Rattle.rx_exits_plan.specs.Marked.{is_among}
 use Rattle.rx_engine_simulation.specs.Turns.{Allowance}
 use Rattle.rx_engine_simulation.specs.Histories.{Facts}
@@ -34,11 +34,16 @@ use Rattle.rx_engine_related.specs.Running.{running_of}
 use Rattle.rx_engine_related.specs.OneSite.{blocks_at}
 use Rattle.rx_engine_related.specs.OnePlace.{LeadsToOnePlace, loops_in, loops_of}
 use Rattle.rx_engine_related.specs.Accepted.{Accepted}
+use Rattle.rx_engine_related.specs.Tailed.{tailed_of, TellsOnce}
 use Rattle.rx_engine_related.proofs.Recombining.{sole_leads}
 use Rattle.rx_engine_related.proofs.Sole.{end_stands_once}
 use Rattle.rx_engine_related.proofs.Jumps.{jumps_meet}
+use Rattle.rx_engine_related.proofs.TailJumps.{tail_jumps_meet}
+use Rattle.rx_engine_related.proofs.Fewer.{tells_once}
 use Rattle.rx_engine_related.specs.ByForm.{by_form, RelatedFunction, IsItself, is_itself, is_none}
 use Rattle.rx_engine_related.specs.Had.{Had}
+use Rattle.rx_engine_related.specs.ExtractsTail.{HadTail}
+use Rattle.rx_engine_related.proofs.Inside.{has_some}
 
 -- ---- numbers that are not in a list
 
@@ -108,7 +113,7 @@ module _ (j : ℕ) where
 -- ---- blocks of a part: no loop in one has the number of a loop round it
 
 abbrev pub EachBlock : List Spot → Type 0
-EachBlock l = (c : Around) (n : ℕ) (b : Body) → Among (a_block c n b) l → (j : ℕ) → Among j c.loops → NotIn j (loops_of (statements b))
+EachBlock l = (c : Around) (n : ℕ) (b : Body) → Among (a_block c n b) l → (j : ℕ) → Among j c.loops → NotIn j (loops_of (statements b)) × NotIn j (loops_in (order (tail b) (temporary_of (tail b))))
 
 each_both : (l m : List Spot) → EachBlock l → EachBlock m → EachBlock (l ++ m)
 each_both [] m p q c n b i = q c n b i
@@ -136,7 +141,7 @@ record FineParts (ls : List ℕ) (s : Order) (l : List Spot) : Type 0 where
 
 record FineBody (ls : List ℕ) (b : Body) (l : List Spot) : Type 0 where
   pub free : (j : ℕ) → Among j ls → (n : ℕ) (d : Temporary) → NotIn j (loops_in (order_body b n d))
-  pub behind : (j : ℕ) → Among j ls → NotIn j (loops_of (statements b))
+  pub behind : (j : ℕ) → Among j ls → NotIn j (loops_of (statements b)) × NotIn j (loops_in (order (tail b) (temporary_of (tail b))))
   pub each : EachBlock l
 
 nothing_there : (ls : List ℕ) (o : Temporary → Order) → ((j : ℕ) (d : Temporary) → NotIn j (loops_in (o d))) → Fine ls o []
@@ -238,7 +243,7 @@ module _ (items : ℕ → ℕ) (gain : Allowance) (V : Facts) where
 
     body_fine : {k : ℕ} {J : Jumping} {R : Renaming} {b b' : Body} (a : Around) → b ≡ b' → J.loops ≡ diagonal a.loops → LikeBody items no_openings gain V k J R b b' → FineBody a.loops b (spots_of a b)
     body_fine a is round (opens_in d i le o l) = absurd o
-    body_fine a is round (ends_in {e = e} {e' = e'} l) = let q : e ≡ e' = cc in let z = exp_fine a q round l in record { free = λ j i n d. z.free j i d; behind = λ j i. refl; each = z.each }
+    body_fine a is round (ends_in {e = e} {e' = e'} l) = let q : e ≡ e' = cc in let z = exp_fine a q round l in record { free = λ j i n d. z.free j i d; behind = λ j i. (refl, z.free j i (temporary_of e)); each = z.each }
     body_fine a is round (runs_on {e = e} {e' = e'} {b = b} {b' = b'} i j le l lb) =
         let q : e ≡ e' = cc in
         let x : b ≡ b' = cc in
@@ -246,7 +251,7 @@ module _ (items : ℕ → ℕ) (gain : Allowance) (V : Facts) where
         let y = body_fine a x round lb in
         record {
           free = λ j i n d. not_both j (loops_in (order e (temporary_of e))) (loops_in (order_body b n d)) (z.free j i (temporary_of e)) (y.free j i n d);
-          behind = λ j i. not_both j (loops_in (order e (temporary_of e))) (loops_of (statements b)) (z.free j i (temporary_of e)) (y.behind j i);
+          behind = λ j i. (not_both j (loops_in (order e (temporary_of e))) (loops_of (statements b)) (z.free j i (temporary_of e)) (y.behind j i).0, (y.behind j i).1);
           each = each_both (spots a e) (spots_of a b) z.each y.each;
         }
     body_fine a is round (declares_all {s = s} {xs = xs} {b = b} {b' = b'} Ra ld lb) =
@@ -260,7 +265,7 @@ module _ (items : ℕ → ℕ) (gain : Allowance) (V : Facts) where
         let y = body_fine (with_variables (bound p) a) x round lb in
         record {
           free = λ j i n d. not_both j (loops_in (order_scrutinee s)) (loops_in (binding (subject s) (bindings [] p) n (order_body b n d))) (z.free j i) (binding_free j (subject s) (bindings [] p) n (order_body b n d) (y.free j i n d));
-          behind = λ j i. not_both j (loops_in (order_scrutinee s)) (loops_of (statements b)) (z.free j i) (y.behind j i);
+          behind = λ j i. (not_both j (loops_in (order_scrutinee s)) (loops_of (statements b)) (z.free j i) (y.behind j i).0, (y.behind j i).1);
           each = each_both (spots_matched a s) (spots_of (with_variables (bound p) a) b) z.each y.each;
         }
     body_fine a is round (reads_place l) = absurd (no_place l refl is)
@@ -307,11 +312,17 @@ took j (suc n) (block.binds s q c ∷ ss) p =
 
 -- no loop of the run has the number of a loop round it
 pub run_apart : (f : Function) → RelatedFunction (λ f. f) no_openings without_turns [] f f → (r : Run) (h : Home) → Among (a_block h.around r.block h.body) (spots_of_function f) → (l : ℕ) → Among l h.around.loops → is_among l (loops_of (inside r h.body)) ≡ false
-run_apart f self r h i l round = took l r.count (drop r.first (statements h.body)) (dropped l r.first (statements h.body) (each_block self h.around r.block h.body i l round))
+run_apart f self r h i l round = took l r.count (drop r.first (statements h.body)) (dropped l r.first (statements h.body) (each_block self h.around r.block h.body i l round).0)
+
+-- nor has one of its tail
+tail_apart : (f : Function) → RelatedFunction (λ f. f) no_openings without_turns [] f f → (r : Run) (h : Home) → Among (a_block h.around r.block h.body) (spots_of_function f) → (l : ℕ) → Among l h.around.loops
+    → NotIn l (loops_of (inside r h.body) ++ loops_in (order (tail h.body) (temporary_of (tail h.body))))
+tail_apart f self r h i l round =
+    not_both l (loops_of (inside r h.body)) (loops_in (order (tail h.body) (temporary_of (tail h.body)))) (run_apart f self r h i l round) (each_block self h.around r.block h.body i l round).1
 
 -- ---- exits
 
-abbrev exit_loop : Exit → Option ℕ
+abbrev pub exit_loop : Exit → Option ℕ
 exit_loop next = None
 exit_loop (breaks l) = Some l
 exit_loop (continues l) = Some l
@@ -407,3 +418,60 @@ held_of A muts k had (is_itself self) = record {
     one_place (breaks l) i n = meets l false (round_it A.run A.home (breaks l) l refl (subst (λ es. Among (breaks l) es) had.plan.exits i))
     one_place (continues l) i n = meets l true (round_it A.run A.home (continues l) l refl (subst (λ es. Among (continues l) es) had.plan.exits i))
     one_place returns i n = absurd (n refl)
+
+-- ---- the same of a run with its block's tail
+
+-- no statement is behind all of them
+none_dropped : (j : ℕ) (ss : List Statement) → j ≡ length ss → has_some (drop j ss) ≡ false
+none_dropped zero [] e = refl
+none_dropped zero (s ∷ ss) e = absurd (omega (arith, e))
+none_dropped (suc j) [] e = refl
+none_dropped (suc j) (s ∷ ss) e = none_dropped j ss (omega (arith, e))
+
+all_dropped : (i j : ℕ) (ss : List Statement) → i + j ≡ length ss → has_some (drop j (drop i ss)) ≡ false
+all_dropped zero j ss e = none_dropped j ss (omega (arith, e))
+all_dropped (suc i) zero [] e = refl
+all_dropped (suc i) (suc j) [] e = refl
+all_dropped (suc i) j (s ∷ ss) e = all_dropped i j ss (omega (arith, e))
+
+also : (t c : Bool) → c ≡ false → t && c ≡ false
+also true c e = e
+also false c e = refl
+
+pub record HeldTail (A : Asked) (muts : List Bool) (k : Plan) : Type 0 where
+  pub tail : A.run.tail ≡ true
+  pub plan : IsPlan A k
+  pub accepted : Accepted A muts
+  pub sits : Among (a_block A.home.around A.run.block A.home.body) (spots_of_function A.function)
+  pub none_behind : A.run.tail && has_some (behind A.run A.home.body) ≡ false
+  pub unmarked : HasNoMark (order_function A.function)
+  pub one_block : blocks_at A.run.block (spots_of_function A.function) ≤ 1
+  pub whole : (x : ℕ) → ¬ (PartlyMoved A k x)
+  pub unaliased : (x : ℕ) → ¬ (Aliased A muts k x)
+  pub told_once : TellsOnce A k.params
+  pub one_place : (e : Exit) → Among e k.exits → e ≢ returns → e ≢ next → LeadsToOnePlace (tailed_of A k.params) (shown (leaves e))
+
+pub held_tail_of : (A : Asked) (muts : List Bool) (k : Plan) → HadTail A muts k → IsItself (Some (Some A.function)) → HeldTail A muts k
+held_tail_of A muts k had (is_none n) = absurd n
+held_tail_of A muts k had (is_itself self) = record {
+  tail = had.tail;
+  plan = had.plan;
+  accepted = had.accepted;
+  sits = had.sits.block;
+  none_behind = also (A.run.tail) _ (all_dropped A.run.first A.run.count (statements A.home.body) (had.sits.whole had.tail));
+  unmarked = had.unmarked;
+  one_block = had.one_block;
+  whole = had.whole;
+  unaliased = had.unaliased;
+  told_once = tells_once A k.params had.unmarked had.unpassed had.one_block;
+  one_place = one_place;
+}
+  where
+    meets : (l : ℕ) (again : Bool) → Among l A.home.around.loops → LeadsToOnePlace (tailed_of A k.params) (shown (leaves (jump_exit l again)))
+    meets l again i = tail_jumps_meet A.run A.home k.params A.function l again had.unmarked had.one_block had.sits.block (tail_apart A.function self A.run A.home had.sits.block l i)
+
+    one_place : (e : Exit) → Among e k.exits → e ≢ returns → e ≢ next → LeadsToOnePlace (tailed_of A k.params) (shown (leaves e))
+    one_place next i n m = absurd (m refl)
+    one_place (breaks l) i n m = meets l false (round_it A.run A.home (breaks l) l refl (subst (λ es. Among (breaks l) es) had.plan.exits i))
+    one_place (continues l) i n m = meets l true (round_it A.run A.home (continues l) l refl (subst (λ es. Among (continues l) es) had.plan.exits i))
+    one_place returns i n m = absurd (n refl)

@@ -29,7 +29,7 @@ use Rattle.rx_engine_related.proofs.Entered.{living_entered}
 use Rattle.rx_engine_related.proofs.Runs.{running_param_written, running_local_dead, running_out_written, running_others_dead, running_out_living, running_unlent}
 
 -- the run's statements behind its entry, in both ways to write them
-before_reads : (xs : List ℕ) (r : Stretch) (rest : Body) → before (reading xs r) rest ≡ statement.before (map using xs) (before r rest)
+pub before_reads : (xs : List ℕ) (r : Stretch) (rest : Body) → before (reading xs r) rest ≡ statement.before (map using xs) (before r rest)
 before_reads [] r rest = refl
 before_reads (x ∷ xs) r rest = ap (λ c. runs (read (at_point enters) false (own x)) c) (before_reads xs r rest)
 

@@ -32,18 +32,18 @@ module _ (V : Facts) where
   at_mark : {b b1 : Body} (p : Point) → MarkedBody V b b1 → MarkedBody V b (runs (mark p) b1)
   at_mark p m = behind_mark p [] (λ x i. absurd i) m
 
-  entered : {b b1 : Body} (xs : List ℕ) → AreWritten V enters xs → MarkedBody V b b1 → MarkedBody V b (before (entering xs) b1)
+  pub entered : {b b1 : Body} (xs : List ℕ) → AreWritten V enters xs → MarkedBody V b b1 → MarkedBody V b (before (entering xs) b1)
   entered {b} {b1} xs written m = subst (λ c. MarkedBody V b (runs (mark enters) c)) (sym (reading_is xs b1)) (behind_mark enters xs written m)
 
   -- what is put at blocks, jumps and returns has marks
-  record Marks (C : Changes) : Type 0 where
+  pub record Marks (C : Changes) : Type 0 where
     pub at_block : (n : ℕ) (was b : Body) → MarkedBody V was b → MarkedBody V was (C.at_block n was b)
     pub at_jump : (m : Mark) (l : ℕ) (again : Bool) → MarkedExp V (jump m l again) (C.at_jump m l again)
     pub at_return : (e f : Exp) → MarkedExp V e f → MarkedExp V e (C.at_return f)
 
   module _ (C : Changes) (K : Marks C) where
     mutual
-      changed_marked : (e : Exp) → MarkedExp V e (changed C e)
+      pub changed_marked : (e : Exp) → MarkedExp V e (changed C e)
       changed_marked (read m v p) = marked.in_front [] marked.m_read
       changed_marked (borrow m k p) = marked.in_front [] marked.m_borrow
       changed_marked (share m e) = marked.in_front [] (marked.m_share (changed_marked e))
@@ -79,23 +79,23 @@ module _ (V : Facts) where
       body_marked (declares s xs b) = in_block [] none_read (marked.m_declares (body_marked b))
       body_marked (lets s p c b) = in_block [] none_read (marked.m_lets (matched_marked c) (body_marked b))
 
-    statements_marked : (ss : List Statement) (a b : Body) → MarkedBody V a b → MarkedBody V (before ss a) (before (map (changed_statement C) ss) b)
+    pub statements_marked : (ss : List Statement) (a b : Body) → MarkedBody V a b → MarkedBody V (before ss a) (before (map (changed_statement C) ss) b)
     statements_marked [] a b h = h
     statements_marked (does e ∷ ss) a b h = in_block [] none_read (marked.m_runs (changed_marked e) (statements_marked ss a b h))
     statements_marked (begins s xs ∷ ss) a b h = in_block [] none_read (marked.m_declares (statements_marked ss a b h))
     statements_marked (binds s p c ∷ ss) a b h = in_block [] none_read (marked.m_lets (matched_marked c) (statements_marked ss a b h))
 
-  statements_itself : (ss : List Statement) (a b : Body) → MarkedBody V a b → MarkedBody V (before ss a) (before ss b)
+  pub statements_itself : (ss : List Statement) (a b : Body) → MarkedBody V a b → MarkedBody V (before ss a) (before ss b)
   statements_itself [] a b h = h
   statements_itself (does e ∷ ss) a b h = in_block [] none_read (marked.m_runs (itself V e) (statements_itself ss a b h))
   statements_itself (begins s xs ∷ ss) a b h = in_block [] none_read (marked.m_declares (statements_itself ss a b h))
   statements_itself (binds s p c ∷ ss) a b h = in_block [] none_read (marked.m_lets (matched_itself V c) (statements_itself ss a b h))
 
   jump_marked : (t : Bool) (p : Point) (m : Mark) (l : ℕ) (k : Bool) → MarkedExp V (jump m l k) (if t then mark_then p (jump m l k) else jump m l k)
-  jump_marked true p m l k = marked.in_front (p ∷ []) marked.m_jump
+  jump_marked true p m l k = marked.in_front (marked.in_front_of p ∷ []) marked.m_jump
   jump_marked false p m l k = marked.in_front [] marked.m_jump
 
-  passing_marks : (ls : List ℕ) → Marks (passing ls)
+  pub passing_marks : (ls : List ℕ) → Marks (passing ls)
   passing_marks ls = record {
     at_block = λ n was b h. h;
     at_jump = λ m l k. jump_marked (is_among l ls) (leaves (jump_exit l k)) m l k;

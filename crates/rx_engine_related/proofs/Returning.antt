@@ -1,162 +1,21 @@
 -- The marked function is the one that runs as the function does, with further marks behind what is returned: form by form.
-use Rattle.std.proofs.Common.{◌≡◌, ℕ, ◌==◌, if◌then◌else◌, Bool, true, false, List, [], ◌∷◌, map, refl, sym, ap, ◌∙◌, subst}
-use Rattle.rx_typed.specs.Tree.{Temporary, truth, operation, lazy, Mark, Exp, read, borrow, share, build, unit, lazily, assign, update, call, input, print, block, choose, loop, jump, give, Operands, no_operand, operand_and, Scrutinee, at_place, of_value, Arms, no_arm, arm_and, Body, ends, runs, declares, lets, Parameter, Function, held, mark_of, temporary_at, temporary_of, temporaries_of, fields_of}
-use Rattle.rx_lower_walks.specs.Matching.{equals, PartTest, Binding, tests, bindings}
-use Rattle.rx_lower_walks.specs.Actions.{Write, Test, Build, Call, Print, Give, Action, at_mark, Subject, in_temporary, subject}
-use Rattle.rx_lower_walks.specs.Orders.{Order, testing, binding, declaring, order, order_all, order_scrutinee, order_arms, order_body, beginning, order_function}
-use Rattle.rx_lower_walks.specs.Orders as order
-use Rattle.rx_exits_plan.specs.Blocks.{Statement, does, begins, binds, before, tail}
+use Rattle.std.proofs.Common.{◌≡◌, ℕ, ◌==◌, if◌then◌else◌, Bool, true, false, List, map, refl}
+use Rattle.rx_typed.specs.Tree.{Temporary, Body, ends, Function}
+use Rattle.rx_lower_walks.specs.Orders.{order_body, order_function}
+use Rattle.rx_exits_plan.specs.Blocks.{before, tail}
 use Rattle.rx_exits_plan.specs.Runs.{Run, in_front, inside, behind}
-use Rattle.rx_exits_plan.specs.Changed.{Changes, changed, changed_all, changed_matched, changed_arms, changed_body, changed_statement, changed_function}
+use Rattle.rx_exits_plan.specs.Changed.{changed_statement}
 use Rattle.rx_exits_plan.specs.Marked.{marking, entering, ended, ended_tail, marked_body, at_the_block, marked}
 use Rattle.rx_engine_related.specs.Running.{passing, running_body, in_the_block, running}
 use Rattle.rx_engine_related.proofs.Further.{Furthered, as_it_was, f_behind, f_then, f_or, f_otherwise, f_ending, f_passes}
+use Rattle.rx_engine_related.proofs.Formwise.{Congruent, Furthers, before_further, statements_further, function_further}
 
--- ---- patterns and statements
-
-testing_further : (S : Subject) (ts : List PartTest) {q r : Order} → Furthered q r → Furthered (testing S ts q) (testing S ts r)
-testing_further S [] m = m
-testing_further S (t ∷ ts) m = f_then as_it_was (f_or (testing_further S ts m) as_it_was)
-
-binding_further : (S : Subject) (bs : List Binding) (n : ℕ) {q r : Order} → Furthered q r → Furthered (binding S bs n q) (binding S bs n r)
-binding_further S [] n m = m
-binding_further S (b ∷ bs) n m = f_then as_it_was (f_then as_it_was (f_then as_it_was (f_ending (binding_further S bs n m))))
-
-declaring_further : (s : ℕ) (ys : List ℕ) (n : ℕ) {q r : Order} → Furthered q r → Furthered (declaring s ys n q) (declaring s ys n r)
-declaring_further s [] n m = m
-declaring_further s (x ∷ ys) n m = f_then as_it_was (f_ending (declaring_further s ys n m))
-
-beginning_further : (ps : List Parameter) (n : ℕ) {q r : Order} → Furthered q r → Furthered (beginning ps n q) (beginning ps n r)
-beginning_further [] n m = m
-beginning_further (p ∷ ps) n m = f_then as_it_was (f_then as_it_was (f_ending (beginning_further ps n m)))
-
-before_further : (ss : List Statement) (a b : Body) (n : ℕ) (d : Temporary) → Furthered (order_body a n d) (order_body b n d) → Furthered (order_body (before ss a) n d) (order_body (before ss b) n d)
-before_further [] a b n d m = m
-before_further (does e ∷ ss) a b n d m = f_then as_it_was (before_further ss a b n d m)
-before_further (begins s ys ∷ ss) a b n d m = declaring_further s ys n (before_further ss a b n d m)
-before_further (binds s p c ∷ ss) a b n d m = f_then as_it_was (binding_further (subject c) (bindings [] p) n (before_further ss a b n d m))
-
--- ---- trees
-
--- what is put at blocks, jumps and returns keeps nodes, and has further marks
-pub record Furthers (C D : Changes) : Type 0 where
-  pub jump_mark : (m : Mark) (l : ℕ) (k : Bool) → mark_of (D.at_jump m l k) ≡ mark_of (C.at_jump m l k)
-  pub return_mark : (e f : Exp) → mark_of f ≡ mark_of e → mark_of (D.at_return f) ≡ mark_of (C.at_return e)
-  pub at_block : (n : ℕ) (was b c : Body) (d : Temporary) → Furthered (order_body b n d) (order_body c n d) → Furthered (order_body (C.at_block n was b) n d) (order_body (D.at_block n was c) n d)
-  pub at_jump : (m : Mark) (l : ℕ) (k : Bool) (d : Temporary) → Furthered (order (C.at_jump m l k) d) (order (D.at_jump m l k) d)
-  pub at_return : (e f : Exp) → mark_of f ≡ mark_of e → Furthered (order e (temporary_of e)) (order f (temporary_of e)) → Furthered (order (C.at_return e) (temporary_of (C.at_return e))) (order (D.at_return f) (temporary_of (C.at_return e)))
-
-module _ (C D : Changes) (K : Furthers C D) where
-  same : (e : Exp) → mark_of (changed D e) ≡ mark_of (changed C e)
-  same (read m v p) = refl
-  same (borrow m k p) = refl
-  same (share m e) = refl
-  same (build m w es) = refl
-  same (unit m) = refl
-  same (lazily m b e f) = refl
-  same (assign m p e) = refl
-  same (update m o p e) = refl
-  same (call m f es) = refl
-  same (input m) = refl
-  same (print m e) = refl
-  same (block m b) = refl
-  same (choose m s l) = refl
-  same (loop m l e) = refl
-  same (jump m l k) = K.jump_mark m l k
-  same (give m e) = refl
-
-  same_temporary : (e : Exp) → temporary_of (changed D e) ≡ temporary_of (changed C e)
-  same_temporary e = ap (λ (m : Mark). temporary_at m.node 0) (same e)
-
-  same_temporaries : (es : Operands) → temporaries_of (changed_all D es) ≡ temporaries_of (changed_all C es)
-  same_temporaries no_operand = refl
-  same_temporaries (operand_and i e es) = ap (λ t. t ∷ temporaries_of (changed_all D es)) (same_temporary e) ∙ ap (λ l. temporary_of (changed C e) ∷ l) (same_temporaries es)
-
-  same_fields : (es : Operands) → fields_of (changed_all D es) ≡ fields_of (changed_all C es)
-  same_fields no_operand = refl
-  same_fields (operand_and i e es) = ap (λ l. i ∷ l) (same_fields es)
-
-  same_subject : (s : Scrutinee) → subject (changed_matched D s) ≡ subject (changed_matched C s)
-  same_subject (at_place m p) = refl
-  same_subject (of_value e) = ap in_temporary (same_temporary e)
-
-  act_further : {a b : Action} → b ≡ a → Furthered (order.act a) (order.act b)
-  act_further {a = a} e = subst (λ b. Furthered (order.act a) (order.act b)) (sym e) as_it_was
-
-  told : (f : Temporary → Action) (e : Exp) → Furthered (order.act (f (temporary_of (changed C e)))) (order.act (f (temporary_of (changed D e))))
-  told f e = act_further (ap f (same_temporary e))
-
-  own_further : (e : Exp) → Furthered (order (changed C e) (temporary_of (changed C e))) (order (changed D e) (temporary_of (changed C e)))
-      → Furthered (order (changed C e) (temporary_of (changed C e))) (order (changed D e) (temporary_of (changed D e)))
-  own_further e m = subst (λ t. Furthered (order (changed C e) (temporary_of (changed C e))) (order (changed D e) t)) (sym (same_temporary e)) m
-
-  given_further : (m : Mark) (e : Exp) → Furthered (order (changed C e) (temporary_of (changed C e))) (order (changed D e) (temporary_of (changed C e))) → (d : Temporary)
-      → Furthered (order (give m (C.at_return (changed C e))) d) (order (give m (D.at_return (changed D e))) d)
-  given_further m e h d =
-      let q = ap (λ (n : Mark). temporary_at n.node 0) (K.return_mark (changed C e) (changed D e) (same e)) in
-      subst (λ t. Furthered (order (give m (C.at_return (changed C e))) d) (order.then (order (D.at_return (changed D e)) t) (order.then (order.act (at_mark m (Give t))) (order.leave (order.returns m.node))))) (sym q)
-      (f_then (K.at_return (changed C e) (changed D e) (same e) h) as_it_was)
-
-  mutual
-    further : (e : Exp) (d : Temporary) → Furthered (order (changed C e) d) (order (changed D e) d)
-    further (read m v p) d = as_it_was
-    further (borrow m k p) d = as_it_was
-    further (share m e) d = f_then (further e _) as_it_was
-    further (build m w es) d = f_then (all_further es) (act_further (ap (λ is. at_mark m (Build w is (temporaries_of (changed_all D es)) d)) (same_fields es) ∙ ap (λ ts. at_mark m (Build w (fields_of (changed_all C es)) ts d)) (same_temporaries es)))
-    further (unit m) d = as_it_was
-    further (lazily m b e g) d = f_then (own_further e (further e _)) (f_then (told (λ t. at_mark m (Test (held t) (equals (truth b)))) e) (f_then (f_or (own_further g (further g _)) as_it_was)
-        (act_further (ap (λ t. at_mark m (Build lazy [] (t ∷ temporary_of (changed D g) ∷ []) d)) (same_temporary e) ∙ ap (λ t. at_mark m (Build lazy [] (temporary_of (changed C e) ∷ t ∷ []) d)) (same_temporary g)))))
-    further (assign m p e) d = f_then (own_further e (further e _)) (told (λ t. at_mark m (Write p t [])) e)
-    further (update m o p e) d = f_then (own_further e (further e _)) (f_then as_it_was (f_then (told (λ t. at_mark m (Build (operation o) [] (temporary_at m.node 1 ∷ t ∷ []) (temporary_at m.node 2))) e) as_it_was))
-    further (call m g es) d = f_then (all_further es) (act_further (ap (λ ts. at_mark m (Call g ts d)) (same_temporaries es)))
-    further (input m) d = as_it_was
-    further (print m e) d = f_then (own_further e (further e _)) (told (λ t. at_mark m (Print t)) e)
-    further (block m b) d = K.at_block m.node b (changed_body C b) (changed_body D b) d (body_further b m.node d)
-    further (choose m s l) d = f_then (matched_further s)
-        (subst (λ S. Furthered (order_arms (subject (changed_matched C s)) (changed_arms C l) d) (order_arms S (changed_arms D l) d)) (sym (same_subject s)) (arms_further (subject (changed_matched C s)) l d))
-    further (loop m l e) d = f_passes (own_further e (further e _))
-    further (jump m l k) d = K.at_jump m l k d
-    further (give m e) d = given_further m e (further e _) d
-
-    all_further : (es : Operands) → Furthered (order_all (changed_all C es)) (order_all (changed_all D es))
-    all_further no_operand = as_it_was
-    all_further (operand_and i e es) = f_then (own_further e (further e _)) (all_further es)
-
-    pub matched_further : (s : Scrutinee) → Furthered (order_scrutinee (changed_matched C s)) (order_scrutinee (changed_matched D s))
-    matched_further (at_place m p) = as_it_was
-    matched_further (of_value e) = own_further e (further e _)
-
-    arms_further : (S : Subject) (l : Arms) (d : Temporary) → Furthered (order_arms S (changed_arms C l) d) (order_arms S (changed_arms D l) d)
-    arms_further S no_arm d = as_it_was
-    arms_further S (arm_and p e l) d = f_otherwise
-        (subst (λ (m : Mark). Furthered (testing S (tests [] p) (binding S (bindings [] p) (mark_of (changed C e)).node (order (changed C e) d))) (testing S (tests [] p) (binding S (bindings [] p) m.node (order (changed D e) d))))
-        (sym (same e)) (testing_further S (tests [] p) (binding_further S (bindings [] p) (mark_of (changed C e)).node (further e d))))
-        (arms_further S l d)
-
-    body_further : (b : Body) (n : ℕ) (d : Temporary) → Furthered (order_body (changed_body C b) n d) (order_body (changed_body D b) n d)
-    body_further (ends e) n d = further e d
-    body_further (runs e b) n d = f_then (own_further e (further e _)) (body_further b n d)
-    body_further (declares s ys b) n d = declaring_further s ys n (body_further b n d)
-    body_further (lets s p c b) n d = f_then (matched_further c)
-        (subst (λ S. Furthered (binding (subject (changed_matched C c)) (bindings [] p) n (order_body (changed_body C b) n d)) (binding S (bindings [] p) n (order_body (changed_body D b) n d))) (sym (same_subject c))
-        (binding_further (subject (changed_matched C c)) (bindings [] p) n (body_further b n d)))
-
-  pub statements_further : (ss : List Statement) (a : Body) (n : ℕ) (d : Temporary) → Furthered (order_body (before (map (changed_statement C) ss) a) n d) (order_body (before (map (changed_statement D) ss) a) n d)
-  statements_further [] a n d = as_it_was
-  statements_further (does e ∷ ss) a n d = f_then (own_further e (further e _)) (statements_further ss a n d)
-  statements_further (begins s ys ∷ ss) a n d = declaring_further s ys n (statements_further ss a n d)
-  statements_further (binds s p c ∷ ss) a n d = f_then (matched_further c)
-      (subst (λ S. Furthered (binding (subject (changed_matched C c)) (bindings [] p) n (order_body (before (map (changed_statement C) ss) a) n d)) (binding S (bindings [] p) n (order_body (before (map (changed_statement D) ss) a) n d))) (sym (same_subject c))
-      (binding_further (subject (changed_matched C c)) (bindings [] p) n (statements_further ss a n d)))
-
-  pub function_further : (g : Function) → Furthered (order_function (changed_function C g)) (order_function (changed_function D g))
-  function_further g =
-      subst (λ (m : Mark). Furthered (beginning g.params (mark_of (changed C g.body)).node (order (changed C g.body) (temporary_of (changed C g.body)))) (beginning g.params m.node (order (changed D g.body) (temporary_of (changed D g.body)))))
-      (sym (same g.body)) (beginning_further g.params (mark_of (changed C g.body)).node (own_further g.body (further g.body _)))
+pub congruent : Congruent Furthered
+congruent = record { same = as_it_was; sequence = f_then; choice = f_or; fallback = f_otherwise; ending = f_ending; passes = f_passes }
 
 -- ---- the marks
 
-inside_further : (ls : List ℕ) → Furthers (marking ls) (passing ls)
+pub inside_further : (ls : List ℕ) → Furthers Furthered (marking ls) (passing ls)
 inside_further ls = record {
   jump_mark = λ m l k. refl;
   return_mark = λ e f q. q;
@@ -169,7 +28,7 @@ body_of : (r : Run) (ls xs : List ℕ) (b : Body) (n : ℕ) (d : Temporary) (t :
     → Furthered (order_body (before (in_front r b) (before (entering xs) (before (map (changed_statement (marking ls)) (inside r b)) (before (ended t) (before (behind r b) (ends (ended_tail t r.block ls (tail b)))))))) n d)
     (order_body (running_body r ls xs b) n d)
 body_of r ls xs b n d false e =
-    before_further (in_front r b) _ _ n d (before_further (entering xs) _ _ n d (statements_further (marking ls) (passing ls) (inside_further ls) (inside r b) (before (ended false) (before (behind r b) (ends (tail b)))) n d))
+    before_further Furthered congruent (in_front r b) _ _ n d (before_further Furthered congruent (entering xs) _ _ n d (statements_further Furthered congruent (marking ls) (passing ls) (inside_further ls) (inside r b) _ _ n d as_it_was))
 body_of r ls xs b n d true e = absurd (cc)
 
 chosen : (t : Bool) (r : Run) (ls xs : List ℕ) (n : ℕ) (was b c : Body) (d : Temporary) → r.tail ≡ false → Furthered (order_body b n d) (order_body c n d)
@@ -177,7 +36,7 @@ chosen : (t : Bool) (r : Run) (ls xs : List ℕ) (n : ℕ) (was b c : Body) (d :
 chosen true r ls xs n was b c d e h = body_of r ls xs was n d r.tail e
 chosen false r ls xs n was b c d e h = h
 
-block_further : (r : Run) (ls xs : List ℕ) → r.tail ≡ false → Furthers (at_the_block r ls xs) (in_the_block r ls xs)
+block_further : (r : Run) (ls xs : List ℕ) → r.tail ≡ false → Furthers Furthered (at_the_block r ls xs) (in_the_block r ls xs)
 block_further r ls xs e = record {
   jump_mark = λ m l k. refl;
   return_mark = λ f g q. q;
@@ -187,4 +46,4 @@ block_further r ls xs e = record {
 }
 
 pub running_further : (r : Run) (ls xs : List ℕ) → r.tail ≡ false → (g : Function) → Furthered (order_function (marked r ls xs g)) (order_function (running r ls xs g))
-running_further r ls xs e g = function_further (at_the_block r ls xs) (in_the_block r ls xs) (block_further r ls xs e) g
+running_further r ls xs e g = function_further Furthered congruent (at_the_block r ls xs) (in_the_block r ls xs) (block_further r ls xs e) g

@@ -124,6 +124,10 @@ module _ (A : Asked) (short : A.run.tail ≡ false) (xs : List ℕ) where
         more = c.in_front;
       }
 
+  -- what a history of the text lends, one of the marked function does that goes on alike
+  pub running_lent_there : (x : ℕ) (a : Action) (h : List Action) → IsHistory (running_of A xs) (a ∷ h) → Borrowed h x → (g : List Action) × IsHistory (marked_with A xs) (a ∷ g) × Borrowed g x
+  running_lent_there x a h q b = let z = there a h q in (put z.front [], z.history, borrowed_more x (more_history h z.more) b)
+
   -- some action of the function lends what a history of the text lends
   pub running_lent : (muts : List Bool) → Accepted A muts → (x : ℕ) (h : List Action) → IsHistory (running_of A xs) h → Borrowed h x → Done deeds.borrowed (OwnPath x) (in_function A)
   running_lent muts acc x h q b =

@@ -57,7 +57,7 @@ declaring_count : (k s : ℕ) (xs : List ℕ) (n : ℕ) (r : Order) → count k 
 declaring_count k s [] n r = refl
 declaring_count k s (x ∷ xs) n r = let h = declaring_count k s xs n r in omega (arith, h)
 
-beginning_count : (k : ℕ) (ps : List Parameter) (n : ℕ) (r : Order) → count k (beginning ps n r) ≡ count k r
+pub beginning_count : (k : ℕ) (ps : List Parameter) (n : ℕ) (r : Order) → count k (beginning ps n r) ≡ count k r
 beginning_count k [] n r = refl
 beginning_count k (p ∷ ps) n r = let h = beginning_count k ps n r in omega (arith, h)
 
@@ -116,7 +116,7 @@ module _ (k : ℕ) (C : Changes) (w : Around → ℕ → Body → ℕ) (u : ℕ 
       (ap (λ is. makes_mark v is (temporaries_of (changed_all C es))) (same_fields es) ∙ ap (λ ts. makes_mark v (fields_of es) ts) (same_temporaries es) ∙ e)
 
   mutual
-    few : (e : Exp) (a : Around) (d f : Temporary) → NoMarks (order e f) → count k (order (changed C e) d) ≤ weighed w u (spots a e)
+    pub few : (e : Exp) (a : Around) (d f : Temporary) → NoMarks (order e f) → count k (order (changed C e) d) ≤ weighed w u (spots a e)
     few (read m v p) a d f h = omega arith
     few (borrow m b p) a d f h = omega arith
     few (share m e) a d f h = let x = few e a (temporary_at m.node 1) (temporary_at m.node 1) h.0 in omega (arith, x)
@@ -239,7 +239,7 @@ drop_free zero ss h = h
 drop_free (suc i) [] h = tt
 drop_free (suc i) (s ∷ ss) h = drop_free i ss h.1
 
-before_count : (k : ℕ) (ss : List Statement) (b : Body) (n : ℕ) (d : Temporary) → AllFree ss → count k (order_body (before ss b) n d) ≡ count k (order_body b n d)
+pub before_count : (k : ℕ) (ss : List Statement) (b : Body) (n : ℕ) (d : Temporary) → AllFree ss → count k (order_body (before ss b) n d) ≡ count k (order_body b n d)
 before_count k [] b n d h = refl
 before_count k (does e ∷ ss) b n d h = let x = none_counted k (order e (temporary_of e)) h.0 in let y = before_count k ss b n d h.1 in omega (arith, x, y)
 before_count k (begins s xs ∷ ss) b n d h = let x = declaring_count k s xs n (order_body (before ss b) n d) in let y = before_count k ss b n d h.1 in omega (arith, x, y)
@@ -251,7 +251,7 @@ abbrev pub light : Around → ℕ → Body → ℕ
 light a n b = 0
 
 module _ (k : ℕ) (C : Changes) (v : ℕ → Bool → ℕ) (K : Light k C light v) where
-  changed_count : (ss : List Statement) (a : Around) (b : Body) (n : ℕ) (d : Temporary) → AllFree ss
+  pub changed_count : (ss : List Statement) (a : Around) (b : Body) (n : ℕ) (d : Temporary) → AllFree ss
       → count k (order_body (before (map (changed_statement C) ss) b) n d) ≤ weighed light v (spots_in_statements a ss) + count k (order_body b n d)
   changed_count [] a b n d h = omega arith
   changed_count (does e ∷ ss) a b n d h =
@@ -294,7 +294,7 @@ passing_light k ls = record {
   at_return = λ e. omega arith;
 }
 
-reads_count : (k : ℕ) (ys : List ℕ) (b : Body) (n : ℕ) (d : Temporary) → count k (order_body (before (map using ys) b) n d) ≡ count k (order_body b n d)
+pub reads_count : (k : ℕ) (ys : List ℕ) (b : Body) (n : ℕ) (d : Temporary) → count k (order_body (before (map using ys) b) n d) ≡ count k (order_body b n d)
 reads_count k [] b n d = refl
 reads_count k (y ∷ ys) b n d = let h = reads_count k ys b n d in omega (arith, h)
 

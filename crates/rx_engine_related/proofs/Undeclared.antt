@@ -1,5 +1,5 @@
--- A variable that the statements of a run do not declare, as their occurrences tell: no action of theirs begins it, nor with marks in front
--- of jumps.
+-- A variable that the statements of a run, and its tail, do not declare, as their occurrences tell: no action of theirs begins it, nor with the
+-- marks of the run.
 use Rattle.std.proofs.Common.{◌≡◌, inl, inr, ℕ, ◌==◌, Bool, true, false, ◌||◌, if◌then◌else◌, List, [], ◌∷◌, ◌++◌, map, refl, sym, ◌∙◌, true≢false}
 use Rattle.std.proofs.lemmas.Bool.Decides.{Decides-eqb}
 use Rattle.rx_core.specs.declared.types.Step.{Step}
@@ -10,13 +10,12 @@ use Rattle.rx_lower_walks.specs.Orders.{Order, testing, perhaps, binding, declar
 use Rattle.rx_lower_walks.specs.Orders as order
 use Rattle.rx_lower_walks.specs.Walks.{Out, Walk, actions_in, Among, here, there, EndsVariable}
 use Rattle.rx_lower_walks.proofs.HeldLemmas.{Own, held}
-use Rattle.rx_exits_plan.specs.Blocks.{bound}
-use Rattle.rx_exits_plan.specs.Points.{leaves, jump_exit}
+use Rattle.rx_exits_plan.specs.Blocks.{bound, written_tail}
+use Rattle.rx_exits_plan.specs.Points.{next, leaves, jump_exit}
 use Rattle.rx_exits_plan.specs.Changed.{changed, changed_all, changed_matched, changed_arms, changed_body}
-use Rattle.rx_exits_plan.specs.Marked.{mark_then, is_among}
+use Rattle.rx_exits_plan.specs.Marked.{mark_then, then_mark, is_among, marking, ended_value}
 use Rattle.rx_exits_plan.specs.Occurrences.{Occurrence, names, declared, named_place, all_declared, occurrences, occurrences_in, occurrences_matched, occurrences_armed, occurrences_of, declared_among, has_number}
 use Rattle.rx_engine_simulation.specs.Histories.{Declares}
-use Rattle.rx_engine_related.specs.Running.{passing}
 
 module _ (x : ℕ) where
   -- no action of an order begins the variable
@@ -47,7 +46,7 @@ module _ (x : ℕ) where
   away_rest (names y ∷ os) ps h = away_rest os ps h
   away_rest (declared y ∷ os) ps h = away_rest os ps h.1
 
-  either_false : (b c : Bool) → b || c ≡ false → (b ≡ false) × (c ≡ false)
+  pub either_false : (b c : Bool) → b || c ≡ false → (b ≡ false) × (c ≡ false)
   either_false true c e = absurd (true≢false e)
   either_false false c e = (refl, e)
 
@@ -118,7 +117,7 @@ module _ (x : ℕ) where
   declaring_away s [] n r i h = h
   declaring_away s (y ∷ ys) n r i h = (i.0, declaring_away s ys n r i.1 h)
 
-  -- ---- trees, with marks in front of jumps out of these loops
+  -- ---- trees, with marks in front of jumps out of these loops, and behind what is returned
 
   module _ (ls : List ℕ) where
     jump_away : (m : Mark) (l : ℕ) (again : Bool) (d : Temporary) → Undeclared (order (if is_among l ls then mark_then (leaves (jump_exit l again)) (jump m l again) else jump m l again) d)
@@ -129,51 +128,51 @@ module _ (x : ℕ) where
         by false = tt
 
     mutual
-      pub exp_away : (e : Exp) (d : Temporary) → Away (occurrences e) → Undeclared (order (changed (passing ls) e) d)
+      pub exp_away : (e : Exp) (d : Temporary) → Away (occurrences e) → Undeclared (order (changed (marking ls) e) d)
       exp_away (read m v p) d h = λ q. q
       exp_away (borrow m b p) d h = λ q. q
       exp_away (share m e) d h = (exp_away e (temporary_at m.node 1) h, λ q. q)
       exp_away (build m v es) d h = (all_away es h, λ q. q)
       exp_away (unit m) d h = tt
       exp_away (lazily m b e f) d h =
-          let C = passing ls in (
+          let C = marking ls in (
             exp_away e (temporary_of (changed C e)) (away_front (occurrences e) (occurrences f) h),
             (
               (λ q. q),
               ((exp_away f (temporary_of (changed C f)) (away_rest (occurrences e) (occurrences f) h), tt), λ q. q),
             ),
           )
-      exp_away (assign m p e) d h = (exp_away e (temporary_of (changed (passing ls) e)) (away_rest (named_place p) (occurrences e) h), λ q. q)
-      exp_away (update m o p e) d h = (exp_away e (temporary_of (changed (passing ls) e)) (away_rest (named_place p) (occurrences e) h), ((λ q. q), ((λ q. q), λ q. q)))
+      exp_away (assign m p e) d h = (exp_away e (temporary_of (changed (marking ls) e)) (away_rest (named_place p) (occurrences e) h), λ q. q)
+      exp_away (update m o p e) d h = (exp_away e (temporary_of (changed (marking ls) e)) (away_rest (named_place p) (occurrences e) h), ((λ q. q), ((λ q. q), λ q. q)))
       exp_away (call m f es) d h = (all_away es h, λ q. q)
       exp_away (input m) d h = λ q. q
-      exp_away (print m e) d h = (exp_away e (temporary_of (changed (passing ls) e)) h, λ q. q)
+      exp_away (print m e) d h = (exp_away e (temporary_of (changed (marking ls) e)) h, λ q. q)
       exp_away (block m b) d h = body_away b m.node d h
       exp_away (choose m s l) d h = (
         matched_away s (away_front (occurrences_matched s) (occurrences_armed l) h),
-        arms_away (subject (changed_matched (passing ls) s)) l d
+        arms_away (subject (changed_matched (marking ls) s)) l d
             (away_rest (occurrences_matched s) (occurrences_armed l) h),
       )
-      exp_away (loop m l e) d h = exp_away e (temporary_of (changed (passing ls) e)) h
+      exp_away (loop m l e) d h = exp_away e (temporary_of (changed (marking ls) e)) h
       exp_away (jump m l again) d h = jump_away m l again d
-      exp_away (give m e) d h = (exp_away e (temporary_of (changed (passing ls) e)) h, ((λ q. q), tt))
+      exp_away (give m e) d h = ((exp_away e (temporary_of (changed (marking ls) e)) h, ((tt, λ q. q), tt)), ((λ q. q), tt))
 
-      all_away : (es : Operands) → Away (occurrences_in es) → Undeclared (order_all (changed_all (passing ls) es))
+      all_away : (es : Operands) → Away (occurrences_in es) → Undeclared (order_all (changed_all (marking ls) es))
       all_away no_operand h = tt
       all_away (operand_and i e es) h = (
-        exp_away e (temporary_of (changed (passing ls) e)) (away_front (occurrences e) (occurrences_in es) h),
+        exp_away e (temporary_of (changed (marking ls) e)) (away_front (occurrences e) (occurrences_in es) h),
         all_away es
             (away_rest (occurrences e) (occurrences_in es) h),
       )
 
-      pub matched_away : (s : Scrutinee) → Away (occurrences_matched s) → Undeclared (order_scrutinee (changed_matched (passing ls) s))
+      pub matched_away : (s : Scrutinee) → Away (occurrences_matched s) → Undeclared (order_scrutinee (changed_matched (marking ls) s))
       matched_away (at_place m p) h = tt
-      matched_away (of_value e) h = exp_away e (temporary_of (changed (passing ls) e)) h
+      matched_away (of_value e) h = exp_away e (temporary_of (changed (marking ls) e)) h
 
-      arms_away : (S : Subject) (l : Arms) (d : Temporary) → Away (occurrences_armed l) → Undeclared (order_arms S (changed_arms (passing ls) l) d)
+      arms_away : (S : Subject) (l : Arms) (d : Temporary) → Away (occurrences_armed l) → Undeclared (order_arms S (changed_arms (marking ls) l) d)
       arms_away S no_arm d h = tt
       arms_away S (arm_and p e l) d h =
-          let C = passing ls in
+          let C = marking ls in
           let r : Order = order (changed C e) d in
           let i = away_rest (all_declared (bound p)) (occurrences e ++ occurrences_armed l) h in (
             testing_away S (tests [] p) (binding S (bindings [] p) (mark_of (changed C e)).node r)
@@ -182,18 +181,46 @@ module _ (x : ℕ) where
             arms_away S l d (away_rest (occurrences e) (occurrences_armed l) i),
           )
 
-      body_away : (b : Body) (n : ℕ) (d : Temporary) → Away (occurrences_of b) → Undeclared (order_body (changed_body (passing ls) b) n d)
+      body_away : (b : Body) (n : ℕ) (d : Temporary) → Away (occurrences_of b) → Undeclared (order_body (changed_body (marking ls) b) n d)
       body_away (ends e) n d h = exp_away e d h
       body_away (runs e b) n d h = (
-        exp_away e (temporary_of (changed (passing ls) e)) (away_front (occurrences e) (occurrences_of b) h),
+        exp_away e (temporary_of (changed (marking ls) e)) (away_front (occurrences e) (occurrences_of b) h),
         body_away b n d
             (away_rest (occurrences e) (occurrences_of b) h),
       )
       body_away (declares s ys b) n d h =
-          declaring_away s ys n (order_body (changed_body (passing ls) b) n d) (away_front (all_declared ys) (occurrences_of b) h) (body_away b n d (away_rest (all_declared ys) (occurrences_of b) h))
+          declaring_away s ys n (order_body (changed_body (marking ls) b) n d) (away_front (all_declared ys) (occurrences_of b) h) (body_away b n d (away_rest (all_declared ys) (occurrences_of b) h))
       body_away (lets s p c b) n d h =
           let i = away_rest (all_declared (bound p)) (occurrences_matched c ++ occurrences_of b) h in (
             matched_away c (away_front (occurrences_matched c) (occurrences_of b) i),
-            binding_away (subject (changed_matched (passing ls) c)) (bindings [] p) n (order_body (changed_body (passing ls) b) n d)
+            binding_away (subject (changed_matched (marking ls) c)) (bindings [] p) n (order_body (changed_body (marking ls) b) n d)
                 (away_front (all_declared (bound p)) (occurrences_matched c ++ occurrences_of b) h) (body_away b n d (away_rest (occurrences_matched c) (occurrences_of b) i)),
           )
+
+    -- ---- a tail, with the mark of the run's end behind its value
+
+    ended_away : (e : Exp) (d : Temporary) → Away (occurrences e) → Undeclared (order (then_mark (leaves next) (changed (marking ls) e)) d)
+    ended_away e d h = (exp_away e (temporary_of (changed (marking ls) e)) h, ((tt, λ q. q), tt))
+
+    given_away : (t : Bool) (m : Mark) (e : Exp) (d : Temporary) → Away (occurrences (if t then e else give m e))
+        → Undeclared (order (if t then give m (then_mark (leaves next) (changed (marking ls) e)) else then_mark (leaves next) (changed (marking ls) (give m e))) d)
+    given_away true m e d h = (ended_away e (temporary_of (changed (marking ls) e)) h, ((λ q. q), tt))
+    given_away false m e d h = ended_away (give m e) d h
+
+    pub value_away : (n : ℕ) (v : Exp) (d : Temporary) → Away (occurrences (written_tail n v)) → Undeclared (order (ended_value n ls v) d)
+    value_away n (read m v p) d h = ended_away (read m v p) d h
+    value_away n (borrow m b p) d h = ended_away (borrow m b p) d h
+    value_away n (share m e) d h = ended_away (share m e) d h
+    value_away n (build m w es) d h = ended_away (build m w es) d h
+    value_away n (unit m) d h = ended_away (unit m) d h
+    value_away n (lazily m b e f) d h = ended_away (lazily m b e f) d h
+    value_away n (assign m p e) d h = ended_away (assign m p e) d h
+    value_away n (update m o p e) d h = ended_away (update m o p e) d h
+    value_away n (call m f es) d h = ended_away (call m f es) d h
+    value_away n (input m) d h = ended_away (input m) d h
+    value_away n (print m e) d h = ended_away (print m e) d h
+    value_away n (block m b) d h = ended_away (block m b) d h
+    value_away n (choose m s l) d h = ended_away (choose m s l) d h
+    value_away n (loop m l e) d h = ended_away (loop m l e) d h
+    value_away n (jump m l again) d h = ended_away (jump m l again) d h
+    value_away n (give m e) d h = given_away (m.node == n) m e d h

@@ -34,12 +34,12 @@ use Rattle.rx_engine_related.proofs.Blockwise.{marked_or_plain}
 
 -- ---- lists with another element
 
-put_same : {A : Type 0} (l : List A) (i : ℕ) (a b : A) → element l i ≡ Some a → element (with_element l i b) i ≡ Some b
+pub put_same : {A : Type 0} (l : List A) (i : ℕ) (a b : A) → element l i ≡ Some a → element (with_element l i b) i ≡ Some b
 put_same [] i a b e = absurd (cc)
 put_same (c ∷ l) zero a b e = refl
 put_same (c ∷ l) (suc i) a b e = put_same l i a b e
 
-put_other : {A : Type 0} (l : List A) (i f : ℕ) (b : A) → (f ≡ i → ⊥) → element (with_element l i b) f ≡ element l f
+pub put_other : {A : Type 0} (l : List A) (i f : ℕ) (b : A) → (f ≡ i → ⊥) → element (with_element l i b) f ≡ element l f
 put_other [] i f b n = refl
 put_other (c ∷ l) zero zero b n = absurd (n refl)
 put_other (c ∷ l) zero (suc f) b n = refl
@@ -56,7 +56,7 @@ at_each Q i q others f = by (nat_eq f i) refl
 
 -- ---- functions that stay
 
-abbrev alone : (items : ℕ → ℕ) (O : Openings) (less gain : Allowance) → less.turns ≤ gain.turns → {g g' : Function} → RelatedFunction items no_openings less [] g g' → LikeFunction items O gain g g'
+abbrev pub alone : (items : ℕ → ℕ) (O : Openings) (less gain : Allowance) → less.turns ≤ gain.turns → {g g' : Function} → RelatedFunction items no_openings less [] g g' → LikeFunction items O gain g g'
 alone items O less gain more {g} r = record {
   about = no_one;
   untouched = λ a h x i. absurd i;
@@ -66,10 +66,10 @@ alone items O less gain more {g} r = record {
       (record { special = λ x i. i; into = λ J l k ok. ok; expression = λ a J R e f f' ok o. absurd o; statements = λ a J R S b f f' ok o. absurd o }) more tt r.body;
 }
 
-abbrev itself_alone : {g : Function} → RelatedFunction (λ f. f) no_openings without_turns [] g g → LikeFunction (λ f. f) no_openings without_turns g g
+abbrev pub itself_alone : {g : Function} → RelatedFunction (λ f. f) no_openings without_turns [] g g → LikeFunction (λ f. f) no_openings without_turns g g
 itself_alone r = alone (λ f. f) no_openings without_turns without_turns (omega arith) r
 
-entry_alone : (items : ℕ → ℕ) (O : Openings) (gain : Allowance) {o o' : Option (Option Function)} → SameEntry items o o' → LikeEntry items O gain o o'
+pub entry_alone : (items : ℕ → ℕ) (O : Openings) (gain : Allowance) {o o' : Option (Option Function)} → SameEntry items o o' → LikeEntry items O gain o o'
 entry_alone items O gain (same_function r) = functions (alone items O without_turns gain (omega arith) r)
 entry_alone items O gain (no_function n n') = neither n n'
 

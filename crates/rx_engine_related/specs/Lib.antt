@@ -4,6 +4,7 @@ pub mod Accepted
 pub mod Ambiguous
 pub mod OneSite
 pub mod Running
+pub mod Tailed
 pub mod Reading
 pub mod Premises
 pub mod OnePlace
@@ -17,4 +18,6 @@ pub mod Standing
 pub mod InBlock
 pub mod Extracts
 pub mod Had
+pub mod Tails
+pub mod ExtractsTail
 pub mod Stretched

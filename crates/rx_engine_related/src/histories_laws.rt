@@ -1,15 +1,15 @@
 //! Laws of histories, each the contract of a function that does nothing.
 
 ghost use Rattle.std.specs.Prelude.{◌≡◌, ◌≢◌, ◌≤◌, ℕ, ℤ, Bool, true, false, List as ListOf, [], ◌∷◌, ◌++◌, Some, slice_get};
-ghost use Rattle.rx_typed.specs.Tree.{Temporary, Body, runs, Function, own};
+ghost use Rattle.rx_typed.specs.Tree.{Temporary, Body, runs, Function, own, temporary_of};
 ghost use Rattle.rx_lower_walks.specs.Actions.{Give, Action, does};
-ghost use Rattle.rx_lower_walks.specs.Orders.{order_body, order_function};
+ghost use Rattle.rx_lower_walks.specs.Orders.{order, order_body, order_function};
 ghost use Rattle.rx_lower_walks.specs.Walks.{IsWalk, Among};
 ghost use Rattle.rx_typed_declarations.specs.Sizes.{Sized};
 ghost use Rattle.rx_facts_tables.specs.Places.{Frame, is_part};
 ghost use Rattle.rx_facts_tables.specs.Setting.{is_set};
 ghost use Rattle.rx_facts_tables.specs.Initialised.{Initialised};
-ghost use Rattle.rx_exits_plan.specs.Blocks.{before};
+ghost use Rattle.rx_exits_plan.specs.Blocks.{tail, before};
 ghost use Rattle.rx_exits_plan.specs.Runs.{Run, Home, inside};
 ghost use Rattle.rx_exits_plan.specs.Points.{Exit, next, returns, jump_exit, Point, enters, leaves};
 ghost use Rattle.rx_exits_plan.specs.Marked.{mark, entering, shown, marked, is_among};
@@ -31,8 +31,15 @@ ghost use Rattle.rx_engine_related.specs.Reads.{Wider};
 ghost use Rattle.rx_engine_related.specs.Premises.{known_of, InFront, ByMark, NotHanded};
 ghost use Rattle.rx_engine_related.specs.Reading.{ReadingEntry};
 ghost use Rattle.rx_engine_related.specs.Running.{running, running_of, MarkedEntry};
+ghost use Rattle.rx_engine_related.specs.Tailed.{tailed, tailed_of, HasNoPass, TellsOnce};
+ghost use Rattle.rx_typed.specs.Tree.{Exp};
+ghost use Rattle.rx_engine_simulation.specs.Passed.{passage};
+ghost use Rattle.rx_engine_simulation.specs.Openings.{no_openings};
+ghost use Rattle.rx_engine_simulation.specs.Programs.{LikeFunction};
+ghost use Rattle.rx_engine_simulation.specs.Marking.{without_turns, facts_alone, TreeEntry};
+ghost use Rattle.rx_engine_simulation.specs.Marks.{AreWritten};
 ghost use Rattle.rx_engine_related.specs.OneSite.{StandsOnce, blocks_at, times_taken};
-ghost use Rattle.rx_engine_related.specs.OnePlace.{LeadsToOnePlace, loops_of};
+ghost use Rattle.rx_engine_related.specs.OnePlace.{LeadsToOnePlace, loops_in, loops_of};
 ghost use Rattle.rx_engine_related.specs.AboutRun.{special_of, about_run, marked_with, text_of};
 ghost use Rattle.rx_engine_related.specs.Accepted.{Accepted};
 ghost use Rattle.rx_engine_related.specs.Ambiguous.{moves_perhaps, behind_it, branching};
@@ -162,6 +169,41 @@ pub fn running_texts_are_left_so()
         → Untouched (running_of A k.params) (about_run A k) }
     ensures unlent { (A : Asked) → A.run.tail ≡ false → (k : Plan) → IsPlan A k → (muts : ListOf Bool) → Accepted A muts → ((x : ℕ) → ¬ (Aliased A muts k x)) → (x : ℕ) → In x (special_of A k)
         → slice_get muts x ≡ Some true → (h : ListOf Action) → IsHistory (running_of A k.params) h → Borrowed h x → ⊥ }
+{}
+
+/// The same of the text of a run with its block's tail: where the run is entered, params were written and are living, and locals are not; and nothing
+/// that may be elsewhere is written once it was borrowed.
+pub fn tailed_texts_are_entered_so()
+    ensures written { (A : Asked) → A.run.tail ≡ true → (xs : ListOf ℕ) (muts : ListOf Bool) → Accepted A muts → (k : Plan) → IsPlan A k → (x : ℕ) → Among x k.params
+        → (b : Body) (i : ℕ) (t : Temporary) (h : ListOf Action) → ComesTo (tailed_of A xs) (order_body (runs (mark enters) b) i t) h → Written h x }
+    ensures living { (A : Asked) (k : Plan) (u : Untouched (tailed_of A k.params) (about_run A k)) (x : ℕ) → Among x k.params → (b : Body) (i : ℕ) (t : Temporary) (h : ListOf Action)
+        → ComesTo (tailed_of A k.params) (order_body (before (entering k.params) b) i t) h → Living (facts_of (tailed_of A k.params) (about_run A k) u) x h }
+    ensures locals { (A : Asked) → A.run.tail ≡ true → (k : Plan) → IsPlan A k → (muts : ListOf Bool) → Accepted A muts → (u : Untouched (tailed_of A k.params) (about_run A k)) (x : ℕ) → Among x k.locals
+        → (b : Body) (i : ℕ) (t : Temporary) (h : ListOf Action) → ComesTo (tailed_of A k.params) (order_body (runs (mark enters) b) i t) h
+        → Living (facts_of (tailed_of A k.params) (about_run A k) u) x h → ⊥ }
+    ensures untouched { (A : Asked) → A.run.tail ≡ true → (k : Plan) → IsPlan A k → (muts : ListOf Bool) → Accepted A muts → ((x : ℕ) → ¬ (Aliased A muts k x))
+        → Untouched (tailed_of A k.params) (about_run A k) }
+    ensures unlent { (A : Asked) → A.run.tail ≡ true → (k : Plan) → IsPlan A k → (muts : ListOf Bool) → Accepted A muts → ((x : ℕ) → ¬ (Aliased A muts k x)) → (x : ℕ) → In x (special_of A k)
+        → slice_get muts x ≡ Some true → (h : ListOf Action) → IsHistory (tailed_of A k.params) h → Borrowed h x → ⊥ }
+{}
+
+/// Of the text of a run with its block's tail, where this is let pass at the run's end: what is handed out there was written and is living, and
+/// nothing else that may be elsewhere is; and it is the function with marks.
+pub fn tailed_texts_are_left_so()
+    ensures written { (A : Asked) → A.run.tail ≡ true → (k : Plan) → IsPlan A k → TellsOnce A k.params → (muts : ListOf Bool) → Accepted A muts → (x : ℕ) → ¬ (PartlyMoved A k x)
+        → Among next k.exits → Among x (k.outs next) → (e : Exp) (d : Temporary) (h : ListOf Action) → IsHistory (tailed_of A k.params) (passage e d ∷ h) → Written h x }
+    ensures living { (A : Asked) → A.run.tail ≡ true → (k : Plan) → IsPlan A k → TellsOnce A k.params → (muts : ListOf Bool) → Accepted A muts → (u : Untouched (tailed_of A k.params) (about_run A k)) (x : ℕ)
+        → Among next k.exits → Among x (k.outs next) → (e : Exp) (d : Temporary) (h : ListOf Action) → IsHistory (tailed_of A k.params) (passage e d ∷ h)
+        → Living (facts_of (tailed_of A k.params) (about_run A k) u) x (passage e d ∷ h) }
+    ensures others { (A : Asked) → A.run.tail ≡ true → (k : Plan) → IsPlan A k → TellsOnce A k.params → (u : Untouched (tailed_of A k.params) (about_run A k)) (x : ℕ)
+        → Among next k.exits → In x (special_of A k) → (Among x (k.outs next) → ⊥) → (e : Exp) (d : Temporary) (h : ListOf Action)
+        → Living (facts_of (tailed_of A k.params) (about_run A k) u) x (passage e d ∷ h) → ⊥ }
+    ensures marked { (A : Asked) (xs : ListOf ℕ) (l : LikeFunction (λ f. f) no_openings without_turns A.function A.function) → l.about.special ≡ []
+        → AreWritten (facts_alone (tailed_of A xs)) enters xs → TreeEntry (Some (Some A.function)) (Some (Some (tailed_of A xs))) }
+    ensures once { (A : Asked) (xs : ListOf ℕ) → HasNoMark (order_function A.function) → HasNoPass (order_function A.function) → blocks_at A.run.block (spots_of_function A.function) ≤ 1 → TellsOnce A xs }
+    ensures jumps { (r : Run) (h : Home) (xs : ListOf ℕ) (f : Function) (l : ℕ) (again : Bool) → HasNoMark (order_function f) → blocks_at r.block (spots_of_function f) ≤ 1
+        → Among (a_block h.around r.block h.body) (spots_of_function f) → is_among l (loops_of (inside r h.body) ++ loops_in (order (tail h.body) (temporary_of (tail h.body)))) ≡ false
+        → LeadsToOnePlace (tailed r h.around.loops xs f) (shown (leaves (jump_exit l again))) }
 {}
 
 /// A program in which some functions have the marks that do nothing, and no reads, has the program's runs.

@@ -21,6 +21,7 @@ ghost use Rattle.rx_engine_simulation.specs.Astray.{FindsReferences};
 ghost use Rattle.rx_engine_related.specs.ByForm.{SameEntry, EachIsItself};
 ghost use Rattle.rx_engine_related.specs.Had.{Had};
 ghost use Rattle.rx_engine_related.specs.Extracts.{Extracts};
+ghost use Rattle.rx_engine_related.specs.ExtractsTail.{HadTail, ExtractsTail};
 
 /// A program whose typed trees stand to an accepted text's as those of an extraction do does what the text does, up to the turns, where it
 /// follows nothing that is no reference: of a run without its block's tail, with whatever exits.
@@ -28,6 +29,15 @@ pub fn extracted_programs_run_alike()
     ensures answer { (A : Asked) (muts : ListOf Bool) (k : Plan) → Had A muts k → (modes : ListOf Mode) (P Q : Program) → Extracts A muts k modes P Q → EachIsItself P
         → (given : ListOf ℤ) (n : ℕ) → FindsReferences Q given n → UpTo (run Q given n) (run P given n) }
     ensures text { (A : Asked) (muts : ListOf Bool) (k : Plan) → Had A muts k → (modes : ListOf Mode) (P Q : Program) → Extracts A muts k modes P Q → EachIsItself P
+        → (given : ListOf ℤ) (n : ℕ) → FindsReferences Q given (2 * n) → UpTo (run P given n) (run Q given (2 * n)) }
+{}
+
+/// So does one where the run has its block's tail, also that of its function's body: the tail's value is handed out with what is needed behind it, or
+/// a unit is given again.
+pub fn extracted_tails_run_alike()
+    ensures answer { (A : Asked) (muts : ListOf Bool) (k : Plan) → HadTail A muts k → (modes : ListOf Mode) (P Q : Program) → ExtractsTail A muts k modes P Q → EachIsItself P
+        → (given : ListOf ℤ) (n : ℕ) → FindsReferences Q given n → UpTo (run Q given n) (run P given n) }
+    ensures text { (A : Asked) (muts : ListOf Bool) (k : Plan) → HadTail A muts k → (modes : ListOf Mode) (P Q : Program) → ExtractsTail A muts k modes P Q → EachIsItself P
         → (given : ListOf ℤ) (n : ℕ) → FindsReferences Q given (2 * n) → UpTo (run P given n) (run Q given (2 * n)) }
 {}
 

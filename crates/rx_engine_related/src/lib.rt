@@ -11,6 +11,10 @@ pub use histories_laws::{
     outs_are_living, outs_are_written, params_are_written_and_living, plans_give_what_calls_ask,
     running_texts_are_entered_so, running_texts_are_left_so, set_variables_were_written,
     single_jumps_stand_once, sole_actions_lead_to_one_place, special_variables_are_untouched,
-    walks_go_on_alike, what_is_not_handed_out_is_not_living,
+    tailed_texts_are_entered_so, tailed_texts_are_left_so, walks_go_on_alike,
+    what_is_not_handed_out_is_not_living,
 };
-pub use laws::{alike_items_are_the_same, extracted_programs_run_alike, outs_may_be_assigned};
+pub use laws::{
+    alike_items_are_the_same, extracted_programs_run_alike, extracted_tails_run_alike,
+    outs_may_be_assigned,
+};

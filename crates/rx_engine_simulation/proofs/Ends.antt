@@ -21,7 +21,7 @@ use Rattle.rx_engine_simulation.specs.Packing.{Way, no_way, TakesAll, Gives, giv
 use Rattle.rx_engine_simulation.specs.Like.{LikeExp}
 use Rattle.rx_engine_simulation.specs.Units.{UnitFunctions}
 use Rattle.rx_engine_simulation.specs.Variants.{leaving}
-use Rattle.rx_engine_simulation.specs.Endings.{Last, a_marked, an_end, a_tail, with_last, aim_of, IsLeft, left_statement, left_marked, left_tail, left_end, IsDropped, Bound, bound_value, bound_place, LikeEnd, end_gives, end_is, end_runs, end_value, end_variant, end_tuple, end_never, end_left}
+use Rattle.rx_engine_simulation.specs.Endings.{Last, a_marked, an_end, a_tail, with_last, aim_of, IsLeft, left_statement, left_marked, left_tail, left_end, IsDropped, Bound, bound_value, bound_place, bound_passed, LikeEnd, end_gives, end_is, end_runs, end_value, end_variant, end_tuple, end_never, end_left}
 use Rattle.rx_engine_simulation.specs.Statements.{Calling, Handing, count}
 use Rattle.rx_engine_simulation.proofs.Told.{Told, did, followed}
 use Rattle.rx_engine_simulation.proofs.Values.{Pair, In, Given, set_same, none_given}
@@ -39,10 +39,11 @@ use Rattle.rx_engine_simulation.proofs.Contexts.{context_bind_is, exits_at, oute
 use Rattle.rx_engine_simulation.proofs.Locals.{give_is, back_is, called_back, back_context}
 use Rattle.rx_engine_simulation.proofs.Packing.{listed, packed, Holding, holds_and, beside_none, beside_and, held_on, gives_is, values_held, variant_with, let_body_is}
 use Rattle.rx_engine_simulation.proofs.Handing.{states_beside, given_grown, AllFit, none_fit, fit_thaw_all, ready_values}
-use Rattle.rx_engine_simulation.specs.Temporaries.{IsPlaced, is_forgotten, goes_to_operand}
+use Rattle.rx_engine_simulation.specs.Temporaries.{IsPlaced, is_forgotten, is_let_pass, goes_to_operand}
 use Rattle.rx_engine_simulation.proofs.Temporaries.{forgets_walk}
 use Rattle.rx_engine_simulation.proofs.Units.{unit_given}
 use Rattle.rx_engine_simulation.proofs.Variants.{value_in_text}
+use Rattle.rx_engine_simulation.proofs.Passed.{passed_walk, passes_alike}
 use Rattle.rx_engine_simulation.proofs.Landing.{AllSet, fits_set, land, open_with, hand_on, all_exits}
 use Rattle.rx_engine_simulation.proofs.Handed.{text_goes, all_values, ValueFits, RestAt, used_in, hand_alike, any_dropped, RestAlike}
 
@@ -197,6 +198,7 @@ module _ (items : ℕ → ℕ) (U : List ℕ) (P Q : Functions) (units : UnitFun
 
   tail_walk : {e : Exp} → IsPlaced V block e → (t : State) → IsWalked (order e t0) (value followed P lp e t0 t)
   tail_walk (is_forgotten k) t = forgets_walk P m k t0 t
+  tail_walk (is_let_pass {e = e}) t = passed_walk P m e t0 t
   tail_walk {e} (goes_to_operand k) t = value_walk_to P m e t0 t (k i t0 h entry)
 
   left_walk : {l : Last} {e : Exp} {b : Bool} → IsLeft l e b → ((f : Exp) → l ≡ a_tail f → IsPlaced V block f) → {h1 : List Action} → V.Comes (order_body (with_last l rest) i t0) h1 → (t : State) → IsWalked (order e (left_to l t0 e)) (value followed P lp e (left_to l t0 e) t)
@@ -280,6 +282,11 @@ module _ (items : ℕ → ℕ) (U : List ℕ) (P Q : Functions) (units : UnitFun
   bound_alike (bound_place {m = m0} {m' = m1} {moves = moves} {p = p} {p' = p'} like) k o mutable tt h1 j1 t t' ready at = (
     record { gives = performed plainly (does k (Read mutable (under p' []) (temporary_at k 0))) [] t'; is = λ n b i t. place_bound Q ln m1 p' n k o mutable b i t t' },
     read_alike V d Rb Zs Zf Ji c1 h1 j1 t t' ready.0.inv ready.0.turns m0.node k moves mutable p (under p' []) tt (temporary_at k 0) [] [] (subst (λ q. LikePlace Rb looking p q) (sym (under_nothing p')) like) none_given,
+  )
+  bound_alike (bound_passed {m = m0} {m' = m1} {moves = moves} {p = p} {p' = p'} like) k o mutable tt h1 j1 t t' ready at = (
+    record { gives = performed plainly (does k (Read mutable (under p' []) (temporary_at k 0))) [] t'; is = λ n b i t. place_bound Q ln m1 p' n k o mutable b i t t' },
+    passes_alike P V d Rb Zs Zf Ji m c1 h1 j1 t t' (tree.read m0 moves p) tt (performed plainly (does k (Read mutable (under p' []) (temporary_at k 0))) [] t')
+        (read_alike V d Rb Zs Zf Ji c1 h1 j1 t t' ready.0.inv ready.0.turns m0.node k moves mutable p (under p' []) (temporary_of (tree.read m0 moves p)) (temporary_at k 0) [] [] (subst (λ q. LikePlace Rb looking p q) (sym (under_nothing p')) like) none_given),
   )
 
   beside_ready : (o : ℕ) (v : Value) (h1 : List Action) (j1 : List Pair) (t t' : State) → IsNew Rb o → At h1 j1 t t' → At h1 j1 t (with_value o v t')

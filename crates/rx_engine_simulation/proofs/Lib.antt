@@ -7,6 +7,7 @@ pub mod Declaring
 pub mod Spots
 pub mod Positions
 pub mod Results
+pub mod Passed
 pub mod Acts
 pub mod Borrows
 pub mod Writes

@@ -17,16 +17,18 @@ use Rattle.rx_engine_simulation.specs.Openings.{no_openings}
 use Rattle.rx_engine_simulation.specs.Like.{LikeExp, opens, LikeAll, LikeMatched, LikeArms, LikeBody, opens_in, reads, borrows, views, shares, builds, builds_structs, builds_variants, units, lazies, assigns, updates, calls, inputs, prints, blocks, chooses, loops, stays, gives, no_operands, operands_and, at_places, of_values, no_arms, arms_and, ends_in, runs_on, declares_all, lets_in, reads_place, looks_behind}
 use Rattle.rx_engine_simulation.specs.Programs.{LikeFunction, LikeEntry, functions, neither}
 use Rattle.rx_engine_simulation.specs.Blocks.{done, before}
-use Rattle.rx_engine_simulation.specs.Marks.{with_mark, marks, marks_expression, marks_statements}
+use Rattle.rx_engine_simulation.specs.Marks.{with_mark, marks, marks_expression, marks_value, marks_statements}
 use Rattle.rx_engine_simulation.specs.Marked.{Marked}
-use Rattle.rx_engine_simulation.specs.Marking.{marks_before, marks_in, AllWritten, none_read, read_and, MarkedExp, in_front, MarkedInside, m_read, m_borrow, m_share, m_build, m_unit, m_lazily, m_assign, m_update, m_call, m_input, m_print, m_block, m_choose, m_loop, m_jump, m_give, MarkedAll, m_no_operand, m_operand_and, MarkedMatched, m_at_place, m_of_value, MarkedArms, m_no_arm, m_arm_and, MarkedBody, in_block, MarkedStatement, m_ends, m_runs, m_declares, m_lets, no_one, facts_alone, without_turns, TreeEntry, with_marks, without_marks, no_function, MarkedTrees}
+use Rattle.rx_engine_simulation.specs.Passed.{let_pass}
+use Rattle.rx_engine_simulation.specs.Marking.{Beside, in_front_of, behind_value, marks_before, marks_in, AllWritten, none_read, read_and, MarkedExp, in_front, MarkedInside, m_read, m_borrow, m_share, m_build, m_unit, m_lazily, m_assign, m_update, m_call, m_input, m_print, m_block, m_choose, m_loop, m_jump, m_give, MarkedAll, m_no_operand, m_operand_and, MarkedMatched, m_at_place, m_of_value, MarkedArms, m_no_arm, m_arm_and, MarkedBody, in_block, MarkedStatement, m_ends, m_runs, m_declares, m_lets, no_one, facts_alone, without_turns, TreeEntry, with_marks, without_marks, no_function, MarkedTrees}
 use Rattle.rx_engine_simulation.proofs.Marked.{marked_alike}
 
 -- ---- what a mark leaves as it is
 
-marks_mark : (ps : List Point) (e : Exp) → mark_of (marks_before ps e) ≡ mark_of e
+marks_mark : (ps : List Beside) (e : Exp) → mark_of (marks_before ps e) ≡ mark_of e
 marks_mark [] e = refl
-marks_mark (p ∷ ps) e = marks_mark ps e
+marks_mark (in_front_of p ∷ ps) e = marks_mark ps e
+marks_mark (behind_value ∷ ps) e = marks_mark ps e
 
 inside_mark : {V : Facts} {e e1 : Exp} → MarkedInside V e e1 → mark_of e1 ≡ mark_of e
 inside_mark m_read = refl
@@ -74,9 +76,10 @@ module _ (items : ℕ → ℕ) (g : Allowance) (V W : Facts) (too : (x : ℕ) �
   bindings_like no_binding = no_binding
   bindings_like (binding_and w l way f none u bs) = binding_and w l way (new_how f) none u (bindings_like bs)
 
-  front : {k : ℕ} {J : Jumping} {R : Renaming} {e1 e' : Exp} (ps : List Point) → LikeExp items marks g W k J R e1 e' → LikeExp items marks g W k J R (marks_before ps e1) e'
+  front : {k : ℕ} {J : Jumping} {R : Renaming} {e1 e' : Exp} (ps : List Beside) → LikeExp items marks g W k J R e1 e' → LikeExp items marks g W k J R (marks_before ps e1) e'
   front [] l = l
-  front {k} {e1 = e1} {e' = e'} (p ∷ ps) l = opens {e = marks_before ps e1} {e' = e'} {f = λ e. mark_then p e} {f' = λ e. e} 0 k (omega arith) (marks_expression p) (front ps l)
+  front {k} {e1 = e1} {e' = e'} (behind_value ∷ ps) l = opens {e = marks_before ps e1} {e' = e'} {f = λ e. let_pass e} {f' = λ e. e} 0 k (omega arith) marks_value (front ps l)
+  front {k} {e1 = e1} {e' = e'} (in_front_of p ∷ ps) l = opens {e = marks_before ps e1} {e' = e'} {f = λ e. mark_then p e} {f' = λ e. e} 0 k (omega arith) (marks_expression p) (front ps l)
 
   front_body : {k : ℕ} {J : Jumping} {R : Renaming} {b1 b' : Body} (ms : List (Point × List ℕ)) → AllWritten W ms → LikeBody items marks g W k J R b1 b' → LikeBody items marks g W k J R (marks_in ms b1) b'
   front_body [] none_read l = l

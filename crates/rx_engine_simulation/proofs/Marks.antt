@@ -18,7 +18,7 @@ use Rattle.rx_meaning.specs.Places.{whole_value}
 use Rattle.rx_meaning.specs.Expressions.{Functions, Meaning, value, body, below_level}
 use Rattle.rx_meaning.proofs.Sequences.{after_nothing}
 use Rattle.rx_meaning.proofs.Fronts.{told_after}
-use Rattle.rx_engine_simulation.specs.Marks.{reading, with_mark, AreWritten, MarksExpression, marks_expression, MarksStatements, marks_statements, marks}
+use Rattle.rx_engine_simulation.specs.Marks.{reading, with_mark, AreWritten, MarksExpression, marks_expression, marks_value, MarksStatements, marks_statements, marks}
 use Rattle.rx_engine_simulation.specs.Blocks.{Stretch, done, before, Through, through_run}
 use Rattle.rx_engine_simulation.specs.Histories.{put}
 use Rattle.rx_engine_simulation.proofs.Told.{Told, did, noted, followed, onto}
@@ -26,10 +26,11 @@ use Rattle.rx_engine_simulation.proofs.Values.{Pair, In, Given}
 use Rattle.rx_engine_simulation.proofs.States.{Direction, Facts, Written, Renaming, Frozen, grown_refl}
 use Rattle.rx_engine_simulation.proofs.Keeping.{KillsNone, states_step}
 use Rattle.rx_engine_simulation.proofs.Results.{Jumping, ResultsAlike, DoAlike, alike_prefix}
-use Rattle.rx_engine_simulation.proofs.Positions.{next_at}
+use Rattle.rx_engine_simulation.proofs.Positions.{first_at, next_at}
 use Rattle.rx_engine_simulation.proofs.Parts.{Ready, less}
 use Rattle.rx_engine_simulation.proofs.Given.{found_own}
 use Rattle.rx_engine_simulation.proofs.Congruence.{OpensAlike}
+use Rattle.rx_engine_simulation.proofs.Passed.{passes_alike}
 
 -- ---- what is computed
 
@@ -125,6 +126,8 @@ marks_open_alike items P Q d = record {
     expression_alike n V a J R e (marks_expression p) Z Z' m b c le e' part t t' h j s s' r at =
         subst (λ q. DoAlike V d R Z Z' J Given c h j s s' q (value plainly Q (below_level plainly Q n) e' t' s')) (sym (block_goes P (below_level followed P m) p e t s))
         (step_alone V d R Z Z' J Given c h j s s' (shown p) _ _ (part t t' (shown p ∷ h) j s s' (ready_marked V d R Z Z' p (less V d R Z Z' b (omega arith) r)) (next_at V at (shown p ∷ [], refl, mark_walk p t))))
+    expression_alike n V a J R e marks_value Z Z' m b c le e' part t t' h j s s' r at =
+        passes_alike P V d R Z Z' J m c h j s s' e t (value plainly Q (below_level plainly Q n) e' t' s') (part (temporary_of e) t' h j s s' (less V d R Z Z' b (omega arith) r) (first_at V (first_at V at)))
 
     statements_alike : (n : ℕ) (V : Facts) (a : ℕ) (J : Jumping) (R Ra : Renaming) (e : Body) {f f' : Body → Body} → MarksStatements V R Ra f f' → (Z Z' : Frozen) (m b c : ℕ) → c ≤ b → (e' : Body) (i i' : ℕ) (t t' : Temporary)
         → ((h : List Action) (j : List Pair) (s s' : State) → Ready V d Ra Z Z' b m n h j s s' → V.Comes (order_body e i t) h → DoAlike V d Ra Z Z' J Given c h j s s' (body followed P (below_level followed P m) e i t s) (body plainly Q (below_level plainly Q n) e' i' t' s'))

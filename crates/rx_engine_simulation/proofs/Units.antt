@@ -15,8 +15,10 @@ use Rattle.rx_meaning.specs.Results.{Result, on, jumps, stops, Done, or_ends, af
 use Rattle.rx_meaning.specs.Acting.{performed, does_plainly}
 use Rattle.rx_meaning.specs.Patterns.{decided, tested, closed, took, bound, begun}
 use Rattle.rx_meaning.specs.Expressions.{Functions, take_turn, turn_at, passed, returned, with_arguments, found, value, values, matched, arms, body, below_level}
-use Rattle.rx_engine_simulation.specs.Units.{GivesUnit, of_unit, of_assignment, of_update, of_print, of_call, of_block, of_choice, of_loop, of_jump, of_return, AllGiveUnit, no_arm_gives, each_gives, EndsInUnit, tail_gives, behind_run, behind_declaration, behind_let, ReturnsUnit, in_read, in_borrow, in_share, in_build, in_unit, in_lazy, in_assignment, in_update, in_call, in_input, in_print, in_block, in_choice, in_loop, in_jump, in_return, AllReturnUnit, no_operand_returns, operands_return, MatchedReturnsUnit, in_place, in_value, ArmsReturnUnit, no_arm_returns, arms_return, BodyReturnsUnit, tail_returns, run_returns, declaration_returns, let_returns, UnitFunctions}
-use Rattle.rx_engine_simulation.proofs.Told.{Told, noted, followed}
+use Rattle.rx_engine_simulation.specs.Units.{GivesUnit, of_unit, of_assignment, of_update, of_print, of_call, of_block, of_choice, of_loop, of_jump, of_return, of_passed, AllGiveUnit, no_arm_gives, each_gives, EndsInUnit, tail_gives, behind_run, behind_declaration, behind_let, ReturnsUnit, in_read, in_borrow, in_share, in_build, in_unit, in_lazy, in_assignment, in_update, in_call, in_input, in_print, in_block, in_choice, in_loop, in_jump, in_return, AllReturnUnit, no_operand_returns, operands_return, MatchedReturnsUnit, in_place, in_value, ArmsReturnUnit, no_arm_returns, arms_return, BodyReturnsUnit, tail_returns, run_returns, declaration_returns, let_returns, UnitFunctions}
+use Rattle.rx_engine_simulation.specs.Passed.{let_pass, passage}
+use Rattle.rx_engine_simulation.proofs.Told.{Told, did, noted, followed}
+use Rattle.rx_engine_simulation.proofs.Passed.{pass_goes}
 
 abbrev OnUnit : Result (Told ℕ) Value → Type 0
 OnUnit (on o v s) = v ≡ unit_value
@@ -47,6 +49,12 @@ unfolding bind
 on_bind (on o v s) go k = on_after o (go v s) (k v s)
 on_bind (jumps o x v s) go k = tt
 on_bind (stops o e) go k = tt
+
+on_told : (a : Action) (r : Result (Told ℕ) Value) → OnUnit r → OnUnit (bind r (λ v s1. on (did a ∷ []) v s1))
+unfolding bind after
+on_told a (on o v s) k = k
+on_told a (jumps o x v s) k = tt
+on_told a (stops o e) k = tt
 
 ret_bind : {A B : Type 0} (r : Result (Told ℕ) A) (go : A → State → Result (Told ℕ) B) → RetUnit r → ((a : A) (s : State) → RetUnit (go a s)) → RetUnit (bind r go)
 unfolding bind
@@ -290,6 +298,7 @@ module _ (P : Functions) (U : List ℕ) (units : UnitFunctions P U) where
       gives_on (of_loop {m = w} {l = l} {e = e}) t s = on_turn s _ (λ s1. on_passed l _ _ (λ s2. below.gives_below (tree.loop w l e) of_loop t s2))
       gives_on of_jump t s = tt
       gives_on of_return t s = on_bind _ _ (λ v s1. on_bind _ _ (λ w s2. tt))
+      gives_on (of_passed {e = e} k) t s = subst OnUnit (sym (pass_goes P (below_level followed P m) e t s)) (on_told (passage e t) (value followed P (below_level followed P m) e (temporary_of e) s) (gives_on k (temporary_of e) s))
 
       arms_on : {l : Arms} → AllGiveUnit U l → (S : Subject) (vs : List Value) (t : Temporary) (s : State) → OnUnit (arms followed P (below_level followed P m) S vs l t s)
       arms_on no_arm_gives S vs t s = tt

@@ -15,7 +15,7 @@ use Rattle.rx_meaning.proofs.Sequences.{after_nothing, bind_bind, bind_same}
 use Rattle.rx_engine_simulation.specs.Arrivals.{Aim, Arrives, arrives_part, arrives_then, AreReady}
 use Rattle.rx_engine_simulation.specs.Packing.{as_variant, Gives}
 use Rattle.rx_engine_simulation.specs.Units.{UnitFunctions}
-use Rattle.rx_engine_simulation.specs.Variants.{Leaves, leaves_loop, leaves_marked, leaves_function, leaves_value, leaves_unit, leaving, DeadAt}
+use Rattle.rx_engine_simulation.specs.Variants.{Leaves, leaves_loop, leaves_marked, leaves_function, leaves_value, leaves_unit, leaves_passed, leaving, DeadAt}
 use Rattle.rx_engine_simulation.proofs.Told.{Told, did, said, noted, followed, onto}
 use Rattle.rx_engine_simulation.proofs.Values.{Pair, Given}
 use Rattle.rx_engine_simulation.proofs.States.{Direction, Facts, Renaming, Frozen, grown_refl, weaken}
@@ -24,6 +24,7 @@ use Rattle.rx_engine_simulation.proofs.Results.{Jumping, Pack, AllDead, Outs, Li
 use Rattle.rx_engine_simulation.proofs.Parts.{Ready, less}
 use Rattle.rx_engine_simulation.proofs.Congruence.{OpensAlike}
 use Rattle.rx_engine_simulation.proofs.Marks.{block_goes, ready_marked}
+use Rattle.rx_engine_simulation.proofs.Passed.{passes_alike}
 use Rattle.rx_engine_simulation.proofs.Entry.{with_value}
 use Rattle.rx_engine_simulation.proofs.Locals.{give_is}
 use Rattle.rx_engine_simulation.proofs.Packing.{listed, holds_none, gives_is, let_body_is}
@@ -137,6 +138,8 @@ module _ (items : ℕ → ℕ) (P Q : Functions) (d : Direction) (U : List ℕ) 
         grown = given_grown j1 s1 s1' o u';
         turns = z.turns;
       }))))
+  leave_alike {V} {a} {J} {R} {x} leaves_passed Z Z' m n b c le x' t t' h j s s' inner r at =
+      passes_alike P V d R Z Z' J m c h j s s' x t (value plainly Q (below_level plainly Q n) x' t' s') (inner (temporary_of x) t' h j s s' r (first_at V (first_at V at)))
 
   pub leaving_alike : OpensAlike items P Q d (leaving U)
   leaving_alike = record {

@@ -11,6 +11,7 @@ use Rattle.rx_engine_simulation.specs.Histories.{Facts}
 use Rattle.rx_engine_simulation.specs.Sights.{In, Renaming, IsNew}
 use Rattle.rx_engine_simulation.specs.Places.{looking, LikePlace}
 use Rattle.rx_engine_simulation.specs.Jumps.{Jumping}
+use Rattle.rx_engine_simulation.specs.Passed.{let_pass}
 use Rattle.rx_engine_simulation.specs.Like.{LikeExp}
 use Rattle.rx_engine_simulation.specs.Arrivals.{Aim, to_rest, past, past_tail, then_does, then_mark, Arrives, AreReady}
 use Rattle.rx_engine_simulation.specs.Blocks.{Stretch}
@@ -59,6 +60,8 @@ IsDropped U _ e = GivesUnit U e
 pub data Bound (items : ℕ → ℕ) (gain : Allowance) (U : List ℕ) (V : Facts) (J : Jumping) (R : Renaming) : Exp → Scrutinee → Type 0 where
   bound_value : {e e' : Exp} → LikeExp items (leaving U) gain V 0 J R e e' → Bound items gain U V J R e (tree.of_value e')
   bound_place : {m m' : Mark} {moves : Bool} {p p' : Place} → LikePlace R looking p p' → Bound items gain U V J R (tree.read m moves p) (tree.at_place m' p')
+  -- of which the text tells that it passed
+  bound_passed : {m m' : Mark} {moves : Bool} {p p' : Place} → LikePlace R looking p p' → Bound items gain U V J R (let_pass (tree.read m moves p)) (tree.at_place m' p')
 
 -- What is left, and the new function's end: with the variables there, whether the run has a value, how values are given, and the
 -- text's variables of which they are besides.

@@ -10,6 +10,7 @@ pub mod Binders
 pub mod Jumps
 pub mod Results
 pub mod Openings
+pub mod Passed
 pub mod Like
 pub mod Programs
 pub mod Passing

@@ -11,13 +11,20 @@ use Rattle.rx_meaning.specs.Programs.{Program}
 use Rattle.rx_engine_simulation.specs.Turns.{Allowance}
 use Rattle.rx_engine_simulation.specs.Histories.{Facts}
 use Rattle.rx_engine_simulation.specs.Openings.{no_openings}
+use Rattle.rx_engine_simulation.specs.Passed.{let_pass}
 use Rattle.rx_engine_simulation.specs.Blocks.{done, before}
 use Rattle.rx_engine_simulation.specs.Marks.{with_mark, AreWritten}
 use Rattle.rx_engine_simulation.specs.Programs.{About, facts_of, LikeFunction, IsNone}
 
-abbrev pub marks_before : List Point → Exp → Exp
+-- what an expression has: a mark in front of it, or it is told that its value passed
+pub data Beside : Type 0 where
+  in_front_of : Point → Beside
+  behind_value : Beside
+
+abbrev pub marks_before : List Beside → Exp → Exp
 marks_before [] e = e
-marks_before (p ∷ ps) e = mark_then p (marks_before ps e)
+marks_before (in_front_of p ∷ ps) e = mark_then p (marks_before ps e)
+marks_before (behind_value ∷ ps) e = let_pass (marks_before ps e)
 
 abbrev pub marks_in : List (Point × List ℕ) → Body → Body
 marks_in [] b = b
@@ -30,7 +37,7 @@ pub data AllWritten (V : Facts) : List (Point × List ℕ) → Type 0 where
 -- the second is the first with marks, in the text of which this is known
 mutual
   pub data MarkedExp (V : Facts) : Exp → Exp → Type 0 where
-    in_front : {e e1 : Exp} (ps : List Point) → MarkedInside V e e1 → MarkedExp V e (marks_before ps e1)
+    in_front : {e e1 : Exp} (ps : List Beside) → MarkedInside V e e1 → MarkedExp V e (marks_before ps e1)
 
   pub data MarkedInside (V : Facts) : Exp → Exp → Type 0 where
     m_read : {m : Mark} {v : Bool} {p : Place} → MarkedInside V (tree.read m v p) (tree.read m v p)

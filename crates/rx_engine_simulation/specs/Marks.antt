@@ -10,6 +10,7 @@ use Rattle.rx_exits_plan.specs.Marked.{at_point, mark, mark_then}
 use Rattle.rx_engine_simulation.specs.Histories.{Facts, Written}
 use Rattle.rx_engine_simulation.specs.Sights.{In, Renaming}
 use Rattle.rx_engine_simulation.specs.Openings.{Openings}
+use Rattle.rx_engine_simulation.specs.Passed.{let_pass}
 use Rattle.rx_engine_simulation.specs.Blocks.{Stretch, done, does_then, declares_then, lets_then, before}
 
 -- reads of variables in front of statements, and a mark in front of those
@@ -35,6 +36,8 @@ AreWritten V p xs = (x : ℕ) → In x xs → (b : Body) (i : ℕ) (t : Temporar
 
 pub data MarksExpression : (Exp → Exp) → (Exp → Exp) → Type 0 where
   marks_expression : (p : Point) → MarksExpression (λ e. mark_then p e) (λ e. e)
+  -- or it tells that it is behind the value
+  marks_value : MarksExpression (λ e. let_pass e) (λ e. e)
 
 pub data MarksStatements (V : Facts) (R : Renaming) : Renaming → (Body → Body) → (Body → Body) → Type 0 where
   marks_statements : (p : Point) (xs : List ℕ) → AreWritten V p xs → MarksStatements V R R (λ b. before (with_mark p xs done) b) (λ b. b)

@@ -6,6 +6,7 @@ use Rattle.rx_typed.specs.Tree.{Mark, Place, Pattern, Exp, Scrutinee, Arms, Body
 use Rattle.rx_lower_walks.specs.Actions.{Action}
 use Rattle.rx_lower_walks.specs.Orders.{order_body}
 use Rattle.rx_engine_simulation.specs.Histories.{Facts}
+use Rattle.rx_engine_simulation.specs.Passed.{let_pass}
 
 mutual
   pub data Forgets : Exp → Type 0 where
@@ -29,7 +30,8 @@ mutual
     forgets_behind_declaration : {n : ℕ} {xs : List ℕ} {b : Body} → BodyForgets b → BodyForgets (tree.declares n xs b)
     forgets_behind_let : {n : ℕ} {q : Pattern} {c : Scrutinee} {b : Body} → BodyForgets b → BodyForgets (tree.lets n q c b)
 
--- the tail of a block is such a one, or where a walk comes to the block the value goes to a temporary of an operand
+-- the tail of a block is such a one, or it is told that it passed; or where a walk comes to the block the value goes to a temporary of an operand
 pub data IsPlaced (V : Facts) (block : Body) : Exp → Type 0 where
   is_forgotten : {e : Exp} → Forgets e → IsPlaced V block e
+  is_let_pass : {e : Exp} → IsPlaced V block (let_pass e)
   goes_to_operand : {e : Exp} → ((i : ℕ) (t : Temporary) (h : List Action) → V.Comes (order_body block i t) h → t.which ≡ 0) → IsPlaced V block e

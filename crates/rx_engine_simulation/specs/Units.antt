@@ -7,6 +7,7 @@ use Rattle.rx_typed.specs.Tree.{Mark, Place, Pattern, Making, Exp, Operands, Scr
 use Rattle.rx_meaning.specs.Values.{element}
 use Rattle.rx_meaning.specs.Expressions.{Functions}
 use Rattle.rx_engine_simulation.specs.Sights.{In}
+use Rattle.rx_engine_simulation.specs.Passed.{let_pass}
 
 -- with the items of functions whose calls do
 mutual
@@ -22,6 +23,8 @@ mutual
     -- nothing is given
     of_jump : {m : Mark} {l : ℕ} {again : Bool} → GivesUnit U (tree.jump m l again)
     of_return : {m : Mark} {e : Exp} → GivesUnit U (tree.give m e)
+    -- it is let pass
+    of_passed : {e : Exp} → GivesUnit U e → GivesUnit U (let_pass e)
 
   pub data AllGiveUnit (U : List ℕ) : Arms → Type 0 where
     no_arm_gives : AllGiveUnit U tree.no_arm

@@ -12,6 +12,7 @@ use Rattle.rx_engine_simulation.specs.Histories.{Facts, Living}
 use Rattle.rx_engine_simulation.specs.Sights.{In, special, sight, Renaming, sight_of, IsNew}
 use Rattle.rx_engine_simulation.specs.Jumps.{Pack, Returning, as_return, with_unit, no_return, Jumping, loop_of, with_value}
 use Rattle.rx_engine_simulation.specs.Openings.{Openings}
+use Rattle.rx_engine_simulation.specs.Passed.{let_pass}
 use Rattle.rx_engine_simulation.specs.Arrivals.{Aim, to_part, then_mark, Arrives, AreReady, Within}
 use Rattle.rx_engine_simulation.specs.Packing.{bare, as_variant, Takes, Gives, Receives, Picks}
 use Rattle.rx_engine_simulation.specs.Handing.{Receiving, PuttingBack}
@@ -43,6 +44,8 @@ pub data Leaves (U : List ℕ) (V : Facts) : ℕ → Jumping → Renaming → Ex
       → Leaves U V 0 J R e (λ e. tree.give m e) (λ e. tree.give m' (tree.build w (tree.variant_of i v) (tree.operand_and 0 e tree.no_operand)))
   leaves_unit : {J : Jumping} {R : Renaming} {e g : Exp} {m m' mb : Mark} {v n k o : ℕ} {mutable : Bool} → J.returning ≡ with_unit v → GivesUnit U e → DeadBehind V J m → IsNew R o → Gives (as_variant v) [] g
       → Leaves U V 0 J R e (λ e. tree.give m e) (λ e. tree.give m' (tree.block mb (tree.lets n (tree.bind k o (tree.by_value mutable)) (tree.of_value e) (tree.ends g))))
+  -- the text tells that it is behind a value
+  leaves_passed : {J : Jumping} {R : Renaming} {e : Exp} → Leaves U V 0 J R e (λ e. let_pass e) (λ e. e)
 
 abbrev pub leaving : List ℕ → Openings
 leaving U = record { expression = λ V a J R e f g. Leaves U V a J R e f g; statements = λ V a J R S b f g. ⊥ }

@@ -2,7 +2,7 @@
 use Rattle.std.proofs.Common.{◌≡◌, ℕ, zero, suc, ◌==◌, Bool, true, false, if◌then◌else◌, List, [], ◌∷◌, map, Option, Some, refl, ap, subst}
 use Rattle.std.specs.Prelude.{take, drop}
 use Rattle.rx_typed.specs.Tree as tree
-use Rattle.rx_typed.specs.Tree.{Mark, Exp, Operands, Scrutinee, Arms, Body, Function}
+use Rattle.rx_typed.specs.Tree.{Mark, Exp, Operands, Scrutinee, Arms, Body, Function, mark_of}
 use Rattle.rx_exits_plan.specs.Blocks.{Statement, does, begins, binds, statements, tail, before}
 use Rattle.rx_exits_plan.specs.Points.{jump_exit, leaves}
 use Rattle.rx_exits_plan.specs.Runs.{Run, in_front, inside, behind}
@@ -14,7 +14,7 @@ use Rattle.rx_meaning.specs.Values.{element, with_element}
 use Rattle.rx_meaning.specs.Expressions.{Functions}
 use Rattle.rx_meaning.specs.Programs.{Program}
 use Rattle.rx_engine_simulation.specs.Sights.{In}
-use Rattle.rx_engine_simulation.specs.Units.{GivesUnit, of_unit, of_assignment, of_update, of_print, of_call, of_block, of_choice, of_loop, of_jump, of_return, AllGiveUnit, no_arm_gives, each_gives, EndsInUnit, tail_gives, behind_run, behind_declaration, behind_let, ReturnsUnit, in_read, in_borrow, in_share, in_build, in_unit, in_lazy, in_assignment, in_update, in_call, in_input, in_print, in_block, in_choice, in_loop, in_jump, in_return, AllReturnUnit, no_operand_returns, operands_return, MatchedReturnsUnit, in_place, in_value, ArmsReturnUnit, no_arm_returns, arms_return, BodyReturnsUnit, tail_returns, run_returns, declaration_returns, let_returns, UnitFunctions}
+use Rattle.rx_engine_simulation.specs.Units.{GivesUnit, of_unit, of_assignment, of_update, of_print, of_call, of_block, of_choice, of_loop, of_jump, of_return, of_passed, AllGiveUnit, no_arm_gives, each_gives, EndsInUnit, tail_gives, behind_run, behind_declaration, behind_let, ReturnsUnit, in_read, in_borrow, in_share, in_build, in_unit, in_lazy, in_assignment, in_update, in_call, in_input, in_print, in_block, in_choice, in_loop, in_jump, in_return, AllReturnUnit, no_operand_returns, operands_return, MatchedReturnsUnit, in_place, in_value, ArmsReturnUnit, no_arm_returns, arms_return, BodyReturnsUnit, tail_returns, run_returns, declaration_returns, let_returns, UnitFunctions}
 use Rattle.rx_engine_related.specs.Running.{passing, running_body, in_the_block, running}
 use Rattle.rx_engine_related.specs.Extracts.{with_its_marks}
 
@@ -22,6 +22,7 @@ module _ (U : List ℕ) where
   -- ---- changes of blocks and jumps that keep what is given
 
   record Keeps (C : Changes) : Type 0 where
+    jump_mark : (m : Mark) (l : ℕ) (again : Bool) → mark_of (C.at_jump m l again) ≡ m
     block_gives : (n : ℕ) (was b : Body) → EndsInUnit U was → EndsInUnit U b → EndsInUnit U (C.at_block n was b)
     block_returns : (n : ℕ) (was b : Body) → BodyReturnsUnit U was → BodyReturnsUnit U b → BodyReturnsUnit U (C.at_block n was b)
     jump_gives : (m : Mark) (l : ℕ) (again : Bool) → GivesUnit U (C.at_jump m l again)
@@ -30,6 +31,24 @@ module _ (U : List ℕ) where
     return_returns : (e : Exp) → ReturnsUnit U e → ReturnsUnit U (C.at_return e)
 
   module _ (C : Changes) (k : Keeps C) where
+    mark_still : (e : Exp) → mark_of (changed C e) ≡ mark_of e
+    mark_still (tree.read m v p) = refl
+    mark_still (tree.borrow m b p) = refl
+    mark_still (tree.share m e) = refl
+    mark_still (tree.build m w es) = refl
+    mark_still (tree.unit m) = refl
+    mark_still (tree.lazily m b e f) = refl
+    mark_still (tree.assign m p e) = refl
+    mark_still (tree.update m o p e) = refl
+    mark_still (tree.call m f es) = refl
+    mark_still (tree.input m) = refl
+    mark_still (tree.print m e) = refl
+    mark_still (tree.block m b) = refl
+    mark_still (tree.choose m c l) = refl
+    mark_still (tree.loop m l e) = refl
+    mark_still (tree.jump m l again) = k.jump_mark m l again
+    mark_still (tree.give m e) = refl
+
     mutual
       gives_still : {e : Exp} → GivesUnit U e → GivesUnit U (changed C e)
       gives_still of_unit = of_unit
@@ -42,6 +61,8 @@ module _ (U : List ℕ) where
       gives_still of_loop = of_loop
       gives_still (of_jump {m = m} {l = l} {again = again}) = k.jump_gives m l again
       gives_still of_return = of_return
+      gives_still (of_passed {e = e} g) =
+          subst (λ (m : Mark). GivesUnit U (tree.build m tree.lazy (tree.operand_and 0 (changed C e) tree.no_operand))) (mark_still e) (of_passed (gives_still g))
 
       all_still : {l : Arms} → AllGiveUnit U l → AllGiveUnit U (changed_arms C l)
       all_still no_arm_gives = no_arm_gives
@@ -94,6 +115,7 @@ module _ (U : List ℕ) where
 
   passing_keeps : (ls : List ℕ) → Keeps (passing ls)
   passing_keeps ls = record {
+    jump_mark = λ m l again. marks m l again (is_among l ls);
     block_gives = λ n was b g h. h;
     block_returns = λ n was b g h. h;
     jump_gives = λ m l again. gives m l again (is_among l ls);
@@ -102,6 +124,10 @@ module _ (U : List ℕ) where
     return_returns = λ e g. g;
   }
     where
+      marks : (m : Mark) (l : ℕ) (again b : Bool) → mark_of (if b then mark_then (leaves (jump_exit l again)) (tree.jump m l again) else tree.jump m l again) ≡ m
+      marks m l again true = refl
+      marks m l again false = refl
+
       gives : (m : Mark) (l : ℕ) (again b : Bool) → GivesUnit U (if b then mark_then (leaves (jump_exit l again)) (tree.jump m l again) else tree.jump m l again)
       gives m l again true = of_block (behind_run (tail_gives of_jump))
       gives m l again false = of_jump
@@ -175,6 +201,7 @@ module _ (U : List ℕ) where
 
   block_keeps : (r : Run) (ls xs : List ℕ) → Keeps (in_the_block r ls xs)
   block_keeps r ls xs = record {
+    jump_mark = λ m l again. refl;
     block_gives = λ n was b g h. gives (n == r.block) was b g h;
     block_returns = λ n was b g h. returns (n == r.block) was b g h;
     jump_gives = λ m l again. of_jump;

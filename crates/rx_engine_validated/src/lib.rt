@@ -7,7 +7,10 @@ mod premises_laws;
 mod ready_laws;
 mod staying_laws;
 
-pub use accepted_laws::{accepted_extractions_run_alike, accepted_runs_are_had};
+pub use accepted_laws::{
+    accepted_extractions_run_alike, accepted_runs_are_had, accepted_tail_extractions_run_alike,
+    accepted_tails_are_had,
+};
 pub use found_laws::found_extractions_are_extractions;
 pub use premises_laws::{
     accepted_programs_are_themselves, accepted_runs_find_references, diverging_runs_never_end,

@@ -74,7 +74,7 @@ module _ (C : Claims) (M : ℕ → Type 0) (K : Known) (A : Types) (P : ℕ → 
   Able (Read m p d) = Looked p
   Able (Borrow k p d) = Looked p
   Able (Test p c) = Looked p
-  Able (Build m js ts d) = Makes m js ts × (makes_mark m js ts ≡ false)
+  Able (Build m js ts d) = Makes m js ts × (makes_mark m js ts ≡ false) × making.OfNoField m js
   Able (Call g ts d) = CallFits K.items g ts
   Able (Write p t ss) = PartFits M p
   Able _ = Unit {0}
@@ -363,14 +363,14 @@ module _ (C : Claims) (M : ℕ → Type 0) (K : Known) (A : Types) (P : ℕ → 
   passes_on n elaborated.reborrow x h d = h d
   passes_on n elaborated.share x h d = (h (tree.temporary_at n.number 1), held_looks (tree.temporary_at n.number 1) (step.Deref true ∷ []))
 
-  simple : (m : tree.Making) (js : List ℕ) (ts : List Temporary) → making.IsSimple m → Makes m js ts × (makes_mark m js ts ≡ false)
-  simple m js ts s = (making.simple_makes m js ts s, making.simple_no_mark m js ts s)
+  simple : (m : tree.Making) (js : List ℕ) (ts : List Temporary) → making.IsSimple m → making.OfNoField m js → Makes m js ts × (makes_mark m js ts ≡ false) × making.OfNoField m js
+  simple m js ts s n = (making.simple_makes m js ts s, making.simple_no_mark m js ts s, n)
 
   two : (n : Node) (o : BinaryOp) (a b : tree.Exp) → Whole a → Whole b → Whole (tree.build (elaborated.mark T n) (tree.operation o) (tree.operand_and 0 a (tree.operand_and 1 b tree.no_operand)))
-  two n o a b g h d = ((g (temporary_of a), (h (temporary_of b), tt)), simple (tree.operation o) (0 ∷ 1 ∷ []) (temporary_of a ∷ temporary_of b ∷ []) tt)
+  two n o a b g h d = ((g (temporary_of a), (h (temporary_of b), tt)), simple (tree.operation o) (0 ∷ 1 ∷ []) (temporary_of a ∷ temporary_of b ∷ []) tt tt)
 
   lazily : (n : Node) (k : Bool) (a b : tree.Exp) → Whole a → Whole b → Whole (tree.lazily (elaborated.mark T n) k a b)
-  lazily n k a b g h d = (g (temporary_of a), (held_looks (temporary_of a) [], ((h (temporary_of b), tt), simple tree.lazy [] _ tt)))
+  lazily n k a b g h d = (g (temporary_of a), (held_looks (temporary_of a) [], ((h (temporary_of b), tt), simple tree.lazy [] _ tt refl)))
 
   operates : (n : Node) (o : BinaryOp) (a b : tree.Exp) → Whole a → Whole b → Whole (elaborated.operated T n o a b)
   operates n BinaryOp.And a b g h = lazily n true a b g h
@@ -389,10 +389,10 @@ module _ (C : Claims) (M : ℕ → Type 0) (K : Known) (A : Types) (P : ℕ → 
 
   tuples : (n : Node) (es : tree.Operands) → Complete (fields_of es) → H (order_all es) → Whole (elaborated.tuple_of T n es)
   tuples n tree.no_operand c h d = tt
-  tuples n (tree.operand_and i e es) c h d = (h, (making.tuple_makes (fields_of (tree.operand_and i e es)) (temporaries_of (tree.operand_and i e es)) c (making.as_many (tree.operand_and i e es)), refl))
+  tuples n (tree.operand_and i e es) c h d = (h, (making.tuple_makes (fields_of (tree.operand_and i e es)) (temporaries_of (tree.operand_and i e es)) c (making.as_many (tree.operand_and i e es)), refl, tt))
 
-  one : (m : tree.Mark) (w : tree.Making) (e : tree.Exp) → making.IsSimple w → Whole e → Whole (tree.build m w (elaborated.one_operand e))
-  one m w e s h d = ((h (temporary_of e), tt), simple w _ _ s)
+  one : (m : tree.Mark) (w : tree.Making) (e : tree.Exp) → making.IsSimple w → making.OfNoField w (0 ∷ []) → Whole e → Whole (tree.build m w (elaborated.one_operand e))
+  one m w e s n h d = ((h (temporary_of e), tt), simple w _ _ s n)
 
   arm : (S : actions.Subject) (p : tree.Pattern) (e : tree.Exp) (d : Temporary) → Fine S [] p → Whole e → H (testing S (tests [] p) (binding S (bindings [] p) (tree.mark_of e).node (order.order e d)))
   arm S p e d f h = testing_holds S (tests [] p) _ f.0 (binding_holds S (bindings [] p) _ _ f.1 (h d))
@@ -506,18 +506,18 @@ module _ (C : Claims) (M : ℕ → Type 0) (K : Known) (A : Types) (P : ℕ → 
   calls g n es c r = call_fits K.items g (rules.argument_count es) (A (subject.Node n.number)) (temporaries_of (elaborated.operands T 0 es)) c r.0 (arguments_count T 0 es)
 
   made_of : (n : Node) (i : ℕ) (fs : Fields) → exactly (names_of (fields_declared (slice_get K.items i))) (rules.names_given fs) ≡ true → H (order_all (elaborated.fields T i fs)) → Whole (tree.build (elaborated.mark T n) (tree.struct i) (elaborated.fields T i fs))
-  made_of n i fs e h d = (h, (making.struct_makes i (fields_of (elaborated.fields T i fs)) (temporaries_of (elaborated.fields T i fs)) (fields_complete T i fs (apart i) e) (making.as_many (elaborated.fields T i fs)), refl))
+  made_of n i fs e h d = (h, (making.struct_makes i (fields_of (elaborated.fields T i fs)) (temporaries_of (elaborated.fields T i fs)) (fields_complete T i fs (apart i) e) (making.as_many (elaborated.fields T i fs)), refl, tt))
 
   varied : (n : Node) (i v : ℕ) (es : Exps) → H (order_all (elaborated.operands T 0 es)) → Whole (tree.build (elaborated.mark T n) (tree.variant_of i v) (elaborated.operands T 0 es))
-  varied n i v es h d = (h, (making.variant_makes i v (fields_of (elaborated.operands T 0 es)) (temporaries_of (elaborated.operands T 0 es)) (operands_complete T es) (making.as_many (elaborated.operands T 0 es)), refl))
+  varied n i v es h d = (h, (making.variant_makes i v (fields_of (elaborated.operands T 0 es)) (temporaries_of (elaborated.operands T 0 es)) (operands_complete T es) (making.as_many (elaborated.operands T 0 es)), refl, tt))
 
   updates : (n : Node) (o : BinaryOp) (p : Place) (e : tree.Exp) (t : Typ) → At p t → PartFits M p → Whole e → Whole (tree.update (elaborated.mark T n) o p e)
-  updates n o p e t h w g d = (g (temporary_of e), (looks p t h, (simple (tree.operation o) [] _ tt, w)))
+  updates n o p e t h w g d = (g (temporary_of e), (looks p t h, (simple (tree.operation o) [] _ tt tt, w)))
 
   mutual
     exp_asks : (f : ℕ) (e : Exp) → UsedExp C M e → Wants (Gives e) (rules.of_exp f e)
-    exp_asks f (named.int n m v k) h = asks_map (λ p. no_place (named.int n m v k) refl p (λ d. (tt, simple (tree.constant (tree.whole_number (elaborated.kind_in (A (subject.Node n.number))) (pos v))) [] [] tt))) (integer_asks n m v k)
-    exp_asks f (named.bool n b) h = asks_map (λ p. no_place (named.bool n b) refl p (λ d. (tt, simple (tree.constant (tree.truth b)) [] [] tt))) (own_asks n op.Truth [])
+    exp_asks f (named.int n m v k) h = asks_map (λ p. no_place (named.int n m v k) refl p (λ d. (tt, simple (tree.constant (tree.whole_number (elaborated.kind_in (A (subject.Node n.number))) (pos v))) [] [] tt tt))) (integer_asks n m v k)
+    exp_asks f (named.bool n b) h = asks_map (λ p. no_place (named.bool n b) refl p (λ d. (tt, simple (tree.constant (tree.truth b)) [] [] tt tt))) (own_asks n op.Truth [])
     exp_asks f (named.tuple n es) h =
         asks_map (λ g. no_place (named.tuple n es) refl g.1.0 (tuples n (elaborated.operands T 0 es) (operands_complete T es) g.0))
         (both (each_asks f rules.members 0 es h) (both (own_asks n op.Tuple _) (quiet n _ _ _)))
@@ -533,8 +533,8 @@ module _ (C : Claims) (M : ℕ → Type 0) (K : Known) (A : Types) (P : ℕ → 
     exp_asks f (named.deref n e) h =
         asks_map (λ g. a_place (named.deref n e) n refl refl refl (dereferenced (elaborated.place T e) (A (subject.Node (node_of e).number)) (A (subject.Node n.number)) (root_of e h.1 g.0) g.1.0.0) g.1.1)
         (both (exp_asks f e h.0) (both (one_asked n _ _ _) (place_asks n _ _ n.site)))
-    exp_asks f (named.negate n e) h = asks_map (λ g. no_place (named.negate n e) refl g.1 (one (elaborated.mark T n) tree.negation (elaborated.value T e) tt g.0.value)) (both (exp_asks f e h) (negated_asks n (node_of e) (never e)))
-    exp_asks f (named.invert n e) h = asks_map (λ g. no_place (named.invert n e) refl g.1 (one (elaborated.mark T n) tree.inversion (elaborated.value T e) tt g.0.value)) (both (exp_asks f e h) (inverted_asks n (node_of e) (never e)))
+    exp_asks f (named.negate n e) h = asks_map (λ g. no_place (named.negate n e) refl g.1 (one (elaborated.mark T n) tree.negation (elaborated.value T e) tt tt g.0.value)) (both (exp_asks f e h) (negated_asks n (node_of e) (never e)))
+    exp_asks f (named.invert n e) h = asks_map (λ g. no_place (named.invert n e) refl g.1 (one (elaborated.mark T n) tree.inversion (elaborated.value T e) tt tt g.0.value)) (both (exp_asks f e h) (inverted_asks n (node_of e) (never e)))
     exp_asks f (named.borrow n m e) h =
         asks_map (λ g. no_place (named.borrow n m e) refl g.1 (passes_on n (elaborated.coercion_at T n) (tree.borrow (elaborated.mark T n) m (elaborated.place T e)) (λ d. looks (elaborated.place T e) (A (subject.Node (node_of e).number)) (root_of e h.1 g.0))))
         (both (exp_asks f e h.0) (borrowed_asks n m (node_of e) (root e) _))
@@ -700,6 +700,10 @@ module _ (C : Claims) (M : ℕ → Type 0) (K : Known) (A : Types) (P : ℕ → 
 
   pub no_mark : (f : tree.Function) → H (order_function f) → HasNoMark (order_function f)
   no_mark f h = record { none = λ a i. unmarked a.act (of_among Able (order_function f) h a i) }
+
+  -- what `&&` and `||` give is of no field
+  pub of_no_field : (f : tree.Function) → H (order_function f) → (a : actions.Action) (js : List ℕ) (us : List Temporary) (d : Temporary) → Among a (actions_in (order_function f)) → a.act ≡ Build tree.lazy js us d → js ≡ []
+  of_no_field f h a js us d i e = (subst Able e (of_among Able (order_function f) h a i)).2
 
   pub parts_fit : (f : tree.Function) → H (order_function f) → (a : actions.Action) (p : Place) (t : Temporary) (ss : List Step) → Among a (actions_in (order_function f)) → a.act ≡ Write p t ss → PartFits M p
   parts_fit f h a p t ss i e = subst Able e (of_among Able (order_function f) h a i)

@@ -13,13 +13,13 @@ use Rattle.rx_typed.specs.Types.{Typ, Declarations}
 use Rattle.rx_typed.specs.PlainTypes.{plain-Ty, declarations}
 use Rattle.rx_typed.specs.Naming.{function_named, function_variables}
 use Rattle.rx_typed.specs.Elaborated.{Assigned, elaborated}
-use Rattle.rx_typed.specs.Tree.{Place, variable, Temporary, Function, temporary_of}
+use Rattle.rx_typed.specs.Tree.{Place, variable, Temporary, lazy, Function, temporary_of}
 use Rattle.rx_typed.specs.PlainTree.{plain-TypedTree}
 use Rattle.rx_typed_declarations.specs.WellFormed.{WellSigned}
 use Rattle.rx_typed_declarations.specs.Sizes.{Sized, told}
 use Rattle.rx_typed_declarations.proofs.Polarities.{same_declared}
 use Rattle.rx_lower.specs.Functions.{trimmed, trimmed_and}
-use Rattle.rx_lower_walks.specs.Actions.{Call, Write, Action, does}
+use Rattle.rx_lower_walks.specs.Actions.{Call, Build, Write, Action, does}
 use Rattle.rx_lower_walks.specs.Walks.{actions_in, Among, here, there, IsWalk}
 use Rattle.rx_facts_tables.specs.Initialised.{Initialised}
 use Rattle.rx_facts.specs.Passing.{AllAre}
@@ -47,7 +47,7 @@ use Rattle.rx_hoist_naming.proofs.Programs as words
 use Rattle.rx_hoist_naming.proofs.Programs.{same_typ}
 use Rattle.rx_meaning_accepted.specs.Frames.{next_of, functions_at, frame_by, mutable_by, frames, mutables}
 use Rattle.rx_meaning_accepted.proofs.Facts.{CallFits}
-use Rattle.rx_meaning_accepted.proofs.Having.{function_holds, ready_if, calls_fit, places_have_parts, no_mark, variable_has, parts_fit}
+use Rattle.rx_meaning_accepted.proofs.Having.{function_holds, ready_if, calls_fit, places_have_parts, no_mark, of_no_field, variable_has, parts_fit}
 use Rattle.rx_meaning_accepted.proofs.Uses.{both_function}
 use Rattle.rx_meaning_accepted.proofs.Declared.{IsMutable, listed_mutable}
 use Rattle.rx_meaning_accepted.proofs.Mutable.{uses_fit}
@@ -130,6 +130,7 @@ module _ (p : ProgramTree) (ns : List ItemNames) (t : Typed) (few : IsNumbered p
     pub places : (w : List Action) (a : Action) (x : ℕ) (ss : List Step) → IsWalk f (w ++ a ∷ []) → looked_at a.act ≡ Some (placed x ss) → HasPart F x ss
     pub variables : (x : ℕ) → x < length muts → HasPart F x []
     pub unmarked : HasNoMark (order_function f)
+    pub lazies : (a : Action) (js : List ℕ) (us : List Temporary) (d : Temporary) → Among a (actions_in (order_function f)) → a.act ≡ Build lazy js us d → js ≡ []
     pub writes : (a : Action) (p : Place) (t : Temporary) (ss : List Step) → Among a (actions_in (order_function f)) → a.act ≡ Write p t ss
         → (x : ℕ) → p.root ≡ variable x → is_behind p.steps ≡ false → is_all p.steps ≡ false → slice_get muts x ≡ Some true
 
@@ -155,6 +156,7 @@ module _ (p : ProgramTree) (ns : List ItemNames) (t : Typed) (few : IsNumbered p
         writes = λ a q u us i e y r b w. ap (λ (l : List Bool). slice_get l y) x.checked.mutable ∙ listed_mutable (function_variables x.span x.function x.table.names) y
             (parts_fit (of_program K.items N) M K A P ts Z apart vars (elaborated (assigned K A) F) h a q u us i e y r b w);
         unmarked = no_mark (of_program K.items N) M K A P ts Z apart vars (elaborated (assigned K A) F) h;
+        lazies = of_no_field (of_program K.items N) M K A P ts Z apart vars (elaborated (assigned K A) F) h;
       })
 
   pub functions_stand : (P : ℕ → ℕ) → Sized (declarations t.decls.items) P → (g : TypedFn) → Among g t.functions → StandingOf (declarations t.decls.items) P g
@@ -166,6 +168,9 @@ module _ (p : ProgramTree) (ns : List ItemNames) (t : Typed) (few : IsNumbered p
 
   pub unmarked_here : (g : TypedFn) → Among g t.functions → HasNoMark (order_function (plain-TypedTree g.tree))
   unmarked_here g a = (standing_here (told typed.sizes) sized g a).unmarked
+
+  pub lazies_here : (g : TypedFn) → Among g t.functions → (a : Action) (js : List ℕ) (us : List Temporary) (d : Temporary) → Among a (actions_in (order_function (plain-TypedTree g.tree))) → a.act ≡ Build lazy js us d → js ≡ []
+  lazies_here g a = (standing_here (told typed.sizes) sized g a).lazies
 
   -- what it calls is declared as a function, with as many parameters as arguments
   calls_here : (g : TypedFn) → Among g t.functions → (w : List Action) (n h : ℕ) (us : List Temporary) (d : Temporary) → IsWalk (plain-TypedTree g.tree) (w ++ does n (Call h us d) ∷ []) → CallFits K.items h us

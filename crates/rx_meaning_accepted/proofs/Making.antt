@@ -101,6 +101,11 @@ IsSimple (struct i) = ⊥
 IsSimple (variant_of i v) = ⊥
 IsSimple _ = Unit {0}
 
+-- what `&&` and `||` give is built of no field, but of the last operand that was met
+abbrev pub OfNoField : Making → List ℕ → Type 0
+OfNoField lazy js = js ≡ []
+OfNoField _ js = Unit {0}
+
 set_simple : (m : Making) (js : List ℕ) (vs : List Value) → IsSimple m → AllHere vs → SetIfGiven (make m js vs)
 set_simple (constant c) js [] s h = set_constant c
 set_simple (constant c) js (v ∷ vs) s h = tt

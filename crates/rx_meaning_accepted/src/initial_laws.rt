@@ -6,14 +6,14 @@ ghost use Rattle.rx_tree.specs.Plain.{ProgramTree};
 ghost use Rattle.rx_tree.specs.Size.{IsNumbered};
 ghost use Rattle.rx_resolve_names.specs.declared.resolved.ItemNames.{ItemNames};
 ghost use Rattle.rx_resolve_names.specs.Causes.{Meant};
-ghost use Rattle.rx_typed.specs.Tree.{Place, variable, Temporary, Function};
+ghost use Rattle.rx_typed.specs.Tree.{Place, variable, Temporary, lazy, Function};
 ghost use Rattle.rx_typed.specs.PlainTypes.{declarations};
 ghost use Rattle.rx_typed.specs.PlainTree.{plain-TypedTree};
 ghost use Rattle.rx_typed_declarations.specs.Sizes.{Sized};
 ghost use Rattle.rx_typeck_typed.specs.declared.typed.Typed.{Typed};
 ghost use Rattle.rx_typeck_typed.specs.declared.typed.TypedFn.{TypedFn};
 ghost use Rattle.rx_typeck_typed.specs.Typing.{IsTyped};
-ghost use Rattle.rx_lower_walks.specs.Actions.{Call, Write, Action, does};
+ghost use Rattle.rx_lower_walks.specs.Actions.{Call, Build, Write, Action, does};
 ghost use Rattle.rx_lower_walks.specs.Walks.{actions_in, Among, IsWalk};
 ghost use Rattle.rx_lower_walks.specs.Orders.{order_function};
 ghost use Rattle.rx_facts_tables.specs.Setting.{is_behind, looked_at};
@@ -51,7 +51,8 @@ pub fn typed_functions_are_ready()
 }
 
 /// Also a place that is behind a reference has a part, that of the reference; so has each variable; no action of their orders is a mark,
-/// since no tuple of nothing is made; and where they write a part of a variable's own storage, the variable is declared `mut`.
+/// since no tuple of nothing is made; what `&&` and `||` give is built of no field; and where they write a part of a variable's own
+/// storage, the variable is declared `mut`.
 pub fn typed_functions_stand()
     ensures places { (p : ProgramTree) (names : ListOf ItemNames) (t : Typed) → IsNumbered p → Meant p names → IsTyped p names t → (P : ℕ → ℕ) → Sized (declarations t.decls.items) P
         → (f : TypedFn) → Among f t.functions → (w : ListOf Action) (a : Action) (x : ℕ) (ss : ListOf Step) → IsWalk (plain-TypedTree f.tree) (w ++ a ∷ [])
@@ -60,6 +61,8 @@ pub fn typed_functions_stand()
         → (f : TypedFn) → Among f t.functions → (x : ℕ) → x < length f.mutable → HasPart (frame_of (declarations t.decls.items) P f) x [] }
     ensures unmarked { (p : ProgramTree) (names : ListOf ItemNames) (t : Typed) → IsNumbered p → Meant p names → IsTyped p names t → (f : TypedFn) → Among f t.functions
         → HasNoMark (order_function (plain-TypedTree f.tree)) }
+    ensures lazies { (p : ProgramTree) (names : ListOf ItemNames) (t : Typed) → IsNumbered p → Meant p names → IsTyped p names t → (f : TypedFn) → Among f t.functions
+        → (a : Action) (js : ListOf ℕ) (us : ListOf Temporary) (d : Temporary) → Among a (actions_in (order_function (plain-TypedTree f.tree))) → a.act ≡ Build lazy js us d → js ≡ [] }
     ensures writes { (p : ProgramTree) (names : ListOf ItemNames) (t : Typed) → IsNumbered p → Meant p names → IsTyped p names t → (f : TypedFn) → Among f t.functions
         → (a : Action) (q : Place) (u : Temporary) (us : ListOf Step) → Among a (actions_in (order_function (plain-TypedTree f.tree))) → a.act ≡ Write q u us
         → (x : ℕ) → q.root ≡ variable x → is_behind q.steps ≡ false → is_all q.steps ≡ false → slice_get f.mutable x ≡ Some true }
