@@ -6,3 +6,4 @@ pub mod Changed
 pub mod Refused
 pub mod Stretches
 pub mod UnitReads
+pub mod Found

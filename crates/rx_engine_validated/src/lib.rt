@@ -1,8 +1,9 @@
-//! Extractions of accepted texts: an answer that is found to be one is one, and what accepted texts give of the law on runs.
+//! Extractions of accepted texts: an answer that is found to be one does what the text does.
 #![tactic(auto)]
 
 mod accepted_laws;
 mod found_laws;
+mod laws;
 mod premises_laws;
 mod ready_laws;
 mod staying_laws;
@@ -12,6 +13,7 @@ pub use accepted_laws::{
     accepted_tails_are_had,
 };
 pub use found_laws::found_extractions_are_extractions;
+pub use laws::found_extractions_run_alike;
 pub use premises_laws::{
     accepted_programs_are_themselves, accepted_runs_find_references, diverging_runs_never_end,
     marks_keep_unit_functions, runs_without_an_end_diverge, statements_stand_as_a_stretch,
