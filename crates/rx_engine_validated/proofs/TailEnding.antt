@@ -52,7 +52,7 @@ pub given_so : {P : Exp → Type 0} {Q : Type 0} {o : Option Exp} {f : Exp → B
 given_so (kept {a = e} p) g = g e p
 given_so nothing g = silent
 
-has_none_so : (xs : List ℕ) → Says (xs ≡ []) (has_none xs)
+pub has_none_so : (xs : List ℕ) → Says (xs ≡ []) (has_none xs)
 has_none_so [] = says refl
 has_none_so (x ∷ xs) = silent
 
