@@ -43,3 +43,4 @@ pub mod Itself
 pub mod Units
 pub mod UnitFunctions
 pub mod MarkedUnits
+pub mod FoundRuns
