@@ -212,10 +212,10 @@ module _ (A : Asked) (T : Told) (value : Option Typ) (same : T.elsewhere ≡ spe
   abbrev to_end : List Statement → List Statement → Exp → Body
   to_end ss behind e = before (entering h.params) (before (map (changed_statement (passing T.around)) (take T.run.count ss)) (before behind (tree.ends e)))
 
-  in_place : {J : Jumping} {p : Passed} {own : Bool} {z : Exp} {l : Last} {f : Exp} {Rn : Renaming} {g : Body → Body} → PassedAs h (tail_of p.text) own z l
+  in_place : {J : Jumping} (p : Passed) {own : Bool} {z : Exp} {l : Last} {f : Exp} {Rn : Renaming} {g : Body → Body} → PassedAs h (tail_of p.text) own z l
       → ((rest : Body) → TailBecomesCall A T.muts h T.modes T.items gain T.units (tail_new f) 1 J p.inside Rn rest (λ b. stretch.before (with_mark enters h.params (stretch_of (marked p.text))) (with_last l b)) g)
       → LikeBody T.items (TheTail f) gain (by_form T.elsewhere) 1 J p.inside (to_end (statements p.text) [] z) (g no_rest)
-  in_place {J} {p} {l = l} {f = f} {g = g} passed call =
+  in_place {J} p {l = l} {f = f} {g = g} passed call =
       subst (λ c. LikeBody T.items (TheTail f) gain (by_form T.elsewhere) 1 J p.inside c (g no_rest))
       (entered_is h.params (marked p.text) (with_last l no_rest) ∙ ap (λ c. before (entering h.params) (before (marked p.text) c)) (last_is no_rest passed))
       (opens_in {b = no_rest} {b' = no_rest} {f = λ b. stretch.before (with_mark enters h.params (stretch_of (marked p.text))) (with_last l b)} {f' = g} 1 0 (omega arith) (becomes A T.muts h value (call no_rest)) (ends_in units))
@@ -225,7 +225,7 @@ module _ (A : Asked) (T : Told) (value : Option Typ) (same : T.elsewhere ≡ spe
   whole_block {J} {R} {text} {p = p} all whole (first_is {r = r} m x s t) passed (stands_so {f = f} {g = g} y call z) =
       tail_is y (x (g no_rest) z) (subst (λ l. LikeBody T.items (TheTail f) gain (by_form l) 1 J R (tailed_body T.run T.around h.params text) (stretch.before r (g no_rest))) same
       (subst (λ c. LikeBody T.items (TheTail f) gain (by_form T.elsewhere) 1 J R c (stretch.before r (g no_rest))) there
-      (in_front T.items gain T.units T.elsewhere (TheTail f) whole m (in_place passed call))))
+      (in_front T.items gain T.units T.elsewhere (TheTail f) whole m (in_place p passed call))))
     where
       front : List Statement
       front = take T.run.first (statements text)
@@ -247,7 +247,7 @@ module _ (A : Asked) (T : Told) (value : Option Typ) (same : T.elsewhere ≡ spe
   module _ (J : Jumping) (whole : Whole J) (R : Renaming) (text answer : Body) (all : drop T.run.count (drop T.run.first (statements text)) ≡ [])
       (never : (Among next h.exits → ⊥) → NeverEnds (a_marked (changed (passing T.around) (written_tail T.run.block (tail text))) (leaves next)) (stretch_of (map (changed_statement (passing T.around)) (inside T.run text)))) where
     never_there : {p : Passed} → FirstSo (between_around T) gain J T.run.first R text answer p → NeverRun p.text
-    never_there (first_is m x s t) none = subst (λ l. NeverEnds (a_marked (tail_of _) (leaves next)) (stretch_of (map (changed_statement (passing T.around)) (take T.run.count l)))) (sym s)
+    never_there {p} (first_is m x s t) none = subst (λ l. NeverEnds (a_marked (tail_of p.text) (leaves next)) (stretch_of (map (changed_statement (passing T.around)) (take T.run.count l)))) (sym s)
         (subst (λ e. NeverEnds (a_marked (changed (passing T.around) (written_tail T.run.block e)) (leaves next)) (stretch_of (map (changed_statement (passing T.around)) (inside T.run text)))) (sym t) (never none))
 
     tail_run : {o : Option Passed} → Promised (λ p. FirstSo (between_around T) gain J T.run.first R text answer p) o → Says (TailSo J R text answer) (tail_is_call T J o)
