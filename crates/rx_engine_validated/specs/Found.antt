@@ -11,9 +11,9 @@ use Rattle.rx_lower_walks.specs.Walks.{Among}
 use Rattle.rx_check.specs.Passes.{IsFront}
 use Rattle.rx_meaning.specs.Values.{element}
 use Rattle.rx_machine.specs.Functions.{program_of}
-use Rattle.rx_exits_plan.specs.Runs.{Home, Sits, last_value}
+use Rattle.rx_exits_plan.specs.Runs.{Home, Sits}
 use Rattle.rx_exits_plan.specs.Asked.{Asked}
-use Rattle.rx_exits_plan.specs.Plan.{IsPlan, handed_value}
+use Rattle.rx_exits_plan.specs.Plan.{Plan, IsPlan}
 use Rattle.rx_engine_related.specs.AboutRun.{special_of}
 use Rattle.rx_engine_validated.specs.AskedOf.{asked_of}
 use Rattle.rx_engine_validated.specs.Refused.{NotRefused}
@@ -34,12 +34,13 @@ pub record IsFound (p q : ProgramTree) (t u : Typed) (main other : ℕ) : Type 0
   pub among : Among function t.functions
   pub home : Home
   pub sits : Sits (plain-TypedTree function.tree) told.run home
-  -- of what type its value is isn't told
-  pub valueless : told.plan.value ≡ None
-  pub plan : IsPlan (asked_of (declarations t.decls.items) front.parts function told.run home) (with_value (handed_value (last_value told.run home.body)) told.plan)
-  pub kept : NotRefused (asked_of (declarations t.decls.items) front.parts function told.run home) function.mutable (with_value (handed_value (last_value told.run home.body)) told.plan)
+  -- its plan; of what type its value is isn't told
+  pub plan : Plan
+  pub is_plan : IsPlan (asked_of (declarations t.decls.items) front.parts function told.run home) plan
+  pub kept : NotRefused (asked_of (declarations t.decls.items) front.parts function told.run home) function.mutable plan
+  pub told_plan : told.plan ≡ with_value None plan
   pub around : told.around ≡ home.around.loops
-  pub elsewhere : told.elsewhere ≡ special_of (asked_of (declarations t.decls.items) front.parts function told.run home) told.plan
+  pub elsewhere : told.elsewhere ≡ special_of (asked_of (declarations t.decls.items) front.parts function told.run home) plan
   pub muts : told.muts ≡ function.mutable
   -- its item, and how many items are behind it in the answer, of which one is the new function
   pub item : ℕ
