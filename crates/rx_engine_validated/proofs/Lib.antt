@@ -38,6 +38,7 @@ pub mod Marked
 pub mod Elaborated
 pub mod Spotted
 pub mod Runs
+pub mod TailRuns
 pub mod References
 pub mod Itself
 pub mod Units

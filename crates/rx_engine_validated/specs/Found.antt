@@ -1,6 +1,6 @@
 -- An answer that is found to be the extraction of a run (translation validation: what a transformation gave is tested, once and for each answer):
 -- of an accepted text, with the plan of a run in it that isn't refused, with its block's tail or without, and of an accepted answer.
-use Rattle.std.specs.Prelude.{◌≡◌, ℕ, true, Some, None, ⊥}
+use Rattle.std.specs.Prelude.{◌≡◌, ℕ, true, Some, None}
 use Rattle.rx_tree.specs.Plain.{ProgramTree}
 use Rattle.rx_tree.specs.Size.{IsNumbered}
 use Rattle.rx_typed.specs.PlainTypes.{declarations}

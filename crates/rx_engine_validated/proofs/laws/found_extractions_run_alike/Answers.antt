@@ -1,4 +1,4 @@
-use Rattle.std.proofs.Common.{◌≡◌, ◌*◌, ℕ, ℤ, List, Bool, true, false, refl, sym, subst, ⊥}
+use Rattle.std.proofs.Common.{◌≡◌, ◌*◌, ℕ, ℤ, List, Bool, true, false, refl, sym, subst}
 use Rattle.rx_tree.specs.Plain.{ProgramTree}
 use Rattle.rx_typeck_typed.specs.declared.typed.Typed.{Typed}
 use Rattle.rx_lower_walks.specs.Walks.{Among}

@@ -1,5 +1,6 @@
 use Rattle.rx_typed.specs.PlainTree.{plain-TypedTree}
-use Rattle.rx_engine_validated.proofs.Runs.{tests_stay, marked_tail_never_ends}
+use Rattle.rx_engine_validated.proofs.Runs.{tests_stay}
+use Rattle.rx_engine_validated.proofs.TailRuns.{marked_tail_never_ends}
 use Rattle.rx_engine_validated.proofs.premises_laws.diverging_tails_never_end.Goals as goal
 
 pub returns : goal.returns
