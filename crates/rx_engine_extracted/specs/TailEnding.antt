@@ -3,13 +3,12 @@
 -- what the function gives or stands in front of what is handed out; or its end is not come to.
 use Rattle.std.specs.Prelude.{ℕ, nat_eq, Bool, true, false, not, ◌&&◌, List, [], ◌∷◌, Option, Some, None}
 use Rattle.rx_typed.specs.Tree as tree
-use Rattle.rx_typed.specs.Tree.{Place, Exp, Operands, Scrutinee, Body}
+use Rattle.rx_typed.specs.Tree.{Place, Pattern, Exp, Operands, Scrutinee, Body}
 use Rattle.rx_engine_simulation.specs.Sights.{Renaming}
 use Rattle.rx_engine_simulation.specs.Jumps.{Jumping}
 use Rattle.rx_engine_simulation.specs.Places.{looking}
 use Rattle.rx_engine_simulation.specs.Packing.{Way, bare, as_variant, no_way}
 use Rattle.rx_engine_alike.specs.Likeness.{if_so, and_then, is_alike}
-use Rattle.rx_engine_alike.specs.Read.{as_lets}
 use Rattle.rx_engine_alike.specs.Ways.{like_place}
 use Rattle.rx_engine_alike.specs.Variables.{is_in, is_new}
 use Rattle.rx_engine_alike.specs.Units.{gives_unit}
@@ -18,7 +17,7 @@ use Rattle.rx_engine_alike.specs.Forms.{Between, like_exp}
 use Rattle.rx_engine_extracted.specs.Stretches.{Passed, like_first}
 use Rattle.rx_engine_extracted.specs.Handing.{received_by}
 use Rattle.rx_engine_extracted.specs.Ending.{gives_outs, has_none}
-use Rattle.rx_engine_extracted.specs.Reading.{runs_first}
+use Rattle.rx_engine_extracted.specs.Reading.{runs_first, lets_first}
 use Rattle.rx_engine_extracted.specs.PlainEnding.{ends_given_of}
 
 abbrev pub is_given : Option Exp → (Exp → Bool) → Bool
@@ -56,14 +55,20 @@ abbrev pub bound_alike : Between → Jumping → Renaming → Exp → Scrutinee 
 bound_alike C J R e (tree.of_value f) = is_alike (like_exp C J R e f)
 bound_alike C J R e (tree.at_place m q) = looks_alike R e q
 
+abbrev pub gives_beside : ℕ → Exp → List ℕ → Bool
+gives_beside o g zs = not (is_in o zs) && gives_bare (o ∷ zs) g
+
 -- the variable that it is bound to, and what the function gives then
 abbrev pub gives_with : Renaming → List ℕ → Option ℕ → Option Exp → Bool
-gives_with R xs (Some o) (Some g) = is_new R o && if_these (numbers_of R xs) (λ zs. not (is_in o zs) && gives_bare (o ∷ zs) g)
+gives_with R xs (Some o) (Some g) = is_new R o && if_these (numbers_of R xs) (λ zs. gives_beside o g zs)
 gives_with R xs _ _ = false
 
+abbrev pub is_let : Option (Pattern × Scrutinee × Body) → (Pattern × Scrutinee × Body → Bool) → Bool
+is_let None f = false
+is_let (Some r) f = f r
+
 abbrev pub in_tuple : Between → Jumping → Renaming → List ℕ → Exp → Body → Bool
-in_tuple C J R xs e (tree.lets n q c b) = bound_alike C J R e c && gives_with R xs (received_by q) (ends_given_of b)
-in_tuple C J R xs e _ = false
+in_tuple C J R xs e b = is_let (lets_first b) (λ r. bound_alike C J R e r.1 && gives_with R xs (received_by r.0) (ends_given_of r.2))
 
 -- ---- with a value, or without one
 
@@ -82,14 +87,17 @@ abbrev pub in_front : Between → Jumping → Way → Renaming → List ℕ → 
 in_front C J w R xs e None = false
 in_front C J w R xs e (Some r) = is_alike (like_exp C J R e r.0) && gives_outs w R xs r.1
 
+abbrev pub front_of : Between → Jumping → Way → Renaming → List ℕ → Exp → Body → Bool
+front_of C J w R xs e b = in_front C J w R xs e (runs_first b)
+
 -- the tail is what the function gives, or it stands in front
 abbrev pub dropped_bare : Between → Jumping → Renaming → List ℕ → Exp → Body → Bool
 dropped_bare C J R [] e b = tail_is C J R e (ends_given_of b)
-dropped_bare C J R (x ∷ xs) e b = in_front C J bare R (x ∷ xs) e (runs_first b)
+dropped_bare C J R (x ∷ xs) e b = front_of C J bare R (x ∷ xs) e b
 
 abbrev pub ends_without : Between → Jumping → Way → Renaming → List ℕ → Exp → Body → Bool
 ends_without C J bare R xs e b = gives_unit C.units e && dropped_bare C J R xs e b
-ends_without C J (as_variant v) R xs e b = gives_unit C.units e && in_front C J (as_variant v) R xs e (runs_first b)
+ends_without C J (as_variant v) R xs e b = gives_unit C.units e && front_of C J (as_variant v) R xs e b
 ends_without C J no_way R xs e b = has_none xs && tail_is C J R e (ends_given_of b)
 
 abbrev pub ends_with_tail : Bool → Between → Jumping → Way → Renaming → List ℕ → Exp → Body → Bool

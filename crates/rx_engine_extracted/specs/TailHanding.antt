@@ -31,11 +31,14 @@ ends_given_back own b = and_then (as_ends b) (λ e. given_back own e)
 
 -- ---- a unit
 
+abbrev pub is_the_unit : Option Exp → Bool
+is_the_unit o = is_given o (λ f. is_unit f)
+
 abbrev pub gives_unit_back : Bool → Exp → Bool
-gives_unit_back own e = is_given (given_back own e) (λ f. is_unit f)
+gives_unit_back own e = is_the_unit (given_back own e)
 
 abbrev pub ends_in_unit_back : Bool → Body → Bool
-ends_in_unit_back own b = is_given (ends_given_back own b) (λ f. is_unit f)
+ends_in_unit_back own b = is_the_unit (ends_given_back own b)
 
 -- ---- a value beside others
 
@@ -44,9 +47,12 @@ abbrev pub first_of : List ℕ → Option (ℕ × List ℕ)
 first_of [] = None
 first_of (o ∷ os) = Some (o, os)
 
+abbrev pub takes_given : ℕ → Option Exp → Bool
+takes_given o g = is_given g (λ f. takes o f)
+
 -- it is given back behind what is done with the others
 abbrev pub gives_back_last : Bool → Renaming → ℕ → Put → Bool
-gives_back_last own R o p = is_given (ends_given_back own p.rest) (λ f. takes o f) && is_within R p.inside
+gives_back_last own R o p = takes_given o (ends_given_back own p.rest) && is_within R p.inside
 
 -- with the variables outside, and these but for what is handed out
 abbrev pub put_beside : Told → Bool → Renaming → Renaming → List ℕ → ℕ × List ℕ → Body → Bool
