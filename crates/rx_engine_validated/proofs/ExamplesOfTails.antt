@@ -1,9 +1,9 @@
 -- Answers that are found to be extractions of runs with their block's tail: of one whose value is handed out in a tuple with a local, and of the whole
 -- body of a function; of a unit that is dropped. Answers that give another value, or don't give it back, aren't.
-use Rattle.std.proofs.Common.{◌≡◌, ℕ, Bool, true, false, List, [], ◌∷◌, Some, None, refl}
+use Rattle.std.proofs.Common.{◌≡◌, ℕ, Bool, true, false, List, [], ◌∷◌, None, refl}
 use Rattle.rx_typed.specs.Tree as tree
 use Rattle.rx_typed.specs.Tree.{Exp, Body, Function, own}
-use Rattle.rx_exits_plan.specs.Points.{Exit, next}
+use Rattle.rx_exits_plan.specs.Points.{next}
 use Rattle.rx_exits_plan.specs.Plan.{Plan}
 use Rattle.rx_engine_simulation.specs.Passing.{New}
 use Rattle.rx_engine_alike.specs.Items.{items_with}

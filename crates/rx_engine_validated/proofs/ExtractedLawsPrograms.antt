@@ -1,6 +1,6 @@
 -- An answer that is found to be an extraction by its typed program is one. Beside it stands the program in which the new function, and the run's,
 -- read some references that they ask for again.
-use Rattle.std.proofs.Common.{◌≡◌, ℕ, ◌==◌, Bool, true, map, Option, Some, refl, sym, ap, ◌∙◌, subst, arith, List}
+use Rattle.std.proofs.Common.{◌≡◌, ℕ, ◌==◌, true, map, Some, refl, sym, ap, ◌∙◌, subst, arith, List}
 use Rattle.rx_typed.specs.Tree.{Exp, Body, Function}
 use Rattle.rx_lower_walks.specs.Walks.{Among}
 use Rattle.rx_exits_plan.specs.Points.{next}

@@ -1,6 +1,6 @@
 -- The program in which the new function, and the run's, read some references that they ask for again; and what is so of all other items, where an answer
 -- is found to be an extraction.
-use Rattle.std.proofs.Common.{◌≡◌, inl, inr, ℕ, zero, suc, ◌+◌, ◌<◌, ◌≤◌, ◌==◌, nat_eq, nat_le, Bool, true, false, not, ◌&&◌, ◌||◌, List, [], ◌∷◌, length, Option, Some, None}
+use Rattle.std.proofs.Common.{◌≡◌, inl, inr, ℕ, zero, suc, ◌+◌, ◌<◌, ◌≤◌, nat_eq, nat_le, Bool, true, false, not, ◌&&◌, ◌||◌, List, [], ◌∷◌, length, Option, Some, None}
 use Rattle.std.proofs.Common.{if◌then◌else◌, refl, sym, ap, ◌∙◌, subst, arith, true≢false, eqb-true, eq-eqb, le-leb, leb-false, leb-true}
 use Rattle.rx_typed.specs.Tree.{Exp, Function}
 use Rattle.rx_meaning.specs.Values.{element, with_element}

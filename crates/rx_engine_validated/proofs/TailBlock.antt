@@ -1,6 +1,6 @@
 -- Where the block of a run that holds its tail is found to be, in the answer, that block with the call in place of the run, it is so as an extraction
 -- has it; also the body of a function.
-use Rattle.std.proofs.Common.{◌≡◌, ℕ, Bool, true, false, not, ◌||◌, List, [], ◌∷◌, map, take, drop, Option, if◌then◌else◌, refl, sym, ap, ◌∙◌, subst, arith}
+use Rattle.std.proofs.Common.{◌≡◌, ℕ, Bool, true, false, List, [], map, take, drop, Option, if◌then◌else◌, refl, sym, ap, ◌∙◌, subst, arith}
 use Rattle.rx_typed.specs.Tree as tree
 use Rattle.rx_typed.specs.Tree.{Mark, Exp, Operands, Body}
 use Rattle.rx_typed.specs.Types.{Typ}
@@ -15,8 +15,7 @@ use Rattle.rx_exits_plan.specs.Plan.{Plan}
 use Rattle.rx_engine_simulation.specs.Turns.{Allowance}
 use Rattle.rx_engine_simulation.specs.Called.{a_turn}
 use Rattle.rx_engine_simulation.specs.Sights.{Renaming}
-use Rattle.rx_engine_simulation.specs.Jumps.{as_return, Jumping}
-use Rattle.rx_engine_simulation.specs.Passed.{let_pass}
+use Rattle.rx_engine_simulation.specs.Jumps.{Jumping}
 use Rattle.rx_engine_simulation.specs.Passing.{New}
 use Rattle.rx_engine_simulation.specs.Openings.{Openings}
 use Rattle.rx_engine_simulation.specs.Like.{LikeBody, opens_in, ends_in, units}
@@ -25,7 +24,7 @@ use Rattle.rx_engine_simulation.specs.Blocks as stretch
 use Rattle.rx_engine_simulation.specs.Marks.{with_mark}
 use Rattle.rx_engine_simulation.specs.Endings.{Last, a_marked, with_last}
 use Rattle.rx_engine_simulation.specs.Packing.{Way, bare, as_variant, no_way}
-use Rattle.rx_engine_simulation.specs.Rereads.{Rereads, in_block, RereadsBody, in_declare}
+use Rattle.rx_engine_simulation.specs.Rereads.{Rereads, in_block, RereadsBody}
 use Rattle.rx_engine_simulation.specs.Statements.{body_of}
 use Rattle.rx_engine_simulation.specs.Arrivals.{Within}
 use Rattle.rx_engine_related.specs.AboutRun.{special_of}
@@ -42,12 +41,10 @@ use Rattle.rx_engine_extracted.specs.Told.{Told, without}
 use Rattle.rx_engine_extracted.specs.Entering.{Begun}
 use Rattle.rx_engine_extracted.specs.Stretches.{Passed, like_first}
 use Rattle.rx_engine_extracted.specs.Handing.{Put, Stood}
-use Rattle.rx_engine_extracted.specs.Arms.{is_put}
 use Rattle.rx_engine_extracted.specs.Calls.{Called}
-use Rattle.rx_engine_extracted.specs.Ending.{has_none}
-use Rattle.rx_engine_extracted.specs.Block.{between_around, between_in, block_of}
+use Rattle.rx_engine_extracted.specs.Block.{between_around, between_in}
 use Rattle.rx_engine_extracted.specs.TailEnding.{ran_to_tail}
-use Rattle.rx_engine_extracted.specs.TailHanding.{gives_at, gives_unit_back, ends_in_unit_back}
+use Rattle.rx_engine_extracted.specs.TailHanding.{gives_at, gives_unit_back}
 use Rattle.rx_engine_extracted.specs.TailBlock.{function_ends, call_ends, unit_stands_for, unit_stands, is_some_renaming, value_stands, tail_stands, may_end, tail_is_call}
 use Rattle.rx_engine_alike_laws.proofs.Promised.{Promised, kept, nothing, Says, says, silent, map_so, then_so, where_so, so, and_with}
 use Rattle.rx_engine_alike_laws.proofs.Forms.{Whole}

@@ -1,5 +1,5 @@
 -- Where a new function is found to end as a run does that holds its block's tail, it does.
-use Rattle.std.proofs.Common.{◌≡◌, ℕ, nat_eq, Bool, true, false, not, ◌&&◌, List, [], ◌∷◌, map, take, Option, Some, None, refl, sym, subst}
+use Rattle.std.proofs.Common.{◌≡◌, ℕ, Bool, true, false, List, [], ◌∷◌, map, take, Option, Some, refl, sym, subst}
 use Rattle.rx_typed.specs.Tree as tree
 use Rattle.rx_typed.specs.Tree.{Mark, Place, Pattern, by_value, Exp, Operands, Scrutinee, Body}
 use Rattle.rx_exits_plan.specs.Blocks.{statements}
@@ -22,7 +22,6 @@ use Rattle.rx_engine_related.specs.Stretched.{stretch_of}
 use Rattle.rx_engine_related.specs.Tails.{TailEnded, tail_value, tail_in_variant, tail_in_tuple, place_in_tuple, tail_dropped, tail_in_front, tail_left}
 use Rattle.rx_engine_alike.specs.Forms.{Between}
 use Rattle.rx_engine_extracted.specs.Stretches.{Passed}
-use Rattle.rx_engine_extracted.specs.Handing.{received_by}
 use Rattle.rx_engine_extracted.specs.Ending.{gives_in, gives_outs, has_none}
 use Rattle.rx_engine_extracted.specs.Reading.{runs_first}
 use Rattle.rx_engine_extracted.specs.PlainEnding.{ends_given_of}

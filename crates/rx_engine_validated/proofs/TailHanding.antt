@@ -7,7 +7,7 @@ use Rattle.rx_exits_plan.specs.Blocks.{written_tail}
 use Rattle.rx_exits_plan.specs.Changed.{changed}
 use Rattle.rx_exits_plan.specs.Asked.{Asked}
 use Rattle.rx_exits_plan.specs.Plan.{Plan}
-use Rattle.rx_engine_simulation.specs.Sights.{In, special, sight, Renaming, sight_of, IsNew}
+use Rattle.rx_engine_simulation.specs.Sights.{In, special, sight, Renaming, IsNew}
 use Rattle.rx_engine_simulation.specs.Jumps.{as_return, Jumping}
 use Rattle.rx_engine_simulation.specs.Passed.{let_pass}
 use Rattle.rx_engine_simulation.specs.Arrivals.{Within}
@@ -22,13 +22,13 @@ use Rattle.rx_engine_related.specs.Tailed.{passing_value}
 use Rattle.rx_engine_related.specs.Handed.{PutBack}
 use Rattle.rx_engine_related.specs.Tails.{TailHanded, value_back, value_behind, unit_behind, IsTail, of_block, of_body}
 use Rattle.rx_engine_extracted.specs.Told.{Told, without}
-use Rattle.rx_engine_extracted.specs.Handing.{received_in, Put, parts_of, Stood}
+use Rattle.rx_engine_extracted.specs.Handing.{Put, parts_of, Stood}
 use Rattle.rx_engine_extracted.specs.Reading.{binds_first}
-use Rattle.rx_engine_extracted.specs.TailHanding.{gives_at, given_back, ends_given_back, ends_in_unit_back, first_of, gives_back_last, put_beside, is_first, received_beside, are_parts, gives_beside, gives_value}
-use Rattle.rx_engine_alike_laws.proofs.Promised.{Promised, kept, nothing, Says, says, silent, map_so, then_so, where_so, so, and_so, and_with}
+use Rattle.rx_engine_extracted.specs.TailHanding.{gives_at, given_back, ends_given_back, ends_in_unit_back, first_of, gives_back_last, put_beside, is_first, received_beside, are_parts, gives_value}
+use Rattle.rx_engine_alike_laws.proofs.Promised.{Promised, kept, nothing, Says, silent, map_so, then_so, where_so, so, and_so, and_with}
 use Rattle.rx_engine_alike_laws.proofs.Variables.{is_new_so}
 use Rattle.rx_engine_alike_laws.proofs.Giving.{Reread, reread, takes_so}
-use Rattle.rx_engine_validated.proofs.ExtractedLawsParts.{HandedSo, handed_so, HandsSo, RedeclaredSo, redeclared_so}
+use Rattle.rx_engine_validated.proofs.ExtractedLawsParts.{HandedSo, handed_so, RedeclaredSo, redeclared_so}
 use Rattle.rx_engine_validated.proofs.Seeing.{not_in_so, without_within}
 use Rattle.rx_engine_validated.proofs.Handing.{received_in_so, received_so, PutSo, put_so, put_back_so, within_so}
 use Rattle.rx_engine_validated.proofs.Arms.{unit_so, within_without, renaming_so, is_put_so}

@@ -1,5 +1,5 @@
 -- An answer that is found to be the extraction of a run with its block's tail, by its typed program, is one.
-use Rattle.std.proofs.Common.{◌≡◌, ℕ, zero, suc, ◌+◌, ◌==◌, Bool, true, false, List, [], ◌∷◌, length, map, drop, Option, Some, None, refl, sym, ap, ◌∙◌, subst, arith}
+use Rattle.std.proofs.Common.{◌≡◌, ℕ, zero, suc, ◌+◌, ◌==◌, true, List, [], ◌∷◌, length, map, drop, Option, Some, refl, sym, ap, ◌∙◌, subst, arith}
 use Rattle.rx_typed.specs.Types.{Typ}
 use Rattle.rx_typed.specs.Tree.{Exp, Body, Function}
 use Rattle.rx_lower_walks.specs.Walks.{Among}

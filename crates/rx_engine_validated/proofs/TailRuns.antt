@@ -1,5 +1,5 @@
 -- A run with its block's tail that diverges by its plan never goes on by its form: some statement of it, or the tail.
-use Rattle.std.proofs.Common.{◌≡◌, ◌⊎◌, inl, inr, ℕ, ◌==◌, Bool, true, false, ◌||◌, List, Some, None, if◌then◌else◌, sym, true≢false}
+use Rattle.std.proofs.Common.{◌≡◌, ◌⊎◌, inl, inr, ℕ, ◌==◌, Bool, true, false, List, Some, None, if◌then◌else◌, sym, true≢false}
 use Rattle.rx_typed.specs.Tree as tree
 use Rattle.rx_typed.specs.Tree.{Exp, Body}
 use Rattle.rx_exits_plan.specs.Blocks.{statements, tail, written_tail}

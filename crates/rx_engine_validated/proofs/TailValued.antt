@@ -1,5 +1,5 @@
 -- Of the type of the plan's value nothing is asked of what stands for a run with its block's tail: so it may be any.
-use Rattle.std.specs.Prelude.{◌≡◌, ℕ, Bool, List, Option}
+use Rattle.std.specs.Prelude.{ℕ, Bool, List, Option}
 use Rattle.rx_typed.specs.Types.{Typ}
 use Rattle.rx_typed.specs.Tree.{Exp, Operands, Parameter, Arms, Body}
 use Rattle.rx_exits_plan.specs.Asked.{Asked}
