@@ -6,6 +6,9 @@ pub mod Arms
 pub mod Calls
 pub mod Ending
 pub mod Block
+pub mod TailEnding
+pub mod TailHanding
+pub mod TailBlock
 pub mod Programs
 pub mod Reading
 pub mod PlainTold
