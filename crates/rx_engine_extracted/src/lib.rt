@@ -11,6 +11,9 @@ mod exits;
 mod handing;
 mod programs;
 mod stretches;
+mod tail_block;
+mod tail_ending;
+mod tail_handing;
 mod told;
 
 pub use programs::{Whole, extracts};
