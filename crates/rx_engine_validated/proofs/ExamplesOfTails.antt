@@ -51,7 +51,7 @@ giving z = record {
     params = [];
     body = tree.block (m 13) (tree.declares 14 (5 ∷ []) (tree.runs (tree.assign (m 5) (own 5) (number 6 7))
         (tree.lets 40 (tree.bind 41 9 (tree.by_value false)) (tree.of_value (number 42 z))
-        (tree.ends (tree.give (m 13) (tree.build (m 43) tree.tuple (tree.operand_and 0 (tree.read (m 44) true (own 9)) (tree.operand_and 1 (tree.read (m 45) true (own 5)) tree.no_operand)))))));
+        (tree.ends (tree.give (m 13) (tree.build (m 43) tree.tuple (tree.operand_and 0 (tree.read (m 44) true (own 9)) (tree.operand_and 1 (tree.read (m 45) true (own 5)) tree.no_operand))))))));
   };
 }
 

@@ -12,8 +12,15 @@ pub mod Ending
 pub mod Bodies
 pub mod Block
 pub mod Holes
+pub mod Joining
 pub mod ExtractedLawsPrograms
+pub mod TailEnding
+pub mod TailHanding
+pub mod TailValued
+pub mod TailBlock
+pub mod TailPrograms
 pub mod Examples
+pub mod ExamplesOfTails
 pub mod Functions
 pub mod Blocks
 pub mod InStep
@@ -36,3 +43,4 @@ pub mod Itself
 pub mod Units
 pub mod UnitFunctions
 pub mod MarkedUnits
+pub mod FoundRuns

@@ -52,7 +52,7 @@ pub given_so : {P : Exp → Type 0} {Q : Type 0} {o : Option Exp} {f : Exp → B
 given_so (kept {a = e} p) g = g e p
 given_so nothing g = silent
 
-has_none_so : (xs : List ℕ) → Says (xs ≡ []) (has_none xs)
+pub has_none_so : (xs : List ℕ) → Says (xs ≡ []) (has_none xs)
 has_none_so [] = says refl
 has_none_so (x ∷ xs) = silent
 
@@ -87,12 +87,12 @@ module _ (C : Between) (gain : Allowance) (J : Jumping) where
   abbrev GivenAs : Renaming → Exp → Bool → Way → List ℕ → Type 0
   GivenAs R e has w xs = (f : Exp) (m : Mark) → Like R e f → TailEnded C.items gain C.units C.ways.elsewhere J R e has w xs (tree.ends (tree.give m f))
 
-  alone_made : {R : Renaming} {e f : Exp} {has : Bool} {w : Way} {xs : List ℕ} {b : Body} → GivenAs R (changed Out e) has w xs → Returns b f → AlikeExp C gain J R (changed Out e) f
+  alone_made : {R : Renaming} (e : Exp) {f : Exp} {has : Bool} {w : Way} {xs : List ℕ} {b : Body} → GivenAs R (changed Out e) has w xs → Returns b f → AlikeExp C gain J R (changed Out e) f
       → TailBy R (changed Out e) has w xs b
-  alone_made {R} {e} {has = has} {w = w} {xs = xs} made q (alike_exp {f = z} x l) = subst (λ b. TailBy R (changed Out e) has w xs b) q.1 (reread (tree.ends (tree.give q.0 z)) (in_end (in_give x)) (made z q.0 l))
+  alone_made {R} e {has = has} {w = w} {xs = xs} made q (alike_exp {f = z} x l) = subst (λ b. TailBy R (changed Out e) has w xs b) q.1 (reread (tree.ends (tree.give q.0 z)) (in_end (in_give x)) (made z q.0 l))
 
   alone_so : (R : Renaming) (e : Exp) {has : Bool} {w : Way} {xs : List ℕ} → GivenAs R (changed Out e) has w xs → (b : Body) → Says (TailBy R (changed Out e) has w xs b) (tail_is C J R e (ends_given_of b))
-  alone_so R e made b = given_so (ends_given_so b) (λ f q. so (λ a. alone_made made q a) (exp_alike C gain J R e f))
+  alone_so R e made b = given_so (ends_given_so b) (λ f q. so (λ a. alone_made e made q a) (exp_alike C gain J R e f))
 
   -- ---- in a variant
 
