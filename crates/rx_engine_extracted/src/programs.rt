@@ -199,8 +199,8 @@ fn leaves_unit(functions: &[Option<&TypedTree>], units: &[u32], number: u32) -> 
     }
 }
 
-/// Whether each of these functions does.
-fn all_leave_unit(functions: &[Option<&TypedTree>], units: &[u32], numbers: &[u32]) -> bool
+/// Whether each of these functions of the text leaves by returns of the unit.
+pub fn all_leave_unit(functions: &[Option<&TypedTree>], units: &[u32], numbers: &[u32]) -> bool
     ensures { result ≡ all_are_unit (plain-Functions functions.now) units.now numbers.now }
 {
     for number in numbers {
