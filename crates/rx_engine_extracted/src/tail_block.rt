@@ -1,6 +1,6 @@
 //! Whether the block of a run that holds its tail is, in the answer, that block with the call in place of the run.
 
-ghost use Rattle.std.specs.Prelude.{◌≡◌, Some, option_map, IfOk};
+ghost use Rattle.std.specs.Prelude.{◌≡◌, true, Some, option_map, IfOk};
 ghost use Rattle.rx_typed.specs.PlainTree.{plain-Expr};
 ghost use Rattle.rx_exits_plan.specs.Blocks.{tail as tail_of, written_tail as written_tail_of};
 ghost use Rattle.rx_engine_alike.specs.Likeness.{if_so};
