@@ -4,5 +4,6 @@ pub mod ArmLemmas
 pub mod CallLemmas
 pub mod StretchLemmas
 pub mod EndLemmas
+pub mod TailLemmas
 pub mod BlockLemmas
 pub mod ProgramLemmas

@@ -20,3 +20,4 @@ pub mod PlainStretches
 pub mod PlainEnding
 pub mod PlainBlock
 pub mod PlainPrograms
+pub mod PlainTails

@@ -20,7 +20,7 @@ ghost use Rattle.rx_engine_extracted.specs.PlainStretches.{passed_in};
 ghost use Rattle.rx_engine_extracted.specs.PlainBlock.{between_with, call_runs as call_runs_of, call_stands as call_stands_of};
 
 use crate::body::block_in;
-use crate::calls::{Called, called_by};
+use crate::calls::{Called, called_with};
 use crate::ending::{End, ran};
 use crate::entering::{Begun, entered};
 use crate::exits::outs_of;
@@ -70,7 +70,10 @@ pub(crate) fn between(
 }
 
 /// The jumps around a run, with these loops around it.
-fn jumping_around<'p>(alloc: Global, loops: &[LoopPair]) -> Result<Jumping<'p>, AllocError>
+pub(crate) fn jumping_around<'p>(
+    alloc: Global,
+    loops: &[LoopPair],
+) -> Result<Jumping<'p>, AllocError>
     ensures loops { IfOk result (λ it. it.loops ≡ loops.now) }
     ensures jumps { IfOk result (λ it. (xs : ListOf ℕ) → plain-Jumping xs it ≡ jumps_around it.loops) }
 {
@@ -150,7 +153,7 @@ fn call_runs(
     ensures { IfOk result (λ it. option_map (λ s. plain-Renaming s.items) it
         ≡ call_runs_of (plain-Told told.now) (jumps_around loops.now) (plain-Renaming outer.now) (plain-Part text.entry) (plain-Expr expr.now)) }
 {
-    match called_by(alloc, told, loops, outer, expr)? {
+    match called_with(alloc, told, false, loops, outer, expr)? {
         Some(called) => function_runs(alloc, told, closed, &called, outer, text),
         None => Ok(None),
     }
@@ -245,7 +248,7 @@ fn rest_is_alike(
 }
 
 /// Whether the statements in front of the run are alike; adds what they declare; what is left behind them.
-fn front_alike<'t>(
+pub(crate) fn front_alike<'t>(
     alloc: Global,
     told: &Told<'_>,
     around: &Between,
