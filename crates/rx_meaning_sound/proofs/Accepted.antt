@@ -51,25 +51,31 @@ module _ (N : Temporary → Bool) (T : Typing) where
   TypedLet c p = ClearLet c p × LetTyped T c p
 
   fits_choice : (c : Scrutinee) (l : Arms) → Known c l → Typed c l → FitsChoice N T c l
-  fits_choice c l k h gone = let x = h.1 gone in (h.0, record {
-    typ = x.0;
-    typed = x.1.typed;
-    direct = k.0.0;
-    arms = arms_fit T.declared (subject c) x.0 l x.2 k.0.1;
-    covers = covers_typ T.declared (scrutinee_typ c) x.0 (patterns_of l) x.1.marked k.1;
-    inhabited = x.1.inhabited;
-  })
+  fits_choice c l k h gone = let x = h.1 gone in (
+    h.0,
+    record {
+      typ = x.0;
+      typed = x.1.typed;
+      direct = k.0.0;
+      arms = arms_fit T.declared (subject c) x.0 l x.2 k.0.1;
+      covers = covers_typ T.declared (scrutinee_typ c) x.0 (patterns_of l) x.1.marked k.1;
+      inhabited = x.1.inhabited;
+    },
+  )
 
   fits_let : (c : Scrutinee) (p : Pattern) → KnownLet c p → TypedLet c p → FitsLet N T c p
-  fits_let c p k h gone = let x = h.1 gone in (h.0, record {
-    typ = x.0;
-    typed = x.1.typed;
-    direct = k.0.0;
-    fits = x.2;
-    other = k.0.1;
-    covers = covers_typ T.declared (scrutinee_typ c) x.0 (p ∷ []) x.1.marked k.1;
-    inhabited = x.1.inhabited;
-  })
+  fits_let c p k h gone = let x = h.1 gone in (
+    h.0,
+    record {
+      typ = x.0;
+      typed = x.1.typed;
+      direct = k.0.0;
+      fits = x.2;
+      other = k.0.1;
+      covers = covers_typ T.declared (scrutinee_typ c) x.0 (p ∷ []) x.1.marked k.1;
+      inhabited = x.1.inhabited;
+    },
+  )
 
   pub function_stands : (F : Function) → AllCovered T.declared (choices_of F.body) → Standing IsFreshChoice IsFreshLet F.body → Standing ClearChoice ClearLet F.body → Standing (ChoiceTyped T) (LetTyped T) F.body → Standing (FitsChoice N T) (FitsLet N T) F.body
   function_stands F h fresh clear typed =

@@ -27,14 +27,16 @@ module _ (t : Typed) (N : ℕ → Temporary → Bool) (Ts : ℕ → Typing) (dec
     (calls : (f : ℕ) (F : Function) → IsFunction (typed_functions (declarations t.decls.items) t.functions) f F → CallsFunctions (typed_functions (declarations t.decls.items) t.functions) F)
     (ranged : (f : ℕ) (F : Function) → IsFunction (typed_functions (declarations t.decls.items) t.functions) f F → Ranged (N f) F) where
   pub program_covered : ProgramCovered N Ts (typed_functions (declarations t.decls.items) t.functions)
-  program_covered = record { functions = λ f F e.
-      let D = declarations t.decls.items in
-      let x = function_at D t.functions f F e in
-      record {
-        standing = function_stands (N f) (Ts f) F (subst (λ (z : Declarations). AllCovered z (choices_of F.body)) (sym (declared f)) (subst (λ (z : Function). AllCovered D (choices_of z.body)) x.2 (function_covered t covered x.0 x.1)))
-            (subst (λ (z : Function). Standing IsFreshChoice IsFreshLet z.body) x.2 (stands x.0 x.1).fresh) (ranged f F e).1 (matches f F e);
-        begun = subst (λ (z : Function). UsesBegun z) x.2 (begun x.0 x.1);
-        ranges = (ranged f F e).0;
-        calls = calls f F e;
-        answers = subst (λ (z : Function). Answers z) x.2 (answers x.0 x.1);
-      } }
+  program_covered = record {
+    functions = λ f F e.
+        let D = declarations t.decls.items in
+        let x = function_at D t.functions f F e in
+        record {
+          standing = function_stands (N f) (Ts f) F (subst (λ (z : Declarations). AllCovered z (choices_of F.body)) (sym (declared f)) (subst (λ (z : Function). AllCovered D (choices_of z.body)) x.2 (function_covered t covered x.0 x.1)))
+              (subst (λ (z : Function). Standing IsFreshChoice IsFreshLet z.body) x.2 (stands x.0 x.1).fresh) (ranged f F e).1 (matches f F e);
+          begun = subst (λ (z : Function). UsesBegun z) x.2 (begun x.0 x.1);
+          ranges = (ranged f F e).0;
+          calls = calls f F e;
+          answers = subst (λ (z : Function). Answers z) x.2 (answers x.0 x.1);
+        };
+  }

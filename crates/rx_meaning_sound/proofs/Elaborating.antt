@@ -27,7 +27,6 @@ use Rattle.rx_meaning_covered.specs.Scopes.{PlaceIn, variables_of, Scoped, Scope
 use Rattle.rx_meaning_covered.specs.Scopes as typed
 use Rattle.rx_meaning_covered.specs.Covered.{IsDirectSubject}
 use Rattle.rx_meaning_covered.proofs.Passing.{among_both}
-use Rattle.rx_meaning_covered.proofs.Scoping.{among_front, among_behind}
 use Rattle.rx_meaning_sound.specs.Fresh.{ArmsFresh, IsFreshChoice, IsFreshLet, StandsFresh}
 
 -- ---- scopes
@@ -45,17 +44,17 @@ one_more : (y : ℕ) (xs : Around) (zs : List ℕ) → Covers xs zs → Covers (
 one_more y xs zs c x (inl e) = subst (λ z. Among x (z ∷ zs)) e walk.here
 one_more y xs zs c x (inr h) = walk.there (c x h)
 
+swapped : (x y u : ℕ) (l : List ℕ) → Among x (y ∷ l) → Among x (y ∷ (u ∷ l))
+swapped _ y u l walk.here = walk.here
+swapped x y u l (walk.there g) = walk.there (walk.there g)
+
 to_front : (y x : ℕ) (ys zs : List ℕ) → Among x (ys ++ (y ∷ zs)) → Among x (y ∷ (ys ++ zs))
 to_front y x [] zs h = h
-to_front y x (u ∷ ys) zs walk.here = walk.there walk.here
-to_front y x (u ∷ ys) zs (walk.there h) = swapped (to_front y x ys zs h)
-  where
-    swapped : Among x (y ∷ (ys ++ zs)) → Among x (y ∷ (u ∷ (ys ++ zs)))
-    swapped walk.here = walk.here
-    swapped (walk.there g) = walk.there (walk.there g)
+to_front y _ (u ∷ ys) zs walk.here = walk.there walk.here
+to_front y x (u ∷ ys) zs (walk.there h) = swapped x y u (ys ++ zs) (to_front y x ys zs h)
 
 entered_cover : (ys : List ℕ) (xs : Around) (zs : List ℕ) → Covers xs zs → Covers (entered xs ys) (ys ++ zs)
-entered_cover [] xs zs c = c
+entered_cover [] xs zs c x h = c x h
 entered_cover (y ∷ ys) xs zs c x h = to_front y x ys zs (entered_cover ys (y ∷ xs) (y ∷ zs) (one_more y xs zs c) x h)
 
 -- a new variable is none of those in scope
@@ -288,7 +287,7 @@ module _ (T : Assigned) where
     exp_fine xs zs ls c (named.binary n o a b) h q = operated_fine zs ls n o (elaborated.value T a) (elaborated.value T b) (exp_fine xs zs ls c a h.0 q.0) (exp_fine xs zs ls c b h.1 q.1)
     exp_fine xs zs ls c (named.assign n p e) h q = let g = place_good xs ls p q.0.1 h.0.0 q.0.0 in let a = exp_fine xs zs ls c e h.1 q.1 in ((place_scoped xs zs (p_of p) c g, a.0), (place_direct xs (p_of p) g, a.1))
     exp_fine xs zs ls c (named.gives n p u d e) h q =
-        let g = record { root = u.number; is = refl; here = h.0; steps = tt } in let a = exp_fine xs zs ls c e h.1 q in ((place_scoped xs zs (own u.number) c g, a.0), (place_direct xs (own u.number) g, a.1))
+        let g : GoodPlace xs (own u.number) = record { root = u.number; is = refl; here = h.0; steps = tt } in let a = exp_fine xs zs ls c e h.1 q in ((place_scoped xs zs (own u.number) c g, a.0), (place_direct xs (own u.number) g, a.1))
     exp_fine xs zs ls c (named.update n o p e) h q = let g = place_good xs ls p q.0.1 h.0.0 q.0.0 in let a = exp_fine xs zs ls c e h.1 q.1 in ((place_scoped xs zs (p_of p) c g, a.0), (place_direct xs (p_of p) g, a.1))
     exp_fine xs zs ls c (named.call n f es) h q = passed_fine zs ls n (elaborated.coercion_at T n) (tree.call (elaborated.mark T n) f (elaborated.operands T 0 es)) (operands_fine xs zs ls c 0 es h q)
     exp_fine xs zs ls c (named.hidden_call n es) h q = absurd q
@@ -381,5 +380,5 @@ module _ (T : Assigned) where
   pub function_stands : (f : Function) → scope.ScopedFunction f → PlacedBody f.body → StandsFresh (elaborated.elaborated T f)
   function_stands f h q =
       let a = function_body_fine (entered [] (parameter_variables f.params)) (map (λ (p : tree.Parameter). p.variable) (elaborated.parameters f.params)) []
-          (subst (λ z. Covers (entered [] (parameter_variables f.params)) z) (sym (same_parameters f.params)) (nothing_more (parameter_variables f.params))) f.body h.body q in
+      (subst (λ z. Covers (entered [] (parameter_variables f.params)) z) (sym (same_parameters f.params)) (nothing_more (parameter_variables f.params))) f.body h.body q in
       record { scoped = a.0; fresh = a.1; gives = function_gives f.body }

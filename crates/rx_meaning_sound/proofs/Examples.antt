@@ -16,7 +16,7 @@ declared =
     ∷ function_declared (named 1 ∷ []) (integer Kind.I64)
     ∷ function_declared [] unit_shape ∷ []
 
-items : ItemsPlain declared declared
+pub items : ItemsPlain declared declared
 items = ((tt, (tt, tt)), (((tt, tt), ((tt, (tt, tt)), (tt, tt))), (((tt, tt), tt), ((tt, tt), tt))))
 
 -- fn main() {
@@ -29,7 +29,7 @@ items = ((tt, (tt, tt)), (((tt, tt), ((tt, (tt, tt)), (tt, tt))), (((tt, tt), tt
 --     }
 -- }
 -- what its nodes and variables are of
-types : EachPlain declared (integer Kind.I64 ∷ boolean ∷ named 0 ∷ named 1 ∷ unit_shape ∷ tuple_of (shape_and (named 1) (shape_and boolean no_shape)) ∷ [])
+pub types : EachPlain declared (integer Kind.I64 ∷ boolean ∷ named 0 ∷ named 1 ∷ unit_shape ∷ tuple_of (shape_and (named 1) (shape_and boolean no_shape)) ∷ [])
 types = (tt, (tt, (tt, (tt, (tt, ((tt, (tt, tt)), tt))))))
 
 -- `&left`

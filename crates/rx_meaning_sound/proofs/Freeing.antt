@@ -87,60 +87,63 @@ module _ (D : Declarations) (declared : ItemsPlain D D) where
   front_of P [] b h = tt
   front_of P (t ∷ a) b h = (h.0, front_of P a b h.1)
 
-  Valued : Typ → Type 0
+  abbrev Valued : Typ → Type 0
   Valued t = (c : covering.Value) × covering.HasType D t c
 
-  AllValued : List Typ → Type 0
+  abbrev AllValued : List Typ → Type 0
   AllValued ts = (cs : covering.Values) × covering.HaveTypes D ts cs
 
   struct_valued : (i : ℕ) (c : Bool) (l : ℕ) (fs : List FieldDeclared) → slice_get D i ≡ Some (struct_declared c l fs) → AllValued (field_types fs) → Valued (types.named i)
-  unfolding Valued, AllValued
   struct_valued i c l fs q h = (covering.made i h.0, (refl, ap is_struct q, subst (λ (o : Option Declared). covering.HaveTypes D (field_types (fields_declared o)) h.0) (sym q) h.1))
 
   enum_valued : (i : ℕ) (c : Bool) (l : ℕ) (v : VariantDeclared) (vs : List VariantDeclared) → slice_get D i ≡ Some (enum_declared c l (v ∷ vs)) → AllValued v.parts → Valued (types.named i)
-  unfolding Valued, AllValued
-  enum_valued i c l v vs q h = (covering.variant i 0 h.0, (
-    refl,
-    subst (λ (o : Option Declared). 0 < length (variants_declared o)) (sym q) (omega arith),
-    subst (λ (o : Option Declared). covering.HaveTypes D (parts_declared (slice_get (variants_declared o) 0)) h.0) (sym q) h.1,
-  ))
+  enum_valued i c l v vs q h = (
+    covering.variant i 0 h.0,
+    (
+      refl,
+      subst (λ (o : Option Declared). 0 < length (variants_declared o)) (sym q) (omega arith),
+      subst (λ (o : Option Declared). covering.HaveTypes D (parts_declared (slice_get (variants_declared o) 0)) h.0) (sym q) h.1,
+    ),
+  )
 
-  -- a type whose structs and enums end within so many levels has a value
-  mutual
-    valued : (l : ℕ) (t : Typ) → Each (Within D l) t → IsPlain D t → Valued t
-    unfolding Valued, AllValued
-    valued l (integer k) w h = (covering.number (pos 0), nothing_in k)
-      where
-        nothing_in : (k : Kind) → covering.InKind k (pos 0)
-        nothing_in Kind.U8 = omega arith
-        nothing_in Kind.U32 = omega arith
-        nothing_in Kind.U64 = omega arith
-        nothing_in Kind.I32 = omega arith
-        nothing_in Kind.I64 = omega arith
-    valued l boolean w h = (covering.truth true, tt)
-    valued l (tuple_of ts) w h = let x = all_valued l ts w h in (covering.tuple x.0, x.1)
-    valued l (reference m t) w h = absurd h
-    valued zero (types.named i) w h = absurd w
-    valued (suc l) (types.named i) w h = item_valued l i (slice_get D i) refl w h
+  nothing_in : (k : Kind) → covering.InKind k (pos 0)
+  nothing_in Kind.U8 = omega arith
+  nothing_in Kind.U32 = omega arith
+  nothing_in Kind.U64 = omega arith
+  nothing_in Kind.I32 = omega arith
+  nothing_in Kind.I64 = omega arith
 
-    item_valued : (l i : ℕ) (o : Option Declared) → slice_get D i ≡ o → EachOf (Within D l) (shapes_of (held_at o)) → HasAlternative o → Valued (types.named i)
-    unfolding Valued, AllValued
-    item_valued l i None q w h = absurd h
-    item_valued l i (Some rt_declared) q w h = absurd h
-    item_valued l i (Some (struct_declared c k fs)) q w h =
-        let x = all_valued l (shapes_of (types_of_fields fs)) (subst (λ (ts : List Typ). EachOf (Within D l) (shapes_of ts)) (sym (fields_same fs)) w) (list_plain D (types_of_fields fs) (item_at D D i (struct_declared c k fs) declared q)) in
+  -- a type has a value where its structs and enums do
+  module _ (P : ℕ → Type 0) (of_item : (i : ℕ) → P i → HasAlternative (slice_get D i) → Valued (types.named i)) where
+    mutual
+      valued : (t : Typ) → Each P t → IsPlain D t → Valued t
+      valued (integer k) w h = (covering.number (pos 0), nothing_in k)
+      valued boolean w h = (covering.truth true, tt)
+      valued (tuple_of ts) w h = let x = all_valued ts w h in (covering.tuple x.0, x.1)
+      valued (reference m t) w h = absurd h
+      valued (types.named i) w h = of_item i w h
+
+      all_valued : (ts : Shapes Kind) → EachOf P ts → ArePlain D ts → AllValued (shapes_listed ts)
+      all_valued no_shape w h = (covering.no_value, tt)
+      all_valued (shape_and t ts) w h = let x = valued t w.0 h.0 in let y = all_valued ts w.1 h.1 in (covering.value_and x.0 y.0, (x.1, y.1))
+
+    what_is_declared : (i : ℕ) (o : Option Declared) → slice_get D i ≡ o → EachOf P (shapes_of (held_at o)) → HasAlternative o → Valued (types.named i)
+    what_is_declared i None q w h = absurd h
+    what_is_declared i (Some rt_declared) q w h = absurd h
+    what_is_declared i (Some (struct_declared c k fs)) q w h =
+        let x = all_valued (shapes_of (types_of_fields fs)) (subst (λ (ts : List Typ). EachOf P (shapes_of ts)) (sym (fields_same fs)) w) (list_plain D (types_of_fields fs) (item_at D D i (struct_declared c k fs) declared q)) in
         struct_valued i c k fs q (x.0, subst (λ (ts : List Typ). covering.HaveTypes D ts x.0) (fields_listed fs) x.1)
-    item_valued l i (Some (enum_declared c k [])) q w h = absurd h
-    item_valued l i (Some (enum_declared c k (v ∷ vs))) q w h =
+    what_is_declared i (Some (enum_declared c k [])) q w h = absurd h
+    what_is_declared i (Some (enum_declared c k (v ∷ vs))) q w h =
         let g = item_at D D i (enum_declared c k (v ∷ vs)) declared q in
-        let x = all_valued l (shapes_of v.parts) (front_of (Within D l) v.parts (variant_types vs) w) (list_plain D v.parts g.0) in
+        let x = all_valued (shapes_of v.parts) (front_of P v.parts (variant_types vs) w) (list_plain D v.parts g.0) in
         enum_valued i c k v vs q (x.0, subst (λ (ts : List Typ). covering.HaveTypes D ts x.0) (parts_listed v.parts) x.1)
-    item_valued l i (Some (function_declared ps t)) q w h = absurd h
+    what_is_declared i (Some (function_declared ps t)) q w h = absurd h
 
-    all_valued : (l : ℕ) (ts : Shapes Kind) → EachOf (Within D l) ts → ArePlain D ts → AllValued (shapes_listed ts)
-    unfolding Valued, AllValued
-    all_valued l no_shape w h = (covering.no_value, tt)
-    all_valued l (shape_and t ts) w h = let x = valued l t w.0 h.0 in let y = all_valued l ts w.1 h.1 in (covering.value_and x.0 y.0, (x.1, y.1))
+  -- structs and enums that end within so many levels have one
+  item_valued : (l i : ℕ) → Within D l i → HasAlternative (slice_get D i) → Valued (types.named i)
+  item_valued zero i w h = absurd w
+  item_valued (suc l) i w h = what_is_declared (Within D l) (item_valued l) i (slice_get D i) refl w h
 
   mutual
     each_within : (l : ℕ) → ((i : ℕ) → Within D l i) → (t : Typ) → Each (Within D l) t
@@ -155,5 +158,4 @@ module _ (D : Declarations) (declared : ItemsPlain D D) where
     all_within l f (shape_and t ts) = (each_within l f t, all_within l f ts)
 
   pub plain_inhabited : Finite D → (t : Typ) → IsPlain D t → IsInhabited D t
-  unfolding Valued
-  plain_inhabited finite t h ss u e = valued (suc (length D)) u (each_within (suc (length D)) finite.each u) (along_plain t u ss h e)
+  plain_inhabited finite t h ss u e = valued (Within D (suc (length D))) (item_valued (suc (length D))) u (each_within (suc (length D)) finite.each u) (along_plain t u ss h e)

@@ -1,6 +1,7 @@
 -- Trees with numbers whose literals are in the ranges of their kinds, but for those directly under a minus.
-use Rattle.std.specs.Prelude.{IsTrue}
-use Rattle.std.proofs.Common.{◌≡◌, ℕ, pos, Bool, true, false, ◌&&◌, ◌||◌, refl, subst}
+use Rattle.std.specs.Prelude.{int_le}
+use Rattle.std.proofs.lemmas.Int.{ints}
+use Rattle.std.proofs.Common.{◌≡◌, ℕ, pos, arith, Bool, true, false, ◌&&◌, ◌||◌, refl, sym, subst}
 use Rattle.rx_core.specs.declared.types.Kind.{Kind}
 use Rattle.rx_typed.specs.declared.nodes.Node.{Node}
 use Rattle.rx_typed.specs.Types.{Typ, integer}
@@ -9,25 +10,33 @@ use Rattle.rx_typed.specs.Named.{Exp, Exps, Else, Fields, Arms, Body, Statement,
 use Rattle.rx_typed.specs.Elaborated.{Assigned, kind_in}
 use Rattle.rx_typeck_solver.specs.Facts.{has, AnInteger}
 use Rattle.rx_typeck_typed.specs.Asking.{fitting}
-use Rattle.rx_meaning.specs.Operators.{is_in}
+use Rattle.rx_meaning.specs.Operators.{is_in, greatest}
 
 or_false : (a : Bool) → (a || false) ≡ true → a ≡ true
 or_false true h = refl
 or_false false h = h
 
+not_false : (b : Bool) → (b ≡ false → ⊥) → b ≡ true
+not_false true h = refl
+not_false false h = absurd (h refl)
+
+both_true : (a b : Bool) → a ≡ true → b ≡ true → (a && b) ≡ true
+both_true true b e g = g
+both_true false b e g = e
+
+not_below : (v : ℕ) → int_le (pos 0) (pos v) ≡ true
+not_below v = not_false (int_le (pos 0) (pos v)) (λ q. omega (arith, ints, q))
+
 in_range : (k : Kind) (v : ℕ) → has (fitting false v) k ≡ true → is_in k (pos v) ≡ true
-in_range Kind.U8 v h = h
-in_range Kind.U32 v h = h
-in_range Kind.U64 v h = h
+in_range Kind.U8 v h = both_true (int_le (pos 0) (pos v)) (int_le (pos v) (greatest Kind.U8)) (not_below v) h
+in_range Kind.U32 v h = both_true (int_le (pos 0) (pos v)) (int_le (pos v) (greatest Kind.U32)) (not_below v) h
+in_range Kind.U64 v h = both_true (int_le (pos 0) (pos v)) (int_le (pos v) (greatest Kind.U64)) (not_below v) h
 in_range Kind.I32 v h = or_false _ h
 in_range Kind.I64 v h = or_false _ h
 
 -- a literal that fits
 pub literal_fits : (t : Typ) (m : Bool) (v : ℕ) → AnInteger (fitting m v) t → m ≡ false → is_in (kind_in t) (pos v) ≡ true
-literal_fits t m v h e = subst (λ (z : Typ). is_in (kind_in z) (pos v) ≡ true) (sym_of h.1) (in_range h.0 v (subst (λ (b : Bool). has (fitting b v) h.0 ≡ true) e h.2))
-  where
-    sym_of : {a b : Typ} → a ≡ b → b ≡ a
-    sym_of {a = a} q = subst (λ (z : Typ). z ≡ a) q refl
+literal_fits t m v h e = subst (λ (z : Typ). is_in (kind_in z) (pos v) ≡ true) (sym h.1) (in_range h.0 v (subst (λ (b : Bool). has (fitting b v) h.0 ≡ true) e h.2))
 
 module _ (T : Assigned) where
   abbrev pub Fit : Node → Bool → ℕ → Type 0

@@ -321,12 +321,15 @@ module _ (K : Known) (A : Types) (U : Temporary → Typ) (R : Typ) (f : ℕ) (re
   test_told : (n : Node) (v : Typ) (c : Exp) (a b : tree.Exp) → (node_of c).site ≡ Site.Value → Gives v c → Told c → (never c ≡ false → OfNode (node_of c) ≡ boolean)
       → C (tree.of_value (value c)) (tree.arm_and (tree.exactly n.number (tree.truth true)) a (tree.arm_and tree.any b tree.no_arm))
   test_told n v c a b s g h k z =
-      let alive = values.alive K A U R v c g (temporary_of (value c)) z in
-      (boolean, record {
-        typed = ap (λ (t : Typ). Some t) (values.valued_own K A U R v c s g z ∙ k alive);
-        marked = h.marked alive ∙ ap (λ (t : Typ). Some t) (k alive);
-        inhabited = subst (λ (t : Typ). IsInhabited K.items t) (k alive) (inhabited (node_of c).number);
-      }, (refl, (tt, tt)))
+      let alive = values.alive K A U R v c g (temporary_of (value c)) z in (
+        boolean,
+        record {
+          typed = ap (λ (t : Typ). Some t) (values.valued_own K A U R v c s g z ∙ k alive);
+          marked = h.marked alive ∙ ap (λ (t : Typ). Some t) (k alive);
+          inhabited = subst (λ (t : Typ). IsInhabited K.items t) (k alive) (inhabited (node_of c).number);
+        },
+        (refl, (tt, tt)),
+      )
 
   tests_stand : (n : Node) (m : tree.Mark) (v : Typ) (c : Exp) (a b : tree.Exp) → (node_of c).site ≡ Site.Value → Gives v c → Told c → (never c ≡ false → OfNode (node_of c) ≡ boolean) → Standing C L a → Standing C L b
       → Standing C L (elaborated.tests n (value c) m a b)
@@ -428,12 +431,15 @@ module _ (K : Known) (A : Types) (U : Temporary → Typ) (R : Typ) (f : ℕ) (re
       let n = node_of e in
       let alive = stays_alive e (joining.matched_alive K A U R f result w e g z) in
       let at : AtNode n ≡ t = ap (λ (j : Site). at_site j (OfNode n) (wished K A n)) s ∙ sym x in
-      let is : OfNode n ≡ t = sym (h.same alive) ∙ at in
-      (t, record {
-        typed = joining.looked_at K A U R f result w e t g (λ b c. is) (λ y. values.valued K A U R w e g y ∙ at) z;
-        marked = marks_there w e g h z ∙ ap (λ (y : Typ). Some y) is;
-        inhabited = subst (λ (y : Typ). IsInhabited K.items y) is (inhabited n.number);
-      }, k)
+      let is : OfNode n ≡ t = sym (h.same alive) ∙ at in (
+        t,
+        record {
+          typed = joining.looked_at K A U R f result w e t g (λ b c. is) (λ y. values.valued K A U R w e g y ∙ at) z;
+          marked = marks_there w e g h z ∙ ap (λ (y : Typ). Some y) is;
+          inhabited = subst (λ (y : Typ). IsInhabited K.items y) is (inhabited n.number);
+        },
+        k,
+      )
 
   initialised_told : (w : Typ) (p : Pattern) (t : Option Written) (e : Exp) → (node_of e).site ≡ initialiser_site t → PatternMeans K.items p
       → Wants (joining.Expects K A U R f result t e → Gives w e → Told e → LetTold p e) (rules.initialised p t e)

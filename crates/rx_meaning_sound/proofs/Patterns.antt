@@ -125,7 +125,7 @@ module _ (K : Known) (A : Types) (U : Temporary → Typ) (R : Typ) (apart : (i :
         asks_map (λ f r. behind_fits (OfNode n) (tree.parts (elaborated.subpatterns (T K A) (met (OfNode n) r) 0 ps)) (f (met (OfNode n) r))) (then_second (quiet n _ _ _) (parts_fit s (rules.under n anc) n 0 ps w))
     pattern_fits s anc (named.variant_pattern n i v ps) w =
         let q = variant_is K.items i v w.0 in
-        asks_map (λ f r. behind_fits (OfNode n) (tree.variant n.number i (has_several K.items i) v (elaborated.subpatterns (T K A) (met (OfNode n) r) 0 ps)) (f.0, refl, (q.0, q.1, f.1 (met (OfNode n) r))))
+        asks_map (λ f r. behind_fits (OfNode n) (tree.variant n.number i (has_several K.items i) v (elaborated.subpatterns (T K A) (met (OfNode n) r) 0 ps)) (f.0, refl, (q.0, ap (λ (z : Typ). typ_behind K.items z (step.Variant v)) f.0 ∙ q.1, f.1 (met (OfNode n) r))))
         (both (is_item_asks K A U R n i) (then_second (quiet n _ _ _) (variant_parts_fit s (rules.under n anc) i v q.0 q.1 0 ps w.1)))
     pattern_fits s anc (named.struct_pattern n i fs) w =
         asks_map (λ f r. behind_fits (OfNode n) (tree.parts (elaborated.field_patterns (T K A) (met (OfNode n) r) i fs))

@@ -364,14 +364,14 @@ module _ (T : Assigned) (N : Temporary → Bool) where
       (h, arm_holds S (tree.exactly n.number (tree.truth true)) a (tree.arm_and tree.any b tree.no_arm) d k tt (x d) (arm_holds S tree.any b tree.no_arm d k tt (y d) tt))
 
   tests_stand : (n : Node) (m : tree.Mark) (c a b : tree.Exp) → NotN (temporary_of c) → Standing C L c → Standing C L a → Standing C L b → Standing C L (elaborated.tests n c m a b)
-  tests_stand n m c a b k s x y = (s, (k, (x, (y, tt))))
+  tests_stand n m c a b k s x y = (s, k, (x, (y, tt)))
 
   looks_acts : (m : tree.Mark) (c : tree.Scrutinee) (p : tree.Pattern) (a b : tree.Exp) → MatchedRanges c → Every Bound (bindings [] p) → ((d : Temporary) → H (order.order a d)) → ((d : Temporary) → H (order.order b d)) → (d : Temporary) → H (order.order (elaborated.looks m c p a b) d)
   looks_acts m c p a b h u x y d =
       (h.acts, arm_holds (subject c) p a (tree.arm_and tree.any b tree.no_arm) d h.own u (x d) (arm_holds (subject c) tree.any b tree.no_arm d h.own tt (y d) tt))
 
   looks_stand : (m : tree.Mark) (c : tree.Scrutinee) (p : tree.Pattern) (a b : tree.Exp) → MatchedRanges c → Standing C L a → Standing C L b → Standing C L (elaborated.looks m c p a b)
-  looks_stand m c p a b h x y = (h.stands, (h.own, (x, (y, tt))))
+  looks_stand m c p a b h x y = (h.stands, h.own, (x, (y, tt)))
 
   otherwise_acts : (n : Node) (o : Else) → ElseRanges o → (d : Temporary) → H (order.order (elaborated.otherwise T n o) d)
   otherwise_acts n named.absent h d = tt
@@ -461,7 +461,7 @@ module _ (T : Assigned) (N : Temporary → Bool) where
         (looks_stand m (elaborated.matched T e (value e)) q (elaborated.body T c) (elaborated.otherwise T n o) g h.stands (otherwise_stands n o j))
     exp_ranges b (named.match n e r) s l u =
         let v = two_of (exp_flags e) (arms_flags r) u.1 in let g = looked e (exp_ranges false e s.0 l.0 v.0) in let h = arms_range r s.1 l.1 v.1 in
-        ranges b (named.match n e r) n.number refl u.0 (λ d. (g.acts, h.acts (subject (elaborated.matched T e (value e))) g.own d)) (g.stands, (g.own, h.stands))
+        ranges b (named.match n e r) n.number refl u.0 (λ d. (g.acts, h.acts (subject (elaborated.matched T e (value e))) g.own d)) (g.stands, g.own, h.stands)
     exp_ranges b (named.loop n i k c) s l u = let x = body_ranges c s l u.1 in ranges b (named.loop n i k c) n.number refl u.0 (λ d. x.acts (temporary_of (elaborated.body T c))) x.stands
     exp_ranges b (named.while n i e c) s l u =
         let v = two_of (exp_flags e) (body_flags c) u.1 in let g = exp_ranges false e s.0 l.0 v.0 in let h = body_ranges c s.1 l.1 v.1 in
@@ -519,7 +519,7 @@ module _ (T : Assigned) (N : Temporary → Bool) where
         let v = three_of (map clear (pattern_nodes p)) (map clear (optional_nodes t)) (exp_flags e) u.1 in let g = looked e (exp_ranges false e s l v.2) in
         record {
           acts = λ rest k d h. (g.acts, binding_holds (subject (elaborated.matched T e (value e))) (bindings [] (elaborated.pattern T None p)) k (order_body rest k d) g.own (pattern_bound None p v.0 []) h);
-          stands = λ rest h. (g.stands, (g.own, h));
+          stands = λ rest h. (g.stands, g.own, h);
         }
     statement_ranges (named.evaluates n e x) s l u = let g = exp_ranges false e s l u.1 in record { acts = λ rest k d h. (self_of e g, h); stands = λ rest h. (g.stands, h) }
 
@@ -579,8 +579,10 @@ module _ (T : Assigned) (N : Temporary → Bool) where
 
   pub function_ranges : (F : Function) → BodySigned F.body → BodyLiterals T F.body → OfFlags (function_flags F) → RangesFit N (elaborated.elaborated T F) × Standing C L (elaborated.elaborated T F).body
   function_ranges F s l u =
-      let x = function_holds F s l u in let Tree = elaborated.elaborated T F in
-      (record {
-        constants = λ w n c js ts d is. (of_walk Q Tree x.1 w (does n (Build (constant c) js ts d)) is).0;
-        uses = λ w a t is i e. used a.act (of_walk Q Tree x.1 w a is) t i e;
-      }, x.0.stands_ends)
+      let x = function_holds F s l u in let Tree = elaborated.elaborated T F in (
+        record {
+          constants = λ w n c js ts d is. (of_walk Q Tree x.1 w (does n (Build (constant c) js ts d)) is).0;
+          uses = λ w a t is i e. used a.act (of_walk Q Tree x.1 w a is) t i e;
+        },
+        x.0.stands_ends,
+      )

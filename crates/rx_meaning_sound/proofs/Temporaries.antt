@@ -160,11 +160,11 @@ module _ (P : Typ → Type 0) (T : Assigned) (X : ℕ → Typ) (unit : P unit_sh
 
   looked : (es : List Entry) (t : Temporary) → Every All es → P (typ_in es t)
   looked [] t h = unit
-  looked (e ∷ es) t h = by (e.node == t.node)
+  looked (e ∷ es) t h = by (e.node == t.node) (looked es t h.1)
     where
-      by : (b : Bool) → P (if b then e.typ t.which else typ_in es t)
-      by true = h.0 t.which
-      by false = looked es t h.1
+      by : (b : Bool) → P (typ_in es t) → P (if b then e.typ t.which else typ_in es t)
+      by true g = h.0 t.which
+      by false g = g
 
   pub temporaries_all : (f : Function) (t : Temporary) → P (types.temporary_types T X f t)
   temporaries_all f t = looked (types.entries T X f) t (silent_all 0, joined _ _ (parameters_all f.params) (joined _ _ (silents_all (optional_nodes f.result)) (body_all unit_shape unit f.body)))

@@ -27,10 +27,14 @@ returns c = λ p t few front free m.
     let items = subst (λ (d : Declarations). ItemsPlain d d) same free.declared in
     let functions = subst (λ (d : Declarations). FunctionsPlain d t.functions) same free.functions in
     let ends = finite D (subst (λ (d : Declarations). NoCycle (held d)) same (c.typed_declarations_are_finite.ensures.finite p names t typed)) in
-    let Ts = typings p names t typed fit numbers wholes means apart items functions ends in
-    (literals p names t typed fit numbers wholes means apart items functions ends, Ts, program_typed p names t typed fit numbers wholes means apart items functions ends, program_free p names t typed fit numbers wholes means apart items functions ends,
-    program_covered t (literals p names t typed fit numbers wholes means apart items functions ends) Ts (program_declares p names t typed fit numbers wholes means apart items functions ends) (program_matches p names t typed fit numbers wholes means apart items functions ends) front.covered
-    (λ g a. c.typed_functions_stand_fresh.ensures.stands p names t few meant typed g a)
-    (λ g a. c.typed_functions_stand_fresh.ensures.begun p names t few meant typed g a)
-    (λ g a. c.typed_functions_stand_fresh.ensures.answers p names t few meant typed g a)
-    (λ f F e w n g ts d is. let x = c.typed_calls_fit.ensures p names t few meant typed m f F e w n g ts d is in (x.0, x.1)) (program_ranged p names t typed fit numbers wholes means apart items functions ends))
+    let Ts = typings p names t typed fit numbers wholes means apart items functions ends in (
+      literals p names t typed fit numbers wholes means apart items functions ends,
+      Ts,
+      program_typed p names t typed fit numbers wholes means apart items functions ends,
+      program_free p names t typed fit numbers wholes means apart items functions ends,
+      program_covered t (literals p names t typed fit numbers wholes means apart items functions ends) Ts (program_declares p names t typed fit numbers wholes means apart items functions ends) (program_matches p names t typed fit numbers wholes means apart items functions ends) front.covered
+          (λ g a. c.typed_functions_stand_fresh.ensures.stands p names t few meant typed g a)
+          (λ g a. c.typed_functions_stand_fresh.ensures.begun p names t few meant typed g a)
+          (λ g a. c.typed_functions_stand_fresh.ensures.answers p names t few meant typed g a)
+          (λ f F e w n g ts d is. let x = c.typed_calls_fit.ensures p names t few meant typed m f F e w n g ts d is in (x.0, x.1)) (program_ranged p names t typed fit numbers wholes means apart items functions ends),
+    )
