@@ -44,13 +44,13 @@ module _ (N : Temporary → Bool) (T : Typing) where
   abbrev KnownLet : Scrutinee → Pattern → Type 0
   KnownLet c p = IsFreshLet c p × CoversLet T.declared c p
 
-  abbrev Typed : Scrutinee → Arms → Type 0
-  Typed c l = ClearChoice c l × ChoiceTyped T c l
+  abbrev OfTyp : Scrutinee → Arms → Type 0
+  OfTyp c l = ClearChoice c l × ChoiceTyped T c l
 
-  abbrev TypedLet : Scrutinee → Pattern → Type 0
-  TypedLet c p = ClearLet c p × LetTyped T c p
+  abbrev LetOfTyp : Scrutinee → Pattern → Type 0
+  LetOfTyp c p = ClearLet c p × LetTyped T c p
 
-  fits_choice : (c : Scrutinee) (l : Arms) → Known c l → Typed c l → FitsChoice N T c l
+  fits_choice : (c : Scrutinee) (l : Arms) → Known c l → OfTyp c l → FitsChoice N T c l
   fits_choice c l k h gone = let x = h.1 gone in (
     h.0,
     record {
@@ -63,7 +63,7 @@ module _ (N : Temporary → Bool) (T : Typing) where
     },
   )
 
-  fits_let : (c : Scrutinee) (p : Pattern) → KnownLet c p → TypedLet c p → FitsLet N T c p
+  fits_let : (c : Scrutinee) (p : Pattern) → KnownLet c p → LetOfTyp c p → FitsLet N T c p
   fits_let c p k h gone = let x = h.1 gone in (
     h.0,
     record {
@@ -79,8 +79,8 @@ module _ (N : Temporary → Bool) (T : Typing) where
 
   pub function_stands : (F : Function) → AllCovered T.declared (choices_of F.body) → Standing IsFreshChoice IsFreshLet F.body → Standing ClearChoice ClearLet F.body → Standing (ChoiceTyped T) (LetTyped T) F.body → Standing (FitsChoice N T) (FitsLet N T) F.body
   function_stands F h fresh clear typed =
-      zipped Known Typed (FitsChoice N T) KnownLet TypedLet (FitsLet N T) fits_choice fits_let F.body (with_cover T.declared IsFreshChoice IsFreshLet (mark_of F.body).node F.body h fresh)
-      (zipped ClearChoice (ChoiceTyped T) Typed ClearLet (LetTyped T) TypedLet (λ c l a b. (a, b)) (λ c p a b. (a, b)) F.body clear typed)
+      zipped Known OfTyp (FitsChoice N T) KnownLet LetOfTyp (FitsLet N T) fits_choice fits_let F.body (with_cover T.declared IsFreshChoice IsFreshLet (mark_of F.body).node F.body h fresh)
+      (zipped ClearChoice (ChoiceTyped T) OfTyp ClearLet (LetTyped T) LetOfTyp (λ c l a b. (a, b)) (λ c p a b. (a, b)) F.body clear typed)
 
 -- ---- the functions of a program, by their items
 

@@ -16,3 +16,4 @@ pub mod Literals
 pub mod Minus
 pub mod Ranging
 pub mod Examples
+pub mod Whole

@@ -572,7 +572,7 @@ module _ (K : Known) (A : Types) (U : Temporary → Typ) (R : Typ) (f : ℕ) (re
     returned_told w t (named.present e) h j i u = asks_map (λ g. (g.stands, g.literals)) (exp_told w e h.0 j i u)
 
     arms_told : (n : Node) (w : Typ) (s : rules.Matched) (m : Node) (l : Arms) → ArmsSited (named_passed n) l → ArmsFit K.items l → ArmsMean K.items l → OfArms w l → Wants (ArmsTold m l) (rules.of_arms f n s m l)
-    arms_told n w s m named.no_arm h j i u = asks_map (λ _. (tt, (tt, tt))) none
+    arms_told n w s m named.no_arm h j i u = asks_map (λ _. (tt, tt, tt)) none
     arms_told n w s m (named.arm_and p e l) h j i u =
         let y = three_of (given_types.pattern_entries (T K A) V p) (given_types.exp_entries (T K A) V w e) (given_types.arms_entries (T K A) V w l) u in
         asks_map (λ g. ((g.1.0.stands, g.1.1.0), (g.0, g.1.1.1), (g.1.0.literals, g.1.1.2)))
