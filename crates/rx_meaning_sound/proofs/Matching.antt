@@ -10,7 +10,7 @@ use Rattle.rx_typed.specs.declared.nodes.Use.{Use}
 use Rattle.rx_typed.specs.Types.{Typ, integer, boolean, tuple_of, reference, result_declared, fields_declared}
 use Rattle.rx_typed.specs.Types as types
 use Rattle.rx_typed.specs.Named as named
-use Rattle.rx_typed.specs.Named.{Written, Pattern, Exp, Exps, Else, Fields, Arms, Body, Statement, Statements, written_node, pattern_node, whole_binding, node_of, body_node, is_place, is_variable, never, body_never, else_never, some_diverges}
+use Rattle.rx_typed.specs.Named.{Written, Pattern, Exp, Exps, Else, Fields, Arms, Body, Statement, Statements, written_node, pattern_node, whole_binding, node_of, body_node, is_place, is_variable, root, never, body_never, else_never, some_diverges}
 use Rattle.rx_typed.specs.TypedNumbers.{optional_nodes}
 use Rattle.rx_typed.specs.Naming.{passed_on, initialiser_site}
 use Rattle.rx_typed.specs.Elaborated as elaborated
@@ -468,7 +468,7 @@ module _ (K : Known) (A : Types) (U : Temporary → Typ) (R : Typ) (f : ℕ) (re
         asks_map (λ g. told_if (named.invert n e) g.1.has.stands refl (g.0.stands, tt) g.0.literals) (both (exp_told boolean e h.0 j i u.1) (operands.inverted_given K A n (node_of e) (never e)))
     exp_told w (named.borrow n m e) h j i u =
         asks_map (λ g. passed_told (named.borrow n m e) (tree.borrow (elaborated.mark (T K A) n) m (elaborated.place (T K A) e)) refl refl g.1.stands (direct e) g.0.literals)
-        (both (exp_told types.unit_shape e h.0 j i u.1) (pieces.borrowed_given K A n m (node_of e) _ _))
+        (both (exp_told types.unit_shape e h.0 j i u.1) (pieces.borrowed_given K A n m (node_of e) (root e) _))
     exp_told w (named.binary n o a b) h j i u =
         let v = two_of (given_types.exp_entries (T K A) V (given_types.wanted_beside (T K A) V o n b) a) (given_types.exp_entries (T K A) V (given_types.wanted_beside (T K A) V o n a) b) u.1 in
         asks_map (λ g. told_if (named.binary n o a b) g.1.1.stands (operated_marked n o (value a) (value b)) (operated_stands n o (value a) (value b) g.0.stands g.1.0.stands) (g.0.literals, g.1.0.literals))
