@@ -1,5 +1,5 @@
-//! Texts of the first grammar that its extraction leaves to that over the whole language: runs with tails, with units, with several
-//! variables handed out; the words `copy` and `ref`; and runs in the initialiser of a `let` that never goes on.
+//! Functions over integers: runs with tails, with units, with several variables handed out; the words `copy` and `ref`; and runs in the
+//! initialiser of a `let` that never goes on.
 
 use crate::extract::said::all_made;
 
