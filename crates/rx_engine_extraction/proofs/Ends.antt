@@ -26,7 +26,7 @@ use Rattle.rx_check.specs.declared.loans.LoanFault.TheVariants as loan_fault
 use Rattle.rx_lower_lifetimes.specs.declared.whole.LowerFault.TheVariants as lower_fault
 use Rattle.rx_hoist_extraction.specs.Names.{Distinct}
 use Rattle.rx_hoist_extraction.specs.Run.{Run}
-use Rattle.rx_hoist_extraction.specs.Plan.{Plan}
+use Rattle.rx_hoist_extraction.specs.Plan.{Bounds, Plan}
 use Rattle.rx_hoist_extraction.specs.Extraction.{extraction, new_number}
 use Rattle.rx_repair.specs.Named.{lifetimes_of, named_at}
 use Rattle.rx_repair.specs.Repaired.{repaired}
@@ -130,73 +130,77 @@ unchecked (check_fault.Loan (loan_fault.Loan a b)) p h = h
 unchecked (check_fault.Loan loan_fault.OutOfMemory) p h = tt
 unchecked check_fault.OutOfMemory p h = tt
 
--- ---- what is not accepted, or too long
+-- ---- what is not accepted, or too long, by which texts it may be
 
-misfit_kept : (p : ProgramTree) (r : Refusal) → IsMisfit p r → IsKept p r
-misfit_kept p (refusal.Unfit e) h = h
-misfit_kept p (refusal.Region i l k) h = h
-misfit_kept p (refusal.Loan a b) h = h
-misfit_kept p (refusal.Limit w n) h = absurd h
-misfit_kept p refusal.NotARun h = absurd h
-misfit_kept p refusal.BadName h = absurd h
-misfit_kept p refusal.NameTaken h = absurd h
-misfit_kept p (refusal.Unreachable s) h = absurd h
-misfit_kept p refusal.Endless h = absurd h
-misfit_kept p (refusal.MixedInit s) h = absurd h
-misfit_kept p (refusal.PartlyMoved s) h = absurd h
-misfit_kept p (refusal.Shadowed s) h = absurd h
-misfit_kept p (refusal.NotMut s) h = absurd h
-misfit_kept p (refusal.Aliased s) h = absurd h
+module _ (R : List ℕ → Type 0) where
+  misfit_kept : (p : ProgramTree) (r : Refusal) → IsMisfit p r → IsKept R p r
+  misfit_kept p (refusal.Unfit e) h = h
+  misfit_kept p (refusal.Region i l k) h = h
+  misfit_kept p (refusal.Loan a b) h = h
+  misfit_kept p refusal.Unconfirmed h = absurd h
+  misfit_kept p (refusal.Limit w n) h = absurd h
+  misfit_kept p refusal.NotARun h = absurd h
+  misfit_kept p refusal.BadName h = absurd h
+  misfit_kept p refusal.NameTaken h = absurd h
+  misfit_kept p (refusal.Unreachable s) h = absurd h
+  misfit_kept p refusal.Endless h = absurd h
+  misfit_kept p (refusal.MixedInit s) h = absurd h
+  misfit_kept p (refusal.PartlyMoved s) h = absurd h
+  misfit_kept p (refusal.Shadowed s) h = absurd h
+  misfit_kept p (refusal.NotMut s) h = absurd h
+  misfit_kept p (refusal.Aliased s) h = absurd h
 
-pub unchecked_kept : (p : ProgramTree) (f : Fault) → IsUnchecked p f → IsUnanswered p f
-unchecked_kept p (fault.Refused r) h = misfit_kept p r h
-unchecked_kept p fault.OutOfMemory h = tt
-unchecked_kept p (fault.Syntax e) h = absurd h
-unchecked_kept p (fault.NotAccepted e) h = absurd h
+  pub unchecked_kept : (p : ProgramTree) (f : Fault) → IsUnchecked p f → IsUnanswered R p f
+  unchecked_kept p (fault.Refused r) h = misfit_kept p r h
+  unchecked_kept p fault.OutOfMemory h = tt
+  unchecked_kept p (fault.Syntax e) h = absurd h
+  unchecked_kept p (fault.NotAccepted e) h = absurd h
 
-long_kept : (p : ProgramTree) → Accepted p → (r : Refusal) → IsTooLong p (fault.Refused r) → IsKept p r
-long_kept p a (refusal.Limit which.Bytes n) h = (a, h.0, h.1)
-long_kept p a (refusal.Limit which.Sites n) h = absurd h
-long_kept p a (refusal.Limit which.Positions n) h = absurd h
-long_kept p a (refusal.Limit which.Parameters n) h = absurd h
-long_kept p a (refusal.Limit which.Lifetimes n) h = absurd h
-long_kept p a (refusal.Limit which.Levels n) h = absurd h
-long_kept p a (refusal.Limit which.Parts n) h = absurd h
-long_kept p a refusal.NotARun h = absurd h
-long_kept p a refusal.BadName h = absurd h
-long_kept p a refusal.NameTaken h = absurd h
-long_kept p a (refusal.Unreachable s) h = absurd h
-long_kept p a refusal.Endless h = absurd h
-long_kept p a (refusal.MixedInit s) h = absurd h
-long_kept p a (refusal.PartlyMoved s) h = absurd h
-long_kept p a (refusal.Shadowed s) h = absurd h
-long_kept p a (refusal.NotMut s) h = absurd h
-long_kept p a (refusal.Aliased s) h = absurd h
-long_kept p a (refusal.Unfit e) h = absurd h
-long_kept p a (refusal.Region i l k) h = absurd h
-long_kept p a (refusal.Loan x y) h = absurd h
+  long_kept : (p : ProgramTree) → Accepted p → (r : Refusal) → IsTooLong R (fault.Refused r) → IsKept R p r
+  long_kept p a (refusal.Limit which.Bytes n) h = (a, h)
+  long_kept p a refusal.Unconfirmed h = absurd h
+  long_kept p a (refusal.Limit which.Sites n) h = absurd h
+  long_kept p a (refusal.Limit which.Positions n) h = absurd h
+  long_kept p a (refusal.Limit which.Parameters n) h = absurd h
+  long_kept p a (refusal.Limit which.Lifetimes n) h = absurd h
+  long_kept p a (refusal.Limit which.Levels n) h = absurd h
+  long_kept p a (refusal.Limit which.Parts n) h = absurd h
+  long_kept p a refusal.NotARun h = absurd h
+  long_kept p a refusal.BadName h = absurd h
+  long_kept p a refusal.NameTaken h = absurd h
+  long_kept p a (refusal.Unreachable s) h = absurd h
+  long_kept p a refusal.Endless h = absurd h
+  long_kept p a (refusal.MixedInit s) h = absurd h
+  long_kept p a (refusal.PartlyMoved s) h = absurd h
+  long_kept p a (refusal.Shadowed s) h = absurd h
+  long_kept p a (refusal.NotMut s) h = absurd h
+  long_kept p a (refusal.Aliased s) h = absurd h
+  long_kept p a (refusal.Unfit e) h = absurd h
+  long_kept p a (refusal.Region i l k) h = absurd h
+  long_kept p a (refusal.Loan x y) h = absurd h
 
-pub too_long_kept : (p : ProgramTree) → Accepted p → (f : Fault) → IsTooLong p f → IsUnanswered p f
-too_long_kept p a (fault.Refused r) h = long_kept p a r h
-too_long_kept p a fault.OutOfMemory h = tt
-too_long_kept p a (fault.Syntax e) h = absurd h
-too_long_kept p a (fault.NotAccepted e) h = absurd h
+  pub too_long_kept : (p : ProgramTree) → Accepted p → (f : Fault) → IsTooLong R f → IsUnanswered R p f
+  too_long_kept p a (fault.Refused r) h = long_kept p a r h
+  too_long_kept p a fault.OutOfMemory h = tt
+  too_long_kept p a (fault.Syntax e) h = absurd h
+  too_long_kept p a (fault.NotAccepted e) h = absurd h
 
 -- ---- how it ends
 
-past_finished : (p : ProgramTree) (n : ℕ) (f : Fault) → IsUnfronted p f → IsFinished p n (Err f)
-past_finished p n (fault.Refused r) h = inl h
-past_finished p n fault.OutOfMemory h = tt
-past_finished p n (fault.Syntax e) h = absurd h
-past_finished p n (fault.NotAccepted e) h = absurd h
+module _ (R : Bounds → List ℕ → Type 0) where
+  past_finished : (p : ProgramTree) (n : ℕ) (f : Fault) → IsUnfronted p f → IsFinished R p n (Err f)
+  past_finished p n (fault.Refused r) h = inl h
+  past_finished p n fault.OutOfMemory h = tt
+  past_finished p n (fault.Syntax e) h = absurd h
+  past_finished p n (fault.NotAccepted e) h = absurd h
 
-pub unfronted_finished : (p : ProgramTree) (n : ℕ) (f : Fault) → IsUnfronted p f → IsFinished p n (Err f)
-unfronted_finished = past_finished
+  pub unfronted_finished : (p : ProgramTree) (n : ℕ) (f : Fault) → IsUnfronted p f → IsFinished R p n (Err f)
+  unfronted_finished = past_finished
 
-pub fitted_finished : (p : ProgramTree) (n : ℕ) (t : Typed) (g : TypedFn) (bs : List Bound) → Fits p n t g bs → (q : Result Answer Fault)
-    → IfOk q (λ a. IsAnswered (repaired p n bs) bs a) → IfErr q (λ f. IsUnanswered (repaired p n bs) f) → IsFinished p n q
-fitted_finished p n t g bs fits (Ok a) h k = record { types = t; made = g; bounds = bs; fits = fits; answered = h }
-fitted_finished p n t g bs fits (Err (fault.Refused r)) h k = inr (record { types = t; made = g; bounds = bs; fits = fits; kept = k })
-fitted_finished p n t g bs fits (Err fault.OutOfMemory) h k = tt
-fitted_finished p n t g bs fits (Err (fault.Syntax e)) h k = absurd k
-fitted_finished p n t g bs fits (Err (fault.NotAccepted e)) h k = absurd k
+  pub fitted_finished : (p : ProgramTree) (n : ℕ) (t : Typed) (g : TypedFn) (bs : List Bound) → Fits p n t g bs → (q : Result Answer Fault)
+      → IfOk q (λ a. IsAnswered (R (named_at p n bs)) (repaired p n bs) bs a) → IfErr q (λ f. IsUnanswered (R (named_at p n bs)) (repaired p n bs) f) → IsFinished R p n q
+  fitted_finished p n t g bs fits (Ok a) h k = record { types = t; made = g; bounds = bs; fits = fits; answered = h }
+  fitted_finished p n t g bs fits (Err (fault.Refused r)) h k = inr (record { types = t; made = g; bounds = bs; fits = fits; kept = k })
+  fitted_finished p n t g bs fits (Err fault.OutOfMemory) h k = tt
+  fitted_finished p n t g bs fits (Err (fault.Syntax e)) h k = absurd k
+  fitted_finished p n t g bs fits (Err (fault.NotAccepted e)) h k = absurd k

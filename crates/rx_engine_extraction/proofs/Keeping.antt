@@ -24,13 +24,14 @@ use Rattle.rx_repair.proofs.Once.{all_distinct}
 use Rattle.rx_repair.proofs.Written.{still_formed, same_levels}
 use Rattle.rx_engine_extraction.specs.Source.{Text, Wish}
 use Rattle.rx_engine_extraction.specs.Case.{Case, asked}
-use Rattle.rx_engine_extraction.specs.Made.{run_of, named, hoisted, new_item, extracted}
-use Rattle.rx_engine_extraction.specs.Conditions.{Condition, selects, word, reached, unmoved, few_lifetimes, few_levels, few_positions, legal, few_bytes}
+use Rattle.rx_engine_extraction.specs.Made.{run_of, named, hoisted, new_item, named_bounds, extracted}
+use Rattle.rx_engine_extraction.specs.Conditions.{Condition, selects, word, reached, unmoved, few_lifetimes, few_levels, few_positions, legal, few_bytes, confirmed}
 use Rattle.rx_engine_extraction.specs.Meeting.{most_levels, most_lifetimes, Selects, Seated, parts_of, Holds, Fits}
-use Rattle.rx_engine_extraction.specs.Promise.{Extracts, program_of, Keeps}
+use Rattle.rx_engine_extraction.specs.Promise.{Extracts, Keeps}
 use Rattle.rx_engine_extraction.proofs.Answering.{last_within}
 use Rattle.rx_engine_extraction.proofs.Ends.{block_function, all_named}
 use Rattle.rx_engine_extraction.proofs.Orders.{number, earlier}
+use Rattle.rx_engine_extraction.proofs.Rendered.{rendering_read}
 
 module _ (formed : (T : Text) (bytes : List ℕ) (names : List ItemNames) → Lexes bytes T.tokens → Parses bytes T.program → length bytes < 2 ^ 32 → Meant T.program names → IsTyped T.program names T.types
     → (w : Wish) (d : Case) → Selects T w d → is_identifier w.name ≡ true → Seated T d.run d.function d.home → IsExitPlan (asked T d) d.listed → OutsAgree d.listed.exits
@@ -49,8 +50,8 @@ module _ (formed : (T : Text) (bytes : List ℕ) (names : List ItemNames) → Le
     abbrev place : ℕ
     place = new_item T w d
 
-    held : (c : Condition) → number c < number few_bytes → Holds T w d c
-    held c l = (earlier (Holds T w d) c few_bytes l x.stands).it
+    held : (c : Condition) → number c < number confirmed → Holds T w d c
+    held c l = (earlier (Holds T w d) c confirmed l x.stands).it
 
     fits : Fits bare place d.types d.made d.bounds
     fits = held few_positions (omega arith)
@@ -78,13 +79,14 @@ module _ (formed : (T : Text) (bytes : List ℕ) (names : List ItemNames) → Le
     low_whole : levels_of (extracted T w d) ≤ levels
     low_whole = subst (λ (p : ProgramTree). levels_of p ≤ levels) same_whole (subst (λ (m : ℕ). m ≤ levels) (sym (same_levels bare place d.bounds)) low_bare)
 
-    pub kept : Keeps bytes w (print_program (program_of x)) x.case.bounds
-    kept = let read = printed (extracted T w d) formed_whole low_whole in record {
-      extracts = x;
-      rendered = refl;
-      needed = refl;
-      program = read.0;
-      parses = read.1;
-      same = read.2;
-      accepted = held legal (omega arith);
-    }
+    pub kept : Keeps bytes w d.text d.bounds
+    kept = let read = rendering_read T.bytes T.tokens T.program (run_of d.run) (named T w d) (named_bounds T w d)
+        (printed (extracted T w d) formed_whole low_whole) d.text (held few_bytes (omega arith)).0 in record {
+          extracts = x;
+          rendered = refl;
+          needed = refl;
+          program = read.0;
+          parses = read.1;
+          same = read.2;
+          accepted = held legal (omega arith);
+        }

@@ -52,4 +52,5 @@ undecided = record {
   types = record { functions = []; decls = record { items = [] } };
   made = no_function;
   bounds = [];
+  text = [];
 }

@@ -9,7 +9,6 @@ use Rattle.rx_check.specs.declared.fault.CheckFault.{CheckFault}
 use Rattle.rx_check.specs.declared.fault.CheckFault.TheVariants as check
 use Rattle.rx_check.specs.Passes.{Accepted}
 use Rattle.rx_check.specs.Causes.{Causes}
-use Rattle.rx_print_spelling.specs.Items.{print_program}
 use Rattle.rx_engine.proofs.OneFault.{unread_none}
 use Rattle.rx_engine_extraction.specs.declared.refusal.Answer.{Answer}
 use Rattle.rx_engine_extraction.specs.declared.refusal.Fault.{Fault}
@@ -18,7 +17,7 @@ use Rattle.rx_engine_extraction.specs.declared.refusal.Refusal.{Refusal}
 use Rattle.rx_engine_extraction.specs.declared.refusal.Refusal.TheVariants as refusal
 use Rattle.rx_engine_extraction.specs.Alike.{AreOne}
 use Rattle.rx_engine_extraction.specs.Source.{Wish}
-use Rattle.rx_engine_extraction.specs.Promise.{Extracts, Keeps, program_of}
+use Rattle.rx_engine_extraction.specs.Promise.{Extracts, Keeps}
 use Rattle.rx_engine_extraction.specs.Verdict.{IsRefused, Answers}
 use Rattle.rx_rem_command.specs.declared.status.Status.{Status}
 use Rattle.rx_rem_command.specs.declared.status.Status.TheVariants.{Done, OutOfMemory}
@@ -86,12 +85,12 @@ few_bytes : (n : ℕ) → n ≤ 1048576 → n < 2 ^ 32
 few_bytes n h = omega (arith, h)
 
 -- where each condition is met, what it answers of a text that is left to it is the extraction
-pub extraction_moved : ((bytes : List ℕ) (w : Wish) (x : Extracts bytes w) → length bytes < 2 ^ 32 → Keeps bytes w (print_program (program_of x)) x.case.bounds)
+pub extraction_moved : ((bytes : List ℕ) (w : Wish) (x : Extracts bytes w) → length bytes < 2 ^ 32 → Keeps bytes w (x.case.text) x.case.bounds)
     → (words : List (List ℕ)) (text name : List ℕ) (start end : ℕ) (w : Preference) → command_of words ≡ Some (extracts name start end w) → length text ≤ 1048576
-    → IsLeft w text start end name → (x : Extracts text (wish name start end w)) → Defined words text Done (print_program (program_of x)) []
+    → IsLeft w text start end name → (x : Extracts text (wish name start end w)) → Defined words text Done (x.case.text) []
 extraction_moved law words text name start end w e short left x =
-    let a : Answer = record { text = print_program (program_of x); bounds = x.case.bounds } in
+    let a : Answer = record { text = x.case.text; bounds = x.case.bounds } in
     let k = law text (wish name start end w) x (few_bytes (length text) short) in
-    subst (λ (c : Option Command). AnswersTo c text Done (print_program (program_of x)) []) (sym e)
+    subst (λ (c : Option Command). AnswersTo c text Done (x.case.text) []) (sym e)
     (moved x.text.program x.is_text.parses (x.text.types, x.is_text.accepted) left
     (record { result = Ok a; answers = k; found = λ m. cc; status_is = refl; out_is = refl; err_is = refl }))

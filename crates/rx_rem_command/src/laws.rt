@@ -7,7 +7,7 @@ ghost use Rattle.rx_first_check.specs.FirstGrammar.{is_first_program};
 ghost use Rattle.rx_first_select.specs.Run.{Run};
 ghost use Rattle.rx_engine.specs.Promise.{IsExtraction, Names};
 ghost use Rattle.rx_engine.specs.Verdict.{IsNotBuilt};
-ghost use Rattle.rx_engine_extraction.specs.Promise.{Extracts, program_of};
+ghost use Rattle.rx_engine_extraction.specs.Promise.{Extracts};
 ghost use Rattle.rx_rem_command.specs.Forms.{Preference, by_copy, command_of, extracts, checks, runs};
 ghost use Rattle.rx_rem_command.specs.RunLines.{end_status, end_line};
 ghost use Rattle.rx_rem_command.specs.Runs.{Does};
@@ -42,14 +42,14 @@ pub fn one_answer()
 
 /// Where the text is accepted, copies are preferred and no condition of the extraction over the first grammar fails, its canonical text
 /// is the defined answer; the text is not left to the extraction over the whole language. Where a text is left to that, and each of its
-/// conditions is met, its canonical text is the defined answer.
+/// conditions is met, the text of that extraction is the defined answer.
 pub fn extraction_is_defined()
     ensures answer { (words : List (List ℕ)) (text name : List ℕ) (start end : ℕ) (p q : ProgramTree) → command_of words ≡ Some (extracts name start end by_copy)
         → Accepted p → IsExtraction text start end name p q → Defined words text Status.Done (print_program q) [] }
     ensures kept { (words : List (List ℕ)) (text name : List ℕ) (start end : ℕ) (p q : ProgramTree) → command_of words ≡ Some (extracts name start end by_copy)
         → IsExtraction text start end name p q → IsMoved (command_of words) text → ⊥ }
     ensures whole { (words : List (List ℕ)) (text name : List ℕ) (start end : ℕ) (w : Preference) → command_of words ≡ Some (extracts name start end w) → length text ≤ 1048576
-        → IsLeft w text start end name → (x : Extracts text (wish name start end w)) → Defined words text Status.Done (print_program (program_of x)) [] }
+        → IsLeft w text start end name → (x : Extracts text (wish name start end w)) → Defined words text Status.Done (x.case.text) [] }
 {
     extractions_are_answers();
 }

@@ -2,6 +2,7 @@
 
 mod chosen;
 mod kept;
+mod layouts;
 mod least;
 mod limits;
 mod modes;
