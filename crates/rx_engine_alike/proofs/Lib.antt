@@ -3,8 +3,5 @@ pub mod BlockLemmas
 pub mod NumberLemmas
 pub mod LeavingLemmas
 pub mod AlikeLemmas
-pub mod FormLemmas
-pub mod FunctionLemmas
 pub mod GivenLemmas
-pub mod WalkLemmas
 pub mod PatternLemmas

@@ -16,4 +16,3 @@ pub mod PlainWays
 pub mod PlainJumping
 pub mod PlainParts
 pub mod PlainLikeness
-pub mod PlainTarget

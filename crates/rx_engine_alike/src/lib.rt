@@ -1,29 +1,21 @@
-//! Whether typed trees are alike, by their form: a walk over both.
+//! Whether typed trees are alike, by their form: what a walk over both asks of their parts.
 #![tactic(auto)]
 
 mod between;
-mod forms;
-mod functions;
 mod giving;
 mod jumping;
-mod leaves;
 mod leaving;
 mod likeness;
 mod parts;
 mod patterns;
-mod reading;
-mod returning;
 mod same;
 mod sights;
-mod statements;
 mod units;
 mod variables;
 mod views;
 mod ways;
 
 pub use between::{Between, Items, is_item, is_open};
-pub use forms::like_exp;
-pub use functions::{is_like_itself, like_function, plainly, same_item, whole_jumps};
 pub use giving::{
     gives_bare, gives_variant, is_own, is_unit, leads_from, number_of, numbers_of, takes, takes_all,
 };
@@ -32,14 +24,13 @@ pub use jumping::{
     pack_of, same_exit, stays_in,
 };
 pub use leaving::{bound_in_block, gives_pack, part_of_variant};
-pub use likeness::{Hole, Likeness, both, is_alike, where_so};
+pub use likeness::{Hole, Likeness, both, but_open, is_alike, provided, where_so};
 pub use parts::{Bound, Part};
 pub use patterns::{
     all_borrow, binds_value, like_bindings, like_tests, looks_behind, way_of_matched,
 };
 pub use same::{like_making, same_bool, same_constant, same_operator};
 pub use sights::{Hold, How, Seen, is_new, sight_of, with_seen};
-pub use statements::{like_let, like_stmt, like_stmts};
 pub use units::{function_returns_unit, gives_unit, returns_unit};
 pub use variables::{Ways, is_in, like_declared, like_params, with_new};
 pub use views::{may_be_read, views_place, way_of_let};

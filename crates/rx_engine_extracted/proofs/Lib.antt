@@ -4,6 +4,5 @@ pub mod ArmLemmas
 pub mod CallLemmas
 pub mod StretchLemmas
 pub mod EndLemmas
-pub mod TailLemmas
 pub mod BlockLemmas
 pub mod ProgramLemmas

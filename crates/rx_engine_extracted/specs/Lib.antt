@@ -6,9 +6,6 @@ pub mod Arms
 pub mod Calls
 pub mod Ending
 pub mod Block
-pub mod TailEnding
-pub mod TailHanding
-pub mod TailBlock
 pub mod Programs
 pub mod Reading
 pub mod PlainTold
@@ -20,4 +17,3 @@ pub mod PlainStretches
 pub mod PlainEnding
 pub mod PlainBlock
 pub mod PlainPrograms
-pub mod PlainTails

@@ -11,7 +11,7 @@ use Rattle.rx_engine_extracted.specs.declared.told.Told.{Told}
 abbrev pub plain-New : New → passing.New
 plain-New n = record { number = n.number; function = plain-TypedTree n.function.now }
 
--- of the plan's value nothing is asked
+-- a run without its block's tail has no value
 abbrev pub plain-Told : Told → spec.Told
 plain-Told t = record {
   run = plain-Run t.run;

@@ -4,26 +4,20 @@ use Rattle.rx_typed.specs.Tree.{Function}
 use Rattle.rx_meaning.specs.Values.{element}
 use Rattle.rx_meaning.specs.Expressions.{Functions}
 use Rattle.rx_meaning.specs.Programs.{Program}
-use Rattle.rx_engine_alike.specs.Likeness.{Hole, Likeness, unlike, alike, alike_but}
+use Rattle.rx_engine_alike.specs.Likeness.{Likeness, unlike, alike, alike_but}
 use Rattle.rx_engine_alike.specs.Forms.{Between}
 use Rattle.rx_engine_alike.specs.Functions.{like_function, same_item}
 use Rattle.rx_engine_alike.specs.Units.{all_are_unit}
 use Rattle.rx_engine_alike.specs.Variables.{is_in}
 use Rattle.rx_engine_extracted.specs.Told.{Told, ways_in}
 use Rattle.rx_engine_extracted.specs.Block.{block_has_call}
-use Rattle.rx_engine_extracted.specs.TailBlock.{block_has_tail_call}
 
 -- the text's function with the run, whose block is left open
 abbrev pub between_but_run : Told → Between
 between_but_run T = record { items = T.items; ways = ways_in T; units = T.units; outside = []; left_open = Some T.run.block }
 
--- where the run holds its block's tail, or doesn't
-abbrev pub has_call_in : Bool → Told → Hole → Bool
-has_call_in true T h = block_has_tail_call T h
-has_call_in false T h = block_has_call T h
-
 abbrev pub has_call : Told → Likeness → Bool
-has_call T (alike_but h) = has_call_in T.run.tail T h
+has_call T (alike_but h) = block_has_call T h
 has_call T _ = false
 
 abbrev pub function_has_call : Told → Option (Option Function) → Option (Option Function) → Bool

@@ -2,7 +2,7 @@
 -- (Rust Reference, "Statements").
 use Rattle.std.specs.Prelude.{ℕ, Bool, List, [], ◌∷◌, Option, Some, None}
 use Rattle.rx_typed.specs.Tree as tree
-use Rattle.rx_typed.specs.Tree.{Exp, Pattern, Scrutinee, Body}
+use Rattle.rx_typed.specs.Tree.{Exp, Pattern, Body}
 use Rattle.rx_engine_alike.specs.Likeness.{and_then}
 use Rattle.rx_engine_extracted.specs.Handing.{as_assigned}
 
@@ -25,8 +25,3 @@ binds_first _ = None
 abbrev pub runs_first : Body → Option (Exp × Body)
 runs_first (tree.runs e b) = Some (e, b)
 runs_first _ = None
-
--- a `let` with what it matches
-abbrev pub lets_first : Body → Option (Pattern × Scrutinee × Body)
-lets_first (tree.lets n q c b) = Some (q, c, b)
-lets_first _ = None

@@ -20,7 +20,7 @@ ghost use Rattle.rx_engine_extracted.specs.PlainStretches.{passed_in};
 ghost use Rattle.rx_engine_extracted.specs.PlainBlock.{between_with, call_runs as call_runs_of, call_stands as call_stands_of};
 
 use crate::body::block_in;
-use crate::calls::{Called, called_with};
+use crate::calls::{Called, called_by};
 use crate::ending::{End, ran};
 use crate::entering::{Begun, entered};
 use crate::exits::outs_of;
@@ -29,9 +29,9 @@ use crate::stretches::{Passed, all_alike, behind_first, like_first};
 use crate::told::{Told, specials_among, without};
 use rx_core::List;
 use rx_engine_alike::{
-    Between, Hole, Jumping, Leaving, LoopPair, Part, Returning, Seen, Ways, both, like_exp,
-    like_stmts,
+    Between, Hole, Jumping, Leaving, LoopPair, Part, Returning, Seen, Ways, both,
 };
+use rx_engine_alike_walk::{like_exp, like_stmts};
 use rx_exits_plan::Exit;
 use rx_typed::Expr;
 use std::alloc::{AllocError, Global};
@@ -70,10 +70,7 @@ pub(crate) fn between(
 }
 
 /// The jumps around a run, with these loops around it.
-pub(crate) fn jumping_around<'p>(
-    alloc: Global,
-    loops: &[LoopPair],
-) -> Result<Jumping<'p>, AllocError>
+fn jumping_around<'p>(alloc: Global, loops: &[LoopPair]) -> Result<Jumping<'p>, AllocError>
     ensures loops { IfOk result (λ it. it.loops ≡ loops.now) }
     ensures jumps { IfOk result (λ it. (xs : ListOf ℕ) → plain-Jumping xs it ≡ jumps_around it.loops) }
 {
@@ -153,7 +150,7 @@ fn call_runs(
     ensures { IfOk result (λ it. option_map (λ s. plain-Renaming s.items) it
         ≡ call_runs_of (plain-Told told.now) (jumps_around loops.now) (plain-Renaming outer.now) (plain-Part text.entry) (plain-Expr expr.now)) }
 {
-    match called_with(alloc, told, false, loops, outer, expr)? {
+    match called_by(alloc, told, loops, outer, expr)? {
         Some(called) => function_runs(alloc, told, closed, &called, outer, text),
         None => Ok(None),
     }
@@ -248,7 +245,7 @@ fn rest_is_alike(
 }
 
 /// Whether the statements in front of the run are alike; adds what they declare; what is left behind them.
-pub(crate) fn front_alike<'t>(
+fn front_alike<'t>(
     alloc: Global,
     told: &Told<'_>,
     around: &Between,

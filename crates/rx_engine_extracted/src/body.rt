@@ -2,13 +2,12 @@
 
 ghost use Rattle.std.specs.Prelude.{◌≡◌, MatchOption, option_map};
 ghost use Rattle.rx_typed.specs.Tree.{ends};
-ghost use Rattle.rx_typed.specs.PlainTree.{plain-Expr, plain-Matched, plain-Pattern, plain-Stmt};
+ghost use Rattle.rx_typed.specs.PlainTree.{plain-Expr, plain-Pattern, plain-Stmt};
 ghost use Rattle.rx_engine_extracted.specs.Handing.{as_assigned};
 ghost use Rattle.rx_engine_alike.specs.PlainParts.{plain-Part};
 ghost use Rattle.rx_engine_alike.specs.Read.{as_ends};
 ghost use Rattle.rx_engine_extracted.specs.Block.{block_of};
 ghost use Rattle.rx_engine_extracted.specs.Reading as spec;
-ghost use Rattle.rx_engine_extracted.specs.PlainTails.{lets_first as lets_first_of};
 
 use rx_engine_alike::Part;
 use rx_typed::{Expr, Form, Matched, Pattern, Stmt};
@@ -102,20 +101,6 @@ pub(crate) fn binds_first<'t>(body: Part<'t>) -> Option<(&'t Pattern, &'t Expr, 
     match statement {
         Stmt::Lets(_, pattern, Matched::Value(value)) => Some((pattern, value.get(), rest)),
         Stmt::Lets(_, _, Matched::Place(_, _)) => None,
-        Stmt::Runs(_) | Stmt::Declares(_, _) => None,
-    }
-}
-
-/// The pattern of the first statement and what it matches, where it is a `let` with that.
-#[tactic(auto, using(rx_typed::proofs::Rules::typed_tree_rules))]
-pub(crate) fn lets_first<'t>(body: Part<'t>) -> Option<(&'t Pattern, &'t Matched, Part<'t>)>
-    ensures { option_map (λ r. (plain-Pattern r.0.now, plain-Matched r.1.now, plain-Part r.2)) result ≡ lets_first_of (plain-Part body.entry) }
-{
-    let Some((statement, rest)) = first(body) else {
-        return None;
-    };
-    match statement {
-        Stmt::Lets(_, pattern, matched) => Some((pattern, matched, rest)),
         Stmt::Runs(_) | Stmt::Declares(_, _) => None,
     }
 }

@@ -4,7 +4,6 @@ ghost use Rattle.std.specs.Prelude.{◌≡◌, true, false, map, option_map, IfO
 ghost use Rattle.rx_typed.specs.PlainTree.{plain-Arm, plain-Expr, plain-Matched, plain-Operand, arms_of, operands_of};
 ghost use Rattle.rx_exits_plan.specs.PlainPlan.{plain-Exit};
 ghost use Rattle.rx_exits_plan.specs.declared.plan.ExitOuts as listed;
-ghost use Rattle.rx_engine_simulation.specs.Statements.{count as count_of};
 ghost use Rattle.rx_engine_related.specs.Leaving.{returning_if};
 ghost use Rattle.rx_engine_alike.specs.PlainSights.{plain-Renaming};
 ghost use Rattle.rx_engine_alike.specs.PlainJumping.{plain-Returning};
@@ -114,23 +113,15 @@ fn returning_of(unit: bool, variant: Option<usize>) -> Returning
     }
 }
 
-/// How many values the run's end hands out: its variables', and the run's own where it has one.
-fn count(has: bool, outs: &[u32]) -> usize
-    ensures { result ≡ count_of has outs.now }
-{
-    if has { outs.len() + 1 } else { outs.len() }
-}
-
 /// How the new function ends, by the variant of the run's end, if that is an exit.
-fn way_with(
+fn way_to_end(
     alloc: Global,
     told: &Told<'_>,
-    has: bool,
     renaming: &[Seen],
     arms: &[Arm],
     variant: Option<usize>,
 ) -> Result<Option<GivenWay>, AllocError>
-    ensures { IfOk result (λ it. option_map plain-GivenWay it ≡ spec.way_with has (plain-Told told.now) (plain-Renaming renaming.now) (arms_of (map plain-Arm arms.now)) variant) }
+    ensures { IfOk result (λ it. option_map plain-GivenWay it ≡ spec.way_to_end (plain-Told told.now) (plain-Renaming renaming.now) (arms_of (map plain-Arm arms.now)) variant) }
 {
     let Some(variant) = variant else {
         return Ok(Some(GivenWay::NoWay));
@@ -139,7 +130,7 @@ fn way_with(
         return Ok(None);
     };
     let outs = outs_of(told.plan.exits.as_slice(), Exit::Next);
-    if end_arm(alloc, renaming, count(has, outs), arm)? {
+    if end_arm(alloc, renaming, outs.len(), arm)? {
         Ok(Some(GivenWay::AsVariant(variant)))
     } else {
         Ok(None)
@@ -150,13 +141,12 @@ fn way_with(
 fn matched<'t>(
     alloc: Global,
     told: &Told<'t>,
-    has: bool,
     told_here: Match<'_>,
     operands: &'t [Operand],
     arms: &[Arm],
 ) -> Result<Option<Called<'t>>, AllocError>
     ensures { IfOk result (λ it. option_map (plain-Called told.now.elsewhere.now) it
-        ≡ spec.matched_with has (plain-Told told.now) (jumps_around told_here.entry.loops.now) (plain-Renaming told_here.entry.renaming.now) told_here.entry.unit (operands_of
+        ≡ spec.matched (plain-Told told.now) (jumps_around told_here.entry.loops.now) (plain-Renaming told_here.entry.renaming.now) told_here.entry.unit (operands_of
         (map plain-Operand operands.entry.now)) (arms_of (map plain-Arm arms.now))) }
 {
     if !specials_among(told_here.renaming, told.elsewhere) {
@@ -166,7 +156,7 @@ fn matched<'t>(
         return Ok(None);
     }
     let ends = variant_of(told.plan, Exit::Next);
-    let Some(way) = way_with(alloc, told, has, told_here.renaming, arms, ends)? else {
+    let Some(way) = way_to_end(alloc, told, told_here.renaming, arms, ends)? else {
         return Ok(None);
     };
     let returns = variant_of(told.plan, Exit::Return);
@@ -187,13 +177,12 @@ fn matched<'t>(
 fn called_in_match<'t>(
     alloc: Global,
     told: &Told<'t>,
-    has: bool,
     loops: &[LoopPair],
     renaming: &[Seen],
     expr: &'t Expr,
 ) -> Result<Option<Called<'t>>, AllocError>
     ensures { IfOk result (λ it. option_map (plain-Called told.now.elsewhere.now) it
-        ≡ spec.called_in_with has (plain-Told told.now) (jumps_around loops.now) (plain-Renaming renaming.now) false (plain-Expr expr.entry.now)) }
+        ≡ spec.called_in (plain-Told told.now) (jumps_around loops.now) (plain-Renaming renaming.now) false (plain-Expr expr.entry.now)) }
 {
     let Some((subject, arms)) = matches_in(expr) else {
         return Ok(None);
@@ -207,20 +196,19 @@ fn called_in_match<'t>(
         renaming,
         unit,
     };
-    matched(alloc, told, has, told_here, operands, arms)
+    matched(alloc, told, told_here, operands, arms)
 }
 
 /// The call alone.
 fn called_alone<'t>(
     alloc: Global,
     told: &Told<'t>,
-    _has: bool,
     _loops: &[LoopPair],
     _renaming: &[Seen],
     expr: &'t Expr,
 ) -> Option<Called<'t>>
     ensures { option_map (plain-Called told.now.elsewhere.now) result
-        ≡ spec.called_in_with _has (plain-Told told.now) (jumps_around _loops.now) (plain-Renaming _renaming.now) true (plain-Expr expr.entry.now) }
+        ≡ spec.called_in (plain-Told told.now) (jumps_around _loops.now) (plain-Renaming _renaming.now) true (plain-Expr expr.entry.now) }
 {
     match operands_in_call(told.new.number, expr) {
         Some(operands) => Some(Called {
@@ -236,21 +224,20 @@ fn called_alone<'t>(
     }
 }
 
-/// The call of the new function that an expression is, alone or matched; whether the run has a value.
-pub(crate) fn called_with<'t>(
+/// The call of the new function that an expression is, alone or matched.
+pub(crate) fn called_by<'t>(
     alloc: Global,
     told: &Told<'t>,
-    has: bool,
     loops: &[LoopPair],
     renaming: &[Seen],
     expr: &'t Expr,
 ) -> Result<Option<Called<'t>>, AllocError>
     ensures { IfOk result (λ it. option_map (plain-Called told.now.elsewhere.now) it
-        ≡ spec.called_with has (plain-Told told.now) (jumps_around loops.now) (plain-Renaming renaming.now) (plain-Expr expr.entry.now)) }
+        ≡ spec.called_by (plain-Told told.now) (jumps_around loops.now) (plain-Renaming renaming.now) (plain-Expr expr.entry.now)) }
 {
     if is_only_next(told.plan.exits.as_slice()) {
-        Ok(called_alone(alloc, told, has, loops, renaming, expr))
+        Ok(called_alone(alloc, told, loops, renaming, expr))
     } else {
-        called_in_match(alloc, told, has, loops, renaming, expr)
+        called_in_match(alloc, told, loops, renaming, expr)
     }
 }

@@ -22,7 +22,7 @@ use std::alloc::{AllocError, Global};
 
 /// What an expression returns.
 #[tactic(auto, using(rx_typed::proofs::Rules::typed_tree_rules))]
-pub(crate) fn given<'t>(expr: &'t Expr) -> Option<&'t Expr>
+fn given<'t>(expr: &'t Expr) -> Option<&'t Expr>
     ensures { option_map (λ e. plain-Expr e.now) result ≡ given_of (plain-Expr expr.entry.now) }
 {
     match &expr.form {
@@ -35,7 +35,7 @@ pub(crate) fn given<'t>(expr: &'t Expr) -> Option<&'t Expr>
 }
 
 /// What a block without statements returns.
-pub(crate) fn ends_given<'t>(body: Part<'t>) -> Option<&'t Expr>
+fn ends_given<'t>(body: Part<'t>) -> Option<&'t Expr>
     ensures { option_map (λ e. plain-Expr e.now) result ≡ ends_given_of (plain-Part body.entry) }
 {
     match ended(body) {
@@ -66,7 +66,7 @@ fn gives_these(way: GivenWay, numbers: Option<List<u32>>, expr: &Expr) -> bool
 
 /// Whether what is left is what is handed out.
 #[tactic(auto, using(crate::proofs::EndLemmas::outs_rules))]
-pub(crate) fn gives_outs(
+fn gives_outs(
     alloc: Global,
     way: GivenWay,
     renaming: &[Seen],

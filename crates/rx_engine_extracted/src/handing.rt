@@ -19,7 +19,7 @@ use std::alloc::{AllocError, Global};
 
 /// The variable that a value is received in.
 #[tactic(auto, using(rx_typed::proofs::Rules::typed_pattern_rules))]
-pub(crate) fn received_by(pattern: &Pattern) -> Option<u32>
+fn received_by(pattern: &Pattern) -> Option<u32>
     ensures { result ≡ spec.received_by (plain-Pattern pattern.now) }
 {
     match pattern {
@@ -253,7 +253,7 @@ fn hands_one<'t>(
 
 /// The parts of a tuple's pattern.
 #[tactic(auto, using(rx_typed::proofs::Rules::typed_pattern_rules))]
-pub(crate) fn parts_of<'t>(pattern: &'t Pattern) -> Option<&'t [Subpattern]>
+fn parts_of<'t>(pattern: &'t Pattern) -> Option<&'t [Subpattern]>
     ensures { option_map (λ ps. subpatterns_of (map plain-Subpattern ps.now)) result ≡ spec.parts_of (plain-Pattern pattern.entry.now) }
 {
     match pattern {

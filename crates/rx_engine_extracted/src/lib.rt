@@ -11,10 +11,7 @@ mod exits;
 mod handing;
 mod programs;
 mod stretches;
-mod tail_block;
-mod tail_ending;
-mod tail_handing;
 mod told;
 
-pub use programs::{Whole, all_leave_unit, extracts};
+pub use programs::{Whole, extracts};
 pub use told::{New, Told};

@@ -6,18 +6,16 @@ ghost use Rattle.rx_meaning.specs.Values.{element};
 ghost use Rattle.rx_engine_alike.specs.Variables.{is_in as is_in_list};
 ghost use Rattle.rx_engine_alike.specs.Functions as functions;
 ghost use Rattle.rx_engine_alike.specs.Units.{all_are_unit, function_returns_unit as returns_unit_in};
-ghost use Rattle.rx_engine_alike.specs.PlainLikeness.{plain-Hole, plain-Items, plain-Likeness};
+ghost use Rattle.rx_engine_alike.specs.PlainLikeness.{plain-Items, plain-Likeness};
 ghost use Rattle.rx_engine_extracted.specs.Told.{closed_in};
 ghost use Rattle.rx_engine_extracted.specs.Programs as spec;
 ghost use Rattle.rx_engine_extracted.specs.PlainTold.{plain-Told};
 ghost use Rattle.rx_engine_extracted.specs.PlainPrograms.{plain-Tree, plain-Functions, plain-Whole, stays_of, others_from};
 
 use crate::block::{between, block_has_call};
-use crate::tail_block::block_has_tail_call;
 use crate::told::{Told, closed_of};
-use rx_engine_alike::{
-    Hole, Items, Likeness, function_returns_unit, is_in, like_function, same_item,
-};
+use rx_engine_alike::{Items, Likeness, function_returns_unit, is_in};
+use rx_engine_alike_walk::{like_function, same_item};
 use rx_typed::TypedTree;
 use std::alloc::{AllocError, Global};
 
@@ -64,23 +62,6 @@ fn entry<'t>(functions: &'t [Option<&'t TypedTree>], number: usize) -> Option<Op
     }
 }
 
-/// Whether the block of the run has the call, where the run holds its tail or doesn't.
-fn has_call_in(
-    alloc: Global,
-    told: &Told<'_>,
-    closed: &[u32],
-    hole: &Hole<'_>,
-) -> Result<bool, AllocError>
-    requires { closed.now ≡ closed_in (plain-Told told.now) }
-    ensures { IfOk result (λ it. it ≡ spec.has_call_in told.now.run.tail (plain-Told told.now) (plain-Hole hole.now)) }
-{
-    if told.run.tail {
-        block_has_tail_call(alloc, told, closed, hole)
-    } else {
-        block_has_call(alloc, told, closed, hole)
-    }
-}
-
 /// Whether the block that was left open has the call.
 fn has_call(
     alloc: Global,
@@ -92,7 +73,7 @@ fn has_call(
     ensures { IfOk result (λ it. it ≡ spec.has_call (plain-Told told.now) (plain-Likeness found.now)) }
 {
     match found {
-        Likeness::But(hole) => has_call_in(alloc, told, closed, hole),
+        Likeness::But(hole) => block_has_call(alloc, told, closed, hole),
         Likeness::Unlike | Likeness::Alike => Ok(false),
     }
 }
@@ -199,8 +180,8 @@ fn leaves_unit(functions: &[Option<&TypedTree>], units: &[u32], number: u32) -> 
     }
 }
 
-/// Whether each of these functions of the text leaves by returns of the unit.
-pub fn all_leave_unit(functions: &[Option<&TypedTree>], units: &[u32], numbers: &[u32]) -> bool
+/// Whether each of these functions does.
+fn all_leave_unit(functions: &[Option<&TypedTree>], units: &[u32], numbers: &[u32]) -> bool
     ensures { result ≡ all_are_unit (plain-Functions functions.now) units.now numbers.now }
 {
     for number in numbers {

@@ -14,9 +14,9 @@ ghost use Rattle.rx_engine_extracted.specs.PlainStretches.{passed_in, first_alik
 use crate::body::first;
 use rx_core::LetGo;
 use rx_engine_alike::{
-    Between, Jumping, Likeness, Part, Seen, is_alike, like_bindings, like_declared, like_exp,
-    like_let, way_of_let,
+    Between, Jumping, Likeness, Part, Seen, is_alike, like_bindings, like_declared, way_of_let,
 };
+use rx_engine_alike_walk::{like_exp, like_let};
 use rx_typed::{Expr, Matched, Pattern, Stmt};
 use std::alloc::{AllocError, Global};
 

@@ -23,6 +23,7 @@ pub struct New<'t> {
 /// What is told where it is to be seen whether an answer is the extraction.
 #[derive(Clone, Copy)]
 pub struct Told<'t> {
+    /// Without its block's tail.
     pub run: Run,
     /// The loops around it.
     pub around: &'t [u32],

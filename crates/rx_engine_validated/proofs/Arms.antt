@@ -10,7 +10,6 @@ use Rattle.rx_engine_simulation.specs.Arrivals.{Within}
 use Rattle.rx_engine_simulation.specs.Jumps.{Returning, as_return, Jumping, loop_of}
 use Rattle.rx_engine_simulation.specs.Packing.{bare, Takes, Gives, Receives, AreNew}
 use Rattle.rx_engine_simulation.specs.Handing.{Receiving, received_none, received_and}
-use Rattle.rx_engine_simulation.specs.Statements.{count}
 use Rattle.rx_engine_simulation.specs.Variants.{JumpsBehind, jumps_alone, jumps_last, AllSpecial}
 use Rattle.rx_engine_simulation.specs.Rereads.{Rereads, same_jump, in_give, in_block, RereadsBody}
 use Rattle.rx_engine_simulation.proofs.Rereads.{self_body}
@@ -36,11 +35,11 @@ numbers_so : {Q : Type 0} {P : List ℕ → Type 0} {o : Option (List ℕ)} {f :
 numbers_so (kept {a = qs} p) g = g qs p
 numbers_so nothing g = silent
 
-pub renaming_so : {Q : Type 0} {P : Renaming → Type 0} {o : Option Renaming} {f : Renaming → Bool} → Promised P o → ((R : Renaming) → P R → Says Q (f R)) → Says Q (is_renaming o f)
+renaming_so : {Q : Type 0} {P : Renaming → Type 0} {o : Option Renaming} {f : Renaming → Bool} → Promised P o → ((R : Renaming) → P R → Says Q (f R)) → Says Q (is_renaming o f)
 renaming_so (kept {a = R} p) g = g R p
 renaming_so nothing g = silent
 
-pub is_put_so : {Q : Type 0} {P : Put → Type 0} {o : Option Put} {f : Put → Bool} → Promised P o → ((D : Put) → P D → Says Q (f D)) → Says Q (is_put o f)
+is_put_so : {Q : Type 0} {P : Put → Type 0} {o : Option Put} {f : Put → Bool} → Promised P o → ((D : Put) → P D → Says Q (f D)) → Says Q (is_put o f)
 is_put_so (kept {a = D} p) g = g D p
 is_put_so nothing g = silent
 
@@ -60,7 +59,7 @@ jumps_to_so d again _ = silent
 data JumpsLast (d : Option ℕ) (again : Bool) : Body → Type 0 where
   last_so : {mj mu : Mark} {k : ℕ} → d ≡ Some k → JumpsLast d again (tree.runs (tree.jump mj k again) (tree.ends (tree.unit mu)))
 
-pub unit_so : (e : Exp) → Says ((m : Mark) × (e ≡ tree.unit m)) (is_unit e)
+unit_so : (e : Exp) → Says ((m : Mark) × (e ≡ tree.unit m)) (is_unit e)
 unit_so (tree.unit m) = says (m, refl)
 unit_so _ = silent
 
@@ -76,14 +75,14 @@ jumps_last_so d again (tree.ends e) = silent
 jumps_last_so d again (tree.declares n xs b) = silent
 jumps_last_so d again (tree.lets n q c b) = silent
 
-pub within_without : (R : Renaming) → Within R (without [] R)
+within_without : (R : Renaming) → Within R (without [] R)
 within_without R x e s = subst (λ S. sight_of S x ≡ Some e) (sym (without_none R)) s
   where
     without_none : (R : Renaming) → without [] R ≡ R
     without_none [] = refl
     without_none (b ∷ R) = ap (λ S. b ∷ S) (without_none R)
 
-module _ (A : Asked) (T : Told) (has unit : Bool) (J : Jumping) (R : Renaming) where
+module _ (A : Asked) (T : Told) (unit : Bool) (J : Jumping) (R : Renaming) where
   -- ---- a jump's arm puts back what is handed out, and jumps
 
   pub data GoesBack (outs : List ℕ) (l : ℕ) (again : Bool) (ps : Subpatterns) (e : Exp) : Type 0 where
@@ -184,7 +183,7 @@ module _ (A : Asked) (T : Told) (has unit : Bool) (J : Jumping) (R : Renaming) w
 
   -- what its arm does
   abbrev pub Does : Exit → Subpatterns → Exp → Type 0
-  Does next ps e = EndsSo (count has (T.plan.outs next)) ps e
+  Does next ps e = EndsSo (length (T.plan.outs next)) ps e
   Does (breaks n) ps e = GoesBack (T.plan.outs (breaks n)) n false ps e
   Does (continues n) ps e = GoesBack (T.plan.outs (continues n)) n true ps e
   Does returns ps e = Returned unit ps e

@@ -57,7 +57,7 @@ put_so : {P : Put → Type 0} {Q : Type 0} {o : Option Put} {f : Put → Bool} �
 put_so (kept {a = D} p) g = g D p
 put_so nothing g = silent
 
-pub block_so : (e : Exp) → Promised (λ b. (m : Mark) × (tree.block m b ≡ e)) (block_of e)
+block_so : (e : Exp) → Promised (λ b. (m : Mark) × (tree.block m b ≡ e)) (block_of e)
 block_so (tree.block m b) = kept (m, refl)
 block_so _ = nothing
 
@@ -76,7 +76,7 @@ not_next (call_matched {v = v} unit has arms picks receives new gives many) q = 
 not_next (call_left unit none arms) q = none
 
 -- variables without a value stand in front of what is read
-pub with_locals_read : (ls : List (ℕ × ℕ)) {b c : Body} → RereadsBody b c → RereadsBody (with_locals ls b) (with_locals ls c)
+with_locals_read : (ls : List (ℕ × ℕ)) {b c : Body} → RereadsBody b c → RereadsBody (with_locals ls b) (with_locals ls c)
 with_locals_read [] z = z
 with_locals_read (l ∷ ls) z = in_declare (with_locals_read ls z)
 

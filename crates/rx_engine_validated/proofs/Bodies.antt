@@ -60,7 +60,7 @@ closed_is (does e ∷ ss) p b = ap (λ c. tree.runs e c) (closed_is ss p b)
 closed_is (begins s xs ∷ ss) p b = ap (λ c. tree.declares s xs c) (closed_is ss p b)
 closed_is (binds s q c ∷ ss) p b = ap (λ d. tree.lets s q c d) (closed_is ss p b)
 
-pub reading_is : (xs : List ℕ) (r : Stretch) (b : Body) → stretch.before (reading xs r) b ≡ before (map using xs) (stretch.before r b)
+reading_is : (xs : List ℕ) (r : Stretch) (b : Body) → stretch.before (reading xs r) b ≡ before (map using xs) (stretch.before r b)
 reading_is [] r b = refl
 reading_is (x ∷ xs) r b = ap (λ c. tree.runs (tree.read (at_point enters) false (own x)) c) (reading_is xs r b)
 

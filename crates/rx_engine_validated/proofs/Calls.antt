@@ -1,6 +1,6 @@
 -- Where an expression is found to be the call of the new function, or the match of what it gives, it is that: with the arms read so that each
 -- does as the text at its exit.
-use Rattle.std.proofs.Common.{◌≡◌, ℕ, suc, ◌+◌, ◌==◌, Bool, true, false, List, [], ◌∷◌, Option, Some, None, if◌then◌else◌, slice_get, refl, ap, ◌∙◌, sym, subst, arith, eq-eqb}
+use Rattle.std.proofs.Common.{◌≡◌, ℕ, suc, ◌+◌, ◌==◌, Bool, true, false, List, [], ◌∷◌, length, Option, Some, None, if◌then◌else◌, slice_get, refl, ap, ◌∙◌, sym, subst, arith, eq-eqb}
 use Rattle.std.proofs.lemmas.Bool.Decides.{Decides-eqb}
 use Rattle.rx_typed.specs.Tree as tree
 use Rattle.rx_typed.specs.Tree.{Mark, Subpatterns, Exp, Operands, Scrutinee, Arms}
@@ -12,23 +12,21 @@ use Rattle.rx_engine_simulation.specs.Sights.{In, special, sight, Renaming, sigh
 use Rattle.rx_engine_simulation.specs.Jumps.{Pack, Jumping, loop_of}
 use Rattle.rx_engine_simulation.specs.Packing.{Way, bare, as_variant, no_way, Picks}
 use Rattle.rx_engine_simulation.specs.Passing.{inner_jumps}
-use Rattle.rx_engine_simulation.specs.Statements.{count}
 use Rattle.rx_engine_simulation.specs.Variants.{unit_arm, value_arm, ReturnsOn}
 use Rattle.rx_engine_simulation.specs.Rereads.{Rereads, in_call, in_choose, in_value_of}
 use Rattle.rx_engine_simulation.proofs.Rereads.{self_exp}
 use Rattle.rx_engine_related.specs.AboutRun.{special_of}
 use Rattle.rx_engine_related.specs.Leaving.{place_from, variant_for, pack_if, packed, returning_if, BackArm, back_arm, jumps_of, ArmsOf}
 use Rattle.rx_engine_related.specs.Standing.{CallOf, call_alone, call_matched, call_left}
-use Rattle.rx_engine_related.specs.Tails.{TailCallOf, tail_call_alone, tail_call_matched, tail_call_left}
 use Rattle.rx_engine_related.proofs.Leaving.{variant_among}
 use Rattle.rx_engine_alike.specs.Leaving.{is_number}
 use Rattle.rx_engine_extracted.specs.Told.{Told}
 use Rattle.rx_engine_extracted.specs.Arms.{Arm, arm_for, is_arm, exit_arms, gives_unit_by, end_arm}
-use Rattle.rx_engine_extracted.specs.Calls.{Called, operands_of, operands_in, is_only_next, jumps_in, way_with, matched_with, called_in_with, called_with, called_by}
+use Rattle.rx_engine_extracted.specs.Calls.{operands_of, operands_in, is_only_next, jumps_in, way_to_end, matched, called_in, called_by}
 use Rattle.rx_engine_alike_laws.proofs.Promised.{Promised, kept, nothing, Says, says, silent, said, map_so, then_so, where_so, so, and_so, equal_so}
 use Rattle.rx_engine_alike_laws.proofs.Leaving.{number_is}
 use Rattle.rx_engine_alike_laws.proofs.Giving.{Reread, reread}
-use Rattle.rx_engine_validated.proofs.ExtractedLawsParts.{CalledSo, called_so, CallsSo, TailCalledSo, tail_called_so, TailCallsSo}
+use Rattle.rx_engine_validated.proofs.ExtractedLawsParts.{called_so, CallsSo}
 use Rattle.rx_engine_validated.proofs.Seeing.{some_same, none_some, specials_among_so}
 use Rattle.rx_engine_validated.proofs.Picking.{Asking, AllRead, PickedSo, picked_so, Together, together, all_at_once}
 use Rattle.rx_engine_validated.proofs.Arms.{goes_back_by, returns_unit, returns_value, Returned, ends_so, end_so, Does, ArmThere, arm_there, exits_so}
@@ -80,15 +78,15 @@ pack_is : (xs : List ℕ) (o : Option ℕ) {p : Pack} → pack_if xs o ≡ Some 
 pack_is xs None q = absurd (none_some q)
 pack_is xs (Some v) q = (v, refl, sym (some_same q))
 
-module _ (A : Asked) (T : Told) (elsewhere : T.elsewhere ≡ special_of A T.plan) (has : Bool) where
+module _ (A : Asked) (T : Told) (elsewhere : T.elsewhere ≡ special_of A T.plan) where
   -- ---- the match
 
   module _ (unit : Bool) (J : Jumping) (R : Renaming) (l : Arms) where
     abbrev There : Exit → ℕ → Type 0
-    There x v = ArmThere A T has unit J R l x v
+    There x v = ArmThere A T unit J R l x v
 
     abbrev DoesSo : Exit → Subpatterns → Exp → Type 0
-    DoesSo x ps e = Does A T has unit J R x ps e
+    DoesSo x ps e = Does A T unit J R x ps e
 
     -- what the arm of a variant is to do: as its exit, if there is one
     abbrev Wanted : Asking
@@ -165,7 +163,7 @@ module _ (A : Asked) (T : Told) (elsewhere : T.elsewhere ≡ special_of A T.plan
       jumps_so n again p q = let i = pack_is (T.plan.outs (jump_exit n again)) (variant_for T.plan (jump_exit n again)) q in
           subst (λ p. (mj : Mark) × (d : ℕ) × (loop_of J.loops n ≡ Some d) × BackArm A T.muts T.plan R k p (tree.jump mj d again)) (sym i.2) (back_so n again i.0 i.1)
 
-      returned_so : (u : Bool) (v : ℕ) {ps : Subpatterns} {e : Exp} → Picks k v ps e → Returned A T has unit J R u ps e → ReturnsOn J R k (returning_if u (Some v))
+      returned_so : (u : Bool) (v : ℕ) {ps : Subpatterns} {e : Exp} → Picks k v ps e → Returned A T unit J R u ps e → ReturnsOn J R k (returning_if u (Some v))
       returned_so true v q (returns_unit r g) = (r, unit_arm g q)
       returned_so false v q (returns_value r n c t) = (r, value_arm n c t q)
 
@@ -188,25 +186,25 @@ module _ (A : Asked) (T : Told) (elsewhere : T.elsewhere ≡ special_of A T.plan
       no_end : variant_for T.plan next ≡ None → EndsBy no_way
       end_by : (v : ℕ) → variant_for T.plan next ≡ Some v → There next v → EndsBy (as_variant v)
 
-    way_so : (o : Option ℕ) → variant_for T.plan next ≡ o → Promised (λ w. EndsBy w) (way_with has T R l o)
+    way_so : (o : Option ℕ) → variant_for T.plan next ≡ o → Promised (λ w. EndsBy w) (way_to_end T R l o)
     way_so None q = kept (no_end q)
     way_so (Some v) q = where_so (by (arm_for v l) refl) (λ t. kept (end_by v q t))
       where
-        by : (o : Option Arm) → arm_for v l ≡ o → Says (There next v) (is_arm o (λ a. end_arm R (count has (T.plan.outs next)) a))
+        by : (o : Option Arm) → arm_for v l ≡ o → Says (There next v) (is_arm o (λ a. end_arm R (length (T.plan.outs next)) a))
         by None i = silent
-        by (Some a) i = so (λ r. arm_there a i r) (end_so A T has unit J R (count has (T.plan.outs next)) a)
+        by (Some a) i = so (λ r. arm_there a i r) (end_so A T unit J R (length (T.plan.outs next)) a)
 
     ends_there : {w : Way} → EndsBy w → (v : ℕ) → variant_for T.plan next ≡ Some v → There next v
     ends_there (no_end q) v p = absurd (none_some (sym q ∙ p))
     ends_there (end_by u q t) v p = subst (λ v. There next v) (some_same (sym q ∙ p)) t
 
     call_by : {w : Way} {m : Mark} {called : Exp} (k : Arms) → EndsBy w → AllPicked k → ArmsOf A T.muts T.plan unit J R k
-        → TailCallOf A T.muts T.plan J R called has (jumps_of A T.plan unit) w (tree.choose m (tree.of_value called) k)
-    call_by k (no_end q) all arms = tail_call_left unit (λ i. not_placed 0 T.plan.exits q i) arms
+        → CallOf A T.muts T.plan J R called (jumps_of A T.plan unit) w (tree.choose m (tree.of_value called) k)
+    call_by k (no_end q) all arms = call_left unit (λ i. not_placed 0 T.plan.exits q i) arms
     call_by {m = m} {called = called} k (end_by v q t) all arms = by (all next v q)
       where
-        by : PickedFor k next v → TailCallOf A T.muts T.plan J R called has (jumps_of A T.plan unit) (as_variant v) (tree.choose m (tree.of_value called) k)
-        by (picked_for p (ends_so c w g n)) = tail_call_matched unit q arms p c w g n
+        by : PickedFor k next v → CallOf A T.muts T.plan J R called (jumps_of A T.plan unit) (as_variant v) (tree.choose m (tree.of_value called) k)
+        by (picked_for p (ends_so c w g n)) = call_matched unit q arms p c w g n
 
     same_jumps : jumps_of A T.plan unit ≡ jumps_in T unit
     same_jumps = ap (λ dead. record { loops = []; leaving = λ l again. packed T.plan l again; returning = returning_if unit (variant_for T.plan returns); dead = dead }) (sym elsewhere)
@@ -223,11 +221,11 @@ module _ (A : Asked) (T : Told) (elsewhere : T.elsewhere ≡ special_of A T.plan
 
     -- the match of a call with these operands, where the function ends so
     abbrev IsMatch : Mark → Mark → Operands → Way → Type 0
-    IsMatch m mc es w = TailCallsSo A T has J R (tree.choose m (tree.of_value (tree.call mc T.new.number es)) l) (record { operands = es; jumping = jumps_in T unit; way = w })
+    IsMatch m mc es w = CallsSo A T J R (tree.choose m (tree.of_value (tree.call mc T.new.number es)) l) (record { operands = es; jumping = jumps_in T unit; way = w })
 
     match_read : {es : Operands} {w : Way} (m mc : Mark) → EndsBy w → MayBeElsewhere → AllThere → Together Wanted l → IsMatch m mc es w
-    match_read {w = w} m mc e s f (together k r g) = λ fs q. tail_called_so {mc = mc} (in_choose (in_value_of (in_call q)) r)
-        (subst (λ jumps. TailCallOf A T.muts T.plan J R (tree.call mc T.new.number fs) has jumps w (tree.choose m (tree.of_value (tree.call mc T.new.number fs)) k)) same_jumps
+    match_read {w = w} m mc e s f (together k r g) = λ fs q. called_so {mc = mc} (in_choose (in_value_of (in_call q)) r)
+        (subst (λ jumps. CallOf A T.muts T.plan J R (tree.call mc T.new.number fs) jumps w (tree.choose m (tree.of_value (tree.call mc T.new.number fs)) k)) same_jumps
         (call_by k e (all_picked f g) (arms_so k (all_picked f g) s)))
 
     match_so : {es : Operands} {w : Way} (m mc : Mark) → Tested → EndsBy w → IsMatch m mc es w
@@ -240,9 +238,9 @@ module _ (A : Asked) (T : Told) (elsewhere : T.elsewhere ≡ special_of A T.plan
     under true f = says (λ h. said true (f h) refl)
     under false f = silent
 
-    pub matched_so : (m mc : Mark) (es : Operands) → Promised (λ K. TailCallsSo A T has J R (tree.choose m (tree.of_value (tree.call mc T.new.number es)) l) K) (matched_with has T J R unit es l)
+    pub matched_so : (m mc : Mark) (es : Operands) → Promised (λ K. CallsSo A T J R (tree.choose m (tree.of_value (tree.call mc T.new.number es)) l) K) (matched T J R unit es l)
     matched_so m mc es = where_so
-        (and_so (specials_among_so R T.elsewhere) (under (exit_arms T unit J R l T.plan.exits) (λ (h : EndsThere). exits_so A T has unit J R l h T.plan.exits)) (λ s f. tested s f))
+        (and_so (specials_among_so R T.elsewhere) (under (exit_arms T unit J R l T.plan.exits) (λ (h : EndsThere). exits_so A T unit J R l h T.plan.exits)) (λ s f. tested s f))
         (λ t. then_so (way_so (variant_for T.plan next) refl) (λ w e. kept (match_so m mc t e)))
 
   -- ---- the call, alone or matched
@@ -269,31 +267,17 @@ module _ (A : Asked) (T : Told) (elsewhere : T.elsewhere ≡ special_of A T.plan
   only_next_so _ = silent
 
   alone_so : {J : Jumping} {R : Renaming} {es : Operands} {e : Exp} → T.plan.exits ≡ next ∷ [] → IsCall T.new.number es e
-      → TailCallsSo A T has J R e (record { operands = es; jumping = inner_jumps; way = bare })
-  alone_so q (is_call {m = m}) = λ fs r. tail_called_so {mc = m} (in_call r) (tail_call_alone q)
+      → CallsSo A T J R e (record { operands = es; jumping = inner_jumps; way = bare })
+  alone_so q (is_call {m = m}) = λ fs r. called_so {mc = m} (in_call r) (call_alone q)
 
   then_matched : {J : Jumping} {R : Renaming} (m : Mark) {es : Operands} {c : Scrutinee} (l : Arms) → IsCallOf T.new.number es c
-      → Promised (λ K. TailCallsSo A T has J R (tree.choose m c l) K) (matched_with has T J R (gives_unit_by (variant_for T.plan returns) l) es l)
+      → Promised (λ K. CallsSo A T J R (tree.choose m c l) K) (matched T J R (gives_unit_by (variant_for T.plan returns) l) es l)
   then_matched {J} {R} m {es} l (is_call_of {m = mc}) = matched_so (gives_unit_by (variant_for T.plan returns) l) J R l m mc es
 
-  called_in_so : (J : Jumping) (R : Renaming) (b : Bool) → Says (T.plan.exits ≡ next ∷ []) b → (e : Exp) → Promised (λ K. TailCallsSo A T has J R e K) (called_in_with has T J R b e)
+  called_in_so : (J : Jumping) (R : Renaming) (b : Bool) → Says (T.plan.exits ≡ next ∷ []) b → (e : Exp) → Promised (λ K. CallsSo A T J R e K) (called_in T J R b e)
   called_in_so J R true (says q) e = then_so (operands_so T.new.number e) (λ es i. kept (alone_so q i))
   called_in_so J R false silent (tree.choose m c l) = then_so (operands_in_so T.new.number c) (λ es i. then_matched m l i)
   called_in_so J R false silent _ = nothing
 
-  pub tail_calls_so : (J : Jumping) (R : Renaming) (e : Exp) → Promised (λ K. TailCallsSo A T has J R e K) (called_with has T J R e)
-  tail_calls_so J R e = called_in_so J R (is_only_next T.plan.exits) (only_next_so T.plan.exits) e
-
--- ---- where the run has no value
-
-without_value : {A : Asked} {muts : List Bool} {k : Plan} {J Ji : Jumping} {R : Renaming} {called e : Exp} {w : Way} → TailCallOf A muts k J R called false Ji w e → CallOf A muts k J R called Ji w e
-without_value (tail_call_alone only) = call_alone only
-without_value (tail_call_matched unit q arms p c w g n) = call_matched unit q arms p c w g n
-without_value (tail_call_left unit none arms) = call_left unit none arms
-
-called_without : {A : Asked} {T : Told} {J : Jumping} {R : Renaming} {e : Exp} {K : Called} {fs : Operands} → TailCalledSo A T false J R e K fs → CalledSo A T J R e K fs
-called_without (tail_called_so z call) = called_so z (without_value call)
-
-module _ (A : Asked) (T : Told) (elsewhere : T.elsewhere ≡ special_of A T.plan) where
   pub calls_so : (J : Jumping) (R : Renaming) (e : Exp) → Promised (λ K. CallsSo A T J R e K) (called_by T J R e)
-  calls_so J R e = map_so (λ K calls. λ fs r. called_without (calls fs r)) (tail_calls_so A T elsewhere false J R e)
+  calls_so J R e = called_in_so J R (is_only_next T.plan.exits) (only_next_so T.plan.exits) e

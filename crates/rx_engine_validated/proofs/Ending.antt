@@ -52,7 +52,7 @@ pub data Divided (ss : List Statement) : Last → Stretch → Type 0 where
   all_in_front : Divided ss none_left (stretch_of ss)
   last_behind : {e : Exp} (front : List Statement) → ss ≡ front ++ does e ∷ [] → Divided ss (a_marked e (leaves next)) (stretch_of front)
 
-pub these_so : {Q : Type 0} {P : List ℕ → Type 0} {o : Option (List ℕ)} {f : List ℕ → Bool} → Promised P o → ((zs : List ℕ) → P zs → Says Q (f zs)) → Says Q (if_these o f)
+these_so : {Q : Type 0} {P : List ℕ → Type 0} {o : Option (List ℕ)} {f : List ℕ → Bool} → Promised P o → ((zs : List ℕ) → P zs → Says Q (f zs)) → Says Q (if_these o f)
 these_so (kept {a = zs} p) g = g zs p
 these_so nothing g = silent
 

@@ -15,30 +15,30 @@ use Rattle.rx_engine_alike.specs.Items.{items_with}
 use Rattle.rx_engine_extracted.specs.Told.{Told}
 use Rattle.rx_engine_extracted.specs.Programs.{extracts}
 
-abbrev pub m : ℕ → Mark
+abbrev m : ℕ → Mark
 m n = record { node = n; typ = None }
 
-abbrev pub number : ℕ → ℕ → Exp
+abbrev number : ℕ → ℕ → Exp
 number n z = tree.build (m n) (tree.constant (tree.whole_number Kind.I64 (pos z))) tree.no_operand
 
 -- one function, and one that calls a new one
-abbrev pub alone : Function → Program
+abbrev alone : Function → Program
 alone f = record { functions = Some f ∷ []; main = 0 }
 
-abbrev pub pair_of : Function → Function → Program
+abbrev pair_of : Function → Function → Program
 pair_of f g = record { functions = Some f ∷ Some g ∷ []; main = 0 }
 
 -- ---- a local
 
 -- println!("{}", a);
-abbrev pub rest : Body
+abbrev rest : Body
 rest = tree.runs (tree.print (m 7) (tree.read (m 8) false (own 0))) (tree.ends (tree.give (m 1) (tree.unit (m 1))))
 
 -- let mut a; a = 7; println!("{}", a);
 abbrev main_text : Function
 main_text = record { params = []; body = tree.block (m 1) (tree.declares 2 (0 ∷ []) (tree.runs (tree.assign (m 5) (own 0) (number 6 7)) rest)) }
 
-abbrev pub local_out : Exit → List ℕ
+abbrev local_out : Exit → List ℕ
 local_out next = 0 ∷ []
 local_out _ = []
 

@@ -1,6 +1,6 @@
 -- What is asked of the parts of a call: of each that is found, what the extraction has it; with the answer's trees in which some references are
 -- read that it asks for again.
-use Rattle.std.specs.Prelude.{◌≡◌, ℕ, Bool, true, List}
+use Rattle.std.specs.Prelude.{◌≡◌, ℕ, true, List}
 use Rattle.rx_typed.specs.Tree as tree
 use Rattle.rx_typed.specs.Tree.{Mark, Exp, Operands, Body}
 use Rattle.rx_exits_plan.specs.Points.{next}
@@ -14,7 +14,6 @@ use Rattle.rx_engine_related.specs.Premises.{NotHanded}
 use Rattle.rx_engine_related.specs.Given.{EntersWith}
 use Rattle.rx_engine_related.specs.Handed.{HandsBack, Redeclared}
 use Rattle.rx_engine_related.specs.Standing.{CallOf}
-use Rattle.rx_engine_related.specs.Tails.{TailCallOf}
 use Rattle.rx_engine_alike_laws.proofs.Promised.{Promised, Says}
 use Rattle.rx_engine_extracted.specs.Told.{Told, specials_among, without}
 use Rattle.rx_engine_extracted.specs.Entering.{Begun, entered}
@@ -41,13 +40,6 @@ pub data CalledSo (A : Asked) (T : Told) (J : Jumping) (R : Renaming) (e : Exp) 
 
 abbrev pub CallsSo : Asked → Told → Jumping → Renaming → Exp → Called → Type 0
 CallsSo A T J R e K = (fs : Operands) → RereadsAll K.operands fs → CalledSo A T J R e K fs
-
--- where the run has a value, or hasn't
-pub data TailCalledSo (A : Asked) (T : Told) (has : Bool) (J : Jumping) (R : Renaming) (e : Exp) (K : Called) (fs : Operands) : Type 0 where
-  tail_called_so : {called : Exp} {mc : Mark} → Rereads e called → TailCallOf A T.muts T.plan J R (tree.call mc T.new.number fs) has K.jumping K.way called → TailCalledSo A T has J R e K fs
-
-abbrev pub TailCallsSo : Asked → Told → Bool → Jumping → Renaming → Exp → Called → Type 0
-TailCallsSo A T has J R e K = (fs : Operands) → RereadsAll K.operands fs → TailCalledSo A T has J R e K fs
 
 pub record Parts (A : Asked) (T : Told) : Type 0 where
   pub enters : (R : Renaming) (es : Operands) (b : Body) → Promised (λ B. EnteredSo T R es b B) (entered T R es b)

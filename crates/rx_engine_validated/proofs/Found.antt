@@ -14,7 +14,7 @@ use Rattle.rx_engine_validated.proofs.Handing.{hands_so, declares_so, within_so}
 use Rattle.rx_engine_validated.proofs.Calls.{calls_so}
 
 module _ (A : Asked) (T : Told) (elsewhere : T.elsewhere ≡ special_of A T.plan) where
-  pub not_handed_so : (R : Renaming) → Says (NotHanded A T.plan next (without (T.plan.outs next) R)) (specials_among R T.elsewhere)
+  not_handed_so : (R : Renaming) → Says (NotHanded A T.plan next (without (T.plan.outs next) R)) (specials_among R T.elsewhere)
   not_handed_so R = so (λ f x y s. by f x y s) (specials_among_so R T.elsewhere)
     where
       by : ((x y : ℕ) → sight_of R x ≡ Some (sight y special) → In x T.elsewhere) → NotHanded A T.plan next (without (T.plan.outs next) R)

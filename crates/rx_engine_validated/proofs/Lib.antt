@@ -12,15 +12,8 @@ pub mod Ending
 pub mod Bodies
 pub mod Block
 pub mod Holes
-pub mod Joining
 pub mod ExtractedLawsPrograms
-pub mod TailEnding
-pub mod TailHanding
-pub mod TailValued
-pub mod TailBlock
-pub mod TailPrograms
 pub mod Examples
-pub mod ExamplesOfTails
 pub mod Functions
 pub mod Blocks
 pub mod InStep
@@ -38,10 +31,8 @@ pub mod Marked
 pub mod Elaborated
 pub mod Spotted
 pub mod Runs
-pub mod TailRuns
 pub mod References
 pub mod Itself
 pub mod Units
 pub mod UnitFunctions
 pub mod MarkedUnits
-pub mod FoundRuns

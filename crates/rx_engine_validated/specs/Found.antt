@@ -1,6 +1,6 @@
 -- An answer that is found to be the extraction of a run (translation validation: what a transformation gave is tested, once and for each answer):
--- of an accepted text, with the plan of a run in it that isn't refused, with its block's tail or without, and of an accepted answer.
-use Rattle.std.specs.Prelude.{◌≡◌, ℕ, true, Some, None}
+-- of an accepted text, with the plan of a run in it that isn't refused, and of an accepted answer.
+use Rattle.std.specs.Prelude.{◌≡◌, ℕ, true, false, Some, ⊥}
 use Rattle.rx_tree.specs.Plain.{ProgramTree}
 use Rattle.rx_tree.specs.Size.{IsNumbered}
 use Rattle.rx_typed.specs.PlainTypes.{declarations}
@@ -13,11 +13,10 @@ use Rattle.rx_meaning.specs.Values.{element}
 use Rattle.rx_machine.specs.Functions.{program_of}
 use Rattle.rx_exits_plan.specs.Runs.{Home, Sits}
 use Rattle.rx_exits_plan.specs.Asked.{Asked}
-use Rattle.rx_exits_plan.specs.Plan.{Plan, IsPlan}
+use Rattle.rx_exits_plan.specs.Plan.{IsPlan}
 use Rattle.rx_engine_related.specs.AboutRun.{special_of}
 use Rattle.rx_engine_validated.specs.AskedOf.{asked_of}
 use Rattle.rx_engine_validated.specs.Refused.{NotRefused}
-use Rattle.rx_engine_validated.specs.Telling.{with_value}
 use Rattle.rx_engine_alike.specs.Items.{items_with}
 use Rattle.rx_engine_extracted.specs.Told.{Told}
 use Rattle.rx_engine_extracted.specs.Programs.{extracts}
@@ -34,13 +33,11 @@ pub record IsFound (p q : ProgramTree) (t u : Typed) (main other : ℕ) : Type 0
   pub among : Among function t.functions
   pub home : Home
   pub sits : Sits (plain-TypedTree function.tree) told.run home
-  -- its plan; of what type its value is isn't told
-  pub plan : Plan
-  pub is_plan : IsPlan (asked_of (declarations t.decls.items) front.parts function told.run home) plan
-  pub kept : NotRefused (asked_of (declarations t.decls.items) front.parts function told.run home) function.mutable plan
-  pub told_plan : told.plan ≡ with_value None plan
+  pub short : told.run.tail ≡ false
+  pub plan : IsPlan (asked_of (declarations t.decls.items) front.parts function told.run home) told.plan
+  pub kept : NotRefused (asked_of (declarations t.decls.items) front.parts function told.run home) function.mutable told.plan
   pub around : told.around ≡ home.around.loops
-  pub elsewhere : told.elsewhere ≡ special_of (asked_of (declarations t.decls.items) front.parts function told.run home) plan
+  pub elsewhere : told.elsewhere ≡ special_of (asked_of (declarations t.decls.items) front.parts function told.run home) told.plan
   pub muts : told.muts ≡ function.mutable
   -- its item, and how many items are behind it in the answer, of which one is the new function
   pub item : ℕ

@@ -9,13 +9,11 @@ ghost use Rattle.rx_engine_validated.specs.Found.{IsFound};
 
 use crate::{
     accepted_programs_are_themselves, accepted_runs_are_had, accepted_runs_find_references,
-    accepted_tails_are_had, diverging_runs_never_end, diverging_tails_never_end,
-    found_extractions_are_extractions, found_tail_extractions_are_extractions,
-    runs_without_an_end_diverge,
+    diverging_runs_never_end, found_extractions_are_extractions, runs_without_an_end_diverge,
 };
-use rx_engine_related::{extracted_programs_run_alike, extracted_tails_run_alike};
+use rx_engine_related::extracted_programs_run_alike;
 
-/// An accepted answer that is found to be the extraction of a run of an accepted text, with the tail of its block or without, by the run's plan, does
+/// An accepted answer that is found to be the extraction of a run of an accepted text, by the run's plan and without the tail of its block, does
 /// what the text does: on each input, with n turns, it is up to the text, and the text is up to it with twice as many.
 pub fn found_extractions_run_alike()
     ensures answer { (p q : ProgramTree) (t u : Typed) (main other : ℕ) → IsFound p q t u main other → (given : ListOf ℤ) (n : ℕ)
@@ -26,12 +24,8 @@ pub fn found_extractions_run_alike()
     accepted_programs_are_themselves();
     accepted_runs_are_had();
     accepted_runs_find_references();
-    accepted_tails_are_had();
     diverging_runs_never_end();
-    diverging_tails_never_end();
     extracted_programs_run_alike();
-    extracted_tails_run_alike();
     found_extractions_are_extractions();
-    found_tail_extractions_are_extractions();
     runs_without_an_end_diverge();
 }

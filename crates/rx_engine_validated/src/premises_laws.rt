@@ -10,10 +10,10 @@ ghost use Rattle.rx_typeck_typed.specs.declared.typed.Typed.{Typed};
 ghost use Rattle.rx_typeck_typed.specs.declared.typed.TypedFn.{TypedFn};
 ghost use Rattle.rx_lower_walks.specs.Walks.{Among};
 ghost use Rattle.rx_check.specs.Passes.{IsFront};
-ghost use Rattle.rx_exits_plan.specs.Blocks.{Statement, before, tail, written_tail};
-ghost use Rattle.rx_exits_plan.specs.Points.{Point, next};
+ghost use Rattle.rx_exits_plan.specs.Blocks.{Statement, before};
+ghost use Rattle.rx_exits_plan.specs.Points.{next};
 ghost use Rattle.rx_exits_plan.specs.Runs.{Run, Home, Sits, inside};
-ghost use Rattle.rx_exits_plan.specs.Changed.{changed, changed_statement};
+ghost use Rattle.rx_exits_plan.specs.Changed.{changed_statement};
 ghost use Rattle.rx_exits_plan.specs.Diverging.{run_diverges};
 ghost use Rattle.rx_exits_plan.specs.Exits.{exits};
 ghost use Rattle.rx_exits_plan.specs.Asked.{Asked};
@@ -24,7 +24,7 @@ ghost use Rattle.rx_meaning.specs.Programs.{Program};
 ghost use Rattle.rx_engine_simulation.specs.Astray.{FindsReferences};
 ghost use Rattle.rx_engine_simulation.specs.Blocks.{Stretch};
 ghost use Rattle.rx_engine_simulation.specs.Blocks as stretched;
-ghost use Rattle.rx_engine_simulation.specs.Endings.{Last, a_marked};
+ghost use Rattle.rx_engine_simulation.specs.Endings.{Last};
 ghost use Rattle.rx_engine_simulation.specs.Sights.{In};
 ghost use Rattle.rx_engine_simulation.specs.Units.{UnitFunctions};
 ghost use Rattle.rx_engine_related.specs.Running.{passing};
@@ -46,15 +46,6 @@ pub fn diverging_runs_never_end()
         → run_diverges r h.body ≡ true → (l : Last) (rest : Stretch) → Divided (inside r h.body) l rest → NeverEnds l rest }
     ensures marked { (p : ProgramTree) (t : Typed) → IsNumbered p → IsFront p t → (f : TypedFn) → Among f t.functions → (r : Run) (h : Home) → Sits (plain-TypedTree f.tree) r h → r.tail ≡ false
         → run_diverges r h.body ≡ true → (ls : ListOf ℕ) (l : Last) (rest : Stretch) → Divided (map (changed_statement (passing ls)) (inside r h.body)) l rest → NeverEnds l rest }
-{
-    signatures_are_well_formed();
-    sizes_are_sized();
-}
-
-/// Nor does a run with its block's tail, with marks in front of jumps out of loops: some statement of it never goes on, or the tail.
-pub fn diverging_tails_never_end()
-    ensures { (p : ProgramTree) (t : Typed) → IsNumbered p → IsFront p t → (f : TypedFn) → Among f t.functions → (r : Run) (h : Home) → Sits (plain-TypedTree f.tree) r h → r.tail ≡ true
-        → run_diverges r h.body ≡ true → (ls : ListOf ℕ) (q : Point) → NeverEnds (a_marked (changed (passing ls) (written_tail r.block (tail h.body))) q) (stretch_of (map (changed_statement (passing ls)) (inside r h.body))) }
 {
     signatures_are_well_formed();
     sizes_are_sized();

@@ -5,6 +5,5 @@ mod functions;
 mod laws;
 mod runs;
 
-pub use functions::table;
 pub use laws::{checked_programs_run, typed_programs_run};
 pub use runs::run;

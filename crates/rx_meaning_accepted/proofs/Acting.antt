@@ -289,7 +289,7 @@ module _ (K : Known) (A : Types) (U : Temporary → Typ) (R : Typ) (f : ℕ) (re
   both_join n v = paired (join_asks n v) (operands.join_same K A n v)
 
   mutual
-    pub exp_asks : (w : Typ) (e : Exp) → Sited e → Fits K.items e → OfExp w e → Wants (Gives w e) (rules.of_exp f e)
+    exp_asks : (w : Typ) (e : Exp) → Sited e → Fits K.items e → OfExp w e → Wants (Gives w e) (rules.of_exp f e)
     exp_asks w (named.int n m v k) h j u =
         asks_map (λ p. values.at_node K A U R w (named.int n m v k) refl p.has.outside refl (u.0 0) (values.no_stay K A U R (named.int n m v k) refl)
         (constant_good n (tree.whole_number (elaborated.kind_in (OfNode n)) (pos v)) (number_same n p))) (operands.integer_given K A n m v k)

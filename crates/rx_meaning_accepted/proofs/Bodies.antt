@@ -76,18 +76,12 @@ module _ (D : Declarations) (I : Inside) (S : Sees D I) (s : Span) (f : Function
       in_turn4 E P.part R B (λ es fs gs hs x p r b. numbered_body ys t0 t es fs gs hs t1.0 b1.0.tables t3.0 (numbering.begins (es ++ (fs ++ (gs ++ hs)))) x p r (b Site.Expects) (sym z0, sym l0) refl) in
       subst (λ (l : List NodeNames). BodyMeans D (numbering.of_function i s f (numbering.begins l)).0.body) (sym (all.grown ∙ ap (λ (l : List NodeNames). l ++ all.added) no_names)) (all.numbers few)
 
--- in the tree with numbers of a function of a text names mean what they should
-pub text_means : (p : ProgramTree) (ns : List ItemNames) (ds : List Decl) → IsNumbered p → Meant p ns → declared_items p ns 0 p ≡ Ok ds → (i : ℕ) (s : Span) (f : Function) → slice_get p i ≡ Some (plain.function_item s f)
-    → BodyMeans (declarations ds) (function_named i s f (entries (slice_get ns i))).body
-text_means p ns ds few meant e i s f q =
+pub text_fits : (p : ProgramTree) (ns : List ItemNames) (ds : List Decl) → IsNumbered p → Meant p ns → declared_items p ns 0 p ≡ Ok ds → (i : ℕ) (s : Span) (f : Function) → slice_get p i ≡ Some (plain.function_item s f)
+    → FunctionFits (declarations ds) (function_named i s f (entries (slice_get ns i)))
+text_fits p ns ds few meant e i s f q =
     let T = table_at p 0 p ns i (plain.function_item s f) (named_ok {A = Unit {0}} (apart (record { types = []; functions = [] }) 0 p) (λ _. in_items p 0 p) ns meant.names_are).2 q in
     let I : Inside = record { program = p; item = number (0 + i); lifetimes = firsts [] 0 (lifetimes_declared (plain.function_item s f)) } in
     let t0 : ItemNames = record { vars = []; lifetimes = map (λ (l : Ident). l.span) (lifetimes_declared (plain.function_item s f)); loops = []; names = [] } in
     let m = function_means (declarations ds) I (sees I ns ds e) s f i [] t0 T.table refl refl refl T.named (few_names p few (0 + i) i s f T.table q T.named) in
     let same : T.table.names ≡ entries (slice_get ns i) = ap entries (sym T.stands) in
-    subst (λ (l : List NodeNames). BodyMeans (declarations ds) (function_named i s f l).body) same m
-
-pub text_fits : (p : ProgramTree) (ns : List ItemNames) (ds : List Decl) → IsNumbered p → Meant p ns → declared_items p ns 0 p ≡ Ok ds → (i : ℕ) (s : Span) (f : Function) → slice_get p i ≡ Some (plain.function_item s f)
-    → FunctionFits (declarations ds) (function_named i s f (entries (slice_get ns i)))
-text_fits p ns ds few meant e i s f q =
-    body_fits (declarations ds) (function_named i s f (entries (slice_get ns i))).body (text_means p ns ds few meant e i s f q) (function_told i s f (entries (slice_get ns i)))
+    body_fits (declarations ds) (function_named i s f (entries (slice_get ns i))).body (subst (λ (l : List NodeNames). BodyMeans (declarations ds) (function_named i s f l).body) same m) (function_told i s f (entries (slice_get ns i)))

@@ -63,7 +63,7 @@ abbrev EndsSo : Ending → Type 0
 EndsSo (wrong c) = OfAction c
 EndsSo _ = Unit {0}
 
-abbrev pub Well : Done ℕ → Type 0
+abbrev Well : Done ℕ → Type 0
 Well (gives t v s) = Unit {0}
 Well (ends t e) = EndsSo e
 
@@ -86,7 +86,7 @@ write_well p ss v s =
     or_well (why_no_part ss v) (get ss v) _ (part_cause ss v) (λ u. or_well (why_not_found p [] s) (spot p [] s) _ (found_cause p [] s)
     (λ at. or_well (why_not_written s.memory at) (after_write u s.memory at) _ (written_cause s.memory at) (λ M. tt)))
 
-pub act_well : (a : Act) (vs : List Value) (s : State) → Well (does_plainly a vs s)
+act_well : (a : Act) (vs : List Value) (s : State) → Well (does_plainly a vs s)
 act_well (Declare x) vs s = tt
 act_well (Dead x) vs s = tt
 act_well (Read m p d) vs s = or_well (why_not_found p vs s) (found p vs s) _ (found_cause p vs s) (λ f. or_well lacks (whole_value f) _ tt (λ v. tt))

@@ -5,28 +5,28 @@ use Rattle.rx_core.specs.declared.types.Span.{Span}
 use Rattle.rx_tree.specs.declared.tree.Ident.{Ident}
 use Rattle.rx_tree.specs.Lists.{listed}
 use Rattle.rx_tree.specs.Plain as plain
-use Rattle.rx_tree.specs.Plain.{PatternTree, PatternTrees, Expression, Expressions, OptionalExpression, OptionalExpressions, FieldExpressions, Arms, Body, Statement, Statements}
+use Rattle.rx_tree.specs.Plain.{Expression, Expressions, OptionalExpression, OptionalExpressions, FieldExpressions, Arms, Body, Statement, Statements}
 use Rattle.rx_resolve_names.specs.Scopes as scopes
 use Rattle.rx_resolve_names.specs.Scopes.{Declared, Variables, variable_named}
 use Rattle.rx_resolve_names.specs.declared.resolved.ItemNames.{ItemNames}
 use Rattle.rx_resolve_names.specs.declared.resolved.NodeNames.{NodeNames}
 use Rattle.rx_resolve_names.specs.Meant.{number, type_name, function_name, item_named, as_function, as_rt, Around, a_loop, a_test, Target, to_loop, out_of_test, nowhere, through_test, target}
 use Rattle.rx_resolve_names.specs.Steps.{and_then, Naming, ◌>>◌, Inside, numbered, known, one, led, child, next, with_loop, with_names, position, names}
-use Rattle.rx_resolve_names.specs.Names.{variant_in, struct_in, Bound, in_pattern, in_patterns, in_field_patterns, pattern_then, callee, rt_span, in_optional_type, initialiser_at, Scoped, in_expression, in_expressions, in_optional, in_arguments, in_fields, in_arms, in_block, in_statements, in_statement}
+use Rattle.rx_resolve_names.specs.Names.{variant_in, struct_in, Bound, in_pattern, pattern_then, callee, rt_span, in_optional_type, initialiser_at, Scoped, in_expression, in_expressions, in_optional, in_arguments, in_fields, in_arms, in_block, in_statements, in_statement}
 use Rattle.rx_typed.specs.Types.{Declarations}
 use Rattle.rx_typed.specs.declared.nodes.Node.{Node}
 use Rattle.rx_typed.specs.declared.nodes.Site.{Site}
 use Rattle.rx_typed.specs.Named as named
 use Rattle.rx_typed.specs.Named.{Exp, Exps, node_of}
 use Rattle.rx_typed.specs.Naming as numbering
-use Rattle.rx_typed.specs.Naming.{Cursor, Numbering, an_entry, first, second, of_expression}
+use Rattle.rx_typed.specs.Naming.{Numbering, an_entry, first, second, of_expression}
 use Rattle.rx_typeck_solver.specs.Valid.{IsIn}
 use Rattle.rx_engine_typing.proofs.Steps.{named_ok, the_same, one_more, Takes, takes_then, takes_last, takes_give, takes_map, takes_weaker, takes_node, takes_made, takes_entry, takes_loop, Quiet, takes_quiet, IsEntry, at_entry, Few, few_before, grows_not, Part, in_turn, in_turn3, in_turn4, restated, few_restated, unchanged, in_new_loop, entry_part}
-use Rattle.rx_engine_typing.proofs.ScopedPatterns.{Any, one_part, any_entry, order_ok, optional_type_taken, pattern_taken, patterns_taken, field_patterns_taken}
+use Rattle.rx_engine_typing.proofs.ScopedPatterns.{Any, one_part, any_entry, optional_type_taken, pattern_taken}
 use Rattle.rx_engine_typing.proofs.InScope.{Stands, later, stands_in_loop, new_loop_is}
 use Rattle.rx_engine_typing.proofs.ScopedExpressions.{quiet_counted, quiet_between, quiet_annotates, quiet_leads, quiet_is_left, quiet_gives_here, quiet_waits, led_is}
 use Rattle.rx_meaning_accepted.specs.Fitting.{IsStruct, IsVariant, BreaksNot, EachBreaksNot, ElseBreaksNot, FieldsBreakNot, ArmsBreakNot, BodyBreaksNot, StatementBreaksNot, StatementsBreakNot}
-use Rattle.rx_meaning_accepted.proofs.Parted.{PatternMeans, PatternsMean, FieldPatternsMean, Means, EachMeans, ElseMeans, FieldsMean, ArmsMean, BodyMeans, StatementMeans, StatementsMean}
+use Rattle.rx_meaning_accepted.proofs.Parted.{Means, EachMeans, ElseMeans, FieldsMean, ArmsMean, BodyMeans, StatementMeans, StatementsMean}
 
 -- ---- what is said of a part
 
@@ -87,56 +87,7 @@ pub record Sees (D : Declarations) (I : Inside) : Type 0 where
   pub structs : (x : Ident) (n : ℕ) → struct_in I x ≡ Ok n → IsStruct D n
   pub variants : (a v : Ident) (ns : List ℕ) → variant_in I a v ≡ Ok ns → (n : ℕ) × (j : ℕ) × (ns ≡ n ∷ j ∷ []) × IsVariant D n j
 
--- a step of numbering whose outcome says enough by itself
-taken_so : {A : Type 0} {P Q : A → Type 0} {t t' : ItemNames} {es : List NodeNames} {m : Numbering A} → Takes P t t' es m → ((c : Cursor) → Q (m c).0) → Takes Q t t' es m
-taken_so k f = record { holds = λ c rest d e. let z = k.holds c rest d e in record { fits = f c; counts = z.counts; left = z.left } }
-
 module _ (D : Declarations) (I : Inside) (S : Sees D I) where
-  -- ---- patterns
-
-  abbrev PatternTaken : PatternTree → Bound → Bound → Type 0
-  PatternTaken p b b1 = Part b.tables b1.tables (λ es. Takes (PatternMeans D) b.tables b1.tables es (numbering.of_pattern p))
-
-  abbrev PatternsTaken : PatternTrees → Bound → Bound → Type 0
-  PatternsTaken ps b b1 = Part b.tables b1.tables (λ es. Takes (PatternsMean D) b.tables b1.tables es (numbering.of_patterns ps))
-
-  abbrev FieldPatternsTaken : plain.FieldPatterns → Bound → Bound → Type 0
-  FieldPatternsTaken fs b b1 = Part b.tables b1.tables (λ es. Takes (FieldPatternsMean D) b.tables b1.tables es (numbering.of_field_patterns fs))
-
-  mutual
-    pattern_means : (at : List ℕ) (p : PatternTree) (b b1 : Bound) → in_pattern I at p b ≡ Ok b1 → PatternTaken p b b1
-    pattern_means at (plain.wild s) b b1 e = restated (pattern_taken I at (plain.wild s) b b1 e).part (λ es k. taken_so k (λ c. tt))
-    pattern_means at (plain.bind s x m) b b1 e = restated (pattern_taken I at (plain.bind s x m) b b1 e).part (λ es k. taken_so k (λ c. tt))
-    pattern_means at (plain.int_pattern s g v k) b b1 e = restated (pattern_taken I at (plain.int_pattern s g v k) b b1 e).part (λ es k. taken_so k (λ c. tt))
-    pattern_means at (plain.bool_pattern s w) b b1 e = restated (pattern_taken I at (plain.bool_pattern s w) b b1 e).part (λ es k. taken_so k (λ c. tt))
-    pattern_means at (plain.tuple_pattern s ps) b b1 e = restated (patterns_mean at 0 ps b b1 e) (λ es k. takes_node s Site.Value (λ n q. takes_map (named.tuple_pattern n) k (λ a h. h)))
-    pattern_means at (plain.variant_pattern s c v ps) b b1 e =
-        let x = order_ok (names I at (variant_in I c v)) (in_patterns I at 0 ps) b b1 e in
-        let y = named_ok (variant_in I c v) (λ ns. numbered I at ns b.tables) x.0 x.1 in
-        let f = S.variants c v y.0 y.1 in
-        let A = entry_part I at b.tables x.0 f.0 (f.1 ∷ []) (variant_in I c v) (y.1 ∙ ap (λ (l : List ℕ). Ok l) f.2) x.1 in
-        let B = patterns_mean at 0 ps (record { bindings = b.bindings; tables = x.0 }) b1 x.2 in
-        in_turn A B (λ _ _ k l. takes_node s Site.Value (λ n q. takes_then k (λ y r. takes_map (named.variant_pattern n (first y.0) (second y.0)) l
-        (λ ps h. (at_entry (λ z. IsVariant D (first z.0) (second z.0)) (f.0 ∷ f.1 ∷ []) false y r f.3, h)))))
-    pattern_means at (plain.make_pattern s x fs) b b1 e =
-        let y = order_ok (names I at (one (struct_in I x))) (in_field_patterns I at 0 fs) b b1 e in
-        let B = field_patterns_mean at 0 fs (record { bindings = b.bindings; tables = y.0 }) b1 y.2 in
-        in_turn (any_entry (one_part I at b.tables y.0 (struct_in I x) y.1).part) B
-        (λ _ _ k l. takes_node s Site.Value (λ n q. takes_then k (λ a _. takes_map (named.struct_pattern n (first a.0)) l (λ fs h. h))))
-
-    patterns_mean : (at : List ℕ) (i : ℕ) (ps : PatternTrees) (b b1 : Bound) → in_patterns I at i ps b ≡ Ok b1 → PatternsTaken ps b b1
-    patterns_mean at i plain.no_pattern b b1 e = restated (patterns_taken I at i plain.no_pattern b b1 e).part (λ es k. taken_so k (λ c. tt))
-    patterns_mean at i (plain.pattern_and p ps) b b1 e =
-        let x = named_ok (in_pattern I (child at i) p b) (in_patterns I at (next i) ps) b1 e in
-        in_turn (pattern_means (child at i) p b x.0 x.1) (patterns_mean at (next i) ps x.0 b1 x.2) (λ _ _ k l. takes_then k (λ c g. takes_map (named.pattern_and c) l (λ d h. (g, h))))
-
-    field_patterns_mean : (at : List ℕ) (i : ℕ) (fs : plain.FieldPatterns) (b b1 : Bound) → in_field_patterns I at i fs b ≡ Ok b1 → FieldPatternsTaken fs b b1
-    field_patterns_mean at i plain.no_field_pattern b b1 e = restated (field_patterns_taken I at i plain.no_field_pattern b b1 e).part (λ es k. taken_so k (λ c. tt))
-    field_patterns_mean at i (plain.field_pattern_and y p fs) b b1 e =
-        let x = named_ok (in_pattern I (child at i) p b) (in_field_patterns I at (next i) fs) b1 e in
-        in_turn (pattern_means (child at i) p b x.0 x.1) (field_patterns_mean at (next i) fs x.0 b1 x.2)
-        (λ _ _ k l. takes_then k (λ c g. takes_map (named.field_pattern_and y.name c) l (λ d h. (g, h))))
-
   -- ---- of each kind of part
 
   abbrev SoundExp : List ℕ → ℕ → Exp → Type 0
@@ -299,9 +250,9 @@ module _ (D : Declarations) (I : Inside) (S : Sees D I) where
         let B = body_taken (scopes.entered sc Z.0.bindings) ls (child at 2) x X.0 Y.0 js w2 Y.1 in
         let E = optional_taken sc ls (child at 3) o Y.0 t' js (later B.grows w2) Y.2 in
         let u1 = P.part.grows.loops in let u2 = A.grows.loops in let u3 = B.grows.loops in
-        in_turn4 (pattern_means (child at 0) p b0 Z.0 Z.1) A B E (λ _ _ _ _ k l r z m i. takes_node s i (λ n q. takes_quiet quiet_counted (λ u _. takes_then k (λ c g. takes_quiet quiet_counted (λ v _. takes_then (l false Site.Scrutinee) (λ d h.
+        in_turn4 P.part A B E (λ _ _ _ _ k l r z m i. takes_node s i (λ n q. takes_quiet quiet_counted (λ u _. takes_then k (λ c g. takes_quiet quiet_counted (λ v _. takes_then (l false Site.Scrutinee) (λ d h.
         takes_quiet (quiet_between u v) (λ _ _. takes_then (r (numbering.branch_site i o)) (λ b j. takes_map (named.if_let n c d b) (z (numbering.passed_on i)) (λ f y.
-        sound_more g (sound_fewer u1 (sound_three h j y u2 (omega (arith, u2, u3)))))))))))))
+        sound_fewer u1 (sound_three h j y u2 (omega (arith, u2, u3))))))))))))
     expression_taken sc ls at (plain.match s x l) t t' js w e =
         let X = named_ok (in_expression I sc ls (child at 0) x t) (in_arms I sc ls at 1 l) t' e in
         let A = expression_taken sc ls (child at 0) x t X.0 js w X.1 in
@@ -333,9 +284,9 @@ module _ (D : Declarations) (I : Inside) (S : Sees D I) where
         let A = expression_taken sc (a_test ∷ a_loop l n ∷ ls) (child at 1) y Z.0.tables X.0 [] (in_test w2) X.1 in
         let B = body_taken (scopes.entered sc Z.0.bindings) (a_loop l n ∷ ls) (child at 2) x X.0 t' (j ∷ js) (later A.grows w2) X.2 in
         let u1 = P.part.grows.loops in let u2 = A.grows.loops in
-        in_new_loop o (in_turn3 {P = λ es. (m : Bool) (i : Site) → Takes (SoundExp js (Loops t)) t t' es (of_expression m i (plain.while_let s l p y x))} (pattern_means (child at 0) p b0 Z.0 Z.1) A B (λ _ _ _ k r y m i. takes_node s i (λ n q. takes_then (takes_loop t o) (λ v f.
+        in_new_loop o (in_turn3 {P = λ es. (m : Bool) (i : Site) → Takes (SoundExp js (Loops t)) t t' es (of_expression m i (plain.while_let s l p y x))} P.part A B (λ _ _ _ k r y m i. takes_node s i (λ n q. takes_then (takes_loop t o) (λ v f.
         takes_quiet quiet_counted (λ u _. takes_then k (λ c g. takes_quiet quiet_counted (λ u' _. takes_then (r false Site.Scrutinee) (λ d h. takes_quiet (quiet_between u u') (λ _ _. takes_map (named.while_let n v c d) (y Site.Value) (λ b i.
-        subst (λ (a : ℕ). SoundExp js j (named.while_let n a c d b)) (sym f) (sound_more g (sound_test (omega (arith, z, u1)) (omega (arith, z, u1, u2)) h i)))))))))))) (λ es k. k)
+        subst (λ (a : ℕ). SoundExp js j (named.while_let n a c d b)) (sym f) (sound_test (omega (arith, z, u1)) (omega (arith, z, u1, u2)) h i))))))))))) (λ es k. k)
     expression_taken sc ls at (plain.break s l) t t' js w e =
         let A = one_part I at t t' (led s l (target l ls)) e in
         let v = led_is s l (target l ls) A.first A.found in
@@ -380,8 +331,8 @@ module _ (D : Declarations) (I : Inside) (S : Sees D I) where
         let w1 = later P.part.grows w in
         let A = expression_taken (scopes.entered sc Z.0.bindings) ls (child at (next j)) x Z.0.tables V.0 js w1 Z.2 in
         let B = arms_taken sc ls at (next (next j)) l V.0 t' js (later A.grows w1) V.2 in
-        in_turn3 (pattern_means (child at j) p b0 Z.0 Z.1) A B (λ _ _ _ k l r i. takes_quiet quiet_counted (λ u _. takes_then k (λ c g. takes_quiet quiet_counted (λ v _. takes_quiet (quiet_between u v) (λ _ _.
-        takes_then (l false i) (λ d h. takes_map (named.arm_and c d) (r i) (λ f y. sound_fewer P.part.grows.loops (sound_more g (sound_two h y A.grows.loops)))))))))
+        in_turn3 P.part A B (λ _ _ _ k l r i. takes_quiet quiet_counted (λ u _. takes_then k (λ c g. takes_quiet quiet_counted (λ v _. takes_quiet (quiet_between u v) (λ _ _.
+        takes_then (l false i) (λ d h. takes_map (named.arm_and c d) (r i) (λ f y. sound_fewer P.part.grows.loops (sound_two h y A.grows.loops))))))))
 
     pub body_taken : (sc : Variables) (ls : List Around) (at : List ℕ) (b : Body) (t t' : ItemNames) (js : List ℕ) → Stands [] ls [] js t → in_block I sc ls at b t ≡ Ok t' → BodyTaken js b t t'
     body_taken sc ls at (plain.body s ss o) t t' js w e =
@@ -427,9 +378,9 @@ module _ (D : Declarations) (I : Inside) (S : Sees D I) where
         let E = expression_taken sc ls (child at (initialiser_at y)) x X.0 Y.0 js (later G.grows (later P.part.grows w)) X.2 in
         let u1 = P.part.grows.loops in let u2 = G.grows.loops in
         subst (λ (z : Scoped). StatementTaken js (plain.let_statement s p y (plain.present x)) t z) (the_same (to Z.0.bindings Y.0) r Y.2)
-        (in_turn3 (pattern_means (child at 0) p b0 Z.0 Z.1) G E (λ _ _ _ k l m. takes_node s Site.Value (λ n q. takes_quiet (quiet_annotates p y) (λ _ _. takes_quiet quiet_counted (λ i _. takes_then k (λ c v. takes_quiet quiet_counted (λ j _. takes_then l (λ z h.
+        (in_turn3 P.part G E (λ _ _ _ k l m. takes_node s Site.Value (λ n q. takes_quiet (quiet_annotates p y) (λ _ _. takes_quiet quiet_counted (λ i _. takes_then k (λ c v. takes_quiet quiet_counted (λ j _. takes_then l (λ z h.
         takes_last (m false (numbering.initialiser_site z)) (λ a d. takes_quiet (quiet_between i j) (λ _ _. takes_quiet (quiet_waits (numbering.has_no_type z && named.never a) c) (λ _ _. takes_give (named.lets n c z a)
-        (sound_more v (sound_fewer (omega (arith, u1, u2)) d)))))))))))))
+        (sound_fewer (omega (arith, u1, u2)) d))))))))))))
     statement_taken sc ls at (plain.expression_statement s x b) t r js w e =
         let X = named_ok (in_expression I sc ls (child at 0) x t) (λ t. Ok (record { scope = sc; tables = t })) r e in
         let A = expression_taken sc ls (child at 0) x t X.0 js w X.1 in

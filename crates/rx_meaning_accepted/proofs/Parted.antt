@@ -2,7 +2,7 @@
 use Rattle.std.proofs.Common.{◌≡◌, Bool, false}
 use Rattle.rx_typed.specs.Types.{Declarations}
 use Rattle.rx_typed.specs.Named as named
-use Rattle.rx_typed.specs.Named.{Pattern, Patterns, FieldPatterns, Exp, Exps, Else, Fields, Arms, Body, Statement, Statements}
+use Rattle.rx_typed.specs.Named.{Exp, Exps, Else, Fields, Arms, Body, Statement, Statements}
 use Rattle.rx_meaning_accepted.specs.Fitting.{IsStruct, IsVariant, BreaksNot, BodyBreaksNot, Fits, EachFits, ElseFits, FieldsFit, ArmsFit, BodyFits, StatementFits, StatementsFit}
 
 -- a loop that no `break` is told to lead to has none of its own
@@ -67,25 +67,6 @@ abbrev mutual
   StatementsTold named.no_statement = Unit {0}
   StatementsTold (named.statement_and a ss) = StatementTold a × StatementsTold ss
 
--- the variants of a pattern are those of their enums
-abbrev mutual
-  pub PatternMeans : Declarations → Pattern → Type 0
-  PatternMeans D (named.wild n) = Unit {0}
-  PatternMeans D (named.bind n x m) = Unit {0}
-  PatternMeans D (named.whole_number n g v k) = Unit {0}
-  PatternMeans D (named.truth n b) = Unit {0}
-  PatternMeans D (named.tuple_pattern n ps) = PatternsMean D ps
-  PatternMeans D (named.variant_pattern n i v ps) = IsVariant D i v × PatternsMean D ps
-  PatternMeans D (named.struct_pattern n i fs) = FieldPatternsMean D fs
-
-  pub PatternsMean : Declarations → Patterns → Type 0
-  PatternsMean D named.no_pattern = Unit {0}
-  PatternsMean D (named.pattern_and p ps) = PatternMeans D p × PatternsMean D ps
-
-  pub FieldPatternsMean : Declarations → FieldPatterns → Type 0
-  FieldPatternsMean D named.no_field_pattern = Unit {0}
-  FieldPatternsMean D (named.field_pattern_and x p fs) = PatternMeans D p × FieldPatternsMean D fs
-
 -- struct literals name structs, variants are those of their enums, and no `break` in the test of a loop leads to the loop
 abbrev mutual
   pub Means : Declarations → Exp → Type 0
@@ -111,11 +92,11 @@ abbrev mutual
   Means D (named.print n e) = Means D e
   Means D (named.block n b) = BodyMeans D b
   Means D (named.if n c b o) = Means D c × BodyMeans D b × ElseMeans D o
-  Means D (named.if_let n p e b o) = PatternMeans D p × (Means D e × BodyMeans D b × ElseMeans D o)
+  Means D (named.if_let n p e b o) = Means D e × BodyMeans D b × ElseMeans D o
   Means D (named.match n e l) = Means D e × ArmsMean D l
   Means D (named.loop n l k b) = BodyMeans D b
   Means D (named.while n l c b) = BreaksNot l c × Means D c × BodyMeans D b
-  Means D (named.while_let n l p e b) = PatternMeans D p × (BreaksNot l e × Means D e × BodyMeans D b)
+  Means D (named.while_let n l p e b) = BreaksNot l e × Means D e × BodyMeans D b
   Means D (named.break n l) = Unit {0}
   Means D (named.continue n l) = Unit {0}
   Means D (named.return n o) = ElseMeans D o
@@ -134,14 +115,14 @@ abbrev mutual
 
   pub ArmsMean : Declarations → Arms → Type 0
   ArmsMean D named.no_arm = Unit {0}
-  ArmsMean D (named.arm_and p e l) = PatternMeans D p × (Means D e × ArmsMean D l)
+  ArmsMean D (named.arm_and p e l) = Means D e × ArmsMean D l
 
   pub BodyMeans : Declarations → Body → Type 0
   BodyMeans D (named.body n ss o) = StatementsMean D ss × ElseMeans D o
 
   pub StatementMeans : Declarations → Statement → Type 0
   StatementMeans D (named.declares n p t) = Unit {0}
-  StatementMeans D (named.lets n p t e) = PatternMeans D p × Means D e
+  StatementMeans D (named.lets n p t e) = Means D e
   StatementMeans D (named.evaluates n e b) = Means D e
 
   pub StatementsMean : Declarations → Statements → Type 0
@@ -173,11 +154,11 @@ module _ (D : Declarations) where
     exp_fits (named.print n e) g h = exp_fits e g h
     exp_fits (named.block n b) g h = body_fits b g h
     exp_fits (named.if n c b o) g h = (exp_fits c g.0 h.0, body_fits b g.1 h.1, else_fits o g.2 h.2)
-    exp_fits (named.if_let n p e b o) g h = (exp_fits e g.1.0 h.0, body_fits b g.1.1 h.1, else_fits o g.1.2 h.2)
+    exp_fits (named.if_let n p e b o) g h = (exp_fits e g.0 h.0, body_fits b g.1 h.1, else_fits o g.2 h.2)
     exp_fits (named.match n e l) g h = (exp_fits e g.0 h.0, arms_fit l g.1 h.1)
     exp_fits (named.loop n l k b) g h = (h.0, body_fits b g h.1)
     exp_fits (named.while n l c b) g h = (g.0, exp_fits c g.1 h.0, body_fits b g.2 h.1)
-    exp_fits (named.while_let n l p e b) g h = (g.1.0, exp_fits e g.1.1 h.0, body_fits b g.1.2 h.1)
+    exp_fits (named.while_let n l p e b) g h = (g.0, exp_fits e g.1 h.0, body_fits b g.2 h.1)
     exp_fits (named.break n l) g h = tt
     exp_fits (named.continue n l) g h = tt
     exp_fits (named.return n o) g h = else_fits o g h
@@ -196,14 +177,14 @@ module _ (D : Declarations) where
 
     arms_fit : (l : Arms) → ArmsMean D l → ArmsTold l → ArmsFit D l
     arms_fit named.no_arm g h = tt
-    arms_fit (named.arm_and p e l) g h = (exp_fits e g.1.0 h.0, arms_fit l g.1.1 h.1)
+    arms_fit (named.arm_and p e l) g h = (exp_fits e g.0 h.0, arms_fit l g.1 h.1)
 
     pub body_fits : (b : Body) → BodyMeans D b → BodyTold b → BodyFits D b
     body_fits (named.body n ss o) g h = (statements_fit ss g.0 h.0, else_fits o g.1 h.1)
 
     statement_fits : (a : Statement) → StatementMeans D a → StatementTold a → StatementFits D a
     statement_fits (named.declares n p t) g h = tt
-    statement_fits (named.lets n p t e) g h = exp_fits e g.1 h
+    statement_fits (named.lets n p t e) g h = exp_fits e g h
     statement_fits (named.evaluates n e b) g h = exp_fits e g h
 
     statements_fit : (ss : Statements) → StatementsMean D ss → StatementsTold ss → StatementsFit D ss

@@ -90,7 +90,7 @@ integer_behind (tuple_of ts) e = absurd (cc)
 integer_behind (reference m t) e = integer_behind t e
 integer_behind (types.named i) e = absurd (cc)
 
-pub truth_behind : (t : Typ) → is_truth (peeled (outline t)) ≡ true → peeled t ≡ boolean
+truth_behind : (t : Typ) → is_truth (peeled (outline t)) ≡ true → peeled t ≡ boolean
 truth_behind (integer k) e = absurd (cc)
 truth_behind boolean e = refl
 truth_behind (tuple_of ts) e = absurd (cc)
@@ -224,14 +224,14 @@ module _ (K : Known) (A : Types) (U : Temporary → Typ) (R : Typ) where
   abbrev FineParts : List Gone → (List Step → List Step) → Typ → (Met → tree.Subpatterns) → Type 0
   FineParts anc go t qs = (r : Met) → MetIs r (passed A anc) → (S : actions.Subject) (at : List Step) → At S at t → FineIn S (go at) (qs r)
 
-  pub is_item_asks : (n : Node) (i : ℕ) → Wants (peeled (OfNode n) ≡ types.named i) (rules.pattern_is n (test.ItemBehind i))
+  is_item_asks : (n : Node) (i : ℕ) → Wants (peeled (OfNode n) ≡ types.named i) (rules.pattern_is n (test.ItemBehind i))
   is_item_asks n i = asks_map (λ h. item_behind i (OfNode n) h.0) (one_asked n _ _ _)
 
-  pub bound_given : (s : rules.Matched) (anc : List Gone) (n : Node) (x : ℕ) (m : Bool) → Wants (bound (passed A anc) (OfNode n) ≡ V x) (rules.bound_at s anc n x m)
+  bound_given : (s : rules.Matched) (anc : List Gone) (n : Node) (x : ℕ) (m : Bool) → Wants (bound (passed A anc) (OfNode n) ≡ V x) (rules.bound_at s anc n x m)
   bound_given s anc n x m =
       asks_map (λ h. some_same _ _ h.0) (then_first (one_asked n _ _ _) (then_u (quiet n _ _ _) (then_u (when_u m _ (quiet n _ _ _)) (binding_u n anc s))))
 
-  pub literal_given : (n : Node) (g : Bool) (v : ℕ) (k : Option Kind) → Wants (peeled (OfNode n) ≡ integer (kind_in (peeled (OfNode n)))) (rules.literal_at n g v k)
+  literal_given : (n : Node) (g : Bool) (v : ℕ) (k : Option Kind) → Wants (peeled (OfNode n) ≡ integer (kind_in (peeled (OfNode n)))) (rules.literal_at n g v k)
   literal_given n g v k = asks_map (λ h. integer_behind (OfNode n) h.0) (then_first (one_asked n _ _ _) (then_u (when_u g _ (quiet n _ _ _)) (then_u (quiet n _ _ _) (quiet n _ _ _))))
 
   mutual

@@ -1,0 +1,3 @@
+pub mod FormLemmas
+pub mod FunctionLemmas
+pub mod WalkLemmas
