@@ -1,6 +1,3 @@
-pub mod Conditions
-pub mod Avoids
-pub mod Printable
+pub mod Runs
 pub mod Promise
-pub mod Built
 pub mod Verdict

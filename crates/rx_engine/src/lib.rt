@@ -1,13 +1,12 @@
-//! Extract function: a run of statements becomes a function of its own.
+//! Extract function: a run of statements becomes a function of its own, and the program does what it did.
 #![tactic(auto)]
 
 mod extraction;
 mod laws;
-mod names;
 
-pub use extraction::{Answer, Fault, Refusal, Selection, check, extract};
-pub use laws::{
-    extraction_keeps_runs, memory_is_outermost, one_refusal, parses_printable, print_parses,
-    printable_same, reads_back, untaken_is_fresh,
+pub use extraction::{extract, extract_checked};
+pub use laws::{answers_run_alike, one_outcome};
+pub use rx_engine_extraction::{
+    Answer, Fault, Refusal, Selection, answers_are_one, conditions_are_one,
+    extractions_are_answers, refusals_are_one,
 };
-pub use rx_first_check::{CheckFault, NameFault, Rule, TypeFault, accepted};

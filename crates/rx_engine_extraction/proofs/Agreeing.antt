@@ -1,9 +1,13 @@
 -- What two cases of one text decide alike, from what stands in both: the run, its function and block, the plan, how its params are passed,
 -- and the bounds. The text may have been typed twice.
-use Rattle.std.proofs.Common.{◌≡◌, ℕ, List, [], map, Option, Some, sym, subst, ◌∙◌}
+use Rattle.std.proofs.Common.{◌≡◌, ℕ, true, ◌&&◌, List, [], length, map, Option, Some, None, refl, sym, ap, subst, ◌∙◌}
+use Rattle.std.specs.Prelude.{nat_le}
 use Rattle.rx_core.specs.declared.types.Bound.{Bound}
 use Rattle.rx_lex.specs.Tokens.{Lexes}
 use Rattle.rx_tree.specs.Plain.{ProgramTree}
+use Rattle.rx_parse_grammar.specs.grammar.Items.{Parses}
+use Rattle.rx_print_spelling.specs.Items.{print_program}
+use Rattle.rx_meaning.specs.Programs.{Program}
 use Rattle.rx_typed_declarations.specs.Sizes.{Sized}
 use Rattle.rx_graph_cycles.specs.Reaches.{NoCycle}
 use Rattle.rx_resolve_names.specs.declared.resolved.ItemNames.{ItemNames}
@@ -15,7 +19,9 @@ use Rattle.rx_typeck_typed.specs.declared.typed.Typed.{Typed}
 use Rattle.rx_typeck_typed.specs.declared.typed.TypedFn.{TypedFn}
 use Rattle.rx_typeck_typed.specs.Typing.{IsTyped}
 use Rattle.rx_lower.specs.Functions.{function_at}
-use Rattle.rx_facts.specs.Same.{AreSame}
+use Rattle.rx_facts.specs.Functions.{body}
+use Rattle.rx_facts.specs.Passing.{Each}
+use Rattle.rx_facts.specs.Same.{SameFunction, AreSame}
 use Rattle.rx_typed_runs.specs.declared.runs.RunPos.{RunPos}
 use Rattle.rx_select.specs.OneText.{OneText}
 use Rattle.rx_select.proofs.Ways.{one_run}
@@ -27,18 +33,23 @@ use Rattle.rx_modes_uses.specs.Modes.{IsModes}
 use Rattle.rx_modes_uses.proofs.One.{one_list_of_modes}
 use Rattle.rx_hoist_diverging.specs.Diverging.{diverging}
 use Rattle.rx_hoist_nodes.specs.TypedRun.{typed_run}
-use Rattle.rx_hoist_extraction.specs.Extraction.{extraction, new_number}
+use Rattle.rx_hoist_extraction.specs.Extraction.{extraction, added, new_number}
 use Rattle.rx_hoist_naming.specs.NamedPlan.{names_in, named_plan}
 use Rattle.rx_repair.specs.Named.{named_at}
+use Rattle.rx_engine_related.specs.AboutRun.{special_of}
+use Rattle.rx_engine_alike.specs.Items.{items_with}
+use Rattle.rx_engine_extracted.specs.Programs.{extracts}
 use Rattle.rx_engine_extraction.specs.Source.{Text, IsText, Wish, declared_in}
 use Rattle.rx_engine_extraction.specs.Case.{Case, asked}
 use Rattle.rx_engine_extraction.specs.Made.{run_of, told, named, hoisted, new_item, extracted}
+use Rattle.rx_engine_extraction.specs.Confirmed.{units_among, units_if, whole_of, without_value, told_by, is_extracted, is_found, Confirmed}
 use Rattle.rx_engine_extraction.specs.Meeting.{Selects, Seated, Passes, Fits}
 use Rattle.rx_engine_extraction.specs.Hoisting.{IsBare}
 use Rattle.rx_engine_extraction.proofs.Ends.{block_function}
 use Rattle.rx_engine_extraction.proofs.Bare.{extraction_bare}
 use Rattle.rx_engine_extraction.proofs.AgreeingPlans.{one_plan, one_listed}
 use Rattle.rx_engine_extraction.proofs.AgreeingTypes.{SameTyped, one_meaning, function_alike, framed_alike}
+use Rattle.rx_engine_extraction.proofs.AgreeingFound.{whole_alike, units_alike}
 use Rattle.rx_engine_extraction.proofs.AgreeingNames.{by_function, names_alike, plan_alike}
 
 some_one : {A : Type 0} (a b : A) → ◌≡◌ {A = Option A} (Some a) (Some b) → a ≡ b
@@ -53,6 +64,7 @@ pub record Twice (T : Text) (u : Typed) : Type 0 where
   pub one_text : OneText T.tokens T.length T.program
   pub declared : declared_in T ≡ declared_in (retyped T u)
   pub functions : (n : ℕ) (f g : TypedFn) → function_at T.types.functions n ≡ Some f → function_at u.functions n ≡ Some g → SameTyped f g
+  pub each : Each SameFunction T.types.functions u.functions
 
 pub typed_twice : ((p : ProgramTree) (names : List ItemNames) (t u : Typed) → IsTyped p names t → IsTyped p names u → AreSame t u)
     → ((p : ProgramTree) (D : Declarations) → Declared p D → NoCycle (held D)) → ((D : Declarations) → NoCycle (held D) → (P : ℕ → ℕ) × Sized D P)
@@ -69,6 +81,7 @@ typed_twice same finite some bytes T u is other =
       };
       declared = same_declared T.types.decls.items u.decls.items alike.items;
       functions = λ n f g a b. function_alike same finite some T.program x.names T.types u x.typed typed n f g a b;
+      each = alike.functions;
     }
 
 -- ---- what is decided alike, one thing after another
@@ -167,3 +180,49 @@ module _ (T : Text) (u : Typed) (z : Twice T u) (w : Wish) (d e : Case) where
 
     pub extracted_alike : d.bounds ≡ e.bounds → extracted T w d ≡ extracted U w e
     extracted_alike b = λ i. extraction T.program (run_of (p.seats.run i)) (named_alike i) (named_at (hoisted_alike i) (item_alike i) (b i))
+
+    -- what is told of a run, and what is found
+
+    whole_same : whole_of T.program T.types ≡ whole_of T.program u
+    whole_same = whole_alike T.program T.types u z.declared z.each
+
+    units_same : units_among (declared_in T) d.run.function T.types.functions ≡ units_among (declared_in U) e.run.function u.functions
+    units_same =
+        units_alike (declared_in T) d.run.function T.types.functions u.functions z.each
+        ∙ (λ i. units_among (z.declared i) (p.seats.run i).function u.functions)
+
+    told_same : (n made : ℕ) (g : TypedFn) → told_by T d n made g ≡ told_by U e n made g
+    told_same n made g = λ i. record {
+      run = typed_run T.program (p.seats.run i);
+      around = (p.seats.home i).around.loops;
+      plan = without_value (p.plan i);
+      modes = p.modes i;
+      elsewhere = special_of (asked_alike p.seats i) (p.plan i);
+      muts = p.seats.function.same.mutable i;
+      new = record { number = n; function = body g };
+      beyond = length g.names;
+      items = items_with (p.seats.run i).function made;
+      units = units_if (whole_same i).functions (units_same i);
+    }
+
+    extracted_same : (n made : ℕ) (Q : Program) (o : Option TypedFn) → is_extracted T d n made Q o ≡ is_extracted U e n made Q o
+    extracted_same n made Q None = refl
+    extracted_same n made Q (Some g) = λ i. nat_le (length g.names) 4294967295 && extracts (told_same n made g i) (p.seats.run i).function (whole_same i) Q
+
+    pub found_same : (n made : ℕ) (q : ProgramTree) (t : Typed) → is_found T d n made q t ≡ is_found U e n made q t
+    found_same n made q t = extracted_same n made (whole_of q t) (function_at t.functions n)
+
+    pub added_alike : added (named T w d) ≡ added (named U w e)
+    added_alike = ap added named_alike
+
+    -- what confirms the answer of the one confirms that of the other
+    pub confirmed_same : d.bounds ≡ e.bounds → Confirmed U w e → Confirmed T w d
+    confirmed_same b x = record {
+      program = x.program;
+      parses = subst (λ (q : ProgramTree). Parses (print_program q) x.program) (sym (extracted_alike b)) x.parses;
+      types = x.types;
+      accepted = x.accepted;
+      found =
+          (λ i. is_found T d (item_alike i) (added_alike i) x.program x.types)
+          ∙ (found_same (new_item U w e) (added (named U w e)) x.program x.types ∙ x.found);
+    }

@@ -29,7 +29,7 @@ use Rattle.rx_engine_extraction.specs.declared.refusal.Refusal.{Refusal}
 use Rattle.rx_engine_extraction.specs.Source.{Text, IsText, Wish, declared_in}
 use Rattle.rx_engine_extraction.specs.Made.{extracted}
 use Rattle.rx_engine_extraction.specs.Alike.{AreOne}
-use Rattle.rx_engine_extraction.specs.Conditions.{Condition, few_bytes}
+use Rattle.rx_engine_extraction.specs.Conditions.{Condition, confirmed}
 use Rattle.rx_engine_extraction.specs.Meeting.{Fits, Holds}
 use Rattle.rx_engine_extraction.specs.Failing.{Fails}
 use Rattle.rx_engine_extraction.specs.Hoisting.{IsBare}
@@ -95,10 +95,10 @@ module _ (one_tokens : (bytes : List ℕ) (ts us : List Tok) → Lexes bytes ts 
     answers_alike bytes w text other bs cs x y =
         let a = x.extracts in let b = y.extracts in let p = path bytes a.text b.text a.is_text b.is_text in
         let z = twice bytes a.text b.text a.is_text b.is_text in
-        let t = subst (λ (V : Text). Stands V w b.case few_bytes) p b.stands in
-        let l = programs a.text b.text.types z w a.case b.case one few_bytes (omega arith) a.stands t in (
+        let t = subst (λ (V : Text). Stands V w b.case confirmed) p b.stands in
+        let l = programs a.text b.text.types z w a.case b.case one confirmed (omega arith) a.stands t in (
           x.rendered ∙ (ap print_program (l ∙ sym (ap (λ (V : Text). extracted V w b.case) p)) ∙ sym y.rendered),
-          x.needed ∙ (bounds a.text b.text.types z w a.case b.case one few_bytes (omega arith) a.stands t ∙ sym y.needed),
+          x.needed ∙ (bounds a.text b.text.types z w a.case b.case one confirmed (omega arith) a.stands t ∙ sym y.needed),
         )
 
     module _ (passed : (p : ProgramTree) (e : CheckFault) → Fronted p → PassCauses e p → e ≡ check_fault.OutOfMemory)
@@ -112,7 +112,7 @@ module _ (one_tokens : (bytes : List ℕ) (ts us : List Tok) → Lexes bytes ts 
       refused_or_extracted bytes w r x y =
           let p = path bytes x.text y.text x.is_text y.is_text in
           none_extracted passed accepted one x.text y.text.types (twice bytes x.text y.text x.is_text y.is_text) (back bytes x.text y.text x.is_text y.is_text) w r x.refused
-          y.case (subst (λ (V : Text). Stands V w y.case few_bytes) p y.stands) (subst (λ (V : Text). Holds V w y.case few_bytes) p y.last)
+          y.case (subst (λ (V : Text). Stands V w y.case confirmed) p y.stands) (subst (λ (V : Text). Holds V w y.case confirmed) p y.last)
 
       module _ (one_pass : (p : ProgramTree) (e f : CheckFault) → e ≢ check_fault.OutOfMemory → f ≢ check_fault.OutOfMemory → Causes e p → Causes f p → passes_of.AreOne e f) where
         pub refusals_alike : (bytes : List ℕ) (w : Wish) (r q : Refusal) → IsRefused bytes w r → IsRefused bytes w q → AreOne r q

@@ -1,5 +1,5 @@
 -- From what is hoisted and how it ends to the verdict.
-use Rattle.std.proofs.Common.{◌≡◌, ◌≢◌, ◌⊎◌, inl, inr, ℕ, ◌<◌, ◌≤◌, ◌^◌, Bool, true, false, List, [], ◌∷◌, ◌++◌, length, map, Option, Some, None, Result, Ok, Err, refl, sym, subst, ap, ◌∙◌, arith}
+use Rattle.std.proofs.Common.{◌≡◌, ◌≢◌, ◌⊎◌, inl, inr, ℕ, ◌+◌, ◌<◌, ◌≤◌, ◌^◌, Bool, true, false, List, [], ◌∷◌, ◌++◌, length, map, Option, Some, None, Result, Ok, Err, refl, sym, subst, ap, ◌∙◌, arith}
 use Rattle.std.specs.Prelude.{if◌then◌else◌, nat_lt}
 use Rattle.std.proofs.lemmas.Bool.{ltb-false}
 use Rattle.rx_core.specs.declared.types.Bound.{Bound}
@@ -21,7 +21,7 @@ use Rattle.rx_check.specs.Causes.{Causes, PassCauses, AreOne}
 use Rattle.rx_check.specs.Passes.{Fronted, Accepted}
 use Rattle.rx_check.specs.declared.loans.LoanFault.TheVariants as loan_fault
 use Rattle.rx_lower_lifetimes.specs.declared.whole.LowerFault.TheVariants as lower_fault
-use Rattle.rx_hoist_extraction.specs.Extraction.{extraction, new_number}
+use Rattle.rx_hoist_extraction.specs.Extraction.{added, extraction, new_number}
 use Rattle.rx_hoist_extraction.specs.Limits.{first_past, made_levels}
 use Rattle.rx_repair.specs.Named.{lifetimes_of, named_at}
 use Rattle.rx_repair.specs.Repaired.{repaired}
@@ -38,6 +38,8 @@ use Rattle.rx_engine_extraction.specs.Case.{Case}
 use Rattle.rx_engine_extraction.specs.Made.{run_of, named, hoisted, new_item, extracted}
 use Rattle.rx_engine_extraction.specs.Conditions as condition
 use Rattle.rx_engine_extraction.specs.Conditions.{Condition, before}
+use Rattle.rx_engine_extraction.specs.Confirmed.{IsConfirmed, Confirmed}
+use Rattle.rx_engine_extraction.specs.Confirming.{IsJudged}
 use Rattle.rx_engine_extraction.specs.Meeting.{Holds, Fits, IsUnfit, levels_in, most_levels, most_sites, most_bytes}
 use Rattle.rx_engine_extraction.specs.Failing.{Fails, HasLarge}
 use Rattle.rx_engine_extraction.specs.Promise.{Stands, Keeps}
@@ -185,6 +187,7 @@ module _ (fronted : (p : ProgramTree) (e : CheckFault) → Fronted p → PassCau
     past_limit (refusal.Aliased s) h = absurd h
     past_limit (refusal.Region i l k) h = absurd h
     past_limit (refusal.Loan a b) h = absurd h
+    past_limit refusal.Unconfirmed h = absurd h
 
     -- ---- with bounds
 
@@ -210,6 +213,7 @@ module _ (fronted : (p : ProgramTree) (e : CheckFault) → Fronted p → PassCau
       misfit (refusal.Limit which.Bytes n) h = refused bound condition.few_bytes (refusal.Limit which.Bytes n)
           (h.0, (none_lacking whole h.0, (none_before whole (accepted_fronted whole h.0), fitted)))
           (ap (λ m. refusal.Limit which.Bytes m) h.1, subst (λ m. most_bytes < m) h.1 h.2)
+      misfit refusal.Unconfirmed h = absurd h
       misfit (refusal.Limit which.Sites n) h = absurd h
       misfit (refusal.Limit which.Positions n) h = absurd h
       misfit (refusal.Limit which.Parameters n) h = absurd h
@@ -232,15 +236,15 @@ module _ (fronted : (p : ProgramTree) (e : CheckFault) → Fronted p → PassCau
 
   -- ---- from the beginning
 
-  module _ (bytes : List ℕ) (T : Text) (w : Wish) (is : IsText bytes T) (p : ProgramTree) (n : ℕ) (h : IsHoisted T w p n) where
-    abbrev made : Case
-    made = h.case
-
+  module _ (bytes : List ℕ) (T : Text) (w : Wish) (is : IsText bytes T) (made : Case) (p : ProgramTree) (n : ℕ) (h : IsHoisted T w made p n) where
     abbrev bare_of : ProgramTree
     bare_of = hoisted T w made
 
     abbrev place : ℕ
     place = new_item T w made
+
+    abbrev new : ℕ
+    new = added (named T w made)
 
     -- the run is selected, so its item is a function
     selected : (s : Span) × (f : Function) × (nth T.program made.run.function ≡ Some (plain.function_item s f))
@@ -266,23 +270,51 @@ module _ (fronted : (p : ProgramTree) (e : CheckFault) → Fronted p → PassCau
       low_whole : levels_of (extracted T w with) ≤ levels
       low_whole = subst (λ x. levels_of x ≤ levels) same_whole (subst (λ m. m ≤ levels) (sym (same_levels bare_of place bs)) low_bare)
 
-      keeps : (a : Answer) → IsAnswered (repaired bare_of place bs) bs a → Keeps bytes w a.text a.bounds
-      keeps a x = let y = subst (λ p. IsAnswered p bs a) same_whole x in
-          let read = printed (extracted T w with) formed_whole low_whole in record {
-            extracts = record {
-              text = T;
-              is_text = is;
-              case = with;
-              stands = all_met T w made h.stands t g bs fits same_whole y.accepted;
-              last = y.printed.short;
-            };
-            rendered = y.printed.text;
-            needed = y.printed.bounds;
-            program = read.0;
-            parses = subst (λ b. Parses b read.0) (sym y.printed.text) read.1;
-            same = read.2;
-            accepted = y.accepted;
-          }
+      module _ (a : Answer) (x : IsAnswered (repaired bare_of place bs) bs a) where
+        y : IsAnswered (extracted T w with) bs a
+        y = subst (λ q. IsAnswered q bs a) same_whole x
+
+        -- what is found of the answer's text is found of the extraction's
+        confirmed_with : IsConfirmed T made place new a.text → Confirmed T w with
+        confirmed_with c = record {
+          program = c.program;
+          parses = subst (λ b. Parses b c.program) y.printed.text c.parses;
+          types = c.types;
+          accepted = c.accepted;
+          found = c.found;
+        }
+
+        confirmed_by : Confirmed T w with → IsConfirmed T made place new a.text
+        confirmed_by c = record {
+          program = c.program;
+          parses = subst (λ b. Parses b c.program) (sym y.printed.text) c.parses;
+          types = c.types;
+          accepted = c.accepted;
+          found = c.found;
+        }
+
+        standing : Stands T w with condition.confirmed
+        standing = (y.printed.short, all_met T w made h.stands t g bs fits same_whole y.accepted)
+
+        keeps : IsConfirmed T made place new a.text → Keeps bytes w a.text a.bounds
+        keeps c = let read = printed (extracted T w with) formed_whole low_whole in record {
+          extracts = record {
+            text = T;
+            is_text = is;
+            case = with;
+            stands = standing;
+            last = confirmed_with c;
+          };
+          rendered = y.printed.text;
+          needed = y.printed.bounds;
+          program = read.0;
+          parses = subst (λ b. Parses b read.0) (sym y.printed.text) read.1;
+          same = read.2;
+          accepted = y.accepted;
+        }
+
+        unconfirmed : (IsConfirmed T made place new a.text → ⊥) → RefusedBy T w refusal.Unconfirmed
+        unconfirmed c = record { case = with; condition = condition.confirmed; stands = standing; fails = (refl, λ k. c (confirmed_by k)) }
 
       kept : (r : Refusal) → IsKept (repaired bare_of place bs) r → RefusedBy T w r
       kept r x = misfit T w made h.stands t g bs fits same_whole r (subst (λ p. IsKept p r) same_whole x)
@@ -290,13 +322,43 @@ module _ (fronted : (p : ProgramTree) (e : CheckFault) → Fronted p → PassCau
     refused_with : (r : Refusal) → RefusedBy T w r → IsRefused bytes w r
     refused_with r x = record { text = T; is_text = is; refused = x }
 
-    ended : (r : Result Answer Fault) → IsFinished bare_of place r → Answers bytes w r
-    ended (Ok a) x = keeps x.types x.made x.bounds x.fits a x.answered
-    ended (Err (fault.Refused r)) (inl x) = refused_with r (past_limit T w made h.stands r x)
-    ended (Err (fault.Refused r)) (inr x) = refused_with r (kept x.types x.made x.bounds x.fits r x.kept)
-    ended (Err fault.OutOfMemory) x = tt
-    ended (Err (fault.Syntax e)) x = absurd x
-    ended (Err (fault.NotAccepted e)) x = absurd x
+    refused_after : (a : Answer) → IsEnded bare_of place a → (r : Refusal) → IsJudged T made place new a (Err (fault.Refused r)) → Answers bytes w (Err (fault.Refused r))
+    refused_after a x refusal.Unconfirmed j = refused_with refusal.Unconfirmed (unconfirmed x.types x.made x.bounds x.fits a x.answered j)
+    refused_after a x refusal.NotARun j = absurd j
+    refused_after a x refusal.BadName j = absurd j
+    refused_after a x refusal.NameTaken j = absurd j
+    refused_after a x (refusal.Unreachable s) j = absurd j
+    refused_after a x refusal.Endless j = absurd j
+    refused_after a x (refusal.MixedInit s) j = absurd j
+    refused_after a x (refusal.PartlyMoved s) j = absurd j
+    refused_after a x (refusal.Shadowed s) j = absurd j
+    refused_after a x (refusal.NotMut s) j = absurd j
+    refused_after a x (refusal.Aliased s) j = absurd j
+    refused_after a x (refusal.Limit v m) j = absurd j
+    refused_after a x (refusal.Unfit e) j = absurd j
+    refused_after a x (refusal.Region i l k) j = absurd j
+    refused_after a x (refusal.Loan b c) j = absurd j
 
-    pub concluded : (r : Result Answer Fault) → IsFinished p n r → Answers bytes w r
-    concluded r x = ended r (subst (λ m. IsFinished bare_of m r) h.item (subst (λ q. IsFinished q n r) h.program x))
+    judged : (a : Answer) → IsEnded bare_of place a → (r : Result Answer Fault) → IsJudged T made place new a r → Answers bytes w r
+    judged a x (Ok b) j = subst (λ (z : Answer). Keeps bytes w z.text z.bounds) (sym j.0) (keeps x.types x.made x.bounds x.fits a x.answered j.1)
+    judged a x (Err (fault.Refused r)) j = refused_after a x r j
+    judged a x (Err fault.OutOfMemory) j = tt
+    judged a x (Err (fault.Syntax e)) j = absurd j
+    judged a x (Err (fault.NotAccepted e)) j = absurd j
+
+    failed : (f : Fault) → IsFinished bare_of place (Err f) → Answers bytes w (Err f)
+    failed (fault.Refused r) (inl x) = refused_with r (past_limit T w made h.stands r x)
+    failed (fault.Refused r) (inr x) = refused_with r (kept x.types x.made x.bounds x.fits r x.kept)
+    failed fault.OutOfMemory x = tt
+    failed (fault.Syntax e) x = absurd x
+    failed (fault.NotAccepted e) x = absurd x
+
+    finished_there : (r : Result Answer Fault) → IsFinished p n r → IsFinished bare_of place r
+    finished_there r x = subst (λ m. IsFinished bare_of m r) h.item (subst (λ q. IsFinished q n r) h.program x)
+
+    -- by what is found of the answer
+    pub concluded : (a : Answer) → IsFinished p n (Ok a) → (r : Result Answer Fault) → ((m : ℕ) → n ≡ made.run.function + m → IsJudged T made n m a r) → Answers bytes w r
+    concluded a x r j = judged a (finished_there (Ok a) x) r (subst (λ k. IsJudged T made k new a r) h.item (j new h.item))
+
+    pub stopped : (f : Fault) → IsFinished p n (Err f) → Answers bytes w (Err f)
+    stopped f x = failed f (finished_there (Err f) x)

@@ -241,6 +241,7 @@ module _ (T : Text) (r : RunPos) (pl : Plan) where
       over (refusal.Unfit e) h = absurd h
       over (refusal.Region i l k) h = absurd h
       over (refusal.Loan a b) h = absurd h
+      over refusal.Unconfirmed h = absurd h
 
       not_within : (x : Fault) → IsNotWithin T.sizes pl whole x → IsUnmoved T r pl x
       not_within (fault.Refused x) h = over x h

@@ -136,6 +136,7 @@ misfit_kept : (p : ProgramTree) (r : Refusal) → IsMisfit p r → IsKept p r
 misfit_kept p (refusal.Unfit e) h = h
 misfit_kept p (refusal.Region i l k) h = h
 misfit_kept p (refusal.Loan a b) h = h
+misfit_kept p refusal.Unconfirmed h = absurd h
 misfit_kept p (refusal.Limit w n) h = absurd h
 misfit_kept p refusal.NotARun h = absurd h
 misfit_kept p refusal.BadName h = absurd h
@@ -175,6 +176,7 @@ long_kept p a (refusal.Aliased s) h = absurd h
 long_kept p a (refusal.Unfit e) h = absurd h
 long_kept p a (refusal.Region i l k) h = absurd h
 long_kept p a (refusal.Loan x y) h = absurd h
+long_kept p a refusal.Unconfirmed h = absurd h
 
 pub too_long_kept : (p : ProgramTree) → Accepted p → (f : Fault) → IsTooLong p f → IsUnanswered p f
 too_long_kept p a (fault.Refused r) h = long_kept p a r h

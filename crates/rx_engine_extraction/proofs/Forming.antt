@@ -21,22 +21,24 @@ use Rattle.rx_hoist_extraction.specs.Plan.{Plan}
 use Rattle.rx_hoist_extraction.specs.Limits.{count_lifetimes}
 use Rattle.rx_hoist_naming.specs.Words.{OutsAgree}
 use Rattle.rx_hoist_extraction.specs.Extraction.{extraction}
+use Rattle.rx_hoist_plan.specs.PlainPlan.{plain-Plan}
+use Rattle.rx_engine_extraction.specs.declared.given.Plans.{Plans}
 use Rattle.rx_engine_extraction.specs.Source.{Text, Wish}
 use Rattle.rx_engine_extraction.specs.Case.{Case, asked}
 use Rattle.rx_engine_extraction.specs.Made.{run_of, named, hoisted}
 use Rattle.rx_engine_extraction.specs.Meeting.{most_lifetimes, Selects, Seated, parts_of}
 use Rattle.rx_engine_extraction.specs.Beginning.{IsChosen}
-use Rattle.rx_engine_extraction.specs.Deciding.{case_at, with_modes, IsDecided}
+use Rattle.rx_engine_extraction.specs.Deciding.{case_at, with_plans, IsDecided}
 use Rattle.rx_engine_extraction.specs.Moving.{called, lifetimes_in}
 
 pub call_formed : ((T : Text) (bytes : List ℕ) (names : List ItemNames) → Lexes bytes T.tokens → Parses bytes T.program → length bytes < 2 ^ 32 → Meant T.program names → IsTyped T.program names T.types
     → (w : Wish) (d : Case) → Selects T w d → is_identifier w.name ≡ true → Seated T d.run d.function d.home → IsExitPlan (asked T d) d.listed → OutsAgree d.listed.exits
     → count_lifetimes T.program (named T w d) (parts_of T w d) ≤ most_lifetimes → FormedProgram (hoisted T w d))
     → (T : Text) (bytes : List ℕ) (names : List ItemNames) → Lexes bytes T.tokens → Parses bytes T.program → length bytes < 2 ^ 32 → Meant T.program names → IsTyped T.program names T.types
-    → (w : Wish) (r : RunPos) (g : TypedFn) (h : Home) (pl : Plan) → IsChosen T.tokens T.length T.program w.start w.end w.name r
-    → IsDecided T (case_at r g h) w.name w.choice pl → lifetimes_in T r pl ≤ most_lifetimes → FormedProgram (called T r pl)
-call_formed law T bytes names lexed parsed short meant typed w r g h pl chosen decided few =
-    let d = with_modes T (case_at r g h) decided.list decided.modes decided.moved in
+    → (w : Wish) (r : RunPos) (g : TypedFn) (h : Home) (x : Plans) → IsChosen T.tokens T.length T.program w.start w.end w.name r
+    → IsDecided T (case_at r g h) w.name w.choice x → lifetimes_in T r (plain-Plan x.named) ≤ most_lifetimes → FormedProgram (called T r (plain-Plan x.named))
+call_formed law T bytes names lexed parsed short meant typed w r g h x chosen decided few =
+    let d = with_plans T (case_at r g h) x in
     let e = decided.planned.whole.settled.entered in
     subst (λ (k : Plan). FormedProgram (extraction T.program (run_of r) k [])) (sym decided.named)
     (law T bytes names lexed parsed short meant typed w d chosen.run chosen.word e.reached.0 decided.planned.listed decided.planned.agree

@@ -25,7 +25,7 @@ use Rattle.rx_repair.proofs.Written.{still_formed, same_levels}
 use Rattle.rx_engine_extraction.specs.Source.{Text, Wish}
 use Rattle.rx_engine_extraction.specs.Case.{Case, asked}
 use Rattle.rx_engine_extraction.specs.Made.{run_of, named, hoisted, new_item, extracted}
-use Rattle.rx_engine_extraction.specs.Conditions.{Condition, selects, word, reached, unmoved, few_lifetimes, few_levels, few_positions, legal, few_bytes}
+use Rattle.rx_engine_extraction.specs.Conditions.{Condition, selects, word, reached, unmoved, few_lifetimes, few_levels, few_positions, legal, confirmed}
 use Rattle.rx_engine_extraction.specs.Meeting.{most_levels, most_lifetimes, Selects, Seated, parts_of, Holds, Fits}
 use Rattle.rx_engine_extraction.specs.Promise.{Extracts, program_of, Keeps}
 use Rattle.rx_engine_extraction.proofs.Answering.{last_within}
@@ -49,8 +49,8 @@ module _ (formed : (T : Text) (bytes : List ℕ) (names : List ItemNames) → Le
     abbrev place : ℕ
     place = new_item T w d
 
-    held : (c : Condition) → number c < number few_bytes → Holds T w d c
-    held c l = (earlier (Holds T w d) c few_bytes l x.stands).it
+    held : (c : Condition) → number c < number confirmed → Holds T w d c
+    held c l = (earlier (Holds T w d) c confirmed l x.stands).it
 
     fits : Fits bare place d.types d.made d.bounds
     fits = held few_positions (omega arith)

@@ -21,9 +21,11 @@ pub mod AgreeingTypes
 pub mod AgreeingNames
 pub mod AgreeingPairs
 pub mod AgreeingBounds
+pub mod AgreeingFound
 pub mod Agreeing
 pub mod Standing
 pub mod Clashing
 pub mod Telling
 pub mod AgreeingTexts
 pub mod Keeping
+pub mod Comparing

@@ -10,6 +10,8 @@ use Rattle.rx_engine_extraction.specs.declared.refusal.Fault.{Fault}
 use Rattle.rx_engine_extraction.specs.declared.refusal.Fault.TheVariants as fault
 use Rattle.rx_engine_extraction.specs.declared.refusal.Refusal.{Refusal}
 use Rattle.rx_engine_extraction.specs.declared.refusal.Refusal.TheVariants as refusal
+use Rattle.rx_hoist_plan.specs.PlainPlan.{plain-Plan}
+use Rattle.rx_engine_extraction.specs.declared.given.Plans.{Plans}
 use Rattle.rx_engine_extraction.specs.Source.{Text, Wish}
 use Rattle.rx_engine_extraction.specs.Case.{Case}
 use Rattle.rx_engine_extraction.specs.Made.{named}
@@ -19,14 +21,14 @@ use Rattle.rx_engine_extraction.specs.Failing.{Fails}
 use Rattle.rx_engine_extraction.specs.Promise.{Stands}
 use Rattle.rx_engine_extraction.specs.Verdict.{RefusedBy}
 use Rattle.rx_engine_extraction.specs.Beginning.{IsChosen}
-use Rattle.rx_engine_extraction.specs.Deciding.{case_at, with_modes, IsDecided}
+use Rattle.rx_engine_extraction.specs.Deciding.{case_at, with_plans, IsDecided}
 use Rattle.rx_engine_extraction.specs.Hoisting.{IsHoisted, IsStopped}
 use Rattle.rx_engine_extraction.specs.Moving.{IsMoved, IsPast, IsUnmoved}
 
-module _ (T : Text) (w : Wish) (r : RunPos) (g : TypedFn) (h : Home) (pl : Plan) (chosen : IsChosen T.tokens T.length T.program w.start w.end w.name r)
-    (decided : IsDecided T (case_at r g h) w.name w.choice pl) where
+module _ (T : Text) (w : Wish) (r : RunPos) (g : TypedFn) (h : Home) (x : Plans) (chosen : IsChosen T.tokens T.length T.program w.start w.end w.name r)
+    (decided : IsDecided T (case_at r g h) w.name w.choice x) where
   abbrev at : Case
-  at = with_modes T (case_at r g h) decided.list decided.modes decided.moved
+  at = with_plans T (case_at r g h) x
 
   abbrev own : Plan
   own = named T w at
@@ -36,10 +38,10 @@ module _ (T : Text) (w : Wish) (r : RunPos) (g : TypedFn) (h : Home) (pl : Plan)
   met = let p = decided.planned in let y = p.whole.settled in let e = y.entered in
       (decided.unmoved, (decided.passable, (p.visible, (p.whole.whole, (y.settled, (e.left, (e.reached, (chosen.unused, (chosen.word, (chosen.run, tt))))))))))
 
-  refused : (c : Condition) (x : Refusal) → Stands T w at c → Fails T w at c x → RefusedBy T w x
-  refused c x s f = record { case = at; condition = c; stands = s; fails = f }
+  refused : (c : Condition) (y : Refusal) → Stands T w at c → Fails T w at c y → RefusedBy T w y
+  refused c y s f = record { case = at; condition = c; stands = s; fails = f }
 
-  past : (x : Refusal) → IsPast T r own x → RefusedBy T w x
+  past : (y : Refusal) → IsPast T r own y → RefusedBy T w y
   past (refusal.Limit which.Parameters n) f = refused condition.few_parameters (refusal.Limit which.Parameters n) met (ap (λ m. refusal.Limit which.Parameters m) f.0, f.1)
   past (refusal.Limit which.Lifetimes n) f = refused condition.few_lifetimes (refusal.Limit which.Lifetimes n) (f.2, met) (ap (λ m. refusal.Limit which.Lifetimes m) f.0, f.1)
   past (refusal.Limit which.Levels n) f = let few = f.3 in
@@ -63,16 +65,16 @@ module _ (T : Text) (w : Wish) (r : RunPos) (g : TypedFn) (h : Home) (pl : Plan)
   past (refusal.Unfit e) f = absurd f
   past (refusal.Region i l k) f = absurd f
   past (refusal.Loan a b) f = absurd f
+  past refusal.Unconfirmed f = absurd f
 
-  pub unmoved_stops : (f : Fault) → IsUnmoved T r pl f → IsStopped T w f
-  unmoved_stops (fault.Refused x) f = past x (subst (λ k. IsPast T r k x) decided.named f)
+  pub unmoved_stops : (f : Fault) → IsUnmoved T r (plain-Plan x.named) f → IsStopped T w f
+  unmoved_stops (fault.Refused y) f = past y (subst (λ k. IsPast T r k y) decided.named f)
   unmoved_stops fault.OutOfMemory f = tt
   unmoved_stops (fault.Syntax e) f = absurd f
   unmoved_stops (fault.NotAccepted e) f = absurd f
 
-  hoisted_by : (q : ProgramTree) (n : ℕ) → IsMoved T r own q n → IsHoisted T w q n
+  hoisted_by : (q : ProgramTree) (n : ℕ) → IsMoved T r own q n → IsHoisted T w at q n
   hoisted_by q n m = let few = m.few in record {
-    case = at;
     stands = (m.short, (few.parts, (few.levels, (few.few.lifetimes, (few.few.parameters, met)))));
     program = m.program;
     item = m.item;
@@ -81,5 +83,5 @@ module _ (T : Text) (w : Wish) (r : RunPos) (g : TypedFn) (h : Home) (pl : Plan)
     numbered = m.numbered;
   }
 
-  pub moved_is_hoisted : (q : ProgramTree) (n : ℕ) → IsMoved T r pl q n → IsHoisted T w q n
+  pub moved_is_hoisted : (q : ProgramTree) (n : ℕ) → IsMoved T r (plain-Plan x.named) q n → IsHoisted T w at q n
   moved_is_hoisted q n m = hoisted_by q n (subst (λ k. IsMoved T r k q n) decided.named m)

@@ -3,7 +3,7 @@
 use Rattle.std.proofs.Common.{◌≡◌, ℕ, zero, suc, ◌<◌, ◌⊎◌, inl, inr, refl, sym, ◌∙◌, subst, ap, arith}
 use Rattle.std.proofs.lemmas.Bool.{cases_order}
 use Rattle.rx_tree.specs.Lists.{Every}
-use Rattle.rx_engine_extraction.specs.Conditions.{Condition, before, selects, word, unused, reached, left, settled, whole, visible, passable, unmoved, few_parameters, few_lifetimes, few_levels, few_parts, few_numbers, fits, few_sites, few_positions, fits_bounded, known, legal, few_bytes}
+use Rattle.rx_engine_extraction.specs.Conditions.{Condition, before, selects, word, unused, reached, left, settled, whole, visible, passable, unmoved, few_parameters, few_lifetimes, few_levels, few_parts, few_numbers, fits, few_sites, few_positions, fits_bounded, known, legal, few_bytes, confirmed}
 
 abbrev pub number : Condition → ℕ
 number selects = 0
@@ -28,6 +28,7 @@ number fits_bounded = 18
 number known = 19
 number legal = 20
 number few_bytes = 21
+number confirmed = 22
 
 abbrev condition_of : ℕ → Condition
 condition_of zero = selects
@@ -51,7 +52,8 @@ condition_of (suc (suc (suc (suc (suc (suc (suc (suc (suc (suc (suc (suc (suc (s
 condition_of (suc (suc (suc (suc (suc (suc (suc (suc (suc (suc (suc (suc (suc (suc (suc (suc (suc (suc zero)))))))))))))))))) = fits_bounded
 condition_of (suc (suc (suc (suc (suc (suc (suc (suc (suc (suc (suc (suc (suc (suc (suc (suc (suc (suc (suc zero))))))))))))))))))) = known
 condition_of (suc (suc (suc (suc (suc (suc (suc (suc (suc (suc (suc (suc (suc (suc (suc (suc (suc (suc (suc (suc zero)))))))))))))))))))) = legal
-condition_of _ = few_bytes
+condition_of (suc (suc (suc (suc (suc (suc (suc (suc (suc (suc (suc (suc (suc (suc (suc (suc (suc (suc (suc (suc (suc zero))))))))))))))))))))) = few_bytes
+condition_of _ = confirmed
 
 back : (c : Condition) → condition_of (number c) ≡ c
 back selects = refl
@@ -76,6 +78,7 @@ back fits_bounded = refl
 back known = refl
 back legal = refl
 back few_bytes = refl
+back confirmed = refl
 
 one_number : (c k : Condition) → number c ≡ number k → c ≡ k
 one_number c k e = sym (back c) ∙ ap condition_of e ∙ back k
@@ -161,6 +164,9 @@ module _ (P : Condition → Type 0) (c : Condition) where
   at_few_bytes : number c < 21 → Every P (before few_bytes) → Both P c
   at_few_bytes l f = step P c legal at_legal l f.0 f.1
 
+  at_confirmed : number c < 22 → Every P (before confirmed) → Both P c
+  at_confirmed l f = step P c few_bytes at_few_bytes l f.0 f.1
+
   pub earlier : (k : Condition) → number c < number k → Every P (before k) → Both P c
   earlier selects l f = at_selects l f
   earlier word l f = at_word l f
@@ -184,6 +190,7 @@ module _ (P : Condition → Type 0) (c : Condition) where
   earlier known l f = at_known l f
   earlier legal l f = at_legal l f
   earlier few_bytes l f = at_few_bytes l f
+  earlier confirmed l f = at_confirmed l f
 
 -- of two conditions that differ one stands in front of the other
 pub in_order : (c k : Condition) → (c ≡ k) ⊎ ((number c < number k) ⊎ (number k < number c))

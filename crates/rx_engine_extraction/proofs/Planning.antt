@@ -19,7 +19,8 @@ use Rattle.rx_modes.specs.declared.plan.ModeFault.{ModeFault}
 use Rattle.rx_modes.specs.declared.plan.ModePlan.{ModePlan}
 use Rattle.rx_modes_policy.specs.declared.uses.Mode.{Mode}
 use Rattle.rx_modes_policy.specs.declared.uses.Uses.{Uses}
-use Rattle.rx_hoist_extraction.specs.Plan as names
+use Rattle.rx_hoist_plan.specs.declared.plan.NamedPlan.{NamedPlan}
+use Rattle.rx_hoist_plan.specs.PlainPlan.{plain-Plan}
 use Rattle.rx_engine_extraction.specs.declared.refusal.Fault.{Fault}
 use Rattle.rx_engine_extraction.specs.declared.refusal.Fault.TheVariants as fault
 use Rattle.rx_engine_extraction.specs.declared.refusal.Refusal.{Refusal}
@@ -85,6 +86,7 @@ module _ (T : Text) (r : RunPos) (f : TypedFn) (h : Home) (seated : Seated T r f
   not_passed k p (refusal.Unfit e) m = absurd m
   not_passed k p (refusal.Region i l j) m = absurd m
   not_passed k p (refusal.Loan a b) m = absurd m
+  not_passed k p refusal.Unconfirmed m = absurd m
 
   pub unpassed_stops : (k : ExitPlan) → IsPlanned T at k → (x : Fault) → IsUnpassed A f k x → IsUndecided T at x
   unpassed_stops k p (fault.Refused x) m = not_passed k p x m
@@ -107,16 +109,15 @@ module _ (T : Text) (r : RunPos) (f : TypedFn) (h : Home) (seated : Seated T r f
   unplanned_stops (fault.Refused (refusal.Unfit e)) m = absurd m
   unplanned_stops (fault.Refused (refusal.Region i l k)) m = absurd m
   unplanned_stops (fault.Refused (refusal.Loan a b)) m = absurd m
+  unplanned_stops (fault.Refused refusal.Unconfirmed) m = absurd m
   unplanned_stops fault.OutOfMemory m = tt
   unplanned_stops (fault.Syntax e) m = absurd m
   unplanned_stops (fault.NotAccepted e) m = absurd m
 
-  pub is_decided : (name : List ℕ) (choice : Uses → Mode) (k : ExitPlan) (m : ModePlan) (pl : names.Plan) → IsPlanned T at k
-      → modes.HasModes A f.mutable (plan_of A k) choice m → pl ≡ named T (wish_by name choice) (with_modes T at k m.modes m.moved) → IsDecided T at name choice pl
+  pub is_decided : (name : List ℕ) (choice : Uses → Mode) (k : ExitPlan) (m : ModePlan) (pl : NamedPlan) → IsPlanned T at k
+      → modes.HasModes A f.mutable (plan_of A k) choice m → plain-Plan pl ≡ named T (wish_by name choice) (with_modes T at k m.modes m.moved)
+      → IsDecided T at name choice (record { plan = k; passed = m; named = pl })
   is_decided name choice k m pl p a e = record {
-    list = k;
-    modes = m.modes;
-    moved = m.moved;
     planned = p;
     passable = a.each_has_one;
     unmoved = (a.none_is_aliased, record { listed = p.listed; agree = p.agree; plan = refl; are_modes = a.modes; are_moved = a.moved });

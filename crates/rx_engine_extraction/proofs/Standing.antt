@@ -21,11 +21,12 @@ use Rattle.rx_engine_extraction.specs.Source.{Text, Wish}
 use Rattle.rx_engine_extraction.specs.Case.{Case, asked}
 use Rattle.rx_engine_extraction.specs.Made.{run_of, named, hoisted, extracted}
 use Rattle.rx_engine_extraction.specs.Conditions.{Condition, selects, reached, whole, unmoved, few_positions}
+use Rattle.rx_engine_extraction.specs.Confirmed.{Confirmed}
 use Rattle.rx_engine_extraction.specs.Meeting.{most_levels, most_parts, parts_in, parts_of, levels_in, same_name, Fits, Holds}
 use Rattle.rx_engine_extraction.specs.Failing.{FirstOf}
 use Rattle.rx_engine_extraction.specs.Hoisting.{IsBare}
 use Rattle.rx_engine_extraction.specs.Promise.{Stands}
-use Rattle.rx_engine_extraction.proofs.Agreeing.{retyped, Twice, Seats, Passed, as_seated, asked_alike, names_of_both, as_planned, as_passed, named_alike, hoisted_alike, as_bounded, extracted_alike}
+use Rattle.rx_engine_extraction.proofs.Agreeing.{retyped, Twice, Seats, Passed, as_seated, asked_alike, names_of_both, as_planned, as_passed, named_alike, hoisted_alike, as_bounded, extracted_alike, confirmed_same}
 use Rattle.rx_engine_extraction.proofs.Orders.{number, earlier}
 
 module _ (T : Text) (u : Typed) (z : Twice T u) (w : Wish) (d e : Case) where
@@ -58,6 +59,9 @@ module _ (T : Text) (u : Typed) (z : Twice T u) (w : Wish) (d e : Case) where
 
     pub programs : (k : Condition) → 17 < number k → Stands T w d k → Stands U w e k → extracted T w d ≡ extracted U w e
     programs k l s t = extracted_alike T u z w d e (passes k (omega (arith, l)) s t) (bounds k l s t)
+
+    pub confirmed_back : (k : Condition) → 17 < number k → Stands T w d k → Stands U w e k → Confirmed U w e → Confirmed T w d
+    confirmed_back k l s t x = confirmed_same T u z w d e (passes k (omega (arith, l)) s t) (bounds k l s t) x
 
   -- ---- of which variables something holds
 

@@ -1,8 +1,10 @@
 -- What the parts of the beginning find, as the verdict says it, and from what is hoisted in a text to the verdict.
-use Rattle.std.proofs.Common.{◌≡◌, ◌≢◌, ℕ, Bool, true, false, ◌||◌, List, length, Result, Ok, Err, refl, sym, subst}
-use Rattle.rx_lex.specs.Tok.{Tok}
-use Rattle.rx_lex.specs.Tokens.{Lexes}
+use Rattle.std.proofs.Common.{◌≡◌, ◌≢◌, ℕ, ◌+◌, ◌≤◌, Bool, true, false, ◌||◌, List, length, Result, Ok, Err, refl, sym, subst, arith}
+use Rattle.rx_core.specs.declared.types.Bound.{Bound}
 use Rattle.rx_tree.specs.Plain.{ProgramTree}
+use Rattle.rx_lex.specs.declared.lexer.Tokens.{Tokens}
+use Rattle.rx_lex.specs.Tok.{toks}
+use Rattle.rx_typed_declarations.specs.Sizes as sizes
 use Rattle.rx_parse_grammar.specs.grammar.Items.{Parses}
 use Rattle.rx_parse.specs.Answer.{IsCause}
 use Rattle.rx_parse.specs.declared.fault.SyntaxFault.{SyntaxFault}
@@ -10,17 +12,25 @@ use Rattle.rx_parse.specs.declared.fault.SyntaxFault.TheVariants as syntax_fault
 use Rattle.rx_check.specs.declared.fault.CheckFault.{CheckFault}
 use Rattle.rx_check.specs.declared.fault.CheckFault.TheVariants as check_fault
 use Rattle.rx_check.specs.Causes.{Causes}
-use Rattle.rx_check.specs.Front.{Front, Judged, IsCheckedOf}
+use Rattle.rx_check.specs.Answers.{AllBorrow}
+use Rattle.rx_check.specs.Front.{Front, Judged, IsFrontOf, IsCheckedOf}
 use Rattle.rx_hoist_extraction.specs.Names.{Names}
 use Rattle.rx_hoist_extraction.specs.FreeName.{FreeName}
 use Rattle.rx_hoist_naming.specs.NameTest.{is_taken}
+use Rattle.rx_engine_extraction.specs.declared.given.Hoisting.{Hoisting}
 use Rattle.rx_engine_extraction.specs.declared.refusal.Answer.{Answer}
 use Rattle.rx_engine_extraction.specs.declared.refusal.Fault.{Fault}
 use Rattle.rx_engine_extraction.specs.declared.refusal.Fault.TheVariants as fault
 use Rattle.rx_engine_extraction.specs.Source.{Text, IsText, Wish}
-use Rattle.rx_engine_extraction.specs.Beginning.{of_syntax, not_accepted, IsUnreadable, IsUnaccepted}
-use Rattle.rx_engine_extraction.specs.Hoisting.{text_by, IsFound, IsHoisted, IsStopped, IsNotFound}
-use Rattle.rx_engine_extraction.specs.Verdict.{RefusedBy, Answers}
+use Rattle.rx_engine_extraction.specs.Conditions.{unmoved, fits}
+use Rattle.rx_engine_extraction.specs.Meeting.{Holds}
+use Rattle.rx_engine_extraction.specs.Beginning.{of_syntax, not_accepted, IsUnreadable, IsUnaccepted, AreTokens}
+use Rattle.rx_engine_extraction.specs.Hoisting.{IsHoisting, IsStopped}
+use Rattle.rx_engine_extraction.specs.Ending.{IsPrinted}
+use Rattle.rx_engine_extraction.specs.Confirming.{IsTold}
+use Rattle.rx_engine_extraction.specs.Deciding.{case_of}
+use Rattle.rx_engine_extraction.specs.Verdict.{Answers}
+use Rattle.rx_engine_extraction.proofs.Orders.{earlier}
 
 pub unreadable : (e : SyntaxFault) (bytes : List ℕ) → IsCause e bytes → IsUnreadable bytes (of_syntax e)
 unreadable (syntax_fault.Lex x) bytes h = (told, h)
@@ -85,32 +95,34 @@ unaccepted_answer bytes p q w (fault.Syntax e) h = absurd h
 unaccepted_answer bytes p q w (fault.Refused r) h = absurd h
 unaccepted_answer bytes p q w fault.OutOfMemory h = tt
 
--- a text that is read and accepted, by the tokens that it alone has
-pub is_text : (bytes : List ℕ) (p : ProgramTree) (c : Judged) (q : Parses bytes p) → IsCheckedOf p c → (ts : List Tok) → ((us : List Tok) → Lexes bytes us → ts ≡ us)
-    → IsText bytes (text_by ts (length bytes) p c.front)
-is_text bytes p c q is ts one = record {
-  parses = q;
-  tokens = sym (one q.tokens q.lexed);
-  long = refl;
-  accepted = record { front = is.front.accepted; borrows = is.borrows };
-  sized = is.front.facts.sized;
-}
+-- a text that is read and accepted, by its tokens and what the passes know of it
+pub is_text : (bytes : List ℕ) (t : Tokens) (p : ProgramTree) (x : Front) (c : Judged) (q : Parses bytes p) → IsCheckedOf p c → x ≡ c.front → AreTokens bytes t
+    → IsText bytes (record { tokens = toks t.list; length = t.length; program = p; types = x.typed; sizes = sizes.told x.facts.sizes })
+is_text bytes t p x c q is same tokens =
+    let front = subst (λ (y : Front). IsFrontOf p y) (sym same) is.front in record {
+      parses = q;
+      tokens = sym (tokens.one q.tokens q.lexed);
+      long = sym tokens.long;
+      accepted = record { front = front.accepted; borrows = subst (λ (y : Front). AllBorrow y.typed) (sym same) is.borrows };
+      sized = front.facts.sized;
+    }
 
-pub not_found_answer : (bytes : List ℕ) (p : ProgramTree) (c : Judged) → Parses bytes p → IsCheckedOf p c → (w : Wish) (f : Fault) → IsNotFound bytes p c.front w f → Answers bytes w (Err f)
-not_found_answer bytes p c q is w (fault.Refused r) h =
-    record { text = text_by h.tokens (length bytes) p c.front; is_text = is_text bytes p c q is h.tokens h.one; refused = h.refused }
-not_found_answer bytes p c q is w (fault.Syntax e) h = absurd h
-not_found_answer bytes p c q is w (fault.NotAccepted e) h = absurd h
-not_found_answer bytes p c q is w fault.OutOfMemory h = tt
+pub stopped_answer : (bytes : List ℕ) (T : Text) → IsText bytes T → (w : Wish) (f : Fault) → IsStopped T w f → Answers bytes w (Err f)
+stopped_answer bytes T is w (fault.Refused r) h = record { text = T; is_text = is; refused = h }
+stopped_answer bytes T is w (fault.Syntax e) h = absurd h
+stopped_answer bytes T is w (fault.NotAccepted e) h = absurd h
+stopped_answer bytes T is w fault.OutOfMemory h = tt
 
--- what stops by the tokens of a text stops in the text
-pub stopped_not_found : (bytes : List ℕ) (p : ProgramTree) (x : Front) (w : Wish) (ts : List Tok) → ((us : List Tok) → Lexes bytes us → ts ≡ us) → (n : ℕ) → n ≡ length bytes
-    → (f : Fault) → IsStopped (text_by ts n p x) w f → IsNotFound bytes p x w f
-stopped_not_found bytes p x w ts one n e (fault.Refused r) h = record { tokens = ts; one = one; refused = subst (λ (m : ℕ). RefusedBy (text_by ts m p x) w r) e h }
-stopped_not_found bytes p x w ts one n e (fault.Syntax z) h = absurd h
-stopped_not_found bytes p x w ts one n e (fault.NotAccepted z) h = absurd h
-stopped_not_found bytes p x w ts one n e fault.OutOfMemory h = tt
+-- ---- what is decided, for the confirmation
 
-pub hoisted_found : (bytes : List ℕ) (p : ProgramTree) (x : Front) (w : Wish) (ts : List Tok) → ((us : List Tok) → Lexes bytes us → ts ≡ us) → (n : ℕ) → n ≡ length bytes
-    → (q : ProgramTree) (m : ℕ) → IsHoisted (text_by ts n p x) w q m → IsFound bytes p x w q m
-hoisted_found bytes p x w ts one n e q m h = record { tokens = ts; one = one; hoisted = subst (λ (k : ℕ). IsHoisted (text_by ts k p x) w q m) e h }
+-- a run that is hoisted hands out the same where an exit is listed again, and which params it moves is told
+pub is_told : (T : Text) (w : Wish) (x : Hoisting) → IsHoisting T w x → IsTold T x.decision
+is_told T w x h =
+    let passes = (earlier (Holds T w (case_of T x.decision)) unmoved fits (omega arith) h.hoisted.stands).it.1 in
+    record { run = h.run; agree = passes.agree; moved = passes.are_moved }
+
+pub is_behind : (n f m : ℕ) → n ≡ f + m → f ≤ n
+is_behind n f m e = omega (arith, e)
+
+pub is_short : (bs : List Bound) (p : ProgramTree) (a : Answer) → IsPrinted p bs a → length a.text ≤ 1048576
+is_short bs p a h = subst (λ (l : List ℕ). length l ≤ 1048576) (sym h.text) h.short

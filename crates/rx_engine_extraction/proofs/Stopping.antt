@@ -52,6 +52,7 @@ unchosen T w (fault.Refused (refusal.Limit x n)) h = absurd h
 unchosen T w (fault.Refused (refusal.Unfit e)) h = absurd h
 unchosen T w (fault.Refused (refusal.Region i l k)) h = absurd h
 unchosen T w (fault.Refused (refusal.Loan a b)) h = absurd h
+unchosen T w (fault.Refused refusal.Unconfirmed) h = absurd h
 
 -- ---- the plan
 
@@ -76,6 +77,7 @@ module _ (T : Text) (w : Wish) (r : RunPos) (g : TypedFn) (h : Home) (chosen : I
   not_planned (refusal.Unfit e) f = absurd f
   not_planned (refusal.Region i l k) f = absurd f
   not_planned (refusal.Loan a b) f = absurd f
+  not_planned refusal.Unconfirmed f = absurd f
 
   -- with a plan
   standing : (k : ExitPlan) → IsPlanned T at k → Stands T w (with_modes T at k [] []) condition.passable
@@ -97,6 +99,7 @@ module _ (T : Text) (w : Wish) (r : RunPos) (g : TypedFn) (h : Home) (chosen : I
   not_decided (refusal.Unfit e) f = absurd f
   not_decided (refusal.Region i l k) f = absurd f
   not_decided (refusal.Loan a b) f = absurd f
+  not_decided refusal.Unconfirmed f = absurd f
 
   pub undecided_stops : (f : Fault) → IsUndecided T at f → IsStopped T w f
   undecided_stops (fault.Refused x) f = not_decided x f

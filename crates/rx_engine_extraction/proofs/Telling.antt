@@ -22,7 +22,7 @@ use Rattle.rx_engine_extraction.specs.Source.{Text, Wish}
 use Rattle.rx_engine_extraction.specs.Case.{Case, asked}
 use Rattle.rx_engine_extraction.specs.Made.{hoisted, extracted}
 use Rattle.rx_engine_extraction.specs.Alike.{AreOne}
-use Rattle.rx_engine_extraction.specs.Conditions.{Condition, selects, word, unused, reached, left, settled, whole, visible, passable, unmoved, few_parameters, few_lifetimes, few_levels, few_parts, few_numbers, fits, few_sites, few_positions, fits_bounded, known, legal, few_bytes}
+use Rattle.rx_engine_extraction.specs.Conditions.{Condition, selects, word, unused, reached, left, settled, whole, visible, passable, unmoved, few_parameters, few_lifetimes, few_levels, few_parts, few_numbers, fits, few_sites, few_positions, fits_bounded, known, legal, few_bytes, confirmed}
 use Rattle.rx_engine_extraction.specs.Meeting.{IsUnfit, Fits}
 use Rattle.rx_engine_extraction.specs.Failing.{named_at, place_of, Fails}
 use Rattle.rx_engine_extraction.specs.Hoisting.{IsBare}
@@ -141,3 +141,4 @@ module _ (one_pass : (p : ProgramTree) (e f : CheckFault) → e ≢ check_fault.
     told_alike few_bytes r q s f t g =
         let p = programs T u z w d e one few_bytes (omega arith) s t in
         told_as r q (refusal.Limit which.Bytes _) (refusal.Limit which.Bytes _) f.0 g.0 (λ i. refusal.Limit which.Bytes (length (print_program (p i))))
+    told_alike confirmed r q s f t g = told_as r q refusal.Unconfirmed refusal.Unconfirmed f.0 g.0 refl

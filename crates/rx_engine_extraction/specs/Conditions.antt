@@ -35,6 +35,8 @@ pub data Condition : Type 0 where
   legal : Condition
   -- the answer's text is within its limit
   few_bytes : Condition
+  -- the program that it is read as is found to be the extraction
+  confirmed : Condition
 
 -- the conditions up to one, the last first
 abbrev pub to_selects : List Condition
@@ -100,6 +102,9 @@ to_known = known ∷ to_fits_bounded
 abbrev pub to_legal : List Condition
 to_legal = legal ∷ to_known
 
+abbrev pub to_few_bytes : List Condition
+to_few_bytes = few_bytes ∷ to_legal
+
 -- those in front of one
 abbrev pub before : Condition → List Condition
 before selects = []
@@ -124,3 +129,4 @@ before fits_bounded = to_few_positions
 before known = to_fits_bounded
 before legal = to_known
 before few_bytes = to_legal
+before confirmed = to_few_bytes

@@ -12,7 +12,7 @@ use Rattle.rx_typeck_typed.specs.declared.typed.TypedFn.{TypedFn}
 use Rattle.rx_exits_plan.specs.Runs.{Home}
 use Rattle.rx_exits_plan.specs.Asked.{Asked}
 use Rattle.rx_exits_plan.specs.Plan.{Plan}
-use Rattle.rx_exits_plan.specs.PlainPlan.{plan_of, IsExitPlan}
+use Rattle.rx_exits_plan.specs.PlainPlan.{plain-Run, plan_of, IsExitPlan}
 use Rattle.rx_exits_plan.specs.declared.plan.ExitPlan.{ExitPlan}
 use Rattle.rx_exits_plan.specs.Unreachable.{At}
 use Rattle.rx_exits_plan.specs.Unreachable as unreachable
@@ -29,10 +29,13 @@ use Rattle.rx_modes_policy.specs.declared.uses.Mode.TheVariants as mode
 use Rattle.rx_modes_policy.specs.declared.uses.Uses.{Uses}
 use Rattle.rx_modes_uses.specs.NotMut.{NotMut}
 use Rattle.rx_modes_uses.specs.Aliased.{Aliased}
-use Rattle.rx_hoist_extraction.specs.Plan as names
+use Rattle.rx_hoist_nodes.specs.TypedRun.{typed_run}
+use Rattle.rx_hoist_plan.specs.PlainPlan.{plain-Plan}
 use Rattle.rx_hoist_naming.specs.Words.{OutsAgree}
 use Rattle.rx_engine_extraction.specs.declared.given.Given.{Given}
 use Rattle.rx_engine_extraction.specs.declared.given.Seat.{Seat}
+use Rattle.rx_engine_extraction.specs.declared.given.Plans.{Plans}
+use Rattle.rx_engine_extraction.specs.declared.given.Decision.{Decision}
 use Rattle.rx_engine_extraction.specs.declared.refusal.Fault.{Fault}
 use Rattle.rx_engine_extraction.specs.declared.refusal.Fault.TheVariants as fault
 use Rattle.rx_engine_extraction.specs.declared.refusal.Refusal.{Refusal}
@@ -153,17 +156,17 @@ IsUnpassed A f k _ = ⊥
 abbrev pub with_modes : Text → Case → ExitPlan → List Mode → List Bool → Case
 with_modes T d k ms vs = record d { plan = plan_of (asked T d) k; listed = k; modes = ms; moved = vs }
 
+abbrev pub with_plans : Text → Case → Plans → Case
+with_plans T d x = with_modes T d x.plan x.passed.modes x.passed.moved
+
 abbrev pub wish_by : List ℕ → (Uses → Mode) → Wish
 wish_by name choice = record { start = 0; end = 0; name = name; choice = choice }
 
-pub record IsDecided (T : Text) (d : Case) (name : List ℕ) (choice : Uses → Mode) (pl : names.Plan) : Type 0 where
-  pub list : ExitPlan
-  pub modes : List Mode
-  pub moved : List Bool
-  pub planned : IsPlanned T d list
-  pub passable : Holds T (wish_by name choice) (with_modes T d list modes moved) condition.passable
-  pub unmoved : Holds T (wish_by name choice) (with_modes T d list modes moved) condition.unmoved
-  pub named : pl ≡ named T (wish_by name choice) (with_modes T d list modes moved)
+pub record IsDecided (T : Text) (d : Case) (name : List ℕ) (choice : Uses → Mode) (x : Plans) : Type 0 where
+  pub planned : IsPlanned T d x.plan
+  pub passable : Holds T (wish_by name choice) (with_plans T d x) condition.passable
+  pub unmoved : Holds T (wish_by name choice) (with_plans T d x) condition.unmoved
+  pub named : plain-Plan x.named ≡ named T (wish_by name choice) (with_plans T d x)
 
 -- why there is none
 abbrev pub IsNotDecided : Text → Case → Refusal → Type 0
@@ -183,10 +186,16 @@ IsUndecided T d _ = ⊥
 abbrev pub HasSeat : Text → RunPos → Type 0
 HasSeat T r = (f : TypedFn) × (h : Home) × Seated T r f h
 
-pub record IsNamed (T : Text) (r : RunPos) (name : List ℕ) (choice : Uses → Mode) (pl : names.Plan) : Type 0 where
-  pub function : TypedFn
-  pub home : Home
-  pub decided : IsDecided T (case_at r function home) name choice pl
+-- its place in its function
+abbrev pub place_in : Decision → Case
+place_in x = case_at x.run x.function.now (plain-Home x.seat.home)
+
+abbrev pub case_of : Text → Decision → Case
+case_of T x = with_plans T (place_in x) x.plans
+
+pub record IsDecision (T : Text) (name : List ℕ) (choice : Uses → Mode) (x : Decision) : Type 0 where
+  pub run : plain-Run x.seat.run ≡ typed_run T.program x.run
+  pub decided : IsDecided T (place_in x) name choice x.plans
 
 abbrev pub IsUnnamed : Text → RunPos → Fault → Type 0
 IsUnnamed T r f = (g : TypedFn) × (h : Home) × IsUndecided T (case_at r g h) f

@@ -33,7 +33,8 @@ use Rattle.rx_engine_extraction.specs.declared.refusal.Refusal.TheVariants as re
 use Rattle.rx_engine_extraction.specs.Source.{Text, Wish}
 use Rattle.rx_engine_extraction.specs.Case.{Case, asked}
 use Rattle.rx_engine_extraction.specs.Made.{named, hoisted, extracted}
-use Rattle.rx_engine_extraction.specs.Conditions.{Condition, selects, word, unused, reached, left, settled, whole, visible, passable, unmoved, few_parameters, few_lifetimes, few_levels, few_parts, few_numbers, fits, few_sites, few_positions, fits_bounded, known, legal, few_bytes}
+use Rattle.rx_engine_extraction.specs.Confirmed.{Confirmed}
+use Rattle.rx_engine_extraction.specs.Conditions.{Condition, selects, word, unused, reached, left, settled, whole, visible, passable, unmoved, few_parameters, few_lifetimes, few_levels, few_parts, few_numbers, fits, few_sites, few_positions, fits_bounded, known, legal, few_bytes, confirmed}
 use Rattle.rx_engine_extraction.specs.Meeting.{most_parameters, most_lifetimes, most_levels, most_parts, most_sites, most_bytes, Seated, same_name, parts_of, levels_in, IsUnfit}
 
 -- ---- places
@@ -96,3 +97,4 @@ Fails T w d fits_bounded r = (e : CheckFault) × (r ≡ refusal.Unfit e) × (e �
 Fails T w d known r = (i l k : ℕ) × (r ≡ refusal.Region i l k) × Causes (check_fault.Region i l k) (extracted T w d)
 Fails T w d legal r = (a b : Span) × (r ≡ refusal.Loan a b) × Causes (check_fault.Loan (loan_fault.Loan a b)) (extracted T w d)
 Fails T w d few_bytes r = let n = length (print_program (extracted T w d)) in (r ≡ refusal.Limit which.Bytes n) × (most_bytes < n)
+Fails T w d confirmed r = (r ≡ refusal.Unconfirmed) × (Confirmed T w d → ⊥)

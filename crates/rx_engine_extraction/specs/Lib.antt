@@ -2,6 +2,7 @@ pub mod Source
 pub mod Case
 pub mod Undecided
 pub mod Made
+pub mod Confirmed
 pub mod Conditions
 pub mod Meeting
 pub mod Failing
@@ -13,3 +14,4 @@ pub mod Deciding
 pub mod Hoisting
 pub mod Moving
 pub mod Alike
+pub mod Confirming

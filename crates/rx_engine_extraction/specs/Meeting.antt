@@ -48,7 +48,8 @@ use Rattle.rx_repair.specs.Lacking.{Needs}
 use Rattle.rx_engine_extraction.specs.Source.{Text, Wish}
 use Rattle.rx_engine_extraction.specs.Case.{Case, asked}
 use Rattle.rx_engine_extraction.specs.Made.{run_of, told, named, hoisted, new_item, extracted}
-use Rattle.rx_engine_extraction.specs.Conditions.{Condition, selects, word, unused, reached, left, settled, whole, visible, passable, unmoved, few_parameters, few_lifetimes, few_levels, few_parts, few_numbers, fits, few_sites, few_positions, fits_bounded, known, legal, few_bytes}
+use Rattle.rx_engine_extraction.specs.Confirmed.{Confirmed}
+use Rattle.rx_engine_extraction.specs.Conditions.{Condition, selects, word, unused, reached, left, settled, whole, visible, passable, unmoved, few_parameters, few_lifetimes, few_levels, few_parts, few_numbers, fits, few_sites, few_positions, fits_bounded, known, legal, few_bytes, confirmed}
 
 -- ---- the limits
 
@@ -144,3 +145,4 @@ Holds T w d fits_bounded = (e : CheckFault) → e ≢ check_fault.OutOfMemory �
 Holds T w d known = (i l k : ℕ) → Causes (check_fault.Region i l k) (extracted T w d) → ⊥
 Holds T w d legal = Accepted (extracted T w d)
 Holds T w d few_bytes = length (print_program (extracted T w d)) ≤ most_bytes
+Holds T w d confirmed = Confirmed T w d

@@ -11,7 +11,7 @@ use Rattle.rx_check.specs.Passes.{Accepted}
 use Rattle.rx_engine_extraction.specs.Source.{Text, IsText, Wish}
 use Rattle.rx_engine_extraction.specs.Case.{Case}
 use Rattle.rx_engine_extraction.specs.Made.{extracted}
-use Rattle.rx_engine_extraction.specs.Conditions.{Condition, before, few_bytes}
+use Rattle.rx_engine_extraction.specs.Conditions.{Condition, before, confirmed}
 use Rattle.rx_engine_extraction.specs.Meeting.{Holds}
 
 -- the conditions in front of one are met
@@ -23,8 +23,8 @@ pub record Extracts (bytes : List ℕ) (w : Wish) : Type 0 where
   pub text : Text
   pub is_text : IsText bytes text
   pub case : Case
-  pub stands : Stands text w case few_bytes
-  pub last : Holds text w case few_bytes
+  pub stands : Stands text w case confirmed
+  pub last : Holds text w case confirmed
 
 abbrev pub program_of : {bytes : List ℕ} {w : Wish} → Extracts bytes w → ProgramTree
 program_of {w = w} x = extracted x.text w x.case

@@ -11,12 +11,11 @@ ghost use Rattle.rx_exits_jumps.specs.Seen.{first_home};
 ghost use Rattle.rx_exits_plan.specs.PlainPlan.{plain-Run, IsExitPlan};
 ghost use Rattle.rx_exits_plan.specs.PlainSyntax.{plain-Home};
 ghost use Rattle.rx_hoist_nodes.specs.TypedRun.{typed_run as typed_run_of};
-ghost use Rattle.rx_hoist_plan.specs.PlainPlan.{plain-Plan};
 ghost use Rattle.rx_engine_extraction.specs.Deciding as spec;
 ghost use Rattle.rx_engine_extraction.specs.Failing.{span_if};
 ghost use Rattle.rx_engine_extraction.specs.Meeting.{Seated};
 
-use crate::given::{Given, Seat};
+use crate::given::{Decision, Given, Plans, Seat};
 use crate::names::names_of;
 use crate::refusal::{Fault, Refusal};
 use rx_core::Span;
@@ -25,7 +24,6 @@ use rx_exits_jumps::home_of;
 use rx_exits_plan::ExitPlan;
 use rx_hoist_diverging::diverging_lets;
 use rx_hoist_naming::{Decided, Source, named_plan, typed_run};
-use rx_hoist_plan::NamedPlan;
 use rx_modes::{ModeFault, ModePlan, modes};
 use rx_modes_policy::Policy;
 use rx_tree::Program;
@@ -229,7 +227,7 @@ fn passed<P: Policy>(
     }
 }
 
-/// The plan by names of a run in its place.
+/// The plans of a run in its place.
 fn decided_at<P: Policy>(
     alloc: Global,
     given: &Given<'_, '_>,
@@ -238,10 +236,10 @@ fn decided_at<P: Policy>(
     policy: &P,
     function: &TypedFn,
     seat: &Seat<'_>,
-) -> Result<NamedPlan, Fault>
+) -> Result<Plans, Fault>
     requires run { plain-Run seat.now.run ≡ typed_run_of (plain-Program given.now.program.now) run.now }
     requires seated { Seated (spec.text_of given.now) run.now function.now (plain-Home seat.now.home) }
-    ensures found { IfOk result (λ k. spec.IsDecided (spec.text_of given.now) (spec.case_at run.now function.now (plain-Home seat.now.home)) name.now (P.choice policy.now) (plain-Plan k)) }
+    ensures found { IfOk result (λ x. spec.IsDecided (spec.text_of given.now) (spec.case_at run.now function.now (plain-Home seat.now.home)) name.now (P.choice policy.now) x) }
     ensures fault { IfErr result (λ f. spec.IsUndecided (spec.text_of given.now) (spec.case_at run.now function.now (plain-Home seat.now.home)) f) }
 {
     let plan = match planned(alloc, given, run, function, seat) {
@@ -269,27 +267,40 @@ fn decided_at<P: Policy>(
         moved: passed.moved.as_slice(),
     };
     match named_plan(alloc, given.tokens, &source, &decided, name) {
-        Ok(named) => Ok(named),
+        Ok(named) => Ok(Plans {
+            plan,
+            passed,
+            named,
+        }),
         Err(_) => Err(Fault::OutOfMemory),
     }
 }
 
-/// The plan by names of a run of an accepted program.
-pub(crate) fn decided<P: Policy>(
+/// What is decided of a run of an accepted program.
+pub(crate) fn decided<'t, P: Policy>(
     alloc: Global,
-    given: &Given<'_, '_>,
-    run: &RunPos,
+    given: &Given<'t, '_>,
+    run: RunPos,
     name: &str,
     policy: &P,
-) -> Result<NamedPlan, Fault>
-    requires { spec.HasSeat (spec.text_of given.now) run.now }
-    ensures found { IfOk result (λ k. spec.IsNamed (spec.text_of given.now) run.now name.now (P.choice policy.now) (plain-Plan k)) }
-    ensures fault { IfErr result (λ f. spec.IsUnnamed (spec.text_of given.now) run.now f) }
+) -> Result<Decision<'t>, Fault>
+    requires { spec.HasSeat (spec.text_of given.now) run }
+    ensures run { IfOk result (λ x. x.run ≡ run) }
+    ensures found { IfOk result (λ x. spec.IsDecision (spec.text_of given.now) name.now (P.choice policy.now) x) }
+    ensures fault { IfErr result (λ f. spec.IsUnnamed (spec.text_of given.now) run f) }
 {
     let function = given.front.function(run.function);
-    let seat = match seat(alloc, given.program, function, run) {
+    let seat = match seat(alloc, given.program, function, &run) {
         Ok(seat) => seat,
         Err(fault) => return Err(fault),
     };
-    decided_at(alloc, given, run, name, policy, function, &seat)
+    match decided_at(alloc, given, &run, name, policy, function, &seat) {
+        Ok(plans) => Ok(Decision {
+            run,
+            function,
+            seat,
+            plans,
+        }),
+        Err(fault) => Err(fault),
+    }
 }

@@ -1,6 +1,6 @@
 //! The extraction over texts.
 
-ghost use Rattle.std.specs.Prelude.{◌≤◌, length, IfOk, IfErr};
+ghost use Rattle.std.specs.Prelude.{◌≤◌, ℕ, List, length, IfOk, IfErr};
 ghost use Rattle.rx_lex.specs.Tok.{toks};
 ghost use Rattle.rx_tree.specs.PlainOf.{plain-Program};
 ghost use Rattle.rx_parse_grammar.specs.grammar.Items.{Parses};
@@ -8,16 +8,18 @@ ghost use Rattle.rx_select.specs.OneText.{OneText};
 ghost use Rattle.rx_check.specs.Front.{IsCheckedOf, IsFrontOf};
 ghost use Rattle.rx_engine_extraction.specs.Deciding.{text_of};
 ghost use Rattle.rx_engine_extraction.specs.Hoisting as spec;
+ghost use Rattle.rx_engine_extraction.specs.Source.{IsText};
 ghost use Rattle.rx_engine_extraction.specs.Verdict.{Answers};
 
 use crate::beginning::{checked, chosen, read, tokens_of};
+use crate::confirming::confirmed;
 use crate::deciding::decided;
 use crate::ending::finished;
-use crate::given::{Given, Request};
-use crate::hoisting::{NewProgram, moved};
+use crate::given::{Given, Hoisting, NewProgram, Request};
+use crate::hoisting::moved;
 use crate::laws::calls_are_formed;
 use crate::refusal::{Answer, Fault, Selection};
-use rx_check::{Checked, FrontEnd, causes_are_one, passed_or_faulty};
+use rx_check::{Checked, causes_are_one, passed_or_faulty};
 use rx_core::LetGo;
 use rx_hoist_naming_laws::runs_sit;
 use rx_modes_policy::Policy;
@@ -26,18 +28,18 @@ use rx_print_spelling::print_parses;
 use rx_tree::Program;
 use std::alloc::Global;
 
-/// The program with the call, of an accepted text.
-fn hoisted_by<P: Policy>(
+/// What is decided of an accepted text, and its program with the call.
+fn hoisted_by<'t, P: Policy>(
     alloc: Global,
-    given: &Given<'_, '_>,
+    given: &Given<'t, '_>,
     request: &Request<'_>,
     policy: &P,
-) -> Result<NewProgram, Fault>
+) -> Result<Hoisting<'t>, Fault>
     requires one_text { OneText (toks given.now.tokens.now.list) given.now.tokens.now.length (plain-Program given.now.program.now) }
     requires short { given.now.tokens.now.length ≤ 1048576 }
     requires front { IsFrontOf (plain-Program given.now.program.now) given.now.front.now }
-    ensures found { IfOk result (λ m. spec.IsHoisted (text_of given.now)
-        (record { start = request.now.selection.start; end = request.now.selection.end; name = request.now.name.now; choice = P.choice policy.now }) (plain-Program m.program) m.new_fn) }
+    ensures found { IfOk result (λ m. spec.IsHoisting (text_of given.now)
+        (record { start = request.now.selection.start; end = request.now.selection.end; name = request.now.name.now; choice = P.choice policy.now }) m) }
     ensures fault { IfErr result (λ f. spec.IsStopped (text_of given.now)
         (record { start = request.now.selection.start; end = request.now.selection.end; name = request.now.name.now; choice = P.choice policy.now }) f) }
 {
@@ -53,44 +55,39 @@ fn hoisted_by<P: Policy>(
         Ok(run) => run,
         Err(fault) => return Err(fault),
     };
-    let plan = match decided(alloc, given, &run, request.name, policy) {
-        Ok(plan) => plan,
+    let decision = match decided(alloc, given, run, request.name, policy) {
+        Ok(decision) => decision,
         Err(fault) => return Err(fault),
     };
-    match moved(alloc, given, &run, &plan) {
-        Ok(moved) => Ok(moved),
+    match moved(alloc, given, &decision.run, &decision.plans.named) {
+        Ok(made) => Ok(Hoisting { decision, made }),
         Err(fault) => Err(fault),
     }
 }
 
-/// The program with the call, by the text of an accepted program and what the passes know of it.
-fn hoisted_in<P: Policy>(
+/// The extraction from an accepted text.
+fn extracted<P: Policy>(
     alloc: Global,
-    text: &[u8],
-    program: &Program,
-    front: &FrontEnd,
+    given: &Given<'_, '_>,
     request: &Request<'_>,
     policy: &P,
-) -> Result<NewProgram, Fault>
-    requires short { length text.now ≤ 1048576 }
-    requires parses { Parses text.now (plain-Program program.now) }
-    requires front { IsFrontOf (plain-Program program.now) front.now }
-    ensures found { IfOk result (λ m. spec.IsFound text.now (plain-Program program.now) front.now
-        (record { start = request.now.selection.start; end = request.now.selection.end; name = request.now.name.now; choice = P.choice policy.now }) (plain-Program m.program) m.new_fn) }
-    ensures fault { IfErr result (λ f. spec.IsNotFound text.now (plain-Program program.now) front.now
-        (record { start = request.now.selection.start; end = request.now.selection.end; name = request.now.name.now; choice = P.choice policy.now }) f) }
+) -> Result<Answer, Fault>
+    requires one_text { OneText (toks given.now.tokens.now.list) given.now.tokens.now.length (plain-Program given.now.program.now) }
+    requires short { given.now.tokens.now.length ≤ 1048576 }
+    requires front { IsFrontOf (plain-Program given.now.program.now) given.now.front.now }
+    ensures verdict { (bytes : List ℕ) → IsText bytes (text_of given.now)
+        → Answers bytes (record { start = request.now.selection.start; end = request.now.selection.end; name = request.now.name.now; choice = P.choice policy.now }) result }
 {
-    let tokens = match tokens_of(alloc, text) {
-        Ok(tokens) => tokens,
+    passed_or_faulty();
+    causes_are_one();
+    print_parses();
+    let Hoisting { decision, made } = match hoisted_by(alloc, given, request, policy) {
+        Ok(hoisting) => hoisting,
         Err(fault) => return Err(fault),
     };
-    let given = Given {
-        tokens: &tokens,
-        program,
-        front,
-    };
-    match hoisted_by(alloc, &given, request, policy) {
-        Ok(moved) => Ok(moved),
+    let NewProgram { program, new_fn } = made;
+    match finished(alloc, program, new_fn) {
+        Ok(answer) => confirmed(alloc, given, &decision, new_fn, answer),
         Err(fault) => Err(fault),
     }
 }
@@ -117,14 +114,17 @@ pub fn extract_checked<P: Policy>(
     // An answer keeps its promise; a refusal tells the first condition that is not met.
     ensures verdict { Answers text.now (record { start = selection.start; end = selection.end; name = name.now; choice = P.choice policy.now }) result }
 {
-    passed_or_faulty();
-    causes_are_one();
-    print_parses();
+    let tokens = match tokens_of(alloc, text) {
+        Ok(tokens) => tokens,
+        Err(fault) => return Err(fault),
+    };
+    let given = Given {
+        tokens: &tokens,
+        program,
+        front: checked.front(),
+    };
     let request = Request { selection, name };
-    match hoisted_in(alloc, text, program, checked.front(), &request, policy) {
-        Ok(NewProgram { program, new_fn }) => finished(alloc, program, new_fn),
-        Err(fault) => Err(fault),
-    }
+    extracted(alloc, &given, &request, policy)
 }
 
 /// The same of any text: it is read and checked first.

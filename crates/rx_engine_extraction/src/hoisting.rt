@@ -10,7 +10,7 @@ ghost use Rattle.rx_engine_extraction.specs.Deciding.{text_of};
 ghost use Rattle.rx_engine_extraction.specs.Meeting.{most_lifetimes};
 ghost use Rattle.rx_engine_extraction.specs.Moving as spec;
 
-use crate::given::Given;
+use crate::given::{Given, NewProgram};
 use crate::refusal::{Fault, Refusal};
 use rx_core::{LetGo, Which, keep};
 use rx_hoist::{HoistFault, Hoisted, hoist, parts_past};
@@ -26,12 +26,6 @@ const MOST_LEVELS: u64 = 128;
 
 /// More bytes than what is in a text can be numbered by in 32 bits.
 const TOO_MANY_BYTES: usize = 4_294_967_296;
-
-/// The program with the call, and the number of the new function's item.
-pub(crate) struct NewProgram {
-    pub program: Program,
-    pub new_fn: u32,
-}
 
 fn of_hoist(fault: HoistFault) -> Fault
     ensures { result ≡ spec.of_hoist fault }

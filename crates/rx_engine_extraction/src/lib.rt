@@ -2,6 +2,7 @@
 #![tactic(auto)]
 
 mod beginning;
+mod confirming;
 mod deciding;
 mod ending;
 mod extraction;
@@ -10,6 +11,7 @@ mod hoisting;
 mod laws;
 mod names;
 mod refusal;
+mod told;
 
 pub use extraction::{extract, extract_checked};
 pub use laws::{answers_are_one, conditions_are_one, extractions_are_answers, refusals_are_one};

@@ -76,6 +76,8 @@ pub enum Refusal {
         borrow: Span,
         access: Span,
     },
+    /// The program that the answer's text is read as is not found to be the extraction.
+    Unconfirmed,
 }
 
 /// Why there is no answer.
@@ -90,5 +92,13 @@ pub enum Fault {
 impl LetGo for Refusal {
     fn let_go(self) {
         let _gone = self;
+    }
+}
+
+impl LetGo for Answer {
+    fn let_go(self) {
+        let Answer { text, bounds } = self;
+        text.let_go();
+        bounds.let_go();
     }
 }

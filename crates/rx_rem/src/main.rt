@@ -4,6 +4,7 @@
 ghost use Rattle.std.specs.Prelude.{◌≡◌, map, drop, string_bytes, IfOk};
 
 use rx_core::{List, StdSink, StdSource, Text};
+use rx_modes_policy::{ByCopy, ByReference};
 use rx_rem_command::{Status, rem, report_name};
 use std::alloc::{AllocError, Global};
 use std::env;
@@ -46,7 +47,15 @@ fn main(rt: HostRuntime) -> ExitCode {
         Ok(words) => {
             let mut source = StdSource::new(rt.stdin());
             let mut out = StdSink::new(rt.stdout());
-            rem(rt.alloc(), &words, &mut source, &mut out, &mut err)
+            rem(
+                rt.alloc(),
+                &words,
+                &mut source,
+                &mut out,
+                &mut err,
+                &ByCopy,
+                &ByReference,
+            )
         }
         Err(status) => report_name(&mut err, status),
     };

@@ -1,28 +1,31 @@
 -- What is found where a text is checked, by cases on the fault: none that is answered hides a want of memory.
 use Rattle.std.specs.Prelude.{◌≢◌}
-use Rattle.std.proofs.Common.{ℕ, List, [], refl}
+use Rattle.std.proofs.Common.{ℕ, ◌≡◌, List, [], refl, subst}
 use Rattle.rx_tree.specs.Plain.{ProgramTree}
 use Rattle.rx_lex.specs.declared.lexer.LexFault.TheVariants as lex
 use Rattle.rx_parse_grammar.specs.grammar.Items.{Parses}
+use Rattle.rx_parse_grammar.proofs.Whole.{one_text}
 use Rattle.rx_parse.specs.declared.fault.SyntaxFault.{SyntaxFault}
 use Rattle.rx_parse.specs.declared.fault.SyntaxFault.TheVariants as syntax
 use Rattle.rx_parse.specs.Answer.{IsCause}
 use Rattle.rx_check.specs.declared.fault.CheckFault.{CheckFault}
 use Rattle.rx_check.specs.declared.fault.CheckFault.TheVariants as check
 use Rattle.rx_check.specs.Causes.{Causes}
-use Rattle.rx_engine.specs.Verdict.{IsUnread}
+use Rattle.rx_check.specs.Passes.{Accepted}
+use Rattle.rx_engine_extraction.specs.Verdict.{IsUnread}
 use Rattle.rx_rem_command.specs.declared.status.Status.{Status}
-use Rattle.rx_rem_command.specs.Forms.{Preference, checks, extracts}
+use Rattle.rx_rem_command.specs.declared.status.Status.TheVariants.{NotAccepted}
 use Rattle.rx_rem_command.specs.Lines.{syntax_status, syntax_line}
 use Rattle.rx_rem_command.specs.CheckLines.{line_of_check, status_of_check}
-use Rattle.rx_rem_command.specs.Defined.{faulty, no_program, program, unaccepted}
+use Rattle.rx_rem_command.specs.Defined.{IsAccepted, Judged, passed, faulty, Checked, no_program, program}
 use Rattle.rx_rem_command.specs.Replies.{Found, defined, no_room, FoundOf, judged, no_space}
+use Rattle.rx_rem_command.proofs.Reading.{unread_none}
 
-unread : (text : List ℕ) (f : SyntaxFault) → f ≢ syntax.OutOfMemory → IsCause f text → IsUnread text f
+pub unread : (text : List ℕ) (f : SyntaxFault) → f ≢ syntax.OutOfMemory → IsCause f text → IsUnread text f
 unread text f told c = record { told = told; cause = c }
 
 -- the text is not read
-pub found_unread : (text : List ℕ) (f : SyntaxFault) → IsCause f text → Found checks text (syntax_status f) [] (syntax_line f)
+pub found_unread : (text : List ℕ) (f : SyntaxFault) → IsCause f text → Found (Checked text) (syntax_status f) [] (syntax_line f)
 found_unread text (syntax.Lex (lex.NotText at)) c = defined (no_program (syntax.Lex (lex.NotText at)) (unread text (syntax.Lex (lex.NotText at)) (λ e. cc) c))
 found_unread text (syntax.Lex (lex.BadToken at)) c = defined (no_program (syntax.Lex (lex.BadToken at)) (unread text (syntax.Lex (lex.BadToken at)) (λ e. cc) c))
 found_unread text (syntax.Lex lex.OutOfMemory) c = absurd (c.0 refl)
@@ -42,27 +45,17 @@ found_faulty p (check.Loan e) c = judged (faulty (check.Loan e) (λ e. cc) c)
 found_faulty p check.OutOfMemory c = no_space
 
 -- what is found for its program is found for the text
-pub found_program : (text : List ℕ) (p : ProgramTree) (s : Status) (out err : List ℕ) → Parses text p → FoundOf p s out err → Found checks text s out err
+pub found_program : (text : List ℕ) (p : ProgramTree) (s : Status) (out err : List ℕ) → Parses text p → FoundOf p s out err → Found (Checked text) s out err
 found_program text p s out err parses (judged j) = defined (program p parses j)
 found_program text p _ _ _ parses no_space = no_room
 
--- ---- of an extraction, what is found where the text is not accepted
+-- ---- a text whose check answers that it is not accepted isn't
 
-pub found_unread_too : (text name : List ℕ) (start end : ℕ) (w : Preference) (f : SyntaxFault) → IsCause f text → Found (extracts name start end w) text (syntax_status f) [] (syntax_line f)
-found_unread_too text name start end w (syntax.Lex (lex.NotText at)) c = defined (unaccepted (no_program (syntax.Lex (lex.NotText at)) (unread text (syntax.Lex (lex.NotText at)) (λ e. cc) c)))
-found_unread_too text name start end w (syntax.Lex (lex.BadToken at)) c = defined (unaccepted (no_program (syntax.Lex (lex.BadToken at)) (unread text (syntax.Lex (lex.BadToken at)) (λ e. cc) c)))
-found_unread_too text name start end w (syntax.Lex lex.OutOfMemory) c = absurd (c.0 refl)
-found_unread_too text name start end w (syntax.Syntax at) c = defined (unaccepted (no_program (syntax.Syntax at) (unread text (syntax.Syntax at) (λ e. cc) c)))
-found_unread_too text name start end w (syntax.TooDeep at) c = defined (unaccepted (no_program (syntax.TooDeep at) (unread text (syntax.TooDeep at) (λ e. cc) c)))
-found_unread_too text name start end w syntax.OutOfMemory c = no_room
+module _ (excluded : (p : ProgramTree) (e : CheckFault) → Accepted p → Causes e p → e ≡ check.OutOfMemory) where
+  judged_not : (p : ProgramTree) → Accepted p → (s : Status) (out err : List ℕ) → s ≡ NotAccepted → Judged p s out err → ⊥
+  judged_not p h _ _ _ e (passed k) = cc
+  judged_not p h _ _ _ e (faulty f told c) = told (excluded p f h c)
 
-pub found_refused : (text name : List ℕ) (start end : ℕ) (w : Preference) (p : ProgramTree) (f : CheckFault) → Parses text p → Causes f p
-    → Found (extracts name start end w) text (status_of_check f) [] (line_of_check p f)
-found_refused text name start end w p (check.Name e) x c = defined (unaccepted (program p x (faulty (check.Name e) (λ e. cc) c)))
-found_refused text name start end w p (check.Types e) x c = defined (unaccepted (program p x (faulty (check.Types e) (λ e. cc) c)))
-found_refused text name start end w p (check.Cover e) x c = defined (unaccepted (program p x (faulty (check.Cover e) (λ e. cc) c)))
-found_refused text name start end w p (check.Lower e) x c = defined (unaccepted (program p x (faulty (check.Lower e) (λ e. cc) c)))
-found_refused text name start end w p (check.Init e) x c = defined (unaccepted (program p x (faulty (check.Init e) (λ e. cc) c)))
-found_refused text name start end w p (check.Region i l k) x c = defined (unaccepted (program p x (faulty (check.Region i l k) (λ e. cc) c)))
-found_refused text name start end w p (check.Loan e) x c = defined (unaccepted (program p x (faulty (check.Loan e) (λ e. cc) c)))
-found_refused text name start end w p check.OutOfMemory x c = no_room
+  pub not_accepted : (text : List ℕ) → IsAccepted text → (s : Status) (out err : List ℕ) → s ≡ NotAccepted → Checked text s out err → ⊥
+  not_accepted text a _ _ _ e (no_program f c) = unread_none text f c a.program a.parses
+  not_accepted text a s out err e (program p x j) = judged_not p (subst Accepted (one_text text a.program p a.parses x) a.accepted) s out err e j

@@ -1,8 +1,10 @@
 pub mod Digits
 pub mod RunWords
 pub mod Replies
+pub mod Reading
 pub mod CheckLemmas
+pub mod Extractions
 pub mod RunLemmas
-mod Moves
 pub mod Agreement
-mod Left
+pub mod Statuses
+pub mod RunsAlike

@@ -1,37 +1,19 @@
 -- A reply follows from what is due and how far it was written, by cases on both.
-use Rattle.std.specs.Prelude.{not}
 use Rattle.std.proofs.Common.{Bool, true, false, ℕ, ℤ, ◌≡◌, ◌≤◌, ◌<◌, ◌⊎◌, inl, inr, List, [], length, take, Option, Some, None, Result, Ok, Err, refl, sym, ap, ◌∙◌, subst, arith, append-nil, length-append}
 use Rattle.std.proofs.lemmas.Bool.{cases_lt}
 use Rattle.rx_core.specs.Streams.{Rose, Told, Gone, Grown}
 use Rattle.rx_core.specs.declared.write.WriteFail.{WriteFail}
 use Rattle.rx_core.specs.declared.write.WriteFail.TheVariants as fail
-use Rattle.rx_engine.specs.declared.extraction.Answer.{Answer}
-use Rattle.rx_engine.specs.declared.extraction.Fault.{Fault}
-use Rattle.rx_lex.specs.declared.lexer.LexFault.{LexFault}
-use Rattle.rx_lex.specs.declared.lexer.LexFault.TheVariants as lex
-use Rattle.rx_parse.specs.declared.fault.SyntaxFault.{SyntaxFault}
-use Rattle.rx_parse.specs.declared.fault.SyntaxFault.TheVariants as syntax
-use Rattle.rx_engine.specs.declared.extraction.Fault.TheVariants as fault
 use Rattle.rx_meaning.specs.declared.outcome.End.{End}
 use Rattle.rx_meaning.specs.declared.outcome.End.TheVariants as ends
 use Rattle.rx_rem_command.specs.declared.status.Status.{Status}
 use Rattle.rx_rem_command.specs.declared.status.Status.TheVariants.{Done, Usage, NotAccepted, Refused, ReadFault, WriteFault, OutOfMemory, TooLong, StillRunning, Wrong, Trapped}
 use Rattle.rx_tree.specs.Plain.{ProgramTree}
-use Rattle.rx_engine.specs.Verdict.{Extracts}
-use Rattle.rx_check.specs.declared.fault.CheckFault.{CheckFault}
-use Rattle.rx_check.specs.declared.fault.CheckFault.TheVariants as check
-use Rattle.rx_engine_extraction.specs.declared.refusal.Answer as whole_answer
-use Rattle.rx_engine_extraction.specs.declared.refusal.Fault as whole_fault
-use Rattle.rx_engine_extraction.specs.declared.refusal.Fault.TheVariants as whole
-use Rattle.rx_engine_extraction.specs.Verdict.{Answers}
-use Rattle.rx_parse_grammar.specs.grammar.Items.{Parses}
-use Rattle.rx_check.specs.Passes.{Accepted}
-use Rattle.rx_rem_command.specs.Forms.{Preference, by_copy, Command, extracts, checks, runs, command_of}
-use Rattle.rx_rem_command.specs.Lines.{status_line, fault_line, lex_line, syntax_line, fault_status, lex_status, syntax_status}
+use Rattle.rx_engine_extraction.specs.Source.{Wish}
+use Rattle.rx_rem_command.specs.Forms.{Command, extracts, checks, runs, command_of}
+use Rattle.rx_rem_command.specs.Lines.{status_line}
 use Rattle.rx_rem_command.specs.RunLines.{end_status}
-use Rattle.rx_rem_command.specs.Defined.{Defined, AnswersTo, Judged, passed, faulty, Checked, no_program, program, is_built, wish, IsLeft, extraction_status, extraction_bytes, extraction_line, Drawn, unaccepted, drawn, moved, Ran, refused, ran, result_status, result_bytes, result_line}
-use Rattle.rx_rem_command.specs.CheckLines.{line_of_check, status_of_check}
-use Rattle.rx_rem_command.specs.ExtractionLines.{line_of_extraction, status_of_extraction}
+use Rattle.rx_rem_command.specs.Defined.{Choices, Defined, AnswersTo, Judged, passed, faulty, Checked, no_program, program, wish, Drawn, unaccepted, extracted, unmet, Ran, refused, ran}
 use Rattle.rx_rem_command.specs.Replies.{Stream, IsForm, HasFailed, IsSound, HasAll, IsCut, IsRead, TakesAtMost, TakesOneMore, Due, answered, not_read, too_long, no_memory, Ending, whole, out_cut, both_cut, err_cut, IsComplete, Replies, Reports, Delivers, Found, defined, no_room}
 
 -- the statuses that a text's answer has
@@ -40,27 +22,6 @@ IsAnswer ReadFault = ⊥
 IsAnswer WriteFault = ⊥
 IsAnswer TooLong = ⊥
 IsAnswer _ = Unit {0}
-
-lex_answers : (f : LexFault) → IsAnswer (lex_status f)
-lex_answers (lex.NotText at) = tt
-lex_answers (lex.BadToken at) = tt
-lex_answers lex.OutOfMemory = tt
-
-syntax_answers : (f : SyntaxFault) → IsAnswer (syntax_status f)
-syntax_answers (syntax.Lex f) = lex_answers f
-syntax_answers (syntax.Syntax at) = tt
-syntax_answers (syntax.TooDeep at) = tt
-syntax_answers syntax.OutOfMemory = tt
-
-fault_answers : (f : Fault) → IsAnswer (fault_status f)
-fault_answers (fault.Syntax f) = syntax_answers f
-fault_answers (fault.NotAccepted f) = tt
-fault_answers (fault.Refused r) = tt
-fault_answers fault.OutOfMemory = tt
-
-result_answers : (r : Result Answer Fault) → IsAnswer (result_status r)
-result_answers (Ok a) = tt
-result_answers (Err f) = fault_answers f
 
 judged_answers : (p : ProgramTree) (status : Status) (outs errs : List ℕ) → Judged p status outs errs → IsAnswer status
 judged_answers p _ _ _ (passed a) = tt
@@ -82,132 +43,116 @@ ran_answers : (text : List ℕ) (turns : ℕ) (input : List ℤ) (status : Statu
 ran_answers text turns input _ _ _ (refused c) = tt
 ran_answers text turns input _ _ _ (ran p x h o d) = end_answers o.end
 
-check_answers : (f : CheckFault) → IsAnswer (status_of_check f)
-check_answers check.OutOfMemory = tt
-check_answers (check.Name f) = tt
-check_answers (check.Types f) = tt
-check_answers (check.Cover f) = tt
-check_answers (check.Lower f) = tt
-check_answers (check.Init f) = tt
-check_answers (check.Region i l k) = tt
-check_answers (check.Loan f) = tt
+drawn_answers : (text : List ℕ) (w : Wish) (status : Status) (outs errs : List ℕ) → Drawn text w status outs errs → IsAnswer status
+drawn_answers text w _ _ _ (unaccepted c) = tt
+drawn_answers text w _ _ _ (extracted a bs k) = tt
+drawn_answers text w _ _ _ (unmet r x) = tt
 
-extraction_answers : (r : Result whole_answer.Answer whole_fault.Fault) → IsAnswer (extraction_status r)
-extraction_answers (Ok a) = tt
-extraction_answers (Err (whole.Syntax f)) = syntax_answers f
-extraction_answers (Err (whole.NotAccepted f)) = check_answers f
-extraction_answers (Err (whole.Refused r)) = tt
-extraction_answers (Err whole.OutOfMemory) = tt
+module _ (C : Choices) where
+  asked_answers : (q : Option Command) (text : List ℕ) (status : Status) (outs errs : List ℕ)
+      → AnswersTo C q text status outs errs → IsAnswer status
+  asked_answers None text status outs errs a = subst IsAnswer (sym a.0) tt
+  asked_answers (Some (extracts name start end w)) text status outs errs a = drawn_answers text (wish C name start end w) status outs errs a
+  asked_answers (Some checks) text status outs errs a = checked_answers text status outs errs a
+  asked_answers (Some (runs turns input)) text status outs errs a = ran_answers text turns input status outs errs a
 
-drawn_answers : (text name : List ℕ) (start end : ℕ) (w : Preference) (status : Status) (outs errs : List ℕ) → Drawn text name start end w status outs errs → IsAnswer status
-drawn_answers text name start end w _ _ _ (unaccepted c) = tt
-drawn_answers text name start end _ status outs errs (drawn p x a o b) = subst IsAnswer (sym o.status_is) (result_answers o.result)
-drawn_answers text name start end w status outs errs (moved p x a l m) = subst IsAnswer (sym m.status_is) (extraction_answers m.result)
+  defined_answers : (words : List (List ℕ)) (text : List ℕ) (status : Status) (outs errs : List ℕ)
+      → Defined C words text status outs errs → IsAnswer status
+  defined_answers words text status outs errs d = asked_answers (command_of words) text status outs errs d
 
-asked_answers : (q : Option Command) (text : List ℕ) (status : Status) (outs errs : List ℕ)
-    → AnswersTo q text status outs errs → IsAnswer status
-asked_answers None text status outs errs a = subst IsAnswer (sym a.0) tt
-asked_answers (Some (extracts name start end w)) text status outs errs a = drawn_answers text name start end w status outs errs a
-asked_answers (Some checks) text status outs errs a = checked_answers text status outs errs a
-asked_answers (Some (runs turns input)) text status outs errs a = ran_answers text turns input status outs errs a
+  -- a source from which one byte more was taken than a text may have had more left
+  too_many : (s s' : Stream) → TakesOneMore s s' → Told s.bytes (λ all. 1048576 < length all)
+  too_many s s' t = λ all h. let p = t.gone.told all h in let n = t.many in
+      omega (arith, n, ap length p.1, length-append t.bytes p.0)
 
-defined_answers : (words : List (List ℕ)) (text : List ℕ) (status : Status) (outs errs : List ℕ)
-    → Defined words text status outs errs → IsAnswer status
-defined_answers words text status outs errs d = asked_answers (command_of words) text status outs errs d
+  -- where a text is small enough and the source didn't fail, the due answer is the defined one, or want of memory
+  due_complete : (words : List (List ℕ)) (s s' : Stream) (status : Status) (outs errs : List ℕ)
+      → Due C words s s' status outs errs → IsForm words
+      → (text : List ℕ) → s.bytes ≡ Some text → length text ≤ 1048576 → (Rose s.faults s'.faults → ⊥)
+      → (status ≡ OutOfMemory) ⊎ Defined C words text status outs errs
+  due_complete words s s' status outs errs (answered t k r d) form text e small calm =
+      let p = (r form).whole text e in
+      inr (subst (λ (x : List ℕ). Defined C words x status outs errs) p.0 d)
+  due_complete words s s' _ _ _ (not_read f r t) form text e small calm = absurd (calm r)
+  due_complete words s s' _ _ _ (too_long f k t) form text e small calm = let l = too_many s s' t text e in
+      absurd (omega arith)
+  due_complete words s s' _ _ _ (no_memory f k t) form text e small calm = inl refl
 
--- a source from which one byte more was taken than a text may have had more left
-too_many : (s s' : Stream) → TakesOneMore s s' → Told s.bytes (λ all. 1048576 < length all)
-too_many s s' t = λ all h. let p = t.gone.told all h in let n = t.many in
-    omega (arith, n, ap length p.1, length-append t.bytes p.0)
+  due_fault : (words : List (List ℕ)) (s s' : Stream) (status : Status) (outs errs : List ℕ)
+      → Due C words s s' status outs errs → status ≡ ReadFault
+      → Rose s.faults s'.faults
+  due_fault words s s' status outs errs (answered t k r d) e =
+      absurd (subst IsAnswer e (defined_answers words t status outs errs d))
+  due_fault words s s' _ _ _ (not_read f r t) e = r
+  due_fault words s s' _ _ _ (too_long f k t) e = absurd (cc)
+  due_fault words s s' _ _ _ (no_memory f k t) e = absurd (cc)
 
--- where a text is small enough and the source didn't fail, the due answer is the defined one, or want of memory
-due_complete : (words : List (List ℕ)) (s s' : Stream) (status : Status) (outs errs : List ℕ)
-    → Due words s s' status outs errs → IsForm words
-    → (text : List ℕ) → s.bytes ≡ Some text → length text ≤ 1048576 → (Rose s.faults s'.faults → ⊥)
-    → (status ≡ OutOfMemory) ⊎ Defined words text status outs errs
-due_complete words s s' status outs errs (answered t k r d) form text e small calm =
-    let p = (r form).whole text e in
-    inr (subst (λ (x : List ℕ). Defined words x status outs errs) p.0 d)
-due_complete words s s' _ _ _ (not_read f r t) form text e small calm = absurd (calm r)
-due_complete words s s' _ _ _ (too_long f k t) form text e small calm = let l = too_many s s' t text e in
-    absurd (omega arith)
-due_complete words s s' _ _ _ (no_memory f k t) form text e small calm = inl refl
+  due_sound : (words : List (List ℕ)) (s s' : Stream) (status : Status) (outs errs : List ℕ)
+      → Due C words s s' status outs errs → (status ≡ ReadFault → ⊥)
+      → s'.faults ≡ s.faults
+  due_sound words s s' status outs errs (answered t k r d) n = k
+  due_sound words s s' _ _ _ (not_read f r t) n = absurd (n refl)
+  due_sound words s s' _ _ _ (too_long f k t) n = k
+  due_sound words s s' _ _ _ (no_memory f k t) n = k
 
-due_fault : (words : List (List ℕ)) (s s' : Stream) (status : Status) (outs errs : List ℕ)
-    → Due words s s' status outs errs → status ≡ ReadFault
-    → Rose s.faults s'.faults
-due_fault words s s' status outs errs (answered t k r d) e =
-    absurd (subst IsAnswer e (defined_answers words t status outs errs d))
-due_fault words s s' _ _ _ (not_read f r t) e = r
-due_fault words s s' _ _ _ (too_long f k t) e = absurd (cc)
-due_fault words s s' _ _ _ (no_memory f k t) e = absurd (cc)
+  due_written : (words : List (List ℕ)) (s s' : Stream) (status : Status) (outs errs : List ℕ)
+      → Due C words s s' status outs errs → status ≡ WriteFault → ⊥
+  due_written words s s' status outs errs (answered t k r d) e =
+      subst IsAnswer e (defined_answers words t status outs errs d)
+  due_written words s s' _ _ _ (not_read f r t) e = cc
+  due_written words s s' _ _ _ (too_long f k t) e = cc
+  due_written words s s' _ _ _ (no_memory f k t) e = cc
 
-due_sound : (words : List (List ℕ)) (s s' : Stream) (status : Status) (outs errs : List ℕ)
-    → Due words s s' status outs errs → (status ≡ ReadFault → ⊥)
-    → s'.faults ≡ s.faults
-due_sound words s s' status outs errs (answered t k r d) n = k
-due_sound words s s' _ _ _ (not_read f r t) n = absurd (n refl)
-due_sound words s s' _ _ _ (too_long f k t) n = k
-due_sound words s s' _ _ _ (no_memory f k t) n = k
+  ending_fault : (out out' err err' : Stream) (status result : Status) (outs errs : List ℕ)
+      → Ending out out' err err' status outs errs result
+      → result ≡ ReadFault → status ≡ ReadFault
+  ending_fault out out' err err' status _ outs errs (whole a b) e = e
+  ending_fault out out' err err' status _ outs errs (out_cut a b) e = absurd (cc)
+  ending_fault out out' err err' status _ outs errs (both_cut a b) e = absurd (cc)
+  ending_fault out out' err err' status _ outs errs (err_cut a b) e = absurd (cc)
 
-due_written : (words : List (List ℕ)) (s s' : Stream) (status : Status) (outs errs : List ℕ)
-    → Due words s s' status outs errs → status ≡ WriteFault → ⊥
-due_written words s s' status outs errs (answered t k r d) e =
-    subst IsAnswer e (defined_answers words t status outs errs d)
-due_written words s s' _ _ _ (not_read f r t) e = cc
-due_written words s s' _ _ _ (too_long f k t) e = cc
-due_written words s s' _ _ _ (no_memory f k t) e = cc
+  ending_written : (out out' err err' : Stream) (status result : Status) (outs errs : List ℕ)
+      → Ending out out' err err' status outs errs result
+      → (status ≡ WriteFault → ⊥) → result ≡ WriteFault → HasFailed out out' ⊎ HasFailed err err'
+  ending_written out out' err err' status _ outs errs (whole a b) n e = absurd (n e)
+  ending_written out out' err err' status _ outs errs (out_cut a b) n e = inl a.1
+  ending_written out out' err err' status _ outs errs (both_cut a b) n e = inl a.1
+  ending_written out out' err err' status _ outs errs (err_cut a b) n e = inr b.1
 
-ending_fault : (out out' err err' : Stream) (status result : Status) (outs errs : List ℕ)
-    → Ending out out' err err' status outs errs result
-    → result ≡ ReadFault → status ≡ ReadFault
-ending_fault out out' err err' status _ outs errs (whole a b) e = e
-ending_fault out out' err err' status _ outs errs (out_cut a b) e = absurd (cc)
-ending_fault out out' err err' status _ outs errs (both_cut a b) e = absurd (cc)
-ending_fault out out' err err' status _ outs errs (err_cut a b) e = absurd (cc)
+  ending_sound : (out out' err err' : Stream) (status result : Status) (outs errs : List ℕ)
+      → Ending out out' err err' status outs errs result
+      → (result ≡ WriteFault → ⊥) → (status ≡ result) × IsSound out out' × IsSound err err'
+  ending_sound out out' err err' status _ outs errs (whole a b) n = (refl, a.1, b.1)
+  ending_sound out out' err err' status _ outs errs (out_cut a b) n = absurd (n refl)
+  ending_sound out out' err err' status _ outs errs (both_cut a b) n = absurd (n refl)
+  ending_sound out out' err err' status _ outs errs (err_cut a b) n = absurd (n refl)
 
-ending_written : (out out' err err' : Stream) (status result : Status) (outs errs : List ℕ)
-    → Ending out out' err err' status outs errs result
-    → (status ≡ WriteFault → ⊥) → result ≡ WriteFault → HasFailed out out' ⊎ HasFailed err err'
-ending_written out out' err err' status _ outs errs (whole a b) n e = absurd (n e)
-ending_written out out' err err' status _ outs errs (out_cut a b) n e = inl a.1
-ending_written out out' err err' status _ outs errs (both_cut a b) n e = inl a.1
-ending_written out out' err err' status _ outs errs (err_cut a b) n e = inr b.1
+  -- where no sink failed, all was written
+  ending_complete : (words : List (List ℕ)) (text : List ℕ) (out out' err err' : Stream) (status result : Status)
+      (outs errs : List ℕ)
+      → Ending out out' err err' status outs errs result → (status ≡ OutOfMemory) ⊎ Defined C words text status outs errs
+      → (HasFailed out out' → ⊥) → (HasFailed err err' → ⊥) → IsComplete C words text out out' err err' result
+  ending_complete words text out out' err err' status _ outs errs (whole a b) d calm calm' =
+      elim d [ inl e ↦ inl e | inr f ↦ inr (outs, errs, f, a, b) ]
+  ending_complete words text out out' err err' status _ outs errs (out_cut a b) d calm calm' = absurd (calm a.1)
+  ending_complete words text out out' err err' status _ outs errs (both_cut a b) d calm calm' = absurd (calm a.1)
+  ending_complete words text out out' err err' status _ outs errs (err_cut a b) d calm calm' = absurd (calm' b.1)
 
-ending_sound : (out out' err err' : Stream) (status result : Status) (outs errs : List ℕ)
-    → Ending out out' err err' status outs errs result
-    → (result ≡ WriteFault → ⊥) → (status ≡ result) × IsSound out out' × IsSound err err'
-ending_sound out out' err err' status _ outs errs (whole a b) n = (refl, a.1, b.1)
-ending_sound out out' err err' status _ outs errs (out_cut a b) n = absurd (n refl)
-ending_sound out out' err err' status _ outs errs (both_cut a b) n = absurd (n refl)
-ending_sound out out' err err' status _ outs errs (err_cut a b) n = absurd (n refl)
-
--- where no sink failed, all was written
-ending_complete : (words : List (List ℕ)) (text : List ℕ) (out out' err err' : Stream) (status result : Status)
-    (outs errs : List ℕ)
-    → Ending out out' err err' status outs errs result → (status ≡ OutOfMemory) ⊎ Defined words text status outs errs
-    → (HasFailed out out' → ⊥) → (HasFailed err err' → ⊥) → IsComplete words text out out' err err' result
-ending_complete words text out out' err err' status _ outs errs (whole a b) d calm calm' =
-    elim d [ inl e ↦ inl e | inr f ↦ inr (outs, errs, f, a, b) ]
-ending_complete words text out out' err err' status _ outs errs (out_cut a b) d calm calm' = absurd (calm a.1)
-ending_complete words text out out' err err' status _ outs errs (both_cut a b) d calm calm' = absurd (calm a.1)
-ending_complete words text out out' err err' status _ outs errs (err_cut a b) d calm calm' = absurd (calm' b.1)
-
-pub replies : (words : List (List ℕ)) (s s' out out' err err' : Stream) (status : Status) (outs errs : List ℕ)
-    (result : Status)
-    → Due words s s' status outs errs → Ending out out' err err' status outs errs result
-    → Replies words s s' out out' err err' result
-replies words s s' out out' err err' status outs errs result d e = record {
-  written = (status, outs, errs, d, e);
-  read_fault = λ r. due_fault words s s' status outs errs d
-      (ending_fault out out' err err' status result outs errs e r);
-  write_fault = ending_written out out' err err' status result outs errs e (due_written words s s' status outs errs d);
-  read_sound = λ n m. due_sound words s s' status outs errs d
-      (λ r. n (sym (ending_sound out out' err err' status result outs errs e m).0 ∙ r));
-  write_sound = λ m. let k = ending_sound out out' err err' status result outs errs e m in (k.1, k.2);
-  complete = λ form text t small calm. ending_complete words text out out' err err' status result outs errs e
-      (due_complete words s s' status outs errs d form text t small calm);
-}
+  pub replies : (words : List (List ℕ)) (s s' out out' err err' : Stream) (status : Status) (outs errs : List ℕ)
+      (result : Status)
+      → Due C words s s' status outs errs → Ending out out' err err' status outs errs result
+      → Replies C words s s' out out' err err' result
+  replies words s s' out out' err err' status outs errs result d e = record {
+    written = (status, outs, errs, d, e);
+    read_fault = λ r. due_fault words s s' status outs errs d
+        (ending_fault out out' err err' status result outs errs e r);
+    write_fault = ending_written out out' err err' status result outs errs e (due_written words s s' status outs errs d);
+    read_sound = λ n m. due_sound words s s' status outs errs d
+        (λ r. n (sym (ending_sound out out' err err' status result outs errs e m).0 ∙ r));
+    write_sound = λ m. let k = ending_sound out out' err err' status result outs errs e m in (k.1, k.2);
+    complete = λ form text t small calm. ending_complete words text out out' err err' status result outs errs e
+        (due_complete words s s' status outs errs d form text t small calm);
+  }
 
 pub nothing_more : (k : Stream) → HasAll k k []
 nothing_more k = (record { told = λ held h. h ∙ ap Some (sym (append-nil held)); untold = λ h. h }, (refl, refl))
@@ -244,147 +189,14 @@ pub cut : (old new : Stream) (bytes text : List ℕ) (f : WriteFail) → bytes �
     → ((f ≡ fail.WriteFault → ⊥) → new.faults ≡ old.faults) → IsCut old new text
 cut old new bytes text f e front h k moves sound = subst (IsCut old new) e (front, failed old new f h k moves sound)
 
-status_memory : (s : Status) → (s ≡ OutOfMemory) ⊎ (s ≡ OutOfMemory → ⊥)
-status_memory OutOfMemory = inl refl
-status_memory Done = inr (λ e. cc)
-status_memory Refused = inr (λ e. cc)
-status_memory Usage = inr (λ e. cc)
-status_memory NotAccepted = inr (λ e. cc)
-status_memory ReadFault = inr (λ e. cc)
-status_memory WriteFault = inr (λ e. cc)
-status_memory TooLong = inr (λ e. cc)
-status_memory StillRunning = inr (λ e. cc)
-status_memory Wrong = inr (λ e. cc)
-status_memory Trapped = inr (λ e. cc)
-
-lex_memory : (f : LexFault) → lex_status f ≡ OutOfMemory → lex_line f ≡ status_line OutOfMemory
-lex_memory (lex.NotText at) e = absurd (cc)
-lex_memory (lex.BadToken at) e = absurd (cc)
-lex_memory lex.OutOfMemory e = refl
-
-syntax_memory : (f : SyntaxFault) → syntax_status f ≡ OutOfMemory → syntax_line f ≡ status_line OutOfMemory
-syntax_memory (syntax.Lex f) e = lex_memory f e
-syntax_memory (syntax.Syntax at) e = absurd (cc)
-syntax_memory (syntax.TooDeep at) e = absurd (cc)
-syntax_memory syntax.OutOfMemory e = refl
-
-fault_memory : (f : Fault) → fault_status f ≡ OutOfMemory → fault_line f ≡ status_line OutOfMemory
-fault_memory (fault.Syntax f) e = syntax_memory f e
-fault_memory (fault.NotAccepted f) e = absurd (cc)
-fault_memory (fault.Refused r) e = absurd (cc)
-fault_memory fault.OutOfMemory e = refl
-
-found_no_room : (text name : List ℕ) (start end : ℕ) (w : Preference) (status : Status) (line : List ℕ) → status ≡ OutOfMemory
-    → line ≡ status_line OutOfMemory
-    → Found (extracts name start end w) text status [] line
-found_no_room text name start end w status line e l =
-    let command = extracts name start end w in
-    subst (λ (s : Status). Found command text s [] line) (sym e)
-    (subst (λ (b : List ℕ). Found command text OutOfMemory [] b) (sym l) no_room)
-
-pub found_fault : (text name : List ℕ) (start end : ℕ) (r : Result Answer Fault) (f : Fault) (p : ProgramTree) → Parses text p → Accepted p
-    → Extracts text start end name r → r ≡ Err f → is_built (Err f) ≡ true
-    → Found (extracts name start end by_copy) text (fault_status f) [] (fault_line f)
-found_fault text name start end r f p parses accepted x e built =
-    elim (status_memory (fault_status f)) [
-      | inl m ↦ found_no_room text name start end by_copy (fault_status f) (fault_line f) m (fault_memory f m)
-      | inr n ↦ defined (drawn p parses accepted (record {
-        result = r;
-        extracts = x;
-        found = n;
-        status_is = ap result_status (sym e);
-        out_is =
-            ap result_bytes (sym e);
-        err_is = ap result_line (sym e);
-      }) (subst (λ (q : Result Answer Fault). is_built q ≡ true) (sym e) built))
-    ]
-
-pub found_answer : (text name : List ℕ) (start end : ℕ) (r : Result Answer Fault) (a : Answer) (bytes : List ℕ) (p : ProgramTree) → Parses text p → Accepted p
-    → Extracts text start end name r → r ≡ Ok a → bytes ≡ a.text
-    → Found (extracts name start end by_copy) text Done bytes []
-found_answer text name start end r a bytes p parses accepted x e b =
-    defined (drawn p parses accepted (record {
-      result = r;
-      extracts = x;
-      found = λ m. cc;
-      status_is = ap result_status (sym e);
-      out_is = b
-          ∙ ap result_bytes (sym e);
-      err_is = ap result_line (sym e);
-    }) (subst (λ (q : Result Answer Fault). is_built q ≡ true) (sym e) refl))
-
--- ---- whether it is left
-
-not_true : (b : Bool) → not b ≡ true → b ≡ false
-not_true true e = absurd (cc)
-not_true false e = refl
-
-not_false : (b : Bool) → not b ≡ false → b ≡ true
-not_false true e = refl
-not_false false e = absurd (cc)
-
-pub left_of : (text name : List ℕ) (start end : ℕ) (r : Result Answer Fault) (f : Fault) → Extracts text start end name r → r ≡ Err f → not (is_built (Err f)) ≡ true
-    → IsLeft by_copy text start end name
-left_of text name start end r f x e b = (r, x, ap is_built e ∙ not_true (is_built (Err f)) b)
-
-pub kept_of : (f : Fault) → not (is_built (Err f)) ≡ false → is_built (Err f) ≡ true
-kept_of f b = not_false (is_built (Err f)) b
-
--- ---- the same of the extraction over the whole language
-
-check_memory : (p : ProgramTree) (f : CheckFault) → status_of_check f ≡ OutOfMemory → line_of_check p f ≡ status_line OutOfMemory
-check_memory p check.OutOfMemory e = refl
-check_memory p (check.Name f) e = absurd (cc)
-check_memory p (check.Types f) e = absurd (cc)
-check_memory p (check.Cover f) e = absurd (cc)
-check_memory p (check.Lower f) e = absurd (cc)
-check_memory p (check.Init f) e = absurd (cc)
-check_memory p (check.Region i l k) e = absurd (cc)
-check_memory p (check.Loan f) e = absurd (cc)
-
-extraction_memory : (p : ProgramTree) (f : whole_fault.Fault) → status_of_extraction f ≡ OutOfMemory → line_of_extraction p f ≡ status_line OutOfMemory
-extraction_memory p (whole.Syntax f) e = syntax_memory f e
-extraction_memory p (whole.NotAccepted f) e = check_memory p f e
-extraction_memory p (whole.Refused r) e = absurd (cc)
-extraction_memory p whole.OutOfMemory e = refl
-
-pub found_move_fault : (text name : List ℕ) (start end : ℕ) (w : Preference) (r : Result whole_answer.Answer whole_fault.Fault) (f : whole_fault.Fault) (p : ProgramTree)
-    → Parses text p → Accepted p → IsLeft w text start end name → Answers text (wish name start end w) r → r ≡ Err f
-    → Found (extracts name start end w) text (status_of_extraction f) [] (line_of_extraction p f)
-found_move_fault text name start end w r f p parses accepted left x e =
-    elim (status_memory (status_of_extraction f)) [
-      | inl m ↦ found_no_room text name start end w (status_of_extraction f) (line_of_extraction p f) m (extraction_memory p f m)
-      | inr n ↦ defined (moved p parses accepted left (record {
-        result = r;
-        answers = x;
-        found = n;
-        status_is = ap extraction_status (sym e);
-        out_is = ap extraction_bytes (sym e);
-        err_is = ap (extraction_line p) (sym e);
-      }))
-    ]
-
-pub found_move_answer : (text name : List ℕ) (start end : ℕ) (w : Preference) (r : Result whole_answer.Answer whole_fault.Fault) (a : whole_answer.Answer) (bytes : List ℕ) (p : ProgramTree)
-    → Parses text p → Accepted p → IsLeft w text start end name → Answers text (wish name start end w) r → r ≡ Ok a → bytes ≡ a.text
-    → Found (extracts name start end w) text Done bytes []
-found_move_answer text name start end w r a bytes p parses accepted left x e b =
-    defined (moved p parses accepted left (record {
-      result = r;
-      answers = x;
-      found = λ m. cc;
-      status_is = ap extraction_status (sym e);
-      out_is = b ∙ ap extraction_bytes (sym e);
-      err_is = ap (extraction_line p) (sym e);
-    }))
-
 -- what is found for the text that was read is due
-pub found_due : (words : List (List ℕ)) (s s' : Stream) (command : Command) (text : List ℕ) (status : Status)
+pub found_due : (C : Choices) (words : List (List ℕ)) (s s' : Stream) (command : Command) (text : List ℕ) (status : Status)
     (outs errs : List ℕ)
-    → Some command ≡ command_of words → s'.faults ≡ s.faults → IsRead s s' text → Found command text status outs errs
-    → Due words s s' status outs errs
-found_due words s s' command text status outs errs e k r (defined d) =
-    answered text k (λ form. r) (subst (λ (q : Option Command). AnswersTo q text status outs errs) e d)
-found_due words s s' command text _ _ _ e k r no_room = no_memory (λ n. cc) k
+    → Some command ≡ command_of words → s'.faults ≡ s.faults → IsRead s s' text → Found (AnswersTo C (Some command) text) status outs errs
+    → Due C words s s' status outs errs
+found_due C words s s' command text status outs errs e k r (defined d) =
+    answered text k (λ form. r) (subst (λ (q : Option Command). AnswersTo C q text status outs errs) e d)
+found_due C words s s' command text _ _ _ e k r no_room = no_memory (λ n. cc) k
     (record { bytes = text; many = r.within; gone = r.gone })
 
 -- the bytes that were taken, where they are not too many

@@ -1,5 +1,5 @@
--- What a program does is one thing, and what is found where a text is run is defined.
-use Rattle.std.proofs.Common.{ℕ, ℤ, ◌≡◌, ◌⊎◌, List, [], ◌∷◌, Option, Some, None, inl, inr, refl, sym, ap, ◌∙◌, subst}
+-- What is found where a text is run is defined, and two defined answers of a run agree.
+use Rattle.std.proofs.Common.{ℕ, ℤ, ◌≡◌, ◌⊎◌, List, [], Option, Some, inl, inr, refl, sym, ap, ◌∙◌, subst}
 use Rattle.rx_tree.specs.Plain.{ProgramTree}
 use Rattle.rx_lex.specs.declared.lexer.LexFault.TheVariants as lex
 use Rattle.rx_parse_grammar.specs.grammar.Items.{Parses}
@@ -7,19 +7,9 @@ use Rattle.rx_parse_grammar.proofs.Whole.{one_text}
 use Rattle.rx_parse.specs.declared.fault.SyntaxFault.{SyntaxFault}
 use Rattle.rx_parse.specs.declared.fault.SyntaxFault.TheVariants as syntax
 use Rattle.rx_parse.specs.Answer.{IsCause}
-use Rattle.rx_resolve_names.specs.declared.resolved.ItemNames.{ItemNames}
-use Rattle.rx_resolve_names.specs.Causes.{Meant}
-use Rattle.rx_core.proofs.Results.{ok_is}
-use Rattle.rx_typed.specs.Types.{Declarations, rt_declared, struct_declared, enum_declared, function_declared}
-use Rattle.rx_typed.specs.PlainTypes.{declarations}
-use Rattle.rx_typed.specs.PlainTree.{plain-TypedTree}
-use Rattle.rx_typeck_typed.specs.declared.typed.Typed.{Typed}
-use Rattle.rx_typeck_typed.specs.declared.typed.TypedFn.{TypedFn}
-use Rattle.rx_typeck_typed.specs.Typing.{IsTyped}
-use Rattle.rx_typeck_typed.specs.Alike.{FunctionsAlike, AreAlike}
 use Rattle.rx_meaning.specs.declared.outcome.Outcome.{Outcome}
-use Rattle.rx_meaning.specs.Programs.{main_in, run}
-use Rattle.rx_machine.specs.Functions.{typed_functions, program_of}
+use Rattle.rx_meaning.specs.Programs.{run}
+use Rattle.rx_machine.specs.Functions.{program_of}
 use Rattle.rx_check.specs.declared.fault.CheckFault.{CheckFault}
 use Rattle.rx_check.specs.declared.fault.CheckFault.TheVariants as check
 use Rattle.rx_check.specs.Passes.{Accepted}
@@ -31,45 +21,14 @@ use Rattle.rx_rem_command.specs.Forms.{Command, checks, runs, command_of}
 use Rattle.rx_rem_command.specs.Lines.{syntax_status, syntax_line}
 use Rattle.rx_rem_command.specs.CheckLines.{line_of_check, status_of_check}
 use Rattle.rx_rem_command.specs.RunLines.{end_status, end_line}
-use Rattle.rx_rem_command.specs.Runs.{Does}
-use Rattle.rx_rem_command.specs.Defined.{Defined, AnswersTo, Judged, passed, faulty, Checked, no_program, program, Ran, refused, ran, AreOneLine, AreFaultLines}
+use Rattle.rx_engine.specs.Runs.{Does}
+use Rattle.rx_rem_command.specs.Defined.{Choices, Defined, AnswersTo, Judged, passed, faulty, Checked, no_program, program, Ran, refused, ran}
+use Rattle.rx_rem_command.specs.Alike.{AreCheckLines}
 use Rattle.rx_rem_command.specs.Replies.{Stream, Ending, whole, out_cut, both_cut, err_cut, Found, defined, no_room}
 use Rattle.rx_rem_command.specs.RunReplies.{FoundRun, did, not_passed, no_memory_left, Tells}
 use Rattle.rx_rem_command.proofs.CheckLemmas.{found_unread, found_faulty, found_program}
 
--- ---- one outcome
-
--- typed programs that are alike are one program
-same_functions : (D : Declarations) (ts us : List TypedFn) → FunctionsAlike ts us → typed_functions D ts ≡ typed_functions D us
-same_functions [] ts us h = refl
-same_functions (function_declared ps r ∷ D) [] [] h = ap (λ l. None ∷ l) (same_functions D [] [] h)
-same_functions (function_declared ps r ∷ D) [] (u ∷ us) h = absurd h
-same_functions (function_declared ps r ∷ D) (t ∷ ts) [] h = absurd h
-same_functions (function_declared ps r ∷ D) (t ∷ ts) (u ∷ us) h =
-    ap (λ x. Some x ∷ typed_functions D ts) h.2 ∙ ap (λ l. Some (plain-TypedTree u.tree) ∷ l) (same_functions D ts us h.3)
-same_functions (rt_declared ∷ D) ts us h = ap (λ l. None ∷ l) (same_functions D ts us h)
-same_functions (struct_declared c l fs ∷ D) ts us h = ap (λ l. None ∷ l) (same_functions D ts us h)
-same_functions (enum_declared c l vs ∷ D) ts us h = ap (λ l. None ∷ l) (same_functions D ts us h)
-
-same_program : (t u : Typed) (m : ℕ) → AreAlike t u → program_of t m ≡ program_of u m
-same_program t u m h =
-    ap (λ F. record { functions = F; main = m })
-    (same_functions (declarations t.decls.items) t.functions u.functions h.functions ∙ ap (λ D. typed_functions D u.functions) h.declared)
-
--- names have one meaning
-one_meaning : (p : ProgramTree) (ns ms : List ItemNames) → Meant p ns → Meant p ms → ns ≡ ms
-one_meaning p ns ms a b = ok_is ns ms (sym a.names_are ∙ b.names_are)
-
-module _ (alike : (p : ProgramTree) (ns : List ItemNames) (t u : Typed) → IsTyped p ns t → IsTyped p ns u → AreAlike t u) where
-  pub outcome_one : (p : ProgramTree) (turns : ℕ) (input : List ℤ) (o q : Outcome) → Does p turns input o → Does p turns input q → o ≡ q
-  outcome_one p turns input o q d e =
-      let k : IsTyped p d.names e.types = subst (λ x. IsTyped p x e.types) (one_meaning p e.names d.names e.meant d.meant) e.typed in
-      let same = same_program d.types e.types (main_in p 0) (alike p d.names d.types e.types d.typed k) in
-      d.outcome ∙ (ap (λ P. run P input turns) same ∙ sym e.outcome)
-
-pub outcome_some : (p : ProgramTree) (turns : ℕ) (input : List ℤ) → Accepted p → (o : Outcome) × Does p turns input o
-outcome_some p turns input h = let f = h.1.front in
-    (run (program_of h.0 (main_in p 0)) input turns, record { names = f.names; meant = f.meant; types = h.0; typed = f.typed; outcome = refl })
+-- ---- what a program does
 
 -- the outcome of what is checked is that of its program
 pub does : (p : ProgramTree) (x : front.Judged) (turns : ℕ) (input : List ℤ) (o : Outcome) → IsCheckedOf p x → o ≡ run (program_of x.front.typed x.front.main) input turns → Does p turns input o
@@ -89,8 +48,8 @@ of_check : (text : List ℕ) (turns : ℕ) (input : List ℤ) (s : Status) (out 
 of_check text turns input _ _ _ n (no_program f c) = refused (no_program f c)
 of_check text turns input s out err n (program p x j) = of_judged text turns input p x s out err n j
 
-found_of_check : (text : List ℕ) (turns : ℕ) (input : List ℤ) (s : Status) (out err : List ℕ) → (s ≡ Done → ⊥) → Found checks text s out err
-    → Found (runs turns input) text s out err
+found_of_check : (text : List ℕ) (turns : ℕ) (input : List ℤ) (s : Status) (out err : List ℕ) → (s ≡ Done → ⊥) → Found (Checked text) s out err
+    → Found (Ran text turns input) s out err
 found_of_check text turns input s out err n (defined d) = defined (of_check text turns input s out err n d)
 found_of_check text turns input _ _ _ n no_room = no_room
 
@@ -107,12 +66,12 @@ unread_not_done (syntax.TooDeep at) e = cc
 unread_not_done syntax.OutOfMemory e = cc
 
 pub found_run_unread : (text : List ℕ) (turns : ℕ) (input : List ℤ) (f : SyntaxFault) → IsCause f text
-    → Found (runs turns input) text (syntax_status f) [] (syntax_line f)
+    → Found (Ran text turns input) (syntax_status f) [] (syntax_line f)
 found_run_unread text turns input f c =
     found_of_check text turns input (syntax_status f) [] (syntax_line f) (unread_not_done f) (found_unread text f c)
 
 pub found_run : (text : List ℕ) (p : ProgramTree) (turns : ℕ) (input : List ℤ) (s : Status) (out err : List ℕ) → Parses text p
-    → FoundRun p turns input s out err → Found (runs turns input) text s out err
+    → FoundRun p turns input s out err → Found (Ran text turns input) s out err
 found_run text p turns input _ _ _ x (did o h d) = defined (ran p x h o d)
 found_run text p turns input _ _ _ x (not_passed f c) =
     found_of_check text turns input (status_of_check f) [] (line_of_check p f) (not_passed_not_done f)
@@ -135,7 +94,7 @@ told out out' err err' status result outs errs (inr (a, inr r)) =
 -- ---- defined answers
 
 abbrev Agree : List ℕ → Status → Status → List ℕ → List ℕ → List ℕ → List ℕ → Type 0
-Agree text s t a b c d = (s ≡ t) × (a ≡ c) × (AreOneLine b d ⊎ AreFaultLines text b d)
+Agree text s t a b c d = (s ≡ t) × (a ≡ c) × AreCheckLines text b d
 
 not_both : (NotAccepted ≡ Done) → ⊥
 not_both e = cc
@@ -157,16 +116,16 @@ runs_agree text turns input checked one _ _ _ _ _ _ (ran p x h o f) (ran q y k e
     )
 
 -- an accepted text has the defined answer of what its program does
-pub run_defined : (words : List (List ℕ)) (text : List ℕ) (turns : ℕ) (input : List ℤ) (p : ProgramTree) (o : Outcome)
+pub run_defined : (C : Choices) (words : List (List ℕ)) (text : List ℕ) (turns : ℕ) (input : List ℤ) (p : ProgramTree) (o : Outcome)
     → command_of words ≡ Some (runs turns input) → Parses text p → Accepted p → Does p turns input o
-    → Defined words text (end_status o.end) o.printed (end_line o.end)
-run_defined words text turns input p o e x h d =
-    subst (λ (c : Option Command). AnswersTo c text (end_status o.end) o.printed (end_line o.end)) (sym e) (ran p x h o d)
+    → Defined C words text (end_status o.end) o.printed (end_line o.end)
+run_defined C words text turns input p o e x h d =
+    subst (λ (c : Option Command). AnswersTo C c text (end_status o.end) o.printed (end_line o.end)) (sym e) (ran p x h o d)
 
 -- another text has that of a check
-pub refusal_defined : (words other : List (List ℕ)) (text out err : List ℕ) (turns : ℕ) (input : List ℤ)
+pub refusal_defined : (C : Choices) (words other : List (List ℕ)) (text out err : List ℕ) (turns : ℕ) (input : List ℤ)
     → command_of words ≡ Some (runs turns input) → command_of other ≡ Some checks
-    → Defined other text NotAccepted out err → Defined words text NotAccepted out err
-refusal_defined words other text out err turns input e k d =
-    let c : Checked text NotAccepted out err = subst (λ (c : Option Command). AnswersTo c text NotAccepted out err) k d in
-    subst (λ (c : Option Command). AnswersTo c text NotAccepted out err) (sym e) (refused c)
+    → Defined C other text NotAccepted out err → Defined C words text NotAccepted out err
+refusal_defined C words other text out err turns input e k d =
+    let c : Checked text NotAccepted out err = subst (λ (c : Option Command). AnswersTo C c text NotAccepted out err) k d in
+    subst (λ (c : Option Command). AnswersTo C c text NotAccepted out err) (sym e) (refused c)

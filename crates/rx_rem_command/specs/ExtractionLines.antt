@@ -1,17 +1,28 @@
--- The line of each refusal of the extraction over the whole language, and where the lines of two refusals of one text differ.
-use Rattle.std.specs.Prelude.{◌≡◌, ℕ, List, [], ◌∷◌, codes}
+-- The line of each refusal of an extraction, and of each fault of it.
+use Rattle.std.specs.Prelude.{ℕ, List, [], ◌∷◌, codes}
+use Rattle.rx_core.specs.declared.types.Which.{Which}
+use Rattle.rx_core.specs.declared.types.Which.TheVariants.{Parameters, Lifetimes, Levels, Parts, Sites, Positions, Bytes}
 use Rattle.rx_tree.specs.Plain.{ProgramTree}
 use Rattle.rx_engine_extraction.specs.declared.refusal.Refusal.{Refusal}
 use Rattle.rx_engine_extraction.specs.declared.refusal.Refusal.TheVariants as refusal
 use Rattle.rx_engine_extraction.specs.declared.refusal.Fault.{Fault}
 use Rattle.rx_engine_extraction.specs.declared.refusal.Fault.TheVariants as fault
-use Rattle.rx_engine_extraction.specs.Source.{Wish}
-use Rattle.rx_engine_extraction.specs.Verdict.{IsRefused}
 use Rattle.rx_rem_command.specs.declared.status.Status.{Status}
 use Rattle.rx_rem_command.specs.declared.status.Status.TheVariants.{Refused, OutOfMemory}
-use Rattle.rx_rem_command.specs.Lines.{line_of, with_numbers, with_span, which_words, syntax_line, syntax_status}
+use Rattle.rx_rem_command.specs.Lines.{line_of, with_numbers, with_span, syntax_line, syntax_status}
 use Rattle.rx_rem_command.specs.CheckLines.{line_of_check, status_of_check}
 
+-- the limit that is passed
+abbrev pub which_words : Which → List ℕ
+which_words Parameters = codes "Refused Limit Parameters"
+which_words Lifetimes = codes "Refused Limit Lifetimes"
+which_words Levels = codes "Refused Limit Levels"
+which_words Parts = codes "Refused Limit Parts"
+which_words Sites = codes "Refused Limit Sites"
+which_words Positions = codes "Refused Limit Positions"
+which_words Bytes = codes "Refused Limit Bytes"
+
+-- the first condition that is not met
 abbrev pub line_of_refusal : Refusal → List ℕ
 line_of_refusal refusal.NotARun = line_of (codes "Refused NotARun")
 line_of_refusal refusal.BadName = line_of (codes "Refused BadName")
@@ -27,6 +38,7 @@ line_of_refusal (refusal.Limit which count) = line_of (with_numbers (which_words
 line_of_refusal (refusal.Unfit f) = line_of (codes "Refused Unfit")
 line_of_refusal (refusal.Region f l s) = line_of (with_numbers (codes "Refused Region") (f ∷ l ∷ s ∷ []))
 line_of_refusal (refusal.Loan b a) = line_of (with_numbers (codes "Refused Loan") (b.start ∷ b.end ∷ a.start ∷ a.end ∷ []))
+line_of_refusal refusal.Unconfirmed = line_of (codes "Refused Unconfirmed")
 
 -- of a text with this program
 abbrev pub line_of_extraction : ProgramTree → Fault → List ℕ
@@ -40,19 +52,3 @@ status_of_extraction (fault.Syntax f) = syntax_status f
 status_of_extraction (fault.NotAccepted f) = status_of_check f
 status_of_extraction (fault.Refused r) = Refused
 status_of_extraction fault.OutOfMemory = OutOfMemory
-
--- both refusals are of a run that is not reached, or of a loan that is met: a text may show each in several places
-abbrev pub AreOfPlaces : Refusal → Refusal → Type 0
-AreOfPlaces (refusal.Unreachable s) (refusal.Unreachable t) = Unit {0}
-AreOfPlaces (refusal.Loan a b) (refusal.Loan c d) = Unit {0}
-AreOfPlaces _ _ = ⊥
-
--- two lines say such refusals of one text, each with its cause
-pub record AreRefusalLines (text : List ℕ) (w : Wish) (a b : List ℕ) : Type 0 where
-  pub one : Refusal
-  pub other : Refusal
-  pub refused_one : IsRefused text w one
-  pub refused_other : IsRefused text w other
-  pub alike : AreOfPlaces one other
-  pub line_one : a ≡ line_of_refusal one
-  pub line_other : b ≡ line_of_refusal other

@@ -1,3 +1,4 @@
+pub mod Alike
 pub mod Asked
 pub mod CheckLines
 pub mod Defined
@@ -8,4 +9,5 @@ pub mod Numbers
 pub mod Replies
 pub mod RunLines
 pub mod RunReplies
-pub mod Runs
+pub mod Statuses
+pub mod UpTo

@@ -1,21 +1,15 @@
--- The exit code of each status, and the line that is written to standard error.
+-- The exit code of each status, and the line that is written to standard error; that of a text which is no program.
 use Rattle.std.specs.Prelude.{ℕ, List, [], ◌∷◌, ◌++◌, codes, flat_map}
 use Rattle.std.specs.Fmt.{decimal}
 use Rattle.rx_core.specs.declared.types.Span.{Span}
-use Rattle.rx_core.specs.declared.types.Which.{Which}
-use Rattle.rx_core.specs.declared.types.Which.TheVariants.{Parameters, Lifetimes, Levels, Parts, Sites, Positions, Bytes}
 use Rattle.rx_rem_command.specs.declared.status.Status.{Status}
 use Rattle.rx_rem_command.specs.declared.status.Status.TheVariants.{Done, Refused, Usage, NotAccepted, ReadFault, WriteFault, OutOfMemory, TooLong, StillRunning, Wrong, Trapped}
-use Rattle.rx_engine.specs.declared.extraction.Refusal.{Refusal}
-use Rattle.rx_engine.specs.declared.extraction.Refusal.TheVariants.{NotARun, BadName, NameTaken, NotBuilt, Limit}
 use Rattle.rx_lex.specs.declared.lexer.LexFault.{LexFault}
 use Rattle.rx_lex.specs.declared.lexer.LexFault.TheVariants.{NotText, BadToken}
 use Rattle.rx_lex.specs.declared.lexer.LexFault.TheVariants as lex
 use Rattle.rx_parse.specs.declared.fault.SyntaxFault.{SyntaxFault}
 use Rattle.rx_parse.specs.declared.fault.SyntaxFault.TheVariants.{Lex, Syntax, TooDeep}
 use Rattle.rx_parse.specs.declared.fault.SyntaxFault.TheVariants as syntax
-use Rattle.rx_engine.specs.declared.extraction.Fault.{Fault}
-use Rattle.rx_engine.specs.declared.extraction.Fault.TheVariants as fault
 
 abbrev pub code_of : Status → ℕ
 code_of Done = 0
@@ -58,23 +52,7 @@ with_numbers words numbers = words ++ flat_map (λ n. codes " " ++ decimal n) nu
 abbrev pub with_span : List ℕ → Span → List ℕ
 with_span words s = with_numbers words (s.start ∷ s.end ∷ [])
 
--- the limit that is passed
-abbrev pub which_words : Which → List ℕ
-which_words Parameters = codes "Refused Limit Parameters"
-which_words Lifetimes = codes "Refused Limit Lifetimes"
-which_words Levels = codes "Refused Limit Levels"
-which_words Parts = codes "Refused Limit Parts"
-which_words Sites = codes "Refused Limit Sites"
-which_words Positions = codes "Refused Limit Positions"
-which_words Bytes = codes "Refused Limit Bytes"
-
-abbrev pub refusal_line : Refusal → List ℕ
-refusal_line NotARun = line_of (codes "Refused NotARun")
-refusal_line BadName = line_of (codes "Refused BadName")
-refusal_line NameTaken = line_of (codes "Refused NameTaken")
-refusal_line NotBuilt = line_of (codes "Refused NotBuilt")
-refusal_line (Limit which count) = line_of (with_numbers (which_words which) (count ∷ []))
-
+-- the place where a text is no program
 abbrev pub lex_line : LexFault → List ℕ
 lex_line (NotText at) = line_of (with_numbers (codes "NotAccepted NotText") (at ∷ []))
 lex_line (BadToken at) = line_of (with_numbers (codes "NotAccepted BadToken") (at ∷ []))
@@ -86,13 +64,6 @@ syntax_line (Syntax at) = line_of (with_numbers (codes "NotAccepted Syntax") (at
 syntax_line (TooDeep at) = line_of (with_numbers (codes "NotAccepted TooDeep") (at ∷ []))
 syntax_line syntax.OutOfMemory = line_of (codes "OutOfMemory")
 
--- of an accepted text: what the checker of the first grammar refuses is of a form that is not built
-abbrev pub fault_line : Fault → List ℕ
-fault_line (fault.Syntax f) = syntax_line f
-fault_line (fault.NotAccepted f) = refusal_line NotBuilt
-fault_line (fault.Refused r) = refusal_line r
-fault_line fault.OutOfMemory = line_of (codes "OutOfMemory")
-
 -- want of memory anywhere in a fault is `OutOfMemory`
 abbrev pub lex_status : LexFault → Status
 lex_status lex.OutOfMemory = OutOfMemory
@@ -102,9 +73,3 @@ abbrev pub syntax_status : SyntaxFault → Status
 syntax_status (Lex f) = lex_status f
 syntax_status syntax.OutOfMemory = OutOfMemory
 syntax_status _ = NotAccepted
-
-abbrev pub fault_status : Fault → Status
-fault_status (fault.Syntax f) = syntax_status f
-fault_status (fault.NotAccepted f) = Refused
-fault_status (fault.Refused r) = Refused
-fault_status fault.OutOfMemory = OutOfMemory

@@ -4,9 +4,9 @@ use Rattle.rx_core.specs.Streams.{Rose, Told, Gone, Grown}
 use Rattle.rx_tree.specs.Plain.{ProgramTree}
 use Rattle.rx_rem_command.specs.declared.status.Status.{Status}
 use Rattle.rx_rem_command.specs.declared.status.Status.TheVariants.{ReadFault, WriteFault, OutOfMemory, TooLong}
-use Rattle.rx_rem_command.specs.Forms.{Command, command_of}
+use Rattle.rx_rem_command.specs.Forms.{command_of}
 use Rattle.rx_rem_command.specs.Lines.{status_line}
-use Rattle.rx_rem_command.specs.Defined.{AnswersTo, Judged, Defined}
+use Rattle.rx_rem_command.specs.Defined.{Choices, Judged, Defined}
 
 -- the bytes of a source or a sink, where it tells them, and its counts
 pub record Stream : Type 0 where
@@ -61,12 +61,12 @@ abbrev pub TakesOneMore : Stream → Stream → Type 0
 TakesOneMore old new = IsTaken old new (λ n. n ≡ 1048577)
 
 -- the status, the bytes for standard output and the line for standard error; the source failed exactly where `ReadFault` is due
-pub data Due (words : List (List ℕ)) (source source' : Stream) : Status → List ℕ → List ℕ → Type 0 where
-  answered : {status : Status} {outs errs : List ℕ} (text : List ℕ) → source'.faults ≡ source.faults → (IsForm words → IsRead source source' text) → Defined words text status outs errs
-      → Due words source source' status outs errs
-  not_read : IsForm words → Rose source.faults source'.faults → TakesAtMost source source' → Due words source source' ReadFault [] (status_line ReadFault)
-  too_long : IsForm words → source'.faults ≡ source.faults → TakesOneMore source source' → Due words source source' TooLong [] (status_line TooLong)
-  no_memory : IsForm words → source'.faults ≡ source.faults → TakesAtMost source source' → Due words source source' OutOfMemory [] (status_line OutOfMemory)
+pub data Due (C : Choices) (words : List (List ℕ)) (source source' : Stream) : Status → List ℕ → List ℕ → Type 0 where
+  answered : {status : Status} {outs errs : List ℕ} (text : List ℕ) → source'.faults ≡ source.faults → (IsForm words → IsRead source source' text) → Defined C words text status outs errs
+      → Due C words source source' status outs errs
+  not_read : IsForm words → Rose source.faults source'.faults → TakesAtMost source source' → Due C words source source' ReadFault [] (status_line ReadFault)
+  too_long : IsForm words → source'.faults ≡ source.faults → TakesOneMore source source' → Due C words source source' TooLong [] (status_line TooLong)
+  no_memory : IsForm words → source'.faults ≡ source.faults → TakesAtMost source source' → Due C words source source' OutOfMemory [] (status_line OutOfMemory)
 
 -- how far what is due was written; where that failed, the status is `WriteFault`
 pub data Ending (out out' err err' : Stream) (status : Status) (outs errs : List ℕ) : Status → Type 0 where
@@ -76,13 +76,13 @@ pub data Ending (out out' err err' : Stream) (status : Status) (outs errs : List
   err_cut : HasAll out out' outs → IsCut err err' errs → Ending out out' err err' status outs errs WriteFault
 
 -- the defined answer, or want of memory
-abbrev pub IsComplete : List (List ℕ) → List ℕ → Stream → Stream → Stream → Stream → Status → Type 0
-IsComplete words text out out' err err' result =
+abbrev pub IsComplete : Choices → List (List ℕ) → List ℕ → Stream → Stream → Stream → Stream → Status → Type 0
+IsComplete C words text out out' err err' result =
     (result ≡ OutOfMemory)
-    ⊎ ((outs : List ℕ) × (errs : List ℕ) × Defined words text result outs errs × HasAll out out' outs × HasAll err err' errs)
+    ⊎ ((outs : List ℕ) × (errs : List ℕ) × Defined C words text result outs errs × HasAll out out' outs × HasAll err err' errs)
 
-pub record Replies (words : List (List ℕ)) (source source' out out' err err' : Stream) (result : Status) : Type 0 where
-  pub written : (status : Status) × (outs : List ℕ) × (errs : List ℕ) × Due words source source' status outs errs × Ending out out' err err' status outs errs result
+pub record Replies (C : Choices) (words : List (List ℕ)) (source source' out out' err err' : Stream) (result : Status) : Type 0 where
+  pub written : (status : Status) × (outs : List ℕ) × (errs : List ℕ) × Due C words source source' status outs errs × Ending out out' err err' status outs errs result
   -- a fault has its cause
   pub read_fault : result ≡ ReadFault → Rose source.faults source'.faults
   pub write_fault : result ≡ WriteFault → HasFailed out out' ⊎ HasFailed err err'
@@ -91,12 +91,12 @@ pub record Replies (words : List (List ℕ)) (source source' out out' err err' :
   pub write_sound : (result ≡ WriteFault → ⊥) → IsSound out out' × IsSound err err'
   -- where no count rose, the answer to a text is the defined one, or want of memory
   pub complete : IsForm words → (text : List ℕ) → source.bytes ≡ Some text → length text ≤ 1048576 → (Rose source.faults source'.faults → ⊥)
-      → (HasFailed out out' → ⊥) → (HasFailed err err' → ⊥) → IsComplete words text out out' err err' result
+      → (HasFailed out out' → ⊥) → (HasFailed err err' → ⊥) → IsComplete C words text out out' err err' result
 
--- what is found for a command and a text: the defined answer, or want of memory
-pub data Found (command : Command) (text : List ℕ) : Status → List ℕ → List ℕ → Type 0 where
-  defined : {status : Status} {outs errs : List ℕ} → AnswersTo (Some command) text status outs errs → Found command text status outs errs
-  no_room : Found command text OutOfMemory [] (status_line OutOfMemory)
+-- what is found where these are the answers: one of them, or want of memory
+pub data Found (Answers : Status → List ℕ → List ℕ → Type 0) : Status → List ℕ → List ℕ → Type 0 where
+  defined : {status : Status} {outs errs : List ℕ} → Answers status outs errs → Found Answers status outs errs
+  no_room : Found Answers OutOfMemory [] (status_line OutOfMemory)
 
 -- what is found for a program that is checked
 pub data FoundOf (p : ProgramTree) : Status → List ℕ → List ℕ → Type 0 where

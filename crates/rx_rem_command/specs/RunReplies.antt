@@ -10,7 +10,7 @@ use Rattle.rx_rem_command.specs.declared.status.Status.TheVariants.{OutOfMemory,
 use Rattle.rx_rem_command.specs.Lines.{status_line}
 use Rattle.rx_rem_command.specs.CheckLines.{line_of_check, status_of_check}
 use Rattle.rx_rem_command.specs.RunLines.{end_status, end_line}
-use Rattle.rx_rem_command.specs.Runs.{Does}
+use Rattle.rx_engine.specs.Runs.{Does}
 use Rattle.rx_rem_command.specs.Replies.{Stream, HasAll, IsCut, Reports}
 
 -- what it does, why it is not accepted, or want of memory

@@ -5,7 +5,7 @@ ghost use Rattle.rx_tree.specs.PlainOf.{plain-Program};
 ghost use Rattle.rx_tree.specs.Size.{IsNumbered};
 ghost use Rattle.rx_rem_command.specs.CheckLines as lines;
 ghost use Rattle.rx_rem_command.specs.Lines.{status_line, syntax_line, syntax_status};
-ghost use Rattle.rx_rem_command.specs.Forms.{checks};
+ghost use Rattle.rx_rem_command.specs.Defined.{Checked};
 ghost use Rattle.rx_rem_command.specs.Replies.{Ending, Found, FoundOf, Reports, sink_state};
 
 use crate::check_line::{line_of_check, status_of_check};
@@ -69,7 +69,7 @@ fn check_program<O: Sink, E: Sink>(
 /// Checks a text, and writes `accepted` or why it is not.
 pub fn check_text<O: Sink, E: Sink>(alloc: Global, out: &mut O, err: &mut E, text: &[u8]) -> Status
     requires { length text.now ≤ 1048576 }
-    ensures { (status : Status) × (outs : ListOf ℕ) × (errs : ListOf ℕ) × Found checks text.now status outs errs
+    ensures { (status : Status) × (outs : ListOf ℕ) × (errs : ListOf ℕ) × Found (Checked text.now) status outs errs
         × Ending (sink_state O.contents O.faults O.standstills out.old) (sink_state O.contents O.faults O.standstills out.new)
         (sink_state E.contents E.faults E.standstills err.old) (sink_state E.contents E.faults E.standstills err.new) status outs errs result }
 {

@@ -1,4 +1,4 @@
-//! The line that says why a run of a program of the whole language is not extracted.
+//! The line that says why a run is not extracted.
 
 ghost use Rattle.std.specs.Prelude.{◌≡◌, IfOk};
 ghost use Rattle.rx_tree.specs.PlainOf.{plain-Program};
@@ -6,12 +6,27 @@ ghost use Rattle.rx_rem_command.specs.ExtractionLines as spec;
 ghost use Rattle.rx_rem_command.specs.Lines.{line_of, with_span};
 
 use crate::check_line::{line_of_check, status_of_check};
-use crate::line::{limit_words, line, status_of_syntax, syntax_fault};
+use crate::line::{line, status_of_syntax, syntax_fault};
 use crate::status::Status;
-use rx_core::{Span, Text};
-use rx_engine_extraction::{Fault, Refusal};
+use rx_core::{Span, Text, Which};
+use rx_engine::{Fault, Refusal};
 use rx_tree::Program;
 use std::alloc::{AllocError, Global};
+
+/// The words of a limit that is passed.
+fn limit_words(which: Which) -> &'static str
+    ensures { result.now ≡ spec.which_words which }
+{
+    match which {
+        Which::Parameters => "Refused Limit Parameters",
+        Which::Lifetimes => "Refused Limit Lifetimes",
+        Which::Levels => "Refused Limit Levels",
+        Which::Parts => "Refused Limit Parts",
+        Which::Sites => "Refused Limit Sites",
+        Which::Positions => "Refused Limit Positions",
+        Which::Bytes => "Refused Limit Bytes",
+    }
+}
 
 /// The line of the words and a place.
 fn line_at(alloc: Global, words: &str, at: Span) -> Result<Text, AllocError>
@@ -48,6 +63,7 @@ fn line_of_refusal(alloc: Global, refusal: &Refusal) -> Result<Text, AllocError>
             let numbers = [borrow.start, borrow.end, access.start, access.end];
             line(alloc, "Refused Loan", &numbers, "")
         }
+        Refusal::Unconfirmed => line(alloc, "Refused Unconfirmed", &[], ""),
     }
 }
 

@@ -16,9 +16,10 @@ mod tool;
 mod words;
 
 pub use crate::laws::{
-    acceptance_is_defined, extraction_is_defined, left_exactly, one_answer, one_outcome,
-    runs_are_defined,
+    acceptance_is_defined, extraction_is_defined, extractions_run_alike, one_answer,
+    runs_are_defined, statuses_have_causes,
 };
 pub use crate::reply::report_name;
 pub use crate::status::Status;
 pub use crate::tool::rem;
+pub use rx_engine::one_outcome;

@@ -6,9 +6,9 @@ ghost use Rattle.rx_tree.specs.PlainOf.{plain-Program};
 ghost use Rattle.rx_tree.specs.Size.{IsNumbered};
 ghost use Rattle.rx_check.specs.Front.{IsCheckedOf};
 ghost use Rattle.rx_rem_command.specs.Numbers.{integers_among};
-ghost use Rattle.rx_rem_command.specs.Forms.{runs};
+ghost use Rattle.rx_rem_command.specs.Defined.{Ran};
 ghost use Rattle.rx_rem_command.specs.RunLines.{end_status, end_line};
-ghost use Rattle.rx_rem_command.specs.Runs.{Does};
+ghost use Rattle.rx_engine.specs.Runs.{Does};
 ghost use Rattle.rx_rem_command.specs.RunReplies.{FoundRun, Tells};
 ghost use Rattle.rx_rem_command.specs.Replies.{Ending, Found, sink_state};
 
@@ -105,7 +105,7 @@ pub fn run_text<O: Sink, E: Sink>(
     numbers: &[Text],
 ) -> Status
     requires { length text.now ≤ 1048576 }
-    ensures { (status : Status) × (outs : ListOf ℕ) × (errs : ListOf ℕ) × Found (runs turns (integers_among numbers.now)) text.now status outs errs
+    ensures { (status : Status) × (outs : ListOf ℕ) × (errs : ListOf ℕ) × Found (Ran text.now turns (integers_among numbers.now)) status outs errs
         × Ending (sink_state O.contents O.faults O.standstills out.old) (sink_state O.contents O.faults O.standstills out.new)
         (sink_state E.contents E.faults E.standstills err.old) (sink_state E.contents E.faults E.standstills err.new) status outs errs result }
 {

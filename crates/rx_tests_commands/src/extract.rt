@@ -1,5 +1,6 @@
 //! The command `extract`: what becomes of texts, and why others are refused.
 
+mod again;
 mod chosen;
 mod kept;
 mod least;

@@ -1,13 +1,11 @@
-//! The tests of the parser, the printer, the first grammar and the commands. Each public call stands in them once with
-//! memory enough; tables have worked examples, places, depths and texts, each with its answer.
+//! The tests of the parser, the printer and the commands. Each public call stands in them once with memory enough; tables
+//! have worked examples, places, depths and texts, each with its answer.
 #![tactic(auto)]
 
 #[cfg(test)]
 mod bank;
 #[cfg(test)]
 mod checks;
-#[cfg(test)]
-mod first_check;
 #[cfg(test)]
 mod holding;
 #[cfg(test)]
@@ -22,8 +20,6 @@ mod prints;
 mod rem;
 #[cfg(test)]
 mod rows;
-#[cfg(test)]
-mod select;
 #[cfg(test)]
 mod selections;
 #[cfg(test)]

@@ -3,6 +3,7 @@
 use crate::holding::{all_hold, hold};
 use crate::rows::{AREA, UNITS};
 use rx_core::{List, NeverSink, NeverSource, Source, StdSource, Text};
+use rx_modes_policy::{ByCopy, ByReference};
 use rx_rem_command::rem;
 use rx_tests_tables::{LINES, Nesting, Outcome};
 use std::alloc::{AllocError, Global};
@@ -27,7 +28,7 @@ fn status<S: Source>(
     err: &mut NeverSink,
 ) -> Result<u8, AllocError> {
     let words = words(alloc, command)?;
-    Ok(rem(alloc, &words, source, out, err).code())
+    Ok(rem(alloc, &words, source, out, err, &ByCopy, &ByReference).code())
 }
 
 /// A status, and all that is written to standard output, where that matters, and to standard error.

@@ -364,39 +364,24 @@ fn a_function_has_64_parameters(rt: HostRuntime) {
     );
 }
 
-fn push_calls(text: &mut String, name: &str, count: usize) -> Result<(), AllocError> {
-    text.push_str("fn ")?;
-    text.push_str(name)?;
-    text.push_str("(){")?;
+/// A statement in `main`, and a function whose name has so many bytes.
+fn long_name(alloc: Global, count: usize) -> Result<String, AllocError> {
+    let mut text = String::from_str(alloc, "fn f(){}fn main(){let a=1i64;}fn ")?;
     for _ in 0..count {
-        text.push_str("f();")?;
+        text.push_str("j")?;
     }
-    text.push_str("}")
-}
-
-/// A statement in `main`, and functions of these names with so many calls each.
-fn calls(alloc: Global, names: &str, count: usize) -> Result<String, AllocError> {
-    let mut text = String::from_str(alloc, "fn f(){}fn main(){let a=1i64;}")?;
-    for name in names.split(" ") {
-        push_calls(&mut text, name, count)?;
-    }
+    text.push_str("(){}")?;
     Ok(text)
 }
 
-fn reply_to_calls(alloc: Global, names: &str, want: &str) -> Outcome {
-    let text = calls(alloc, names, 14_561)?;
+fn reply_to_name(alloc: Global, count: usize, want: &str) -> Outcome {
+    let text = long_name(alloc, count)?;
     replies(alloc, "extract one 18 29", text.as_bytes(), want)
 }
 
+/// The text has 37 bytes beside the name, and the answer 78.
 #[test]
 fn an_answer_has_1048576_bytes(rt: HostRuntime) {
-    hold(
-        &rt,
-        reply_to_calls(
-            rt.alloc(),
-            "b c d e g h i jjjjjjjjjjjjjjjjjjjjjj",
-            "1 error: Refused Limit Bytes 1048577",
-        ),
-        "calls",
-    );
+    let want = "1 error: Refused Limit Bytes 1048577";
+    hold(&rt, reply_to_name(rt.alloc(), 1_048_499, want), "a name");
 }

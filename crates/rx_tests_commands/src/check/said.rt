@@ -1,6 +1,7 @@
 //! What the command `check` says of a text, and tables of it.
 
 use rx_core::{List, NeverSink, NeverSource, Text};
+use rx_modes_policy::{ByCopy, ByReference};
 use rx_rem_command::{Status, rem};
 use std::alloc::{AllocError, Global};
 use std::process::Abort;
@@ -23,7 +24,15 @@ pub fn checked(alloc: Global, text: &str) -> Result<Said, AllocError> {
     let mut source = NeverSource::new(List::from_slice(alloc, text.as_bytes())?);
     let mut out = NeverSink::new(alloc, 1000)?;
     let mut err = NeverSink::new(alloc, 1000)?;
-    let status = rem(alloc, &words, &mut source, &mut out, &mut err);
+    let status = rem(
+        alloc,
+        &words,
+        &mut source,
+        &mut out,
+        &mut err,
+        &ByCopy,
+        &ByReference,
+    );
     Ok(Said { status, out, err })
 }
 

@@ -5,7 +5,7 @@ ghost use Rattle.rx_modes_policy.specs.Allowed as spec;
 ghost use Rattle.rx_tests_commands.specs.Choosing as choosing;
 
 use crate::run::said::{hold, push_words};
-use rx_engine_extraction::{Selection, extract};
+use rx_engine::{Selection, extract};
 use rx_modes_policy::{Mode, Policy, Uses, allowed};
 use rx_tests_tables::{LINES, Outcome, first_wrong};
 use std::alloc::{AllocError, Global};

@@ -1,5 +1,5 @@
-//! Texts of the first grammar that its extraction leaves to that over the whole language: runs with tails, with units, with several
-//! variables handed out; the words `copy` and `ref`; and runs in the initialiser of a `let` that never goes on.
+//! Functions over integers: runs with tails, with units, with several variables handed out; the words `copy` and `ref`; and runs in the
+//! initialiser of a `let` that never goes on. Where an answer is not found to be the extraction it is refused.
 
 use crate::extract::said::all_made;
 
@@ -193,7 +193,19 @@ fn main() {
 fn took() {
     let c: u64;
     c = 3u64;
-}"#;
+}
+----
+extract g 28 48
+fn f(u: ()) { let a = 1i64; println!("{}", a); u } fn main() { f(()); }
+====
+1
+error: Refused Unconfirmed
+----
+extract g 29 59
+fn walk(n: i64) { if n > 0 { println!("{}", n); walk(n - 1) } } fn main() { walk(3); }
+====
+1
+error: Refused Unconfirmed"#;
 
 #[test]
 fn what_is_left_is_made(rt: HostRuntime) {

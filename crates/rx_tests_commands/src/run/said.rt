@@ -1,6 +1,7 @@
 //! What the tool says of words and a text, and tables of it.
 
 use rx_core::{List, NeverSink, NeverSource, Text};
+use rx_modes_policy::{ByCopy, ByReference};
 use rx_rem_command::rem;
 use rx_tests_tables::{LINES, Outcome, first_wrong};
 use std::alloc::{AllocError, Global};
@@ -40,7 +41,16 @@ pub fn replied_to(
     let mut source = NeverSource::new(List::from_slice(alloc, text)?);
     let mut out = NeverSink::new(alloc, out_room)?;
     let mut err = NeverSink::new(alloc, err_room)?;
-    let status = rem(alloc, &words, &mut source, &mut out, &mut err).code();
+    let status = rem(
+        alloc,
+        &words,
+        &mut source,
+        &mut out,
+        &mut err,
+        &ByCopy,
+        &ByReference,
+    )
+    .code();
     Ok(Reply { status, out, err })
 }
 

@@ -3,7 +3,6 @@ use Rattle.rx_exits_plan.specs.Asked.{Asked}
 use Rattle.rx_exits_plan.specs.PlainPlan.{plan_of, IsExitPlan}
 use Rattle.rx_exits_plan.specs.PlainSyntax.{plain-Home}
 use Rattle.rx_modes.specs.Answer.{HasModes}
-use Rattle.rx_hoist_plan.specs.PlainPlan.{plain-Plan}
 use Rattle.rx_engine_extraction.specs.Deciding.{text_of, IsUnpassed}
 use Rattle.rx_engine_extraction.proofs.Asking.{same, named_told}
 use Rattle.rx_engine_extraction.proofs.Planning.{unplanned_stops, unpassed_stops, is_decided}
@@ -28,7 +27,7 @@ pub returns-in-Ok-named_plan-clause-found : goal.returns-in-Ok-named_plan-clause
 returns-in-Ok-named_plan-clause-found g c =
     let n = c.args.given.now in let r = c.args.run.now in let f = c.args.function.now in let s = c.args.seat.now in
     let k = c.in-Ok.plan in let m = c.in-Ok-passed.passed in let choice = g.P.Policy.choice c.args.policy.now in
-    is_decided (text_of n) r f (plain-Home s.home) c.requires.seated c.args.name.now choice k m (plain-Plan c.in-Ok-named_plan.named) c.in-Ok.ensures.found
+    is_decided (text_of n) r f (plain-Home s.home) c.requires.seated c.args.name.now choice k m c.in-Ok-named_plan.named c.in-Ok.ensures.found
     (subst (λ (A : Asked). HasModes A f.mutable (plan_of A k) choice m) (same n r f s c.requires.run) c.in-Ok-passed.ensures.found)
     (c.in-Ok-named_plan.ensures ∙ named_told n r f s c.requires.run c.args.name.now choice k m c.typed.result.now
     c.as_slice.result.now c.as_slice-2.result.now c.as_slice-3.result.now c.as_slice-4.result.now

@@ -6,14 +6,11 @@ use Rattle.rx_rem_command.specs.Lines.{status_line}
 use Rattle.rx_rem_command.specs.CheckLines.{line_of_check, status_of_check}
 use Rattle.rx_rem_command.specs.Replies.{no_room}
 use Rattle.rx_rem_command.proofs.Replies.{reported}
-use Rattle.rx_rem_command.proofs.CheckLemmas.{found_refused}
+use Rattle.rx_rem_command.proofs.Extractions.{found_refused}
 use Rattle.rx_rem_command.proofs.extracting.extract_program.Goals as goal
 
 pub check-requires : goal.check-requires
 check-requires g c = c.parsed_programs_are_numbered.ensures c.args.text.now (plain-Program c.args.program.now) c.requires.parses c.requires.short
-
-pub extract_run-status-requires-clause-accepted : goal.extract_run-status-requires-clause-accepted
-extract_run-status-requires-clause-accepted g c = (c.in-Ok.checked.front.typed, record { front = c.in-Ok.ensures.checked.front.accepted; borrows = c.in-Ok.ensures.checked.borrows })
 
 pub returns-in-Err : goal.returns-in-Err
 returns-in-Err g c = let p = plain-Program c.args.program.now in
@@ -22,7 +19,7 @@ returns-in-Err g c = let p = plain-Program c.args.program.now in
         status_of_check c.in-Err.fault,
         [],
         line_of_check p c.in-Err.fault,
-        found_refused _ _ _ _ _ p c.in-Err.fault c.requires.parses c.in-Err.ensures.fault,
+        found_refused _ _ p c.in-Err.fault c.requires.parses c.in-Err.ensures.fault,
         reported _ _ _ _ c.refuse_program.result _ r,
       )
       | inr r ↦ (OutOfMemory, [], status_line OutOfMemory, no_room, reported _ _ _ OutOfMemory c.refuse_program.result _ r)

@@ -4,7 +4,7 @@ use Rattle.rx_rem_command.specs.declared.status.Status.TheVariants.{OutOfMemory}
 use Rattle.rx_rem_command.specs.Lines.{syntax_line, syntax_status, status_line}
 use Rattle.rx_rem_command.specs.Replies.{no_room}
 use Rattle.rx_rem_command.proofs.Replies.{reported}
-use Rattle.rx_rem_command.proofs.CheckLemmas.{found_unread_too}
+use Rattle.rx_rem_command.proofs.Extractions.{found_unread_too}
 use Rattle.rx_rem_command.proofs.extracting.extract_text.Goals as goal
 
 pub returns-in-Err : goal.returns-in-Err
@@ -14,7 +14,7 @@ returns-in-Err g c =
         syntax_status c.in-Err.fault,
         [],
         syntax_line c.in-Err.fault,
-        found_unread_too _ _ _ _ _ c.in-Err.fault c.in-Err.ensures.fault,
+        found_unread_too _ _ c.in-Err.fault c.in-Err.ensures.fault,
         reported _ _ _ _ c.refuse_text.result _ r,
       )
       | inr r ↦ (OutOfMemory, [], status_line OutOfMemory, no_room, reported _ _ _ OutOfMemory c.refuse_text.result _ r)

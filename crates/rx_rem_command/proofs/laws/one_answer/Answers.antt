@@ -1,9 +1,8 @@
--- A text has one tree, so two results of its extraction agree, and two of its check; what is left to the other extraction has one answer or one
--- refusal; and a program has one outcome.
+-- A text has one tree, so two answers of its check agree; it has one answer or one refusal of an extraction; and a program has one outcome.
 use Rattle.rx_rem_command.proofs.Agreement.{defined_agree}
 use Rattle.rx_rem_command.proofs.laws.one_answer.Goals as goal
 
 pub returns : goal.returns
 returns c =
-    defined_agree c.passed_or_faulty.ensures.accepted c.causes_are_one.ensures c.one_typed_program.ensures
+    defined_agree c.passed_or_faulty.ensures.accepted c.causes_are_one.ensures c.one_outcome.ensures.one
     c.conditions_are_one.ensures.none c.refusals_are_one.ensures c.answers_are_one.ensures

@@ -5,7 +5,7 @@ use Rattle.rx_rem_command.specs.declared.status.Status.TheVariants.{Usage, ReadF
 use Rattle.rx_rem_command.specs.Forms.{Command, command_of}
 use Rattle.rx_rem_command.specs.Asked.{asked}
 use Rattle.rx_rem_command.specs.Lines.{status_line}
-use Rattle.rx_rem_command.specs.Defined.{AnswersTo}
+use Rattle.rx_rem_command.specs.Defined.{Choices, AnswersTo}
 use Rattle.rx_rem_command.specs.Replies.{answered, not_read, too_long, no_memory, source_state}
 use Rattle.rx_rem_command.proofs.Replies.{replies, reported, found_due, taken_few, taken_more, read_whole}
 use Rattle.rx_rem_command.proofs.tool.rem.Goals as goal
@@ -14,8 +14,9 @@ pub returns-in_default-clause-replies : goal.returns-in_default-clause-replies
 returns-in_default-clause-replies g c =
     let e : None ≡ command_of c.args.words.now = ap (option_map asked) (sym c.in_default.is)
     ∙ (c.read_words.ensures ∙ ap command_of c.as_slice.ensures) in
-    let d = subst (λ (q : Option Command). AnswersTo q [] Usage [] (status_line Usage)) e (refl, refl, refl) in
-    replies _ _ _ _ _ _ _ Usage [] (status_line Usage) c.report_name.result
+    let C : Choices = record { copy = g.C.Policy.choice c.args.copy.now; reference = g.R.Policy.choice c.args.by_reference.now } in
+    let d = subst (λ (q : Option Command). AnswersTo C q [] Usage [] (status_line Usage)) e (refl, refl, refl) in
+    replies _ _ _ _ _ _ _ _ Usage [] (status_line Usage) c.report_name.result
     (answered [] refl (λ form. absurd (form (sym e))) d)
     (reported _ _ _ Usage c.report_name.result _ c.report_name.ensures)
 
@@ -28,13 +29,13 @@ returns-in-Ok-clause-replies g c =
     (source_state g.S.Source.remaining g.S.Source.faults c.read_all.new.source)
     c.as_slice-in-Ok.result.now c.in-Ok.text c.read_all.ensures.gone.0 c.as_slice-in-Ok.ensures c.in-Ok.ensures.all
     c.in-Ok.ensures.within c.read_all.ensures.gone.3 in
-    replies _ _ _ _ _ _ _ f.0 f.1 f.2 c.answer.result (found_due _ _ _ _ _ f.0 f.1 f.2 e (c.read_all.ensures.sound (λ q. cc)) r f.3) f.4
+    replies _ _ _ _ _ _ _ _ f.0 f.1 f.2 c.answer.result (found_due _ _ _ _ _ _ f.0 f.1 f.2 e (c.read_all.ensures.sound (λ q. cc)) r f.3) f.4
 
 pub returns-in-Err-ReadFault-clause-replies : goal.returns-in-Err-ReadFault-clause-replies
 returns-in-Err-ReadFault-clause-replies g c =
     let e : Some (asked c.in-Some.command) ≡ command_of c.args.words.now
     = ap (option_map asked) (sym c.in-Some.is) ∙ (c.read_words.ensures ∙ ap command_of c.as_slice.ensures) in
-    replies _ _ _ _ _ _ _ ReadFault [] (status_line ReadFault) c.report_name-in-Err-ReadFault.result
+    replies _ _ _ _ _ _ _ _ ReadFault [] (status_line ReadFault) c.report_name-in-Err-ReadFault.result
     (not_read (λ n. cc) (c.in-Err-ReadFault.ensures.fault (ap Err c.in-Err-ReadFault.field-0-is))
     (taken_few _ _ c.in-Err-ReadFault.ensures.gone.0 (λ l. let e = c.in-Err-ReadFault.ensures.gone.2.1 l in cc)
     c.in-Err-ReadFault.ensures.gone.3))
@@ -44,7 +45,7 @@ pub returns-in-Err-TooLong-clause-replies : goal.returns-in-Err-TooLong-clause-r
 returns-in-Err-TooLong-clause-replies g c =
     let e : Some (asked c.in-Some.command) ≡ command_of c.args.words.now
     = ap (option_map asked) (sym c.in-Some.is) ∙ (c.read_words.ensures ∙ ap command_of c.as_slice.ensures) in
-    replies _ _ _ _ _ _ _ TooLong [] (status_line TooLong) c.report_name-in-Err-TooLong.result (too_long (λ n. cc) (c.in-Err-TooLong.ensures.sound (λ q. cc))
+    replies _ _ _ _ _ _ _ _ TooLong [] (status_line TooLong) c.report_name-in-Err-TooLong.result (too_long (λ n. cc) (c.in-Err-TooLong.ensures.sound (λ q. cc))
     (taken_more _ _ c.in-Err-TooLong.ensures.gone.0 c.in-Err-TooLong.ensures.gone.1
     (c.in-Err-TooLong.ensures.gone.2.0 (ap Err c.in-Err-TooLong.field-0-is)) c.in-Err-TooLong.ensures.gone.3))
     (reported _ _ _ TooLong c.report_name-in-Err-TooLong.result _ c.report_name-in-Err-TooLong.ensures)
@@ -53,7 +54,7 @@ pub returns-in-Err-OutOfMemory-clause-replies : goal.returns-in-Err-OutOfMemory-
 returns-in-Err-OutOfMemory-clause-replies g c =
     let e : Some (asked c.in-Some.command) ≡ command_of c.args.words.now
     = ap (option_map asked) (sym c.in-Some.is) ∙ (c.read_words.ensures ∙ ap command_of c.as_slice.ensures) in
-    replies _ _ _ _ _ _ _ OutOfMemory [] (status_line OutOfMemory) c.report_name-in-Err-OutOfMemory.result
+    replies _ _ _ _ _ _ _ _ OutOfMemory [] (status_line OutOfMemory) c.report_name-in-Err-OutOfMemory.result
     (no_memory (λ n. cc) (c.in-Err-OutOfMemory.ensures.sound (λ q. cc))
     (taken_few _ _ c.in-Err-OutOfMemory.ensures.gone.0 (λ l. let e = c.in-Err-OutOfMemory.ensures.gone.2.1 l in cc)
     c.in-Err-OutOfMemory.ensures.gone.3))

@@ -1,8 +1,0 @@
-mod Meeting
-mod Scopes
-mod Distinct
-mod Expressions
-mod Statements
-mod Functions
-mod Programs
-mod Accepting

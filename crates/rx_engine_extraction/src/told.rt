@@ -1,0 +1,112 @@
+//! What is told of a run where its answer is confirmed: the variables that may be elsewhere, and the functions that give the unit.
+
+ghost use Rattle.std.specs.Prelude.{◌≡◌, ◌++◌, IfOk};
+ghost use Rattle.rx_typed.specs.PlainTypes.{declarations};
+ghost use Rattle.rx_engine_extracted.specs.PlainPrograms.{plain-Functions};
+ghost use Rattle.rx_engine_extraction.specs.Confirmed as confirmed;
+ghost use Rattle.rx_engine_extraction.specs.Confirming as spec;
+
+use rx_engine_extracted::all_leave_unit;
+use rx_exits_plan::{ExitOuts, ExitPlan};
+use rx_hoist_made::is_unit;
+use rx_typeck_typed::{Typed, TypedFn};
+use rx_typed::{Decl, Decls, TypedTree};
+use std::alloc::{AllocError, Global};
+
+/// Params that the run moves.
+fn moved_among(alloc: Global, params: &[u32], moved: &[bool]) -> Result<Vec<u32>, AllocError>
+    ensures { IfOk result (λ it. it.items ≡ spec.moved_among params.now moved.now) }
+{
+    let mut numbers = Vec::new(alloc);
+    let mut left = params;
+    let mut right = moved;
+    while let [param, params_behind @ ..] = left {
+        let [is_moved, moved_behind @ ..] = right else {
+            return Ok(numbers);
+        };
+        if *is_moved {
+            numbers.push(*param)?;
+        }
+        left = params_behind;
+        right = moved_behind;
+    }
+    Ok(numbers)
+}
+
+/// These numbers, and what exits hand out.
+fn with_handed(exits: &[ExitOuts], numbers: Vec<u32>) -> Result<Vec<u32>, AllocError>
+    ensures { IfOk result (λ it. it.items ≡ numbers.items ++ spec.handed_among exits.now) }
+{
+    let mut all = numbers;
+    for exit in exits {
+        all.extend_from_slice(exit.outs.as_slice())?;
+    }
+    Ok(all)
+}
+
+/// The variables that may be elsewhere in the answer: params that the run moves, locals, what is handed out, and what is declared again.
+pub(crate) fn elsewhere(
+    alloc: Global,
+    plan: &ExitPlan,
+    moved: &[bool],
+) -> Result<Vec<u32>, AllocError>
+    ensures { IfOk result (λ it. it.items ≡ spec.elsewhere_by plan.now moved.now) }
+{
+    let mut first = moved_among(alloc, plan.params.as_slice(), moved)?;
+    first.extend_from_slice(plan.locals.as_slice())?;
+    let mut all = with_handed(plan.exits.as_slice(), first)?;
+    all.extend_from_slice(plan.redeclared.as_slice())?;
+    Ok(all)
+}
+
+/// Whether an item is a function that is declared to give the unit, and not this one.
+#[tactic(auto, using(rx_typeck_solver::proofs::Lookups::lookup_rules))]
+fn is_of_unit(decls: &Decls, item: u32, other: u32) -> bool
+    ensures { result ≡ confirmed.is_of_unit (declarations decls.now.items) item other }
+{
+    if other == item {
+        return false;
+    }
+    match decls.items.get(other as usize) {
+        Some(decl) => match decl {
+            Decl::Func { answer, .. } => is_unit(answer),
+            Decl::Rt | Decl::Struct { .. } | Decl::Enum { .. } => false,
+        },
+        None => false,
+    }
+}
+
+/// The functions that are declared to give the unit, but one.
+fn units_among(
+    alloc: Global,
+    decls: &Decls,
+    item: u32,
+    functions: &[TypedFn],
+) -> Result<Vec<u32>, AllocError>
+    ensures { IfOk result (λ it. it.items ≡ confirmed.units_among (declarations decls.now.items) item functions.now) }
+{
+    let mut units = Vec::new(alloc);
+    for function in functions {
+        if is_of_unit(decls, item, function.item) {
+            units.push(function.item)?;
+        }
+    }
+    Ok(units)
+}
+
+/// The same where each of them gives the unit by its form, and else none.
+pub(crate) fn units_of(
+    alloc: Global,
+    typed: &Typed,
+    item: u32,
+    trees: &[Option<&TypedTree>],
+) -> Result<Vec<u32>, AllocError>
+    ensures { IfOk result (λ it. it.items
+        ≡ confirmed.units_if (plain-Functions trees.now) (confirmed.units_among (declarations typed.now.decls.items) item typed.now.functions)) }
+{
+    let units = units_among(alloc, &typed.decls, item, typed.functions.as_slice())?;
+    if all_leave_unit(trees, units.as_slice(), units.as_slice()) {
+        return Ok(units);
+    }
+    Ok(Vec::new(alloc))
+}

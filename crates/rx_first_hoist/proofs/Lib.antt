@@ -1,3 +1,0 @@
-pub mod Membership
-pub mod PlanForms
-pub mod HoistForms

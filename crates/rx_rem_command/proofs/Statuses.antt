@@ -1,0 +1,200 @@
+-- When a status comes: by cases on what is due and on how far it was written. And of a text one status comes at most.
+use Rattle.std.proofs.Common.{ℕ, ℤ, ◌≡◌, List, [], Option, Some, None, ◌⊎◌, inl, inr, refl, sym, ap, ◌∙◌, subst}
+use Rattle.rx_tree.specs.Plain.{ProgramTree}
+use Rattle.rx_parse_grammar.specs.grammar.Items.{Parses}
+use Rattle.rx_parse_grammar.proofs.Whole.{one_text}
+use Rattle.rx_meaning.specs.declared.outcome.Outcome.{Outcome}
+use Rattle.rx_meaning.specs.declared.outcome.End.{End}
+use Rattle.rx_meaning.specs.declared.outcome.End.TheVariants as ends
+use Rattle.rx_check.specs.declared.fault.CheckFault.{CheckFault}
+use Rattle.rx_check.specs.declared.fault.CheckFault.TheVariants as check
+use Rattle.rx_check.specs.Passes.{Accepted}
+use Rattle.rx_check.specs.Causes.{Causes}
+use Rattle.rx_engine_extraction.specs.declared.refusal.Refusal.{Refusal}
+use Rattle.rx_engine_extraction.specs.Source.{Wish}
+use Rattle.rx_engine_extraction.specs.Promise.{Extracts}
+use Rattle.rx_engine_extraction.specs.Verdict.{IsRefused}
+use Rattle.rx_rem_command.specs.declared.status.Status.{Status}
+use Rattle.rx_rem_command.specs.declared.status.Status.TheVariants as status
+use Rattle.rx_rem_command.specs.Forms.{Preference, Command, extracts, checks, runs, command_of}
+use Rattle.rx_rem_command.specs.Defined.{Choices, AnswersTo, IsAccepted, Checked, program, passed, Judged, faulty, no_program, wish, Drawn, unaccepted, extracted, unmet, Ran, refused, ran}
+use Rattle.rx_rem_command.specs.RunLines.{end_status}
+use Rattle.rx_engine.specs.Runs.{Does}
+use Rattle.rx_rem_command.specs.Replies.{Stream, IsForm, IsRead, Due, answered, not_read, too_long, no_memory, Ending, whole, out_cut, both_cut, err_cut, Replies}
+use Rattle.rx_rem_command.specs.Statuses.{EndsWith, Comes, ComesOfText, Cause}
+use Rattle.rx_rem_command.proofs.CheckLemmas.{not_accepted}
+use Rattle.rx_rem_command.proofs.Extractions.{kept, extracted_accepted, unmet_accepted}
+
+-- ---- of a defined answer
+
+-- the status of a run's end comes where it ends so
+end_comes : (C : Choices) (text : List ℕ) (turns : ℕ) (input : List ℤ) (e : End) → EndsWith text turns input (end_status e) → Comes C (runs turns input) text (end_status e)
+end_comes C text turns input ends.Ended k = k
+end_comes C text turns input (ends.Trapped t) k = k
+end_comes C text turns input ends.Running k = k
+end_comes C text turns input ends.Wrong k = k
+
+module _ (excluded : (p : ProgramTree) (e : CheckFault) → Accepted p → Causes e p → e ≡ check.OutOfMemory) (C : Choices) where
+  judged_comes : (text : List ℕ) (p : ProgramTree) → Parses text p → (s : Status) (out err : List ℕ) → Judged p s out err → Comes C checks text s
+  judged_comes text p x _ _ _ (passed h) = record { program = p; parses = x; accepted = h }
+  judged_comes text p x _ _ _ (faulty f told c) = λ a. not_accepted excluded text a status.NotAccepted [] _ refl (program p x (faulty f told c))
+
+  checked_comes : (text : List ℕ) (s : Status) (out err : List ℕ) → Checked text s out err → Comes C checks text s
+  checked_comes text _ _ _ (no_program f c) = λ a. not_accepted excluded text a status.NotAccepted [] _ refl (no_program f c)
+  checked_comes text s out err (program p x j) = judged_comes text p x s out err j
+
+  drawn_comes : (text name : List ℕ) (start end : ℕ) (w : Preference) (s : Status) (out err : List ℕ) → Drawn text (wish C name start end w) s out err
+      → Comes C (extracts name start end w) text s
+  drawn_comes text name start end w _ out err (unaccepted x) = λ a. not_accepted excluded text a status.NotAccepted out err refl x
+  drawn_comes text name start end w _ _ _ (extracted a bs k) = kept text (wish C name start end w) a bs k
+  drawn_comes text name start end w _ _ _ (unmet r x) = (r, x)
+
+  ran_comes : (text : List ℕ) (turns : ℕ) (input : List ℤ) (s : Status) (out err : List ℕ) → Ran text turns input s out err → Comes C (runs turns input) text s
+  ran_comes text turns input _ out err (refused x) = λ a. not_accepted excluded text a status.NotAccepted out err refl x
+  ran_comes text turns input _ _ _ (ran p x h o d) =
+      end_comes C text turns input o.end (record { program = p; parses = x; accepted = h; outcome = o; does = d; ends = refl })
+
+  answer_comes : (c : Command) (text : List ℕ) (s : Status) (out err : List ℕ) → AnswersTo C (Some c) text s out err → Comes C c text s
+  answer_comes (extracts name start end w) text s out err d = drawn_comes text name start end w s out err d
+  answer_comes checks text s out err d = checked_comes text s out err d
+  answer_comes (runs turns input) text s out err d = ran_comes text turns input s out err d
+
+  -- ---- of a reply
+
+  module _ (words : List (List ℕ)) (source source' out out' err err' : Stream) where
+    abbrev Causes' : Status → Type 0
+    Causes' = Cause C words source source' out out' err err'
+
+    -- what comes of a text is a cause
+    of_text : (command : Command) (text : List ℕ) → command_of words ≡ Some command → IsRead source source' text → (s : Status) → Comes C command text s → Causes' s
+    of_text command text e r status.Done k = record { command = command; asked = e; text = text; read = r; comes = k }
+    of_text command text e r status.Refused k = record { command = command; asked = e; text = text; read = r; comes = k }
+    of_text command text e r status.NotAccepted k = record { command = command; asked = e; text = text; read = r; comes = k }
+    of_text command text e r status.StillRunning k = record { command = command; asked = e; text = text; read = r; comes = k }
+    of_text command text e r status.Wrong k = record { command = command; asked = e; text = text; read = r; comes = k }
+    of_text command text e r status.Trapped k = record { command = command; asked = e; text = text; read = r; comes = k }
+    of_text command text e r status.Usage k = absurd k
+    of_text command text e r status.ReadFault k = absurd k
+    of_text command text e r status.WriteFault k = absurd k
+    of_text command text e r status.OutOfMemory k = absurd k
+    of_text command text e r status.TooLong k = absurd k
+
+    of_answer : (q : Option Command) (text : List ℕ) (s : Status) (outs errs : List ℕ) → command_of words ≡ q → (IsForm words → IsRead source source' text)
+        → AnswersTo C q text s outs errs → Causes' s
+    of_answer None text s outs errs e r d = subst Causes' (sym d.0) e
+    of_answer (Some c) text s outs errs e r d =
+        let form : IsForm words = λ n. none_some c (sym n ∙ e) in
+        of_text c text e (r form) s (answer_comes c text s outs errs d)
+      where
+        none_some : (c : Command) → None ≡ Some c → ⊥
+        none_some c k = cc
+
+    of_due : (s : Status) (outs errs : List ℕ) → Due C words source source' s outs errs → Causes' s
+    of_due s outs errs (answered text k r d) = of_answer (command_of words) text s outs errs refl r d
+    of_due _ _ _ (not_read f r t) = (f, r)
+    of_due _ _ _ (too_long f k t) = (f, t)
+    of_due _ _ _ (no_memory f k t) = f
+
+    of_ending : (s result : Status) (outs errs : List ℕ) → Causes' s → Ending out out' err err' s outs errs result → Causes' result
+    of_ending s _ outs errs k (whole a b) = k
+    of_ending s _ outs errs k (out_cut a b) = inl a.1
+    of_ending s _ outs errs k (both_cut a b) = inl a.1
+    of_ending s _ outs errs k (err_cut a b) = inr b.1
+
+    pub status_cause : (result : Status) → Replies C words source source' out out' err err' result → Causes' result
+    status_cause result r = let k = r.written in of_ending k.0 result k.1 k.2 (of_due k.0 k.1 k.2 k.3) k.4
+
+-- ---- one status of a text
+
+-- which command an end is of
+module _ (none : (bytes : List ℕ) (w : Wish) (r : Refusal) → IsRefused bytes w r → Extracts bytes w → ⊥)
+    (one_does : (p : ProgramTree) (turns : ℕ) (input : List ℤ) (o q : Outcome) → Does p turns input o → Does p turns input q → o ≡ q) (C : Choices) where
+  one_end : (text : List ℕ) (turns : ℕ) (input : List ℤ) (s t : Status) → EndsWith text turns input s → EndsWith text turns input t → s ≡ t
+  one_end text turns input s t x y =
+      let d : Does x.program turns input y.outcome = subst (λ (p : ProgramTree). Does p turns input y.outcome) (one_text text y.program x.program y.parses x.parses) y.does in
+      sym x.ends ∙ (ap (λ (o : Outcome). end_status o.end) (one_does x.program turns input x.outcome y.outcome x.does d) ∙ y.ends)
+
+  ends_accepted : (text : List ℕ) (turns : ℕ) (input : List ℤ) (s : Status) → EndsWith text turns input s → IsAccepted text
+  ends_accepted text turns input s x = record { program = x.program; parses = x.parses; accepted = x.accepted }
+
+  -- an extraction is done or not, and its text is accepted
+  one_extraction : (text name : List ℕ) (start end : ℕ) (w : Preference) (s t : Status) → Comes C (extracts name start end w) text s → Comes C (extracts name start end w) text t → s ≡ t
+  one_extraction text name start end w status.Done status.Done x y = refl
+  one_extraction text name start end w status.Done status.Refused x y = absurd (none text (wish C name start end w) y.0 y.1 x)
+  one_extraction text name start end w status.Done status.NotAccepted x y = absurd (y (extracted_accepted text (wish C name start end w) x))
+  one_extraction text name start end w status.Refused status.Done x y = absurd (none text (wish C name start end w) x.0 x.1 y)
+  one_extraction text name start end w status.Refused status.Refused x y = refl
+  one_extraction text name start end w status.Refused status.NotAccepted x y = absurd (y (unmet_accepted text (wish C name start end w) x.0 x.1))
+  one_extraction text name start end w status.NotAccepted status.Done x y = absurd (x (extracted_accepted text (wish C name start end w) y))
+  one_extraction text name start end w status.NotAccepted status.Refused x y = absurd (x (unmet_accepted text (wish C name start end w) y.0 y.1))
+  one_extraction text name start end w status.NotAccepted status.NotAccepted x y = refl
+  one_extraction text name start end w status.Usage t x y = absurd x
+  one_extraction text name start end w status.ReadFault t x y = absurd x
+  one_extraction text name start end w status.WriteFault t x y = absurd x
+  one_extraction text name start end w status.OutOfMemory t x y = absurd x
+  one_extraction text name start end w status.TooLong t x y = absurd x
+  one_extraction text name start end w status.StillRunning t x y = absurd x
+  one_extraction text name start end w status.Wrong t x y = absurd x
+  one_extraction text name start end w status.Trapped t x y = absurd x
+  one_extraction text name start end w s status.Usage x y = absurd y
+  one_extraction text name start end w s status.ReadFault x y = absurd y
+  one_extraction text name start end w s status.WriteFault x y = absurd y
+  one_extraction text name start end w s status.OutOfMemory x y = absurd y
+  one_extraction text name start end w s status.TooLong x y = absurd y
+  one_extraction text name start end w s status.StillRunning x y = absurd y
+  one_extraction text name start end w s status.Wrong x y = absurd y
+  one_extraction text name start end w s status.Trapped x y = absurd y
+
+  one_check : (text : List ℕ) (s t : Status) → Comes C checks text s → Comes C checks text t → s ≡ t
+  one_check text status.Done status.Done x y = refl
+  one_check text status.Done status.NotAccepted x y = absurd (y x)
+  one_check text status.NotAccepted status.Done x y = absurd (x y)
+  one_check text status.NotAccepted status.NotAccepted x y = refl
+  one_check text status.Refused t x y = absurd x
+  one_check text status.Usage t x y = absurd x
+  one_check text status.ReadFault t x y = absurd x
+  one_check text status.WriteFault t x y = absurd x
+  one_check text status.OutOfMemory t x y = absurd x
+  one_check text status.TooLong t x y = absurd x
+  one_check text status.StillRunning t x y = absurd x
+  one_check text status.Wrong t x y = absurd x
+  one_check text status.Trapped t x y = absurd x
+  one_check text s status.Refused x y = absurd y
+  one_check text s status.Usage x y = absurd y
+  one_check text s status.ReadFault x y = absurd y
+  one_check text s status.WriteFault x y = absurd y
+  one_check text s status.OutOfMemory x y = absurd y
+  one_check text s status.TooLong x y = absurd y
+  one_check text s status.StillRunning x y = absurd y
+  one_check text s status.Wrong x y = absurd y
+  one_check text s status.Trapped x y = absurd y
+
+  -- of a run: the text is not accepted, or its program ends so
+  of_run : (text : List ℕ) (turns : ℕ) (input : List ℤ) (s : Status) → Comes C (runs turns input) text s
+      → ((s ≡ status.NotAccepted) × (IsAccepted text → ⊥)) ⊎ EndsWith text turns input s
+  of_run text turns input status.Done x = inr x
+  of_run text turns input status.StillRunning x = inr x
+  of_run text turns input status.Wrong x = inr x
+  of_run text turns input status.Trapped x = inr x
+  of_run text turns input status.NotAccepted x = inl (refl, x)
+  of_run text turns input status.Refused x = absurd x
+  of_run text turns input status.Usage x = absurd x
+  of_run text turns input status.ReadFault x = absurd x
+  of_run text turns input status.WriteFault x = absurd x
+  of_run text turns input status.OutOfMemory x = absurd x
+  of_run text turns input status.TooLong x = absurd x
+
+  one_run : (text : List ℕ) (turns : ℕ) (input : List ℤ) (s t : Status) → Comes C (runs turns input) text s → Comes C (runs turns input) text t → s ≡ t
+  one_run text turns input s t x y = by (of_run text turns input s x) (of_run text turns input t y)
+    where
+      by : ((s ≡ status.NotAccepted) × (IsAccepted text → ⊥)) ⊎ EndsWith text turns input s
+          → ((t ≡ status.NotAccepted) × (IsAccepted text → ⊥)) ⊎ EndsWith text turns input t → s ≡ t
+      by (inl a) (inl b) = a.0 ∙ sym b.0
+      by (inl a) (inr b) = absurd (a.1 (ends_accepted text turns input t b))
+      by (inr a) (inl b) = absurd (b.1 (ends_accepted text turns input s a))
+      by (inr a) (inr b) = one_end text turns input s t a b
+
+  pub one_status : (c : Command) (text : List ℕ) (s t : Status) → Comes C c text s → Comes C c text t → s ≡ t
+  one_status (extracts name start end w) text s t x y = one_extraction text name start end w s t x y
+  one_status checks text s t x y = one_check text s t x y
+  one_status (runs turns input) text s t x y = one_run text turns input s t x y
