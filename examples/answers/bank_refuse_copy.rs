@@ -1,3 +1,4 @@
+// A small bank: commands come from the input.
 mod rt;
 
 struct Account {
@@ -18,6 +19,7 @@ enum Command {
     Quit,
 }
 
+// One command: a kind, an account and an amount.
 fn read_command() -> Command {
     let kind = rt::next();
     if kind == 0 {
@@ -42,6 +44,8 @@ fn serve(bank: &mut Bank, limit: i64) -> i64 {
     let mut served = 0;
     loop {
         let command = read_command();
+        /* The limit is tested
+           before the command is done. */
         match refuse(served, limit) {
             Exit_refuse::Next => {}
             Exit_refuse::Return(out_0) => return out_0,
@@ -54,6 +58,7 @@ fn serve(bank: &mut Bank, limit: i64) -> i64 {
             Command::Withdraw(id, amount) => {
                 let fee = bank.fee;
                 let account = pick(bank, id);
+                // No account goes below zero.
                 if account.balance < amount + fee {
                     println!("{}", -1);
                     continue;
@@ -84,7 +89,11 @@ fn refuse(served: i64, limit: i64) -> Exit_refuse {
 }
 
 fn main() {
-    let mut bank = Bank { first: Account { id: 1, balance: 100 }, second: Account { id: 2, balance: 50 }, fee: 1 };
+    let mut bank = Bank {
+        first: Account { id: 1, balance: 100 },
+        second: Account { id: 2, balance: 50 },
+        fee: 1,
+    };
     let done = serve(&mut bank, 10);
     println!("{}", done);
 }

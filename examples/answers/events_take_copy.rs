@@ -1,3 +1,4 @@
+// An event loop: a frame is a row of numbers that 0 ends; -1 skips the rest of a frame, -2 ends it all.
 mod rt;
 
 fn main() {

@@ -1,3 +1,4 @@
+// A turnstile: coins and pushes come from the input, 1 and 2, and 0 ends it.
 mod rt;
 
 struct Count {

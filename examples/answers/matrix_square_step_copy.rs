@@ -1,3 +1,4 @@
+// Two by two matrices: the numbers of Fibonacci by repeated squaring.
 mod rt;
 
 #[derive(Clone, Copy)]
@@ -9,7 +10,12 @@ struct Matrix {
 }
 
 fn times(x: Matrix, y: Matrix) -> Matrix {
-    Matrix { a: x.a * y.a + x.b * y.c, b: x.a * y.b + x.b * y.d, c: x.c * y.a + x.d * y.c, d: x.c * y.b + x.d * y.d }
+    Matrix {
+        a: x.a * y.a + x.b * y.c,
+        b: x.a * y.b + x.b * y.d,
+        c: x.c * y.a + x.d * y.c,
+        d: x.c * y.b + x.d * y.d,
+    }
 }
 
 fn power(base: Matrix, exponent: i64) -> Matrix {
@@ -17,6 +23,7 @@ fn power(base: Matrix, exponent: i64) -> Matrix {
     let mut square = base;
     let mut left = exponent;
     while left > 0 {
+        // The result takes each power of two that the exponent has.
         square_step(&mut left, &mut result, &mut square);
     }
     result

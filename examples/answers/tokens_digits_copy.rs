@@ -1,3 +1,4 @@
+// Reads an expression as character codes, one a line, and prints its value from left to right: 12+30-2 is 49 50 43 51 48 45 50 0.
 mod rt;
 
 enum Token {
@@ -11,6 +12,7 @@ fn is_digit(code: i64) -> bool {
     code >= 48 && code <= 57
 }
 
+// The token that begins with this code; what stands behind it goes to `ahead`.
 fn token(ahead: &mut i64) -> Token {
     let code = *ahead;
     if is_digit(code) {

@@ -1,3 +1,4 @@
+// Views of numbers that somebody else owns: the larger one of two, without a copy.
 mod rt;
 
 struct Pair {
@@ -29,11 +30,7 @@ enum Exit_at_least<'r0, 'r1> {
 }
 
 fn at_least<'r0: 'r2, 'r1: 'r3, 'r2, 'r3>(of: View<'r0>, least: &'r1 i64) -> Exit_at_least<'r2, 'r3> {
-    let chosen = if *of.left < *of.right {
-        of.right
-    } else {
-        of.left
-    };
+    let chosen = if *of.left < *of.right { of.right } else { of.left };
     if *chosen < *least {
         return Exit_at_least::Return(least);
     }

@@ -4,7 +4,6 @@ use Rattle.std.specs.Prelude.{nat_le, ◌&&◌}
 use Rattle.rx_tree.specs.Plain.{ProgramTree}
 use Rattle.rx_tree.specs.Size.{IsNumbered}
 use Rattle.rx_parse_grammar.specs.grammar.Items.{Parses}
-use Rattle.rx_print_spelling.specs.Items.{print_program}
 use Rattle.rx_graph_cycles.specs.Reaches.{NoCycle}
 use Rattle.rx_resolve_names.specs.declared.resolved.ItemNames.{ItemNames}
 use Rattle.rx_typed.specs.Types.{Declarations}
@@ -26,7 +25,7 @@ use Rattle.rx_engine_extracted.specs.Programs.{extracts}
 use Rattle.rx_engine_validated.specs.Found.{IsFound}
 use Rattle.rx_engine_extraction.specs.Source.{Text, IsText, Wish}
 use Rattle.rx_engine_extraction.specs.Case.{Case}
-use Rattle.rx_engine_extraction.specs.Made.{named, new_item, extracted}
+use Rattle.rx_engine_extraction.specs.Made.{named, new_item}
 use Rattle.rx_engine_extraction.specs.Confirmed.{Confirmed, told_by, whole_of, is_extracted, is_found}
 use Rattle.rx_engine_extraction.specs.Conditions.{Condition, reached, whole, unmoved, few_bytes, confirmed}
 use Rattle.rx_engine_extraction.specs.Meeting.{Holds}
@@ -121,7 +120,7 @@ module _ (finite : (p : ProgramTree) (names : List ItemNames) (t : Typed) → Is
       let there = c.accepted.front in
       let f = found_in T d place many c.program c.types c.found in record {
         few = numbered bytes T.program x.is_text.parses short;
-        few_there = numbered (print_program (extracted T w d)) c.program c.parses (held_at few_bytes (omega arith));
+        few_there = numbered d.text c.program c.parses (held_at few_bytes (omega arith));
         front = front;
         accepted = there;
         told = told_by T d place many f.new;

@@ -1,4 +1,4 @@
--- What an answer promises: it is the canonical text of the extraction under the least bounds, it is an accepted text itself, and it does
+-- What an answer promises: it is the text of the extraction under the least bounds, it is an accepted text itself, and it does
 -- what the text does (REM, "Extract method").
 use Rattle.std.specs.Prelude.{◌≡◌, ℕ, ℤ, ◌*◌, List}
 use Rattle.rx_core.specs.declared.types.Bound.{Bound}

@@ -2,16 +2,17 @@
 -- with parts of the pass is not there then. By induction on walks, each of whose lists is cut where the mark stands.
 use Rattle.std.proofs.Common.{◌≡◌, ◌⊎◌, inl, inr, ℕ, Bool, true, false, not, ◌&&◌, ◌||◌, ◌==◌, List, [], ◌∷◌, ◌++◌, refl, sym, ap, ◌∙◌, subst, append_assoc}
 use Rattle.std.proofs.lemmas.Bool.Decides.{Decides-eqb}
-use Rattle.rx_lower_walks.specs.Actions.{Action, Dead, does}
+use Rattle.rx_lower_walks.specs.Actions.{Act, Action, Borrow, Build, Call, Dead, Declare, does, Give, Input, Print, Read, Test, Write}
 use Rattle.rx_lower_walks.specs.Orders.{Exit, exit_node, Order}
 use Rattle.rx_lower_walks.specs.Orders as order
 use Rattle.rx_lower_walks.specs.Walks as walk
-use Rattle.rx_lower_walks.specs.Walks.{by_break, by_continue, by_end, by_outer_break, by_outer_continue, by_return, by_stop, IsAway, Left, Out, Passed, Walk}
+use Rattle.rx_lower_walks.specs.Walks.{actions_in, Among, by_break, by_continue, by_end, by_outer_break, by_outer_continue, by_return, by_stop, EndsVariable, here, IsAway, Left, Out, Passed, there, Walk}
+use Rattle.rx_lower_walks.proofs.HeldLemmas.{held}
 use Rattle.rx_facts_tables.specs.Along.{after}
 use Rattle.rx_facts_tables.proofs.Forward.{after_append}
 use Rattle.rx_facts_tables.specs.Wholes.{loses, regains, standing}
 use Rattle.rx_exits_plan.specs.Unmarked.{is_mark}
-use Rattle.rx_engine_called.specs.Ended.{AllEnd, e_act, e_ending, e_fail, e_leave, e_nothing, e_or, e_otherwise, e_passes, e_then, Ends, EndsBehind, i_act, i_ending, i_fail, i_leave, i_loop, i_nothing, i_or, i_otherwise, i_passes, i_then, in_scope, Inside, IsOf, IsStopped, l_act, l_ending, l_fail, l_jump, l_leave, l_nothing, l_or, l_otherwise, l_passes, l_then, Leaving}
+use Rattle.rx_engine_called.specs.Ended.{AllEnd, begun, e_act, e_ending, e_fail, e_leave, e_nothing, e_or, e_otherwise, e_passes, e_then, Ends, EndsBehind, HasNot, i_act, i_ending, i_fail, i_free, i_leave, i_loop, i_nothing, i_or, i_otherwise, i_passes, i_then, in_scope, Inside, IsOf, IsStopped, l_act, l_ending, l_fail, l_free, l_jump, l_leave, l_nothing, l_or, l_otherwise, l_passes, l_then, Leaving}
 
 -- ---- lists
 
@@ -75,6 +76,18 @@ dead_last x n us b =
 other_dead : (x n y : ℕ) (us : List Action) (b : Bool) → after (standing x []) us b ≡ false → after (standing x []) (us ++ does n (Dead y) ∷ []) b ≡ false
 other_dead x n y us b e = after_append (standing x []) us (does n (Dead y) ∷ []) b ∙ still false (y == x && true) (after (standing x []) us b) refl e
 
+dead_there : {x n : ℕ} {s : Order} {us : List Action} {o : Out} → Walk (order.ending n x s) us o → IsPast o → (b : Bool) → after (standing x []) us b ≡ false
+dead_there walk.rests p b = absurd p
+dead_there (walk.stops h) p b = absurd p
+dead_there {x = x} (walk.ends {n = n} {us = us} h) p b = dead_last x n us b
+dead_there {x = x} (walk.jumps {us = us} {j = j} h) p b = dead_last x (exit_node j) us b
+dead_there (walk.halts h) p b = absurd p
+
+act_goes_on : {a : Action} {us : List Action} {o : Out} → Walk (order.act a) us o → IsAway o → IsPast o → ⊥
+act_goes_on walk.rests a p = p
+act_goes_on (walk.stops h) a p = p
+act_goes_on walk.acts a p = a
+
 not_there : {x : ℕ} {s : Order} {us : List Action} {o : Out} → Walk s us o → Ends x s → IsPast o → (b : Bool) → b ≡ false → after (standing x []) us b ≡ false
 not_there walk.rests c p b e = absurd p
 not_there (walk.stops h) c p b e = absurd p
@@ -83,6 +96,8 @@ not_there {x = x} (walk.acts {a = a}) (e_act g) p b e = still (regains x [] a.ac
 not_there {x = x} (walk.both {us = us} {vs = vs} h k) (e_then c d) p b e =
     after_append (standing x []) us vs b ∙ not_there k d p (after (standing x []) us b) (not_there h c tt b e)
 not_there (walk.first a h) (e_then c d) p b e = not_there h c p b e
+not_there {x = x} (walk.both {us = us} {vs = vs} h k) begun p b e = after_append (standing x []) us vs b ∙ dead_there k p (after (standing x []) us b)
+not_there (walk.first a h) begun p b e = absurd (act_goes_on h a p)
 not_there (walk.one h) (e_or c d) p b e = not_there h c p b e
 not_there (walk.other h) (e_or c d) p b e = not_there h d p b e
 not_there walk.leave e_leave p b e = e
@@ -202,8 +217,34 @@ module _ (m : Action) (l : ℕ) (mark : is_mark m.act ≡ true) where
   behind_first us vs w rest n (inl (r, q, g)) f k = absurd (n (f r q).gone)
   behind_first us vs w rest n (inr (y, q, g)) f k = k y g
 
+  among_them : (w rest : List Action) → Among m (w ++ m ∷ rest)
+  among_them [] rest = here
+  among_them (a ∷ w) rest = there (among_them w rest)
+
+  mark_lasts : (a : Act) → is_mark a ≡ true → EndsVariable a → ⊥
+  mark_lasts (Dead y) e d = cc
+  mark_lasts (Declare y) e d = d
+  mark_lasts (Read v p t) e d = d
+  mark_lasts (Write p t ss) e d = d
+  mark_lasts (Borrow v p t) e d = d
+  mark_lasts (Test p c) e d = d
+  mark_lasts (Call f ts t) e d = d
+  mark_lasts (Build w js ts t) e d = d
+  mark_lasts (Input t) e d = d
+  mark_lasts (Print t) e d = d
+  mark_lasts (Give t) e d = d
+
+  -- a part that has not the action has no walk that holds it
+  free_walk : {s : Order} {us : List Action} {o : Out} → Walk s us o → HasNot m s → (w rest : List Action) → us ≡ w ++ m ∷ rest → ⊥
+  free_walk {s = s} h f w rest e = by (held h m (subst (λ (z : List Action). Among m z) (sym e) (among_them w rest)))
+    where
+      by : Among m (actions_in s) ⊎ EndsVariable m.act → ⊥
+      by (inl i) = f m i refl
+      by (inr d) = mark_lasts m.act mark d
+
   leaving_it : {s : Order} {us : List Action} {o : Out} → Walk s us o → Leaving m l s → (w rest : List Action) → us ≡ w ++ m ∷ rest → Quiet l rest o
   leaving_it h (l_jump i) w rest e = at_jump i h w rest e
+  leaving_it h (l_free f) w rest e = absurd (free_walk h f w rest e)
   leaving_it walk.rests c w rest e = absurd (not_empty m w rest e)
   leaving_it (walk.stops h) c w rest e = stopped_short (leaving_it h c w rest e)
   leaving_it walk.nothing l_nothing w rest e = absurd (not_empty m w rest e)
@@ -288,6 +329,7 @@ module _ (m : Action) (l : ℕ) (mark : is_mark m.act ≡ true) where
     past_or_stopped halted by_stop = inr tt
 
     inside_it : {s : Order} {us : List Action} {o : Out} → Walk s us o → Inside x m l s → (b : Bool) → b ≡ false → (w rest : List Action) → us ≡ w ++ m ∷ rest → Found b w rest o
+    inside_it h (i_free f) b q w rest e = absurd (free_walk h f w rest e)
     inside_it walk.rests c b q w rest e = absurd (not_empty m w rest e)
     inside_it (walk.stops h) c b q w rest e = cut_short (inside_it h c b q w rest e)
       where

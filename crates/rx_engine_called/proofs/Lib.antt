@@ -8,7 +8,7 @@ mod Called
 mod Weaker
 mod Behind
 mod Tied
-mod WrittenOut
+pub mod WrittenOut
 mod Together
 mod Ended
-mod NotLive
+pub mod NotLive

@@ -341,13 +341,13 @@ module _ (P : ProgramTree) (place : Span) (pins : Pins) where
   node_label (an_expression e) m h no_type no_pattern = ap label_of h.2 ∙ label_kept h.0 h.1 e
   node_label (a_pattern p) m h no_type no_pattern = absurd (no_pattern p refl)
 
-  record Led (b : Body) (n m : NodeTree) (ks : List ℕ) : Type 0 where
-    mine : Names
-    round : List Around
-    leads : descend (Some m) ks ≡ Some (a_block (changed_body C mine round b))
-    labels : (L : List (Option Ident)) → labels_on (Some m) ks L ≡ labels_on (Some n) ks L
+  pub record Led (b : Body) (n m : NodeTree) (ks : List ℕ) : Type 0 where
+    pub mine : Names
+    pub round : List Around
+    pub leads : descend (Some m) ks ≡ Some (a_block (changed_body C mine round b))
+    pub labels : (L : List (Option Ident)) → labels_on (Some m) ks L ≡ labels_on (Some n) ks L
 
-  led : (ks : List ℕ) (n m : NodeTree) (b : Body) → Becomes P place pins n m → descend (Some n) ks ≡ Some (a_block b) → KeepsWay pins (Some n) ks → Led b n m ks
+  pub led : (ks : List ℕ) (n m : NodeTree) (b : Body) → Becomes P place pins n m → descend (Some n) ks ≡ Some (a_block b) → KeepsWay pins (Some n) ks → Led b n m ks
   led [] n m b h e w =
       let q : n ≡ a_block b = cc in
       let k = subst (λ (x : NodeTree). Becomes P place pins x m) q h in

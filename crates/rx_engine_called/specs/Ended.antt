@@ -4,13 +4,18 @@ use Rattle.std.specs.Prelude.{◌≡◌, ℕ, false, List, [], ◌∷◌, ◌++�
 use Rattle.rx_lower_walks.specs.Actions.{Action}
 use Rattle.rx_lower_walks.specs.Orders.{breaks, continues, Exit, Order, returns}
 use Rattle.rx_lower_walks.specs.Orders as order
-use Rattle.rx_lower_walks.specs.Walks.{EndsVariable, Out, stopped}
+use Rattle.rx_lower_walks.specs.Walks.{actions_in, Among, EndsVariable, Out, stopped}
 use Rattle.rx_facts_tables.specs.Along.{after}
 use Rattle.rx_facts_tables.specs.Wholes.{regains, standing}
 
--- it is written only where it ends with a part
+-- the action is none of the part's
+abbrev pub HasNot : Action → Order → Type 0
+HasNot m s = (a : Action) → Among a (actions_in s) → a ≡ m → ⊥
+
+-- it is written only where it ends with a part, or just in front of one
 pub data Ends (x : ℕ) : Order → Type 0 where
   in_scope : {n : ℕ} {s : Order} → Ends x (order.ending n x s)
+  begun : {a : Action} {n : ℕ} {s : Order} → Ends x (order.then (order.act a) (order.ending n x s))
   e_nothing : Ends x order.nothing
   e_nowhere : Ends x order.nowhere
   e_act : {a : Action} → regains x [] a.act ≡ false → Ends x (order.act a)
@@ -30,6 +35,7 @@ IsOf l (returns n) = ⊥
 -- the action stands only directly in front of jumps out of this loop, in whose passes the part is
 pub data Leaving (m : Action) (l : ℕ) : Order → Type 0 where
   l_jump : {j : Exit} → IsOf l j → Leaving m l (order.then (order.then order.nothing (order.act m)) (order.leave j))
+  l_free : {s : Order} → HasNot m s → Leaving m l s
   l_nothing : Leaving m l order.nothing
   l_nowhere : Leaving m l order.nowhere
   l_act : {a : Action} → (a ≡ m → ⊥) → Leaving m l (order.act a)
@@ -44,6 +50,7 @@ pub data Leaving (m : Action) (l : ℕ) : Order → Type 0 where
 -- it stands so in the passes of this loop alone, and the variable ends with parts of each of them
 pub data Inside (x : ℕ) (m : Action) (l : ℕ) : Order → Type 0 where
   i_loop : {s : Order} → Ends x s → Leaving m l s → Inside x m l (order.passes l s)
+  i_free : {s : Order} → HasNot m s → Inside x m l s
   i_nothing : Inside x m l order.nothing
   i_nowhere : Inside x m l order.nowhere
   i_act : {a : Action} → (a ≡ m → ⊥) → Inside x m l (order.act a)

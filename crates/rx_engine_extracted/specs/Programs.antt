@@ -1,5 +1,5 @@
 -- Whether an answer's typed program is the text's with a call of a new function in place of the run (REM, "Extract method").
-use Rattle.std.specs.Prelude.{ℕ, zero, suc, nat_eq, nat_le, Bool, true, false, not, ◌&&◌, ◌||◌, List, [], ◌∷◌, length, Option, Some, None}
+use Rattle.std.specs.Prelude.{ℕ, zero, suc, nat_eq, nat_le, Bool, true, false, ◌&&◌, ◌||◌, List, [], ◌∷◌, length, Option, Some, None}
 use Rattle.rx_typed.specs.Tree.{Function}
 use Rattle.rx_meaning.specs.Values.{element}
 use Rattle.rx_meaning.specs.Expressions.{Functions}
@@ -8,7 +8,6 @@ use Rattle.rx_engine_alike.specs.Likeness.{Hole, Likeness, unlike, alike, alike_
 use Rattle.rx_engine_alike.specs.Forms.{Between}
 use Rattle.rx_engine_alike.specs.Functions.{like_function, same_item}
 use Rattle.rx_engine_alike.specs.Units.{all_are_unit}
-use Rattle.rx_engine_alike.specs.Variables.{is_in}
 use Rattle.rx_engine_extracted.specs.Told.{Told, ways_in}
 use Rattle.rx_engine_extracted.specs.Block.{block_has_call}
 use Rattle.rx_engine_extracted.specs.TailBlock.{block_has_tail_call}
@@ -41,4 +40,4 @@ extracts T item P Q =
     && (others_stay T item Q.functions 0 P.functions
     && (nat_le (length Q.functions) (T.items (length P.functions))
     && (nat_eq Q.main (T.items P.main)
-    && (not (is_in item T.units) && all_are_unit P.functions T.units T.units))))
+    && all_are_unit P.functions T.units T.units)))

@@ -16,5 +16,5 @@ mod tail_ending;
 mod tail_handing;
 mod told;
 
-pub use programs::{Whole, all_leave_unit, extracts};
+pub use programs::{Whole, all_leave_unit, extracts, leaves_unit};
 pub use told::{New, Told};

@@ -1,9 +1,8 @@
 //! Whether an answer's typed program is the text's with a call of a new function in place of the run.
 
-ghost use Rattle.std.specs.Prelude.{◌≡◌, ◌<◌, ◌^◌, nat_eq, Some, not, ◌&&◌, option_map, IfOk};
+ghost use Rattle.std.specs.Prelude.{◌≡◌, ◌<◌, ◌^◌, nat_eq, Some, ◌&&◌, option_map, IfOk};
 ghost use Rattle.rx_typed.specs.PlainTree.{plain-TypedTree};
 ghost use Rattle.rx_meaning.specs.Values.{element};
-ghost use Rattle.rx_engine_alike.specs.Variables.{is_in as is_in_list};
 ghost use Rattle.rx_engine_alike.specs.Functions as functions;
 ghost use Rattle.rx_engine_alike.specs.Units.{all_are_unit, function_returns_unit as returns_unit_in};
 ghost use Rattle.rx_engine_alike.specs.PlainLikeness.{plain-Hole, plain-Items, plain-Likeness};
@@ -15,9 +14,7 @@ ghost use Rattle.rx_engine_extracted.specs.PlainPrograms.{plain-Tree, plain-Func
 use crate::block::{between, block_has_call};
 use crate::tail_block::block_has_tail_call;
 use crate::told::{Told, closed_of};
-use rx_engine_alike::{
-    Hole, Items, Likeness, function_returns_unit, is_in, like_function, same_item,
-};
+use rx_engine_alike::{Hole, Items, Likeness, function_returns_unit, like_function, same_item};
 use rx_typed::TypedTree;
 use std::alloc::{AllocError, Global};
 
@@ -190,7 +187,7 @@ fn others_stay(
 }
 
 /// Whether a function of the text leaves by returns of the unit.
-fn leaves_unit(functions: &[Option<&TypedTree>], units: &[u32], number: u32) -> bool
+pub fn leaves_unit(functions: &[Option<&TypedTree>], units: &[u32], number: u32) -> bool
     ensures { result ≡ returns_unit_in units.now (element (plain-Functions functions.now) number) }
 {
     match entry(functions, number as usize) {
@@ -209,13 +206,6 @@ pub fn all_leave_unit(functions: &[Option<&TypedTree>], units: &[u32], numbers: 
         }
     }
     true
-}
-
-/// Whether the functions that are said to give the unit do, as far as is to be seen; the run's function is none of them.
-fn are_units(told: &Told<'_>, item: u32, functions: &[Option<&TypedTree>]) -> bool
-    ensures { result ≡ (not (is_in_list item told.now.units.now) && all_are_unit (plain-Functions functions.now) told.now.units.now told.now.units.now) }
-{
-    !is_in(item, told.units) && all_leave_unit(functions, told.units, told.units)
 }
 
 /// Whether the answer's program is the text's with a call of the new function in place of the run, which is of the function of
@@ -246,5 +236,5 @@ pub fn extracts(
         return Ok(false);
     }
     let same_main = is_item_of(told.items, text.main, answer.main);
-    Ok(same_main && are_units(told, item, text.functions))
+    Ok(same_main && all_leave_unit(text.functions, told.units, told.units))
 }

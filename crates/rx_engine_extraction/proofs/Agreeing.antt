@@ -1,12 +1,11 @@
 -- What two cases of one text decide alike, from what stands in both: the run, its function and block, the plan, how its params are passed,
 -- and the bounds. The text may have been typed twice.
-use Rattle.std.proofs.Common.{◌≡◌, ℕ, true, ◌&&◌, List, [], length, map, Option, Some, None, refl, sym, ap, subst, ◌∙◌}
+use Rattle.std.proofs.Common.{◌≡◌, ℕ, ◌&&◌, List, [], length, map, Option, Some, None, refl, sym, ap, subst, ◌∙◌}
 use Rattle.std.specs.Prelude.{nat_le}
 use Rattle.rx_core.specs.declared.types.Bound.{Bound}
 use Rattle.rx_lex.specs.Tokens.{Lexes}
 use Rattle.rx_tree.specs.Plain.{ProgramTree}
 use Rattle.rx_parse_grammar.specs.grammar.Items.{Parses}
-use Rattle.rx_print_spelling.specs.Items.{print_program}
 use Rattle.rx_meaning.specs.Programs.{Program}
 use Rattle.rx_typed_declarations.specs.Sizes.{Sized}
 use Rattle.rx_graph_cycles.specs.Reaches.{NoCycle}
@@ -33,6 +32,8 @@ use Rattle.rx_modes_uses.specs.Modes.{IsModes}
 use Rattle.rx_modes_uses.proofs.One.{one_list_of_modes}
 use Rattle.rx_hoist_diverging.specs.Diverging.{diverging}
 use Rattle.rx_hoist_nodes.specs.TypedRun.{typed_run}
+use Rattle.rx_hoist_extraction.specs.Plan as names
+use Rattle.rx_hoist_extraction.specs.Plan.{Bounds}
 use Rattle.rx_hoist_extraction.specs.Extraction.{extraction, added, new_number}
 use Rattle.rx_hoist_naming.specs.NamedPlan.{names_in, named_plan}
 use Rattle.rx_repair.specs.Named.{named_at}
@@ -41,9 +42,10 @@ use Rattle.rx_engine_alike.specs.Items.{items_with}
 use Rattle.rx_engine_extracted.specs.Programs.{extracts}
 use Rattle.rx_engine_extraction.specs.Source.{Text, IsText, Wish, declared_in}
 use Rattle.rx_engine_extraction.specs.Case.{Case, asked}
-use Rattle.rx_engine_extraction.specs.Made.{run_of, told, named, hoisted, new_item, extracted}
+use Rattle.rx_engine_extraction.specs.Made.{run_of, told, named, hoisted, new_item, named_bounds, extracted}
+use Rattle.rx_engine_extraction.specs.Rendering.{Renders}
 use Rattle.rx_engine_extraction.specs.Confirmed.{units_among, units_if, whole_of, without_value, told_by, is_extracted, is_found, Confirmed}
-use Rattle.rx_engine_extraction.specs.Meeting.{Selects, Seated, Passes, Fits}
+use Rattle.rx_engine_extraction.specs.Meeting.{Selects, Seated, Passes, Fits, IsAnswer}
 use Rattle.rx_engine_extraction.specs.Hoisting.{IsBare}
 use Rattle.rx_engine_extraction.proofs.Ends.{block_function}
 use Rattle.rx_engine_extraction.proofs.Bare.{extraction_bare}
@@ -178,18 +180,34 @@ module _ (T : Text) (u : Typed) (z : Twice T u) (w : Wish) (d e : Case) where
         (subst (λ (n : ℕ). Fits (hoisted U w e) n d.types d.made d.bounds) item_alike
         (subst (λ (q : ProgramTree). Fits q (new_item T w d) d.types d.made d.bounds) hoisted_alike a)) b
 
+    bounds_alike : d.bounds ≡ e.bounds → named_bounds T w d ≡ named_bounds U w e
+    bounds_alike b = λ i. named_at (hoisted_alike i) (item_alike i) (b i)
+
+    -- and so are their texts
+    pub texts_alike : d.bounds ≡ e.bounds → (text : List ℕ) → IsAnswer T w d text → IsAnswer U w e text
+    texts_alike b text h =
+        subst (λ (bs : Bounds). Renders T.bytes T.tokens T.program (run_of e.run) (named U w e) bs text) (bounds_alike b)
+        (subst (λ (k : names.Plan). Renders T.bytes T.tokens T.program (run_of e.run) k (named_bounds T w d) text) named_alike
+        (subst (λ (r : RunPos). Renders T.bytes T.tokens T.program (run_of r) (named T w d) (named_bounds T w d) text) p.seats.run h))
+
+    pub texts_back : d.bounds ≡ e.bounds → (text : List ℕ) → IsAnswer U w e text → IsAnswer T w d text
+    texts_back b text h =
+        subst (λ (r : RunPos). Renders T.bytes T.tokens T.program (run_of r) (named T w d) (named_bounds T w d) text) (sym p.seats.run)
+        (subst (λ (k : names.Plan). Renders T.bytes T.tokens T.program (run_of e.run) k (named_bounds T w d) text) (sym named_alike)
+        (subst (λ (bs : Bounds). Renders T.bytes T.tokens T.program (run_of e.run) (named U w e) bs text) (sym (bounds_alike b)) h))
+
     pub extracted_alike : d.bounds ≡ e.bounds → extracted T w d ≡ extracted U w e
-    extracted_alike b = λ i. extraction T.program (run_of (p.seats.run i)) (named_alike i) (named_at (hoisted_alike i) (item_alike i) (b i))
+    extracted_alike b = λ i. extraction T.program (run_of (p.seats.run i)) (named_alike i) (bounds_alike b i)
 
     -- what is told of a run, and what is found
 
     whole_same : whole_of T.program T.types ≡ whole_of T.program u
     whole_same = whole_alike T.program T.types u z.declared z.each
 
-    units_same : units_among (declared_in T) d.run.function T.types.functions ≡ units_among (declared_in U) e.run.function u.functions
+    units_same : units_among (declared_in T) T.types.functions ≡ units_among (declared_in U) u.functions
     units_same =
-        units_alike (declared_in T) d.run.function T.types.functions u.functions z.each
-        ∙ (λ i. units_among (z.declared i) (p.seats.run i).function u.functions)
+        units_alike (declared_in T) T.types.functions u.functions z.each
+        ∙ (λ i. units_among (z.declared i) u.functions)
 
     told_same : (n made : ℕ) (g : TypedFn) → told_by T d n made g ≡ told_by U e n made g
     told_same n made g = λ i. record {
@@ -216,10 +234,10 @@ module _ (T : Text) (u : Typed) (z : Twice T u) (w : Wish) (d e : Case) where
     added_alike = ap added named_alike
 
     -- what confirms the answer of the one confirms that of the other
-    pub confirmed_same : d.bounds ≡ e.bounds → Confirmed U w e → Confirmed T w d
+    pub confirmed_same : d.text ≡ e.text → Confirmed U w e → Confirmed T w d
     confirmed_same b x = record {
       program = x.program;
-      parses = subst (λ (q : ProgramTree). Parses (print_program q) x.program) (sym (extracted_alike b)) x.parses;
+      parses = subst (λ (text : List ℕ). Parses text x.program) (sym b) x.parses;
       types = x.types;
       accepted = x.accepted;
       found =

@@ -38,12 +38,12 @@ whole_alike p t u d e =
     ap (λ F. record { functions = F; main = main_in p 0 })
     (same_functions (declarations t.decls.items) t.functions u.functions e ∙ ap (λ D. typed_functions D u.functions) d)
 
-pub units_alike : (D : Declarations) (item : ℕ) (ts us : List TypedFn) → Each SameFunction ts us → units_among D item ts ≡ units_among D item us
-units_alike D item [] [] h = refl
-units_alike D item [] (u ∷ us) h = absurd h
-units_alike D item (t ∷ ts) [] h = absurd h
-units_alike D item (t ∷ ts) (u ∷ us) h = let r = units_alike D item ts us h.1 in
-    λ i. if is_of_unit D item (h.0.item i) then h.0.item i ∷ r i else r i
+pub units_alike : (D : Declarations) (ts us : List TypedFn) → Each SameFunction ts us → units_among D ts ≡ units_among D us
+units_alike D [] [] h = refl
+units_alike D [] (u ∷ us) h = absurd h
+units_alike D (t ∷ ts) [] h = absurd h
+units_alike D (t ∷ ts) (u ∷ us) h = let r = units_alike D ts us h.1 in
+    λ i. if is_of_unit D (h.0.item i) then h.0.item i ∷ r i else r i
 
 -- ---- the function of an item
 

@@ -1,6 +1,6 @@
 -- The bytes of a text are one text but for how it is typed: so two refusals of them tell one condition and are one, what is refused has no
 -- extraction, and two answers are one.
-use Rattle.std.proofs.Common.{◌≡◌, ◌≢◌, ℕ, List, sym, ap, subst, ◌∙◌, arith}
+use Rattle.std.proofs.Common.{◌≡◌, ◌≢◌, ℕ, List, sym, subst, ◌∙◌, arith}
 use Rattle.rx_lex.specs.Tok.{Tok}
 use Rattle.rx_lex.specs.Tokens.{Lexes}
 use Rattle.rx_tree.specs.Plain.{ProgramTree}
@@ -19,7 +19,6 @@ use Rattle.rx_typeck_typed.specs.declared.typed.TypedFn.{TypedFn}
 use Rattle.rx_typeck_typed.specs.Typing.{IsTyped}
 use Rattle.rx_facts.specs.Same.{AreSame}
 use Rattle.rx_core.specs.declared.types.Bound.{Bound}
-use Rattle.rx_print_spelling.specs.Items.{print_program}
 use Rattle.rx_check.specs.declared.fault.CheckFault.{CheckFault}
 use Rattle.rx_check.specs.declared.fault.CheckFault.TheVariants as check_fault
 use Rattle.rx_check.specs.Causes as passes_of
@@ -27,7 +26,6 @@ use Rattle.rx_check.specs.Causes.{Causes, PassCauses}
 use Rattle.rx_check.specs.Passes.{Fronted, Accepted}
 use Rattle.rx_engine_extraction.specs.declared.refusal.Refusal.{Refusal}
 use Rattle.rx_engine_extraction.specs.Source.{Text, IsText, Wish, declared_in}
-use Rattle.rx_engine_extraction.specs.Made.{extracted}
 use Rattle.rx_engine_extraction.specs.Alike.{AreOne}
 use Rattle.rx_engine_extraction.specs.Conditions.{Condition, confirmed}
 use Rattle.rx_engine_extraction.specs.Meeting.{Fits, Holds}
@@ -38,7 +36,7 @@ use Rattle.rx_engine_extraction.specs.Verdict.{RefusedBy, IsRefused}
 use Rattle.rx_engine_extraction.proofs.AgreeingTypes.{one_meaning}
 use Rattle.rx_engine_extraction.proofs.Agreeing.{retyped, Twice, typed_twice}
 use Rattle.rx_engine_extraction.proofs.Clashing.{one_condition, none_extracted}
-use Rattle.rx_engine_extraction.proofs.Standing.{bounds, programs}
+use Rattle.rx_engine_extraction.proofs.Standing.{bounds, one_text_of}
 use Rattle.rx_engine_extraction.proofs.Telling.{told_alike}
 
 module _ (one_tokens : (bytes : List ℕ) (ts us : List Tok) → Lexes bytes ts → Lexes bytes us → ts ≡ us)
@@ -54,6 +52,7 @@ module _ (one_tokens : (bytes : List ℕ) (ts us : List Tok) → Lexes bytes ts 
       let x = is.accepted.front in let y = other.accepted.front in
       let program : U.program ≡ T.program = one_tree bytes U.program T.program other.parses is.parses in
       let tokens : U.tokens ≡ T.tokens = sym other.tokens ∙ (one_tokens bytes other.parses.tokens is.parses.tokens other.parses.lexed is.parses.lexed ∙ is.tokens) in
+      let written : U.bytes ≡ T.bytes = sym other.same ∙ is.same in
       let length : U.length ≡ T.length = sym other.long ∙ is.long in
       let meant : Meant T.program y.names = subst (λ (p : ProgramTree). Meant p y.names) program y.meant in
       let again : IsTyped T.program y.names U.types = subst (λ (p : ProgramTree). IsTyped p y.names U.types) program y.typed in
@@ -61,8 +60,9 @@ module _ (one_tokens : (bytes : List ℕ) (ts us : List Tok) → Lexes bytes ts 
       let declared : declared_in T ≡ declared_in U = same_declared T.types.decls.items U.types.decls.items (same T.program x.names T.types U.types x.typed typed).items in
       let sizes = one_size (declared_in U) U.sizes T.sizes (typed_finite T.program x.names U.types typed) other.sized (subst (λ (D : Declarations). Sized D T.sizes) declared is.sized) in
       λ i. record {
-        tokens = tokens i;
+        bytes = written i;
         length = length i;
+        tokens = tokens i;
         program = program i;
         types = U.types;
         sizes = λ n. sizes n i;
@@ -95,9 +95,8 @@ module _ (one_tokens : (bytes : List ℕ) (ts us : List Tok) → Lexes bytes ts 
     answers_alike bytes w text other bs cs x y =
         let a = x.extracts in let b = y.extracts in let p = path bytes a.text b.text a.is_text b.is_text in
         let z = twice bytes a.text b.text a.is_text b.is_text in
-        let t = subst (λ (V : Text). Stands V w b.case confirmed) p b.stands in
-        let l = programs a.text b.text.types z w a.case b.case one confirmed (omega arith) a.stands t in (
-          x.rendered ∙ (ap print_program (l ∙ sym (ap (λ (V : Text). extracted V w b.case) p)) ∙ sym y.rendered),
+        let t = subst (λ (V : Text). Stands V w b.case confirmed) p b.stands in (
+          x.rendered ∙ (one_text_of a.text b.text.types z w a.case b.case one confirmed (omega arith) a.stands t ∙ sym y.rendered),
           x.needed ∙ (bounds a.text b.text.types z w a.case b.case one confirmed (omega arith) a.stands t ∙ sym y.needed),
         )
 

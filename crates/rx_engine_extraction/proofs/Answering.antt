@@ -1,18 +1,12 @@
 -- From what is hoisted and how it ends to the verdict.
-use Rattle.std.proofs.Common.{◌≡◌, ◌≢◌, ◌⊎◌, inl, inr, ℕ, ◌+◌, ◌<◌, ◌≤◌, ◌^◌, Bool, true, false, List, [], ◌∷◌, ◌++◌, length, map, Option, Some, None, Result, Ok, Err, refl, sym, subst, ap, ◌∙◌, arith}
-use Rattle.std.specs.Prelude.{if◌then◌else◌, nat_lt}
-use Rattle.std.proofs.lemmas.Bool.{ltb-false}
+use Rattle.std.proofs.Common.{◌≡◌, ◌≢◌, inl, inr, ℕ, ◌+◌, ◌<◌, ◌≤◌, true, List, [], ◌∷◌, Some, Result, Ok, Err, slice_get, refl, sym, subst, ap, ◌∙◌}
 use Rattle.rx_core.specs.declared.types.Bound.{Bound}
 use Rattle.rx_core.specs.declared.types.Span.{Span}
 use Rattle.rx_core.specs.declared.types.Which.TheVariants as which
-use Rattle.rx_tree.specs.Erase.{SameProgram}
 use Rattle.rx_tree.specs.Lists.{nth, Every}
 use Rattle.rx_tree.specs.Plain as plain
 use Rattle.rx_tree.specs.Plain.{Function, ProgramTree}
-use Rattle.rx_parse_grammar.specs.grammar.Items.{Parses, levels}
 use Rattle.rx_print_spelling.specs.Formed.{FormedProgram}
-use Rattle.rx_print_spelling.specs.Items.{print_program}
-use Rattle.rx_print_spelling.specs.Levels.{levels_of}
 use Rattle.rx_typeck_typed.specs.declared.typed.Typed.{Typed}
 use Rattle.rx_typeck_typed.specs.declared.typed.TypedFn.{TypedFn}
 use Rattle.rx_check.specs.declared.fault.CheckFault.{CheckFault}
@@ -21,13 +15,12 @@ use Rattle.rx_check.specs.Causes.{Causes, PassCauses, AreOne}
 use Rattle.rx_check.specs.Passes.{Fronted, Accepted}
 use Rattle.rx_check.specs.declared.loans.LoanFault.TheVariants as loan_fault
 use Rattle.rx_lower_lifetimes.specs.declared.whole.LowerFault.TheVariants as lower_fault
+use Rattle.rx_hoist.specs.Runs.{is_function}
+use Rattle.rx_hoist_extraction.specs.Plan.{Bounds, Plan}
 use Rattle.rx_hoist_extraction.specs.Extraction.{added, extraction, new_number}
-use Rattle.rx_hoist_extraction.specs.Limits.{first_past, made_levels}
-use Rattle.rx_repair.specs.Named.{lifetimes_of, named_at}
 use Rattle.rx_repair.specs.Repaired.{repaired}
 use Rattle.rx_repair.proofs.Extracting.{repaired_extraction}
 use Rattle.rx_repair.proofs.Once.{all_distinct}
-use Rattle.rx_repair.proofs.Written.{still_formed, same_levels}
 use Rattle.rx_engine_extraction.specs.declared.refusal.Answer.{Answer}
 use Rattle.rx_engine_extraction.specs.declared.refusal.Fault.{Fault}
 use Rattle.rx_engine_extraction.specs.declared.refusal.Fault.TheVariants as fault
@@ -35,35 +28,21 @@ use Rattle.rx_engine_extraction.specs.declared.refusal.Refusal.{Refusal}
 use Rattle.rx_engine_extraction.specs.declared.refusal.Refusal.TheVariants as refusal
 use Rattle.rx_engine_extraction.specs.Source.{Text, IsText, Wish}
 use Rattle.rx_engine_extraction.specs.Case.{Case}
-use Rattle.rx_engine_extraction.specs.Made.{run_of, named, hoisted, new_item, extracted}
+use Rattle.rx_engine_extraction.specs.Made.{run_of, named, hoisted, new_item, named_bounds, extracted}
+use Rattle.rx_engine_extraction.specs.Rendering.{Renders}
 use Rattle.rx_engine_extraction.specs.Conditions as condition
 use Rattle.rx_engine_extraction.specs.Conditions.{Condition, before}
 use Rattle.rx_engine_extraction.specs.Confirmed.{IsConfirmed, Confirmed}
 use Rattle.rx_engine_extraction.specs.Confirming.{IsJudged}
-use Rattle.rx_engine_extraction.specs.Meeting.{Holds, Fits, IsUnfit, levels_in, most_levels, most_sites, most_bytes}
-use Rattle.rx_engine_extraction.specs.Failing.{Fails, HasLarge}
+use Rattle.rx_engine_extraction.specs.Meeting.{Holds, Fits, IsUnfit, IsAnswer, most_sites, most_bytes}
+use Rattle.rx_engine_extraction.specs.Failing.{Fails}
 use Rattle.rx_engine_extraction.specs.Promise.{Stands, Keeps}
 use Rattle.rx_engine_extraction.specs.Verdict.{RefusedBy, IsRefused, Answers}
-use Rattle.rx_engine_extraction.specs.Ending.{IsPastLimit, IsKept, IsAnswered, IsEnded, IsBounded, IsFinished}
+use Rattle.rx_engine_extraction.specs.Ending.{IsPastLimit, IsLong, IsKept, IsAnswered, IsEnded, IsFinished}
 use Rattle.rx_engine_extraction.specs.Hoisting.{IsHoisted}
 use Rattle.rx_engine_extraction.proofs.Ends.{block_function, all_named, pass_cause}
-
--- ---- levels
-
-some_none : {A : Type 0} (a : A) → ◌≡◌ {A = Option A} (Some a) None → ⊥
-some_none a e = cc
-
-pub last_within : (limit : ℕ) (xs : List ℕ) (n : ℕ) → first_past limit (xs ++ n ∷ []) ≡ None → n ≤ limit
-last_within limit [] n e = by (nat_lt limit n) refl e
-  where
-    by : (b : Bool) → nat_lt limit n ≡ b → (if b then Some n else None) ≡ None → n ≤ limit
-    by true h q = absurd (some_none n q)
-    by false h q = ltb-false limit n h
-last_within limit (x ∷ xs) n e = by (nat_lt limit x) e (last_within limit xs n)
-  where
-    by : (b : Bool) → (if b then Some x else first_past limit (xs ++ n ∷ [])) ≡ None → (first_past limit (xs ++ n ∷ []) ≡ None → n ≤ limit) → n ≤ limit
-    by true q r = absurd (some_none x q)
-    by false q r = r q
+use Rattle.rx_engine_extraction.proofs.Forming.{function_there}
+use Rattle.rx_engine_extraction.proofs.Rendered.{rendering_read}
 
 -- ---- what is met
 
@@ -80,9 +59,6 @@ module _ (T : Text) (w : Wish) (d : Case) (stands : Stands T w d condition.fits)
   at_parts : Stands T w d condition.few_parts
   at_parts = behind H condition.few_parts (before condition.few_parts) (behind H condition.few_numbers (before condition.few_numbers) stands)
 
-  pub met_levels : Holds T w d condition.few_levels
-  met_levels = first_met H condition.few_levels (before condition.few_levels) at_parts
-
   at_unmoved : Stands T w d condition.unmoved
   at_unmoved = behind H condition.unmoved (before condition.unmoved) (behind H condition.few_parameters (before condition.few_parameters)
       (behind H condition.few_lifetimes (before condition.few_lifetimes) (behind H condition.few_levels (before condition.few_levels) at_parts)))
@@ -95,6 +71,21 @@ module _ (T : Text) (w : Wish) (d : Case) (stands : Stands T w d condition.fits)
 
   pub met_selects : Holds T w d condition.selects
   met_selects = first_met H condition.selects [] (behind H condition.word (before condition.word) (behind H condition.unused (before condition.unused) at_reached))
+
+-- ---- what is hoisted, by a plan
+
+module _ (T : Text) (w : Wish) (d : Case) (pl : Plan) (e : pl ≡ named T w d) (p : ProgramTree) (n : ℕ) (h : IsHoisted T w d p n) where
+  -- the run is selected, so its item is a function
+  pub hoisted_function : is_function (slice_get T.program d.run.function) ≡ true
+  hoisted_function =
+      let r = met_selects T w d h.stands in let at = block_function T.program d.run.function d.run.block.path r.block r.at in
+      function_there T.program d.run.function at.0 at.1 at.2
+
+  pub hoisted_program : p ≡ extraction T.program (run_of d.run) pl []
+  hoisted_program = h.program ∙ ap (λ (k : Plan). extraction T.program (run_of d.run) k []) (sym e)
+
+  pub hoisted_item : n ≡ new_number (run_of d.run) pl
+  hoisted_item = h.item ∙ ap (λ (k : Plan). new_number (run_of d.run) k) (sym e)
 
 -- ---- faults of one program
 
@@ -125,8 +116,7 @@ loan_told a b e = cc
 
 module _ (fronted : (p : ProgramTree) (e : CheckFault) → Fronted p → PassCauses e p → e ≡ check_fault.OutOfMemory)
     (accepted : (p : ProgramTree) (e : CheckFault) → Accepted p → Causes e p → e ≡ check_fault.OutOfMemory)
-    (one : (p : ProgramTree) (e f : CheckFault) → e ≢ check_fault.OutOfMemory → f ≢ check_fault.OutOfMemory → Causes e p → Causes f p → AreOne e f)
-    (printed : (p : ProgramTree) → FormedProgram p → levels_of p ≤ levels → (q : ProgramTree) × Parses (print_program p) q × SameProgram q p) where
+    (one : (p : ProgramTree) (e f : CheckFault) → e ≢ check_fault.OutOfMemory → f ≢ check_fault.OutOfMemory → Causes e p → Causes f p → AreOne e f) where
   none_unfit : (p : ProgramTree) → Fronted p → (e : CheckFault) → IsUnfit e → PassCauses e p → ⊥
   none_unfit p fr e u h = unfit_told e u (fronted p e fr h)
 
@@ -202,18 +192,27 @@ module _ (fronted : (p : ProgramTree) (e : CheckFault) → Fronted p → PassCau
       fronted_bare : Fronted bare
       fronted_bare = (t, fits.front)
 
+      -- with its text
+      abbrev written : List ℕ → Case
+      written text = record bound { text = text }
+
+      long_bytes : (n : ℕ) (h : IsLong (IsAnswer T w bound) n) → Fails T w (written h.0) condition.few_bytes (refusal.Limit which.Bytes n)
+      long_bytes n h = (ap (λ m. refusal.Limit which.Bytes m) h.2, subst (λ m. most_bytes < m) h.2 h.3)
+
       fitted : Stands T w bound condition.fits_bounded
       fitted = (fits, (none_large bare fronted_bare, (none_unfit bare fronted_bare, stands)))
 
-      misfit : (r : Refusal) → IsKept whole r → RefusedBy T w r
+      all_met : Accepted whole → Stands T w bound condition.readable
+      all_met a = (a, (none_lacking whole a, (none_before whole (accepted_fronted whole a), fitted)))
+
+      misfit : (r : Refusal) → IsKept (IsAnswer T w bound) whole r → RefusedBy T w r
       misfit (refusal.Unfit e) h = refused bound condition.fits_bounded (refusal.Unfit e) fitted (e, refl, h.0, h.1)
       misfit (refusal.Region i l k) h = refused bound condition.known (refusal.Region i l k) (none_before whole (h.types, h.front), fitted) (i, l, k, refl, h)
       misfit (refusal.Loan a b) h = refused bound condition.legal (refusal.Loan a b)
           (lends_first whole a b h, (none_before whole (h.types, h.front), fitted)) (a, b, refl, h)
-      misfit (refusal.Limit which.Bytes n) h = refused bound condition.few_bytes (refusal.Limit which.Bytes n)
-          (h.0, (none_lacking whole h.0, (none_before whole (accepted_fronted whole h.0), fitted)))
-          (ap (λ m. refusal.Limit which.Bytes m) h.1, subst (λ m. most_bytes < m) h.1 h.2)
-      misfit refusal.Unconfirmed h = absurd h
+      misfit (refusal.Limit which.Bytes n) h = refused (written h.1.0) condition.few_bytes (refusal.Limit which.Bytes n)
+          (h.1.1, all_met h.0) (long_bytes n h.1)
+      misfit refusal.Unconfirmed h = refused bound condition.readable refusal.Unconfirmed (all_met h.0) (refl, h.1)
       misfit (refusal.Limit which.Sites n) h = absurd h
       misfit (refusal.Limit which.Positions n) h = absurd h
       misfit (refusal.Limit which.Parameters n) h = absurd h
@@ -230,9 +229,6 @@ module _ (fronted : (p : ProgramTree) (e : CheckFault) → Fronted p → PassCau
       misfit (refusal.Shadowed s) h = absurd h
       misfit (refusal.NotMut s) h = absurd h
       misfit (refusal.Aliased s) h = absurd h
-
-      all_met : Accepted whole → Stands T w bound condition.few_bytes
-      all_met a = (a, (none_lacking whole a, (none_before whole (accepted_fronted whole a), fitted)))
 
   -- ---- from the beginning
 
@@ -253,8 +249,9 @@ module _ (fronted : (p : ProgramTree) (e : CheckFault) → Fronted p → PassCau
     formed_bare : FormedProgram bare_of
     formed_bare = subst (λ x. FormedProgram x) h.program h.formed
 
-    low_bare : levels_of bare_of ≤ levels
-    low_bare = last_within most_levels (made_levels (named T w made)) (levels_of bare_of) (met_levels T w made h.stands)
+    -- which texts it may be, with bounds
+    abbrev rendered : Bounds → List ℕ → Type 0
+    rendered bs text = Renders T.bytes T.tokens T.program (run_of made.run) (named T w made) bs text
 
     module _ (t : Typed) (g : TypedFn) (bs : List Bound) (fits : Fits bare_of place t g bs) where
       abbrev with : Case
@@ -264,65 +261,55 @@ module _ (fronted : (p : ProgramTree) (e : CheckFault) → Fronted p → PassCau
       same_whole = repaired_extraction T.program (run_of made.run) (named T w made) bs selected.0 selected.1 selected.2
           (all_distinct bare_of fits.front.names fits.front.meant.names_are place) (all_named bare_of place formed_bare)
 
-      formed_whole : FormedProgram (extracted T w with)
-      formed_whole = subst (λ x. FormedProgram x) same_whole (still_formed bare_of place bs formed_bare)
+      abbrev texts : List ℕ → Type 0
+      texts = IsAnswer T w with
 
-      low_whole : levels_of (extracted T w with) ≤ levels
-      low_whole = subst (λ x. levels_of x ≤ levels) same_whole (subst (λ m. m ≤ levels) (sym (same_levels bare_of place bs)) low_bare)
+      module _ (a : Answer) (x : IsAnswered texts (repaired bare_of place bs) bs a) where
+        -- and this text
+        abbrev whole_case : Case
+        whole_case = record with { text = a.text }
 
-      module _ (a : Answer) (x : IsAnswered (repaired bare_of place bs) bs a) where
-        y : IsAnswered (extracted T w with) bs a
-        y = subst (λ q. IsAnswered q bs a) same_whole x
+        y : IsAnswered texts (extracted T w with) bs a
+        y = subst (λ q. IsAnswered texts q bs a) same_whole x
 
         -- what is found of the answer's text is found of the extraction's
-        confirmed_with : IsConfirmed T made place new a.text → Confirmed T w with
-        confirmed_with c = record {
-          program = c.program;
-          parses = subst (λ b. Parses b c.program) y.printed.text c.parses;
-          types = c.types;
-          accepted = c.accepted;
-          found = c.found;
-        }
+        confirmed_with : IsConfirmed T made place new a.text → Confirmed T w whole_case
+        confirmed_with c = record { program = c.program; parses = c.parses; types = c.types; accepted = c.accepted; found = c.found }
 
-        confirmed_by : Confirmed T w with → IsConfirmed T made place new a.text
-        confirmed_by c = record {
-          program = c.program;
-          parses = subst (λ b. Parses b c.program) (sym y.printed.text) c.parses;
-          types = c.types;
-          accepted = c.accepted;
-          found = c.found;
-        }
+        confirmed_by : Confirmed T w whole_case → IsConfirmed T made place new a.text
+        confirmed_by c = record { program = c.program; parses = c.parses; types = c.types; accepted = c.accepted; found = c.found }
 
-        standing : Stands T w with condition.confirmed
-        standing = (y.printed.short, all_met T w made h.stands t g bs fits same_whole y.accepted)
+        standing : Stands T w whole_case condition.confirmed
+        standing = (y.printed.short, (y.printed.text, all_met T w made h.stands t g bs fits same_whole y.accepted))
 
         keeps : IsConfirmed T made place new a.text → Keeps bytes w a.text a.bounds
-        keeps c = let read = printed (extracted T w with) formed_whole low_whole in record {
-          extracts = record {
-            text = T;
-            is_text = is;
-            case = with;
-            stands = standing;
-            last = confirmed_with c;
-          };
-          rendered = y.printed.text;
-          needed = y.printed.bounds;
-          program = read.0;
-          parses = subst (λ b. Parses b read.0) (sym y.printed.text) read.1;
-          same = read.2;
-          accepted = y.accepted;
-        }
+        keeps c = let read = rendering_read T.bytes T.tokens T.program (run_of made.run) (named T w made) (named_bounds T w with)
+            a.text y.printed.text in record {
+              extracts = record {
+                text = T;
+                is_text = is;
+                case = whole_case;
+                stands = standing;
+                last = confirmed_with c;
+              };
+              rendered = refl;
+              needed = y.printed.bounds;
+              program = read.0;
+              parses = read.1;
+              same = read.2;
+              accepted = y.accepted;
+            }
 
         unconfirmed : (IsConfirmed T made place new a.text → ⊥) → RefusedBy T w refusal.Unconfirmed
-        unconfirmed c = record { case = with; condition = condition.confirmed; stands = standing; fails = (refl, λ k. c (confirmed_by k)) }
+        unconfirmed c = record { case = whole_case; condition = condition.confirmed; stands = standing; fails = (refl, λ k. c (confirmed_by k)) }
 
-      kept : (r : Refusal) → IsKept (repaired bare_of place bs) r → RefusedBy T w r
-      kept r x = misfit T w made h.stands t g bs fits same_whole r (subst (λ p. IsKept p r) same_whole x)
+      kept : (r : Refusal) → IsKept texts (repaired bare_of place bs) r → RefusedBy T w r
+      kept r x = misfit T w made h.stands t g bs fits same_whole r (subst (λ p. IsKept texts p r) same_whole x)
 
     refused_with : (r : Refusal) → RefusedBy T w r → IsRefused bytes w r
     refused_with r x = record { text = T; is_text = is; refused = x }
 
-    refused_after : (a : Answer) → IsEnded bare_of place a → (r : Refusal) → IsJudged T made place new a (Err (fault.Refused r)) → Answers bytes w (Err (fault.Refused r))
+    refused_after : (a : Answer) → IsEnded rendered bare_of place a → (r : Refusal) → IsJudged T made place new a (Err (fault.Refused r)) → Answers bytes w (Err (fault.Refused r))
     refused_after a x refusal.Unconfirmed j = refused_with refusal.Unconfirmed (unconfirmed x.types x.made x.bounds x.fits a x.answered j)
     refused_after a x refusal.NotARun j = absurd j
     refused_after a x refusal.BadName j = absurd j
@@ -339,26 +326,30 @@ module _ (fronted : (p : ProgramTree) (e : CheckFault) → Fronted p → PassCau
     refused_after a x (refusal.Region i l k) j = absurd j
     refused_after a x (refusal.Loan b c) j = absurd j
 
-    judged : (a : Answer) → IsEnded bare_of place a → (r : Result Answer Fault) → IsJudged T made place new a r → Answers bytes w r
+    judged : (a : Answer) → IsEnded rendered bare_of place a → (r : Result Answer Fault) → IsJudged T made place new a r → Answers bytes w r
     judged a x (Ok b) j = subst (λ (z : Answer). Keeps bytes w z.text z.bounds) (sym j.0) (keeps x.types x.made x.bounds x.fits a x.answered j.1)
     judged a x (Err (fault.Refused r)) j = refused_after a x r j
     judged a x (Err fault.OutOfMemory) j = tt
     judged a x (Err (fault.Syntax e)) j = absurd j
     judged a x (Err (fault.NotAccepted e)) j = absurd j
 
-    failed : (f : Fault) → IsFinished bare_of place (Err f) → Answers bytes w (Err f)
+    failed : (f : Fault) → IsFinished rendered bare_of place (Err f) → Answers bytes w (Err f)
     failed (fault.Refused r) (inl x) = refused_with r (past_limit T w made h.stands r x)
     failed (fault.Refused r) (inr x) = refused_with r (kept x.types x.made x.bounds x.fits r x.kept)
     failed fault.OutOfMemory x = tt
     failed (fault.Syntax e) x = absurd x
     failed (fault.NotAccepted e) x = absurd x
 
-    finished_there : (r : Result Answer Fault) → IsFinished p n r → IsFinished bare_of place r
-    finished_there r x = subst (λ m. IsFinished bare_of m r) h.item (subst (λ q. IsFinished q n r) h.program x)
+    finished_there : (pl : Plan) → pl ≡ named T w made → (r : Result Answer Fault) → IsFinished (Renders T.bytes T.tokens T.program (run_of made.run) pl) p n r
+        → IsFinished rendered bare_of place r
+    finished_there pl e r x =
+        subst (λ (k : Plan). IsFinished (Renders T.bytes T.tokens T.program (run_of made.run) k) bare_of place r) e
+        (subst (λ m. IsFinished (Renders T.bytes T.tokens T.program (run_of made.run) pl) bare_of m r) h.item
+        (subst (λ q. IsFinished (Renders T.bytes T.tokens T.program (run_of made.run) pl) q n r) h.program x))
 
     -- by what is found of the answer
-    pub concluded : (a : Answer) → IsFinished p n (Ok a) → (r : Result Answer Fault) → ((m : ℕ) → n ≡ made.run.function + m → IsJudged T made n m a r) → Answers bytes w r
-    concluded a x r j = judged a (finished_there (Ok a) x) r (subst (λ k. IsJudged T made k new a r) h.item (j new h.item))
+    pub concluded : (pl : Plan) → pl ≡ named T w made → (a : Answer) → IsFinished (Renders T.bytes T.tokens T.program (run_of made.run) pl) p n (Ok a) → (r : Result Answer Fault) → ((m : ℕ) → n ≡ made.run.function + m → IsJudged T made n m a r) → Answers bytes w r
+    concluded pl e a x r j = judged a (finished_there pl e (Ok a) x) r (subst (λ k. IsJudged T made k new a r) h.item (j new h.item))
 
-    pub stopped : (f : Fault) → IsFinished p n (Err f) → Answers bytes w (Err f)
-    stopped f x = failed f (finished_there (Err f) x)
+    pub stopped : (pl : Plan) → pl ≡ named T w made → (f : Fault) → IsFinished (Renders T.bytes T.tokens T.program (run_of made.run) pl) p n (Err f) → Answers bytes w (Err f)
+    stopped pl e f x = failed f (finished_there pl e (Err f) x)

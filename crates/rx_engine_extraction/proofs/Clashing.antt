@@ -19,7 +19,7 @@ use Rattle.rx_engine_extraction.specs.declared.refusal.Refusal.{Refusal}
 use Rattle.rx_engine_extraction.specs.Source.{Text, Wish}
 use Rattle.rx_engine_extraction.specs.Case.{Case, asked}
 use Rattle.rx_engine_extraction.specs.Made.{hoisted, extracted}
-use Rattle.rx_engine_extraction.specs.Conditions.{Condition, selects, word, unused, reached, left, settled, whole, visible, passable, unmoved, few_parameters, few_lifetimes, few_levels, few_parts, few_numbers, fits, few_sites, few_positions, fits_bounded, known, legal, few_bytes, confirmed}
+use Rattle.rx_engine_extraction.specs.Conditions.{Condition, selects, word, unused, reached, left, settled, whole, visible, passable, unmoved, few_parameters, few_lifetimes, few_levels, few_parts, few_numbers, fits, few_sites, few_positions, fits_bounded, known, legal, readable, few_bytes, confirmed}
 use Rattle.rx_engine_extraction.specs.Meeting.{Fits, Holds}
 use Rattle.rx_engine_extraction.specs.Failing.{Fails}
 use Rattle.rx_engine_extraction.specs.Hoisting.{IsBare}
@@ -27,7 +27,7 @@ use Rattle.rx_engine_extraction.specs.Promise.{Stands}
 use Rattle.rx_engine_extraction.specs.Verdict.{RefusedBy}
 use Rattle.rx_engine_extraction.proofs.AgreeingPlans.{one_plan}
 use Rattle.rx_engine_extraction.proofs.Agreeing.{retyped, Twice, as_seated, asked_alike}
-use Rattle.rx_engine_extraction.proofs.Standing.{held_first, held_second, seats, plans, passes, programs, mixed_alike, plan_of_both, partly_alike, shadowed_alike, not_mut_alike, aliased_alike, parameters, lifetimes, levels, parts, hoisted_both, confirmed_back}
+use Rattle.rx_engine_extraction.proofs.Standing.{held_first, held_second, seats, plans, passes, programs, none_readable, one_text_of, mixed_alike, plan_of_both, partly_alike, shadowed_alike, not_mut_alike, aliased_alike, parameters, lifetimes, levels, parts, hoisted_both, confirmed_back}
 use Rattle.rx_engine_extraction.proofs.Orders.{number, earlier, in_order}
 
 none_and_some : (o q : Option ℕ) (n : ℕ) → o ≡ q → o ≡ Some n → q ≡ None → ⊥
@@ -101,14 +101,15 @@ module _ (passed : (p : ProgramTree) (e : CheckFault) → Fronted p → PassCaus
     clash legal r s f t h =
         meets_or_accepted (extracted U w e) (check_fault.Loan (loan_fault.Loan f.0 f.1)) (λ q. absurd (cc)) h
         (handed_on (check_fault.Loan (loan_fault.Loan f.0 f.1)) (extracted T w d) (extracted U w e) (programs T u z w d e one legal (omega arith) s t) f.3)
-    clash few_bytes r s f t h = let n = bytes_of (extracted T w d) (extracted U w e) (programs T u z w d e one few_bytes (omega arith) s t) in omega (arith, f.1, h, n)
+    clash readable r s f t h = none_readable T u z w d e one readable (omega arith) s t f.1 e.text h
+    clash few_bytes r s f t h = let n = ap (λ (x : List ℕ). length x) (one_text_of T u z w d e one few_bytes (omega arith) s t) in omega (arith, f.1, h, n)
     clash confirmed r s f t h = f.1 (confirmed_back T u z w d e one confirmed (omega arith) s t h)
 
     -- one that fails stands not in front of one that the other comes to
     none_further : (c k : Condition) (r : Refusal) → number c < number k → Stands T w d c → Fails T w d c r → Stands U w e k → ⊥
     none_further c k r l s f t = let b = earlier (Holds U w e) c k l t in clash c r s f b.front b.it
 
-  none_behind : (c : Condition) → 22 < number c → ⊥
+  none_behind : (c : Condition) → 23 < number c → ⊥
   none_behind selects l = omega (arith, l)
   none_behind word l = omega (arith, l)
   none_behind unused l = omega (arith, l)
@@ -130,6 +131,7 @@ module _ (passed : (p : ProgramTree) (e : CheckFault) → Fronted p → PassCaus
   none_behind fits_bounded l = omega (arith, l)
   none_behind known l = omega (arith, l)
   none_behind legal l = omega (arith, l)
+  none_behind readable l = omega (arith, l)
   none_behind few_bytes l = omega (arith, l)
   none_behind confirmed l = omega (arith, l)
 

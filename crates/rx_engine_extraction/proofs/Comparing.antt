@@ -76,7 +76,7 @@ module _ (T : Text) (x : Decision) (told : IsTold T x) where
   -- by the lists that the code has
   pub told_is : (n made : ℕ) (g : TypedFn) → (loops : List ℕ) (modes : List Mode) (elsewhere : List ℕ) (muts : List Bool) (units : List ℕ) (beyond : ℕ)
       → loops ≡ x.seat.home.loops → modes ≡ x.plans.passed.modes → elsewhere ≡ elsewhere_by k x.plans.passed.moved → muts ≡ x.function.now.mutable
-      → units ≡ units_if (whole_of T.program T.types).functions (units_among (declared_in T) x.run.function T.types.functions) → beyond ≡ length g.names
+      → units ≡ units_if (whole_of T.program T.types).functions (units_among (declared_in T) T.types.functions) → beyond ≡ length g.names
       → ◌≡◌ {A = Told} (record {
         run = plain-Run x.seat.run;
         around = loops;
@@ -109,9 +109,9 @@ same_whole : (F G : Functions) (m n : ℕ) → F ≡ G → m ≡ n → ◌≡◌
 same_whole F G m n f e = λ i. record { functions = f i; main = e i }
 
 -- what is told of the units, by the functions and what is declared
-pub same_units : (F G : Functions) (t u : Typed) (item : ℕ) → F ≡ G → t ≡ u
-    → units_if F (units_among (declarations t.decls.items) item t.functions) ≡ units_if G (units_among (declarations u.decls.items) item u.functions)
-same_units F G t u item f e = λ i. units_if (f i) (units_among (declarations (e i).decls.items) item (e i).functions)
+pub same_units : (F G : Functions) (t u : Typed) → F ≡ G → t ≡ u
+    → units_if F (units_among (declarations t.decls.items) t.functions) ≡ units_if G (units_among (declarations u.decls.items) u.functions)
+same_units F G t u f e = λ i. units_if (f i) (units_among (declarations (e i).decls.items) (e i).functions)
 
 -- by what is told, and both programs
 pub compared_so : (A B : Told) (item : ℕ) (F G H I : Functions) (k l m n : ℕ) (r : Result Bool AllocError) → A ≡ B → F ≡ G → k ≡ l → H ≡ I → m ≡ n

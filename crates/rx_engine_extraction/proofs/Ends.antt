@@ -1,6 +1,6 @@
 -- The end of an extraction: a program that fits, with its bounds, is the extraction; and what stops there is the first condition that is not
 -- met, since two faults of a program are of one pass.
-use Rattle.std.proofs.Common.{◌≡◌, ◌≢◌, ◌⊎◌, inl, inr, ℕ, zero, suc, ◌<◌, ◌≤◌, Bool, true, false, List, [], ◌∷◌, ◌++◌, length, map, Option, Some, None, Result, Ok, Err, slice_get, codes, refl, sym, subst, ap, ◌∙◌, arith}
+use Rattle.std.proofs.Common.{◌≡◌, ◌≢◌, inl, inr, ℕ, zero, suc, Bool, true, false, List, [], ◌∷◌, ◌++◌, map, Some, Result, Ok, Err, codes, refl, sym, ◌∙◌}
 use Rattle.std.specs.Prelude.{if◌then◌else◌, nat_lt, IfOk, IfErr}
 use Rattle.std.proofs.lemmas.Bool.{ltb-true, ltb-false}
 use Rattle.rx_core.specs.declared.types.Bound.{Bound}
@@ -10,24 +10,19 @@ use Rattle.rx_tree.specs.declared.tree.BoundLifetime.{BoundLifetime}
 use Rattle.rx_tree.specs.Lists.{nth, Every}
 use Rattle.rx_tree.specs.Plain as plain
 use Rattle.rx_tree.specs.Plain.{Body, Function, ItemTree, ProgramTree}
-use Rattle.rx_tree.specs.Positions.{a_block, an_item, descend, node_at}
+use Rattle.rx_tree.specs.Positions.{a_block, node_at}
 use Rattle.rx_lex.specs.declared.token.Class.TheVariants.{Lifetime}
 use Rattle.rx_lex.specs.Words.{IsWord}
 use Rattle.rx_lex.specs.Words as words
-use Rattle.rx_resolve_names.specs.declared.resolved.ItemNames.{ItemNames}
-use Rattle.rx_resolve_names.specs.Items.{in_program}
 use Rattle.rx_print_spelling.specs.Formed.{FormedItem, FormedBound, FormedProgram}
 use Rattle.rx_select.proofs.Ways.{no_item_block}
 use Rattle.rx_check.specs.declared.fault.CheckFault.{CheckFault}
 use Rattle.rx_check.specs.declared.fault.CheckFault.TheVariants as check_fault
-use Rattle.rx_check.specs.Causes.{Causes, PassCauses, AreOne}
-use Rattle.rx_check.specs.Passes.{Fronted, Accepted}
+use Rattle.rx_check.specs.Causes.{Causes, PassCauses}
+use Rattle.rx_check.specs.Passes.{Accepted}
 use Rattle.rx_check.specs.declared.loans.LoanFault.TheVariants as loan_fault
 use Rattle.rx_lower_lifetimes.specs.declared.whole.LowerFault.TheVariants as lower_fault
-use Rattle.rx_hoist_extraction.specs.Names.{Distinct}
-use Rattle.rx_hoist_extraction.specs.Run.{Run}
-use Rattle.rx_hoist_extraction.specs.Plan.{Plan}
-use Rattle.rx_hoist_extraction.specs.Extraction.{extraction, new_number}
+use Rattle.rx_hoist_extraction.specs.Plan.{Bounds}
 use Rattle.rx_repair.specs.Named.{lifetimes_of, named_at}
 use Rattle.rx_repair.specs.Repaired.{repaired}
 use Rattle.rx_typeck_typed.specs.declared.typed.Typed.{Typed}
@@ -38,7 +33,7 @@ use Rattle.rx_engine_extraction.specs.declared.refusal.Fault.TheVariants as faul
 use Rattle.rx_engine_extraction.specs.declared.refusal.Refusal.{Refusal}
 use Rattle.rx_engine_extraction.specs.declared.refusal.Refusal.TheVariants as refusal
 use Rattle.rx_engine_extraction.specs.Meeting.{Fits, most_sites}
-use Rattle.rx_engine_extraction.specs.Ending.{too_large, of_front, of_check, IsPastLimit, IsUnfronted, IsMisfit, IsUnchecked, IsTooLong, IsAnswered, IsKept, IsUnanswered, IsFinished}
+use Rattle.rx_engine_extraction.specs.Ending.{too_large, of_front, of_check, IsPastLimit, IsUnfronted, IsMisfit, IsUnchecked, IsUnwritten, IsUnprinted, IsAnswered, IsKept, IsUnanswered, IsFinished}
 
 -- ---- the function of a run
 
@@ -130,75 +125,100 @@ unchecked (check_fault.Loan (loan_fault.Loan a b)) p h = h
 unchecked (check_fault.Loan loan_fault.OutOfMemory) p h = tt
 unchecked check_fault.OutOfMemory p h = tt
 
--- ---- what is not accepted, or too long
+-- ---- what is not accepted, or has no text within the limit, by which texts it may be
 
-misfit_kept : (p : ProgramTree) (r : Refusal) → IsMisfit p r → IsKept p r
-misfit_kept p (refusal.Unfit e) h = h
-misfit_kept p (refusal.Region i l k) h = h
-misfit_kept p (refusal.Loan a b) h = h
-misfit_kept p refusal.Unconfirmed h = absurd h
-misfit_kept p (refusal.Limit w n) h = absurd h
-misfit_kept p refusal.NotARun h = absurd h
-misfit_kept p refusal.BadName h = absurd h
-misfit_kept p refusal.NameTaken h = absurd h
-misfit_kept p (refusal.Unreachable s) h = absurd h
-misfit_kept p refusal.Endless h = absurd h
-misfit_kept p (refusal.MixedInit s) h = absurd h
-misfit_kept p (refusal.PartlyMoved s) h = absurd h
-misfit_kept p (refusal.Shadowed s) h = absurd h
-misfit_kept p (refusal.NotMut s) h = absurd h
-misfit_kept p (refusal.Aliased s) h = absurd h
+module _ (R : List ℕ → Type 0) where
+  misfit_kept : (p : ProgramTree) (r : Refusal) → IsMisfit p r → IsKept R p r
+  misfit_kept p (refusal.Unfit e) h = h
+  misfit_kept p (refusal.Region i l k) h = h
+  misfit_kept p (refusal.Loan a b) h = h
+  misfit_kept p refusal.Unconfirmed h = absurd h
+  misfit_kept p (refusal.Limit w n) h = absurd h
+  misfit_kept p refusal.NotARun h = absurd h
+  misfit_kept p refusal.BadName h = absurd h
+  misfit_kept p refusal.NameTaken h = absurd h
+  misfit_kept p (refusal.Unreachable s) h = absurd h
+  misfit_kept p refusal.Endless h = absurd h
+  misfit_kept p (refusal.MixedInit s) h = absurd h
+  misfit_kept p (refusal.PartlyMoved s) h = absurd h
+  misfit_kept p (refusal.Shadowed s) h = absurd h
+  misfit_kept p (refusal.NotMut s) h = absurd h
+  misfit_kept p (refusal.Aliased s) h = absurd h
 
-pub unchecked_kept : (p : ProgramTree) (f : Fault) → IsUnchecked p f → IsUnanswered p f
-unchecked_kept p (fault.Refused r) h = misfit_kept p r h
-unchecked_kept p fault.OutOfMemory h = tt
-unchecked_kept p (fault.Syntax e) h = absurd h
-unchecked_kept p (fault.NotAccepted e) h = absurd h
+  pub unchecked_kept : (p : ProgramTree) (f : Fault) → IsUnchecked p f → IsUnanswered R p f
+  unchecked_kept p (fault.Refused r) h = misfit_kept p r h
+  unchecked_kept p fault.OutOfMemory h = tt
+  unchecked_kept p (fault.Syntax e) h = absurd h
+  unchecked_kept p (fault.NotAccepted e) h = absurd h
 
-long_kept : (p : ProgramTree) → Accepted p → (r : Refusal) → IsTooLong p (fault.Refused r) → IsKept p r
-long_kept p a (refusal.Limit which.Bytes n) h = (a, h.0, h.1)
-long_kept p a (refusal.Limit which.Sites n) h = absurd h
-long_kept p a (refusal.Limit which.Positions n) h = absurd h
-long_kept p a (refusal.Limit which.Parameters n) h = absurd h
-long_kept p a (refusal.Limit which.Lifetimes n) h = absurd h
-long_kept p a (refusal.Limit which.Levels n) h = absurd h
-long_kept p a (refusal.Limit which.Parts n) h = absurd h
-long_kept p a refusal.NotARun h = absurd h
-long_kept p a refusal.BadName h = absurd h
-long_kept p a refusal.NameTaken h = absurd h
-long_kept p a (refusal.Unreachable s) h = absurd h
-long_kept p a refusal.Endless h = absurd h
-long_kept p a (refusal.MixedInit s) h = absurd h
-long_kept p a (refusal.PartlyMoved s) h = absurd h
-long_kept p a (refusal.Shadowed s) h = absurd h
-long_kept p a (refusal.NotMut s) h = absurd h
-long_kept p a (refusal.Aliased s) h = absurd h
-long_kept p a (refusal.Unfit e) h = absurd h
-long_kept p a (refusal.Region i l k) h = absurd h
-long_kept p a (refusal.Loan x y) h = absurd h
-long_kept p a refusal.Unconfirmed h = absurd h
+  unwritten_refusal : (r : Refusal) → IsUnwritten R (fault.Refused r) → IsUnprinted R (fault.Refused r)
+  unwritten_refusal refusal.Unconfirmed h = h
+  unwritten_refusal refusal.NotARun h = absurd h
+  unwritten_refusal refusal.BadName h = absurd h
+  unwritten_refusal refusal.NameTaken h = absurd h
+  unwritten_refusal (refusal.Unreachable s) h = absurd h
+  unwritten_refusal refusal.Endless h = absurd h
+  unwritten_refusal (refusal.MixedInit s) h = absurd h
+  unwritten_refusal (refusal.PartlyMoved s) h = absurd h
+  unwritten_refusal (refusal.Shadowed s) h = absurd h
+  unwritten_refusal (refusal.NotMut s) h = absurd h
+  unwritten_refusal (refusal.Aliased s) h = absurd h
+  unwritten_refusal (refusal.Limit x n) h = absurd h
+  unwritten_refusal (refusal.Unfit e) h = absurd h
+  unwritten_refusal (refusal.Region i l k) h = absurd h
+  unwritten_refusal (refusal.Loan x y) h = absurd h
 
-pub too_long_kept : (p : ProgramTree) → Accepted p → (f : Fault) → IsTooLong p f → IsUnanswered p f
-too_long_kept p a (fault.Refused r) h = long_kept p a r h
-too_long_kept p a fault.OutOfMemory h = tt
-too_long_kept p a (fault.Syntax e) h = absurd h
-too_long_kept p a (fault.NotAccepted e) h = absurd h
+  pub unwritten_unprinted : (f : Fault) → IsUnwritten R f → IsUnprinted R f
+  unwritten_unprinted (fault.Refused r) h = unwritten_refusal r h
+  unwritten_unprinted fault.OutOfMemory h = tt
+  unwritten_unprinted (fault.Syntax e) h = absurd h
+  unwritten_unprinted (fault.NotAccepted e) h = absurd h
+
+  refusal_kept : (p : ProgramTree) → Accepted p → (r : Refusal) → IsUnprinted R (fault.Refused r) → IsKept R p r
+  refusal_kept p a (refusal.Limit which.Bytes n) h = (a, h)
+  refusal_kept p a refusal.Unconfirmed h = (a, h)
+  refusal_kept p a (refusal.Limit which.Sites n) h = absurd h
+  refusal_kept p a (refusal.Limit which.Positions n) h = absurd h
+  refusal_kept p a (refusal.Limit which.Parameters n) h = absurd h
+  refusal_kept p a (refusal.Limit which.Lifetimes n) h = absurd h
+  refusal_kept p a (refusal.Limit which.Levels n) h = absurd h
+  refusal_kept p a (refusal.Limit which.Parts n) h = absurd h
+  refusal_kept p a refusal.NotARun h = absurd h
+  refusal_kept p a refusal.BadName h = absurd h
+  refusal_kept p a refusal.NameTaken h = absurd h
+  refusal_kept p a (refusal.Unreachable s) h = absurd h
+  refusal_kept p a refusal.Endless h = absurd h
+  refusal_kept p a (refusal.MixedInit s) h = absurd h
+  refusal_kept p a (refusal.PartlyMoved s) h = absurd h
+  refusal_kept p a (refusal.Shadowed s) h = absurd h
+  refusal_kept p a (refusal.NotMut s) h = absurd h
+  refusal_kept p a (refusal.Aliased s) h = absurd h
+  refusal_kept p a (refusal.Unfit e) h = absurd h
+  refusal_kept p a (refusal.Region i l k) h = absurd h
+  refusal_kept p a (refusal.Loan x y) h = absurd h
+
+  pub unprinted_kept : (p : ProgramTree) → Accepted p → (f : Fault) → IsUnprinted R f → IsUnanswered R p f
+  unprinted_kept p a (fault.Refused r) h = refusal_kept p a r h
+  unprinted_kept p a fault.OutOfMemory h = tt
+  unprinted_kept p a (fault.Syntax e) h = absurd h
+  unprinted_kept p a (fault.NotAccepted e) h = absurd h
 
 -- ---- how it ends
 
-past_finished : (p : ProgramTree) (n : ℕ) (f : Fault) → IsUnfronted p f → IsFinished p n (Err f)
-past_finished p n (fault.Refused r) h = inl h
-past_finished p n fault.OutOfMemory h = tt
-past_finished p n (fault.Syntax e) h = absurd h
-past_finished p n (fault.NotAccepted e) h = absurd h
+module _ (R : Bounds → List ℕ → Type 0) where
+  past_finished : (p : ProgramTree) (n : ℕ) (f : Fault) → IsUnfronted p f → IsFinished R p n (Err f)
+  past_finished p n (fault.Refused r) h = inl h
+  past_finished p n fault.OutOfMemory h = tt
+  past_finished p n (fault.Syntax e) h = absurd h
+  past_finished p n (fault.NotAccepted e) h = absurd h
 
-pub unfronted_finished : (p : ProgramTree) (n : ℕ) (f : Fault) → IsUnfronted p f → IsFinished p n (Err f)
-unfronted_finished = past_finished
+  pub unfronted_finished : (p : ProgramTree) (n : ℕ) (f : Fault) → IsUnfronted p f → IsFinished R p n (Err f)
+  unfronted_finished = past_finished
 
-pub fitted_finished : (p : ProgramTree) (n : ℕ) (t : Typed) (g : TypedFn) (bs : List Bound) → Fits p n t g bs → (q : Result Answer Fault)
-    → IfOk q (λ a. IsAnswered (repaired p n bs) bs a) → IfErr q (λ f. IsUnanswered (repaired p n bs) f) → IsFinished p n q
-fitted_finished p n t g bs fits (Ok a) h k = record { types = t; made = g; bounds = bs; fits = fits; answered = h }
-fitted_finished p n t g bs fits (Err (fault.Refused r)) h k = inr (record { types = t; made = g; bounds = bs; fits = fits; kept = k })
-fitted_finished p n t g bs fits (Err fault.OutOfMemory) h k = tt
-fitted_finished p n t g bs fits (Err (fault.Syntax e)) h k = absurd k
-fitted_finished p n t g bs fits (Err (fault.NotAccepted e)) h k = absurd k
+  pub fitted_finished : (p : ProgramTree) (n : ℕ) (t : Typed) (g : TypedFn) (bs : List Bound) → Fits p n t g bs → (q : Result Answer Fault)
+      → IfOk q (λ a. IsAnswered (R (named_at p n bs)) (repaired p n bs) bs a) → IfErr q (λ f. IsUnanswered (R (named_at p n bs)) (repaired p n bs) f) → IsFinished R p n q
+  fitted_finished p n t g bs fits (Ok a) h k = record { types = t; made = g; bounds = bs; fits = fits; answered = h }
+  fitted_finished p n t g bs fits (Err (fault.Refused r)) h k = inr (record { types = t; made = g; bounds = bs; fits = fits; kept = k })
+  fitted_finished p n t g bs fits (Err fault.OutOfMemory) h k = tt
+  fitted_finished p n t g bs fits (Err (fault.Syntax e)) h k = absurd k
+  fitted_finished p n t g bs fits (Err (fault.NotAccepted e)) h k = absurd k

@@ -1,9 +1,8 @@
 -- What is asked of the program and the run where a run is moved.
-use Rattle.std.proofs.Common.{◌≡◌, ◌<◌, ◌≤◌, ◌+◌, ◌^◌, ℕ, zero, suc, Bool, true, List, [], ◌∷◌, length, Some, slice_get, refl, sym, ap, subst, ◌∙◌, arith}
+use Rattle.std.proofs.Common.{◌≡◌, ◌<◌, ◌≤◌, ◌+◌, ◌^◌, ℕ, zero, suc, true, List, [], ◌∷◌, length, Some, slice_get, refl, sym, ap, subst, ◌∙◌, arith}
 use Rattle.rx_core.specs.declared.types.Span.{Span}
 use Rattle.rx_tree.specs.Lists.{nth}
 use Rattle.rx_hoist.specs.Runs.{is_function}
-use Rattle.rx_lex.specs.Tok.{Tok}
 use Rattle.rx_lex.specs.Tokens.{Lexes}
 use Rattle.rx_lex.specs.Words.{is_identifier}
 use Rattle.rx_tree.specs.Plain as plain
@@ -44,7 +43,7 @@ call_formed law T bytes names lexed parsed short meant typed w r g h x chosen de
     (law T bytes names lexed parsed short meant typed w d chosen.run chosen.word e.reached.0 decided.planned.listed decided.planned.agree
     (subst (λ (k : Plan). lifetimes_in T r k ≤ most_lifetimes) decided.named few))
 
-got : (p : ProgramTree) (n : ℕ) → slice_get p n ≡ nth p n
+pub got : (p : ProgramTree) (n : ℕ) → slice_get p n ≡ nth p n
 got [] n = refl
 got (i ∷ is) zero = refl
 got (i ∷ is) (suc n) = got is n

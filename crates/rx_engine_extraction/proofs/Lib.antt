@@ -1,6 +1,8 @@
 pub mod Starting
 pub mod Forming
 pub mod Outcomes
+pub mod Cutting
+pub mod NewItems
 pub mod Finishing
 pub mod Calling
 pub mod Asking
@@ -22,6 +24,7 @@ pub mod AgreeingNames
 pub mod AgreeingPairs
 pub mod AgreeingBounds
 pub mod AgreeingFound
+pub mod Rendered
 pub mod Agreeing
 pub mod Standing
 pub mod Clashing

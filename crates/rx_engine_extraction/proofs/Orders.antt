@@ -3,7 +3,7 @@
 use Rattle.std.proofs.Common.{◌≡◌, ℕ, zero, suc, ◌<◌, ◌⊎◌, inl, inr, refl, sym, ◌∙◌, subst, ap, arith}
 use Rattle.std.proofs.lemmas.Bool.{cases_order}
 use Rattle.rx_tree.specs.Lists.{Every}
-use Rattle.rx_engine_extraction.specs.Conditions.{Condition, before, selects, word, unused, reached, left, settled, whole, visible, passable, unmoved, few_parameters, few_lifetimes, few_levels, few_parts, few_numbers, fits, few_sites, few_positions, fits_bounded, known, legal, few_bytes, confirmed}
+use Rattle.rx_engine_extraction.specs.Conditions.{Condition, before, selects, word, unused, reached, left, settled, whole, visible, passable, unmoved, few_parameters, few_lifetimes, few_levels, few_parts, few_numbers, fits, few_sites, few_positions, fits_bounded, known, legal, readable, few_bytes, confirmed}
 
 abbrev pub number : Condition → ℕ
 number selects = 0
@@ -27,8 +27,9 @@ number few_positions = 17
 number fits_bounded = 18
 number known = 19
 number legal = 20
-number few_bytes = 21
-number confirmed = 22
+number readable = 21
+number few_bytes = 22
+number confirmed = 23
 
 abbrev condition_of : ℕ → Condition
 condition_of zero = selects
@@ -52,7 +53,8 @@ condition_of (suc (suc (suc (suc (suc (suc (suc (suc (suc (suc (suc (suc (suc (s
 condition_of (suc (suc (suc (suc (suc (suc (suc (suc (suc (suc (suc (suc (suc (suc (suc (suc (suc (suc zero)))))))))))))))))) = fits_bounded
 condition_of (suc (suc (suc (suc (suc (suc (suc (suc (suc (suc (suc (suc (suc (suc (suc (suc (suc (suc (suc zero))))))))))))))))))) = known
 condition_of (suc (suc (suc (suc (suc (suc (suc (suc (suc (suc (suc (suc (suc (suc (suc (suc (suc (suc (suc (suc zero)))))))))))))))))))) = legal
-condition_of (suc (suc (suc (suc (suc (suc (suc (suc (suc (suc (suc (suc (suc (suc (suc (suc (suc (suc (suc (suc (suc zero))))))))))))))))))))) = few_bytes
+condition_of (suc (suc (suc (suc (suc (suc (suc (suc (suc (suc (suc (suc (suc (suc (suc (suc (suc (suc (suc (suc (suc zero))))))))))))))))))))) = readable
+condition_of (suc (suc (suc (suc (suc (suc (suc (suc (suc (suc (suc (suc (suc (suc (suc (suc (suc (suc (suc (suc (suc (suc zero)))))))))))))))))))))) = few_bytes
 condition_of _ = confirmed
 
 back : (c : Condition) → condition_of (number c) ≡ c
@@ -77,6 +79,7 @@ back few_positions = refl
 back fits_bounded = refl
 back known = refl
 back legal = refl
+back readable = refl
 back few_bytes = refl
 back confirmed = refl
 
@@ -161,10 +164,13 @@ module _ (P : Condition → Type 0) (c : Condition) where
   at_legal : number c < 20 → Every P (before legal) → Both P c
   at_legal l f = step P c known at_known l f.0 f.1
 
-  at_few_bytes : number c < 21 → Every P (before few_bytes) → Both P c
-  at_few_bytes l f = step P c legal at_legal l f.0 f.1
+  at_readable : number c < 21 → Every P (before readable) → Both P c
+  at_readable l f = step P c legal at_legal l f.0 f.1
 
-  at_confirmed : number c < 22 → Every P (before confirmed) → Both P c
+  at_few_bytes : number c < 22 → Every P (before few_bytes) → Both P c
+  at_few_bytes l f = step P c readable at_readable l f.0 f.1
+
+  at_confirmed : number c < 23 → Every P (before confirmed) → Both P c
   at_confirmed l f = step P c few_bytes at_few_bytes l f.0 f.1
 
   pub earlier : (k : Condition) → number c < number k → Every P (before k) → Both P c
@@ -189,6 +195,7 @@ module _ (P : Condition → Type 0) (c : Condition) where
   earlier fits_bounded l f = at_fits_bounded l f
   earlier known l f = at_known l f
   earlier legal l f = at_legal l f
+  earlier readable l f = at_readable l f
   earlier few_bytes l f = at_few_bytes l f
   earlier confirmed l f = at_confirmed l f
 

@@ -19,15 +19,16 @@ use Rattle.rx_hoist_extraction.specs.Plan as names
 use Rattle.rx_print_spelling.specs.Levels.{levels_of}
 use Rattle.rx_engine_extraction.specs.Source.{Text, Wish}
 use Rattle.rx_engine_extraction.specs.Case.{Case, asked}
-use Rattle.rx_engine_extraction.specs.Made.{run_of, named, hoisted, extracted}
-use Rattle.rx_engine_extraction.specs.Conditions.{Condition, selects, reached, whole, unmoved, few_positions}
+use Rattle.rx_engine_extraction.specs.Made.{run_of, named, hoisted, named_bounds, extracted}
+use Rattle.rx_engine_extraction.specs.Conditions.{Condition, selects, reached, whole, unmoved, few_positions, readable}
 use Rattle.rx_engine_extraction.specs.Confirmed.{Confirmed}
-use Rattle.rx_engine_extraction.specs.Meeting.{most_levels, most_parts, parts_in, parts_of, levels_in, same_name, Fits, Holds}
+use Rattle.rx_engine_extraction.specs.Meeting.{most_levels, most_parts, parts_in, parts_of, levels_in, same_name, Fits, IsAnswer, Holds}
 use Rattle.rx_engine_extraction.specs.Failing.{FirstOf}
 use Rattle.rx_engine_extraction.specs.Hoisting.{IsBare}
 use Rattle.rx_engine_extraction.specs.Promise.{Stands}
-use Rattle.rx_engine_extraction.proofs.Agreeing.{retyped, Twice, Seats, Passed, as_seated, asked_alike, names_of_both, as_planned, as_passed, named_alike, hoisted_alike, as_bounded, extracted_alike, confirmed_same}
+use Rattle.rx_engine_extraction.proofs.Agreeing.{retyped, Twice, Seats, Passed, as_seated, asked_alike, names_of_both, as_planned, as_passed, named_alike, hoisted_alike, as_bounded, extracted_alike, texts_alike, texts_back, confirmed_same}
 use Rattle.rx_engine_extraction.proofs.Orders.{number, earlier}
+use Rattle.rx_engine_extraction.proofs.Rendered.{one_rendering}
 
 module _ (T : Text) (u : Typed) (z : Twice T u) (w : Wish) (d e : Case) where
   abbrev U : Text
@@ -60,8 +61,17 @@ module _ (T : Text) (u : Typed) (z : Twice T u) (w : Wish) (d e : Case) where
     pub programs : (k : Condition) → 17 < number k → Stands T w d k → Stands U w e k → extracted T w d ≡ extracted U w e
     programs k l s t = extracted_alike T u z w d e (passes k (omega (arith, l)) s t) (bounds k l s t)
 
-    pub confirmed_back : (k : Condition) → 17 < number k → Stands T w d k → Stands U w e k → Confirmed U w e → Confirmed T w d
-    confirmed_back k l s t x = confirmed_same T u z w d e (passes k (omega (arith, l)) s t) (bounds k l s t) x
+    pub none_readable : (k : Condition) → 17 < number k → Stands T w d k → Stands U w e k → ((text : List ℕ) → IsAnswer T w d text → ⊥) → (text : List ℕ) → IsAnswer U w e text → ⊥
+    none_readable k l s t n text h = n text (texts_back T u z w d e (passes k (omega (arith, l)) s t) (bounds k l s t) text h)
+
+    pub one_text_of : (k : Condition) → 21 < number k → Stands T w d k → Stands U w e k → d.text ≡ e.text
+    one_text_of k l s t =
+        one_rendering T.bytes T.tokens T.program (run_of e.run) (named U w e) (named_bounds U w e) d.text e.text
+        (texts_alike T u z w d e (passes k (omega (arith, l)) s t) (bounds k (omega (arith, l)) s t) d.text (held_first readable k l s)) (held_second readable k l t)
+
+    pub confirmed_back : (k : Condition) → 21 < number k → Stands T w d k → Stands U w e k → Confirmed U w e → Confirmed T w d
+    confirmed_back k l s t x =
+        confirmed_same T u z w d e (passes k (omega (arith, l)) s t) (one_text_of k l s t) x
 
   -- ---- of which variables something holds
 

@@ -1,6 +1,5 @@
 -- What the parts of the beginning find, as the verdict says it, and from what is hoisted in a text to the verdict.
-use Rattle.std.proofs.Common.{◌≡◌, ◌≢◌, ℕ, ◌+◌, ◌≤◌, Bool, true, false, ◌||◌, List, length, Result, Ok, Err, refl, sym, subst, arith}
-use Rattle.rx_core.specs.declared.types.Bound.{Bound}
+use Rattle.std.proofs.Common.{◌≡◌, ◌≢◌, ℕ, ◌+◌, ◌≤◌, false, List, Err, refl, sym, subst, arith}
 use Rattle.rx_tree.specs.Plain.{ProgramTree}
 use Rattle.rx_lex.specs.declared.lexer.Tokens.{Tokens}
 use Rattle.rx_lex.specs.Tok.{toks}
@@ -18,7 +17,6 @@ use Rattle.rx_hoist_extraction.specs.Names.{Names}
 use Rattle.rx_hoist_extraction.specs.FreeName.{FreeName}
 use Rattle.rx_hoist_naming.specs.NameTest.{is_taken}
 use Rattle.rx_engine_extraction.specs.declared.given.Hoisting.{Hoisting}
-use Rattle.rx_engine_extraction.specs.declared.refusal.Answer.{Answer}
 use Rattle.rx_engine_extraction.specs.declared.refusal.Fault.{Fault}
 use Rattle.rx_engine_extraction.specs.declared.refusal.Fault.TheVariants as fault
 use Rattle.rx_engine_extraction.specs.Source.{Text, IsText, Wish}
@@ -26,7 +24,6 @@ use Rattle.rx_engine_extraction.specs.Conditions.{unmoved, fits}
 use Rattle.rx_engine_extraction.specs.Meeting.{Holds}
 use Rattle.rx_engine_extraction.specs.Beginning.{of_syntax, not_accepted, IsUnreadable, IsUnaccepted, AreTokens}
 use Rattle.rx_engine_extraction.specs.Hoisting.{IsHoisting, IsStopped}
-use Rattle.rx_engine_extraction.specs.Ending.{IsPrinted}
 use Rattle.rx_engine_extraction.specs.Confirming.{IsTold}
 use Rattle.rx_engine_extraction.specs.Deciding.{case_of}
 use Rattle.rx_engine_extraction.specs.Verdict.{Answers}
@@ -97,9 +94,10 @@ unaccepted_answer bytes p q w fault.OutOfMemory h = tt
 
 -- a text that is read and accepted, by its tokens and what the passes know of it
 pub is_text : (bytes : List ℕ) (t : Tokens) (p : ProgramTree) (x : Front) (c : Judged) (q : Parses bytes p) → IsCheckedOf p c → x ≡ c.front → AreTokens bytes t
-    → IsText bytes (record { tokens = toks t.list; length = t.length; program = p; types = x.typed; sizes = sizes.told x.facts.sizes })
+    → IsText bytes (record { bytes = bytes; length = t.length; tokens = toks t.list; program = p; types = x.typed; sizes = sizes.told x.facts.sizes })
 is_text bytes t p x c q is same tokens =
     let front = subst (λ (y : Front). IsFrontOf p y) (sym same) is.front in record {
+      same = refl;
       parses = q;
       tokens = sym (tokens.one q.tokens q.lexed);
       long = sym tokens.long;
@@ -123,6 +121,3 @@ is_told T w x h =
 
 pub is_behind : (n f m : ℕ) → n ≡ f + m → f ≤ n
 is_behind n f m e = omega (arith, e)
-
-pub is_short : (bs : List Bound) (p : ProgramTree) (a : Answer) → IsPrinted p bs a → length a.text ≤ 1048576
-is_short bs p a h = subst (λ (l : List ℕ). length l ≤ 1048576) (sym h.text) h.short

@@ -22,7 +22,7 @@ use Rattle.rx_engine_extraction.specs.Source.{Text, Wish}
 use Rattle.rx_engine_extraction.specs.Case.{Case, asked}
 use Rattle.rx_engine_extraction.specs.Made.{hoisted, extracted}
 use Rattle.rx_engine_extraction.specs.Alike.{AreOne}
-use Rattle.rx_engine_extraction.specs.Conditions.{Condition, selects, word, unused, reached, left, settled, whole, visible, passable, unmoved, few_parameters, few_lifetimes, few_levels, few_parts, few_numbers, fits, few_sites, few_positions, fits_bounded, known, legal, few_bytes, confirmed}
+use Rattle.rx_engine_extraction.specs.Conditions.{Condition, selects, word, unused, reached, left, settled, whole, visible, passable, unmoved, few_parameters, few_lifetimes, few_levels, few_parts, few_numbers, fits, few_sites, few_positions, fits_bounded, known, legal, readable, few_bytes, confirmed}
 use Rattle.rx_engine_extraction.specs.Meeting.{IsUnfit, Fits}
 use Rattle.rx_engine_extraction.specs.Failing.{named_at, place_of, Fails}
 use Rattle.rx_engine_extraction.specs.Hoisting.{IsBare}
@@ -30,7 +30,7 @@ use Rattle.rx_engine_extraction.specs.Promise.{Stands}
 use Rattle.rx_engine_extraction.proofs.Ends.{pass_cause}
 use Rattle.rx_engine_extraction.proofs.AgreeingPlans.{one_plan}
 use Rattle.rx_engine_extraction.proofs.Agreeing.{retyped, Twice, Seats}
-use Rattle.rx_engine_extraction.proofs.Standing.{seats, plans, passes, programs, mixed_alike, plan_of_both, partly_alike, shadowed_alike, not_mut_alike, aliased_alike, parameters, lifetimes, levels, parts, hoisted_both}
+use Rattle.rx_engine_extraction.proofs.Standing.{seats, plans, passes, programs, one_text_of, mixed_alike, plan_of_both, partly_alike, shadowed_alike, not_mut_alike, aliased_alike, parameters, lifetimes, levels, parts, hoisted_both}
 
 told_as : (r q a b : Refusal) → r ≡ a → q ≡ b → AreOne a b → AreOne r q
 told_as r q a b x y h = subst (λ (k : Refusal). AreOne r k) (sym y) (subst (λ (k : Refusal). AreOne k b) (sym x) h)
@@ -138,7 +138,8 @@ module _ (one_pass : (p : ProgramTree) (e f : CheckFault) → e ≢ check_fault.
         (region_told f.0 f.1 f.2) (region_told g.0 g.1 g.2) f.4 g.4 in
         told_as r q (refusal.Region f.0 f.1 f.2) (refusal.Region g.0 g.1 g.2) f.3 g.3 (λ i. refusal.Region (o.0 i) (o.1 i) (o.2 i))
     told_alike legal r q s f t g = told_as r q (refusal.Loan f.0 f.1) (refusal.Loan g.0 g.1) f.2 g.2 tt
+    told_alike readable r q s f t g = told_as r q refusal.Unconfirmed refusal.Unconfirmed f.0 g.0 refl
     told_alike few_bytes r q s f t g =
-        let p = programs T u z w d e one few_bytes (omega arith) s t in
-        told_as r q (refusal.Limit which.Bytes _) (refusal.Limit which.Bytes _) f.0 g.0 (λ i. refusal.Limit which.Bytes (length (print_program (p i))))
+        let p = one_text_of T u z w d e one few_bytes (omega arith) s t in
+        told_as r q (refusal.Limit which.Bytes (length d.text)) (refusal.Limit which.Bytes (length e.text)) f.0 g.0 (λ i. refusal.Limit which.Bytes (length (p i)))
     told_alike confirmed r q s f t g = told_as r q refusal.Unconfirmed refusal.Unconfirmed f.0 g.0 refl

@@ -1,5 +1,5 @@
 -- What is decided of an extraction, one thing after another: the run in its function, its plan by numbers, how its params are passed,
--- and the bounds of the new function, by the types that the program with the call has. Which of it is right, the conditions say.
+-- the bounds of the new function, by the types that the program with the call has, and the text. Which of it is right, the conditions say.
 use Rattle.std.specs.Prelude.{ℕ, Bool, List}
 use Rattle.rx_core.specs.declared.types.Bound.{Bound}
 use Rattle.rx_typed_runs.specs.declared.runs.RunPos.{RunPos}
@@ -29,6 +29,8 @@ pub record Case : Type 0 where
   pub types : Typed
   pub made : TypedFn
   pub bounds : List Bound
+  -- the text of the program with the call and bounds
+  pub text : List ℕ
 
 -- the run in the typed tree of its function
 abbrev pub asked : Text → Case → Asked

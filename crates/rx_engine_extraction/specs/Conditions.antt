@@ -18,7 +18,7 @@ pub data Condition : Type 0 where
   -- each param can be passed; no borrowed variable would get other storage
   passable : Condition
   unmoved : Condition
-  -- the new function's parameters and lifetimes, the text's levels and the parts of types are within their limits
+  -- the new function's parameters and lifetimes, the canonical text's levels and the parts of types are within their limits
   few_parameters : Condition
   few_lifetimes : Condition
   few_levels : Condition
@@ -33,7 +33,8 @@ pub data Condition : Type 0 where
   fits_bounded : Condition
   known : Condition
   legal : Condition
-  -- the answer's text is within its limit
+  -- the file's own bytes with the edits are read as the extraction, and within the limit
+  readable : Condition
   few_bytes : Condition
   -- the program that it is read as is found to be the extraction
   confirmed : Condition
@@ -102,8 +103,11 @@ to_known = known ∷ to_fits_bounded
 abbrev pub to_legal : List Condition
 to_legal = legal ∷ to_known
 
+abbrev pub to_readable : List Condition
+to_readable = readable ∷ to_legal
+
 abbrev pub to_few_bytes : List Condition
-to_few_bytes = few_bytes ∷ to_legal
+to_few_bytes = few_bytes ∷ to_readable
 
 -- those in front of one
 abbrev pub before : Condition → List Condition
@@ -128,5 +132,6 @@ before few_positions = to_few_sites
 before fits_bounded = to_few_positions
 before known = to_fits_bounded
 before legal = to_known
-before few_bytes = to_legal
+before readable = to_legal
+before few_bytes = to_readable
 before confirmed = to_few_bytes

@@ -50,8 +50,9 @@ use Rattle.rx_engine_extraction.specs.Meeting.{Holds, Seated}
 
 abbrev pub text_of : Given → Text
 text_of g = record {
-  tokens = toks g.tokens.now.list;
+  bytes = g.text.now;
   length = g.tokens.now.length;
+  tokens = toks g.tokens.now.list;
   program = plain-Program g.program.now;
   types = g.front.now.typed;
   sizes = told g.front.now.facts.sizes;

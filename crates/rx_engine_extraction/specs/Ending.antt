@@ -3,7 +3,6 @@ use Rattle.std.specs.Prelude.{◌≡◌, ◌≢◌, ◌≤◌, ◌<◌, ◌⊎�
 use Rattle.rx_core.specs.declared.types.Bound.{Bound}
 use Rattle.rx_core.specs.declared.types.Which.TheVariants as which
 use Rattle.rx_tree.specs.Plain.{ProgramTree}
-use Rattle.rx_print_spelling.specs.Items.{print_program}
 use Rattle.rx_check.specs.declared.fault.CheckFault.{CheckFault}
 use Rattle.rx_check.specs.declared.fault.CheckFault.TheVariants as check_fault
 use Rattle.rx_check.specs.Causes.{Causes, PassCauses}
@@ -18,6 +17,8 @@ use Rattle.rx_engine_extraction.specs.declared.refusal.Refusal.TheVariants as re
 use Rattle.rx_engine_extraction.specs.Failing.{HasLarge}
 use Rattle.rx_typeck_typed.specs.declared.typed.Typed.{Typed}
 use Rattle.rx_typeck_typed.specs.declared.typed.TypedFn.{TypedFn}
+use Rattle.rx_hoist_extraction.specs.Plan.{Bounds}
+use Rattle.rx_repair.specs.Named.{named_at}
 use Rattle.rx_repair.specs.Repaired.{repaired}
 use Rattle.rx_engine_extraction.specs.Meeting.{most_sites, most_bytes, IsUnfit, Fits}
 
@@ -66,48 +67,61 @@ IsUnchecked p (fault.Refused r) = IsMisfit p r
 IsUnchecked p fault.OutOfMemory = Unit {0}
 IsUnchecked p _ = ⊥
 
-pub record IsPrinted (p : ProgramTree) (bs : List Bound) (a : Answer) : Type 0 where
-  pub text : a.text ≡ print_program p
+-- ---- the text, by which texts it may be
+
+pub record IsPrinted (R : List ℕ → Type 0) (bs : List Bound) (a : Answer) : Type 0 where
+  pub text : R a.text
   pub bounds : a.bounds ≡ bs
-  pub short : length (print_program p) ≤ most_bytes
+  pub short : length a.text ≤ most_bytes
 
-abbrev pub IsTooLong : ProgramTree → Fault → Type 0
-IsTooLong p (fault.Refused (refusal.Limit which.Bytes n)) = (n ≡ length (print_program p)) × (most_bytes < n)
-IsTooLong p fault.OutOfMemory = Unit {0}
-IsTooLong p _ = ⊥
+abbrev pub IsLong : (List ℕ → Type 0) → ℕ → Type 0
+IsLong R n = (text : List ℕ) × R text × (n ≡ length text) × (most_bytes < n)
 
-pub record IsAnswered (p : ProgramTree) (bs : List Bound) (a : Answer) : Type 0 where
+abbrev pub IsUnwritten : (List ℕ → Type 0) → Fault → Type 0
+IsUnwritten R (fault.Refused refusal.Unconfirmed) = (text : List ℕ) → R text → ⊥
+IsUnwritten R fault.OutOfMemory = Unit {0}
+IsUnwritten R _ = ⊥
+
+-- there is none, or it is too long
+abbrev pub IsUnprinted : (List ℕ → Type 0) → Fault → Type 0
+IsUnprinted R (fault.Refused refusal.Unconfirmed) = (text : List ℕ) → R text → ⊥
+IsUnprinted R (fault.Refused (refusal.Limit which.Bytes n)) = IsLong R n
+IsUnprinted R fault.OutOfMemory = Unit {0}
+IsUnprinted R _ = ⊥
+
+pub record IsAnswered (R : List ℕ → Type 0) (p : ProgramTree) (bs : List Bound) (a : Answer) : Type 0 where
   pub accepted : Accepted p
-  pub printed : IsPrinted p bs a
+  pub printed : IsPrinted R bs a
 
--- it is not accepted, or is accepted and too long
-abbrev pub IsKept : ProgramTree → Refusal → Type 0
-IsKept p (refusal.Limit which.Bytes n) = Accepted p × (n ≡ length (print_program p)) × (most_bytes < n)
-IsKept p r = IsMisfit p r
+-- it is not accepted, or is accepted and has no text, or one that is too long
+abbrev pub IsKept : (List ℕ → Type 0) → ProgramTree → Refusal → Type 0
+IsKept R p refusal.Unconfirmed = Accepted p × ((text : List ℕ) → R text → ⊥)
+IsKept R p (refusal.Limit which.Bytes n) = Accepted p × IsLong R n
+IsKept R p r = IsMisfit p r
 
-abbrev pub IsUnanswered : ProgramTree → Fault → Type 0
-IsUnanswered p (fault.Refused r) = IsKept p r
-IsUnanswered p fault.OutOfMemory = Unit {0}
-IsUnanswered p _ = ⊥
+abbrev pub IsUnanswered : (List ℕ → Type 0) → ProgramTree → Fault → Type 0
+IsUnanswered R p (fault.Refused r) = IsKept R p r
+IsUnanswered R p fault.OutOfMemory = Unit {0}
+IsUnanswered R p _ = ⊥
 
--- ---- the whole end: of the program with the call, and the number of the new function's item
+-- ---- the whole end: of the program with the call, the number of the new function's item, and which texts it may be with bounds
 
-pub record IsEnded (p : ProgramTree) (n : ℕ) (a : Answer) : Type 0 where
+pub record IsEnded (R : Bounds → List ℕ → Type 0) (p : ProgramTree) (n : ℕ) (a : Answer) : Type 0 where
   pub types : Typed
   pub made : TypedFn
   pub bounds : List Bound
   pub fits : Fits p n types made bounds
-  pub answered : IsAnswered (repaired p n bounds) bounds a
+  pub answered : IsAnswered (R (named_at p n bounds)) (repaired p n bounds) bounds a
 
-pub record IsBounded (p : ProgramTree) (n : ℕ) (r : Refusal) : Type 0 where
+pub record IsBounded (R : Bounds → List ℕ → Type 0) (p : ProgramTree) (n : ℕ) (r : Refusal) : Type 0 where
   pub types : Typed
   pub made : TypedFn
   pub bounds : List Bound
   pub fits : Fits p n types made bounds
-  pub kept : IsKept (repaired p n bounds) r
+  pub kept : IsKept (R (named_at p n bounds)) (repaired p n bounds) r
 
-abbrev pub IsFinished : ProgramTree → ℕ → Result Answer Fault → Type 0
-IsFinished p n (Ok a) = IsEnded p n a
-IsFinished p n (Err (fault.Refused r)) = IsPastLimit p r ⊎ IsBounded p n r
-IsFinished p n (Err fault.OutOfMemory) = Unit {0}
-IsFinished p n (Err _) = ⊥
+abbrev pub IsFinished : (Bounds → List ℕ → Type 0) → ProgramTree → ℕ → Result Answer Fault → Type 0
+IsFinished R p n (Ok a) = IsEnded R p n a
+IsFinished R p n (Err (fault.Refused r)) = IsPastLimit p r ⊎ IsBounded R p n r
+IsFinished R p n (Err fault.OutOfMemory) = Unit {0}
+IsFinished R p n (Err _) = ⊥

@@ -1,5 +1,5 @@
 -- When a case fails a condition, and the refusal that tells it (REM, "Extract function").
-use Rattle.std.specs.Prelude.{◌≡◌, ◌≢◌, ℕ, ◌≤◌, ◌<◌, ◌^◌, true, false, List, [], ◌∷◌, ◌++◌, length, Option, Some, None, get_or}
+use Rattle.std.specs.Prelude.{◌≡◌, ◌≢◌, ℕ, ◌≤◌, ◌<◌, ◌^◌, true, false, List, [], ◌∷◌, ◌++◌, length, Option, Some}
 use Rattle.rx_core.specs.declared.types.Span.{Span}
 use Rattle.rx_core.specs.declared.types.Which.TheVariants as which
 use Rattle.rx_tree.specs.Plain.{ProgramTree}
@@ -34,8 +34,8 @@ use Rattle.rx_engine_extraction.specs.Source.{Text, Wish}
 use Rattle.rx_engine_extraction.specs.Case.{Case, asked}
 use Rattle.rx_engine_extraction.specs.Made.{named, hoisted, extracted}
 use Rattle.rx_engine_extraction.specs.Confirmed.{Confirmed}
-use Rattle.rx_engine_extraction.specs.Conditions.{Condition, selects, word, unused, reached, left, settled, whole, visible, passable, unmoved, few_parameters, few_lifetimes, few_levels, few_parts, few_numbers, fits, few_sites, few_positions, fits_bounded, known, legal, few_bytes, confirmed}
-use Rattle.rx_engine_extraction.specs.Meeting.{most_parameters, most_lifetimes, most_levels, most_parts, most_sites, most_bytes, Seated, same_name, parts_of, levels_in, IsUnfit}
+use Rattle.rx_engine_extraction.specs.Conditions.{Condition, selects, word, unused, reached, left, settled, whole, visible, passable, unmoved, few_parameters, few_lifetimes, few_levels, few_parts, few_numbers, fits, few_sites, few_positions, fits_bounded, known, legal, readable, few_bytes, confirmed}
+use Rattle.rx_engine_extraction.specs.Meeting.{most_parameters, most_lifetimes, most_levels, most_parts, most_sites, most_bytes, Seated, same_name, parts_of, levels_in, IsUnfit, IsAnswer}
 
 -- ---- places
 
@@ -96,5 +96,6 @@ Fails T w d few_positions r = (s l : ℕ) × (r ≡ refusal.Limit which.Position
 Fails T w d fits_bounded r = (e : CheckFault) × (r ≡ refusal.Unfit e) × (e ≢ check_fault.OutOfMemory) × PassCauses e (extracted T w d)
 Fails T w d known r = (i l k : ℕ) × (r ≡ refusal.Region i l k) × Causes (check_fault.Region i l k) (extracted T w d)
 Fails T w d legal r = (a b : Span) × (r ≡ refusal.Loan a b) × Causes (check_fault.Loan (loan_fault.Loan a b)) (extracted T w d)
-Fails T w d few_bytes r = let n = length (print_program (extracted T w d)) in (r ≡ refusal.Limit which.Bytes n) × (most_bytes < n)
+Fails T w d readable r = (r ≡ refusal.Unconfirmed) × ((text : List ℕ) → IsAnswer T w d text → ⊥)
+Fails T w d few_bytes r = (r ≡ refusal.Limit which.Bytes (length d.text)) × (most_bytes < length d.text)
 Fails T w d confirmed r = (r ≡ refusal.Unconfirmed) × (Confirmed T w d → ⊥)

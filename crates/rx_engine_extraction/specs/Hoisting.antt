@@ -10,13 +10,13 @@ use Rattle.rx_tree.specs.Size.{IsNumbered}
 use Rattle.rx_print_spelling.specs.Formed.{FormedProgram}
 use Rattle.rx_exits_plan.specs.PlainPlan.{plain-Run}
 use Rattle.rx_hoist_nodes.specs.TypedRun.{typed_run}
+use Rattle.rx_hoist_plan.specs.PlainPlan.{plain-Plan}
 use Rattle.rx_engine_extraction.specs.declared.given.Hoisting.{Hoisting}
 use Rattle.rx_engine_extraction.specs.declared.refusal.Fault.{Fault}
 use Rattle.rx_engine_extraction.specs.declared.refusal.Fault.TheVariants as fault
-use Rattle.rx_engine_extraction.specs.declared.refusal.Refusal.{Refusal}
 use Rattle.rx_engine_extraction.specs.Source.{Text, Wish}
 use Rattle.rx_engine_extraction.specs.Case.{Case}
-use Rattle.rx_engine_extraction.specs.Made.{hoisted, new_item}
+use Rattle.rx_engine_extraction.specs.Made.{named, hoisted, new_item}
 use Rattle.rx_engine_extraction.specs.Conditions.{fits}
 use Rattle.rx_engine_extraction.specs.Promise.{Stands}
 use Rattle.rx_engine_extraction.specs.Verdict.{RefusedBy}
@@ -47,4 +47,5 @@ pub record IsHoisted (T : Text) (w : Wish) (d : Case) (p : ProgramTree) (n : ℕ
 -- with what is decided
 pub record IsHoisting (T : Text) (w : Wish) (x : Hoisting) : Type 0 where
   pub run : plain-Run x.decision.seat.run ≡ typed_run T.program x.decision.run
+  pub plan : plain-Plan x.decision.plans.named ≡ named T w (case_of T x.decision)
   pub hoisted : IsHoisted T w (case_of T x.decision) (plain-Program x.made.program) x.made.new_fn

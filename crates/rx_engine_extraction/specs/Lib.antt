@@ -2,6 +2,7 @@ pub mod Source
 pub mod Case
 pub mod Undecided
 pub mod Made
+pub mod Rendering
 pub mod Confirmed
 pub mod Conditions
 pub mod Meeting
@@ -9,6 +10,7 @@ pub mod Failing
 pub mod Promise
 pub mod Verdict
 pub mod Ending
+pub mod Splicing
 pub mod Beginning
 pub mod Deciding
 pub mod Hoisting

@@ -1,11 +1,11 @@
 -- The programs that a case makes: the extraction without bounds, and with those that its new function needs (REM, "Extract function").
-use Rattle.std.specs.Prelude.{ℕ, List, [], drop}
+use Rattle.std.specs.Prelude.{ℕ, [], drop}
 use Rattle.rx_tree.specs.Plain.{ProgramTree}
 use Rattle.rx_typed_runs.specs.declared.runs.RunPos.{RunPos}
 use Rattle.rx_facts.specs.Functions.{body}
 use Rattle.rx_hoist_diverging.specs.Diverging.{diverging}
 use Rattle.rx_hoist_extraction.specs.Run.{Run}
-use Rattle.rx_hoist_extraction.specs.Plan.{Plan}
+use Rattle.rx_hoist_extraction.specs.Plan.{Bounds, Plan}
 use Rattle.rx_hoist_extraction.specs.Extraction.{extraction, new_number}
 use Rattle.rx_hoist_naming.specs.NamedPlan.{Told, named_plan}
 use Rattle.rx_repair.specs.Named.{named_at}
@@ -43,6 +43,10 @@ hoisted T w d = extraction T.program (run_of d.run) (named T w d) []
 abbrev pub new_item : Text → Wish → Case → ℕ
 new_item T w d = new_number (run_of d.run) (named T w d)
 
--- the extraction, with the bounds by the names of the new function's lifetimes
+-- the bounds by the names of the new function's lifetimes
+abbrev pub named_bounds : Text → Wish → Case → Bounds
+named_bounds T w d = named_at (hoisted T w d) (new_item T w d) d.bounds
+
+-- the extraction, with these
 abbrev pub extracted : Text → Wish → Case → ProgramTree
-extracted T w d = extraction T.program (run_of d.run) (named T w d) (named_at (hoisted T w d) (new_item T w d) d.bounds)
+extracted T w d = extraction T.program (run_of d.run) (named T w d) (named_bounds T w d)

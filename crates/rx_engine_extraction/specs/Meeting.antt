@@ -47,9 +47,10 @@ use Rattle.rx_lower_lifetimes.specs.declared.whole.LowerFault.TheVariants as low
 use Rattle.rx_repair.specs.Lacking.{Needs}
 use Rattle.rx_engine_extraction.specs.Source.{Text, Wish}
 use Rattle.rx_engine_extraction.specs.Case.{Case, asked}
-use Rattle.rx_engine_extraction.specs.Made.{run_of, told, named, hoisted, new_item, extracted}
+use Rattle.rx_engine_extraction.specs.Made.{run_of, told, named, hoisted, new_item, named_bounds, extracted}
+use Rattle.rx_engine_extraction.specs.Rendering.{Renders}
 use Rattle.rx_engine_extraction.specs.Confirmed.{Confirmed}
-use Rattle.rx_engine_extraction.specs.Conditions.{Condition, selects, word, unused, reached, left, settled, whole, visible, passable, unmoved, few_parameters, few_lifetimes, few_levels, few_parts, few_numbers, fits, few_sites, few_positions, fits_bounded, known, legal, few_bytes, confirmed}
+use Rattle.rx_engine_extraction.specs.Conditions.{Condition, selects, word, unused, reached, left, settled, whole, visible, passable, unmoved, few_parameters, few_lifetimes, few_levels, few_parts, few_numbers, fits, few_sites, few_positions, fits_bounded, known, legal, readable, few_bytes, confirmed}
 
 -- ---- the limits
 
@@ -119,6 +120,10 @@ pub record Fits (p : ProgramTree) (n : ℕ) (t : Typed) (g : TypedFn) (bs : List
   pub made : function_at t.functions n ≡ Some g
   pub bounds : Needs t.decls.items g bs
 
+-- this is the text of the extraction with its bounds
+abbrev pub IsAnswer : Text → Wish → Case → List ℕ → Type 0
+IsAnswer T w d text = Renders T.bytes T.tokens T.program (run_of d.run) (named T w d) (named_bounds T w d) text
+
 -- ---- what holds
 
 abbrev pub Holds : Text → Wish → Case → Condition → Type 0
@@ -144,5 +149,6 @@ Holds T w d few_positions = Fits (hoisted T w d) (new_item T w d) d.types d.made
 Holds T w d fits_bounded = (e : CheckFault) → e ≢ check_fault.OutOfMemory → PassCauses e (extracted T w d) → ⊥
 Holds T w d known = (i l k : ℕ) → Causes (check_fault.Region i l k) (extracted T w d) → ⊥
 Holds T w d legal = Accepted (extracted T w d)
-Holds T w d few_bytes = length (print_program (extracted T w d)) ≤ most_bytes
+Holds T w d readable = IsAnswer T w d d.text
+Holds T w d few_bytes = length d.text ≤ most_bytes
 Holds T w d confirmed = Confirmed T w d

@@ -1,12 +1,11 @@
--- What an answer promises: each condition is met, and the answer is the canonical text of the extraction, which is an accepted program.
--- That the answer runs as the text does is not said here.
-use Rattle.std.specs.Prelude.{◌≡◌, ℕ, List, ◌∷◌}
+-- What an answer promises: each condition is met, and the answer is the text of the extraction, which is read back as it and is an accepted
+-- program. That the answer runs as the text does is not said here.
+use Rattle.std.specs.Prelude.{◌≡◌, ℕ, List}
 use Rattle.rx_core.specs.declared.types.Bound.{Bound}
 use Rattle.rx_tree.specs.Erase.{SameProgram}
 use Rattle.rx_tree.specs.Lists.{Every}
 use Rattle.rx_tree.specs.Plain.{ProgramTree}
 use Rattle.rx_parse_grammar.specs.grammar.Items.{Parses}
-use Rattle.rx_print_spelling.specs.Items.{print_program}
 use Rattle.rx_check.specs.Passes.{Accepted}
 use Rattle.rx_engine_extraction.specs.Source.{Text, IsText, Wish}
 use Rattle.rx_engine_extraction.specs.Case.{Case}
@@ -32,7 +31,7 @@ program_of {w = w} x = extracted x.text w x.case
 -- the answer's text, and the bounds of the new function, by the numbers of its lifetimes
 pub record Keeps (bytes : List ℕ) (w : Wish) (text : List ℕ) (bounds : List Bound) : Type 0 where
   pub extracts : Extracts bytes w
-  pub rendered : text ≡ print_program (program_of extracts)
+  pub rendered : text ≡ extracts.case.text
   pub needed : bounds ≡ extracts.case.bounds
   -- it is read back as the extraction, apart from spans
   pub program : ProgramTree

@@ -12,10 +12,11 @@ use Rattle.rx_modes_policy.specs.declared.uses.Mode.{Mode}
 use Rattle.rx_modes_policy.specs.declared.uses.Uses.{Uses}
 use Rattle.rx_check.specs.Passes.{IsAccepted}
 
--- the tokens of a text, how many bytes it has, its program with its types, and how many parts each struct and enum has
+-- the bytes of a text, how many it has, its tokens, its program with its types, and how many parts each struct and enum has
 pub record Text : Type 0 where
-  pub tokens : List Tok
+  pub bytes : List ℕ
   pub length : ℕ
+  pub tokens : List Tok
   pub program : ProgramTree
   pub types : Typed
   pub sizes : ℕ → ℕ
@@ -25,6 +26,7 @@ declared_in T = declarations T.types.decls.items
 
 -- these bytes are it, and its program is accepted
 pub record IsText (bytes : List ℕ) (T : Text) : Type 0 where
+  pub same : bytes ≡ T.bytes
   pub parses : Parses bytes T.program
   pub tokens : parses.tokens ≡ T.tokens
   pub long : length bytes ≡ T.length

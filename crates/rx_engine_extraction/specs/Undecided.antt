@@ -1,5 +1,5 @@
 -- A case in which nothing is decided yet: what its fields have is of no account until a condition speaks of them.
-use Rattle.std.specs.Prelude.{[], ◌∷◌, None, false}
+use Rattle.std.specs.Prelude.{[], None, false}
 use Rattle.rx_typed.specs.Tree as tree
 use Rattle.rx_typed.specs.declared.tree.Form.TheVariants as form
 use Rattle.rx_typed_runs.specs.declared.runs.RunPos.{RunPos}
@@ -52,4 +52,5 @@ undecided = record {
   types = record { functions = []; decls = record { items = [] } };
   made = no_function;
   bounds = [];
+  text = [];
 }

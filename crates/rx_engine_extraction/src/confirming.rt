@@ -66,7 +66,7 @@ fn compared(
     let elsewhere = elsewhere(alloc, plan, passed.moved.as_slice())?;
     let functions = trees(alloc, given.front)?;
     let others = trees(alloc, answer)?;
-    let units = units_of(alloc, given.front.typed(), item, functions.as_slice())?;
+    let units = units_of(alloc, given.front.typed(), functions.as_slice())?;
     let told = Told {
         run: decision.seat.run,
         around: decision.seat.home.loops.as_slice(),

@@ -1,24 +1,32 @@
-//! The end of an extraction: the program with the call gets the bounds that its new function needs, is checked, and is printed.
+//! The end of an extraction: the program with the call gets the bounds that its new function needs, is checked, and gets its text.
 
-ghost use Rattle.std.specs.Prelude.{◌≡◌, IfOk, IfErr};
+ghost use Rattle.std.specs.Prelude.{◌≡◌, [], true, slice_get, IfOk, IfErr};
 ghost use Rattle.rx_tree.specs.PlainOf.{plain-Program};
 ghost use Rattle.rx_tree.specs.Size.{IsNumbered};
 ghost use Rattle.rx_check.specs.Front.{IsFrontOf};
 ghost use Rattle.rx_check.specs.Passes.{Accepted};
 ghost use Rattle.rx_check.specs.declared.fault.CheckFault.TheVariants as check_fault;
 ghost use Rattle.rx_engine_extraction.specs.Ending as spec;
+ghost use Rattle.rx_hoist.specs.Runs.{is_function};
+ghost use Rattle.rx_hoist_plan.specs.PlainPlan.{plain-Plan};
+ghost use Rattle.rx_hoist_extraction.specs.Plan.{Bounds};
+ghost use Rattle.rx_print_spelling.specs.Formed.{FormedProgram};
 ghost use Rattle.rx_engine_extraction.specs.Hoisting.{IsBare};
+ghost use Rattle.rx_engine_extraction.specs.Splicing.{IsIn, IsMadeOf, rendered_by};
 
+use crate::given::Given;
 use crate::refusal::{Answer, Fault, Refusal};
+use crate::rendering::rendered;
 use rx_check::{CheckFault, FrontEnd, LoanFault, check, front};
-use rx_core::{Bound, LetGo, List, Which, keep};
+use rx_core::{Bound, LetGo, List, Text, Which, keep};
+use rx_hoist_plan::NamedPlan;
 use rx_lower_lifetimes::LowerFault;
-use rx_print::print;
 use rx_repair::{
     Repaired, functions_without_bounds_declare_none, repair, repaired_programs_are_numbered,
 };
 use rx_tree::Program;
-use std::alloc::Global;
+use rx_typed_runs::RunPos;
+use std::alloc::{AllocError, Global};
 
 /// The most sites of a function.
 const MOST_SITES: u64 = 16_384;
@@ -125,16 +133,51 @@ fn rechecked(alloc: Global, program: &Program) -> Result<(), Fault>
     }
 }
 
-/// The canonical text of the extraction, where it is not too long.
-fn printed(alloc: Global, program: Program, bounds: List<Bound>) -> Result<Answer, Fault>
-    ensures found { IfOk result (λ a. spec.IsPrinted (plain-Program program) bounds a) }
-    ensures fault { IfErr result (λ f. spec.IsTooLong (plain-Program program) f) }
+/// The text of the extraction with its bounds.
+fn text_of(
+    alloc: Global,
+    given: &Given<'_, '_>,
+    run: &RunPos,
+    plan: &NamedPlan,
+    program: &Program,
+    new_fn: u32,
+) -> Result<Text, Fault>
+    requires there { IsIn given.now run.now }
+    requires made { is_function (slice_get (plain-Program program.now) new_fn) ≡ true }
+    ensures found { (bs : Bounds) → IsMadeOf given.now run.now (plain-Plan plan.now) (plain-Program program.now) new_fn bs
+        → IfOk result (λ t. rendered_by given.now run.now (plain-Plan plan.now) bs t) }
+    ensures fault { (bs : Bounds) → IsMadeOf given.now run.now (plain-Plan plan.now) (plain-Program program.now) new_fn bs
+        → IfErr result (λ f. spec.IsUnwritten (rendered_by given.now run.now (plain-Plan plan.now) bs) f) }
 {
-    let text = print(alloc, &program);
+    match rendered(alloc, given, run, plan, program, new_fn) {
+        Ok(Some(text)) => Ok(text),
+        Ok(None) => Err(Fault::Refused(Refusal::Unconfirmed)),
+        Err(AllocError) => Err(Fault::OutOfMemory),
+    }
+}
+
+/// The same, where it is not too long.
+fn printed(
+    alloc: Global,
+    given: &Given<'_, '_>,
+    run: &RunPos,
+    plan: &NamedPlan,
+    program: Program,
+    new_fn: u32,
+    bounds: List<Bound>,
+) -> Result<Answer, Fault>
+    requires there { IsIn given.now run.now }
+    requires made { is_function (slice_get (plain-Program program) new_fn) ≡ true }
+    ensures found { (bs : Bounds) → IsMadeOf given.now run.now (plain-Plan plan.now) (plain-Program program) new_fn bs
+        → IfOk result (λ a. spec.IsPrinted (rendered_by given.now run.now (plain-Plan plan.now) bs) bounds a) }
+    ensures fault { (bs : Bounds) → IsMadeOf given.now run.now (plain-Plan plan.now) (plain-Program program) new_fn bs
+        → IfErr result (λ f. spec.IsUnprinted (rendered_by given.now run.now (plain-Plan plan.now) bs) f) }
+{
+    let outcome = text_of(alloc, given, run, plan, &program, new_fn);
     program.let_go();
-    let (text, bounds) = match keep(bounds, text) {
+    let (text, bounds) = match keep(bounds, outcome) {
         Ok(both) => both,
-        Err(_) => return Err(Fault::OutOfMemory),
+        Err(fault) => return Err(fault),
     };
     let length = text.as_str().len();
     if length > MOST_BYTES {
@@ -149,10 +192,21 @@ fn printed(alloc: Global, program: Program, bounds: List<Bound>) -> Result<Answe
 }
 
 /// The answer of a program with the call and bounds.
-fn answered(alloc: Global, repaired: Repaired) -> Result<Answer, Fault>
-    requires { IsNumbered (plain-Program repaired.program) }
-    ensures found { IfOk result (λ a. spec.IsAnswered (plain-Program repaired.program) repaired.bounds a) }
-    ensures fault { IfErr result (λ f. spec.IsUnanswered (plain-Program repaired.program) f) }
+fn answered(
+    alloc: Global,
+    given: &Given<'_, '_>,
+    run: &RunPos,
+    plan: &NamedPlan,
+    repaired: Repaired,
+    new_fn: u32,
+) -> Result<Answer, Fault>
+    requires there { IsIn given.now run.now }
+    requires made { is_function (slice_get (plain-Program repaired.program) new_fn) ≡ true }
+    requires numbered { IsNumbered (plain-Program repaired.program) }
+    ensures found { (bs : Bounds) → IsMadeOf given.now run.now (plain-Plan plan.now) (plain-Program repaired.program) new_fn bs
+        → IfOk result (λ a. spec.IsAnswered (rendered_by given.now run.now (plain-Plan plan.now) bs) (plain-Program repaired.program) repaired.bounds a) }
+    ensures fault { (bs : Bounds) → IsMadeOf given.now run.now (plain-Plan plan.now) (plain-Program repaired.program) new_fn bs
+        → IfErr result (λ f. spec.IsUnanswered (rendered_by given.now run.now (plain-Plan plan.now) bs) (plain-Program repaired.program) f) }
 {
     let Repaired { program, bounds } = repaired;
     let outcome = rechecked(alloc, &program);
@@ -161,14 +215,24 @@ fn answered(alloc: Global, repaired: Repaired) -> Result<Answer, Fault>
         Err(fault) => return Err(fault),
     };
     let (program, bounds) = held;
-    printed(alloc, program, bounds)
+    printed(alloc, given, run, plan, program, new_fn, bounds)
 }
 
-/// The answer of a program with the call, whose new function is the item of this number.
-pub(crate) fn finished(alloc: Global, program: Program, new_fn: u32) -> Result<Answer, Fault>
+/// The answer of a program with the call of a run, whose new function is the item of this number.
+pub(crate) fn finished(
+    alloc: Global,
+    given: &Given<'_, '_>,
+    run: &RunPos,
+    plan: &NamedPlan,
+    program: Program,
+    new_fn: u32,
+) -> Result<Answer, Fault>
+    requires there { IsIn given.now run.now }
+    requires made { IsMadeOf given.now run.now (plain-Plan plan.now) (plain-Program program) new_fn [] }
     requires numbered { IsNumbered (plain-Program program) }
     requires bare { IsBare (plain-Program program) new_fn }
-    ensures { spec.IsFinished (plain-Program program) new_fn result }
+    requires formed { FormedProgram (plain-Program program) }
+    ensures { spec.IsFinished (rendered_by given.now run.now (plain-Plan plan.now)) (plain-Program program) new_fn result }
 {
     functions_without_bounds_declare_none();
     repaired_programs_are_numbered();
@@ -180,7 +244,7 @@ pub(crate) fn finished(alloc: Global, program: Program, new_fn: u32) -> Result<A
     let outcome = repair(alloc, program, new_fn, &front);
     front.let_go();
     match outcome {
-        Ok(repaired) => answered(alloc, repaired),
+        Ok(repaired) => answered(alloc, given, run, plan, repaired, new_fn),
         Err(_) => Err(Fault::OutOfMemory),
     }
 }

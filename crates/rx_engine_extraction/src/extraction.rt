@@ -1,6 +1,6 @@
 //! The extraction over texts.
 
-ghost use Rattle.std.specs.Prelude.{◌≤◌, ℕ, List, length, IfOk, IfErr};
+ghost use Rattle.std.specs.Prelude.{◌≤◌, ℕ, List, length, IfOk, IfErr, IsUtf8};
 ghost use Rattle.rx_lex.specs.Tok.{toks};
 ghost use Rattle.rx_tree.specs.PlainOf.{plain-Program};
 ghost use Rattle.rx_parse_grammar.specs.grammar.Items.{Parses};
@@ -24,7 +24,6 @@ use rx_core::LetGo;
 use rx_hoist_naming_laws::runs_sit;
 use rx_modes_policy::Policy;
 use rx_parse::parsed_programs_are_numbered;
-use rx_print_spelling::print_parses;
 use rx_tree::Program;
 use std::alloc::Global;
 
@@ -75,18 +74,20 @@ fn extracted<P: Policy>(
     requires one_text { OneText (toks given.now.tokens.now.list) given.now.tokens.now.length (plain-Program given.now.program.now) }
     requires short { given.now.tokens.now.length ≤ 1048576 }
     requires front { IsFrontOf (plain-Program given.now.program.now) given.now.front.now }
+    requires text { IsUtf8 given.now.text.now }
     ensures verdict { (bytes : List ℕ) → IsText bytes (text_of given.now)
         → Answers bytes (record { start = request.now.selection.start; end = request.now.selection.end; name = request.now.name.now; choice = P.choice policy.now }) result }
 {
     passed_or_faulty();
     causes_are_one();
-    print_parses();
     let Hoisting { decision, made } = match hoisted_by(alloc, given, request, policy) {
         Ok(hoisting) => hoisting,
         Err(fault) => return Err(fault),
     };
     let NewProgram { program, new_fn } = made;
-    match finished(alloc, program, new_fn) {
+    let run = &decision.run;
+    let plan = &decision.plans.named;
+    match finished(alloc, given, run, plan, program, new_fn) {
         Ok(answer) => confirmed(alloc, given, &decision, new_fn, answer),
         Err(fault) => Err(fault),
     }
@@ -119,6 +120,7 @@ pub fn extract_checked<P: Policy>(
         Err(fault) => return Err(fault),
     };
     let given = Given {
+        text,
         tokens: &tokens,
         program,
         front: checked.front(),

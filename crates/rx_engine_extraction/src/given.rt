@@ -10,9 +10,10 @@ use rx_tree::Program;
 use rx_typeck_typed::TypedFn;
 use rx_typed_runs::RunPos;
 
-/// An accepted text: its tokens, its program, and what the passes know of it.
+/// An accepted text: its bytes, its tokens, its program, and what the passes know of it.
 #[derive(Clone, Copy)]
 pub(crate) struct Given<'t, 's> {
+    pub text: &'s [u8],
     pub tokens: &'t Tokens<'s>,
     pub program: &'t Program,
     pub front: &'t FrontEnd,

@@ -10,7 +10,6 @@ ghost use Rattle.rx_lex.specs.Words.{is_identifier};
 ghost use Rattle.rx_lex.specs.Tokens.{Lexes};
 ghost use Rattle.rx_parse_grammar.specs.grammar.Items.{Parses};
 ghost use Rattle.rx_print_spelling.specs.Formed.{FormedProgram};
-ghost use Rattle.rx_print_spelling.specs.Items.{print_program};
 ghost use Rattle.rx_resolve_names.specs.declared.resolved.ItemNames.{ItemNames};
 ghost use Rattle.rx_resolve_names.specs.Causes.{Meant};
 ghost use Rattle.rx_typeck_typed.specs.Typing.{IsTyped};
@@ -26,7 +25,7 @@ ghost use Rattle.rx_engine_extraction.specs.Source.{Text, Wish};
 ghost use Rattle.rx_engine_extraction.specs.Case.{Case, asked};
 ghost use Rattle.rx_engine_extraction.specs.Made.{run_of, named, hoisted};
 ghost use Rattle.rx_engine_extraction.specs.Meeting.{most_lifetimes, Selects, Seated, parts_of};
-ghost use Rattle.rx_engine_extraction.specs.Promise.{Extracts, Keeps, program_of};
+ghost use Rattle.rx_engine_extraction.specs.Promise.{Extracts, Keeps};
 ghost use Rattle.rx_engine_extraction.specs.Verdict.{IsRefused};
 
 use rx_check::{causes_are_one, passed_or_faulty};
@@ -35,7 +34,7 @@ use rx_hoist_extraction::extractions_are_formed;
 use rx_hoist_naming::{named_plans_are_formed, tails_go_past};
 use rx_lex::one_token_list;
 use rx_parse_grammar::one_tree;
-use rx_print_spelling::{print_parses, texts_are_formed};
+use rx_print_spelling::texts_are_formed;
 use rx_repair::{functions_without_bounds_declare_none, least_bounds_are_missing};
 use rx_typeck_typed::{declared_are_finite, typed_declarations_are_finite};
 use rx_typed_declarations::one_size_each;
@@ -111,11 +110,7 @@ pub fn answers_are_one()
     typed_declarations_are_finite();
 }
 
-/// What meets every condition has an answer: the canonical text of its extraction, which is read back as it, with the bounds that it
-/// needs.
+/// What meets every condition has an answer: the text of its extraction, which is read back as it, with the bounds that it needs.
 pub fn extractions_are_answers()
-    ensures { (bytes : List ℕ) (w : Wish) (x : Extracts bytes w) → length bytes < 2 ^ 32 → Keeps bytes w (print_program (program_of x)) x.case.bounds }
-{
-    calls_are_formed();
-    print_parses();
-}
+    ensures { (bytes : List ℕ) (w : Wish) (x : Extracts bytes w) → Keeps bytes w x.case.text x.case.bounds }
+{}

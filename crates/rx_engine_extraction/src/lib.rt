@@ -11,6 +11,7 @@ mod hoisting;
 mod laws;
 mod names;
 mod refusal;
+mod rendering;
 mod told;
 
 pub use extraction::{extract, extract_checked};

@@ -6,7 +6,7 @@ ghost use Rattle.rx_engine_extracted.specs.PlainPrograms.{plain-Functions};
 ghost use Rattle.rx_engine_extraction.specs.Confirmed as confirmed;
 ghost use Rattle.rx_engine_extraction.specs.Confirming as spec;
 
-use rx_engine_extracted::all_leave_unit;
+use rx_engine_extracted::{all_leave_unit, leaves_unit};
 use rx_exits_plan::{ExitOuts, ExitPlan};
 use rx_hoist_made::is_unit;
 use rx_typeck_typed::{Typed, TypedFn};
@@ -59,15 +59,12 @@ pub(crate) fn elsewhere(
     Ok(all)
 }
 
-/// Whether an item is a function that is declared to give the unit, and not this one.
+/// Whether an item is a function that is declared to give the unit.
 #[tactic(auto, using(rx_typeck_solver::proofs::Lookups::lookup_rules))]
-fn is_of_unit(decls: &Decls, item: u32, other: u32) -> bool
-    ensures { result ≡ confirmed.is_of_unit (declarations decls.now.items) item other }
+fn is_of_unit(decls: &Decls, item: u32) -> bool
+    ensures { result ≡ confirmed.is_of_unit (declarations decls.now.items) item }
 {
-    if other == item {
-        return false;
-    }
-    match decls.items.get(other as usize) {
+    match decls.items.get(item as usize) {
         Some(decl) => match decl {
             Decl::Func { answer, .. } => is_unit(answer),
             Decl::Rt | Decl::Struct { .. } | Decl::Enum { .. } => false,
@@ -76,35 +73,47 @@ fn is_of_unit(decls: &Decls, item: u32, other: u32) -> bool
     }
 }
 
-/// The functions that are declared to give the unit, but one.
-fn units_among(
-    alloc: Global,
-    decls: &Decls,
-    item: u32,
-    functions: &[TypedFn],
-) -> Result<Vec<u32>, AllocError>
-    ensures { IfOk result (λ it. it.items ≡ confirmed.units_among (declarations decls.now.items) item functions.now) }
+/// The functions that are declared to give the unit.
+fn units_among(alloc: Global, decls: &Decls, functions: &[TypedFn]) -> Result<Vec<u32>, AllocError>
+    ensures { IfOk result (λ it. it.items ≡ confirmed.units_among (declarations decls.now.items) functions.now) }
 {
     let mut units = Vec::new(alloc);
     for function in functions {
-        if is_of_unit(decls, item, function.item) {
+        if is_of_unit(decls, function.item) {
             units.push(function.item)?;
         }
     }
     Ok(units)
 }
 
-/// The same where each of them gives the unit by its form, and else none.
+/// Those of them that leave by returns of the unit, by their form.
+fn leaving(
+    alloc: Global,
+    trees: &[Option<&TypedTree>],
+    units: &[u32],
+) -> Result<Vec<u32>, AllocError>
+    ensures { IfOk result (λ it. it.items ≡ confirmed.leaving (plain-Functions trees.now) units.now units.now) }
+{
+    let mut left = Vec::new(alloc);
+    for number in units {
+        if leaves_unit(trees, units, *number) {
+            left.push(*number)?;
+        }
+    }
+    Ok(left)
+}
+
+/// The functions that give the unit by their form, as far as is to be seen.
 pub(crate) fn units_of(
     alloc: Global,
     typed: &Typed,
-    item: u32,
     trees: &[Option<&TypedTree>],
 ) -> Result<Vec<u32>, AllocError>
     ensures { IfOk result (λ it. it.items
-        ≡ confirmed.units_if (plain-Functions trees.now) (confirmed.units_among (declarations typed.now.decls.items) item typed.now.functions)) }
+        ≡ confirmed.units_if (plain-Functions trees.now) (confirmed.units_among (declarations typed.now.decls.items) typed.now.functions)) }
 {
-    let units = units_among(alloc, &typed.decls, item, typed.functions.as_slice())?;
+    let declared = units_among(alloc, &typed.decls, typed.functions.as_slice())?;
+    let units = leaving(alloc, trees, declared.as_slice())?;
     if all_leave_unit(trees, units.as_slice(), units.as_slice()) {
         return Ok(units);
     }

@@ -7,8 +7,8 @@ mod TextLifetimes
 mod PinnedLifetimes
 mod RunLifetimes
 mod ExitNames
-mod LoopNumbers
-mod TypedLoops
+pub mod LoopNumbers
+pub mod TypedLoops
 mod LoopsRound
 mod PinnedBlocks
 mod PinnedClaims

@@ -15,7 +15,7 @@ use Rattle.rx_engine_simulation.specs.Like.{LikeBody}
 use Rattle.rx_engine_simulation.specs.Openings.{Openings}
 use Rattle.rx_engine_simulation.specs.Rereads.{Rereads, RereadsBody}
 use Rattle.rx_engine_related.specs.AboutRun.{special_of}
-use Rattle.rx_engine_related.specs.Running.{passing, running_body, running_of}
+use Rattle.rx_engine_related.specs.Running.{passing, running_body}
 use Rattle.rx_engine_related.specs.ByForm.{by_form, RelatedFunction}
 use Rattle.rx_engine_related.specs.InBlock.{run_block, in_its_block}
 use Rattle.rx_engine_related.specs.Never.{NeverEnds}
@@ -33,7 +33,8 @@ use Rattle.rx_engine_validated.specs.Telling.{ToldOf}
 use Rattle.rx_engine_validated.proofs.ExtractedLawsParts.{Parts}
 use Rattle.rx_engine_validated.proofs.Block.{BlockSo, block_is, block_found}
 use Rattle.rx_engine_validated.proofs.Holes.{open_text}
-use Rattle.rx_engine_validated.proofs.Joining.{call_found, function_found, read_new, Placed, functions_read, new_there, calling_there, rereads_each, units_there, Holding, holding, others_same}
+use Rattle.rx_engine_validated.proofs.MarkedUnits.{marks_keep}
+use Rattle.rx_engine_validated.proofs.Joining.{call_found, function_found, read_new, Placed, functions_read, new_there, calling_there, rereads_each, Holding, holding, others_same}
 
 module _ (A : Asked) (T : Told) (item made : ℕ) (P Q : Program) (told : ToldOf A T item made P Q) (parts : Parts A T) where
   placed : Placed T item made P Q A.function
@@ -100,7 +101,7 @@ module _ (A : Asked) (T : Told) (item made : ℕ) (P Q : Program) (told : ToldOf
     main = holds.main;
     others = others_same T item made P Q A.function placed holds f z;
     units = T.units;
-    are_units = units_there T item made P Q A.function placed (running_of A T.plan.params) holds.no_unit holds.units;
+    are_units = marks_keep P item A T.plan T.units told.is_there holds.units;
     calling = z;
     calling_is_there = calling_there T item made P Q A.function placed f z is;
     related = related;

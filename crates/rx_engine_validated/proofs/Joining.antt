@@ -6,7 +6,6 @@ use Rattle.rx_typed.specs.Tree.{Exp, Function}
 use Rattle.rx_meaning.specs.Values.{element, with_element}
 use Rattle.rx_meaning.specs.Expressions.{Functions}
 use Rattle.rx_meaning.specs.Programs.{Program}
-use Rattle.rx_engine_simulation.specs.Sights.{In}
 use Rattle.rx_engine_simulation.specs.Passing.{New}
 use Rattle.rx_engine_simulation.specs.Units.{UnitFunctions}
 use Rattle.rx_engine_simulation.specs.Rereads.{Rereads, RereadsEntry, no_function, in_function}
@@ -15,7 +14,6 @@ use Rattle.rx_engine_related.specs.ByForm.{SameEntry}
 use Rattle.rx_engine_related.specs.ByForm as by_form
 use Rattle.rx_engine_alike.specs.Likeness.{Hole, Likeness, unlike, alike, alike_but}
 use Rattle.rx_engine_alike.specs.Items.{items_with}
-use Rattle.rx_engine_alike.specs.Variables.{is_in}
 use Rattle.rx_engine_alike.specs.Functions.{like_function, same_item}
 use Rattle.rx_engine_alike.specs.Units.{all_are_unit}
 use Rattle.rx_engine_extracted.specs.Told.{Told}
@@ -32,23 +30,6 @@ both_hold false b e = absurd (true≢false (sym e))
 other_holds : (a b : Bool) → (a || b) ≡ true → (a ≡ true → ⊥) → b ≡ true
 other_holds true b e n = absurd (n refl)
 other_holds false b e n = e
-
-not_so : (b : Bool) → not b ≡ true → b ≡ true → ⊥
-not_so true e q = true≢false (sym e)
-not_so false e q = true≢false (sym q)
-
-in_is : (x : ℕ) (l : List ℕ) → In x l → is_in x l ≡ true
-in_is x [] i = absurd i
-in_is x (y ∷ ys) (inl e) = by (nat_eq x y) (eq-eqb x y e)
-  where
-    by : (b : Bool) → b ≡ true → (b || is_in x ys) ≡ true
-    by true e = refl
-    by false e = absurd (true≢false (sym e))
-in_is x (y ∷ ys) (inr i) = by (nat_eq x y) (in_is x ys i)
-  where
-    by : (b : Bool) → is_in x ys ≡ true → (b || is_in x ys) ≡ true
-    by true e = refl
-    by false e = e
 
 -- ---- lists with another element
 
@@ -188,21 +169,16 @@ module _ (T : Told) (item made : ℕ) (P Q : Program) (h : Function) (placed : P
       let x = items_keep item made (length P.functions) g more in let y = items_are (length P.functions) in let z = items_are g in
       none_behind Q.functions (T.items g) (omega (arith, le, x, y, z))
 
-  pub units_there : (marked : Function) → (is_in item T.units ≡ true → ⊥) → all_are_unit P.functions T.units T.units ≡ true → UnitFunctions (with_element P.functions item (Some marked)) T.units
-  units_there marked n e f i g is = are_unit_if P.functions T.units e f i g (sym (put_other P.functions item f (Some marked)
-      (λ s. n (subst (λ f. is_in f T.units ≡ true) s (in_is f T.units i)))) ∙ is)
-
   pub record Holding : Type 0 where
     pub call : function_has_call T (element P.functions item) (element Q.functions (T.items item)) ≡ true
     pub stay : others_stay T item Q.functions 0 P.functions ≡ true
     pub few : length Q.functions ≤ T.items (length P.functions)
     pub main : Q.main ≡ T.items P.main
-    pub no_unit : is_in item T.units ≡ true → ⊥
-    pub units : all_are_unit P.functions T.units T.units ≡ true
+    pub units : UnitFunctions P.functions T.units
 
   pub holding : extracts T item P Q ≡ true → Holding
   holding e =
-      let b5 : Bool = not (is_in item T.units) && all_are_unit P.functions T.units T.units in
+      let b5 : Bool = all_are_unit P.functions T.units T.units in
       let b4 : Bool = nat_eq Q.main (T.items P.main) && b5 in
       let b3 : Bool = nat_le (length Q.functions) (T.items (length P.functions)) && b4 in
       let b2 : Bool = others_stay T item Q.functions 0 P.functions && b3 in
@@ -210,14 +186,12 @@ module _ (T : Told) (item made : ℕ) (P Q : Program) (h : Function) (placed : P
       let t2 = both_hold (others_stay T item Q.functions 0 P.functions) b3 t1.1 in
       let t3 = both_hold (nat_le (length Q.functions) (T.items (length P.functions))) b4 t2.1 in
       let t4 = both_hold (nat_eq Q.main (T.items P.main)) b5 t3.1 in
-      let t5 = both_hold (not (is_in item T.units)) (all_are_unit P.functions T.units T.units) t4.1 in
       record {
         call = t1.0;
         stay = t2.0;
         few = leb-true (length Q.functions) (T.items (length P.functions)) t3.0;
         main = eqb-true Q.main (T.items P.main) t4.0;
-        no_unit = not_so (is_in item T.units) t5.0;
-        units = t5.1;
+        units = are_unit_if P.functions T.units t4.1;
       }
 
   -- all other items are the same

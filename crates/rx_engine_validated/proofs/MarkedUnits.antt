@@ -15,8 +15,11 @@ use Rattle.rx_meaning.specs.Expressions.{Functions}
 use Rattle.rx_meaning.specs.Programs.{Program}
 use Rattle.rx_engine_simulation.specs.Sights.{In}
 use Rattle.rx_engine_simulation.specs.Units.{GivesUnit, of_unit, of_assignment, of_update, of_print, of_call, of_block, of_choice, of_loop, of_jump, of_return, of_passed, AllGiveUnit, no_arm_gives, each_gives, EndsInUnit, tail_gives, behind_run, behind_declaration, behind_let, ReturnsUnit, in_read, in_borrow, in_share, in_build, in_unit, in_lazy, in_assignment, in_update, in_call, in_input, in_print, in_block, in_choice, in_loop, in_jump, in_return, AllReturnUnit, no_operand_returns, operands_return, MatchedReturnsUnit, in_place, in_value, ArmsReturnUnit, no_arm_returns, arms_return, BodyReturnsUnit, tail_returns, run_returns, declaration_returns, let_returns, UnitFunctions}
+use Rattle.rx_engine_simulation.specs.Passed.{let_pass}
 use Rattle.rx_engine_related.specs.Running.{passing, running_body, in_the_block, running}
+use Rattle.rx_engine_related.specs.Tailed.{passing_value, tailed_body, in_the_tailed_block, tailed}
 use Rattle.rx_engine_related.specs.Extracts.{with_its_marks}
+use Rattle.rx_engine_related.specs.ExtractsTail.{with_tail_marks}
 
 module _ (U : List ℕ) where
   -- ---- changes of blocks and jumps that keep what is given
@@ -226,19 +229,102 @@ module _ (U : List ℕ) where
   pub running_returns : (r : Run) (ls xs : List ℕ) (f : Function) → ReturnsUnit U f.body → ReturnsUnit U (running r ls xs f).body
   running_returns r ls xs f h = returns_still (in_the_block r ls xs) (block_keeps r ls xs) h
 
+  -- ---- the marks of a run with its block's tail, whose value is let pass
+
+  passed_returns : (ls : List ℕ) {e : Exp} → ReturnsUnit U e → ReturnsUnit U (let_pass (changed (passing ls) e))
+  passed_returns ls g = in_build (operands_return (returns_still (passing ls) (passing_keeps ls) g) no_operand_returns)
+
+  passed_gives : (ls : List ℕ) {e : Exp} → GivesUnit U e → GivesUnit U (let_pass (changed (passing ls) e))
+  passed_gives ls g = of_passed (gives_still (passing ls) (passing_keeps ls) g)
+
+  value_returns : (n : ℕ) (ls : List ℕ) {e : Exp} → ReturnsUnit U e → ReturnsUnit U (passing_value n ls e)
+  value_returns n ls in_read = passed_returns ls in_read
+  value_returns n ls in_borrow = passed_returns ls in_borrow
+  value_returns n ls (in_share g) = passed_returns ls (in_share g)
+  value_returns n ls (in_build g) = passed_returns ls (in_build g)
+  value_returns n ls in_unit = passed_returns ls in_unit
+  value_returns n ls (in_lazy g h) = passed_returns ls (in_lazy g h)
+  value_returns n ls (in_assignment g) = passed_returns ls (in_assignment g)
+  value_returns n ls (in_update g) = passed_returns ls (in_update g)
+  value_returns n ls (in_call g) = passed_returns ls (in_call g)
+  value_returns n ls in_input = passed_returns ls in_input
+  value_returns n ls (in_print g) = passed_returns ls (in_print g)
+  value_returns n ls (in_block g) = passed_returns ls (in_block g)
+  value_returns n ls (in_choice g h) = passed_returns ls (in_choice g h)
+  value_returns n ls (in_loop g) = passed_returns ls (in_loop g)
+  value_returns n ls in_jump = passed_returns ls in_jump
+  value_returns n ls (in_return {m = m} {e = e} g h) = by (m.node == n)
+    where
+      by : (c : Bool) → ReturnsUnit U (if c then tree.give m (let_pass (changed (passing ls) e)) else let_pass (changed (passing ls) (tree.give m e)))
+      by true = in_return (passed_gives ls g) (passed_returns ls h)
+      by false = passed_returns ls (in_return g h)
+
+  value_gives : (n : ℕ) (ls : List ℕ) {e : Exp} → GivesUnit U e → GivesUnit U (passing_value n ls e)
+  value_gives n ls of_unit = passed_gives ls of_unit
+  value_gives n ls of_assignment = passed_gives ls of_assignment
+  value_gives n ls of_update = passed_gives ls of_update
+  value_gives n ls of_print = passed_gives ls of_print
+  value_gives n ls (of_call i) = passed_gives ls (of_call i)
+  value_gives n ls (of_block g) = passed_gives ls (of_block g)
+  value_gives n ls (of_choice g) = passed_gives ls (of_choice g)
+  value_gives n ls of_loop = passed_gives ls of_loop
+  value_gives n ls of_jump = passed_gives ls of_jump
+  value_gives n ls (of_passed g) = passed_gives ls (of_passed g)
+  value_gives n ls (of_return {m = m} {e = e}) = by (m.node == n)
+    where
+      by : (c : Bool) → GivesUnit U (if c then tree.give m (let_pass (changed (passing ls) e)) else let_pass (changed (passing ls) (tree.give m e)))
+      by true = of_return
+      by false = passed_gives ls of_return
+
+  tailed_block_keeps : (r : Run) (ls xs : List ℕ) → Keeps (in_the_tailed_block r ls xs)
+  tailed_block_keeps r ls xs = record {
+    jump_mark = λ m l again. refl;
+    block_gives = λ n was b g h. gives (n == r.block) was b g h;
+    block_returns = λ n was b g h. returns (n == r.block) was b g h;
+    jump_gives = λ m l again. of_jump;
+    jump_returns = λ m l again. in_jump;
+    return_gives = λ e g. g;
+    return_returns = λ e g. g;
+  }
+    where
+      gives : (c : Bool) (was b : Body) → EndsInUnit U was → EndsInUnit U b → EndsInUnit U (if c then tailed_body r ls xs was else b)
+      gives true was b g h =
+          before_gives (in_front r was) _ (before_gives (entering xs) _ (before_gives (map (changed_statement (passing ls)) (inside r was)) _ (before_gives (behind r was) _
+          (tail_gives (value_gives r.block ls (its_tail_gives g))))))
+      gives false was b g h = h
+
+      returns : (c : Bool) (was b : Body) → BodyReturnsUnit U was → BodyReturnsUnit U b → BodyReturnsUnit U (if c then tailed_body r ls xs was else b)
+      returns true was b g h =
+          let all = statements_return g in let rest = others_return r.first (statements was) all in
+          before_returns (in_front r was) _ (first_return r.first (statements was) all) (before_returns (entering xs) _ (in_build no_operand_returns, reads_return xs)
+          (before_returns (map (changed_statement (passing ls)) (inside r was)) _ (marked_return ls (inside r was) (first_return r.count _ rest))
+          (before_returns (behind r was) _ (others_return r.count _ rest) (tail_returns (value_returns r.block ls (its_tail_returns g))))))
+      returns false was b g h = h
+
+  pub tailed_returns : (r : Run) (ls xs : List ℕ) (f : Function) → ReturnsUnit U f.body → ReturnsUnit U (tailed r ls xs f).body
+  tailed_returns r ls xs f h = returns_still (in_the_tailed_block r ls xs) (tailed_block_keeps r ls xs) h
+
 -- ---- a program with a function that has them
 
 some_same : {f g : Function} → ◌≡◌ {A = Option (Option Function)} (Some (Some f)) (Some (Some g)) → f ≡ g
 some_same e = cc
 
-pub marks_keep : (P : Program) (item : ℕ) (A : Asked) (k : Plan) (U : List ℕ) → element P.functions item ≡ Some (Some A.function) → UnitFunctions P.functions U → UnitFunctions (with_its_marks P item A k).functions U
-marks_keep P item A k U is h f i g e = by P.functions item f (λ g q. h f i g q) (λ same. running_returns U A.run A.home.around.loops k.params A.function (h item (subst (λ (j : ℕ). In j U) same i) A.function is)) e
+-- a function in place of another that leaves by returns of the unit does so too
+pub another_keeps : (l : Functions) (item : ℕ) (was now : Function) (U : List ℕ) → element l item ≡ Some (Some was) → (ReturnsUnit U was.body → ReturnsUnit U now.body) → UnitFunctions l U
+    → UnitFunctions (with_element l item (Some now)) U
+another_keeps l item was now U is still h f i g e = by l item f (λ g q. h f i g q) (λ same. still (h item (subst (λ (j : ℕ). In j U) same i) was is)) e
   where
     -- it is the changed one, or as before
-    by : (l : Functions) (n j : ℕ) → ((g : Function) → element l j ≡ Some (Some g) → ReturnsUnit U g.body) → (j ≡ n → ReturnsUnit U (running A.run A.home.around.loops k.params A.function).body)
-        → element (with_element l n (Some (running A.run A.home.around.loops k.params A.function))) j ≡ Some (Some g) → ReturnsUnit U g.body
+    by : (l : Functions) (n j : ℕ) → ((g : Function) → element l j ≡ Some (Some g) → ReturnsUnit U g.body) → (j ≡ n → ReturnsUnit U now.body)
+        → element (with_element l n (Some now)) j ≡ Some (Some g) → ReturnsUnit U g.body
     by [] n j a b q = a g q
     by (o ∷ l) zero zero a b q = subst (λ (z : Function). ReturnsUnit U z.body) (some_same q) (b refl)
     by (o ∷ l) zero (suc j) a b q = a g q
     by (o ∷ l) (suc n) zero a b q = a g q
     by (o ∷ l) (suc n) (suc j) a b q = by l n j a (λ e. b (ap suc e)) q
+
+pub marks_keep : (P : Program) (item : ℕ) (A : Asked) (k : Plan) (U : List ℕ) → element P.functions item ≡ Some (Some A.function) → UnitFunctions P.functions U → UnitFunctions (with_its_marks P item A k).functions U
+marks_keep P item A k U is = another_keeps P.functions item A.function (running A.run A.home.around.loops k.params A.function) U is (running_returns U A.run A.home.around.loops k.params A.function)
+
+pub tail_marks_keep : (P : Program) (item : ℕ) (A : Asked) (k : Plan) (U : List ℕ) → element P.functions item ≡ Some (Some A.function) → UnitFunctions P.functions U → UnitFunctions (with_tail_marks P item A k).functions U
+tail_marks_keep P item A k U is = another_keeps P.functions item A.function (tailed A.run A.home.around.loops k.params A.function) U is (tailed_returns U A.run A.home.around.loops k.params A.function)

@@ -17,7 +17,7 @@ use Rattle.rx_engine_simulation.specs.Openings.{Openings}
 use Rattle.rx_engine_simulation.specs.Rereads.{Rereads, RereadsBody}
 use Rattle.rx_engine_related.specs.AboutRun.{special_of}
 use Rattle.rx_engine_related.specs.Running.{passing}
-use Rattle.rx_engine_related.specs.Tailed.{tailed_body, tailed_of}
+use Rattle.rx_engine_related.specs.Tailed.{tailed_body}
 use Rattle.rx_engine_related.specs.ByForm.{by_form, RelatedFunction}
 use Rattle.rx_engine_related.specs.Never.{NeverEnds}
 use Rattle.rx_engine_related.specs.Stretched.{stretch_of}
@@ -33,7 +33,8 @@ use Rattle.rx_engine_alike_laws.proofs.Promised.{said}
 use Rattle.rx_engine_alike_laws.proofs.Functions.{RereadsFunction, filled_by, function_if, nothing_leaves}
 use Rattle.rx_engine_validated.specs.Telling.{with_value, ToldOfTail}
 use Rattle.rx_engine_validated.proofs.Holes.{open_text}
-use Rattle.rx_engine_validated.proofs.Joining.{call_found, function_found, read_new, Placed, functions_read, new_there, calling_there, rereads_each, units_there, Holding, holding, others_same}
+use Rattle.rx_engine_validated.proofs.MarkedUnits.{tail_marks_keep}
+use Rattle.rx_engine_validated.proofs.Joining.{call_found, function_found, read_new, Placed, functions_read, new_there, calling_there, rereads_each, Holding, holding, others_same}
 use Rattle.rx_engine_validated.proofs.TailBlock.{TailSo, tail_is, tail_block_found}
 
 -- ---- as many as there are
@@ -126,7 +127,7 @@ module _ (A : Asked) (T : Told) (value : Option Typ) (item made : ℕ) (P Q : Pr
     main = holds.main;
     others = others_same T item made P Q A.function placed holds f z;
     units = T.units;
-    are_units = units_there T item made P Q A.function placed (tailed_of A T.plan.params) holds.no_unit holds.units;
+    are_units = tail_marks_keep P item A T.plan T.units told.is_there holds.units;
     calling = z;
     calling_is_there = calling_there T item made P Q A.function placed f z is;
     related = related;

@@ -1,6 +1,6 @@
 -- Two defined answers agree: a text has one fault but for the place where its tokens stop because of their depth, and an answer excludes faults.
 use Rattle.std.specs.Prelude.{◌≢◌, codes}
-use Rattle.std.proofs.Common.{ℕ, ℤ, ◌≡◌, List, [], Option, Some, None, ◌⊎◌, inl, inr, refl, sym, ◌∙◌, subst}
+use Rattle.std.proofs.Common.{ℕ, ℤ, ◌≡◌, List, [], Option, Some, None, ◌⊎◌, inl, inr, refl, sym, ap, ◌∙◌, subst}
 use Rattle.rx_core.specs.declared.types.Bound.{Bound}
 use Rattle.rx_tree.specs.Plain.{ProgramTree}
 use Rattle.rx_parse_grammar.specs.grammar.Items.{Parses}
@@ -20,9 +20,11 @@ use Rattle.rx_meaning.specs.declared.outcome.Outcome.{Outcome}
 use Rattle.rx_engine_extraction.specs.Verdict.{IsRefused}
 use Rattle.rx_rem_command.specs.declared.status.Status.{Status}
 use Rattle.rx_rem_command.specs.declared.status.Status.TheVariants.{Done, NotAccepted}
-use Rattle.rx_rem_command.specs.Alike.{AreOneLine, AreFaultLines, AreCheckLines, AreExtractionLines, AreRefusalLines, AreLines}
-use Rattle.rx_rem_command.specs.Forms.{Command, extracts, checks, runs, command_of}
-use Rattle.rx_rem_command.specs.Defined.{Choices, Defined, AnswersTo, IsAccepted, Judged, passed, faulty, Checked, no_program, program, wish, Drawn, unaccepted, extracted, unmet}
+use Rattle.rx_rem_command.specs.Alike.{AreCheckLines, AreExtractionLines, AreRefusalLines, AreLines}
+use Rattle.rx_rem_generated.specs.Generated.{generated, input, turns, twice}
+use Rattle.rx_rem_generated.specs.Summary.{summary}
+use Rattle.rx_rem_command.specs.Forms.{Command, extracts, checks, runs, generates, command_of}
+use Rattle.rx_rem_command.specs.Defined.{Choices, Defined, AnswersTo, IsAccepted, Judged, passed, faulty, Checked, no_program, program, wish, Drawn, unaccepted, extracted, unmet, generated_wish, Summarised, undrawn, summarised}
 use Rattle.rx_rem_command.specs.ExtractionLines.{line_of_refusal}
 use Rattle.rx_rem_command.proofs.CheckLemmas.{not_accepted}
 use Rattle.rx_rem_command.proofs.Extractions.{kept, extracted_accepted, unmet_accepted, refusal_lines}
@@ -90,6 +92,29 @@ module _ (excluded : (p : ProgramTree) (e : CheckFault) → Accepted p → Cause
     drawn_agree text w _ _ _ _ _ _ (unmet r x) (unmet q y) =
         (refl, refl, unmet_lines text w (line_of_refusal r) (line_of_refusal q) (refusal_lines text w r q x y (one_refusal text w r q x y)))
 
+    -- two answers of the same extraction, with what the text and each does, are told alike
+    told_alike : (text : List ℕ) (n : ℕ) (w : Wish) (a c : List ℕ) (bs cs : List Bound) (x : Keeps text w a bs) (y : Keeps text w c cs) (o q r s : Outcome)
+        → Does x.extraction.extracts.text.program (turns n) (input n) o → Does x.extraction.program (twice n) (input n) r
+        → Does y.extraction.extracts.text.program (turns n) (input n) q → Does y.extraction.program (twice n) (input n) s
+        → summary text a o.printed r.printed ≡ summary text c q.printed s.printed
+    told_alike text n w a c bs cs x y o q r s f h g i = let p = x.extraction.extracts.text.program in let k = y.extraction.extracts.text.program in
+        let same : a ≡ c = (one_answer text w a c bs cs x.extraction y.extraction).0 in
+        let first : o ≡ q = one_does p (turns n) (input n) o q f
+        (subst (λ (t : ProgramTree). Does t (turns n) (input n) q) (one_text text k p y.extraction.extracts.is_text.parses x.extraction.extracts.is_text.parses) g) in
+        let second : r ≡ s = one_does x.extraction.program (twice n) (input n) r s h
+        (subst (λ (t : ProgramTree). Does t (twice n) (input n) s)
+        (one_text c y.extraction.program x.extraction.program y.extraction.parses (subst (λ (t : List ℕ). Parses t x.extraction.program) same x.extraction.parses)) i) in
+        ap (λ (t : List ℕ). summary text t o.printed r.printed) same
+        ∙ (ap (λ (v : Outcome). summary text c v.printed r.printed) first ∙ ap (λ (v : Outcome). summary text c q.printed v.printed) second)
+
+    told_agree : (text : List ℕ) (n : ℕ) (w : Wish) (s t : Status) (a b c d : List ℕ) → Summarised text n w s a b → Summarised text n w t c d
+        → (s ≡ t) × (a ≡ c) × AreExtractionLines text w b d
+    told_agree text n w s t a b c d (undrawn k x) (undrawn l y) = drawn_agree text w s t a b c d x y
+    told_agree text n w s _ a b _ _ (undrawn k x) (summarised c cs y q r g i) = absurd (k (drawn_agree text w s Done a b c [] x (extracted c cs y)).0)
+    told_agree text n w _ t _ _ c d (summarised a bs x o r f h) (undrawn k y) = absurd (k (drawn_agree text w t Done c d a [] y (extracted a bs x)).0)
+    told_agree text n w _ _ _ _ _ _ (summarised a bs x o r f h) (summarised c cs y q s g i) =
+        (refl, told_alike text n w a c bs cs x y o q r s f h g i, inl (inl (inl refl)))
+
     answers_agree : (C : Choices) (q : Option Command) (text : List ℕ) (s t : Status) (a b c d : List ℕ) → AnswersTo C q text s a b
         → AnswersTo C q text t c d → (s ≡ t) × (a ≡ c) × AreLines C q text b d
     answers_agree C None text s t a b c d x y = (x.0 ∙ sym y.0, x.1 ∙ sym y.1, inl (x.2 ∙ sym y.2))
@@ -97,6 +122,7 @@ module _ (excluded : (p : ProgramTree) (e : CheckFault) → Accepted p → Cause
     answers_agree C (Some checks) text s t a b c d x y = checks_agree text s t a b c d x y
     answers_agree C (Some (runs turns input)) text s t a b c d x y =
         runs_agree text turns input (checks_agree text) (λ p o q. one_does p turns input o q) s t a b c d x y
+    answers_agree C (Some (generates n)) text s t a b c d x y = told_agree (generated n) n (generated_wish C n) s t a b c d x y
 
     pub defined_agree : (C : Choices) (words : List (List ℕ)) (text : List ℕ) (s t : Status) (a b c d : List ℕ) → Defined C words text s a b → Defined C words text t c d
         → (s ≡ t) × (a ≡ c) × AreLines C (command_of words) text b d

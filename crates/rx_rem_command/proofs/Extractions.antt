@@ -1,7 +1,7 @@
 -- Of an extraction: what is found where the text is not accepted, and what is found of an answer; where two refusals of one text have one line; and that
 -- where each condition is met the extraction is the defined answer, and nothing else is.
 use Rattle.std.specs.Prelude.{◌↔◌}
-use Rattle.std.proofs.Common.{ℕ, ◌≡◌, ◌≤◌, ◌<◌, ◌^◌, List, [], length, Option, Some, Result, Ok, Err, ◌⊎◌, inl, inr, refl, sym, ap, ◌∙◌, subst, arith}
+use Rattle.std.proofs.Common.{ℕ, ◌≡◌, ◌≤◌, List, [], length, Option, Some, Result, Ok, Err, ◌⊎◌, inl, inr, refl, sym, ap, ◌∙◌, subst}
 use Rattle.rx_core.specs.declared.types.Bound.{Bound}
 use Rattle.rx_tree.specs.Plain.{ProgramTree}
 use Rattle.rx_lex.specs.declared.lexer.LexFault.TheVariants as lex
@@ -13,7 +13,6 @@ use Rattle.rx_parse.specs.Answer.{IsCause}
 use Rattle.rx_check.specs.declared.fault.CheckFault.{CheckFault}
 use Rattle.rx_check.specs.declared.fault.CheckFault.TheVariants as check
 use Rattle.rx_check.specs.Causes.{Causes}
-use Rattle.rx_print_spelling.specs.Items.{print_program}
 use Rattle.rx_engine_extraction.specs.declared.refusal.Answer.{Answer}
 use Rattle.rx_engine_extraction.specs.declared.refusal.Fault.{Fault}
 use Rattle.rx_engine_extraction.specs.declared.refusal.Fault.TheVariants as fault
@@ -21,7 +20,7 @@ use Rattle.rx_engine_extraction.specs.declared.refusal.Refusal.{Refusal}
 use Rattle.rx_engine_extraction.specs.declared.refusal.Refusal.TheVariants as refusal
 use Rattle.rx_engine_extraction.specs.Alike.{AreOne}
 use Rattle.rx_engine_extraction.specs.Source.{Wish}
-use Rattle.rx_engine_extraction.specs.Promise.{Extracts, program_of}
+use Rattle.rx_engine_extraction.specs.Promise.{Extracts}
 use Rattle.rx_engine_extraction.specs.Promise as shape
 use Rattle.rx_engine_extraction.specs.Verdict.{IsRefused}
 use Rattle.rx_engine.specs.Promise.{Keeps}
@@ -105,23 +104,20 @@ refusal_lines text w r q x y e = by (lines_or_places r q e)
 
 -- ---- the defined answer
 
-few_bytes : (n : ℕ) → n ≤ 1048576 → n < 2 ^ 32
-few_bytes n h = omega (arith, h)
-
 -- where each condition is met it is the extraction
-pub extraction_defined : ((bytes : List ℕ) (w : Wish) (x : Extracts bytes w) → length bytes < 2 ^ 32 → shape.Keeps bytes w (print_program (program_of x)) x.case.bounds)
+pub extraction_defined : ((bytes : List ℕ) (w : Wish) (x : Extracts bytes w) → shape.Keeps bytes w x.case.text x.case.bounds)
     → ((bytes : List ℕ) (w : Wish) (text : List ℕ) (bs : List Bound) → shape.Keeps bytes w text bs → length bytes ≤ 1048576 → Keeps bytes w text bs)
     → (C : Choices) (words : List (List ℕ)) (text name : List ℕ) (start end : ℕ) (w : Preference) → command_of words ≡ Some (extracts name start end w) → length text ≤ 1048576
-    → (x : Extracts text (wish C name start end w)) → Defined C words text Done (print_program (program_of x)) []
+    → (x : Extracts text (wish C name start end w)) → Defined C words text Done x.case.text []
 extraction_defined law whole C words text name start end w e short x =
     let v = wish C name start end w in
-    let k = law text v x (few_bytes (length text) short) in
-    subst (λ (c : Option Command). AnswersTo C c text Done (print_program (program_of x)) []) (sym e)
-    (extracted (print_program (program_of x)) x.case.bounds (whole text v (print_program (program_of x)) x.case.bounds k short))
+    let k = law text v x in
+    subst (λ (c : Option Command). AnswersTo C c text Done x.case.text []) (sym e)
+    (extracted x.case.text x.case.bounds (whole text v x.case.text x.case.bounds k short))
 
 -- an answer is of an extraction that meets them, and there is nothing on standard error
 abbrev IsExtracted : List ℕ → Wish → List ℕ → List ℕ → Type 0
-IsExtracted text w out err = (x : Extracts text w) × (out ≡ print_program (program_of x)) × (err ≡ [])
+IsExtracted text w out err = (x : Extracts text w) × (out ≡ x.case.text) × (err ≡ [])
 
 drawn_extracted : (text : List ℕ) (w : Wish) (s : Status) (out err : List ℕ) → s ≡ Done → Drawn text w s out err → IsExtracted text w out err
 drawn_extracted text w _ out err e (unaccepted x) = absurd (cc)

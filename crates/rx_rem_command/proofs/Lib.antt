@@ -8,3 +8,6 @@ pub mod RunLemmas
 pub mod Agreement
 pub mod Statuses
 pub mod RunsAlike
+pub mod Counts
+pub mod Requests
+pub mod Generations

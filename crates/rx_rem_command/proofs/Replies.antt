@@ -1,5 +1,5 @@
 -- A reply follows from what is due and how far it was written, by cases on both.
-use Rattle.std.proofs.Common.{Bool, true, false, ℕ, ℤ, ◌≡◌, ◌≤◌, ◌<◌, ◌⊎◌, inl, inr, List, [], length, take, Option, Some, None, Result, Ok, Err, refl, sym, ap, ◌∙◌, subst, arith, append-nil, length-append}
+use Rattle.std.proofs.Common.{ℕ, ℤ, ◌≡◌, ◌≤◌, ◌<◌, ◌⊎◌, inl, inr, List, [], length, take, Option, Some, None, refl, sym, ap, ◌∙◌, subst, arith, append-nil, length-append}
 use Rattle.std.proofs.lemmas.Bool.{cases_lt}
 use Rattle.rx_core.specs.Streams.{Rose, Told, Gone, Grown}
 use Rattle.rx_core.specs.declared.write.WriteFail.{WriteFail}
@@ -7,14 +7,14 @@ use Rattle.rx_core.specs.declared.write.WriteFail.TheVariants as fail
 use Rattle.rx_meaning.specs.declared.outcome.End.{End}
 use Rattle.rx_meaning.specs.declared.outcome.End.TheVariants as ends
 use Rattle.rx_rem_command.specs.declared.status.Status.{Status}
-use Rattle.rx_rem_command.specs.declared.status.Status.TheVariants.{Done, Usage, NotAccepted, Refused, ReadFault, WriteFault, OutOfMemory, TooLong, StillRunning, Wrong, Trapped}
+use Rattle.rx_rem_command.specs.declared.status.Status.TheVariants.{ReadFault, WriteFault, OutOfMemory, TooLong}
 use Rattle.rx_tree.specs.Plain.{ProgramTree}
 use Rattle.rx_engine_extraction.specs.Source.{Wish}
-use Rattle.rx_rem_command.specs.Forms.{Command, extracts, checks, runs, command_of}
-use Rattle.rx_rem_command.specs.Lines.{status_line}
+use Rattle.rx_rem_generated.specs.Generated.{generated}
+use Rattle.rx_rem_command.specs.Forms.{Command, extracts, checks, runs, generates, command_of, Reads}
 use Rattle.rx_rem_command.specs.RunLines.{end_status}
-use Rattle.rx_rem_command.specs.Defined.{Choices, Defined, AnswersTo, Judged, passed, faulty, Checked, no_program, program, wish, Drawn, unaccepted, extracted, unmet, Ran, refused, ran}
-use Rattle.rx_rem_command.specs.Replies.{Stream, IsForm, HasFailed, IsSound, HasAll, IsCut, IsRead, TakesAtMost, TakesOneMore, Due, answered, not_read, too_long, no_memory, Ending, whole, out_cut, both_cut, err_cut, IsComplete, Replies, Reports, Delivers, Found, defined, no_room}
+use Rattle.rx_rem_command.specs.Defined.{Choices, Defined, AnswersTo, Judged, passed, faulty, Checked, no_program, program, wish, Drawn, unaccepted, extracted, unmet, Ran, refused, ran, generated_wish, Summarised, undrawn, summarised}
+use Rattle.rx_rem_command.specs.Replies.{Stream, IsForm, IsReader, HasFailed, IsSound, HasAll, IsCut, IsRead, TakesAtMost, TakesOneMore, Due, answered, not_read, too_long, no_memory, Ending, whole, out_cut, both_cut, err_cut, IsComplete, Replies, Reports, Delivers, Found, defined, no_room}
 
 -- the statuses that a text's answer has
 abbrev pub IsAnswer : Status → Type 0
@@ -48,6 +48,10 @@ drawn_answers text w _ _ _ (unaccepted c) = tt
 drawn_answers text w _ _ _ (extracted a bs k) = tt
 drawn_answers text w _ _ _ (unmet r x) = tt
 
+told_answers : (text : List ℕ) (n : ℕ) (w : Wish) (status : Status) (outs errs : List ℕ) → Summarised text n w status outs errs → IsAnswer status
+told_answers text n w status outs errs (undrawn k d) = drawn_answers text w status outs errs d
+told_answers text n w _ _ _ (summarised a bs k f s x y) = tt
+
 module _ (C : Choices) where
   asked_answers : (q : Option Command) (text : List ℕ) (status : Status) (outs errs : List ℕ)
       → AnswersTo C q text status outs errs → IsAnswer status
@@ -55,10 +59,21 @@ module _ (C : Choices) where
   asked_answers (Some (extracts name start end w)) text status outs errs a = drawn_answers text (wish C name start end w) status outs errs a
   asked_answers (Some checks) text status outs errs a = checked_answers text status outs errs a
   asked_answers (Some (runs turns input)) text status outs errs a = ran_answers text turns input status outs errs a
+  asked_answers (Some (generates n)) text status outs errs a = told_answers (generated n) n (generated_wish C n) status outs errs a
 
   defined_answers : (words : List (List ℕ)) (text : List ℕ) (status : Status) (outs errs : List ℕ)
       → Defined C words text status outs errs → IsAnswer status
   defined_answers words text status outs errs d = asked_answers (command_of words) text status outs errs d
+
+  -- where no text is read, the answer is one whatever the text
+  of_its_text : (q : Option Command) (t text : List ℕ) (status : Status) (outs errs : List ℕ) → (Reads q → t ≡ text)
+      → AnswersTo C q t status outs errs → AnswersTo C q text status outs errs
+  of_its_text None t text status outs errs h d = d
+  of_its_text (Some (generates n)) t text status outs errs h d = d
+  of_its_text (Some (extracts name start end w)) t text status outs errs h d =
+      subst (λ (x : List ℕ). Drawn x (wish C name start end w) status outs errs) (h tt) d
+  of_its_text (Some checks) t text status outs errs h d = subst (λ (x : List ℕ). Checked x status outs errs) (h tt) d
+  of_its_text (Some (runs turns input)) t text status outs errs h d = subst (λ (x : List ℕ). Ran x turns input status outs errs) (h tt) d
 
   -- a source from which one byte more was taken than a text may have had more left
   too_many : (s s' : Stream) → TakesOneMore s s' → Told s.bytes (λ all. 1048576 < length all)
@@ -68,15 +83,14 @@ module _ (C : Choices) where
   -- where a text is small enough and the source didn't fail, the due answer is the defined one, or want of memory
   due_complete : (words : List (List ℕ)) (s s' : Stream) (status : Status) (outs errs : List ℕ)
       → Due C words s s' status outs errs → IsForm words
-      → (text : List ℕ) → s.bytes ≡ Some text → length text ≤ 1048576 → (Rose s.faults s'.faults → ⊥)
+      → (text : List ℕ) → (IsReader words → (s.bytes ≡ Some text) × (length text ≤ 1048576)) → (Rose s.faults s'.faults → ⊥)
       → (status ≡ OutOfMemory) ⊎ Defined C words text status outs errs
-  due_complete words s s' status outs errs (answered t k r d) form text e small calm =
-      let p = (r form).whole text e in
-      inr (subst (λ (x : List ℕ). Defined C words x status outs errs) p.0 d)
-  due_complete words s s' _ _ _ (not_read f r t) form text e small calm = absurd (calm r)
-  due_complete words s s' _ _ _ (too_long f k t) form text e small calm = let l = too_many s s' t text e in
-      absurd (omega arith)
-  due_complete words s s' _ _ _ (no_memory f k t) form text e small calm = inl refl
+  due_complete words s s' status outs errs (answered t k r d) form text given calm =
+      inr (of_its_text (command_of words) t text status outs errs (λ h. ((r h).whole text (given h).0).0) d)
+  due_complete words s s' _ _ _ (not_read f r t) form text given calm = absurd (calm r)
+  due_complete words s s' _ _ _ (too_long f k t) form text given calm = let l = too_many s s' t text (given f).0 in let m = (given f).1 in
+      absurd (omega (arith, l, m))
+  due_complete words s s' _ _ _ (no_memory f k t) form text given calm = inl refl
 
   due_fault : (words : List (List ℕ)) (s s' : Stream) (status : Status) (outs errs : List ℕ)
       → Due C words s s' status outs errs → status ≡ ReadFault
@@ -150,8 +164,8 @@ module _ (C : Choices) where
     read_sound = λ n m. due_sound words s s' status outs errs d
         (λ r. n (sym (ending_sound out out' err err' status result outs errs e m).0 ∙ r));
     write_sound = λ m. let k = ending_sound out out' err err' status result outs errs e m in (k.1, k.2);
-    complete = λ form text t small calm. ending_complete words text out out' err err' status result outs errs e
-        (due_complete words s s' status outs errs d form text t small calm);
+    complete = λ form text given calm. ending_complete words text out out' err err' status result outs errs e
+        (due_complete words s s' status outs errs d form text given calm);
   }
 
 pub nothing_more : (k : Stream) → HasAll k k []
@@ -198,6 +212,18 @@ found_due C words s s' command text status outs errs e k r (defined d) =
     answered text k (λ form. r) (subst (λ (q : Option Command). AnswersTo C q text status outs errs) e d)
 found_due C words s s' command text _ _ _ e k r no_room = no_memory (λ n. cc) k
     (record { bytes = text; many = r.within; gone = r.gone })
+
+-- from a source of which nothing is asked nothing is taken
+nothing_taken : (s : Stream) → TakesAtMost s s
+nothing_taken s = record { bytes = []; many = omega arith; gone = record { told = λ left h. (left, refl, h); untold = λ h. h } }
+
+-- what is found of a text that is made is due
+pub generated_due : (C : Choices) (words : List (List ℕ)) (s : Stream) (n : ℕ) (status : Status) (outs errs : List ℕ)
+    → Some (generates n) ≡ command_of words → Found (Summarised (generated n) n (generated_wish C n)) status outs errs
+    → Due C words s s status outs errs
+generated_due C words s n status outs errs e (defined d) =
+    answered [] refl (λ h. absurd (subst Reads (sym e) h)) (subst (λ (q : Option Command). AnswersTo C q [] status outs errs) e d)
+generated_due C words s n _ _ _ e no_room = no_memory (λ m. cc) refl (nothing_taken s)
 
 -- the bytes that were taken, where they are not too many
 pub taken_few : (s s' : Stream) (bytes : List ℕ) → (1048576 < length bytes → ⊥) → Gone s.bytes s'.bytes bytes

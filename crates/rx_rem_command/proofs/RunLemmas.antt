@@ -1,5 +1,5 @@
 -- What is found where a text is run is defined, and two defined answers of a run agree.
-use Rattle.std.proofs.Common.{ℕ, ℤ, ◌≡◌, ◌⊎◌, List, [], Option, Some, inl, inr, refl, sym, ap, ◌∙◌, subst}
+use Rattle.std.proofs.Common.{ℕ, ℤ, ◌≡◌, List, [], Option, Some, inl, inr, refl, sym, ap, ◌∙◌, subst}
 use Rattle.rx_tree.specs.Plain.{ProgramTree}
 use Rattle.rx_lex.specs.declared.lexer.LexFault.TheVariants as lex
 use Rattle.rx_parse_grammar.specs.grammar.Items.{Parses}
@@ -53,11 +53,11 @@ found_of_check : (text : List ℕ) (turns : ℕ) (input : List ℤ) (s : Status)
 found_of_check text turns input s out err n (defined d) = defined (of_check text turns input s out err n d)
 found_of_check text turns input _ _ _ n no_room = no_room
 
-not_passed_not_done : (f : CheckFault) → status_of_check f ≡ Done → ⊥
+pub not_passed_not_done : (f : CheckFault) → status_of_check f ≡ Done → ⊥
 not_passed_not_done check.OutOfMemory e = cc
 not_passed_not_done _ e = cc
 
-unread_not_done : (f : SyntaxFault) → syntax_status f ≡ Done → ⊥
+pub unread_not_done : (f : SyntaxFault) → syntax_status f ≡ Done → ⊥
 unread_not_done (syntax.Lex (lex.NotText at)) e = cc
 unread_not_done (syntax.Lex (lex.BadToken at)) e = cc
 unread_not_done (syntax.Lex lex.OutOfMemory) e = cc

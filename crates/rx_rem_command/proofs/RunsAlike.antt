@@ -1,11 +1,10 @@
 -- The answer of an extraction is accepted, and its runs are those of its text: the run of one is up to that of the other.
-use Rattle.std.proofs.Common.{ℕ, ℤ, ◌≡◌, ◌*◌, List, [], Option, Some, ◌⊎◌, inl, inr, refl, sym, ap, ◌∙◌, subst}
+use Rattle.std.proofs.Common.{ℕ, ℤ, ◌≡◌, ◌*◌, List, Option, Some, inl, inr, refl, sym, ap, ◌∙◌, subst}
 use Rattle.rx_core.specs.declared.types.Bound.{Bound}
 use Rattle.rx_tree.specs.Plain.{ProgramTree}
 use Rattle.rx_parse_grammar.specs.grammar.Items.{Parses}
 use Rattle.rx_parse_grammar.proofs.Whole.{one_text}
 use Rattle.rx_meaning.specs.declared.outcome.Outcome.{Outcome}
-use Rattle.rx_meaning.specs.declared.outcome.End.{End}
 use Rattle.rx_meaning.specs.declared.outcome.End.TheVariants as ends
 use Rattle.rx_meaning.specs.Programs.{UpTo, IsFront}
 use Rattle.rx_check.specs.declared.fault.CheckFault.{CheckFault}

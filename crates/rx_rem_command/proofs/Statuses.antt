@@ -1,4 +1,5 @@
 -- When a status comes: by cases on what is due and on how far it was written. And of a text one status comes at most.
+use Rattle.std.specs.Prelude.{codes}
 use Rattle.std.proofs.Common.{ℕ, ℤ, ◌≡◌, List, [], Option, Some, None, ◌⊎◌, inl, inr, refl, sym, ap, ◌∙◌, subst}
 use Rattle.rx_tree.specs.Plain.{ProgramTree}
 use Rattle.rx_parse_grammar.specs.grammar.Items.{Parses}
@@ -16,12 +17,13 @@ use Rattle.rx_engine_extraction.specs.Promise.{Extracts}
 use Rattle.rx_engine_extraction.specs.Verdict.{IsRefused}
 use Rattle.rx_rem_command.specs.declared.status.Status.{Status}
 use Rattle.rx_rem_command.specs.declared.status.Status.TheVariants as status
-use Rattle.rx_rem_command.specs.Forms.{Preference, Command, extracts, checks, runs, command_of}
-use Rattle.rx_rem_command.specs.Defined.{Choices, AnswersTo, IsAccepted, Checked, program, passed, Judged, faulty, no_program, wish, Drawn, unaccepted, extracted, unmet, Ran, refused, ran}
+use Rattle.rx_rem_generated.specs.Generated.{generated, run_start, run_end}
+use Rattle.rx_rem_command.specs.Forms.{Preference, by_copy, Command, extracts, checks, runs, generates, command_of, Reads}
+use Rattle.rx_rem_command.specs.Defined.{Choices, AnswersTo, IsAccepted, Checked, program, passed, Judged, faulty, no_program, wish, Drawn, unaccepted, extracted, unmet, Ran, refused, ran, generated_wish, Summarised, undrawn, summarised}
 use Rattle.rx_rem_command.specs.RunLines.{end_status}
 use Rattle.rx_engine.specs.Runs.{Does}
-use Rattle.rx_rem_command.specs.Replies.{Stream, IsForm, IsRead, Due, answered, not_read, too_long, no_memory, Ending, whole, out_cut, both_cut, err_cut, Replies}
-use Rattle.rx_rem_command.specs.Statuses.{EndsWith, Comes, ComesOfText, Cause}
+use Rattle.rx_rem_command.specs.Replies.{Stream, IsReader, IsRead, Due, answered, not_read, too_long, no_memory, Ending, whole, out_cut, both_cut, err_cut, Replies}
+use Rattle.rx_rem_command.specs.Statuses.{EndsWith, Comes, Cause}
 use Rattle.rx_rem_command.proofs.CheckLemmas.{not_accepted}
 use Rattle.rx_rem_command.proofs.Extractions.{kept, extracted_accepted, unmet_accepted}
 
@@ -33,6 +35,19 @@ end_comes C text turns input ends.Ended k = k
 end_comes C text turns input (ends.Trapped t) k = k
 end_comes C text turns input ends.Running k = k
 end_comes C text turns input ends.Wrong k = k
+
+-- a status comes of a text that is made where it comes of its extraction
+module _ (C : Choices) (text : List ℕ) (n : ℕ) where
+  abbrev pub step : Command
+  step = extracts (codes "step") (run_start n) (run_end n) by_copy
+
+  pub of_extraction : (s : Status) → Comes C step (generated n) s → Comes C (generates n) text s
+  of_extraction status.Done x = x
+  of_extraction _ x = x
+
+  pub to_extraction : (s : Status) → Comes C (generates n) text s → Comes C step (generated n) s
+  to_extraction status.Done x = x
+  to_extraction _ x = x
 
 module _ (excluded : (p : ProgramTree) (e : CheckFault) → Accepted p → Causes e p → e ≡ check.OutOfMemory) (C : Choices) where
   judged_comes : (text : List ℕ) (p : ProgramTree) → Parses text p → (s : Status) (out err : List ℕ) → Judged p s out err → Comes C checks text s
@@ -54,10 +69,16 @@ module _ (excluded : (p : ProgramTree) (e : CheckFault) → Accepted p → Cause
   ran_comes text turns input _ _ _ (ran p x h o d) =
       end_comes C text turns input o.end (record { program = p; parses = x; accepted = h; outcome = o; does = d; ends = refl })
 
+  told_comes : (text : List ℕ) (n : ℕ) (s : Status) (out err : List ℕ) → Summarised (generated n) n (generated_wish C n) s out err → Comes C (generates n) text s
+  told_comes text n s out err (undrawn k d) =
+      of_extraction C text n s (drawn_comes (generated n) (codes "step") (run_start n) (run_end n) by_copy s out err d)
+  told_comes text n _ _ _ (summarised a bs k f s x y) = kept (generated n) (generated_wish C n) a bs k
+
   answer_comes : (c : Command) (text : List ℕ) (s : Status) (out err : List ℕ) → AnswersTo C (Some c) text s out err → Comes C c text s
   answer_comes (extracts name start end w) text s out err d = drawn_comes text name start end w s out err d
   answer_comes checks text s out err d = checked_comes text s out err d
   answer_comes (runs turns input) text s out err d = ran_comes text turns input s out err d
+  answer_comes (generates n) text s out err d = told_comes text n s out err d
 
   -- ---- of a reply
 
@@ -66,7 +87,7 @@ module _ (excluded : (p : ProgramTree) (e : CheckFault) → Accepted p → Cause
     Causes' = Cause C words source source' out out' err err'
 
     -- what comes of a text is a cause
-    of_text : (command : Command) (text : List ℕ) → command_of words ≡ Some command → IsRead source source' text → (s : Status) → Comes C command text s → Causes' s
+    of_text : (command : Command) (text : List ℕ) → command_of words ≡ Some command → (Reads (Some command) → IsRead source source' text) → (s : Status) → Comes C command text s → Causes' s
     of_text command text e r status.Done k = record { command = command; asked = e; text = text; read = r; comes = k }
     of_text command text e r status.Refused k = record { command = command; asked = e; text = text; read = r; comes = k }
     of_text command text e r status.NotAccepted k = record { command = command; asked = e; text = text; read = r; comes = k }
@@ -79,15 +100,11 @@ module _ (excluded : (p : ProgramTree) (e : CheckFault) → Accepted p → Cause
     of_text command text e r status.OutOfMemory k = absurd k
     of_text command text e r status.TooLong k = absurd k
 
-    of_answer : (q : Option Command) (text : List ℕ) (s : Status) (outs errs : List ℕ) → command_of words ≡ q → (IsForm words → IsRead source source' text)
+    of_answer : (q : Option Command) (text : List ℕ) (s : Status) (outs errs : List ℕ) → command_of words ≡ q → (IsReader words → IsRead source source' text)
         → AnswersTo C q text s outs errs → Causes' s
     of_answer None text s outs errs e r d = subst Causes' (sym d.0) e
     of_answer (Some c) text s outs errs e r d =
-        let form : IsForm words = λ n. none_some c (sym n ∙ e) in
-        of_text c text e (r form) s (answer_comes c text s outs errs d)
-      where
-        none_some : (c : Command) → None ≡ Some c → ⊥
-        none_some c k = cc
+        of_text c text e (λ h. r (subst Reads (sym e) h)) s (answer_comes c text s outs errs d)
 
     of_due : (s : Status) (outs errs : List ℕ) → Due C words source source' s outs errs → Causes' s
     of_due s outs errs (answered text k r d) = of_answer (command_of words) text s outs errs refl r d
@@ -198,3 +215,5 @@ module _ (none : (bytes : List ℕ) (w : Wish) (r : Refusal) → IsRefused bytes
   one_status (extracts name start end w) text s t x y = one_extraction text name start end w s t x y
   one_status checks text s t x y = one_check text s t x y
   one_status (runs turns input) text s t x y = one_run text turns input s t x y
+  one_status (generates n) text s t x y =
+      one_extraction (generated n) (codes "step") (run_start n) (run_end n) by_copy s t (to_extraction C text n s x) (to_extraction C text n t y)

@@ -9,11 +9,12 @@ use Rattle.rx_engine_extraction.specs.declared.refusal.Refusal.{Refusal}
 use Rattle.rx_engine_extraction.specs.declared.refusal.Refusal.TheVariants as refusal
 use Rattle.rx_engine_extraction.specs.Source.{Wish}
 use Rattle.rx_engine_extraction.specs.Verdict.{IsRefused}
-use Rattle.rx_rem_command.specs.Forms.{Command, extracts}
+use Rattle.rx_rem_generated.specs.Generated.{generated}
+use Rattle.rx_rem_command.specs.Forms.{Command, extracts, generates}
 use Rattle.rx_rem_command.specs.Lines.{syntax_line}
 use Rattle.rx_rem_command.specs.CheckLines.{line_of_check}
 use Rattle.rx_rem_command.specs.ExtractionLines.{line_of_refusal}
-use Rattle.rx_rem_command.specs.Defined.{Choices, wish}
+use Rattle.rx_rem_command.specs.Defined.{Choices, wish, generated_wish}
 
 -- the line says where the tokens of a text stop, because of their depth or at all
 abbrev pub SaysTooDeep : List ℕ → Type 0
@@ -67,4 +68,5 @@ AreExtractionLines text w a b = AreCheckLines text a b ⊎ AreRefusalLines text 
 abbrev pub AreLines : Choices → Option Command → List ℕ → List ℕ → List ℕ → Type 0
 AreLines C None text a b = AreOneLine a b
 AreLines C (Some (extracts name start end w)) text a b = AreExtractionLines text (wish C name start end w) a b
+AreLines C (Some (generates n)) text a b = AreExtractionLines (generated n) (generated_wish C n) a b
 AreLines C _ text a b = AreCheckLines text a b

@@ -3,6 +3,8 @@ use Rattle.rx_rem_command.specs.declared.words.Preference.{Preference}
 use Rattle.rx_rem_command.specs.declared.words.Preference.TheVariants.{Copy, Reference}
 use Rattle.rx_rem_command.specs.declared.words.Command.{Command}
 use Rattle.rx_rem_command.specs.declared.words.Command.TheVariants.{Extract, Check, Run}
+use Rattle.rx_rem_command.specs.declared.words.Request.{Request}
+use Rattle.rx_rem_command.specs.declared.words.Request.TheVariants.{OfText, Generate}
 use Rattle.rx_rem_command.specs.Numbers.{integers_among}
 use Rattle.rx_rem_command.specs.Forms as forms
 
@@ -14,3 +16,7 @@ abbrev pub asked : Command → forms.Command
 asked (Extract name selection preference) = forms.extracts name.now selection.start selection.end (preferred preference)
 asked Check = forms.checks
 asked (Run turns numbers) = forms.runs turns (integers_among numbers.now)
+
+abbrev pub requested : Request → forms.Command
+requested (OfText command) = asked command
+requested (Generate count) = forms.generates count

@@ -15,9 +15,11 @@ use Rattle.rx_engine_extraction.specs.declared.refusal.Refusal.{Refusal}
 use Rattle.rx_engine_extraction.specs.Source.{Wish}
 use Rattle.rx_engine.specs.Promise.{Keeps}
 use Rattle.rx_engine_extraction.specs.Verdict.{IsUnread, IsRefused}
+use Rattle.rx_rem_generated.specs.Generated.{generated, run_start, run_end, input, turns, twice}
+use Rattle.rx_rem_generated.specs.Summary.{summary}
 use Rattle.rx_rem_command.specs.declared.status.Status.{Status}
 use Rattle.rx_rem_command.specs.declared.status.Status.TheVariants.{Done, Refused, Usage, NotAccepted}
-use Rattle.rx_rem_command.specs.Forms.{Preference, by_copy, by_reference, Command, extracts, checks, runs, command_of}
+use Rattle.rx_rem_command.specs.Forms.{Preference, by_copy, by_reference, Command, extracts, checks, runs, generates, command_of}
 use Rattle.rx_rem_command.specs.Lines.{status_line, syntax_line}
 use Rattle.rx_rem_command.specs.CheckLines.{line_of_check}
 use Rattle.rx_rem_command.specs.ExtractionLines.{line_of_refusal}
@@ -72,6 +74,20 @@ pub data Ran (text : List ℕ) (turns : ℕ) (input : List ℤ) : Status → Lis
   ran : (p : ProgramTree) → Parses text p → Accepted p → (o : Outcome) → Does p turns input o
       → Ran text turns input (end_status o.end) o.printed (end_line o.end)
 
+-- ---- of a generated text
+
+-- the run of its last function becomes `step`
+abbrev pub generated_wish : Choices → ℕ → Wish
+generated_wish C n = wish C (codes "step") (run_start n) (run_end n) by_copy
+
+-- these are of a text of so many functions: what its extraction answers, where that is no answer; or what is told of the text and of the
+-- answer, each with what it prints
+pub data Summarised (text : List ℕ) (n : ℕ) (w : Wish) : Status → List ℕ → List ℕ → Type 0 where
+  undrawn : {status : Status} {out err : List ℕ} → status ≢ Done → Drawn text w status out err → Summarised text n w status out err
+  summarised : (answer : List ℕ) (bounds : List Bound) (k : Keeps text w answer bounds)
+      → (first second : Outcome) → Does k.extraction.extracts.text.program (turns n) (input n) first → Does k.extraction.program (twice n) (input n) second
+      → Summarised text n w Done (summary text answer first.printed second.printed) []
+
 -- ---- of words
 
 abbrev pub AnswersTo : Choices → Option Command → List ℕ → Status → List ℕ → List ℕ → Type 0
@@ -79,6 +95,7 @@ AnswersTo C None text = λ status out err. (status ≡ Usage) × (out ≡ []) ×
 AnswersTo C (Some (extracts name start end w)) text = Drawn text (wish C name start end w)
 AnswersTo C (Some checks) text = Checked text
 AnswersTo C (Some (runs turns input)) text = Ran text turns input
+AnswersTo C (Some (generates n)) text = Summarised (generated n) n (generated_wish C n)
 
 abbrev pub Defined : Choices → List (List ℕ) → List ℕ → Status → List ℕ → List ℕ → Type 0
 Defined C words text = AnswersTo C (command_of words) text

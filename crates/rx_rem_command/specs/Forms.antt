@@ -1,7 +1,7 @@
 -- What the words of the command line ask for, by their position.
 use Rattle.std.specs.Prelude.{ℕ, ℤ, if◌then◌else◌, List, [], ◌∷◌, Option, Some, None, codes}
 use Rattle.rx_core.specs.Bytes.{same_bytes}
-use Rattle.rx_rem_command.specs.Numbers.{number_of, integers_of}
+use Rattle.rx_rem_command.specs.Numbers.{number_of, count_of, integers_of}
 
 -- which of the modes that the uses of a variable allow is taken: the first or the last, so a copy or a reference
 pub data Preference : Type 0 where
@@ -15,6 +15,8 @@ pub data Command : Type 0 where
   checks : Command
   -- a number of turns, and the input of the program
   runs : ℕ → List ℤ → Command
+  -- a number of functions of a text that is made
+  generates : ℕ → Command
 
 abbrev pub preference_of : List ℕ → Option Preference
 preference_of word = if same_bytes word (codes "copy") then Some by_copy else (if same_bytes word (codes "ref") then Some by_reference else None)
@@ -27,7 +29,11 @@ abbrev pub runs_of : Option ℕ → Option (List ℤ) → Option Command
 runs_of (Some turns) (Some input) = Some (runs turns input)
 runs_of _ _ = None
 
--- what the words behind `check`, `extract` and `run` ask for
+abbrev pub generates_of : Option ℕ → Option Command
+generates_of (Some n) = Some (generates n)
+generates_of None = None
+
+-- what the words behind `check`, `extract`, `run` and `gen` ask for
 abbrev pub check_of : List (List ℕ) → Option Command
 check_of [] = Some checks
 check_of _ = None
@@ -41,9 +47,20 @@ abbrev pub run_of : List (List ℕ) → Option Command
 run_of (turns ∷ numbers) = runs_of (number_of turns) (integers_of numbers)
 run_of _ = None
 
+abbrev pub generate_of : List (List ℕ) → Option Command
+generate_of (n ∷ []) = generates_of (count_of n)
+generate_of _ = None
+
 abbrev pub command_of : List (List ℕ) → Option Command
 command_of [] = None
 command_of (verb ∷ words) =
     if same_bytes verb (codes "check") then check_of words
     else (if same_bytes verb (codes "extract") then extract_of words
-    else (if same_bytes verb (codes "run") then run_of words else None))
+    else (if same_bytes verb (codes "run") then run_of words
+    else (if same_bytes verb (codes "gen") then generate_of words else None)))
+
+-- they ask for something of a text, which is read
+abbrev pub Reads : Option Command → Type 0
+Reads None = ⊥
+Reads (Some (generates n)) = ⊥
+Reads (Some command) = Unit {0}

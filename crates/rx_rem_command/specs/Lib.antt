@@ -4,6 +4,7 @@ pub mod CheckLines
 pub mod Defined
 pub mod ExtractionLines
 pub mod Forms
+pub mod GeneratedReplies
 pub mod Lines
 pub mod Numbers
 pub mod Replies

@@ -13,6 +13,15 @@ digits_from value (b ∷ bs) = if is_digit b then digits_from (value * 10 + (b -
 abbrev pub number_of : List ℕ → Option ℕ
 number_of word = if nat_lt 0 (length word) && nat_lt (length word) 20 then digits_from 0 word else None
 
+-- a number from 1 to 1,000
+abbrev pub count_among : Option ℕ → Option ℕ
+count_among None = None
+count_among (Some n) = if nat_le 1 n && nat_le n 1000 then Some n else None
+
+-- 1 to 4 decimal digits, from 1 to 1,000
+abbrev pub count_of : List ℕ → Option ℕ
+count_of word = if nat_lt (length word) 5 then count_among (number_of word) else None
+
 -- a number within the integers of 64 bits, and one behind a minus
 abbrev pub positive_of : Option ℕ → Option ℤ
 positive_of None = None

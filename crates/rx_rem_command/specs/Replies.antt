@@ -4,7 +4,7 @@ use Rattle.rx_core.specs.Streams.{Rose, Told, Gone, Grown}
 use Rattle.rx_tree.specs.Plain.{ProgramTree}
 use Rattle.rx_rem_command.specs.declared.status.Status.{Status}
 use Rattle.rx_rem_command.specs.declared.status.Status.TheVariants.{ReadFault, WriteFault, OutOfMemory, TooLong}
-use Rattle.rx_rem_command.specs.Forms.{command_of}
+use Rattle.rx_rem_command.specs.Forms.{command_of, Reads}
 use Rattle.rx_rem_command.specs.Lines.{status_line}
 use Rattle.rx_rem_command.specs.Defined.{Choices, Judged, Defined}
 
@@ -20,9 +20,13 @@ source_state remaining faults s = record { bytes = remaining s; faults = faults 
 abbrev pub sink_state : {K : Type 0} → (K → Option (List ℕ)) → (K → ℕ) → (K → ℕ) → K → Stream
 sink_state contents faults standstills k = record { bytes = contents k; faults = faults k; standstills = standstills k }
 
--- the words have a form that is read
+-- the words have a form
 abbrev pub IsForm : List (List ℕ) → Type 0
 IsForm words = command_of words ≡ None → ⊥
+
+-- they have one for which a text is read
+abbrev pub IsReader : List (List ℕ) → Type 0
+IsReader words = Reads (command_of words)
 
 -- a sink failed, or took no byte of a piece, and only one of them
 abbrev pub HasFailed : Stream → Stream → Type 0
@@ -62,10 +66,10 @@ TakesOneMore old new = IsTaken old new (λ n. n ≡ 1048577)
 
 -- the status, the bytes for standard output and the line for standard error; the source failed exactly where `ReadFault` is due
 pub data Due (C : Choices) (words : List (List ℕ)) (source source' : Stream) : Status → List ℕ → List ℕ → Type 0 where
-  answered : {status : Status} {outs errs : List ℕ} (text : List ℕ) → source'.faults ≡ source.faults → (IsForm words → IsRead source source' text) → Defined C words text status outs errs
+  answered : {status : Status} {outs errs : List ℕ} (text : List ℕ) → source'.faults ≡ source.faults → (IsReader words → IsRead source source' text) → Defined C words text status outs errs
       → Due C words source source' status outs errs
-  not_read : IsForm words → Rose source.faults source'.faults → TakesAtMost source source' → Due C words source source' ReadFault [] (status_line ReadFault)
-  too_long : IsForm words → source'.faults ≡ source.faults → TakesOneMore source source' → Due C words source source' TooLong [] (status_line TooLong)
+  not_read : IsReader words → Rose source.faults source'.faults → TakesAtMost source source' → Due C words source source' ReadFault [] (status_line ReadFault)
+  too_long : IsReader words → source'.faults ≡ source.faults → TakesOneMore source source' → Due C words source source' TooLong [] (status_line TooLong)
   no_memory : IsForm words → source'.faults ≡ source.faults → TakesAtMost source source' → Due C words source source' OutOfMemory [] (status_line OutOfMemory)
 
 -- how far what is due was written; where that failed, the status is `WriteFault`
@@ -89,8 +93,8 @@ pub record Replies (C : Choices) (words : List (List ℕ)) (source source' out o
   -- where none is told, none came; of a line that was cut, `written` says whether it was that of `ReadFault`
   pub read_sound : (result ≡ ReadFault → ⊥) → (result ≡ WriteFault → ⊥) → source'.faults ≡ source.faults
   pub write_sound : (result ≡ WriteFault → ⊥) → IsSound out out' × IsSound err err'
-  -- where no count rose, the answer to a text is the defined one, or want of memory
-  pub complete : IsForm words → (text : List ℕ) → source.bytes ≡ Some text → length text ≤ 1048576 → (Rose source.faults source'.faults → ⊥)
+  -- where no count rose, the answer is the defined one, or want of memory; of words that ask for something of a text, it is that of the text
+  pub complete : IsForm words → (text : List ℕ) → (IsReader words → (source.bytes ≡ Some text) × (length text ≤ 1048576)) → (Rose source.faults source'.faults → ⊥)
       → (HasFailed out out' → ⊥) → (HasFailed err err' → ⊥) → IsComplete C words text out out' err err' result
 
 -- what is found where these are the answers: one of them, or want of memory

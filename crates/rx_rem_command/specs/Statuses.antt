@@ -10,11 +10,12 @@ use Rattle.rx_engine_extraction.specs.Promise.{Extracts}
 use Rattle.rx_engine_extraction.specs.Verdict.{IsRefused}
 use Rattle.rx_rem_command.specs.declared.status.Status.{Status}
 use Rattle.rx_rem_command.specs.declared.status.Status.TheVariants.{Done, Refused, Usage, NotAccepted, ReadFault, WriteFault, OutOfMemory, TooLong, StillRunning, Wrong, Trapped}
-use Rattle.rx_rem_command.specs.Forms.{Command, extracts, checks, runs, command_of}
-use Rattle.rx_rem_command.specs.Defined.{IsAccepted, Choices, wish}
+use Rattle.rx_rem_generated.specs.Generated.{generated}
+use Rattle.rx_rem_command.specs.Forms.{Command, extracts, checks, runs, generates, command_of, Reads}
+use Rattle.rx_rem_command.specs.Defined.{IsAccepted, Choices, wish, generated_wish}
 use Rattle.rx_rem_command.specs.RunLines.{end_status}
 use Rattle.rx_engine.specs.Runs.{Does}
-use Rattle.rx_rem_command.specs.Replies.{Stream, IsForm, HasFailed, IsRead, TakesOneMore}
+use Rattle.rx_rem_command.specs.Replies.{Stream, IsForm, IsReader, HasFailed, IsRead, TakesOneMore}
 
 -- the text is accepted, and its program ends with this status, on this input with so many turns
 pub record EndsWith (text : List ℕ) (turns : ℕ) (input : List ℤ) (status : Status) : Type 0 where
@@ -25,15 +26,22 @@ pub record EndsWith (text : List ℕ) (turns : ℕ) (input : List ℤ) (status :
   pub does : Does program turns input outcome
   pub ends : end_status outcome.end ≡ status
 
+-- the text that it is done for: the one that is read, or that is made
+abbrev pub text_for : Command → List ℕ → List ℕ
+text_for (generates n) text = generated n
+text_for _ text = text
+
 -- each condition of the extraction is met; the text is accepted; `main` of its program ends
 abbrev pub IsDone : Choices → Command → List ℕ → Type 0
 IsDone C (extracts name start end w) text = Extracts text (wish C name start end w)
 IsDone C checks text = IsAccepted text
 IsDone C (runs turns input) text = EndsWith text turns input Done
+IsDone C (generates n) text = Extracts (generated n) (generated_wish C n)
 
 -- the text is accepted, and a condition of the extraction is not met: the refusal tells the first that is not
 abbrev pub IsUnmet : Choices → Command → List ℕ → Type 0
 IsUnmet C (extracts name start end w) text = (r : Refusal) × IsRefused text (wish C name start end w) r
+IsUnmet C (generates n) text = (r : Refusal) × IsRefused (generated n) (generated_wish C n) r
 IsUnmet C _ text = ⊥
 
 -- the program that is run ends otherwise
@@ -45,25 +53,25 @@ IsStopped _ text status = ⊥
 abbrev pub Comes : Choices → Command → List ℕ → Status → Type 0
 Comes C command text Done = IsDone C command text
 Comes C command text Refused = IsUnmet C command text
-Comes C command text NotAccepted = IsAccepted text → ⊥
+Comes C command text NotAccepted = IsAccepted (text_for command text) → ⊥
 Comes C command text StillRunning = IsStopped command text StillRunning
 Comes C command text Wrong = IsStopped command text Wrong
 Comes C command text Trapped = IsStopped command text Trapped
 Comes C command text _ = ⊥
 
--- the words ask for something, all that the source had left was read, and the status comes of that text
+-- the words ask for something, where that is of a text all that the source had left was read, and the status comes of that text
 pub record ComesOfText (C : Choices) (words : List (List ℕ)) (source source' : Stream) (status : Status) : Type 0 where
   pub command : Command
   pub asked : command_of words ≡ Some command
   pub text : List ℕ
-  pub read : IsRead source source' text
+  pub read : Reads (Some command) → IsRead source source' text
   pub comes : Comes C command text status
 
 -- when each status comes; want of memory is free, once the words have a form
 abbrev pub Cause : Choices → List (List ℕ) → Stream → Stream → Stream → Stream → Stream → Stream → Status → Type 0
 Cause C words source source' out out' err err' Usage = command_of words ≡ None
-Cause C words source source' out out' err err' ReadFault = IsForm words × Rose source.faults source'.faults
+Cause C words source source' out out' err err' ReadFault = IsReader words × Rose source.faults source'.faults
 Cause C words source source' out out' err err' WriteFault = HasFailed out out' ⊎ HasFailed err err'
 Cause C words source source' out out' err err' OutOfMemory = IsForm words
-Cause C words source source' out out' err err' TooLong = IsForm words × TakesOneMore source source'
+Cause C words source source' out out' err err' TooLong = IsReader words × TakesOneMore source source'
 Cause C words source source' out out' err err' status = ComesOfText C words source source' status

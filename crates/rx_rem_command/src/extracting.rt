@@ -22,7 +22,12 @@ use rx_tree::Program;
 use std::alloc::{AllocError, Global};
 
 /// Writes the line of a fault, or of want of memory.
-fn refuse<E: Sink>(alloc: Global, err: &mut E, program: &Program, fault: &Fault) -> Status
+pub(crate) fn refuse<E: Sink>(
+    alloc: Global,
+    err: &mut E,
+    program: &Program,
+    fault: &Fault,
+) -> Status
     ensures { Reports (sink_state E.contents E.faults E.standstills err.old) (sink_state E.contents E.faults E.standstills err.new) (lines.status_of_extraction fault.now) (lines.line_of_extraction (plain-Program program.now) fault.now) result
         ⊎ Reports (sink_state E.contents E.faults E.standstills err.old) (sink_state E.contents E.faults E.standstills err.new) Status.OutOfMemory (status_line Status.OutOfMemory) result }
 {

@@ -3,14 +3,16 @@
 ghost use Rattle.std.specs.Prelude.{◌≡◌, ◌≤◌, ◌*◌, ℕ, ℤ, List, [], length, Some, codes};
 ghost use Rattle.rx_tree.specs.Plain.{ProgramTree};
 ghost use Rattle.rx_parse_grammar.specs.grammar.Items.{Parses};
-ghost use Rattle.rx_print_spelling.specs.Items.{print_program};
 ghost use Rattle.rx_check.specs.Passes.{Accepted};
 ghost use Rattle.rx_meaning.specs.declared.outcome.Outcome.{Outcome};
-ghost use Rattle.rx_engine_extraction.specs.Promise.{Extracts, program_of};
+ghost use Rattle.rx_meaning.specs.Programs.{UpTo};
+ghost use Rattle.rx_engine_extraction.specs.Promise.{Extracts};
+ghost use Rattle.rx_rem_generated.specs.Generated.{generated, input, turns, twice};
+ghost use Rattle.rx_rem_generated.specs.Summary.{summary};
 ghost use Rattle.rx_rem_command.specs.declared.status.Status.{Status};
 ghost use Rattle.rx_rem_command.specs.Alike.{AreLines};
-ghost use Rattle.rx_rem_command.specs.Defined.{Choices, Defined, IsAccepted, wish};
-ghost use Rattle.rx_rem_command.specs.Forms.{Preference, Command, command_of, extracts, checks, runs};
+ghost use Rattle.rx_rem_command.specs.Defined.{Choices, Defined, IsAccepted, wish, generated_wish};
+ghost use Rattle.rx_rem_command.specs.Forms.{Preference, Command, command_of, extracts, checks, runs, generates};
 ghost use Rattle.rx_rem_command.specs.RunLines.{end_status, end_line};
 ghost use Rattle.rx_engine.specs.Runs.{Does};
 ghost use Rattle.rx_rem_command.specs.Replies.{Stream, Replies};
@@ -49,12 +51,12 @@ pub fn statuses_have_causes()
     one_outcome();
 }
 
-/// Where each condition of an extraction is met, its canonical text is the defined answer; and an answer is one of such.
+/// Where each condition of an extraction is met, its text is the defined answer; and an answer is one of such.
 pub fn extraction_is_defined()
     ensures answer { (C : Choices) (words : List (List ℕ)) (text name : List ℕ) (start end : ℕ) (w : Preference) → command_of words ≡ Some (extracts name start end w) → length text ≤ 1048576
-        → (x : Extracts text (wish C name start end w)) → Defined C words text Status.Done (print_program (program_of x)) [] }
+        → (x : Extracts text (wish C name start end w)) → Defined C words text Status.Done x.case.text [] }
     ensures only { (C : Choices) (words : List (List ℕ)) (text name out err : List ℕ) (start end : ℕ) (w : Preference) → command_of words ≡ Some (extracts name start end w)
-        → Defined C words text Status.Done out err → (x : Extracts text (wish C name start end w)) × (out ≡ print_program (program_of x)) × (err ≡ []) }
+        → Defined C words text Status.Done out err → (x : Extracts text (wish C name start end w)) × (out ≡ x.case.text) × (err ≡ []) }
 {
     extractions_are_answers();
     answers_run_alike();
@@ -75,6 +77,21 @@ pub fn extractions_run_alike()
         → (s t : Status) (out err printed line : List ℕ) → Defined C runs_it text s out err → Defined C twice answer t printed line → IsUpTo s out err t printed line }
 {
     passed_or_faulty();
+}
+
+/// Where each condition of the extraction from a text that is made is met, what is told of it and of the text of the extraction, and of
+/// what both do, is the defined answer. And an answer is one of such; the run of the text is up to that of the answer, so that both print the
+/// same where the text's ends.
+pub fn summaries_are_defined()
+    ensures answer { (C : Choices) (words : List (List ℕ)) (text : List ℕ) (n : ℕ) → command_of words ≡ Some (generates n) → (x : Extracts (generated n) (generated_wish C n))
+        → (p : ProgramTree) → Parses x.case.text p → (o a : Outcome) → Does x.text.program (turns n) (input n) o → Does p (twice n) (input n) a
+        → Defined C words text Status.Done (summary (generated n) x.case.text o.printed a.printed) [] }
+    ensures only { (C : Choices) (words : List (List ℕ)) (text out err : List ℕ) (n : ℕ) → command_of words ≡ Some (generates n) → Defined C words text Status.Done out err
+        → (x : Extracts (generated n) (generated_wish C n)) × (o : Outcome) × (a : Outcome) × (out ≡ summary (generated n) x.case.text o.printed a.printed) × (err ≡ [])
+        × Does x.text.program (turns n) (input n) o × UpTo o a }
+{
+    extractions_are_answers();
+    answers_run_alike();
 }
 
 /// The defined answer of a check is `accepted` where the text is accepted, and nowhere else.

@@ -5,6 +5,7 @@ mod check_line;
 mod checking;
 mod extracting;
 mod extraction_line;
+mod generating;
 mod laws;
 mod line;
 mod numbers;
@@ -17,7 +18,7 @@ mod words;
 
 pub use crate::laws::{
     acceptance_is_defined, extraction_is_defined, extractions_run_alike, one_answer,
-    runs_are_defined, statuses_have_causes,
+    runs_are_defined, statuses_have_causes, summaries_are_defined,
 };
 pub use crate::reply::report_name;
 pub use crate::status::Status;

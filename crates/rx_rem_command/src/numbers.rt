@@ -2,7 +2,7 @@
 
 ghost use Rattle.std.specs.Prelude.{◌≡◌, ◌<◌, length, IfOk};
 ghost use Rattle.std.specs.Option.{is_some};
-ghost use Rattle.rx_rem_command.specs.Numbers.{digits_from, number_of, positive_of, negative_of, integer_of, integers_of, integers_among};
+ghost use Rattle.rx_rem_command.specs.Numbers.{digits_from, number_of, count_among, count_of, positive_of, negative_of, integer_of, integers_of, integers_among};
 
 use rx_core::Text;
 use std::alloc::{AllocError, Global};
@@ -30,6 +30,27 @@ pub fn number(word: &[u8]) -> Option<u64>
         return None;
     }
     digits(word)
+}
+
+/// A number, where it is from 1 to 1,000.
+fn count_in(value: Option<u64>) -> Option<u64>
+    ensures { result ≡ count_among value }
+{
+    match value {
+        Some(value) if value >= 1 && value <= 1000 => Some(value),
+        _ => None,
+    }
+}
+
+/// The value of 1 to 4 decimal digits, where it is from 1 to 1,000.
+pub fn count(word: &[u8]) -> Option<u64>
+    ensures { result ≡ count_of word.now }
+{
+    if word.len() < 5 {
+        count_in(number(word))
+    } else {
+        None
+    }
 }
 
 /// A number as an `i64`, where it is one.

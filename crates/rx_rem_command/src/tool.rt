@@ -3,15 +3,16 @@
 ghost use Rattle.std.specs.Prelude.{◌≡◌, ◌≤◌, ◌⊎◌, List as ListOf, ℕ, Some, None, length};
 ghost use Rattle.rx_rem_command.specs.Asked.{asked};
 ghost use Rattle.rx_rem_command.specs.Defined.{AnswersTo};
-ghost use Rattle.rx_rem_command.specs.Forms.{command_of};
+ghost use Rattle.rx_rem_command.specs.Forms.{Reads, command_of};
 ghost use Rattle.rx_rem_command.specs.Replies.{Ending, Found, Replies, sink_state, source_state};
 
 use crate::checking::check_text;
 use crate::extracting::extract_text;
+use crate::generating::generate;
 use crate::reply::report_name;
 use crate::running::run_text;
 use crate::status::Status;
-use crate::words::{Command, Preference, read_words};
+use crate::words::{Command, Preference, Request, read_words};
 use rx_core::{List, ReadFail, Sink, Source, Text, read_all};
 use rx_modes_policy::Policy;
 use std::alloc::Global;
@@ -50,7 +51,7 @@ fn answer<O: Sink, E: Sink, C: Policy, R: Policy>(
     }
 }
 
-/// Does what the words ask for: reads the text of `source`, and writes the answer to `out`, or a line that says why
+/// Does what the words ask for: reads the text of `source`, where it is asked of one, and writes the answer to `out`, or a line that says why
 /// there is none to `err`. It writes to `out` only once all that it writes there is computed. Where the uses of a variable leave open how
 /// it is passed, the policy `copy` chooses, or, where the words ask for references, `by_reference`.
 pub fn rem<S: Source, O: Sink, E: Sink, C: Policy, R: Policy>(
@@ -65,10 +66,14 @@ pub fn rem<S: Source, O: Sink, E: Sink, C: Policy, R: Policy>(
     ensures replies { Replies (record { copy = C.choice copy.now; reference = R.choice by_reference.now }) words.now (source_state S.remaining S.faults source.old) (source_state S.remaining S.faults source.new)
         (sink_state O.contents O.faults O.standstills out.old) (sink_state O.contents O.faults O.standstills out.new)
         (sink_state E.contents E.faults E.standstills err.old) (sink_state E.contents E.faults E.standstills err.new) result }
-    ensures unread { command_of words.now ≡ None → source.new ≡ source.old }
+    ensures unread { (Reads (command_of words.now) → ⊥) → source.new ≡ source.old }
 {
-    let Some(command) = read_words(words.as_slice()) else {
+    let Some(request) = read_words(words.as_slice()) else {
         return report_name(err, Status::Usage);
+    };
+    let command = match request {
+        Request::OfText(command) => command,
+        Request::Generate { count } => return generate(alloc, out, err, count, copy),
     };
     match read_all(alloc, source, TEXT_LIMIT) {
         Ok(text) => answer(

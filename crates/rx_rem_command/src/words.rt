@@ -2,10 +2,10 @@
 
 ghost use Rattle.std.specs.Prelude.{◌≡◌, ◌∷◌, option_map};
 ghost use Rattle.rx_rem_command.specs.Numbers.{integers_of};
-ghost use Rattle.rx_rem_command.specs.Forms.{command_of, check_of, extract_of, extracts_of, preference_of, run_of, runs_of};
-ghost use Rattle.rx_rem_command.specs.Asked.{asked, preferred};
+ghost use Rattle.rx_rem_command.specs.Forms.{command_of, check_of, extract_of, extracts_of, preference_of, run_of, runs_of, generate_of, generates_of};
+ghost use Rattle.rx_rem_command.specs.Asked.{asked, preferred, requested};
 
-use crate::numbers::{are_integers, number};
+use crate::numbers::{are_integers, count, number};
 use rx_core::Text;
 use rx_engine::Selection;
 
@@ -16,7 +16,7 @@ pub enum Preference {
     Reference,
 }
 
-/// What the words ask for.
+/// What the words ask for of a text.
 #[derive(Clone, Copy)]
 pub enum Command<'w> {
     /// The run that a range of bytes selects becomes a function of this name.
@@ -32,6 +32,13 @@ pub enum Command<'w> {
         turns: u64,
         numbers: &'w [Text],
     },
+}
+
+/// What the words ask for: something of the text that is read, or the extraction from a text of so many functions, which is made.
+#[derive(Clone, Copy)]
+pub enum Request<'w> {
+    OfText(Command<'w>),
+    Generate { count: u64 },
 }
 
 fn check_words<'w>(words: &'w [Text]) -> Option<Command<'w>>
@@ -112,24 +119,54 @@ fn run_words<'w>(words: &'w [Text]) -> Option<Command<'w>>
     run_with(number(turns.as_str().as_bytes()), numbers)
 }
 
+fn generate_with<'w>(count: Option<u64>) -> Option<Request<'w>>
+    ensures { option_map requested result ≡ generates_of count }
+{
+    match count {
+        Some(count) => Some(Request::Generate { count }),
+        None => None,
+    }
+}
+
+fn generate_words<'w>(words: &'w [Text]) -> Option<Request<'w>>
+    ensures { option_map requested result ≡ generate_of words.entry.now }
+{
+    match words {
+        [word] => generate_with(count(word.as_str().as_bytes())),
+        _ => None,
+    }
+}
+
+/// What is asked for of the text that is read.
+fn of_text<'w>(command: Option<Command<'w>>) -> Option<Request<'w>>
+    ensures { option_map requested result ≡ option_map asked command.entry }
+{
+    match command {
+        Some(command) => Some(Request::OfText(command)),
+        None => None,
+    }
+}
+
 /// What a verb asks for, with the words behind it.
-fn verb_words<'w>(verb: &str, words: &'w [Text]) -> Option<Command<'w>>
-    ensures { option_map asked result ≡ command_of (verb.now ∷ words.entry.now) }
+fn verb_words<'w>(verb: &str, words: &'w [Text]) -> Option<Request<'w>>
+    ensures { option_map requested result ≡ command_of (verb.now ∷ words.entry.now) }
 {
     if verb == "check" {
-        check_words(words)
+        of_text(check_words(words))
     } else if verb == "extract" {
-        extract_words(words)
+        of_text(extract_words(words))
     } else if verb == "run" {
-        run_words(words)
+        of_text(run_words(words))
+    } else if verb == "gen" {
+        generate_words(words)
     } else {
         None
     }
 }
 
 /// What the words after the program's name ask for, or `None` where they have no form.
-pub fn read_words(words: &[Text]) -> Option<Command<'_>>
-    ensures { option_map asked result ≡ command_of words.now }
+pub fn read_words(words: &[Text]) -> Option<Request<'_>>
+    ensures { option_map requested result ≡ command_of words.now }
 {
     let (verb, words) = words.split_first()?;
     verb_words(verb.as_str(), words)

@@ -2,7 +2,9 @@
 
 mod again;
 mod chosen;
+mod hostile;
 mod kept;
+mod layouts;
 mod least;
 mod limits;
 mod modes;

@@ -224,7 +224,7 @@ check now: fn main() {} | 2 error: Usage
 run: fn main() {} | 2 error: Usage
 run -5: fn main() {} | 2 error: Usage
 gen 0: fn main() {} | 2 error: Usage
-gen 1: fn main() {} | 2 error: Usage";
+gen 1001: fn main() {} | 2 error: Usage";
 
 #[test]
 fn other_words_are_usage(rt: HostRuntime) {

@@ -39,6 +39,21 @@ fn negated(alloc: Global, signs: usize, mode: &str) -> Result<Reply, AllocError>
     )
 }
 
+/// A print of a field in so many pairs of parentheses, which stay: as many levels, and six more behind a reference.
+fn enclosed(alloc: Global, pairs: usize) -> Result<Reply, AllocError> {
+    let mut run = String::from_str(alloc, "println!(\"{}\", ")?;
+    push_times(&mut run, "(", pairs)?;
+    run.push_str("p.x")?;
+    push_times(&mut run, ")", pairs)?;
+    run.push_str(");")?;
+    made(
+        alloc,
+        "struct P { x: i64 } fn main() { let p = P { x: 1 }; ",
+        run.as_str(),
+        " }",
+    )
+}
+
 /// A function that is given 42 structs of three lifetimes each, and so many references, and names each once.
 fn lent(alloc: Global, references: u32) -> Result<Reply, AllocError> {
     let mut front = String::from_str(
@@ -115,4 +130,18 @@ fn an_answer_has_at_most_128_levels(rt: HostRuntime) {
         "error: Refused Limit Levels 129\n",
     ));
     hold(&rt, past, "125 ref");
+}
+
+#[test]
+fn parentheses_of_the_file_are_levels_of_the_answer(rt: HostRuntime) {
+    let within = enclosed(rt.alloc(), 122).map(|reply| reply.ends(0));
+    hold(&rt, within, "122");
+    for pairs in 123..125usize {
+        let past = enclosed(rt.alloc(), pairs).map(|reply| reply.is(
+            1,
+            "",
+            "error: Refused Unconfirmed\n",
+        ));
+        hold(&rt, past, "past 122");
+    }
 }

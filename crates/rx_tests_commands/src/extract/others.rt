@@ -7,12 +7,7 @@ const OTHERS: &str = r#"extract f 41 51
 fn show() {} fn main() { let u = show(); let v = u; }
 ====
 0
-fn show() {}
-
-fn main() {
-    let u = show();
-    f(u);
-}
+fn show() {} fn main() { let u = show(); f(u); }
 
 fn f(u: ()) {
     let v = u;
@@ -22,13 +17,7 @@ extract f 45 61
 fn show(x: i64) {} fn main() { let a = 2i64; let u = show(a); let v = u; }
 ====
 0
-fn show(x: i64) {}
-
-fn main() {
-    let a = 2i64;
-    let u = f(a);
-    let v = u;
-}
+fn show(x: i64) {} fn main() { let a = 2i64; let u = f(a); let v = u; }
 
 fn f(a: i64) -> () {
     let u = show(a);
@@ -39,16 +28,10 @@ extract two 26 58
 fn main() { let a = 2i64; let b = a + 1i64; let c = a * b; println!("{}", b); println!("{}", c); }
 ====
 0
-fn main() {
-    let a = 2i64;
-    let (b, c) = two(a);
-    println!("{}", b);
-    println!("{}", c);
-}
+fn main() { let a = 2i64; let (b, c) = two(a); println!("{}", b); println!("{}", c); }
 
 fn two(a: i64) -> (i64, i64) {
-    let b = a + 1i64;
-    let c = a * b;
+    let b = a + 1i64; let c = a * b;
     (b, c)
 }
 ----
@@ -56,42 +39,27 @@ extract f 36 48
 fn last(x: i64) -> i64 { let y = x; (y + (1i64)) } fn main() {}
 ====
 0
-fn last(x: i64) -> i64 {
-    let y = x;
-    f(y)
-}
+fn last(x: i64) -> i64 { let y = x; f(y) }
 
 fn f(y: i64) -> i64 {
-    y + 1i64
-}
-
-fn main() {}
+    (y + (1i64))
+} fn main() {}
 ----
 extract f 25 48
 fn last(x: i64) -> i64 { let y = x; (y + (1i64)) } fn main() {}
 ====
 0
-fn last(x: i64) -> i64 {
-    f(x)
-}
+fn last(x: i64) -> i64 { f(x) }
 
 fn f(x: i64) -> i64 {
-    let y = x;
-    y + 1i64
-}
-
-fn main() {}
+    let y = x; (y + (1i64))
+} fn main() {}
 ----
 extract times 40 54 copy
 fn main() { let a = 2i64; let b = 3i64; let c = a * b; println!("{}", c); }
 ====
 0
-fn main() {
-    let a = 2i64;
-    let b = 3i64;
-    let c = times(a, b);
-    println!("{}", c);
-}
+fn main() { let a = 2i64; let b = 3i64; let c = times(a, b); println!("{}", c); }
 
 fn times(a: i64, b: i64) -> i64 {
     let c = a * b;
@@ -102,12 +70,7 @@ extract times 40 54 ref
 fn main() { let a = 2i64; let b = 3i64; let c = a * b; println!("{}", c); }
 ====
 0
-fn main() {
-    let a = 2i64;
-    let b = 3i64;
-    let c = times(&a, &b);
-    println!("{}", c);
-}
+fn main() { let a = 2i64; let b = 3i64; let c = times(&a, &b); println!("{}", c); }
 
 fn times<'r0, 'r1>(a: &'r0 i64, b: &'r1 i64) -> i64 {
     let c = *a * *b;
@@ -118,16 +81,10 @@ extract f 26 47
 fn main() { let a = 2i64; let c = { a + 1i64 }; println!("{}", c); }
 ====
 0
-fn main() {
-    let a = 2i64;
-    let c = f(a);
-    println!("{}", c);
-}
+fn main() { let a = 2i64; let c = f(a); println!("{}", c); }
 
 fn f(a: i64) -> i64 {
-    let c = {
-        a + 1i64
-    };
+    let c = { a + 1i64 };
     c
 }
 ----
@@ -135,14 +92,9 @@ extract g 34 43
 fn f(x: i64) -> i64 { if x == 0 { return 1; } x } fn main() { println!("{}", f(3)); }
 ====
 0
-fn f(x: i64) -> i64 {
-    if x == 0 {
-        match g() {
-            Exit_g::Return(out_0) => return out_0,
-        };
-    }
-    x
-}
+fn f(x: i64) -> i64 { if x == 0 { match g() {
+    Exit_g::Return(out_0) => return out_0,
+}; } x }
 
 enum Exit_g {
     Return(i64),
@@ -150,24 +102,13 @@ enum Exit_g {
 
 fn g() -> Exit_g {
     return Exit_g::Return(1);
-}
-
-fn main() {
-    println!("{}", f(3));
-}
+} fn main() { println!("{}", f(3)); }
 ----
 extract took 29 35
 fn main() { let c; let x = { c = 3; return; }; x = 5; }
 ====
 0
-fn main() {
-    let c: i32;
-    let x = {
-        took();
-        return;
-    };
-    x = 5;
-}
+fn main() { let c: i32; let x = { took(); return; }; x = 5; }
 
 fn took() {
     let c: i32;
@@ -178,17 +119,7 @@ extract took 48 54
 fn show(x: u64) {} fn main() { let c; let x = { c = 3; return; }; x = c; show(c); }
 ====
 0
-fn show(x: u64) {}
-
-fn main() {
-    let c: u64;
-    let x = {
-        took();
-        return;
-    };
-    x = c;
-    show(c);
-}
+fn show(x: u64) {} fn main() { let c: u64; let x = { took(); return; }; x = c; show(c); }
 
 fn took() {
     let c: u64;
@@ -204,8 +135,12 @@ error: Refused Unconfirmed
 extract g 29 59
 fn walk(n: i64) { if n > 0 { println!("{}", n); walk(n - 1) } } fn main() { walk(3); }
 ====
-1
-error: Refused Unconfirmed"#;
+0
+fn walk(n: i64) { if n > 0 { g(n); } }
+
+fn g(n: i64) {
+    println!("{}", n); walk(n - 1)
+} fn main() { walk(3); }"#;
 
 #[test]
 fn what_is_left_is_made(rt: HostRuntime) {

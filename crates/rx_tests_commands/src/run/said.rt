@@ -92,7 +92,7 @@ pub fn push_words(told: &mut String, bytes: &[u8]) -> Result<(), AllocError> {
             told.push(char::from(*byte))?;
         }
     }
-    if apart {
+    if !bytes.is_empty() {
         told.push(' ')?;
     }
     Ok(())

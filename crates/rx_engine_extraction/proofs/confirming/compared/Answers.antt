@@ -21,7 +21,7 @@ returns c =
     c.as_slice-3.ensures c.as_slice-4.ensures
     (c.as_slice-5.ensures.value ∙ (c.in_ok-elsewhere.ensures ∙ ap (λ (l : List Bool). elsewhere_by x.plans.plan l) c.as_slice.ensures)) c.as_slice-6.ensures
     (c.as_slice-8.ensures.value ∙ (c.in_ok-units.ensures ∙ same_units (plain-Functions c.as_slice-2.result.now) (typed_functions (declarations t.decls.items) t.functions)
-    c.typed.result.now t x.run.function functions c.typed.ensures.same)) (ap (λ (l : List Span). length l) c.as_slice-7.ensures) in
+    c.typed.result.now t functions c.typed.ensures.same)) (ap (λ (l : List Span). length l) c.as_slice-7.ensures) in
     compared_so _ _ x.run.function (plain-Functions c.as_slice-9.result.now) (typed_functions (declarations t.decls.items) t.functions)
     (plain-Functions c.as_slice-10.result.now) (typed_functions (declarations u.decls.items) u.functions) c.main.result _ c.main-2.result _ c.extracts.result told
     (ap plain-Functions c.as_slice-9.ensures.value ∙ c.in_ok-functions.ensures) (c.main.ensures ∙ c.requires.front.main)

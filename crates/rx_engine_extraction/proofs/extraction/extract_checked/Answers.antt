@@ -5,6 +5,9 @@ use Rattle.rx_engine_extraction.proofs.extraction.extract_checked.Goals as goal
 pub tokens_of-requires : goal.tokens_of-requires
 tokens_of-requires g c = (c.requires.parses.tokens, c.requires.parses.lexed)
 
+pub extracted-requires-clause-text : goal.extracted-requires-clause-text
+extracted-requires-clause-text g c = c.requires.parses.lexed.text
+
 pub returns : goal.returns
 returns g c = record {
   verdict = c.extracted.ensures.verdict c.args.text.now

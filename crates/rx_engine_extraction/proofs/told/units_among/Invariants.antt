@@ -6,4 +6,4 @@ use Rattle.rx_engine_extraction.proofs.told.units_among.Given as goal
 
 abbrev pub invariant-loop-function : goal.invariant-loop-function
 invariant-loop-function l =
-    l.units.items ++ units_among (declarations l.decls.items) l.item (drop l.function-index l.functions) ≡ units_among (declarations l.decls.items) l.item l.functions
+    l.units.items ++ units_among (declarations l.decls.items) (drop l.function-index l.functions) ≡ units_among (declarations l.decls.items) l.functions

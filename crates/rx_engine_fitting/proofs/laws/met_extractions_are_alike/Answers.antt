@@ -1,0 +1,19 @@
+use Rattle.rx_engine_extraction.specs.Made.{told}
+use Rattle.rx_engine_extraction.specs.Case.{asked}
+use Rattle.rx_engine_extraction.proofs.Ends.{block_function}
+use Rattle.rx_engine_fitting.proofs.Deciding.{decided, free, front, selected, settled_so}
+use Rattle.rx_engine_fitting.proofs.laws.met_extractions_are_alike.Goals as goal
+
+pub returns : goal.returns
+returns c = λ bytes T w d is short allowed stands bounds.
+    let finite = c.typed_declarations_are_finite.ensures.finite in
+    let size = c.one_size_each.ensures.one in
+    let ready = c.accepted_functions_are_ready.ensures in
+    let run = selected finite size ready bytes T w d is short allowed stands in
+    let x = block_function T.program d.run.function d.run.block.path run.block run.at in
+    let decides = decided finite size ready bytes T w d is short allowed stands in
+    let word = free finite size ready bytes T w d is short allowed stands in
+    let h = c.decided_runs_are_selected.ensures (told T w d) (asked T d) bytes is.accepted.front.names T.types d.function.mutable decides word x.0 x.1 x.2 in
+    let y = c.settled_extractions_are_alike.ensures (told T w d) (asked T d) bytes is.accepted.front.names T.types d.function.mutable w.choice decides
+    (settled_so finite size ready bytes T w d is short allowed stands) (front finite size ready bytes T w d is short allowed stands) word x.0 x.1 x.2 h.text h.text_resolves bounds in
+    (x.0, x.1, x.2, h.text, h.text_resolves, y.0, y.1, y.2, y.3, y.4)
