@@ -88,6 +88,29 @@ fn large(alloc: Global, run: &str, behind: &str) -> Result<Reply, AllocError> {
     made(alloc, front.as_str(), run, behind)
 }
 
+/// A copy of a variable in a function of 16,384 sites, 8,186 prints of a number among them.
+fn of_many_sites(alloc: Global) -> Result<Reply, AllocError> {
+    let mut behind = String::from_str(alloc, " f(); ")?;
+    push_times(&mut behind, "println!(\"{}\", 1i64); ", 8186)?;
+    behind.push_str("println!(\"{}\", b); }")?;
+    made(
+        alloc,
+        "fn f() {} fn main() { let a = 1i64; ",
+        "let b = a;",
+        behind.as_str(),
+    )
+}
+
+#[test]
+fn a_call_may_be_a_site_too_many(rt: HostRuntime) {
+    let past = of_many_sites(rt.alloc()).map(|reply| reply.is(
+        1,
+        "",
+        "error: Refused Limit Sites 16385\n",
+    ));
+    hold(&rt, past, "16385");
+}
+
 #[test]
 fn a_signature_has_at_most_128_lifetimes(rt: HostRuntime) {
     let within = lent(rt.alloc(), 2).map(|reply| reply.ends(0));
