@@ -7,4 +7,5 @@ pub mod FormLemmas
 pub mod FunctionLemmas
 pub mod GivenLemmas
 pub mod WalkLemmas
+pub mod ReadLemmas
 pub mod PatternLemmas

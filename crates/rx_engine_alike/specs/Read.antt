@@ -1,9 +1,9 @@
--- What a typed tree of the answer is, by its form: the parts of that form, or nothing where it has another (Rust Reference, "Expressions",
--- "Statements").
-use Rattle.std.specs.Prelude.{ℕ, Bool, List, Option, Some, None}
+-- What a typed tree or a pattern of the answer is, by its form: the parts of that form, or nothing where it has another (Rust Reference,
+-- "Expressions", "Statements", "Patterns").
+use Rattle.std.specs.Prelude.{ℕ, Bool, true, false, List, Option, Some, None}
 use Rattle.rx_tree.specs.declared.tree.BinaryOp.{BinaryOp}
 use Rattle.rx_typed.specs.Tree as tree
-use Rattle.rx_typed.specs.Tree.{Place, Pattern, Mark, Making, Exp, Operands, Scrutinee, Arms, Body}
+use Rattle.rx_typed.specs.Tree.{Place, Constant, Mode, Pattern, Subpatterns, Mark, Making, Exp, Operands, Scrutinee, Arms, Body}
 
 abbrev pub as_read : Exp → Option (Mark × Bool × Place)
 as_read (tree.read m v p) = Some (m, v, p)
@@ -108,3 +108,29 @@ as_declares _ = None
 abbrev pub as_lets : Body → Option (ℕ × Pattern × Scrutinee × Body)
 as_lets (tree.lets n q c b) = Some (n, q, c, b)
 as_lets _ = None
+
+-- ---- patterns
+
+abbrev pub is_any : Pattern → Bool
+is_any tree.any = true
+is_any _ = false
+
+abbrev pub as_bind : Pattern → Option (ℕ × ℕ × Mode)
+as_bind (tree.bind n x m) = Some (n, x, m)
+as_bind _ = None
+
+abbrev pub as_exactly : Pattern → Option (ℕ × Constant)
+as_exactly (tree.exactly n c) = Some (n, c)
+as_exactly _ = None
+
+abbrev pub as_parts : Pattern → Option Subpatterns
+as_parts (tree.parts ps) = Some ps
+as_parts _ = None
+
+abbrev pub as_variant : Pattern → Option (ℕ × ℕ × Bool × ℕ × Subpatterns)
+as_variant (tree.variant n i several v ps) = Some (n, i, several, v, ps)
+as_variant _ = None
+
+abbrev pub as_behind : Pattern → Option (Bool × Pattern)
+as_behind (tree.behind k p) = Some (k, p)
+as_behind _ = None

@@ -1,14 +1,16 @@
 //! Whether an expression gives the values of variables in a row: nothing, the value, a tuple, or a variant with them.
 
 ghost use Rattle.std.specs.Prelude.{◌≡◌, nat_eq, ◌&&◌, [], ◌∷◌, ◌++◌, map, IfOk, OnOk};
-ghost use Rattle.rx_typed.specs.PlainTree.{plain-Expr, plain-Operand, plain-Place, plain-Stmt, operands_of, nested_of};
+ghost use Rattle.rx_typed.specs.PlainTree.{plain-Expr, plain-Making, plain-Operand, plain-Place, plain-Stmt, operands_of, nested_of};
 ghost use Rattle.rx_engine_simulation.specs.Sights.{sight_of};
 ghost use Rattle.rx_engine_alike.specs.Giving as giving;
 ghost use Rattle.rx_engine_alike.specs.PlainSights.{plain-Renaming, plain-How};
+ghost use Rattle.rx_engine_alike.specs.PlainParts.{makes_tuple as makes_tuple_of, makes_variant as makes_variant_of};
 
+use crate::reading::{block_of, borrow_of, build_of, read_of, unit_of};
 use crate::sights::{How, Seen, sight_of};
 use rx_core::{List, Place, Step};
-use rx_typed::{Expr, Form, Making, Operand, Stmt};
+use rx_typed::{Expr, Making, Operand, Stmt};
 use std::alloc::{AllocError, Global};
 
 /// Whether a place is the variable itself.
@@ -38,17 +40,16 @@ pub fn leads_from(variable: u32, place: &Place) -> bool
 }
 
 /// Whether an expression gives the value of the variable.
-#[tactic(auto, using(rx_typed::proofs::Rules::typed_tree_rules))]
+#[tactic(auto, using(crate::proofs::ReadLemmas::read_rules))]
 pub fn takes(variable: u32, expr: &Expr) -> bool
     ensures { result ≡ giving.takes variable (plain-Expr expr.now) }
 {
-    match &expr.form {
-        Form::Read(_, place) => is_own(variable, place),
-        Form::Borrow(mutable, place) => *mutable && leads_from(variable, place),
-        Form::Share(_) | Form::Build(_, _) | Form::Unit | Form::Lazily(_, _, _) => false,
-        Form::Assign(_, _) | Form::Update(_, _, _) | Form::Call(_, _) | Form::Input => false,
-        Form::Print(_) | Form::Block(_, _) | Form::Choose(_, _) => false,
-        Form::Loop(_, _) | Form::Jump(_, _) | Form::Give(_) => false,
+    match read_of(expr) {
+        Some((_, place)) => is_own(variable, place),
+        None => match borrow_of(expr) {
+            Some((mutable, place)) => mutable && leads_from(variable, place),
+            None => false,
+        },
     }
 }
 
@@ -80,16 +81,13 @@ pub fn takes_all(variables: &[u32], operands: &[Operand]) -> bool
 }
 
 /// Whether it is the unit.
-#[tactic(auto, using(rx_typed::proofs::Rules::typed_tree_rules))]
+#[tactic(auto, using(crate::proofs::ReadLemmas::read_rules))]
 pub fn is_unit(expr: &Expr) -> bool
     ensures { result ≡ giving.is_unit (plain-Expr expr.now) }
 {
-    match &expr.form {
-        Form::Unit => true,
-        Form::Read(_, _) | Form::Borrow(_, _) | Form::Share(_) | Form::Build(_, _) => false,
-        Form::Lazily(_, _, _) | Form::Assign(_, _) | Form::Update(_, _, _) => false,
-        Form::Call(_, _) | Form::Input | Form::Print(_) | Form::Block(_, _) => false,
-        Form::Choose(_, _) | Form::Loop(_, _) | Form::Jump(_, _) | Form::Give(_) => false,
+    match unit_of(expr) {
+        Some(_) => true,
+        None => false,
     }
 }
 
@@ -104,35 +102,35 @@ fn ends_with_unit(stmts: &[Stmt], tail: &Expr) -> bool
 }
 
 /// Whether it is the unit, or a block of the unit alone.
-#[tactic(auto, using(rx_typed::proofs::Rules::typed_tree_rules))]
+#[tactic(auto, using(crate::proofs::ReadLemmas::read_rules))]
 fn gives_nothing(expr: &Expr) -> bool
     ensures { result ≡ giving.gives_nothing (plain-Expr expr.now) }
 {
-    match &expr.form {
-        Form::Unit => true,
-        Form::Block(stmts, tail) => ends_with_unit(stmts.as_slice(), tail.get()),
-        Form::Read(_, _) | Form::Borrow(_, _) | Form::Share(_) | Form::Build(_, _) => false,
-        Form::Lazily(_, _, _) | Form::Assign(_, _) | Form::Update(_, _, _) => false,
-        Form::Call(_, _) | Form::Input | Form::Print(_) => false,
-        Form::Choose(_, _) | Form::Loop(_, _) | Form::Jump(_, _) | Form::Give(_) => false,
+    match block_of(expr) {
+        Some(block) => ends_with_unit(block.stmts, block.tail),
+        None => is_unit(expr),
+    }
+}
+
+/// Whether a tuple is made, of the values of these.
+fn makes_tuple(making: Making, variables: &[u32], operands: &[Operand]) -> bool
+    ensures { result ≡ makes_tuple_of (plain-Making making) variables.now (operands_of (map plain-Operand operands.now)) }
+{
+    match making {
+        Making::Tuple => takes_all(variables, operands),
+        Making::Constant(_) | Making::Negation | Making::Inversion => false,
+        Making::Operation(_) | Making::Struct(_) | Making::Variant(_, _) => false,
     }
 }
 
 /// Whether it is a tuple of the values of these.
-#[tactic(auto, using(rx_typed::proofs::Rules::typed_tree_rules))]
+#[tactic(auto, using(crate::proofs::ReadLemmas::read_rules))]
 fn gives_tuple(variables: &[u32], expr: &Expr) -> bool
     ensures { result ≡ giving.gives_tuple variables.now (plain-Expr expr.now) }
 {
-    match &expr.form {
-        Form::Build(making, operands) => match *making {
-            Making::Tuple => takes_all(variables, operands.as_slice()),
-            Making::Constant(_) | Making::Negation | Making::Inversion => false,
-            Making::Operation(_) | Making::Struct(_) | Making::Variant(_, _) => false,
-        },
-        Form::Read(_, _) | Form::Borrow(_, _) | Form::Share(_) | Form::Unit => false,
-        Form::Lazily(_, _, _) | Form::Assign(_, _) | Form::Update(_, _, _) => false,
-        Form::Call(_, _) | Form::Input | Form::Print(_) | Form::Block(_, _) => false,
-        Form::Choose(_, _) | Form::Loop(_, _) | Form::Jump(_, _) | Form::Give(_) => false,
+    match build_of(expr) {
+        Some((making, operands)) => makes_tuple(making, variables, operands),
+        None => false,
     }
 }
 
@@ -147,23 +145,25 @@ pub fn gives_bare(variables: &[u32], expr: &Expr) -> bool
     }
 }
 
+/// Whether the variant of this number is made, of the values of these.
+fn makes_variant(variant: usize, making: Making, variables: &[u32], operands: &[Operand]) -> bool
+    ensures { result ≡ makes_variant_of variant (plain-Making making) variables.now (operands_of (map plain-Operand operands.now)) }
+{
+    match making {
+        Making::Variant(_, made) => variant == made as usize && takes_all(variables, operands),
+        Making::Constant(_) | Making::Negation | Making::Inversion => false,
+        Making::Operation(_) | Making::Tuple | Making::Struct(_) => false,
+    }
+}
+
 /// Whether it gives the variant with the values of these.
-#[tactic(auto, using(rx_typed::proofs::Rules::typed_tree_rules))]
+#[tactic(auto, using(crate::proofs::ReadLemmas::read_rules))]
 pub fn gives_variant(variant: usize, variables: &[u32], expr: &Expr) -> bool
     ensures { result ≡ giving.gives_variant variant variables.now (plain-Expr expr.now) }
 {
-    match &expr.form {
-        Form::Build(making, operands) => match *making {
-            Making::Variant(_, made) => {
-                variant == made as usize && takes_all(variables, operands.as_slice())
-            }
-            Making::Constant(_) | Making::Negation | Making::Inversion => false,
-            Making::Operation(_) | Making::Tuple | Making::Struct(_) => false,
-        },
-        Form::Read(_, _) | Form::Borrow(_, _) | Form::Share(_) | Form::Unit => false,
-        Form::Lazily(_, _, _) | Form::Assign(_, _) | Form::Update(_, _, _) => false,
-        Form::Call(_, _) | Form::Input | Form::Print(_) | Form::Block(_, _) => false,
-        Form::Choose(_, _) | Form::Loop(_, _) | Form::Jump(_, _) | Form::Give(_) => false,
+    match build_of(expr) {
+        Some((making, operands)) => makes_variant(variant, making, variables, operands),
+        None => false,
     }
 }
 

@@ -1,7 +1,7 @@
 //! Whether a jump out of the run, or a return of it, is the return of its variant in the new function.
 
 ghost use Rattle.std.specs.Prelude.{◌≡◌, nat_eq, None, Some, map, IfOk, MatchOption, option_map};
-ghost use Rattle.rx_typed.specs.PlainTree.{plain-Expr, plain-Operand, plain-Pattern, plain-Matched, plain-Stmt, operands_of, nested_of};
+ghost use Rattle.rx_typed.specs.PlainTree.{plain-Expr, plain-Making, plain-Operand, plain-Pattern, plain-Matched, plain-Stmt, operands_of, nested_of};
 ghost use Rattle.rx_engine_alike.specs.Giving.{if_these, gives_variant as gives_variant_of};
 ghost use Rattle.rx_engine_alike.specs.Leaving as leaving;
 ghost use Rattle.rx_engine_alike.specs.PlainSights.{plain-Renaming};
@@ -11,9 +11,10 @@ ghost use Rattle.rx_engine_alike.specs.PlainParts.{plain-Bound};
 use crate::giving::{gives_variant, numbers_of};
 use crate::jumping::Pack;
 use crate::parts::Bound;
+use crate::reading::{block_of, build_of};
 use crate::sights::Seen;
 use rx_core::List;
-use rx_typed::{Expr, Form, Making, Matched, Mode, Operand, Pattern, Stmt};
+use rx_typed::{Expr, Making, Matched, Mode, Operand, Pattern, Stmt};
 use std::alloc::{AllocError, Global};
 
 /// Whether it gives the variant with these, where they are there.
@@ -75,28 +76,33 @@ fn only_operand(operands: &[Operand]) -> Option<&Expr>
     }
 }
 
+/// What the variant of this number is made of as its only part.
+fn part_of_made(variant: usize, making: Making, operands: &[Operand]) -> Option<&Expr>
+    ensures { MatchOption result (leaving.part_of_made variant (plain-Making making) (operands_of (map plain-Operand operands.now)) ≡ None)
+        (λ it. leaving.part_of_made variant (plain-Making making) (operands_of (map plain-Operand operands.now)) ≡ Some (plain-Expr it.now)) }
+{
+    match making {
+        Making::Variant(_, made) => {
+            if variant == made as usize {
+                only_operand(operands)
+            } else {
+                None
+            }
+        }
+        Making::Constant(_) | Making::Negation | Making::Inversion => None,
+        Making::Operation(_) | Making::Tuple | Making::Struct(_) => None,
+    }
+}
+
 /// What the variant of this number has as its only part.
-#[tactic(auto, using(rx_typed::proofs::Rules::typed_tree_rules))]
+#[tactic(auto, using(crate::proofs::ReadLemmas::read_rules))]
 pub fn part_of_variant(variant: usize, expr: &Expr) -> Option<&Expr>
     ensures { MatchOption result (leaving.part_of_variant variant (plain-Expr expr.now) ≡ None)
         (λ it. leaving.part_of_variant variant (plain-Expr expr.now) ≡ Some (plain-Expr it.now)) }
 {
-    match &expr.form {
-        Form::Build(making, operands) => match *making {
-            Making::Variant(_, made) => {
-                if variant == made as usize {
-                    only_operand(operands.as_slice())
-                } else {
-                    None
-                }
-            }
-            Making::Constant(_) | Making::Negation | Making::Inversion => None,
-            Making::Operation(_) | Making::Tuple | Making::Struct(_) => None,
-        },
-        Form::Read(_, _) | Form::Borrow(_, _) | Form::Share(_) | Form::Unit => None,
-        Form::Lazily(_, _, _) | Form::Assign(_, _) | Form::Update(_, _, _) => None,
-        Form::Call(_, _) | Form::Input | Form::Print(_) | Form::Block(_, _) => None,
-        Form::Choose(_, _) | Form::Loop(_, _) | Form::Jump(_, _) | Form::Give(_) => None,
+    match build_of(expr) {
+        Some((making, operands)) => part_of_made(variant, making, operands),
+        None => None,
     }
 }
 
@@ -156,15 +162,12 @@ fn bound_in<'t>(stmts: &'t [Stmt], tail: &'t Expr) -> Option<Bound<'t>>
     }
 }
 
-#[tactic(auto, using(rx_typed::proofs::Rules::typed_tree_rules))]
+#[tactic(auto, using(crate::proofs::ReadLemmas::read_rules))]
 pub fn bound_in_block(expr: &Expr) -> Option<Bound<'_>>
     ensures { option_map plain-Bound result ≡ leaving.bound_in_block (plain-Expr expr.now) }
 {
-    match &expr.form {
-        Form::Block(stmts, tail) => bound_in(stmts.as_slice(), tail.get()),
-        Form::Read(_, _) | Form::Borrow(_, _) | Form::Share(_) | Form::Build(_, _) => None,
-        Form::Unit | Form::Lazily(_, _, _) | Form::Assign(_, _) | Form::Update(_, _, _) => None,
-        Form::Call(_, _) | Form::Input | Form::Print(_) => None,
-        Form::Choose(_, _) | Form::Loop(_, _) | Form::Jump(_, _) | Form::Give(_) => None,
+    match block_of(expr) {
+        Some(block) => bound_in(block.stmts, block.tail),
+        None => None,
     }
 }

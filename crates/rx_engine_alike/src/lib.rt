@@ -10,6 +10,7 @@ mod leaves;
 mod leaving;
 mod likeness;
 mod parts;
+mod pattern_reading;
 mod patterns;
 mod reading;
 mod returning;
@@ -36,6 +37,9 @@ pub use likeness::{Hole, Likeness, both, is_alike, where_so};
 pub use parts::{Bound, Part};
 pub use patterns::{
     all_borrow, binds_value, like_bindings, like_tests, looks_behind, way_of_matched,
+};
+pub use reading::{
+    assign_of, block_of, borrow_of, build_of, call_of, choose_of, give_of, jump_of, read_of,
 };
 pub use same::{like_making, same_bool, same_constant, same_operator};
 pub use sights::{Hold, How, Seen, is_new, sight_of, with_seen};

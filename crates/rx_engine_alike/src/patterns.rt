@@ -6,11 +6,13 @@ ghost use Rattle.rx_typed.specs.PlainTree.{plain-Pattern, plain-Subpattern, plai
 ghost use Rattle.rx_typed.specs.Tree as tree;
 ghost use Rattle.rx_engine_simulation.specs.Places.{looking};
 ghost use Rattle.rx_engine_alike.specs.Likeness.{if_so};
+ghost use Rattle.rx_engine_alike.specs.Same.{same_bool as same_bools};
 ghost use Rattle.rx_engine_alike.specs.Ways as places;
 ghost use Rattle.rx_engine_alike.specs.Patterns as patterns;
 ghost use Rattle.rx_engine_alike.specs.PlainSights.{plain-Renaming};
 ghost use Rattle.rx_engine_alike.specs.PlainWays.{plain-Way, plain-Ways};
 
+use crate::pattern_reading::{behind_of, bind_of, exactly_of, is_any, parts_of, variant_of};
 use crate::same::{same_bool, same_constant};
 use crate::sights::Seen;
 use crate::variables::{Ways, with_new};
@@ -54,64 +56,56 @@ fn in_variants(way: Way, variant: u32, other: u32) -> Way
     then_step(way, Step::Variant(variant), Step::Variant(other))
 }
 
-/// Whether both test alike.
-#[cycle(tested)]
-#[tactic(auto, using(rx_typed::proofs::Rules::typed_pattern_rules))]
-pub fn like_tests(way: Way, pattern: &Pattern, other: &Pattern) -> bool
-    ensures { result ≡ patterns.like_tests (plain-Way way) (plain-Pattern pattern.now) (plain-Pattern other.now) }
-{
-    match pattern {
-        Pattern::Any => match other {
-            Pattern::Any => true,
-            Pattern::Bind(_, _, _) | Pattern::Exactly(_, _) | Pattern::Parts(_) => false,
-            Pattern::Variant(_, _, _, _, _) | Pattern::Behind(_, _) => false,
-        },
-        Pattern::Bind(_, _, _) => match other {
-            Pattern::Bind(_, _, _) => true,
-            Pattern::Any | Pattern::Exactly(_, _) | Pattern::Parts(_) => false,
-            Pattern::Variant(_, _, _, _, _) | Pattern::Behind(_, _) => false,
-        },
-        Pattern::Exactly(_, constant) => match other {
-            Pattern::Exactly(_, second) => may(Use::Looking, way)
-                && same_constant(*constant, *second),
-            Pattern::Any | Pattern::Bind(_, _, _) | Pattern::Parts(_) => false,
-            Pattern::Variant(_, _, _, _, _) | Pattern::Behind(_, _) => false,
-        },
-        Pattern::Parts(parts) => match other {
-            Pattern::Parts(others) => like_tests_in(way, parts.as_slice(), others.as_slice()),
-            Pattern::Any | Pattern::Bind(_, _, _) | Pattern::Exactly(_, _) => false,
-            Pattern::Variant(_, _, _, _, _) | Pattern::Behind(_, _) => false,
-        },
-        Pattern::Variant(_, _, several, variant, parts) => match other {
-            Pattern::Variant(_, _, others_several, second, others) => {
-                same_bool(*several, *others_several)
-                    && (same_variant(way, *several, *variant, *second)
-                        && like_tests_in(
-                            in_variants(way, *variant, *second),
-                            parts.as_slice(),
-                            others.as_slice(),
-                        ))
-            }
-            Pattern::Any | Pattern::Bind(_, _, _) | Pattern::Exactly(_, _) => false,
-            Pattern::Parts(_) | Pattern::Behind(_, _) => false,
-        },
-        Pattern::Behind(_, inner) => match other {
-            Pattern::Behind(_, second) => like_tests(
-                by_dereference(way),
-                inner.get(),
-                second.get(),
-            ),
-            Pattern::Any | Pattern::Bind(_, _, _) | Pattern::Exactly(_, _) => false,
-            Pattern::Parts(_) | Pattern::Variant(_, _, _, _, _) => false,
-        },
-    }
-}
-
 /// Whether a variant's tag is tested alike; that of an enum's only variant is not tested.
 fn same_variant(way: Way, several: bool, variant: u32, other: u32) -> bool
     ensures { result ≡ not several || (places.may looking (plain-Way way) && nat_eq variant other) }
 {
     !several || (may(Use::Looking, way) && variant == other)
+}
+
+/// Whether both enums have more variants or none, and the tag is tested alike.
+fn same_tag(way: Way, several: bool, variant: u32, others: bool, other: u32) -> bool
+    ensures { result ≡ same_bools several others && (not several || (places.may looking (plain-Way way) && nat_eq variant other)) }
+{
+    same_bool(several, others) && same_variant(way, several, variant, other)
+}
+
+/// Whether both test alike.
+#[cycle(tested)]
+#[tactic(auto, using(rx_typed::proofs::Rules::typed_pattern_rules, crate::proofs::PatternLemmas::pattern_rules))]
+pub fn like_tests(way: Way, pattern: &Pattern, other: &Pattern) -> bool
+    ensures { result ≡ patterns.like_tests (plain-Way way) (plain-Pattern pattern.now) (plain-Pattern other.now) }
+{
+    match pattern {
+        Pattern::Any => is_any(other),
+        Pattern::Bind(_, _, _) => match bind_of(other) {
+            Some(_) => true,
+            None => false,
+        },
+        Pattern::Exactly(_, constant) => match exactly_of(other) {
+            Some((_, second)) => may(Use::Looking, way) && same_constant(*constant, second),
+            None => false,
+        },
+        Pattern::Parts(parts) => match parts_of(other) {
+            Some(others) => like_tests_in(way, parts.as_slice(), others),
+            None => false,
+        },
+        Pattern::Variant(_, _, several, variant, parts) => match variant_of(other) {
+            Some((_, _, others_several, second, others)) => {
+                if same_tag(way, *several, *variant, others_several, second) {
+                    let inner = in_variants(way, *variant, second);
+                    like_tests_in(inner, parts.as_slice(), others)
+                } else {
+                    false
+                }
+            }
+            None => false,
+        },
+        Pattern::Behind(_, inner) => match behind_of(other) {
+            Some((_, second)) => like_tests(by_dereference(way), inner.get(), second),
+            None => false,
+        },
+    }
 }
 
 #[cycle(tested)]
@@ -165,7 +159,7 @@ fn like_mode(way: Way, mode: Mode, other: Mode) -> bool
 
 /// Adds what both bind; says whether they bind alike.
 #[cycle(bound)]
-#[tactic(auto, using(rx_typed::proofs::Rules::typed_pattern_rules))]
+#[tactic(auto, using(rx_typed::proofs::Rules::typed_pattern_rules, crate::proofs::PatternLemmas::pattern_rules))]
 pub fn like_bindings(
     ways: &Ways,
     way: Way,
@@ -177,54 +171,38 @@ pub fn like_bindings(
         ≡ patterns.like_bindings (plain-Ways ways.now) (plain-Way way) (plain-Renaming renaming.old.items) (plain-Pattern pattern.now) (plain-Pattern other.now)) }
 {
     match pattern {
-        Pattern::Any => match other {
-            Pattern::Any => Ok(true),
-            Pattern::Bind(_, _, _) | Pattern::Exactly(_, _) | Pattern::Parts(_) => Ok(false),
-            Pattern::Variant(_, _, _, _, _) | Pattern::Behind(_, _) => Ok(false),
-        },
-        Pattern::Bind(_, variable, mode) => match other {
-            Pattern::Bind(_, to, second) => {
-                if like_mode(way, *mode, *second) {
-                    with_new(ways, renaming, *variable, *to)
+        Pattern::Any => Ok(is_any(other)),
+        Pattern::Bind(_, variable, mode) => match bind_of(other) {
+            Some((_, to, second)) => {
+                if like_mode(way, *mode, second) {
+                    with_new(ways, renaming, *variable, to)
                 } else {
                     Ok(false)
                 }
             }
-            Pattern::Any | Pattern::Exactly(_, _) | Pattern::Parts(_) => Ok(false),
-            Pattern::Variant(_, _, _, _, _) | Pattern::Behind(_, _) => Ok(false),
+            None => Ok(false),
         },
-        Pattern::Exactly(_, _) => match other {
-            Pattern::Exactly(_, _) => Ok(true),
-            Pattern::Any | Pattern::Bind(_, _, _) | Pattern::Parts(_) => Ok(false),
-            Pattern::Variant(_, _, _, _, _) | Pattern::Behind(_, _) => Ok(false),
+        Pattern::Exactly(_, _) => match exactly_of(other) {
+            Some(_) => Ok(true),
+            None => Ok(false),
         },
-        Pattern::Parts(parts) => match other {
-            Pattern::Parts(others) => {
-                like_bindings_in(ways, way, renaming, parts.as_slice(), others.as_slice())
+        Pattern::Parts(parts) => match parts_of(other) {
+            Some(others) => like_bindings_in(ways, way, renaming, parts.as_slice(), others),
+            None => Ok(false),
+        },
+        Pattern::Variant(_, _, _, variant, parts) => match variant_of(other) {
+            Some((_, _, _, second, others)) => {
+                let inner = in_variants(way, *variant, second);
+                like_bindings_in(ways, inner, renaming, parts.as_slice(), others)
             }
-            Pattern::Any | Pattern::Bind(_, _, _) | Pattern::Exactly(_, _) => Ok(false),
-            Pattern::Variant(_, _, _, _, _) | Pattern::Behind(_, _) => Ok(false),
+            None => Ok(false),
         },
-        Pattern::Variant(_, _, _, variant, parts) => match other {
-            Pattern::Variant(_, _, _, second, others) => {
-                let inner = in_variants(way, *variant, *second);
-                like_bindings_in(ways, inner, renaming, parts.as_slice(), others.as_slice())
+        Pattern::Behind(_, inner) => match behind_of(other) {
+            Some((_, second)) => {
+                let behind = by_dereference(way);
+                like_bindings(ways, behind, renaming, inner.get(), second)
             }
-            Pattern::Any | Pattern::Bind(_, _, _) | Pattern::Exactly(_, _) => Ok(false),
-            Pattern::Parts(_) | Pattern::Behind(_, _) => Ok(false),
-        },
-        Pattern::Behind(_, inner) => match other {
-            Pattern::Behind(_, second) => {
-                like_bindings(
-                    ways,
-                    by_dereference(way),
-                    renaming,
-                    inner.get(),
-                    second.get(),
-                )
-            }
-            Pattern::Any | Pattern::Bind(_, _, _) | Pattern::Exactly(_, _) => Ok(false),
-            Pattern::Parts(_) | Pattern::Variant(_, _, _, _, _) => Ok(false),
+            None => Ok(false),
         },
     }
 }
@@ -320,15 +298,13 @@ fn all_borrow_in(to: u32, parts: &[Subpattern]) -> bool
 }
 
 /// Whether a pattern looks behind the reference in a variable.
-#[tactic(auto, using(rx_typed::proofs::Rules::typed_pattern_rules))]
+#[tactic(auto, using(crate::proofs::PatternLemmas::pattern_rules))]
 pub fn looks_behind(to: u32, pattern: &Pattern) -> bool
     ensures { result ≡ patterns.looks_behind to (plain-Pattern pattern.now) }
 {
-    match pattern {
-        Pattern::Any => true,
-        Pattern::Behind(_, inner) => all_borrow(to, inner.get()),
-        Pattern::Bind(_, _, _) | Pattern::Exactly(_, _) => false,
-        Pattern::Parts(_) | Pattern::Variant(_, _, _, _, _) => false,
+    match behind_of(pattern) {
+        Some((_, inner)) => all_borrow(to, inner),
+        None => is_any(pattern),
     }
 }
 

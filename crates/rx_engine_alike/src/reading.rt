@@ -8,7 +8,37 @@ ghost use Rattle.rx_engine_alike.specs.PlainParts.{plain-Part};
 use crate::parts::Part;
 use rx_core::Place;
 use rx_tree::BinaryOp;
-use rx_typed::{Arm, Expr, Form, Making, Matched, Operand};
+use rx_typed::{Arm, Expr, Form, Making, Mark, Matched, Operand};
+
+/// The place that is read, and whether its value moves.
+#[tactic(auto, using(rx_typed::proofs::Rules::typed_tree_rules))]
+pub fn read_of<'t>(expr: &'t Expr) -> Option<(bool, &'t Place)>
+    ensures { MatchOption result (read.as_read (plain-Expr expr.now) ≡ None)
+        (λ it. read.as_read (plain-Expr expr.now) ≡ Some (plain-Mark expr.now.mark, it.0, plain-Place it.1.now)) }
+{
+    match &expr.form {
+        Form::Read(moves, place) => Some((*moves, place)),
+        Form::Borrow(_, _) | Form::Share(_) | Form::Build(_, _) | Form::Unit => None,
+        Form::Lazily(_, _, _) | Form::Assign(_, _) | Form::Update(_, _, _) => None,
+        Form::Call(_, _) | Form::Input | Form::Print(_) | Form::Block(_, _) => None,
+        Form::Choose(_, _) | Form::Loop(_, _) | Form::Jump(_, _) | Form::Give(_) => None,
+    }
+}
+
+/// Whether it is borrowed mutably, and the place.
+#[tactic(auto, using(rx_typed::proofs::Rules::typed_tree_rules))]
+pub fn borrow_of<'t>(expr: &'t Expr) -> Option<(bool, &'t Place)>
+    ensures { MatchOption result (read.as_borrow (plain-Expr expr.now) ≡ None)
+        (λ it. read.as_borrow (plain-Expr expr.now) ≡ Some (plain-Mark expr.now.mark, it.0, plain-Place it.1.now)) }
+{
+    match &expr.form {
+        Form::Borrow(mutable, place) => Some((*mutable, place)),
+        Form::Read(_, _) | Form::Share(_) | Form::Build(_, _) | Form::Unit => None,
+        Form::Lazily(_, _, _) | Form::Assign(_, _) | Form::Update(_, _, _) => None,
+        Form::Call(_, _) | Form::Input | Form::Print(_) | Form::Block(_, _) => None,
+        Form::Choose(_, _) | Form::Loop(_, _) | Form::Jump(_, _) | Form::Give(_) => None,
+    }
+}
 
 /// The value that is shared.
 #[tactic(auto, using(rx_typed::proofs::Rules::typed_tree_rules))]
@@ -27,7 +57,7 @@ pub(crate) fn share_of<'t>(expr: &'t Expr) -> Option<&'t Expr>
 
 /// What is made, and of which operands.
 #[tactic(auto, using(rx_typed::proofs::Rules::typed_tree_rules))]
-pub(crate) fn build_of<'t>(expr: &'t Expr) -> Option<(Making, &'t [Operand])>
+pub fn build_of<'t>(expr: &'t Expr) -> Option<(Making, &'t [Operand])>
     ensures { MatchOption result (read.as_build (plain-Expr expr.now) ≡ None)
         (λ it. read.as_build (plain-Expr expr.now) ≡ Some (plain-Mark expr.now.mark, plain-Making it.0, operands_of (map plain-Operand it.1.now))) }
 {
@@ -37,6 +67,22 @@ pub(crate) fn build_of<'t>(expr: &'t Expr) -> Option<(Making, &'t [Operand])>
         Form::Lazily(_, _, _) | Form::Assign(_, _) | Form::Update(_, _, _) => None,
         Form::Call(_, _) | Form::Input | Form::Print(_) | Form::Block(_, _) => None,
         Form::Choose(_, _) | Form::Loop(_, _) | Form::Jump(_, _) | Form::Give(_) => None,
+    }
+}
+
+/// The mark of the unit.
+#[tactic(auto, using(rx_typed::proofs::Rules::typed_tree_rules))]
+pub(crate) fn unit_of(expr: &Expr) -> Option<&Mark>
+    ensures { MatchOption result (read.as_unit (plain-Expr expr.now) ≡ None)
+        (λ it. read.as_unit (plain-Expr expr.now) ≡ Some (plain-Mark it.now)) }
+{
+    match &expr.form {
+        Form::Unit => Some(&expr.mark),
+        Form::Read(_, _) | Form::Borrow(_, _) | Form::Share(_) => None,
+        Form::Build(_, _) | Form::Lazily(_, _, _) | Form::Assign(_, _) => None,
+        Form::Update(_, _, _) | Form::Call(_, _) | Form::Input | Form::Print(_) => None,
+        Form::Block(_, _) | Form::Choose(_, _) | Form::Loop(_, _) => None,
+        Form::Jump(_, _) | Form::Give(_) => None,
     }
 }
 
@@ -58,7 +104,7 @@ pub(crate) fn lazily_of<'t>(expr: &'t Expr) -> Option<(bool, &'t Expr, &'t Expr)
 
 /// What is assigned, and the value.
 #[tactic(auto, using(rx_typed::proofs::Rules::typed_tree_rules))]
-pub(crate) fn assign_of<'t>(expr: &'t Expr) -> Option<(&'t Place, &'t Expr)>
+pub fn assign_of<'t>(expr: &'t Expr) -> Option<(&'t Place, &'t Expr)>
     ensures { MatchOption result (read.as_assign (plain-Expr expr.now) ≡ None)
         (λ it. read.as_assign (plain-Expr expr.now) ≡ Some (plain-Mark expr.now.mark, plain-Place it.0.now, plain-Expr it.1.now)) }
 {
@@ -90,7 +136,7 @@ pub(crate) fn update_of<'t>(expr: &'t Expr) -> Option<(BinaryOp, &'t Place, &'t 
 
 /// Which function is called, with which arguments.
 #[tactic(auto, using(rx_typed::proofs::Rules::typed_tree_rules))]
-pub(crate) fn call_of<'t>(expr: &'t Expr) -> Option<(u32, &'t [Operand])>
+pub fn call_of<'t>(expr: &'t Expr) -> Option<(u32, &'t [Operand])>
     ensures { MatchOption result (read.as_call (plain-Expr expr.now) ≡ None)
         (λ it. read.as_call (plain-Expr expr.now) ≡ Some (plain-Mark expr.now.mark, it.0, operands_of (map plain-Operand it.1.now))) }
 {
@@ -99,6 +145,22 @@ pub(crate) fn call_of<'t>(expr: &'t Expr) -> Option<(u32, &'t [Operand])>
         Form::Read(_, _) | Form::Borrow(_, _) | Form::Share(_) => None,
         Form::Build(_, _) | Form::Unit | Form::Lazily(_, _, _) => None,
         Form::Assign(_, _) | Form::Update(_, _, _) | Form::Input => None,
+        Form::Print(_) | Form::Block(_, _) | Form::Choose(_, _) => None,
+        Form::Loop(_, _) | Form::Jump(_, _) | Form::Give(_) => None,
+    }
+}
+
+/// The mark of what reads an input.
+#[tactic(auto, using(rx_typed::proofs::Rules::typed_tree_rules))]
+pub(crate) fn input_of(expr: &Expr) -> Option<&Mark>
+    ensures { MatchOption result (read.as_input (plain-Expr expr.now) ≡ None)
+        (λ it. read.as_input (plain-Expr expr.now) ≡ Some (plain-Mark it.now)) }
+{
+    match &expr.form {
+        Form::Input => Some(&expr.mark),
+        Form::Read(_, _) | Form::Borrow(_, _) | Form::Share(_) => None,
+        Form::Build(_, _) | Form::Unit | Form::Lazily(_, _, _) => None,
+        Form::Assign(_, _) | Form::Update(_, _, _) | Form::Call(_, _) => None,
         Form::Print(_) | Form::Block(_, _) | Form::Choose(_, _) => None,
         Form::Loop(_, _) | Form::Jump(_, _) | Form::Give(_) => None,
     }
@@ -122,7 +184,7 @@ pub(crate) fn print_of<'t>(expr: &'t Expr) -> Option<&'t Expr>
 
 /// The statements and the tail of a block.
 #[tactic(auto, using(rx_typed::proofs::Rules::typed_tree_rules))]
-pub(crate) fn block_of<'t>(expr: &'t Expr) -> Option<Part<'t>>
+pub fn block_of<'t>(expr: &'t Expr) -> Option<Part<'t>>
     ensures { MatchOption result (read.as_block (plain-Expr expr.now) ≡ None)
         (λ it. read.as_block (plain-Expr expr.now) ≡ Some (plain-Mark expr.now.mark, plain-Part it)) }
 {
@@ -141,7 +203,7 @@ pub(crate) fn block_of<'t>(expr: &'t Expr) -> Option<Part<'t>>
 
 /// What is matched, with which arms.
 #[tactic(auto, using(rx_typed::proofs::Rules::typed_tree_rules))]
-pub(crate) fn choose_of<'t>(expr: &'t Expr) -> Option<(&'t Matched, &'t [Arm])>
+pub fn choose_of<'t>(expr: &'t Expr) -> Option<(&'t Matched, &'t [Arm])>
     ensures { MatchOption result (read.as_choose (plain-Expr expr.now) ≡ None)
         (λ it. read.as_choose (plain-Expr expr.now) ≡ Some (plain-Mark expr.now.mark, plain-Matched it.0.now, arms_of (map plain-Arm it.1.now))) }
 {
@@ -173,7 +235,7 @@ pub(crate) fn loop_of<'t>(expr: &'t Expr) -> Option<(u32, &'t Expr)>
 
 /// Of which loop, and whether its next pass begins.
 #[tactic(auto, using(rx_typed::proofs::Rules::typed_tree_rules))]
-pub(crate) fn jump_of(expr: &Expr) -> Option<(u32, bool)>
+pub fn jump_of(expr: &Expr) -> Option<(u32, bool)>
     ensures { MatchOption result (read.as_jump (plain-Expr expr.now) ≡ None)
         (λ it. read.as_jump (plain-Expr expr.now) ≡ Some (plain-Mark expr.now.mark, it.0, it.1)) }
 {
@@ -189,7 +251,7 @@ pub(crate) fn jump_of(expr: &Expr) -> Option<(u32, bool)>
 
 /// What is returned.
 #[tactic(auto, using(rx_typed::proofs::Rules::typed_tree_rules))]
-pub(crate) fn give_of<'t>(expr: &'t Expr) -> Option<&'t Expr>
+pub fn give_of<'t>(expr: &'t Expr) -> Option<&'t Expr>
     ensures { MatchOption result (read.as_give (plain-Expr expr.now) ≡ None)
         (λ it. read.as_give (plain-Expr expr.now) ≡ Some (plain-Mark expr.now.mark, plain-Expr it.now)) }
 {

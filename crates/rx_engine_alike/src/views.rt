@@ -8,10 +8,11 @@ ghost use Rattle.rx_engine_alike.specs.PlainSights.{plain-How, plain-Renaming};
 ghost use Rattle.rx_engine_alike.specs.PlainWays.{plain-Way};
 
 use crate::patterns::{binds_value, looks_behind, way_of_matched};
+use crate::reading::{borrow_of, read_of};
 use crate::sights::{How, Seen, sight_of};
 use crate::ways::{Use, Way, like_place};
 use rx_core::{Place, Step};
-use rx_typed::{Expr, Form, Matched, Pattern};
+use rx_typed::{Expr, Matched, Pattern};
 
 fn is_viewed(how: How) -> bool
     ensures { result ≡ forms.is_viewed (plain-How how) }
@@ -61,31 +62,24 @@ pub fn views_place(renaming: &[Seen], mutable: bool, place: &Place, other: &Plac
     }
 }
 
-/// Whether the text's value is the answer's, read in this place.
-#[tactic(auto, using(rx_typed::proofs::Rules::typed_tree_rules))]
-fn is_read_in(renaming: &[Seen], other: &Place, expr: &Expr) -> bool
-    ensures { result ≡ forms.is_read_in (plain-Renaming renaming.now) (plain-Place other.now) (plain-Expr expr.now) }
-{
-    match &expr.form {
-        Form::Read(_, place) => like_place(renaming, Use::Looking, place, other),
-        Form::Borrow(mutable, place) => views_place(renaming, *mutable, place, other),
-        Form::Share(_) | Form::Build(_, _) | Form::Unit | Form::Lazily(_, _, _) => false,
-        Form::Assign(_, _) | Form::Update(_, _, _) | Form::Call(_, _) | Form::Input => false,
-        Form::Print(_) | Form::Block(_, _) | Form::Choose(_, _) => false,
-        Form::Loop(_, _) | Form::Jump(_, _) | Form::Give(_) => false,
-    }
-}
-
-#[tactic(auto, using(rx_typed::proofs::Rules::typed_tree_rules))]
+#[tactic(auto, using(crate::proofs::ReadLemmas::read_rules))]
 fn views_exp(renaming: &[Seen], expr: &Expr, other: &Place) -> bool
     ensures { result ≡ forms.views_exp (plain-Renaming renaming.now) (plain-Expr expr.now) (plain-Place other.now) }
 {
-    match &expr.form {
-        Form::Borrow(mutable, place) => views_place(renaming, *mutable, place, other),
-        Form::Read(_, _) | Form::Share(_) | Form::Build(_, _) | Form::Unit => false,
-        Form::Lazily(_, _, _) | Form::Assign(_, _) | Form::Update(_, _, _) => false,
-        Form::Call(_, _) | Form::Input | Form::Print(_) | Form::Block(_, _) => false,
-        Form::Choose(_, _) | Form::Loop(_, _) | Form::Jump(_, _) | Form::Give(_) => false,
+    match borrow_of(expr) {
+        Some((mutable, place)) => views_place(renaming, mutable, place, other),
+        None => false,
+    }
+}
+
+/// Whether the text's value is the answer's, read in this place.
+#[tactic(auto, using(crate::proofs::ReadLemmas::read_rules))]
+fn is_read_in(renaming: &[Seen], other: &Place, expr: &Expr) -> bool
+    ensures { result ≡ forms.is_read_in (plain-Renaming renaming.now) (plain-Place other.now) (plain-Expr expr.now) }
+{
+    match read_of(expr) {
+        Some((_, place)) => like_place(renaming, Use::Looking, place, other),
+        None => views_exp(renaming, expr, other),
     }
 }
 

@@ -1,6 +1,7 @@
 pub mod Firsts
 pub mod Received
 pub mod ArmLemmas
+pub mod ReadLemmas
 pub mod CallLemmas
 pub mod StretchLemmas
 pub mod EndLemmas

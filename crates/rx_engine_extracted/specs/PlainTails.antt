@@ -1,7 +1,7 @@
 -- Parts of what is asked of a run with its block's tail that have a function each.
 use Rattle.std.specs.Prelude.{ℕ, nat_eq, Bool, not, ◌&&◌, List, ◌∷◌, Option, Some, None}
 use Rattle.rx_typed.specs.Tree as tree
-use Rattle.rx_typed.specs.Tree.{Pattern, Exp, Operands, Scrutinee, Body}
+use Rattle.rx_typed.specs.Tree.{Making, Pattern, Exp, Operands, Scrutinee, Body}
 use Rattle.rx_exits_plan.specs.Points.{next}
 use Rattle.rx_engine_simulation.specs.Sights.{Renaming}
 use Rattle.rx_engine_simulation.specs.Jumps.{Jumping}
@@ -19,6 +19,11 @@ use Rattle.rx_engine_extracted.specs.TailBlock.{unit_stands_for}
 abbrev pub first_operand : Operands → Option (Exp × Operands)
 first_operand tree.no_operand = None
 first_operand (tree.operand_and i e es) = if_so (nat_eq 0 i) (Some (e, es))
+
+-- those that the variant of this number is made of
+abbrev pub operands_made : ℕ → Making → Operands → Option Operands
+operands_made v (tree.variant_of i u) es = if_so (nat_eq v u) (Some es)
+operands_made v _ es = None
 
 -- a `let` with what it matches
 abbrev pub lets_first : Body → Option (Pattern × Scrutinee × Body)

@@ -15,10 +15,10 @@ use crate::body::{block_in, ended, runs_first};
 use crate::handing::{is_within, put_back, received, received_in};
 use crate::told::{Told, all_special, without};
 use rx_engine_alike::{
-    Leaving, LoopPair, Pack, Part, Seen, gives_bare, is_in, is_loop, is_new, is_unit, pack_of,
-    same_bool, takes,
+    Leaving, LoopPair, Pack, Part, Seen, gives_bare, is_in, is_loop, is_new, is_unit, jump_of,
+    pack_of, same_bool, takes,
 };
-use rx_typed::{Arm, Expr, Form, Pattern, Subpattern};
+use rx_typed::{Arm, Expr, Pattern, Subpattern};
 use std::alloc::{AllocError, Global};
 
 /// An arm for a variant: the parts of its pattern, and its body.
@@ -83,16 +83,13 @@ pub(crate) fn arm_for<'t>(variant: usize, arms: &'t [Arm]) -> Option<ArmOf<'t>>
 }
 
 /// Whether an expression is a jump to the answer's loop for this one.
-#[tactic(auto, using(rx_typed::proofs::Rules::typed_tree_rules))]
+#[tactic(auto, using(crate::proofs::ReadLemmas::read_rules))]
 fn jumps_to(loops: &[LoopPair], number: u32, again: bool, expr: &Expr) -> bool
     ensures { result ≡ spec.jumps_to (loop_of (plain-Loops loops.now) number) again (plain-Expr expr.now) }
 {
-    match &expr.form {
-        Form::Jump(other, next) => is_loop(loops, number, *other) && same_bool(again, *next),
-        Form::Read(_, _) | Form::Borrow(_, _) | Form::Share(_) | Form::Build(_, _) => false,
-        Form::Unit | Form::Lazily(_, _, _) | Form::Assign(_, _) | Form::Update(_, _, _) => false,
-        Form::Call(_, _) | Form::Input | Form::Print(_) | Form::Block(_, _) => false,
-        Form::Choose(_, _) | Form::Loop(_, _) | Form::Give(_) => false,
+    match jump_of(expr) {
+        Some((other, next)) => is_loop(loops, number, other) && same_bool(again, next),
+        None => false,
     }
 }
 

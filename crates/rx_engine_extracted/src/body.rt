@@ -6,12 +6,12 @@ ghost use Rattle.rx_typed.specs.PlainTree.{plain-Expr, plain-Matched, plain-Patt
 ghost use Rattle.rx_engine_extracted.specs.Handing.{as_assigned};
 ghost use Rattle.rx_engine_alike.specs.PlainParts.{plain-Part};
 ghost use Rattle.rx_engine_alike.specs.Read.{as_ends};
-ghost use Rattle.rx_engine_extracted.specs.Block.{block_of};
+ghost use Rattle.rx_engine_extracted.specs.Block.{block_of as body_of};
 ghost use Rattle.rx_engine_extracted.specs.Reading as spec;
 ghost use Rattle.rx_engine_extracted.specs.PlainTails.{lets_first as lets_first_of};
 
-use rx_engine_alike::Part;
-use rx_typed::{Expr, Form, Matched, Pattern, Stmt};
+use rx_engine_alike::{Part, assign_of, block_of};
+use rx_typed::{Expr, Matched, Pattern, Stmt};
 
 /// The first statement, and what is left behind it.
 pub(crate) fn first<'t>(body: Part<'t>) -> Option<(&'t Stmt, Part<'t>)>
@@ -47,19 +47,16 @@ pub(crate) fn declares_one<'t>(body: Part<'t>) -> Option<(u32, Part<'t>)>
 }
 
 /// The variable that an expression assigns, and its value.
-#[tactic(auto, using(rx_typed::proofs::Rules::typed_tree_rules))]
+#[tactic(auto, using(crate::proofs::ReadLemmas::read_rules))]
 pub(crate) fn assigned<'t>(expr: &'t Expr) -> Option<(u32, &'t Expr)>
     ensures { option_map (λ r. (r.0, plain-Expr r.1.now)) result ≡ as_assigned (plain-Expr expr.entry.now) }
 {
-    match &expr.form {
-        Form::Assign(place, value) => match place.steps.as_slice() {
-            [] => Some((place.var, value.get())),
+    match assign_of(expr) {
+        Some((place, value)) => match place.steps.as_slice() {
+            [] => Some((place.var, value)),
             [_, ..] => None,
         },
-        Form::Read(_, _) | Form::Borrow(_, _) | Form::Share(_) | Form::Build(_, _) => None,
-        Form::Unit | Form::Lazily(_, _, _) | Form::Update(_, _, _) | Form::Call(_, _) => None,
-        Form::Input | Form::Print(_) | Form::Block(_, _) | Form::Choose(_, _) => None,
-        Form::Loop(_, _) | Form::Jump(_, _) | Form::Give(_) => None,
+        None => None,
     }
 }
 
@@ -134,18 +131,12 @@ pub(crate) fn ended<'t>(body: Part<'t>) -> Option<&'t Expr>
 }
 
 /// The statements and the tail of a block.
-#[tactic(auto, using(rx_typed::proofs::Rules::typed_tree_rules))]
+#[tactic(auto, using(crate::proofs::ReadLemmas::read_rules))]
 pub(crate) fn block_in<'t>(expr: &'t Expr) -> Option<Part<'t>>
-    ensures { option_map plain-Part result ≡ block_of (plain-Expr expr.entry.now) }
+    ensures { option_map plain-Part result ≡ body_of (plain-Expr expr.entry.now) }
 {
-    match &expr.form {
-        Form::Block(stmts, tail) => Some(Part {
-            stmts: stmts.as_slice(),
-            tail: tail.get(),
-        }),
-        Form::Read(_, _) | Form::Borrow(_, _) | Form::Share(_) | Form::Build(_, _) => None,
-        Form::Unit | Form::Lazily(_, _, _) | Form::Assign(_, _) | Form::Update(_, _, _) => None,
-        Form::Call(_, _) | Form::Input | Form::Print(_) | Form::Choose(_, _) => None,
-        Form::Loop(_, _) | Form::Jump(_, _) | Form::Give(_) => None,
+    match block_of(expr) {
+        Some(block) => Some(block),
+        None => None,
     }
 }

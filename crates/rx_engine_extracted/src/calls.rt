@@ -17,9 +17,9 @@ use crate::arms::arm_for;
 use crate::exits::{Match, end_arm, exit_arms, gives_unit_by, outs_of, variant_of};
 use crate::told::{Told, specials_among};
 use rx_core::List;
-use rx_engine_alike::{Jumping, Leaving, LoopPair, Returning, Seen};
+use rx_engine_alike::{Jumping, Leaving, LoopPair, Returning, Seen, call_of, choose_of};
 use rx_exits_plan::{Exit, ExitOuts};
-use rx_typed::{Arm, Expr, Form, Matched, Operand};
+use rx_typed::{Arm, Expr, Matched, Operand};
 use std::alloc::{AllocError, Global};
 
 /// How the new function ends.
@@ -42,22 +42,19 @@ pub(crate) struct Called<'t> {
 }
 
 /// The operands of a call of this item.
-#[tactic(auto, using(rx_typed::proofs::Rules::typed_tree_rules))]
+#[tactic(auto, using(crate::proofs::ReadLemmas::read_rules))]
 fn operands_in_call<'t>(number: u32, expr: &'t Expr) -> Option<&'t [Operand]>
     ensures { option_map (λ es. operands_of (map plain-Operand es.now)) result ≡ spec.operands_of number (plain-Expr expr.entry.now) }
 {
-    match &expr.form {
-        Form::Call(function, operands) => {
-            if number == *function {
-                Some(operands.as_slice())
+    match call_of(expr) {
+        Some((function, operands)) => {
+            if number == function {
+                Some(operands)
             } else {
                 None
             }
         }
-        Form::Read(_, _) | Form::Borrow(_, _) | Form::Share(_) | Form::Build(_, _) => None,
-        Form::Unit | Form::Lazily(_, _, _) | Form::Assign(_, _) | Form::Update(_, _, _) => None,
-        Form::Input | Form::Print(_) | Form::Block(_, _) | Form::Choose(_, _) => None,
-        Form::Loop(_, _) | Form::Jump(_, _) | Form::Give(_) => None,
+        None => None,
     }
 }
 
@@ -72,16 +69,13 @@ fn operands_in<'t>(number: u32, matched: &'t Matched) -> Option<&'t [Operand]>
 }
 
 /// What is matched, and the arms.
-#[tactic(auto, using(rx_typed::proofs::Rules::typed_tree_rules))]
+#[tactic(auto, using(crate::proofs::ReadLemmas::read_rules))]
 fn matches_in<'t>(expr: &'t Expr) -> Option<(&'t Matched, &'t [Arm])>
     ensures { option_map (λ r. (plain-Matched r.0.now, arms_of (map plain-Arm r.1.now))) result ≡ matches_of (plain-Expr expr.entry.now) }
 {
-    match &expr.form {
-        Form::Choose(matched, arms) => Some((matched, arms.as_slice())),
-        Form::Read(_, _) | Form::Borrow(_, _) | Form::Share(_) | Form::Build(_, _) => None,
-        Form::Unit | Form::Lazily(_, _, _) | Form::Assign(_, _) | Form::Update(_, _, _) => None,
-        Form::Call(_, _) | Form::Input | Form::Print(_) | Form::Block(_, _) => None,
-        Form::Loop(_, _) | Form::Jump(_, _) | Form::Give(_) => None,
+    match choose_of(expr) {
+        Some((matched, arms)) => Some((matched, arms)),
+        None => None,
     }
 }
 

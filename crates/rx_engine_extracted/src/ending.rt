@@ -16,21 +16,20 @@ use crate::body::{ended, runs_first};
 use crate::calls::GivenWay;
 use crate::stretches::{Passed, count_of, like_first, runs_alike};
 use rx_core::List;
-use rx_engine_alike::{Between, Jumping, Part, Seen, gives_bare, gives_variant, numbers_of};
-use rx_typed::{Expr, Form};
+use rx_engine_alike::{
+    Between, Jumping, Part, Seen, give_of, gives_bare, gives_variant, numbers_of,
+};
+use rx_typed::Expr;
 use std::alloc::{AllocError, Global};
 
 /// What an expression returns.
-#[tactic(auto, using(rx_typed::proofs::Rules::typed_tree_rules))]
+#[tactic(auto, using(crate::proofs::ReadLemmas::read_rules))]
 pub(crate) fn given<'t>(expr: &'t Expr) -> Option<&'t Expr>
     ensures { option_map (λ e. plain-Expr e.now) result ≡ given_of (plain-Expr expr.entry.now) }
 {
-    match &expr.form {
-        Form::Give(value) => Some(value.get()),
-        Form::Read(_, _) | Form::Borrow(_, _) | Form::Share(_) | Form::Build(_, _) => None,
-        Form::Unit | Form::Lazily(_, _, _) | Form::Assign(_, _) | Form::Update(_, _, _) => None,
-        Form::Call(_, _) | Form::Input | Form::Print(_) | Form::Block(_, _) => None,
-        Form::Choose(_, _) | Form::Loop(_, _) | Form::Jump(_, _) => None,
+    match give_of(expr) {
+        Some(value) => Some(value),
+        None => None,
     }
 }
 

@@ -14,52 +14,44 @@ ghost use Rattle.rx_engine_extracted.specs.PlainEntering.{begun_in, plain-Begun,
 
 use crate::body::declares_one;
 use crate::told::{Told, is_special, is_special_in};
-use rx_engine_alike::{Hold, How, Part, Seen, is_in, is_own, leads_from, sight_of, with_seen};
+use rx_engine_alike::{
+    Hold, How, Part, Seen, borrow_of, is_in, is_own, leads_from, read_of, same_bool, sight_of,
+    with_seen,
+};
 use rx_modes_policy::Mode;
-use rx_typed::{Expr, Form, Operand, Param};
+use rx_typed::{Expr, Operand, Param};
 use std::alloc::{AllocError, Global};
 
 /// Whether an expression is the variable itself.
-#[tactic(auto, using(rx_typed::proofs::Rules::typed_tree_rules))]
+#[tactic(auto, using(crate::proofs::ReadLemmas::read_rules))]
 fn reads_own(variable: u32, expr: &Expr) -> bool
     ensures { result ≡ spec.reads_own variable (plain-Expr expr.now) }
 {
-    match &expr.form {
-        Form::Read(_, place) => is_own(variable, place),
-        Form::Borrow(_, _) | Form::Share(_) | Form::Build(_, _) | Form::Unit => false,
-        Form::Lazily(_, _, _) | Form::Assign(_, _) | Form::Update(_, _, _) => false,
-        Form::Call(_, _) | Form::Input | Form::Print(_) | Form::Block(_, _) => false,
-        Form::Choose(_, _) | Form::Loop(_, _) | Form::Jump(_, _) | Form::Give(_) => false,
+    match read_of(expr) {
+        Some((_, place)) => is_own(variable, place),
+        None => false,
     }
 }
 
 /// Whether it is a reference to the variable.
-#[tactic(auto, using(rx_typed::proofs::Rules::typed_tree_rules))]
+#[tactic(auto, using(crate::proofs::ReadLemmas::read_rules))]
 fn borrows_own(mutable: bool, variable: u32, expr: &Expr) -> bool
     ensures { result ≡ spec.borrows_own mutable variable (plain-Expr expr.now) }
 {
-    match &expr.form {
-        Form::Borrow(true, place) => mutable && is_own(variable, place),
-        Form::Borrow(false, place) => !mutable && is_own(variable, place),
-        Form::Read(_, _) | Form::Share(_) | Form::Build(_, _) | Form::Unit => false,
-        Form::Lazily(_, _, _) | Form::Assign(_, _) | Form::Update(_, _, _) => false,
-        Form::Call(_, _) | Form::Input | Form::Print(_) | Form::Block(_, _) => false,
-        Form::Choose(_, _) | Form::Loop(_, _) | Form::Jump(_, _) | Form::Give(_) => false,
+    match borrow_of(expr) {
+        Some((other, place)) => same_bool(mutable, other) && is_own(variable, place),
+        None => false,
     }
 }
 
 /// Whether it is the reference in the variable, asked for again.
-#[tactic(auto, using(rx_typed::proofs::Rules::typed_tree_rules))]
+#[tactic(auto, using(crate::proofs::ReadLemmas::read_rules))]
 fn asks_again(mutable: bool, variable: u32, expr: &Expr) -> bool
     ensures { result ≡ spec.asks_again mutable variable (plain-Expr expr.now) }
 {
-    match &expr.form {
-        Form::Borrow(true, place) => mutable && leads_from(variable, place),
-        Form::Borrow(false, place) => !mutable && leads_from(variable, place),
-        Form::Read(_, _) | Form::Share(_) | Form::Build(_, _) | Form::Unit => false,
-        Form::Lazily(_, _, _) | Form::Assign(_, _) | Form::Update(_, _, _) => false,
-        Form::Call(_, _) | Form::Input | Form::Print(_) | Form::Block(_, _) => false,
-        Form::Choose(_, _) | Form::Loop(_, _) | Form::Jump(_, _) | Form::Give(_) => false,
+    match borrow_of(expr) {
+        Some((other, place)) => same_bool(mutable, other) && leads_from(variable, place),
+        None => false,
     }
 }
 

@@ -15,10 +15,11 @@ use crate::arms::{ArmOf, arm_for, jump_arm};
 use crate::handing::received_in;
 use crate::told::Told;
 use rx_engine_alike::{
-    Leaving, LoopPair, Seen, gives_bare, is_in, is_new, pack_among, pack_of, same_exit, takes,
+    Leaving, LoopPair, Seen, give_of, gives_bare, is_in, is_new, pack_among, pack_of, same_exit,
+    takes,
 };
 use rx_exits_plan::{Exit, ExitOuts, ExitPlan};
-use rx_typed::{Arm, Expr, Form, Subpattern};
+use rx_typed::{Arm, Expr, Subpattern};
 use std::alloc::{AllocError, Global};
 
 /// The number of an exit among these.
@@ -60,30 +61,24 @@ fn has_no_part(parts: &[Subpattern]) -> bool
 }
 
 /// Whether an expression returns the unit.
-#[tactic(auto, using(rx_typed::proofs::Rules::typed_tree_rules))]
+#[tactic(auto, using(crate::proofs::ReadLemmas::read_rules))]
 fn returns_nothing(expr: &Expr) -> bool
     ensures { result ≡ spec.returns_nothing (plain-Expr expr.now) }
 {
-    match &expr.form {
-        Form::Give(value) => gives_bare(&[], value.get()),
-        Form::Read(_, _) | Form::Borrow(_, _) | Form::Share(_) | Form::Build(_, _) => false,
-        Form::Unit | Form::Lazily(_, _, _) | Form::Assign(_, _) | Form::Update(_, _, _) => false,
-        Form::Call(_, _) | Form::Input | Form::Print(_) | Form::Block(_, _) => false,
-        Form::Choose(_, _) | Form::Loop(_, _) | Form::Jump(_, _) => false,
+    match give_of(expr) {
+        Some(value) => gives_bare(&[], value),
+        None => false,
     }
 }
 
 /// Whether it returns the variable's value.
-#[tactic(auto, using(rx_typed::proofs::Rules::typed_tree_rules))]
+#[tactic(auto, using(crate::proofs::ReadLemmas::read_rules))]
 fn returns_own(variable: u32, expr: &Expr) -> bool
     ensures { result ≡ spec.returns_own variable (plain-Expr expr.now) }
 {
-    match &expr.form {
-        Form::Give(value) => takes(variable, value.get()),
-        Form::Read(_, _) | Form::Borrow(_, _) | Form::Share(_) | Form::Build(_, _) => false,
-        Form::Unit | Form::Lazily(_, _, _) | Form::Assign(_, _) | Form::Update(_, _, _) => false,
-        Form::Call(_, _) | Form::Input | Form::Print(_) | Form::Block(_, _) => false,
-        Form::Choose(_, _) | Form::Loop(_, _) | Form::Jump(_, _) => false,
+    match give_of(expr) {
+        Some(value) => takes(variable, value),
+        None => false,
     }
 }
 

@@ -1,7 +1,7 @@
 //! Whether the new function ends as a run does that holds its block's tail.
 
 ghost use Rattle.std.specs.Prelude.{◌≡◌, ◌∷◌, ◌&&◌, nat_eq, Some, map, option_map, IfOk, OnOk};
-ghost use Rattle.rx_typed.specs.PlainTree.{plain-Expr, plain-Matched, plain-Operand, plain-Place, operands_of};
+ghost use Rattle.rx_typed.specs.PlainTree.{plain-Expr, plain-Making, plain-Matched, plain-Operand, plain-Place, operands_of};
 ghost use Rattle.rx_engine_alike.specs.Likeness.{if_so};
 ghost use Rattle.rx_engine_alike.specs.Giving.{if_these, takes as takes_of, takes_all};
 ghost use Rattle.rx_engine_alike.specs.PlainSights.{plain-Renaming};
@@ -11,7 +11,7 @@ ghost use Rattle.rx_engine_alike.specs.PlainLikeness.{plain-Between};
 ghost use Rattle.rx_engine_extracted.specs.Reading.{runs_first as runs_first_of};
 ghost use Rattle.rx_engine_extracted.specs.TailEnding as spec;
 ghost use Rattle.rx_engine_extracted.specs.PlainCalls.{plain-GivenWay};
-ghost use Rattle.rx_engine_extracted.specs.PlainTails.{first_operand as first_operand_of, gives_before as gives_before_of};
+ghost use Rattle.rx_engine_extracted.specs.PlainTails.{first_operand as first_operand_of, gives_before as gives_before_of, operands_made as operands_made_of};
 
 use crate::body::{lets_first, runs_first};
 use crate::calls::GivenWay;
@@ -20,10 +20,10 @@ use crate::handing::received_by;
 use crate::stretches::{Passed, like_first, runs_alike};
 use rx_core::{List, Place};
 use rx_engine_alike::{
-    Between, Jumping, Part, Seen, Use, gives_bare, gives_unit, is_in, is_new, like_place,
-    numbers_of, takes,
+    Between, Jumping, Part, Seen, Use, build_of, gives_bare, gives_unit, is_in, is_new, like_place,
+    numbers_of, read_of, takes,
 };
-use rx_typed::{Expr, Form, Making, Matched, Operand};
+use rx_typed::{Expr, Making, Matched, Operand};
 use std::alloc::{AllocError, Global};
 
 /// The tail of the run's block, and whether the run has a value.
@@ -150,27 +150,36 @@ fn tail_and_numbers(
     }
 }
 
+/// The operands that the variant of this number is made of.
+fn operands_made<'t>(
+    variant: usize,
+    making: Making,
+    operands: &'t [Operand],
+) -> Option<&'t [Operand]>
+    ensures { option_map (λ es. operands_of (map plain-Operand es.now)) result
+        ≡ operands_made_of variant (plain-Making making) (operands_of (map plain-Operand operands.entry.now)) }
+{
+    match making {
+        Making::Variant(_, made) => {
+            if variant == made as usize {
+                Some(operands)
+            } else {
+                None
+            }
+        }
+        Making::Constant(_) | Making::Negation | Making::Inversion => None,
+        Making::Operation(_) | Making::Tuple | Making::Struct(_) => None,
+    }
+}
+
 /// The operands of a variant.
-#[tactic(auto, using(rx_typed::proofs::Rules::typed_tree_rules))]
+#[tactic(auto, using(crate::proofs::ReadLemmas::read_rules))]
 fn variant_operands<'t>(variant: usize, expr: &'t Expr) -> Option<&'t [Operand]>
     ensures { option_map (λ es. operands_of (map plain-Operand es.now)) result ≡ spec.variant_operands variant (plain-Expr expr.entry.now) }
 {
-    match &expr.form {
-        Form::Build(making, operands) => match *making {
-            Making::Variant(_, made) => {
-                if variant == made as usize {
-                    Some(operands.as_slice())
-                } else {
-                    None
-                }
-            }
-            Making::Constant(_) | Making::Negation | Making::Inversion => None,
-            Making::Operation(_) | Making::Tuple | Making::Struct(_) => None,
-        },
-        Form::Read(_, _) | Form::Borrow(_, _) | Form::Share(_) | Form::Unit => None,
-        Form::Lazily(_, _, _) | Form::Assign(_, _) | Form::Update(_, _, _) => None,
-        Form::Call(_, _) | Form::Input | Form::Print(_) | Form::Block(_, _) => None,
-        Form::Choose(_, _) | Form::Loop(_, _) | Form::Jump(_, _) | Form::Give(_) => None,
+    match build_of(expr) {
+        Some((making, operands)) => operands_made(variant, making, operands),
+        None => None,
     }
 }
 
@@ -197,16 +206,13 @@ fn in_variant(
 }
 
 /// Whether the tail is a place that is looked into in the answer's.
-#[tactic(auto, using(rx_typed::proofs::Rules::typed_tree_rules))]
+#[tactic(auto, using(crate::proofs::ReadLemmas::read_rules))]
 fn looks_alike(renaming: &[Seen], tail: &Expr, place: &Place) -> bool
     ensures { result ≡ spec.looks_alike (plain-Renaming renaming.now) (plain-Expr tail.now) (plain-Place place.now) }
 {
-    match &tail.form {
-        Form::Read(_, read) => like_place(renaming, Use::Looking, read, place),
-        Form::Borrow(_, _) | Form::Share(_) | Form::Build(_, _) | Form::Unit => false,
-        Form::Lazily(_, _, _) | Form::Assign(_, _) | Form::Update(_, _, _) => false,
-        Form::Call(_, _) | Form::Input | Form::Print(_) | Form::Block(_, _) => false,
-        Form::Choose(_, _) | Form::Loop(_, _) | Form::Jump(_, _) | Form::Give(_) => false,
+    match read_of(tail) {
+        Some((_, read)) => like_place(renaming, Use::Looking, read, place),
+        None => false,
     }
 }
 

@@ -14,41 +14,29 @@ use crate::body::{binds_first, ended};
 use crate::ending::given;
 use crate::handing::{is_within, parts_of, put_back, received, received_in};
 use crate::told::Told;
-use rx_engine_alike::{Part, Seen, is_in, is_new, is_unit, takes};
-use rx_typed::{Expr, Form, Pattern, Subpattern};
+use rx_engine_alike::{Part, Seen, give_of, is_in, is_new, is_unit, takes};
+use rx_typed::{Expr, Pattern, Subpattern};
 use std::alloc::{AllocError, Global};
 
 /// Whether an expression gives what the body of a function ends with, whose block has this node.
-#[tactic(auto, using(rx_typed::proofs::Rules::typed_tree_rules))]
+#[tactic(auto, using(crate::proofs::ReadLemmas::read_rules))]
 pub(crate) fn gives_at(node: usize, expr: &Expr) -> bool
     ensures { result ≡ spec.gives_at node (plain-Expr expr.now) }
 {
-    match &expr.form {
-        Form::Give(_) => expr.mark.node == node,
-        Form::Read(_, _) | Form::Borrow(_, _) | Form::Share(_) | Form::Build(_, _) => false,
-        Form::Unit | Form::Lazily(_, _, _) | Form::Assign(_, _) | Form::Update(_, _, _) => false,
-        Form::Call(_, _) | Form::Input | Form::Print(_) | Form::Block(_, _) => false,
-        Form::Choose(_, _) | Form::Loop(_, _) | Form::Jump(_, _) => false,
+    match give_of(expr) {
+        Some(_) => expr.mark.node == node,
+        None => false,
     }
 }
 
 /// The tail as it is written: that of a function's body stands in a `Give` at the block's node.
-#[tactic(auto, using(rx_typed::proofs::Rules::typed_tree_rules))]
+#[tactic(auto, using(crate::proofs::ReadLemmas::read_rules))]
 pub(crate) fn written_tail<'t>(node: usize, tail: &'t Expr) -> &'t Expr
     ensures { plain-Expr result.now ≡ written_tail_of node (plain-Expr tail.now) }
 {
-    match &tail.form {
-        Form::Give(inner) => {
-            if tail.mark.node == node {
-                inner.get()
-            } else {
-                tail
-            }
-        }
-        Form::Read(_, _) | Form::Borrow(_, _) | Form::Share(_) | Form::Build(_, _) => tail,
-        Form::Unit | Form::Lazily(_, _, _) | Form::Assign(_, _) | Form::Update(_, _, _) => tail,
-        Form::Call(_, _) | Form::Input | Form::Print(_) | Form::Block(_, _) => tail,
-        Form::Choose(_, _) | Form::Loop(_, _) | Form::Jump(_, _) => tail,
+    match give_of(tail) {
+        Some(inner) => { if tail.mark.node == node { inner } else { tail } }
+        None => tail,
     }
 }
 

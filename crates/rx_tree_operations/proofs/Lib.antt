@@ -1,4 +1,7 @@
 pub mod Apart
-pub mod ApartExpressions
+pub mod ApartStatements
 pub mod Lengths
+pub mod PartsLemmas
+pub mod PartsNodes
 pub mod PositionsLemmas
+pub mod Sizes

@@ -1,1 +1,3 @@
 pub mod NodeOf
+pub mod Parts
+pub mod PlainParts

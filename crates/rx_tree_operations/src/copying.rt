@@ -2,7 +2,6 @@
 
 ghost use Rattle.std.specs.Prelude.{◌≡◌, Ok, IfOk};
 
-use crate::copied::{make_pattern, named, reference, variant_pattern};
 use rx_core::{Boxed, LetGo, List, keep, pushed};
 use rx_tree::{FieldPattern, Ident, Pattern, PatternNode, TypeNode, TypeText};
 use std::alloc::{AllocError, Global};
@@ -106,13 +105,16 @@ fn copy_type_node(alloc: Global, node: &TypeNode) -> Result<TypeNode, AllocError
         TypeNode::Kind(kind) => Ok(TypeNode::Kind(*kind)),
         TypeNode::Bool => Ok(TypeNode::Bool),
         TypeNode::Tuple(parts) => Ok(TypeNode::Tuple(copy_types(alloc, parts.as_slice())?)),
-        TypeNode::Ref(lifetime, mutable, inner) => reference(
-            copy_optional(alloc, lifetime),
-            *mutable,
-            copy_boxed_type(alloc, inner),
-        ),
+        TypeNode::Ref(lifetime, mutable, inner) => {
+            let (lifetime, inner) = both(
+                copy_optional(alloc, lifetime),
+                copy_boxed_type(alloc, inner),
+            )?;
+            Ok(TypeNode::Ref(lifetime, *mutable, inner))
+        }
         TypeNode::Named(name, lifetimes) => {
-            named(name.copy(alloc), copy_written(alloc, lifetimes))
+            let (name, lifetimes) = both(name.copy(alloc), copy_written(alloc, lifetimes))?;
+            Ok(TypeNode::Named(name, lifetimes))
         }
     }
 }
@@ -171,15 +173,21 @@ fn copy_pattern_node(alloc: Global, node: &PatternNode) -> Result<PatternNode, A
         PatternNode::Tuple(parts) => {
             Ok(PatternNode::Tuple(copy_patterns(alloc, parts.as_slice())?))
         }
-        PatternNode::Variant(adt, variant, parts) => variant_pattern(
-            adt.copy(alloc),
-            variant.copy(alloc),
-            copy_patterns(alloc, parts.as_slice()),
-        ),
-        PatternNode::Make(name, fields) => make_pattern(
-            name.copy(alloc),
-            copy_field_patterns(alloc, fields.as_slice()),
-        ),
+        PatternNode::Variant(adt, variant, parts) => {
+            let (names, parts) = both(
+                both(adt.copy(alloc), variant.copy(alloc)),
+                copy_patterns(alloc, parts.as_slice()),
+            )?;
+            let (adt, variant) = names;
+            Ok(PatternNode::Variant(adt, variant, parts))
+        }
+        PatternNode::Make(name, fields) => {
+            let (name, fields) = both(
+                name.copy(alloc),
+                copy_field_patterns(alloc, fields.as_slice()),
+            )?;
+            Ok(PatternNode::Make(name, fields))
+        }
     }
 }
 

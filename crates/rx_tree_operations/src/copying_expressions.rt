@@ -2,9 +2,6 @@
 
 ghost use Rattle.std.specs.Prelude.{◌≡◌, IfOk};
 
-use crate::copied::{
-    assign, binary, call, cases, field, make, repeated, update, while_fitting, while_true,
-};
 use crate::copying::{CopyTree, both, copy_optional, copy_pattern};
 use rx_core::{Boxed, List, keep, pushed};
 use rx_tree::{Arm, Block, Expr, ExprNode, FieldExpr, Stmt, StmtNode};
@@ -183,18 +180,31 @@ fn copy_node(alloc: Global, node: &ExprNode) -> Result<ExprNode, AllocError>
         ExprNode::Bool(value) => Ok(ExprNode::Bool(*value)),
         ExprNode::Tuple(parts) => Ok(ExprNode::Tuple(listed(alloc, parts)?)),
         ExprNode::Var(name) => Ok(ExprNode::Var(name.copy(alloc)?)),
-        ExprNode::Field(base, name) => field(boxed(alloc, base), name.copy(alloc)),
+        ExprNode::Field(base, name) => {
+            let (base, name) = both(boxed(alloc, base), name.copy(alloc))?;
+            Ok(ExprNode::Field(base, name))
+        }
         ExprNode::Part(base, index) => Ok(ExprNode::Part(boxed(alloc, base)?, *index)),
         ExprNode::Deref(base) => Ok(ExprNode::Deref(boxed(alloc, base)?)),
         ExprNode::Neg(base) => Ok(ExprNode::Neg(boxed(alloc, base)?)),
         ExprNode::Not(base) => Ok(ExprNode::Not(boxed(alloc, base)?)),
         ExprNode::Borrow(mutable, place) => Ok(ExprNode::Borrow(*mutable, boxed(alloc, place)?)),
-        ExprNode::Binary(op, left, right) => binary(*op, boxed(alloc, left), boxed(alloc, right)),
-        ExprNode::Assign(place, value) => assign(boxed(alloc, place), boxed(alloc, value)),
-        ExprNode::Update(op, place, value) => {
-            update(*op, boxed(alloc, place), boxed(alloc, value))
+        ExprNode::Binary(op, left, right) => {
+            let (left, right) = both(boxed(alloc, left), boxed(alloc, right))?;
+            Ok(ExprNode::Binary(*op, left, right))
         }
-        ExprNode::Call(name, args) => call(name.copy(alloc), listed(alloc, args)),
+        ExprNode::Assign(place, value) => {
+            let (place, value) = both(boxed(alloc, place), boxed(alloc, value))?;
+            Ok(ExprNode::Assign(place, value))
+        }
+        ExprNode::Update(op, place, value) => {
+            let (place, value) = both(boxed(alloc, place), boxed(alloc, value))?;
+            Ok(ExprNode::Update(*op, place, value))
+        }
+        ExprNode::Call(name, args) => {
+            let (name, args) = both(name.copy(alloc), listed(alloc, args))?;
+            Ok(ExprNode::Call(name, args))
+        }
         ExprNode::NextInput => Ok(ExprNode::NextInput),
         ExprNode::Variant(adt, variant, None) => {
             let (adt, variant) = both(adt.copy(alloc), variant.copy(alloc))?;
@@ -208,7 +218,10 @@ fn copy_node(alloc: Global, node: &ExprNode) -> Result<ExprNode, AllocError>
             let (adt, variant) = names;
             Ok(ExprNode::Variant(adt, variant, Some(args)))
         }
-        ExprNode::Make(name, all) => make(name.copy(alloc), fields(alloc, all)),
+        ExprNode::Make(name, all) => {
+            let (name, all) = both(name.copy(alloc), fields(alloc, all))?;
+            Ok(ExprNode::Make(name, all))
+        }
         ExprNode::Print(expr) => Ok(ExprNode::Print(boxed(alloc, expr)?)),
         ExprNode::Block(block) => Ok(ExprNode::Block(body(alloc, block)?)),
         ExprNode::If(test, then, None) => {
@@ -240,19 +253,31 @@ fn copy_node(alloc: Global, node: &ExprNode) -> Result<ExprNode, AllocError>
             let (then, other) = blocks;
             Ok(ExprNode::IfLet(pattern, scrutinee, then, Some(other)))
         }
-        ExprNode::Match(scrutinee, all) => cases(boxed(alloc, scrutinee), arms(alloc, all)),
-        ExprNode::Loop(label, block) => repeated(copy_optional(alloc, label), body(alloc, block)),
-        ExprNode::While(label, test, block) => while_true(
-            copy_optional(alloc, label),
-            boxed(alloc, test),
-            body(alloc, block),
-        ),
-        ExprNode::WhileLet(label, pattern, scrutinee, block) => while_fitting(
-            copy_optional(alloc, label),
-            copy_pattern(alloc, pattern),
-            boxed(alloc, scrutinee),
-            body(alloc, block),
-        ),
+        ExprNode::Match(scrutinee, all) => {
+            let (scrutinee, all) = both(boxed(alloc, scrutinee), arms(alloc, all))?;
+            Ok(ExprNode::Match(scrutinee, all))
+        }
+        ExprNode::Loop(label, block) => {
+            let (label, block) = both(copy_optional(alloc, label), body(alloc, block))?;
+            Ok(ExprNode::Loop(label, block))
+        }
+        ExprNode::While(label, test, block) => {
+            let (head, block) = both(
+                both(copy_optional(alloc, label), boxed(alloc, test)),
+                body(alloc, block),
+            )?;
+            let (label, test) = head;
+            Ok(ExprNode::While(label, test, block))
+        }
+        ExprNode::WhileLet(label, pattern, scrutinee, block) => {
+            let (head, parts) = both(
+                both(copy_optional(alloc, label), copy_pattern(alloc, pattern)),
+                both(boxed(alloc, scrutinee), body(alloc, block)),
+            )?;
+            let (label, pattern) = head;
+            let (scrutinee, block) = parts;
+            Ok(ExprNode::WhileLet(label, pattern, scrutinee, block))
+        }
         ExprNode::Break(label) => Ok(ExprNode::Break(copy_optional(alloc, label)?)),
         ExprNode::Continue(label) => Ok(ExprNode::Continue(copy_optional(alloc, label)?)),
         ExprNode::Return(None) => Ok(ExprNode::Return(None)),

@@ -100,7 +100,6 @@ fn same_written(a: &Option<List<Option<Ident>>>, b: &Option<List<Option<Ident>>>
 
 /// Whether both lists of types are equal apart from spans.
 #[cycle(same_types)]
-#[tactic(auto, using(rx_tree::proofs::Rules::type_rules))]
 pub fn same_types(a: &[TypeText], b: &[TypeText]) -> bool
     ensures { IsTrue result ↔ (erase_types (types_of (map plain-TypeText a.now)) ≡ erase_types (types_of (map plain-TypeText b.now))) }
 {
@@ -169,7 +168,6 @@ pub fn same_pattern(a: &Pattern, b: &Pattern) -> bool
 }
 
 #[cycle(same_patterns)]
-#[tactic(auto, using(rx_tree::proofs::Rules::pattern_rules))]
 fn same_patterns(a: &[Pattern], b: &[Pattern]) -> bool
     ensures { IsTrue result
         ↔ (erase_patterns (patterns_of (map plain-Pattern a.now)) ≡ erase_patterns (patterns_of (map plain-Pattern b.now))) }
@@ -186,7 +184,7 @@ fn same_patterns(a: &[Pattern], b: &[Pattern]) -> bool
 }
 
 #[cycle(same_patterns)]
-#[tactic(auto, using(rx_tree::proofs::Rules::pattern_rules))]
+#[tactic(auto, using(rx_tree::proofs::Rules::field_pattern_by_parts))]
 fn same_field_pattern(a: &FieldPattern, b: &FieldPattern) -> bool
     ensures { IsTrue result
         ↔ (erase_field_patterns (field_pattern_and (plain-FieldPattern a.now).0 (plain-FieldPattern a.now).1 no_field_pattern)
@@ -196,7 +194,6 @@ fn same_field_pattern(a: &FieldPattern, b: &FieldPattern) -> bool
 }
 
 #[cycle(same_patterns)]
-#[tactic(auto, using(rx_tree::proofs::Rules::pattern_rules))]
 fn same_field_patterns(a: &[FieldPattern], b: &[FieldPattern]) -> bool
     ensures { IsTrue result
         ↔ (erase_field_patterns (field_patterns_of (map plain-FieldPattern a.now))

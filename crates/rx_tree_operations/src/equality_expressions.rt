@@ -1,197 +1,132 @@
 //! Equality of expressions, statements and blocks apart from spans.
 
-ghost use Rattle.std.specs.Prelude.{◌≡◌, ◌↔◌, IsTrue, map};
-ghost use Rattle.rx_tree.specs.PlainOf.{plain-Expr, expressions_of, plain-FieldExpr, field_expressions_of, plain-Arm, arms_of, plain-Block, plain-Stmt, statements_of};
-ghost use Rattle.rx_tree.specs.Erase.{erase, erase_all, erase_fields, erase_arms, erase_body, erase_statement, erase_statements};
+ghost use Rattle.std.specs.Prelude.{◌≡◌, ◌↔◌, IsTrue, map, option_map};
+ghost use Rattle.rx_tree.specs.PlainOf.{plain-Pattern, plain-Expr, expressions_of, optional_of, plain-FieldExpr, field_expressions_of, plain-Arm, arms_of, plain-Block, plain-Stmt, statements_of};
+ghost use Rattle.rx_tree.specs.Erase.{erase_pattern, erase, erase_all, erase_optional, erase_fields, erase_arms, erase_body, erase_statement, erase_statements};
 ghost use Rattle.rx_tree.specs.Plain.{field_and, no_field, arm_and, no_arm};
+ghost use Rattle.rx_tree_operations.specs.Parts.{erase_parts, SameTrees, SameLists};
+ghost use Rattle.rx_tree_operations.specs.PlainParts.{plain-Head, plain-Parts};
 
-use crate::equality::{same_label, same_name, same_optional_type, same_pattern};
-use rx_tree::{Arm, Block, Expr, ExprNode, FieldExpr, Stmt, StmtNode};
+use crate::equality::{same_name, same_optional_type, same_pattern};
+use crate::parts::{Head, Parts, parts_of};
+use rx_core::Name;
+use rx_tree::{Arm, Block, Expr, FieldExpr, Pattern, Stmt, StmtNode};
+
+fn same_word(a: Option<&Name>, b: Option<&Name>) -> bool
+    ensures { IsTrue result ↔ (option_map (λ n. n.now) a.entry ≡ option_map (λ n. n.now) b.entry) }
+{
+    match a {
+        None => b.is_none(),
+        Some(x) => match b {
+            Some(y) => x.is(y),
+            None => false,
+        },
+    }
+}
+
+fn same_values(a: &Head<'_>, b: &Head<'_>) -> bool
+    ensures { IsTrue result
+        ↔ ((a.now.number ≡ b.now.number) × (a.now.truth ≡ b.now.truth) × (a.now.kind ≡ b.now.kind)) }
+{
+    a.number == b.number && a.truth == b.truth && a.kind == b.kind
+}
+
+fn same_operators(a: &Head<'_>, b: &Head<'_>) -> bool
+    ensures { IsTrue result ↔ ((a.now.operator ≡ b.now.operator) × (a.now.update ≡ b.now.update)) }
+{
+    a.operator == b.operator && a.update == b.update
+}
+
+fn same_head(a: &Head<'_>, b: &Head<'_>) -> bool
+    ensures { IsTrue result ↔ (plain-Head a.now ≡ plain-Head b.now) }
+{
+    a.form == b.form
+        && same_values(a, b)
+        && same_operators(a, b)
+        && same_word(a.name, b.name)
+        && same_word(a.second, b.second)
+}
+
+fn same_optional_pattern(a: Option<&Pattern>, b: Option<&Pattern>) -> bool
+    ensures { IsTrue result
+        ↔ (option_map erase_pattern (option_map (λ p. plain-Pattern p.now) a.entry)
+        ≡ option_map erase_pattern (option_map (λ p. plain-Pattern p.now) b.entry)) }
+{
+    match a {
+        None => b.is_none(),
+        Some(x) => match b {
+            Some(y) => same_pattern(x, y),
+            None => false,
+        },
+    }
+}
 
 /// Whether both expressions are equal apart from spans.
 #[cycle(same_expressions)]
-#[tactic(auto, using(rx_tree::proofs::Rules::expression_rules))]
 pub fn same_expression(a: &Expr, b: &Expr) -> bool
     ensures { IsTrue result ↔ (erase (plain-Expr a.now) ≡ erase (plain-Expr b.now)) }
 {
-    match &a.node {
-        ExprNode::Int(v, k) => match &b.node {
-            ExprNode::Int(w, l) => *v == *w && *k == *l,
-            _ => false,
-        },
-        ExprNode::Bool(v) => match &b.node {
-            ExprNode::Bool(w) => *v == *w,
-            _ => false,
-        },
-        ExprNode::Tuple(es) => match &b.node {
-            ExprNode::Tuple(fs) => same_expressions(es.as_slice(), fs.as_slice()),
-            _ => false,
-        },
-        ExprNode::Var(x) => match &b.node {
-            ExprNode::Var(y) => x.is(y),
-            _ => false,
-        },
-        ExprNode::Field(e, x) => match &b.node {
-            ExprNode::Field(f, y) => same_name(x, y) && same_expression(e.get(), f.get()),
-            _ => false,
-        },
-        ExprNode::Part(e, i) => match &b.node {
-            ExprNode::Part(f, j) => *i == *j && same_expression(e.get(), f.get()),
-            _ => false,
-        },
-        ExprNode::Deref(e) => match &b.node {
-            ExprNode::Deref(f) => same_expression(e.get(), f.get()),
-            _ => false,
-        },
-        ExprNode::Neg(e) => match &b.node {
-            ExprNode::Neg(f) => same_expression(e.get(), f.get()),
-            _ => false,
-        },
-        ExprNode::Not(e) => match &b.node {
-            ExprNode::Not(f) => same_expression(e.get(), f.get()),
-            _ => false,
-        },
-        ExprNode::Borrow(m, e) => match &b.node {
-            ExprNode::Borrow(n, f) => *m == *n && same_expression(e.get(), f.get()),
-            _ => false,
-        },
-        ExprNode::Binary(o, e, f) => match &b.node {
-            ExprNode::Binary(p, g, h) => {
-                *o == *p && same_expression(e.get(), g.get()) && same_expression(f.get(), h.get())
-            }
-            _ => false,
-        },
-        ExprNode::Assign(e, f) => match &b.node {
-            ExprNode::Assign(g, h) => {
-                same_expression(e.get(), g.get()) && same_expression(f.get(), h.get())
-            }
-            _ => false,
-        },
-        ExprNode::Update(o, e, f) => match &b.node {
-            ExprNode::Update(p, g, h) => {
-                *o == *p && same_expression(e.get(), g.get()) && same_expression(f.get(), h.get())
-            }
-            _ => false,
-        },
-        ExprNode::Call(x, es) => match &b.node {
-            ExprNode::Call(y, fs) => {
-                same_name(x, y) && same_expressions(es.as_slice(), fs.as_slice())
-            }
-            _ => false,
-        },
-        ExprNode::NextInput => matches!(&b.node, ExprNode::NextInput),
-        ExprNode::Variant(x, v, l) => match &b.node {
-            ExprNode::Variant(y, w, k) => match l {
-                None => k.is_none() && same_name(x, y) && same_name(v, w),
-                Some(es) => match k {
-                    Some(fs) => {
-                        same_name(x, y)
-                            && same_name(v, w)
-                            && same_expressions(es.as_slice(), fs.as_slice())
-                    }
-                    None => false,
-                },
-            },
-            _ => false,
-        },
-        ExprNode::Make(x, es) => match &b.node {
-            ExprNode::Make(y, fs) => same_name(x, y) && same_fields(es.as_slice(), fs.as_slice()),
-            _ => false,
-        },
-        ExprNode::Print(e) => match &b.node {
-            ExprNode::Print(f) => same_expression(e.get(), f.get()),
-            _ => false,
-        },
-        ExprNode::Block(s) => match &b.node {
-            ExprNode::Block(t) => same_block(s.get(), t.get()),
-            _ => false,
-        },
-        ExprNode::If(e, s, o) => match &b.node {
-            ExprNode::If(f, t, p) => match o {
-                None => {
-                    p.is_none() && same_expression(e.get(), f.get()) && same_block(s.get(), t.get())
-                }
-                Some(g) => match p {
-                    Some(h) => {
-                        same_expression(e.get(), f.get())
-                            && same_block(s.get(), t.get())
-                            && same_expression(g.get(), h.get())
-                    }
-                    None => false,
-                },
-            },
-            _ => false,
-        },
-        ExprNode::IfLet(q, e, s, o) => match &b.node {
-            ExprNode::IfLet(r, f, t, p) => match o {
-                None => {
-                    p.is_none()
-                        && same_pattern(q, r)
-                        && same_expression(e.get(), f.get())
-                        && same_block(s.get(), t.get())
-                }
-                Some(g) => match p {
-                    Some(h) => {
-                        same_pattern(q, r)
-                            && same_expression(e.get(), f.get())
-                            && same_block(s.get(), t.get())
-                            && same_expression(g.get(), h.get())
-                    }
-                    None => false,
-                },
-            },
-            _ => false,
-        },
-        ExprNode::Match(e, l) => match &b.node {
-            ExprNode::Match(f, k) => {
-                same_expression(e.get(), f.get()) && same_arms(l.as_slice(), k.as_slice())
-            }
-            _ => false,
-        },
-        ExprNode::Loop(l, s) => match &b.node {
-            ExprNode::Loop(k, t) => same_label(l, k) && same_block(s.get(), t.get()),
-            _ => false,
-        },
-        ExprNode::While(l, e, s) => match &b.node {
-            ExprNode::While(k, f, t) => {
-                same_label(l, k)
-                    && same_expression(e.get(), f.get())
-                    && same_block(s.get(), t.get())
-            }
-            _ => false,
-        },
-        ExprNode::WhileLet(l, q, e, s) => match &b.node {
-            ExprNode::WhileLet(k, r, f, t) => {
-                same_label(l, k)
-                    && same_pattern(q, r)
-                    && same_expression(e.get(), f.get())
-                    && same_block(s.get(), t.get())
-            }
-            _ => false,
-        },
-        ExprNode::Break(l) => match &b.node {
-            ExprNode::Break(k) => same_label(l, k),
-            _ => false,
-        },
-        ExprNode::Continue(l) => match &b.node {
-            ExprNode::Continue(k) => same_label(l, k),
-            _ => false,
-        },
-        ExprNode::Return(o) => match &b.node {
-            ExprNode::Return(p) => match o {
-                None => p.is_none(),
-                Some(e) => match p {
-                    Some(f) => same_expression(e.get(), f.get()),
-                    None => false,
-                },
-            },
-            _ => false,
+    let one = parts_of(a);
+    let other = parts_of(b);
+    same_parts(&one, &other)
+}
+
+/// Whether both heads are equal, and the parts apart from spans.
+#[cycle(same_expressions)]
+fn same_parts(a: &Parts<'_>, b: &Parts<'_>) -> bool
+    ensures { IsTrue result ↔ (erase_parts (plain-Parts a.now) ≡ erase_parts (plain-Parts b.now)) }
+{
+    same_head(&a.head, &b.head) && same_trees(a, b) && same_lists(a, b)
+}
+
+#[cycle(same_expressions)]
+fn same_trees(a: &Parts<'_>, b: &Parts<'_>) -> bool
+    ensures { IsTrue result ↔ SameTrees (plain-Parts a.now) (plain-Parts b.now) }
+{
+    same_optional_pattern(a.pattern, b.pattern)
+        && same_optional(a.first, b.first)
+        && same_optional_block(a.block, b.block)
+        && same_optional(a.second, b.second)
+}
+
+#[cycle(same_expressions)]
+fn same_lists(a: &Parts<'_>, b: &Parts<'_>) -> bool
+    ensures { IsTrue result ↔ SameLists (plain-Parts a.now) (plain-Parts b.now) }
+{
+    same_expressions(a.list, b.list) && same_fields(a.fields, b.fields) && same_arms(a.arms, b.arms)
+}
+
+#[cycle(same_expressions)]
+fn same_optional(a: Option<&Expr>, b: Option<&Expr>) -> bool
+    ensures { IsTrue result
+        ↔ (erase_optional (optional_of (option_map (λ e. plain-Expr e.now) a.entry))
+        ≡ erase_optional (optional_of (option_map (λ e. plain-Expr e.now) b.entry))) }
+{
+    match a {
+        None => b.is_none(),
+        Some(x) => match b {
+            Some(y) => same_expression(x, y),
+            None => false,
         },
     }
 }
 
 #[cycle(same_expressions)]
-#[tactic(auto, using(rx_tree::proofs::Rules::expression_rules))]
+fn same_optional_block(a: Option<&Block>, b: Option<&Block>) -> bool
+    ensures { IsTrue result
+        ↔ (option_map erase_body (option_map (λ x. plain-Block x.now) a.entry)
+        ≡ option_map erase_body (option_map (λ x. plain-Block x.now) b.entry)) }
+{
+    match a {
+        None => b.is_none(),
+        Some(x) => match b {
+            Some(y) => same_block(x, y),
+            None => false,
+        },
+    }
+}
+
+#[cycle(same_expressions)]
 fn same_expressions(a: &[Expr], b: &[Expr]) -> bool
     ensures { IsTrue result
         ↔ (erase_all (expressions_of (map plain-Expr a.now)) ≡ erase_all (expressions_of (map plain-Expr b.now))) }
@@ -208,7 +143,7 @@ fn same_expressions(a: &[Expr], b: &[Expr]) -> bool
 }
 
 #[cycle(same_expressions)]
-#[tactic(auto, using(rx_tree::proofs::Rules::expression_rules))]
+#[tactic(auto, using(rx_tree::proofs::Rules::field_expression_by_parts))]
 fn same_field(a: &FieldExpr, b: &FieldExpr) -> bool
     ensures { IsTrue result
         ↔ (erase_fields (field_and (plain-FieldExpr a.now).0 (plain-FieldExpr a.now).1 no_field)
@@ -218,7 +153,6 @@ fn same_field(a: &FieldExpr, b: &FieldExpr) -> bool
 }
 
 #[cycle(same_expressions)]
-#[tactic(auto, using(rx_tree::proofs::Rules::expression_rules))]
 fn same_fields(a: &[FieldExpr], b: &[FieldExpr]) -> bool
     ensures { IsTrue result
         ↔ (erase_fields (field_expressions_of (map plain-FieldExpr a.now))
@@ -236,7 +170,7 @@ fn same_fields(a: &[FieldExpr], b: &[FieldExpr]) -> bool
 }
 
 #[cycle(same_expressions)]
-#[tactic(auto, using(rx_tree::proofs::Rules::expression_rules))]
+#[tactic(auto, using(rx_tree::proofs::Rules::arm_by_parts))]
 fn same_arm(a: &Arm, b: &Arm) -> bool
     ensures { IsTrue result
         ↔ (erase_arms (arm_and (plain-Arm a.now).0 (plain-Arm a.now).1 no_arm)
@@ -246,7 +180,6 @@ fn same_arm(a: &Arm, b: &Arm) -> bool
 }
 
 #[cycle(same_expressions)]
-#[tactic(auto, using(rx_tree::proofs::Rules::expression_rules))]
 fn same_arms(a: &[Arm], b: &[Arm]) -> bool
     ensures { IsTrue result
         ↔ (erase_arms (arms_of (map plain-Arm a.now)) ≡ erase_arms (arms_of (map plain-Arm b.now))) }
@@ -306,7 +239,6 @@ fn same_statement(a: &Stmt, b: &Stmt) -> bool
 }
 
 #[cycle(same_expressions)]
-#[tactic(auto, using(rx_tree::proofs::Rules::statement_rules))]
 fn same_statements(a: &[Stmt], b: &[Stmt]) -> bool
     ensures { IsTrue result
         ↔ (erase_statements (statements_of (map plain-Stmt a.now)) ≡ erase_statements (statements_of (map plain-Stmt b.now))) }

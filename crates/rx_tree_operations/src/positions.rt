@@ -2,13 +2,16 @@
 
 ghost use Rattle.std.specs.Prelude.{◌≡◌, [], ◌∷◌, map, option_map, slice_get};
 ghost use Rattle.rx_tree.specs.PlainOf.{plain-TypeText, types_of, plain-Pattern, patterns_of, plain-FieldPattern, field_patterns_of, plain-Expr, expressions_of, plain-FieldExpr, field_expressions_of, plain-Arm, arms_of, plain-Block, plain-Stmt, statements_of, plain-Field, plain-EnumVariant, plain-Param, plain-Func, plain-Item, plain-Program};
-ghost use Rattle.rx_tree.specs.Positions.{type_nodes, pattern_nodes, field_pattern_nodes, expression_nodes, field_nodes, arm_nodes, statement_nodes, declared_nodes, variant_nodes, parameter_nodes, type_children, pattern_children, expression_children, block_children, statement_children, function_children, item_children, children, node_at, an_expression};
+ghost use Rattle.rx_tree.specs.Positions.{type_nodes, pattern_nodes, field_pattern_nodes, expression_nodes, field_nodes, arm_nodes, statement_nodes, declared_nodes, variant_nodes, parameter_nodes, type_children, pattern_children, expression_children, block_children, statement_children, function_children, item_children, children, node_at};
 ghost use Rattle.rx_tree_operations.specs.NodeOf.{plain-Node};
+ghost use Rattle.rx_tree_operations.specs.Parts.{part_nodes, from_first, from_block, from_second, from_list, from_fields};
+ghost use Rattle.rx_tree_operations.specs.PlainParts.{plain-Parts};
 
+use crate::parts::{Parts, parts_of};
 use rx_core::Position;
 use rx_tree::{
-    Arm, Block, EnumVariant, Expr, ExprNode, Field, FieldExpr, FieldPattern, Func, Item, ItemNode,
-    Param, Pattern, PatternNode, Program, Stmt, StmtNode, TypeNode, TypeText,
+    Arm, Block, EnumVariant, Expr, Field, FieldExpr, FieldPattern, Func, Item, ItemNode, Param,
+    Pattern, PatternNode, Program, Stmt, StmtNode, TypeNode, TypeText,
 };
 
 /// A node of a tree.
@@ -81,24 +84,6 @@ fn three<'t>(first: Node<'t>, second: Node<'t>, third: Node<'t>, number: usize) 
         Some(first)
     } else {
         two(second, third, number - 1)
-    }
-}
-
-/// One of four children.
-fn four<'t>(
-    first: Node<'t>,
-    second: Node<'t>,
-    third: Node<'t>,
-    fourth: Node<'t>,
-    number: usize,
-) -> Option<Node<'t>>
-    ensures { option_map plain-Node result
-        ≡ slice_get (plain-Node first.entry ∷ plain-Node second.entry ∷ plain-Node third.entry ∷ plain-Node fourth.entry ∷ []) number }
-{
-    if number == 0 {
-        Some(first)
-    } else {
-        three(second, third, fourth, number - 1)
     }
 }
 
@@ -201,86 +186,93 @@ fn arm_part<'t>(arms: &'t [Arm], number: usize) -> Option<Node<'t>>
     }
 }
 
-fn child_of_match<'t>(scrutinee: &'t Expr, arms: &'t [Arm], number: usize) -> Option<Node<'t>>
-    ensures { option_map plain-Node result
-        ≡ slice_get (an_expression (plain-Expr scrutinee.now) ∷ arm_nodes (arms_of (map plain-Arm arms.now))) number }
+fn from_fields<'t>(parts: Parts<'t>, number: usize) -> Option<Node<'t>>
+    ensures { option_map plain-Node result ≡ slice_get (from_fields (plain-Parts parts.entry)) number }
 {
-    if number == 0 {
-        Some(Node::Expr(scrutinee))
+    let fields = parts.fields;
+    if number < fields.len() {
+        field_in(fields, number)
     } else {
-        arm_part(arms, number - 1)
+        arm_part(parts.arms, number - fields.len())
     }
 }
 
-#[tactic(auto, using(rx_tree::proofs::Rules::expression_rules))]
+fn from_list<'t>(parts: Parts<'t>, number: usize) -> Option<Node<'t>>
+    ensures { option_map plain-Node result ≡ slice_get (from_list (plain-Parts parts.entry)) number }
+{
+    let list = parts.list;
+    if number < list.len() {
+        expression_in(list, number)
+    } else {
+        from_fields(parts, number - list.len())
+    }
+}
+
+fn from_second<'t>(parts: Parts<'t>, number: usize) -> Option<Node<'t>>
+    ensures { option_map plain-Node result ≡ slice_get (from_second (plain-Parts parts.entry)) number }
+{
+    match parts.second {
+        Some(part) => {
+            if number == 0 {
+                Some(Node::Expr(part))
+            } else {
+                from_list(parts, number - 1)
+            }
+        }
+        None => from_list(parts, number),
+    }
+}
+
+fn from_block<'t>(parts: Parts<'t>, number: usize) -> Option<Node<'t>>
+    ensures { option_map plain-Node result ≡ slice_get (from_block (plain-Parts parts.entry)) number }
+{
+    match parts.block {
+        Some(part) => {
+            if number == 0 {
+                Some(Node::Block(part))
+            } else {
+                from_second(parts, number - 1)
+            }
+        }
+        None => from_second(parts, number),
+    }
+}
+
+fn from_first<'t>(parts: Parts<'t>, number: usize) -> Option<Node<'t>>
+    ensures { option_map plain-Node result ≡ slice_get (from_first (plain-Parts parts.entry)) number }
+{
+    match parts.first {
+        Some(part) => {
+            if number == 0 {
+                Some(Node::Expr(part))
+            } else {
+                from_block(parts, number - 1)
+            }
+        }
+        None => from_block(parts, number),
+    }
+}
+
+/// A part of an expression, in the order of the text.
+fn part_in<'t>(parts: Parts<'t>, number: usize) -> Option<Node<'t>>
+    ensures { option_map plain-Node result ≡ slice_get (part_nodes (plain-Parts parts.entry)) number }
+{
+    match parts.pattern {
+        Some(part) => {
+            if number == 0 {
+                Some(Node::Pattern(part))
+            } else {
+                from_first(parts, number - 1)
+            }
+        }
+        None => from_first(parts, number),
+    }
+}
+
 fn child_of_expression<'t>(expr: &'t Expr, number: usize) -> Option<Node<'t>>
     ensures { option_map plain-Node result ≡ slice_get (expression_children (plain-Expr expr.now)) number }
 {
-    match &expr.node {
-        ExprNode::Int(_, _) => None,
-        ExprNode::Bool(_) => None,
-        ExprNode::Tuple(parts) => expression_in(parts.as_slice(), number),
-        ExprNode::Var(_) => None,
-        ExprNode::Field(base, _) => one(Node::Expr(base.get()), number),
-        ExprNode::Part(base, _) => one(Node::Expr(base.get()), number),
-        ExprNode::Deref(base) => one(Node::Expr(base.get()), number),
-        ExprNode::Neg(base) => one(Node::Expr(base.get()), number),
-        ExprNode::Not(base) => one(Node::Expr(base.get()), number),
-        ExprNode::Borrow(_, place) => one(Node::Expr(place.get()), number),
-        ExprNode::Binary(_, l, r) => two(Node::Expr(l.get()), Node::Expr(r.get()), number),
-        ExprNode::Assign(l, r) => two(Node::Expr(l.get()), Node::Expr(r.get()), number),
-        ExprNode::Update(_, l, r) => two(Node::Expr(l.get()), Node::Expr(r.get()), number),
-        ExprNode::Call(_, args) => expression_in(args.as_slice(), number),
-        ExprNode::NextInput => None,
-        ExprNode::Variant(_, _, args) => match args {
-            Some(args) => expression_in(args.as_slice(), number),
-            None => None,
-        },
-        ExprNode::Make(_, fields) => field_in(fields.as_slice(), number),
-        ExprNode::Print(expr) => one(Node::Expr(expr.get()), number),
-        ExprNode::Block(block) => one(Node::Block(block.get()), number),
-        ExprNode::If(test, then, other) => match other {
-            Some(other) => three(
-                Node::Expr(test.get()),
-                Node::Block(then.get()),
-                Node::Expr(other.get()),
-                number,
-            ),
-            None => two(Node::Expr(test.get()), Node::Block(then.get()), number),
-        },
-        ExprNode::IfLet(pattern, scrutinee, then, other) => match other {
-            Some(other) => four(
-                Node::Pattern(pattern),
-                Node::Expr(scrutinee.get()),
-                Node::Block(then.get()),
-                Node::Expr(other.get()),
-                number,
-            ),
-            None => three(
-                Node::Pattern(pattern),
-                Node::Expr(scrutinee.get()),
-                Node::Block(then.get()),
-                number,
-            ),
-        },
-        ExprNode::Match(expr, arms) => child_of_match(expr.get(), arms.as_slice(), number),
-        ExprNode::Loop(_, body) => one(Node::Block(body.get()), number),
-        ExprNode::While(_, test, body) => {
-            two(Node::Expr(test.get()), Node::Block(body.get()), number)
-        }
-        ExprNode::WhileLet(_, pattern, scrutinee, body) => three(
-            Node::Pattern(pattern),
-            Node::Expr(scrutinee.get()),
-            Node::Block(body.get()),
-            number,
-        ),
-        ExprNode::Break(_) => None,
-        ExprNode::Continue(_) => None,
-        ExprNode::Return(value) => match value {
-            Some(value) => one(Node::Expr(value.get()), number),
-            None => None,
-        },
-    }
+    part_in(parts_of(expr), number)
 }
 
 fn statement_in<'t>(stmts: &'t [Stmt], number: usize) -> Option<Node<'t>>
