@@ -12,14 +12,12 @@ use Rattle.rx_tree.specs.Plain.{Function, ItemTree, ProgramTree}
 use Rattle.rx_typed_runs.specs.declared.runs.RunPos.{RunPos}
 use Rattle.rx_print_spelling.specs.Formed.{FormedProgram}
 use Rattle.rx_print_spelling.specs.Items.{print_program}
-use Rattle.rx_print_spelling.specs.Levels.{levels_of}
-use Rattle.rx_print_levels.specs.Capped as kept
 use Rattle.rx_hoist_extraction.specs.Plan.{Plan}
 use Rattle.rx_hoist_extraction.specs.Extraction.{extraction, new_number}
-use Rattle.rx_hoist_extraction.specs.Limits.{first_past, count_parameters, count_lifetimes, made_levels, made_parts}
+use Rattle.rx_hoist_extraction.specs.Limits.{first_past, count_parameters, count_lifetimes, made_parts}
 use Rattle.rx_hoist_made.specs.Counts.{capped}
 use Rattle.rx_hoist.specs.Runs.{is_function}
-use Rattle.rx_hoist.specs.Limits.{Passed, levels_limit, lifetimes_limit, parameters_limit, limit_in, limit_at, Allowed}
+use Rattle.rx_hoist.specs.Limits.{Passed, lifetimes_limit, parameters_limit, limit_in, limit_at, Allowed}
 use Rattle.rx_hoist.specs.declared.hoisting.HoistFault.{HoistFault}
 use Rattle.rx_hoist.specs.declared.hoisting.HoistFault.TheVariants as hoist_fault
 use Rattle.rx_engine_extraction.specs.declared.refusal.Fault.{Fault}
@@ -29,24 +27,14 @@ use Rattle.rx_engine_extraction.specs.declared.refusal.Refusal.TheVariants as re
 use Rattle.rx_engine_extraction.specs.Source.{Text}
 use Rattle.rx_engine_extraction.specs.Made.{run_of}
 use Rattle.rx_engine_extraction.specs.Meeting.{most_lifetimes, parts_in}
-use Rattle.rx_engine_extraction.specs.Moving.{called, lifetimes_in, levels_by, HasFewLifetimes, HasFewParts, IsMoved, IsPast, IsUnmoved, limit_told, of_hoist, IsWithin, IsOver, IsNotWithin}
+use Rattle.rx_engine_extraction.specs.Moving.{called, lifetimes_in, HasFewLifetimes, HasFewParts, IsMoved, IsPast, IsUnmoved, limit_told, of_hoist, IsWithin, IsOver, IsNotWithin}
+use Rattle.rx_engine_extraction.specs.Levels.{HasFewLevels, HasManyLevels}
 use Rattle.rx_engine_extraction.specs.Hoisting.{IsBare}
 use Rattle.rx_engine_extraction.proofs.Bare.{extraction_bare}
 
--- ---- numbers that are kept in 64 bits
-
-pub not_past : (n m : ℕ) → m ≡ kept.capped n → m ≤ 128 → n ≤ 128
-not_past n m e h = omega (arith, e, h)
-
-pub past : (n m : ℕ) → m ≡ kept.capped n → 128 < m → 128 < n
-past n m e h = omega (arith, e, h)
-
-pub kept_alike : (n m : ℕ) → m ≡ kept.capped n → m ≡ capped n
-kept_alike n m e = e
-
 -- ---- what is told of parts
 
-parts_told : (o : Option ℕ) (n : ℕ) → Some n ≡ option_map capped o → (m : ℕ) × (n ≡ capped m) × (o ≡ Some m)
+pub parts_told : (o : Option ℕ) (n : ℕ) → Some n ≡ option_map capped o → (m : ℕ) × (n ≡ capped m) × (o ≡ Some m)
 parts_told None n e = absurd (no_number n e)
   where
     no_number : (n : ℕ) → ◌≡◌ {A = Option ℕ} (Some n) None → ⊥
@@ -56,7 +44,7 @@ parts_told (Some m) n e = (m, one_number n (capped m) e, refl)
     one_number : (a b : ℕ) → ◌≡◌ {A = Option ℕ} (Some a) (Some b) → a ≡ b
     one_number a b e = cc
 
-parts_none : (o : Option ℕ) → None ≡ option_map capped o → o ≡ None
+pub parts_none : (o : Option ℕ) → None ≡ option_map capped o → o ≡ None
 parts_none None e = refl
 parts_none (Some m) e = absurd (some_number (capped m) e)
   where
@@ -65,63 +53,26 @@ parts_none (Some m) e = absurd (some_number (capped m) e)
 
 -- ---- the limits of levels, parts and bytes, by what is counted
 
-module _ (Z : ℕ → ℕ) (pl : Plan) (q : ProgramTree) (m : ℕ) (levels : m ≡ kept.capped (levels_of q)) where
-  pub many_levels : 128 < m → (f : Fault) → f ≡ limit_told which.Levels m → IsNotWithin Z pl q f
-  many_levels h f e = subst (λ (x : Fault). IsNotWithin Z pl q x) (sym e) (kept_alike (levels_of q) m levels, past (levels_of q) m levels h)
+module _ (T : Text) (r : RunPos) (pl : Plan) (q : ProgramTree) where
+  pub many_levels : (k : ℕ) → ((n : ℕ) × (k ≡ capped n) × HasManyLevels T.bytes T.tokens T.program (run_of r) pl n) → (f : Fault) → f ≡ limit_told which.Levels k → IsNotWithin T r pl q f
+  many_levels k h f e = subst (λ (x : Fault). IsNotWithin T r pl q x) (sym e) h
 
-  module _ (low : m ≤ 128) where
-    pub many_parts : (n : ℕ) → Some n ≡ option_map capped (first_past 4096 (made_parts Z pl)) → (f : Fault) → f ≡ limit_told which.Parts n → IsNotWithin Z pl q f
-    many_parts n h f e = let x = parts_told (first_past 4096 (made_parts Z pl)) n h in
-        subst (λ (x : Fault). IsNotWithin Z pl q x) (sym e) (x.0, x.1, x.2, not_past (levels_of q) m levels low)
+  module _ (levels : HasFewLevels T.bytes T.tokens T.program (run_of r) pl) where
+    pub many_parts : (n : ℕ) → Some n ≡ option_map capped (first_past 4096 (made_parts T.sizes pl)) → (f : Fault) → f ≡ limit_told which.Parts n → IsNotWithin T r pl q f
+    many_parts n h f e = let x = parts_told (first_past 4096 (made_parts T.sizes pl)) n h in
+        subst (λ (x : Fault). IsNotWithin T r pl q x) (sym e) (x.0, x.1, x.2, levels)
 
-    module _ (parts : None ≡ option_map capped (first_past 4096 (made_parts Z pl))) (n : ℕ) (long : n ≡ length (print_program q)) where
-      pub many_bytes : 2 ^ 32 ≤ n → (f : Fault) → f ≡ limit_told which.Bytes n → IsNotWithin Z pl q f
-      many_bytes h f e = subst (λ (x : Fault). IsNotWithin Z pl q x) (sym e)
-          (long, subst (λ (k : ℕ). 2 ^ 32 ≤ k) long h, not_past (levels_of q) m levels low, parts_none (first_past 4096 (made_parts Z pl)) parts)
+    module _ (parts : None ≡ option_map capped (first_past 4096 (made_parts T.sizes pl))) (n : ℕ) (long : n ≡ length (print_program q)) where
+      pub many_bytes : 2 ^ 32 ≤ n → (f : Fault) → f ≡ limit_told which.Bytes n → IsNotWithin T r pl q f
+      many_bytes h f e = subst (λ (x : Fault). IsNotWithin T r pl q x) (sym e)
+          (long, subst (λ (k : ℕ). 2 ^ 32 ≤ k) long h, levels, parts_none (first_past 4096 (made_parts T.sizes pl)) parts)
 
-      pub all_within : n < 2 ^ 32 → IsWithin Z pl q
+      pub all_within : n < 2 ^ 32 → IsWithin T r pl q
       all_within h = record {
-        levels = not_past (levels_of q) m levels low;
-        parts = parts_none (first_past 4096 (made_parts Z pl)) parts;
+        levels = levels;
+        parts = parts_none (first_past 4096 (made_parts T.sizes pl)) parts;
         short = subst (λ (k : ℕ). k < 2 ^ 32) long h;
       }
-
--- ---- the first past a limit
-
-none_told : {A : Type 0} {a : A} → ◌≡◌ {A = Option A} (Some a) None → ⊥
-none_told e = cc
-
-past_front : (l m : ℕ) (xs ys : List ℕ) → first_past l xs ≡ Some m → first_past l (xs ++ ys) ≡ Some m
-past_front l m [] ys e = absurd (cc)
-past_front l m (x ∷ xs) ys e = by (nat_lt l x) e (past_front l m xs ys)
-  where
-    by : (b : Bool) → (if b then Some x else first_past l xs) ≡ Some m → (first_past l xs ≡ Some m → first_past l (xs ++ ys) ≡ Some m)
-        → (if b then Some x else first_past l (xs ++ ys)) ≡ Some m
-    by true h r = h
-    by false h r = r h
-
-none_front : (l : ℕ) (xs ys : List ℕ) → first_past l xs ≡ None → first_past l (xs ++ ys) ≡ first_past l ys
-none_front l [] ys e = refl
-none_front l (x ∷ xs) ys e = by (nat_lt l x) e (none_front l xs ys)
-  where
-    by : (b : Bool) → (if b then Some x else first_past l xs) ≡ None → (first_past l xs ≡ None → first_past l (xs ++ ys) ≡ first_past l ys)
-        → (if b then Some x else first_past l (xs ++ ys)) ≡ first_past l ys
-    by true h r = absurd (none_told h)
-    by false h r = r h
-
-one_past : (l n : ℕ) → l < n → first_past l (n ∷ []) ≡ Some n
-one_past l n h = by (nat_lt l n) refl
-  where
-    by : (b : Bool) → nat_lt l n ≡ b → (if b then Some n else None) ≡ Some n
-    by true e = refl
-    by false e = let w = ltb-false l n e in absurd (omega (arith, w, h))
-
-one_within : (l n : ℕ) → n ≤ l → first_past l (n ∷ []) ≡ None
-one_within l n h = by (nat_lt l n) refl
-  where
-    by : (b : Bool) → nat_lt l n ≡ b → (if b then Some n else None) ≡ None
-    by true e = let w = ltb-true l n e in absurd (omega (arith, w, h))
-    by false e = refl
 
 got : (p : ProgramTree) (n : ℕ) → slice_get p n ≡ nth p n
 got [] n = refl
@@ -153,38 +104,27 @@ module _ (T : Text) (r : RunPos) (pl : Plan) where
 
   -- ---- what none passes
 
-  few_levels_by : (o : Option ℕ) → first_past 128 (made_levels pl) ≡ o → levels_limit o ≡ None → first_past 128 (made_levels pl) ≡ None
-  few_levels_by None e h = e
-  few_levels_by (Some m) e h = absurd (some_none (which.Levels, capped m) h)
-
-  few_lifetimes_by : (b : Bool) → nat_lt 128 own ≡ b → (if b then Some (which.Lifetimes, capped own) else levels_limit (first_past 128 (made_levels pl))) ≡ None
-      → (own ≤ 128) × (first_past 128 (made_levels pl) ≡ None)
+  few_lifetimes_by : (b : Bool) → nat_lt 128 own ≡ b → (if◌then◌else◌ {A = Option Passed} b (Some (which.Lifetimes, capped own)) None) ≡ None → own ≤ 128
   few_lifetimes_by true e h = absurd (some_none (which.Lifetimes, capped own) h)
-  few_lifetimes_by false e h = (ltb-false 128 own e, few_levels_by (first_past 128 (made_levels pl)) refl h)
+  few_lifetimes_by false e h = ltb-false 128 own e
 
-  few_by : (b : Bool) → nat_lt 64 (count_parameters pl) ≡ b → (if b then Some (which.Parameters, capped (count_parameters pl)) else lifetimes_limit own pl) ≡ None
-      → HasFewLifetimes T r pl × (first_past 128 (made_levels pl) ≡ None)
+  few_by : (b : Bool) → nat_lt 64 (count_parameters pl) ≡ b → (if b then Some (which.Parameters, capped (count_parameters pl)) else lifetimes_limit own) ≡ None
+      → HasFewLifetimes T r pl
   few_by true e h = absurd (some_none (which.Parameters, capped (count_parameters pl)) h)
-  few_by false e h = let k = few_lifetimes_by (nat_lt 128 own) refl h in (record { parameters = ltb-false 64 (count_parameters pl) e; lifetimes = k.0 }, k.1)
+  few_by false e h = record { parameters = ltb-false 64 (count_parameters pl) e; lifetimes = few_lifetimes_by (nat_lt 128 own) refl h }
 
   -- ---- what is the first past its limit
 
   abbrev Told : Passed → Type 0
   Told p = IsPast T r pl (refusal.Limit p.0 p.1)
 
-  past_levels_by : HasFewLifetimes T r pl → (o : Option ℕ) → first_past 128 (made_levels pl) ≡ o → (p : Passed) → levels_limit o ≡ Some p → Told p
-  past_levels_by few None e p h = absurd (none_some p h)
-  past_levels_by few (Some m) e p h = subst Told (some_same (which.Levels, capped m) p h)
-      (m, refl, past_front 128 m (made_levels pl) (levels_of (called T r pl) ∷ []) e, few)
-
   past_lifetimes_by : count_parameters pl ≤ 64 → (b : Bool) → nat_lt 128 own ≡ b → (p : Passed)
-      → (if b then Some (which.Lifetimes, capped own) else levels_limit (first_past 128 (made_levels pl))) ≡ Some p → Told p
+      → (if◌then◌else◌ {A = Option Passed} b (Some (which.Lifetimes, capped own)) None) ≡ Some p → Told p
   past_lifetimes_by few true e p h = subst Told (some_same (which.Lifetimes, capped own) p h) (refl, ltb-true 128 own e, few)
-  past_lifetimes_by few false e p h =
-      past_levels_by (record { parameters = few; lifetimes = ltb-false 128 own e }) (first_past 128 (made_levels pl)) refl p h
+  past_lifetimes_by few false e p h = absurd (none_some p h)
 
   past_by : (b : Bool) → nat_lt 64 (count_parameters pl) ≡ b → (p : Passed)
-      → (if b then Some (which.Parameters, capped (count_parameters pl)) else lifetimes_limit own pl) ≡ Some p → Told p
+      → (if b then Some (which.Parameters, capped (count_parameters pl)) else lifetimes_limit own) ≡ Some p → Told p
   past_by true e p h = subst Told (some_same (which.Parameters, capped (count_parameters pl)) p h) (refl, ltb-true 64 (count_parameters pl) e)
   past_by false e p h = past_lifetimes_by (ltb-false 64 (count_parameters pl) e) (nat_lt 128 own) refl p h
 
@@ -193,7 +133,7 @@ module _ (T : Text) (r : RunPos) (pl : Plan) where
     limit_is = ap (limit_in T.program (run_of r) pl) (got T.program r.function ∙ there)
         ∙ sym (ap (λ o. parameters_limit (count_lifetimes T.program pl (parts_in T.program pl (run_of r) o)) pl) there)
 
-    few_of : limit_at T.program (run_of r) pl ≡ None → HasFewLifetimes T r pl × (first_past 128 (made_levels pl) ≡ None)
+    few_of : limit_at T.program (run_of r) pl ≡ None → HasFewLifetimes T r pl
     few_of e = few_by (nat_lt 64 (count_parameters pl)) refl (sym limit_is ∙ e)
 
     allowed_by : (o : Option Passed) → limit_at T.program (run_of r) pl ≡ o → (w : Which) (n : ℕ) → Allowed o (hoist_fault.Limit w n) → IsPast T r pl (refusal.Limit w n)
@@ -212,18 +152,12 @@ module _ (T : Text) (r : RunPos) (pl : Plan) where
       whole = called T r pl
 
       few : HasFewLifetimes T r pl
-      few = (few_of none).0
+      few = few_of none
 
-      levels_are : first_past 128 (levels_by T r pl) ≡ first_past 128 (levels_of whole ∷ [])
-      levels_are = none_front 128 (made_levels pl) (levels_of whole ∷ []) (few_of none).1
-
-      few_levels : levels_of whole ≤ 128 → first_past 128 (levels_by T r pl) ≡ None
-      few_levels h = levels_are ∙ one_within 128 (levels_of whole) h
-
-      over : (x : Refusal) → IsOver T.sizes pl whole x → IsPast T r pl x
-      over (refusal.Limit which.Levels n) h = (levels_of whole, h.0, levels_are ∙ one_past 128 (levels_of whole) h.1, few)
-      over (refusal.Limit which.Parts n) h = (h.0, h.1, h.2, few_levels h.3, few)
-      over (refusal.Limit which.Bytes n) h = (h.0, h.1, record { few = few; levels = few_levels h.2; parts = h.3 })
+      over : (x : Refusal) → IsOver T r pl whole x → IsPast T r pl x
+      over (refusal.Limit which.Levels n) h = (h.0, h.1, h.2, few)
+      over (refusal.Limit which.Parts n) h = (h.0, h.1, h.2, h.3, few)
+      over (refusal.Limit which.Bytes n) h = (h.0, h.1, record { few = few; levels = h.2; parts = h.3 })
       over (refusal.Limit which.Sites n) h = absurd h
       over (refusal.Limit which.Positions n) h = absurd h
       over (refusal.Limit which.Parameters n) h = absurd h
@@ -243,25 +177,25 @@ module _ (T : Text) (r : RunPos) (pl : Plan) where
       over (refusal.Loan a b) h = absurd h
       over refusal.Unconfirmed h = absurd h
 
-      not_within : (x : Fault) → IsNotWithin T.sizes pl whole x → IsUnmoved T r pl x
+      not_within : (x : Fault) → IsNotWithin T r pl whole x → IsUnmoved T r pl x
       not_within (fault.Refused x) h = over x h
       not_within fault.OutOfMemory h = tt
       not_within (fault.Syntax e) h = absurd h
       not_within (fault.NotAccepted e) h = absurd h
 
-      pub outside : (x : Fault) → IsNotWithin T.sizes pl q x → IsUnmoved T r pl x
-      outside x h = not_within x (subst (λ (y : ProgramTree). IsNotWithin T.sizes pl y x) is h)
+      pub outside : (x : Fault) → IsNotWithin T r pl q x → IsUnmoved T r pl x
+      outside x h = not_within x (subst (λ (y : ProgramTree). IsNotWithin T r pl y x) is h)
 
-      pub moved_by : ((p : ProgramTree) → FormedProgram p → levels_of p ≤ 128 → length (print_program p) < 2 ^ 32 → IsNumbered p)
-          → (lifetimes_in T r pl ≤ most_lifetimes → FormedProgram whole) → (n : ℕ) → n ≡ new_number (run_of r) pl → IsWithin T.sizes pl q → IsMoved T r pl q n
-      moved_by law told n number w = let v = subst (λ (y : ProgramTree). IsWithin T.sizes pl y) is w in
+      pub moved_by : ((p : ProgramTree) → FormedProgram p → length (print_program p) < 2 ^ 32 → IsNumbered p)
+          → (lifetimes_in T r pl ≤ most_lifetimes → FormedProgram whole) → (n : ℕ) → n ≡ new_number (run_of r) pl → IsWithin T r pl q → IsMoved T r pl q n
+      moved_by law told n number w = let v = subst (λ (y : ProgramTree). IsWithin T r pl y) is w in
           let formed = told few.lifetimes in
           let bare = extraction_bare T.program (run_of r) pl s f there in record {
-            few = record { few = few; levels = few_levels v.levels; parts = v.parts };
+            few = record { few = few; levels = v.levels; parts = v.parts };
             short = v.short;
             program = is;
             item = number;
             bare = subst (λ (y : ProgramTree). IsBare y n) (sym is) (subst (λ (m : ℕ). IsBare whole m) (sym number) bare);
             formed = subst (λ (y : ProgramTree). FormedProgram y) (sym is) formed;
-            numbered = subst (λ (y : ProgramTree). IsNumbered y) (sym is) (law whole formed v.levels v.short);
+            numbered = subst (λ (y : ProgramTree). IsNumbered y) (sym is) (law whole formed v.short);
           }

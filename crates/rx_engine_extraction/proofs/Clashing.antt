@@ -27,7 +27,8 @@ use Rattle.rx_engine_extraction.specs.Promise.{Stands}
 use Rattle.rx_engine_extraction.specs.Verdict.{RefusedBy}
 use Rattle.rx_engine_extraction.proofs.AgreeingPlans.{one_plan}
 use Rattle.rx_engine_extraction.proofs.Agreeing.{retyped, Twice, as_seated, asked_alike}
-use Rattle.rx_engine_extraction.proofs.Standing.{held_first, held_second, seats, plans, passes, programs, none_readable, one_text_of, mixed_alike, plan_of_both, partly_alike, shadowed_alike, not_mut_alike, aliased_alike, parameters, lifetimes, levels, parts, hoisted_both, confirmed_back}
+use Rattle.rx_engine_extraction.proofs.Standing.{held_first, held_second, seats, plans, passes, programs, none_readable, one_text_of, mixed_alike, plan_of_both, partly_alike, shadowed_alike, not_mut_alike, aliased_alike, parameters, lifetimes, many_alike, parts, hoisted_both, confirmed_back}
+use Rattle.rx_engine_extraction.proofs.Depths.{many_or_few}
 use Rattle.rx_engine_extraction.proofs.Orders.{number, earlier, in_order}
 
 none_and_some : (o q : Option ℕ) (n : ℕ) → o ≡ q → o ≡ Some n → q ≡ None → ⊥
@@ -83,7 +84,7 @@ module _ (passed : (p : ProgramTree) (e : CheckFault) → Fronted p → PassCaus
     clash unmoved r s f t h = h.0 f.0 (aliased_alike T u z w d e (seats T u z w d e unmoved (omega arith) s t) (plans T u z w d e unmoved (omega arith) s t) f.0 f.2)
     clash few_parameters r s f t h = let n = parameters T u z w d e (passes T u z w d e few_parameters (omega arith) s t) in omega (arith, f.1, h, n)
     clash few_lifetimes r s f t h = let n = lifetimes T u z w d e (passes T u z w d e few_lifetimes (omega arith) s t) in omega (arith, f.1, h, n)
-    clash few_levels r s f t h = none_and_some _ _ f.0 (levels T u z w d e (passes T u z w d e few_levels (omega arith) s t)) f.2 h
+    clash few_levels r s f t h = many_or_few T.bytes T.tokens T.program _ _ f.0 (many_alike T u z w d e (passes T u z w d e few_levels (omega arith) s t) f.0 f.2) h
     clash few_parts r s f t h = none_and_some _ _ f.0 (parts T u z w d e (passes T u z w d e few_parts (omega arith) s t)) f.2 h
     clash few_numbers r s f t h =
         let n = bytes_of (hoisted T w d) (hoisted U w e) (hoisted_both T u z w d e (passes T u z w d e few_numbers (omega arith) s t)) in omega (arith, f.1, h, n)

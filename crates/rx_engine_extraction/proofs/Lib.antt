@@ -5,6 +5,7 @@ pub mod Cutting
 pub mod NewItems
 pub mod Finishing
 pub mod Calling
+pub mod Depths
 pub mod Asking
 pub mod Placing
 pub mod Stopping

@@ -3,6 +3,7 @@ use Rattle.std.proofs.Common.{◌≡◌, ℕ, ◌<◌, Bool, List, [], ◌∷◌
 use Rattle.rx_core.specs.declared.types.Bound.{Bound}
 use Rattle.rx_tree.specs.Lists.{nth}
 use Rattle.rx_tree.specs.Plain.{ProgramTree}
+use Rattle.rx_typed_runs.specs.declared.runs.RunPos.{RunPos}
 use Rattle.rx_typeck_typed.specs.declared.typed.Typed.{Typed}
 use Rattle.rx_typeck_typed.specs.declared.typed.TypedFn.{TypedFn}
 use Rattle.rx_exits.specs.Refusing.{same_name as same_name_in}
@@ -14,15 +15,15 @@ use Rattle.rx_exits_plan.specs.Shadowed.{Shadowed}
 use Rattle.rx_modes_uses.specs.Aliased.{Aliased}
 use Rattle.rx_modes_uses.specs.First.{First}
 use Rattle.rx_modes_uses.specs.NotMut.{NotMut}
-use Rattle.rx_hoist_extraction.specs.Limits.{first_past, count_parameters, count_lifetimes, made_levels, made_parts}
+use Rattle.rx_hoist_extraction.specs.Limits.{first_past, count_parameters, count_lifetimes, made_parts}
 use Rattle.rx_hoist_extraction.specs.Plan as names
-use Rattle.rx_print_spelling.specs.Levels.{levels_of}
 use Rattle.rx_engine_extraction.specs.Source.{Text, Wish}
 use Rattle.rx_engine_extraction.specs.Case.{Case, asked}
 use Rattle.rx_engine_extraction.specs.Made.{run_of, named, hoisted, named_bounds, extracted}
 use Rattle.rx_engine_extraction.specs.Conditions.{Condition, selects, reached, whole, unmoved, few_positions, readable}
 use Rattle.rx_engine_extraction.specs.Confirmed.{Confirmed}
-use Rattle.rx_engine_extraction.specs.Meeting.{most_levels, most_parts, parts_in, parts_of, levels_in, same_name, Fits, IsAnswer, Holds}
+use Rattle.rx_engine_extraction.specs.Meeting.{most_parts, parts_in, parts_of, same_name, Fits, IsAnswer, Holds}
+use Rattle.rx_engine_extraction.specs.Levels.{HasManyLevels}
 use Rattle.rx_engine_extraction.specs.Failing.{FirstOf}
 use Rattle.rx_engine_extraction.specs.Hoisting.{IsBare}
 use Rattle.rx_engine_extraction.specs.Promise.{Stands}
@@ -118,8 +119,10 @@ module _ (T : Text) (u : Typed) (z : Twice T u) (w : Wish) (d e : Case) where
     lifetimes = let q = named_alike T u z w d e p in
         λ i. count_lifetimes T.program (q i) (parts_in T.program (q i) (run_of (p.seats.run i)) (nth T.program (p.seats.run i).function))
 
-    pub levels : first_past most_levels (levels_in T w d) ≡ first_past most_levels (levels_in U w e)
-    levels = λ i. first_past most_levels (made_levels (named_alike T u z w d e p i) ++ levels_of (hoisted_alike T u z w d e p i) ∷ [])
+    pub many_alike : (n : ℕ) → HasManyLevels T.bytes T.tokens T.program (run_of d.run) (named T w d) n → HasManyLevels T.bytes T.tokens T.program (run_of e.run) (named U w e) n
+    many_alike n h =
+        subst (λ (q : names.Plan). HasManyLevels T.bytes T.tokens T.program (run_of e.run) q n) (named_alike T u z w d e p)
+        (subst (λ (r : RunPos). HasManyLevels T.bytes T.tokens T.program (run_of r) (named T w d) n) p.seats.run h)
 
     pub parts : first_past most_parts (made_parts T.sizes (named T w d)) ≡ first_past most_parts (made_parts T.sizes (named U w e))
     parts = ap (λ (q : names.Plan). first_past most_parts (made_parts T.sizes q)) (named_alike T u z w d e p)

@@ -30,7 +30,8 @@ use Rattle.rx_engine_extraction.specs.Promise.{Stands}
 use Rattle.rx_engine_extraction.proofs.Ends.{pass_cause}
 use Rattle.rx_engine_extraction.proofs.AgreeingPlans.{one_plan}
 use Rattle.rx_engine_extraction.proofs.Agreeing.{retyped, Twice, Seats}
-use Rattle.rx_engine_extraction.proofs.Standing.{seats, plans, passes, programs, one_text_of, mixed_alike, plan_of_both, partly_alike, shadowed_alike, not_mut_alike, aliased_alike, parameters, lifetimes, levels, parts, hoisted_both}
+use Rattle.rx_engine_extraction.proofs.Depths.{one_number}
+use Rattle.rx_engine_extraction.proofs.Standing.{seats, plans, passes, programs, one_text_of, mixed_alike, plan_of_both, partly_alike, shadowed_alike, not_mut_alike, aliased_alike, parameters, lifetimes, many_alike, parts, hoisted_both}
 
 told_as : (r q a b : Refusal) → r ≡ a → q ≡ b → AreOne a b → AreOne r q
 told_as r q a b x y h = subst (λ (k : Refusal). AreOne r k) (sym y) (subst (λ (k : Refusal). AreOne k b) (sym x) h)
@@ -112,7 +113,7 @@ module _ (one_pass : (p : ProgramTree) (e f : CheckFault) → e ≢ check_fault.
         let n = lifetimes T u z w d e (passes T u z w d e few_lifetimes (omega arith) s t) in
         told_as r q (refusal.Limit which.Lifetimes _) (refusal.Limit which.Lifetimes _) f.0 g.0 (λ i. refusal.Limit which.Lifetimes (capped (n i)))
     told_alike few_levels r q s f t g =
-        let n = one_count _ _ f.0 g.0 (levels T u z w d e (passes T u z w d e few_levels (omega arith) s t)) f.2 g.2 in
+        let n = one_number T.bytes T.tokens T.program _ _ f.0 g.0 (many_alike T u z w d e (passes T u z w d e few_levels (omega arith) s t) f.0 f.2) g.2 in
         told_as r q (refusal.Limit which.Levels (capped f.0)) (refusal.Limit which.Levels (capped g.0)) f.1 g.1 (λ i. refusal.Limit which.Levels (capped (n i)))
     told_alike few_parts r q s f t g =
         let n = one_count _ _ f.0 g.0 (parts T u z w d e (passes T u z w d e few_parts (omega arith) s t)) f.2 g.2 in

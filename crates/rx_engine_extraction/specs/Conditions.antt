@@ -18,7 +18,7 @@ pub data Condition : Type 0 where
   -- each param can be passed; no borrowed variable would get other storage
   passable : Condition
   unmoved : Condition
-  -- the new function's parameters and lifetimes, the canonical text's levels and the parts of types are within their limits
+  -- the new function's parameters and lifetimes, the levels of the text and of types, and the parts of types are within their limits
   few_parameters : Condition
   few_lifetimes : Condition
   few_levels : Condition

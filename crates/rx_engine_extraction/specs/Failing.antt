@@ -32,10 +32,11 @@ use Rattle.rx_engine_extraction.specs.declared.refusal.Refusal.{Refusal}
 use Rattle.rx_engine_extraction.specs.declared.refusal.Refusal.TheVariants as refusal
 use Rattle.rx_engine_extraction.specs.Source.{Text, Wish}
 use Rattle.rx_engine_extraction.specs.Case.{Case, asked}
-use Rattle.rx_engine_extraction.specs.Made.{named, hoisted, extracted}
+use Rattle.rx_engine_extraction.specs.Made.{run_of, named, hoisted, extracted}
+use Rattle.rx_engine_extraction.specs.Levels.{HasManyLevels}
 use Rattle.rx_engine_extraction.specs.Confirmed.{Confirmed}
 use Rattle.rx_engine_extraction.specs.Conditions.{Condition, selects, word, unused, reached, left, settled, whole, visible, passable, unmoved, few_parameters, few_lifetimes, few_levels, few_parts, few_numbers, fits, few_sites, few_positions, fits_bounded, known, legal, readable, few_bytes, confirmed}
-use Rattle.rx_engine_extraction.specs.Meeting.{most_parameters, most_lifetimes, most_levels, most_parts, most_sites, most_bytes, Seated, same_name, parts_of, levels_in, IsUnfit, IsAnswer}
+use Rattle.rx_engine_extraction.specs.Meeting.{most_parameters, most_lifetimes, most_parts, most_sites, most_bytes, Seated, same_name, parts_of, IsUnfit, IsAnswer}
 
 -- ---- places
 
@@ -87,7 +88,7 @@ Fails T w d passable r = (x : ℕ) × (r ≡ refusal.NotMut (named_at d x)) × N
 Fails T w d unmoved r = (x : ℕ) × (r ≡ refusal.Aliased (named_at d x)) × Aliased (asked T d) d.function.mutable d.plan x
 Fails T w d few_parameters r = let n = count_parameters (named T w d) in (r ≡ refusal.Limit which.Parameters (capped n)) × (most_parameters < n)
 Fails T w d few_lifetimes r = let n = count_lifetimes T.program (named T w d) (parts_of T w d) in (r ≡ refusal.Limit which.Lifetimes (capped n)) × (most_lifetimes < n)
-Fails T w d few_levels r = (n : ℕ) × (r ≡ refusal.Limit which.Levels (capped n)) × (first_past most_levels (levels_in T w d) ≡ Some n)
+Fails T w d few_levels r = (n : ℕ) × (r ≡ refusal.Limit which.Levels (capped n)) × HasManyLevels T.bytes T.tokens T.program (run_of d.run) (named T w d) n
 Fails T w d few_parts r = (n : ℕ) × (r ≡ refusal.Limit which.Parts (capped n)) × (first_past most_parts (made_parts T.sizes (named T w d)) ≡ Some n)
 Fails T w d few_numbers r = let n = length (print_program (hoisted T w d)) in (r ≡ refusal.Limit which.Bytes n) × (2 ^ 32 ≤ n)
 Fails T w d fits r = (e : CheckFault) × (r ≡ refusal.Unfit e) × IsUnfit e × PassCauses e (hoisted T w d)

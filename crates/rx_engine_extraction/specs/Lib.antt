@@ -3,6 +3,7 @@ pub mod Case
 pub mod Undecided
 pub mod Made
 pub mod Rendering
+pub mod Levels
 pub mod Confirmed
 pub mod Conditions
 pub mod Meeting

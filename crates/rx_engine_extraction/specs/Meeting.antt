@@ -30,14 +30,13 @@ use Rattle.rx_modes_uses.specs.NotMut.{NotMut}
 use Rattle.rx_hoist_extraction.specs.Plan as names
 use Rattle.rx_hoist_extraction.specs.Run.{Parts, Run, run_parts}
 use Rattle.rx_hoist_extraction.specs.Pinned.{pinned_function}
-use Rattle.rx_hoist_extraction.specs.Limits.{first_past, count_parameters, count_lifetimes, made_levels, made_parts}
+use Rattle.rx_hoist_extraction.specs.Limits.{first_past, count_parameters, count_lifetimes, made_parts}
 use Rattle.rx_hoist_naming.specs.NamedPlan.{names_in}
 use Rattle.rx_hoist_naming.specs.NameTest.{is_taken}
 use Rattle.rx_hoist_nodes.specs.TypedRun.{typed_run}
 use Rattle.rx_hoist_naming.specs.NamesWords.{identifiers}
 use Rattle.rx_hoist_naming.specs.Words.{OutsAgree}
 use Rattle.rx_print_spelling.specs.Items.{print_program}
-use Rattle.rx_print_spelling.specs.Levels.{levels_of}
 use Rattle.rx_check.specs.declared.fault.CheckFault.{CheckFault}
 use Rattle.rx_check.specs.declared.fault.CheckFault.TheVariants as check_fault
 use Rattle.rx_check.specs.Causes.{Causes, PassCauses}
@@ -49,6 +48,7 @@ use Rattle.rx_engine_extraction.specs.Source.{Text, Wish}
 use Rattle.rx_engine_extraction.specs.Case.{Case, asked}
 use Rattle.rx_engine_extraction.specs.Made.{run_of, told, named, hoisted, new_item, named_bounds, extracted}
 use Rattle.rx_engine_extraction.specs.Rendering.{Renders}
+use Rattle.rx_engine_extraction.specs.Levels.{HasFewLevels}
 use Rattle.rx_engine_extraction.specs.Confirmed.{Confirmed}
 use Rattle.rx_engine_extraction.specs.Conditions.{Condition, selects, word, unused, reached, left, settled, whole, visible, passable, unmoved, few_parameters, few_lifetimes, few_levels, few_parts, few_numbers, fits, few_sites, few_positions, fits_bounded, known, legal, readable, few_bytes, confirmed}
 
@@ -59,9 +59,6 @@ most_parameters = 64
 
 abbrev pub most_lifetimes : ℕ
 most_lifetimes = 128
-
-abbrev pub most_levels : ℕ
-most_levels = 128
 
 abbrev pub most_parts : ℕ
 most_parts = 4096
@@ -104,10 +101,6 @@ parts_in P pl r _ = record { statements = []; tail = plain.absent }
 abbrev pub parts_of : Text → Wish → Case → Parts
 parts_of T w d = parts_in T.program (named T w d) (run_of d.run) (nth T.program d.run.function)
 
--- the levels of the types that are made, then of the text
-abbrev pub levels_in : Text → Wish → Case → List ℕ
-levels_in T w d = made_levels (named T w d) ++ levels_of (hoisted T w d) ∷ []
-
 -- a fault of another kind than that a graph passes its limits
 abbrev pub IsUnfit : CheckFault → Type 0
 IsUnfit (check_fault.Lower e) = ⊥
@@ -140,7 +133,7 @@ Holds T w d unmoved = ((x : ℕ) → Aliased (asked T d) d.function.mutable d.pl
     × Passes (asked T d) d.function w.choice d.plan d.listed d.modes d.moved
 Holds T w d few_parameters = count_parameters (named T w d) ≤ most_parameters
 Holds T w d few_lifetimes = count_lifetimes T.program (named T w d) (parts_of T w d) ≤ most_lifetimes
-Holds T w d few_levels = first_past most_levels (levels_in T w d) ≡ None
+Holds T w d few_levels = HasFewLevels T.bytes T.tokens T.program (run_of d.run) (named T w d)
 Holds T w d few_parts = first_past most_parts (made_parts T.sizes (named T w d)) ≡ None
 Holds T w d few_numbers = length (print_program (hoisted T w d)) < 2 ^ 32
 Holds T w d fits = (e : CheckFault) → IsUnfit e → PassCauses e (hoisted T w d) → ⊥

@@ -37,6 +37,7 @@ fn hoisted_by<'t, P: Policy>(
     requires one_text { OneText (toks given.now.tokens.now.list) given.now.tokens.now.length (plain-Program given.now.program.now) }
     requires short { given.now.tokens.now.length ≤ 1048576 }
     requires front { IsFrontOf (plain-Program given.now.program.now) given.now.front.now }
+    requires text { IsUtf8 given.now.text.now }
     ensures found { IfOk result (λ m. spec.IsHoisting (text_of given.now)
         (record { start = request.now.selection.start; end = request.now.selection.end; name = request.now.name.now; choice = P.choice policy.now }) m) }
     ensures fault { IfErr result (λ f. spec.IsStopped (text_of given.now)

@@ -4,6 +4,7 @@
 mod beginning;
 mod confirming;
 mod deciding;
+mod deep;
 mod ending;
 mod extraction;
 mod given;

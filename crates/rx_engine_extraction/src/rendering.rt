@@ -106,7 +106,7 @@ fn bytes_with(
 }
 
 /// The file's own bytes with the edits that make an extraction, where these can be made.
-fn own_bytes(
+pub(crate) fn own_bytes(
     alloc: Global,
     given: &Given<'_, '_>,
     run: &RunPos,
@@ -134,7 +134,7 @@ fn own_bytes(
 }
 
 /// A text with a fault is not read, unless memory ran out.
-fn not_read(fault: SyntaxFault) -> Result<bool, AllocError>
+pub(crate) fn not_read(fault: SyntaxFault) -> Result<bool, AllocError>
     ensures { IfOk result (λ b. (b ≡ false) × (fault ≢ faults.OutOfMemory)) }
 {
     match fault {

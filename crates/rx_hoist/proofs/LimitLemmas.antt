@@ -1,34 +1,25 @@
 -- Limits of counts that are kept in 64 bits, and what is told of them.
 use Rattle.std.proofs.Common.{◌≡◌, ℕ, ◌<◌, ◌≤◌, ◌^◌, nat_lt, true, false, Option, Some, None, refl, sym, subst, ap, ◌∙◌, arith}
-use Rattle.std.specs.Prelude.{option_map}
 use Rattle.std.proofs.lemmas.Bool.{lt-ltb, le-ltb}
 use Rattle.rx_core.specs.declared.types.Which.{Which}
 use Rattle.rx_core.specs.declared.types.Which.TheVariants as which
 use Rattle.rx_hoist_extraction.specs.Plan.{Plan}
-use Rattle.rx_hoist_extraction.specs.Limits.{count_parameters, first_past, made_levels}
+use Rattle.rx_hoist_extraction.specs.Limits.{count_parameters}
 use Rattle.rx_hoist_made.specs.Counts.{capped}
 use Rattle.rx_hoist.specs.declared.hoisting.HoistFault.TheVariants as fault
-use Rattle.rx_hoist.specs.Limits.{Allowed, Passed, lifetimes_limit, parameters_limit, levels_limit}
+use Rattle.rx_hoist.specs.Limits.{Allowed, Passed, lifetimes_limit, parameters_limit}
 
 many_parameters : (n : ℕ) (pl : Plan) → 64 < count_parameters pl → parameters_limit n pl ≡ Some (which.Parameters, capped (count_parameters pl))
 many_parameters n pl l = let e : nat_lt 64 (count_parameters pl) ≡ true = lt-ltb 64 (count_parameters pl) l in rw e refl
 
-few_parameters : (n : ℕ) (pl : Plan) → count_parameters pl ≤ 64 → parameters_limit n pl ≡ lifetimes_limit n pl
+few_parameters : (n : ℕ) (pl : Plan) → count_parameters pl ≤ 64 → parameters_limit n pl ≡ lifetimes_limit n
 few_parameters n pl l = let e : nat_lt 64 (count_parameters pl) ≡ false = le-ltb 64 (count_parameters pl) l in rw e refl
 
-many_lifetimes : (n : ℕ) (pl : Plan) → 128 < n → lifetimes_limit n pl ≡ Some (which.Lifetimes, capped n)
-many_lifetimes n pl l = let e : nat_lt 128 n ≡ true = lt-ltb 128 n l in rw e refl
+many_lifetimes : (n : ℕ) → 128 < n → lifetimes_limit n ≡ Some (which.Lifetimes, capped n)
+many_lifetimes n l = let e : nat_lt 128 n ≡ true = lt-ltb 128 n l in rw e refl
 
-few_lifetimes : (n : ℕ) (pl : Plan) → n ≤ 128 → lifetimes_limit n pl ≡ levels_limit (first_past 128 (made_levels pl))
-few_lifetimes n pl l = let e : nat_lt 128 n ≡ false = le-ltb 128 n l in rw e refl
-
-levels_are : (o : Option ℕ) (c : ℕ) → Some c ≡ option_map capped o → levels_limit o ≡ Some (which.Levels, c)
-levels_are None c e = absurd (cc)
-levels_are (Some n) c e = let f : capped n ≡ c = cc in ap (λ m. Some (which.Levels, m)) f
-
-no_levels : (o : Option ℕ) → None ≡ option_map capped o → levels_limit o ≡ None
-no_levels None e = refl
-no_levels (Some n) e = absurd (cc)
+few_lifetimes : (n : ℕ) → n ≤ 128 → lifetimes_limit n ≡ None
+few_lifetimes n l = let e : nat_lt 128 n ≡ false = le-ltb 128 n l in rw e refl
 
 -- ---- a fault that tells what passes its limit first
 
@@ -44,15 +35,8 @@ pub lifetimes_told : (n : ℕ) (pl : Plan) (parameters many : ℕ) → parameter
     → Allowed (parameters_limit n pl) (fault.Limit which.Lifetimes many)
 lifetimes_told n pl parameters many e few is past =
     told (parameters_limit n pl) which.Lifetimes many
-    (few_parameters n pl (omega arith) ∙ many_lifetimes n pl (omega arith) ∙ ap (λ m. Some (which.Lifetimes, m)) (sym is))
-
-pub levels_told : (n : ℕ) (pl : Plan) (parameters many levels : ℕ) → parameters ≡ count_parameters pl → parameters ≤ 64 → many ≡ capped n → many ≤ 128
-    → Some levels ≡ option_map capped (first_past 128 (made_levels pl)) → Allowed (parameters_limit n pl) (fault.Limit which.Levels levels)
-levels_told n pl parameters many levels e few is fewer past =
-    told (parameters_limit n pl) which.Levels levels
-    (few_parameters n pl (omega arith) ∙ few_lifetimes n pl (omega arith) ∙ levels_are (first_past 128 (made_levels pl)) levels past)
+    (few_parameters n pl (omega arith) ∙ many_lifetimes n (omega arith) ∙ ap (λ m. Some (which.Lifetimes, m)) (sym is))
 
 pub none_passed : (n : ℕ) (pl : Plan) (parameters many : ℕ) → parameters ≡ count_parameters pl → parameters ≤ 64 → many ≡ capped n → many ≤ 128
-    → None ≡ option_map capped (first_past 128 (made_levels pl)) → parameters_limit n pl ≡ None
-none_passed n pl parameters many e few is fewer past =
-    few_parameters n pl (omega arith) ∙ few_lifetimes n pl (omega arith) ∙ no_levels (first_past 128 (made_levels pl)) past
+    → parameters_limit n pl ≡ None
+none_passed n pl parameters many e few is fewer = few_parameters n pl (omega arith) ∙ few_lifetimes n (omega arith)

@@ -1,4 +1,4 @@
--- What passes its limit first: the parameters, the lifetimes, the levels of types that are made (REM, "Extract function").
+-- What passes its limit first: the parameters, the lifetimes (REM, "Extract function").
 use Rattle.std.specs.Prelude.{◌≡◌, ℕ, ◌+◌, nat_lt, if◌then◌else◌, List, length, Option, Some, None, slice_get, ⊤}
 use Rattle.rx_core.specs.declared.types.Which.{Which}
 use Rattle.rx_core.specs.declared.types.Which.TheVariants as which
@@ -9,7 +9,7 @@ use Rattle.rx_hoist_extraction.specs.Run.{Parts, Run, run_parts}
 use Rattle.rx_hoist_extraction.specs.Plan.{Plan}
 use Rattle.rx_hoist_extraction.specs.Pinned.{pinned_function}
 use Rattle.rx_hoist_extraction.specs.NewFunction.{signature_positions}
-use Rattle.rx_hoist_extraction.specs.Limits.{count_parameters, count_lifetimes, first_past, made_levels}
+use Rattle.rx_hoist_extraction.specs.Limits.{count_parameters, count_lifetimes}
 use Rattle.rx_hoist_made.specs.Counts.{capped}
 use Rattle.rx_hoist.specs.declared.hoisting.HoistFault.{HoistFault}
 use Rattle.rx_hoist.specs.declared.hoisting.HoistFault.TheVariants as fault
@@ -18,16 +18,12 @@ use Rattle.rx_hoist.specs.declared.hoisting.HoistFault.TheVariants as fault
 abbrev pub Passed : Type 0
 Passed = Which × ℕ
 
-abbrev pub levels_limit : Option ℕ → Option Passed
-levels_limit None = None
-levels_limit (Some n) = Some (which.Levels, capped n)
-
-abbrev pub lifetimes_limit : ℕ → Plan → Option Passed
-lifetimes_limit n pl = if nat_lt 128 n then Some (which.Lifetimes, capped n) else levels_limit (first_past 128 (made_levels pl))
+abbrev pub lifetimes_limit : ℕ → Option Passed
+lifetimes_limit n = if nat_lt 128 n then Some (which.Lifetimes, capped n) else None
 
 abbrev pub parameters_limit : ℕ → Plan → Option Passed
 parameters_limit n pl =
-    if nat_lt 64 (count_parameters pl) then Some (which.Parameters, capped (count_parameters pl)) else lifetimes_limit n pl
+    if nat_lt 64 (count_parameters pl) then Some (which.Parameters, capped (count_parameters pl)) else lifetimes_limit n
 
 -- `run` is the run as it stands in its function, pinned
 abbrev pub limit : ProgramTree → Plan → Parts → Option Passed

@@ -15,7 +15,6 @@ ghost use Rattle.rx_hoist.specs.Limits as limits;
 ghost use Rattle.rx_hoist.specs.Hoisting as hoisting;
 
 use crate::function::{made_function, pinned_body, with_body};
-use crate::levels::levels_past;
 use crate::parts::{from_on, run_parts, with_parts};
 use crate::program::with_items;
 use crate::site::{block_at, labels_round};
@@ -72,13 +71,7 @@ fn within_limits(program: &Program, plan: &NamedPlan, copied: &[Ident]) -> Resul
             count,
         });
     }
-    match levels_past(plan) {
-        Some(count) => Err(HoistFault::Limit {
-            which: Which::Levels,
-            count,
-        }),
-        None => Ok(positions),
-    }
+    Ok(positions)
 }
 
 /// The block of the run with the call in place of the run.
@@ -335,8 +328,8 @@ fn added(plan: &NamedPlan) -> u32
 }
 
 /// The extraction of a run by a plan, without bounds for the new function's lifetimes. What passes its limit first is told, of
-/// the new function's parameters (64), its lifetimes (128) and the levels of a type that is made (128); the levels of the whole
-/// text and then `parts_past` are asked by the caller.
+/// the new function's parameters (64) and its lifetimes (128); the levels of the text, `levels_past` and then `parts_past` are
+/// asked by the caller.
 pub fn hoist(
     alloc: Global,
     program: &Program,

@@ -173,8 +173,9 @@ fn signature_past(plan: &NamedPlan) -> Option<u64>
     }
 }
 
-/// The first number of levels of a type that is made which is too great.
-pub(crate) fn levels_past(plan: &NamedPlan) -> Option<u64>
+/// The first number of levels of a type that is made which passes its limit.
+/// It is asked after the levels of the answer.
+pub fn levels_past(plan: &NamedPlan) -> Option<u64>
     ensures { result ≡ option_map capped (limits.first_past 128 (limits.made_levels (plain-Plan plan.now))) }
 {
     match enum_past(plan) {

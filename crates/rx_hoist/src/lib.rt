@@ -10,6 +10,7 @@ mod program;
 mod site;
 
 pub use hoisting::{HoistFault, Hoisted, function_at, hoist, no_block};
+pub use levels::levels_past;
 pub use limits::parts_past;
 pub use parts::{from_on, run_parts};
 pub use site::{block_at, labels_round};

@@ -10,7 +10,7 @@ pub enum SyntaxFault {
     Lex(LexFault),
     #[error("no program goes on with what stands at byte {at}")]
     Syntax { at: u64 },
-    #[error("what stands at byte {at} is more than 128 levels deep")]
+    #[error("what stands at byte {at} is deeper than texts may be")]
     TooDeep { at: u64 },
     #[error("out of memory")]
     OutOfMemory,

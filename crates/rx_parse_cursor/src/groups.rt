@@ -27,7 +27,7 @@ pub enum Grouped<T> {
 
 /// One thing with parentheses round it, which count a level.
 fn alone<T>(first: Got<T>, span: Span) -> Grouped<T>
-    requires { first.height ≤ 128 }
+    requires { first.height ≤ 1024 }
     ensures { result ≡ grouped.Alone (record { tree = first.tree; height = first.height + 1; span = span }) }
 {
     let Got {
@@ -52,7 +52,7 @@ fn group_behind<R: Reader>(
     first: Got<R::Item>,
 ) -> Result<Grouped<R::Item>, Stop>
     requires ready { R.ready reader.now }
-    requires most { R.most reader.now ≤ 128 }
+    requires most { R.most reader.now ≤ 1024 }
     requires first { first.height ≤ R.most reader.now }
     ensures reads { (tuple : span.Span → List R.Tree → R.Tree) → ReadsAs (grouped_of R.plain tuple) (lists.group_by (R.parser reader.now) tuple (tok opening.entry) (got_of R.plain first) cursor.old) result cursor.new }
     ensures low { IfOk result (HasMost (R.most reader.now)) }
@@ -76,7 +76,7 @@ pub fn group<R: Reader>(
     reader: &R,
 ) -> Result<Grouped<R::Item>, Stop>
     requires ready { R.ready reader.now }
-    requires most { R.most reader.now ≤ 128 }
+    requires most { R.most reader.now ≤ 1024 }
     ensures reads { (tuple : span.Span → List R.Tree → R.Tree) → ReadsAs (grouped_of R.plain tuple) (lists.group (R.parser reader.now) tuple cursor.old) result cursor.new }
     ensures low { IfOk result (HasMost (R.most reader.now)) }
 {

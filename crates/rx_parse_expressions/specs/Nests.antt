@@ -20,7 +20,7 @@ use Rattle.rx_parse_choices.specs.Wants.{wanted_of}
 -- a function value that reads expressions of at most so many levels, or fewer
 pub record Nests (below : ℕ) (pre : Global → MutBor (List Tok) → ℕ → Wanted → Type 0)
     (post : Global → MutBor (List Tok) → ℕ → Wanted → Result (Got Expr) Stop → MutBor (List Tok) → Type 0) : Type 0 where
-  pub low : below ≤ 127
+  pub low : below ≤ 1023
   pub callable : (alloc : Global) (old : MutBor (List Tok)) (d : ℕ) (w : Wanted) → d ≤ below → pre alloc old d w
   pub reads : (alloc : Global) (old new : MutBor (List Tok)) (d : ℕ) (w : Wanted) (r : Result (Got Expr) Stop) → d ≤ below → post alloc old d w r new
       → ReadsAs (got_of plain-Expr) (wanted_of w d old.now) r new.now

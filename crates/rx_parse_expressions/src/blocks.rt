@@ -73,7 +73,7 @@ fn with_piece(alloc: Global, found: Found<Stmt>, piece: Piece) -> Result<Turn, A
 /// A block, by its opening brace, its statements and its end.
 #[tactic(auto, using(crate::proofs::BlockRules::block_rules))]
 fn body_of(start: Span, found: Found<Stmt>, ending: Ending) -> Got<Block>
-    requires { found.height ≤ 128 }
+    requires { found.height ≤ 1024 }
     ensures tree { got_of plain-Block result ≡ node (λ s. plain.body s (statements_of (map plain-Stmt found.list)) (ending_of ending).tail) (words.join start ending.close) found.height }
     ensures height { result.height ≡ found.height + 1 }
 {
@@ -164,7 +164,7 @@ impl<F: Fn(Global, &mut Cursor<'_>, usize, Wanted) -> Result<Got<Expr>, Stop> + 
 
 /// A block of at most so many levels.
 pub fn block(alloc: Global, cursor: &mut Cursor<'_>, depth: usize) -> Result<Got<Block>, Stop>
-    requires { depth ≤ 128 }
+    requires { depth ≤ 1024 }
     ensures reads { ReadsAs (got_of plain-Block) (spec.block depth cursor.old) result cursor.new }
     ensures low { IfOk result (λ x. x.height ≤ depth) }
 {

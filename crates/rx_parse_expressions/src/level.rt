@@ -56,7 +56,7 @@ pub fn expression(
     depth: usize,
     wanted: Wanted,
 ) -> Result<Got<Expr>, Stop>
-    requires { depth ≤ 128 }
+    requires { depth ≤ 1024 }
     ensures reads { ReadsAs (got_of plain-Expr) (wanted_of wanted depth cursor.old) result cursor.new }
     ensures low { IfOk result (λ x. x.height ≤ depth) }
 {

@@ -19,7 +19,7 @@ use std::alloc::{AllocError, Global};
 
 /// What stands on the left, with a member behind it.
 fn with_member(alloc: Global, left: Got<Expr>, member: Member<'_>) -> Result<Got<Expr>, AllocError>
-    requires { left.height ≤ 128 }
+    requires { left.height ≤ 1024 }
     ensures tree { IfOk result (λ x. got_of plain-Expr x ≡ tree.with_member (got_of plain-Expr left) (member_of member.entry)) }
     ensures height { IfOk result (λ x. x.height ≡ left.height + 1) }
 {
@@ -37,7 +37,7 @@ fn one_member(
     below: usize,
     left: Got<Expr>,
 ) -> Result<Got<Expr>, Stop>
-    requires below { below ≤ 127 }
+    requires below { below ≤ 1023 }
     ensures reads { ReadsAs (got_of plain-Expr) (tree.member below (got_of plain-Expr left) cursor.old) result cursor.new }
     ensures low { IfOk result (λ x. x.height ≤ below + 1) }
 {
@@ -53,7 +53,7 @@ pub fn members(
     below: usize,
     left: Got<Expr>,
 ) -> Result<Got<Expr>, Stop>
-    requires below { below ≤ 127 }
+    requires below { below ≤ 1023 }
     requires low { left.height ≤ below + 1 }
     ensures reads { ReadsAs (got_of plain-Expr) (spec.chain (levels.member_step below) (length cursor.old) (got_of plain-Expr left) cursor.old) result cursor.new }
     ensures low { IfOk result (λ x. x.height ≤ below + 1) }

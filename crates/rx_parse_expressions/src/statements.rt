@@ -69,7 +69,7 @@ fn declares(read: &Got<Pattern>) -> bool
 /// The type behind a pattern, where one is written.
 #[tactic(auto, unfolding(rx_parse_grammar::specs::parser::Blocks::annotation))]
 fn annotation(alloc: Global, cursor: &mut Cursor<'_>, depth: usize) -> Result<Annotated, Stop>
-    requires { depth ≤ 128 }
+    requires { depth ≤ 1024 }
     ensures reads { ReadsAs annotation_of (spec.annotation depth cursor.old) result cursor.new }
     ensures low { IfOk result (λ a. a.height ≤ depth) }
 {

@@ -97,8 +97,8 @@ impl<F: Fn(Global, &mut Cursor<'_>, usize, Wanted) -> Result<Got<Expr>, Stop>> L
         left: Got<Expr>,
         right: Got<Expr>,
     ) -> Result<Got<Expr>, AllocError>
-        requires a { left.height ≤ 128 }
-        requires b { right.height ≤ 128 }
+        requires a { left.height ≤ 1024 }
+        requires b { right.height ≤ 1024 }
         ensures tree { IfOk result (λ x. got_of plain-Expr x ≡ node (λ s. levels.set_as self.now.below (setting_of how) s (plain-Expr left.tree) (plain-Expr right.tree)) (words.join left.span right.span) (max left.height right.height)) }
         ensures height { IfOk result (λ x. x.height ≡ (max left.height right.height) + 1) }
     {

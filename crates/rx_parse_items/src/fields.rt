@@ -29,7 +29,7 @@ impl Reader for Types {
 
     ghost plain = { plain-TypeText };
 
-    ghost ready = { λ s. s.depth ≤ 128 };
+    ghost ready = { λ s. s.depth ≤ 1024 };
 
     ghost most = { λ s. s.depth };
 
@@ -43,7 +43,7 @@ impl Reader for Types {
 /// A name with its type.
 #[tactic(auto, unfolding(rx_parse_grammar::specs::parser::Items::struct_field))]
 fn struct_field(alloc: Global, cursor: &mut Cursor<'_>, depth: usize) -> Result<Got<Field>, Stop>
-    requires { depth ≤ 128 }
+    requires { depth ≤ 1024 }
     ensures reads { ReadsAs (got_of plain-Field) (spec.struct_field depth cursor.old) result cursor.new }
     ensures low { IfOk result (λ x. x.height ≤ depth) }
 {
@@ -74,7 +74,7 @@ impl Reader for Fields {
 
     ghost plain = { plain-Field };
 
-    ghost ready = { λ s. s.depth ≤ 128 };
+    ghost ready = { λ s. s.depth ≤ 1024 };
 
     ghost most = { λ s. s.depth };
 
@@ -88,7 +88,7 @@ impl Reader for Fields {
 /// A variant of an enum, with the types of its parts where parentheses are written.
 #[tactic(auto, unfolding(rx_parse_grammar::specs::parser::Items::variant))]
 fn variant(alloc: Global, cursor: &mut Cursor<'_>, depth: usize) -> Result<Got<EnumVariant>, Stop>
-    requires { depth ≤ 128 }
+    requires { depth ≤ 1024 }
     ensures reads { ReadsAs (got_of plain-EnumVariant) (spec.variant depth cursor.old) result cursor.new }
     ensures low { IfOk result (λ x. x.height ≤ depth) }
 {
@@ -129,7 +129,7 @@ impl Reader for Variants {
 
     ghost plain = { plain-EnumVariant };
 
-    ghost ready = { λ s. s.depth ≤ 128 };
+    ghost ready = { λ s. s.depth ≤ 1024 };
 
     ghost most = { λ s. s.depth };
 
@@ -143,7 +143,7 @@ impl Reader for Variants {
 /// A parameter of a function.
 #[tactic(auto, unfolding(rx_parse_grammar::specs::parser::Items::parameter))]
 fn parameter(alloc: Global, cursor: &mut Cursor<'_>, depth: usize) -> Result<Got<Param>, Stop>
-    requires { depth ≤ 128 }
+    requires { depth ≤ 1024 }
     ensures reads { ReadsAs (got_of plain-Param) (spec.parameter depth cursor.old) result cursor.new }
     ensures low { IfOk result (λ x. x.height ≤ depth) }
 {
@@ -189,7 +189,7 @@ impl Reader for Parameters {
 
     ghost plain = { plain-Param };
 
-    ghost ready = { λ s. s.depth ≤ 128 };
+    ghost ready = { λ s. s.depth ≤ 1024 };
 
     ghost most = { λ s. s.depth };
 
@@ -207,7 +207,7 @@ pub fn result_type(
     cursor: &mut Cursor<'_>,
     depth: usize,
 ) -> Result<(Option<TypeText>, usize), Stop>
-    requires { depth ≤ 128 }
+    requires { depth ≤ 1024 }
     ensures { ReadsAs result_of (spec.result depth cursor.old) result cursor.new }
 {
     if cursor.sees(Symbol::Arrow) {

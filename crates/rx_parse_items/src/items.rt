@@ -39,7 +39,7 @@ fn structure(
     mark: Option<Token<'_>>,
     derives: List<Derive>,
 ) -> Result<Got<Item>, Stop>
-    requires { depth ≤ 128 }
+    requires { depth ≤ 1024 }
     ensures { ReadsAs (got_of plain-Item) (spec.structure depth (option_map tok mark.entry) derives cursor.old) result cursor.new }
 {
     let (token, derives) = keep(derives, cursor.expect(Symbol::Struct))?;
@@ -81,7 +81,7 @@ fn enumeration(
     mark: Option<Token<'_>>,
     derives: List<Derive>,
 ) -> Result<Got<Item>, Stop>
-    requires { depth ≤ 128 }
+    requires { depth ≤ 1024 }
     ensures { ReadsAs (got_of plain-Item) (spec.enumeration depth (option_map tok mark.entry) derives cursor.old) result cursor.new }
 {
     let (token, derives) = keep(derives, cursor.expect(Symbol::Enum))?;
@@ -111,7 +111,7 @@ fn enumeration(
 /// A struct or an enum, from its derives on.
 #[tactic(auto, unfolding(rx_parse_grammar::specs::parser::Items::derived))]
 fn derived(alloc: Global, cursor: &mut Cursor<'_>, depth: usize) -> Result<Got<Item>, Stop>
-    requires { depth ≤ 128 }
+    requires { depth ≤ 1024 }
     ensures { ReadsAs (got_of plain-Item) (spec.derived depth cursor.old) result cursor.new }
 {
     let mark = cursor.expect(Symbol::Hash)?;
@@ -126,7 +126,7 @@ fn derived(alloc: Global, cursor: &mut Cursor<'_>, depth: usize) -> Result<Got<I
 /// A function.
 #[tactic(auto, unfolding(rx_parse_grammar::specs::parser::Items::function))]
 fn function(alloc: Global, cursor: &mut Cursor<'_>, depth: usize) -> Result<Got<Item>, Stop>
-    requires { depth ≤ 128 }
+    requires { depth ≤ 1024 }
     ensures { ReadsAs (got_of plain-Item) (spec.function depth cursor.old) result cursor.new }
 {
     let token = cursor.expect(Symbol::Fn)?;
@@ -184,7 +184,7 @@ fn rt_module(cursor: &mut Cursor<'_>) -> Result<Got<Item>, Stop>
 /// An item.
 #[tactic(auto, unfolding(rx_parse_grammar::specs::parser::Items::item))]
 fn item(alloc: Global, cursor: &mut Cursor<'_>, depth: usize) -> Result<Got<Item>, Stop>
-    requires { depth ≤ 128 }
+    requires { depth ≤ 1024 }
     ensures { ReadsAs (got_of plain-Item) (spec.item depth cursor.old) result cursor.new }
 {
     match cursor.peek() {
@@ -204,7 +204,7 @@ fn with_item(
     depth: usize,
     found: Found<Item>,
 ) -> Result<Found<Item>, Stop>
-    requires { depth ≤ 128 }
+    requires { depth ≤ 1024 }
     ensures { ReadsAs file_of (another (spec.item depth) (map plain-Item found.list) found.height cursor.old) result cursor.new }
 {
     let (next, found) = keep(found, item(alloc, cursor, depth))?;
@@ -213,7 +213,7 @@ fn with_item(
 
 /// The items of a whole list of tokens, of at most so many levels.
 pub fn file(alloc: Global, cursor: &mut Cursor<'_>, depth: usize) -> Result<Found<Item>, Stop>
-    requires { depth ≤ 128 }
+    requires { depth ≤ 1024 }
     ensures { ReadsAs file_of (spec.file depth cursor.old) result cursor.new }
 {
     let mut found = Found::new(alloc);

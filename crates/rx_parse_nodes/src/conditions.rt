@@ -135,8 +135,8 @@ pub fn if_of(
     test: Got<Test>,
     body: Got<Block>,
 ) -> Result<Got<Expr>, AllocError>
-    requires a { test.height ≤ 128 }
-    requires b { body.height ≤ 128 }
+    requires a { test.height ≤ 1024 }
+    requires b { body.height ≤ 1024 }
     ensures tree { IfOk result (λ x. got_of plain-Expr x ≡ node (λ s. grammar.if_of s (test_of test.tree) (plain-Block body.tree) plain.absent) (words.join start body.span) (max test.height body.height)) }
     ensures height { IfOk result (λ x. x.height ≡ (max test.height body.height) + 1) }
 {
@@ -158,9 +158,9 @@ pub fn if_else_of(
     body: Got<Block>,
     other: Got<Expr>,
 ) -> Result<Got<Expr>, AllocError>
-    requires a { test.height ≤ 128 }
-    requires b { body.height ≤ 128 }
-    requires c { other.height ≤ 128 }
+    requires a { test.height ≤ 1024 }
+    requires b { body.height ≤ 1024 }
+    requires c { other.height ≤ 1024 }
     ensures tree { IfOk result (λ x. got_of plain-Expr x ≡ node (λ s. grammar.if_of s (test_of test.tree) (plain-Block body.tree) (plain.present (plain-Expr other.tree))) (words.join start other.span) (max test.height (max body.height other.height))) }
     ensures height { IfOk result (λ x. x.height ≡ (max test.height (max body.height other.height)) + 1) }
 {
@@ -234,8 +234,8 @@ pub fn while_of(
     test: Got<Test>,
     body: Got<Block>,
 ) -> Result<Got<Expr>, AllocError>
-    requires a { test.height ≤ 128 }
-    requires b { body.height ≤ 128 }
+    requires a { test.height ≤ 1024 }
+    requires b { body.height ≤ 1024 }
     ensures tree { IfOk result (λ x. got_of plain-Expr x ≡ node (λ s. grammar.while_of s label (test_of test.tree) (plain-Block body.tree)) (words.join start body.span) (max test.height body.height)) }
     ensures height { IfOk result (λ x. x.height ≡ (max test.height body.height) + 1) }
 {

@@ -62,7 +62,7 @@ pub fn bool_value(span: Span, value: bool) -> Got<Expr>
 /// A tuple, with its parentheses.
 #[tactic(auto, using(rx_tree::proofs::Rules::expression_rules))]
 pub fn tuple_of(span: Span, items: Items<Expr>) -> Got<Expr>
-    requires { items.height ≤ 128 }
+    requires { items.height ≤ 1024 }
     ensures tree { got_of plain-Expr result ≡ node (λ s. plain.tuple s (expressions_of (map plain-Expr items.list))) span items.height }
     ensures height { result.height ≡ items.height + 1 }
 {
@@ -78,7 +78,7 @@ pub fn tuple_of(span: Span, items: Items<Expr>) -> Got<Expr>
 /// A call.
 #[tactic(auto, using(rx_tree::proofs::Rules::expression_rules))]
 pub fn call_of(alloc: Global, name: Token<'_>, items: Items<Expr>) -> Result<Got<Expr>, AllocError>
-    requires { items.height ≤ 128 }
+    requires { items.height ≤ 1024 }
     ensures tree { IfOk result (λ x. got_of plain-Expr x ≡ node (λ s. plain.call s (words.ident (tok name.entry)) (expressions_of (map plain-Expr items.list))) (words.join (tok name.entry).span items.close) items.height) }
     ensures height { IfOk result (λ x. x.height ≡ items.height + 1) }
 {
@@ -101,7 +101,7 @@ pub fn variant_of(
     variant: Token<'_>,
     items: Items<Expr>,
 ) -> Result<Got<Expr>, AllocError>
-    requires { items.height ≤ 128 }
+    requires { items.height ≤ 1024 }
     ensures tree { IfOk result (λ x. got_of plain-Expr x ≡ node (λ s. plain.variant s (words.ident (tok name.entry)) (words.ident (tok variant.entry)) (plain.a_list (expressions_of (map plain-Expr items.list)))) (words.join (tok name.entry).span items.close) items.height) }
     ensures height { IfOk result (λ x. x.height ≡ items.height + 1) }
 {
@@ -157,7 +157,7 @@ pub fn struct_of(
     name: Token<'_>,
     items: Items<FieldExpr>,
 ) -> Result<Got<Expr>, AllocError>
-    requires { items.height ≤ 128 }
+    requires { items.height ≤ 1024 }
     ensures tree { IfOk result (λ x. got_of plain-Expr x ≡ node (λ s. plain.make s (words.ident (tok name.entry)) (field_expressions_of (map plain-FieldExpr items.list))) (words.join (tok name.entry).span items.close) items.height) }
     ensures height { IfOk result (λ x. x.height ≡ items.height + 1) }
 {
@@ -175,7 +175,7 @@ pub fn struct_of(
 /// What prints a value.
 #[tactic(auto, using(rx_tree::proofs::Rules::expression_rules))]
 pub fn print_of(alloc: Global, span: Span, value: Got<Expr>) -> Result<Got<Expr>, AllocError>
-    requires { value.height ≤ 128 }
+    requires { value.height ≤ 1024 }
     ensures tree { IfOk result (λ x. got_of plain-Expr x ≡ node (λ s. plain.print s (plain-Expr value.tree)) span value.height) }
     ensures height { IfOk result (λ x. x.height ≡ value.height + 1) }
 {
@@ -191,7 +191,7 @@ pub fn print_of(alloc: Global, span: Span, value: Got<Expr>) -> Result<Got<Expr>
 /// A block as a value.
 #[tactic(auto, using(rx_tree::proofs::Rules::expression_rules))]
 pub fn block_of(alloc: Global, body: Got<Block>) -> Result<Got<Expr>, AllocError>
-    requires { body.height ≤ 128 }
+    requires { body.height ≤ 1024 }
     ensures tree { IfOk result (λ x. got_of plain-Expr x ≡ node (λ s. plain.block s (plain-Block body.tree)) body.span body.height) }
     ensures height { IfOk result (λ x. x.height ≡ body.height + 1) }
 {
@@ -213,8 +213,8 @@ pub fn match_of(
     value: Got<Expr>,
     items: Items<Arm>,
 ) -> Result<Got<Expr>, AllocError>
-    requires a { value.height ≤ 128 }
-    requires b { items.height ≤ 128 }
+    requires a { value.height ≤ 1024 }
+    requires b { items.height ≤ 1024 }
     ensures tree { IfOk result (λ x. got_of plain-Expr x ≡ node (λ s. plain.match s (plain-Expr value.tree) (arms_of (map plain-Arm items.list))) (words.join start items.close) (max value.height items.height)) }
     ensures height { IfOk result (λ x. x.height ≡ (max value.height items.height) + 1) }
 {
@@ -237,7 +237,7 @@ pub fn loop_of(
     label: Option<Ident>,
     body: Got<Block>,
 ) -> Result<Got<Expr>, AllocError>
-    requires { body.height ≤ 128 }
+    requires { body.height ≤ 1024 }
     ensures tree { IfOk result (λ x. got_of plain-Expr x ≡ node (λ s. plain.loop s label (plain-Block body.tree)) (words.join start body.span) body.height) }
     ensures height { IfOk result (λ x. x.height ≡ body.height + 1) }
 {
@@ -255,7 +255,7 @@ pub fn loop_of(
 /// A field of a place.
 #[tactic(auto, using(rx_tree::proofs::Rules::expression_rules))]
 pub fn field_of(alloc: Global, left: Got<Expr>, name: Token<'_>) -> Result<Got<Expr>, AllocError>
-    requires { left.height ≤ 128 }
+    requires { left.height ≤ 1024 }
     ensures tree { IfOk result (λ x. got_of plain-Expr x ≡ node (λ s. plain.field s (plain-Expr left.tree) (words.ident (tok name.entry))) (words.join left.span (tok name.entry).span) left.height) }
     ensures height { IfOk result (λ x. x.height ≡ left.height + 1) }
 {
@@ -279,7 +279,7 @@ pub fn part_of(
     index: u64,
     place: Span,
 ) -> Result<Got<Expr>, AllocError>
-    requires { left.height ≤ 128 }
+    requires { left.height ≤ 1024 }
     ensures tree { IfOk result (λ x. got_of plain-Expr x ≡ node (λ s. plain.part s (plain-Expr left.tree) index) (words.join left.span place) left.height) }
     ensures height { IfOk result (λ x. x.height ≡ left.height + 1) }
 {
@@ -296,7 +296,7 @@ pub fn part_of(
 /// A negated value.
 #[tactic(auto, using(rx_tree::proofs::Rules::expression_rules))]
 pub fn negate(alloc: Global, start: Span, value: Got<Expr>) -> Result<Got<Expr>, AllocError>
-    requires { value.height ≤ 128 }
+    requires { value.height ≤ 1024 }
     ensures tree { IfOk result (λ x. got_of plain-Expr x ≡ node (λ s. plain.negate s (plain-Expr value.tree)) (words.join start value.span) value.height) }
     ensures height { IfOk result (λ x. x.height ≡ value.height + 1) }
 {
@@ -313,7 +313,7 @@ pub fn negate(alloc: Global, start: Span, value: Got<Expr>) -> Result<Got<Expr>,
 /// An inverted value.
 #[tactic(auto, using(rx_tree::proofs::Rules::expression_rules))]
 pub fn invert(alloc: Global, start: Span, value: Got<Expr>) -> Result<Got<Expr>, AllocError>
-    requires { value.height ≤ 128 }
+    requires { value.height ≤ 1024 }
     ensures tree { IfOk result (λ x. got_of plain-Expr x ≡ node (λ s. plain.invert s (plain-Expr value.tree)) (words.join start value.span) value.height) }
     ensures height { IfOk result (λ x. x.height ≡ value.height + 1) }
 {
@@ -330,7 +330,7 @@ pub fn invert(alloc: Global, start: Span, value: Got<Expr>) -> Result<Got<Expr>,
 /// What a reference points to.
 #[tactic(auto, using(rx_tree::proofs::Rules::expression_rules))]
 pub fn deref(alloc: Global, start: Span, value: Got<Expr>) -> Result<Got<Expr>, AllocError>
-    requires { value.height ≤ 128 }
+    requires { value.height ≤ 1024 }
     ensures tree { IfOk result (λ x. got_of plain-Expr x ≡ node (λ s. plain.deref s (plain-Expr value.tree)) (words.join start value.span) value.height) }
     ensures height { IfOk result (λ x. x.height ≡ value.height + 1) }
 {
@@ -352,7 +352,7 @@ pub fn borrow_of(
     mutable: bool,
     value: Got<Expr>,
 ) -> Result<Got<Expr>, AllocError>
-    requires { value.height ≤ 128 }
+    requires { value.height ≤ 1024 }
     ensures tree { IfOk result (λ x. got_of plain-Expr x ≡ node (λ s. plain.borrow s mutable (plain-Expr value.tree)) (words.join start value.span) value.height) }
     ensures height { IfOk result (λ x. x.height ≡ value.height + 1) }
 {
@@ -374,8 +374,8 @@ pub fn binary_of(
     left: Got<Expr>,
     right: Got<Expr>,
 ) -> Result<Got<Expr>, AllocError>
-    requires a { left.height ≤ 128 }
-    requires b { right.height ≤ 128 }
+    requires a { left.height ≤ 1024 }
+    requires b { right.height ≤ 1024 }
     ensures tree { IfOk result (λ x. got_of plain-Expr x ≡ node (λ s. plain.binary s op (plain-Expr left.tree) (plain-Expr right.tree)) (words.join left.span right.span) (max left.height right.height)) }
     ensures height { IfOk result (λ x. x.height ≡ (max left.height right.height) + 1) }
 {
@@ -394,8 +394,8 @@ pub fn binary_of(
 /// An assignment.
 #[tactic(auto, using(rx_tree::proofs::Rules::expression_rules))]
 pub fn assign_of(alloc: Global, left: Got<Expr>, right: Got<Expr>) -> Result<Got<Expr>, AllocError>
-    requires a { left.height ≤ 128 }
-    requires b { right.height ≤ 128 }
+    requires a { left.height ≤ 1024 }
+    requires b { right.height ≤ 1024 }
     ensures tree { IfOk result (λ x. got_of plain-Expr x ≡ node (λ s. plain.assign s (plain-Expr left.tree) (plain-Expr right.tree)) (words.join left.span right.span) (max left.height right.height)) }
     ensures height { IfOk result (λ x. x.height ≡ (max left.height right.height) + 1) }
 {
@@ -419,8 +419,8 @@ pub fn update_of(
     left: Got<Expr>,
     right: Got<Expr>,
 ) -> Result<Got<Expr>, AllocError>
-    requires a { left.height ≤ 128 }
-    requires b { right.height ≤ 128 }
+    requires a { left.height ≤ 1024 }
+    requires b { right.height ≤ 1024 }
     ensures tree { IfOk result (λ x. got_of plain-Expr x ≡ node (λ s. plain.update s op (plain-Expr left.tree) (plain-Expr right.tree)) (words.join left.span right.span) (max left.height right.height)) }
     ensures height { IfOk result (λ x. x.height ≡ (max left.height right.height) + 1) }
 {
@@ -439,7 +439,7 @@ pub fn update_of(
 /// A `return` with a value.
 #[tactic(auto, using(rx_tree::proofs::Rules::expression_rules))]
 pub fn return_of(alloc: Global, start: Span, value: Got<Expr>) -> Result<Got<Expr>, AllocError>
-    requires { value.height ≤ 128 }
+    requires { value.height ≤ 1024 }
     ensures tree { IfOk result (λ x. got_of plain-Expr x ≡ node (λ s. plain.return s (plain.present (plain-Expr value.tree))) (words.join start value.span) value.height) }
     ensures height { IfOk result (λ x. x.height ≡ value.height + 1) }
 {

@@ -104,7 +104,7 @@ fn wild_pattern(span: Span) -> Got<Pattern>
 /// A tuple, by its parts.
 #[tactic(auto, using(rx_tree::proofs::Rules::pattern_rules))]
 fn tuple_of(items: Items<Pattern>, span: Span) -> Got<Pattern>
-    requires { items.height ≤ 128 }
+    requires { items.height ≤ 1024 }
     ensures tree { got_of plain-Pattern result ≡ node (λ s. plain.tuple_pattern s (patterns_of (map plain-Pattern items.list))) span items.height }
     ensures low { result.height ≤ items.height + 1 }
 {
@@ -135,7 +135,7 @@ fn variant_of(
     variant: Token<'_>,
     items: Items<Pattern>,
 ) -> Result<Got<Pattern>, AllocError>
-    requires { items.height ≤ 128 }
+    requires { items.height ≤ 1024 }
     ensures tree { IfOk result (λ x. got_of plain-Pattern x ≡ node (λ s. plain.variant_pattern s (words.ident (tok name.entry)) (words.ident (tok variant.entry)) (patterns_of (map plain-Pattern items.list))) (words.join name.entry.span items.close) items.height) }
     ensures low { IfOk result (λ x. x.height ≤ items.height + 1) }
 {
@@ -176,7 +176,7 @@ fn struct_of(
     name: Token<'_>,
     items: Items<FieldPattern>,
 ) -> Result<Got<Pattern>, AllocError>
-    requires { items.height ≤ 128 }
+    requires { items.height ≤ 1024 }
     ensures tree { IfOk result (λ x. got_of plain-Pattern x ≡ node (λ s. plain.make_pattern s (words.ident (tok name.entry)) (field_patterns_of (map plain-FieldPattern items.list))) (words.join name.entry.span items.close) items.height) }
     ensures low { IfOk result (λ x. x.height ≤ items.height + 1) }
 {
@@ -487,7 +487,7 @@ impl<F: Fn(Global, &mut Cursor<'_>, usize) -> Result<Got<Pattern>, Stop> + Copy>
 /// A pattern of at most so many levels.
 #[tactic(auto, unfolding(rx_parse_grammar::specs::parser::Patterns::pattern))]
 pub fn pattern(alloc: Global, cursor: &mut Cursor<'_>, depth: usize) -> Result<Got<Pattern>, Stop>
-    requires { depth ≤ 128 }
+    requires { depth ≤ 1024 }
     ensures reads { ReadsAs (got_of plain-Pattern) (spec.pattern depth cursor.old) result cursor.new }
     ensures low { IfOk result (λ x. x.height ≤ depth) }
 {

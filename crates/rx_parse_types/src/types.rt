@@ -198,7 +198,7 @@ fn reference_to(
     mutable: bool,
     target: Got<TypeText>,
 ) -> Result<Got<TypeText>, AllocError>
-    requires { target.height ≤ 128 }
+    requires { target.height ≤ 1024 }
     ensures tree { IfOk result (λ x. got_of plain-TypeText x ≡ node (λ s. plain.ref_type s lifetime mutable (plain-TypeText target.tree)) (words.join start target.span) target.height) }
     ensures low { IfOk result (λ x. x.height ≤ target.height + 1) }
 {
@@ -216,7 +216,7 @@ fn reference_to(
 /// A tuple, by its parts.
 #[tactic(auto, using(rx_tree::proofs::Rules::type_rules))]
 fn tuple_of(items: Items<TypeText>, span: Span) -> Got<TypeText>
-    requires { items.height ≤ 128 }
+    requires { items.height ≤ 1024 }
     ensures tree { got_of plain-TypeText result ≡ node (λ s. plain.tuple_type s (types_of (map plain-TypeText items.list))) span items.height }
     ensures low { result.height ≤ items.height + 1 }
 {
@@ -346,7 +346,7 @@ impl<F: Fn(Global, &mut Cursor<'_>, usize) -> Result<Got<TypeText>, Stop>> TypeL
 /// A type of at most so many levels.
 #[tactic(auto, unfolding(rx_parse_grammar::specs::parser::Types::typ))]
 pub fn typ(alloc: Global, cursor: &mut Cursor<'_>, depth: usize) -> Result<Got<TypeText>, Stop>
-    requires { depth ≤ 128 }
+    requires { depth ≤ 1024 }
     ensures reads { ReadsAs (got_of plain-TypeText) (spec.typ depth cursor.old) result cursor.new }
     ensures low { IfOk result (λ x. x.height ≤ depth) }
 {

@@ -3,6 +3,7 @@
 
 use crate::holding::all_hold;
 use crate::parse::is_answered;
+use rx_parse::{SyntaxFault, levels};
 use rx_tests_tables::{LINES, Nesting, Outcome, joined};
 use std::alloc::Global;
 
@@ -179,4 +180,41 @@ enum E { A(«(‸‹u8›)») } | 127";
 #[test]
 fn patterns_and_types_inside_themselves(rt: HostRuntime) {
     all_hold(&rt, rt.alloc(), PATTERNS_AND_TYPES, LINES, ends);
+}
+
+/// How many levels a text has, or 0 where it has more than are counted.
+fn counted(alloc: Global, bytes: &[u8]) -> Option<u32> {
+    match levels(alloc, bytes) {
+        Ok(count) => Some(count),
+        Err(SyntaxFault::TooDeep { .. }) => Some(0),
+        Err(SyntaxFault::Lex(_)) => None,
+        Err(SyntaxFault::Syntax { .. }) => None,
+        Err(SyntaxFault::OutOfMemory) => None,
+    }
+}
+
+/// Whether a number in so many pairs of parentheses has so many levels: its own, the body's, and one for each pair.
+fn has_levels(alloc: Global, pairs: &str, levels: &str) -> Outcome {
+    let nesting = Nesting {
+        front: "fn main() { let a = ",
+        before: "(",
+        inner: "1i64",
+        after: ")",
+        back: "; }",
+    };
+    let text = nesting.text(alloc, pairs.parse::<usize>().unwrap_or(0))?;
+    Ok(counted(alloc, text.as_bytes()) == levels.parse::<u32>().ok())
+}
+
+const LEVELS: &str = r"0 | 2
+1 | 3
+126 | 128
+127 | 129
+1021 | 1023
+1022 | 1024
+1023 | 0";
+
+#[test]
+fn levels_are_counted_up_to_1024(rt: HostRuntime) {
+    all_hold(&rt, rt.alloc(), LEVELS, LINES, has_levels);
 }

@@ -159,12 +159,16 @@ fn an_answer_has_at_most_128_levels(rt: HostRuntime) {
 fn parentheses_of_the_file_are_levels_of_the_answer(rt: HostRuntime) {
     let within = enclosed(rt.alloc(), 122).map(|reply| reply.ends(0));
     hold(&rt, within, "122");
-    for pairs in 123..125usize {
-        let past = enclosed(rt.alloc(), pairs).map(|reply| reply.is(
-            1,
-            "",
-            "error: Refused Unconfirmed\n",
-        ));
-        hold(&rt, past, "past 122");
-    }
+    let past = enclosed(rt.alloc(), 123).map(|reply| reply.is(
+        1,
+        "",
+        "error: Refused Limit Levels 129\n",
+    ));
+    hold(&rt, past, "123");
+    let further = enclosed(rt.alloc(), 124).map(|reply| reply.is(
+        1,
+        "",
+        "error: Refused Limit Levels 130\n",
+    ));
+    hold(&rt, further, "124");
 }

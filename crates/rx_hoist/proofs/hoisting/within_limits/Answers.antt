@@ -3,7 +3,7 @@ use Rattle.std.proofs.lemmas.List.{length-map}
 use Rattle.rx_tree.specs.PlainOf.{plain-Program}
 use Rattle.rx_hoist_plan.specs.PlainPlan.{plain-Param, plain-Plan}
 use Rattle.rx_hoist_extraction.specs.NewFunction.{signature_positions}
-use Rattle.rx_hoist.proofs.LimitLemmas.{parameters_told, lifetimes_told, levels_told, none_passed}
+use Rattle.rx_hoist.proofs.LimitLemmas.{parameters_told, lifetimes_told, none_passed}
 use Rattle.rx_hoist.proofs.hoisting.within_limits.Goals as goal
 
 pub returns-then-count-gt64-clause-limit : goal.returns-then-count-gt64-clause-limit
@@ -17,22 +17,15 @@ returns-then-count-gt128-clause-limit c =
     lifetimes_told (length c.args.copied.now + signature_positions (plain-Program c.args.program.now) pl) pl c.len-count.result _ (c.len-count.ensures ∙ sym (length-map c.args.plan.now.params plain-Param)) c.if-count-gt64.false
     (omega (arith, c.saturating_add-count.ensures, c.signature_positions-positions.ensures)) c.if-count-gt128.true
 
-pub returns-in-Some-clause-limit : goal.returns-in-Some-clause-limit
-returns-in-Some-clause-limit c =
-    let pl = plain-Plan c.args.plan.now in
-    levels_told (length c.args.copied.now + signature_positions (plain-Program c.args.program.now) pl) pl c.len-count.result c.saturating_add-count.result c.in-Some.count
-    (c.len-count.ensures ∙ sym (length-map c.args.plan.now.params plain-Param)) c.if-count-gt64.false
-    (omega (arith, c.saturating_add-count.ensures, c.signature_positions-positions.ensures)) c.if-count-gt128.false c.in-Some.ensures
-
-pub returns-in-None-clause-limit : goal.returns-in-None-clause-limit
-returns-in-None-clause-limit c =
+pub returns-clause-limit : goal.returns-clause-limit
+returns-clause-limit c =
     let pl = plain-Plan c.args.plan.now in
     none_passed (length c.args.copied.now + signature_positions (plain-Program c.args.program.now) pl) pl c.len-count.result c.saturating_add-count.result
     (c.len-count.ensures ∙ sym (length-map c.args.plan.now.params plain-Param)) c.if-count-gt64.false
-    (omega (arith, c.saturating_add-count.ensures, c.signature_positions-positions.ensures)) c.if-count-gt128.false c.in-None.ensures
+    (omega (arith, c.saturating_add-count.ensures, c.signature_positions-positions.ensures)) c.if-count-gt128.false
 
-pub returns-in-None-clause-within : goal.returns-in-None-clause-within
-returns-in-None-clause-within c =
+pub returns-clause-within : goal.returns-clause-within
+returns-clause-within c =
     let small : c.signature_positions-positions.result ≤ 128 = omega (arith, c.saturating_add-count.ensures, c.if-count-gt128.false) in
     let same : c.signature_positions-positions.result ≡ signature_positions (plain-Program c.args.program.now) (plain-Plan c.args.plan.now) = omega (arith, c.signature_positions-positions.ensures, small) in
     (same, small)
