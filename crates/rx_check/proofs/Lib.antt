@@ -1,12 +1,12 @@
-mod Variances
-mod Declared
-mod Asking
-mod Judging
+pub mod Variances
+pub mod Declared
+pub mod Asking
+pub mod Judging
 pub mod Telling
 pub mod Settling
 mod CoverLemmas
 mod PassLemmas
-mod NameLemmas
+pub mod NameLemmas
 mod ExclusionLemmas
 mod ReaderLemmas
 mod MainLemmas
