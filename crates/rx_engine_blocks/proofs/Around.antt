@@ -12,6 +12,7 @@ use Rattle.rx_engine_blocks.specs.DemandsLike.{DemandsLike}
 use Rattle.rx_engine_blocks.specs.DemandsLike.DemandsLike.{like_no_demand, like_more_demands, like_other_demands}
 use Rattle.rx_engine_blocks.specs.Knows.{Knows}
 use Rattle.rx_engine_blocks.specs.Along.{PartialInverse, Viewed, none_viewed, MutableAt, shared, composed}
+use Rattle.rx_engine_blocks.specs.ByItself.{ByItself}
 use Rattle.rx_engine_blocks.specs.Blocks.{Behind, none_behind, Block, Fixes, AllReferences, ToldIn, task_of}
 use Rattle.rx_engine_blocks.specs.Parts.{EachAbout, Elsewhere, Added, StandsFor}
 use Rattle.rx_engine_blocks.specs.Copies.{EachCopies}
@@ -24,7 +25,7 @@ use Rattle.rx_engine_blocks.proofs.Blocking.{block_then}
 use Rattle.rx_engine_blocks.proofs.Special.{left, added}
 use Rattle.rx_engine_blocks.proofs.Copying.{copied_block, plain_copies}
 use Rattle.rx_engine_blocks.proofs.Told.{about_told, about_left, about_right, facts_copied}
-use Rattle.rx_engine_blocks.proofs.Tying.{part_alike}
+use Rattle.rx_engine_blocks.proofs.Tying.{part_alike, part_by_itself}
 
 -- ---- what is among others
 
@@ -83,11 +84,11 @@ pub both_blocks : (r : Renumbering) (u : PartialInverse r) (view : Viewed) (refs
     → (A V W : Types) (text run call head copy end es fs : List Demand) → es ≡ head ++ (copy ++ end) → Among run text
     → DemandsLike r (StandsFor r u view refs (ToldIn q none_behind fs) D E A V es) run copy
     → DemandsLike q (Round (StandsFor q w none_viewed none_behind (ToldIn r refs es) D E A W fs) run call) text fs
-    → Orderly (task_of es) → Orderly (task_of fs) → Valid E (task_of es) V → Valid E (task_of fs) W → MutableAt view A → EachCopies view A run
+    → Orderly (task_of es) → Orderly (task_of fs) → MeetsEach E V es → MeetsEach E W fs → MutableAt view A → EachCopies view A run
     → (Added (composed r u view A V) V head → Added (composed r u view A V) V end → Block r u view refs (ToldIn q none_behind fs) D E A V text es)
     × (Added (composed q w none_viewed A W) W call → Block q w none_viewed none_behind (ToldIn r refs es) D E A W text fs)
 both_blocks r u view refs q w D E k m A V W text run call head copy end es fs i a l lf oe of ve vf views wells = (
-  λ h e. outer_block r u view refs q S fs D E k A V (λ gs gs' z. z.elsewhere) text run head copy end call es lf (about_told E W fs of.ordered vf.prefers.typed) a
+  λ h e. outer_block r u view refs q S fs D E k A V (λ gs gs' z. z.elsewhere) text run head copy end call es lf (about_told E W fs of.ordered vf) a
       (subst (λ xs. Block r u view refs There D E A V run xs) (sym i)
       (inner_block r u view refs q S fs D E k A V (λ gs gs' z. z.elsewhere) text run head copy end call
       (copied_block r u view refs There D E k A V views (StandsFor r u view refs There D E A V es) (λ gs gs' z. z.block) l wells) h e)),
@@ -105,7 +106,7 @@ both_blocks r u view refs q w D E k m A V W text run call head copy end es fs i 
 
     -- what the part tells that has the run is enough for it
     run_told : EachAbout (Told es) copy
-    run_told = about_left (Told es) copy end (about_right (Told es) head (copy ++ end) (subst (EachAbout (Told es)) i (about_told E V es oe.ordered ve.prefers.typed)))
+    run_told = about_left (Told es) copy end (about_right (Told es) head (copy ++ end) (subst (EachAbout (Told es)) i (about_told E V es oe.ordered ve)))
 
     run_elsewhere : Elsewhere D A Here run
     run_elsewhere B o s h = copied_met r refs es D A B s (StandsFor r u view refs There D E A V es) (λ gs gs' z k' h'. z.elsewhere k' B o s h') l run_told h
@@ -126,7 +127,23 @@ pub both_alike : (r : Renumbering) (u : PartialInverse r) (view : Viewed) (refs 
     × (Fixes q none_viewed (ToldIn r refs es) E A fs → Added (composed q w none_viewed A W) W call
     → (x : Subject) → Told fs (subject_at q x) → W (subject_at q x) ≡ shape_at q (A x))
 both_alike r u view refs q w D E k m A V W text run call head copy end es fs i a l lf oe of v ve vf references views wells =
-    let b = both_blocks r u view refs q w D E k m A V W text run call head copy end es fs i a l lf oe of ve vf views wells in (
+    let b = both_blocks r u view refs q w D E k m A V W text run call head copy end es fs i a l lf oe of ve.prefers.typed vf.prefers.typed views wells in (
       λ fixes h e. part_alike r u view refs (ToldIn q none_behind fs) D E k A V text es references views oe fixes (b.0 h e) v ve,
       λ fixes c. part_alike q w none_viewed none_behind (ToldIn r refs es) D E m A W text fs (λ x y e. cc) (λ x e. cc) of fixes (b.1 c) v vf,
+    )
+
+-- where nothing says that they are accepted
+pub both_by_themselves : (r : Renumbering) (u : PartialInverse r) (view : Viewed) (refs : Behind) (q : Renumbering) (w : PartialInverse q) (D E : Known) → Knows r D E → Knows q D E
+    → (A V W : Types) (text run call head copy end es fs : List Demand) → es ≡ head ++ (copy ++ end) → Among run text
+    → DemandsLike r (StandsFor r u view refs (ToldIn q none_behind fs) D E A V es) run copy
+    → DemandsLike q (Round (StandsFor q w none_viewed none_behind (ToldIn r refs es) D E A W fs) run call) text fs
+    → Orderly (task_of es) → Orderly (task_of fs) → Valid D (task_of text) A → AllReferences r u view refs E A es → MutableAt view A → EachCopies view A run
+    → Fixes r view (ToldIn q none_behind fs) E A es → Fixes q none_viewed (ToldIn r refs es) E A fs
+    → ByItself r u view (ToldIn q none_behind fs) E A V text es → ByItself q w none_viewed (ToldIn r refs es) E A W text fs
+    → Added (composed r u view A V) V head → Added (composed r u view A V) V end → Added (composed q w none_viewed A W) W call
+    → Valid E (task_of es) V × Valid E (task_of fs) W
+both_by_themselves r u view refs q w D E k m A V W text run call head copy end es fs i a l lf oe of v references views wells fe ff ie jf h e c =
+    let b = both_blocks r u view refs q w D E k m A V W text run call head copy end es fs i a l lf oe of ie.meets jf.meets views wells in (
+      part_by_itself r u view refs (ToldIn q none_behind fs) D E k A V text es references views oe fe (b.0 h e) v ie,
+      part_by_itself q w none_viewed none_behind (ToldIn r refs es) D E m A W text fs (λ x y e. cc) (λ x e. cc) of ff (b.1 c) v jf,
     )

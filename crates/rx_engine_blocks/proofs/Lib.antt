@@ -11,6 +11,7 @@ pub mod Blocking
 pub mod Copying
 pub mod Special
 pub mod Tying
+pub mod OneType
 pub mod Around
 pub mod Fixing
 pub mod Pinning

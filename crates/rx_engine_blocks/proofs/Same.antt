@@ -21,7 +21,7 @@ module _ (D : Known) (A B : Types) (P : Subject → Type 0) where
     gone_same : (p : Passing) → P (subject.Node p.node) → gone_through p.all (A (subject.Node p.node)) ≡ gone_through p.all (B (subject.Node p.node))
     gone_same p h = sym (gone_map (λ k. tt) p.all (A (subject.Node p.node))) ∙ ap (gone_through p.all) (o (subject.Node p.node) h) ∙ gone_map (λ k. tt) p.all (B (subject.Node p.node))
 
-    passed_same : (ps : List Passing) → EachPassing P ps → passed A ps ≡ passed B ps
+    pub passed_same : (ps : List Passing) → EachPassing P ps → passed A ps ≡ passed B ps
     passed_same [] h = refl
     passed_same (p ∷ ps) h = ap (λ ms. ms ++ passed A ps) (gone_same p h.0) ∙ ap (λ ms. gone_through p.all (B (subject.Node p.node)) ++ ms) (passed_same ps h.1)
 
@@ -31,10 +31,10 @@ module _ (D : Known) (A B : Types) (P : Subject → Type 0) where
         ∙ ap (λ ms. holds D t (outlines_at B xs) ms (passed A qs)) (passed_same ps q.1) ∙ ap (holds D t (outlines_at B xs) (passed B ps)) (passed_same qs q.2)) h
 
   module _ (same : (x : Subject) → P x → A x ≡ B x) where
-    its_outline : (x : Subject) → P x → outline (A x) ≡ outline (B x)
+    pub its_outline : (x : Subject) → P x → outline (A x) ≡ outline (B x)
     its_outline x h = ap outline (same x h)
 
-    types_same : (xs : List Subject) → EachOf P xs → types_at A xs ≡ types_at B xs
+    pub types_same : (xs : List Subject) → EachOf P xs → types_at A xs ≡ types_at B xs
     types_same [] h = refl
     types_same (x ∷ xs) h = ap (λ t. t ∷ types_at A xs) (same x h.0) ∙ ap (λ ts. B x ∷ ts) (types_same xs h.1)
 

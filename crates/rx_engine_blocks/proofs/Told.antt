@@ -21,14 +21,14 @@ use Rattle.rx_engine_blocks.specs.Parts.{EachOf, EachPassing, About, AllAbout, E
 -- ---- what facts in order are about
 
 module _ (P : Subject → Type 0) (D : Known) (V : Types) where
-  abbrev Covers : Knowing → Type 0
+  abbrev pub Covers : Knowing → Type 0
   Covers K = (x : Subject) → IsTrue (K x) → P x
 
-  each_covered : (K : Knowing) → Covers K → (xs : List Subject) → IsTrue (all_known K xs) → EachOf P xs
+  pub each_covered : (K : Knowing) → Covers K → (xs : List Subject) → IsTrue (all_known K xs) → EachOf P xs
   each_covered K c [] h = tt
   each_covered K c (x ∷ xs) h = let p = (and_both (K x) (all_known K xs)).0 h in (c x p.0, each_covered K c xs p.1)
 
-  each_passing : (K : Knowing) → Covers K → (ps : List Passing) → IsTrue (all_passed K ps) → EachPassing P ps
+  pub each_passing : (K : Knowing) → Covers K → (ps : List Passing) → IsTrue (all_passed K ps) → EachPassing P ps
   each_passing K c [] h = tt
   each_passing K c (p ∷ ps) h = let q = (and_both (K (subject.Node p.node)) (all_passed K ps)).0 h in (c (subject.Node p.node) q.0, each_passing K c ps q.1)
 
@@ -49,7 +49,7 @@ module _ (P : Subject → Type 0) (D : Known) (V : Types) where
       go true e k = subst P (sym (same_subject_true z x e)) p
       go false e k = c z k
 
-  learns_covers : (K : Knowing) (f : Fact) → Covers K → ((x : Subject) → Tells f x → P x) → MeetsAll D V (f ∷ []) → Covers (learns K f)
+  pub learns_covers : (K : Knowing) (f : Fact) → Covers K → ((x : Subject) → Tells f x → P x) → MeetsAll D V (f ∷ []) → Covers (learns K f)
   learns_covers K (fact.Equals x o xs ps) c t m = more_covers K x c (t x refl)
   learns_covers K (fact.Integer n s) c t m = more_covers K (subject.Node n) c (t (subject.Node n) refl)
   learns_covers K (fact.IntegerBehind n s) c t m = c

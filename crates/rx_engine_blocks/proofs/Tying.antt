@@ -1,29 +1,30 @@
 -- Each assignment of a part of the answer is tied to one of the text, so a part that stands for the text block by block has the
--- valid assignment.
-use Rattle.std.proofs.Common.{◌≡◌, ℕ, Bool, IsTrue, List, Option, Some, None, refl, sym, ap, ◌∙◌, subst}
+-- valid assignment, where it is accepted, or where what is new in it has one type.
+use Rattle.std.proofs.Common.{◌≡◌, ℕ, Bool, IsTrue, List, Option, Some, None, inl, inr, ◌⊎◌, refl, sym, ap, ◌∙◌, subst}
 use Rattle.rx_core.specs.declared.types.Kind.{Kind}
 use Rattle.rx_typed.specs.Types.{Shapes, integer, boolean, tuple_of, reference, named, no_shape, shape_and, Typ, unit_shape, outline, shapes_map, peeled}
 use Rattle.rx_typeck_solver.specs.declared.facts.Subject.{Subject}
 use Rattle.rx_typeck_solver.specs.declared.facts.Subject.TheVariants as subject
 use Rattle.rx_typeck_solver.specs.declared.facts.Demand.{Demand}
 use Rattle.rx_typeck_solver.specs.Facts.{Types, Known, has}
-use Rattle.rx_typeck_solver.specs.Valid.{Task, Told, IsIn, Typed, Valid, literals_of}
+use Rattle.rx_typeck_solver.specs.Valid.{Agree, Task, Told, IsIn, Typed, Valid, literals_of}
 use Rattle.rx_typeck_solver.specs.Solver.{Leaf, Fixed, KindOf, Term, State, Root, empty, filled_or, Found_all, solve}
 use Rattle.rx_typeck_solver.specs.Ordered.{Orderly}
 use Rattle.rx_typeck_solver.proofs.Natural.{outline_map}
 use Rattle.rx_typeck_solver.proofs.Base.{kind_of, kind_at, leaf_kind, filled, Rooted, RootedEach, Good, Stands}
 use Rattle.rx_typeck_solver.proofs.Final.{told_known, known_told}
-use Rattle.rx_engine_blocks.specs.Carried.{Near, Carried, Accepted}
+use Rattle.rx_engine_blocks.specs.Carried.{Near, Paired, Carried, Accepted}
 use Rattle.rx_engine_blocks.specs.Renumbering.{Renumbering, shape_at, subject_at}
 use Rattle.rx_engine_blocks.specs.Knows.{Knows}
 use Rattle.rx_engine_blocks.specs.Along.{PartialInverse, Viewed, Sees, MutableAt, shared, composed}
+use Rattle.rx_engine_blocks.specs.ByItself.{AgreesThere, LiteralStands, TellsOne, ByItself}
 use Rattle.rx_engine_blocks.specs.Blocks.{Behind, Refers, Tied, Block, Fixes, AllReferences, NearIn, task_of}
 use Rattle.rx_engine_blocks.proofs.Meets.{peeled_at, shape_apart}
 use Rattle.rx_engine_blocks.proofs.Combining.{asks_met, finds, adds, stands_typed, typed_stands}
 use Rattle.rx_engine_blocks.proofs.Normal.{normal, normal_stands, normal_same}
 use Rattle.rx_engine_blocks.proofs.Outlines.{composed_sees, composed_new, tests_met}
 use Rattle.rx_engine_blocks.proofs.Viewing.{led_to, reference_so, peeled_shared, text_of, seen_again, seen_outline, seen_mutable, seen_settled}
-use Rattle.rx_engine_blocks.proofs.Carrying.{accepted_valid}
+use Rattle.rx_engine_blocks.proofs.Carrying.{accepted_valid, whole_valid}
 
 -- ---- assignments that are the same at the roots
 
@@ -264,6 +265,47 @@ module _ (r : Renumbering) (u : PartialInverse r) (view : Viewed) (behind : Behi
         );
       }
 
+      -- where nothing says that the part is accepted
+      module _ (itself : ByItself r u view IsFixed D' A A' ds ds') where
+        paired : (m : ℕ) → IsIn (r.nodes m) (literals_of ds') → Paired D D' (task_of ds) part A A' carried.back m (r.nodes m)
+        unfolding carried
+        paired m w = (
+          kind_of_literal A A' m (r.nodes m) refl sees (asks_met D' A' (r.nodes m) ds' (o.literals (r.nodes m) w) met),
+          λ C t e. let h = near_in C e in kind_of_literal (B C t h) (N C t h) m (r.nodes m) refl (seesB C t h) (asks_met D' (N C t h) (r.nodes m) ds' (o.literals (r.nodes m) w) (typedN C t h)) ∙ literal_is C t h (r.nodes m) w,
+        )
+
+        -- a node that the part doesn't tell has the text's type
+        untold : (m : ℕ) → (Told ds' (subject.Node (r.nodes m)) → ⊥) → (C : Types) (t : Typed D' part C) (h : NearIn r A ds' C) → B C t h (subject.Node m) ≡ A (subject.Node m)
+        untold m silent C t h = go (st.shapes (subject.Node (r.nodes m))) refl
+          where
+            go : (p : Option Term) → st.shapes (subject.Node (r.nodes m)) ≡ p → B C t h (subject.Node m) ≡ A (subject.Node m)
+            go None e = ap (text_of r D D' known (view (subject.Node m))) (unpatched C t h (subject.Node (r.nodes m)) e ∙ sees (subject.Node m)) ∙ seen_settled r D D' known (view (subject.Node m)) (A (subject.Node m)) (views (subject.Node m))
+            go (Some s) e = absurd (silent (known_told D' part st o end (subject.Node (r.nodes m)) (s, e)))
+
+        -- what comes from what the text tells has its types where the text's do
+        from_text : (C : Types) (t : Typed D' part C) (h : NearIn r A ds' C) → Agree D (task_of ds) A (B C t h) → AgreesThere r A' ds ds' C
+        from_text C t h g x told there =
+            let p = told_known D' part st o end (subject_at r x) there in
+            sym (told_same C t h (subject_at r x) p.0 p.1) ∙ seesB C t h x ∙ ap (λ q. shared (view x) (shape_at r q)) (sym (g x told)) ∙ sym (sees x)
+
+        other : (m : ℕ) → LiteralStands r IsFixed ds' m → ((n : ℕ) × IsIn n (literals_of ds') × Paired D D' (task_of ds) part A A' carried.back m n)
+            ⊎ ((C : Types) (t : Typed D' part C) (e : Near D D' (task_of ds) part A A' C) → peeled (carried.back C t e (subject.Node m)) ≡ peeled (A (subject.Node m)))
+        unfolding carried
+        other m (inl w) = inl (r.nodes m, w, paired m w)
+        other m (inr (inl silent)) = inr (λ C t e. ap peeled (untold m silent C t (near_in C e)))
+        other m (inr (inr f)) = inr (λ C t e. ap peeled (sym (settledB C t (near_in C e) (subject.Node m) f)))
+
+        agrees : (C : Types) (t : Typed D' part C) (h : NearIn r A ds' C) → Agree D (task_of ds) A (B C t h) → (y : Subject) → Told ds' y → TellsOne r D' A' ds ds' y → A' y ≡ C y
+        agrees C t h g y there (inl x) = subst (λ z. A' z ≡ C z) (sym x.1) (sym (from_text C t h g x.0 x.2 (subst (λ z. Told ds' z) x.1 there)))
+        agrees C t h g y there (inr f) = sym (f C t (from_text C t h g))
+
+        part_itself : Valid D' part A'
+        unfolding carried
+        part_itself = whole_valid D D' (task_of ds) part A A' o v carried (record {
+          other = λ m i. other m (itself.literals m i);
+          agree = λ C t e g y there. agrees C t (near_in C e) g y there (itself.tells y there);
+        })
+
       part_accepted : Accepted D' part → Valid D' part A'
       part_accepted w = accepted_valid D D' (task_of ds) part A A' o v carried w
 
@@ -278,3 +320,14 @@ module _ (r : Renumbering) (u : PartialInverse r) (view : Viewed) (behind : Behi
   pub part_alike : Orderly part → Fixes r view IsFixed D' A ds' → Block r u view behind IsFixed D D' A V ds ds' → Valid D (task_of ds) A → Valid D' part V
       → (x : Subject) → Told ds' (subject_at r x) → V (subject_at r x) ≡ shared (view x) (shape_at r (A x))
   part_alike o fixes b v w x t = w.only_one A' (part_valid o fixes b v w).prefers (subject_at r x) t ∙ sees x
+
+-- what meets what is asked, with the text's types at what comes from the text, is valid where all else in the part has one type
+pub part_by_itself : (r : Renumbering) (u : PartialInverse r) (view : Viewed) (behind : Behind) (IsFixed : Subject → Type 0) (D D' : Known) → Knows r D D' → (A V : Types) (ds ds' : List Demand) → AllReferences r u view behind D' A ds' → MutableAt view A
+    → Orderly (task_of ds') → Fixes r view IsFixed D' A ds' → Block r u view behind IsFixed D D' A V ds ds' → Valid D (task_of ds) A → ByItself r u view IsFixed D' A V ds ds' → Valid D' (task_of ds') V
+part_by_itself r u view behind IsFixed D D' known A V ds ds' references views o fixes b v itself =
+    let A' = composed r u view A V in
+    let same : A' ≡ V = λ i y. itself.same y i in
+    let met = subst (λ (W : Types). Typed D' (task_of ds') W) (sym same) itself.meets in
+    let again = subst (λ (W : Types). ByItself r u view IsFixed D' A W ds ds') (sym same) itself in
+    subst (λ (W : Types). Valid D' (task_of ds') W) same
+    (finds D' (task_of ds') o V itself.meets (λ st end. part_itself r u view behind IsFixed D D' known A V ds ds' references views o itself.meets met fixes st end b v again))

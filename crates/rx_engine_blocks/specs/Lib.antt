@@ -18,3 +18,4 @@ pub mod Copies
 pub mod Sites
 pub mod Settled
 pub mod Gets
+pub mod ByItself

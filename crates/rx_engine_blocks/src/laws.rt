@@ -2,6 +2,8 @@
 
 ghost use Rattle.std.specs.Prelude.{◌≡◌, ◌↔◌, ◌++◌, slice_get, ℕ, Bool, List as ListOf, [], Some};
 ghost use Rattle.rx_typeck_solver.specs.declared.facts.Demand.{Demand};
+ghost use Rattle.rx_typeck_solver.specs.declared.facts.Fact.TheVariants as fact;
+ghost use Rattle.rx_typeck_solver.specs.declared.facts.Kinds.{Kinds};
 ghost use Rattle.rx_typeck_solver.specs.declared.facts.Subject.{Subject};
 ghost use Rattle.rx_typeck_solver.specs.declared.facts.Subject.TheVariants as subject;
 ghost use Rattle.rx_core.specs.declared.types.Kind.{Kind};
@@ -18,6 +20,7 @@ ghost use Rattle.rx_engine_blocks.specs.Knows.{Knows};
 ghost use Rattle.rx_engine_blocks.specs.Along.{composed, none_viewed, renumbered_types, shared, Along, Inverse, MutableAt, PartialInverse, Viewed};
 ghost use Rattle.rx_engine_blocks.specs.Carried.{Accepted, Carried};
 ghost use Rattle.rx_engine_blocks.specs.Blocks.{none_behind, task_of, AllReferences, Behind, Block, Fixes, ToldIn};
+ghost use Rattle.rx_engine_blocks.specs.ByItself.{ByItself, TellsOne};
 ghost use Rattle.rx_engine_blocks.specs.Parts.{Added, SameAs, StandsFor};
 ghost use Rattle.rx_engine_blocks.specs.Copies.{EachCopies};
 ghost use Rattle.rx_engine_blocks.specs.Around.{Among, Round};
@@ -26,6 +29,7 @@ ghost use Rattle.rx_engine_blocks.specs.Seen.{SeenDemands};
 ghost use Rattle.rx_engine_blocks.specs.Made.{MadeParameters, MadeStatements};
 ghost use Rattle.rx_engine_blocks.specs.Signature.{typ_written, AsWritten};
 ghost use Rattle.rx_engine_blocks.specs.Given.{AreGiven, EachFits};
+ghost use Rattle.rx_engine_blocks.specs.Gets.{IsAsked};
 ghost use Rattle.rx_engine_blocks.specs.Settled.{Settles};
 ghost use Rattle.rx_engine_blocks.specs.Paired.{by_pairs, OneToOne, Pairs};
 ghost use Rattle.rx_engine_blocks.specs.Pinned.{PinnedDemands};
@@ -181,4 +185,37 @@ pub fn pairs_can_be_undone()
 /// What is not told may have any type in the valid assignment.
 pub fn what_is_not_told_is_free()
     ensures { (D : Known) (ds : ListOf Demand) → Orderly (task_of ds) → (A B : Types) → Valid D (task_of ds) A → ((x : Subject) → Told ds x → A x ≡ B x) → Valid D (task_of ds) B }
+{}
+
+/// A part of the answer of which nothing says that it is accepted has a valid assignment: one that meets what is asked, with the text's types
+/// at what comes from the text, where the part stands for the text block by block and all else that it tells has one type.
+pub fn parts_are_valid()
+    ensures { (r : Renumbering) (u : PartialInverse r) (view : Viewed) (behind : Behind) (q : Renumbering) (elsewhere : Behind) (fs : ListOf Demand) (D E : Known) → Knows r D E
+        → (A V : Types) (ds es : ListOf Demand) → AllReferences r u view behind E A es → MutableAt view A → Orderly (task_of es) → Fixes r view (ToldIn q elsewhere fs) E A es
+        → Block r u view behind (ToldIn q elsewhere fs) D E A V ds es → Valid D (task_of ds) A → ByItself r u view (ToldIn q elsewhere fs) E A V ds es → Valid E (task_of es) V }
+{}
+
+/// So it is of both parts of a text with a run: the one that has the run between demands that it adds, and the one with what stands round it.
+pub fn runs_are_valid()
+    ensures { (r : Renumbering) (u : PartialInverse r) (view : Viewed) (behind : Behind) (q : Renumbering) (w : PartialInverse q) (D E : Known) → Knows r D E → Knows q D E
+        → (A V W : Types) (text run other head copy end es fs : ListOf Demand) → es ≡ head ++ (copy ++ end) → Among run text
+        → DemandsLike r (StandsFor r u view behind (ToldIn q none_behind fs) D E A V es) run copy
+        → DemandsLike q (Round (StandsFor q w none_viewed none_behind (ToldIn r behind es) D E A W fs) run other) text fs
+        → Orderly (task_of es) → Orderly (task_of fs) → Valid D (task_of text) A → AllReferences r u view behind E A es → MutableAt view A → EachCopies view A run
+        → Fixes r view (ToldIn q none_behind fs) E A es → Fixes q none_viewed (ToldIn r behind es) E A fs
+        → ByItself r u view (ToldIn q none_behind fs) E A V text es → ByItself q w none_viewed (ToldIn r behind es) E A W text fs
+        → Added (composed r u view A V) V head → Added (composed r u view A V) V end → Added (composed q w none_viewed A W) W other
+        → Valid E (task_of es) V × Valid E (task_of fs) W }
+{}
+
+/// Two assignments that meet demands in order, and give the same integers where these ask for some, give all that is told the same types.
+pub fn integers_settle_types()
+    ensures { (D : Known) (ds : ListOf Demand) → Orderly (task_of ds) → (A B : Types) → MeetsEach D A ds → MeetsEach D B ds
+        → ((n : ℕ) (s : Kinds) → IsAsked (fact.Integer n s) ds → A (subject.Node n) ≡ B (subject.Node n)) → (x : Subject) → Told ds x → A x ≡ B x }
+{}
+
+/// So a part that asks for no integer but those of the text has one type for all that it tells, where what comes from the text has its types.
+pub fn integers_of_the_text_settle_a_part()
+    ensures { (r : Renumbering) (E : Known) (V : Types) (ds es : ListOf Demand) → Orderly (task_of es) → MeetsEach E V es
+        → ((n : ℕ) (s : Kinds) → IsAsked (fact.Integer n s) es → (m : ℕ) × (r.nodes m ≡ n) × Told ds (subject.Node m)) → (y : Subject) → Told es y → TellsOne r E V ds es y }
 {}

@@ -32,7 +32,7 @@ use Rattle.rx_engine_declared.proofs.Stands.{Tells, tells}
 use Rattle.rx_engine_declared.proofs.Knowing.{all_known}
 use Rattle.rx_engine_declared.proofs.MadeItems.{one_declared, enum_is, function_is}
 
-got : {A : Type 0} (xs : List A) (n : ℕ) → slice_get xs n ≡ nth xs n
+pub got : {A : Type 0} (xs : List A) (n : ℕ) → slice_get xs n ≡ nth xs n
 got [] n = refl
 got (x ∷ xs) zero = refl
 got (x ∷ xs) (suc n) = got xs n

@@ -35,16 +35,16 @@ use Rattle.rx_engine_declared.proofs.Reading.{read_ok, read_same, reading, from_
 -- ---- where a type stands
 
 -- a result takes the only lifetime of the parameters, or leaves none out
-abbrev with_one : (F : ℕ → Role) × ((p : ProgramTree) (y : TypeTree) (ns : List NodeNames) (l k : ℕ) → answer_of p (Some y) (reading ns (l ∷ []) k) ≡ type_of p (F l) y (reading ns (l ∷ []) k))
+abbrev pub with_one : (F : ℕ → Role) × ((p : ProgramTree) (y : TypeTree) (ns : List NodeNames) (l k : ℕ) → answer_of p (Some y) (reading ns (l ∷ []) k) ≡ type_of p (F l) y (reading ns (l ∷ []) k))
 with_one = (λ l. _, λ p y ns l k. refl)
 
-abbrev with_none : (N : Role) × ((p : ProgramTree) (y : TypeTree) (ns : List NodeNames) (k : ℕ) → answer_of p (Some y) (reading ns [] k) ≡ type_of p N y (reading ns [] k))
+abbrev pub with_none : (N : Role) × ((p : ProgramTree) (y : TypeTree) (ns : List NodeNames) (k : ℕ) → answer_of p (Some y) (reading ns [] k) ≡ type_of p N y (reading ns [] k))
 with_none = (_, λ p y ns k. refl)
 
-takes_one : (p : ProgramTree) (y : TypeTree) (ns : List NodeNames) (ls : List ℕ) (k l : ℕ) (q : Ty × Reading) → the_only ls ≡ Some l → answer_of p (Some y) (reading ns ls k) ≡ Ok q → type_of p (with_one.0 l) y (reading ns ls k) ≡ Ok q
+pub takes_one : (p : ProgramTree) (y : TypeTree) (ns : List NodeNames) (ls : List ℕ) (k l : ℕ) (q : Ty × Reading) → the_only ls ≡ Some l → answer_of p (Some y) (reading ns ls k) ≡ Ok q → type_of p (with_one.0 l) y (reading ns ls k) ≡ Ok q
 takes_one p y ns ls k l q e h = cc
 
-takes_none : (p : ProgramTree) (y : TypeTree) (ns : List NodeNames) (ls : List ℕ) (k : ℕ) (q : Ty × Reading) → the_only ls ≡ None → answer_of p (Some y) (reading ns ls k) ≡ Ok q → type_of p with_none.0 y (reading ns ls k) ≡ Ok q
+pub takes_none : (p : ProgramTree) (y : TypeTree) (ns : List NodeNames) (ls : List ℕ) (k : ℕ) (q : Ty × Reading) → the_only ls ≡ None → answer_of p (Some y) (reading ns ls k) ≡ Ok q → type_of p with_none.0 y (reading ns ls k) ≡ Ok q
 takes_none p y ns ls k q e h = cc
 
 -- ---- what is read of the parts of an item
@@ -165,7 +165,7 @@ module _ (F : List NodeNames) where
       let first : a.0 ≡ c.0 ∷ [] = sym (the_same (c.0 ∷ []) a.0 c.2) in
       ap length (sym (the_same (a.0 ++ b.0) ns b.2) ∙ ap (λ (l : List ℕ). l ++ b.0) first) ∙ ap suc (each_bound I n ls b.0 b.1)
 
-  all_bounds : (I : Inside) (ds : Declared) (n : ℕ) (ls : List BoundLifetime) (ns : List ℕ) → lifetimes_of I ds n ls ≡ Ok ns → length ns ≡ length (bounded n ls)
+  pub all_bounds : (I : Inside) (ds : Declared) (n : ℕ) (ls : List BoundLifetime) (ns : List ℕ) → lifetimes_of I ds n ls ≡ Ok ns → length ns ≡ length (bounded n ls)
   all_bounds I ds n [] ns e = ap length (sym (the_same [] ns e))
   all_bounds I ds n (l ∷ ls) ns e =
       let d = named_ok (declare ds l.name n) (λ ds. both (bounds_in I l.bounds) (lifetimes_of I ds (suc n) ls)) ns e in
@@ -191,7 +191,7 @@ module _ (F : List NodeNames) where
 
 -- ---- items
 
-distinct_names : (ds : Declared) (n : ℕ) (xs : List Ident) (t t' : ItemNames) → distinct ds n xs t ≡ Ok t' → t ≡ t'
+pub distinct_names : (ds : Declared) (n : ℕ) (xs : List Ident) (t t' : ItemNames) → distinct ds n xs t ≡ Ok t' → t ≡ t'
 distinct_names ds n [] t t' e = the_same t t' e
 distinct_names ds n (x ∷ xs) t t' e = let a = named_ok (declare ds x n) (λ ds. distinct ds (suc n) xs t) t' e in distinct_names a.0 (suc n) xs t t' a.2
 

@@ -41,12 +41,12 @@ one_declared Q i D E d e = declared_stays as_it_is Q Q (keeps_itself Q) i D E d 
 
 -- ---- types that are written out
 
-counted : (s : Span) (fresh : ℕ → List ℕ) (n many : ℕ) → length (lifetimes_from s fresh n many) ≡ many
+pub counted : (s : Span) (fresh : ℕ → List ℕ) (n many : ℕ) → length (lifetimes_from s fresh n many) ≡ many
 counted s fresh n zero = refl
 counted s fresh n (suc many) = ap suc (counted s fresh (suc n) many)
 
 -- what is passed names what the variable's type does
-passed_named : (P : ProgramTree) (m : Mode) (t : Typ) → NamesTypes P t → NamesTypes P (passed m t)
+pub passed_named : (P : ProgramTree) (m : Mode) (t : Typ) → NamesTypes P t → NamesTypes P (passed m t)
 passed_named P by_value t h = h
 passed_named P by_reborrow t h = h
 passed_named P by_view (integer k) h = h
@@ -61,7 +61,7 @@ each_named : (P : ProgramTree) (ts : List Typ) → Every (λ (t : Typ). NamesTyp
 each_named P [] h = tt
 each_named P (t ∷ ts) h = (h.0, each_named P ts h.1)
 
-joined_named : (P : ProgramTree) (ts : List Typ) → Every (λ (t : Typ). NamesTypes P t) ts → NamesTypes P (or_unit (joined_type ts))
+pub joined_named : (P : ProgramTree) (ts : List Typ) → Every (λ (t : Typ). NamesTypes P t) ts → NamesTypes P (or_unit (joined_type ts))
 joined_named P [] h = tt
 joined_named P (t ∷ []) h = h.0
 joined_named P (t ∷ u ∷ ts) h = each_named P (t ∷ u ∷ ts) h

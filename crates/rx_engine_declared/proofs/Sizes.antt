@@ -14,7 +14,7 @@ module _ (r : Renumbering) (W : ℕ → ℕ) where
   before i = W (r.items i)
 
   mutual
-    parts_stay : (t : Shape Kind) → parts W (shape_at r t) ≡ parts before t
+    pub parts_stay : (t : Shape Kind) → parts W (shape_at r t) ≡ parts before t
     parts_stay (integer k) = refl
     parts_stay boolean = refl
     parts_stay (tuple_of ts) = ap at_least_one (sum_stays ts)
@@ -29,7 +29,7 @@ module _ (r : Renumbering) (W : ℕ → ℕ) where
   fields_part [] = refl
   fields_part (f ∷ fs) = ap (λ n. n + sum_of_parts W (shapes_of (field_types (map (field_at r) fs)))) (parts_stay f.typ) ∙ ap (λ n. parts before f.typ + n) (fields_part fs)
 
-  types_part : (ts : List Typ) (us vs : List Typ) → sum_of_parts W (shapes_of us) ≡ sum_of_parts before (shapes_of vs) → sum_of_parts W (shapes_of (map (shape_at r) ts ++ us)) ≡ sum_of_parts before (shapes_of (ts ++ vs))
+  pub types_part : (ts : List Typ) (us vs : List Typ) → sum_of_parts W (shapes_of us) ≡ sum_of_parts before (shapes_of vs) → sum_of_parts W (shapes_of (map (shape_at r) ts ++ us)) ≡ sum_of_parts before (shapes_of (ts ++ vs))
   types_part [] us vs e = e
   types_part (t ∷ ts) us vs e = ap (λ n. n + sum_of_parts W (shapes_of (map (shape_at r) ts ++ us))) (parts_stay t) ∙ ap (λ n. parts before t + n) (types_part ts us vs e)
 

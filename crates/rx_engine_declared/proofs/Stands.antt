@@ -19,12 +19,12 @@ use Rattle.rx_engine_declared.proofs.Items.{item_declares}
 
 -- ---- places in lists
 
-get_front : {A : Type 0} (bs r : List A) (j : ℕ) → j < length bs → slice_get (bs ++ r) j ≡ slice_get bs j
+pub get_front : {A : Type 0} (bs r : List A) (j : ℕ) → j < length bs → slice_get (bs ++ r) j ≡ slice_get bs j
 get_front [] r j l = absurd (omega (arith, l))
 get_front (b ∷ bs) r zero l = refl
 get_front (b ∷ bs) r (suc j) l = get_front bs r j (omega (arith, l))
 
-get_behind : {A : Type 0} (bs r : List A) (m : ℕ) → slice_get (bs ++ r) (m + length bs) ≡ slice_get r m
+pub get_behind : {A : Type 0} (bs r : List A) (m : ℕ) → slice_get (bs ++ r) (m + length bs) ≡ slice_get r m
 get_behind [] r m = let z : m + 0 ≡ m = omega arith in ap (λ k. slice_get r k) z
 get_behind (b ∷ bs) r m = let z : m + suc (length bs) ≡ suc (m + length bs) = omega arith in ap (λ k. slice_get (b ∷ (bs ++ r)) k) z ∙ get_behind bs r m
 
@@ -73,11 +73,11 @@ item_stays bs ns hs x y j = by (place (length bs) j)
 
 -- ---- what is declared of an item
 
-abbrev DeclaredThere : ProgramTree → List ItemNames → ℕ → Option ItemTree → Option Decl → Type 0
+abbrev pub DeclaredThere : ProgramTree → List ItemNames → ℕ → Option ItemTree → Option Decl → Type 0
 DeclaredThere p ns n None o = o ≡ None
 DeclaredThere p ns n (Some i) o = (d : Decl) × (o ≡ Some d) × (declared_item p (entries_of (slice_get ns n)) i ≡ Ok d)
 
-declared_there : (p : ProgramTree) (ns : List ItemNames) (n : ℕ) (is : ProgramTree) (ds : List Decl) → declared_items p ns n is ≡ Ok ds → (j : ℕ) → DeclaredThere p ns (n + j) (slice_get is j) (slice_get ds j)
+pub declared_there : (p : ProgramTree) (ns : List ItemNames) (n : ℕ) (is : ProgramTree) (ds : List Decl) → declared_items p ns n is ≡ Ok ds → (j : ℕ) → DeclaredThere p ns (n + j) (slice_get is j) (slice_get ds j)
 declared_there p ns n [] ds e j = ap (λ (l : List Decl). slice_get l j) (sym (read_same [] ds e))
 declared_there p ns n (i ∷ is) ds e zero =
     let a = read_ok (declared_item p (entries_of (slice_get ns n)) i) (λ d. on_ok (declared_items p ns (suc n) is) (λ ds. Ok (d ∷ ds))) ds e in

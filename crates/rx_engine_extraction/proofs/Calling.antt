@@ -1,6 +1,6 @@
 -- The program with the call, and the limits that it is held to: those of parameters and lifetimes, of levels, of parts, and of its text.
-use Rattle.std.proofs.Common.{◌≡◌, ℕ, zero, suc, ◌<◌, ◌≤◌, ◌^◌, Bool, true, false, List, [], ◌∷◌, ◌++◌, length, map, Option, Some, None, slice_get, refl, sym, ap, subst, ◌∙◌, arith}
-use Rattle.std.specs.Prelude.{if◌then◌else◌, nat_lt, min, option_map}
+use Rattle.std.proofs.Common.{◌≡◌, ℕ, zero, suc, ◌<◌, ◌≤◌, ◌^◌, Bool, true, false, [], ◌∷◌, length, Option, Some, None, slice_get, refl, sym, ap, subst, ◌∙◌}
+use Rattle.std.specs.Prelude.{if◌then◌else◌, nat_lt, option_map}
 use Rattle.std.proofs.lemmas.Bool.{ltb-true, ltb-false}
 use Rattle.rx_core.specs.declared.types.Span.{Span}
 use Rattle.rx_core.specs.declared.types.Which.{Which}
@@ -13,7 +13,7 @@ use Rattle.rx_typed_runs.specs.declared.runs.RunPos.{RunPos}
 use Rattle.rx_print_spelling.specs.Formed.{FormedProgram}
 use Rattle.rx_print_spelling.specs.Items.{print_program}
 use Rattle.rx_hoist_extraction.specs.Plan.{Plan}
-use Rattle.rx_hoist_extraction.specs.Extraction.{extraction, new_number}
+use Rattle.rx_hoist_extraction.specs.Extraction.{new_number}
 use Rattle.rx_hoist_extraction.specs.Limits.{first_past, count_parameters, count_lifetimes, made_parts}
 use Rattle.rx_hoist_made.specs.Counts.{capped}
 use Rattle.rx_hoist.specs.Runs.{is_function}
@@ -27,7 +27,7 @@ use Rattle.rx_engine_extraction.specs.declared.refusal.Refusal.TheVariants as re
 use Rattle.rx_engine_extraction.specs.Source.{Text}
 use Rattle.rx_engine_extraction.specs.Made.{run_of}
 use Rattle.rx_engine_extraction.specs.Meeting.{most_lifetimes, parts_in}
-use Rattle.rx_engine_extraction.specs.Moving.{called, lifetimes_in, HasFewLifetimes, HasFewParts, IsMoved, IsPast, IsUnmoved, limit_told, of_hoist, IsWithin, IsOver, IsNotWithin}
+use Rattle.rx_engine_extraction.specs.Moving.{called, lifetimes_in, HasFewLifetimes, IsMoved, IsPast, IsUnmoved, limit_told, of_hoist, IsWithin, IsOver, IsNotWithin}
 use Rattle.rx_engine_extraction.specs.Levels.{HasFewLevels, HasManyLevels}
 use Rattle.rx_engine_extraction.specs.Hoisting.{IsBare}
 use Rattle.rx_engine_extraction.proofs.Bare.{extraction_bare}

@@ -1,16 +1,13 @@
 -- What is told of a run by what is decided of it, and what is found of an answer, as the definitions say.
-use Rattle.std.proofs.Common.{◌≡◌, ℕ, ◌+◌, ◌-◌, ◌≤◌, ◌<◌, Bool, true, false, ◌&&◌, List, [], ◌∷◌, ◌++◌, length, map, Option, Some, None, Result, Ok, Err, refl, sym, ap, subst, ◌∙◌, true≢false, arith}
+use Rattle.std.proofs.Common.{◌≡◌, ℕ, ◌+◌, ◌-◌, ◌≤◌, ◌<◌, Bool, true, false, ◌&&◌, List, [], ◌∷◌, ◌++◌, length, map, None, Result, refl, sym, ap, subst, ◌∙◌, true≢false, arith}
 use Rattle.std.specs.Prelude.{◌↔◌, IfOk, IfErr, nat_le, if◌then◌else◌}
 use Rattle.std.specs.declared.alloc.AllocError.{AllocError}
 use Rattle.std.proofs.lemmas.Bool.{le-leb, lt-leb}
 use Rattle.rx_tree.specs.Plain.{ProgramTree}
 use Rattle.rx_parse_grammar.specs.grammar.Items.{Parses}
-use Rattle.rx_parse.specs.Answer as parse
-use Rattle.rx_tree.specs.declared.tree.Program.{Program as ProgramOf}
 use Rattle.rx_parse.specs.declared.fault.SyntaxFault.{SyntaxFault}
 use Rattle.rx_parse.specs.declared.fault.SyntaxFault.TheVariants as syntax_fault
 use Rattle.rx_resolve_names.specs.declared.resolved.ItemNames.{ItemNames}
-use Rattle.rx_typed.specs.Types.{Typ}
 use Rattle.rx_typed.specs.PlainTypes.{declarations}
 use Rattle.rx_typeck_typed.specs.declared.typed.Typed.{Typed}
 use Rattle.rx_typeck_typed.specs.declared.typed.TypedFn.{TypedFn}
@@ -21,7 +18,7 @@ use Rattle.rx_facts.specs.Same.{AreSame}
 use Rattle.rx_check.specs.declared.fault.CheckFault.{CheckFault}
 use Rattle.rx_check.specs.declared.fault.CheckFault.TheVariants as check_fault
 use Rattle.rx_check.specs.Causes.{Causes}
-use Rattle.rx_check.specs.Passes.{IsAccepted, Accepted}
+use Rattle.rx_check.specs.Passes.{Accepted}
 use Rattle.rx_check.specs.Front.{Judged, IsCheckedOf}
 use Rattle.rx_meaning.specs.Expressions.{Functions}
 use Rattle.rx_meaning.specs.Programs.{Program}
@@ -34,7 +31,6 @@ use Rattle.rx_exits_plan.specs.PlainPlan.{plain-Run, plain-Exit, plan_with, plan
 use Rattle.rx_exits_plan.specs.declared.plan.ExitOuts.{ExitOuts}
 use Rattle.rx_exits_plan.specs.declared.plan.ExitPlan.{ExitPlan}
 use Rattle.rx_modes_policy.specs.declared.uses.Mode.{Mode}
-use Rattle.rx_hoist_nodes.specs.TypedRun.{typed_run}
 use Rattle.rx_engine_related.specs.AboutRun.{handed, special_of}
 use Rattle.rx_engine_alike.specs.Items.{items_with}
 use Rattle.rx_engine_extracted.specs.Told.{Told}
@@ -44,7 +40,7 @@ use Rattle.rx_engine_extraction.specs.declared.refusal.Fault.{Fault}
 use Rattle.rx_engine_extraction.specs.declared.refusal.Fault.TheVariants as fault
 use Rattle.rx_engine_extraction.specs.Source.{Text, declared_in}
 use Rattle.rx_engine_extraction.specs.Case.{Case, asked}
-use Rattle.rx_engine_extraction.specs.Confirmed.{units_among, units_if, whole_of, told_by, is_extracted, is_found, IsConfirmed}
+use Rattle.rx_engine_extraction.specs.Confirmed.{units_among, units_if, whole_of, told_by, is_found, IsConfirmed}
 use Rattle.rx_engine_extraction.specs.Confirming.{moved_among, handed_among, elsewhere_by, IsTold, found_in, IsFoundIn, unless_memory, lacks_memory, lacks_memory_read}
 use Rattle.rx_engine_extraction.specs.Deciding.{place_in, case_of}
 use Rattle.rx_engine_extraction.proofs.AgreeingFound.{found_alike}

@@ -1,6 +1,6 @@
 -- How deep an extraction is: its text is one, and has one number of levels; so one number is told, and only where a limit is passed.
-use Rattle.std.proofs.Common.{◌≡◌, ◌⊎◌, inl, inr, ℕ, ◌<◌, ◌≤◌, List, [], Option, Some, None, Result, Ok, Err, refl, sym, ap, subst, ◌∙◌, arith}
-use Rattle.std.specs.Prelude.{SomeIff, MatchOption, min, option_map}
+use Rattle.std.proofs.Common.{◌≡◌, inl, inr, ℕ, ◌<◌, ◌≤◌, List, [], Option, Some, None, sym, subst, ◌∙◌, arith}
+use Rattle.std.specs.Prelude.{option_map}
 use Rattle.std.proofs.Common.{unwrap_or}
 use Rattle.rx_core.specs.declared.types.Span.{Span}
 use Rattle.rx_tree.specs.Lists.{nth}
@@ -11,7 +11,7 @@ use Rattle.rx_hoist_extraction.specs.Run.{Run}
 use Rattle.rx_hoist_extraction.specs.Plan.{Plan}
 use Rattle.rx_hoist_extraction.specs.Limits.{first_past, made_levels}
 use Rattle.rx_hoist_made.specs.Counts.{capped}
-use Rattle.rx_parse.specs.Answer.{HasLevels, most_counted}
+use Rattle.rx_parse.specs.Answer.{HasLevels}
 use Rattle.rx_parse.proofs.Whole.{one_level}
 use Rattle.rx_splice_laws.specs.SplicedText.{spliced_text}
 use Rattle.rx_engine_extraction.specs.Rendering.{CanBeMade}

@@ -1,6 +1,5 @@
 -- A text has no more items than bytes: each has a token.
 use Rattle.std.proofs.Common.{◌≡◌, ℕ, zero, suc, ◌+◌, ◌≤◌, ◌<◌, List, [], ◌∷◌, ◌++◌, length, Some, ap, arith, length-append}
-use Rattle.rx_core.specs.declared.types.Span.{Span}
 use Rattle.rx_lex.specs.Tok.{Tok}
 use Rattle.rx_lex.proofs.TokenLaws.{Ordered, tokens_in_order}
 use Rattle.rx_tree.specs.Lists.{nth}

@@ -1,5 +1,5 @@
 -- A run that is decided and moved is hoisted; a limit that is passed is the first condition that is not met.
-use Rattle.std.proofs.Common.{◌≡◌, ℕ, List, [], ◌∷◌, ◌<◌, ◌≤◌, ◌^◌, length, None, Some, refl, sym, ap, subst, ◌∙◌}
+use Rattle.std.proofs.Common.{ℕ, length, ap, subst}
 use Rattle.rx_core.specs.declared.types.Which.TheVariants as which
 use Rattle.rx_tree.specs.Plain.{ProgramTree}
 use Rattle.rx_typed_runs.specs.declared.runs.RunPos.{RunPos}
@@ -16,7 +16,7 @@ use Rattle.rx_engine_extraction.specs.Source.{Text, Wish}
 use Rattle.rx_engine_extraction.specs.Case.{Case}
 use Rattle.rx_engine_extraction.specs.Made.{named}
 use Rattle.rx_engine_extraction.specs.Conditions as condition
-use Rattle.rx_engine_extraction.specs.Conditions.{Condition, before}
+use Rattle.rx_engine_extraction.specs.Conditions.{Condition}
 use Rattle.rx_engine_extraction.specs.Failing.{Fails}
 use Rattle.rx_engine_extraction.specs.Promise.{Stands}
 use Rattle.rx_engine_extraction.specs.Verdict.{RefusedBy}

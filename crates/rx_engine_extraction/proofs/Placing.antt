@@ -1,6 +1,5 @@
 -- Where a part of a block stands: the child of a node at the end of a way.
-use Rattle.std.proofs.Common.{◌≡◌, ℕ, List, [], ◌∷◌, ◌++◌, map, Option, Some, None, slice_get, refl, ap, ◌∙◌}
-use Rattle.rx_core.specs.declared.types.Span.{Span}
+use Rattle.std.proofs.Common.{◌≡◌, ℕ, List, [], ◌∷◌, ◌++◌, map, Option, Some, None, slice_get, refl, ap}
 use Rattle.rx_tree.specs.Plain.{ProgramTree}
 use Rattle.rx_tree.specs.Positions.{NodeTree, an_item, children, descend, node_at}
 use Rattle.rx_tree.proofs.NodesLaws.{child_at}

@@ -1,12 +1,11 @@
 -- What is found of a run, and of its params, as the conditions say it.
-use Rattle.std.proofs.Common.{◌≡◌, ℕ, Bool, List, [], map, refl, sym, ap, subst, ◌∙◌}
-use Rattle.rx_core.specs.declared.types.Span.{Span}
+use Rattle.std.proofs.Common.{◌≡◌, ℕ, Bool, List, refl, ap}
 use Rattle.rx_typed_runs.specs.declared.runs.RunPos.{RunPos}
 use Rattle.rx_typeck_typed.specs.declared.typed.TypedFn.{TypedFn}
 use Rattle.rx_exits_plan.specs.Runs.{Home}
 use Rattle.rx_exits_plan.specs.Asked.{Asked}
-use Rattle.rx_exits_plan.specs.Plan.{Plan, is_moved}
-use Rattle.rx_exits_plan.specs.PlainPlan.{plan_of, IsExitPlan}
+use Rattle.rx_exits_plan.specs.Plan.{Plan}
+use Rattle.rx_exits_plan.specs.PlainPlan.{plan_of}
 use Rattle.rx_exits_plan.specs.Unreachable.{Endless}
 use Rattle.rx_exits_plan.specs.declared.plan.ExitPlan.{ExitPlan}
 use Rattle.rx_exits.specs.Asking.{IsReached, Hinders, plain-At}
@@ -25,11 +24,11 @@ use Rattle.rx_engine_extraction.specs.declared.refusal.Fault.{Fault}
 use Rattle.rx_engine_extraction.specs.declared.refusal.Fault.TheVariants as fault
 use Rattle.rx_engine_extraction.specs.declared.refusal.Refusal.{Refusal}
 use Rattle.rx_engine_extraction.specs.declared.refusal.Refusal.TheVariants as refusal
-use Rattle.rx_engine_extraction.specs.Source.{Text, Wish}
+use Rattle.rx_engine_extraction.specs.Source.{Text}
 use Rattle.rx_engine_extraction.specs.Case.{Case, asked}
 use Rattle.rx_engine_extraction.specs.Made.{named}
 use Rattle.rx_engine_extraction.specs.Meeting.{Seated, same_name}
-use Rattle.rx_engine_extraction.specs.Deciding.{case_at, with_plan, with_modes, wish_by, nothing_asked, of_exits, of_modes, of_reach, IsEntered, IsSettled, IsWhole, IsPlanned, IsUnplanned, IsNotPassed, IsUnpassed, IsDecided, IsNotDecided, IsUndecided}
+use Rattle.rx_engine_extraction.specs.Deciding.{case_at, with_modes, wish_by, nothing_asked, of_exits, of_modes, of_reach, IsEntered, IsPlanned, IsUnplanned, IsNotPassed, IsUnpassed, IsDecided, IsNotDecided, IsUndecided}
 
 pub modes_stop : (A : Asked) (f : TypedFn) (k : ExitPlan) (x : ModeFault) → modes.IsRefused A f.mutable (plan_of A k) x → IsUnpassed A f k (of_modes f x)
 modes_stop A f k (ModeFault.NotMut x) m = (x, refl, m)

@@ -1,5 +1,5 @@
 -- The function of a run, and its block there, by the laws of runs in typed trees.
-use Rattle.std.proofs.Common.{◌≡◌, ℕ, Bool, true, false, ◌==◌, List, [], ◌∷◌, Option, Some, None, refl, sym, ap, subst, ◌∙◌, true≢false}
+use Rattle.std.proofs.Common.{◌≡◌, ℕ, Bool, true, false, ◌==◌, List, [], ◌∷◌, Option, Some, None, refl, sym, subst, ◌∙◌, true≢false}
 use Rattle.std.specs.Prelude.{if◌then◌else◌}
 use Rattle.std.specs.Option.{IsSome}
 use Rattle.std.proofs.lemmas.Bool.Decides.{Decides-eqb}
@@ -22,7 +22,6 @@ use Rattle.rx_exits_jumps.specs.Seen.{first_home}
 use Rattle.rx_exits_jumps.proofs.HomeLemmas.{sits_first, sits_nowhere}
 use Rattle.rx_hoist_nodes.specs.TypedRun.{typed_run}
 use Rattle.rx_engine_extraction.specs.Source.{Text}
-use Rattle.rx_engine_extraction.specs.Meeting.{Seated}
 use Rattle.rx_engine_extraction.specs.Deciding.{HasSeat}
 
 no_function : (f : TypedFn) → Among f [] → ⊥

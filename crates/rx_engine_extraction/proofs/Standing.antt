@@ -1,5 +1,5 @@
 -- What is alike in two cases of one text, by what stands in front of a condition in both.
-use Rattle.std.proofs.Common.{◌≡◌, ℕ, ◌<◌, Bool, List, [], ◌∷◌, ◌++◌, ap, subst, arith}
+use Rattle.std.proofs.Common.{◌≡◌, ℕ, ◌<◌, Bool, List, ap, subst, arith}
 use Rattle.rx_core.specs.declared.types.Bound.{Bound}
 use Rattle.rx_tree.specs.Lists.{nth}
 use Rattle.rx_tree.specs.Plain.{ProgramTree}

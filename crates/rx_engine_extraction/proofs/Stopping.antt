@@ -1,11 +1,7 @@
 -- A part that stops tells the first condition that is not met, where those in front are.
-use Rattle.std.proofs.Common.{◌≡◌, ℕ, List, [], ◌∷◌, true, false, refl, sym, ap, ◌∙◌}
-use Rattle.rx_core.specs.declared.types.Which.{Which}
-use Rattle.rx_lex.specs.Words.{is_identifier}
-use Rattle.rx_tree.specs.Lists.{Every}
+use Rattle.std.proofs.Common.{[], refl}
 use Rattle.rx_typed_runs.specs.declared.runs.RunPos.{RunPos}
 use Rattle.rx_typeck_typed.specs.declared.typed.TypedFn.{TypedFn}
-use Rattle.rx_select.specs.RunOf.{RunOf}
 use Rattle.rx_exits_plan.specs.Runs.{Home}
 use Rattle.rx_exits_plan.specs.declared.plan.ExitPlan.{ExitPlan}
 use Rattle.rx_engine_extraction.specs.declared.refusal.Fault.{Fault}
@@ -13,16 +9,15 @@ use Rattle.rx_engine_extraction.specs.declared.refusal.Fault.TheVariants as faul
 use Rattle.rx_engine_extraction.specs.declared.refusal.Refusal.{Refusal}
 use Rattle.rx_engine_extraction.specs.declared.refusal.Refusal.TheVariants as refusal
 use Rattle.rx_engine_extraction.specs.Source.{Text, Wish}
-use Rattle.rx_engine_extraction.specs.Case.{Case, asked}
+use Rattle.rx_engine_extraction.specs.Case.{Case}
 use Rattle.rx_engine_extraction.specs.Undecided.{undecided}
 use Rattle.rx_engine_extraction.specs.Conditions as condition
-use Rattle.rx_engine_extraction.specs.Conditions.{Condition, before}
-use Rattle.rx_engine_extraction.specs.Meeting.{Holds}
+use Rattle.rx_engine_extraction.specs.Conditions.{Condition}
 use Rattle.rx_engine_extraction.specs.Failing.{Fails}
 use Rattle.rx_engine_extraction.specs.Promise.{Stands}
 use Rattle.rx_engine_extraction.specs.Verdict.{RefusedBy}
 use Rattle.rx_engine_extraction.specs.Beginning.{IsChosen, IsUnchosen}
-use Rattle.rx_engine_extraction.specs.Deciding.{case_at, with_plan, with_modes, IsEntered, IsSettled, IsWhole, IsPlanned, IsNotPlanned, IsNotDecided, IsUndecided}
+use Rattle.rx_engine_extraction.specs.Deciding.{case_at, with_plan, with_modes, IsPlanned, IsNotPlanned, IsNotDecided, IsUndecided}
 use Rattle.rx_engine_extraction.specs.Hoisting.{IsStopped}
 
 refused : (T : Text) (w : Wish) (d : Case) (c : Condition) (r : Refusal) → Stands T w d c → Fails T w d c r → RefusedBy T w r

@@ -1,6 +1,6 @@
 -- What holds of a case that meets a condition. What is decided is right as soon as a later condition speaks of it (REM, "Extract
 -- function").
-use Rattle.std.specs.Prelude.{◌≡◌, ◌≢◌, ℕ, ◌≤◌, ◌<◌, ◌^◌, Bool, true, false, List, [], ◌∷◌, ◌++◌, length, map, Option, Some, None}
+use Rattle.std.specs.Prelude.{◌≡◌, ◌≢◌, ℕ, ◌≤◌, ◌<◌, ◌^◌, Bool, true, false, List, [], length, map, Option, Some, None}
 use Rattle.rx_tree.specs.Plain as plain
 use Rattle.rx_tree.specs.Plain.{ItemTree, ProgramTree}
 use Rattle.rx_tree.specs.Lists.{nth}

@@ -1,5 +1,5 @@
 -- What is answered of a run with its plan by names: the program with the call, or the limit that is passed.
-use Rattle.std.specs.Prelude.{◌≡◌, ◌≤◌, ◌<◌, ◌^◌, ℕ, List, [], ◌∷◌, ◌++◌, length, Some, None}
+use Rattle.std.specs.Prelude.{◌≡◌, ◌≤◌, ◌<◌, ◌^◌, ℕ, [], length, Some, None}
 use Rattle.rx_core.specs.declared.types.Which.{Which}
 use Rattle.rx_core.specs.declared.types.Which.TheVariants as which
 use Rattle.rx_tree.specs.Lists.{nth}

@@ -1,5 +1,5 @@
 -- What is answered of a text, a range, a name and a policy: an extraction that keeps its promise, or why there is none.
-use Rattle.std.specs.Prelude.{◌≡◌, ◌≢◌, ℕ, List, Result, Ok, Err}
+use Rattle.std.specs.Prelude.{◌≢◌, ℕ, List, Result, Ok, Err}
 use Rattle.rx_tree.specs.Plain.{ProgramTree}
 use Rattle.rx_parse_grammar.specs.grammar.Items.{Parses}
 use Rattle.rx_parse.specs.Answer.{IsCause}

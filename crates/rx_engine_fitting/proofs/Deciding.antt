@@ -85,7 +85,7 @@ module _ (finite : (p : ProgramTree) (names : List ItemNames) (t : Typed) → Is
         initialised = subst (λ (P : ℕ → ℕ). AllAre (IsInitialised (declarations T.types.decls.items) P) T.types.functions) (λ i n. same n i) f.initialised;
       }
 
-  few_bytes : length bytes < 2 ^ 32
+  pub few_bytes : length bytes < 2 ^ 32
   few_bytes = let l = is.long in omega (arith, l, short)
 
   pub decided : Decided (told T w d) (asked T d) bytes is.accepted.front.names T.types d.function.mutable

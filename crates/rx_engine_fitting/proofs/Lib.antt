@@ -1,1 +1,5 @@
 mod Deciding
+mod KeptTypes
+mod FewItems
+mod Declared
+mod TwoFunctions

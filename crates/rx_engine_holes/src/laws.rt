@@ -7,20 +7,26 @@ ghost use Rattle.rx_typed.specs.declared.nodes.Site.{Site};
 ghost use Rattle.rx_typed.specs.Named.{else_diverges, some_diverges, is_place, node_of, tail_never, Body, Else, Exp, Function, Statements};
 ghost use Rattle.rx_typeck_solver.specs.declared.facts.Demand.{Demand};
 ghost use Rattle.rx_typeck_solver.specs.Facts.{Known, MeetsEach, Types};
-ghost use Rattle.rx_typeck_typed.specs.Demands.{demands, hands_on, of_body, of_exp, of_statements};
+ghost use Rattle.rx_typeck_solver.specs.Ordered.{Orderly};
+ghost use Rattle.rx_typeck_solver.specs.Valid.{Valid};
+ghost use Rattle.rx_typeck_typed.specs.Demands.{demands, hands_on, of_body, of_exp, of_statements, task};
 ghost use Rattle.rx_engine_blocks.specs.Renumbering.{node_at, Renumbering};
 ghost use Rattle.rx_engine_blocks.specs.DemandsLike.{DemandsLike, Is};
 ghost use Rattle.rx_engine_blocks.specs.Knows.{Knows};
-ghost use Rattle.rx_engine_blocks.specs.Along.{none_viewed, PartialInverse, Viewed};
-ghost use Rattle.rx_engine_blocks.specs.Blocks.{none_behind, AllReferences, Behind, ToldIn};
-ghost use Rattle.rx_engine_blocks.specs.Around.{Round};
-ghost use Rattle.rx_engine_blocks.specs.Parts.{StandsFor};
+ghost use Rattle.rx_engine_blocks.specs.Along.{composed, none_viewed, MutableAt, PartialInverse, Viewed};
+ghost use Rattle.rx_engine_blocks.specs.Blocks.{none_behind, AllReferences, Behind, Fixes, ToldIn};
+ghost use Rattle.rx_engine_blocks.specs.ByItself.{ByItself};
+ghost use Rattle.rx_engine_blocks.specs.Around.{Among, Round};
+ghost use Rattle.rx_engine_blocks.specs.Copies.{EachCopies};
+ghost use Rattle.rx_engine_blocks.specs.Parts.{Added, StandsFor};
 ghost use Rattle.rx_engine_typing.specs.Renumbered.{RenumberedBody, RenumberedExp, RenumberedFunction, RenumberedStatements};
 ghost use Rattle.rx_engine_holes.specs.Returned.{returned_holes};
 ghost use Rattle.rx_engine_holes.specs.Run.{with_run};
 ghost use Rattle.rx_engine_holes.specs.Sited.{at_site};
 ghost use Rattle.rx_engine_holes.specs.Special.{special_holes};
 ghost use Rattle.rx_engine_holes.specs.Tail.{of_end, with_tail};
+
+use rx_engine_blocks::runs_are_valid;
 
 /// What is asked of a body in which some variables are behind references, some literals have suffixes, and
 /// jumps are returns, stands for what the text's asks.
@@ -90,3 +96,23 @@ pub fn moved_tails_ask_alike()
         → DemandsLike r (StandsFor r u view behind (ToldIn q elsewhere fs) D E A V es) (of_exp f e (hands_on n (node_of e) (of_statements f ss [])))
         (of_exp g e' (hands_on (node_at r n s) (node_of e') (of_statements g ss' []))) }
 {}
+
+/// A function in which other statements stand for a run, and a function into which the run is copied, both have valid assignments, though
+/// nothing says that they are accepted: those that meet what is asked, with the text's types at what comes from the text, where all else
+/// that they tell has one type.
+pub fn runs_and_calls_for_them_are_valid()
+    ensures { (r : Renumbering) (u : PartialInverse r) (view : Viewed) (behind : Behind) (q : Renumbering) (w : PartialInverse q) (D E : Known) → Knows r D E → Knows q D E
+        → (A V W : Types) (f g h : Function) (run call copied : Statements) (asked given head end : ListOf Demand) → Is (some_diverges run) (some_diverges call)
+        → ((ds : ListOf Demand) → of_statements f.item run ds ≡ ds ++ asked) → ((ds : ListOf Demand) → of_statements (q.items f.item) call ds ≡ ds ++ given) → Among asked (demands f)
+        → (loops : ℕ → ℕ) → RenumberedFunction q loops (with_run q loops (special_holes q w none_viewed none_behind A W) run call) f g
+        → (inner : ℕ → ℕ) (k : ℕ) → RenumberedStatements r inner (returned_holes r u view behind D E A V inner f.item k) run copied → demands h ≡ head ++ (of_statements h.item copied [] ++ end)
+        → Orderly (task h) → Orderly (task g) → Valid D (task f) A → AllReferences r u view behind E A (demands h) → MutableAt view A → EachCopies view A asked
+        → Fixes r view (ToldIn q none_behind (demands g)) E A (demands h) → Fixes q none_viewed (ToldIn r behind (demands h)) E A (demands g)
+        → ByItself r u view (ToldIn q none_behind (demands g)) E A V (demands f) (demands h) → ByItself q w none_viewed (ToldIn r behind (demands h)) E A W (demands f) (demands g)
+        → Added (composed r u view A V) V head → Added (composed r u view A V) V end → Added (composed q w none_viewed A W) W given
+        → Valid E (task h) V × Valid E (task g) W }
+{
+    functions_round_a_run_ask_alike();
+    moved_statements_ask_alike();
+    runs_are_valid();
+}

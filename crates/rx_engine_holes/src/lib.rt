@@ -5,6 +5,6 @@ mod laws;
 
 pub use laws::{
     functions_round_a_run_ask_alike, functions_round_a_tail_ask_alike, initialisers_ask_alike,
-    moved_statements_ask_alike, moved_tails_ask_alike, special_bodies_ask_alike,
-    special_functions_ask_alike, special_statements_ask_alike,
+    moved_statements_ask_alike, moved_tails_ask_alike, runs_and_calls_for_them_are_valid,
+    special_bodies_ask_alike, special_functions_ask_alike, special_statements_ask_alike,
 };

@@ -113,11 +113,15 @@ module _ (S : Sides) (new : Parted S.frame) where
     seen_too (reference_set x n q h) = reference_set x n (f _ q) h
     seen_too (reference_there x q) = reference_there x (f _ q)
 
-  pub closes_so : (R T : Known S) (H K : List Piece) (q r : Order) → StandsFor S R T H K q r → Closes (world S) R T H K
-  closes_so R T H K q r c = record {
-    loops = c.loops;
-    ended = λ us w o p e h V s. new_closing R V s H c.new us (w ++ closing K p) o (old_closing R V s K us w p (h V (seen_too R.variables T.variables c.wider s)));
+  pub closes_by : (R T : Known S) (H K : List Piece) → AllNew R.variables H → ((k : Kept) → Among k R.variables → Among k T.variables) → ((l k : ℕ) → Among (l, k) T.loops → Among (l, k) R.loops)
+      → Closes (world S) R T H K
+  closes_by R T H K new_ones wider loops = record {
+    loops = loops;
+    ended = λ us w o p e h V s. new_closing R V s H new_ones us (w ++ closing K p) o (old_closing R V s K us w p (h V (seen_too R.variables T.variables wider s)));
   }
+
+  pub closes_so : (R T : Known S) (H K : List Piece) (q r : Order) → StandsFor S R T H K q r → Closes (world S) R T H K
+  closes_so R T H K q r c = closes_by R T H K c.new c.wider c.loops
 
   pub call_so : Parted S.frame_there → (R T : Known S) (H K : List Piece) (q r : Order) → StandsFor S R T H K q r → IsCall (world S) R T H K q r
   call_so old R T H K q r c = record {

@@ -198,7 +198,7 @@ module _ (S : Sides) (new : Parted S.frame) (old : Parted S.frame_there) (R : Kn
   })
   whole_fate x y qs o (lent i f s t v c) = kept us u (H (whole_view x y qs) (there_as_a_whole x y qs i o)) (record {
     new = λ b. quiet_list (standing x qs) us b (λ a k. stands_quiet x qs a.node a.act (f a k));
-    old = λ e. t qs;
+    old = λ e. t qs o;
     live = λ ws q. v ws;
   })
   whole_fate x y qs o (handed_out vs ws k t ss e f c) =

@@ -14,7 +14,7 @@ use Rattle.rx_meaning_keeping.proofs.Parts.{Parted}
 use Rattle.rx_engine_initial.specs.Matching.{Good}
 use Rattle.rx_engine_initial.specs.Variables.{Kept, by_reference, Sides}
 use Rattle.rx_engine_initial.specs.Copies.{IsEasy, easy_copy, easy_take, easy_borrow, easy_test, easy_write, easy_call, easy_build, easy_input, easy_print, easy_give, IsSafe, in_temporary, behind_it, world}
-use Rattle.rx_engine_initial.specs.Handing.{Takes, by_read, by_borrow, Handing, none_taken, takes_one, does_one}
+use Rattle.rx_engine_initial.specs.Handing.{Takes, by_read, by_borrow, by_reborrow, Handing, none_taken, takes_one, does_one}
 use Rattle.rx_engine_initial.proofs.Tracing.{joined, after_one}
 use Rattle.rx_engine_initial.proofs.Ways.{no, is_false, clash}
 use Rattle.rx_engine_initial.proofs.Uses.{some_is, none_is, no_part}
@@ -47,7 +47,7 @@ module _ (S : Sides) (new : Parted S.frame) where
   easy_in_order us n easy_print = record { looks = λ p e. none_is e; enters = λ x qs h. no h; assigns = λ x h k. no h }
   easy_in_order us n easy_give = record { looks = λ p e. none_is e; enters = λ x qs h. no h; assigns = λ x h k. no h }
 
-  easy_unsets : (n : ℕ) {a : Act} → IsEasy [] a → unsets S.frame n a ≡ false
+  pub easy_unsets : (n : ℕ) {a : Act} → IsEasy [] a → unsets S.frame n a ≡ false
   easy_unsets n (easy_copy s) = refl
   easy_unsets n (easy_take {v = true} {t = t} {ss = ss}) = is_false (is_part S.frame (record { root = temporary t; steps = ss }) n) (no_part S.frame t ss n)
   easy_unsets n (easy_take {v = false}) = refl
@@ -61,7 +61,7 @@ module _ (S : Sides) (new : Parted S.frame) where
   easy_unsets n easy_give = refl
 
   -- what leaves a part set
-  stays : (us : List Action) (a : Action) (n : ℕ) → unsets S.frame n a.act ≡ false → is_set S.frame us n ≡ true → is_set S.frame (us ++ a ∷ []) n ≡ true
+  pub stays : (us : List Action) (a : Action) (n : ℕ) → unsets S.frame n a.act ≡ false → is_set S.frame us n ≡ true → is_set S.frame (us ++ a ∷ []) n ≡ true
   stays us a n k e = after_one (setting S.frame n) us a false ∙ by ((setting S.frame n).gives a) ((setting S.frame n).kills a) (is_set S.frame us n) k e
     where
       by : (g k b : Bool) → k ≡ false → b ≡ true → (g || (not k && b)) ≡ true
@@ -69,14 +69,16 @@ module _ (S : Sides) (new : Parted S.frame) where
       by false false b p q = q
       by false true b p q = clash true refl p
 
-  take_unsets : (x y n : ℕ) {a : Act} → (x ≡ y → ⊥) → Takes x a → is_part S.frame (own y) n ≡ true → unsets S.frame n a ≡ false
+  pub take_unsets : (x y n : ℕ) {a : Act} → (x ≡ y → ⊥) → Takes x a → is_part S.frame (own y) n ≡ true → unsets S.frame n a ≡ false
   take_unsets x y n d (by_read {v = true}) h = is_false (is_part S.frame (own x) n) (λ k. new.other x y [] [] n d k h)
   take_unsets x y n d (by_read {v = false}) h = refl
   take_unsets x y n d by_borrow h = refl
+  take_unsets x y n d by_reborrow h = refl
 
-  take_in_order : (us : List Action) (n x : ℕ) {a : Act} → Takes x a → AllSet S.frame us (own x) → InOrder S.frame S.muts us (does n a)
+  pub take_in_order : (us : List Action) (n x : ℕ) {a : Act} → Takes x a → AllSet S.frame us (own x) → InOrder S.frame S.muts us (does n a)
   take_in_order us n x by_read f = record { looks = λ p e. subst (λ q. AllSet S.frame us q) (some_is e) f; enters = λ z qs h. no h; assigns = λ z h k. no h }
   take_in_order us n x by_borrow f = record { looks = λ p e. subst (λ q. AllSet S.frame us q) (some_is e) f; enters = λ z qs h. no h; assigns = λ z h k. no h }
+  take_in_order us n x by_reborrow f = record { looks = λ p e. subst (λ q. AllSet S.frame us q) (some_is e) f; enters = λ z qs h. no h; assigns = λ z h k. no h }
 
   pub handing_in_order : {xs : List ℕ} {l : List Action} → Handing xs l → (us : List Action) → ((x : ℕ) → Among x xs → AllSet S.frame us (own x)) → Good (world S) us l
   handing_in_order none_taken us f = tt

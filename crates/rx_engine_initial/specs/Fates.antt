@@ -6,7 +6,7 @@ use Rattle.rx_typed.specs.Tree.{variable, Temporary, own}
 use Rattle.rx_lower_walks.specs.Actions.{Act, Declare, Dead, Read, Write, Action, does}
 use Rattle.rx_lower_walks.specs.Walks.{IsWalk, Among}
 use Rattle.rx_facts_tables.specs.Along.{after, ahead}
-use Rattle.rx_facts_tables.specs.Setting.{AllSet}
+use Rattle.rx_facts_tables.specs.Setting.{is_behind, AllSet}
 use Rattle.rx_facts_tables.specs.Wholes.{assigns, begins, was_assigned}
 use Rattle.rx_facts_tables.specs.Live.{living}
 use Rattle.rx_engine_initial.specs.Variables.{Kept, as_itself, by_reference, Sides, Known, standing_in}
@@ -32,7 +32,7 @@ pub data Fate (S : Sides) (R : Known S) (w us u : List Action) (x y : ℕ) : Typ
   -- neither does anything to it
   untouched : Among (as_itself x y) R.variables → AllLeave us x → AllLeave u y → Fate S R w us u x y
   -- it is lent or copied: it was all there in front, and is used there before it is written as a whole
-  lent : Among (as_itself x y) R.variables → AllLeave us x → AllSet S.frame_there w (own y) → ((qs : List Step) → after (standing_in y qs) w false ≡ true)
+  lent : Among (as_itself x y) R.variables → AllLeave us x → AllSet S.frame_there w (own y) → ((qs : List Step) → is_behind qs ≡ false → after (standing_in y qs) w false ≡ true)
       → ((ws : List Action) → ahead (living (variable y)) (u ++ ws) ≡ true) → was_assigned (w ++ u) y ≡ true → Fate S R w us u x y
   -- it is handed out: written, and not touched behind that
   handed_out : (before behind : List Action) (n : ℕ) (t : Temporary) (ss : List Step) → us ≡ before ++ does n (Write (own x) t ss) ∷ behind → AllLeave behind x

@@ -1,17 +1,20 @@
 -- What a new function does where it is left: it takes the variables that the exit hands out, makes of them what it gives, and returns.
 -- (REM: "Adventures in refactoring Rust: extract function", OOPSLA 2023; Rust Reference, "Return expressions".)
 use Rattle.std.specs.Prelude.{◌≡◌, ℕ, Bool, List, [], ◌∷◌, ◌++◌}
+use Rattle.rx_core.specs.declared.types.Step.TheVariants as step
 use Rattle.rx_typed.specs.Tree.{Temporary, own}
 use Rattle.rx_lower_walks.specs.Actions.{Act, Read, Borrow, Give, Action, does}
 use Rattle.rx_lower_walks.specs.Orders.{returns, Order}
 use Rattle.rx_lower_walks.specs.Orders as order
 use Rattle.rx_lower_walks.specs.Walks.{Among}
+use Rattle.rx_facts_tables.specs.Wholes.{placed}
 use Rattle.rx_engine_initial.specs.Copies.{IsEasy}
 
--- a variable is read, or borrowed
+-- a variable is read, or borrowed, or the reference that it holds is asked for again
 pub data Takes (x : ℕ) : Act → Type 0 where
   by_read : {v : Bool} {d : Temporary} → Takes x (Read v (own x) d)
   by_borrow : {k : Bool} {d : Temporary} → Takes x (Borrow k (own x) d)
+  by_reborrow : {k m : Bool} {d : Temporary} → Takes x (Borrow k (placed x (step.Deref m ∷ [])) d)
 
 -- these variables are taken, each once, and nothing else is done to any
 pub data Handing : List ℕ → List Action → Type 0 where

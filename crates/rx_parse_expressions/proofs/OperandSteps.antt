@@ -1,5 +1,5 @@
 -- Steps of the parsers of operands, for the goals of the code: each is the parser's own equation.
-use Rattle.std.proofs.Common.{◌≡◌, ℕ, suc, zero, ◌-◌, ◌<◌, ◌∷◌, [], Bool, true, false, cond, List, Some, None, Ok, Err, refl, ap, subst, ◌∙◌, max, arith}
+use Rattle.std.proofs.Common.{◌≡◌, ℕ, suc, zero, ◌+◌, ◌-◌, ◌<◌, ◌≤◌, ◌∷◌, [], Bool, true, false, cond, List, Some, None, Ok, Err, refl, ap, subst, ◌∙◌, arith}
 use Rattle.std.specs.Prelude.{Option, nat_lt, length}
 use Rattle.std.proofs.lemmas.Bool.{le-ltb}
 use Rattle.rx_tree.specs.declared.tree.BinaryOp.{BinaryOp}
@@ -109,9 +109,9 @@ row_over b j f l i = refl
 abbrev row : ℕ → Bool → ℕ → Got Expression → Parser (Got Expression)
 row b f j l k = spec.chain (levels.binary_step b f j) (turns j (length k)) l k
 
-pub strength_none : (b s : ℕ) (f : Bool) (i : List Tok) → s ≡ 0 → levels.at_strength b f s i ≡ levels.unary b f i
+pub strength_none : (b : ℕ) (f : Bool) (i : List Tok) → levels.at_strength b f 0 i ≡ levels.unary b f i
 unfolding spec.at_strength
-strength_none b s f i z = ap (λ s. levels.at_strength b f s i) z
+strength_none b f i = refl
 
 strength_above : (b j : ℕ) (f : Bool) (i : List Tok) → levels.at_strength b f (suc j) i ≡ and_then (levels.at_strength b f j i) (row b f j)
 unfolding spec.at_strength
@@ -122,9 +122,19 @@ strength_some b zero f i some = absurd (omega arith)
 strength_some b (suc j) f i some =
     let e : j ≡ suc j - 1 = omega arith in subst (λ z. levels.at_strength b f (suc j) i ≡ and_then (levels.at_strength b f z i) (row b f z)) e (strength_above b j f i)
 
-pub strength_made : (b s : ℕ) (f : Bool) (l : Got Expression) (i k : List Tok) → 0 < s → levels.at_strength b f (s - 1) i ≡ Ok (l, k)
-    → levels.at_strength b f s i ≡ spec.chain (levels.binary_step b f (s - 1)) (turns (s - 1) (length k)) l k
-strength_made b s f l i k some e = strength_some b s f i some ∙ ap (λ z. and_then z (row b f (s - 1))) e
+-- the operators of the next strength behind an operand of this one
+pub strength_made : (b j : ℕ) (f : Bool) (l : Got Expression) (i k : List Tok) → levels.at_strength b f j i ≡ Ok (l, k)
+    → levels.at_strength b f (j + 1) i ≡ spec.chain (levels.binary_step b f (j + 1 - 1)) (turns (j + 1 - 1) (length k)) l k
+strength_made b j f l i k e =
+    let s : j ≡ j + 1 - 1 = omega arith in
+    strength_some b (j + 1) f i (omega arith) ∙ ap (λ z. and_then z (row b f (j + 1 - 1))) (subst (λ z. levels.at_strength b f z i ≡ Ok (l, k)) s e)
 
-pub strength_fault : (b s : ℕ) (f : Bool) (i : List Tok) (x : Stop) → 0 < s → levels.at_strength b f (s - 1) i ≡ Err x → levels.at_strength b f s i ≡ Err x
-strength_fault b s f i x some e = strength_some b s f i some ∙ ap (λ z. and_then z (row b f (s - 1))) e
+further_fault : (b k j n : ℕ) (f : Bool) (i : List Tok) (x : Stop) → n ≡ j + k → levels.at_strength b f j i ≡ Err x → levels.at_strength b f n i ≡ Err x
+further_fault b zero j n f i x s e = let z : j ≡ n = omega arith in subst (λ z. levels.at_strength b f z i ≡ Err x) z e
+further_fault b (suc k) j n f i x s e =
+    let z : n ≡ suc j + k = omega arith in
+    further_fault b k (suc j) n f i x z (strength_above b j f i ∙ ap (λ z. and_then z (row b f j)) e)
+
+-- a fault of one strength is that of each above
+pub strength_fault : (b j n : ℕ) (f : Bool) (i : List Tok) (x : Stop) → j ≤ n → levels.at_strength b f j i ≡ Err x → levels.at_strength b f n i ≡ Err x
+strength_fault b j n f i x low e = further_fault b (n - j) j n f i x (omega arith) e

@@ -3,7 +3,7 @@ use Rattle.std.proofs.Common.{◌≡◌, ℕ, suc, max, Bool, true, false, cond,
 use Rattle.std.specs.Prelude.{nat_lt}
 use Rattle.rx_core.specs.declared.types.Span.{Span}
 use Rattle.rx_tree.specs.Plain as plain
-use Rattle.rx_tree.specs.Plain.{TypeTree, PatternTree, Expression, OptionalExpression, Body, Statement}
+use Rattle.rx_tree.specs.Plain.{TypeTree, PatternTree, Expression, Body, Statement}
 use Rattle.rx_tree.specs.PlainOf.{statements_of}
 use Rattle.rx_lex.specs.Tok.{Tok}
 use Rattle.rx_parse_grammar.specs.declared.stop.Stop.{Stop}

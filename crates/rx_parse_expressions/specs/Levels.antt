@@ -1,18 +1,14 @@
 -- The parsers of expressions, below which so many levels may stand.
-use Rattle.std.specs.Prelude.{ℕ, max, Bool, [], ◌∷◌, Option}
+use Rattle.std.specs.Prelude.{ℕ, max, Bool, Option}
 use Rattle.rx_core.specs.declared.types.Span.{Span}
 use Rattle.rx_tree.specs.declared.tree.Ident.{Ident}
 use Rattle.rx_tree.specs.declared.tree.BinaryOp.{BinaryOp}
 use Rattle.rx_tree.specs.Plain as plain
 use Rattle.rx_tree.specs.Plain.{Expression}
-use Rattle.rx_tree.specs.PlainOf.{expressions_of}
-use Rattle.rx_lex.specs.Tok.{Tok}
 use Rattle.rx_parse_grammar.specs.declared.symbol.Symbol.{Symbol}
-use Rattle.rx_parse_grammar.specs.declared.symbol.Symbol.TheVariants as symbol
 use Rattle.rx_parse_grammar.specs.grammar.Words.{join}
 use Rattle.rx_parse_grammar.specs.parser.Steps.{Parser, Got, ◌>>=◌, ◌>>◌, pure, expect, within, leaf, node}
 use Rattle.rx_parse_grammar.specs.parser.Numbers.{number}
-use Rattle.rx_parse_grammar.specs.parser.Lists.{elements}
 use Rattle.rx_parse_grammar.specs.parser.Operators.{Setting}
 use Rattle.rx_parse_grammar.specs.parser.Expressions as spec
 use Rattle.rx_parse_grammar.specs.parser.Blocks.{operand, whole, like, block}

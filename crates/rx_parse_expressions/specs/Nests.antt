@@ -1,5 +1,5 @@
 -- What a level asks of the parser of expressions one level deeper.
-use Rattle.std.specs.Prelude.{ℕ, ◌≤◌, Bool, List, Result, IfOk}
+use Rattle.std.specs.Prelude.{ℕ, ◌≤◌, List, Result, IfOk}
 use Rattle.std.specs.declared.alloc.Global.{Global}
 use denote.Ref.{MutBor}
 use Rattle.rx_tree.specs.declared.tree.Expr.{Expr}

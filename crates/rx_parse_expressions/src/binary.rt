@@ -89,7 +89,8 @@ impl<F: Fn(Global, &mut Cursor<'_>, usize, Wanted) -> Result<Got<Expr>, Stop>> L
 }
 
 impl<F: Fn(Global, &mut Cursor<'_>, usize, Wanted) -> Result<Got<Expr>, Stop> + Copy> Level<F> {
-    /// An operand of this strength.
+    /// An operand of this strength: behind an operand of no operator those of each strength in turn, the strongest first, so
+    /// that a level of the text takes one frame here and not one for each strength.
     pub fn at_strength(
         &self,
         cursor: &mut Cursor<'_>,
@@ -100,10 +101,10 @@ impl<F: Fn(Global, &mut Cursor<'_>, usize, Wanted) -> Result<Got<Expr>, Stop> + 
         ensures reads { ReadsAs (got_of plain-Expr) (levels.at_strength self.now.below literals strength cursor.old) result cursor.new }
         ensures low { IfOk result (λ x. x.height ≤ self.now.below + 1) }
     {
-        if strength == 0 {
-            return self.unary(cursor, literals);
+        let mut left = self.unary(cursor, literals)?;
+        for below in 0..strength {
+            left = self.chain(cursor, literals, below + 1, left)?;
         }
-        let left = self.at_strength(cursor, literals, strength - 1)?;
-        self.chain(cursor, literals, strength, left)
+        Ok(left)
     }
 }

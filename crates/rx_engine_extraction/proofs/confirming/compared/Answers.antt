@@ -1,6 +1,5 @@
 use Rattle.std.proofs.Common.{◌≡◌, ◌∙◌, Bool, List, length, ap}
 use Rattle.rx_core.specs.declared.types.Span.{Span}
-use Rattle.rx_tree.specs.PlainOf.{plain-Program}
 use Rattle.rx_typed.specs.PlainTypes.{declarations}
 use Rattle.rx_meaning.specs.Expressions.{Functions}
 use Rattle.rx_machine.specs.Functions.{typed_functions}

@@ -1,7 +1,7 @@
 use Rattle.std.proofs.Common.{sym, subst}
 use Rattle.rx_exits_plan.specs.PlainSyntax.{plain-Home}
 use Rattle.rx_engine_extraction.specs.declared.refusal.Fault.{Fault}
-use Rattle.rx_engine_extraction.specs.Deciding.{text_of, case_at, IsUndecided, IsUnnamed}
+use Rattle.rx_engine_extraction.specs.Deciding.{text_of, case_at, IsUndecided}
 use Rattle.rx_engine_extraction.proofs.Seating.{seat_at, function_known}
 use Rattle.rx_engine_extraction.proofs.deciding.decided.Goals as goal
 

@@ -1,7 +1,6 @@
 use Rattle.std.proofs.Common.{◌≡◌, ℕ, List, Option, Some, None, length, ap, subst, ◌∙◌}
 use Rattle.std.specs.Prelude.{option_map}
 use Rattle.rx_tree.specs.PlainOf.{plain-Program}
-use Rattle.rx_lex.specs.Tok.{toks}
 use Rattle.rx_typed_declarations.specs.Sizes.{told}
 use Rattle.rx_hoist_plan.specs.PlainPlan.{plain-Plan}
 use Rattle.rx_hoist_extraction.specs.Limits.{first_past, made_parts}

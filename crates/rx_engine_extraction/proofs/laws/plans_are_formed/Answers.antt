@@ -1,5 +1,5 @@
 -- By the laws of plans by names: the case's plan is one of its function, and its lifetime positions are few.
-use Rattle.std.proofs.Common.{◌≡◌, ℕ, ◌+◌, ◌≤◌, ◌^◌, Bool, length, refl, ap, ◌∙◌, arith}
+use Rattle.std.proofs.Common.{ℕ, ◌+◌, ◌≤◌, ◌^◌, Bool, length, refl, ap, ◌∙◌, arith}
 use Rattle.std.specs.Option.{is_some}
 use Rattle.rx_hoist_extraction.specs.NewFunction.{copied_lifetimes, signature_positions}
 use Rattle.rx_hoist_naming.specs.NamedPlan.{value_if, last_number}

@@ -1,0 +1,9 @@
+//! The certificate of an accepted text, with the least sets.
+#![tactic(auto)]
+
+mod certifying;
+mod fault;
+mod making;
+
+pub use certifying::certify;
+pub use fault::CertifyFault;

@@ -1,0 +1,5 @@
+pub mod Marks
+pub mod Numerals
+pub mod ItemTexts
+pub mod LineTexts
+pub mod Wholes

@@ -1,0 +1,6 @@
+pub mod Telling
+pub mod Keeping
+pub mod Numbering
+pub mod Points
+pub mod Scopes
+pub mod Verdict

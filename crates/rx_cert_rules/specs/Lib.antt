@@ -1,0 +1,4 @@
+pub mod Written
+pub mod Rules
+pub mod Verdicts
+pub mod Parts

@@ -1,0 +1,4 @@
+pub mod Sets
+pub mod Filling
+pub mod Fitting
+pub mod Written

@@ -1,0 +1,2 @@
+pub mod UntypedAt
+pub mod HasTypes

@@ -1,0 +1,9 @@
+pub mod Apart
+pub mod Lent
+pub mod TextPlaces
+pub mod Entry
+pub mod Receiving
+pub mod Calls
+pub mod Unnamed
+pub mod GoingThrough
+pub mod SeveralJumps

@@ -1,0 +1,70 @@
+//! Laws, each the contract of a function that does nothing.
+
+ghost use Rattle.std.specs.Prelude.{◌≡◌, ◌≢◌, ℕ, Bool, true, false, List as ListOf, ◌∷◌, [], ◌++◌};
+ghost use Rattle.rx_core.specs.declared.types.Step.{Step};
+ghost use Rattle.rx_typed.specs.Tree.{Temporary, ends, own};
+ghost use Rattle.rx_typed_declarations.specs.Sizes.{Sized};
+ghost use Rattle.rx_lower_walks.specs.Actions.{Action};
+ghost use Rattle.rx_lower_walks.specs.Orders.{Order, order_body};
+ghost use Rattle.rx_lower_walks.specs.Walks.{fails, Walk, IsWalk, Among};
+ghost use Rattle.rx_facts_tables.specs.Along.{after};
+ghost use Rattle.rx_facts_tables.specs.Setting.{is_behind, AllSet};
+ghost use Rattle.rx_exits_plan.specs.Blocks.{tail, before};
+ghost use Rattle.rx_exits_plan.specs.Runs.{in_front, behind};
+ghost use Rattle.rx_exits_plan.specs.Points.{Exit, next, leaves};
+ghost use Rattle.rx_exits_plan.specs.Marked.{shown, ended_tail, marked_body};
+ghost use Rattle.rx_exits_plan.specs.Asked.{Asked};
+ghost use Rattle.rx_exits_plan.specs.Plan.{Plan, IsPlan, variables_of};
+ghost use Rattle.rx_exits_plan.specs.PartlyMoved.{PartlyMoved};
+ghost use Rattle.rx_engine_related.specs.AboutRun.{text_of};
+ghost use Rattle.rx_engine_related.specs.OnePlace.{LeadsToOnePlace};
+ghost use Rattle.rx_engine_related.specs.Accepted.{Accepted};
+ghost use Rattle.rx_engine_initial.specs.Matching.{Piece, fill, Runs, Matches};
+ghost use Rattle.rx_engine_initial.specs.Variables.{Sides, Known, standing_in};
+ghost use Rattle.rx_engine_initial.specs.Copies.{world};
+ghost use Rattle.rx_engine_initial.specs.Handing.{Handing, Straight, giving};
+ghost use Rattle.rx_engine_initial.specs.Planned.{IsTextOf, MeetsMark, AllFor};
+ghost use Rattle.rx_engine_initial_calls.specs.GoneThrough.{IsGoneThrough};
+ghost use Rattle.rx_engine_initial_calls.specs.RunPieces.{pieces_of, run_pieces};
+ghost use Rattle.rx_engine_initial_calls.specs.CallOf.{IsCallOf};
+ghost use Rattle.rx_engine_initial_calls.specs.MatchOf.{IsMatchOf};
+
+/// Where all of a variable of the run is set, each place of it, behind no reference, is there as a whole with each that it is in: so it may be lent.
+pub fn lent_variables_stand()
+    ensures { (A : Asked) (muts : ListOf Bool) → Accepted A muts → (k : Plan) → IsPlan A k → (x : ℕ) → Among x (variables_of A) → (w : ListOf Action) → IsWalk (text_of A k) w
+        → AllSet A.frame w (own x) → (qs : ListOf Step) → is_behind qs ≡ false → after (standing_in x qs) w false ≡ true }
+{}
+
+/// A run without its block's tail stands in the marked text as pieces of its block, and a walk through them goes through the run.
+pub fn runs_are_pieces()
+    ensures stand { (A : Asked) (k : Plan) (d : Temporary) → order_body (marked_body A.run A.home.around.loops k.params A.home.body) A.run.block d
+        ≡ fill (pieces_of A.run.block (in_front A.run A.home.body)) (fill (run_pieces A k)
+        (order_body (before (behind A.run A.home.body) (ends (ended_tail A.run.tail A.run.block A.home.around.loops (tail A.home.body)))) A.run.block d)) }
+    ensures gone_through { (A : Asked) (k : Plan) → A.run.tail ≡ false → (u : ListOf Action) → Runs (run_pieces A k) u → IsGoneThrough A k next u }
+{}
+
+/// The call of a plan matches its run, in front of what matches, where some walk goes through the run to its end: each variable in scope
+/// behind has its fate by the plan, and what the caller does is in order.
+pub fn calls_of_plans_match()
+    ensures { (A : Asked) (k : Plan) → IsPlan A k → (S : Sides) → Sized S.frame.declared S.frame.sizes → Accepted A S.muts_there → IsTextOf S A k
+        → ((x : ℕ) → ¬ (PartlyMoved A k x)) → Among next k.exits → (R T : Known S) (H K : ListOf Piece) (q r : Order) → IsCallOf S A k R T H
+        → (u : ListOf Action) → Runs K u → IsGoneThrough A k next u → ((us : ListOf Action) → Walk q us fails → ⊥)
+        → Matches (world S) T q r → Matches (world S) R (fill H q) (fill K r) }
+{}
+
+/// So does the match of the call, where the run is left by several exits: each walk through it is the way of an exit, and goes on, jumps or
+/// returns as the run does there.
+pub fn matched_calls_match()
+    ensures { (A : Asked) (k : Plan) → IsPlan A k → (S : Sides) → Sized S.frame.declared S.frame.sizes → Accepted A S.muts_there → IsTextOf S A k
+        → ((x : ℕ) → ¬ (PartlyMoved A k x)) → (R T : Known S) (H K : ListOf Piece) (q r : Order) → IsMatchOf S A k R T H K (fill K r)
+        → ((us : ListOf Action) → Walk q us fails → ⊥) → Matches (world S) T q r → Matches (world S) R (fill H q) (fill K r) }
+{}
+
+/// Where the new function takes what an exit hands out, and gives what it makes of it, it is in order, also where several jumps of the run take
+/// the exit, if their marks lead to one place.
+pub fn exits_of_several_jumps_match()
+    ensures { (A : Asked) (k : Plan) → IsPlan A k → (e : Exit) → Among e k.exits → LeadsToOnePlace (text_of A k) (shown (leaves e)) → (S : Sides) → Sized S.frame.declared S.frame.sizes
+        → Accepted A S.muts_there → IsTextOf S A k → (R : Known S) (q : Order) → ((x : ℕ) → ¬ (PartlyMoved A k x)) → MeetsMark S (leaves e) q
+        → (xs : ListOf ℕ) → AllFor R xs (k.outs e) → (l : ListOf Action) → Handing xs l → (s : Order) → Straight s l → (n : ℕ) (t : Temporary)
+        → Matches (world S) R (giving s n t) q }
+{}

@@ -1,0 +1,9 @@
+//! The extraction keeps initialisation: the call of a plan stands for its run. Laws, and no code.
+#![tactic(auto)]
+
+mod laws;
+
+pub use laws::{
+    calls_of_plans_match, exits_of_several_jumps_match, lent_variables_stand, matched_calls_match,
+    runs_are_pieces,
+};

@@ -1,0 +1,4 @@
+pub mod Binders
+pub mod Alike
+pub mod Agreeing
+pub mod Following

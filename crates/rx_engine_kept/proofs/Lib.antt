@@ -1,0 +1,13 @@
+pub mod Going
+pub mod BothTypes
+pub mod BothItems
+pub mod BothDeclared
+pub mod MadeReads
+pub mod MadeDeclared
+pub mod Places
+pub mod SameHeld
+pub mod AllDeclared
+pub mod SameLimits
+pub mod Main
+pub mod Fitting
+pub mod ToldLimits
