@@ -31,7 +31,7 @@ use Rattle.rx_cert.proofs.Alike.{Shared, shared, lines_alike, all_good_alike}
 
 -- ---- by one typed program
 
-fit_or_unfit : (D : List Decl) (fs : List TypedFn) (ls : List Line) (n : ℕ) → AreLinesOf D fs ls → FirstUnfit D fs ls n → ⊥
+pub fit_or_unfit : (D : List Decl) (fs : List TypedFn) (ls : List Line) (n : ℕ) → AreLinesOf D fs ls → FirstUnfit D fs ls n → ⊥
 fit_or_unfit D [] ls n fit u = let e = ap (λ (x : List Line). length x) fit in omega (arith, u.1, e)
 fit_or_unfit D (f ∷ fs) ls n fit (inl m) = m.here (fit.0 n m.within)
 fit_or_unfit D (f ∷ fs) ls n fit (inr u) = fit_or_unfit D fs (behind D f ls) u.1.0 fit.1 u.1.2
@@ -44,9 +44,7 @@ good_or_broken D P i r (f ∷ fs) ls good (inr b) = good_or_broken D P i r fs (b
 
 -- ---- by any
 
-module _ (one_typing : (p : ProgramTree) (names : List ItemNames) (t u : Typed) → IsTyped p names t → IsTyped p names u → AreSame t u)
-    (passed : (p : ProgramTree) (e : CheckFault) → Fronted p → PassCauses e p → e ≡ check.OutOfMemory)
-    (no_certificate : (ls : List Line) (t bytes : List ℕ) (n : ℕ) → Misread bytes n → IsCertificate ls t bytes → ⊥) where
+module _ (one_typing : (p : ProgramTree) (names : List ItemNames) (t u : Typed) → IsTyped p names t → IsTyped p names u → AreSame t u) where
   front_too : (text : List ℕ) (a b : Fronts text) → IsFront a.program b.typed
   front_too text a b = subst (λ p. IsFront p b.typed) (sym (one_text text a.program b.program a.parses b.parses)) b.front
 
@@ -54,23 +52,26 @@ module _ (one_typing : (p : ProgramTree) (names : List ItemNames) (t u : Typed) 
   typed_too text a b = let f = front_too text a b in
       subst (λ ns. IsTyped a.program ns b.typed) (one_meaning a.program f.names a.front.names f.meant a.front.meant) f.typed
 
-  same_typed : (text : List ℕ) (a b : Fronts text) → AreSame a.typed b.typed
+  pub same_typed : (text : List ℕ) (a b : Fronts text) → AreSame a.typed b.typed
   same_typed text a b = one_typing a.program a.front.names a.typed b.typed a.front.typed (typed_too text a b)
 
-  share : (text : List ℕ) (a b : Fronts text) → Shared a.typed.decls.items b.typed.decls.items
+  pub share : (text : List ℕ) (a b : Fronts text) → Shared a.typed.decls.items b.typed.decls.items
   share text a b = shared a.typed.decls.items b.typed.decls.items (same_typed text a b).items a.front.typed.recorded (typed_too text a b).recorded
 
+module _ (one_typing : (p : ProgramTree) (names : List ItemNames) (t u : Typed) → IsTyped p names t → IsTyped p names u → AreSame t u)
+    (passed : (p : ProgramTree) (e : CheckFault) → Fronted p → PassCauses e p → e ≡ check.OutOfMemory)
+    (no_certificate : (ls : List Line) (t bytes : List ℕ) (n : ℕ) → Misread bytes n → IsCertificate ls t bytes → ⊥) where
   refused : (ls : List Line) (text : List ℕ) → IsGood ls text → (e : VerifyFault) → e ≢ fault.OutOfMemory → Faults e ls text → ⊥
   refused ls text good (fault.Form n) told u = let a = good.fronts in let b = u.fronts in
       fit_or_unfit b.typed.decls.items b.typed.functions ls u.place
-      (lines_alike a.typed.decls.items b.typed.decls.items (share text a b) a.typed.functions b.typed.functions (same_typed text a b).functions ls good.fit) u.unfit
+      (lines_alike a.typed.decls.items b.typed.decls.items (share one_typing text a b) a.typed.functions b.typed.functions (same_typed one_typing text a b).functions ls good.fit) u.unfit
   refused ls text good (fault.Text e) told x = cause_excludes text e x.0 x.1 good.fronts.program good.fronts.parses
   refused ls text good (fault.Front e) told x = x.0 (passed x.1.0 e
       (subst (λ p. Fronted p) (one_text text good.fronts.program x.1.0 good.fronts.parses x.1.1) (good.fronts.typed, good.fronts.front)) x.1.2)
   refused ls text good (fault.Rule i r) told x = let a = good.fronts in let b = x.fronts in
       good_or_broken b.typed.decls.items x.implied i r b.typed.functions ls
-      (all_good_alike a.typed.decls.items b.typed.decls.items (share text a b) good.implied x.implied good.asked x.asked a.typed.functions b.typed.functions
-      (same_typed text a b).functions ls good.good) x.first
+      (all_good_alike a.typed.decls.items b.typed.decls.items (share one_typing text a b) good.implied x.implied good.asked x.asked a.typed.functions b.typed.functions
+      (same_typed one_typing text a b).functions ls good.good) x.first
   refused ls text good fault.OutOfMemory told x = told refl
 
   of_refused : (bytes : List ℕ) (e : VerifyFault) → e ≢ fault.OutOfMemory → IsVerified bytes → IsRefused e bytes → ⊥

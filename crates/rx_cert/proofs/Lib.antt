@@ -5,4 +5,5 @@ pub mod Judging
 pub mod Shaping
 pub mod Alike
 pub mod Excluding
+pub mod Agreeing
 pub mod Answering

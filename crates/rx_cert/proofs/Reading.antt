@@ -54,11 +54,11 @@ fits_later : (f : Shape) (n : ℕ) (l : Line) → fits_at f (1 + n) l ≡ true
 fits_later f n l e = subst (λ b. (if b then fits_function f l
     else (if nat_le (1 + n) f.lifetimes then fits_region f l else fits_loan f (get_or f.borrows (1 + n - 1 - f.lifetimes) 0) l)) ≡ true) (not_first n) e
 
-region_at : (f : Shape) (n : ℕ) (l : Line) → n < f.lifetimes → fits_at f (1 + n) l ≡ true → fits_region f l ≡ true
+pub region_at : (f : Shape) (n : ℕ) (l : Line) → n < f.lifetimes → fits_at f (1 + n) l ≡ true → fits_region f l ≡ true
 region_at f n l h e = subst (λ b. (if b then fits_region f l else fits_loan f (get_or f.borrows (1 + n - 1 - f.lifetimes) 0) l) ≡ true)
     (le-leb (1 + n) f.lifetimes (omega (arith, h))) (fits_later f n l e)
 
-loan_at : (f : Shape) (n : ℕ) (l : Line) → fits_at f (1 + (f.lifetimes + n)) l ≡ true
+pub loan_at : (f : Shape) (n : ℕ) (l : Line) → fits_at f (1 + (f.lifetimes + n)) l ≡ true
     → fits_loan f (get_or f.borrows (1 + (f.lifetimes + n) - 1 - f.lifetimes) 0) l ≡ true
 loan_at f n l e = go (nat_le (1 + (f.lifetimes + n)) f.lifetimes) refl (fits_later f (f.lifetimes + n) l e) where
   go : (b : Bool) → nat_le (1 + (f.lifetimes + n)) f.lifetimes ≡ b

@@ -7,11 +7,12 @@ ghost use Rattle.rx_check.specs.Passes.{Accepted};
 ghost use Rattle.rx_cert_lines.specs.Certificates.{IsCertificate};
 ghost use Rattle.rx_cert_lines.specs.declared.line.Line.{Line};
 ghost use Rattle.rx_cert.specs.Verified.{IsVerified, VerifyCauses};
+ghost use Rattle.rx_cert.specs.Verdicts.{AreOne};
 ghost use Rattle.rx_cert.specs.declared.fault.VerifyFault.{VerifyFault as Fault};
 ghost use Rattle.rx_cert.specs.declared.fault.VerifyFault.TheVariants as fault;
 
 use rx_cert_lines::misread_bytes_are_no_certificate;
-use rx_check::passed_or_faulty;
+use rx_check::{causes_are_one, passed_or_faulty};
 use rx_facts::one_typing;
 
 /// Where bytes are verified, the text behind their line `text` is accepted, whoever made them.
@@ -26,4 +27,15 @@ pub fn verified_or_refused()
     one_typing();
     passed_or_faulty();
     misread_bytes_are_no_certificate();
+}
+
+/// Two faults of the same bytes are of one test: those of lines are one line, those of rules one function and rule; those of the text's form
+/// are two causes of one text, and those of a pass are of one pass.
+pub fn verdicts_are_one()
+    ensures { (bytes : List ℕ) (e f : Fault) → e ≢ fault.OutOfMemory → f ≢ fault.OutOfMemory → VerifyCauses e bytes → VerifyCauses f bytes → AreOne e f }
+{
+    one_typing();
+    passed_or_faulty();
+    misread_bytes_are_no_certificate();
+    causes_are_one();
 }

@@ -9,5 +9,5 @@ mod verifying;
 
 pub use fault::VerifyFault;
 pub use fitting::shape;
-pub use laws::{verified_is_accepted, verified_or_refused};
+pub use laws::{verdicts_are_one, verified_is_accepted, verified_or_refused};
 pub use verifying::verify;

@@ -3,7 +3,9 @@
 
 mod certifying;
 mod fault;
+mod laws;
 mod making;
 
 pub use certifying::certify;
 pub use fault::CertifyFault;
+pub use laws::certificates_are_one;

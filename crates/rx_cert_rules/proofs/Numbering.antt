@@ -72,7 +72,7 @@ mutual
 
 -- ---- lists of types
 
-abbrev Below : ℕ → List RegionTyp → Type 0
+abbrev pub Below : ℕ → List RegionTyp → Type 0
 Below bound [] = Unit {0}
 Below bound (t ∷ ts) = ((n : ℕ) → IsIn (lifetimes_in t) n → n < bound) × Below bound ts
 
@@ -132,6 +132,20 @@ from_both own [] [] f = tt
 from_both own [] (h ∷ H) f = (omega arith, from_both own [] H tt)
 from_both own (t ∷ V) H f = (f.0, from_both own V H f.1)
 
+-- all types of a function have lifetimes that are counted
+pub types_below : (D : List Decl) (f : ℕ) (b : Function) (raws : List (Option Ty)) (ws : List Written)
+    → Below (lifetimes (function_of D f b raws ws)).regions (lifetimes (function_of D f b raws ws)).types
+types_below D f b raws ws = more_below (own + all_open vs) (lifetimes F).regions (lifetimes F).types (omega arith)
+    (all_below own own vs (omega arith) (from_both own F.variables (temporaries F) (from_types own b.params (parameters (slice_get D f)) ws 0 raws))) where
+      F : Lowered
+      F = function_of D f b raws ws
+
+      own : ℕ
+      own = lifetimes_of (slice_get D f)
+
+      vs : List Open
+      vs = F.variables ++ opened (temporaries F)
+
 pub are_numbered : (D : List Decl) (P : ℕ → List Bound) (f : ℕ) (b : Function) (raws : List (Option Ty)) (ws : List Written)
     → Numbered (record { items = D; implied = P; lifetimes = lifetimes (function_of D f b raws ws) })
 are_numbered D P f b raws ws = record {
@@ -141,15 +155,8 @@ are_numbered D P f b raws ws = record {
   F : Lowered
   F = function_of D f b raws ws
 
-  own : ℕ
-  own = lifetimes_of (slice_get D f)
-
-  vs : List Open
-  vs = F.variables ++ opened (temporaries F)
-
   all : Below (lifetimes F).regions (lifetimes F).types
-  all = more_below (own + all_open vs) (lifetimes F).regions (lifetimes F).types (omega arith)
-      (all_below own own vs (omega arith) (from_both own F.variables (temporaries F) (from_types own b.params (parameters (slice_get D f)) ws 0 raws)))
+  all = types_below D f b raws ws
 
   of_root : (r : Root) (n : ℕ) → IsIn (lifetimes_in (root_type (lifetimes F) r)) n → n < (lifetimes F).regions
   of_root (variable x) n i = below_at (lifetimes F).regions x (take (variables_of (lifetimes F)) (lifetimes F).types)

@@ -6,6 +6,7 @@ ghost use Rattle.rx_tree.specs.PlainOf.{plain-Program};
 ghost use Rattle.rx_tree.specs.Size.{IsNumbered};
 ghost use Rattle.rx_resolve_names.specs.Causes.{Meant};
 ghost use Rattle.rx_typed.specs.PlainTypes.{declarations};
+ghost use Rattle.rx_cover.specs.Inhabited.{Inhabited};
 ghost use Rattle.rx_facts.specs.Functions.{IsTypedProgram};
 ghost use Rattle.rx_facts.specs.Answers.{AreGraphs, AreFacts};
 ghost use Rattle.rx_check.specs.Answers.{AreRegions};
@@ -21,14 +22,33 @@ use crate::laws::passed_or_faulty;
 use crate::main_item::main_of;
 use crate::{FunctionLoans, FunctionRegions, all_loans, all_regions};
 use rx_core::{LetGo, List, keep};
-use rx_cover::{CoverFault, covers as covers_function};
+use rx_cover::{CoverFault, covers as covers_function, inhabited};
 use rx_facts::{Lowered, ProgramFacts, facts, lower_all};
 use rx_resolve::resolve;
 use rx_resolve_names::Resolved;
 use rx_tree::Program;
 use rx_typeck::typecheck;
 use rx_typeck_typed::{Typed, typed_declarations_are_finite};
-use std::alloc::Global;
+use std::alloc::{AllocError, Global};
+
+/// Whether the functions of a typed program are covered, in order, by which structs and enums have values.
+fn covers_each(alloc: Global, typed: &Typed, inhabited: &[bool]) -> Result<(), CoverFault>
+    requires typed { IsTypedProgram typed.now }
+    requires inhabited { Inhabited (declarations typed.now.decls.items) inhabited.now }
+    ensures { FunctionsAnswer (declarations typed.now.decls.items) typed.now.functions result }
+{
+    typed_declarations_are_finite();
+    for function in typed.functions.as_slice() {
+        covers_function(
+            alloc,
+            &typed.decls,
+            inhabited,
+            function.spans.as_slice(),
+            &function.tree,
+        )?;
+    }
+    Ok(())
+}
 
 /// Whether every `match` and `let` of a typed program is covered, and no product of one passes 65,536, functions in order.
 ///
@@ -40,15 +60,10 @@ pub fn covers(alloc: Global, typed: &Typed) -> Result<(), CoverFault>
     ensures { FunctionsAnswer (declarations typed.now.decls.items) typed.now.functions result }
 {
     typed_declarations_are_finite();
-    for function in typed.functions.as_slice() {
-        covers_function(
-            alloc,
-            &typed.decls,
-            function.spans.as_slice(),
-            &function.tree,
-        )?;
+    match inhabited(alloc, &typed.decls) {
+        Ok(inhabited) => covers_each(alloc, typed, inhabited.as_slice()),
+        Err(AllocError) => Err(CoverFault::OutOfMemory),
     }
-    Ok(())
 }
 
 /// What the passes behind types find.

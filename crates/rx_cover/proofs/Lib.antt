@@ -1,7 +1,9 @@
+pub mod NodeLemmas
 pub mod HeadLemmas
 pub mod MatrixLemmas
 pub mod WeightLemmas
 pub mod FiniteLemmas
+pub mod InhabitedLemmas
 pub mod SetLemmas
 pub mod RangeLemmas
 pub mod CellLemmas

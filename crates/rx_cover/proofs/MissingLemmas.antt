@@ -16,17 +16,15 @@ use Rattle.rx_cover.specs.Matrices.{rows_weight, gather, with_head_in, row_head,
 use Rattle.rx_cover.proofs.HeadLemmas.{both_true, same_head_is, same_head_refl}
 use Rattle.rx_cover.proofs.WeightLemmas.{under_less}
 use Rattle.rx_cover.specs.Values as plain
-use Rattle.rx_cover.specs.Values.{Values, no_value, value_and, HasType, HaveTypes}
-use Rattle.rx_cover.specs.Heads.{Head, head_of, parts_of, has, same_head, IsHead, types_under, with_head, pointed_value}
+use Rattle.rx_cover.specs.Values.{Values, no_value, value_and, HaveTypes}
+use Rattle.rx_cover.specs.Heads.{Head, has, same_head, IsHead, types_under, with_head, pointed_value}
 use Rattle.rx_cover.specs.Matrices.{Row, CoversAll, Misses, MissesHead, CoversRange, MissesRange, CoversHeads, Distinct, rows_within, AreHeads, kept_types, kept_values, rows_under, rows_beside, mark_rows}
 use Rattle.rx_cover.specs.declared.value.Value.{Value}
-use Rattle.rx_cover.specs.PlainValue.{plain-Value, plain_values, value_int, value_bool, value_tuple, value_made, value_variant, value_reference}
+use Rattle.rx_cover.specs.PlainValue.{plain-Value, plain_values}
 use Rattle.rx_cover.specs.Finding.{stacked, stacked_onto, Adds, Refilled, Refills, Stacked, Takes, takes, takes_none, Finished, at_end, Rebuilds, Settles, SettlesHead, SettlesRange, SettlesHeads, Apart, Besides, AllHeads, HeadsOf}
 use Rattle.rx_cover.proofs.CellLemmas.{at_next}
 use Rattle.rx_cover.proofs.RangeLemmas.{all_covered, within_covered, within_missed, one_covered, one_missed, both_covered, missed_part}
 use Rattle.rx_cover.proofs.MatrixLemmas.{MaskOf, neither, head_covered, head_empty, missed_at_head, none_apart, missed_apart, others_covered, all_marked, length_rows, covered_at_end}
-
-pub ruleset value_rules = (value_int, value_bool, value_tuple, value_made, value_variant, value_reference)
 
 onto_push : (ws : Values) (l : List Value) (v : Value) → stacked_onto ws (l ++ v ∷ []) ≡ value_and (plain-Value v) (stacked_onto ws l)
 onto_push ws [] v = refl

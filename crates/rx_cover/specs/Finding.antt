@@ -1,17 +1,19 @@
 -- What the private functions find.
-use Rattle.std.specs.Prelude.{◌≡◌, ℕ, ◌<◌, ◌≤◌, Bool, true, false, List, [], ◌∷◌, ◌++◌, length, Option, Some, None, Result, Ok, slice_get}
-use Rattle.std.specs.declared.alloc.AllocError.{AllocError}
-use Rattle.rx_typed.specs.Types.{Typ, Declared, Declarations, FieldDeclared, VariantDeclared, struct_declared, enum_declared, variants_declared}
+use Rattle.std.specs.Prelude.{◌≡◌, ℕ, suc, pos, negsuc, ◌<◌, ◌≤◌, Bool, true, false, List, [], ◌∷◌, ◌++◌, length, Option, Some, None, slice_get}
+use Rattle.rx_typed.specs.Types.{Typ, named, Declared, Declarations, FieldDeclared, VariantDeclared, struct_declared, enum_declared, variants_declared}
 use Rattle.rx_typed.specs.Elaborated.{with_sign}
 use Rattle.rx_cover.specs.Values as plain
 use Rattle.rx_cover.specs.Values.{Values, no_value, value_and, HasType, HaveTypes}
 use Rattle.rx_typed.specs.Tree.{Pattern}
 use Rattle.rx_cover.specs.Matching.{SomeMatches, Covers}
 use Rattle.rx_cover.specs.Causes.{CoversTyp, MissesTyp}
-use Rattle.rx_cover.specs.Heads.{Head, whole, chosen, head_of, has, IsHead, with_head}
+use Rattle.rx_cover.specs.Heads.{Head, whole, truth, composed, chosen, pointed, head_of, has, IsHead, types_under, with_head}
 use Rattle.rx_cover.specs.Matrices.{Row, CoversAll, Misses, CoversHead, MissesHead, CoversRange, MissesRange, CoversHeads, Distinct, kept_values}
 use Rattle.rx_cover.specs.declared.value.Value.{Value}
-use Rattle.rx_cover.specs.PlainValue.{plain-Value, plain_values}
+use Rattle.rx_cover.specs.declared.node.Node.{Node}
+use Rattle.rx_cover.specs.declared.matrix.Column.{Column}
+use Rattle.rx_cover.specs.PlainCells.{plain-Column}
+use Rattle.rx_cover.specs.PlainValue.{plain-Value, plain_values, nodes_of}
 
 -- the variants of each enum have numbers of 32 bits
 pub record Numbered (D : Declarations) : Type 0 where
@@ -22,15 +24,69 @@ abbrev pub Apart : Declarations → Typ → List Head → Option plain.Value →
 Apart D t hs None = (v : plain.Value) → HasType D t v → has hs (head_of v) ≡ true
 Apart D t hs (Some v) = HasType D t v × (has hs (head_of v) ≡ false)
 
--- the same among the values of a variant
-abbrev pub ApartVariant : Declarations → ℕ → ℕ → List Typ → List Head → Option plain.Value → Type 0
-ApartVariant D i k ts hs None = (vs : Values) → HaveTypes D ts vs → has hs (chosen i k) ≡ true
-ApartVariant D i k ts hs (Some v) = (vs : Values) × HaveTypes D ts vs × (v ≡ plain.variant i k vs) × (has hs (chosen i k) ≡ false)
+-- a head of the type that is none of these; where a value has another, one has this
+pub record HeadFound (D : Declarations) (t : Typ) (hs : List Head) (h : Head) : Type 0 where
+  pub fits : IsHead D t h
+  pub apart : has hs h ≡ false
+  pub begins : (v : plain.Value) → HasType D t v → has hs (head_of v) ≡ false → (vs : Values) × HaveTypes D (types_under D t h) vs
 
--- the list, where a step found all
-abbrev pub KeptIf : List Value → Result Bool AllocError → Option (List Value) → Type 0
-KeptIf values o None = o ≡ Ok false
-KeptIf values o (Some vs) = (o ≡ Ok true) × (vs ≡ values)
+abbrev pub HeadApart : Declarations → Typ → List Head → Option Head → Type 0
+HeadApart D t hs None = (v : plain.Value) → HasType D t v → has hs (head_of v) ≡ true
+HeadApart D t hs (Some h) = HeadFound D t hs h
+
+-- a type has this head alone
+abbrev pub Sole : Declarations → Typ → Head → Type 0
+Sole D t g = IsHead D t g × ((h : Head) → IsHead D t h → g ≡ h)
+
+-- the magnitude of an integer has 64 bits
+abbrev pub Bounded : Head → Type 0
+Bounded (whole (negsuc n)) = suc n < 18446744073709551616
+Bounded _ = Unit {0}
+
+-- a variant that is none of these has values
+abbrev pub VariantFree : Declarations → ℕ → ℕ → List Typ → List Head → Bool → Type 0
+VariantFree D i k ts hs true = (has hs (chosen i k) ≡ false) × ((vs : Values) × HaveTypes D ts vs)
+VariantFree D i k ts hs false = (vs : Values) → HaveTypes D ts vs → has hs (chosen i k) ≡ true
+
+-- a value of the type with this head, where there is one
+abbrev pub Headed : Declarations → Typ → Head → Option plain.Value → Type 0
+Headed D t h None = (vs : Values) → HaveTypes D (types_under D t h) vs → ⊥
+Headed D t h (Some v) = HasType D t v × (head_of v ≡ h)
+
+-- ---- values that are written, node by node
+
+-- the node of a value with this head, and how many parts it has
+abbrev pub node_of : Typ → Head → ℕ → Node
+node_of t (whole (pos n)) k = Node.Int false n
+node_of t (whole (negsuc n)) k = Node.Int true (suc n)
+node_of t (truth b) k = Node.Bool b
+node_of (named i) composed k = Node.Made i k
+node_of t composed k = Node.Tuple k
+node_of t (chosen i j) k = Node.Variant i j k
+node_of t pointed k = Node.Reference
+
+-- the types of columns from a list's end
+abbrev pub awaited_onto : List Typ → List Column → List Typ
+awaited_onto ts [] = ts
+awaited_onto ts (c ∷ cs) = awaited_onto (plain-Column c ∷ ts) cs
+
+abbrev pub awaited : List Column → List Typ
+awaited cs = awaited_onto [] cs
+
+-- a node is written, and its parts are awaited
+pub record Begun (D : Declarations) (t : Typ) (h : Head) (pending awaiting : List Column) (old new : List Node) : Type 0 where
+  pub awaits : awaited awaiting ≡ types_under D t h ++ awaited pending
+  pub written : new ≡ old ++ node_of t h (length (types_under D t h)) ∷ []
+
+-- a value of the type is begun, or there is none
+abbrev pub Begins : Declarations → Typ → List Column → List Column → List Node → List Node → Bool → Type 0
+Begins D t pending awaiting old new true = (h : Head) × HeadFound D t [] h × Begun D t h pending awaiting old new
+Begins D t pending awaiting old new false = HeadApart D t [] None
+
+-- values of these types are written, or there are none
+abbrev pub Writes : Declarations → List Typ → List Node → List Node → Bool → Type 0
+Writes D ts old new true = (vs : Values) × HaveTypes D ts vs × (new ≡ old ++ nodes_of vs)
+Writes D ts old new false = (vs : Values) → HaveTypes D ts vs → ⊥
 
 -- what stands at an item's number
 pub data IsStruct : Option Declared → List FieldDeclared → Type 0 where
@@ -43,11 +99,6 @@ pub data IsEnum : Option Declared → List VariantDeclared → Type 0 where
 abbrev pub Free : List Head → Bool → ℕ → Option ℕ → Type 0
 Free hs g most None = (m : ℕ) → m ≤ most → has hs (whole (with_sign g m)) ≡ true
 Free hs g most (Some m) = (m ≤ most) × (has hs (whole (with_sign g m)) ≡ false)
-
--- values of these types
-abbrev pub AnyOf : Declarations → List Typ → Option Values → Type 0
-AnyOf D ts None = (vs : Values) → HaveTypes D ts vs → ⊥
-AnyOf D ts (Some vs) = HaveTypes D ts vs
 
 -- a list has values of these types more, or there are none
 pub record Added (D : Declarations) (ts : List Typ) (old new : List Value) : Type 0 where

@@ -8,6 +8,7 @@ pub mod Width
 pub mod Causes
 pub mod PlainValue
 pub mod PlainCells
+pub mod Inhabited
 pub mod Finding
 pub mod PlainChoices
 pub mod PlainTested

@@ -5,6 +5,7 @@ ghost use Rattle.rx_typed.specs.PlainTypes.{plain-Ty, declarations};
 ghost use Rattle.rx_typed.specs.PlainTree.{plain-Pattern, plain-Arm, arms_of};
 ghost use Rattle.rx_cover.specs.Choices.{patterns_of};
 ghost use Rattle.rx_cover.specs.Finite.{Finite};
+ghost use Rattle.rx_cover.specs.Inhabited.{Inhabited};
 ghost use Rattle.rx_cover.specs.Finding as spec;
 ghost use Rattle.rx_cover.specs.Matrices.{single_rows};
 ghost use Rattle.rx_cover.specs.PlainCells.{plain-Row};
@@ -78,17 +79,19 @@ fn last_of(stack: List<Value>) -> Option<Value>
 pub(crate) fn missed<'a>(
     alloc: Global,
     decls: &'a Decls,
+    inhabited: &[bool],
     ty: &'a Ty,
     arms: Arms<'a>,
 ) -> Result<Option<Value>, AllocError>
     requires finite { Finite (declarations decls.now.items) }
     requires numbered { spec.Numbered (declarations decls.now.items) }
+    requires inhabited { Inhabited (declarations decls.now.items) inhabited.now }
     ensures { IfOk result (λ o. spec.Missed (declarations decls.now.items) (plain-Ty ty.now) (plain-Arms arms.entry)
         (option_map plain-Value o)) }
 {
     let rows = rows_of(alloc, arms)?;
     let columns = one_column(alloc, ty)?;
-    match missing(alloc, decls, columns.as_slice(), rows.as_slice())? {
+    match missing(alloc, decls, inhabited, columns.as_slice(), rows.as_slice())? {
         Some(stack) => Ok(last_of(stack)),
         None => Ok(None),
     }

@@ -7,6 +7,7 @@ ghost use Rattle.rx_typed.specs.PlainTypes.{declarations};
 ghost use Rattle.rx_typed.specs.PlainTree.{plain-Expr};
 ghost use Rattle.rx_cover.specs.Choices.{Choice as PlainChoice, choices_of};
 ghost use Rattle.rx_cover.specs.Finding as finding;
+ghost use Rattle.rx_cover.specs.Inhabited.{Inhabited};
 ghost use Rattle.rx_cover.specs.Judging as spec;
 ghost use Rattle.rx_typed.specs.Types.{Declarations};
 ghost use Rattle.std.specs.Prelude.{List, Some};
@@ -48,18 +49,21 @@ fn fault_at(spans: &[Span], node: usize, problem: Problem) -> CoverFault
 }
 
 /// Whether every `match` and `let` of a function is covered, and no product of one passes 65,536; else what is wrong
-/// with the first, in the order of the text, that is not so. The spans are those of the function's nodes.
+/// with the first, in the order of the text, that is not so. The spans are those of the function's nodes; `inhabited` says
+/// of each struct and enum whether it has values.
 pub fn covers(
     alloc: Global,
     decls: &Decls,
+    inhabited: &[bool],
     spans: &[Span],
     tree: &TypedTree,
 ) -> Result<(), CoverFault>
     requires finite { NoCycle (held (declarations decls.now.items)) }
     requires numbered { finding.Numbered (declarations decls.now.items) }
+    requires inhabited { Inhabited (declarations decls.now.items) inhabited.now }
     ensures { spec.Answers (declarations decls.now.items) spans.now (choices_of (plain-Expr tree.now.body)) result }
 {
-    match first_problem(alloc, decls, tree) {
+    match first_problem(alloc, decls, inhabited, tree) {
         Ok(Some((node, problem))) => Err(fault_at(spans, node, problem)),
         Ok(None) => Ok(()),
         Err(AllocError) => Err(CoverFault::OutOfMemory),

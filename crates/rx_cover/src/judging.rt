@@ -8,6 +8,7 @@ ghost use Rattle.rx_typed.specs.PlainTree.{plain-Expr};
 ghost use Rattle.rx_cover.specs.Choices.{choices_of};
 ghost use Rattle.rx_cover.specs.Finding as finding;
 ghost use Rattle.rx_cover.specs.Finite.{Finite};
+ghost use Rattle.rx_cover.specs.Inhabited.{Inhabited};
 ghost use Rattle.rx_cover.specs.PlainChoices.{plain-Arms, plain-Choice, plain-Type};
 ghost use Rattle.rx_cover.specs.PlainValue.{plain-Value};
 ghost use Rattle.rx_cover.specs.Judging as spec;
@@ -31,15 +32,17 @@ pub(crate) enum Problem {
 fn missed_by<'a>(
     alloc: Global,
     decls: &'a Decls,
+    inhabited: &[bool],
     choice: Choice<'a>,
 ) -> Result<Option<Value>, AllocError>
     requires finite { Finite (declarations decls.now.items) }
     requires numbered { finding.Numbered (declarations decls.now.items) }
+    requires inhabited { Inhabited (declarations decls.now.items) inhabited.now }
     ensures { IfOk result (λ o. finding.MissedTyp (declarations decls.now.items) (plain-Type choice.entry.ty)
         (plain-Arms choice.entry.arms) (option_map plain-Value o)) }
 {
     match choice.ty {
-        Some(ty) => missed(alloc, decls, ty, choice.arms),
+        Some(ty) => missed(alloc, decls, inhabited, ty, choice.arms),
         None => Ok(None),
     }
 }
@@ -47,17 +50,19 @@ fn missed_by<'a>(
 fn judge<'a>(
     alloc: Global,
     decls: &'a Decls,
+    inhabited: &[bool],
     choice: Choice<'a>,
 ) -> Result<Option<Problem>, AllocError>
     requires finite { Finite (declarations decls.now.items) }
     requires numbered { finding.Numbered (declarations decls.now.items) }
+    requires inhabited { Inhabited (declarations decls.now.items) inhabited.now }
     ensures { IfOk result (λ o. spec.Judged (declarations decls.now.items) (plain-Choice choice.entry) o) }
 {
     let count = width(alloc, choice.arms)?;
     if count > 65536 {
         return Ok(Some(Problem::Wide(count)));
     }
-    match missed_by(alloc, decls, choice)? {
+    match missed_by(alloc, decls, inhabited, choice)? {
         Some(value) => Ok(Some(Problem::Missing(value))),
         None => Ok(None),
     }
@@ -66,14 +71,16 @@ fn judge<'a>(
 fn first_judged<'a>(
     alloc: Global,
     decls: &'a Decls,
+    inhabited: &[bool],
     choices: &[Choice<'a>],
 ) -> Result<Option<(usize, Problem)>, AllocError>
     requires finite { Finite (declarations decls.now.items) }
     requires numbered { finding.Numbered (declarations decls.now.items) }
+    requires inhabited { Inhabited (declarations decls.now.items) inhabited.now }
     ensures { IfOk result (λ o. spec.Told (declarations decls.now.items) (map plain-Choice choices.now) o) }
 {
     for i in 0..choices.len() {
-        match judge(alloc, decls, choices[i])? {
+        match judge(alloc, decls, inhabited, choices[i])? {
             Some(problem) => return Ok(Some((choices[i].node, problem))),
             None => (),
         }
@@ -87,12 +94,14 @@ fn first_judged<'a>(
 pub(crate) fn first_problem(
     alloc: Global,
     decls: &Decls,
+    inhabited: &[bool],
     tree: &TypedTree,
 ) -> Result<Option<(usize, Problem)>, AllocError>
     requires finite { NoCycle (held (declarations decls.now.items)) }
     requires numbered { finding.Numbered (declarations decls.now.items) }
+    requires inhabited { Inhabited (declarations decls.now.items) inhabited.now }
     ensures { IfOk result (λ o. spec.Told (declarations decls.now.items) (choices_of (plain-Expr tree.now.body)) o) }
 {
     let choices = choices_in(alloc, &tree.body)?;
-    first_judged(alloc, decls, choices.as_slice())
+    first_judged(alloc, decls, inhabited, choices.as_slice())
 }

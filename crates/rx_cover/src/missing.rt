@@ -4,6 +4,7 @@ ghost use Rattle.std.specs.Prelude.{◌≡◌, ◌<◌, ◌≤◌, negsuc, [], �
 ghost use Rattle.rx_typed.specs.PlainTypes.{plain-Ty, declarations};
 ghost use Rattle.rx_typed.specs.Types.{Typ, Declarations};
 ghost use Rattle.rx_cover.specs.Finite.{Finite};
+ghost use Rattle.rx_cover.specs.Inhabited.{Inhabited};
 ghost use Rattle.rx_cover.specs.Heads as heads_spec;
 ghost use Rattle.rx_cover.specs.Matrices as matrices;
 ghost use Rattle.rx_cover.specs.PlainCells.{plain-Head, plain-Cell, plain-Row, plain-Cells, plain-Column};
@@ -15,26 +16,24 @@ use crate::heads::{Cell, Head};
 use crate::least::{add_value, apart};
 use crate::matrix::{Column, Row, heads_among, mask_of, some_open};
 use crate::rows::{all_rows, kept_columns, rows_beside, rows_under, rows_within, types_under};
-use crate::value::Value;
+use crate::value::{Value, integer, made, reference, truth, tuple, variant};
 use indexmap::IndexSet;
-use rx_core::{Boxed, LetGo, List, Ty, keep, pushed};
+use rx_core::{LetGo, List, Ty, keep, pushed};
 use rx_typed::Decls;
 use std::alloc::{AllocError, Global};
 
-#[tactic(auto, using(rx_typed::proofs::TypedRules::typ_rules, crate::proofs::MissingLemmas::value_rules))]
-fn composed(ty: &Ty, parts: List<Value>) -> Value
-    ensures { plain-Value result ≡ heads_spec.with_head (plain-Ty ty.now) heads_spec.composed (plain_values parts) }
+#[tactic(auto, using(rx_typed::proofs::TypedRules::typ_rules))]
+fn composed(alloc: Global, ty: &Ty, parts: List<Value>) -> Result<Value, AllocError>
+    ensures { IfOk result (λ v. plain-Value v
+        ≡ heads_spec.with_head (plain-Ty ty.now) heads_spec.composed (plain_values parts)) }
 {
     match ty {
-        Ty::Adt(item, _) => Value::Made {
-            adt: *item,
-            fields: parts,
-        },
-        Ty::Int(_) => Value::Tuple(parts),
-        Ty::Bool => Value::Tuple(parts),
-        Ty::Tuple(_) => Value::Tuple(parts),
-        Ty::Shared(_, _) => Value::Tuple(parts),
-        Ty::Mut(_, _) => Value::Tuple(parts),
+        Ty::Adt(item, _) => made(alloc, *item, parts),
+        Ty::Int(_) => tuple(alloc, parts),
+        Ty::Bool => tuple(alloc, parts),
+        Ty::Tuple(_) => tuple(alloc, parts),
+        Ty::Shared(_, _) => tuple(alloc, parts),
+        Ty::Mut(_, _) => tuple(alloc, parts),
     }
 }
 
@@ -45,27 +44,23 @@ fn pointing(alloc: Global, parts: List<Value>) -> Result<Value, AllocError>
     match parts.pop() {
         Some(value) => {
             parts.let_go();
-            Ok(Value::Reference(Boxed::new(alloc, value)?))
+            reference(alloc, value)
         }
-        None => Ok(Value::Tuple(parts)),
+        None => tuple(alloc, parts),
     }
 }
 
 /// The integer below 0 at this distance from -1. No kind of integers goes so far that its magnitude has no 64 bits.
-fn below_zero(distance: u64) -> Result<Value, AllocError>
+fn below_zero(alloc: Global, distance: u64) -> Result<Value, AllocError>
     ensures { IfOk result (λ v. plain-Value v ≡ plain.number (negsuc distance)) }
 {
     match distance.checked_add(1) {
-        Some(magnitude) => Ok(Value::Int {
-            negative: true,
-            magnitude,
-        }),
+        Some(magnitude) => integer(alloc, true, magnitude),
         None => Err(AllocError),
     }
 }
 
 /// The value of a type with this head and these parts.
-#[tactic(auto, using(crate::proofs::MissingLemmas::value_rules))]
 fn with_head(alloc: Global, ty: &Ty, head: Head, parts: List<Value>) -> Result<Value, AllocError>
     ensures { IfOk result (λ v. plain-Value v
         ≡ heads_spec.with_head (plain-Ty ty.now) (plain-Head head) (plain_values parts)) }
@@ -73,25 +68,18 @@ fn with_head(alloc: Global, ty: &Ty, head: Head, parts: List<Value>) -> Result<V
     match head {
         Head::Natural(magnitude) => {
             parts.let_go();
-            Ok(Value::Int {
-                negative: false,
-                magnitude,
-            })
+            integer(alloc, false, magnitude)
         }
         Head::Negative(distance) => {
             parts.let_go();
-            below_zero(distance)
+            below_zero(alloc, distance)
         }
         Head::Truth(value) => {
             parts.let_go();
-            Ok(Value::Bool(value))
+            truth(alloc, value)
         }
-        Head::Composed => Ok(composed(ty, parts)),
-        Head::Chosen(item, variant) => Ok(Value::Variant {
-            adt: item,
-            variant,
-            parts,
-        }),
+        Head::Composed => composed(alloc, ty, parts),
+        Head::Chosen(item, chosen) => variant(alloc, item, chosen, parts),
         Head::Pointed => pointing(alloc, parts),
     }
 }
@@ -113,6 +101,7 @@ fn take(stack: &mut List<Value>, parts: &mut List<Value>) -> Result<bool, AllocE
 fn refill_one(
     alloc: Global,
     decls: &Decls,
+    inhabited: &[bool],
     column: Column<'_>,
     marked: bool,
     stack: &mut List<Value>,
@@ -120,6 +109,7 @@ fn refill_one(
 ) -> Result<bool, AllocError>
     requires finite { Finite (declarations decls.now.items) }
     requires numbered { spec.Numbered (declarations decls.now.items) }
+    requires inhabited { Inhabited (declarations decls.now.items) inhabited.now }
     ensures { IfOk result (λ b. (ts : List Typ) → spec.Stacked (declarations decls.now.items)
         (matrices.kept_types (marked ∷ []) (plain-Column column.entry ∷ []) ts) stack.old
         → spec.Refills (declarations decls.now.items) (marked ∷ []) (plain-Column column.entry ∷ []) ts
@@ -128,7 +118,7 @@ fn refill_one(
     if marked {
         take(stack, parts)
     } else {
-        add_value(alloc, decls, column.ty, parts)
+        add_value(alloc, decls, inhabited, column.ty, parts)
     }
 }
 
@@ -136,6 +126,7 @@ fn refill_one(
 fn refill(
     alloc: Global,
     decls: &Decls,
+    inhabited: &[bool],
     columns: &[Column<'_>],
     mask: &[bool],
     stack: &mut List<Value>,
@@ -143,6 +134,7 @@ fn refill(
 ) -> Result<bool, AllocError>
     requires finite { Finite (declarations decls.now.items) }
     requires numbered { spec.Numbered (declarations decls.now.items) }
+    requires inhabited { Inhabited (declarations decls.now.items) inhabited.now }
     requires long { length mask.now ≡ length columns.now }
     ensures { IfOk result (λ b. (ts : List Typ) → spec.Stacked (declarations decls.now.items)
         (matrices.kept_types mask.now (map plain-Column columns.now) ts) stack.old
@@ -150,7 +142,7 @@ fn refill(
         stack.old parts.old stack.new parts.new b) }
 {
     for i in 0..columns.len() {
-        if !refill_one(alloc, decls, columns[i], mask[i], stack, parts)? {
+        if !refill_one(alloc, decls, inhabited, columns[i], mask[i], stack, parts)? {
             return Ok(false);
         }
     }
@@ -176,6 +168,7 @@ fn finished(
 fn rebuilt(
     alloc: Global,
     decls: &Decls,
+    inhabited: &[bool],
     ty: &Ty,
     head: Head,
     columns: &[Column<'_>],
@@ -184,6 +177,7 @@ fn rebuilt(
 ) -> Result<Option<List<Value>>, AllocError>
     requires finite { Finite (declarations decls.now.items) }
     requires numbered { spec.Numbered (declarations decls.now.items) }
+    requires inhabited { Inhabited (declarations decls.now.items) inhabited.now }
     requires long { length mask.now ≡ length columns.now }
     ensures { IfOk result (λ o. (ts : List Typ) → spec.Stacked (declarations decls.now.items)
         (matrices.kept_types mask.now (map plain-Column columns.now) ts) stack
@@ -192,7 +186,9 @@ fn rebuilt(
 {
     let mut stack = stack;
     let mut parts = List::new(alloc);
-    match refill(alloc, decls, columns, mask, &mut stack, &mut parts) {
+    match refill(
+        alloc, decls, inhabited, columns, mask, &mut stack, &mut parts,
+    ) {
         Ok(true) => Ok(Some(finished(alloc, ty, head, parts, stack)?)),
         Ok(false) => {
             parts.let_go();
@@ -211,16 +207,18 @@ fn rebuilt(
 fn beside(
     alloc: Global,
     decls: &Decls,
+    inhabited: &[bool],
     ty: &Ty,
     heads: &IndexSet<Head>,
     stack: List<Value>,
 ) -> Result<Option<List<Value>>, AllocError>
     requires finite { Finite (declarations decls.now.items) }
     requires numbered { spec.Numbered (declarations decls.now.items) }
+    requires inhabited { Inhabited (declarations decls.now.items) inhabited.now }
     ensures { IfOk result (λ o. spec.Besides (declarations decls.now.items) (plain-Ty ty.now)
         (map plain-Head heads.now.keys) stack o) }
 {
-    let (value, stack) = keep(stack, apart(alloc, decls, ty, heads))?;
+    let (value, stack) = keep(stack, apart(alloc, decls, inhabited, ty, heads))?;
     match value {
         Some(value) => Ok(Some(pushed(stack, value)?)),
         None => {
@@ -235,11 +233,13 @@ fn beside(
 pub(crate) fn missing<'a>(
     alloc: Global,
     decls: &'a Decls,
+    inhabited: &[bool],
     columns: &[Column<'a>],
     rows: &[List<Cell<'a>>],
 ) -> Result<Option<List<Value>>, AllocError>
     requires finite { Finite (declarations decls.now.items) }
     requires numbered { spec.Numbered (declarations decls.now.items) }
+    requires inhabited { Inhabited (declarations decls.now.items) inhabited.now }
     ensures { IfOk result (λ o. spec.Settles (declarations decls.now.items) (map plain-Column columns.now)
         (map plain-Row rows.now) o) }
 {
@@ -247,7 +247,7 @@ pub(crate) fn missing<'a>(
         return Ok(None);
     }
     match columns.get(0) {
-        Some(column) => split(alloc, decls, column.ty, rest_of(columns), rows),
+        Some(column) => split(alloc, decls, inhabited, column.ty, rest_of(columns), rows),
         None => Ok(at_end(alloc, rows)),
     }
 }
@@ -277,19 +277,21 @@ fn rest_of<'s, 'a>(columns: &'s [Column<'a>]) -> &'s [Column<'a>]
 fn split<'a>(
     alloc: Global,
     decls: &'a Decls,
+    inhabited: &[bool],
     ty: &'a Ty,
     rest: &[Column<'a>],
     rows: &[List<Cell<'a>>],
 ) -> Result<Option<List<Value>>, AllocError>
     requires finite { Finite (declarations decls.now.items) }
     requires numbered { spec.Numbered (declarations decls.now.items) }
+    requires inhabited { Inhabited (declarations decls.now.items) inhabited.now }
     ensures { IfOk result (λ o. spec.Settles (declarations decls.now.items)
         (plain-Ty ty.now ∷ map plain-Column rest.now) (map plain-Row rows.now) o) }
 {
     let heads = heads_among(alloc, decls, ty, rows)?;
-    match by_heads(alloc, decls, ty, rest, rows, &heads)? {
+    match by_heads(alloc, decls, inhabited, ty, rest, rows, &heads)? {
         Some(stack) => Ok(Some(stack)),
-        None => by_others(alloc, decls, ty, rest, rows, &heads),
+        None => by_others(alloc, decls, inhabited, ty, rest, rows, &heads),
     }
 }
 
@@ -298,6 +300,7 @@ fn split<'a>(
 fn by_heads<'a>(
     alloc: Global,
     decls: &'a Decls,
+    inhabited: &[bool],
     ty: &'a Ty,
     rest: &[Column<'a>],
     rows: &[List<Cell<'a>>],
@@ -305,6 +308,7 @@ fn by_heads<'a>(
 ) -> Result<Option<List<Value>>, AllocError>
     requires finite { Finite (declarations decls.now.items) }
     requires numbered { spec.Numbered (declarations decls.now.items) }
+    requires inhabited { Inhabited (declarations decls.now.items) inhabited.now }
     requires fit { spec.HeadsOf (declarations decls.now.items) (plain-Ty ty.now) (map plain-Head heads.now.keys) }
     ensures { IfOk result (λ o. spec.SettlesHeads (declarations decls.now.items) (plain-Ty ty.now)
         (map plain-Column rest.now) (map plain-Head heads.now.keys) (map plain-Row rows.now) o) }
@@ -313,6 +317,7 @@ fn by_heads<'a>(
     in_range(
         alloc,
         decls,
+        inhabited,
         ty,
         rest,
         all.as_slice(),
@@ -327,6 +332,7 @@ fn by_heads<'a>(
 fn in_range<'a>(
     alloc: Global,
     decls: &'a Decls,
+    inhabited: &[bool],
     ty: &'a Ty,
     rest: &[Column<'a>],
     rows: &[Row<'_, 'a>],
@@ -336,13 +342,24 @@ fn in_range<'a>(
 ) -> Result<Option<List<Value>>, AllocError>
     requires finite { Finite (declarations decls.now.items) }
     requires numbered { spec.Numbered (declarations decls.now.items) }
+    requires inhabited { Inhabited (declarations decls.now.items) inhabited.now }
     requires fit { spec.HeadsOf (declarations decls.now.items) (plain-Ty ty.now) (map plain-Head heads.now.keys) }
     requires ends { high ≤ length heads.now.keys }
     ensures { IfOk result (λ o. spec.SettlesRange (declarations decls.now.items) (plain-Ty ty.now)
         (map plain-Column rest.now) (map plain-Head heads.now.keys) low high (map plain-Cells rows.now) o) }
 {
     let within = rows_within(alloc, heads, low, high, rows)?;
-    by_range(alloc, decls, ty, rest, within.as_slice(), heads, low, high)
+    by_range(
+        alloc,
+        decls,
+        inhabited,
+        ty,
+        rest,
+        within.as_slice(),
+        heads,
+        low,
+        high,
+    )
 }
 
 /// The values whose first has one of the heads from one place to before another. Halving the heads keeps the rows that
@@ -351,6 +368,7 @@ fn in_range<'a>(
 fn by_range<'a>(
     alloc: Global,
     decls: &'a Decls,
+    inhabited: &[bool],
     ty: &'a Ty,
     rest: &[Column<'a>],
     rows: &[Row<'_, 'a>],
@@ -360,6 +378,7 @@ fn by_range<'a>(
 ) -> Result<Option<List<Value>>, AllocError>
     requires finite { Finite (declarations decls.now.items) }
     requires numbered { spec.Numbered (declarations decls.now.items) }
+    requires inhabited { Inhabited (declarations decls.now.items) inhabited.now }
     requires fit { spec.HeadsOf (declarations decls.now.items) (plain-Ty ty.now) (map plain-Head heads.now.keys) }
     requires ends { high ≤ length heads.now.keys }
     ensures { IfOk result (λ o. spec.SettlesRange (declarations decls.now.items) (plain-Ty ty.now)
@@ -369,12 +388,20 @@ fn by_range<'a>(
         return Ok(None);
     }
     if high - low == 1 {
-        return at_head(alloc, decls, ty, rest, rows, heads.as_slice()[low]);
+        return at_head(
+            alloc,
+            decls,
+            inhabited,
+            ty,
+            rest,
+            rows,
+            heads.as_slice()[low],
+        );
     }
     let middle = low + (high - low) / 2;
-    match in_range(alloc, decls, ty, rest, rows, heads, low, middle)? {
+    match in_range(alloc, decls, inhabited, ty, rest, rows, heads, low, middle)? {
         Some(stack) => Ok(Some(stack)),
-        None => in_range(alloc, decls, ty, rest, rows, heads, middle, high),
+        None => in_range(alloc, decls, inhabited, ty, rest, rows, heads, middle, high),
     }
 }
 
@@ -383,6 +410,7 @@ fn by_range<'a>(
 fn at_head<'a>(
     alloc: Global,
     decls: &'a Decls,
+    inhabited: &[bool],
     ty: &'a Ty,
     rest: &[Column<'a>],
     rows: &[Row<'_, 'a>],
@@ -390,6 +418,7 @@ fn at_head<'a>(
 ) -> Result<Option<List<Value>>, AllocError>
     requires finite { Finite (declarations decls.now.items) }
     requires numbered { spec.Numbered (declarations decls.now.items) }
+    requires inhabited { Inhabited (declarations decls.now.items) inhabited.now }
     requires fits { heads_spec.IsHead (declarations decls.now.items) (plain-Ty ty.now) (plain-Head head) }
     ensures { IfOk result (λ o. spec.SettlesHead (declarations decls.now.items) (plain-Ty ty.now)
         (map plain-Column rest.now) (plain-Head head) (map plain-Cells rows.now) o) }
@@ -400,8 +429,8 @@ fn at_head<'a>(
     let marks = mask.as_slice();
     let kept = kept_columns(alloc, marks, types, rest)?;
     let under = rows_under(alloc, head, marks, rows)?;
-    match missing(alloc, decls, kept.as_slice(), under.as_slice())? {
-        Some(stack) => rebuilt(alloc, decls, ty, head, types, marks, stack),
+    match missing(alloc, decls, inhabited, kept.as_slice(), under.as_slice())? {
+        Some(stack) => rebuilt(alloc, decls, inhabited, ty, head, types, marks, stack),
         None => Ok(None),
     }
 }
@@ -411,6 +440,7 @@ fn at_head<'a>(
 fn by_others<'a>(
     alloc: Global,
     decls: &'a Decls,
+    inhabited: &[bool],
     ty: &'a Ty,
     rest: &[Column<'a>],
     rows: &[List<Cell<'a>>],
@@ -418,6 +448,7 @@ fn by_others<'a>(
 ) -> Result<Option<List<Value>>, AllocError>
     requires finite { Finite (declarations decls.now.items) }
     requires numbered { spec.Numbered (declarations decls.now.items) }
+    requires inhabited { Inhabited (declarations decls.now.items) inhabited.now }
     requires all { matrices.AreHeads (declarations decls.now.items) (plain-Ty ty.now) (map plain-Row rows.now)
         (map plain-Head heads.now.keys) }
     requires covered { matrices.CoversHeads (declarations decls.now.items) (plain-Ty ty.now) (map plain-Column rest.now)
@@ -426,8 +457,8 @@ fn by_others<'a>(
         (plain-Ty ty.now ∷ map plain-Column rest.now) (map plain-Row rows.now) o) }
 {
     let others = rows_beside(alloc, rows)?;
-    match missing(alloc, decls, rest, others.as_slice())? {
-        Some(stack) => beside(alloc, decls, ty, heads, stack),
+    match missing(alloc, decls, inhabited, rest, others.as_slice())? {
+        Some(stack) => beside(alloc, decls, inhabited, ty, heads, stack),
         None => Ok(None),
     }
 }

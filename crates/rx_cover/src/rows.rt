@@ -253,7 +253,7 @@ fn item_columns<'a>(
 }
 
 /// The types of the parts of a value with this head.
-#[tactic(auto, using(rx_typed::proofs::TypedRules::typ_rules, crate::proofs::LeastLemmas::listed))]
+#[tactic(auto, using(rx_typed::proofs::TypedRules::typ_rules, crate::proofs::InhabitedLemmas::listed))]
 pub(crate) fn types_under<'a>(
     alloc: Global,
     decls: &'a Decls,

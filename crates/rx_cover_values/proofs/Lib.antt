@@ -1,3 +1,3 @@
 pub mod NameLemmas
 pub mod TextLemmas
-mod ValueLemmas
+mod WrittenLemmas

@@ -18,16 +18,17 @@ use Rattle.rx_engine_blocks.specs.DemandsLike.{Is}
 use Rattle.rx_engine_blocks.specs.DemandsLike.Is.{itself}
 use Rattle.rx_engine_typing.specs.Renumbered as ren
 use Rattle.rx_engine_typing.specs.Renumbered.{RenumberedParameters, RenumberedNodes, RenumberedFunction}
-use Rattle.rx_engine_changed.specs.Beside.{Piece, Grows, Numbers, AllCorrespond, Follows, IsOneToOne}
+use Rattle.rx_engine_changed.specs.Beside.{Instead, Piece, Grows, Numbers, AllCorrespond, Follows, IsOneToOne}
 use Rattle.rx_engine_changed.specs.Stages.{Mutability, InStep, not_yet}
 use Rattle.rx_engine_changed.proofs.Lists.{grows_on, before, begins_later}
 use Rattle.rx_engine_changed.proofs.Steps.{alike_declared, next_node, next_entry, entry_number, one_node}
-use Rattle.rx_engine_changed.proofs.Kept.{Kept, Anything, gives, becomes, both, behind_step}
+use Rattle.rx_engine_changed.proofs.Counts.{count_body}
+use Rattle.rx_engine_changed.proofs.Kept.{Adds, adds_on, adds_pair, adds_so, none_more, Kept, Anything, gives, becomes, both, behind_step}
 use Rattle.rx_engine_changed.proofs.Parts.{OnlySpecial}
 use Rattle.rx_engine_changed.proofs.Patterns.{new_known, type_kept, optional_type_kept}
 use Rattle.rx_engine_changed.proofs.Walk.{BodyKept}
 
-module _ (R : Renaming) (W : Mutability) (apart : IsOneToOne R) (even : (n m : ℕ) (b : Bool) → W n m b b) where
+module _ (R : Renaming) (W : Mutability) (apart : IsOneToOne R) (even : (n m : ℕ) (b : Bool) → W n m b b) (P : Instead → Type 0) (such : Body → Bool) where
   abbrev ParametersLike : Numbers → List named.Parameter → List named.Parameter → Type 0
   ParametersLike q xs xs' = RenumberedParameters q.by xs xs'
 
@@ -35,12 +36,12 @@ module _ (R : Renaming) (W : Mutability) (apart : IsOneToOne R) (even : (n m : �
       → RenumberedParameters q.by (record { variable = x; typ = t } ∷ xs) (record { variable = x'; typ = t' } ∷ xs')
   parameter_at q x x' {t = t} {t' = t'} {xs = xs} {xs' = xs'} e h hs = subst (λ (y : ℕ). RenumberedParameters q.by (record { variable = x; typ = t } ∷ xs) (record { variable = y; typ = t' } ∷ xs')) e (ren.RenumberedParameters.parameter_and {x = x} h hs)
 
-  parameters_kept : (xs : List Parameter) (made : List Piece) (c c' : Cursor) → InStep R W made c c' → LikeParameters R (numbering.of_parameters xs c).0 (numbering.of_parameters xs c').0 → Kept R W made Anything ParametersLike c c' (numbering.of_parameters xs c) (numbering.of_parameters xs c')
+  parameters_kept : (xs : List Parameter) (made : List Piece) (c c' : Cursor) → InStep R W made c c' → LikeParameters R (numbering.of_parameters xs c).0 (numbering.of_parameters xs c').0 → Kept R W P 0 made Anything ParametersLike c c' (numbering.of_parameters xs c) (numbering.of_parameters xs c')
   parameters_kept [] made c c' st h = gives c c' [] [] st tt (λ q f w. ren.RenumberedParameters.no_parameter)
   parameters_kept (x ∷ xs) made c c' st (alike.like_more_parameters v h hs) =
       let d : Declaration = record { mutable = x.mutable; stage = Stage.Known } in
       let b = (numbering.declare d c).1 in let b' = (numbering.declare d c').1 in
-      let y = type_kept R W apart even x.typ b b' (alike_declared R W apart even st d v (new_known R W apart even x.mutable)) h in
+      let y = type_kept R W apart even P x.typ b b' (alike_declared R W apart even st d v (new_known R W apart even P x.mutable)) h in
       let z = parameters_kept xs y.now (numbering.of_type x.typ b).1 (numbering.of_type x.typ b').1 y.step hs in
       becomes {B = List named.Parameter} {B' = List named.Parameter} (λ p. record { variable = c.declared; typ = p.0 } ∷ p.1) (λ p. record { variable = c'.declared; typ = p.0 } ∷ p.1) (behind_step c c' b b' refl refl (both y z)) (λ p. tt)
       (λ q a a' f w. parameter_at q c.declared c'.declared (f.variables c.declared c'.declared v) w.0 w.1)
@@ -68,9 +69,10 @@ module _ (R : Renaming) (W : Mutability) (apart : IsOneToOne R) (even : (n m : �
       pub last : ℕ
       pub last' : ℕ
       pub grows : Grows [] 0 0 pieces last last'
+      pub adds : Adds P (count_body such f.body) [] pieces
       pub like : (q : Numbers) → Follows R q → AllCorrespond q pieces → RenumberedFunction q.by q.loops (holes q) (numbering.function_named i s f ns) (numbering.function_named i' s g ns')
 
-    pub function_kept : (i i' : ℕ) (s : Span) (f : Function) (b : Body) (ns ns' : List NodeNames) → R.item i ≡ i' → BodyKept R W apart even H only untyped holes Site.Expects f.body b
+    pub function_kept : (i i' : ℕ) (s : Span) (f : Function) (b : Body) (ns ns' : List NodeNames) → R.item i ≡ i' → BodyKept R W apart even P such H only untyped holes Site.Expects f.body b
         → LikeFunction H R (numbering.function_named i s f ns) (numbering.function_named i' s (with_body b f) ns') → (numbering.function_named i s f ns).never_given ≡ [] → (numbering.function_named i' s (with_body b f) ns').never_given ≡ []
         → FunctionKept i i' s f (with_body b f) ns ns'
     function_kept i i' s f b ns ns' e kb h u u' =
@@ -80,13 +82,14 @@ module _ (R : Renaming) (W : Mutability) (apart : IsOneToOne R) (even : (n m : �
         let st = entry_kept (numbering.has_entry f) d d' (next_node R W apart even s s Site.Value Site.Value c c' (begun ns ns')) in
         let A = parameters_kept f.params _ x x' st h.params in
         let y = (numbering.of_parameters f.params x).1 in let y' = (numbering.of_parameters f.params x').1 in
-        let B = optional_type_kept R W apart even f.result y y' A.step h.result in
+        let B = optional_type_kept R W apart even P f.result y y' A.step h.result in
         let z = (numbering.of_optional_type f.result y).1 in let z' = (numbering.of_optional_type f.result y').1 in
         let K = kb B.now z z' B.step h.body in record {
           pieces = K.now;
           last = (numbering.of_body Site.Expects f.body z).1.number;
           last' = (numbering.of_body Site.Expects b z').1.number;
           grows = grows_on (one_node c c') (begins_later (let g = entry_if_number (numbering.has_entry f) d in omega (arith, g)) (let g = entry_if_number (numbering.has_entry f) d' in omega (arith, g)) (grows_on A.grows (grows_on B.grows K.grows)));
+          adds = adds_pair (adds_so (none_more (count_body such f.body)) (adds_on A.adds (adds_so (none_more (count_body such f.body)) (adds_on B.adds K.adds))));
           like = λ q g w.
               let w1 = before q K.grows w in record {
                 item = is_item (g.items i ∙ e);

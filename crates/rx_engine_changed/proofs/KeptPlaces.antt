@@ -1,5 +1,5 @@
 -- Variables, jumps and returns that stay what they are, numbered beside themselves.
-use Rattle.std.proofs.Common.{◌≡◌, ℕ, Bool, true, false, List, ◌∷◌, Option, Some, None, option_map, refl, sym, ap, ◌∙◌, subst}
+use Rattle.std.proofs.Common.{◌≡◌, ℕ, ◌+◌, Bool, true, false, List, ◌∷◌, Option, Some, None, option_map, refl, sym, ap, ◌∙◌, subst}
 use Rattle.rx_core.specs.declared.types.Span.{Span}
 use Rattle.rx_tree.specs.declared.tree.Ident.{Ident}
 use Rattle.rx_tree.specs.Plain as plain
@@ -22,11 +22,12 @@ use Rattle.rx_engine_names.specs.LikeNamed.{LikeExp, LikeElse, IsLeftSide}
 use Rattle.rx_engine_names.specs.Within.{Claims}
 use Rattle.rx_engine_typing.specs.Renumbered as ren
 use Rattle.rx_engine_typing.specs.Renumbered.{RenumberedExp, use_at}
-use Rattle.rx_engine_changed.specs.Beside.{Piece, paired, IsPiece, Numbers, Follows, IsOneToOne}
+use Rattle.rx_engine_changed.specs.Beside.{Instead, Piece, paired, IsPiece, Numbers, Follows, IsOneToOne}
 use Rattle.rx_engine_changed.specs.Stages.{Mutability, LikeDeclared, not_yet, known, given, waits, InStep}
 use Rattle.rx_engine_changed.proofs.Steps.{alike_led, alike_settled, declared_alike, next_node, next_entry}
 use Rattle.rx_engine_changed.proofs.Parts.{OnlySpecial, KeptHoles, var_part, break_part, continue_part, return_part, assign_parts, gives_parts, given_parts, giving_parts}
-use Rattle.rx_engine_changed.proofs.Kept.{Kept, SameExp, SameBody, SameElse, same_or, becomes, both, behind_node, behind_entry, in_front_of, at_node, a_leaf_with_entry}
+use Rattle.rx_engine_changed.proofs.Counts.{count, count_optional, count_statements}
+use Rattle.rx_engine_changed.proofs.Kept.{Kept, adds_none, adds_on, SameExp, SameBody, SameElse, same_or, becomes, both, behind_node, behind_entry, in_front_of, at_node, a_leaf_with_entry}
 use Rattle.rx_engine_changed.proofs.Walk.{ExpLike, ExpKept, OptionalKept, Places, BodyLike, BodyKept, StatementsKept}
 
 -- blocks become something else
@@ -66,7 +67,7 @@ like_stages {made = made} {X = X} o o' d d' (waits {m = m} {m' = m'} {p = p} {p'
     subst (λ (d : Declaration). X d.mutable d'.mutable × (is_known d'.stage ≡ is_known d.stage) × ((x x' : ℕ) → Waitings made x x' (numbering.waiting x d.stage) (numbering.waiting x' d'.stage))) a
     (subst (λ (d' : Declaration). X m d'.mutable × (is_known d'.stage ≡ false) × ((x x' : ℕ) → Waitings made x x' (Some (x, p)) (numbering.waiting x' d'.stage))) b (w, refl, λ x x'. both_wait i))
 
-module _ (R : Renaming) (W : Mutability) (apart : IsOneToOne R) (even : (n m : ℕ) (b : Bool) → W n m b b) where
+module _ (R : Renaming) (W : Mutability) (apart : IsOneToOne R) (even : (n m : ℕ) (b : Bool) → W n m b b) (P : Instead → Type 0) (such : Body → Bool) where
   -- the declarations of two variables that correspond
   pub record Alikes (made : List Piece) (c c' : Cursor) (x x' : ℕ) : Type 0 where
     pub mutable : W x x' (declaration c x).mutable (declaration c' x').mutable
@@ -87,10 +88,10 @@ module _ (R : Renaming) (W : Mutability) (apart : IsOneToOne R) (even : (n m : �
 
     module _ (H : alike.Holes) (only : OnlySpecial H) (plain_holes : KeptHoles H) (untyped : (R : Renaming) (s : Span) (t t' : Option Written) → H.annotation R s t t' → ⊥) (holes : Numbers → ren.Holes) where
       abbrev Like : Numbers → Exp → Exp → Type 0
-      Like = ExpLike R W apart even H only untyped holes
+      Like = ExpLike R W apart even P such H only untyped holes
 
       abbrev EKept : Bool → Site → Expression → Expression → Type 0
-      EKept = ExpKept R W apart even H only untyped holes
+      EKept = ExpKept R W apart even P such H only untyped holes
 
       var_at : (q : Numbers) (n : Node) (u u' : Use) (k : ℕ) (s : Span) (t : Site) → use_at q.by u ≡ u' → q.by.nodes n.number ≡ k → n.site ≡ t → Like q (named.var n u) (named.var (record { number = k; span = s; site = t }) u')
       var_at q n u u' k s t e d g =
@@ -133,7 +134,7 @@ module _ (R : Renaming) (W : Mutability) (apart : IsOneToOne R) (even : (n m : �
           let st1 = next_entry R W d d' (next s t c c' st) in let j = first (an_entry d).0.0 in let j' = first (an_entry d').0.0 in
           a_leaf_with_entry s s t t c c' (named.continue (a_node s t c).0 j) (named.continue (a_node s t c').0 j') st1 (refl, refl) (λ q f w. continue_at q (a_node s t c).0 _ _ c'.number s t (f.loops j j' (continue_part plain_holes h)) w refl)
 
-      pub return_kept : ((R : Renaming) (n : Node) (o : named.Else) (e' : Exp) → H.returned R n o e' → ⊥) → ((q : Numbers) → (holes q).returns) → (s : Span) (o o' : OptionalExpression) (m : Bool) (t : Site) → OptionalKept R W apart even H only untyped holes Site.Expects o o' → EKept m t (plain.return s o) (plain.return s o')
+      pub return_kept : ((R : Renaming) (n : Node) (o : named.Else) (e' : Exp) → H.returned R n o e' → ⊥) → ((q : Numbers) → (holes q).returns) → (s : Span) (o o' : OptionalExpression) (m : Bool) (t : Site) → OptionalKept R W apart even P such H only untyped holes Site.Expects o o' → EKept m t (plain.return s o) (plain.return s o')
       return_kept none_returned returns s o o' m t k made c c' st h =
           becomes (λ x. named.return (a_node s t c).0 x) (λ x. named.return (a_node s t c').0 x) (behind_node s s t t c c' (k _ (a_node s t c).1 (a_node s t c').1 (next s t c c' st) (return_part only none_returned h))) (λ z. (refl, refl))
           (λ q a a' f w. at_node q (λ n. Like q (named.return (a_node s t c).0 a) (named.return n a')) c.number c'.number s s t w.0 (ren.RenumberedExp.return (returns q) w.1))
@@ -208,7 +209,7 @@ module _ (R : Renaming) (W : Mutability) (apart : IsOneToOne R) (even : (n m : �
           st1 = next_entry R W A A' (next z Site.Place D D' (next s t c c' st))
 
           Goal : Option (ℕ × ℕ) → Option (ℕ × ℕ) → Type 0
-          Goal w w' = Kept R W made SameExp Like c c' (numbering.assigned (a_node s t c).0 left w (λ i. of_expression false i e) E) (numbering.assigned (a_node s t c').0 left' w' (λ i. of_expression false i e') E')
+          Goal w w' = Kept R W P (0 + count such e) made SameExp Like c c' (numbering.assigned (a_node s t c).0 left w (λ i. of_expression false i e) E) (numbering.assigned (a_node s t c').0 left' w' (λ i. of_expression false i e') E')
 
           Given : Option (ℕ × ℕ) → Option (ℕ × ℕ) → Type 0
           Given w w' = LikeExp H R (numbering.assigned (a_node s t c).0 left w (λ i. of_expression false i e) E).0 (numbering.assigned (a_node s t c').0 left' w' (λ i. of_expression false i e') E').0
@@ -217,13 +218,14 @@ module _ (R : Renaming) (W : Mutability) (apart : IsOneToOne R) (even : (n m : �
           IfBoth q x x' = q.by.nodes c.number ≡ c'.number → q.by.nodes D.number ≡ D'.number → Like q x x'
 
           -- both give the type, or wait for it no more
-          give_it : (k k' : ℕ) → R.variable k k' ≡ true → (y : Kept R W now SameExp Like E E' (of_expression false Site.Reborrows e E) (of_expression false Site.Reborrows e' E'))
+          give_it : (k k' : ℕ) → R.variable k k' ≡ true → (y : Kept R W P (count such e) now SameExp Like E E' (of_expression false Site.Reborrows e E) (of_expression false Site.Reborrows e' E'))
               → (o o' : Option (ℕ × ℕ)) → Waitings y.now k k' o o'
-              → Kept R W now SameExp IfBoth E E'
+              → Kept R W P (0 + count such e) now SameExp IfBoth E E'
               (named.gives (a_node s t c).0 (a_node z Site.Place D).0 (use_of k (declaration (of_expression false Site.Reborrows e E).1 k)) (numbering.given_here k o (of_expression false Site.Reborrows e E).1).0 (of_expression false Site.Reborrows e E).0, (numbering.given_here k o (of_expression false Site.Reborrows e E).1).1)
               (named.gives (a_node s t c').0 (a_node z Site.Place D').0 (use_of k' (declaration (of_expression false Site.Reborrows e' E').1 k')) (numbering.given_here k' o' (of_expression false Site.Reborrows e' E').1).0 (of_expression false Site.Reborrows e' E').0, (numbering.given_here k' o' (of_expression false Site.Reborrows e' E').1).1)
           give_it k k' r y _ _ neither = record {
             now = y.now;
+            adds = adds_on adds_none y.adds;
             grows = y.grows;
             step = y.step;
             same = (refl, y.same.1);
@@ -231,6 +233,7 @@ module _ (R : Renaming) (W : Mutability) (apart : IsOneToOne R) (even : (n m : �
           }
           give_it k k' r y _ _ (both_wait {p = p} {p' = p'} i) = record {
             now = y.now;
+            adds = adds_on adds_none y.adds;
             grows = y.grows;
             step = alike_settled R W apart even y.step k k' r;
             same = (refl, y.same.1);
@@ -264,9 +267,9 @@ module _ (R : Renaming) (W : Mutability) (apart : IsOneToOne R) (even : (n m : �
       -- ---- all of these; a block is a parameter
 
       pub kept_places : ((R : Renaming) (n : Node) (o : named.Else) (e' : Exp) → H.returned R n o e' → ⊥) → ((q : Numbers) → (holes q).returns) → (N : Claims) (b : Body → Body → Body)
-          → ((own : Names) (ls : List Around) (s : Span) (t : Site) (ss ss' : plain.Statements) (o o' : OptionalExpression) → N.block own ls (plain.body s ss o) → StatementsKept R W apart even H only untyped holes ss ss' → OptionalKept R W apart even H only untyped holes t o o'
-          → BodyKept R W apart even H only untyped holes t (plain.body s ss o) (b (plain.body s ss o) (plain.body s ss' o')))
-          → Places R W apart even H only untyped holes (blocks_alone b) N
+          → ((own : Names) (ls : List Around) (s : Span) (t : Site) (ss ss' : plain.Statements) (o o' : OptionalExpression) → N.block own ls (plain.body s ss o) → StatementsKept R W apart even P such H only untyped holes ss ss' → OptionalKept R W apart even P such H only untyped holes t o o'
+          → BodyKept R W apart even P such H only untyped holes t (plain.body s ss o) (b (plain.body s ss o) (plain.body s ss' o')))
+          → Places R W apart even P such H only untyped holes (blocks_alone b) N
       kept_places none_returned returns N b k = record {
         variable = λ own s x n m t. variable_kept s x m t;
         broken = λ own ls s l n m t. break_kept s l m t;
@@ -282,11 +285,11 @@ module _ (R : Renaming) (W : Mutability) (apart : IsOneToOne R) (even : (n m : �
       }
 
       -- a block whose parts are alike
-      pub parts_kept : (s : Span) (t : Site) (ss ss' : plain.Statements) (o o' : OptionalExpression) → StatementsKept R W apart even H only untyped holes ss ss' → OptionalKept R W apart even H only untyped holes t o o' → (made : List Piece) (c c' : Cursor) → InStep R W made c c'
+      pub parts_kept : (s : Span) (t : Site) (ss ss' : plain.Statements) (o o' : OptionalExpression) → StatementsKept R W apart even P such H only untyped holes ss ss' → OptionalKept R W apart even P such H only untyped holes t o o' → (made : List Piece) (c c' : Cursor) → InStep R W made c c'
           → alike.LikeStatements H R (numbering.of_statements ss (a_node s t c).1).0 (numbering.of_statements ss' (a_node s t c').1).0
           → alike.LikeElse H R (numbering.of_optional t o (numbering.of_statements ss (a_node s t c).1).1).0 (numbering.of_optional t o' (numbering.of_statements ss' (a_node s t c').1).1).0
-          → Kept R W made SameBody (BodyLike R W apart even H only untyped holes) c c' (numbering.of_body t (plain.body s ss o) c) (numbering.of_body t (plain.body s ss' o') c')
+          → Kept R W P (count_statements such ss + count_optional such o) made SameBody (BodyLike R W apart even P such H only untyped holes) c c' (numbering.of_body t (plain.body s ss o) c) (numbering.of_body t (plain.body s ss' o') c')
       parts_kept s t ss ss' o o' ks ko made c c' st h g =
           let y = ks _ (a_node s t c).1 (a_node s t c').1 (next s t c c' st) h in let z = ko _ (numbering.of_statements ss (a_node s t c).1).1 (numbering.of_statements ss' (a_node s t c').1).1 y.step g in
           becomes (λ x. named.body (a_node s t c).0 x.0 x.1) (λ x. named.body (a_node s t c').0 x.0 x.1) (behind_node s s t t c c' (both y z)) (λ x. (tails (numbering.of_optional t o (numbering.of_statements ss (a_node s t c).1).1).0 (numbering.of_optional t o' (numbering.of_statements ss' (a_node s t c').1).1).0 x.0 x.1, same_or x.0 x.1.1))
-          (λ q a a' f w. at_node q (λ n. BodyLike R W apart even H only untyped holes q (named.body (a_node s t c).0 a.0 a.1) (named.body n a'.0 a'.1)) c.number c'.number s s t w.0 (ren.RenumberedBody.body w.1.0 w.1.1))
+          (λ q a a' f w. at_node q (λ n. BodyLike R W apart even P such H only untyped holes q (named.body (a_node s t c).0 a.0 a.1) (named.body n a'.0 a'.1)) c.number c'.number s s t w.0 (ren.RenumberedBody.body w.1.0 w.1.1))

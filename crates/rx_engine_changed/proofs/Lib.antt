@@ -1,6 +1,7 @@
 pub mod Lists
 pub mod Steps
 pub mod Parts
+pub mod Counts
 pub mod Kept
 pub mod Patterns
 pub mod Walk
@@ -11,7 +12,9 @@ pub mod Rows
 pub mod RoundRun
 pub mod RoundEnd
 pub mod Functions
+pub mod Once
 pub mod RoundFunctions
 pub mod Pieces
 pub mod CalledFunctions
+pub mod OneCall
 pub mod MovedRuns

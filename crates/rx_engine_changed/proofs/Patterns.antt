@@ -18,14 +18,14 @@ use Rattle.rx_engine_names.specs.LikeNamed as alike
 use Rattle.rx_engine_names.specs.LikeNamed.{LikeWritten, LikeWrittens, LikeOptionalWritten, LikePattern, LikePatterns, LikeFieldPatterns, LikeParameters}
 use Rattle.rx_engine_typing.specs.Renumbered as ren
 use Rattle.rx_engine_typing.specs.Renumbered.{RenumberedType, RenumberedTypes, RenumberedAnnotation, RenumberedPattern, RenumberedPatterns, RenumberedFieldPatterns, RenumberedParameters}
-use Rattle.rx_engine_changed.specs.Beside.{Piece, paired, IsPiece, newest, Numbers, IsOneToOne}
+use Rattle.rx_engine_changed.specs.Beside.{Instead, Piece, paired, IsPiece, newest, Numbers, IsOneToOne}
 use Rattle.rx_engine_changed.specs.Stages.{Mutability, InStep, LikeDeclared, known, given}
 use Rattle.rx_engine_changed.proofs.Lists.{still_piece}
 use Rattle.rx_engine_changed.proofs.Steps.{Ranges, none_ranges, more_range, ranges_on, alike_declared, next_node, next_entry}
 use Rattle.rx_engine_changed.proofs.Parts.{reference_part, item_part, bind_part, variant_pattern_parts, field_pattern_parts}
 use Rattle.rx_engine_changed.proofs.Kept.{Kept, Anything, SameAnnotation, WholeLike, no_whole, a_whole, gives, becomes, both, behind_node, behind_entry, in_front_of, at_node, a_leaf, a_leaf_with_entry}
 
-module _ (R : Renaming) (W : Mutability) (apart : IsOneToOne R) (even : (n m : ℕ) (b : Bool) → W n m b b) where
+module _ (R : Renaming) (W : Mutability) (apart : IsOneToOne R) (even : (n m : ℕ) (b : Bool) → W n m b b) (P : Instead → Type 0) where
   -- ---- types
 
   abbrev TypeLike : Numbers → Written → Written → Type 0
@@ -38,9 +38,9 @@ module _ (R : Renaming) (W : Mutability) (apart : IsOneToOne R) (even : (n m : �
   AnnotationLike q t t' = RenumberedAnnotation q.by t t'
 
   abbrev TypeKept : List Piece → Cursor → Cursor → Written × Cursor → Written × Cursor → Type 0
-  TypeKept made c c' x x' = Kept R W made Anything TypeLike c c' x x'
+  TypeKept made c c' x x' = Kept R W P 0 made Anything TypeLike c c' x x'
 
-  lifetime_kept : {made : List Piece} {A A' : Type 0} {T : A → A' → Type 0} {S : Numbers → A → A' → Type 0} {x : A × Cursor} {x' : A' × Cursor} (l : Option Ident) (c c' : Cursor) → Kept R W made T S (numbering.lifetime_entry l c).1 (numbering.lifetime_entry l c').1 x x' → Kept R W made T S c c' x x'
+  lifetime_kept : {made : List Piece} {A A' : Type 0} {T : A → A' → Type 0} {S : Numbers → A → A' → Type 0} {x : A × Cursor} {x' : A' × Cursor} (l : Option Ident) (c c' : Cursor) → Kept R W P 0 made T S (numbering.lifetime_entry l c).1 (numbering.lifetime_entry l c').1 x x' → Kept R W P 0 made T S c c' x x'
   lifetime_kept None c c' k = k
   lifetime_kept (Some l) c c' k = behind_entry c c' k
 
@@ -79,14 +79,14 @@ module _ (R : Renaming) (W : Mutability) (apart : IsOneToOne R) (even : (n m : �
         a_leaf_with_entry s s Site.Value Site.Value c c' (named.an_item (a_node s Site.Value c).0 (first (an_entry d).0.0) (numbering.lifetimes_written ls)) (named.an_item (a_node s Site.Value c').0 (first (an_entry d').0.0) (numbering.lifetimes_written ls))
         (next_entry R W d d' (next s Site.Value c c' st)) tt (λ q f w. item_type q (a_node s Site.Value c).0 c'.number s Site.Value _ _ (numbering.lifetimes_written ls) (f.items (first (an_entry d).0.0) ∙ item_part h) w refl refl)
 
-    types_kept : {made : List Piece} (ts : TypeTrees) (c c' : Cursor) → InStep R W made c c' → LikeWrittens R (numbering.of_types ts c).0 (numbering.of_types ts c').0 → Kept R W made Anything TypesLike c c' (numbering.of_types ts c) (numbering.of_types ts c')
+    types_kept : {made : List Piece} (ts : TypeTrees) (c c' : Cursor) → InStep R W made c c' → LikeWrittens R (numbering.of_types ts c).0 (numbering.of_types ts c').0 → Kept R W P 0 made Anything TypesLike c c' (numbering.of_types ts c) (numbering.of_types ts c')
     types_kept plain.no_type c c' st h = gives c c' named.no_written named.no_written st tt (λ q f w. ren.RenumberedTypes.no_written)
     types_kept (plain.type_and t ts) c c' st (alike.like_more_types h hs) =
         let x = type_kept t c c' st h in let y = types_kept ts (numbering.of_type t c).1 (numbering.of_type t c').1 x.step hs in
         becomes (λ p. named.written_and p.0 p.1) (λ p. named.written_and p.0 p.1) (both x y) (λ z. tt) (λ q a a' f w. ren.RenumberedTypes.written_and w.0 w.1)
 
   pub optional_type_kept : {made : List Piece} (y : Option TypeTree) (c c' : Cursor) → InStep R W made c c' → LikeOptionalWritten R (numbering.of_optional_type y c).0 (numbering.of_optional_type y c').0
-      → Kept R W made SameAnnotation AnnotationLike c c' (numbering.of_optional_type y c) (numbering.of_optional_type y c')
+      → Kept R W P 0 made SameAnnotation AnnotationLike c c' (numbering.of_optional_type y c) (numbering.of_optional_type y c')
   optional_type_kept None c c' st h = gives c c' None None st refl (λ q f w. ren.RenumberedAnnotation.no_type)
   optional_type_kept (Some t) c c' st (alike.like_annotation h) = becomes (λ t. Some t) (λ t. Some t) (type_kept t c c' st h) (λ z. refl) (λ q a a' f w. ren.RenumberedAnnotation.a_type w)
 
@@ -103,12 +103,12 @@ module _ (R : Renaming) (W : Mutability) (apart : IsOneToOne R) (even : (n m : �
 
   -- with the variables that are declared
   pub record KeptPatterns {A : Type 0} (S : Numbers → A → A → Type 0) (made : List Piece) (c c' : Cursor) (x x' : A × Cursor) : Type 0 where
-    pub kept : Kept R W made Anything S c c' x x'
+    pub kept : Kept R W P 0 made Anything S c c' x x'
     pub ranges : Ranges R c.declared c'.declared x.1.declared x'.1.declared
 
   -- with the node of the whole, and the variable that the whole is
   pub record KeptPattern (made : List Piece) (c c' : Cursor) (x x' : Pattern × Cursor) : Type 0 where
-    pub kept : Kept R W made Anything PatternLike c c' x x'
+    pub kept : Kept R W P 0 made Anything PatternLike c c' x x'
     pub ranges : Ranges R c.declared c'.declared x.1.declared x'.1.declared
     pub node : IsPiece (paired (pattern_node x.0).number (pattern_node x'.0).number) kept.now
     pub whole : WholeLike R (whole_binding x.0) (whole_binding x'.0)

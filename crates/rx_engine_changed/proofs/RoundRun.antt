@@ -1,6 +1,5 @@
 -- A block in which other statements stand for a run, numbered beside that of the text: what is in front and behind is copied.
-use Rattle.std.specs.Prelude.{◌==◌}
-use Rattle.std.proofs.Common.{◌≡◌, ℕ, Bool, true, false, ◌&&◌, if◌then◌else◌, List, ◌∷◌, ◌++◌, length, Option, refl, sym, ap, ◌∙◌, subst, eq-eqb, arith}
+use Rattle.std.proofs.Common.{◌≡◌, ℕ, ◌+◌, Bool, true, false, if◌then◌else◌, List, ◌∷◌, ◌++◌, length, Option, refl, sym, ap, ◌∙◌, subst, arith}
 use Rattle.rx_core.specs.declared.types.Span.{Span}
 use Rattle.rx_tree.specs.declared.tree.Ident.{Ident}
 use Rattle.rx_tree.specs.Plain as plain
@@ -27,10 +26,12 @@ use Rattle.rx_engine_holes.specs.Run.{append}
 use Rattle.rx_engine_holes.specs.Run.RunBlock.{a_run}
 use Rattle.rx_engine_changed.specs.Beside.{Instead, for_a_run, Piece, paired, unpaired, replaced, Grows, stays, and_own, and_instead, newest, Numbers, IsOneToOne}
 use Rattle.rx_engine_changed.specs.Stages.{Mutability, InStep}
+use Rattle.rx_engine_changed.specs.Once.{IsCall}
 use Rattle.rx_engine_changed.specs.Round.{block_with, round, with_others, GoesOn, OneBlock}
 use Rattle.rx_engine_changed.proofs.Lists.{grows_on, before}
 use Rattle.rx_engine_changed.proofs.Steps.{alike_later, next_node, one_node}
-use Rattle.rx_engine_changed.proofs.Kept.{Kept, SameBody, same_or, at_node}
+use Rattle.rx_engine_changed.proofs.Counts.{at_place, count_optional, count_statements, none_such, no_statements_count, no_tail_counts, one_there, same_itself, those_inside}
+use Rattle.rx_engine_changed.proofs.Kept.{adds_on, adds_other, adds_pair, adds_so, Kept, SameBody, same_or, at_node}
 use Rattle.rx_engine_changed.proofs.Parts.{OnlySpecial, KeptHoles}
 use Rattle.rx_engine_changed.proofs.Walk.{BodyLike, BodyKept, OptionalKept, StatementsKept, Places}
 use Rattle.rx_engine_changed.proofs.KeptPlaces.{blocks_alone, kept_places, parts_kept, tails}
@@ -46,10 +47,6 @@ joined3 a b c = joined a (joined b c)
 
 rows : (a b c : named.Statements) → joined a (joined b c) ≡ append a (append b c)
 rows a b c = same_row a (joined b c) ∙ ap (append a) (same_row b c)
-
-pub same_itself : (s : Span) → same_place s s ≡ true
-same_itself s = let a : (s.start == s.start) ≡ true = eq-eqb s.start s.start refl in let b : (s.end == s.end) ≡ true = eq-eqb s.end s.end refl in
-    ap (λ (x : Bool). x && (s.end == s.end)) a ∙ b
 
 pub other_place : (s t : Span) → same_place s t ≡ false → t ≡ s → ⊥
 other_place s t e d = let h : same_place s t ≡ true = ap (same_place s) d ∙ same_itself s in absurd (cc)
@@ -97,7 +94,7 @@ module _ (R : Renaming) (W : Mutability) (apart : IsOneToOne R) (even : (n m : �
   copies = record { no_variable = λ R n n' u u' h. h; no_break = λ R n n' l l' h. h; no_continue = λ R n n' l l' h. h }
 
   abbrev BKept : Site → Body → Body → Type 0
-  BKept = BodyKept R W apart even H none_else untyped holes
+  BKept = BodyKept R W apart even (IsCall R W run call) (at_place s0) H none_else untyped holes
 
   module _ (goes_on : GoesOn R W T I I' front run call) where
     -- where the parts are told
@@ -145,7 +142,7 @@ module _ (R : Renaming) (W : Mutability) (apart : IsOneToOne R) (even : (n m : �
       -- rows as the rules have them
       a_block : (q : Numbers) (a a' b b' x x' : named.Statements) (o o' : Else) → q.instead ≡ for_a_run x x' → q.by.nodes c.number ≡ c'.number
           → RenumberedStatements q.by q.loops (base q) a a' → RenumberedStatements q.by q.loops (base q) b b' → RenumberedElse q.by q.loops (base q) o o'
-          → BodyLike R W apart even H none_else untyped holes q (named.body N (joined3 a x b) o) (named.body N' (joined3 a' x' b') o')
+          → BodyLike R W apart even (IsCall R W run call) (at_place s0) H none_else untyped holes q (named.body N (joined3 a x b) o) (named.body N' (joined3 a' x' b') o')
       a_block q a a' b b' x x' o o' e d h k l =
           subst (λ (i : Instead). RenumberedBody q.by q.loops (with_others q.by q.loops (base q) i) (named.body N (joined3 a x b) o) (named.body N' (joined3 a' x' b') o')) (sym e)
           (subst (λ (z : named.Statements). RenumberedBody q.by q.loops (with_others q.by q.loops (base q) (for_a_run x x')) (named.body N z o) (named.body N' (joined3 a' x' b') o')) (sym (rows a x b))
@@ -153,8 +150,12 @@ module _ (R : Renaming) (W : Mutability) (apart : IsOneToOne R) (even : (n m : �
           (at_node q (λ n. RenumberedBody q.by q.loops (with_others q.by q.loops (base q) (for_a_run x x')) (named.body N (append a (append x b)) o) (named.body n (append a' (append x' b')) o')) c.number c'.number s0 s0 t d
           (ren.RenumberedBody.other_block (a_run {n = N} {s = s0} h k l)))))
 
+      -- nothing else stands for a part of what is copied
+      one_more : count_statements none_such (as_statements front) + (1 + (count_statements none_such (as_statements behind) + count_optional none_such o0)) ≡ 1
+      one_more = let x = no_statements_count (as_statements front) in let y = no_statements_count (as_statements behind) in let z = no_tail_counts o0 in omega (arith, x, y, z)
+
       filled : (p : Place) (h : PartsOf R (length front) (StandFor T I I' front run call p R) N N' (joined3 F.0 G.0 B.0) (joined3 F'.0 G'.0 B'.0) O.0 O'.0)
-          → Kept R W made SameBody (BodyLike R W apart even H none_else untyped holes) c c' (named.body N (joined3 F.0 G.0 B.0) O.0, O.1) (named.body N' (joined3 F'.0 G'.0 B'.0) O'.0, O'.1)
+          → Kept R W (IsCall R W run call) 1 made SameBody (BodyLike R W apart even (IsCall R W run call) (at_place s0) H none_else untyped holes) c c' (named.body N (joined3 F.0 G.0 B.0) O.0, O.1) (named.body N' (joined3 F'.0 G'.0 B'.0) O'.0, O'.1)
       filled p h =
           let a = same_front h.front F.0 (joined2 h.run h.behind) (joined2 G.0 B.0) (h.so_many ∙ sym (many_numbered front D)) (sym h.is) in
           let a' = same_front h.front' F'.0 (joined2 h.call h.behind') (joined2 G'.0 B'.0) (many_alike h.fronts ∙ h.so_many ∙ sym (many_numbered front D')) (sym h.is') in
@@ -163,14 +164,15 @@ module _ (R : Renaming) (W : Mutability) (apart : IsOneToOne R) (even : (n m : �
           let l = subst (λ (z : named.Statements). alike.LikeStatements alike.no_holes R z F'.0) a.0 (subst (λ (z : named.Statements). alike.LikeStatements alike.no_holes R h.front z) a'.0 h.fronts) in
           let m = subst (λ (z : named.Statements). alike.LikeStatements alike.no_holes R z B'.0) x.1 (subst (λ (z : named.Statements). alike.LikeStatements alike.no_holes R h.behind z) x'.1 h.behinds) in
           let s = subst (λ (z : named.Statements). StandFor T I I' front run call p R z G'.0) x.0 (subst (λ (z : named.Statements). StandFor T I I' front run call p R h.run z) x'.0 h.stands) in
-          let Y = copied_statements R W apart even same base returns0 (as_statements front) _ D D' (next_node R W apart even s0 s0 t t c c' st) l in
+          let Y = copied_statements R W apart even (IsCall R W run call) same base returns0 (as_statements front) _ D D' (next_node R W apart even s0 s0 t t c c' st) l in
           let g = goes_on Y.now F.1 F'.1 p Y.step s in
           let up = (statements_rises (as_statements run) F.1).grows in let up' = (statements_rises (as_statements call) F'.1).grows in
           let own : Grows Y.now F.1.number F'.1.number (replaced (for_a_run G.0 G'.0) ∷ unpaired F.1.number G.1.number F'.1.number G'.1.number ∷ Y.now) G.1.number G'.1.number
           = and_instead (and_own (stays (omega arith) (omega arith)) up up' (omega arith) (omega arith)) in
-          let Z = copied_statements R W apart even same base returns0 (as_statements behind) _ G.1 G'.1 (alike_later R W apart even g.0 own) m in
-          let V = copied_tail R W apart even same base returns0 t o0 _ B.1 B'.1 Z.step h.tails in record {
+          let Z = copied_statements R W apart even (IsCall R W run call) same base returns0 (as_statements behind) _ G.1 G'.1 (alike_later R W apart even g.0 own) m in
+          let V = copied_tail R W apart even (IsCall R W run call) same base returns0 t o0 _ B.1 B'.1 Z.step h.tails in record {
             now = V.now;
+            adds = adds_so one_more (adds_pair (adds_on Y.adds (adds_on (adds_other (for_a_run G.0 G'.0) (record { made = Y.now; cursor = F.1; cursor' = F'.1; step = Y.step; is = refl; diverges = g.1 })) (adds_on Z.adds V.adds))));
             grows = grows_on (grows_on (one_node c c') Y.grows) (grows_on own (grows_on Z.grows V.grows));
             step = V.step;
             same = (tails O.0 O'.0 (three_diverge F.0 G.0 B.0 F'.0 G'.0 B'.0 Y.same g.1 Z.same) V.same, same_or (three_diverge F.0 G.0 B.0 F'.0 G'.0 B'.0 Y.same g.1 Z.same) V.same.1);
@@ -180,9 +182,10 @@ module _ (R : Renaming) (W : Mutability) (apart : IsOneToOne R) (even : (n m : �
           }
 
     the_block : (t : Site) → BKept t old new
-    the_block t made c c' st h = by (cases_of h)
+    the_block t made c c' st h = subst (λ (n : ℕ). Kept R W (IsCall R W run call) n made SameBody (BodyLike R W apart even (IsCall R W run call) (at_place s0) H none_else untyped holes) c c' (of_body t old c) (of_body t new c'))
+        (sym (one_there (at_place s0) old (same_itself s0))) (by (cases_of h))
       where
-        by : BodyCases H R s0 (of_body t old c).0 (of_body t new c').0 → Kept R W made SameBody (BodyLike R W apart even H none_else untyped holes) c c' (of_body t old c) (of_body t new c')
+        by : BodyCases H R s0 (of_body t old c).0 (of_body t new c').0 → Kept R W (IsCall R W run call) 1 made SameBody (BodyLike R W apart even (IsCall R W run call) (at_place s0) H none_else untyped holes) c c' (of_body t old c) (of_body t new c')
         by (a_copy f) = absurd (other_place s0 s0 f refl)
         by (a_hole z) = go (of_statements (as_statements (front ++ (run ++ behind))) (a_node s0 t c).1) (of_statements (as_statements (front ++ (call ++ behind))) (a_node s0 t c').1)
             (numbered_row3 front run behind (a_node s0 t c).1) (numbered_row3 front call behind (a_node s0 t c').1)
@@ -190,28 +193,30 @@ module _ (R : Renaming) (W : Mutability) (apart : IsOneToOne R) (even : (n m : �
           where
             go : (x x' : named.Statements × Cursor) → x ≡ row3 front run behind (a_node s0 t c).1 → x' ≡ row3 front call behind (a_node s0 t c').1
                 → PartsOf R (length front) (StandFor T I I' front run call z.place R) (a_node s0 t c).0 (a_node s0 t c').0 x.0 x'.0 (of_optional t o0 x.1).0 (of_optional t o0 x'.1).0
-                → Kept R W made SameBody (BodyLike R W apart even H none_else untyped holes) c c' (named.body (a_node s0 t c).0 x.0 (of_optional t o0 x.1).0, (of_optional t o0 x.1).1) (named.body (a_node s0 t c').0 x'.0 (of_optional t o0 x'.1).0, (of_optional t o0 x'.1).1)
+                → Kept R W (IsCall R W run call) 1 made SameBody (BodyLike R W apart even (IsCall R W run call) (at_place s0) H none_else untyped holes) c c' (named.body (a_node s0 t c).0 x.0 (of_optional t o0 x.1).0, (of_optional t o0 x.1).1) (named.body (a_node s0 t c').0 x'.0 (of_optional t o0 x'.1).0, (of_optional t o0 x'.1).1)
             go x x' e e' =
                 subst (λ (y : named.Statements × Cursor). PartsOf R (length front) (StandFor T I I' front run call z.place R) (a_node s0 t c).0 (a_node s0 t c').0 y.0 x'.0 (of_optional t o0 y.1).0 (of_optional t o0 x'.1).0
-                → Kept R W made SameBody (BodyLike R W apart even H none_else untyped holes) c c' (named.body (a_node s0 t c).0 y.0 (of_optional t o0 y.1).0, (of_optional t o0 y.1).1) (named.body (a_node s0 t c').0 x'.0 (of_optional t o0 x'.1).0, (of_optional t o0 x'.1).1)) (sym e)
+                → Kept R W (IsCall R W run call) 1 made SameBody (BodyLike R W apart even (IsCall R W run call) (at_place s0) H none_else untyped holes) c c' (named.body (a_node s0 t c).0 y.0 (of_optional t o0 y.1).0, (of_optional t o0 y.1).1) (named.body (a_node s0 t c').0 x'.0 (of_optional t o0 x'.1).0, (of_optional t o0 x'.1).1)) (sym e)
                 (subst (λ (y : named.Statements × Cursor). PartsOf R (length front) (StandFor T I I' front run call z.place R) (a_node s0 t c).0 (a_node s0 t c').0 (row3 front run behind (a_node s0 t c).1).0 y.0 (of_optional t o0 (row3 front run behind (a_node s0 t c).1).1).0 (of_optional t o0 y.1).0
-                → Kept R W made SameBody (BodyLike R W apart even H none_else untyped holes) c c' (named.body (a_node s0 t c).0 (row3 front run behind (a_node s0 t c).1).0 (of_optional t o0 (row3 front run behind (a_node s0 t c).1).1).0, (of_optional t o0 (row3 front run behind (a_node s0 t c).1).1).1) (named.body (a_node s0 t c').0 y.0 (of_optional t o0 y.1).0, (of_optional t o0 y.1).1)) (sym e')
+                → Kept R W (IsCall R W run call) 1 made SameBody (BodyLike R W apart even (IsCall R W run call) (at_place s0) H none_else untyped holes) c c' (named.body (a_node s0 t c).0 (row3 front run behind (a_node s0 t c).1).0 (of_optional t o0 (row3 front run behind (a_node s0 t c).1).1).0, (of_optional t o0 (row3 front run behind (a_node s0 t c).1).1).1) (named.body (a_node s0 t c').0 y.0 (of_optional t o0 y.1).0, (of_optional t o0 y.1).1)) (sym e')
                 (filled made t c c' st z.place))
 
     -- the function round it, where each block with its place is it
     module _ (N : Claims) (placed : OneBlock N old) where
-      blocks : (own : Names) (ls : List Around) (s : Span) (t : Site) (ss ss' : Statements) (o o' : OptionalExpression) → N.block own ls (plain.body s ss o) → StatementsKept R W apart even H none_else untyped holes ss ss' → OptionalKept R W apart even H none_else untyped holes t o o'
+      blocks : (own : Names) (ls : List Around) (s : Span) (t : Site) (ss ss' : Statements) (o o' : OptionalExpression) → N.block own ls (plain.body s ss o) → StatementsKept R W apart even (IsCall R W run call) (at_place s0) H none_else untyped holes ss ss' → OptionalKept R W apart even (IsCall R W run call) (at_place s0) H none_else untyped holes t o o'
           → BKept t (plain.body s ss o) (if same_place s0 s then new else plain.body s ss' o')
       blocks own ls s t ss ss' o o' claim ks ko = by (same_place s0 s) refl
         where
           copy : same_place s0 s ≡ false → BKept t (plain.body s ss o) (plain.body s ss' o')
           copy e made c c' st h =
+              subst (λ (n : ℕ). Kept R W (IsCall R W run call) n made SameBody (BodyLike R W apart even (IsCall R W run call) (at_place s0) H none_else untyped holes) c c' (of_body t (plain.body s ss o) c) (of_body t (plain.body s ss' o') c'))
+              (sym (those_inside (at_place s0) s ss o e)) (
               let g = body_cases {H = H} (λ z. other_place s0 s e (ap (λ (b : named.Body). (named.body_node b).span) z.first.is)) h in
-              parts_kept R W apart even same H none_else copies untyped holes s t ss ss' o o' ks ko made c c' st g.0 g.1
+              parts_kept R W apart even (IsCall R W run call) (at_place s0) same H none_else copies untyped holes s t ss ss' o o' ks ko made c c' st g.0 g.1)
 
           by : (z : Bool) → same_place s0 s ≡ z → BKept t (plain.body s ss o) (if z then new else plain.body s ss' o')
           by false e = copy e
           by true e = subst (λ (b : Body). BKept t b new) (sym (placed own ls (plain.body s ss o) claim e)) (the_block t)
 
-      pub round_places : Places R W apart even H none_else untyped holes (blocks_alone (λ b changed. if same_place s0 (body_span b) then new else changed)) N
-      round_places = kept_places R W apart even same H none_else copies untyped holes none_returned returns N (λ b changed. if same_place s0 (body_span b) then new else changed) blocks
+      pub round_places : Places R W apart even (IsCall R W run call) (at_place s0) H none_else untyped holes (blocks_alone (λ b changed. if same_place s0 (body_span b) then new else changed)) N
+      round_places = kept_places R W apart even (IsCall R W run call) (at_place s0) same H none_else copies untyped holes none_returned returns N (λ b changed. if same_place s0 (body_span b) then new else changed) blocks

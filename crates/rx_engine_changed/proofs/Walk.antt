@@ -1,5 +1,5 @@
 -- Expressions, statements and blocks that are numbered beside what becomes of them, where the special places are.
-use Rattle.std.proofs.Common.{◌≡◌, ℕ, Bool, true, false, ◌&&◌, not, List, ◌∷◌, ◌++◌, length, get_or, Option, Some, None, refl, sym, ap, ◌∙◌, subst}
+use Rattle.std.proofs.Common.{◌≡◌, ℕ, ◌+◌, Bool, true, false, ◌&&◌, not, List, ◌∷◌, ◌++◌, length, get_or, Option, Some, None, refl, sym, ap, ◌∙◌, subst}
 use Rattle.rx_core.specs.declared.types.Span.{Span}
 use Rattle.rx_core.specs.declared.types.Kind.{Kind}
 use Rattle.rx_tree.specs.declared.tree.Ident.{Ident}
@@ -21,12 +21,13 @@ use Rattle.rx_engine_names.specs.LikeNamed.{LikeAnnotation, LikeExp, LikeExps, L
 use Rattle.rx_engine_names.specs.Within.{Claims, Within, AllWithin, OptionalWithin, ArgumentsWithin, FieldsWithin, ArmsWithin, BodyWithin, StatementWithin, StatementsWithin}
 use Rattle.rx_engine_typing.specs.Renumbered as ren
 use Rattle.rx_engine_typing.specs.Renumbered.{RenumberedPattern, RenumberedExp, RenumberedExps, RenumberedElse, RenumberedFields, RenumberedArms, RenumberedBody, RenumberedStatement, RenumberedStatements}
-use Rattle.rx_engine_changed.specs.Beside.{Piece, paired, IsPiece, Numbers, IsOneToOne}
+use Rattle.rx_engine_changed.specs.Beside.{Instead, Piece, paired, IsPiece, Numbers, IsOneToOne}
 use Rattle.rx_engine_changed.specs.Stages.{Mutability, InStep}
 use Rattle.rx_engine_changed.proofs.Lists.{still_piece}
 use Rattle.rx_engine_changed.proofs.Steps.{alike_known, alike_loop, alike_waiting, left_alike, next_node, next_entry, annotation_number, next_annotation}
 use Rattle.rx_engine_changed.proofs.Parts.{OnlySpecial, tuple_part, field_part, part_part, deref_part, negate_part, invert_part, borrow_part, binary_parts, assign_parts, update_parts, call_parts, hidden_part, not_hidden, not_called, variant_parts, make_parts, field_parts, print_part, block_part, if_parts, if_let_parts, match_parts, loop_parts, while_parts, while_let_parts, evaluated_part}
-use Rattle.rx_engine_changed.proofs.Kept.{Kept, SameExp, SameExps, SameElse, SameFields, SameArms, SameBody, SameStatement, SameStatements, SameAnnotation, same_or, same_and, WholeLike, no_whole, a_whole, gives, becomes, both, behind_node, behind_entry, behind_step, in_front_of, at_node, a_leaf, a_leaf_with_entry}
+use Rattle.rx_engine_changed.proofs.Counts.{count, count_all, count_optional, count_arguments, count_fields, count_arms, count_body, count_statement, count_statements}
+use Rattle.rx_engine_changed.proofs.Kept.{Kept, SameExp, SameExps, SameElse, SameFields, SameArms, SameBody, SameStatement, SameStatements, SameAnnotation, same_or, same_and, WholeLike, no_whole, a_whole, gives, becomes, both, both_plainly, behind_node, behind_entry, behind_step, in_front_of, at_node, a_leaf, a_leaf_with_entry}
 use Rattle.rx_engine_changed.proofs.Patterns.{AnnotationLike, optional_type_kept, pattern_kept}
 
 -- the left side of an assignment is no variable
@@ -41,7 +42,7 @@ waiting_number true p c = by (named.whole_binding p)
     by None = refl
     by (Some x) = refl
 
-module _ (R : Renaming) (W : Mutability) (apart : IsOneToOne R) (even : (n m : ℕ) (b : Bool) → W n m b b) where
+module _ (R : Renaming) (W : Mutability) (apart : IsOneToOne R) (even : (n m : ℕ) (b : Bool) → W n m b b) (P : Instead → Type 0) (such : Body → Bool) where
   next : {made : List Piece} (s : Span) (t : Site) (c c' : Cursor) → InStep R W made c c' → InStep R W (paired c.number c'.number ∷ made) (a_node s t c).1 (a_node s t c').1
   next s t c c' st = next_node R W apart even s s t t c c' st
 
@@ -85,31 +86,31 @@ module _ (R : Renaming) (W : Mutability) (apart : IsOneToOne R) (even : (n m : �
     -- ---- what is claimed of each kind of part, from wherever both have come to in step
 
     abbrev pub ExpKept : Bool → Site → Expression → Expression → Type 0
-    ExpKept m t e e' = (made : List Piece) (c c' : Cursor) → InStep R W made c c' → LikeExp H R (of_expression m t e c).0 (of_expression m t e' c').0 → Kept R W made SameExp ExpLike c c' (of_expression m t e c) (of_expression m t e' c')
+    ExpKept m t e e' = (made : List Piece) (c c' : Cursor) → InStep R W made c c' → LikeExp H R (of_expression m t e c).0 (of_expression m t e' c').0 → Kept R W P (count such e) made SameExp ExpLike c c' (of_expression m t e c) (of_expression m t e' c')
 
     abbrev pub AllKept : Site → Expressions → Expressions → Type 0
-    AllKept t e e' = (made : List Piece) (c c' : Cursor) → InStep R W made c c' → LikeExps H R (of_expressions t e c).0 (of_expressions t e' c').0 → Kept R W made SameExps ExpsLike c c' (of_expressions t e c) (of_expressions t e' c')
+    AllKept t e e' = (made : List Piece) (c c' : Cursor) → InStep R W made c c' → LikeExps H R (of_expressions t e c).0 (of_expressions t e' c').0 → Kept R W P (count_all such e) made SameExps ExpsLike c c' (of_expressions t e c) (of_expressions t e' c')
 
     abbrev pub OptionalKept : Site → OptionalExpression → OptionalExpression → Type 0
-    OptionalKept t e e' = (made : List Piece) (c c' : Cursor) → InStep R W made c c' → LikeElse H R (of_optional t e c).0 (of_optional t e' c').0 → Kept R W made SameElse ElseLike c c' (of_optional t e c) (of_optional t e' c')
+    OptionalKept t e e' = (made : List Piece) (c c' : Cursor) → InStep R W made c c' → LikeElse H R (of_optional t e c).0 (of_optional t e' c').0 → Kept R W P (count_optional such e) made SameElse ElseLike c c' (of_optional t e c) (of_optional t e' c')
 
     abbrev pub ArgumentsKept : OptionalExpressions → OptionalExpressions → Type 0
-    ArgumentsKept e e' = (made : List Piece) (c c' : Cursor) → InStep R W made c c' → LikeExps H R (of_arguments e c).0 (of_arguments e' c').0 → Kept R W made SameExps ExpsLike c c' (of_arguments e c) (of_arguments e' c')
+    ArgumentsKept e e' = (made : List Piece) (c c' : Cursor) → InStep R W made c c' → LikeExps H R (of_arguments e c).0 (of_arguments e' c').0 → Kept R W P (count_arguments such e) made SameExps ExpsLike c c' (of_arguments e c) (of_arguments e' c')
 
     abbrev pub FieldsKept : FieldExpressions → FieldExpressions → Type 0
-    FieldsKept e e' = (made : List Piece) (c c' : Cursor) → InStep R W made c c' → LikeFields H R (of_fields e c).0 (of_fields e' c').0 → Kept R W made SameFields FieldsLike c c' (of_fields e c) (of_fields e' c')
+    FieldsKept e e' = (made : List Piece) (c c' : Cursor) → InStep R W made c c' → LikeFields H R (of_fields e c).0 (of_fields e' c').0 → Kept R W P (count_fields such e) made SameFields FieldsLike c c' (of_fields e c) (of_fields e' c')
 
     abbrev pub ArmsKept : Site → Arms → Arms → Type 0
-    ArmsKept t e e' = (made : List Piece) (c c' : Cursor) → InStep R W made c c' → LikeArms H R (of_arms t e c).0 (of_arms t e' c').0 → Kept R W made SameArms ArmsLike c c' (of_arms t e c) (of_arms t e' c')
+    ArmsKept t e e' = (made : List Piece) (c c' : Cursor) → InStep R W made c c' → LikeArms H R (of_arms t e c).0 (of_arms t e' c').0 → Kept R W P (count_arms such e) made SameArms ArmsLike c c' (of_arms t e c) (of_arms t e' c')
 
     abbrev pub BodyKept : Site → Body → Body → Type 0
-    BodyKept t e e' = (made : List Piece) (c c' : Cursor) → InStep R W made c c' → LikeBody H R (of_body t e c).0 (of_body t e' c').0 → Kept R W made SameBody BodyLike c c' (of_body t e c) (of_body t e' c')
+    BodyKept t e e' = (made : List Piece) (c c' : Cursor) → InStep R W made c c' → LikeBody H R (of_body t e c).0 (of_body t e' c').0 → Kept R W P (count_body such e) made SameBody BodyLike c c' (of_body t e c) (of_body t e' c')
 
     abbrev pub StatementKept : Statement → Statement → Type 0
-    StatementKept e e' = (made : List Piece) (c c' : Cursor) → InStep R W made c c' → LikeStatement H R (of_statement e c).0 (of_statement e' c').0 → Kept R W made SameStatement StatementLike c c' (of_statement e c) (of_statement e' c')
+    StatementKept e e' = (made : List Piece) (c c' : Cursor) → InStep R W made c c' → LikeStatement H R (of_statement e c).0 (of_statement e' c').0 → Kept R W P (count_statement such e) made SameStatement StatementLike c c' (of_statement e c) (of_statement e' c')
 
     abbrev pub StatementsKept : Statements → Statements → Type 0
-    StatementsKept e e' = (made : List Piece) (c c' : Cursor) → InStep R W made c c' → LikeStatements H R (of_statements e c).0 (of_statements e' c').0 → Kept R W made SameStatements StatementsLike c c' (of_statements e c) (of_statements e' c')
+    StatementsKept e e' = (made : List Piece) (c c' : Cursor) → InStep R W made c c' → LikeStatements H R (of_statements e c).0 (of_statements e' c').0 → Kept R W P (count_statements such e) made SameStatements StatementsLike c c' (of_statements e c) (of_statements e' c')
 
     -- ---- one form by others
 
@@ -158,8 +159,8 @@ module _ (R : Renaming) (W : Mutability) (apart : IsOneToOne R) (even : (n m : �
     abbrev IfNode : ℕ → ℕ → Numbers → Exp → Exp → Type 0
     IfNode k k' q e e' = q.by.nodes k ≡ k' → ExpLike q e e'
 
-    called_kept : {made : List Piece} (s : Span) (t : Site) (b b' c c' : Cursor) (a a' : List ℕ × Bool) (f f' : Site → Numbering Exps) → ((i : Site) → LikeExps H R (f i c).0 (f' i c').0 → Kept R W made SameExps ExpsLike c c' (f i c) (f' i c'))
-        → LikeExp H R (numbering.called (a_node s t b).0 a f c).0 (numbering.called (a_node s t b').0 a' f' c').0 → Kept R W made SameExp (IfNode b.number b'.number) c c' (numbering.called (a_node s t b).0 a f c) (numbering.called (a_node s t b').0 a' f' c')
+    called_kept : {k : ℕ} {made : List Piece} (s : Span) (t : Site) (b b' c c' : Cursor) (a a' : List ℕ × Bool) (f f' : Site → Numbering Exps) → ((i : Site) → LikeExps H R (f i c).0 (f' i c').0 → Kept R W P k made SameExps ExpsLike c c' (f i c) (f' i c'))
+        → LikeExp H R (numbering.called (a_node s t b).0 a f c).0 (numbering.called (a_node s t b').0 a' f' c').0 → Kept R W P k made SameExp (IfNode b.number b'.number) c c' (numbering.called (a_node s t b).0 a f c) (numbering.called (a_node s t b').0 a' f' c')
     called_kept s t b b' c c' (xs, true) (xs', true) f f' k h =
         becomes (λ es. named.hidden_call (a_node s t b).0 es) (λ es. named.hidden_call (a_node s t b').0 es) (k Site.Value (hidden_part only h)) (λ z. (refl, z))
         (λ q a a' g w e. at_node q (λ n. ExpLike q (named.hidden_call (a_node s t b).0 a) (named.hidden_call n a')) b.number b'.number s s t e (ren.RenumberedExp.hidden_call w))
@@ -196,7 +197,7 @@ module _ (R : Renaming) (W : Mutability) (apart : IsOneToOne R) (even : (n m : �
 
         Goal : Option (ℕ × ℕ) → Option (ℕ × ℕ) → Type 0
         Goal w w' = LikeExp H R (numbering.assigned N Q w (λ i. of_expression false i e) E).0 (numbering.assigned N' Q' w' (λ i. of_expression false i e') E').0
-            → Kept R W made SameExp ExpLike c c' (numbering.assigned N Q w (λ i. of_expression false i e) E) (numbering.assigned N' Q' w' (λ i. of_expression false i e') E')
+            → Kept R W P (count such p + count such e) made SameExp ExpLike c c' (numbering.assigned N Q w (λ i. of_expression false i e) E) (numbering.assigned N' Q' w' (λ i. of_expression false i e') E')
 
         none_waits : Goal None None
         none_waits h =
@@ -249,8 +250,8 @@ module _ (R : Renaming) (W : Mutability) (apart : IsOneToOne R) (even : (n m : �
         same_site (Some t) None e = absurd (cc)
 
         annotation_kept : {made : List Piece} {s : Span} (y : Option TypeTree) (c c' : Cursor) → InStep R W made c c' → LikeAnnotation H R s (numbering.of_optional_type y c).0 (numbering.of_optional_type y c').0
-            → Kept R W made SameAnnotation (AnnotationLike R W apart even) c c' (numbering.of_optional_type y c) (numbering.of_optional_type y c')
-        annotation_kept y c c' st (alike.like_typed h) = optional_type_kept R W apart even y c c' st h
+            → Kept R W P 0 made SameAnnotation (AnnotationLike R W apart even P) c c' (numbering.of_optional_type y c) (numbering.of_optional_type y c')
+        annotation_kept y c c' st (alike.like_typed h) = optional_type_kept R W apart even P y c c' st h
         annotation_kept y c c' st (alike.like_other_type h) = absurd (untyped _ _ _ _ h)
 
         -- a `let`
@@ -258,7 +259,7 @@ module _ (R : Renaming) (W : Mutability) (apart : IsOneToOne R) (even : (n m : �
         declared s p y made c c' st (alike.like_declares e o k) =
             let d = (a_node s Site.Value c).1 in let d' = (a_node s Site.Value c').1 in
             let f = (numbering.annotates p y d).1 in let f' = (numbering.annotates p y d').1 in
-            let a = pattern_kept R W apart even p f f' (next_annotation R W p y d d' (next s Site.Value c c' st)) o in
+            let a = pattern_kept R W apart even P p f f' (next_annotation R W p y d d' (next s Site.Value c c' st)) o in
             let g = numbering.of_pattern p f in let g' = numbering.of_pattern p f' in
             let w = annotation_kept y g.1 g'.1 a.kept.step k in
             let u = numbering.of_optional_type y g.1 in let u' = numbering.of_optional_type y g'.1 in
@@ -273,13 +274,13 @@ module _ (R : Renaming) (W : Mutability) (apart : IsOneToOne R) (even : (n m : �
         initialised s p y e e' ke made c c' st (alike.like_lets r o k h) =
             let d = (a_node s Site.Value c).1 in let d' = (a_node s Site.Value c').1 in
             let f = (numbering.annotates p y d).1 in let f' = (numbering.annotates p y d').1 in
-            let a = pattern_kept R W apart even p f f' (next_annotation R W p y d d' (next s Site.Value c c' st)) o in
+            let a = pattern_kept R W apart even P p f f' (next_annotation R W p y d d' (next s Site.Value c c' st)) o in
             let g = numbering.of_pattern p f in let g' = numbering.of_pattern p f' in
             let w = annotation_kept y g.1 g'.1 a.kept.step k in
             let u = numbering.of_optional_type y g.1 in let u' = numbering.of_optional_type y g'.1 in
             let i = numbering.initialiser_site u.0 in let i' = numbering.initialiser_site u'.0 in
-            let X : LikeExp H R (of_expression false i e u.1).0 (of_expression false i' e' u'.1).0 → Kept R W w.now SameExp ExpLike u.1 u'.1 (of_expression false i e u.1) (of_expression false i' e' u'.1)
-            = subst (λ (j : Site). LikeExp H R (of_expression false i e u.1).0 (of_expression false j e' u'.1).0 → Kept R W w.now SameExp ExpLike u.1 u'.1 (of_expression false i e u.1) (of_expression false j e' u'.1)) (sym (same_site u.0 u'.0 w.same)) (ke i w.now u.1 u'.1 w.step) in
+            let X : LikeExp H R (of_expression false i e u.1).0 (of_expression false i' e' u'.1).0 → Kept R W P (count such e) w.now SameExp ExpLike u.1 u'.1 (of_expression false i e u.1) (of_expression false i' e' u'.1)
+            = subst (λ (j : Site). LikeExp H R (of_expression false i e u.1).0 (of_expression false j e' u'.1).0 → Kept R W P (count such e) w.now SameExp ExpLike u.1 u'.1 (of_expression false i e u.1) (of_expression false j e' u'.1)) (sym (same_site u.0 u'.0 w.same)) (ke i w.now u.1 u'.1 w.step) in
             let x = X h in
             let l = of_expression false i e u.1 in let l' = of_expression false i' e' u'.1 in
             let v = (numbering.known_between f.declared g.1.declared l.1).1 in let v' = (numbering.known_between f'.declared g'.1.declared l'.1).1 in
@@ -287,13 +288,13 @@ module _ (R : Renaming) (W : Mutability) (apart : IsOneToOne R) (even : (n m : �
             let b = numbering.has_no_type u.0 && never l.0 in let b' = numbering.has_no_type u'.0 && never l'.0 in
             let y1 = in_front_of z (numbering.waits_if b g.0 v).1 (numbering.waits_if b' g'.0 v').1 (waiting_number b g.0 v) (waiting_number b' g'.0 v')
             (next_waits b b' g.0 g'.0 v v' (same_and w.same x.same.0) a.whole (still_piece x.grows (still_piece w.grows a.node)) z.step) in
-            becomes (λ x. named.lets (a_node s Site.Value c).0 x.0 x.1.0 x.1.1) (λ x. named.lets (a_node s Site.Value c').0 x.0 x.1.0 x.1.1) (behind_node s s Site.Value Site.Value c c' (behind_step d d' f f' (annotation_number p y d) (annotation_number p y d') (both a.kept (both w y1)))) (λ x. x.1.1.1)
+            becomes (λ x. named.lets (a_node s Site.Value c).0 x.0 x.1.0 x.1.1) (λ x. named.lets (a_node s Site.Value c').0 x.0 x.1.0 x.1.1) (behind_node s s Site.Value Site.Value c c' (behind_step d d' f f' (annotation_number p y d) (annotation_number p y d') (both_plainly a.kept (both_plainly w y1)))) (λ x. x.1.1.1)
             (λ q a a' f w. at_node q (λ n. StatementLike q (named.lets (a_node s Site.Value c).0 a.0 a.1.0 a.1.1) (named.lets n a'.0 a'.1.0 a'.1.1)) c.number c'.number s s Site.Value w.0 (ren.RenumberedStatement.lets w.1.0 w.1.1.0 w.1.1.1))
 
         mutual
           pub exp_kept : (own : Names) (ls : List Around) (m : Bool) (t : Site) (e : Expression) → Within N own ls e → ExpKept m t e (changed C own ls e)
           exp_kept own ls m t (plain.int s v k) holds made c c' st h =
-              subst (λ (l : Option Kind). Kept R W made SameExp ExpLike c c' (of_expression m t (plain.int s v k) c) (of_expression m t (plain.int s v l) c')) (sym (places.kinds s k))
+              subst (λ (l : Option Kind). Kept R W P 0 made SameExp ExpLike c c' (of_expression m t (plain.int s v k) c) (of_expression m t (plain.int s v l) c')) (sym (places.kinds s k))
               (a_leaf s s t t c c' (named.int (a_node s t c).0 m v k) (named.int (a_node s t c').0 m v k) (next s t c c' st) (refl, refl) (λ q f w. at_node q (λ n. ExpLike q (named.int (a_node s t c).0 m v k) (named.int n m v k)) c.number c'.number s s t w ren.RenumberedExp.int))
           exp_kept own ls m t (plain.bool s b) holds made c c' st h = a_leaf s s t t c c' (named.bool (a_node s t c).0 b) (named.bool (a_node s t c').0 b) (next s t c c' st) (refl, refl) (λ q f w. at_node q (λ n. ExpLike q (named.bool (a_node s t c).0 b) (named.bool n b)) c.number c'.number s s t w ren.RenumberedExp.bool)
           exp_kept own ls m t (plain.var s x) holds made c c' st h = places.variable own s x holds m t made c c' st h
@@ -367,14 +368,14 @@ module _ (R : Renaming) (W : Mutability) (apart : IsOneToOne R) (even : (n m : �
           exp_kept own ls m t (plain.if_let s p e b plain.absent) holds made c c' st h =
               let g = if_let_parts only h in
               let d = numbering.of_pattern p (a_node s t c).1 in let d' = numbering.of_pattern p (a_node s t c').1 in
-              let a = pattern_kept R W apart even p (a_node s t c).1 (a_node s t c').1 (next s t c c' st) g.0 in
+              let a = pattern_kept R W apart even P p (a_node s t c).1 (a_node s t c').1 (next s t c c' st) g.0 in
               let e1 = of_expression false Site.Scrutinee e d.1 in let e2 = of_expression false Site.Scrutinee (changed C own ls e) d'.1 in
               let y = exp_kept own ls false Site.Scrutinee e holds.0 _ d.1 d'.1 a.kept.step g.1 in
               let k = (numbering.known_between (a_node s t c).1.declared d.1.declared e1.1).1 in let k' = (numbering.known_between (a_node s t c').1.declared d'.1.declared e2.1).1 in
               let u = in_front_of y k k' refl refl (alike_known R W apart even y.step a.ranges) in
               let z = body_kept (bound p ++ own) ls Site.Value b holds.1 _ k k' u.step g.2 in
               let v = optional_kept own ls (numbering.passed_on t) plain.absent holds.2 _ (of_body Site.Value b k).1 (of_body Site.Value (changed_body C (bound p ++ own) ls b) k').1 z.step g.3 in
-              becomes (λ x. named.if_let (a_node s t c).0 x.0 x.1.0 x.1.1.0 x.1.1.1) (λ x. named.if_let (a_node s t c').0 x.0 x.1.0 x.1.1.0 x.1.1.1) (behind_node s s t t c c' (both a.kept (both u (both z v)))) (λ x. (same_and x.1.1.0.0 x.1.1.1.0, same_or x.1.0.1 (same_and x.1.1.0.1 x.1.1.1.1)))
+              becomes (λ x. named.if_let (a_node s t c).0 x.0 x.1.0 x.1.1.0 x.1.1.1) (λ x. named.if_let (a_node s t c').0 x.0 x.1.0 x.1.1.0 x.1.1.1) (behind_node s s t t c c' (both_plainly a.kept (both u (both z v)))) (λ x. (same_and x.1.1.0.0 x.1.1.1.0, same_or x.1.0.1 (same_and x.1.1.0.1 x.1.1.1.1)))
               (λ q a a' f w. at_node q (λ n. ExpLike q (named.if_let (a_node s t c).0 a.0 a.1.0 a.1.1.0 a.1.1.1) (named.if_let n a'.0 a'.1.0 a'.1.1.0 a'.1.1.1)) c.number c'.number s s t w.0 (ren.RenumberedExp.if_let w.1.0 w.1.1.0 w.1.1.1.0 w.1.1.1.1))
           exp_kept own ls m t (plain.if s e b (plain.present x)) holds made c c' st h =
               let g = if_parts only h in
@@ -387,14 +388,14 @@ module _ (R : Renaming) (W : Mutability) (apart : IsOneToOne R) (even : (n m : �
           exp_kept own ls m t (plain.if_let s p e b (plain.present x)) holds made c c' st h =
               let g = if_let_parts only h in
               let d = numbering.of_pattern p (a_node s t c).1 in let d' = numbering.of_pattern p (a_node s t c').1 in
-              let a = pattern_kept R W apart even p (a_node s t c).1 (a_node s t c').1 (next s t c c' st) g.0 in
+              let a = pattern_kept R W apart even P p (a_node s t c).1 (a_node s t c').1 (next s t c c' st) g.0 in
               let e1 = of_expression false Site.Scrutinee e d.1 in let e2 = of_expression false Site.Scrutinee (changed C own ls e) d'.1 in
               let y = exp_kept own ls false Site.Scrutinee e holds.0 _ d.1 d'.1 a.kept.step g.1 in
               let k = (numbering.known_between (a_node s t c).1.declared d.1.declared e1.1).1 in let k' = (numbering.known_between (a_node s t c').1.declared d'.1.declared e2.1).1 in
               let u = in_front_of y k k' refl refl (alike_known R W apart even y.step a.ranges) in
               let z = body_kept (bound p ++ own) ls (numbering.passed_on t) b holds.1 _ k k' u.step g.2 in
               let v = optional_kept own ls (numbering.passed_on t) (plain.present x) holds.2 _ (of_body (numbering.passed_on t) b k).1 (of_body (numbering.passed_on t) (changed_body C (bound p ++ own) ls b) k').1 z.step g.3 in
-              becomes (λ x. named.if_let (a_node s t c).0 x.0 x.1.0 x.1.1.0 x.1.1.1) (λ x. named.if_let (a_node s t c').0 x.0 x.1.0 x.1.1.0 x.1.1.1) (behind_node s s t t c c' (both a.kept (both u (both z v)))) (λ x. (same_and x.1.1.0.0 x.1.1.1.0, same_or x.1.0.1 (same_and x.1.1.0.1 x.1.1.1.1)))
+              becomes (λ x. named.if_let (a_node s t c).0 x.0 x.1.0 x.1.1.0 x.1.1.1) (λ x. named.if_let (a_node s t c').0 x.0 x.1.0 x.1.1.0 x.1.1.1) (behind_node s s t t c c' (both_plainly a.kept (both u (both z v)))) (λ x. (same_and x.1.1.0.0 x.1.1.1.0, same_or x.1.0.1 (same_and x.1.1.0.1 x.1.1.1.1)))
               (λ q a a' f w. at_node q (λ n. ExpLike q (named.if_let (a_node s t c).0 a.0 a.1.0 a.1.1.0 a.1.1.1) (named.if_let n a'.0 a'.1.0 a'.1.1.0 a'.1.1.1)) c.number c'.number s s t w.0 (ren.RenumberedExp.if_let w.1.0 w.1.1.0 w.1.1.1.0 w.1.1.1.1))
           exp_kept own ls m t (plain.loop s l b) holds made c c' st h =
               let g = loop_parts only h in let d = (numbering.a_loop (a_node s t c).1).1 in let d' = (numbering.a_loop (a_node s t c').1).1 in
@@ -411,14 +412,14 @@ module _ (R : Renaming) (W : Mutability) (apart : IsOneToOne R) (even : (n m : �
               (λ q a a' f w. while_at q (a_node s t c).0 _ _ c'.number s t (f.loops _ _ g.0) w.0 refl w.1.0 w.1.1)
           exp_kept own ls m t (plain.while_let s l p e b) holds made c c' st h =
               let g = while_let_parts only h in let d = (numbering.a_loop (a_node s t c).1).1 in let d' = (numbering.a_loop (a_node s t c').1).1 in
-              let a = pattern_kept R W apart even p d d' (alike_loop R W apart even (next s t c c' st) g.0) g.1 in
+              let a = pattern_kept R W apart even P p d d' (alike_loop R W apart even (next s t c c' st) g.0) g.1 in
               let f = numbering.of_pattern p d in let f' = numbering.of_pattern p d' in
               let e1 = of_expression false Site.Scrutinee e f.1 in let e2 = of_expression false Site.Scrutinee (changed C own (a_test ∷ meant.a_loop l 0 ∷ ls) e) f'.1 in
               let y = exp_kept own (a_test ∷ meant.a_loop l 0 ∷ ls) false Site.Scrutinee e holds.0 _ f.1 f'.1 a.kept.step g.2 in
               let k = (numbering.known_between d.declared f.1.declared e1.1).1 in let k' = (numbering.known_between d'.declared f'.1.declared e2.1).1 in
               let u = in_front_of y k k' refl refl (alike_known R W apart even y.step a.ranges) in
               let z = body_kept (bound p ++ own) (meant.a_loop l 0 ∷ ls) Site.Value b holds.1 _ k k' u.step g.3 in
-              becomes (λ x. named.while_let (a_node s t c).0 (length (a_node s t c).1.loops) x.0 x.1.0 x.1.1) (λ x. named.while_let (a_node s t c').0 (length (a_node s t c').1.loops) x.0 x.1.0 x.1.1) (behind_node s s t t c c' (behind_step (a_node s t c).1 (a_node s t c').1 d d' refl refl (both a.kept (both u z)))) (λ x. (refl, x.1.0.1))
+              becomes (λ x. named.while_let (a_node s t c).0 (length (a_node s t c).1.loops) x.0 x.1.0 x.1.1) (λ x. named.while_let (a_node s t c').0 (length (a_node s t c').1.loops) x.0 x.1.0 x.1.1) (behind_node s s t t c c' (behind_step (a_node s t c).1 (a_node s t c').1 d d' refl refl (both_plainly a.kept (both u z)))) (λ x. (refl, x.1.0.1))
               (λ q a a' f w. while_let_at q (a_node s t c).0 _ _ c'.number s t (f.loops _ _ g.0) w.0 refl w.1.0 w.1.1.0 w.1.1.1)
 
           all_kept : (own : Names) (ls : List Around) (t : Site) (es : Expressions) → AllWithin N own ls es → AllKept t es (changed_all C own ls es)
@@ -445,12 +446,12 @@ module _ (R : Renaming) (W : Mutability) (apart : IsOneToOne R) (even : (n m : �
           arms_kept own ls t plain.no_arm holds made c c' st h = gives c c' named.no_arm named.no_arm st (refl, refl) (λ q f w. ren.RenumberedArms.no_arm)
           arms_kept own ls t (plain.arm_and p e l) holds made c c' st (alike.like_more_arms o h hs) =
               let d = numbering.of_pattern p c in let d' = numbering.of_pattern p c' in
-              let a = pattern_kept R W apart even p c c' st o in
+              let a = pattern_kept R W apart even P p c c' st o in
               let k = (numbering.known_between c.declared d.1.declared d.1).1 in let k' = (numbering.known_between c'.declared d'.1.declared d'.1).1 in
               let u = in_front_of a.kept k k' refl refl (alike_known R W apart even a.kept.step a.ranges) in
               let y = exp_kept (bound p ++ own) ls false t e holds.0 _ k k' u.step h in
               let z = arms_kept own ls t l holds.1 _ (of_expression false t e k).1 (of_expression false t (changed C (bound p ++ own) ls e) k').1 y.step hs in
-              becomes (λ x. named.arm_and x.0 x.1.0 x.1.1) (λ x. named.arm_and x.0 x.1.0 x.1.1) (both u (both y z)) (λ x. (same_and x.1.0.0 x.1.1.0, same_and x.1.0.1 x.1.1.1)) (λ q a a' f w. ren.RenumberedArms.arm_and w.0 w.1.0 w.1.1)
+              becomes (λ x. named.arm_and x.0 x.1.0 x.1.1) (λ x. named.arm_and x.0 x.1.0 x.1.1) (both_plainly u (both y z)) (λ x. (same_and x.1.0.0 x.1.1.0, same_and x.1.0.1 x.1.1.1)) (λ q a a' f w. ren.RenumberedArms.arm_and w.0 w.1.0 w.1.1)
 
           pub body_kept : (own : Names) (ls : List Around) (t : Site) (b : Body) → BodyWithin N own ls b → BodyKept t b (changed_body C own ls b)
           body_kept own ls t (plain.body s ss o) holds made c c' st h = places.blocks own ls s t ss (changed_statements C own ls ss) o (changed_optional C (behind_all own ss) ls o) holds.0 (statements_kept own ls ss holds.1) (optional_kept (behind_all own ss) ls t o holds.2) made c c' st h

@@ -5,3 +5,4 @@ pub mod Numbered
 pub mod Chosen
 pub mod Called
 pub mod AsItStands
+pub mod Once

@@ -2,12 +2,14 @@
 
 ghost use Rattle.std.specs.Prelude.{◌≡◌, true, false, ℕ, List as ListOf, []};
 ghost use Rattle.rx_core.specs.declared.types.Span.{Span};
-ghost use Rattle.rx_tree.specs.Lists.{statements};
-ghost use Rattle.rx_tree.specs.Plain.{Function, ProgramTree, Statements};
+ghost use Rattle.rx_tree.specs.Lists.{statements, tail};
+ghost use Rattle.rx_tree.specs.Plain.{Function, OptionalExpression, ProgramTree, Statement, Statements};
 ghost use Rattle.rx_resolve_names.specs.Meant.{Around};
+ghost use Rattle.rx_resolve_names.specs.declared.resolved.ItemNames.{ItemNames};
 ghost use Rattle.rx_resolve_names.specs.declared.resolved.NodeNames.{NodeNames};
+ghost use Rattle.rx_typed.specs.Named.{Function as NamedFunction};
 ghost use Rattle.rx_typed.specs.Naming.{function_named, of_statements, Cursor};
-ghost use Rattle.rx_hoist_extraction.specs.Run.{goes_past, run_block, with_parts, Run};
+ghost use Rattle.rx_hoist_extraction.specs.Run.{as_statements, chosen, goes_past, run_block, with_parts, Run};
 ghost use Rattle.rx_hoist_extraction.specs.Plan.{Plan};
 ghost use Rattle.rx_hoist_extraction.specs.Names.{Names};
 ghost use Rattle.rx_hoist_extraction.specs.Changed.{changed_statements};
@@ -16,34 +18,45 @@ ghost use Rattle.rx_engine_names.specs.Renaming.{Made, Renaming, Serves};
 ghost use Rattle.rx_engine_names.specs.LikeNamed.{LikeFunction, LikeStatements};
 ghost use Rattle.rx_engine_names.specs.Moves.{moved, Moves};
 ghost use Rattle.rx_engine_names.specs.Within.{StatementsWithin};
+ghost use Rattle.rx_engine_names.specs.Insertion.{number_there, Inserted};
 ghost use Rattle.rx_engine_names.specs.Apart.{Apart, Below, Few};
 ghost use Rattle.rx_engine_names.specs.HandedOut.{Handing};
-ghost use Rattle.rx_engine_names.specs.CalledRuns.{call_parts, RunStands};
+ghost use Rattle.rx_engine_names.specs.CalledRuns.{call_parts, LikeCalled, LikeCalledLast, RunStands};
 ghost use Rattle.rx_typeck_solver.specs.Facts.{Known, Types};
-ghost use Rattle.rx_engine_blocks.specs.Along.{none_viewed, Viewed};
+ghost use Rattle.rx_typeck_solver.specs.Ordered.{Orderly};
+ghost use Rattle.rx_typeck_solver.specs.Valid.{Valid};
+ghost use Rattle.rx_typeck_typed.specs.Demands as rules;
+ghost use Rattle.rx_typeck_typed.specs.Demands.{demands, task};
+ghost use Rattle.rx_engine_blocks.specs.Knows.{Knows};
+ghost use Rattle.rx_engine_blocks.specs.Along.{composed, none_viewed, Viewed};
 ghost use Rattle.rx_engine_blocks.specs.Blocks.{none_behind, Behind};
 ghost use Rattle.rx_engine_typing.specs.Renumbered.{no_holes};
+ghost use Rattle.rx_engine_holes.specs.Others.{OthersFit};
 ghost use Rattle.rx_engine_holes.specs.Returned.{returned_holes};
 ghost use Rattle.rx_engine_holes.specs.Special.{special_holes};
 ghost use Rattle.rx_engine_changed.specs.AsItStands.{as_it_stands, StatementsBeside};
 ghost use Rattle.rx_engine_changed.specs.Beside.{Grows, Instead, IsOneToOne, Piece};
-ghost use Rattle.rx_engine_changed.specs.Called.{with_other_block, EndGoesOn, EndHoleOf, HoleOf, RunGoesOn};
+ghost use Rattle.rx_engine_changed.specs.Called.{with_other_block, EndGoesOn, EndHoleOf, EndIsNumbered, HoleOf, CallIsNumbered, RunGoesOn};
 ghost use Rattle.rx_engine_changed.specs.Chosen.{least, Chosen, OneInstead};
-ghost use Rattle.rx_engine_changed.specs.Numbered.{NumberedBeside};
+ghost use Rattle.rx_engine_changed.specs.Once.{asked_last, given_last, ByOneNumbering, IsCall, IsLastCall, NumberedOnce};
 ghost use Rattle.rx_engine_changed.specs.Round.{as_mutable, round};
 ghost use Rattle.rx_engine_changed.specs.Stages.{InStep};
 
+use rx_engine_holes::{
+    functions_with_others_for_a_run_are_valid, functions_with_others_for_an_end_are_valid,
+};
+
 /// The function with the call, where something follows the run in its block, is the text's function by other numbers with the statements of the
-/// call for the run: each form round them stands where it stood.
+/// call for the run: each form round them stands where it stood, and they stand once.
 pub fn functions_with_a_call_are_renumbered()
     ensures standing { (p q : ProgramTree) (n m : ℕ) (s : Span) (f : Function) (r : Run) (pl : Plan) (G : Handing) → RunStands r pl f → (R : Renaming) → IsOneToOne R → (ns ms : ListOf NodeNames) → R.item n ≡ m → goes_past r (statements (run_block r f)) ≡ false → RunGoesOn p q n m s f r pl G R
         → LikeFunction (HoleOf p q n m s f r pl G (run_block r f) (with_parts r (call_parts p r pl f) (run_block r f))) R (function_named n s f ns) (function_named m s (with_other_block (run_block r f) (with_parts r (call_parts p r pl f) (run_block r f)) f) ms)
         → (function_named n s f ns).never_given ≡ [] → (function_named m s (with_other_block (run_block r f) (with_parts r (call_parts p r pl f) (run_block r f)) f) ms).never_given ≡ []
-        → NumberedBeside R (λ q. round no_holes q) (function_named n s f ns) (function_named m s (with_other_block (run_block r f) (with_parts r (call_parts p r pl f) (run_block r f)) f) ms) }
+        → NumberedOnce R (IsCall R as_mutable (chosen r (statements (run_block r f))) (call_parts p r pl f).statements) (λ q. round no_holes q) (function_named n s f ns) (function_named m s (with_other_block (run_block r f) (with_parts r (call_parts p r pl f) (run_block r f)) f) ms) }
     ensures asking { (A W : Types) (p q : ProgramTree) (n m : ℕ) (s : Span) (f : Function) (r : Run) (pl : Plan) (G : Handing) → RunStands r pl f → (R : Renaming) → IsOneToOne R → (ns ms : ListOf NodeNames) → R.item n ≡ m → goes_past r (statements (run_block r f)) ≡ false → RunGoesOn p q n m s f r pl G R
         → LikeFunction (HoleOf p q n m s f r pl G (run_block r f) (with_parts r (call_parts p r pl f) (run_block r f))) R (function_named n s f ns) (function_named m s (with_other_block (run_block r f) (with_parts r (call_parts p r pl f) (run_block r f)) f) ms)
         → (function_named n s f ns).never_given ≡ [] → (function_named m s (with_other_block (run_block r f) (with_parts r (call_parts p r pl f) (run_block r f)) f) ms).never_given ≡ []
-        → NumberedBeside R (λ q. round (special_holes q.by q.back none_viewed none_behind A W) q) (function_named n s f ns) (function_named m s (with_other_block (run_block r f) (with_parts r (call_parts p r pl f) (run_block r f)) f) ms) }
+        → NumberedOnce R (IsCall R as_mutable (chosen r (statements (run_block r f))) (call_parts p r pl f).statements) (λ q. round (special_holes q.by q.back none_viewed none_behind A W) q) (function_named n s f ns) (function_named m s (with_other_block (run_block r f) (with_parts r (call_parts p r pl f) (run_block r f)) f) ms) }
 {}
 
 /// The same where the run goes to its block's end: other last statements stand for its own, and another tail.
@@ -51,11 +64,11 @@ pub fn functions_with_a_call_at_the_end_are_renumbered()
     ensures standing { (p q : ProgramTree) (n m : ℕ) (s : Span) (f : Function) (r : Run) (pl : Plan) (G : Handing) → RunStands r pl f → (R : Renaming) → IsOneToOne R → (ns ms : ListOf NodeNames) → R.item n ≡ m → goes_past r (statements (run_block r f)) ≡ true → EndGoesOn p q n m s f r pl G R
         → LikeFunction (EndHoleOf p q n m s f r pl G (run_block r f) (with_parts r (call_parts p r pl f) (run_block r f))) R (function_named n s f ns) (function_named m s (with_other_block (run_block r f) (with_parts r (call_parts p r pl f) (run_block r f)) f) ms)
         → (function_named n s f ns).never_given ≡ [] → (function_named m s (with_other_block (run_block r f) (with_parts r (call_parts p r pl f) (run_block r f)) f) ms).never_given ≡ []
-        → NumberedBeside R (λ q. round no_holes q) (function_named n s f ns) (function_named m s (with_other_block (run_block r f) (with_parts r (call_parts p r pl f) (run_block r f)) f) ms) }
+        → NumberedOnce R (IsLastCall R as_mutable (chosen r (statements (run_block r f))) (call_parts p r pl f).statements (tail (run_block r f)) (call_parts p r pl f).tail) (λ q. round no_holes q) (function_named n s f ns) (function_named m s (with_other_block (run_block r f) (with_parts r (call_parts p r pl f) (run_block r f)) f) ms) }
     ensures asking { (A W : Types) (p q : ProgramTree) (n m : ℕ) (s : Span) (f : Function) (r : Run) (pl : Plan) (G : Handing) → RunStands r pl f → (R : Renaming) → IsOneToOne R → (ns ms : ListOf NodeNames) → R.item n ≡ m → goes_past r (statements (run_block r f)) ≡ true → EndGoesOn p q n m s f r pl G R
         → LikeFunction (EndHoleOf p q n m s f r pl G (run_block r f) (with_parts r (call_parts p r pl f) (run_block r f))) R (function_named n s f ns) (function_named m s (with_other_block (run_block r f) (with_parts r (call_parts p r pl f) (run_block r f)) f) ms)
         → (function_named n s f ns).never_given ≡ [] → (function_named m s (with_other_block (run_block r f) (with_parts r (call_parts p r pl f) (run_block r f)) f) ms).never_given ≡ []
-        → NumberedBeside R (λ q. round (special_holes q.by q.back none_viewed none_behind A W) q) (function_named n s f ns) (function_named m s (with_other_block (run_block r f) (with_parts r (call_parts p r pl f) (run_block r f)) f) ms) }
+        → NumberedOnce R (IsLastCall R as_mutable (chosen r (statements (run_block r f))) (call_parts p r pl f).statements (tail (run_block r f)) (call_parts p r pl f).tail) (λ q. round (special_holes q.by q.back none_viewed none_behind A W) q) (function_named n s f ns) (function_named m s (with_other_block (run_block r f) (with_parts r (call_parts p r pl f) (run_block r f)) f) ms) }
 {}
 
 /// Statements of a run that are copied into another function as they stand, and are like the text's by their names, are the text's by other
@@ -76,3 +89,28 @@ pub fn pieces_tell_a_numbering()
     ensures { (items : ℕ → ℕ) (M : Made) (a b c d : ℕ) → Few a → Few b → Few c → Few d → Apart M.variables → Below M.variables a b → Apart M.loops → Below M.loops c d
         → (pieces : ListOf Piece) (last last' : ℕ) → Grows [] 0 0 pieces last last' → (i : Instead) → OneInstead i pieces → Chosen (least items M) pieces }
 {}
+
+/// So the function with the call of an extraction, which is like the text's but for the run's block, is the text's by one numbering, with the
+/// statements of the call once for those of the run; asked is that the run goes on in step with the call, by the renaming in which what was made
+/// corresponds, and that no variable is left without a type.
+pub fn functions_with_a_call_have_one_numbering()
+    ensures within { (p q : ProgramTree) (c : Inserted p q) (n m : ℕ) (s : Span) (f : Function) (r : Run) (pl : Plan) (G : Handing) (t : ItemNames) → RunStands r pl f → number_there c n ≡ m
+        → goes_past r (statements (run_block r f)) ≡ false → LikeCalled p q c n m s f r pl G t → CallIsNumbered p q c n m s f r pl G t }
+    ensures at_the_end { (p q : ProgramTree) (c : Inserted p q) (n m : ℕ) (s : Span) (f : Function) (r : Run) (pl : Plan) (G : Handing) (t : ItemNames) → RunStands r pl f → number_there c n ≡ m
+        → goes_past r (statements (run_block r f)) ≡ true → LikeCalledLast p q c n m s f r pl G t → EndIsNumbered p q c n m s f r pl G t }
+{}
+
+/// So the function with the call has a valid assignment, where what the call asks fits: the text's types at what comes from the text.
+pub fn functions_with_a_call_are_valid()
+    ensures within { (R : Renaming) (run call : ListOf Statement) (f g : NamedFunction) (x : ByOneNumbering R (IsCall R as_mutable run call) (λ q. round no_holes q) f g) → (D E : Known) → Knows x.numbers.by D E
+        → (A W : Types) → Orderly (task g) → Valid D (task f) A
+        → OthersFit x.numbers.by x.numbers.back E A W (rules.of_statements f.item (of_statements (as_statements run) x.such.cursor).0 []) (rules.of_statements (x.numbers.by.items f.item) (of_statements (as_statements call) x.such.cursor').0 []) (demands g)
+        → Valid E (task g) (composed x.numbers.by x.numbers.back none_viewed A W) }
+    ensures at_the_end { (R : Renaming) (run call : ListOf Statement) (o l : OptionalExpression) (f g : NamedFunction) (x : ByOneNumbering R (IsLastCall R as_mutable run call o l) (λ q. round no_holes q) f g) → (D E : Known) → Knows x.numbers.by D E
+        → (A W : Types) → Orderly (task g) → Valid D (task f) A
+        → OthersFit x.numbers.by x.numbers.back E A W (asked_last x.such f.item) (given_last x.such x.numbers.by (x.numbers.by.items f.item)) (demands g)
+        → Valid E (task g) (composed x.numbers.by x.numbers.back none_viewed A W) }
+{
+    functions_with_others_for_a_run_are_valid();
+    functions_with_others_for_an_end_are_valid();
+}

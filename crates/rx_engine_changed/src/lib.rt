@@ -5,6 +5,6 @@ mod laws;
 
 pub use laws::{
     copied_runs_are_renumbered, functions_with_a_call_are_renumbered,
-    functions_with_a_call_at_the_end_are_renumbered, made_pairs_are_one_to_one,
-    pieces_tell_a_numbering,
+    functions_with_a_call_are_valid, functions_with_a_call_at_the_end_are_renumbered,
+    functions_with_a_call_have_one_numbering, made_pairs_are_one_to_one, pieces_tell_a_numbering,
 };

@@ -5,3 +5,8 @@ mod Returned
 mod Tails
 mod Sited
 mod Initialised
+pub mod Themselves
+mod Integers
+mod Naming
+mod Alone
+mod Adding

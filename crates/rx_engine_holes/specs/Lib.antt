@@ -3,3 +3,5 @@ pub mod Run
 pub mod Returned
 pub mod Tail
 pub mod Sited
+pub mod Named
+pub mod Others

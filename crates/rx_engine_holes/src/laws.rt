@@ -6,20 +6,25 @@ ghost use Rattle.rx_typed.specs.declared.nodes.Node.{Node};
 ghost use Rattle.rx_typed.specs.declared.nodes.Site.{Site};
 ghost use Rattle.rx_typed.specs.Named.{else_diverges, some_diverges, is_place, node_of, tail_never, Body, Else, Exp, Function, Statements};
 ghost use Rattle.rx_typeck_solver.specs.declared.facts.Demand.{Demand};
+ghost use Rattle.rx_typeck_solver.specs.declared.facts.Subject.{Subject};
 ghost use Rattle.rx_typeck_solver.specs.Facts.{Known, MeetsEach, Types};
 ghost use Rattle.rx_typeck_solver.specs.Ordered.{Orderly};
-ghost use Rattle.rx_typeck_solver.specs.Valid.{Valid};
+ghost use Rattle.rx_typeck_solver.specs.Valid.{Told, Valid};
 ghost use Rattle.rx_typeck_typed.specs.Demands.{demands, hands_on, of_body, of_exp, of_statements, task};
-ghost use Rattle.rx_engine_blocks.specs.Renumbering.{node_at, Renumbering};
+ghost use Rattle.rx_engine_blocks.specs.Renumbering.{node_at, shape_at, subject_at, Renumbering};
 ghost use Rattle.rx_engine_blocks.specs.DemandsLike.{DemandsLike, Is};
 ghost use Rattle.rx_engine_blocks.specs.Knows.{Knows};
-ghost use Rattle.rx_engine_blocks.specs.Along.{composed, none_viewed, MutableAt, PartialInverse, Viewed};
+ghost use Rattle.rx_engine_blocks.specs.Along.{composed, none_viewed, shared, MutableAt, PartialInverse, Viewed};
 ghost use Rattle.rx_engine_blocks.specs.Blocks.{none_behind, AllReferences, Behind, Fixes, ToldIn};
 ghost use Rattle.rx_engine_blocks.specs.ByItself.{ByItself};
+ghost use Rattle.rx_engine_blocks.specs.Made.{MadeElse, MadeStatements};
 ghost use Rattle.rx_engine_blocks.specs.Around.{Among, Round};
+ghost use Rattle.rx_engine_blocks.specs.Settled.{Settles};
 ghost use Rattle.rx_engine_blocks.specs.Copies.{EachCopies};
 ghost use Rattle.rx_engine_blocks.specs.Parts.{Added, StandsFor};
-ghost use Rattle.rx_engine_typing.specs.Renumbered.{RenumberedBody, RenumberedExp, RenumberedFunction, RenumberedStatements};
+ghost use Rattle.rx_engine_typing.specs.Renumbered.{no_holes, RenumberedBody, RenumberedExp, RenumberedFunction, RenumberedStatements};
+ghost use Rattle.rx_engine_holes.specs.Named.{NamedIn};
+ghost use Rattle.rx_engine_holes.specs.Others.{Anywhere, AskForNoInteger, OthersFit};
 ghost use Rattle.rx_engine_holes.specs.Returned.{returned_holes};
 ghost use Rattle.rx_engine_holes.specs.Run.{with_run};
 ghost use Rattle.rx_engine_holes.specs.Sited.{at_site};
@@ -116,3 +121,40 @@ pub fn runs_and_calls_for_them_are_valid()
     moved_statements_ask_alike();
     runs_are_valid();
 }
+
+/// A function that is the text's by other numbers but for a run, for which other statements stand, has a valid assignment, though nothing says that
+/// it is accepted, and whatever becomes of the run: the text's types at what comes from the text, where the others fit.
+pub fn functions_with_others_for_a_run_are_valid()
+    ensures { (q : Renumbering) (w : PartialInverse q) (D E : Known) → Knows q D E → (A W : Types) (loops : ℕ → ℕ) (run call : Statements) → Is (some_diverges run) (some_diverges call) → (f g : Function)
+        → RenumberedFunction q loops (with_run q loops no_holes run call) f g → Orderly (task g) → Valid D (task f) A
+        → OthersFit q w E A W (of_statements f.item run []) (of_statements (q.items f.item) call []) (demands g) → Valid E (task g) (composed q w none_viewed A W) }
+{}
+
+/// The same where other last statements and another tail stand for a run that goes to its block's end.
+pub fn functions_with_others_for_an_end_are_valid()
+    ensures { (q : Renumbering) (w : PartialInverse q) (D E : Known) → Knows q D E → (A W : Types) (loops : ℕ → ℕ) (n : Node) (s : Span) (d : Bool) (run : Statements) (o : Else) (call : Statements) (p : Else)
+        → Is (some_diverges run || else_diverges o) (some_diverges call || else_diverges p) → Is (tail_never (d || some_diverges run) o) (tail_never (d || some_diverges call) p) → (f g : Function)
+        → RenumberedFunction q loops (with_tail q loops no_holes n s d run o call p) f g → Orderly (task g) → Valid D (task f) A
+        → OthersFit q w E A W (of_end f.item n d run o []) (of_end (q.items f.item) (node_at q n s) d call p []) (demands g) → Valid E (task g) (composed q w none_viewed A W) }
+{}
+
+/// Code that is made anew asks for no integer: statements, and last statements with a tail.
+pub fn what_is_made_asks_for_no_integer()
+    ensures { (f : ℕ) (n : Node) (d : Bool) (ss : Statements) (o : Else) → MadeStatements Anywhere ss → AskForNoInteger (of_statements f ss []) × (MadeElse Anywhere o → AskForNoInteger (of_end f n d ss o [])) }
+{}
+
+/// A function into which a run of the text's is copied has a valid assignment by itself, whatever becomes of what stands round the run: one that meets
+/// what is asked, with the text's types at what comes from the text, where what is named round the run is fixed, and all else that it tells has one type.
+pub fn functions_with_a_copied_run_are_valid()
+    ensures { (r : Renumbering) (u : PartialInverse r) (view : Viewed) (behind : Behind) (D E : Known) → Knows r D E → (A V : Types) (f h : Function) (run copied : Statements) (front back head end : ListOf Demand)
+        → demands f ≡ front ++ (of_statements f.item run [] ++ back) → demands h ≡ head ++ (of_statements h.item copied [] ++ end)
+        → (loops : ℕ → ℕ) (k : ℕ) → RenumberedStatements r loops (returned_holes r u view behind D E A V loops f.item k) run copied → Orderly (task h) → Valid D (task f) A
+        → AllReferences r u view behind E A (demands h) → MutableAt view A → EachCopies view A (of_statements f.item run []) → Fixes r view (NamedIn (front ++ back)) E A (demands h)
+        → ByItself r u view (NamedIn (front ++ back)) E A V (demands f) (demands h) → Added (composed r u view A V) V head → Added (composed r u view A V) V end → Valid E (task h) V }
+{}
+
+/// What demands name is fixed in a part where the part settles what it tells of this by itself.
+pub fn what_is_named_is_fixed()
+    ensures { (r : Renumbering) (view : Viewed) (names : ListOf Demand) (E : Known) (A : Types) (es : ListOf Demand)
+        → ((x : Subject) → NamedIn names x → Told es (subject_at r x) → Settles E es (subject_at r x) (shared (view x) (shape_at r (A x)))) → Fixes r view (NamedIn names) E A es }
+{}

@@ -9,6 +9,11 @@ use Rattle.rx_check.specs.declared.fault.CheckFault.{CheckFault}
 use Rattle.rx_check.specs.declared.fault.CheckFault.TheVariants as check
 use Rattle.rx_check.specs.Passes.{Accepted}
 use Rattle.rx_check.specs.Causes.{Causes, AreOne as AreOneFault}
+use Rattle.rx_cert.specs.declared.fault.VerifyFault.{VerifyFault}
+use Rattle.rx_cert.specs.declared.fault.VerifyFault.TheVariants as verify
+use Rattle.rx_cert.specs.Verified.{IsVerified, VerifyCauses}
+use Rattle.rx_cert.specs.Verdicts.{AreOne as AreOneVerdict}
+use Rattle.rx_cert_least.specs.Least.{IsCertificateOf}
 use Rattle.rx_engine_extraction.specs.declared.refusal.Refusal.{Refusal}
 use Rattle.rx_engine_extraction.specs.Alike.{AreOne as AreOneRefusal}
 use Rattle.rx_engine_extraction.specs.Source.{Wish}
@@ -23,9 +28,10 @@ use Rattle.rx_rem_command.specs.declared.status.Status.TheVariants.{Done, NotAcc
 use Rattle.rx_rem_command.specs.Alike.{AreCheckLines, AreExtractionLines, AreRefusalLines, AreLines}
 use Rattle.rx_rem_generated.specs.Generated.{generated, input, turns, twice}
 use Rattle.rx_rem_generated.specs.Summary.{summary}
-use Rattle.rx_rem_command.specs.Forms.{Command, extracts, checks, runs, generates, command_of}
+use Rattle.rx_rem_command.specs.Forms.{Command, extracts, checks, certifies, verifies, runs, generates, command_of}
 use Rattle.rx_rem_command.specs.Defined.{Choices, Defined, AnswersTo, IsAccepted, Judged, passed, faulty, Checked, no_program, program, wish, Drawn, unaccepted, extracted, unmet, generated_wish, Summarised, undrawn, summarised}
 use Rattle.rx_rem_command.specs.ExtractionLines.{line_of_refusal}
+use Rattle.rx_rem_command.proofs.CertificateAgreement.{certified_agree, verdicts_agree}
 use Rattle.rx_rem_command.proofs.CheckLemmas.{not_accepted}
 use Rattle.rx_rem_command.proofs.Extractions.{kept, extracted_accepted, unmet_accepted, refusal_lines}
 use Rattle.rx_rem_command.proofs.Reading.{unread_lines, unread_none}
@@ -68,7 +74,11 @@ module _ (excluded : (p : ProgramTree) (e : CheckFault) → Accepted p → Cause
 
   module _ (none : (bytes : List ℕ) (w : Wish) (r : Refusal) → IsRefused bytes w r → Extracts bytes w → ⊥)
       (one_refusal : (bytes : List ℕ) (w : Wish) (r q : Refusal) → IsRefused bytes w r → IsRefused bytes w q → AreOneRefusal r q)
-      (one_answer : (bytes : List ℕ) (w : Wish) (text other : List ℕ) (bs cs : List Bound) → shape.Keeps bytes w text bs → shape.Keeps bytes w other cs → (text ≡ other) × (bs ≡ cs)) where
+      (one_answer : (bytes : List ℕ) (w : Wish) (text other : List ℕ) (bs cs : List Bound) → shape.Keeps bytes w text bs → shape.Keeps bytes w other cs → (text ≡ other) × (bs ≡ cs))
+      (one_certificate : (text a b : List ℕ) → IsCertificateOf text a → IsCertificateOf text b → a ≡ b)
+      (verified_once : (bytes : List ℕ) (e : VerifyFault) → e ≢ verify.OutOfMemory → IsVerified bytes → VerifyCauses e bytes → ⊥)
+      (one_verdict : (bytes : List ℕ) (e f : VerifyFault) → e ≢ verify.OutOfMemory → f ≢ verify.OutOfMemory → VerifyCauses e bytes → VerifyCauses f bytes
+      → AreOneVerdict e f) where
     unmet_lines : (text : List ℕ) (w : Wish) (b d : List ℕ) → (b ≡ d) ⊎ AreRefusalLines text w b d → AreExtractionLines text w b d
     unmet_lines text w b d (inl e) = inl (inl (inl e))
     unmet_lines text w b d (inr x) = inr x
@@ -120,6 +130,8 @@ module _ (excluded : (p : ProgramTree) (e : CheckFault) → Accepted p → Cause
     answers_agree C None text s t a b c d x y = (x.0 ∙ sym y.0, x.1 ∙ sym y.1, inl (x.2 ∙ sym y.2))
     answers_agree C (Some (extracts name start end w)) text s t a b c d x y = drawn_agree text (wish C name start end w) s t a b c d x y
     answers_agree C (Some checks) text s t a b c d x y = checks_agree text s t a b c d x y
+    answers_agree C (Some certifies) text s t a b c d x y = certified_agree excluded one_certificate text (checks_agree text) s t a b c d x y
+    answers_agree C (Some verifies) text s t a b c d x y = verdicts_agree verified_once one_verdict text s t a b c d x y
     answers_agree C (Some (runs turns input)) text s t a b c d x y =
         runs_agree text turns input (checks_agree text) (λ p o q. one_does p turns input o q) s t a b c d x y
     answers_agree C (Some (generates n)) text s t a b c d x y = told_agree (generated n) n (generated_wish C n) s t a b c d x y

@@ -4,7 +4,7 @@ use Rattle.std.proofs.Common.{ℕ, ℤ, ◌≡◌, ◌≤◌, Bool, true, false,
 use Rattle.std.proofs.lemmas.Bool.{leb-true, and_parts}
 use Rattle.rx_core.specs.Bytes.{same_bytes}
 use Rattle.rx_rem_command.specs.Numbers.{number_of, integers_of, count_among, count_of}
-use Rattle.rx_rem_command.specs.Forms.{Preference, by_copy, Command, generates, extracts_of, runs_of, generates_of, check_of, extract_of, run_of, generate_of, preference_of, command_of}
+use Rattle.rx_rem_command.specs.Forms.{Preference, by_copy, Command, checks, certifies, verifies, generates, extracts_of, runs_of, generates_of, alone_of, extract_of, run_of, generate_of, preference_of, command_of}
 
 abbrev IsFew : ℕ → Type 0
 IsFew n = (1 ≤ n) × (n ≤ 1000)
@@ -28,9 +28,9 @@ few_generated word n (Some m) h e = let same : Some m ≡ Some n = cc in h same
 
 -- ---- other words ask for something else
 
-not_checks : (words : List (List ℕ)) (n : ℕ) → check_of words ≡ Some (generates n) → IsFew n
-not_checks [] n e = absurd (cc)
-not_checks (word ∷ words) n e = absurd (cc)
+not_alone : (c : Command) (words : List (List ℕ)) (n : ℕ) → (◌≡◌ {A = Option Command} (Some c) (Some (generates n)) → IsFew n) → alone_of c words ≡ Some (generates n) → IsFew n
+not_alone c [] n h e = h e
+not_alone c (word ∷ words) n h e = absurd (cc)
 
 not_extracts : (name : List ℕ) (a b : Option ℕ) (w : Option Preference) (n : ℕ) → extracts_of name a b w ≡ Some (generates n) → IsFew n
 not_extracts name (Some a) (Some b) (Some w) n e = absurd (cc)
@@ -73,7 +73,9 @@ none_few n e = absurd (cc)
 pub counts_few : (words : List (List ℕ)) (n : ℕ) → command_of words ≡ Some (generates n) → IsFew n
 counts_few [] n e = absurd (cc)
 counts_few (verb ∷ words) n e =
-    chosen (same_bytes verb (codes "check")) (check_of words) _ n (not_checks words n)
+    chosen (same_bytes verb (codes "check")) (alone_of checks words) _ n (not_alone checks words n (λ e. absurd (cc)))
     (chosen (same_bytes verb (codes "extract")) (extract_of words) _ n (not_extract words n)
     (chosen (same_bytes verb (codes "run")) (run_of words) _ n (not_run words n)
-    (chosen (same_bytes verb (codes "gen")) (generate_of words) None n (generate_few words n) (none_few n)))) e
+    (chosen (same_bytes verb (codes "gen")) (generate_of words) _ n (generate_few words n)
+    (chosen (same_bytes verb (codes "certify")) (alone_of certifies words) _ n (not_alone certifies words n (λ e. absurd (cc)))
+    (chosen (same_bytes verb (codes "verify")) (alone_of verifies words) None n (not_alone verifies words n (λ e. absurd (cc))) (none_few n)))))) e

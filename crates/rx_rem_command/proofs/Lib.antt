@@ -4,6 +4,8 @@ pub mod Replies
 pub mod Reading
 pub mod CheckLemmas
 pub mod Extractions
+pub mod Certificates
+pub mod CertificateAgreement
 pub mod RunLemmas
 pub mod Agreement
 pub mod Statuses

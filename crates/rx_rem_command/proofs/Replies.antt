@@ -1,5 +1,5 @@
 -- A reply follows from what is due and how far it was written, by cases on both.
-use Rattle.std.proofs.Common.{ℕ, ℤ, ◌≡◌, ◌≤◌, ◌<◌, ◌⊎◌, inl, inr, List, [], length, take, Option, Some, None, refl, sym, ap, ◌∙◌, subst, arith, append-nil, length-append}
+use Rattle.std.proofs.Common.{ℕ, ℤ, ◌+◌, ◌≡◌, ◌≤◌, ◌<◌, ◌⊎◌, inl, inr, List, [], length, take, Option, Some, None, refl, sym, ap, ◌∙◌, subst, arith, append-nil, length-append}
 use Rattle.std.proofs.lemmas.Bool.{cases_lt}
 use Rattle.rx_core.specs.Streams.{Rose, Told, Gone, Grown}
 use Rattle.rx_core.specs.declared.write.WriteFail.{WriteFail}
@@ -11,10 +11,10 @@ use Rattle.rx_rem_command.specs.declared.status.Status.TheVariants.{ReadFault, W
 use Rattle.rx_tree.specs.Plain.{ProgramTree}
 use Rattle.rx_engine_extraction.specs.Source.{Wish}
 use Rattle.rx_rem_generated.specs.Generated.{generated}
-use Rattle.rx_rem_command.specs.Forms.{Command, extracts, checks, runs, generates, command_of, Reads}
+use Rattle.rx_rem_command.specs.Forms.{Command, extracts, checks, certifies, verifies, runs, generates, command_of, Reads}
 use Rattle.rx_rem_command.specs.RunLines.{end_status}
-use Rattle.rx_rem_command.specs.Defined.{Choices, Defined, AnswersTo, Judged, passed, faulty, Checked, no_program, program, wish, Drawn, unaccepted, extracted, unmet, Ran, refused, ran, generated_wish, Summarised, undrawn, summarised}
-use Rattle.rx_rem_command.specs.Replies.{Stream, IsForm, IsReader, HasFailed, IsSound, HasAll, IsCut, IsRead, TakesAtMost, TakesOneMore, Due, answered, not_read, too_long, no_memory, Ending, whole, out_cut, both_cut, err_cut, IsComplete, Replies, Reports, Delivers, Found, defined, no_room}
+use Rattle.rx_rem_command.specs.Defined.{Choices, Defined, AnswersTo, Judged, passed, faulty, Checked, no_program, program, wish, Drawn, unaccepted, extracted, unmet, Certified, uncertified, certified, too_large, Verdict, good, bad, Ran, refused, ran, generated_wish, Summarised, undrawn, summarised}
+use Rattle.rx_rem_command.specs.Replies.{Stream, IsForm, IsReader, HasFailed, IsSound, HasAll, IsCut, IsRead, TakesAtMost, TakesOneMore, most_for, Due, answered, not_read, too_long, no_memory, Ending, whole, out_cut, both_cut, err_cut, IsComplete, Replies, Reports, Delivers, Found, defined, no_room}
 
 -- the statuses that a text's answer has
 abbrev pub IsAnswer : Status → Type 0
@@ -43,6 +43,15 @@ ran_answers : (text : List ℕ) (turns : ℕ) (input : List ℤ) (status : Statu
 ran_answers text turns input _ _ _ (refused c) = tt
 ran_answers text turns input _ _ _ (ran p x h o d) = end_answers o.end
 
+certified_answers : (text : List ℕ) (status : Status) (outs errs : List ℕ) → Certified text status outs errs → IsAnswer status
+certified_answers text _ _ _ (uncertified c) = tt
+certified_answers text _ _ _ (certified b x l) = tt
+certified_answers text _ _ _ (too_large b x l) = tt
+
+verdict_answers : (bytes : List ℕ) (status : Status) (outs errs : List ℕ) → Verdict bytes status outs errs → IsAnswer status
+verdict_answers bytes _ _ _ (good v) = tt
+verdict_answers bytes _ _ _ (bad e n c s) = tt
+
 drawn_answers : (text : List ℕ) (w : Wish) (status : Status) (outs errs : List ℕ) → Drawn text w status outs errs → IsAnswer status
 drawn_answers text w _ _ _ (unaccepted c) = tt
 drawn_answers text w _ _ _ (extracted a bs k) = tt
@@ -58,6 +67,8 @@ module _ (C : Choices) where
   asked_answers None text status outs errs a = subst IsAnswer (sym a.0) tt
   asked_answers (Some (extracts name start end w)) text status outs errs a = drawn_answers text (wish C name start end w) status outs errs a
   asked_answers (Some checks) text status outs errs a = checked_answers text status outs errs a
+  asked_answers (Some certifies) text status outs errs a = certified_answers text status outs errs a
+  asked_answers (Some verifies) text status outs errs a = verdict_answers text status outs errs a
   asked_answers (Some (runs turns input)) text status outs errs a = ran_answers text turns input status outs errs a
   asked_answers (Some (generates n)) text status outs errs a = told_answers (generated n) n (generated_wish C n) status outs errs a
 
@@ -73,22 +84,24 @@ module _ (C : Choices) where
   of_its_text (Some (extracts name start end w)) t text status outs errs h d =
       subst (λ (x : List ℕ). Drawn x (wish C name start end w) status outs errs) (h tt) d
   of_its_text (Some checks) t text status outs errs h d = subst (λ (x : List ℕ). Checked x status outs errs) (h tt) d
+  of_its_text (Some certifies) t text status outs errs h d = subst (λ (x : List ℕ). Certified x status outs errs) (h tt) d
+  of_its_text (Some verifies) t text status outs errs h d = subst (λ (x : List ℕ). Verdict x status outs errs) (h tt) d
   of_its_text (Some (runs turns input)) t text status outs errs h d = subst (λ (x : List ℕ). Ran x turns input status outs errs) (h tt) d
 
   -- a source from which one byte more was taken than a text may have had more left
-  too_many : (s s' : Stream) → TakesOneMore s s' → Told s.bytes (λ all. 1048576 < length all)
-  too_many s s' t = λ all h. let p = t.gone.told all h in let n = t.many in
+  too_many : (most : ℕ) (s s' : Stream) → TakesOneMore most s s' → Told s.bytes (λ all. most < length all)
+  too_many most s s' t = λ all h. let p = t.gone.told all h in let n = t.many in
       omega (arith, n, ap length p.1, length-append t.bytes p.0)
 
   -- where a text is small enough and the source didn't fail, the due answer is the defined one, or want of memory
   due_complete : (words : List (List ℕ)) (s s' : Stream) (status : Status) (outs errs : List ℕ)
       → Due C words s s' status outs errs → IsForm words
-      → (text : List ℕ) → (IsReader words → (s.bytes ≡ Some text) × (length text ≤ 1048576)) → (Rose s.faults s'.faults → ⊥)
+      → (text : List ℕ) → (IsReader words → (s.bytes ≡ Some text) × (length text ≤ most_for words)) → (Rose s.faults s'.faults → ⊥)
       → (status ≡ OutOfMemory) ⊎ Defined C words text status outs errs
   due_complete words s s' status outs errs (answered t k r d) form text given calm =
       inr (of_its_text (command_of words) t text status outs errs (λ h. ((r h).whole text (given h).0).0) d)
   due_complete words s s' _ _ _ (not_read f r t) form text given calm = absurd (calm r)
-  due_complete words s s' _ _ _ (too_long f k t) form text given calm = let l = too_many s s' t text (given f).0 in let m = (given f).1 in
+  due_complete words s s' _ _ _ (too_long f k t) form text given calm = let l = too_many (most_for words) s s' t text (given f).0 in let m = (given f).1 in
       absurd (omega (arith, l, m))
   due_complete words s s' _ _ _ (no_memory f k t) form text given calm = inl refl
 
@@ -206,7 +219,7 @@ cut old new bytes text f e front h k moves sound = subst (IsCut old new) e (fron
 -- what is found for the text that was read is due
 pub found_due : (C : Choices) (words : List (List ℕ)) (s s' : Stream) (command : Command) (text : List ℕ) (status : Status)
     (outs errs : List ℕ)
-    → Some command ≡ command_of words → s'.faults ≡ s.faults → IsRead s s' text → Found (AnswersTo C (Some command) text) status outs errs
+    → Some command ≡ command_of words → s'.faults ≡ s.faults → IsRead (most_for words) s s' text → Found (AnswersTo C (Some command) text) status outs errs
     → Due C words s s' status outs errs
 found_due C words s s' command text status outs errs e k r (defined d) =
     answered text k (λ form. r) (subst (λ (q : Option Command). AnswersTo C q text status outs errs) e d)
@@ -214,8 +227,8 @@ found_due C words s s' command text _ _ _ e k r no_room = no_memory (λ n. cc) k
     (record { bytes = text; many = r.within; gone = r.gone })
 
 -- from a source of which nothing is asked nothing is taken
-nothing_taken : (s : Stream) → TakesAtMost s s
-nothing_taken s = record { bytes = []; many = omega arith; gone = record { told = λ left h. (left, refl, h); untold = λ h. h } }
+nothing_taken : (most : ℕ) (s : Stream) → TakesAtMost most s s
+nothing_taken most s = record { bytes = []; many = omega arith; gone = record { told = λ left h. (left, refl, h); untold = λ h. h } }
 
 -- what is found of a text that is made is due
 pub generated_due : (C : Choices) (words : List (List ℕ)) (s : Stream) (n : ℕ) (status : Status) (outs errs : List ℕ)
@@ -223,21 +236,21 @@ pub generated_due : (C : Choices) (words : List (List ℕ)) (s : Stream) (n : �
     → Due C words s s status outs errs
 generated_due C words s n status outs errs e (defined d) =
     answered [] refl (λ h. absurd (subst Reads (sym e) h)) (subst (λ (q : Option Command). AnswersTo C q [] status outs errs) e d)
-generated_due C words s n _ _ _ e no_room = no_memory (λ m. cc) refl (nothing_taken s)
+generated_due C words s n _ _ _ e no_room = no_memory (λ m. cc) refl (nothing_taken (most_for words) s)
 
 -- the bytes that were taken, where they are not too many
-pub taken_few : (s s' : Stream) (bytes : List ℕ) → (1048576 < length bytes → ⊥) → Gone s.bytes s'.bytes bytes
-    → TakesAtMost s s'
-taken_few s s' bytes n g = record {
+pub taken_few : (limit most : ℕ) (s s' : Stream) (bytes : List ℕ) → limit ≡ most → (limit < length bytes → ⊥) → Gone s.bytes s'.bytes bytes
+    → TakesAtMost most s s'
+taken_few limit most s s' bytes same n g = record {
   bytes = bytes;
   many =
-      elim (cases_lt 1048576 (length bytes)) [ inl l ↦ absurd (n l) | inr l ↦ l ];
+      elim (cases_lt limit (length bytes)) [ inl l ↦ absurd (n l) | inr l ↦ subst (λ (k : ℕ). length bytes ≤ k) same l ];
   gone = g;
 }
 
-pub taken_more : (s s' : Stream) (bytes : List ℕ) → length bytes ≤ 1048577 → 1048576 < length bytes
-    → Gone s.bytes s'.bytes bytes → TakesOneMore s s'
-taken_more s s' bytes l m g = record { bytes = bytes; many = omega arith; gone = g }
+pub taken_more : (limit most : ℕ) (s s' : Stream) (bytes : List ℕ) → limit ≡ most → length bytes ≤ limit + 1 → limit < length bytes
+    → Gone s.bytes s'.bytes bytes → TakesOneMore most s s'
+taken_more limit most s s' bytes same l m g = record { bytes = bytes; many = omega (arith, same, l, m); gone = g }
 
 -- the text is what was taken, since nothing is left
 whole_gone : (s s' : Option (List ℕ)) (text bytes : List ℕ) → Told s (λ all. (text ≡ all) × (s' ≡ Some []))
@@ -247,14 +260,14 @@ whole_gone s s' text bytes w g = record {
   untold = g.untold;
 }
 
-pub read_whole : (old new : Stream) (text bytes gone : List ℕ) → text ≡ bytes
-    → Told old.bytes (λ all. (bytes ≡ all) × (new.bytes ≡ Some [])) → length bytes ≤ 1048576
-    → Gone old.bytes new.bytes gone → IsRead old new text
-read_whole old new text bytes gone e w l g =
+pub read_whole : (limit most : ℕ) (old new : Stream) (text bytes gone : List ℕ) → limit ≡ most → text ≡ bytes
+    → Told old.bytes (λ all. (bytes ≡ all) × (new.bytes ≡ Some [])) → length bytes ≤ limit
+    → Gone old.bytes new.bytes gone → IsRead most old new text
+read_whole limit most old new text bytes gone same e w l g =
     let whole : Told old.bytes (λ all. (text ≡ all) × (new.bytes ≡ Some [])) = λ all h. let p = w all h in
     (e ∙ p.0, p.1) in
     record {
       whole = whole;
-      within = subst (λ (x : List ℕ). length x ≤ 1048576) (sym e) l;
+      within = subst (λ (x : List ℕ). length x ≤ most) (sym e) (subst (λ (k : ℕ). length bytes ≤ k) same l);
       gone = whole_gone old.bytes new.bytes text gone whole g;
     }

@@ -1,13 +1,15 @@
 -- What is asked for of a text is asked for where the text is read.
 use Rattle.std.proofs.Common.{ℕ, ◌≡◌, List, Some, subst}
 use Rattle.rx_rem_command.specs.declared.words.Command.{Command}
-use Rattle.rx_rem_command.specs.declared.words.Command.TheVariants.{Extract, Check, Run}
+use Rattle.rx_rem_command.specs.declared.words.Command.TheVariants.{Extract, Check, Certify, Verify, Run}
 use Rattle.rx_rem_command.specs.Forms.{command_of, Reads}
 use Rattle.rx_rem_command.specs.Asked.{asked}
 
 command_reads : (c : Command) → Reads (Some (asked c))
 command_reads (Extract name selection way) = tt
 command_reads Check = tt
+command_reads Certify = tt
+command_reads Verify = tt
 command_reads (Run turns numbers) = tt
 
 pub words_read : (words : List (List ℕ)) (c : Command) → Some (asked c) ≡ command_of words → Reads (command_of words)

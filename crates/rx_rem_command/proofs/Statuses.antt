@@ -1,6 +1,6 @@
 -- When a status comes: by cases on what is due and on how far it was written. And of a text one status comes at most.
-use Rattle.std.specs.Prelude.{codes}
-use Rattle.std.proofs.Common.{ℕ, ℤ, ◌≡◌, List, [], Option, Some, None, ◌⊎◌, inl, inr, refl, sym, ap, ◌∙◌, subst}
+use Rattle.std.specs.Prelude.{◌≢◌, codes}
+use Rattle.std.proofs.Common.{ℕ, ℤ, ◌≡◌, ◌<◌, ◌≤◌, length, List, [], Option, Some, None, ◌⊎◌, inl, inr, refl, sym, ap, ◌∙◌, subst}
 use Rattle.rx_tree.specs.Plain.{ProgramTree}
 use Rattle.rx_parse_grammar.specs.grammar.Items.{Parses}
 use Rattle.rx_parse_grammar.proofs.Whole.{one_text}
@@ -11,6 +11,10 @@ use Rattle.rx_check.specs.declared.fault.CheckFault.{CheckFault}
 use Rattle.rx_check.specs.declared.fault.CheckFault.TheVariants as check
 use Rattle.rx_check.specs.Passes.{Accepted}
 use Rattle.rx_check.specs.Causes.{Causes}
+use Rattle.rx_cert.specs.declared.fault.VerifyFault.{VerifyFault}
+use Rattle.rx_cert.specs.declared.fault.VerifyFault.TheVariants as verify
+use Rattle.rx_cert.specs.Verified.{IsVerified, VerifyCauses}
+use Rattle.rx_cert_least.specs.Least.{IsCertificateOf}
 use Rattle.rx_engine_extraction.specs.declared.refusal.Refusal.{Refusal}
 use Rattle.rx_engine_extraction.specs.Source.{Wish}
 use Rattle.rx_engine_extraction.specs.Promise.{Extracts}
@@ -18,13 +22,15 @@ use Rattle.rx_engine_extraction.specs.Verdict.{IsRefused}
 use Rattle.rx_rem_command.specs.declared.status.Status.{Status}
 use Rattle.rx_rem_command.specs.declared.status.Status.TheVariants as status
 use Rattle.rx_rem_generated.specs.Generated.{generated, run_start, run_end}
-use Rattle.rx_rem_command.specs.Forms.{Preference, by_copy, Command, extracts, checks, runs, generates, command_of, Reads}
-use Rattle.rx_rem_command.specs.Defined.{Choices, AnswersTo, IsAccepted, Checked, program, passed, Judged, faulty, no_program, wish, Drawn, unaccepted, extracted, unmet, Ran, refused, ran, generated_wish, Summarised, undrawn, summarised}
+use Rattle.rx_rem_command.specs.Forms.{Preference, by_copy, Command, extracts, checks, certifies, verifies, runs, generates, command_of, Reads, most_bytes}
+use Rattle.rx_rem_command.specs.Defined.{Choices, AnswersTo, IsAccepted, Checked, program, passed, Judged, faulty, no_program, wish, Certified, uncertified, certified, too_large, Verdict, good, bad, Drawn, unaccepted, extracted, unmet, Ran, refused, ran, generated_wish, Summarised, undrawn, summarised}
 use Rattle.rx_rem_command.specs.RunLines.{end_status}
 use Rattle.rx_engine.specs.Runs.{Does}
-use Rattle.rx_rem_command.specs.Replies.{Stream, IsReader, IsRead, Due, answered, not_read, too_long, no_memory, Ending, whole, out_cut, both_cut, err_cut, Replies}
-use Rattle.rx_rem_command.specs.Statuses.{EndsWith, Comes, Cause}
+use Rattle.rx_rem_command.specs.Replies.{Stream, IsReader, IsRead, most_for, Due, answered, not_read, too_long, no_memory, Ending, whole, out_cut, both_cut, err_cut, Replies}
+use Rattle.rx_rem_command.specs.Statuses.{EndsWith, IsCertified, Comes, Cause}
 use Rattle.rx_rem_command.proofs.CheckLemmas.{not_accepted}
+use Rattle.rx_rem_command.proofs.Certificates.{certificate_accepted}
+use Rattle.rx_rem_command.proofs.CertificateAgreement.{one_size}
 use Rattle.rx_rem_command.proofs.Extractions.{kept, extracted_accepted, unmet_accepted}
 
 -- ---- of a defined answer
@@ -49,7 +55,8 @@ module _ (C : Choices) (text : List ℕ) (n : ℕ) where
   to_extraction status.Done x = x
   to_extraction _ x = x
 
-module _ (excluded : (p : ProgramTree) (e : CheckFault) → Accepted p → Causes e p → e ≡ check.OutOfMemory) (C : Choices) where
+module _ (excluded : (p : ProgramTree) (e : CheckFault) → Accepted p → Causes e p → e ≡ check.OutOfMemory)
+    (verified_once : (bytes : List ℕ) (e : VerifyFault) → e ≢ verify.OutOfMemory → IsVerified bytes → VerifyCauses e bytes → ⊥) (C : Choices) where
   judged_comes : (text : List ℕ) (p : ProgramTree) → Parses text p → (s : Status) (out err : List ℕ) → Judged p s out err → Comes C checks text s
   judged_comes text p x _ _ _ (passed h) = record { program = p; parses = x; accepted = h }
   judged_comes text p x _ _ _ (faulty f told c) = λ a. not_accepted excluded text a status.NotAccepted [] _ refl (program p x (faulty f told c))
@@ -64,6 +71,15 @@ module _ (excluded : (p : ProgramTree) (e : CheckFault) → Accepted p → Cause
   drawn_comes text name start end w _ _ _ (extracted a bs k) = kept text (wish C name start end w) a bs k
   drawn_comes text name start end w _ _ _ (unmet r x) = (r, x)
 
+  certified_comes : (text : List ℕ) (s : Status) (out err : List ℕ) → Certified text s out err → Comes C certifies text s
+  certified_comes text _ out err (uncertified x) = λ a. not_accepted excluded text a status.NotAccepted out err refl x
+  certified_comes text _ _ _ (certified b x l) = record { bytes = b; certificate = x; long = l }
+  certified_comes text _ _ _ (too_large b x l) = record { bytes = b; certificate = x; long = l }
+
+  verdict_comes : (bytes : List ℕ) (s : Status) (out err : List ℕ) → Verdict bytes s out err → Comes C verifies bytes s
+  verdict_comes bytes _ _ _ (good v) = v
+  verdict_comes bytes _ _ _ (bad e n c s) = λ v. verified_once bytes e n v c
+
   ran_comes : (text : List ℕ) (turns : ℕ) (input : List ℤ) (s : Status) (out err : List ℕ) → Ran text turns input s out err → Comes C (runs turns input) text s
   ran_comes text turns input _ out err (refused x) = λ a. not_accepted excluded text a status.NotAccepted out err refl x
   ran_comes text turns input _ _ _ (ran p x h o d) =
@@ -77,6 +93,8 @@ module _ (excluded : (p : ProgramTree) (e : CheckFault) → Accepted p → Cause
   answer_comes : (c : Command) (text : List ℕ) (s : Status) (out err : List ℕ) → AnswersTo C (Some c) text s out err → Comes C c text s
   answer_comes (extracts name start end w) text s out err d = drawn_comes text name start end w s out err d
   answer_comes checks text s out err d = checked_comes text s out err d
+  answer_comes certifies text s out err d = certified_comes text s out err d
+  answer_comes verifies text s out err d = verdict_comes text s out err d
   answer_comes (runs turns input) text s out err d = ran_comes text turns input s out err d
   answer_comes (generates n) text s out err d = told_comes text n s out err d
 
@@ -87,7 +105,7 @@ module _ (excluded : (p : ProgramTree) (e : CheckFault) → Accepted p → Cause
     Causes' = Cause C words source source' out out' err err'
 
     -- what comes of a text is a cause
-    of_text : (command : Command) (text : List ℕ) → command_of words ≡ Some command → (Reads (Some command) → IsRead source source' text) → (s : Status) → Comes C command text s → Causes' s
+    of_text : (command : Command) (text : List ℕ) → command_of words ≡ Some command → (Reads (Some command) → IsRead (most_bytes (Some command)) source source' text) → (s : Status) → Comes C command text s → Causes' s
     of_text command text e r status.Done k = record { command = command; asked = e; text = text; read = r; comes = k }
     of_text command text e r status.Refused k = record { command = command; asked = e; text = text; read = r; comes = k }
     of_text command text e r status.NotAccepted k = record { command = command; asked = e; text = text; read = r; comes = k }
@@ -100,11 +118,11 @@ module _ (excluded : (p : ProgramTree) (e : CheckFault) → Accepted p → Cause
     of_text command text e r status.OutOfMemory k = absurd k
     of_text command text e r status.TooLong k = absurd k
 
-    of_answer : (q : Option Command) (text : List ℕ) (s : Status) (outs errs : List ℕ) → command_of words ≡ q → (IsReader words → IsRead source source' text)
+    of_answer : (q : Option Command) (text : List ℕ) (s : Status) (outs errs : List ℕ) → command_of words ≡ q → (IsReader words → IsRead (most_for words) source source' text)
         → AnswersTo C q text s outs errs → Causes' s
     of_answer None text s outs errs e r d = subst Causes' (sym d.0) e
     of_answer (Some c) text s outs errs e r d =
-        of_text c text e (λ h. r (subst Reads (sym e) h)) s (answer_comes c text s outs errs d)
+        of_text c text e (λ h. subst (λ (q : Option Command). IsRead (most_bytes q) source source' text) e (r (subst Reads (sym e) h))) s (answer_comes c text s outs errs d)
 
     of_due : (s : Status) (outs errs : List ℕ) → Due C words source source' s outs errs → Causes' s
     of_due s outs errs (answered text k r d) = of_answer (command_of words) text s outs errs refl r d
@@ -125,7 +143,9 @@ module _ (excluded : (p : ProgramTree) (e : CheckFault) → Accepted p → Cause
 
 -- which command an end is of
 module _ (none : (bytes : List ℕ) (w : Wish) (r : Refusal) → IsRefused bytes w r → Extracts bytes w → ⊥)
-    (one_does : (p : ProgramTree) (turns : ℕ) (input : List ℤ) (o q : Outcome) → Does p turns input o → Does p turns input q → o ≡ q) (C : Choices) where
+    (one_does : (p : ProgramTree) (turns : ℕ) (input : List ℤ) (o q : Outcome) → Does p turns input o → Does p turns input q → o ≡ q)
+    (excluded : (p : ProgramTree) (e : CheckFault) → Accepted p → Causes e p → e ≡ check.OutOfMemory)
+    (one_certificate : (text a b : List ℕ) → IsCertificateOf text a → IsCertificateOf text b → a ≡ b) (C : Choices) where
   one_end : (text : List ℕ) (turns : ℕ) (input : List ℤ) (s t : Status) → EndsWith text turns input s → EndsWith text turns input t → s ≡ t
   one_end text turns input s t x y =
       let d : Does x.program turns input y.outcome = subst (λ (p : ProgramTree). Does p turns input y.outcome) (one_text text y.program x.program y.parses x.parses) y.does in
@@ -211,9 +231,63 @@ module _ (none : (bytes : List ℕ) (w : Wish) (r : Refusal) → IsRefused bytes
       by (inr a) (inl b) = absurd (b.1 (ends_accepted text turns input s a))
       by (inr a) (inr b) = one_end text turns input s t a b
 
+  -- of a certificate: the text is not accepted, or it is and its certificate is short, or long
+  abbrev Sized : List ℕ → Status → Type 0
+  Sized text s = ((s ≡ status.Done) × IsCertified text (λ n. n ≤ 16777216)) ⊎ ((s ≡ status.Refused) × IsCertified text (λ n. 16777216 < n))
+      ⊎ ((s ≡ status.NotAccepted) × (IsAccepted text → ⊥))
+
+  of_certificate : (text : List ℕ) (s : Status) → Comes C certifies text s → Sized text s
+  of_certificate text status.Done x = inl (refl, x)
+  of_certificate text status.Refused x = inr (inl (refl, x))
+  of_certificate text status.NotAccepted x = inr (inr (refl, x))
+  of_certificate text status.StillRunning x = absurd x
+  of_certificate text status.Wrong x = absurd x
+  of_certificate text status.Trapped x = absurd x
+  of_certificate text status.Usage x = absurd x
+  of_certificate text status.ReadFault x = absurd x
+  of_certificate text status.WriteFault x = absurd x
+  of_certificate text status.OutOfMemory x = absurd x
+  of_certificate text status.TooLong x = absurd x
+
+  one_certify : (text : List ℕ) (s t : Status) → Sized text s → Sized text t → s ≡ t
+  one_certify text s t (inl x) (inl y) = x.0 ∙ sym y.0
+  one_certify text s t (inl x) (inr (inl y)) =
+      absurd (one_size excluded one_certificate text x.1.bytes y.1.bytes x.1.certificate y.1.certificate x.1.long y.1.long)
+  one_certify text s t (inl x) (inr (inr y)) = absurd (y.1 (certificate_accepted text x.1.bytes x.1.certificate))
+  one_certify text s t (inr (inl x)) (inl y) =
+      absurd (one_size excluded one_certificate text y.1.bytes x.1.bytes y.1.certificate x.1.certificate y.1.long x.1.long)
+  one_certify text s t (inr (inl x)) (inr (inl y)) = x.0 ∙ sym y.0
+  one_certify text s t (inr (inl x)) (inr (inr y)) = absurd (y.1 (certificate_accepted text x.1.bytes x.1.certificate))
+  one_certify text s t (inr (inr x)) (inl y) = absurd (x.1 (certificate_accepted text y.1.bytes y.1.certificate))
+  one_certify text s t (inr (inr x)) (inr (inl y)) = absurd (x.1 (certificate_accepted text y.1.bytes y.1.certificate))
+  one_certify text s t (inr (inr x)) (inr (inr y)) = x.0 ∙ sym y.0
+
+  of_verdict : (bytes : List ℕ) (s : Status) → Comes C verifies bytes s
+      → ((s ≡ status.Done) × IsVerified bytes) ⊎ ((s ≡ status.NotAccepted) × (IsVerified bytes → ⊥))
+  of_verdict bytes status.Done x = inl (refl, x)
+  of_verdict bytes status.NotAccepted x = inr (refl, x)
+  of_verdict bytes status.Refused x = absurd x
+  of_verdict bytes status.StillRunning x = absurd x
+  of_verdict bytes status.Wrong x = absurd x
+  of_verdict bytes status.Trapped x = absurd x
+  of_verdict bytes status.Usage x = absurd x
+  of_verdict bytes status.ReadFault x = absurd x
+  of_verdict bytes status.WriteFault x = absurd x
+  of_verdict bytes status.OutOfMemory x = absurd x
+  of_verdict bytes status.TooLong x = absurd x
+
+  one_verify : (bytes : List ℕ) (s t : Status) → ((s ≡ status.Done) × IsVerified bytes) ⊎ ((s ≡ status.NotAccepted) × (IsVerified bytes → ⊥))
+      → ((t ≡ status.Done) × IsVerified bytes) ⊎ ((t ≡ status.NotAccepted) × (IsVerified bytes → ⊥)) → s ≡ t
+  one_verify bytes s t (inl x) (inl y) = x.0 ∙ sym y.0
+  one_verify bytes s t (inl x) (inr y) = absurd (y.1 x.1)
+  one_verify bytes s t (inr x) (inl y) = absurd (x.1 y.1)
+  one_verify bytes s t (inr x) (inr y) = x.0 ∙ sym y.0
+
   pub one_status : (c : Command) (text : List ℕ) (s t : Status) → Comes C c text s → Comes C c text t → s ≡ t
   one_status (extracts name start end w) text s t x y = one_extraction text name start end w s t x y
   one_status checks text s t x y = one_check text s t x y
+  one_status certifies text s t x y = one_certify text s t (of_certificate text s x) (of_certificate text t y)
+  one_status verifies text s t x y = one_verify text s t (of_verdict text s x) (of_verdict text t y)
   one_status (runs turns input) text s t x y = one_run text turns input s t x y
   one_status (generates n) text s t x y =
       one_extraction (generated n) (codes "step") (run_start n) (run_end n) by_copy s t (to_extraction C text n s x) (to_extraction C text n t y)

@@ -5,12 +5,14 @@ use Rattle.rx_parse_grammar.specs.grammar.Items.{Parses}
 use Rattle.rx_parse.specs.declared.fault.SyntaxFault.TheVariants as syntax
 use Rattle.rx_check.specs.declared.fault.CheckFault.{CheckFault}
 use Rattle.rx_check.specs.Causes.{Causes, AreOne}
+use Rattle.rx_cert_lines.specs.declared.line.Line.{Line}
+use Rattle.rx_cert_lines.specs.Certificates.{IsCertificate}
 use Rattle.rx_engine_extraction.specs.declared.refusal.Refusal.{Refusal}
 use Rattle.rx_engine_extraction.specs.declared.refusal.Refusal.TheVariants as refusal
 use Rattle.rx_engine_extraction.specs.Source.{Wish}
 use Rattle.rx_engine_extraction.specs.Verdict.{IsRefused}
 use Rattle.rx_rem_generated.specs.Generated.{generated}
-use Rattle.rx_rem_command.specs.Forms.{Command, extracts, generates}
+use Rattle.rx_rem_command.specs.Forms.{Command, extracts, verifies, generates}
 use Rattle.rx_rem_command.specs.Lines.{syntax_line}
 use Rattle.rx_rem_command.specs.CheckLines.{line_of_check}
 use Rattle.rx_rem_command.specs.ExtractionLines.{line_of_refusal}
@@ -60,6 +62,10 @@ pub record AreRefusalLines (text : List ℕ) (w : Wish) (a b : List ℕ) : Type 
 abbrev pub AreCheckLines : List ℕ → List ℕ → List ℕ → Type 0
 AreCheckLines text a b = AreOneLine a b ⊎ AreFaultLines text a b
 
+-- the lines of two answers on what may be a certificate: they are one, or two of a check of its text
+abbrev pub AreVerdictLines : List ℕ → List ℕ → List ℕ → Type 0
+AreVerdictLines bytes a b = (a ≡ b) ⊎ ((ls : List Line) × (text : List ℕ) × IsCertificate ls text bytes × AreCheckLines text a b)
+
 -- the lines of two answers of an extraction
 abbrev pub AreExtractionLines : List ℕ → Wish → List ℕ → List ℕ → Type 0
 AreExtractionLines text w a b = AreCheckLines text a b ⊎ AreRefusalLines text w a b
@@ -68,5 +74,6 @@ AreExtractionLines text w a b = AreCheckLines text a b ⊎ AreRefusalLines text 
 abbrev pub AreLines : Choices → Option Command → List ℕ → List ℕ → List ℕ → Type 0
 AreLines C None text a b = AreOneLine a b
 AreLines C (Some (extracts name start end w)) text a b = AreExtractionLines text (wish C name start end w) a b
+AreLines C (Some verifies) text a b = AreVerdictLines text a b
 AreLines C (Some (generates n)) text a b = AreExtractionLines (generated n) (generated_wish C n) a b
 AreLines C _ text a b = AreCheckLines text a b

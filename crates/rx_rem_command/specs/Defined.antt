@@ -1,5 +1,5 @@
 -- The defined answer of words on a text: a status, the bytes for standard output, and the line for standard error.
-use Rattle.std.specs.Prelude.{ℕ, ℤ, ◌≡◌, ◌≢◌, List, [], Option, Some, None, codes}
+use Rattle.std.specs.Prelude.{ℕ, ℤ, ◌≡◌, ◌≢◌, ◌<◌, ◌≤◌, List, [], length, Option, Some, None, codes}
 use Rattle.rx_core.specs.declared.types.Bound.{Bound}
 use Rattle.rx_tree.specs.Plain.{ProgramTree}
 use Rattle.rx_parse_grammar.specs.grammar.Items.{Parses}
@@ -9,6 +9,10 @@ use Rattle.rx_check.specs.declared.fault.CheckFault.{CheckFault}
 use Rattle.rx_check.specs.declared.fault.CheckFault.TheVariants as check
 use Rattle.rx_check.specs.Passes.{Accepted}
 use Rattle.rx_check.specs.Causes.{Causes}
+use Rattle.rx_cert.specs.declared.fault.VerifyFault.{VerifyFault}
+use Rattle.rx_cert.specs.declared.fault.VerifyFault.TheVariants as verify
+use Rattle.rx_cert.specs.Verified.{IsVerified, VerifyCauses}
+use Rattle.rx_cert_least.specs.Least.{IsCertificateOf}
 use Rattle.rx_modes_policy.specs.declared.uses.Mode.{Mode}
 use Rattle.rx_modes_policy.specs.declared.uses.Uses.{Uses}
 use Rattle.rx_engine_extraction.specs.declared.refusal.Refusal.{Refusal}
@@ -19,10 +23,11 @@ use Rattle.rx_rem_generated.specs.Generated.{generated, run_start, run_end, inpu
 use Rattle.rx_rem_generated.specs.Summary.{summary}
 use Rattle.rx_rem_command.specs.declared.status.Status.{Status}
 use Rattle.rx_rem_command.specs.declared.status.Status.TheVariants.{Done, Refused, Usage, NotAccepted}
-use Rattle.rx_rem_command.specs.Forms.{Preference, by_copy, by_reference, Command, extracts, checks, runs, generates, command_of}
+use Rattle.rx_rem_command.specs.Forms.{Preference, by_copy, by_reference, Command, extracts, checks, certifies, verifies, runs, generates, command_of}
 use Rattle.rx_rem_command.specs.Lines.{status_line, syntax_line}
 use Rattle.rx_rem_command.specs.CheckLines.{line_of_check}
 use Rattle.rx_rem_command.specs.ExtractionLines.{line_of_refusal}
+use Rattle.rx_rem_command.specs.CertificateLines.{large_line, SaysFault}
 use Rattle.rx_rem_command.specs.RunLines.{end_status, end_line}
 use Rattle.rx_engine.specs.Runs.{Does}
 
@@ -43,6 +48,19 @@ pub data Judged (p : ProgramTree) : Status → List ℕ → List ℕ → Type 0 
 pub data Checked (text : List ℕ) : Status → List ℕ → List ℕ → Type 0 where
   no_program : (f : SyntaxFault) → IsUnread text f → Checked text NotAccepted [] (syntax_line f)
   program : {status : Status} {out err : List ℕ} (p : ProgramTree) → Parses text p → Judged p status out err → Checked text status out err
+
+-- ---- of a certificate
+
+-- these are of a text that is not accepted, as its check answers; or of its certificate; or of how many bytes that has, where it is too long
+pub data Certified (text : List ℕ) : Status → List ℕ → List ℕ → Type 0 where
+  uncertified : {out err : List ℕ} → Checked text NotAccepted out err → Certified text NotAccepted out err
+  certified : (bytes : List ℕ) → IsCertificateOf text bytes → length bytes ≤ 16777216 → Certified text Done bytes []
+  too_large : (bytes : List ℕ) → IsCertificateOf text bytes → 16777216 < length bytes → Certified text Refused [] (large_line (length bytes))
+
+-- these are of bytes that are a certificate which is good for its text, or of a fault that is true of them
+pub data Verdict (bytes : List ℕ) : Status → List ℕ → List ℕ → Type 0 where
+  good : IsVerified bytes → Verdict bytes Done (codes "accepted\n") []
+  bad : {line : List ℕ} (e : VerifyFault) → e ≢ verify.OutOfMemory → VerifyCauses e bytes → SaysFault bytes e line → Verdict bytes NotAccepted [] line
 
 -- ---- of an extraction
 
@@ -94,6 +112,8 @@ abbrev pub AnswersTo : Choices → Option Command → List ℕ → Status → Li
 AnswersTo C None text = λ status out err. (status ≡ Usage) × (out ≡ []) × (err ≡ status_line Usage)
 AnswersTo C (Some (extracts name start end w)) text = Drawn text (wish C name start end w)
 AnswersTo C (Some checks) text = Checked text
+AnswersTo C (Some certifies) text = Certified text
+AnswersTo C (Some verifies) text = Verdict text
 AnswersTo C (Some (runs turns input)) text = Ran text turns input
 AnswersTo C (Some (generates n)) text = Summarised (generated n) n (generated_wish C n)
 

@@ -13,6 +13,9 @@ pub data Command : Type 0 where
   -- a name, two numbers, and how variables are passed where their uses leave that open
   extracts : List ℕ → ℕ → ℕ → Preference → Command
   checks : Command
+  -- the certificate of a text, and whether a certificate is good for its text
+  certifies : Command
+  verifies : Command
   -- a number of turns, and the input of the program
   runs : ℕ → List ℤ → Command
   -- a number of functions of a text that is made
@@ -33,11 +36,12 @@ abbrev pub generates_of : Option ℕ → Option Command
 generates_of (Some n) = Some (generates n)
 generates_of None = None
 
--- what the words behind `check`, `extract`, `run` and `gen` ask for
-abbrev pub check_of : List (List ℕ) → Option Command
-check_of [] = Some checks
-check_of _ = None
+-- a command behind whose verb no word stands
+abbrev pub alone_of : Command → List (List ℕ) → Option Command
+alone_of command [] = Some command
+alone_of command _ = None
 
+-- what the words behind `extract`, `run` and `gen` ask for
 abbrev pub extract_of : List (List ℕ) → Option Command
 extract_of (name ∷ start ∷ end ∷ []) = extracts_of name (number_of start) (number_of end) (Some by_copy)
 extract_of (name ∷ start ∷ end ∷ word ∷ []) = extracts_of name (number_of start) (number_of end) (preference_of word)
@@ -54,13 +58,20 @@ generate_of _ = None
 abbrev pub command_of : List (List ℕ) → Option Command
 command_of [] = None
 command_of (verb ∷ words) =
-    if same_bytes verb (codes "check") then check_of words
+    if same_bytes verb (codes "check") then alone_of checks words
     else (if same_bytes verb (codes "extract") then extract_of words
     else (if same_bytes verb (codes "run") then run_of words
-    else (if same_bytes verb (codes "gen") then generate_of words else None)))
+    else (if same_bytes verb (codes "gen") then generate_of words
+    else (if same_bytes verb (codes "certify") then alone_of certifies words
+    else (if same_bytes verb (codes "verify") then alone_of verifies words else None)))))
 
 -- they ask for something of a text, which is read
 abbrev pub Reads : Option Command → Type 0
 Reads None = ⊥
 Reads (Some (generates n)) = ⊥
 Reads (Some command) = Unit {0}
+
+-- how many bytes are read for them at most
+abbrev pub most_bytes : Option Command → ℕ
+most_bytes (Some verifies) = 16777216
+most_bytes _ = 1048576

@@ -1,5 +1,6 @@
 pub mod Alike
 pub mod Asked
+pub mod CertificateLines
 pub mod CheckLines
 pub mod Defined
 pub mod ExtractionLines

@@ -1,10 +1,10 @@
 -- What a call of the tool does: what is due, and how far it was written.
-use Rattle.std.specs.Prelude.{ℕ, ◌≡◌, ◌≤◌, ◌⊎◌, List, [], length, take, Option, Some, None}
+use Rattle.std.specs.Prelude.{ℕ, ◌+◌, ◌≡◌, ◌≤◌, ◌⊎◌, List, [], length, take, Option, Some, None}
 use Rattle.rx_core.specs.Streams.{Rose, Told, Gone, Grown}
 use Rattle.rx_tree.specs.Plain.{ProgramTree}
 use Rattle.rx_rem_command.specs.declared.status.Status.{Status}
 use Rattle.rx_rem_command.specs.declared.status.Status.TheVariants.{ReadFault, WriteFault, OutOfMemory, TooLong}
-use Rattle.rx_rem_command.specs.Forms.{command_of, Reads}
+use Rattle.rx_rem_command.specs.Forms.{command_of, Reads, most_bytes}
 use Rattle.rx_rem_command.specs.Lines.{status_line}
 use Rattle.rx_rem_command.specs.Defined.{Choices, Judged, Defined}
 
@@ -46,9 +46,9 @@ abbrev pub IsCut : Stream → Stream → List ℕ → Type 0
 IsCut old new bytes = ((n : ℕ) × (n ≤ length bytes) × Grown old.bytes new.bytes (take n bytes)) × HasFailed old new
 
 -- the text was all that the source had left, no more than it may have, and nothing else was taken
-pub record IsRead (old new : Stream) (text : List ℕ) : Type 0 where
+pub record IsRead (most : ℕ) (old new : Stream) (text : List ℕ) : Type 0 where
   pub whole : Told old.bytes (λ all. (text ≡ all) × (new.bytes ≡ Some []))
-  pub within : length text ≤ 1048576
+  pub within : length text ≤ most
   pub gone : Gone old.bytes new.bytes text
 
 -- a front of what the source had left was taken, of so many bytes, and nothing else
@@ -58,19 +58,23 @@ pub record IsTaken (old new : Stream) (Many : ℕ → Type 0) : Type 0 where
   pub gone : Gone old.bytes new.bytes bytes
 
 -- what a text may have at most was taken, and what is one byte longer
-abbrev pub TakesAtMost : Stream → Stream → Type 0
-TakesAtMost old new = IsTaken old new (λ n. n ≤ 1048576)
+abbrev pub TakesAtMost : ℕ → Stream → Stream → Type 0
+TakesAtMost most old new = IsTaken old new (λ n. n ≤ most)
 
-abbrev pub TakesOneMore : Stream → Stream → Type 0
-TakesOneMore old new = IsTaken old new (λ n. n ≡ 1048577)
+abbrev pub TakesOneMore : ℕ → Stream → Stream → Type 0
+TakesOneMore most old new = IsTaken old new (λ n. n ≡ most + 1)
+
+-- how many bytes are read at most for the words
+abbrev pub most_for : List (List ℕ) → ℕ
+most_for words = most_bytes (command_of words)
 
 -- the status, the bytes for standard output and the line for standard error; the source failed exactly where `ReadFault` is due
 pub data Due (C : Choices) (words : List (List ℕ)) (source source' : Stream) : Status → List ℕ → List ℕ → Type 0 where
-  answered : {status : Status} {outs errs : List ℕ} (text : List ℕ) → source'.faults ≡ source.faults → (IsReader words → IsRead source source' text) → Defined C words text status outs errs
+  answered : {status : Status} {outs errs : List ℕ} (text : List ℕ) → source'.faults ≡ source.faults → (IsReader words → IsRead (most_for words) source source' text) → Defined C words text status outs errs
       → Due C words source source' status outs errs
-  not_read : IsReader words → Rose source.faults source'.faults → TakesAtMost source source' → Due C words source source' ReadFault [] (status_line ReadFault)
-  too_long : IsReader words → source'.faults ≡ source.faults → TakesOneMore source source' → Due C words source source' TooLong [] (status_line TooLong)
-  no_memory : IsForm words → source'.faults ≡ source.faults → TakesAtMost source source' → Due C words source source' OutOfMemory [] (status_line OutOfMemory)
+  not_read : IsReader words → Rose source.faults source'.faults → TakesAtMost (most_for words) source source' → Due C words source source' ReadFault [] (status_line ReadFault)
+  too_long : IsReader words → source'.faults ≡ source.faults → TakesOneMore (most_for words) source source' → Due C words source source' TooLong [] (status_line TooLong)
+  no_memory : IsForm words → source'.faults ≡ source.faults → TakesAtMost (most_for words) source source' → Due C words source source' OutOfMemory [] (status_line OutOfMemory)
 
 -- how far what is due was written; where that failed, the status is `WriteFault`
 pub data Ending (out out' err err' : Stream) (status : Status) (outs errs : List ℕ) : Status → Type 0 where
@@ -94,7 +98,7 @@ pub record Replies (C : Choices) (words : List (List ℕ)) (source source' out o
   pub read_sound : (result ≡ ReadFault → ⊥) → (result ≡ WriteFault → ⊥) → source'.faults ≡ source.faults
   pub write_sound : (result ≡ WriteFault → ⊥) → IsSound out out' × IsSound err err'
   -- where no count rose, the answer is the defined one, or want of memory; of words that ask for something of a text, it is that of the text
-  pub complete : IsForm words → (text : List ℕ) → (IsReader words → (source.bytes ≡ Some text) × (length text ≤ 1048576)) → (Rose source.faults source'.faults → ⊥)
+  pub complete : IsForm words → (text : List ℕ) → (IsReader words → (source.bytes ≡ Some text) × (length text ≤ most_for words)) → (Rose source.faults source'.faults → ⊥)
       → (HasFailed out out' → ⊥) → (HasFailed err err' → ⊥) → IsComplete C words text out out' err err' result
 
 -- what is found where these are the answers: one of them, or want of memory
@@ -110,6 +114,10 @@ pub data FoundOf (p : ProgramTree) : Status → List ℕ → List ℕ → Type 0
 -- one line was written, or cut
 abbrev pub Reports : Stream → Stream → Status → List ℕ → Status → Type 0
 Reports err err' status line result = ((result ≡ status) × HasAll err err' line) ⊎ ((result ≡ WriteFault) × IsCut err err' line)
+
+-- the line was, or that of want of memory
+abbrev pub Refuses : Stream → Stream → Status → List ℕ → Status → Type 0
+Refuses err err' status line result = Reports err err' status line result ⊎ Reports err err' OutOfMemory (status_line OutOfMemory) result
 
 -- an answer was written, or cut
 abbrev pub Delivers : Stream → Stream → Stream → Stream → List ℕ → Status → Status → Type 0

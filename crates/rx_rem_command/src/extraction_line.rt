@@ -14,7 +14,7 @@ use rx_tree::Program;
 use std::alloc::{AllocError, Global};
 
 /// The words of a limit that is passed.
-fn limit_words(which: Which) -> &'static str
+pub(crate) fn limit_words(which: Which) -> &'static str
     ensures { result.now ≡ spec.which_words which }
 {
     match which {

@@ -4,6 +4,8 @@ ghost use Rattle.std.specs.Prelude.{◌≡◌, ◌≤◌, ◌*◌, ℕ, ℤ, Lis
 ghost use Rattle.rx_tree.specs.Plain.{ProgramTree};
 ghost use Rattle.rx_parse_grammar.specs.grammar.Items.{Parses};
 ghost use Rattle.rx_check.specs.Passes.{Accepted};
+ghost use Rattle.rx_cert.specs.Verified.{IsVerified};
+ghost use Rattle.rx_cert_least.specs.Least.{IsCertificateOf};
 ghost use Rattle.rx_meaning.specs.declared.outcome.Outcome.{Outcome};
 ghost use Rattle.rx_meaning.specs.Programs.{UpTo};
 ghost use Rattle.rx_engine_extraction.specs.Promise.{Extracts};
@@ -12,13 +14,15 @@ ghost use Rattle.rx_rem_generated.specs.Summary.{summary};
 ghost use Rattle.rx_rem_command.specs.declared.status.Status.{Status};
 ghost use Rattle.rx_rem_command.specs.Alike.{AreLines};
 ghost use Rattle.rx_rem_command.specs.Defined.{Choices, Defined, IsAccepted, wish, generated_wish};
-ghost use Rattle.rx_rem_command.specs.Forms.{Preference, Command, command_of, extracts, checks, runs, generates};
+ghost use Rattle.rx_rem_command.specs.Forms.{Preference, Command, command_of, extracts, checks, certifies, verifies, runs, generates};
 ghost use Rattle.rx_rem_command.specs.RunLines.{end_status, end_line};
 ghost use Rattle.rx_engine.specs.Runs.{Does};
 ghost use Rattle.rx_rem_command.specs.Replies.{Stream, Replies};
 ghost use Rattle.rx_rem_command.specs.Statuses.{Comes, Cause};
 ghost use Rattle.rx_rem_command.specs.UpTo.{IsUpTo};
 
+use rx_cert::{verdicts_are_one, verified_or_refused};
+use rx_cert_least::certificates_are_one;
 use rx_check::{causes_are_one, passed_or_faulty};
 use rx_engine::{
     answers_are_one, answers_run_alike, conditions_are_one, extractions_are_answers, one_outcome,
@@ -27,7 +31,8 @@ use rx_engine::{
 
 /// Two defined answers of the same words on the same text have one status and one output. They have one line, but for the places where
 /// the tokens of the text stop because of their depth; or each line says a fault of the program, and both are of one pass; or each says
-/// a place where the run is not reached, or each a loan that is met.
+/// a place where the run is not reached, or each a loan that is met. Of bytes that are a certificate two lines that differ are two such lines
+/// of its text.
 pub fn one_answer()
     ensures { (C : Choices) (words : List (List ℕ)) (text : List ℕ) (s t : Status) (a b c d : List ℕ) → Defined C words text s a b → Defined C words text t c d
         → (s ≡ t) × (a ≡ c) × AreLines C (command_of words) text b d }
@@ -38,6 +43,9 @@ pub fn one_answer()
     conditions_are_one();
     refusals_are_one();
     answers_are_one();
+    certificates_are_one();
+    verified_or_refused();
+    verdicts_are_one();
 }
 
 /// A reply has its status for the cause that is told of it; and of a text one status comes at most, but for failures.
@@ -49,6 +57,8 @@ pub fn statuses_have_causes()
     passed_or_faulty();
     conditions_are_one();
     one_outcome();
+    certificates_are_one();
+    verified_or_refused();
 }
 
 /// Where each condition of an extraction is met, its text is the defined answer; and an answer is one of such.
@@ -98,6 +108,17 @@ pub fn summaries_are_defined()
 pub fn acceptance_is_defined()
     ensures accepted { (C : Choices) (words : List (List ℕ)) (text : List ℕ) → command_of words ≡ Some checks → IsAccepted text → Defined C words text Status.Done (codes "accepted\n") [] }
     ensures only { (C : Choices) (words : List (List ℕ)) (text out err : List ℕ) → command_of words ≡ Some checks → Defined C words text Status.Done out err → IsAccepted text }
+{}
+
+/// The defined answer of `certify` is the certificate of the text where that is accepted and the certificate is short, and an answer is one of
+/// such. That of `verify` is `accepted` where the bytes are a certificate that is good for its text, and nowhere else.
+pub fn certificates_are_defined()
+    ensures answer { (C : Choices) (words : List (List ℕ)) (text bytes : List ℕ) → command_of words ≡ Some certifies → IsCertificateOf text bytes → length bytes ≤ 16777216
+        → Defined C words text Status.Done bytes [] }
+    ensures only { (C : Choices) (words : List (List ℕ)) (text out err : List ℕ) → command_of words ≡ Some certifies → Defined C words text Status.Done out err
+        → IsCertificateOf text out × (length out ≤ 16777216) × (err ≡ []) }
+    ensures good { (C : Choices) (words : List (List ℕ)) (bytes : List ℕ) → command_of words ≡ Some verifies → IsVerified bytes → Defined C words bytes Status.Done (codes "accepted\n") [] }
+    ensures verified { (C : Choices) (words : List (List ℕ)) (bytes out err : List ℕ) → command_of words ≡ Some verifies → Defined C words bytes Status.Done out err → IsVerified bytes }
 {}
 
 /// The defined answer of a run is what the program does where the text is accepted, and that of a check elsewhere.

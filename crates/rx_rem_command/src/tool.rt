@@ -3,9 +3,10 @@
 ghost use Rattle.std.specs.Prelude.{◌≡◌, ◌≤◌, ◌⊎◌, List as ListOf, ℕ, Some, None, length};
 ghost use Rattle.rx_rem_command.specs.Asked.{asked};
 ghost use Rattle.rx_rem_command.specs.Defined.{AnswersTo};
-ghost use Rattle.rx_rem_command.specs.Forms.{Reads, command_of};
+ghost use Rattle.rx_rem_command.specs.Forms.{Reads, command_of, most_bytes};
 ghost use Rattle.rx_rem_command.specs.Replies.{Ending, Found, Replies, sink_state, source_state};
 
+use crate::certifying::{certify_text, verify_certificate};
 use crate::checking::check_text;
 use crate::extracting::extract_text;
 use crate::generating::generate;
@@ -20,6 +21,22 @@ use std::alloc::Global;
 /// The bytes of a text at most.
 const TEXT_LIMIT: usize = 1_048_576;
 
+/// The bytes of a certificate with its text at most.
+const CERTIFICATE_LIMIT: usize = 16_777_216;
+
+/// How many bytes are read for a command at most.
+fn limit_of(command: Command<'_>) -> usize
+    ensures most { result ≡ most_bytes (Some (asked command.entry)) }
+    ensures few { result ≤ 16777216 }
+{
+    match command {
+        Command::Verify => CERTIFICATE_LIMIT,
+        Command::Extract { .. } | Command::Check | Command::Certify | Command::Run { .. } => {
+            TEXT_LIMIT
+        }
+    }
+}
+
 /// Does what a command asks for a text.
 fn answer<O: Sink, E: Sink, C: Policy, R: Policy>(
     alloc: Global,
@@ -30,7 +47,7 @@ fn answer<O: Sink, E: Sink, C: Policy, R: Policy>(
     copy: &C,
     by_reference: &R,
 ) -> Status
-    requires { length text.now ≤ 1048576 }
+    requires { length text.now ≤ most_bytes (Some (asked command)) }
     ensures { (status : Status) × (outs : ListOf ℕ) × (errs : ListOf ℕ) × Found (AnswersTo (record { copy = C.choice copy.now; reference = R.choice by_reference.now }) (Some (asked command.entry)) text.now) status outs errs
         × Ending (sink_state O.contents O.faults O.standstills out.old) (sink_state O.contents O.faults O.standstills out.new)
         (sink_state E.contents E.faults E.standstills err.old) (sink_state E.contents E.faults E.standstills err.new) status outs errs result }
@@ -47,6 +64,8 @@ fn answer<O: Sink, E: Sink, C: Policy, R: Policy>(
             preference: Preference::Reference,
         } => extract_text(alloc, out, err, text, selection, name, by_reference),
         Command::Check => check_text(alloc, out, err, text),
+        Command::Certify => certify_text(alloc, out, err, text),
+        Command::Verify => verify_certificate(alloc, out, err, text),
         Command::Run { turns, numbers } => run_text(alloc, out, err, text, turns, numbers),
     }
 }
@@ -75,7 +94,8 @@ pub fn rem<S: Source, O: Sink, E: Sink, C: Policy, R: Policy>(
         Request::OfText(command) => command,
         Request::Generate { count } => return generate(alloc, out, err, count, copy),
     };
-    match read_all(alloc, source, TEXT_LIMIT) {
+    let limit = limit_of(command);
+    match read_all(alloc, source, limit) {
         Ok(text) => answer(
             alloc,
             out,

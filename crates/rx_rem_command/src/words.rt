@@ -2,7 +2,7 @@
 
 ghost use Rattle.std.specs.Prelude.{◌≡◌, ◌∷◌, option_map};
 ghost use Rattle.rx_rem_command.specs.Numbers.{integers_of};
-ghost use Rattle.rx_rem_command.specs.Forms.{command_of, check_of, extract_of, extracts_of, preference_of, run_of, runs_of, generate_of, generates_of};
+ghost use Rattle.rx_rem_command.specs.Forms.{command_of, alone_of, extract_of, extracts_of, preference_of, run_of, runs_of, generate_of, generates_of};
 ghost use Rattle.rx_rem_command.specs.Asked.{asked, preferred, requested};
 
 use crate::numbers::{are_integers, count, number};
@@ -27,6 +27,10 @@ pub enum Command<'w> {
     },
     /// Whether the text is accepted.
     Check,
+    /// The certificate of the text.
+    Certify,
+    /// Whether the text is a certificate that is good for its text.
+    Verify,
     /// What its program does in so many turns, where these integers are its input.
     Run {
         turns: u64,
@@ -41,11 +45,12 @@ pub enum Request<'w> {
     Generate { count: u64 },
 }
 
-fn check_words<'w>(words: &'w [Text]) -> Option<Command<'w>>
-    ensures { option_map asked result ≡ check_of words.entry.now }
+/// A command behind whose verb no word stands.
+fn alone<'w>(command: Command<'w>, words: &'w [Text]) -> Option<Command<'w>>
+    ensures { option_map asked result ≡ alone_of (asked command.entry) words.entry.now }
 {
     if words.is_empty() {
-        Some(Command::Check)
+        Some(command)
     } else {
         None
     }
@@ -152,13 +157,17 @@ fn verb_words<'w>(verb: &str, words: &'w [Text]) -> Option<Request<'w>>
     ensures { option_map requested result ≡ command_of (verb.now ∷ words.entry.now) }
 {
     if verb == "check" {
-        of_text(check_words(words))
+        of_text(alone(Command::Check, words))
     } else if verb == "extract" {
         of_text(extract_words(words))
     } else if verb == "run" {
         of_text(run_words(words))
     } else if verb == "gen" {
         generate_words(words)
+    } else if verb == "certify" {
+        of_text(alone(Command::Certify, words))
+    } else if verb == "verify" {
+        of_text(alone(Command::Verify, words))
     } else {
         None
     }

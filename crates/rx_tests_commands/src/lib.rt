@@ -1,6 +1,8 @@
-//! Tests of the commands `check`, `extract`, `run` and `gen` over the whole language.
+//! Tests of the commands over the whole language, and of what stands over texts and trees.
 #![tactic(auto)]
 
+#[cfg(test)]
+mod certificates;
 #[cfg(test)]
 mod check;
 #[cfg(test)]
@@ -10,4 +12,8 @@ mod failing;
 #[cfg(test)]
 mod generated;
 #[cfg(test)]
+mod holding;
+#[cfg(test)]
 mod run;
+#[cfg(test)]
+mod texts;

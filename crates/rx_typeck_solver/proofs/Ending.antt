@@ -21,7 +21,8 @@ use Rattle.rx_typeck_solver.specs.Ends.{HasFailed, FoundIs, Ended, LiteralsAre, 
 use Rattle.rx_typeck_solver.specs.Solving.{IsSound, IsSolved, IsUnsolved, UnclearAt}
 use Rattle.rx_typeck_solver.proofs.Parenthood.{fun_ext}
 use Rattle.rx_typeck_solver.proofs.States.{restate, refits}
-use Rattle.rx_typeck_solver.proofs.Final.{failed_breaks, told_known, known_told, answer_valid, unclear_literal, unclear_class}
+use Rattle.rx_typeck_solver.proofs.Order.{AskedAt}
+use Rattle.rx_typeck_solver.proofs.Final.{failed_breaks, not_lacking, asks_asked, root_asked, told_known, known_told, answer_valid, unclear_literal, unclear_class}
 
 -- ---- the start
 
@@ -82,6 +83,10 @@ fresh_sized sizes es t f = record {
   levels = λ i h. absurd (let l : length es ≡ 0 = ap (λ m. length m) f.entries in omega (arith, h, l));
 }
 
+-- from where nothing is known, demands in order lack nothing
+pub fresh_reads : (K : Known) (task : Task) (es : List Entry) (t : Tables) → Orderly task → Fresh es t → solve K task.demands (state_of es t) ≡ Lacking → ⊥
+fresh_reads K task es t o f e = not_lacking K task o (ap (solve K task.demands) (sym (fresh_empty es t f)) ∙ e)
+
 -- ---- classes whose parents are flat
 
 pub flat_fits : (es : List Entry) (t : Tables) (ps : Vec ℕ Global) → Fits es t → Falling ps.items → length ps.items ≡ length t.classes.parents.items → Fits es (record t { classes = record { parents = ps; sets = t.classes.sets } })
@@ -102,7 +107,7 @@ asked_read qs ds i d n e h q r = subst (λ l. Asked l n d.span) e (asked_at qs i
 
 pub unclear_is : (K : Known) (task : Task) (n : ℕ) (u : Unsolved) → UnclearAt task.demands n u → IsUnclear K task n → IsUnsolved K task u
 unclear_is K task n (unsolved.Broken m s b) h i = (inr (h.1, subst (λ k. IsUnclear K task k) (sym h.0) i), subst (λ k. Asked task.demands k s) (sym h.0) h.2)
-unclear_is K task n unsolved.OutOfMemory h i = tt
+unclear_is K task n unsolved.OutOfMemory h i = absurd h
 
 pub failed_is : (K : Known) (task : Task) (sizes : List ℕ) (es us : List Entry) (t u : Tables) (x : Failure) (o : Option Failure) → Fresh es t → Ended sizes us u (solve K task.demands (state_of es t)) o → o ≡ Some x
     → IsUnsolved K task (unsolved.Broken x.node x.span x.broken)
@@ -133,6 +138,13 @@ module _ (K : Known) (task : Task) (o : Orderly task) (s : Solved) (end : solve 
       let l = subst (λ p. LiteralsAre st task.literals p) e h in
       let p = subst (λ p. ClassesAre st task.literals p) f k in
       unclear_class K task st o end l n p.0 p.1
+
+  -- something is asked at the literal, and at the node of the class
+  pub literal_asked : (n : ℕ) (r : Option ℕ) → LiteralsAre (state_of s.arena.entries.items s.tables) task.literals r → r ≡ Some n → AskedAt task.demands n
+  literal_asked n r h e = let p = subst (λ q. LiteralsAre st task.literals q) e h in asks_asked n task.demands (o.literals n p.0)
+
+  pub class_asked : (n : ℕ) (q : Option ℕ) → ClassesAre (state_of s.arena.entries.items s.tables) task.literals q → q ≡ Some n → AskedAt task.demands n
+  class_asked n q k f = let p = subst (λ p. ClassesAre st task.literals p) f k in root_asked K task st o end n p.0
 
   pub is_solved : (r q : Option ℕ) → LiteralsAre (state_of s.arena.entries.items s.tables) task.literals r → r ≡ None → ClassesAre (state_of s.arena.entries.items s.tables) task.literals q → q ≡ None → IsSound s → IsSolved K task s
   is_solved r q h e k f g = record {

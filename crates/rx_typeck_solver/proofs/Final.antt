@@ -303,6 +303,7 @@ module _ (D : Known) (task : Task) (st : State) (o : Orderly task) (end : solve 
       some = answer st;
       typed = to_typed (answer st) s0;
       not_valid = λ V v. they_differ (sym (v.only_one (answer st) answer_prefers (subject.Node u) told) ∙ v.only_one another another_prefers (subject.Node u) told);
+      told = told;
       at = inr (answer st, another, answer_prefers, another_prefers, they_differ);
     }
       where
@@ -343,5 +344,6 @@ module _ (D : Known) (task : Task) (st : State) (o : Orderly task) (end : solve 
             some = answer st;
             typed = to_typed (answer st) s0;
             not_valid = λ V v. no_i32 n u h (t, e, f) p.0 p.1 V v.prefers;
+            told = known_told (subject.Node n) (t, e);
             at = inl (two_kinds n u h (t, e, f) p.0);
           }

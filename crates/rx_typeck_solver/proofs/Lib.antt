@@ -19,6 +19,7 @@ pub mod Lookups
 pub mod Making
 pub mod Looking
 pub mod Taking
+pub mod Lacking
 pub mod Lasting
 pub mod Ending
 pub mod Viewing

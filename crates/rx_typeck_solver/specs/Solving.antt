@@ -1,6 +1,5 @@
 -- What is promised of the types that are found, and of the places where none are.
-use Rattle.std.specs.Prelude.{◌≡◌, ◌⊎◌, ◌↔◌, ℕ, List, Option, Some, None}
-use Rattle.rx_core.specs.declared.types.Span.{Span}
+use Rattle.std.specs.Prelude.{◌≡◌, ◌⊎◌, ◌↔◌, ℕ, List, Some}
 use Rattle.rx_typeck_solver.specs.declared.facts.Broken.TheVariants as broken
 use Rattle.rx_typeck_solver.specs.declared.facts.Rule.{Rule}
 use Rattle.rx_typeck_solver.specs.declared.facts.Subject.{Subject}
@@ -40,12 +39,7 @@ abbrev pub IsUnsolved : Known → Task → Unsolved → Type 0
 IsUnsolved K task (unsolved.Broken n s b) = (Breaks K task n b ⊎ ((b ≡ broken.Mismatch Rule.Unclear) × IsUnclear K task n)) × Asked task.demands n s
 IsUnsolved K task unsolved.OutOfMemory = Unit {0}
 
--- the span of the first demand at a node, if there is one
-abbrev pub SpanIs : List Demand → ℕ → Option Span → Type 0
-SpanIs ds n (Some s) = Asked ds n s
-SpanIs ds n None = (s : Span) → Asked ds n s → ⊥
-
 -- what is answered of a node at which it isn't clear which type is meant
 abbrev pub UnclearAt : List Demand → ℕ → Unsolved → Type 0
 UnclearAt ds n (unsolved.Broken m s b) = (m ≡ n) × (b ≡ broken.Mismatch Rule.Unclear) × Asked ds n s
-UnclearAt ds n unsolved.OutOfMemory = Unit {0}
+UnclearAt ds n unsolved.OutOfMemory = ⊥

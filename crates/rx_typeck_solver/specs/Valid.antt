@@ -86,12 +86,13 @@ module _ (D : Known) (task : Task) where
     pub met : MeetsChosen chosen some task.demands
     pub none : (A : Types) → MeetsChosen chosen A task.demands → MeetsOne n r A task.demands → ⊥
 
-  -- it isn't clear which type is meant: all demands can be met, no assignment is valid, and the node is an open literal,
-  -- or two assignments that prefer i32 give it different types
+  -- it isn't clear which type is meant: all demands can be met, no assignment is valid, and the node has a type, and is an
+  -- open literal, or two assignments that prefer i32 give it different types
   pub record IsUnclear (n : ℕ) : Type 0 where
     pub some : Types
     pub typed : Typed some
     pub not_valid : (A : Types) → Valid A → ⊥
+    pub told : Told task.demands (subject.Node n)
     pub at : Open n ⊎ ((A : Types) × (B : Types) × PrefersI32 A × PrefersI32 B × (A (subject.Node n) ≡ B (subject.Node n) → ⊥))
 
 -- the span is that of a demand at the node

@@ -33,6 +33,7 @@ pub(crate) fn take_demands(
 ) -> Result<Option<Failure>, AllocError>
     requires fits { Fits arena.old.entries.items tables.old }
     requires sized { Sized sizes.now arena.old.entries.items }
+    requires reads { solver.solve (known items.now sizes.now) demands.now (state_of arena.old.entries.items tables.old) ≡ solver.Lacking → ⊥ }
     ensures { IfOk result (λ failure. Ended sizes.now arena.new.entries.items tables.new (solver.solve (known items.now sizes.now) demands.now (state_of arena.old.entries.items tables.old)) failure) }
 {
     for demand in demands.as_slice() {

@@ -1,9 +1,9 @@
 //! What facts read: the shapes of subjects, and the dereferences that are gone through at nodes.
 
-ghost use Rattle.std.specs.Prelude.{◌≡◌, ◌<◌, [], Some, IfOk};
+ghost use Rattle.std.specs.Prelude.{◌≡◌, ◌<◌, [], Some, IfOk, IsSome};
 ghost use Rattle.rx_typed.specs.Types as types;
 ghost use Rattle.rx_typeck_solver.specs.Facts as facts_of;
-ghost use Rattle.rx_typeck_solver.specs.Solver.{terms_at};
+ghost use Rattle.rx_typeck_solver.specs.Solver.{terms_at, passed_at};
 ghost use Rattle.rx_typeck_solver.specs.Cells.{term, Formable, IsTerm};
 ghost use Rattle.rx_typeck_solver.specs.Tabled.{index_of, table_of, Fits};
 ghost use Rattle.rx_typeck_solver.specs.Reading as read_of;
@@ -21,12 +21,13 @@ pub(crate) struct Passed {
     pub(crate) mutable: bool,
 }
 
-/// The entries of subjects. `Err` too where one has no shape, which doesn't come where demands are in order.
+/// The entries of subjects.
 pub(crate) fn entries(
     alloc: Global,
     tables: &Tables,
     of: &List<Subject>,
 ) -> Result<Vec<usize>, AllocError>
+    requires { IsSome (terms_at (index_of tables.now) of.now) }
     ensures { IfOk result (λ all. terms_at (index_of tables.now) of.now ≡ Some all.items) }
 {
     let mut all = Vec::new(alloc);
@@ -36,7 +37,7 @@ pub(crate) fn entries(
                 Ok(()) => (),
                 Err(_) => return Err(AllocError),
             },
-            None => return Err(AllocError),
+            None => unreachable!(),
         }
     }
     Ok(all)
@@ -99,21 +100,18 @@ fn gone(arena: &Arena, entry: usize, all: bool) -> Passed
     }
 }
 
-/// The dereferences at nodes. `Err` too where one has no shape, which doesn't come where demands are in order.
-pub(crate) fn dereferences(
-    arena: &Arena,
-    tables: &Tables,
-    at: &List<Passing>,
-) -> Result<Passed, AllocError>
+/// The dereferences at nodes.
+pub(crate) fn dereferences(arena: &Arena, tables: &Tables, at: &List<Passing>) -> Passed
     requires fits { Fits arena.now.entries.items tables.now }
-    ensures { IfOk result (λ sum. read_of.sum_at (table_of arena.now.entries.items tables.now) at.now ≡ Some sum) }
+    requires known { IsSome (passed_at (table_of arena.now.entries.items tables.now) at.now) }
+    ensures { read_of.sum_at (table_of arena.now.entries.items tables.now) at.now ≡ Some result }
 {
     let mut sum = nothing_passed();
     for passing in at.as_slice() {
         match tables.shape(Subject::Node(passing.node)) {
             Some(entry) => sum = both(sum, gone(arena, entry, passing.all)),
-            None => return Err(AllocError),
+            None => unreachable!(),
         }
     }
-    Ok(sum)
+    sum
 }

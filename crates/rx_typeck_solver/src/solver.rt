@@ -1,9 +1,11 @@
 //! The types that answer all demands.
 
 ghost use Rattle.std.specs.Prelude.{IfOk, IfErr};
+ghost use Rattle.rx_core.specs.declared.types.Span as span;
+ghost use Rattle.rx_typeck_solver.specs.Valid.{Asked};
 ghost use Rattle.rx_typeck_solver.specs.Ordered.{Orderly};
 ghost use Rattle.rx_typeck_solver.specs.Stepping.{known};
-ghost use Rattle.rx_typeck_solver.specs.Solving.{task_of, IsSolved, IsUnsolved, SpanIs, UnclearAt};
+ghost use Rattle.rx_typeck_solver.specs.Solving.{task_of, IsSolved, IsUnsolved, UnclearAt};
 
 use crate::arena::Arena;
 use crate::classes::flatten;
@@ -35,29 +37,28 @@ pub enum Unsolved {
     OutOfMemory,
 }
 
-/// The span of the first demand at a node.
-fn span_at(demands: &List<Demand>, node: usize) -> Option<Span>
-    ensures { SpanIs demands.now node result }
+/// The span of the first demand at a node, at which something is asked.
+fn span_at(demands: &List<Demand>, node: usize) -> Span
+    requires { (at : span.Span) × Asked demands.now node at }
+    ensures { Asked demands.now node result }
 {
     for demand in demands.as_slice() {
         if demand.node == node {
-            return Some(demand.span);
+            return demand.span;
         }
     }
-    None
+    unreachable!()
 }
 
-/// It isn't clear which type is meant at a node. Each such node has a demand.
+/// It isn't clear which type is meant at a node, at which something is asked.
 fn unclear(demands: &List<Demand>, node: usize) -> Unsolved
+    requires { (at : span.Span) × Asked demands.now node at }
     ensures { UnclearAt demands.now node result }
 {
-    match span_at(demands, node) {
-        Some(span) => Unsolved::Broken {
-            node,
-            span,
-            broken: Broken::Mismatch(Rule::Unclear),
-        },
-        None => Unsolved::OutOfMemory,
+    Unsolved::Broken {
+        node,
+        span: span_at(demands, node),
+        broken: Broken::Mismatch(Rule::Unclear),
     }
 }
 

@@ -1,6 +1,6 @@
 //! The shapes of subjects, and the classes of nodes whose integer types are open.
 
-ghost use Rattle.std.specs.Prelude.{◌≡◌, ◌<◌, ◌≤◌, ℕ, [], List as ListOf, length, get_or, Option, Some, None, OnOk, IfOk, OnSome, IsTrue};
+ghost use Rattle.std.specs.Prelude.{◌≡◌, ◌<◌, ◌≤◌, ℕ, [], List as ListOf, length, get_or, Option, Some, None, OnOk, IfOk, OnSome, IsSome, IsTrue};
 ghost use Rattle.rx_typed.specs.Types as types;
 ghost use Rattle.rx_typeck_solver.specs.declared.facts.Subject as subject;
 ghost use Rattle.rx_typeck_solver.specs.declared.facts.Subject.TheVariants as subjects;
@@ -228,23 +228,18 @@ pub(crate) fn integer(
     }
 }
 
-/// A node has, behind references if any, one of these integer types. Whether it can. `Err` too where it has no shape,
-/// which doesn't come where demands are in order.
-pub(crate) fn integer_behind(
-    arena: &Arena,
-    tables: &mut Tables,
-    node: usize,
-    kinds: Kinds,
-) -> Result<bool, AllocError>
+/// A node has, behind references if any, one of these integer types. Whether it can.
+pub(crate) fn integer_behind(arena: &Arena, tables: &mut Tables, node: usize, kinds: Kinds) -> bool
     requires fits { Fits arena.now.entries.items tables.old }
-    ensures step { IfOk result (λ goes. solver.behind_at (table_of arena.now.entries.items tables.old (subjects.Node node)) kinds (state_of arena.now.entries.items tables.old) ≡ step_if goes (state_of arena.now.entries.items tables.new)) }
-    ensures fits { OnOk result (Fits arena.now.entries.items tables.new) }
+    requires known { IsSome (table_of arena.now.entries.items tables.old (subjects.Node node)) }
+    ensures step { solver.behind_at (table_of arena.now.entries.items tables.old (subjects.Node node)) kinds (state_of arena.now.entries.items tables.old) ≡ step_if result (state_of arena.now.entries.items tables.new) }
+    ensures fits { Fits arena.now.entries.items tables.new }
 {
     match tables.shape(Subject::Node(node)) {
-        None => Err(AllocError),
+        None => unreachable!(),
         Some(known) => {
             let under = peeled(arena, known);
-            Ok(integer_in(arena, &mut tables.classes, under, kinds))
+            integer_in(arena, &mut tables.classes, under, kinds)
         }
     }
 }

@@ -1,4 +1,5 @@
 pub mod Asking
+pub mod rules
 pub mod Demands
 pub mod Steps
 pub mod Written

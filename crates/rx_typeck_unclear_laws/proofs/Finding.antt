@@ -1,18 +1,17 @@
 -- Where all demands can be met the solver finds a state. If each literal and each class is fine in it the assignment is valid; else a
--- literal, or the node of a class, is unclear, and both are told.
+-- literal, or the node of a class, is unclear.
 use Rattle.std.proofs.Common.{◌≡◌, ◌⊎◌, inl, inr, ⊎_elim, ℕ, Bool, true, false, nat_eq, IsTrue, List, [], ◌∷◌, Option, Some, None, refl, ap, sym, ◌∙◌, subst}
 use Rattle.std.proofs.lemmas.Bool.{eqb-true, eqb-false}
 use Rattle.rx_core.specs.declared.types.Span.{Span}
 use Rattle.rx_typed.specs.Types.{integer}
 use Rattle.rx_typeck_solver.specs.declared.facts.Subject.TheVariants as subject
 use Rattle.rx_typeck_solver.specs.declared.facts.Demand.{Demand}
-use Rattle.rx_typeck_solver.specs.Facts.{Known}
-use Rattle.rx_typeck_solver.specs.Valid.{Task, Told, IsIn, Open, IsUnclear, Asked}
+use Rattle.rx_typeck_solver.specs.Facts.{Types, Known}
+use Rattle.rx_typeck_solver.specs.Valid.{Task, Told, IsIn, Typed, Open, Valid, IsUnclear, Asked}
 use Rattle.rx_typeck_solver.specs.Solver.{Leaf, Fixed, KindOf, Term, State, empty, Found, Found_all, Failed, Lacking, solve, literal_fine, class_fine, Root, answer}
 use Rattle.rx_typeck_solver.specs.Ordered.{Orderly}
 use Rattle.rx_typeck_solver.proofs.Order.{AskedAt}
-use Rattle.rx_typeck_solver.proofs.Final.{failed_breaks, not_lacking, asks_asked, root_asked, known_told, answer_valid, unclear_class, unclear_literal}
-use Rattle.rx_typeck_unclear_laws.specs.Unclear.{HasUnclearType}
+use Rattle.rx_typeck_solver.proofs.Final.{failed_breaks, not_lacking, asks_asked, root_asked, answer_valid, unclear_class, unclear_literal}
 use Rattle.rx_typeck_unclear_laws.proofs.Telling.{literal_told}
 
 -- ---- each of a list, or one that is not
@@ -77,28 +76,26 @@ roots st ls (m ∷ ns) = by (one_root st ls m) (roots st ls ns)
 -- ---- a task
 
 abbrev Found_there : Known → Task → Type 0
-Found_there K task = (m : ℕ) × (at : Span) × HasUnclearType K task m × Asked task.demands m at
+Found_there K task = (m : ℕ) × (at : Span) × IsUnclear K task m × Asked task.demands m at
 
 pub open_told : (K : Known) (task : Task) → Orderly task → (n : ℕ) → Open K task n → Told task.demands (subject.Node n)
 open_told K task o n w = literal_told K task o w.one w.typed_one n w.literal
 
-pub some_told : (K : Known) (task : Task) → Orderly task → (n : ℕ) → IsUnclear K task n → Found_there K task
-some_told K task o n u = by (solve K task.demands empty) refl
+pub some_unclear : (K : Known) (task : Task) → Orderly task → (A : Types) → Typed K task A → ((V : Types) → Valid K task V → ⊥) → Found_there K task
+some_unclear K task o A t v = by (solve K task.demands empty) refl
   where
-    found : (m : ℕ) → AskedAt task.demands m → Told task.demands (subject.Node m) → IsUnclear K task m → Found_there K task
-    found m a t w = (m, a.0, record { told = t; unclear = w }, a.1)
+    found : (m : ℕ) → AskedAt task.demands m → IsUnclear K task m → Found_there K task
+    found m a u = (m, a.0, u, a.1)
 
     ended : (st : State) → solve K task.demands empty ≡ Found_all st
         → ((m : ℕ) → IsIn m task.literals → IsTrue (literal_fine st (st.shapes (subject.Node m)))) ⊎ ((m : ℕ) × IsIn m task.literals × (literal_fine st (st.shapes (subject.Node m)) ≡ false))
         → ((m : ℕ) → IsIn m (nodes_of task.demands) → Fine st task.literals m) ⊎ ((m : ℕ) × Coarse st task.literals m) → Found_there K task
-    ended st e (inr l) c =
-        found l.0 (asks_asked l.0 task.demands (o.literals l.0 l.1)) (literal_told K task o u.some u.typed l.0 l.1) (unclear_literal K task st o e l.0 l.1 l.2)
-    ended st e (inl l) (inr c) =
-        found c.0 (root_asked K task st o e c.0 c.1.0) (known_told K task st o e (subject.Node c.0) (integer (KindOf c.0), c.1.0)) (unclear_class K task st o e l c.0 c.1.0 c.1.1)
+    ended st e (inr l) c = found l.0 (asks_asked l.0 task.demands (o.literals l.0 l.1)) (unclear_literal K task st o e l.0 l.1 l.2)
+    ended st e (inl l) (inr c) = found c.0 (root_asked K task st o e c.0 c.1.0) (unclear_class K task st o e l c.0 c.1.0 c.1.1)
     ended st e (inl l) (inl f) =
-        absurd (u.not_valid (answer st) (answer_valid K task st o e l (λ m r. let a = root_asked K task st o e m r in f m (asked_node m a.0 task.demands a.1) r)))
+        absurd (v (answer st) (answer_valid K task st o e l (λ m r. let a = root_asked K task st o e m r in f m (asked_node m a.0 task.demands a.1) r)))
 
     by : (r : Found) → solve K task.demands empty ≡ r → Found_there K task
     by (Found_all st) e = ended st e (all_or_one (λ m. literal_fine st (st.shapes (subject.Node m))) task.literals) (roots st task.literals (nodes_of task.demands))
-    by (Failed d) e = absurd ((failed_breaks K task d e).2 u.some u.typed)
+    by (Failed d) e = absurd ((failed_breaks K task d e).2 A t)
     by Lacking e = absurd (not_lacking K task o e)

@@ -29,7 +29,7 @@ at_head-missing-requires t c =
     let b = ap (λ l. rows_weight (map plain-Row l)) c.as_slice-2.ensures in
     let d = length-map c.in_ok-kept.kept plain-Column in
     let e = length-map c.args.rest.now plain-Column in
-    (omega (arith, less, a, b, d, e), (c.requires.finite, c.requires.numbered))
+    (omega (arith, less, a, b, d, e), (c.requires.finite, (c.requires.numbered, c.requires.inhabited)))
 
 pub at_head-rebuilt-requires-clause-long : goal.at_head-rebuilt-requires-clause-long
 at_head-rebuilt-requires-clause-long t c =
@@ -63,7 +63,7 @@ by_others-missing-requires t c =
     let f = ap rows_weight c.in_ok-others.ensures in
     let g = beside_less (map plain-Column c.args.rest.now) (map plain-Row c.args.rows.now) in
     let n = length-map c.args.rest.now plain-Column in
-    (omega (arith, e, f, g, n), (c.requires.finite, c.requires.numbered))
+    (omega (arith, e, f, g, n), (c.requires.finite, (c.requires.numbered, c.requires.inhabited)))
 
 pub by_others-returns-in-Some : goal.by_others-returns-in-Some
 by_others-returns-in-Some t c =
@@ -103,7 +103,7 @@ in_range-by_range-requires t c =
     let a = ap (λ l. rows_weight (map plain-Cells l)) c.as_slice.ensures in
     let b = ap rows_weight c.in_ok-within.ensures in
     let w = within_weight (map plain-Head c.args.heads.now.keys) c.args.low c.args.high (map plain-Cells c.args.rows.now) in
-    (omega (arith, a, b, w), (c.requires.finite, (c.requires.numbered, (c.requires.fit, c.requires.ends))))
+    (omega (arith, a, b, w), (c.requires.finite, (c.requires.numbered, (c.requires.inhabited, (c.requires.fit, c.requires.ends)))))
 
 pub in_range-returns : goal.in_range-returns
 in_range-returns t c =
@@ -122,7 +122,10 @@ by_range-at_head-requires t c =
         c.requires.finite,
         (
           c.requires.numbered,
-          lemma.head_at D T c.as_slice.result.now c.args.low _ (omega (arith, e, ends, f)) (subst (λ ks. AllHeads D T (map plain-Head ks)) (sym c.as_slice.ensures.keys) c.requires.fit.fit),
+          (
+            c.requires.inhabited,
+            lemma.head_at D T c.as_slice.result.now c.args.low _ (omega (arith, e, ends, f)) (subst (λ ks. AllHeads D T (map plain-Head ks)) (sym c.as_slice.ensures.keys) c.requires.fit.fit),
+          ),
         ),
       ),
     )
@@ -146,7 +149,7 @@ pub split-by_heads-requires : goal.split-by_heads-requires
 split-by_heads-requires t c =
     let D = declarations c.args.decls.now.items in
     let T = plain-Ty c.args.ty.now in
-    (omega arith, (c.requires.finite, (c.requires.numbered, subst (λ l. HeadsOf D T l) (sym c.in_ok-heads.ensures) (lemma.all_gathered D T [] (map plain-Row c.args.rows.now) (record { fit = tt; distinct = tt })))))
+    (omega arith, (c.requires.finite, (c.requires.numbered, (c.requires.inhabited, subst (λ l. HeadsOf D T l) (sym c.in_ok-heads.ensures) (lemma.all_gathered D T [] (map plain-Row c.args.rows.now) (record { fit = tt; distinct = tt }))))))
 
 pub split-by_others-requires : goal.split-by_others-requires
 split-by_others-requires t c =
@@ -160,8 +163,11 @@ split-by_others-requires t c =
         (
           c.requires.numbered,
           (
-            subst (λ l. AreHeads D T rows l) (sym c.in_ok-heads.ensures) (lemma.are_gathered D T rows),
-            subst (λ o. SettlesHeads D T ts (map plain-Head c.in_ok-heads.heads.keys) rows o) c.in-None.is c.in_ok-stack.ensures,
+            c.requires.inhabited,
+            (
+              subst (λ l. AreHeads D T rows l) (sym c.in_ok-heads.ensures) (lemma.are_gathered D T rows),
+              subst (λ o. SettlesHeads D T ts (map plain-Head c.in_ok-heads.heads.keys) rows o) c.in-None.is c.in_ok-stack.ensures,
+            ),
           ),
         ),
       ),

@@ -3,7 +3,7 @@ use Rattle.std.proofs.Common.{[], Some, None, Err, ◌≡◌, ◌∙◌, refl, s
 use Rattle.std.specs.Prelude.{option_map}
 use Rattle.rx_rem_command.specs.declared.status.Status.TheVariants.{Usage, ReadFault, TooLong, OutOfMemory}
 use Rattle.rx_rem_command.specs.declared.words.Request.{Request}
-use Rattle.rx_rem_command.specs.Forms.{Command, command_of, generates, Reads}
+use Rattle.rx_rem_command.specs.Forms.{Command, command_of, generates, Reads, most_bytes}
 use Rattle.rx_rem_command.specs.Asked.{asked, requested}
 use Rattle.rx_rem_command.specs.Lines.{status_line}
 use Rattle.rx_rem_command.specs.Defined.{Choices, AnswersTo}
@@ -47,9 +47,9 @@ returns-in-Ok-clause-replies g c =
     let e : Some (asked c.in-OfText.command) ≡ command_of c.args.words.now = ap (λ (r : Request). Some (requested r)) (sym c.in-OfText.is)
     ∙ (ap (option_map requested) (sym c.in-Some.is) ∙ (c.read_words.ensures ∙ ap command_of c.as_slice.ensures)) in
     let f = c.answer.ensures in
-    let r = read_whole (source_state g.S.Source.remaining g.S.Source.faults c.args.source.now)
+    let r = read_whole c.limit_of-limit.result _ (source_state g.S.Source.remaining g.S.Source.faults c.args.source.now)
     (source_state g.S.Source.remaining g.S.Source.faults c.read_all.new.source)
-    c.as_slice-in-Ok.result.now c.in-Ok.text c.read_all.ensures.gone.0 c.as_slice-in-Ok.ensures c.in-Ok.ensures.all
+    c.as_slice-in-Ok.result.now c.in-Ok.text c.read_all.ensures.gone.0 (c.limit_of-limit.ensures.most ∙ ap most_bytes e) c.as_slice-in-Ok.ensures c.in-Ok.ensures.all
     c.in-Ok.ensures.within c.read_all.ensures.gone.3 in
     replies _ _ _ _ _ _ _ _ f.0 f.1 f.2 c.answer.result (found_due _ _ _ _ _ _ f.0 f.1 f.2 e (c.read_all.ensures.sound (λ q. cc)) r f.3) f.4
 
@@ -59,7 +59,7 @@ returns-in-Err-ReadFault-clause-replies g c =
     ∙ (ap (option_map requested) (sym c.in-Some.is) ∙ (c.read_words.ensures ∙ ap command_of c.as_slice.ensures)) in
     replies _ _ _ _ _ _ _ _ ReadFault [] (status_line ReadFault) c.report_name-in-Err-ReadFault.result
     (not_read (words_read c.args.words.now c.in-OfText.command e) (c.in-Err-ReadFault.ensures.fault (ap Err c.in-Err-ReadFault.field-0-is))
-    (taken_few _ _ c.in-Err-ReadFault.ensures.gone.0 (λ l. let e = c.in-Err-ReadFault.ensures.gone.2.1 l in cc)
+    (taken_few c.limit_of-limit.result _ _ _ c.in-Err-ReadFault.ensures.gone.0 (c.limit_of-limit.ensures.most ∙ ap most_bytes e) (λ l. let e = c.in-Err-ReadFault.ensures.gone.2.1 l in cc)
     c.in-Err-ReadFault.ensures.gone.3))
     (reported _ _ _ ReadFault c.report_name-in-Err-ReadFault.result _ c.report_name-in-Err-ReadFault.ensures)
 
@@ -69,7 +69,7 @@ returns-in-Err-TooLong-clause-replies g c =
     ∙ (ap (option_map requested) (sym c.in-Some.is) ∙ (c.read_words.ensures ∙ ap command_of c.as_slice.ensures)) in
     replies _ _ _ _ _ _ _ _ TooLong [] (status_line TooLong) c.report_name-in-Err-TooLong.result
     (too_long (words_read c.args.words.now c.in-OfText.command e) (c.in-Err-TooLong.ensures.sound (λ q. cc))
-    (taken_more _ _ c.in-Err-TooLong.ensures.gone.0 c.in-Err-TooLong.ensures.gone.1
+    (taken_more c.limit_of-limit.result _ _ _ c.in-Err-TooLong.ensures.gone.0 (c.limit_of-limit.ensures.most ∙ ap most_bytes e) c.in-Err-TooLong.ensures.gone.1
     (c.in-Err-TooLong.ensures.gone.2.0 (ap Err c.in-Err-TooLong.field-0-is)) c.in-Err-TooLong.ensures.gone.3))
     (reported _ _ _ TooLong c.report_name-in-Err-TooLong.result _ c.report_name-in-Err-TooLong.ensures)
 
@@ -79,6 +79,6 @@ returns-in-Err-OutOfMemory-clause-replies g c =
     ∙ (ap (option_map requested) (sym c.in-Some.is) ∙ (c.read_words.ensures ∙ ap command_of c.as_slice.ensures)) in
     replies _ _ _ _ _ _ _ _ OutOfMemory [] (status_line OutOfMemory) c.report_name-in-Err-OutOfMemory.result
     (no_memory (λ n. cc) (c.in-Err-OutOfMemory.ensures.sound (λ q. cc))
-    (taken_few _ _ c.in-Err-OutOfMemory.ensures.gone.0 (λ l. let e = c.in-Err-OutOfMemory.ensures.gone.2.1 l in cc)
+    (taken_few c.limit_of-limit.result _ _ _ c.in-Err-OutOfMemory.ensures.gone.0 (c.limit_of-limit.ensures.most ∙ ap most_bytes e) (λ l. let e = c.in-Err-OutOfMemory.ensures.gone.2.1 l in cc)
     c.in-Err-OutOfMemory.ensures.gone.3))
     (reported _ _ _ OutOfMemory c.report_name-in-Err-OutOfMemory.result _ c.report_name-in-Err-OutOfMemory.ensures)
