@@ -18,3 +18,4 @@ pub mod Pieces
 pub mod CalledFunctions
 pub mod OneCall
 pub mod MovedRuns
+pub mod Arguments

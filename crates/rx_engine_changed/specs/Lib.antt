@@ -6,3 +6,4 @@ pub mod Chosen
 pub mod Called
 pub mod AsItStands
 pub mod Once
+pub mod Arguments

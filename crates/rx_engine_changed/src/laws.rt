@@ -1,13 +1,21 @@
 //! Laws of the functions that change, each as the contract of a function that does nothing.
 
-ghost use Rattle.std.specs.Prelude.{◌≡◌, true, false, ℕ, List as ListOf, []};
+ghost use Rattle.std.specs.Prelude.{◌≡◌, true, false, ℕ, List as ListOf, [], map, slice_get, Some};
 ghost use Rattle.rx_core.specs.declared.types.Span.{Span};
-ghost use Rattle.rx_tree.specs.Lists.{statements, tail};
+ghost use Rattle.rx_tree.specs.Lists.{statements, tail, Every};
 ghost use Rattle.rx_tree.specs.Plain.{Function, OptionalExpression, ProgramTree, Statement, Statements};
 ghost use Rattle.rx_resolve_names.specs.Meant.{Around};
 ghost use Rattle.rx_resolve_names.specs.declared.resolved.ItemNames.{ItemNames};
 ghost use Rattle.rx_resolve_names.specs.declared.resolved.NodeNames.{NodeNames};
-ghost use Rattle.rx_typed.specs.Named.{Function as NamedFunction};
+ghost use Rattle.rx_typed.specs.Named.{Exp, Function as NamedFunction};
+ghost use Rattle.rx_typed.specs.Types.{parameters_declared, result_declared, Typ};
+ghost use Rattle.rx_hoist_extraction.specs.NewFunction.{passed_types};
+ghost use Rattle.rx_engine_names.specs.Calls as calls;
+ghost use Rattle.rx_engine_names.specs.Calls.{Calls};
+ghost use Rattle.rx_engine_blocks.specs.Renumbering.{shape_at, Renumbering};
+ghost use Rattle.rx_engine_holes.specs.CallFits.{ValueFits};
+ghost use Rattle.rx_engine_holes.specs.Entries.{Context, Entries};
+ghost use Rattle.rx_engine_changed.specs.Arguments.{HasItsType, PassesOn};
 ghost use Rattle.rx_typed.specs.Naming.{function_named, of_statements, Cursor};
 ghost use Rattle.rx_hoist_extraction.specs.Run.{as_statements, chosen, goes_past, run_block, with_parts, Run};
 ghost use Rattle.rx_hoist_extraction.specs.Plan.{Plan};
@@ -114,3 +122,10 @@ pub fn functions_with_a_call_are_valid()
     functions_with_others_for_a_run_are_valid();
     functions_with_others_for_an_end_are_valid();
 }
+
+/// A call of the new function, where it declares the types of the plan's params as they are passed, fits: its arguments are variables with these types in the
+/// text, or borrows of them.
+pub fn calls_of_a_plan_fit()
+    ensures { (C : Calls) (R : Renaming) (E : Known) (B : Context) (q : Renumbering) (e : Exp) (t : Typ) → calls.IsCall C R e → PassesOn e → Every (HasItsType E B q C R) C.plan.params
+        → parameters_declared (slice_get E.items C.number) ≡ map (shape_at q) (passed_types C.plan.params) → result_declared (slice_get E.items C.number) ≡ Some t → (made : Entries) × ValueFits E B e t made }
+{}

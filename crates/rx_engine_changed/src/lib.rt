@@ -4,7 +4,7 @@
 mod laws;
 
 pub use laws::{
-    copied_runs_are_renumbered, functions_with_a_call_are_renumbered,
+    calls_of_a_plan_fit, copied_runs_are_renumbered, functions_with_a_call_are_renumbered,
     functions_with_a_call_are_valid, functions_with_a_call_at_the_end_are_renumbered,
     functions_with_a_call_have_one_numbering, made_pairs_are_one_to_one, pieces_tell_a_numbering,
 };

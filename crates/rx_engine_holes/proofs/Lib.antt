@@ -10,3 +10,6 @@ mod Integers
 mod Naming
 mod Alone
 mod Adding
+mod Entering
+mod Calling
+mod Fitted

@@ -5,3 +5,5 @@ pub mod Tail
 pub mod Sited
 pub mod Named
 pub mod Others
+pub mod Entries
+pub mod CallFits

@@ -23,6 +23,8 @@ ghost use Rattle.rx_engine_blocks.specs.Settled.{Settles};
 ghost use Rattle.rx_engine_blocks.specs.Copies.{EachCopies};
 ghost use Rattle.rx_engine_blocks.specs.Parts.{Added, StandsFor};
 ghost use Rattle.rx_engine_typing.specs.Renumbered.{no_holes, RenumberedBody, RenumberedExp, RenumberedFunction, RenumberedStatements};
+ghost use Rattle.rx_engine_holes.specs.CallFits.{EndFits, StatementsFit};
+ghost use Rattle.rx_engine_holes.specs.Entries.{assigned, of_text, Apart, Entries};
 ghost use Rattle.rx_engine_holes.specs.Named.{NamedIn};
 ghost use Rattle.rx_engine_holes.specs.Others.{Anywhere, AskForNoInteger, OthersFit};
 ghost use Rattle.rx_engine_holes.specs.Returned.{returned_holes};
@@ -157,4 +159,32 @@ pub fn functions_with_a_copied_run_are_valid()
 pub fn what_is_named_is_fixed()
     ensures { (r : Renumbering) (view : Viewed) (names : ListOf Demand) (E : Known) (A : Types) (es : ListOf Demand)
         → ((x : Subject) → NamedIn names x → Told es (subject_at r x) → Settles E es (subject_at r x) (shared (view x) (shape_at r (A x)))) → Fixes r view (NamedIn names) E A es }
+{}
+
+/// Statements that do something with calls and variables that fit meet what is asked, by the text's types of what comes from the text and by their entries of
+/// what they make.
+pub fn statements_that_fit_are_met()
+    ensures { (q : Renumbering) (w : PartialInverse q) (E : Known) (A : Types) (f : ℕ) (ss : Statements) (made : Entries) → StatementsFit E (of_text q w A) ss made → Apart q w made
+        → MeetsEach E (composed q w none_viewed A (assigned made)) (of_statements f ss []) }
+{}
+
+/// The same of statements and a tail at the end of a block.
+pub fn ends_that_fit_are_met()
+    ensures { (q : Renumbering) (w : PartialInverse q) (E : Known) (A : Types) (f : ℕ) (n : Node) (d : Bool) (ss : Statements) (o : Else) (made : Entries) → EndFits E (of_text q w A) n d ss o made → Apart q w made
+        → MeetsEach E (composed q w none_viewed A (assigned made)) (of_end f n d ss o []) }
+{}
+
+/// So a function that is the text's by other numbers but for a run, for which statements stand that fit, has a valid assignment, whatever becomes of the run.
+pub fn functions_with_statements_that_fit_are_valid()
+    ensures { (q : Renumbering) (w : PartialInverse q) (D E : Known) → Knows q D E → (A : Types) (loops : ℕ → ℕ) (run call : Statements) → Is (some_diverges run) (some_diverges call) → (f g : Function)
+        → RenumberedFunction q loops (with_run q loops no_holes run call) f g → Orderly (task g) → Valid D (task f) A → Fixes q none_viewed (NamedIn (of_statements f.item run [])) E A (demands g)
+        → (made : Entries) → StatementsFit E (of_text q w A) call made → Apart q w made → Valid E (task g) (composed q w none_viewed A (assigned made)) }
+{}
+
+/// The same where last statements and a tail that fit stand for a run that goes to its block's end.
+pub fn functions_with_ends_that_fit_are_valid()
+    ensures { (q : Renumbering) (w : PartialInverse q) (D E : Known) → Knows q D E → (A : Types) (loops : ℕ → ℕ) (n : Node) (s : Span) (d : Bool) (run : Statements) (o : Else) (call : Statements) (p : Else)
+        → Is (some_diverges run || else_diverges o) (some_diverges call || else_diverges p) → Is (tail_never (d || some_diverges run) o) (tail_never (d || some_diverges call) p) → (f g : Function)
+        → RenumberedFunction q loops (with_tail q loops no_holes n s d run o call p) f g → Orderly (task g) → Valid D (task f) A → Fixes q none_viewed (NamedIn (of_end f.item n d run o [])) E A (demands g)
+        → (made : Entries) → EndFits E (of_text q w A) (node_at q n s) d call p made → Apart q w made → Valid E (task g) (composed q w none_viewed A (assigned made)) }
 {}

@@ -9,7 +9,7 @@ use Rattle.rx_facts_tables.specs.Places.{Spot, whole, fields, nowhere, Located, 
 use Rattle.rx_facts_tables.specs.Setting.{is_behind}
 use Rattle.rx_facts_tables.specs.Wholes.{placed}
 use Rattle.rx_facts_tables.proofs.Within.{steps_within}
-use Rattle.rx_engine_initial.proofs.Ways.{no, and_left, and_right, clash}
+use Rattle.rx_engine_initial.proofs.Ways.{no, and_left, and_right}
 
 -- ---- what a way leads to begins where the place does, or behind
 

@@ -1,15 +1,14 @@
 -- The call of a plan, and the match of one, stand for its run: each variable in scope behind has its fate, and what the caller does is in order.
-use Rattle.std.proofs.Common.{◌≡◌, ◌≢◌, ℕ, Bool, true, false, not, List, [], ◌∷◌, ◌++◌, refl, sym, ◌∙◌, subst, ap}
+use Rattle.std.proofs.Common.{◌≡◌, ◌≢◌, ℕ, true, false, not, List, [], ◌∷◌, ◌++◌, refl, sym, ◌∙◌, subst, ap}
 use Rattle.rx_typed.specs.Tree.{variable, Function, own}
-use Rattle.rx_typed_declarations.specs.Sizes.{Sized}
 use Rattle.rx_lower_walks.specs.Actions.{Action}
 use Rattle.rx_lower_walks.specs.Orders.{Order}
 use Rattle.rx_lower_walks.specs.Orders as orders
-use Rattle.rx_lower_walks.specs.Walks.{Out, on, stopped, leaves, fails, Walk, rests, stops, both, first, halts, IsWalk, Among}
-use Rattle.rx_facts_tables.specs.Along.{after, ahead}
-use Rattle.rx_facts_tables.specs.Places.{Frame, is_part}
-use Rattle.rx_facts_tables.specs.Setting.{setting, is_set, AllSet}
-use Rattle.rx_facts_tables.specs.Wholes.{assigning, was_assigned}
+use Rattle.rx_lower_walks.specs.Walks.{Out, stopped, leaves, fails, Walk, rests, both, halts, IsWalk, Among}
+use Rattle.rx_facts_tables.specs.Along.{ahead}
+use Rattle.rx_facts_tables.specs.Places.{Frame}
+use Rattle.rx_facts_tables.specs.Setting.{is_set, AllSet}
+use Rattle.rx_facts_tables.specs.Wholes.{was_assigned}
 use Rattle.rx_facts_tables.specs.Initialised.{IsFixed}
 use Rattle.rx_facts_tables.specs.Live.{living}
 use Rattle.rx_exits_plan.specs.Points.{Exit, next, returns, enters}
@@ -23,12 +22,12 @@ use Rattle.rx_engine_related.specs.AboutRun.{special_of, text_of}
 use Rattle.rx_engine_related.specs.Accepted.{Accepted}
 use Rattle.rx_engine_initial.specs.Matching.{Hist, Reach, Good, Comes, gone, both_leave, Piece, doing, ending, fill, Runs, done, does_one, begins, Aways, Closes, IsCall, Matches, is_call}
 use Rattle.rx_engine_initial.specs.Matching as matching
-use Rattle.rx_engine_initial.specs.Variables.{as_itself, by_reference, Sides, both_end, LikePart, Known, fresh, always, set_view, fresh_view, part_set, not_assigned}
+use Rattle.rx_engine_initial.specs.Variables.{as_itself, by_reference, Sides, both_end, LikePart, Known, set_view, fresh_view, part_set, not_assigned}
 use Rattle.rx_engine_initial.specs.Copies.{world}
 use Rattle.rx_engine_initial.specs.Planned.{IsTextOf}
 use Rattle.rx_engine_initial.specs.Fates.{NotLive, Fate, untouched, lent, handed_out, needless, begins_again, Fates}
 use Rattle.rx_engine_initial.specs.Calls.{StandsFor}
-use Rattle.rx_engine_initial.proofs.Tracing.{holds_here, joined}
+use Rattle.rx_engine_initial.proofs.Tracing.{holds_here}
 use Rattle.rx_engine_initial.proofs.Ways.{no}
 use Rattle.rx_engine_initial.proofs.Uses.{all_turned, not_true_is}
 use Rattle.rx_engine_initial.proofs.Keeping.{whole_gives}
@@ -39,8 +38,8 @@ use Rattle.rx_engine_initial.proofs.Fates.{fates_kept}
 use Rattle.rx_engine_initial_calls.specs.Received.{IsWay}
 use Rattle.rx_engine_initial_calls.specs.Becoming.{Becomes, is_unnamed, is_lent, is_handed, is_gone, is_again}
 use Rattle.rx_engine_initial_calls.specs.GoneThrough.{IsGoneThrough}
-use Rattle.rx_engine_initial_calls.specs.CallOf.{Scopes, IsCallOf}
-use Rattle.rx_engine_initial_calls.specs.MatchOf.{IsFront, LeavesSo, by_return, by_jump, GoesOn, IsMatchOf}
+use Rattle.rx_engine_initial_calls.specs.CallOf.{IsCallOf}
+use Rattle.rx_engine_initial_calls.specs.MatchOf.{IsFront, LeavesSo, by_return, by_jump, GoesOn, IsMatchOf, HasWays}
 use Rattle.rx_engine_initial_calls.proofs.Entry.{entry, param_set, param_stands, param_was, param_ahead, out_was, not_needed, local_not}
 use Rattle.rx_engine_initial_calls.proofs.Receiving.{handing_leaves, receives_good, no_variable}
 
@@ -129,10 +128,10 @@ module _ (A : Asked) (k : Plan) (plan : IsPlan A k) (S : Sides) (acc : Accepted 
 
   -- ---- its match
 
-  module _ (R T : Known S) (H K : List Piece) (q r : Order) (h : IsMatchOf S A k R T H K (fill K r)) where
+  module _ (R T : Known S) (H K : List Piece) (q r : Order) (h : IsMatchOf S A k R T H (fill K r)) (ways : HasWays A k K (fill K r)) where
     module _ (us w : List Action) (H0 : Hist (world S) R us w) (reach : Reach (world S) (fill K r) w) where
       front_good : (vs : List Action) → IsFront S k R vs → Good (world S) us vs
-      front_good vs f = let z = h.through f.exit f.exits in good_front S new us vs f.rest (subst (λ l. Good (world S) us l) (sym f.is)
+      front_good vs f = let z = ways.through f.exit f.exits in good_front S new us vs f.rest (subst (λ l. Good (world S) us l) (sym f.is)
           (orderly R (fill K r) f.exit f.exits z.0 z.1 z.2 z.3 w reach us H0 f.all f.way))
 
       leaves_so : (vs : List Action) (j : orders.Exit) → LeavesSo S A k R (fill K r) vs j → Comes (world S) R (fill K r) us w vs (leaves j)
@@ -141,11 +140,11 @@ module _ (A : Asked) (k : Plan) (plan : IsPlan A k) (S : Sides) (acc : Accepted 
           (fates_kept S new old R us w vs u H0 R (fates R (fill K r) e exits u (leaves i) walk g w reach n R vs b (λ x z. h.scopes.no_reference x (h.scopes.wider (by_reference x) z))))
 
       goes_on : (vs : List Action) → GoesOn S A k R T vs → (ws : List Action) × Runs K ws × Hist (world S) T (us ++ vs) (w ++ ws)
-      goes_on vs f = let z = h.to_end f.exits in
+      goes_on vs f = let z = ways.to_end f.exits in
           (z.0, z.1, fates_kept S new old R us w vs z.0 H0 T (fates R (fill K r) next f.exits z.0 stopped (runs_walk r z.1) z.2 w reach (λ q. cc) T vs f.becomes h.scopes.no_reference))
 
       end_good : (vs : List Action) → GoesOn S A k R T vs → Good (world S) us vs
-      end_good vs f = let z = h.through next f.exits in orderly R (fill K r) next f.exits z.0 z.1 z.2 z.3 w reach us H0 vs f.way
+      end_good vs f = let z = ways.through next f.exits in orderly R (fill K r) next f.exits z.0 z.1 z.2 z.3 w reach us H0 vs f.way
 
     pub match_matches : ((us : List Action) → Walk q us fails → ⊥) → Matches (world S) T q r → Matches (world S) R (fill H q) (fill K r)
     match_matches f m = is_call (record {

@@ -1,29 +1,28 @@
 -- What the plan says of a walk through the run, from where it is entered to an exit.
-use Rattle.std.proofs.Common.{◌≡◌, ◌≢◌, ◌⊎◌, inl, inr, ℕ, Bool, true, false, not, ◌&&◌, ◌||◌, ◌==◌, List, [], ◌∷◌, ◌++◌, refl, sym, ◌∙◌, subst, ap}
+use Rattle.std.proofs.Common.{◌≡◌, ◌≢◌, ℕ, Bool, true, false, not, ◌&&◌, ◌||◌, List, [], ◌∷◌, ◌++◌, refl, sym, ◌∙◌, subst, ap}
 use Rattle.rx_core.specs.declared.types.Step.{Step}
-use Rattle.rx_typed.specs.Tree.{Root, variable, temporary, own}
+use Rattle.rx_typed.specs.Tree.{variable, own}
 use Rattle.rx_typed.specs.TypedPlaces.{is_front}
 use Rattle.rx_lower_walks.specs.Actions.{Act, Declare, Dead, Read, Write, Borrow, Test, Call, Build, Input, Print, Give, Action, does}
 use Rattle.rx_lower_walks.specs.Walks.{IsWalk, Among, here, there, EndsVariable}
-use Rattle.rx_facts_tables.specs.Along.{Switch, behind, after, ahead}
+use Rattle.rx_facts_tables.specs.Along.{behind, after, ahead}
 use Rattle.rx_facts_tables.specs.Setting.{is_behind, AllSet}
 use Rattle.rx_facts_tables.specs.Wholes.{is_variable, is_all, assigns, begins, regains, loses, standing, stands, assigning, was_assigned}
 use Rattle.rx_facts_tables.specs.Initialised.{IsFixed}
-use Rattle.rx_facts_tables.specs.Live.{living, has_root, used}
+use Rattle.rx_facts_tables.specs.Live.{living, has_root}
 use Rattle.rx_exits_plan.specs.Points.{Exit, returns, enters, leaves}
 use Rattle.rx_exits_plan.specs.Marked.{shown}
 use Rattle.rx_exits_plan.specs.Asked.{Asked}
-use Rattle.rx_exits_plan.specs.Plan.{Plan, IsPlan, variables_of, foreign_of}
+use Rattle.rx_exits_plan.specs.Plan.{Plan, IsPlan, variables_of}
 use Rattle.rx_exits_plan.specs.PartlyMoved.{PartlyMoved}
-use Rattle.rx_meaning_keeping.proofs.Parts.{Parted, parted}
+use Rattle.rx_meaning_keeping.proofs.Parts.{parted}
 use Rattle.rx_engine_simulation.specs.Sights.{In}
-use Rattle.rx_engine_related.specs.Reads.{entry_read}
 use Rattle.rx_engine_related.specs.AboutRun.{special_of, text_of}
 use Rattle.rx_engine_related.specs.Accepted.{Accepted}
-use Rattle.rx_engine_related.proofs.Choosing.{chosen_is, param_named, local_named, out_is, offered_named}
+use Rattle.rx_engine_related.proofs.Choosing.{chosen_is, param_named, out_is, offered_named}
 use Rattle.rx_engine_initial.specs.Variables.{standing_in}
-use Rattle.rx_engine_initial.proofs.Tracing.{joined, after_both, after_one}
-use Rattle.rx_engine_initial.proofs.Ways.{no, and_left, and_right, and_both, or_left, or_right, either, clash}
+use Rattle.rx_engine_initial.proofs.Tracing.{joined, after_both}
+use Rattle.rx_engine_initial.proofs.Ways.{no, and_left, and_right, and_both, or_left, or_right, clash}
 use Rattle.rx_engine_initial.proofs.Uses.{uses_self}
 use Rattle.rx_engine_initial.proofs.Known.{walk_front}
 use Rattle.rx_engine_initial.proofs.Unset.{set_stands}

@@ -1,21 +1,21 @@
 -- A walk through the pieces of a run: it begins with the mark where the run is entered and the reads of its params, ends with the mark of its
 -- end, touches what the run names alone, and begins nothing that is declared outside.
-use Rattle.std.proofs.Common.{◌≡◌, inl, inr, ℕ, ◌==◌, Bool, true, false, not, if◌then◌else◌, List, [], ◌∷◌, ◌++◌, map, refl, sym, ◌∙◌, subst, ap, eqb-true}
-use Rattle.rx_typed.specs.Tree.{Temporary, Pattern, Exp, Scrutinee, own, Body, ends, runs, declares, lets, temporary_of, temporary_at}
+use Rattle.std.proofs.Common.{◌≡◌, ℕ, ◌==◌, Bool, true, false, not, if◌then◌else◌, List, [], ◌∷◌, ◌++◌, map, refl, sym, ◌∙◌, subst, ap, eqb-true}
+use Rattle.rx_typed.specs.Tree.{Temporary, Body, ends, runs, declares, lets, temporary_of, temporary_at}
 use Rattle.rx_lower_walks.specs.Matching.{Binding, bindings}
 use Rattle.rx_lower_walks.specs.Actions.{Act, Declare, Dead, Read, Write, Borrow, Test, Call, Build, Input, Print, Give, Action, does, Subject, subject, taken}
 use Rattle.rx_lower_walks.specs.Actions as act
 use Rattle.rx_lower_walks.specs.Orders.{Order, perhaps, binding, declaring, order, order_scrutinee, order_body}
 use Rattle.rx_lower_walks.specs.Orders as orders
-use Rattle.rx_lower_walks.specs.Walks.{Out, on, Walk, Among, here, there}
+use Rattle.rx_lower_walks.specs.Walks.{on, Walk, Among, here, there}
 use Rattle.rx_facts_tables.specs.Wholes.{begins}
 use Rattle.rx_exits_plan.specs.Blocks.{Statement, bound, before, tail}
 use Rattle.rx_exits_plan.specs.Blocks as block
-use Rattle.rx_exits_plan.specs.Runs.{Run, in_front, inside, behind, last_value}
+use Rattle.rx_exits_plan.specs.Runs.{in_front, inside, behind, last_value}
 use Rattle.rx_exits_plan.specs.Points.{next, enters, leaves}
 use Rattle.rx_exits_plan.specs.Changed.{changed, changed_matched, changed_statement}
 use Rattle.rx_exits_plan.specs.Marked.{mark, shown, marking, using, entering, ended, ended_tail, marked_body}
-use Rattle.rx_exits_plan.specs.Occurrences.{Occurrence, names, declared, the_variable, variables_among, all_declared, occurrences, occurrences_matched, in_statement, in_statements, in_value, in_run, drops, firsts, is_declared_in_run}
+use Rattle.rx_exits_plan.specs.Occurrences.{Occurrence, names, declared, variables_among, all_declared, occurrences, occurrences_matched, in_statements, in_value, in_run, drops, firsts, is_declared_in_run}
 use Rattle.rx_exits_plan.specs.Asked.{Asked}
 use Rattle.rx_exits_plan.specs.Plan.{Plan, variables_of, foreign_of}
 use Rattle.rx_facts_tables.proofs.Fronts.{not_so}
@@ -52,7 +52,7 @@ body_filled n (block.begins s xs ∷ ss) b d = ap (λ q. declaring s xs n q) (bo
 body_filled n (block.binds s p c ∷ ss) b d =
     ap (λ q. orders.then (order_scrutinee c) (binding (subject c) (bindings [] p) n q)) (body_filled n ss b d) ∙ ap (λ q. orders.then (order_scrutinee c) q) (binding_filled n (subject c) (bindings [] p) (pieces_of n ss) (order_body b n d))
 
-before_both : (ss ts : List Statement) (b : Body) → before ss (before ts b) ≡ before (ss ++ ts) b
+pub before_both : (ss ts : List Statement) (b : Body) → before ss (before ts b) ≡ before (ss ++ ts) b
 before_both [] ts b = refl
 before_both (block.does e ∷ ss) ts b = ap (λ c. runs e c) (before_both ss ts b)
 before_both (block.begins s xs ∷ ss) ts b = ap (λ c. declares s xs c) (before_both ss ts b)
@@ -73,12 +73,12 @@ run_filled A k d =
 
 -- ---- what all pieces do
 
-abbrev AllPieces : (Order → Type 0) → List Piece → Type 0
+abbrev pub AllPieces : (Order → Type 0) → List Piece → Type 0
 AllPieces P [] = Unit {0}
 AllPieces P (doing s ∷ K) = P s × AllPieces P K
 AllPieces P (ending n x ∷ K) = AllPieces P K
 
-either_list : {B : Action → Type 0} (l m : List Action) → ((a : Action) → Among a l → B a) → ((a : Action) → Among a m → B a) → (a : Action) → Among a (l ++ m) → B a
+pub either_list : {B : Action → Type 0} (l m : List Action) → ((a : Action) → Among a l → B a) → ((a : Action) → Among a m → B a) → (a : Action) → Among a (l ++ m) → B a
 either_list [] m f g a i = g a i
 either_list (_ ∷ l) m f g b here = f b here
 either_list (b ∷ l) m f g a (there i) = either_list l m (λ c k. f c (there k)) g a i
@@ -217,7 +217,7 @@ away_unnamed y [] f = tt
 away_unnamed y (names z ∷ os) f = ((λ e. f (subst (λ v. Among y (v ∷ variables_among os)) (sym e) here)), away_unnamed y os (λ i. f (there i)))
 away_unnamed y (declared z ∷ os) f = ((λ e. f (subst (λ v. Among y (v ∷ variables_among os)) (sym e) here)), away_unnamed y os (λ i. f (there i)))
 
-not_begun : (y : ℕ) (a : Act) → (Declares a y → ⊥) → begins y a ≡ false
+pub not_begun : (y : ℕ) (a : Act) → (Declares a y → ⊥) → begins y a ≡ false
 not_begun y (Declare x) f = other_number x y (λ e. f (sym e))
 not_begun y (Dead x) f = refl
 not_begun y (Read v p d) f = refl
@@ -229,6 +229,16 @@ not_begun y (Build w is ts d) f = refl
 not_begun y (Input d) f = refl
 not_begun y (Print t) f = refl
 not_begun y (Give t) f = refl
+
+-- ---- of a run: it touches what it names alone, and begins nothing that is declared outside
+
+pub untouched_run : (A : Asked) (k : Plan) (y : ℕ) → (Among y (variables_of A) → ⊥) → AllPieces (λ q. Untouched y q) (run_pieces A k)
+untouched_run A k y f = run_statements A k (λ q. Untouched y q) (untouched_statements y A.home.around.loops (inside A.run A.home.body) (away_front y (in_statements (inside A.run A.home.body)) (in_value (last_value A.run A.home.body))
+    (away_unnamed y (in_run A.run A.home.body) (λ j. f (among_firsts y (variables_among (in_run A.run A.home.body)) j))))) (tt, tt) (λ x. tt) (tt, tt)
+
+pub undeclared_run : (A : Asked) (k : Plan) (y : ℕ) → Among y (foreign_of A) → AllPieces (λ q. Undeclared y q) (run_pieces A k)
+undeclared_run A k y f = run_statements A k (λ q. Undeclared y q) (undeclared_statements y A.home.around.loops (inside A.run A.home.body) (declaring_laws.away_front y (in_statements (inside A.run A.home.body)) (in_value (last_value A.run A.home.body))
+    (away_of y (in_run A.run A.home.body) (not_so (is_declared_in_run A.run A.home.body y) (of_those (λ z. not (is_declared_in_run A.run A.home.body z)) (variables_of A) f).1)))) (tt, λ d. d) (λ x d. d) (tt, λ d. d)
 
 -- ---- where it begins and ends
 
@@ -284,17 +294,10 @@ gone_through A k plain u r = record {
   ends = [];
   left = z.is ∙ ap (λ l. z.front ++ l) (ends_marked A.run.block (subst (λ t. Runs (pieces_of A.run.block (ended t)) z.rest) plain z.runs));
   ended = λ a i. elim i [ ];
-  named = λ a i y f. pieces_do (λ q. Untouched y q) (λ b. LeavesBe b.act y) (λ s v h w b j. walk_leaves y h w b j)
-      (run_statements A k (λ q. Untouched y q) (untouched_statements y ls (inside A.run A.home.body) (away_front y (in_statements (inside A.run A.home.body)) (in_value (last_value A.run A.home.body))
-      (away_unnamed y (in_run A.run A.home.body) (λ j. f (among_firsts y (variables_among (in_run A.run A.home.body)) j))))) (tt, tt) (λ x. tt) (tt, tt)) r a i;
-  declared = λ a i y f. not_begun y a.act (pieces_do (λ q. Undeclared y q) (λ b. Declares b.act y → ⊥) (λ s v h w b j. walk_away y h w b j)
-      (run_statements A k (λ q. Undeclared y q) (undeclared_statements y ls (inside A.run A.home.body) (declaring_laws.away_front y (in_statements (inside A.run A.home.body)) (in_value (last_value A.run A.home.body))
-      (away_of y (in_run A.run A.home.body) (not_so (is_declared_in_run A.run A.home.body y) (of_those (λ z. not (is_declared_in_run A.run A.home.body z)) (variables_of A) f).1)))) (tt, λ d. d) (λ x d. d) (tt, λ d. d)) r a i);
+  named = λ a i y f. pieces_do (λ q. Untouched y q) (λ b. LeavesBe b.act y) (λ s v h w b j. walk_leaves y h w b j) (untouched_run A k y f) r a i;
+  declared = λ a i y f. not_begun y a.act (pieces_do (λ q. Undeclared y q) (λ b. Declares b.act y → ⊥) (λ s v h w b j. walk_away y h w b j) (undeclared_run A k y f) r a i);
 }
   where
-    ls : List ℕ
-    ls = A.home.around.loops
-
     within : List Statement
     within = map (changed_statement (marking A.home.around.loops)) (inside A.run A.home.body)
 

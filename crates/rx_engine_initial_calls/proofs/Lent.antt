@@ -1,24 +1,23 @@
 -- Of a function that is initialised and looks at places with parts alone: where all of a variable is set, each of its places stands with
 -- each that it is in. For what has a part that was moved is unset until it is written again.
-use Rattle.std.proofs.Common.{◌≡◌, ◌⊎◌, inl, inr, ℕ, Bool, true, false, not, ◌&&◌, ◌||◌, ◌==◌, List, [], ◌∷◌, ◌++◌, Option, Some, refl, sym, ◌∙◌, subst, ap, eqb-true, eq-eqb}
+use Rattle.std.proofs.Common.{◌≡◌, ◌⊎◌, inl, inr, ℕ, Bool, true, false, not, ◌&&◌, ◌||◌, ◌==◌, List, [], ◌∷◌, ◌++◌, Some, refl, sym, ◌∙◌, subst, ap, eqb-true, eq-eqb}
 use Rattle.rx_core.specs.declared.types.Step.{Step}
-use Rattle.rx_typed.specs.Tree.{Root, variable, temporary, Temporary, Place, Function, own}
+use Rattle.rx_typed.specs.Tree.{Root, variable, temporary, Temporary, Function, own}
 use Rattle.rx_typed.specs.TypedPlaces.{is_front, same_steps}
 use Rattle.rx_typed_declarations.specs.Sizes.{Sized}
 use Rattle.rx_lower_walks.specs.Actions.{Act, Declare, Dead, Read, Write, Borrow, Test, Call, Build, Input, Print, Give, Action}
 use Rattle.rx_lower_walks.specs.Walks.{IsWalk}
-use Rattle.rx_facts_tables.specs.Along.{behind, after}
+use Rattle.rx_facts_tables.specs.Along.{after}
 use Rattle.rx_facts_tables.specs.Places.{Frame, is_part}
 use Rattle.rx_facts_tables.specs.Setting.{is_behind, sets, unsets, setting, is_set, looked_at, AllSet}
 use Rattle.rx_facts_tables.specs.Wholes.{placed, holds_in, is_variable, is_all, enters, regains, loses, standing, stands}
-use Rattle.rx_facts_tables.specs.Wholes as wholes
 use Rattle.rx_facts_tables.specs.Initialised.{Initialised}
 use Rattle.rx_facts_tables.proofs.Fronts.{same_steps_is, not_so}
 use Rattle.rx_meaning_keeping.specs.Ready.{HasPart}
 use Rattle.rx_meaning_keeping.proofs.Parts.{Parted, parted}
 use Rattle.rx_engine_initial.specs.Variables.{standing_in}
 use Rattle.rx_engine_initial.proofs.Tracing.{nil_right, joined, after_one}
-use Rattle.rx_engine_initial.proofs.Ways.{no, and_left, and_right, and_both, or_left, or_right, either, is_false, clash, behind_front, Holds, of_holds}
+use Rattle.rx_engine_initial.proofs.Ways.{no, and_left, and_right, and_both, either, is_false, clash, behind_front, of_holds}
 use Rattle.rx_engine_initial.proofs.StandingIn.{stands_in}
 use Rattle.rx_engine_initial.proofs.Uses.{no_part}
 use Rattle.rx_engine_initial.proofs.Unset.{set_stands}

@@ -7,3 +7,7 @@ pub mod Calls
 pub mod Unnamed
 pub mod GoingThrough
 pub mod SeveralJumps
+pub mod OtherActions
+pub mod Reaching
+pub mod Reached
+pub mod Ways

@@ -1,21 +1,21 @@
 -- What the caller does with what the call gives is in order.
 use Rattle.std.proofs.Common.{◌≡◌, ◌⊎◌, inl, inr, ℕ, Bool, true, false, not, ◌&&◌, ◌||◌, ◌==◌, List, [], ◌∷◌, ◌++◌, refl, sym, ◌∙◌, subst, ap, eqb-true}
 use Rattle.rx_core.specs.declared.types.Step.{Step}
-use Rattle.rx_typed.specs.Tree.{Root, variable, temporary, Place, Temporary, own}
+use Rattle.rx_typed.specs.Tree.{Temporary, own}
 use Rattle.rx_typed.specs.TypedPlaces.{is_front}
-use Rattle.rx_lower_walks.specs.Actions.{Act, Declare, Dead, Read, Write, Borrow, Test, Call, Build, Input, Print, Give, Action, does}
+use Rattle.rx_lower_walks.specs.Actions.{Act, Declare, Dead, Write, Action, does}
 use Rattle.rx_lower_walks.specs.Walks.{Among, here, there}
-use Rattle.rx_facts_tables.specs.Along.{Switch, behind, after}
+use Rattle.rx_facts_tables.specs.Along.{behind}
 use Rattle.rx_facts_tables.specs.Places.{is_part}
-use Rattle.rx_facts_tables.specs.Setting.{is_behind, sets, unsets, setting, is_set, AllSet}
-use Rattle.rx_facts_tables.specs.Wholes.{is_variable, is_all, assigns, begins, assigning, was_assigned}
+use Rattle.rx_facts_tables.specs.Setting.{is_behind, setting, is_set, AllSet}
+use Rattle.rx_facts_tables.specs.Wholes.{assigns, begins, assigning, was_assigned}
 use Rattle.rx_facts_tables.specs.Initialised.{IsFixed, InOrder}
 use Rattle.rx_exits_plan.specs.Points.{Exit}
 use Rattle.rx_exits_plan.specs.Plan.{Plan}
 use Rattle.rx_meaning_keeping.proofs.Parts.{Parted}
 use Rattle.rx_engine_initial.specs.Matching.{Good}
-use Rattle.rx_engine_initial.specs.Variables.{Kept, as_itself, by_reference, Sides, Known}
-use Rattle.rx_engine_initial.specs.Copies.{IsEasy, easy_copy, easy_take, easy_borrow, easy_test, easy_write, easy_call, easy_build, easy_input, easy_print, easy_give, IsSafe, in_temporary, behind_it, world}
+use Rattle.rx_engine_initial.specs.Variables.{as_itself, by_reference, Sides, Known}
+use Rattle.rx_engine_initial.specs.Copies.{IsEasy, easy_copy, easy_take, easy_borrow, easy_test, easy_write, easy_call, easy_build, easy_input, easy_print, easy_give, in_temporary, behind_it, world}
 use Rattle.rx_engine_initial.specs.Entered.{IsNewHere}
 use Rattle.rx_engine_initial.specs.Handing.{Takes, by_read, by_borrow, by_reborrow, Handing, none_taken}
 use Rattle.rx_engine_initial.specs.Handing as handing
@@ -24,7 +24,7 @@ use Rattle.rx_engine_initial.proofs.Ways.{no, and_left, and_right, is_false, cla
 use Rattle.rx_engine_initial.proofs.Uses.{none_is}
 use Rattle.rx_engine_initial.proofs.InOrder.{dead_in_order}
 use Rattle.rx_engine_initial.proofs.Handing.{easy_in_order, take_in_order, stays, take_unsets, easy_unsets}
-use Rattle.rx_engine_initial_calls.specs.Received.{MayTake, is_mutable, is_local, LeftOf, Receives, no_more, receives_one, takes_one, assigns_one, begins_one, ends_one, does_one}
+use Rattle.rx_engine_initial_calls.specs.Received.{MayTake, is_mutable, is_local, Receives, no_more, receives_one, takes_one, assigns_one, begins_one, ends_one, does_one}
 
 pub no_variable : {A B : Type 0} (a : A) → Among a [] → B
 no_variable a q = elim q [ ]

@@ -1,6 +1,6 @@
 -- What the new function does where it is left matches the text there, also where several jumps of the run take the exit: their marks lead to one
 -- place, behind which walks go on alike but for variables that end.
-use Rattle.std.proofs.Common.{◌≡◌, ℕ, Bool, true, List, [], ◌∷◌, ◌++◌, refl, sym, ◌∙◌, subst}
+use Rattle.std.proofs.Common.{◌≡◌, ℕ, true, List, [], ◌∷◌, ◌++◌, refl, sym, ◌∙◌, subst}
 use Rattle.rx_typed.specs.Tree.{variable, Temporary, Function, own}
 use Rattle.rx_typed_declarations.specs.Sizes.{Sized}
 use Rattle.rx_lower_walks.specs.Actions.{Action}
@@ -20,8 +20,8 @@ use Rattle.rx_engine_related.specs.AboutRun.{text_of}
 use Rattle.rx_engine_related.specs.OnePlace.{Meets, alike, ends_in_one, ends_in_other, LeadsToOnePlace}
 use Rattle.rx_engine_related.specs.Accepted.{Accepted}
 use Rattle.rx_engine_related.proofs.Choosing.{out_is}
-use Rattle.rx_engine_initial.specs.Matching.{Reach, Matches, is_gone}
-use Rattle.rx_engine_initial.specs.Variables.{as_itself, Sides, Known}
+use Rattle.rx_engine_initial.specs.Matching.{Matches, is_gone}
+use Rattle.rx_engine_initial.specs.Variables.{Sides, Known}
 use Rattle.rx_engine_initial.specs.Copies.{world}
 use Rattle.rx_engine_initial.specs.Handing.{Handing, Straight, giving}
 use Rattle.rx_engine_initial.specs.Planned.{IsTextOf, MeetsMark, AllFor}

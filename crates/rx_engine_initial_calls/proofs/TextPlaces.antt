@@ -1,11 +1,10 @@
 -- The function with marks and with reads of the plan's params where the run is entered looks at places with parts alone.
-use Rattle.std.proofs.Common.{◌≡◌, ℕ, Bool, true, false, List, [], ◌∷◌, ◌++◌, Option, Some, refl, sym, ◌∙◌, subst, ap}
+use Rattle.std.proofs.Common.{◌≡◌, ℕ, Bool, true, false, List, [], ◌∷◌, ◌++◌, Some, refl, sym, ◌∙◌, subst, ap}
 use Rattle.rx_core.specs.declared.types.Step.{Step}
 use Rattle.rx_typed.specs.Tree.{Root, variable, Place, own}
 use Rattle.rx_lower_walks.specs.Actions.{Act, Declare, Dead, Read, Write, Borrow, Test, Call, Build, Input, Print, Give, Action}
 use Rattle.rx_lower_walks.specs.Walks.{IsWalk, Among}
 use Rattle.rx_facts_tables.specs.Along.{after}
-use Rattle.rx_facts_tables.specs.Places.{Frame}
 use Rattle.rx_facts_tables.specs.Setting.{is_behind, looked_at, AllSet}
 use Rattle.rx_facts_tables.specs.Wholes.{placed, standing}
 use Rattle.rx_meaning_keeping.specs.Ready.{HasPart}
@@ -13,7 +12,7 @@ use Rattle.rx_exits_plan.specs.Marked.{marked}
 use Rattle.rx_exits_plan.specs.Unmarked.{is_mark, unfilled}
 use Rattle.rx_exits_plan.specs.Asked.{Asked}
 use Rattle.rx_exits_plan.specs.Plan.{Plan, IsPlan, variables_of}
-use Rattle.rx_engine_related.specs.Reads.{entry_read, Wider}
+use Rattle.rx_engine_related.specs.Reads.{Wider}
 use Rattle.rx_engine_related.specs.AboutRun.{text_of}
 use Rattle.rx_engine_related.specs.Accepted.{Accepted}
 use Rattle.rx_engine_related.proofs.Blind.{standing_blind}

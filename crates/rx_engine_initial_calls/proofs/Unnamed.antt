@@ -1,11 +1,10 @@
 -- A variable that a run does not name, as its occurrences tell: no action of the run begins, writes, moves or ends it, nor with the marks of
 -- the run.
-use Rattle.std.proofs.Common.{◌≡◌, inl, inr, ℕ, Bool, true, false, if◌then◌else◌, List, [], ◌∷◌, ◌++◌, map, refl, sym}
+use Rattle.std.proofs.Common.{◌≡◌, ℕ, Bool, true, false, if◌then◌else◌, List, [], ◌∷◌, ◌++◌, map}
 use Rattle.rx_core.specs.declared.types.Step.{Step}
-use Rattle.rx_core.specs.declared.types.Step.TheVariants as step
 use Rattle.rx_typed.specs.Tree.{Root, variable, temporary, Place, Temporary, Mode, by_value, by_reference, Mark, Exp, read, borrow, share, build, unit, lazily, assign, update, call, input, print, block, choose, loop, jump, give, Operands, no_operand, operand_and, Scrutinee, at_place, of_value, Arms, no_arm, arm_and, Body, ends, runs, declares, lets, under, mark_of, temporary_at, temporary_of}
 use Rattle.rx_lower_walks.specs.Matching.{PartTest, Binding, tests, bindings}
-use Rattle.rx_lower_walks.specs.Actions.{Act, Declare, Dead, Read, Write, Borrow, Test, Call, Build, Input, Print, Give, Action, does, Subject, in_place, in_temporary, subject, taking}
+use Rattle.rx_lower_walks.specs.Actions.{Dead, Read, Action, does, Subject, in_place, in_temporary, subject, taking}
 use Rattle.rx_lower_walks.specs.Orders.{Exit, exit_node, Order, testing, perhaps, binding, declaring, order, order_all, order_scrutinee, order_arms, order_body}
 use Rattle.rx_lower_walks.specs.Orders as order
 use Rattle.rx_lower_walks.specs.Walks.{Out, Walk, rests, stops, acts, both, first, one, other, leave, holds, next, jumps, halts, last, more, Among, here, there}

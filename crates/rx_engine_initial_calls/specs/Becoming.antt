@@ -1,6 +1,6 @@
 -- What becomes, by the plan of a run, of a variable that is in scope behind the run's call, where the run is left by an exit. (REM: "Adventures in refactoring Rust: extract
 -- function", OOPSLA 2023.)
-use Rattle.std.specs.Prelude.{◌≡◌, ℕ, false, List, [], ◌∷◌, ◌++◌}
+use Rattle.std.specs.Prelude.{◌≡◌, ℕ, false, List, ◌∷◌, ◌++◌}
 use Rattle.rx_core.specs.declared.types.Step.{Step}
 use Rattle.rx_typed.specs.Tree.{Temporary, own}
 use Rattle.rx_lower_walks.specs.Actions.{Declare, Write, Action, does}

@@ -9,7 +9,7 @@ use Rattle.rx_lower_walks.specs.Walks.{Out, leaves, Walk, Among}
 use Rattle.rx_exits_plan.specs.Points.{Exit, next, returns}
 use Rattle.rx_exits_plan.specs.Asked.{Asked}
 use Rattle.rx_exits_plan.specs.Plan.{Plan}
-use Rattle.rx_engine_initial.specs.Matching.{SameExit, Piece, fill, Runs, Fronts, Aways, Stays}
+use Rattle.rx_engine_initial.specs.Matching.{SameExit, Piece, Runs, Fronts, Aways, Stays}
 use Rattle.rx_engine_initial.specs.Variables.{as_itself, Sides, Known}
 use Rattle.rx_engine_initial_calls.specs.Received.{IsWay}
 use Rattle.rx_engine_initial_calls.specs.Becoming.{Becomes}
@@ -36,12 +36,15 @@ pub record GoesOn (S : Sides) (A : Asked) (k : Plan) (R T : Known S) (us : List 
   pub way : IsWay S k next R us
   pub becomes : (x y : ℕ) → Among (as_itself x y) T.variables → Becomes S A k next R us x y
 
--- `t`: the run in front of the rest of its block, to each exit of which some walk goes
-pub record IsMatchOf (S : Sides) (A : Asked) (k : Plan) (R T : Known S) (H K : List Piece) (t : Order) : Type 0 where
+-- `t`: the run in front of the rest of its block
+pub record IsMatchOf (S : Sides) (A : Asked) (k : Plan) (R T : Known S) (H : List Piece) (t : Order) : Type 0 where
   pub stays : Stays H
   pub fronts : (us : List Action) → Fronts H us → IsFront S k R us
   pub goes_on : (us : List Action) → Runs H us → GoesOn S A k R T us
   pub leaves : (us : List Action) (j : orders.Exit) → Aways H us j → LeavesSo S A k R t us j
+  pub scopes : Scopes S R T H
+
+-- some walk goes to each exit, and through the run's pieces where that is its end
+pub record HasWays (A : Asked) (k : Plan) (K : List Piece) (t : Order) : Type 0 where
   pub through : (e : Exit) → Among e k.exits → (u : List Action) × (o : Out) × Walk t u o × IsGoneThrough A k e u
   pub to_end : Among next k.exits → (u : List Action) × Runs K u × IsGoneThrough A k next u
-  pub scopes : Scopes S R T H

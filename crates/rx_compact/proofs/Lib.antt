@@ -1,0 +1,2 @@
+mod Compacting
+mod Telling

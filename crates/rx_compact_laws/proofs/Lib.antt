@@ -1,0 +1,10 @@
+mod Merging
+mod MergedSets
+mod Numbering
+mod Expressions
+mod Functions
+mod Unwritten
+mod Resolving
+mod ResolvingFunctions
+mod Staying
+mod Keeping

@@ -1,0 +1,106 @@
+-- Lifetimes that become one have the same sites as before, and need no other pair: by induction on what the least sets have. Each of a
+-- function's own has all sites, so a way along pairs that goes on from another of those that are one reaches no new site; and the end that it
+-- reaches is known to be outlived, since those that are one are known to outlive each other.
+use Rattle.std.proofs.Common.{◌≡◌, ◌↔◌, inl, inr, ℕ, ◌<◌, List, length, refl, sym, subst, ◌∙◌}
+use Rattle.rx_lower_walks.specs.Graph.{Site}
+use Rattle.rx_lower_walks.specs.Text.{actions_of}
+use Rattle.rx_region.specs.Constraints.{Context}
+use Rattle.rx_region.specs.Known as knowing
+use Rattle.rx_region.specs.Known.{Known}
+use Rattle.rx_region.specs.Solutions.{Point, site, end, Least, whole, ends, live, longer}
+use Rattle.rx_compact_laws.specs.MergedLifetimes.{AreMerged}
+
+known_on : (C : Context) (l k m : ℕ) → Known C l k → Known C k m → Known C l m
+known_on C l k m knowing.itself g = g
+known_on C l k m (knowing.by n h rest) g = knowing.by n h (known_on C n k m rest g)
+
+module _ (f : ℕ → ℕ) (C K : Context) (g : List Site) (M : AreMerged f C K (actions_of g)) where
+  abbrev moved : Point → Point
+  moved (site p) = site p
+  moved (end l) = end (f l)
+
+  there : (l : ℕ) (x : Point) → Least C g l x → Least K g (f l) (moved x)
+  there l y (whole {p = p} w h) = whole ((M.own l).0 w) h
+  there l y (ends w) = ends ((M.own l).0 w)
+  there l y (live r i h) = live r i (M.live_there r l h)
+  there l x (longer k h rest) = longer (f k) (M.imposed_there l k h) (there k x rest)
+
+  -- ---- sites
+
+  same_or_whole : (l m p : ℕ) → f l ≡ f m → p < length g → Least C g m (site p) → Least C g l (site p)
+  same_or_whole l m p e h s = elim (M.apart l m e) [
+    | inl q ↦ subst (λ x. Least C g x (site p)) (sym q) s
+    | inr o ↦ whole o.0 h
+  ]
+
+  point_is : (p q : ℕ) → site p ≡ site q → p ≡ q
+  point_is p q e = cc
+
+  site_back : (x p : ℕ) (y : Point) → Least K g x y → y ≡ site p → p < length g → (l : ℕ) → x ≡ f l → Least C g l (site p)
+  site_back x p y (whole {p = q} w h) e b l is = whole ((M.own l).1 (subst (λ m. m < K.lifetimes.own) is w)) b
+  site_back x p y (ends w) e b l is = absurd (cc)
+  site_back x p y (live {p = q} r i h) e b l is =
+      let m = M.live_back r x h in
+      same_or_whole l m.0 p (sym is ∙ m.2) b (subst (λ n. Least C g m.0 (site n)) (point_is q p e) (live r i m.1))
+  site_back x p y (longer k h rest) e b l is =
+      let m = M.imposed_back x k h in
+      same_or_whole l m.0 p (sym is ∙ m.3) b (longer m.1 m.2 (site_back k p y rest e b m.1 m.4))
+
+  pub sites_stay : (l p : ℕ) → p < length g → Least C g l (site p) ↔ Least K g (f l) (site p)
+  sites_stay l p h = (there l (site p), λ s. site_back (f l) p (site p) s refl h l refl)
+
+  -- ---- ends
+
+  end_is : (x y : ℕ) → end x ≡ end y → x ≡ y
+  end_is x y e = cc
+
+  -- no pair of the first is missing: where it needs one, it is known
+  abbrev Keeps : Context → Type 0
+  Keeps D = (l k : ℕ) → l < D.lifetimes.own → k < D.lifetimes.own → Least D g l (end k) → Known D l k
+
+  -- the end that a lifetime reaches under the new numbers is that of one which is known to be outlived by one whose end it reached
+  record Reached (l y : ℕ) : Type 0 where
+    by : ℕ
+    last : ℕ
+    own : by < C.lifetimes.own
+    reached : Least C g l (end by)
+    known : Known C by last
+    is : y ≡ f last
+
+  goes_on : Keeps C → (l m y : ℕ) → f l ≡ f m → Reached m y → Reached l y
+  goes_on keeps l m y e h = elim (M.apart l m e) [
+    | inl s ↦ record { by = h.by; last = h.last; own = h.own; reached = subst (λ n. Least C g n (end h.by)) (sym s) h.reached; known = h.known; is = h.is }
+    | inr o ↦ record {
+      by = l;
+      last = h.last;
+      own = o.0;
+      reached = ends o.0;
+      known = known_on C l m h.last (M.equal l m e) (known_on C m h.by h.last (keeps m h.by o.1 h.own h.reached) h.known);
+      is = h.is;
+    }
+  ]
+
+  end_back : Keeps C → (x y : ℕ) (z : Point) → Least K g x z → z ≡ end y → (l : ℕ) → x ≡ f l → Reached l y
+  end_back keeps x y z (whole w h) e l is = absurd (cc)
+  end_back keeps x y z (live r i h) e l is = absurd (cc)
+  end_back keeps x y z (ends w) e l is =
+      let o : l < C.lifetimes.own = (M.own l).1 (subst (λ m. m < K.lifetimes.own) is w) in
+      record { by = l; last = l; own = o; reached = ends o; known = knowing.itself; is = sym (end_is x y e) ∙ is }
+  end_back keeps x y z (longer k h rest) e l is =
+      let m = M.imposed_back x k h in
+      let b = end_back keeps k y z rest e m.1 m.4 in
+      goes_on keeps l m.0 y (sym is ∙ m.3) (record { by = b.by; last = b.last; own = b.own; reached = longer m.1 m.2 b.reached; known = b.known; is = b.is })
+
+  keeps_there : Keeps C → Keeps K
+  keeps_there keeps x y w v h =
+      let a = M.onto x w in
+      let b = end_back keeps x y (end y) h refl a.0 a.2 in
+      let known : Known C a.0 b.last = known_on C a.0 b.by b.last (keeps a.0 b.by a.1 b.own b.reached) b.known in
+      subst (λ m. Known K m y) (sym a.2) (subst (λ m. Known K (f a.0) m) (sym b.is) ((M.known a.0 b.last).0 known))
+
+  keeps_back : Keeps K → Keeps C
+  keeps_back keeps l k w v h = (M.known l k).1 (keeps (f l) (f k) ((M.own l).0 w) ((M.own k).0 v) (there l (end k) h))
+
+  pub pairs_stay : ((l k : ℕ) → l < C.lifetimes.own → k < C.lifetimes.own → Least C g l (end k) → Known C l k)
+      ↔ ((l k : ℕ) → l < K.lifetimes.own → k < K.lifetimes.own → Least K g l (end k) → Known K l k)
+  pairs_stay = (keeps_there, keeps_back)

@@ -1,0 +1,5 @@
+pub mod MergedSignatures
+pub mod MergedLifetimes
+pub mod Beside
+pub mod Alongside
+pub mod Resolved

@@ -1,0 +1,7 @@
+use Rattle.std.proofs.Common.{◌≡◌, drop}
+use Rattle.rx_hoist_extraction.specs.Names.{is_among}
+use Rattle.rx_hoist_extraction.specs.OwnLifetimes.{idents}
+use Rattle.rx_compact_lifetimes.proofs.lists.has_name.Given as goal
+
+abbrev pub invariant-loop-lifetime : goal.invariant-loop-lifetime
+invariant-loop-lifetime l = is_among l.name (idents (drop l.lifetime-index l.lifetimes)) ≡ is_among l.name (idents l.lifetimes)

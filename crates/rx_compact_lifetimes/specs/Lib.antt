@@ -1,0 +1,5 @@
+pub mod Rewritten
+pub mod Merged
+pub mod Elided
+pub mod Bare
+pub mod Steps
