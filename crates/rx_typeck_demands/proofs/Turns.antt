@@ -50,7 +50,7 @@ pub field_walked : (f j : ℕ) (l : List FieldExpr) (i : ℕ) (x : FieldExpr) (d
     → i < length l → x ≡ get_or l i x
     → (s ≡ seen_of (of_expression false Site.Expects (plain-FieldExpr x).1 k.cursor).0)
     × (next ≡ stepped (of_expression false Site.Expects (plain-FieldExpr x).1 k.cursor).1
-        (demands.of_field k.item j (plain-FieldExpr x).0.name (of_expression false Site.Expects (plain-FieldExpr x).1 k.cursor).0 k.demands) k)
+    (demands.of_field k.item j (plain-FieldExpr x).0.name (of_expression false Site.Expects (plain-FieldExpr x).1 k.cursor).0 k.demands) k)
     → some ≡ (d || s.diverges) → k.item ≡ f
     → over (naming.of_fields (field_expressions_of (map plain-FieldExpr (drop i l)))) (demands.of_fields f j) (λ fs. d || any_field_diverges fs) k ≡ rest
     → over (naming.of_fields (field_expressions_of (map plain-FieldExpr (drop (i + 1) l)))) (demands.of_fields f j) (λ fs. some || any_field_diverges fs) next ≡ rest
@@ -69,7 +69,7 @@ pub arm_walked : (f : ℕ) (n : Node) (q : Matched) (m : Node) (l : List Arm) (i
     → i < length l → a ≡ get_or l i a
     → (s ≡ seen_of (numbered_arm (naming.passed_on n.site) (plain-Arm a) k.cursor).0.1)
     × (next ≡ stepped (numbered_arm (naming.passed_on n.site) (plain-Arm a) k.cursor).1
-        (demands.of_arm k.item n q m (numbered_arm (naming.passed_on n.site) (plain-Arm a) k.cursor).0 k.demands) k)
+    (demands.of_arm k.item n q m (numbered_arm (naming.passed_on n.site) (plain-Arm a) k.cursor).0 k.demands) k)
     → never_all ≡ (v && s.never) → diverge_all ≡ (d && s.diverges) → k.item ≡ f
     → over (naming.of_arms (naming.passed_on n.site) (arms_of (map plain-Arm (drop i l)))) (demands.of_arms f n q m) (ways_behind v d) k ≡ rest
     → over (naming.of_arms (naming.passed_on n.site) (arms_of (map plain-Arm (drop (i + 1) l)))) (demands.of_arms f n q m) (ways_behind never_all diverge_all) next ≡ rest

@@ -187,6 +187,5 @@ fn one_arm<'t>(
     walk.whole_pattern(with, type_of(of), &arm.pattern)?;
     let to = walk.cursor.declared();
     walk.cursor.know(from, to);
-    let seen = joined_part(walk, node, passed_on(node.site), &arm.body)?;
-    Ok(seen)
+    joined_part(walk, node, passed_on(node.site), &arm.body)
 }

@@ -125,8 +125,7 @@ pub(crate) fn variant<'t>(
 {
     let node = walk.node(span, site)?;
     let names = walk.entry();
-    let seen = variant_of(walk, node, names, arguments)?;
-    Ok(seen)
+    variant_of(walk, node, names, arguments)
 }
 
 #[cycle(expression)]
@@ -161,7 +160,7 @@ fn each<'t>(
     let mut diverges = false;
     for place in 0..exprs.len() {
         let seen = element(walk, listed, site, place, &exprs[place])?;
-        diverges = either(diverges, seen.diverges);
+        diverges = diverges || seen.diverges;
     }
     Ok(diverges)
 }

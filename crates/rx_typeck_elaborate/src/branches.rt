@@ -142,8 +142,8 @@ pub(crate) fn if_at<'t>(
     let node = walk.node(span, site)?;
     let (condition, first) = expression(walk, false, Site::Value, condition)?;
     let ((ways, ends), condition) = keep(condition, ways(walk, other, site, node, body))?;
-    let (mark, held) = keep((condition, ways), walk.given.mark_if(node, ends.never))?;
-    let tree = tests(walk.given.alloc, node, held.0, mark, held.1)?;
+    let (mark, (condition, ways)) = keep((condition, ways), walk.given.mark_if(node, ends.never))?;
+    let tree = tests(walk.given.alloc, node, condition, mark, ways)?;
     let diverges = either(first.diverges, ends.diverges);
     Ok((tree, value_seen(node, ends.never, diverges)))
 }

@@ -62,9 +62,9 @@ pub(crate) fn while_at<'t>(
     let (condition, seen) = expression(walk, false, Site::Value, condition)?;
     let ((holds, ends), condition) = keep(condition, body_tree(walk, Site::Value, body))?;
     let marked = walk.given.mark_if(ends.node, ends.never);
-    let (mark, held) = keep((condition, holds), marked)?;
-    let ways = (held.1, jump(node, number, false));
-    let tree = tests(walk.given.alloc, node, held.0, mark, ways)?;
+    let (mark, (condition, holds)) = keep((condition, holds), marked)?;
+    let ways = (holds, jump(node, number, false));
+    let tree = tests(walk.given.alloc, node, condition, mark, ways)?;
     let tree = walk.given.repeated(node, false, number, tree)?;
     Ok((tree, value_seen(node, false, seen.diverges)))
 }

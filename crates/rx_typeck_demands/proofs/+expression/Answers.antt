@@ -1,9 +1,9 @@
 use Rattle.std.proofs.Common.{◌≡◌, ◌++◌, [], ◌∷◌, ap, refl, arith}
-use Rattle.rx_tree.specs.PlainOf.{plain-Expr, expression_int, expression_bool, expression_tuple, expression_var, expression_field, expression_part, expression_deref, expression_neg, expression_not, expression_borrow, expression_call, expression_nextinput, expression_make, expression_print, expression_loop, expression_break, expression_continue, expression_return}
-use Rattle.rx_tree.proofs.Rules.{expression_by_node, block_by_parts, arm_by_parts, field_expression_by_parts}
+use Rattle.rx_tree.specs.PlainOf.{plain-Expr, expression_int, expression_bool, expression_tuple, expression_var, expression_call, expression_nextinput, expression_make, expression_break, expression_continue, expression_return}
+use Rattle.rx_tree.proofs.Rules.{expression_by_node, block_by_parts, field_expression_by_parts}
 use Rattle.rx_typeck_elaborate_parts.proofs.Next.{next_expression, next_body}
 use Rattle.rx_typeck_demand_parts.proofs.Later.{pattern_later}
-use Rattle.rx_typeck_demand_parts.proofs.Placed.{expression_placed, through_here}
+use Rattle.rx_typeck_demand_parts.proofs.Placed.{through_here}
 use Rattle.rx_typeck_demands.proofs.Ways.{or_false, and_false, each_nothing}
 use Rattle.rx_typeck_demands.proofs.Turns.{statement_walked, field_walked, arm_walked}
 use Rattle.rx_typeck_demand_parts.specs.Matching.{matched_as}
@@ -85,10 +85,6 @@ expressions::form-all_arms-requires t c =
     let bound = c.decreases in
     (omega (arith, deeper, same, bound), tt)
 
-pub expressions::expression-returns : goal.expressions::expression-returns
-expressions::expression-returns t c =
-    simp (c.in_ok-placed.ensures, c.in_ok-seen.ensures.0, c.in_ok-seen.ensures.1, expression_placed) (refl, refl)
-
 pub expressions::field_step-returns : goal.expressions::field_step-returns
 expressions::field_step-returns t c =
     simp (c.part_seen.ensures, c.in_ok-step_at.ensures, c.in_ok-copy.ensures, c.in_ok-place.ensures.0, c.in_ok-place.ensures.1, c.in_ok-node.ensures.0, c.in_ok-node.ensures.1) (refl, refl)
@@ -100,22 +96,6 @@ expressions::part_step-returns t c =
 pub expressions::dereference-returns : goal.expressions::dereference-returns
 expressions::dereference-returns t c =
     simp (c.part_seen.ensures, c.in_ok-step_at.ensures, c.in_ok-place.ensures.0, c.in_ok-place.ensures.1, c.in_ok-node.ensures.0, c.in_ok-node.ensures.1) (refl, refl)
-
-pub expressions::negation-returns : goal.expressions::negation-returns
-expressions::negation-returns t c =
-    simp (c.value_seen.ensures, c.in_ok-negated.ensures, c.in_ok-inner.ensures.0, c.in_ok-inner.ensures.1, c.in_ok-node.ensures.0, c.in_ok-node.ensures.1) (refl, refl)
-
-pub expressions::inversion-returns : goal.expressions::inversion-returns
-expressions::inversion-returns t c =
-    simp (c.value_seen.ensures, c.in_ok-inverted.ensures, c.in_ok-inner.ensures.0, c.in_ok-inner.ensures.1, c.in_ok-node.ensures.0, c.in_ok-node.ensures.1) (refl, refl)
-
-pub expressions::borrow-returns : goal.expressions::borrow-returns
-expressions::borrow-returns t c =
-    simp (c.value_seen.ensures, c.in_ok-borrowed.ensures, c.in_ok-place.ensures.0, c.in_ok-place.ensures.1, c.in_ok-node.ensures.0, c.in_ok-node.ensures.1, through_here) (refl, refl)
-
-pub expressions::print-returns : goal.expressions::print-returns
-expressions::print-returns t c =
-    simp (c.value_seen.ensures, c.in_ok-own.ensures, c.in_ok-printed.ensures, c.in_ok-inner.ensures.0, c.in_ok-inner.ensures.1, c.in_ok-node.ensures.0, c.in_ok-node.ensures.1) (refl, refl)
 
 pub expressions::form-returns-in-Int : goal.expressions::form-returns-in-Int
 expressions::form-returns-in-Int t c =
@@ -133,41 +113,9 @@ pub expressions::form-returns-in-Var : goal.expressions::form-returns-in-Var
 expressions::form-returns-in-Var t c =
     simp (expression_by_node c.args.expr.now, c.in-Var.is, expression_var) c.variable.ensures
 
-pub expressions::form-returns-in-Field : goal.expressions::form-returns-in-Field
-expressions::form-returns-in-Field t c =
-    simp (expression_by_node c.args.expr.now, c.in-Field.is, expression_field) (simp c.get.ensures at c.field_step.ensures)
-
-pub expressions::form-returns-in-Part : goal.expressions::form-returns-in-Part
-expressions::form-returns-in-Part t c =
-    simp (expression_by_node c.args.expr.now, c.in-Part.is, expression_part) (simp c.get-in-Part.ensures at c.part_step.ensures)
-
-pub expressions::form-returns-in-Deref : goal.expressions::form-returns-in-Deref
-expressions::form-returns-in-Deref t c =
-    simp (expression_by_node c.args.expr.now, c.in-Deref.is, expression_deref) (simp c.get-in-Deref.ensures at c.dereference.ensures)
-
-pub expressions::form-returns-in-Neg : goal.expressions::form-returns-in-Neg
-expressions::form-returns-in-Neg t c =
-    simp (expression_by_node c.args.expr.now, c.in-Neg.is, expression_neg) (simp c.get-in-Neg.ensures at c.negation.ensures)
-
-pub expressions::form-returns-in-Not : goal.expressions::form-returns-in-Not
-expressions::form-returns-in-Not t c =
-    simp (expression_by_node c.args.expr.now, c.in-Not.is, expression_not) (simp c.get-in-Not.ensures at c.inversion.ensures)
-
-pub expressions::form-returns-in-Borrow : goal.expressions::form-returns-in-Borrow
-expressions::form-returns-in-Borrow t c =
-    simp (expression_by_node c.args.expr.now, c.in-Borrow.is, expression_borrow) (simp c.get-in-Borrow.ensures at c.borrow.ensures)
-
 pub expressions::form-returns-in-NextInput : goal.expressions::form-returns-in-NextInput
 expressions::form-returns-in-NextInput t c =
     simp (expression_by_node c.args.expr.now, c.in-NextInput.is, expression_nextinput) c.next_input.ensures
-
-pub expressions::form-returns-in-Print : goal.expressions::form-returns-in-Print
-expressions::form-returns-in-Print t c =
-    simp (expression_by_node c.args.expr.now, c.in-Print.is, expression_print) (simp c.get-in-Print.ensures at c.print.ensures)
-
-pub expressions::form-returns-in-Loop : goal.expressions::form-returns-in-Loop
-expressions::form-returns-in-Loop t c =
-    simp (expression_by_node c.args.expr.now, c.in-Loop.is, expression_loop) (simp c.get-in-Loop.ensures at c.endless.ensures)
 
 pub expressions::form-returns-in-Break : goal.expressions::form-returns-in-Break
 expressions::form-returns-in-Break t c =
@@ -181,10 +129,6 @@ pub expressions::form-returns-in-Return : goal.expressions::form-returns-in-Retu
 expressions::form-returns-in-Return t c =
     simp (expression_by_node c.args.expr.now, c.in-Return.is, expression_return) c.return_jump.ensures
 
-pub blocks::block-returns : goal.blocks::block-returns
-blocks::block-returns t c =
-    simp (c.value_seen.ensures, c.in_ok-join.ensures, c.in_ok-body.ensures.0, c.in_ok-body.ensures.1, c.in_ok-node.ensures.0, c.in_ok-node.ensures.1) (refl, refl)
-
 pub blocks::body_part-returns : goal.blocks::body_part-returns
 blocks::body_part-returns t c =
     simp (c.in_ok-part_after.ensures, c.in_ok-seen.ensures.0, c.in_ok-seen.ensures.1, c.in_ok-part_before.ensures, c.next-next.ensures, c.passed_on-site.ensures, next_body) (refl, refl)
@@ -195,8 +139,17 @@ blocks::unit_body-returns t c =
 
 pub blocks::body-returns : goal.blocks::body-returns
 blocks::body-returns t c =
-    simp (c.value_seen.ensures, c.in_ok-ways.ensures.0, c.in_ok-ways.ensures.1, c.in_ok-diverges.ensures.0, c.in_ok-diverges.ensures.1, c.as_slice.ensures, c.in_ok-node.ensures.0,
-    c.in_ok-node.ensures.1, block_by_parts c.args.block.now) (refl, refl)
+    simp (
+      c.value_seen.ensures,
+      c.in_ok-ways.ensures.0,
+      c.in_ok-ways.ensures.1,
+      c.in_ok-diverges.ensures.0,
+      c.in_ok-diverges.ensures.1,
+      c.as_slice.ensures,
+      c.in_ok-node.ensures.0,
+      c.in_ok-node.ensures.1,
+      block_by_parts c.args.block.now,
+    ) (refl, refl)
 
 pub blocks::tail-returns-in_ok-join-in-Some : goal.blocks::tail-returns-in_ok-join-in-Some
 blocks::tail-returns-in_ok-join-in-Some t c =
@@ -224,8 +177,10 @@ branches::other-returns-in-None t c =
 
 pub branches::other-returns-in_ok-seen-in-Some : goal.branches::other-returns-in_ok-seen-in-Some
 branches::other-returns-in_ok-seen-in-Some t c =
-    simp (c.in_ok-seen-in-Some.ensures.0, c.in_ok-seen-in-Some.ensures.1, c.in_ok-rest-in-Some.ensures.0, c.in_ok-rest-in-Some.ensures.1, c.passed_on.ensures, c.get.ensures, c.in-Some.is) (refl,
-    refl)
+    simp (c.in_ok-seen-in-Some.ensures.0, c.in_ok-seen-in-Some.ensures.1, c.in_ok-rest-in-Some.ensures.0, c.in_ok-rest-in-Some.ensures.1, c.passed_on.ensures, c.get.ensures, c.in-Some.is) (
+      refl,
+      refl,
+    )
 
 pub branches::matched_value-returns : goal.branches::matched_value-returns
 branches::matched_value-returns t c =
@@ -233,32 +188,78 @@ branches::matched_value-returns t c =
 
 pub branches::scrutinee-returns : goal.branches::scrutinee-returns
 branches::scrutinee-returns t c =
-    simp (c.know.ensures, c.in_ok-pattern_at.ensures, c.type_of.ensures, c.as_matched-with.ensures, c.as_slice.ensures, c.in_ok-passing.ensures, c.in_ok-seen.ensures.0, c.in_ok-seen.ensures.1,
-    c.declared-to.ensures, c.in_ok-number_pattern.ensures.0, c.in_ok-number_pattern.ensures.1, c.declared-from.ensures, c.mark-mark.ensures, pattern_later, through_here) (refl, refl)
+    simp (
+      c.know.ensures,
+      c.in_ok-pattern_at.ensures,
+      c.type_of.ensures,
+      c.as_matched-with.ensures,
+      c.as_slice.ensures,
+      c.in_ok-passing.ensures,
+      c.in_ok-seen.ensures.0,
+      c.in_ok-seen.ensures.1,
+      c.declared-to.ensures,
+      c.in_ok-number_pattern.ensures.0,
+      c.in_ok-number_pattern.ensures.1,
+      c.declared-from.ensures,
+      c.mark-mark.ensures,
+      pattern_later,
+      through_here,
+    ) (refl, refl)
 
 pub branches::all_arms-returns : goal.branches::all_arms-returns
 branches::all_arms-returns t c =
-    simp (c.value_seen.ensures, c.either-diverges.ensures, c.in_ok-join.ensures, c.in_ok-ways.ensures.0, c.in_ok-ways.ensures.1, c.as_matched-with.ensures, c.as_slice.ensures,
-    c.in_ok-passing.ensures) (refl, refl)
+    simp (
+      c.value_seen.ensures,
+      c.either-diverges.ensures,
+      c.in_ok-join.ensures,
+      c.in_ok-ways.ensures.0,
+      c.in_ok-ways.ensures.1,
+      c.as_matched-with.ensures,
+      c.as_slice.ensures,
+      c.in_ok-passing.ensures,
+    ) (refl, refl)
 
 pub assignments::assigns-returns : goal.assignments::assigns-returns
 assignments::assigns-returns t c =
-    simp (c.value_seen.ensures, c.either-diverges.ensures, c.in_ok-own.ensures, c.in_ok-assignable.ensures, c.in_ok-value.ensures.0, c.in_ok-value.ensures.1, c.in_ok-expects.ensures,
-    c.type_of.ensures, c.next-next.ensures, next_expression) (refl, refl)
+    simp (
+      c.value_seen.ensures,
+      c.either-diverges.ensures,
+      c.in_ok-own.ensures,
+      c.in_ok-assignable.ensures,
+      c.in_ok-value.ensures.0,
+      c.in_ok-value.ensures.1,
+      c.in_ok-expects.ensures,
+      c.type_of.ensures,
+      c.next-next.ensures,
+      next_expression,
+    ) (refl, refl)
 
 pub assignments::gives-returns : goal.assignments::gives-returns
 assignments::gives-returns t c =
-    simp (c.value_seen.ensures, c.in_ok-own.ensures, c.in_ok-given.ensures, c.gives_here-pattern.ensures.pattern, c.gives_here-pattern.ensures.cursor, c.use_of-root.ensures,
-    c.in_ok-value.ensures.0, c.in_ok-value.ensures.1) (refl, refl)
+    simp (
+      c.value_seen.ensures,
+      c.in_ok-own.ensures,
+      c.in_ok-given.ensures,
+      c.gives_here-pattern.ensures.pattern,
+      c.gives_here-pattern.ensures.cursor,
+      c.use_of-root.ensures,
+      c.in_ok-value.ensures.0,
+      c.in_ok-value.ensures.1,
+    ) (refl, refl)
 
 pub loops::endless-returns : goal.loops::endless-returns
 loops::endless-returns t c =
-    simp (c.value_seen.ensures, c.in_ok-loop_given.ensures, c.is_left-left.ensures, c.in_ok-unit_body.ensures.0, c.in_ok-unit_body.ensures.1, c.in_ok-number.ensures.0, c.in_ok-number.ensures.1,
-    c.in_ok-node.ensures.0, c.in_ok-node.ensures.1) (refl, refl)
-
-pub loops::return_jump-returns : goal.loops::return_jump-returns
-loops::return_jump-returns t c =
-    simp (c.value_seen.ensures, c.in_ok-never_at.ensures, c.in_ok-returned.ensures, c.in_ok-node.ensures.0, c.in_ok-node.ensures.1) (refl, refl)
+    simp (
+      c.value_seen.ensures,
+      c.in_ok-loop_given.ensures,
+      c.is_left-left.ensures,
+      c.in_ok-unit_body.ensures.0,
+      c.in_ok-unit_body.ensures.1,
+      c.in_ok-number.ensures.0,
+      c.in_ok-number.ensures.1,
+      c.in_ok-node.ensures.0,
+      c.in_ok-node.ensures.1,
+    ) (refl, refl)
 
 pub loops::returned_value-returns : goal.loops::returned_value-returns
 loops::returned_value-returns t c =
@@ -266,18 +267,30 @@ loops::returned_value-returns t c =
 
 pub statements::lets_typed-returns : goal.statements::lets_typed-returns
 statements::lets_typed-returns t c =
-    simp (c.know.ensures, c.in_ok-initialised.ensures, c.in_ok-seen.ensures.0, c.in_ok-seen.ensures.1, c.type_of.ensures, c.type_of-2.ensures, c.in_ok-typ.ensures.0, c.in_ok-typ.ensures.1,
-    c.declared-to.ensures, c.in_ok-number_pattern.ensures.0, c.in_ok-number_pattern.ensures.1, c.mark-mark.ensures, c.declared-from.ensures, c.in_ok-annotate.ensures, c.in_ok-node.ensures.0,
-    c.in_ok-node.ensures.1, pattern_later, through_here) (refl, refl)
+    simp (
+      c.know.ensures,
+      c.in_ok-initialised.ensures,
+      c.in_ok-seen.ensures.0,
+      c.in_ok-seen.ensures.1,
+      c.type_of.ensures,
+      c.type_of-2.ensures,
+      c.in_ok-typ.ensures.0,
+      c.in_ok-typ.ensures.1,
+      c.declared-to.ensures,
+      c.in_ok-number_pattern.ensures.0,
+      c.in_ok-number_pattern.ensures.1,
+      c.mark-mark.ensures,
+      c.declared-from.ensures,
+      c.in_ok-annotate.ensures,
+      c.in_ok-node.ensures.0,
+      c.in_ok-node.ensures.1,
+      pattern_later,
+      through_here,
+    ) (refl, refl)
 
 pub statements::evaluates-returns : goal.statements::evaluates-returns
 statements::evaluates-returns t c =
     simp (c.in_ok-evaluated.ensures, c.in_ok-seen.ensures.0, c.in_ok-seen.ensures.1, c.in_ok-node.ensures.0, c.in_ok-node.ensures.1) (refl, refl)
-
-pub values::tuple-returns : goal.values::tuple-returns
-values::tuple-returns t c =
-    simp (c.value_seen.ensures, c.in_ok-limits.ensures, c.in_ok-own.ensures, c.as_slice.ensures, c.in_ok-listed.ensures.0, c.in_ok-listed.ensures.1, c.in_ok-node.ensures.0,
-    c.in_ok-node.ensures.1) (refl, refl)
 
 pub values::member-returns : goal.values::member-returns
 values::member-returns t c =
@@ -294,10 +307,6 @@ values::function_call-returns t c =
 pub values::variant_of-returns : goal.values::variant_of-returns
 values::variant_of-returns t c =
     simp (c.value_seen.ensures, c.in_ok-own.ensures, c.in_ok-diverges.ensures.0, c.in_ok-diverges.ensures.1, c.in_ok-ask_passes.ensures, arguments_counted) (refl, refl)
-
-pub values::make-returns : goal.values::make-returns
-values::make-returns t c =
-    simp (c.value_seen.ensures, c.in_ok-diverges.ensures.0, c.in_ok-diverges.ensures.1, c.entry.ensures.entry, c.entry.ensures.walk, c.in_ok-node.ensures.0, c.in_ok-node.ensures.1) (refl, refl)
 
 pub values::made-returns : goal.values::made-returns
 values::made-returns t c =
@@ -320,11 +329,6 @@ branches::each_arm-loop-arm-preserved t c =
     c.both-diverges.result c.in_ok-seen.seen c.loop-arm.walk c.one_arm.new.walk _ c.loop-arm-test.true c.arm-item.is c.in_ok-seen.ensures c.both-never.ensures c.both-diverges.ensures (ap (λ p.
     p.1.item) c.loop-arm.invariant) c.loop-arm.invariant
 
-pub branches::one_arm-returns : goal.branches::one_arm-returns
-branches::one_arm-returns t c =
-    simp (c.in_ok-seen.ensures.0, c.in_ok-seen.ensures.1, c.passed_on.ensures, c.know.ensures, c.declared-to.ensures, c.in_ok-whole_pattern.ensures.0, c.in_ok-whole_pattern.ensures.1,
-    c.type_of.ensures, c.declared-from.ensures, arm_by_parts c.args.arm.now) (refl, refl)
-
 pub statements::expected_value-returns : goal.statements::expected_value-returns
 statements::expected_value-returns t c =
     simp (c.in_ok-seen.ensures.0, c.in_ok-seen.ensures.1, c.in_ok-expects.ensures, c.next-next.ensures, next_expression) (refl, refl)
@@ -335,10 +339,7 @@ values::element-returns t c =
 
 pub values::value_of_field-returns : goal.values::value_of_field-returns
 values::value_of_field-returns t c =
-    simp (c.in_ok-seen.ensures.0, c.in_ok-seen.ensures.1, c.in_ok-expects.ensures, c.next-next.ensures, c.in_ok-copy.ensures, next_expression, field_expression_by_parts c.args.field.now) (refl,
-    refl)
-
-pub values::variant-returns : goal.values::variant-returns
-values::variant-returns t c =
-    simp (c.in_ok-seen.ensures.0, c.in_ok-seen.ensures.1, c.entry-names.ensures.entry, c.entry-names.ensures.walk, c.in_ok-node.ensures.0, c.in_ok-node.ensures.1) (refl, refl)
-
+    simp (c.in_ok-seen.ensures.0, c.in_ok-seen.ensures.1, c.in_ok-expects.ensures, c.next-next.ensures, c.in_ok-copy.ensures, next_expression, field_expression_by_parts c.args.field.now) (
+      refl,
+      refl,
+    )
