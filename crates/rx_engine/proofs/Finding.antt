@@ -1,12 +1,13 @@
 -- What meets all conditions is found to be an extraction: the run in its function, its plan, and where the new function is in the answer.
 use Rattle.std.proofs.Common.{◌≡◌, ℕ, ◌+◌, ◌<◌, ◌≤◌, Bool, true, false, if◌then◌else◌, List, length, Option, Some, None, refl, sym, ap, ◌∙◌, subst, arith, leb-false, leb-true}
-use Rattle.std.specs.Prelude.{nat_le, ◌&&◌}
+use Rattle.std.specs.Prelude.{nat_le, ◌&&◌, slice_get}
 use Rattle.rx_tree.specs.Plain.{ProgramTree}
 use Rattle.rx_tree.specs.Size.{IsNumbered}
 use Rattle.rx_parse_grammar.specs.grammar.Items.{Parses}
 use Rattle.rx_graph_cycles.specs.Reaches.{NoCycle}
 use Rattle.rx_resolve_names.specs.declared.resolved.ItemNames.{ItemNames}
-use Rattle.rx_typed.specs.Types.{Declarations}
+use Rattle.rx_typed.specs.Types as types
+use Rattle.rx_typed.specs.Types.{Declarations, Typ, integer, boolean, tuple_of, reference, no_shape, shape_and, unit_shape, result_declared}
 use Rattle.rx_typed.specs.PlainTypes.{declarations}
 use Rattle.rx_typed_declarations.specs.Held.{held}
 use Rattle.rx_typed_declarations.specs.Sizes.{Sized}
@@ -26,7 +27,7 @@ use Rattle.rx_engine_validated.specs.Found.{IsFound}
 use Rattle.rx_engine_extraction.specs.Source.{Text, IsText, Wish}
 use Rattle.rx_engine_extraction.specs.Case.{Case}
 use Rattle.rx_engine_extraction.specs.Made.{named, new_item}
-use Rattle.rx_engine_extraction.specs.Confirmed.{Confirmed, told_by, whole_of, is_extracted, is_found}
+use Rattle.rx_engine_extraction.specs.Confirmed.{is_unit_if, is_of_unit, Confirmed, told_by, whole_of, is_extracted, is_found}
 use Rattle.rx_engine_extraction.specs.Conditions.{Condition, reached, whole, unmoved, few_bytes, confirmed}
 use Rattle.rx_engine_extraction.specs.Meeting.{Holds}
 use Rattle.rx_engine_extraction.specs.Promise.{Extracts}
@@ -53,19 +54,32 @@ some_added false = omega arith
 record Found (T : Text) (d : Case) (n made : ℕ) (q : ProgramTree) (u : Typed) : Type 0 where
   new : TypedFn
   is_new : function_at u.functions n ≡ Some new
-  seen : extracts (told_by T d n made new) d.run.function (whole_of T.program T.types) (whole_of q u) ≡ true
+  seen : extracts (told_by T d n made (is_of_unit (declarations u.decls.items) n) new) d.run.function (whole_of T.program T.types) (whole_of q u) ≡ true
+
+unit_shaped : (o : Option Typ) → is_unit_if o ≡ true → o ≡ Some unit_shape
+unit_shaped (Some (tuple_of no_shape)) e = refl
+unit_shaped None e = absurd (cc)
+unit_shaped (Some (integer k)) e = absurd (cc)
+unit_shaped (Some boolean) e = absurd (cc)
+unit_shaped (Some (tuple_of (shape_and t ts))) e = absurd (cc)
+unit_shaped (Some (reference m t)) e = absurd (cc)
+unit_shaped (Some (types.named i)) e = absurd (cc)
+
+-- a function that is said to give the unit is declared to
+unit_declared : (D : Declarations) (n : ℕ) → is_of_unit D n ≡ true → result_declared (slice_get D n) ≡ Some unit_shape
+unit_declared D n e = unit_shaped (result_declared (slice_get D n)) e
 
 both_true : (a b : Bool) → (a && b) ≡ true → b ≡ true
 both_true true b e = e
 both_true false b e = absurd (cc)
 
 module _ (T : Text) (d : Case) (n made : ℕ) (q : ProgramTree) (u : Typed) where
-  found_at : (o : Option TypedFn) → function_at u.functions n ≡ o → is_extracted T d n made (whole_of q u) o ≡ true → Found T d n made q u
+  found_at : (o : Option TypedFn) → function_at u.functions n ≡ o → is_extracted T d n made (is_of_unit (declarations u.decls.items) n) (whole_of q u) o ≡ true → Found T d n made q u
   found_at None at e = absurd (cc)
   found_at (Some g) at e = record {
     new = g;
     is_new = at;
-    seen = both_true (nat_le (length g.names) 4294967295) (extracts (told_by T d n made g) d.run.function (whole_of T.program T.types) (whole_of q u)) e;
+    seen = both_true (nat_le (length g.names) 4294967295) (extracts (told_by T d n made (is_of_unit (declarations u.decls.items) n) g) d.run.function (whole_of T.program T.types) (whole_of q u)) e;
   }
 
   found_in : is_found T d n made q u ≡ true → Found T d n made q u
@@ -123,7 +137,7 @@ module _ (finite : (p : ProgramTree) (names : List ItemNames) (t : Typed) → Is
         few_there = numbered d.text c.program c.parses (held_at few_bytes (omega arith));
         front = front;
         accepted = there;
-        told = told_by T d place many f.new;
+        told = told_by T d place many (is_of_unit (declarations c.types.decls.items) place) f.new;
         function = d.function;
         among = function_among T.types.functions d.run.function d.function seated.function;
         home = d.home;
@@ -135,6 +149,7 @@ module _ (finite : (p : ProgramTree) (names : List ItemNames) (t : Typed) → Is
         around = refl;
         elsewhere = refl;
         muts = refl;
+        unit = λ e. unit_declared (declarations c.types.decls.items) place e;
         item = d.run.function;
         made = many;
         is_there = function_stands T.program front.names T.types front.typed (main_in T.program 0) d.run.function d.function seated.function;

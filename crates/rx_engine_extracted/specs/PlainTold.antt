@@ -24,4 +24,5 @@ plain-Told t = record {
   beyond = t.beyond;
   items = λ f. plain-Items t.items f;
   units = t.units.now;
+  gives_unit = t.gives_unit;
 }

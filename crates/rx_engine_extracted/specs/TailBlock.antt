@@ -12,9 +12,10 @@ use Rattle.rx_engine_extracted.specs.Entering.{entered}
 use Rattle.rx_engine_extracted.specs.Stretches.{Passed, like_first}
 use Rattle.rx_engine_extracted.specs.Handing.{Put, Stood, hands_back, redeclared, is_within}
 use Rattle.rx_engine_extracted.specs.Arms.{is_put}
-use Rattle.rx_engine_extracted.specs.Calls.{Called, called_with}
+use Rattle.rx_engine_extracted.specs.Calls.{Called, is_only_next, called_with}
 use Rattle.rx_engine_extracted.specs.Ending.{has_none}
 use Rattle.rx_engine_extracted.specs.Block.{between_around, between_in, block_of, loops_in}
+use Rattle.rx_engine_extracted.specs.Reading.{runs_first}
 use Rattle.rx_engine_extracted.specs.TailEnding.{is_given, ran_to_tail}
 use Rattle.rx_engine_extracted.specs.TailHanding.{gives_at, gives_unit_back, ends_in_unit_back, gives_value}
 
@@ -47,11 +48,30 @@ abbrev pub value_stands : Told → Jumping → Bool → Passed → Bool
 value_stands T J own p = is_given (gives_value T own p.inside (without (T.plan.outs next) p.inside) (T.plan.outs next) p.answer)
     (λ e. is_some_renaming (call_ends true T J p.inside p.text e))
 
+-- ---- with a unit that the function is declared to give: what the call gives is dropped, and the unit stands again
+
+-- the run's end is the only exit, and hands out nothing
+abbrev pub may_drop : Told → Bool
+may_drop T = T.gives_unit && (is_only_next T.plan.exits && has_none (T.plan.outs next))
+
+abbrev pub in_front_of_unit : Bool → Exp × Body → Option Exp
+in_front_of_unit own r = if_so (ends_in_unit_back own r.1) (Some r.0)
+
+-- the expression that stands alone in front of it
+abbrev pub dropped : Bool → Body → Option Exp
+dropped own b = and_then (runs_first b) (λ r. in_front_of_unit own r)
+
+abbrev pub call_is_dropped : Told → Jumping → Bool → Passed → Bool
+call_is_dropped T J own p = is_given (dropped own p.answer) (λ e. is_some_renaming (call_ends true T J p.inside p.text e))
+
 -- ---- the block
+
+abbrev pub tail_is_unit : Told → Jumping → Bool → Passed → Bool
+tail_is_unit T J own p = if may_drop T then call_is_dropped T J own p else unit_stands T J own p
 
 -- the answer's block tells whether there is a value, by what it gives
 abbrev pub tail_stands : Told → Jumping → Bool → Passed → Bool
-tail_stands T J own p = if gives_unit_back own (tail p.answer) then unit_stands T J own p else value_stands T J own p
+tail_stands T J own p = if gives_unit_back own (tail p.answer) then tail_is_unit T J own p else value_stands T J own p
 
 -- behind what a function's body gives nothing is needed
 abbrev pub may_end : Told → Bool → Bool

@@ -28,6 +28,8 @@ pub record Told : Type 0 where
   pub items : ℕ → ℕ
   -- functions that give the unit
   pub units : List ℕ
+  -- whether the new function is declared to give it
+  pub gives_unit : Bool
 
 -- params that are copied, or of which the reference is asked for again: nothing is to be written to them meanwhile
 abbrev pub is_closed : List ℕ → ℕ → Mode → Bool

@@ -80,7 +80,7 @@ fn matches_in<'t>(expr: &'t Expr) -> Option<(&'t Matched, &'t [Arm])>
 }
 
 /// Whether the run's end is the only exit.
-fn is_only_next(exits: &[ExitOuts]) -> bool
+pub(crate) fn is_only_next(exits: &[ExitOuts]) -> bool
     ensures { result ≡ spec.is_only_next (map (λ (e : listed.ExitOuts). plain-Exit e.exit) exits.now) }
 {
     match exits {

@@ -20,8 +20,8 @@ ghost use Rattle.rx_engine_extracted.specs.PlainStretches.{passed_in};
 ghost use Rattle.rx_engine_extracted.specs.PlainTails.{unit_call_stands as unit_call_stands_of};
 
 use crate::block::{between, front_alike, jumping_around};
-use crate::body::block_in;
-use crate::calls::{Called, called_with};
+use crate::body::{block_in, runs_first};
+use crate::calls::{Called, called_with, is_only_next};
 use crate::ending::End;
 use crate::entering::{Begun, entered};
 use crate::exits::outs_of;
@@ -241,6 +241,72 @@ fn value_stands(
     }
 }
 
+/// Whether what the call gives may be dropped: the unit, by the run's only exit, which hands out nothing.
+fn may_drop(told: &Told<'_>) -> bool
+    ensures { result ≡ spec.may_drop (plain-Told told.now) }
+{
+    if !told.gives_unit || !is_only_next(told.plan.exits.as_slice()) {
+        return false;
+    }
+    match outs_of(told.plan.exits.as_slice(), Exit::Next) {
+        [] => true,
+        [_, ..] => false,
+    }
+}
+
+/// The expression that stands alone in front of the unit that a block gives.
+fn dropped<'t>(own: bool, answer: Part<'t>) -> Option<&'t Expr>
+    ensures { option_map (λ e. plain-Expr e.now) result ≡ spec.dropped own (plain-Part answer.entry) }
+{
+    let Some((expr, rest)) = runs_first(answer) else {
+        return None;
+    };
+    if ends_in_unit_back(own, rest) {
+        Some(expr)
+    } else {
+        None
+    }
+}
+
+/// Whether the unit stands behind the call, which gives that of the run.
+fn call_is_dropped(
+    alloc: Global,
+    told: &Told<'_>,
+    closed: &[u32],
+    loops: &[LoopPair],
+    own: bool,
+    outer: &[Seen],
+    passed: Passed<'_>,
+) -> Result<bool, AllocError>
+    requires { closed.now ≡ closed_in (plain-Told told.now) }
+    ensures { IfOk result (λ it. it ≡ spec.call_is_dropped (plain-Told told.now) (jumps_around loops.now) own (passed_in (plain-Renaming outer.now) passed.entry)) }
+{
+    match dropped(own, passed.answer) {
+        Some(expr) => value_is_call(alloc, told, closed, loops, outer, passed.text, expr),
+        None => Ok(false),
+    }
+}
+
+/// Whether the call stands for a run that gives the unit, which the block gives again.
+fn tail_is_unit(
+    alloc: Global,
+    told: &Told<'_>,
+    closed: &[u32],
+    loops: &[LoopPair],
+    own: bool,
+    outer: &[Seen],
+    passed: Passed<'_>,
+) -> Result<bool, AllocError>
+    requires { closed.now ≡ closed_in (plain-Told told.now) }
+    ensures { IfOk result (λ it. it ≡ spec.tail_is_unit (plain-Told told.now) (jumps_around loops.now) own (passed_in (plain-Renaming outer.now) passed.entry)) }
+{
+    if may_drop(told) {
+        call_is_dropped(alloc, told, closed, loops, own, outer, passed)
+    } else {
+        unit_stands(alloc, told, closed, loops, own, outer, passed)
+    }
+}
+
 /// Whether the call stands for the run: the answer's block tells whether there is a value, by what it gives.
 #[tactic(auto, using(rx_exits_plan::proofs::StatementLemmas::body_tail))]
 fn tail_stands(
@@ -256,7 +322,7 @@ fn tail_stands(
     ensures { IfOk result (λ it. it ≡ spec.tail_stands (plain-Told told.now) (jumps_around loops.now) own (passed_in (plain-Renaming outer.now) passed.entry)) }
 {
     if gives_unit_back(own, passed.answer.tail) {
-        unit_stands(alloc, told, closed, loops, own, outer, passed)
+        tail_is_unit(alloc, told, closed, loops, own, outer, passed)
     } else {
         value_stands(alloc, told, closed, loops, own, outer, passed)
     }

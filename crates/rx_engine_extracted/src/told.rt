@@ -40,6 +40,8 @@ pub struct Told<'t> {
     pub items: Items,
     /// Functions that give the unit.
     pub units: &'t [u32],
+    /// Whether the new function is declared to give it.
+    pub gives_unit: bool,
 }
 
 /// Whether nothing is to be written to a param meanwhile.

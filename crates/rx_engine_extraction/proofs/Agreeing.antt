@@ -1,6 +1,6 @@
 -- What two cases of one text decide alike, from what stands in both: the run, its function and block, the plan, how its params are passed,
 -- and the bounds. The text may have been typed twice.
-use Rattle.std.proofs.Common.{◌≡◌, ℕ, ◌&&◌, List, [], length, map, Option, Some, None, refl, sym, ap, subst, ◌∙◌}
+use Rattle.std.proofs.Common.{◌≡◌, ℕ, Bool, ◌&&◌, List, [], length, map, Option, Some, None, refl, sym, ap, subst, ◌∙◌}
 use Rattle.std.specs.Prelude.{nat_le}
 use Rattle.rx_core.specs.declared.types.Bound.{Bound}
 use Rattle.rx_lex.specs.Tokens.{Lexes}
@@ -44,7 +44,8 @@ use Rattle.rx_engine_extraction.specs.Source.{Text, IsText, Wish, declared_in}
 use Rattle.rx_engine_extraction.specs.Case.{Case, asked}
 use Rattle.rx_engine_extraction.specs.Made.{run_of, told, named, hoisted, new_item, named_bounds, extracted}
 use Rattle.rx_engine_extraction.specs.Rendering.{Renders}
-use Rattle.rx_engine_extraction.specs.Confirmed.{units_among, units_if, whole_of, without_value, told_by, is_extracted, is_found, Confirmed}
+use Rattle.rx_typed.specs.PlainTypes.{declarations}
+use Rattle.rx_engine_extraction.specs.Confirmed.{is_of_unit, units_among, units_if, whole_of, without_value, told_by, is_extracted, is_found, Confirmed}
 use Rattle.rx_engine_extraction.specs.Meeting.{Selects, Seated, Passes, Fits, IsAnswer}
 use Rattle.rx_engine_extraction.specs.Hoisting.{IsBare}
 use Rattle.rx_engine_extraction.proofs.Ends.{block_function}
@@ -209,8 +210,8 @@ module _ (T : Text) (u : Typed) (z : Twice T u) (w : Wish) (d e : Case) where
         units_alike (declared_in T) T.types.functions u.functions z.each
         ∙ (λ i. units_among (z.declared i) u.functions)
 
-    told_same : (n made : ℕ) (g : TypedFn) → told_by T d n made g ≡ told_by U e n made g
-    told_same n made g = λ i. record {
+    told_same : (n made : ℕ) (unit : Bool) (g : TypedFn) → told_by T d n made unit g ≡ told_by U e n made unit g
+    told_same n made unit g = λ i. record {
       run = typed_run T.program (p.seats.run i);
       around = (p.seats.home i).around.loops;
       plan = without_value (p.plan i);
@@ -221,14 +222,15 @@ module _ (T : Text) (u : Typed) (z : Twice T u) (w : Wish) (d e : Case) where
       beyond = length g.names;
       items = items_with (p.seats.run i).function made;
       units = units_if (whole_same i).functions (units_same i);
+      gives_unit = unit;
     }
 
-    extracted_same : (n made : ℕ) (Q : Program) (o : Option TypedFn) → is_extracted T d n made Q o ≡ is_extracted U e n made Q o
-    extracted_same n made Q None = refl
-    extracted_same n made Q (Some g) = λ i. nat_le (length g.names) 4294967295 && extracts (told_same n made g i) (p.seats.run i).function (whole_same i) Q
+    extracted_same : (n made : ℕ) (unit : Bool) (Q : Program) (o : Option TypedFn) → is_extracted T d n made unit Q o ≡ is_extracted U e n made unit Q o
+    extracted_same n made unit Q None = refl
+    extracted_same n made unit Q (Some g) = λ i. nat_le (length g.names) 4294967295 && extracts (told_same n made unit g i) (p.seats.run i).function (whole_same i) Q
 
     pub found_same : (n made : ℕ) (q : ProgramTree) (t : Typed) → is_found T d n made q t ≡ is_found U e n made q t
-    found_same n made q t = extracted_same n made (whole_of q t) (function_at t.functions n)
+    found_same n made q t = extracted_same n made (is_of_unit (declarations t.decls.items) n) (whole_of q t) (function_at t.functions n)
 
     pub added_alike : added (named T w d) ≡ added (named U w e)
     added_alike = ap added named_alike

@@ -66,19 +66,20 @@ same_at (t ∷ ts) (u ∷ us) h n = subst (λ (k : ℕ). SameIf (if t.item == n 
 
 module _ (T : Text) (d : Case) (n made : ℕ) where
   -- with a function of these variables and this tree
-  abbrev told_of_tree : List Span → Function → Told
-  told_of_tree names g = record (told_by T d n made d.function) { new = record { number = n; function = g }; beyond = length names }
+  abbrev told_of_tree : Bool → List Span → Function → Told
+  told_of_tree unit names g = record (told_by T d n made unit d.function) { new = record { number = n; function = g }; beyond = length names }
 
-  abbrev found_of_tree : Program → List Span → Function → Bool
-  found_of_tree Q names g = nat_le (length names) 4294967295 && extracts (told_of_tree names g) d.run.function (whole_of T.program T.types) Q
+  abbrev found_of_tree : Bool → Program → List Span → Function → Bool
+  found_of_tree unit Q names g = nat_le (length names) 4294967295 && extracts (told_of_tree unit names g) d.run.function (whole_of T.program T.types) Q
 
-  extracted_by : (Q : Program) (o p : Option TypedFn) → SameIf o p → is_extracted T d n made Q o ≡ is_extracted T d n made Q p
-  extracted_by Q None None h = refl
-  extracted_by Q None (Some g) h = absurd h
-  extracted_by Q (Some f) None h = absurd h
-  extracted_by Q (Some f) (Some g) h = λ i. found_of_tree Q (h.names i) (h.bodies i)
+  extracted_by : (unit : Bool) (Q : Program) (o p : Option TypedFn) → SameIf o p → is_extracted T d n made unit Q o ≡ is_extracted T d n made unit Q p
+  extracted_by unit Q None None h = refl
+  extracted_by unit Q None (Some g) h = absurd h
+  extracted_by unit Q (Some f) None h = absurd h
+  extracted_by unit Q (Some f) (Some g) h = λ i. found_of_tree unit Q (h.names i) (h.bodies i)
 
   pub found_alike : (q : ProgramTree) (t u : Typed) → AreSame t u → is_found T d n made q t ≡ is_found T d n made q u
   found_alike q t u h =
-      ap (λ (Q : Program). is_extracted T d n made Q (function_at t.functions n)) (whole_alike q t u (same_declared t.decls.items u.decls.items h.items) h.functions)
-      ∙ extracted_by (whole_of q u) (function_at t.functions n) (function_at u.functions n) (same_at t.functions u.functions h.functions n)
+      ap (λ (Q : Program). is_extracted T d n made (is_of_unit (declarations t.decls.items) n) Q (function_at t.functions n)) (whole_alike q t u (same_declared t.decls.items u.decls.items h.items) h.functions)
+      ∙ ap (λ (D : Declarations). is_extracted T d n made (is_of_unit D n) (whole_of q u) (function_at t.functions n)) (same_declared t.decls.items u.decls.items h.items)
+      ∙ extracted_by (is_of_unit (declarations u.decls.items) n) (whole_of q u) (function_at t.functions n) (function_at u.functions n) (same_at t.functions u.functions h.functions n)

@@ -70,9 +70,9 @@ module _ (T : Text) (x : Decision) (told : IsTold T x) where
       ∙ (λ i. moved_are (is_moved A) k.params i ++ (k.locals ++ (handed_are (plan_of A k).outs k.exits told.agree i ++ k.redeclared)))
 
   -- by the lists that the code has
-  pub told_is : (n made : ℕ) (g : TypedFn) → (loops : List ℕ) (modes : List Mode) (elsewhere : List ℕ) (muts : List Bool) (units : List ℕ) (beyond : ℕ)
+  pub told_is : (n made : ℕ) (g : TypedFn) → (loops : List ℕ) (modes : List Mode) (elsewhere : List ℕ) (muts : List Bool) (units : List ℕ) (beyond : ℕ) (unit given : Bool)
       → loops ≡ x.seat.home.loops → modes ≡ x.plans.passed.modes → elsewhere ≡ elsewhere_by k x.plans.passed.moved → muts ≡ x.function.now.mutable
-      → units ≡ units_if (whole_of T.program T.types).functions (units_among (declared_in T) T.types.functions) → beyond ≡ length g.names
+      → units ≡ units_if (whole_of T.program T.types).functions (units_among (declared_in T) T.types.functions) → beyond ≡ length g.names → unit ≡ given
       → ◌≡◌ {A = Told} (record {
         run = plain-Run x.seat.run;
         around = loops;
@@ -84,8 +84,9 @@ module _ (T : Text) (x : Decision) (told : IsTold T x) where
         beyond = beyond;
         items = λ f. items_with x.run.function made f;
         units = units;
-      }) (told_by T (case_of T x) n made g)
-  told_is n made g loops modes elsewhere muts units beyond a b c d e f = let there = c ∙ elsewhere_are in λ i. record {
+        gives_unit = unit;
+      }) (told_by T (case_of T x) n made given g)
+  told_is n made g loops modes elsewhere muts units beyond unit given a b c d e f h = let there = c ∙ elsewhere_are in λ i. record {
     run = told.run i;
     around = a i;
     plan = plan_with None k;
@@ -94,8 +95,9 @@ module _ (T : Text) (x : Decision) (told : IsTold T x) where
     muts = d i;
     new = record { number = n; function = body g };
     beyond = f i;
-    items = λ h. items_with x.run.function made h;
+    items = λ j. items_with x.run.function made j;
     units = e i;
+    gives_unit = h i;
   }
 
 same_extracts : (A B : Told) (item : ℕ) (P R Q S : Program) → A ≡ B → P ≡ R → Q ≡ S → extracts A item P Q ≡ extracts B item R S
@@ -155,10 +157,10 @@ not_read_so T d n made text e only r is =
 -- what is found by the types that are found is found by all
 module _ (same : (p : ProgramTree) (names : List ItemNames) (t u : Typed) → IsTyped p names t → IsTyped p names u → AreSame t u) where
   pub found_so : (T : Text) (d : Case) (n made : ℕ) (q : ProgramTree) (c : Judged) → IsCheckedOf q c → (b : Bool)
-      → b ≡ found_in T d n made (program_of c.front.typed c.front.main) c.front.typed.functions → (b ≡ true) ↔ IsFoundIn T d n made q
+      → b ≡ found_in T d n made (program_of c.front.typed c.front.main) c.front.typed → (b ≡ true) ↔ IsFoundIn T d n made q
   found_so T d n made q c is b e =
       let x = is.front.accepted in let t = c.front.typed in
-      let by : b ≡ is_found T d n made q t = e ∙ ap (λ (m : ℕ). found_in T d n made (program_of t m) t.functions) is.front.main in (
+      let by : b ≡ is_found T d n made q t = e ∙ ap (λ (m : ℕ). found_in T d n made (program_of t m) t) is.front.main in (
         λ h. (t, record { front = x; borrows = is.borrows }, sym by ∙ h),
         λ y. let z = y.1.front in by ∙ (found_alike T d n made q t y.0
             (same q x.names t y.0 x.typed (subst (λ (ns : List ItemNames). IsTyped q ns y.0) (one_meaning q z.names x.names z.meant x.meant) z.typed)) ∙ y.2),

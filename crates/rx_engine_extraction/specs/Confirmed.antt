@@ -5,6 +5,7 @@ use Rattle.std.specs.Prelude.{◌≡◌, ℕ, nat_le, Bool, true, false, ◌&&�
 use Rattle.rx_tree.specs.Plain.{ProgramTree}
 use Rattle.rx_parse_grammar.specs.grammar.Items.{Parses}
 use Rattle.rx_typed.specs.Types.{Typ, Declarations, result_declared}
+use Rattle.rx_typed.specs.PlainTypes.{declarations}
 use Rattle.rx_typeck_typed.specs.declared.typed.Typed.{Typed}
 use Rattle.rx_typeck_typed.specs.declared.typed.TypedFn.{TypedFn}
 use Rattle.rx_lower.specs.Functions.{function_at}
@@ -59,9 +60,9 @@ whole_of p t = program_of t (main_in p 0)
 abbrev pub without_value : Plan → Plan
 without_value k = record k { value = None }
 
--- by the number of the new function's item, how many items are new, and the new function as it is in the answer
-abbrev pub told_by : Text → Case → ℕ → ℕ → TypedFn → Told
-told_by T d n made g = record {
+-- by the number of the new function's item, how many items are new, whether it is declared to give the unit, and the function as it is in the answer
+abbrev pub told_by : Text → Case → ℕ → ℕ → Bool → TypedFn → Told
+told_by T d n made unit g = record {
   run = typed_run T.program d.run;
   around = d.home.around.loops;
   plan = without_value d.plan;
@@ -72,17 +73,18 @@ told_by T d n made g = record {
   beyond = length g.names;
   items = items_with d.run.function made;
   units = units_if (whole_of T.program T.types).functions (units_among (declared_in T) T.types.functions);
+  gives_unit = unit;
 }
 
 -- ---- what is found
 
 -- the variables of a function can be numbered in 32 bits
-abbrev pub is_extracted : Text → Case → ℕ → ℕ → Program → Option TypedFn → Bool
-is_extracted T d n made Q None = false
-is_extracted T d n made Q (Some g) = nat_le (length g.names) 4294967295 && extracts (told_by T d n made g) d.run.function (whole_of T.program T.types) Q
+abbrev pub is_extracted : Text → Case → ℕ → ℕ → Bool → Program → Option TypedFn → Bool
+is_extracted T d n made unit Q None = false
+is_extracted T d n made unit Q (Some g) = nat_le (length g.names) 4294967295 && extracts (told_by T d n made unit g) d.run.function (whole_of T.program T.types) Q
 
 abbrev pub is_found : Text → Case → ℕ → ℕ → ProgramTree → Typed → Bool
-is_found T d n made q u = is_extracted T d n made (whole_of q u) (function_at u.functions n)
+is_found T d n made q u = is_extracted T d n made (is_of_unit (declarations u.decls.items) n) (whole_of q u) (function_at u.functions n)
 
 pub record IsConfirmed (T : Text) (d : Case) (n made : ℕ) (text : List ℕ) : Type 0 where
   pub program : ProgramTree

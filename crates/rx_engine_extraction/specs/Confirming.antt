@@ -1,8 +1,8 @@
 -- What the parts of the confirmation of an answer say: of what is told, and of whether the answer is found to be the extraction.
 use Rattle.std.specs.Prelude.{◌≡◌, ℕ, Bool, true, false, if◌then◌else◌, List, [], ◌∷◌, ◌++◌, map, Result, Ok, Err}
 use Rattle.rx_tree.specs.Plain.{ProgramTree}
+use Rattle.rx_typed.specs.PlainTypes.{declarations}
 use Rattle.rx_typeck_typed.specs.declared.typed.Typed.{Typed}
-use Rattle.rx_typeck_typed.specs.declared.typed.TypedFn.{TypedFn}
 use Rattle.rx_lower.specs.Functions.{function_at}
 use Rattle.rx_parse.specs.declared.fault.SyntaxFault.{SyntaxFault}
 use Rattle.rx_parse.specs.declared.fault.SyntaxFault.TheVariants as syntax_fault
@@ -23,7 +23,7 @@ use Rattle.rx_engine_extraction.specs.declared.refusal.Fault.TheVariants as faul
 use Rattle.rx_engine_extraction.specs.declared.refusal.Refusal.TheVariants as refusal
 use Rattle.rx_engine_extraction.specs.Source.{Text}
 use Rattle.rx_engine_extraction.specs.Case.{Case, asked}
-use Rattle.rx_engine_extraction.specs.Confirmed.{is_extracted, is_found, IsConfirmed}
+use Rattle.rx_engine_extraction.specs.Confirmed.{is_of_unit, is_extracted, is_found, IsConfirmed}
 use Rattle.rx_engine_extraction.specs.Deciding.{place_in}
 
 -- ---- the variables that may be elsewhere, by lists
@@ -50,9 +50,9 @@ pub record IsTold (T : Text) (x : Decision) : Type 0 where
 
 -- ---- what is found
 
--- by the answer's functions
-abbrev pub found_in : Text → Case → ℕ → ℕ → Program → List TypedFn → Bool
-found_in T d n made Q fs = is_extracted T d n made Q (function_at fs n)
+-- by the answer's functions and what it declares
+abbrev pub found_in : Text → Case → ℕ → ℕ → Program → Typed → Bool
+found_in T d n made Q u = is_extracted T d n made (is_of_unit (declarations u.decls.items) n) Q (function_at u.functions n)
 
 -- the program is accepted, and found to be the extraction
 abbrev pub IsFoundIn : Text → Case → ℕ → ℕ → ProgramTree → Type 0

@@ -9,13 +9,13 @@ ghost use Rattle.rx_machine.specs.Functions.{typed_functions, program_of};
 ghost use Rattle.rx_engine_extracted.specs.PlainPrograms.{plain-Functions};
 ghost use Rattle.rx_engine_extraction.specs.Confirmed as confirmed;
 ghost use Rattle.rx_engine_extracted.specs.Programs.{extracts as extracts_as};
-ghost use Rattle.rx_engine_extraction.specs.Confirmed.{whole_of, told_by, IsConfirmed};
+ghost use Rattle.rx_engine_extraction.specs.Confirmed.{is_of_unit as is_of_unit_by, whole_of, told_by, IsConfirmed};
 ghost use Rattle.rx_engine_extraction.specs.Confirming as spec;
 ghost use Rattle.rx_engine_extraction.specs.Deciding.{text_of, case_of};
 
 use crate::given::{Decision, Given};
 use crate::refusal::{Answer, Fault, Refusal};
-use crate::told::{elsewhere, units_of};
+use crate::told::{elsewhere, is_of_unit, units_of};
 use rx_check::{CheckFault, FrontEnd, check, passed_or_faulty};
 use rx_core::{LetGo, keep};
 use rx_engine_alike::Items;
@@ -57,7 +57,7 @@ fn compared(
     requires told { spec.IsTold (text_of given.now) decision.now }
     requires front { IsFrontOf (plain-Program given.now.program.now) given.now.front.now }
     requires few { length function.now.names ≤ 4294967295 }
-    ensures { IfOk result (λ it. it ≡ extracts_as (told_by (text_of given.now) (case_of (text_of given.now) decision.now) new_fn made function.now) decision.now.run.function
+    ensures { IfOk result (λ it. it ≡ extracts_as (told_by (text_of given.now) (case_of (text_of given.now) decision.now) new_fn made (is_of_unit_by (declarations answer.now.typed.decls.items) new_fn) function.now) decision.now.run.function
         (whole_of (plain-Program given.now.program.now) given.now.front.now.typed) (program_of answer.now.typed answer.now.main)) }
 {
     let item = decision.run.function;
@@ -67,6 +67,7 @@ fn compared(
     let functions = trees(alloc, given.front)?;
     let others = trees(alloc, answer)?;
     let units = units_of(alloc, given.front.typed(), functions.as_slice())?;
+    let gives_unit = is_of_unit(&answer.typed().decls, new_fn);
     let told = Told {
         run: decision.seat.run,
         around: decision.seat.home.loops.as_slice(),
@@ -81,6 +82,7 @@ fn compared(
         beyond: function.names.as_slice().len() as u32,
         items: Items { item, made },
         units: units.as_slice(),
+        gives_unit,
     };
     let text = Whole {
         functions: functions.as_slice(),
@@ -106,7 +108,7 @@ fn is_extracted(
     requires told { spec.IsTold (text_of given.now) decision.now }
     requires front { IsFrontOf (plain-Program given.now.program.now) given.now.front.now }
     ensures { IfOk result (λ it. it ≡ confirmed.is_extracted (text_of given.now) (case_of (text_of given.now) decision.now) new_fn made
-        (program_of answer.now.typed answer.now.main) (SomeOf function.now)) }
+        (is_of_unit_by (declarations answer.now.typed.decls.items) new_fn) (program_of answer.now.typed answer.now.main) (SomeOf function.now)) }
 {
     if function.names.as_slice().len() > MOST_VARIABLES {
         return Ok(false);
@@ -126,7 +128,7 @@ fn is_found(
     requires told { spec.IsTold (text_of given.now) decision.now }
     requires front { IsFrontOf (plain-Program given.now.program.now) given.now.front.now }
     ensures { IfOk result (λ it. it ≡ spec.found_in (text_of given.now) (case_of (text_of given.now) decision.now) new_fn made
-        (program_of answer.now.typed answer.now.main) answer.now.typed.functions) }
+        (program_of answer.now.typed answer.now.main) answer.now.typed) }
 {
     if !answer.is_function(new_fn) {
         return Ok(false);

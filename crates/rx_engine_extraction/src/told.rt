@@ -61,7 +61,7 @@ pub(crate) fn elsewhere(
 
 /// Whether an item is a function that is declared to give the unit.
 #[tactic(auto, using(rx_typeck_solver::proofs::Lookups::lookup_rules))]
-fn is_of_unit(decls: &Decls, item: u32) -> bool
+pub(crate) fn is_of_unit(decls: &Decls, item: u32) -> bool
     ensures { result ≡ confirmed.is_of_unit (declarations decls.now.items) item }
 {
     match decls.items.get(item as usize) {

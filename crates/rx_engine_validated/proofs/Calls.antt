@@ -247,7 +247,7 @@ module _ (A : Asked) (T : Told) (elsewhere : T.elsewhere ≡ special_of A T.plan
 
   -- ---- the call, alone or matched
 
-  data IsCall (n : ℕ) (es : Operands) : Exp → Type 0 where
+  pub data IsCall (n : ℕ) (es : Operands) : Exp → Type 0 where
     is_call : {m : Mark} → IsCall n es (tree.call m n es)
 
   operands_so : (n : ℕ) (e : Exp) → Promised (λ es. IsCall n es e) (operands_of n e)
@@ -263,6 +263,11 @@ module _ (A : Asked) (T : Told) (elsewhere : T.elsewhere ≡ special_of A T.plan
   operands_in_so : (n : ℕ) (c : Scrutinee) → Promised (λ es. IsCallOf n es c) (operands_in n c)
   operands_in_so n (tree.of_value e) = map_so (λ es i. in_value i) (operands_so n e)
   operands_in_so n _ = nothing
+
+  -- where it is alone
+  pub alone_is_call : (J : Jumping) (R : Renaming) (b : Bool) → b ≡ true → (e : Exp) → Promised (λ K. (es : Operands) × IsCall T.new.number es e) (called_in_with has T J R b e)
+  alone_is_call J R true q e = then_so (operands_so T.new.number e) (λ es i. kept (es, i))
+  alone_is_call J R false q e = absurd (cc)
 
   only_next_so : (xs : List Exit) → Says (xs ≡ next ∷ []) (is_only_next xs)
   only_next_so (next ∷ []) = says refl

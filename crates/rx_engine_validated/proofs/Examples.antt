@@ -72,6 +72,7 @@ told n = record {
   beyond = 6;
   items = items_with 0 1;
   units = [];
+  gives_unit = false;
 }
 
 pub local_is_found : extracts (told (giving 7)) 0 (alone main_text) (pair_of main_answer (giving 7).function) ≡ true
@@ -136,6 +137,7 @@ told_loop n = record {
   beyond = 6;
   items = items_with 0 1;
   units = [];
+  gives_unit = false;
 }
 
 pub loop_is_found : extracts (told_loop (step_by 1)) 0 (alone loop_text) (pair_of loop_answer (step_by 1).function) ≡ true

@@ -1,8 +1,9 @@
 -- Answers that are found to be extractions of runs with their block's tail: of one whose value is handed out in a tuple with a local, and of the whole
--- body of a function; of a unit that is dropped. Answers that give another value, or don't give it back, aren't.
+-- body of a function; of a unit that is dropped, and of one that is read. Answers that give another value, or don't give it back, aren't.
 use Rattle.std.proofs.Common.{◌≡◌, ℕ, Bool, true, false, List, [], ◌∷◌, None, refl}
 use Rattle.rx_typed.specs.Tree as tree
 use Rattle.rx_typed.specs.Tree.{Exp, Body, Function, own}
+use Rattle.rx_modes_policy.specs.declared.uses.Mode.TheVariants as mode
 use Rattle.rx_exits_plan.specs.Points.{next}
 use Rattle.rx_exits_plan.specs.Plan.{Plan}
 use Rattle.rx_engine_simulation.specs.Passing.{New}
@@ -23,6 +24,7 @@ told_of block count plan elsewhere muts n = record {
   beyond = 10;
   items = items_with 0 1;
   units = [];
+  gives_unit = false;
 }
 
 -- ---- a value beside a local
@@ -119,3 +121,30 @@ new_of_unit = record {
 
 pub unit_is_found : extracts (told new_of_unit) 0 (alone text_of_unit) (pair_of answer_of_unit new_of_unit.function) ≡ true
 unit_is_found = refl
+
+-- ---- a unit that is read
+
+-- fn text(u: ()) { println!("{}", 7); u }
+abbrev text_reading : Function
+text_reading = record { params = record { node = 2; variable = 0 } ∷ []; body = tree.block (m 1) (printing 1 (tree.read (m 20) false (own 0))) }
+
+-- { new(u); }
+abbrev answer_reading : Function
+answer_reading = record { params = record { node = 2; variable = 0 } ∷ []; body = tree.block (m 50) (tree.runs (tree.call (m 51) 1 (tree.operand_and 0 (tree.read (m 52) false (own 0)) tree.no_operand)) (tree.ends (tree.give (m 50) (tree.unit (m 53))))) }
+
+-- fn new(u: ()) { println!("{}", 7); u }
+abbrev new_reading : New
+new_reading = record { number = 1; function = record { params = record { node = 3; variable = 4 } ∷ []; body = tree.block (m 60) (printing 60 (tree.read (m 61) false (own 4))) } }
+
+abbrev plan_reading : Plan
+plan_reading = record { exits = next ∷ []; params = 0 ∷ []; locals = []; outs = λ e. []; value = None; redeclared = []; loose = [] }
+
+abbrev told_reading : Bool → Told
+told_reading unit = record (told_of 1 1 plan_reading [] (false ∷ []) new_reading) { modes = mode.Value ∷ []; gives_unit = unit }
+
+pub read_unit_is_found : extracts (told_reading true) 0 (alone text_reading) (pair_of answer_reading new_reading.function) ≡ true
+read_unit_is_found = refl
+
+-- a function that isn't declared to give the unit may read another value
+pub another_type_is_not : extracts (told_reading false) 0 (alone text_reading) (pair_of answer_reading new_reading.function) ≡ false
+another_type_is_not = refl

@@ -18,6 +18,7 @@ use Rattle.rx_engine_alike.specs.Functions.{like_function, same_item}
 use Rattle.rx_engine_alike.specs.Units.{all_are_unit}
 use Rattle.rx_engine_extracted.specs.Told.{Told}
 use Rattle.rx_engine_extracted.specs.Programs.{between_but_run, has_call_in, has_call, function_has_call, others_stay, extracts}
+use Rattle.rx_engine_dropped.specs.Undrops.{UndropsFunction, UndropsEntry, u_same, u_function}
 use Rattle.rx_engine_alike_laws.proofs.Units.{are_unit_if}
 use Rattle.rx_engine_alike_laws.proofs.Functions.{RereadsFunction, entry_rereads, same_if}
 
@@ -161,6 +162,30 @@ module _ (T : Told) (item made : ℕ) (P Q : Program) (h : Function) (placed : P
     rereads_each is x r = at_each (λ i. RereadsEntry (element Q.functions i) (element functions_read i)) T.new.number (entry_at placed.new_is_there new_there (in_function refl x))
         (λ i n. at_each (λ i. (i ≡ T.new.number → ⊥) → RereadsEntry (element Q.functions i) (element functions_read i)) (T.items item) (λ n. entry_at is (calling_there is) (entry_rereads r))
         (λ i m n. entry_at refl (others_there i n m) (entry_self (element Q.functions i))) i n)
+
+  -- ---- the program in which the block gives what the call gives
+
+  module _ (f : Exp) (z g1 : Function) where
+    abbrev pub functions_undropped : Functions
+    functions_undropped = with_element Q.functions (T.items item) (Some g1)
+
+    undropped_other : (i : ℕ) → (i ≡ T.items item → ⊥) → element functions_undropped i ≡ element Q.functions i
+    undropped_other i n = put_other Q.functions (T.items item) i (Some g1) n
+
+    undropped_there : {g' : Function} → element Q.functions (T.items item) ≡ Some (Some g') → element functions_undropped (T.items item) ≡ Some (Some g1)
+    undropped_there {g'} is = put_same Q.functions (T.items item) (Some g') (Some g1) is
+
+    pub rereads_undropped : {g' : Function} → element Q.functions (T.items item) ≡ Some (Some g') → Rereads T.new.function.body f → RereadsFunction g1 z → (i : ℕ)
+        → RereadsEntry (element functions_undropped i) (element (functions_read f z) i)
+    rereads_undropped is x r = at_each (λ i. RereadsEntry (element functions_undropped i) (element (functions_read f z) i)) T.new.number
+        (entry_at (undropped_other T.new.number (λ e. placed.apart item (sym e)) ∙ placed.new_is_there) (new_there f z) (in_function refl x))
+        (λ i n. at_each (λ i. (i ≡ T.new.number → ⊥) → RereadsEntry (element functions_undropped i) (element (functions_read f z) i)) (T.items item) (λ n. entry_at (undropped_there is) (calling_there f z is) (entry_rereads r))
+        (λ i m n. entry_at (undropped_other i m) (others_there f z i n m) (entry_self (element Q.functions i))) i n)
+
+    pub undrops_each : {g' : Function} → element Q.functions (T.items item) ≡ Some (Some g') → UndropsFunction T.new.number g' g1 → (i : ℕ) → UndropsEntry T.new.number (element Q.functions i) (element functions_undropped i)
+    undrops_each {g'} is u = at_each (λ i. UndropsEntry T.new.number (element Q.functions i) (element functions_undropped i)) (T.items item)
+        (subst (λ o. UndropsEntry T.new.number o (element functions_undropped (T.items item))) (sym is) (subst (λ o. UndropsEntry T.new.number (Some (Some g')) o) (sym (undropped_there is)) (u_function u)))
+        (λ i n. subst (λ o. UndropsEntry T.new.number (element Q.functions i) o) (sym (undropped_other i n)) u_same)
 
   -- ---- the whole
 

@@ -1,6 +1,6 @@
 -- Where the block of a run that holds its tail is found to be, in the answer, that block with the call in place of the run, it is so as an extraction
 -- has it; also the body of a function.
-use Rattle.std.proofs.Common.{◌≡◌, ℕ, Bool, true, false, List, [], map, take, drop, Option, if◌then◌else◌, refl, sym, ap, ◌∙◌, subst, arith}
+use Rattle.std.proofs.Common.{◌≡◌, ◌⊎◌, inl, inr, ℕ, Bool, true, false, List, [], map, take, drop, Option, if◌then◌else◌, refl, sym, ap, ◌∙◌, subst, arith}
 use Rattle.rx_typed.specs.Tree as tree
 use Rattle.rx_typed.specs.Tree.{Mark, Exp, Operands, Body}
 use Rattle.rx_typed.specs.Types.{Typ}
@@ -24,7 +24,7 @@ use Rattle.rx_engine_simulation.specs.Blocks as stretch
 use Rattle.rx_engine_simulation.specs.Marks.{with_mark}
 use Rattle.rx_engine_simulation.specs.Endings.{Last, a_marked, with_last}
 use Rattle.rx_engine_simulation.specs.Packing.{Way, bare, as_variant, no_way}
-use Rattle.rx_engine_simulation.specs.Rereads.{Rereads, in_block, RereadsBody}
+use Rattle.rx_engine_simulation.specs.Rereads.{Rereads, in_call, in_block, RereadsBody}
 use Rattle.rx_engine_simulation.specs.Statements.{body_of}
 use Rattle.rx_engine_simulation.specs.Arrivals.{Within}
 use Rattle.rx_engine_related.specs.AboutRun.{special_of}
@@ -36,30 +36,31 @@ use Rattle.rx_engine_related.specs.Given.{EntersWith}
 use Rattle.rx_engine_related.specs.Moved.{Moved}
 use Rattle.rx_engine_related.specs.Never.{NeverEnds}
 use Rattle.rx_engine_related.specs.Stretched.{stretch_of}
-use Rattle.rx_engine_related.specs.Tails.{TailEnded, TailCallOf, tail_call_alone, tail_call_matched, tail_call_left, TailBecomesCall, tail_becomes_call, the_tail_call}
+use Rattle.rx_engine_related.specs.Tails.{TailEnded, TailHanded, TailCallOf, tail_call_alone, tail_call_matched, tail_call_left, TailBecomesCall, tail_becomes_call, the_tail_call}
 use Rattle.rx_engine_extracted.specs.Told.{Told, without}
 use Rattle.rx_engine_extracted.specs.Entering.{Begun}
 use Rattle.rx_engine_extracted.specs.Stretches.{Passed, like_first}
 use Rattle.rx_engine_extracted.specs.Handing.{Put, Stood}
-use Rattle.rx_engine_extracted.specs.Calls.{Called}
+use Rattle.rx_engine_extracted.specs.Calls.{Called, is_only_next}
 use Rattle.rx_engine_extracted.specs.Block.{between_around, between_in}
 use Rattle.rx_engine_extracted.specs.TailEnding.{ran_to_tail}
 use Rattle.rx_engine_extracted.specs.TailHanding.{gives_at, gives_unit_back}
-use Rattle.rx_engine_extracted.specs.TailBlock.{function_ends, call_ends, unit_stands_for, unit_stands, is_some_renaming, value_stands, tail_stands, may_end, tail_is_call}
-use Rattle.rx_engine_alike_laws.proofs.Promised.{Promised, kept, nothing, Says, says, silent, map_so, then_so, where_so, so, and_with}
+use Rattle.rx_engine_extracted.specs.TailBlock.{function_ends, call_ends, unit_stands_for, unit_stands, is_some_renaming, value_stands, may_drop, call_is_dropped, tail_is_unit, tail_stands, may_end, tail_is_call}
+use Rattle.rx_engine_dropped.specs.DropBlock.{DropsCall}
+use Rattle.rx_engine_alike_laws.proofs.Promised.{Promised, kept, nothing, Says, says, silent, map_so, then_so, where_so, so, and_so, and_with}
 use Rattle.rx_engine_alike_laws.proofs.Forms.{Whole}
 use Rattle.rx_engine_validated.specs.Telling.{with_value}
 use Rattle.rx_engine_validated.proofs.ExtractedLawsParts.{EnteredSo, entered_so, HandsSo, RedeclaredSo, TailCalledSo, tail_called_so, TailCallsSo}
 use Rattle.rx_engine_validated.proofs.Entering.{enters_so}
 use Rattle.rx_engine_validated.proofs.Handing.{hands_so, declares_so, within_so}
 use Rattle.rx_engine_validated.proofs.Arms.{is_put_so}
-use Rattle.rx_engine_validated.proofs.Calls.{tail_calls_so}
+use Rattle.rx_engine_validated.proofs.Calls.{IsCall, is_call, alone_is_call, tail_calls_so}
 use Rattle.rx_engine_validated.proofs.Found.{not_handed_so}
 use Rattle.rx_engine_validated.proofs.Stretches.{FirstSo, first_is, first_so, in_front}
 use Rattle.rx_engine_validated.proofs.Bodies.{statements_unchanged, stretch_is, reading_is}
 use Rattle.rx_engine_validated.proofs.Block.{block_so, with_locals_read}
 use Rattle.rx_engine_validated.proofs.TailEnding.{RanToTail, ran_to, ran_to_so, given_so, has_none_so}
-use Rattle.rx_engine_validated.proofs.TailHanding.{PassedAs, passed_tail, passed_end, is_tail, passed_as, no_rest, HandedAs, handed_as, value_given, UnitLast, unit_last_so, unit_given}
+use Rattle.rx_engine_validated.proofs.TailHanding.{PassedAs, passed_tail, passed_end, is_tail, passed_as, no_rest, HandedAs, handed_as, value_given, DropsAs, drops_as, DropsEach, dropped_found, UnitLast, unit_last_so, unit_given}
 use Rattle.rx_engine_validated.proofs.TailValued.{becomes}
 
 -- the call is one that its function's end is not come to
@@ -147,7 +148,28 @@ module _ (A : Asked) (T : Told) (value : Option Typ) (same : T.elsewhere ≡ spe
   runs_found : (has : Bool) (J : Jumping) (R : Renaming) (text : Body) (e : Exp) → Promised (λ Rb. RunsSo has J R text e Rb) (call_ends has T J R text e)
   runs_found has J R text e = then_so (tail_calls_so A T same has J R e) (λ K calls. function_so has J R text e K calls)
 
+  -- where the call is alone
+  both_so : {B : Type 0} {M N : B → Type 0} {o : Option B} → Promised M o → Promised N o → Promised (λ b. M b × N b) o
+  both_so (kept x) (kept y) = kept (x, y)
+  both_so nothing nothing = nothing
+
+  data IsTheCall : Exp → Type 0 where
+    the_call : {m : Mark} {es : Operands} → IsTheCall (tree.call m T.new.number es)
+
+  to_call : {e : Exp} → (es : Operands) × IsCall A T same true T.new.number es e → IsTheCall e
+  to_call (es, is_call) = the_call
+
+  call_found : (J : Jumping) (R : Renaming) (text : Body) (e : Exp) → is_only_next h.exits ≡ true → Promised (λ Rb. IsTheCall e × RunsSo true J R text e Rb) (call_ends true T J R text e)
+  call_found J R text e only = then_so (both_so (tail_calls_so A T same true J R e) (alone_is_call A T same true J R (is_only_next h.exits) only e))
+      (λ K c. map_so (λ Rb runs. (to_call c.1, runs)) (function_so true J R text e K c.0))
+
   -- ---- what stands for the run
+
+  -- what the call gives is dropped, beside a block that gives it
+  data DropsSo (J : Jumping) (p : Passed) (l : Last) : Type 0 where
+    drops_so : {f : Exp} {Rn : Renaming} {g : Body → Body} {d : Body} → T.gives_unit ≡ true → Rereads T.new.function.body f
+        → ((rest : Body) → TailBecomesCall A T.muts h T.modes T.items gain T.units (tail_new f) 1 J p.inside Rn rest (λ b. stretch.before (with_mark enters h.params (stretch_of (marked p.text))) (with_last l b)) g)
+        → RereadsBody p.answer d → DropsCall T.new.number d (g no_rest) → DropsSo J p l
 
   data StandsSo (J : Jumping) (p : Passed) (l : Last) : Type 0 where
     stands_so : {f : Exp} {Rn : Renaming} {g : Body → Body} → Rereads T.new.function.body f
@@ -191,12 +213,37 @@ module _ (A : Asked) (T : Told) (value : Option Typ) (same : T.elsewhere ≡ spe
     unit_found : Says (StandsSo J p l) (unit_stands T J own p)
     unit_found = is_put_so (then_so (hands_so A T p.inside Rs (h.outs next) p.answer) (λ S hands. unit_stood S hands)) (λ D u. so (λ last. unit_made D u last) (unit_last_so A T J whole.1 passed D.rest))
 
-    tail_found : Says (StandsSo J p l) (tail_stands T J own p)
+    -- ---- a unit that the call gives
+
+    drops_with : {called : Exp} {Ji : Jumping} {w : Way} {mc mb : Mark} {r' : Stretch} {end : Body} {ls : List (ℕ × ℕ)} {es : Operands} {Rb : Renaming} (Ra : Renaming) → T.gives_unit ≡ true → h.outs next ≡ []
+        → Rereads T.new.function.body (body_of mb ls r' end) → EntersWith true h T.modes p.inside es T.new.function.params ls Ra
+        → Moved T.items gain T.units (special_of A h) Ji Ra (stretch_of (marked p.text)) r' Rb → TailEnded T.items gain T.units (special_of A h) Ji Rb (tail_of p.text) true w (h.outs next) end
+        → TailCallOf A T.muts h J p.inside (tree.call mc T.new.number es) true Ji w called → DropsAs A T J whole.1 l p.inside Rb p.answer called → DropsSo J p l
+    drops_with {called = called} {w = w} {mb = mb} {ls = ls} {Rb = Rb} Ra unit none x ent moved ended call (drops_as {g = g} handed y d) = drops_so {g = g} unit x
+        (λ rest. tail_becomes_call {f' = g} Ra Rb mb ls (is_tail passed) refl ent moved ended (λ q. never (not_next call q)) call
+        (subst (λ xs. TailHanded A T.muts h J p.inside Rb l called true w xs p.inside g) (sym none) (handed w))) y d
+
+    drop_made : {e : Exp} {Rb : Renaming} → T.gives_unit ≡ true → h.outs next ≡ [] → DropsEach A T J whole.1 l p.inside p.answer e → IsTheCall e → RunsSo true J p.inside p.text e Rb → DropsSo J p l
+    drop_made {Rb = Rb} unit none drops (the_call {m = m} {es = es0}) (runs_so Ra x ent moved ended (in_call {es' = es} y) call) = drops_with Ra unit none x ent moved ended call (drops Rb m es0 es refl y)
+
+    drop_found : T.gives_unit ≡ true → is_only_next h.exits ≡ true → h.outs next ≡ [] → Says (DropsSo J p l) (call_is_dropped T J own p)
+    drop_found unit only none = given_so (dropped_found A T J whole.1 passed p.inside (subst (λ xs. NotHanded A h next (without xs p.inside)) none apart) p.answer)
+        (λ e drops. some_so (call_found J p.inside p.text e only) (λ Rb x. drop_made unit none drops x.0 x.1))
+
+    self_so : (b : Bool) → Says (b ≡ true) b
+    self_so true = says refl
+    self_so false = silent
+
+    unit_or : (b : Bool) → Says ((T.gives_unit ≡ true) × ((is_only_next h.exits ≡ true) × (h.outs next ≡ []))) b → Says (StandsSo J p l ⊎ DropsSo J p l) (if b then call_is_dropped T J own p else unit_stands T J own p)
+    unit_or _ (says x) = so (λ d. inr d) (drop_found x.0 x.1.0 x.1.1)
+    unit_or _ silent = so (λ s. inl s) unit_found
+
+    tail_found : Says (StandsSo J p l ⊎ DropsSo J p l) (tail_stands T J own p)
     tail_found = by (gives_unit_back own (tail p.answer))
       where
-        by : (b : Bool) → Says (StandsSo J p l) (if b then unit_stands T J own p else value_stands T J own p)
-        by true = unit_found
-        by false = value_found
+        by : (b : Bool) → Says (StandsSo J p l ⊎ DropsSo J p l) (if b then tail_is_unit T J own p else value_stands T J own p)
+        by true = unit_or (may_drop T) (and_so (self_so T.gives_unit) (and_so (self_so (is_only_next h.exits)) (has_none_so (h.outs next)) (λ a b. (a, b))) (λ a b. (a, b)))
+        by false = so (λ s. inl s) value_found
 
   -- ---- the block
 
@@ -204,6 +251,9 @@ module _ (A : Asked) (T : Told) (value : Option Typ) (same : T.elsewhere ≡ spe
   pub data TailSo (J : Jumping) (R : Renaming) (text answer : Body) : Type 0 where
     tail_is : {f : Exp} {d : Body} → Rereads T.new.function.body f → RereadsBody answer d
         → LikeBody T.items (TheTail f) gain (by_form (special_of A h)) 1 J R (tailed_body T.run T.around h.params text) d → TailSo J R text answer
+    -- or of one that drops what the call gives, where it gives that
+    tail_drops : {f : Exp} {d d1 : Body} (r : Stretch) → T.gives_unit ≡ true → Rereads T.new.function.body f → RereadsBody answer (stretch.before r d) → DropsCall T.new.number d d1
+        → LikeBody T.items (TheTail f) gain (by_form (special_of A h)) 1 J R (tailed_body T.run T.around h.params text) (stretch.before r d1) → TailSo J R text answer
 
   -- the run and its tail
   abbrev to_end : List Statement → List Statement → Exp → Body
@@ -217,10 +267,13 @@ module _ (A : Asked) (T : Told) (value : Option Typ) (same : T.elsewhere ≡ spe
       (entered_is h.params (marked p.text) (with_last l no_rest) ∙ ap (λ c. before (entering h.params) (before (marked p.text) c)) (last_is no_rest passed))
       (opens_in {b = no_rest} {b' = no_rest} {f = λ b. stretch.before (with_mark enters h.params (stretch_of (marked p.text))) (with_last l b)} {f' = g} 1 0 (omega arith) (becomes A T.muts h value (call no_rest)) (ends_in units))
 
-  whole_block : {J : Jumping} {R : Renaming} {text answer : Body} {p : Passed} {own : Bool} {l : Last} → drop T.run.count (drop T.run.first (statements text)) ≡ [] → Whole J
-      → FirstSo (between_around T) gain J T.run.first R text answer p → PassedAs h (tail_of p.text) own (passing_value T.run.block T.around (tail p.text)) l → StandsSo J p l → TailSo J R text answer
-  whole_block {J} {R} {text} {p = p} all whole (first_is {r = r} m x s t) passed (stands_so {f = f} {g = g} y call z) =
-      tail_is y (x (g no_rest) z) (subst (λ l. LikeBody T.items (TheTail f) gain (by_form l) 1 J R (tailed_body T.run T.around h.params text) (stretch.before r (g no_rest))) same
+  whole_like : {J : Jumping} {R : Renaming} (text : Body) (p : Passed) {own : Bool} {l : Last} {f : Exp} {Rn : Renaming} {r : Stretch} (g : Body → Body) → drop T.run.count (drop T.run.first (statements text)) ≡ [] → Whole J
+      → Moved T.items gain T.units T.elsewhere J R (stretch_of (map (changed_statement (passing [])) (take T.run.first (statements text)))) r p.inside → statements p.text ≡ drop T.run.first (statements text) → tail p.text ≡ tail text
+      → PassedAs h (tail_of p.text) own (passing_value T.run.block T.around (tail p.text)) l
+      → ((rest : Body) → TailBecomesCall A T.muts h T.modes T.items gain T.units (tail_new f) 1 J p.inside Rn rest (λ b. stretch.before (with_mark enters h.params (stretch_of (marked p.text))) (with_last l b)) g)
+      → LikeBody T.items (TheTail f) gain (by_form (special_of A h)) 1 J R (tailed_body T.run T.around h.params text) (stretch.before r (g no_rest))
+  whole_like {J} {R} text p {f = f} {r = r} g all whole m s t passed call =
+      (subst (λ l. LikeBody T.items (TheTail f) gain (by_form l) 1 J R (tailed_body T.run T.around h.params text) (stretch.before r (g no_rest))) same
       (subst (λ c. LikeBody T.items (TheTail f) gain (by_form T.elsewhere) 1 J R c (stretch.before r (g no_rest))) there
       (in_front T.items gain T.units T.elsewhere (TheTail f) whole m (in_place p passed call))))
     where
@@ -233,6 +286,11 @@ module _ (A : Asked) (T : Told) (value : Option Typ) (same : T.elsewhere ≡ spe
           ∙ ap (λ l. before front (to_end l [] (passing_value T.run.block T.around (tail p.text)))) s
           ∙ ap (λ e. before front (to_end (drop T.run.first (statements text)) [] (passing_value T.run.block T.around e))) t
           ∙ ap (λ l. before front (to_end (drop T.run.first (statements text)) l (passing_value T.run.block T.around (tail text)))) (sym all)
+
+  whole_block : {J : Jumping} {R : Renaming} {text answer : Body} {p : Passed} {own : Bool} {l : Last} → drop T.run.count (drop T.run.first (statements text)) ≡ [] → Whole J
+      → FirstSo (between_around T) gain J T.run.first R text answer p → PassedAs h (tail_of p.text) own (passing_value T.run.block T.around (tail p.text)) l → StandsSo J p l ⊎ DropsSo J p l → TailSo J R text answer
+  whole_block {text = text} {p = p} all whole (first_is m x s t) passed (inl (stands_so {g = g} y call z)) = tail_is y (x (g no_rest) z) (whole_like text p g all whole m s t passed call)
+  whole_block {text = text} {p = p} all whole (first_is {r = r} m x s t) passed (inr (drops_so {g = g} {d = d} unit y call z k)) = tail_drops r unit y (x d z) k (whole_like text p g all whole m s t passed call)
 
   may_so : (own : Bool) → Says (own ≡ true → h.outs next ≡ []) (may_end T own)
   may_so true = so (λ q u. q) (has_none_so (h.outs next))

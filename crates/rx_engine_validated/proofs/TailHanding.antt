@@ -1,7 +1,7 @@
 -- Where the caller is found to do with what the call gives of a run that holds its block's tail what the text does with the tail, it does.
-use Rattle.std.proofs.Common.{◌≡◌, ℕ, ◌==◌, Bool, true, false, List, [], ◌∷◌, Option, None, if◌then◌else◌, refl, sym, subst}
+use Rattle.std.proofs.Common.{◌≡◌, ℕ, ◌==◌, Bool, true, false, List, [], ◌∷◌, Option, None, if◌then◌else◌, refl, sym, ap, ◌∙◌, subst}
 use Rattle.rx_typed.specs.Tree as tree
-use Rattle.rx_typed.specs.Tree.{Mark, Pattern, Subpatterns, Exp, Body}
+use Rattle.rx_typed.specs.Tree.{Mark, Pattern, Subpatterns, Exp, Operands, Body}
 use Rattle.rx_exits_plan.specs.Points.{next}
 use Rattle.rx_exits_plan.specs.Blocks.{written_tail}
 use Rattle.rx_exits_plan.specs.Changed.{changed}
@@ -15,7 +15,7 @@ use Rattle.rx_engine_simulation.specs.Endings.{Last, a_tail, an_end}
 use Rattle.rx_engine_simulation.specs.Handing.{Receiving}
 use Rattle.rx_engine_simulation.specs.Packing.{Way, Takes, Receives}
 use Rattle.rx_engine_simulation.specs.Statements.{GivenBack, as_tail, as_end}
-use Rattle.rx_engine_simulation.specs.Rereads.{Rereads, same_unit, in_give, in_value_of, RereadsBody, in_end, in_let}
+use Rattle.rx_engine_simulation.specs.Rereads.{Rereads, same_unit, in_call, in_give, RereadsAll, in_value_of, RereadsBody, in_end, in_run, in_let}
 use Rattle.rx_engine_related.specs.Premises.{NotHanded}
 use Rattle.rx_engine_related.specs.Running.{passing}
 use Rattle.rx_engine_related.specs.Tailed.{passing_value}
@@ -23,8 +23,10 @@ use Rattle.rx_engine_related.specs.Handed.{PutBack}
 use Rattle.rx_engine_related.specs.Tails.{TailHanded, value_back, value_behind, unit_behind, IsTail, of_block, of_body}
 use Rattle.rx_engine_extracted.specs.Told.{Told, without}
 use Rattle.rx_engine_extracted.specs.Handing.{Put, parts_of, Stood}
-use Rattle.rx_engine_extracted.specs.Reading.{binds_first}
+use Rattle.rx_engine_extracted.specs.Reading.{binds_first, runs_first}
 use Rattle.rx_engine_extracted.specs.TailHanding.{gives_at, given_back, ends_given_back, ends_in_unit_back, first_of, gives_back_last, put_beside, is_first, received_beside, are_parts, gives_value}
+use Rattle.rx_engine_extracted.specs.TailBlock.{dropped}
+use Rattle.rx_engine_dropped.specs.DropBlock.{DropsCall, drops_call, drops_given}
 use Rattle.rx_engine_alike_laws.proofs.Promised.{Promised, kept, nothing, Says, silent, map_so, then_so, where_so, so, and_so, and_with}
 use Rattle.rx_engine_alike_laws.proofs.Variables.{is_new_so}
 use Rattle.rx_engine_alike_laws.proofs.Giving.{Reread, reread, takes_so}
@@ -186,6 +188,42 @@ module _ (A : Asked) (T : Told) (J : Jumping) (returning : J.returning ≡ as_re
     value_given R [] none b = map_so (λ c g. ended_value passed (λ x y s. none x y (within_without R x (sight y special) s)) g) (ends_given_back_so own b)
     value_given R (x ∷ xs) none b = then_so (binds_first_so b) (λ r at. where_so
         (are_parts_so (parts_so r.0) (λ ps q. so (λ s. beside_in q s) (received_beside_so R (x ∷ xs) ps r.2))) (λ s. kept (value_there none at.1 s)))
+
+  -- ---- a unit that the call gives: it is dropped, and stands again
+
+  -- beside a block that gives what is called
+  pub data DropsAs (l : Last) (R Rb : Renaming) (b : Body) (called : Exp) : Type 0 where
+    drops_as : {d : Body} {g : Body → Body} → ((w : Way) → TailHanded A T.muts T.plan J R Rb l called true w [] R g) → RereadsBody b d → DropsCall T.new.number d (g no_rest) → DropsAs l R Rb b called
+
+  -- wherever it is called
+  abbrev pub DropsEach : Last → Renaming → Body → Exp → Type 0
+  DropsEach l R b e = (Rb : Renaming) (m : Mark) (es0 es : Operands) → e ≡ tree.call m T.new.number es0 → RereadsAll es0 es → DropsAs l R Rb b (tree.call m T.new.number es)
+
+  unit_back : {e z a : Exp} {own : Bool} {l : Last} {R : Renaming} → PassedAs T.plan e own z l → NotHanded A T.plan next R → (mu : Mark) → GivenIn (tree.unit mu) own a → (Rb : Renaming) (m : Mark) {es0 es : Operands} → RereadsAll es0 es
+      → DropsAs l R Rb (tree.runs (tree.call m T.new.number es0) (tree.ends a)) (tree.call m T.new.number es)
+  unit_back passed_tail apart mu in_tail Rb m {es = es} x = drops_as {d = tree.runs (tree.call m T.new.number es) (tree.ends (tree.unit mu))} {g = λ b. tree.ends (tree.call m T.new.number es)} (λ w. value_back apart as_tail) (in_run (in_call x) (in_end same_unit)) drops_call
+  unit_back (passed_end none) apart mu (in_body {m = mg}) Rb m {es = es} x =
+      drops_as {d = tree.runs (tree.call m T.new.number es) (tree.ends (tree.give mg (tree.unit mu)))} {g = λ b. tree.ends (tree.give mg (tree.call m T.new.number es))} (λ w. value_back apart (as_end returning)) (in_run (in_call x) (in_end (in_give same_unit))) drops_given
+
+  -- what a block is that gives the unit alone
+  data UnitEnd (own : Bool) : Body → Type 0 where
+    unit_end : {c a : Exp} (mu : Mark) → GivenIn c own a → c ≡ tree.unit mu → UnitEnd own (tree.ends a)
+
+  unit_end_in : {c : Exp} {own : Bool} {b : Body} → EndsGiven c own b → (m : Mark) × (c ≡ tree.unit m) → UnitEnd own b
+  unit_end_in (ends_given g) q = unit_end q.0 g q.1
+
+  unit_end_so : (own : Bool) (b : Body) → Says (UnitEnd own b) (ends_in_unit_back own b)
+  unit_end_so own b = given_so (ends_given_back_so own b) (λ f g. so (λ q. unit_end_in g q) (unit_so f))
+
+  runs_first_so : (b : Body) → Promised (λ r. tree.runs r.0 r.1 ≡ b) (runs_first b)
+  runs_first_so (tree.runs e b) = kept refl
+  runs_first_so _ = nothing
+
+  drops_each : {e z c : Exp} {own : Bool} {l : Last} {R : Renaming} {b b0 : Body} → PassedAs T.plan e own z l → NotHanded A T.plan next R → tree.runs c b ≡ b0 → UnitEnd own b → DropsEach l R b0 c
+  drops_each {own = own} {l = l} {R = R} passed apart at (unit_end {a = a} mu g u) Rb m es0 es q x = subst (λ b. DropsAs l R Rb b (tree.call m T.new.number es)) (ap (λ c. tree.runs c (tree.ends a)) (sym q) ∙ at) (unit_back passed apart mu (subst (λ c. GivenIn c own a) u g) Rb m x)
+
+  pub dropped_found : {e z : Exp} {own : Bool} {l : Last} → PassedAs T.plan e own z l → (R : Renaming) → NotHanded A T.plan next (without [] R) → (b : Body) → Promised (λ c. DropsEach l R b c) (dropped own b)
+  dropped_found {own = own} passed R none b = then_so (runs_first_so b) (λ r at. where_so (unit_end_so own r.1) (λ u. kept (drops_each passed (λ x y s. none x y (within_without R x (sight y special) s)) at u)))
 
   -- ---- a unit
 

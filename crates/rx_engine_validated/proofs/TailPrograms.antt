@@ -14,7 +14,8 @@ use Rattle.rx_engine_simulation.specs.Called.{a_turn}
 use Rattle.rx_engine_simulation.specs.Endings.{a_marked}
 use Rattle.rx_engine_simulation.specs.Like.{LikeBody}
 use Rattle.rx_engine_simulation.specs.Openings.{Openings}
-use Rattle.rx_engine_simulation.specs.Rereads.{Rereads, RereadsBody}
+use Rattle.rx_engine_simulation.specs.Blocks.{Stretch, before}
+use Rattle.rx_engine_simulation.specs.Rereads.{Rereads, RereadsBody, RereadsEntry}
 use Rattle.rx_engine_related.specs.AboutRun.{special_of}
 use Rattle.rx_engine_related.specs.Running.{passing}
 use Rattle.rx_engine_related.specs.Tailed.{tailed_body}
@@ -30,12 +31,16 @@ use Rattle.rx_engine_extracted.specs.Block.{loops_in}
 use Rattle.rx_engine_extracted.specs.TailBlock.{block_has_tail_call}
 use Rattle.rx_engine_extracted.specs.Programs.{between_but_run, has_call, has_call_in, extracts}
 use Rattle.rx_engine_alike_laws.proofs.Promised.{said}
-use Rattle.rx_engine_alike_laws.proofs.Functions.{RereadsFunction, filled_by, function_if, nothing_leaves}
+use Rattle.rx_engine_dropped.specs.Undrops.{UndropsFunction}
+use Rattle.rx_engine_dropped.specs.DropBlock.{DropsCall, drop_block, in_its_drop_block}
+use Rattle.rx_engine_dropped.proofs.Undropping.{function_so}
+use Rattle.rx_engine_alike_laws.proofs.Functions.{RereadsFunction, rereads_function, filled_by, function_if, nothing_leaves}
 use Rattle.rx_engine_validated.specs.Telling.{with_value, ToldOfTail}
+use Rattle.rx_engine_validated.specs.Undropped.{Undropped, as_it_is, undropped}
 use Rattle.rx_engine_validated.proofs.Holes.{open_text}
 use Rattle.rx_engine_validated.proofs.MarkedUnits.{tail_marks_keep}
-use Rattle.rx_engine_validated.proofs.Joining.{call_found, function_found, read_new, Placed, functions_read, new_there, calling_there, rereads_each, Holding, holding, others_same}
-use Rattle.rx_engine_validated.proofs.TailBlock.{TailSo, tail_is, tail_block_found}
+use Rattle.rx_engine_validated.proofs.Joining.{call_found, function_found, read_new, Placed, functions_read, new_there, calling_there, rereads_each, functions_undropped, rereads_undropped, undrops_each, Holding, holding, others_same}
+use Rattle.rx_engine_validated.proofs.TailBlock.{TailSo, tail_is, tail_drops, tail_block_found}
 
 -- ---- as many as there are
 
@@ -66,6 +71,8 @@ module _ (A : Asked) (T : Told) (value : Option Typ) (item made : ℕ) (P Q : Pr
   -- its body, the answer's function with the call, both read
   data CallThere (g' : Function) : Type 0 where
     call_there : {f : Exp} {z : Function} → Rereads T.new.function.body f → RereadsFunction g' z → Related f z → CallThere g'
+    -- or those of the function whose block gives what the call gives
+    call_undropped : {f : Exp} {z g1 : Function} → T.gives_unit ≡ true → Rereads T.new.function.body f → UndropsFunction T.new.number g' g1 → RereadsFunction g1 z → Related f z → CallThere g'
 
   module _ (g' : Function) (h : Hole) (q : like_function (between_but_run T) A.function g' ≡ alike_but h) where
     abbrev NeverAt : List ℕ → Run → Body → Type 0
@@ -102,11 +109,33 @@ module _ (A : Asked) (T : Told) (value : Option Typ) (item made : ℕ) (P Q : Pr
             → (z : Function) × RereadsFunction g' z × Related f z
         by t = (t.0, t.1, subst (λ s. RelatedFunction T.items (in_its_tail_block A (with_value value T.plan) T.items (calls f) (a_turn true)) (a_turn true) s A.function t.0) told.elsewhere t.2)
 
+    -- or by what drops what the call gives
+    abbrev dropping : Exp → Openings
+    dropping f = in_its_drop_block T.new.number A (with_value value T.plan) T.items (calls f) (a_turn true)
+
+    filled_dropping : {f : Exp} {d d1 : Body} (r : Stretch) → T.gives_unit ≡ true → Rereads T.new.function.body f → RereadsBody h.answer (before r d) → DropsCall T.new.number d d1
+        → LikeBody T.items (calls f) (a_turn true) (by_form (special_of A T.plan)) 1 (loops_in h) h.inside (tailed_body T.run T.around T.plan.params h.text) (before r d1) → CallThere g'
+    filled_dropping {f} {d} {d1} r unit x y drops like = by (function_if (between_but_run T) (dropping f) (a_turn true) refl A.function g' h q
+        (filled_by (between_but_run T) (dropping f) (a_turn true) refl (omega arith) h (before r d) y
+        (λ m m' o e. drop_block r (subst (λ (r : Run). (m.node == r.block) ≡ true) told.run o) drops there)))
+      where
+        there : LikeBody T.items (calls f) (a_turn true) (by_form (special_of A T.plan)) 1 (loops_in h) h.inside (tailed_body A.run A.home.around.loops T.plan.params h.text) (before r d1)
+        there = subst (λ ls. LikeBody T.items (calls f) (a_turn true) (by_form (special_of A T.plan)) 1 (loops_in h) h.inside (tailed_body A.run ls T.plan.params h.text) (before r d1)) told.around
+            (subst (λ z. LikeBody T.items (calls f) (a_turn true) (by_form (special_of A T.plan)) 1 (loops_in h) h.inside (tailed_body z T.around T.plan.params h.text) (before r d1)) told.run like)
+
+        undone : (z : Function) → RereadsFunction g' z → RelatedFunction T.items (dropping f) (a_turn true) (special_of A T.plan) A.function z → CallThere g'
+        undone z (rereads_function p b) related = let u = function_so T.new.number A (with_value value T.plan) T.items (calls f) (a_turn true) A.function g' z p b related in
+            call_undropped {g1 = u.0} unit x u.2 (rereads_function u.3 u.4) u.5
+
+        by : (z : Function) × RereadsFunction g' z × RelatedFunction T.items (dropping f) (a_turn true) T.elsewhere A.function z → CallThere g'
+        by t = undone t.0 t.1 (subst (λ s. RelatedFunction T.items (dropping f) (a_turn true) s A.function t.0) told.elsewhere t.2)
+
     call_is : block_has_tail_call T h ≡ true → CallThere g'
     call_is e = by (said (block_has_tail_call T h) (tail_block_found A T value told.elsewhere (loops_in h) nothing_leaves h.inside h.text h.answer whole_there never_there) e)
       where
         by : TailSo A T value told.elsewhere (loops_in h) h.inside h.text h.answer → CallThere g'
         by (tail_is {f = f} x y like) = let z = filled {f = f} y like in call_there x z.1 z.2
+        by (tail_drops r unit x y drops like) = filled_dropping r unit x y drops like
 
   function_called : (g' : Function) → has_call T (like_function (between_but_run T) A.function g') ≡ true → CallThere g'
   function_called g' e = let c = call_found T (like_function (between_but_run T) A.function g') e in
@@ -114,12 +143,14 @@ module _ (A : Asked) (T : Told) (value : Option Typ) (item made : ℕ) (P Q : Pr
 
   -- ---- the whole
 
-  extraction_with : {g' : Function} → Holding T item made P Q A.function placed → element Q.functions (T.items item) ≡ Some (Some g') → CallThere g' → ExtractsTail A T.muts (with_value value T.plan) T.modes P Q
-  extraction_with {g'} holds is (call_there {f = f} {z = z} x r related) = record {
+  -- of the answer's program, or of the one in which the block gives what the call gives
+  extraction_of : {g' : Function} {f : Exp} {z : Function} (R : Program) → Holding T item made P Q A.function placed → element Q.functions (T.items item) ≡ Some (Some g') → Related f z
+      → ((i : ℕ) → RereadsEntry (element R.functions i) (element (functions_read T item made P Q A.function placed f z) i)) → R.main ≡ Q.main → ExtractsTail A T.muts (with_value value T.plan) T.modes P R
+  extraction_of {f = f} {z = z} R holds is related rereads same = record {
     item = item;
     is_there = told.is_there;
     read = record { functions = functions_read T item made P Q A.function placed f z; main = Q.main };
-    rereads = record { all = rereads_each T item made P Q A.function placed f z is x r; mains = refl };
+    rereads = record { all = rereads; mains = same };
     again = true;
     new = read_new T f;
     new_is_there = new_there T item made P Q A.function placed f z;
@@ -133,7 +164,16 @@ module _ (A : Asked) (T : Told) (value : Option Typ) (item made : ℕ) (P Q : Pr
     related = related;
   }
 
-  pub tail_extraction_found : extracts T item P Q ≡ true → ExtractsTail A T.muts (with_value value T.plan) T.modes P Q
+  abbrev IsFoundSo : Type 0
+  IsFoundSo = (R : Program) × Undropped T Q R × ExtractsTail A T.muts (with_value value T.plan) T.modes P R
+
+  extraction_with : {g' : Function} → Holding T item made P Q A.function placed → element Q.functions (T.items item) ≡ Some (Some g') → CallThere g' → IsFoundSo
+  extraction_with holds is (call_there {f = f} {z = z} x r related) = (Q, as_it_is, extraction_of Q holds is related (rereads_each T item made P Q A.function placed f z is x r) refl)
+  extraction_with holds is (call_undropped {f = f} {z = z} {g1 = g1} unit x u r related) =
+      let R : Program = record { functions = functions_undropped T item made P Q A.function placed f z g1; main = Q.main } in
+      (R, undropped unit (record { all = undrops_each T item made P Q A.function placed f z g1 is u; mains = refl }), extraction_of R holds is related (rereads_undropped T item made P Q A.function placed f z g1 is x r) refl)
+
+  pub tail_extraction_found : extracts T item P Q ≡ true → IsFoundSo
   tail_extraction_found e =
       let holds = holding T item made P Q A.function placed e in let c = function_found T A.function (element P.functions item) (element Q.functions (T.items item)) told.is_there holds.call in
       extraction_with holds c.1 (function_called c.0 c.2)

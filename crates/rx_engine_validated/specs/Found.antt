@@ -1,8 +1,9 @@
 -- An answer that is found to be the extraction of a run (translation validation: what a transformation gave is tested, once and for each answer):
 -- of an accepted text, with the plan of a run in it that isn't refused, with its block's tail or without, and of an accepted answer.
-use Rattle.std.specs.Prelude.{◌≡◌, ℕ, true, Some, None}
+use Rattle.std.specs.Prelude.{◌≡◌, ℕ, true, Some, None, slice_get}
 use Rattle.rx_tree.specs.Plain.{ProgramTree}
 use Rattle.rx_tree.specs.Size.{IsNumbered}
+use Rattle.rx_typed.specs.Types.{unit_shape, result_declared}
 use Rattle.rx_typed.specs.PlainTypes.{declarations}
 use Rattle.rx_typed.specs.PlainTree.{plain-TypedTree}
 use Rattle.rx_typeck_typed.specs.declared.typed.Typed.{Typed}
@@ -42,6 +43,8 @@ pub record IsFound (p q : ProgramTree) (t u : Typed) (main other : ℕ) : Type 0
   pub around : told.around ≡ home.around.loops
   pub elsewhere : told.elsewhere ≡ special_of (asked_of (declarations t.decls.items) front.parts function told.run home) plan
   pub muts : told.muts ≡ function.mutable
+  -- the new function is declared to give the unit where this is told
+  pub unit : told.gives_unit ≡ true → result_declared (slice_get (declarations u.decls.items) told.new.number) ≡ Some unit_shape
   -- its item, and how many items are behind it in the answer, of which one is the new function
   pub item : ℕ
   pub made : ℕ

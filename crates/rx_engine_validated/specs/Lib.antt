@@ -6,4 +6,5 @@ pub mod Changed
 pub mod Refused
 pub mod Stretches
 pub mod UnitReads
+pub mod Undropped
 pub mod Found

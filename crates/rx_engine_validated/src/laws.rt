@@ -10,8 +10,8 @@ ghost use Rattle.rx_engine_validated.specs.Found.{IsFound};
 use crate::{
     accepted_programs_are_themselves, accepted_runs_are_had, accepted_runs_find_references,
     accepted_tails_are_had, diverging_runs_never_end, diverging_tails_never_end,
-    found_extractions_are_extractions, found_tail_extractions_are_extractions,
-    runs_without_an_end_diverge,
+    dropped_units_run_so, found_extractions_are_extractions,
+    found_tail_extractions_are_extractions, runs_without_an_end_diverge,
 };
 use rx_engine_related::{extracted_programs_run_alike, extracted_tails_run_alike};
 
@@ -29,6 +29,7 @@ pub fn found_extractions_run_alike()
     accepted_tails_are_had();
     diverging_runs_never_end();
     diverging_tails_never_end();
+    dropped_units_run_so();
     extracted_programs_run_alike();
     extracted_tails_run_alike();
     found_extractions_are_extractions();

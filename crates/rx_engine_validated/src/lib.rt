@@ -16,8 +16,8 @@ pub use found_laws::{found_extractions_are_extractions, found_tail_extractions_a
 pub use laws::found_extractions_run_alike;
 pub use premises_laws::{
     accepted_programs_are_themselves, accepted_runs_find_references, diverging_runs_never_end,
-    diverging_tails_never_end, marks_keep_unit_functions, runs_without_an_end_diverge,
-    statements_stand_as_a_stretch, unit_functions_give_the_unit,
+    diverging_tails_never_end, dropped_units_run_so, marks_keep_unit_functions,
+    runs_without_an_end_diverge, statements_stand_as_a_stretch, unit_functions_give_the_unit,
 };
 pub use ready_laws::{
     accepted_functions_are_ready, blocks_have_their_nodes, ends_of_runs_stand_once,

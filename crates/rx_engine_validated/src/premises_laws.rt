@@ -1,8 +1,9 @@
 //! Laws, each the contract of a function that does nothing.
 
-ghost use Rattle.std.specs.Prelude.{◌≡◌, ℕ, ℤ, true, false, Some, List as ListOf, map};
+ghost use Rattle.std.specs.Prelude.{◌≡◌, ℕ, ℤ, true, false, Some, List as ListOf, map, slice_get};
 ghost use Rattle.rx_tree.specs.Plain.{ProgramTree};
 ghost use Rattle.rx_tree.specs.Size.{IsNumbered};
+ghost use Rattle.rx_typed.specs.Types.{unit_shape, result_declared};
 ghost use Rattle.rx_typed.specs.PlainTypes.{declarations};
 ghost use Rattle.rx_typed.specs.PlainTree.{plain-TypedTree};
 ghost use Rattle.rx_typed.specs.Tree.{Body, Function};
@@ -20,7 +21,8 @@ ghost use Rattle.rx_exits_plan.specs.Asked.{Asked};
 ghost use Rattle.rx_exits_plan.specs.Plan.{Plan};
 ghost use Rattle.rx_machine.specs.Functions.{program_of};
 ghost use Rattle.rx_meaning.specs.Values.{element};
-ghost use Rattle.rx_meaning.specs.Programs.{Program};
+ghost use Rattle.rx_meaning.specs.Acting.{plainly};
+ghost use Rattle.rx_meaning.specs.Programs.{Program, run_by};
 ghost use Rattle.rx_engine_simulation.specs.Astray.{FindsReferences};
 ghost use Rattle.rx_engine_simulation.specs.Blocks.{Stretch};
 ghost use Rattle.rx_engine_simulation.specs.Blocks as stretched;
@@ -32,11 +34,16 @@ ghost use Rattle.rx_engine_related.specs.ByForm.{EachIsItself};
 ghost use Rattle.rx_engine_related.specs.Extracts.{with_its_marks};
 ghost use Rattle.rx_engine_related.specs.Never.{NeverEnds};
 ghost use Rattle.rx_engine_related.specs.Stretched.{stretch_of};
+ghost use Rattle.rx_engine_dropped.specs.Undrops.{UndropsProgram};
 ghost use Rattle.rx_engine_validated.specs.Stretches.{Divided};
 ghost use Rattle.rx_engine_validated.specs.UnitReads.{unit_items, ReadsNoUnit};
 
+use rx_engine_dropped::dropped_units_change_no_run;
 use rx_engine_related::alike_items_are_the_same;
-use rx_meaning_accepted::accepted_runs_follow_references;
+use rx_meaning_accepted::{
+    accepted_programs_act_by_their_types, accepted_programs_are_initial,
+    accepted_runs_follow_references,
+};
 use rx_typeck_typed::{demands_are_orderly, signatures_are_well_formed, sizes_are_sized};
 
 /// A run of an accepted text, without its block's tail, that diverges by its syntax never goes on to its end by its form: as it stands, and
@@ -83,6 +90,17 @@ pub fn accepted_programs_are_themselves()
 {
     alike_items_are_the_same();
     demands_are_orderly();
+}
+
+/// Where a function of an accepted program is declared to give the unit, and blocks drop what calls of it give, in front of the unit, the program in
+/// which they give it has the same runs.
+pub fn dropped_units_run_so()
+    ensures { (q : ProgramTree) (u : Typed) → IsNumbered q → IsFront q u → (main item : ℕ) → result_declared (slice_get (declarations u.decls.items) item) ≡ Some unit_shape
+        → (R : Program) → UndropsProgram item (program_of u main) R → (given : ListOf ℤ) (n : ℕ) → run_by plainly R given n ≡ run_by plainly (program_of u main) given n }
+{
+    accepted_programs_act_by_their_types();
+    accepted_programs_are_initial();
+    dropped_units_change_no_run();
 }
 
 /// Functions of an accepted program that are declared to give the unit do so by their form, where none of them reads a value of its type from

@@ -129,6 +129,26 @@ fn took() {
 extract g 28 48
 fn f(u: ()) { let a = 1i64; println!("{}", a); u } fn main() { f(()); }
 ====
+0
+fn f(u: ()) { let a = 1i64; g(a, u); }
+
+fn g(a: i64, u: ()) {
+    println!("{}", a); u
+} fn main() { f(()); }
+----
+extract g 33 60
+fn id(u: ()) { u } fn f(u: ()) { println!("{}", 1i64); id(u) } fn main() { f(()); }
+====
+0
+fn id(u: ()) { u } fn f(u: ()) { g(u); }
+
+fn g(u: ()) {
+    println!("{}", 1i64); id(u)
+} fn main() { f(()); }
+----
+extract g 23 34
+fn f(u: ()) { let n; { n = 1i64; u } println!("{}", n); } fn main() { f(()); }
+====
 1
 error: Refused Unconfirmed
 ----

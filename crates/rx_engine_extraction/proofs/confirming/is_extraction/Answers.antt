@@ -15,4 +15,4 @@ returns-in-Err-clause-found c = let T = text_of c.args.given.now in
 pub returns-in-Ok-outcome-clause-found : goal.returns-in-Ok-outcome-clause-found
 returns-in-Ok-outcome-clause-found c = let T = text_of c.args.given.now in let d = case_of T c.args.decision.now in
     found_so c.one_typing.ensures T d c.args.new_fn c.args.made (plain-Program c.args.program.now) c.in-Ok.checked c.in-Ok.ensures.checked c.in-Ok-outcome.found
-    (c.in-Ok-outcome.ensures ∙ ap (λ (x : Front). found_in T d c.args.new_fn c.args.made (program_of x.typed x.main) x.typed.functions) c.front.ensures)
+    (c.in-Ok-outcome.ensures ∙ ap (λ (x : Front). found_in T d c.args.new_fn c.args.made (program_of x.typed x.main) x.typed) c.front.ensures)

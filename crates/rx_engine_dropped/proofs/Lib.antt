@@ -1,0 +1,4 @@
+pub mod UnitCalls
+pub mod Same
+pub mod Guarded
+pub mod Undropping

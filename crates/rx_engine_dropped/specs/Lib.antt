@@ -1,0 +1,2 @@
+pub mod Undrops
+pub mod DropBlock
