@@ -10,7 +10,7 @@ use Rattle.rx_lower_walks.specs.Text.{actions_of}
 use Rattle.rx_lower_lifetimes.specs.Lowered.{Lifetimes}
 use Rattle.rx_region.specs.Constraints.{Context, variances}
 use Rattle.rx_region.specs.Solutions.{Sets, Point, Least, whole, ends, live, longer, AreLeast}
-use Rattle.rx_region.specs.Known.{Known, itself, by}
+use Rattle.rx_region.specs.Known.{KnownToOutlive, itself, by}
 use Rattle.rx_loan.specs.Accesses.{Loan}
 use Rattle.rx_loan.specs.Loans.{loans_of}
 use Rattle.rx_typeck_typed.specs.declared.typed.TypedFn.{TypedFn}
@@ -54,7 +54,7 @@ covers D E s P Q asked other L = record {
 
 -- ---- sets that are good by one context are by another that imposes and knows the same
 
-known_by : (C K : Context) → Covers C K → (l k : ℕ) → Known C l k → Known K l k
+known_by : (C K : Context) → Covers C K → (l k : ℕ) → KnownToOutlive C l k → KnownToOutlive K l k
 known_by C K forth l k itself = itself
 known_by C K forth l k (by m pair h) = by m (forth.tells l m pair) (known_by C K forth m k h)
 

@@ -18,7 +18,7 @@ use Rattle.rx_region.specs.Constraints.{Context}
 use Rattle.rx_region.specs.Tables.{sets_of}
 use Rattle.rx_region.specs.declared.regions.Regions.{Regions}
 use Rattle.rx_loan.specs.Accepted.{at_sites}
-use Rattle.rx_loan.specs.Tables.{IsTable}
+use Rattle.rx_loan.specs.Tables.{IsLoanTable}
 use Rattle.rx_loan.specs.declared.table.LoanTable.{LoanTable}
 use Rattle.rx_loan.proofs.Walking.{more_scope}
 use Rattle.rx_typeck_typed.specs.declared.typed.TypedFn.{TypedFn}
@@ -42,14 +42,14 @@ and_so true b e h = h
 and_so false b e h = absurd (true≢false (sym e))
 
 -- where loans are in scope under the rows of sets, they are under the sets
-pub scopes_by : (C : Context) (g : List graph.Site) (os : List Own) (r : Regions) (rows : List (List ℕ)) (t : LoanTable) → IsTable g os (at rows) t
+pub scopes_by : (C : Context) (g : List graph.Site) (os : List Own) (r : Regions) (rows : List (List ℕ)) (t : LoanTable) → IsLoanTable g os (at rows) t
     → os ≡ C.lifetimes.owned → rows ≡ r.rows → r.sites ≡ length g → AreScopes C g (sets_of r) (at t.rows.items)
 scopes_by C g os r rows t table same_own same_rows same_sites = λ i p l at_i w. (
   λ h. more_scope g (at r.rows) (at_sites (sets_of r)) l p w there ((exact.exact i p l at_i w).0 h),
   λ h. (exact.exact i p l at_i w).1 (more_scope g (at_sites (sets_of r)) (at r.rows) l p w back h),
 ) where
-  exact : IsTable g C.lifetimes.owned (at r.rows) t
-  exact = subst (λ (x : List Own). IsTable g x (at r.rows) t) same_own (subst (λ (x : List (List ℕ)). IsTable g os (at x) t) same_rows table)
+  exact : IsLoanTable g C.lifetimes.owned (at r.rows) t
+  exact = subst (λ (x : List Own). IsLoanTable g x (at r.rows) t) same_own (subst (λ (x : List (List ℕ)). IsLoanTable g os (at x) t) same_rows table)
 
   there : (l p : ℕ) → p < length g → at r.rows l p ≡ true → at_sites (sets_of r) l p ≡ true
   there l p w h = and_so (nat_lt p r.sites) (at r.rows l p) (lt-ltb p r.sites (omega (arith, w, same_sites))) h

@@ -14,7 +14,7 @@ use Rattle.rx_region_outlives.specs.Implied.{HasPair}
 use Rattle.rx_region.specs.Constraints.{Context}
 use Rattle.rx_region.specs.Solutions.{Point, site, end, Sets, Solution}
 use Rattle.rx_region.specs.Points.{number, point}
-use Rattle.rx_region.specs.Tables.{Must, Asks, Meets, Knows, Keeps}
+use Rattle.rx_region.specs.Tables.{Must, Asks, MeetsConstraints, Knows, Keeps}
 use Rattle.rx_region.specs.Tables as tables
 use Rattle.rx_region.specs.declared.outlives.Outlives.{Outlives}
 use Rattle.rx_region.specs.declared.known.Known.{Known}
@@ -89,7 +89,7 @@ of_number T sites own l i within = go (nat_lt i sites) refl where
 
 module _ (C : Context) (g : List Site) (o : Outlives) (T : List (List ℕ)) (sites own count : ℕ) (asks : Asks C g o) (named : Numbered C)
     (sites_are : sites ≡ length g) (own_are : own ≡ C.lifetimes.own) (count_is : count ≡ C.lifetimes.regions)
-    (law : (R : Sets) → Solution C g R ↔ Meets o R) where
+    (law : (R : Sets) → Solution C g R ↔ MeetsConstraints o R) where
   counted : (l : ℕ) (x : Point) → Must C g l x → l < count
   counted l x (tables.whole a b) = omega (arith, a, named.own, count_is)
   counted l x (tables.ends a) = omega (arith, a, named.own, count_is)

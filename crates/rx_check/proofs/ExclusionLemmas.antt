@@ -6,7 +6,7 @@ use Rattle.rx_resolve_names.specs.Causes.{Meant}
 use Rattle.rx_graph_cycles.specs.Reaches.{NoCycle}
 use Rattle.rx_typed.specs.Types.{Declarations}
 use Rattle.rx_typed.specs.PlainTypes.{declarations}
-use Rattle.rx_typed_declarations.specs.Held.{held}
+use Rattle.rx_typed_declarations.specs.Held.{held_by_each}
 use Rattle.rx_typed_declarations.specs.Sizes.{Sized}
 use Rattle.rx_typeck_typed.specs.declared.typed.Typed.{Typed}
 use Rattle.rx_typeck_typed.specs.declared.typed.TypeFault.{TypeFault}
@@ -41,8 +41,8 @@ fun_ext f g h = λ i x. h x i
 module _ (or_wrong : (p : ProgramTree) (ns : List ItemNames) (t : Typed) (e : TypeFault) → IsTyped p ns t → typing.Causes p ns e → ⊥)
     (one : (p : ProgramTree) (ns : List ItemNames) (t u : Typed) → IsTyped p ns t → IsTyped p ns u → AreAlike t u)
     (same : (p : ProgramTree) (ns : List ItemNames) (t u : Typed) → IsTyped p ns t → IsTyped p ns u → AreSame t u)
-    (finite : (p : ProgramTree) (ns : List ItemNames) (t : Typed) → IsTyped p ns t → NoCycle (held (declarations t.decls.items)))
-    (one_size : (D : Declarations) (P Q : ℕ → ℕ) → NoCycle (held D) → Sized D P → Sized D Q → (i : ℕ) → P i ≡ Q i) where
+    (finite : (p : ProgramTree) (ns : List ItemNames) (t : Typed) → IsTyped p ns t → NoCycle (held_by_each (declarations t.decls.items)))
+    (one_size : (D : Declarations) (P Q : ℕ → ℕ) → NoCycle (held_by_each D) → Sized D P → Sized D Q → (i : ℕ) → P i ≡ Q i) where
   -- types of a program whose names have a meaning
   typed_or_mistyped : (p : ProgramTree) (ns : List ItemNames) (t : Typed) → Meant p ns → IsTyped p ns t → (e : TypeFault) → IsMistyped p e → ⊥
   typed_or_mistyped p ns t m h e c =

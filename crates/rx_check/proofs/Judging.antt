@@ -8,7 +8,7 @@ use Rattle.rx_core.specs.declared.types.Bound.{Bound}
 use Rattle.rx_typed.specs.declared.declarations.Decl.{Decl}
 use Rattle.rx_region.specs.Constraints.{Context, imposed}
 use Rattle.rx_region.specs.Solutions.{Point, Sets, Solution, Least, whole, ends, live, longer, AreLeast}
-use Rattle.rx_region.specs.Known.{Known, itself, by, told, Missing}
+use Rattle.rx_region.specs.Known.{KnownToOutlive, itself, by, told, Missing}
 use Rattle.rx_region.specs.Passing.{IsFirst}
 use Rattle.rx_loan.specs.Accepted.{AcceptedBy, IsAccepted}
 use Rattle.rx_loan.specs.Answer.{IsForbidden}
@@ -37,7 +37,7 @@ module _ (D E : List Decl) (P Q : ℕ → List Bound) (L : Lifetimes) where
   least_alike forth g l x (live r is there) = live r is there
   least_alike forth g l x (longer k pair h) = longer k (forth.imposes (actions_of g) l k pair) (least_alike forth g k x h)
 
-  known_alike : Covers (context D P L) (context E Q L) → (l k : ℕ) → Known (context D P L) l k → Known (context E Q L) l k
+  known_alike : Covers (context D P L) (context E Q L) → (l k : ℕ) → KnownToOutlive (context D P L) l k → KnownToOutlive (context E Q L) l k
   known_alike forth l k itself = itself
   known_alike forth l k (by m pair h) = by m (forth.tells l m pair) (known_alike forth m k h)
 

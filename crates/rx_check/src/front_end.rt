@@ -6,7 +6,7 @@ ghost use Rattle.rx_core.specs.declared.types.Bound.{Bound};
 ghost use Rattle.rx_graph_cycles.specs.Reaches.{NoCycle};
 ghost use Rattle.rx_typed.specs.PlainTypes.{declarations};
 ghost use Rattle.rx_typeck_typed.specs.declared.typed.TypedFn.{TypedFn as FnOf};
-ghost use Rattle.rx_typed_declarations.specs.Held.{held};
+ghost use Rattle.rx_typed_declarations.specs.Held.{held_by_each};
 ghost use Rattle.rx_typed_declarations.specs.Sizes.{Sized, told};
 ghost use Rattle.rx_typed_declarations.specs.WellFormed.{WellFormed};
 ghost use Rattle.rx_cover.specs.Finding.{Numbered};
@@ -15,7 +15,7 @@ ghost use Rattle.rx_facts_tables.specs.Layouts.{plain-Frame, IsSized};
 ghost use Rattle.rx_lower_lifetimes.specs.Answer.{IsLowered};
 ghost use Rattle.rx_facts_tables.specs.Live.{IsLive};
 ghost use Rattle.rx_facts_tables.specs.LiveTables.{Lives, IsIndex};
-ghost use Rattle.rx_facts_tables.specs.Answer.{IsTable};
+ghost use Rattle.rx_facts_tables.specs.Answer.{IsInitTable};
 ghost use Rattle.rx_facts_tables.specs.Initialised.{MayBeSet, MayBeUnset};
 ghost use Rattle.rx_lower.specs.Functions as lowered;
 ghost use Rattle.rx_facts.specs.Functions.{IsTypedProgram, sites_of, frame_of};
@@ -93,7 +93,7 @@ impl FrontEnd {
         ensures same { result.now ≡ self.now.typed }
         ensures typed { IsTypedProgram result.now }
         // Of its declarations no struct or enum reaches itself, each enum has fewer than 2^32 variants, and they are well-formed.
-        ensures finite { NoCycle (held (declarations result.now.decls.items)) }
+        ensures finite { NoCycle (held_by_each (declarations result.now.decls.items)) }
         ensures numbered { Numbered (declarations result.now.decls.items) }
         ensures well_formed { WellFormed result.now.decls.items }
     {
@@ -197,7 +197,7 @@ impl FrontEnd {
     pub fn init(&self, function: u32) -> &InitTable
         requires { IsSome (lowered.function_at self.now.typed.functions function) }
         ensures { (f : FnOf) → lowered.function_at self.now.typed.functions function ≡ SomeOf f
-            → IsTable (frame_of (declarations self.now.typed.decls.items) (told self.now.facts.sizes) f) (sites_of f) result.now }
+            → IsInitTable (frame_of (declarations self.now.typed.decls.items) (told self.now.facts.sizes) f) (sites_of f) result.now }
     {
         let place = place_of(self.typed.functions.as_slice(), function);
         &self.facts.functions.as_slice()[place].init
@@ -275,7 +275,7 @@ impl Checked {
         ensures { (f : FnOf) → lowered.function_at self.now.front.typed.functions function ≡ SomeOf f
             → (P : ℕ → ListOf Bound) → AreAsked self.now.front.typed.decls.items P
             → (R : Sets) → AreLeast (context_of self.now.front.typed.decls.items P f) (sites_of f) R
-            → loans.IsTable (sites_of f) (context_of self.now.front.typed.decls.items P f).lifetimes.owned (at_sites R) result.now }
+            → loans.IsLoanTable (sites_of f) (context_of self.now.front.typed.decls.items P f).lifetimes.owned (at_sites R) result.now }
     {
         let place = place_of(self.front.typed().functions.as_slice(), function);
         &self.loans.as_slice()[place].loans

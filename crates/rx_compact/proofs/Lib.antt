@@ -1,2 +1,2 @@
 mod Compacting
-mod Telling
+pub mod Telling

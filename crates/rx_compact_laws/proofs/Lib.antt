@@ -4,7 +4,13 @@ mod Numbering
 mod Expressions
 mod Functions
 mod Unwritten
-mod Resolving
+pub mod Resolving
 mod ResolvingFunctions
-mod Staying
-mod Keeping
+pub mod Staying
+pub mod Keeping
+pub mod SameNames
+pub mod Declaring
+pub mod Lists
+mod Spared
+pub mod Elsewhere
+pub mod ShortNames

@@ -6,11 +6,11 @@ use Rattle.rx_lower_walks.specs.Graph.{Site}
 use Rattle.rx_lower_walks.specs.Text.{actions_of}
 use Rattle.rx_region.specs.Constraints.{Context}
 use Rattle.rx_region.specs.Known as knowing
-use Rattle.rx_region.specs.Known.{Known}
+use Rattle.rx_region.specs.Known.{KnownToOutlive}
 use Rattle.rx_region.specs.Solutions.{Point, site, end, Least, whole, ends, live, longer}
 use Rattle.rx_compact_laws.specs.MergedLifetimes.{AreMerged}
 
-known_on : (C : Context) (l k m : ℕ) → Known C l k → Known C k m → Known C l m
+known_on : (C : Context) (l k m : ℕ) → KnownToOutlive C l k → KnownToOutlive C k m → KnownToOutlive C l m
 known_on C l k m knowing.itself g = g
 known_on C l k m (knowing.by n h rest) g = knowing.by n h (known_on C n k m rest g)
 
@@ -56,7 +56,7 @@ module _ (f : ℕ → ℕ) (C K : Context) (g : List Site) (M : AreMerged f C K 
 
   -- no pair of the first is missing: where it needs one, it is known
   abbrev Keeps : Context → Type 0
-  Keeps D = (l k : ℕ) → l < D.lifetimes.own → k < D.lifetimes.own → Least D g l (end k) → Known D l k
+  Keeps D = (l k : ℕ) → l < D.lifetimes.own → k < D.lifetimes.own → Least D g l (end k) → KnownToOutlive D l k
 
   -- the end that a lifetime reaches under the new numbers is that of one which is known to be outlived by one whose end it reached
   record Reached (l y : ℕ) : Type 0 where
@@ -64,7 +64,7 @@ module _ (f : ℕ → ℕ) (C K : Context) (g : List Site) (M : AreMerged f C K 
     last : ℕ
     own : by < C.lifetimes.own
     reached : Least C g l (end by)
-    known : Known C by last
+    known : KnownToOutlive C by last
     is : y ≡ f last
 
   goes_on : Keeps C → (l m y : ℕ) → f l ≡ f m → Reached m y → Reached l y
@@ -95,12 +95,12 @@ module _ (f : ℕ → ℕ) (C K : Context) (g : List Site) (M : AreMerged f C K 
   keeps_there keeps x y w v h =
       let a = M.onto x w in
       let b = end_back keeps x y (end y) h refl a.0 a.2 in
-      let known : Known C a.0 b.last = known_on C a.0 b.by b.last (keeps a.0 b.by a.1 b.own b.reached) b.known in
-      subst (λ m. Known K m y) (sym a.2) (subst (λ m. Known K (f a.0) m) (sym b.is) ((M.known a.0 b.last).0 known))
+      let known : KnownToOutlive C a.0 b.last = known_on C a.0 b.by b.last (keeps a.0 b.by a.1 b.own b.reached) b.known in
+      subst (λ m. KnownToOutlive K m y) (sym a.2) (subst (λ m. KnownToOutlive K (f a.0) m) (sym b.is) ((M.known a.0 b.last).0 known))
 
   keeps_back : Keeps K → Keeps C
   keeps_back keeps l k w v h = (M.known l k).1 (keeps (f l) (f k) ((M.own l).0 w) ((M.own k).0 v) (there l (end k) h))
 
-  pub pairs_stay : ((l k : ℕ) → l < C.lifetimes.own → k < C.lifetimes.own → Least C g l (end k) → Known C l k)
-      ↔ ((l k : ℕ) → l < K.lifetimes.own → k < K.lifetimes.own → Least K g l (end k) → Known K l k)
+  pub pairs_stay : ((l k : ℕ) → l < C.lifetimes.own → k < C.lifetimes.own → Least C g l (end k) → KnownToOutlive C l k)
+      ↔ ((l k : ℕ) → l < K.lifetimes.own → k < K.lifetimes.own → Least K g l (end k) → KnownToOutlive K l k)
   pairs_stay = (keeps_there, keeps_back)

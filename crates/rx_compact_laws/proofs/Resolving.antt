@@ -7,7 +7,7 @@ use Rattle.rx_tree.specs.Plain as plain
 use Rattle.rx_tree.specs.Plain.{TypeTree, TypeTrees, PatternTree, PatternTrees, FieldPatterns, Expression, Expressions, OptionalExpression, OptionalExpressions, FieldExpressions, Arms, Body, Statement, Statements, ProgramTree}
 use Rattle.rx_resolve_names.specs.declared.resolved.ItemNames.{ItemNames}
 use Rattle.rx_resolve_names.specs.declared.resolved.NodeNames.{NodeNames}
-use Rattle.rx_resolve_names.specs.Scopes.{Declared, Variables, variable_named, entered}
+use Rattle.rx_resolve_names.specs.Scopes.{DeclaredNames, Variables, variable_named, entered}
 use Rattle.rx_resolve_names.specs.Meant.{number, number_in, Around, a_loop, a_test}
 use Rattle.rx_resolve_names.specs.Steps.{Outcome, and_then, Naming, nothing, Inside, known, one, both, declare, child, next, with_variable, with_loop, with_names, position, entry, names, numbered}
 use Rattle.rx_resolve_names.specs.Names as naming
@@ -65,7 +65,7 @@ then {A = A} {D = D} {E = E} {P = P} {f = f} {g = g} {h = h} {k = k} s t = recor
 pub ok_is : {A : Type 0} (a b : A) → ◌≡◌ {A = Outcome A} (Ok a) (Ok b) → a ≡ b
 ok_is a b e = cc
 
-module _ (p q : ProgramTree) (i : ℕ) (L M : Declared) (spans : List Span) (rs : List Rewriting) (same : SameItems p q) (all : AllBecome rs L M) where
+module _ (p q : ProgramTree) (i : ℕ) (L M : DeclaredNames) (spans : List Span) (rs : List Rewriting) (same : SameItems p q) (all : AllBecome rs L M) where
   abbrev pub I : Inside
   I = record { program = p; item = i; lifetimes = L }
 
@@ -261,8 +261,8 @@ module _ (p q : ProgramTree) (i : ℕ) (L M : Declared) (spans : List Span) (rs 
 
   -- ---- a pattern, and what follows it; a loop; a callee
 
-  pattern_next : {P Q T : Left} (at : List ℕ) (g : PatternTree) (f h : Declared → Naming) → Sim bound bound P Q (naming.in_pattern I at g) (naming.in_pattern J at g)
-      → ((ds : Declared) → Sim tables tables Q T (f ds) (h ds)) → Sim tables tables P T (pattern_then I at g f) (pattern_then J at g h)
+  pattern_next : {P Q T : Left} (at : List ℕ) (g : PatternTree) (f h : DeclaredNames → Naming) → Sim bound bound P Q (naming.in_pattern I at g) (naming.in_pattern J at g)
+      → ((ds : DeclaredNames) → Sim tables tables Q T (f ds) (h ds)) → Sim tables tables P T (pattern_then I at g f) (pattern_then J at g h)
   pattern_next {P = P} {Q = Q} {T = T} at g f h s k = record {
     run = λ t u us e.
         let w : Sim bound tables P T (λ b. and_then (naming.in_pattern I at g b) (λ b. f b.bindings b.tables)) (λ b. and_then (naming.in_pattern J at g b) (λ b. h b.bindings b.tables)) =
@@ -273,8 +273,8 @@ module _ (p q : ProgramTree) (i : ℕ) (L M : Declared) (spans : List Span) (rs 
   }
 
   -- of a `let`
-  let_next : {P Q T : Left} (at : List ℕ) (g : PatternTree) (f h : Declared → ItemNames → Outcome Scoped) → Sim bound bound P Q (naming.in_pattern I at g) (naming.in_pattern J at g)
-      → ((ds : Declared) → Sim tables scoped Q T (f ds) (h ds)) → Sim tables scoped P T (λ t. and_then (naming.in_pattern I at g (record { bindings = []; tables = t })) (λ b. f b.bindings b.tables))
+  let_next : {P Q T : Left} (at : List ℕ) (g : PatternTree) (f h : DeclaredNames → ItemNames → Outcome Scoped) → Sim bound bound P Q (naming.in_pattern I at g) (naming.in_pattern J at g)
+      → ((ds : DeclaredNames) → Sim tables scoped Q T (f ds) (h ds)) → Sim tables scoped P T (λ t. and_then (naming.in_pattern I at g (record { bindings = []; tables = t })) (λ b. f b.bindings b.tables))
       (λ t. and_then (naming.in_pattern J at g (record { bindings = []; tables = t })) (λ b. h b.bindings b.tables))
   let_next {P = P} {Q = Q} {T = T} at g f h s k = record {
     run = λ t u us e.

@@ -8,7 +8,7 @@ use Rattle.rx_tree.specs.declared.tree.BoundLifetime.{BoundLifetime}
 use Rattle.rx_tree.specs.Plain.{Parameter, Function, ProgramTree, TypeTree, Body}
 use Rattle.rx_resolve_names.specs.declared.resolved.ItemNames.{ItemNames}
 use Rattle.rx_resolve_names.specs.declared.resolved.NodeNames.{NodeNames}
-use Rattle.rx_resolve_names.specs.Scopes.{Declared, Variables, entered}
+use Rattle.rx_resolve_names.specs.Scopes.{DeclaredNames, Variables, entered}
 use Rattle.rx_resolve_names.specs.Meant.{number, Around}
 use Rattle.rx_resolve_names.specs.Steps.{and_then, Naming, Inside, one, both, declare, child, next, with_variable, with_names, entry, numbered}
 use Rattle.rx_resolve_names.specs.Names.{lifetime_in, Bound, in_type, in_optional_type, in_block}
@@ -41,7 +41,7 @@ module _ (I : Inside) where
       let d = read_ok (bounds_in I bs) (λ ms. Ok (a.0 ++ ms)) ns a.2 in
       ap some (sym (ok_is (a.0 ++ d.0) ns d.2)) ∙ ap (λ ks. some (ks ++ d.0)) (sym (ok_is (c.0 ∷ []) a.0 c.2))
 
-  some_lifetimes : (ds : Declared) (n : ℕ) (ls : List BoundLifetime) (ns : List ℕ) → lifetimes_of I ds n ls ≡ Ok ns → some ns ≡ has_bounds ls
+  some_lifetimes : (ds : DeclaredNames) (n : ℕ) (ls : List BoundLifetime) (ns : List ℕ) → lifetimes_of I ds n ls ≡ Ok ns → some ns ≡ has_bounds ls
   some_lifetimes ds n [] ns e = ap some (sym (ok_is [] ns e))
   some_lifetimes ds n (l ∷ ls) ns e =
       let a = read_ok (declare ds l.name n) (λ ds. both (bounds_in I l.bounds) (lifetimes_of I ds (suc n) ls)) ns e in
@@ -67,7 +67,7 @@ body_at_same rs n t = by t
     by None = refl
     by (Some t) = refl
 
-module _ (p q : ProgramTree) (i : ℕ) (L M : Declared) (spans : List Span) (same : SameItems p q) where
+module _ (p q : ProgramTree) (i : ℕ) (L M : DeclaredNames) (spans : List Span) (same : SameItems p q) where
   abbrev I : Inside
   I = record { program = p; item = i; lifetimes = L }
 
@@ -123,7 +123,7 @@ module _ (p q : ProgramTree) (i : ℕ) (L M : Declared) (spans : List Span) (sam
     }
     parameters (x ∷ xs) at k C = then {A = bound} {D = bound} {E = bound} (parameter x at k (beside.in_parameters rs xs C)) (parameters xs at (next k) C)
 
-    from_bound : {P Q : Left} (f h : Declared → Naming) → ((ds : Declared) → Sim tables tables P Q (f ds) (h ds)) → Sim bound tables P Q (λ b. f b.bindings b.tables) (λ b. h b.bindings b.tables)
+    from_bound : {P Q : Left} (f h : DeclaredNames → Naming) → ((ds : DeclaredNames) → Sim tables tables P Q (f ds) (h ds)) → Sim bound tables P Q (λ b. f b.bindings b.tables) (λ b. h b.bindings b.tables)
     from_bound f h k = record { run = λ b u us e. let z = (k b.bindings).run b.tables u us e in record { old = z.old; new = z.new; names = z.names; is = z.is; beside = z.beside } }
 
     -- the types of parameters, the result and the body, behind the item's own entry

@@ -5,7 +5,7 @@ use Rattle.rx_core.specs.declared.types.Span.{Span}
 use Rattle.rx_tree.specs.Plain.{ProgramTree}
 use Rattle.rx_resolve_names.specs.declared.resolved.ItemNames.{ItemNames}
 use Rattle.rx_resolve_names.specs.declared.resolved.NodeNames.{NodeNames}
-use Rattle.rx_resolve_names.specs.Scopes.{Declared}
+use Rattle.rx_resolve_names.specs.Scopes.{DeclaredNames}
 use Rattle.rx_resolve_names.specs.Steps.{Outcome}
 use Rattle.rx_resolve_names.specs.Meant.{type_name, function_name, item_named, as_type, as_struct, as_enum, as_rt, as_function, number_in, variants_of}
 use Rattle.rx_compact_lifetimes.specs.declared.rewriting.Rewriting.{Rewriting}
@@ -22,7 +22,7 @@ pub record SameItems (p q : ProgramTree) : Type 0 where
   pub functions : (x : List ℕ) → as_function (item_named function_name 0 q x) ≡ as_function (item_named function_name 0 p x)
 
 -- each lifetime of the first list becomes one of the second, or none
-abbrev pub AllBecome : List Rewriting → Declared → Declared → Type 0
+abbrev pub AllBecome : List Rewriting → DeclaredNames → DeclaredNames → Type 0
 AllBecome rs old new = (x y : List ℕ) (n : ℕ) → number_in old x ≡ Some n → becomes rs x ≡ Some y → (m : ℕ) × (number_in new y ≡ Some m)
 
 -- tables of an item of the second, with these places of its lifetimes and these entries

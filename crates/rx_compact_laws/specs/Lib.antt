@@ -3,3 +3,4 @@ pub mod MergedLifetimes
 pub mod Beside
 pub mod Alongside
 pub mod Resolved
+pub mod ShortNames

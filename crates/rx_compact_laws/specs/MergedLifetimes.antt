@@ -7,7 +7,7 @@ use Rattle.rx_typed.specs.Tree.{Root}
 use Rattle.rx_lower_walks.specs.Actions.{Action}
 use Rattle.rx_region_outlives.specs.Implied.{HasPair}
 use Rattle.rx_region.specs.Constraints.{Context, root_type, imposed}
-use Rattle.rx_region.specs.Known.{Known}
+use Rattle.rx_region.specs.Known.{KnownToOutlive}
 
 -- the second is the first under these numbers, by the actions of its sites
 pub record AreMerged (f : ℕ → ℕ) (C K : Context) (us : List Action) : Type 0 where
@@ -16,9 +16,9 @@ pub record AreMerged (f : ℕ → ℕ) (C K : Context) (us : List Action) : Type
   pub onto : (x : ℕ) → x < K.lifetimes.own → (l : ℕ) × (l < C.lifetimes.own) × (x ≡ f l)
   -- only its own become one, where they are known to outlive each other
   pub apart : (l k : ℕ) → f l ≡ f k → (l ≡ k) ⊎ ((l < C.lifetimes.own) × (k < C.lifetimes.own))
-  pub equal : (l k : ℕ) → f l ≡ f k → Known C l k
+  pub equal : (l k : ℕ) → f l ≡ f k → KnownToOutlive C l k
   -- the same is known, imposed and live
-  pub known : (l k : ℕ) → Known C l k ↔ Known K (f l) (f k)
+  pub known : (l k : ℕ) → KnownToOutlive C l k ↔ KnownToOutlive K (f l) (f k)
   pub imposed_there : (l k : ℕ) → HasPair (imposed C us) l k → HasPair (imposed K us) (f l) (f k)
   pub imposed_back : (x y : ℕ) → HasPair (imposed K us) x y → (l k : ℕ) × HasPair (imposed C us) l k × (x ≡ f l) × (y ≡ f k)
   pub live_there : (r : Root) (l : ℕ) → IsIn (lifetimes_in (root_type C.lifetimes r)) l → IsIn (lifetimes_in (root_type K.lifetimes r)) (f l)

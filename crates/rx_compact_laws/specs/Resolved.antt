@@ -5,7 +5,7 @@ use Rattle.rx_core.specs.declared.types.Span.{Span}
 use Rattle.rx_tree.specs.Plain as plain
 use Rattle.rx_tree.specs.Plain.{Function, ProgramTree}
 use Rattle.rx_resolve_names.specs.declared.resolved.ItemNames.{ItemNames}
-use Rattle.rx_resolve_names.specs.Scopes.{Declared}
+use Rattle.rx_resolve_names.specs.Scopes.{DeclaredNames}
 use Rattle.rx_resolve_names.specs.Meant.{number, firsts, lifetimes_declared}
 use Rattle.rx_resolve_names.specs.Steps.{Inside}
 use Rattle.rx_resolve_names.specs.Items.{lifetimes_of, in_item}
@@ -15,7 +15,7 @@ use Rattle.rx_compact_laws.specs.Beside.{IsRewritten}
 use Rattle.rx_compact_laws.specs.Alongside.{SameItems, AllBecome}
 
 -- the lifetimes that a function declares, by their numbers
-abbrev pub declared : Span → Function → Declared
+abbrev pub declared : Span → Function → DeclaredNames
 declared s f = firsts [] 0 (lifetimes_declared (plain.function_item s f))
 
 abbrev pub inside : ProgramTree → ℕ → Span → Function → Inside

@@ -6,8 +6,9 @@ ghost use Rattle.rx_tree.specs.Plain as plain;
 ghost use Rattle.rx_tree.specs.Plain.{Function, ProgramTree};
 ghost use Rattle.rx_resolve_names.specs.declared.resolved.ItemNames.{ItemNames};
 ghost use Rattle.rx_resolve_names.specs.declared.resolved.NodeNames.{NodeNames};
-ghost use Rattle.rx_resolve_names.specs.Scopes.{Declared, Variables};
+ghost use Rattle.rx_resolve_names.specs.Scopes.{DeclaredNames, Variables};
 ghost use Rattle.rx_resolve_names.specs.Meant.{Around};
+ghost use Rattle.rx_resolve_names.specs.Causes.{Meant};
 ghost use Rattle.rx_resolve_names.specs.Items.{in_function, in_item, lifetimes_of};
 ghost use Rattle.rx_typed.specs.declared.declarations.Decl.{Decl};
 ghost use Rattle.rx_typed.specs.Naming.{has_entry, function_named, function_spans, function_variables};
@@ -15,7 +16,7 @@ ghost use Rattle.rx_typed.specs.Regions.{regions};
 ghost use Rattle.rx_lower_walks.specs.Graph.{Site};
 ghost use Rattle.rx_lower_walks.specs.Text.{actions_of};
 ghost use Rattle.rx_region.specs.Constraints.{Context};
-ghost use Rattle.rx_region.specs.Known.{Known};
+ghost use Rattle.rx_region.specs.Known.{KnownToOutlive};
 ghost use Rattle.rx_region.specs.Solutions.{Least, end, site};
 ghost use Rattle.rx_compact_lifetimes.specs.declared.rewriting.Rewriting.{Rewriting};
 ghost use Rattle.rx_compact_lifetimes.specs.Merged.{merged, mergings_of};
@@ -24,7 +25,8 @@ ghost use Rattle.rx_compact.specs.Compacted.{compacted};
 ghost use Rattle.rx_compact.specs.Outliving.{Outlives};
 ghost use Rattle.rx_compact_laws.specs.Alongside.{AllBecome, SameItems, StandsBeside, aside};
 ghost use Rattle.rx_compact_laws.specs.Beside.{Beside, IsRewritten, Nothing};
-ghost use Rattle.rx_compact_laws.specs.Resolved.{IsElsewhere, StaysNumbered};
+ghost use Rattle.rx_compact_laws.specs.Resolved.{IsElsewhere, StaysNumbered, inside};
+ghost use Rattle.rx_compact_laws.specs.ShortNames.{NamesStay};
 ghost use Rattle.rx_compact_laws.specs.MergedSignatures.{IsUnder, MergesEqual};
 ghost use Rattle.rx_compact_laws.specs.MergedLifetimes.{AreMerged};
 
@@ -42,8 +44,8 @@ pub fn merged_signatures_know_the_same()
 pub fn merged_lifetimes_stay()
     ensures sites { (f : ℕ → ℕ) (old new : Context) (g : List Site) → AreMerged f old new (actions_of g) → (l p : ℕ) → p < length g → Least old g l (site p) ↔ Least new g (f l) (site p) }
     ensures pairs { (f : ℕ → ℕ) (old new : Context) (g : List Site) → AreMerged f old new (actions_of g)
-        → ((l k : ℕ) → l < old.lifetimes.own → k < old.lifetimes.own → Least old g l (end k) → Known old l k)
-        ↔ ((l k : ℕ) → l < new.lifetimes.own → k < new.lifetimes.own → Least new g l (end k) → Known new l k) }
+        → ((l k : ℕ) → l < old.lifetimes.own → k < old.lifetimes.own → Least old g l (end k) → KnownToOutlive old l k)
+        ↔ ((l k : ℕ) → l < new.lifetimes.own → k < new.lifetimes.own → Least new g l (end k) → KnownToOutlive new l k) }
 {}
 
 /// A function whose lifetimes are written otherwise has the same tree with numbers, with the same spans and variables, where its entries
@@ -66,7 +68,7 @@ pub fn short_signatures_are_rewritten()
 /// Names in a function whose lifetimes are written otherwise mean what they meant, where items have the same names, each lifetime becomes
 /// a declared one or is left out, and the new list of lifetimes has a meaning; and the entries stand beside those of before.
 pub fn rewritten_functions_resolve()
-    ensures { (p q : ProgramTree) (i : ℕ) (old new : Declared) (spans : List Span) (signature body : List Rewriting) → SameItems p q → AllBecome signature old new → AllBecome body old new
+    ensures { (p q : ProgramTree) (i : ℕ) (old new : DeclaredNames) (spans : List Span) (signature body : List Rewriting) → SameItems p q → AllBecome signature old new → AllBecome body old new
         → (f g : Function) → IsRewritten signature body f g → (has_entry g ≡ true → has_entry f ≡ true)
         → (ns ms : List ℕ) → lifetimes_of (record { program = p; item = i; lifetimes = old }) [] 0 f.lifetimes ≡ Ok ns → lifetimes_of (record { program = q; item = i; lifetimes = new }) [] 0 g.lifetimes ≡ Ok ms
         → (scope : Variables) (around : List Around) (at : List ℕ) (t u : ItemNames) (names : List NodeNames) → in_function (record { program = p; item = i; lifetimes = old }) scope around at f t ≡ Ok u
@@ -82,4 +84,19 @@ pub fn rewritten_functions_stay()
 /// A program with a short signature has the items of before by their names.
 pub fn short_signatures_keep_items()
     ensures { (outlives : ℕ → ℕ → Bool) (single : Bool) (p : ProgramTree) (i : ℕ) → SameItems p (compacted outlives single p i) }
+{}
+
+/// The list of lifetimes of a short signature has a meaning, and each lifetime becomes one that it declares, or none: where some become
+/// one, and where some are left out.
+pub fn short_lists_have_a_meaning()
+    ensures merged { (outlives : ℕ → ℕ → Bool) (p q : ProgramTree) (n : ℕ) (s : Span) (f : Function) → SameItems p q → (ns : List ℕ) → lifetimes_of (inside p n s f) [] 0 f.lifetimes ≡ Ok ns
+        → IsElsewhere (mergings_of outlives f) (mergings_of outlives f) p q n s f (merged outlives f) }
+    ensures elided { (single : Bool) (p q : ProgramTree) (n : ℕ) (s : Span) (f : Function) → SameItems p q → (ns : List ℕ) → lifetimes_of (inside p n s f) [] 0 f.lifetimes ≡ Ok ns
+        → IsElsewhere (elisions single (in_body f.body) f) (elisions single (in_body f.body) f) p q n s f (elided single f) }
+{}
+
+/// So names in a program with a short signature have a meaning: the tables of all items but the function's are as they were, and the
+/// function has the same variables and the same tree with numbers.
+pub fn short_signatures_resolve()
+    ensures { (outlives : ℕ → ℕ → Bool) (single : Bool) (p : ProgramTree) (i : ℕ) (names : List ItemNames) → Meant p names → NamesStay outlives single p i names }
 {}

@@ -47,8 +47,12 @@ fn with_elision(
     )
 }
 
-/// Those of some lifetimes that are left out, where the body names these.
-fn elisions(
+/// What is left out of a function: those of some lifetimes that elision tells, where the body names these.
+///
+/// # Errors
+///
+/// Memory runs out.
+pub fn elisions(
     alloc: Global,
     single: bool,
     body: &[Ident],
@@ -102,7 +106,11 @@ fn with_kept(
 }
 
 /// Those of some lifetimes that stay, where the body names these.
-fn kept(
+///
+/// # Errors
+///
+/// Memory runs out.
+pub fn kept(
     alloc: Global,
     single: bool,
     body: &[Ident],

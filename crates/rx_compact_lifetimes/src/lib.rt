@@ -8,9 +8,11 @@ mod occurrences;
 mod rewriting;
 mod types;
 
-pub use eliding::{Signature, elided_signature, rewritten_optional, rewritten_parameters};
+pub use eliding::{
+    Signature, elided_signature, elisions, kept, rewritten_optional, rewritten_parameters,
+};
 pub use laws::{all_but_lifetimes_stays, first_lifetimes_stay};
 pub use lists::{has_name, is_declared, joined_list, renamed_list};
 pub use occurrences::{is_in_bounds, is_once, result_allows};
 pub use rewriting::Rewriting;
-pub use types::{rewritten_lifetime, rewritten_type};
+pub use types::{becomes, rewritten_lifetime, rewritten_type};

@@ -21,7 +21,7 @@ pub(crate) fn is_same(a: &Name, b: &Name) -> bool
 }
 
 /// What becomes of a name; one that no rewriting tells stays.
-pub(crate) fn becomes<'r>(rewritings: &'r [Rewriting], name: &'r Name) -> Option<&'r Name>
+pub fn becomes<'r>(rewritings: &'r [Rewriting], name: &'r Name) -> Option<&'r Name>
     ensures { option_copied result ≡ spec.becomes rewritings.now name.now }
 {
     for rewriting in rewritings {

@@ -7,7 +7,7 @@ use Rattle.rx_typed.specs.Tree.{Pattern}
 use Rattle.rx_typed.specs.declared.tree.Arm.{Arm}
 use Rattle.rx_typed.specs.PlainTree.{plain-Pattern, plain-Arm, arms_of}
 use Rattle.rx_typed.proofs.Rules.{arm_by_parts}
-use Rattle.rx_cover.specs.Values.{Value, Values, no_value, value_and, HaveTypes}
+use Rattle.rx_cover.specs.Values.{Value, Values, no_value, value_and, AreOfTypes}
 use Rattle.rx_cover.specs.Matching.{SomeMatches}
 use Rattle.rx_cover.specs.Choices.{patterns_of}
 use Rattle.rx_cover.specs.Matrices.{Row, SomeRow, single_rows}
@@ -30,10 +30,10 @@ missed_none D t ps c = λ v h. single_from ps v no_value (c.each (value_and v no
 
 pub missed_some : (D : Declarations) (t : Typ) (ps : List Pattern) (stack : List code_value.Value) (o : Option code_value.Value) → Settles D (t ∷ []) (single_rows ps) (Some stack) → IsLast stack o
     → Missed D t ps (option_map plain-Value o)
-missed_some D t ps stack None m e = absurd (subst (λ l. HaveTypes D (t ∷ []) (stacked l)) e m.typed)
+missed_some D t ps stack None m e = absurd (subst (λ l. AreOfTypes D (t ∷ []) (stacked l)) e m.typed)
 missed_some D t ps stack (Some v) m l =
     let q = ap stacked l.1 ∙ stacked_push l.0 v in
-    ((subst (λ l. HaveTypes D (t ∷ []) l) q m.typed).0, λ s. m.apart (subst (λ l. SomeRow (single_rows ps) l) (sym q) (single_to ps (plain-Value v) (stacked l.0) s)))
+    ((subst (λ l. AreOfTypes D (t ∷ []) l) q m.typed).0, λ s. m.apart (subst (λ l. SomeRow (single_rows ps) l) (sym q) (single_to ps (plain-Value v) (stacked l.0) s)))
 
 pub patterns_next : (xs : List Arm) (i : ℕ) (x : Arm) → i < length xs → x ≡ get_or xs i x
     → single_rows (patterns_of (arms_of (map plain-Arm (drop i xs)))) ≡ (plain-Pattern x.pattern ∷ []) ∷ single_rows (patterns_of (arms_of (map plain-Arm (drop (i + 1) xs))))

@@ -7,7 +7,7 @@ use Rattle.rx_graph_cycles.specs.Orders.{Behind, InOrder}
 use Rattle.rx_graph_cycles.proofs.Ways.{is_in_front, is_in_behind}
 use Rattle.rx_graph_cycles.proofs.Placing.{order_exists}
 use Rattle.rx_typed.specs.Types.{Typ, integer, boolean, tuple_of, reference, named, Shapes, no_shape, shape_and, shapes_of, Declared, Declarations, VariantDeclared, parts_declared}
-use Rattle.rx_typed_declarations.specs.Held.{named_in, named_among, held_by, held, variant_types}
+use Rattle.rx_typed_declarations.specs.Held.{named_in, named_among, held_by, held_by_each, variant_types}
 use Rattle.rx_cover.specs.Finite.{held_at, Each, EachOf, Within, Finite, expanse, expanse_all, item_expanse, expanse_in, all_in}
 
 module _ (P : ℕ → Type 0) where
@@ -152,11 +152,11 @@ module _ (D : Declarations) where
   below_or_not zero (suc n) = inl (omega arith)
   below_or_not (suc j) (suc n) = ⊎_elim (λ a. inl (omega (arith, a))) (λ b. inr (λ l. b (omega (arith, l)))) (below_or_not j n)
 
-  held_length : length (held D) ≡ length D
+  held_length : length (held_by_each D) ≡ length D
   held_length = length-map D held_by
 
   item_ends : (done : List Bool) (before : List ℕ) (n : ℕ) → Ended done before
-      → ((j : ℕ) → j < length (held D) → IsIn (targets (held D) n) j → IsIn before j) → Within D (suc (suc (trues done))) n
+      → ((j : ℕ) → j < length (held_by_each D) → IsIn (targets (held_by_each D) n) j → IsIn before j) → Within D (suc (suc (trues done))) n
   item_ends done before n e b = each_among (Within D (suc (trues done))) (shapes_of (held_at (slice_get D n)))
       (λ j is. ⊎_elim (λ l. e.ended j (e.placed j l (b j (subst (λ m. j < m) (sym held_length) l) (subst (λ ns. IsIn ns j) (named_at D n) is)))) (λ p. past_ends (trues done) j p) (below_or_not j (length D)))
 
@@ -165,7 +165,7 @@ module _ (D : Declarations) where
     few : levels ≤ length D
     each : (j : ℕ) → j < length D → IsIn order j ⊎ IsIn before j → Within D (suc levels) j
 
-  all_end : (order before : List ℕ) (done : List Bool) → Ended done before → Behind (held D) before order → AllEnded order before
+  all_end : (order before : List ℕ) (done : List Bool) → Ended done before → Behind (held_by_each D) before order → AllEnded order before
   all_end [] before done e b = record {
     levels = trues done;
     few = let h = trues_most done in let w = e.whole in omega (arith, h, w);
@@ -190,11 +190,11 @@ module _ (D : Declarations) where
   no_length zero = refl
   no_length (suc n) = ap suc (no_length n)
 
-  pub finite : NoCycle (held D) → Finite D
+  pub finite : NoCycle (held_by_each D) → Finite D
   finite apart = record { each = each }
     where
-      order : (o : List ℕ) × InOrder (held D) o
-      order = order_exists (held D) apart
+      order : (o : List ℕ) × InOrder (held_by_each D) o
+      order = order_exists (held_by_each D) apart
 
       ends : AllEnded order.0 []
       ends = all_end order.0 [] (replicate (length D) false)

@@ -4,7 +4,7 @@ use Rattle.rx_typed.specs.Types.{Typ, integer, boolean, tuple_of, reference, nam
 use Rattle.rx_typed.specs.Tree as tree
 use Rattle.rx_typed.specs.Tree.{Pattern, any, bind, exactly, parts, behind, Subpatterns, no_part, part_and, whole_number}
 use Rattle.rx_cover.specs.Values as value
-use Rattle.rx_cover.specs.Values.{Value, Values, number, tuple, made, pointing, no_value, value_and, HasType, HaveTypes}
+use Rattle.rx_cover.specs.Values.{Value, Values, number, tuple, made, pointing, no_value, value_and, IsOfType, AreOfTypes}
 use Rattle.rx_cover.specs.Matching.{Matches, MatchParts}
 use Rattle.rx_cover.specs.Heads as head
 use Rattle.rx_cover.specs.Heads.{Head, whole, composed, chosen, pointed, head_in, parts_in, head_of, parts_of, IsHead, types_under, with_head, same_bool, same_integer, same_head, has}
@@ -76,15 +76,15 @@ same_head_is pointed (chosen j l) e = cc
 -- what the type of a value says of its head and parts
 pub record Taken (D : Declarations) (t : Typ) (v : Value) : Type 0 where
   pub headed : IsHead D t (head_of v)
-  pub under : HaveTypes D (types_under D t (head_of v)) (parts_of v)
+  pub under : AreOfTypes D (types_under D t (head_of v)) (parts_of v)
 
-pub taken : (D : Declarations) (t : Typ) (v : Value) → HasType D t v → Taken D t v
+pub taken : (D : Declarations) (t : Typ) (v : Value) → IsOfType D t v → Taken D t v
 taken D (integer k) (number n) h = record { headed = h; under = tt }
 taken D boolean (value.truth b) h = record { headed = tt; under = tt }
 taken D (tuple_of ts) (tuple vs) h = record { headed = tt; under = h }
 taken D (reference m t) (pointing v) h = record { headed = tt; under = (h, tt) }
 taken D (named i) (made j vs) h = record { headed = h.1; under = h.2 }
-taken D (named i) (value.variant j k vs) h = record { headed = (h.0, h.1); under = let e = h.0 in subst (λ x. HaveTypes D (types_under D (named i) (chosen x k)) vs) e h.2 }
+taken D (named i) (value.variant j k vs) h = record { headed = (h.0, h.1); under = let e = h.0 in subst (λ x. AreOfTypes D (types_under D (named i) (chosen x k)) vs) e h.2 }
 taken D (integer k) (value.truth b) h = absurd h
 taken D (integer k) (tuple vs) h = absurd h
 taken D (integer k) (made j vs) h = absurd h
@@ -112,15 +112,15 @@ taken D (named i) (pointing v) h = absurd h
 
 -- a value of the type, with this head and these parts
 pub record Built (D : Declarations) (t : Typ) (h : Head) (vs : Values) (v : Value) : Type 0 where
-  pub typed : HasType D t v
+  pub typed : IsOfType D t v
   pub head_is : head_of v ≡ h
   pub parts_are : parts_of v ≡ vs
 
-no_more : (D : Declarations) (vs : Values) → HaveTypes D [] vs → no_value ≡ vs
+no_more : (D : Declarations) (vs : Values) → AreOfTypes D [] vs → no_value ≡ vs
 no_more D no_value h = refl
 no_more D (value_and v vs) h = absurd h
 
-pub built : (D : Declarations) (t : Typ) (h : Head) (vs : Values) → IsHead D t h → HaveTypes D (types_under D t h) vs → Built D t h vs (with_head t h vs)
+pub built : (D : Declarations) (t : Typ) (h : Head) (vs : Values) → IsHead D t h → AreOfTypes D (types_under D t h) vs → Built D t h vs (with_head t h vs)
 built D (integer k) (whole n) vs i u = record { typed = i; head_is = refl; parts_are = no_more D vs u }
 built D boolean (head.truth b) vs i u = record { typed = tt; head_is = refl; parts_are = no_more D vs u }
 built D (tuple_of ts) composed vs i u = record { typed = u; head_is = refl; parts_are = refl }
@@ -128,7 +128,7 @@ built D (reference m t) pointed (value_and v no_value) i u = record { typed = u.
 built D (reference m t) pointed (value_and v (value_and w ws)) i u = absurd u.1
 built D (reference m t) pointed no_value i u = absurd u
 built D (named i) composed vs is u = record { typed = (refl, is, u); head_is = refl; parts_are = refl }
-built D (named i) (chosen j k) vs is u = record { typed = (is.0, is.1, let e = sym is.0 in subst (λ x. HaveTypes D (types_under D (named i) (chosen x k)) vs) e u); head_is = refl; parts_are = refl }
+built D (named i) (chosen j k) vs is u = record { typed = (is.0, is.1, let e = sym is.0 in subst (λ x. AreOfTypes D (types_under D (named i) (chosen x k)) vs) e u); head_is = refl; parts_are = refl }
 built D (integer k) (head.truth b) vs i u = absurd i
 built D (integer k) composed vs i u = absurd i
 built D (integer k) (chosen j l) vs i u = absurd i

@@ -13,11 +13,11 @@ use Rattle.rx_typed.specs.declared.declarations.Decl.{Decl}
 use Rattle.rx_typed.specs.declared.declarations.FieldDecl.{FieldDecl}
 use Rattle.rx_typed.specs.declared.declarations.VariantDecl.{VariantDecl}
 use Rattle.rx_typed.specs.PlainTypes.{plain-Ty, plain-FieldDecl, plain-VariantDecl, plain-Decl, declarations}
-use Rattle.rx_typed_declarations.specs.Held.{named_in, named_among, field_types, variant_types, held_by, held}
+use Rattle.rx_typed_declarations.specs.Held.{named_in, named_among, field_types, variant_types, held_by, held_by_each}
 use Rattle.rx_typed_declarations.proofs.ItemLemmas.{held_of, targets_held}
 use Rattle.rx_typed_declarations.proofs.Filling.{fill_by, all_filled}
 use Rattle.rx_cover.specs.Values as value
-use Rattle.rx_cover.specs.Values.{Values, number, tuple, made, pointing, no_value, value_and, HasType, HaveTypes, is_struct}
+use Rattle.rx_cover.specs.Values.{Values, number, tuple, made, pointing, no_value, value_and, IsOfType, AreOfTypes, is_struct}
 use Rattle.rx_cover.specs.Inhabited.{told, Valued, AllValued, Inhabited, valued, all_valued, some_variant, declared_valued, fill}
 use Rattle.rx_cover.proofs.CellLemmas.{at_next}
 
@@ -40,15 +40,15 @@ among_behind (t ∷ ts) us i h = is_in_behind (named_in t) (named_among (shapes_
 
 -- a variant of these has values, or none has
 abbrev SomeValued : Declarations → List VariantDeclared → Bool → Type 0
-SomeValued D vs true = (k : ℕ) × (k < length vs) × ((ws : Values) × HaveTypes D (parts_declared (slice_get vs k)) ws)
-SomeValued D vs false = (k : ℕ) → k < length vs → (ws : Values) → HaveTypes D (parts_declared (slice_get vs k)) ws → ⊥
+SomeValued D vs true = (k : ℕ) × (k < length vs) × ((ws : Values) × AreOfTypes D (parts_declared (slice_get vs k)) ws)
+SomeValued D vs false = (k : ℕ) → k < length vs → (ws : Values) → AreOfTypes D (parts_declared (slice_get vs k)) ws → ⊥
 
 module _ (D : Declarations) (table : List Bool) where
   in_tuple : (ts : Shapes Kind) (b : Bool) → AllValued D (shapes_listed ts) b → Valued D (tuple_of ts) b
   in_tuple ts true a = (tuple a.0, a.1)
   in_tuple ts false n = none
     where
-      none : (v : value.Value) → HasType D (tuple_of ts) v → ⊥
+      none : (v : value.Value) → IsOfType D (tuple_of ts) v → ⊥
       none (tuple vs) h = n vs h
       none (number m) h = absurd h
       none (value.truth b) h = absurd h
@@ -60,7 +60,7 @@ module _ (D : Declarations) (table : List Bool) where
   in_reference m t true a = (pointing a.0, a.1)
   in_reference m t false n = none
     where
-      none : (v : value.Value) → HasType D (reference m t) v → ⊥
+      none : (v : value.Value) → IsOfType D (reference m t) v → ⊥
       none (pointing v) h = n v h
       none (number k) h = absurd h
       none (value.truth b) h = absurd h
@@ -72,12 +72,12 @@ module _ (D : Declarations) (table : List Bool) where
   both t ts true true v vs = (value_and v.0 vs.0, (v.1, vs.1))
   both t ts true false v n = none
     where
-      none : (ws : Values) → HaveTypes D (t ∷ ts) ws → ⊥
+      none : (ws : Values) → AreOfTypes D (t ∷ ts) ws → ⊥
       none no_value h = absurd h
       none (value_and w ws) h = n ws h.1
   both t ts false b n vs = none
     where
-      none : (ws : Values) → HaveTypes D (t ∷ ts) ws → ⊥
+      none : (ws : Values) → AreOfTypes D (t ∷ ts) ws → ⊥
       none no_value h = absurd h
       none (value_and w ws) h = n w h.0
 
@@ -112,16 +112,16 @@ module _ (D : Declarations) (table : List Bool) where
       by false true n s = let l = s.1 in (suc s.0, omega (arith, l), s.2)
       by false false n s = none
         where
-          none : (k : ℕ) → k < length (v ∷ vs) → (ws : Values) → HaveTypes D (parts_declared (slice_get (v ∷ vs) k)) ws → ⊥
+          none : (k : ℕ) → k < length (v ∷ vs) → (ws : Values) → AreOfTypes D (parts_declared (slice_get (v ∷ vs) k)) ws → ⊥
           none zero l = n
           none (suc k) l = s k (omega (arith, l))
 
   in_struct : (n : ℕ) (o : Option Declared) → slice_get D n ≡ o → is_struct o ≡ true → variants_declared o ≡ [] → (b : Bool) → AllValued D (field_types (fields_declared o)) b → Valued D (named n) b
-  in_struct n o e s w true a = (made n a.0, (refl, ap is_struct e ∙ s, subst (λ x. HaveTypes D (field_types (fields_declared x)) a.0) (sym e) a.1))
+  in_struct n o e s w true a = (made n a.0, (refl, ap is_struct e ∙ s, subst (λ x. AreOfTypes D (field_types (fields_declared x)) a.0) (sym e) a.1))
   in_struct n o e s w false a = none
     where
-      none : (v : value.Value) → HasType D (named n) v → ⊥
-      none (made j vs) h = a vs (subst (λ x. HaveTypes D (field_types (fields_declared x)) vs) e h.2)
+      none : (v : value.Value) → IsOfType D (named n) v → ⊥
+      none (made j vs) h = a vs (subst (λ x. AreOfTypes D (field_types (fields_declared x)) vs) e h.2)
       none (value.variant j k vs) h = let q = ap length (ap variants_declared e ∙ w) in let l = h.1 in omega (arith, q, l)
       none (number m) h = absurd h
       none (value.truth b) h = absurd h
@@ -129,11 +129,11 @@ module _ (D : Declarations) (table : List Bool) where
       none (pointing v) h = absurd h
 
   in_enum : (n : ℕ) (o : Option Declared) → slice_get D n ≡ o → is_struct o ≡ false → (b : Bool) → SomeValued D (variants_declared o) b → Valued D (named n) b
-  in_enum n o e s true a = (value.variant n a.0 a.2.0, (refl, subst (λ x. a.0 < length (variants_declared x)) (sym e) a.1, subst (λ x. HaveTypes D (parts_declared (slice_get (variants_declared x) a.0)) a.2.0) (sym e) a.2.1))
+  in_enum n o e s true a = (value.variant n a.0 a.2.0, (refl, subst (λ x. a.0 < length (variants_declared x)) (sym e) a.1, subst (λ x. AreOfTypes D (parts_declared (slice_get (variants_declared x) a.0)) a.2.0) (sym e) a.2.1))
   in_enum n o e s false a = none
     where
-      none : (v : value.Value) → HasType D (named n) v → ⊥
-      none (value.variant j k vs) h = a k (subst (λ x. k < length (variants_declared x)) e h.1) vs (subst (λ x. HaveTypes D (parts_declared (slice_get (variants_declared x) k)) vs) e h.2)
+      none : (v : value.Value) → IsOfType D (named n) v → ⊥
+      none (value.variant j k vs) h = a k (subst (λ x. k < length (variants_declared x)) e h.1) vs (subst (λ x. AreOfTypes D (parts_declared (slice_get (variants_declared x) k)) vs) e h.2)
       none (made j vs) h = let q = ap is_struct e in let r = h.1 in cc
       none (number m) h = absurd h
       none (value.truth b) h = absurd h
@@ -160,22 +160,22 @@ unfolding valued_by
 fill_is D table [] = refl
 fill_is D table (n ∷ ns) = fill_is D (slice_set table n (declared_valued table (slice_get D n))) ns
 
-past : (D : Declarations) (i : ℕ) → length (held D) ≤ i → Valued D (named i) false
+past : (D : Declarations) (i : ℕ) → length (held_by_each D) ≤ i → Valued D (named i) false
 past D i le = in_enum D [] i None (slice_get_past D i (rw (sym (length-map D held_by)) le)) refl false (no_variants D [])
 
-step : (D : Declarations) (table : List Bool) (n : ℕ) → ((j : ℕ) → IsIn (targets (held D) n) j → Valued D (named j) (told table j)) → Valued D (named n) (valued_by D table n)
+step : (D : Declarations) (table : List Bool) (n : ℕ) → ((j : ℕ) → IsIn (targets (held_by_each D) n) j → Valued D (named j) (told table j)) → Valued D (named n) (valued_by D table n)
 unfolding valued_by
 step D table n h = item_valued D table n (slice_get D n) refl (λ j is. h j (subst (λ l. IsIn l j) (sym (targets_held D n)) is))
 
-filled : (D : Declarations) (table : List Bool) (order : List ℕ) → length table ≡ length D → InOrder (held D) order → Inhabited D (fill D table order)
+filled : (D : Declarations) (table : List Bool) (order : List ℕ) → length table ≡ length D → InOrder (held_by_each D) order → Inhabited D (fill D table order)
 filled D table order whole is = record {
   each = λ i. subst (λ l. Valued D (named i) (told l i)) (sym (fill_is D table order))
-      (all_filled Bool false (held D) (λ j b. Valued D (named j) b) (valued_by D) (past D) (step D) order table (whole ∙ sym (length-map D held_by)) is i);
+      (all_filled Bool false (held_by_each D) (λ j b. Valued D (named j) b) (valued_by D) (past D) (step D) order table (whole ∙ sym (length-map D held_by)) is i);
 }
 
 -- the same, where the code has equations
 pub inhabited_at : (items : List Decl) (edges : List (List ℕ)) (order order' : List ℕ) (start table : List Bool)
-    → edges ≡ held (declarations items) → InOrder edges order → order' ≡ order → start ≡ replicate (length items) false
+    → edges ≡ held_by_each (declarations items) → InOrder edges order → order' ≡ order → start ≡ replicate (length items) false
     → table ≡ fill (declarations items) start order' → Inhabited (declarations items) table
 inhabited_at items edges order order' start table edges_are is same none table_is =
     let D = declarations items in

@@ -8,7 +8,7 @@ use Rattle.rx_typed.specs.Types.{Typ, integer, boolean, tuple_of, reference, nam
 use Rattle.rx_typed.specs.Elaborated.{with_sign}
 use Rattle.rx_typed_declarations.specs.Held.{field_types, variant_types}
 use Rattle.rx_cover.specs.Values as value
-use Rattle.rx_cover.specs.Values.{Values, number, tuple, made, pointing, no_value, value_and, HasType, HaveTypes, InKind, greatest, below_zero, is_struct}
+use Rattle.rx_cover.specs.Values.{Values, number, tuple, made, pointing, no_value, value_and, IsOfType, AreOfTypes, InKind, greatest, below_zero, is_struct}
 use Rattle.rx_cover.specs.Heads as head
 use Rattle.rx_cover.specs.Heads.{Head, whole, composed, chosen, pointed, head_of, parts_of, has, IsHead, types_under, with_head}
 use Rattle.rx_cover.specs.declared.value.Value.{Value}
@@ -39,7 +39,7 @@ signed k (suc m) l = omega (arith, l)
 
 -- what has no parts
 without : (D : Declarations) (t : Typ) (h : Head) → types_under D t h ≡ [] → (hs : List Head) → IsHead D t h → has hs h ≡ false → HeadFound D t hs h
-without D t h none hs i e = record { fits = i; apart = e; begins = λ v p n. (no_value, subst (λ l. HaveTypes D l no_value) (sym none) tt) }
+without D t h none hs i e = record { fits = i; apart = e; begins = λ v p n. (no_value, subst (λ l. AreOfTypes D l no_value) (sym none) tt) }
 
 pub positive_found : (D : Declarations) (k : Kind) (hs : List Head) (m : ℕ) (h : Head) → h ≡ whole (with_sign false m) → Free hs false (greatest k) (Some m) → HeadApart D (integer k) hs (Some h)
 positive_found D k hs m h e f = subst (λ x. HeadFound D (integer k) hs x) (sym e) (without D (integer k) (whole (with_sign false m)) refl hs f.0 f.1)
@@ -74,7 +74,7 @@ pub sole_found : (D : Declarations) (t : Typ) (g : Head) (hs : List Head) → So
 sole_found D t g hs s e = record {
   fits = s.0;
   apart = e;
-  begins = λ v p n. let q = taken D t v p in (parts_of v, subst (λ x. HaveTypes D (types_under D t x) (parts_of v)) (sym (s.1 (head_of v) q.headed)) q.under);
+  begins = λ v p n. let q = taken D t v p in (parts_of v, subst (λ x. AreOfTypes D (types_under D t x) (parts_of v)) (sym (s.1 (head_of v) q.headed)) q.under);
 }
 
 pub no_sole : (D : Declarations) (t : Typ) (g : Head) (hs : List Head) → Sole D t g → has hs g ≡ true → HeadApart D t hs None
@@ -118,13 +118,13 @@ sole_struct D i fs s = ((at_struct D (slice_get D i) fs s).0, only)
 
 -- no variant before this one has a value apart
 pub record NoneBefore (D : Declarations) (i : ℕ) (vs : List VariantDeclared) (hs : List Head) (k : ℕ) : Type 0 where
-  pub each : (j : ℕ) → j < k → (ws : Values) → HaveTypes D (parts_declared (slice_get vs j)) ws → has hs (chosen i j) ≡ true
+  pub each : (j : ℕ) → j < k → (ws : Values) → AreOfTypes D (parts_declared (slice_get vs j)) ws → has hs (chosen i j) ≡ true
 
 pub none_yet : (D : Declarations) (i : ℕ) (vs : List VariantDeclared) (hs : List Head) → NoneBefore D i vs hs 0
 none_yet D i vs hs = record { each = λ j l. absurd (omega (arith, l)) }
 
 pub one_none : (D : Declarations) (i : ℕ) (vs : List VariantDeclared) (hs : List Head) (k : ℕ) → NoneBefore D i vs hs k → VariantFree D i k (parts_declared (slice_get vs k)) hs false → NoneBefore D i vs hs (k + 1)
-one_none D i vs hs k n a = record { each = λ j l. ⊎_elim (λ e. subst (λ x. (ws : Values) → HaveTypes D (parts_declared (slice_get vs x)) ws → has hs (chosen i x) ≡ true) e a) (λ m. n.each j m) (last k j l) }
+one_none D i vs hs k n a = record { each = λ j l. ⊎_elim (λ e. subst (λ x. (ws : Values) → AreOfTypes D (parts_declared (slice_get vs x)) ws → has hs (chosen i x) ≡ true) e a) (λ m. n.each j m) (last k j l) }
   where
     last : (k j : ℕ) → j < k + 1 → (k ≡ j) ⊎ (j < k)
     last k j l = grind arith
@@ -134,12 +134,12 @@ pub variant_found : (D : Declarations) (i k : ℕ) (vs : List VariantDeclared) (
 variant_found D i k vs hs s l f = let q = at_enum (slice_get D i) vs s in record {
   fits = (refl, subst (λ x. k < length x) (sym q.1) l);
   apart = f.0;
-  begins = λ v p n. (f.1.0, subst (λ x. HaveTypes D (parts_declared (slice_get x k)) f.1.0) (sym q.1) f.1.1);
+  begins = λ v p n. (f.1.0, subst (λ x. AreOfTypes D (parts_declared (slice_get x k)) f.1.0) (sym q.1) f.1.1);
 }
 
 pub no_variant : (D : Declarations) (i : ℕ) (vs : List VariantDeclared) (hs : List Head) → IsEnum (slice_get D i) vs → NoneBefore D i vs hs (length vs) → HeadApart D (named i) hs None
 no_variant D i vs hs s n (value.variant j k ws) h = let q = at_enum (slice_get D i) vs s in
-    subst (λ x. has hs (chosen x k) ≡ true) h.0 (n.each k (subst (λ x. k < length x) q.1 h.1) ws (subst (λ x. HaveTypes D (parts_declared (slice_get x k)) ws) q.1 h.2))
+    subst (λ x. has hs (chosen x k) ≡ true) h.0 (n.each k (subst (λ x. k < length x) q.1 h.1) ws (subst (λ x. AreOfTypes D (parts_declared (slice_get x k)) ws) q.1 h.2))
 no_variant D i vs hs s n (made j ws) h = let e = (at_enum (slice_get D i) vs s).0 in let f = h.1 in cc
 no_variant D i vs hs s n (number k) h = absurd h
 no_variant D i vs hs s n (value.truth b) h = absurd h
@@ -162,7 +162,7 @@ adds_one D t old new v a e = record { more = v ∷ []; is = e; typed = (a.0, tt)
 pub adds_not : (D : Declarations) (t : Typ) (old new : List Value) → Apart D t [] None → Adds D (t ∷ []) old new false
 adds_not D t old new a = no
   where
-    no : (vs : Values) → HaveTypes D (t ∷ []) vs → ⊥
+    no : (vs : Values) → AreOfTypes D (t ∷ []) vs → ⊥
     no no_value h = absurd h
     no (value_and v vs) h = let e = a v h.0 in cc
 
@@ -200,13 +200,13 @@ func_at ds i hs d l ps t bs e f = let q = declared_at ds i ∙ ap (λ o. option_
 
 -- ---- a head and its parts are all of a value
 
-counted : (D : Declarations) (ts : List Typ) (vs : Values) → HaveTypes D ts vs → count vs ≡ length ts
+counted : (D : Declarations) (ts : List Typ) (vs : Values) → AreOfTypes D ts vs → count vs ≡ length ts
 counted D [] no_value h = refl
 counted D [] (value_and v vs) h = absurd h
 counted D (t ∷ ts) no_value h = absurd h
 counted D (t ∷ ts) (value_and v vs) h = ap suc (counted D ts vs h.1)
 
-node_and_parts : (D : Declarations) (t : Typ) (h : Head) (vs : Values) → IsHead D t h → HaveTypes D (types_under D t h) vs → nodes (with_head t h vs) ≡ node_of t h (count vs) ∷ nodes_of vs
+node_and_parts : (D : Declarations) (t : Typ) (h : Head) (vs : Values) → IsHead D t h → AreOfTypes D (types_under D t h) vs → nodes (with_head t h vs) ≡ node_of t h (count vs) ∷ nodes_of vs
 node_and_parts D (integer k) (whole (pos n)) no_value i u = refl
 node_and_parts D (integer k) (whole (negsuc n)) no_value i u = refl
 node_and_parts D (integer k) (whole (pos n)) (value_and v vs) i u = absurd u
@@ -239,7 +239,7 @@ node_and_parts D (named j) (whole n) vs i u = absurd i
 node_and_parts D (named j) (head.truth b) vs i u = absurd i
 node_and_parts D (named j) pointed vs i u = absurd i
 
-nodes_with_head : (D : Declarations) (t : Typ) (h : Head) (vs : Values) → IsHead D t h → HaveTypes D (types_under D t h) vs → nodes (with_head t h vs) ≡ node_of t h (length (types_under D t h)) ∷ nodes_of vs
+nodes_with_head : (D : Declarations) (t : Typ) (h : Head) (vs : Values) → IsHead D t h → AreOfTypes D (types_under D t h) vs → nodes (with_head t h vs) ≡ node_of t h (length (types_under D t h)) ∷ nodes_of vs
 nodes_with_head D t h vs i u = node_and_parts D t h vs i u ∙ ap (λ k. node_of t h k ∷ nodes_of vs) (counted D (types_under D t h) vs u)
 
 -- ---- values one after the other
@@ -247,11 +247,11 @@ nodes_with_head D t h vs i u = node_and_parts D t h vs i u ∙ ap (λ k. node_of
 record Parted (D : Declarations) (us ts : List Typ) (vs : Values) : Type 0 where
   front : Values
   rest : Values
-  fronted : HaveTypes D us front
-  rested : HaveTypes D ts rest
+  fronted : AreOfTypes D us front
+  rested : AreOfTypes D ts rest
   written : nodes_of vs ≡ nodes_of front ++ nodes_of rest
 
-parted : (D : Declarations) (us ts : List Typ) (vs : Values) → HaveTypes D (us ++ ts) vs → Parted D us ts vs
+parted : (D : Declarations) (us ts : List Typ) (vs : Values) → AreOfTypes D (us ++ ts) vs → Parted D us ts vs
 parted D [] ts vs h = record { front = no_value; rest = vs; fronted = tt; rested = h; written = refl }
 parted D (u ∷ us) ts no_value h = absurd h
 parted D (u ∷ us) ts (value_and v vs) h = let p = parted D us ts vs h.1 in record {
@@ -262,7 +262,7 @@ parted D (u ∷ us) ts (value_and v vs) h = let p = parted D us ts vs h.1 in rec
   written = ap (λ l. nodes v ++ l) p.written ∙ sym (append_assoc (nodes v) (nodes_of p.front) (nodes_of p.rest));
 }
 
-together : (D : Declarations) (us ts : List Typ) (vs ws : Values) → HaveTypes D us vs → HaveTypes D ts ws → HaveTypes D (us ++ ts) (joined vs ws)
+together : (D : Declarations) (us ts : List Typ) (vs ws : Values) → AreOfTypes D us vs → AreOfTypes D ts ws → AreOfTypes D (us ++ ts) (joined vs ws)
 together D [] ts no_value ws h k = k
 together D [] ts (value_and v vs) ws h k = absurd h
 together D (u ∷ us) ts no_value ws h k = absurd h
@@ -353,8 +353,8 @@ module _ (D : Declarations) (f : Finite D) where
 
 -- what is awaited still, with what is written, makes all, and there is such where there is all
 pub record Goes (D : Declarations) (all : List Typ) (start : List Node) (pending : List Column) (row : List Node) : Type 0 where
-  pub gives : (vs : Values) → HaveTypes D (awaited pending) vs → (ws : Values) × HaveTypes D all ws × (row ++ nodes_of vs ≡ start ++ nodes_of ws)
-  pub stays : (ws : Values) → HaveTypes D all ws → (vs : Values) × HaveTypes D (awaited pending) vs
+  pub gives : (vs : Values) → AreOfTypes D (awaited pending) vs → (ws : Values) × AreOfTypes D all ws × (row ++ nodes_of vs ≡ start ++ nodes_of ws)
+  pub stays : (ws : Values) → AreOfTypes D all ws → (vs : Values) × AreOfTypes D (awaited pending) vs
 
 pub goes_first : (D : Declarations) (pending : List Column) (row : List Node) → Goes D (awaited pending) row pending row
 goes_first D pending row = record { gives = λ vs h. (vs, h, refl); stays = λ ws h. (ws, h) }
@@ -363,37 +363,37 @@ module _ (D : Declarations) (all : List Typ) (start : List Node) (t : Typ) (old 
   pub goes_on : (h : Head) (new : List Column) (more : List Node) → HeadFound D t [] h → Begun D t h mid new row more → Goes D all start new more
   goes_on h new more f b = record { gives = gives; stays = stays }
     where
-      gives : (vs : Values) → HaveTypes D (awaited new) vs → (ws : Values) × HaveTypes D all ws × (more ++ nodes_of vs ≡ start ++ nodes_of ws)
+      gives : (vs : Values) → AreOfTypes D (awaited new) vs → (ws : Values) × AreOfTypes D all ws × (more ++ nodes_of vs ≡ start ++ nodes_of ws)
       gives vs k =
-          let p = parted D (types_under D t h) (awaited mid) vs (subst (λ l. HaveTypes D l vs) b.awaits k) in
+          let p = parted D (types_under D t h) (awaited mid) vs (subst (λ l. AreOfTypes D l vs) b.awaits k) in
           let v = with_head t h p.front in
-          let g = goes.gives (value_and v p.rest) (subst (λ l. HaveTypes D l (value_and v p.rest)) (sym here) ((built D t h p.front f.fits p.fronted).typed, p.rested)) in
+          let g = goes.gives (value_and v p.rest) (subst (λ l. AreOfTypes D l (value_and v p.rest)) (sym here) ((built D t h p.front f.fits p.fronted).typed, p.rested)) in
           let n = node_of t h (length (types_under D t h)) in
           let e : more ++ nodes_of vs ≡ row ++ (nodes v ++ nodes_of p.rest) =
           ap (λ l. l ++ nodes_of vs) b.written ∙ append_assoc row (n ∷ []) (nodes_of vs) ∙ ap (λ l. row ++ (n ∷ l)) p.written
           ∙ ap (λ l. row ++ (l ++ nodes_of p.rest)) (sym (nodes_with_head D t h p.front f.fits p.fronted)) in
           (g.0, g.1, e ∙ g.2)
 
-      behind_first : (vs : Values) → HaveTypes D (t ∷ awaited mid) vs → (us : Values) × HaveTypes D (types_under D t h ++ awaited mid) us
+      behind_first : (vs : Values) → AreOfTypes D (t ∷ awaited mid) vs → (us : Values) × AreOfTypes D (types_under D t h ++ awaited mid) us
       behind_first no_value k = absurd k
       behind_first (value_and v rest) k = let q = f.begins v k.0 refl in (joined q.0 rest, together D (types_under D t h) (awaited mid) q.0 rest q.1 k.1)
 
-      stays : (ws : Values) → HaveTypes D all ws → (vs : Values) × HaveTypes D (awaited new) vs
+      stays : (ws : Values) → AreOfTypes D all ws → (vs : Values) × AreOfTypes D (awaited new) vs
       stays ws k =
           let g = goes.stays ws k in
-          let q = behind_first g.0 (subst (λ l. HaveTypes D l g.0) here g.1) in
-          (q.0, subst (λ l. HaveTypes D l q.0) (sym b.awaits) q.1)
+          let q = behind_first g.0 (subst (λ l. AreOfTypes D l g.0) here g.1) in
+          (q.0, subst (λ l. AreOfTypes D l q.0) (sym b.awaits) q.1)
 
   pub goes_nowhere : (more : List Node) → HeadApart D t [] None → Writes D all start more false
-  goes_nowhere more a = λ ws k. let g = goes.stays ws k in none g.0 (subst (λ l. HaveTypes D l g.0) here g.1)
+  goes_nowhere more a = λ ws k. let g = goes.stays ws k in none g.0 (subst (λ l. AreOfTypes D l g.0) here g.1)
     where
-      none : (vs : Values) → HaveTypes D (t ∷ awaited mid) vs → ⊥
+      none : (vs : Values) → AreOfTypes D (t ∷ awaited mid) vs → ⊥
       none no_value k = k
       none (value_and v rest) k = let e = a v k.0 in cc
 
 pub goes_to_the_end : (D : Declarations) (all : List Typ) (start : List Node) (pending : List Column) (row : List Node) → Goes D all start pending row → pending ≡ [] → Writes D all start row true
 goes_to_the_end D all start pending row g e =
-    let q = g.gives no_value (subst (λ l. HaveTypes D (awaited l) no_value) (sym e) tt) in
+    let q = g.gives no_value (subst (λ l. AreOfTypes D (awaited l) no_value) (sym e) tt) in
     (q.0, q.1, sym (append-nil row) ∙ q.2)
 
 -- ---- as the code has it
@@ -415,25 +415,25 @@ pub record Written (D : Declarations) (t : Typ) (h : Head) (row : List Node) : T
 pub all_written : (D : Declarations) (t : Typ) (h : Head) (none pending : List Column) (empty begun row : List Node) → none ≡ [] → empty ≡ [] → IsHead D t h → Begun D t h none pending empty begun → Writes D (awaited pending) begun row true → Written D t h row
 all_written D t h none pending empty begun row e g i b w =
     let fields : awaited pending ≡ types_under D t h = b.awaits ∙ ap (λ l. types_under D t h ++ awaited l) e ∙ append-nil (types_under D t h) in
-    let typed = subst (λ l. HaveTypes D l w.0) fields w.1 in
+    let typed = subst (λ l. AreOfTypes D l w.0) fields w.1 in
     let n = node_of t h (length (types_under D t h)) in
     let is : row ≡ nodes (with_head t h w.0) = w.2 ∙ ap (λ l. l ++ nodes_of w.0) (b.written ∙ ap (λ l. l ++ n ∷ []) g) ∙ sym (nodes_with_head D t h w.0 i typed) in
     let r = built D t h w.0 i typed in
     record {
       whole = whole_is row (with_head t h w.0) is;
-      headed = subst (λ v. HasType D t v × (head_of v ≡ h)) (sym (plain_is row (with_head t h w.0) is)) (r.typed, r.head_is);
+      headed = subst (λ v. IsOfType D t v × (head_of v ≡ h)) (sym (plain_is row (with_head t h w.0) is)) (r.typed, r.head_is);
     }
 
 pub none_written : (D : Declarations) (t : Typ) (h : Head) (none pending : List Column) (empty begun row : List Node) → none ≡ [] → Begun D t h none pending empty begun → Writes D (awaited pending) begun row false → Headed D t h None
 none_written D t h none pending empty begun row e b w =
     let fields : awaited pending ≡ types_under D t h = b.awaits ∙ ap (λ l. types_under D t h ++ awaited l) e ∙ append-nil (types_under D t h) in
-    λ vs k. w vs (subst (λ l. HaveTypes D l vs) (sym fields) k)
+    λ vs k. w vs (subst (λ l. AreOfTypes D l vs) (sym fields) k)
 
 pub apart_by : (D : Declarations) (t : Typ) (hs : List Head) (h : Head) (o : Option value.Value) → HeadFound D t hs h → Headed D t h o → Apart D t hs o
 apart_by D t hs h (Some v) f k = (k.0, subst (λ x. has hs x ≡ false) (sym k.1) f.apart)
 apart_by D t hs h None f k = λ v p. by v p (has hs (head_of v)) refl
   where
-    by : (v : value.Value) → HasType D t v → (b : Bool) → has hs (head_of v) ≡ b → b ≡ true
+    by : (v : value.Value) → IsOfType D t v → (b : Bool) → has hs (head_of v) ≡ b → b ≡ true
     by v p true e = refl
     by v p false e = let q = f.begins v p e in absurd (k q.0 q.1)
 

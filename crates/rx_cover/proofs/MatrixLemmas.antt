@@ -2,7 +2,7 @@
 use Rattle.std.proofs.Common.{◌≡◌, ℕ, zero, suc, ◌+◌, nat_eq, not, Bool, true, false, ◌||◌, List, [], ◌∷◌, ◌++◌, length, Option, Some, None, slice_get, slice_set, refl, sym, ap, ◌∙◌, subst, eqb-true, if◌then◌else◌, ◌⊎◌, inl, inr, ⊎_elim, arith}
 use Rattle.rx_typed.specs.Types.{Typ, Declarations}
 use Rattle.rx_typed.specs.Tree.{Pattern, any, bind, exactly, parts, variant, behind, Subpatterns, no_part, part_and}
-use Rattle.rx_cover.specs.Values.{Value, Values, no_value, value_and, HasType, HaveTypes}
+use Rattle.rx_cover.specs.Values.{Value, Values, no_value, value_and, IsOfType, AreOfTypes}
 use Rattle.rx_cover.specs.Matching.{part_of, Matches, MatchParts}
 use Rattle.rx_cover.specs.Heads.{Head, head_in, parts_in, head_of, parts_of, IsHead, types_under, with_head, same_head, has}
 use Rattle.rx_cover.specs.Matrices.{Row, MatchRow, SomeRow, CoversAll, Misses, CoversHead, MissesHead, CoversHeads, asks, is_it, admits, mark_parts, mark_row, mark_rows, kept_parts, row_under, rows_under, row_beside, rows_beside, kept_types, kept_values, add_head_in, column_heads, is_open, some_open, AreHeads}
@@ -124,7 +124,7 @@ AsLong [] no_value = Unit {0}
 AsLong (b ∷ mask) (value_and v vs) = AsLong mask vs
 AsLong _ _ = ⊥
 
-pub as_long : (D : Declarations) (mask : List Bool) (us : List Typ) (vs : Values) → length mask ≡ length us → HaveTypes D us vs → AsLong mask vs
+pub as_long : (D : Declarations) (mask : List Bool) (us : List Typ) (vs : Values) → length mask ≡ length us → AreOfTypes D us vs → AsLong mask vs
 as_long D [] [] no_value e h = tt
 as_long D (b ∷ mask) (u ∷ us) (value_and v vs) e h = as_long D mask us vs (cc) h.1
 as_long D [] [] (value_and v vs) e h = absurd h
@@ -150,8 +150,8 @@ kept_to [] k ps rest (value_and v vs) ws l m h = absurd l
 kept_to (true ∷ mask) k ps rest no_value ws l m h = absurd l
 kept_to (false ∷ mask) k ps rest no_value ws l m h = absurd l
 
-pub kept_typed : (D : Declarations) (mask : List Bool) (us ts : List Typ) (vs ws : Values) → length mask ≡ length us → HaveTypes D us vs → HaveTypes D ts ws
-    → HaveTypes D (kept_types mask us ts) (kept_values mask vs ws)
+pub kept_typed : (D : Declarations) (mask : List Bool) (us ts : List Typ) (vs ws : Values) → length mask ≡ length us → AreOfTypes D us vs → AreOfTypes D ts ws
+    → AreOfTypes D (kept_types mask us ts) (kept_values mask vs ws)
 kept_typed D [] [] ts no_value ws e h k = k
 kept_typed D (true ∷ mask) (u ∷ us) ts (value_and v vs) ws e h k = (h.0, kept_typed D mask us ts vs ws (cc) h.1 k)
 kept_typed D (false ∷ mask) (u ∷ us) ts (value_and v vs) ws e h k = kept_typed D mask us ts vs ws (cc) h.1 k
@@ -307,7 +307,7 @@ covered_at_end D r rs = record { each = at_end }
     row_at_end [] = tt
     row_at_end (p ∷ ps) = tt
 
-    at_end : (vs : Values) → HaveTypes D [] vs → MatchRow r vs ⊎ SomeRow rs vs
+    at_end : (vs : Values) → AreOfTypes D [] vs → MatchRow r vs ⊎ SomeRow rs vs
     at_end no_value h = inl (row_at_end r)
     at_end (value_and v vs) h = absurd h
 
@@ -325,10 +325,10 @@ pub head_covered : (D : Declarations) (t : Typ) (ts : List Typ) (h : Head) (rows
     → CoversAll D (kept_types mask (types_under D t h) ts) (rows_under h mask rows) → CoversHead D t ts h rows
 head_covered D t ts h rows mask m c = record { each = here }
   where
-    here : (v : Value) (vs : Values) → HasType D t v → HaveTypes D ts vs → head_of v ≡ h → SomeRow rows (value_and v vs)
+    here : (v : Value) (vs : Values) → IsOfType D t v → AreOfTypes D ts vs → head_of v ≡ h → SomeRow rows (value_and v vs)
     here v vs a b e =
         let q = taken D t v a in
-        let u : HaveTypes D (types_under D t h) (parts_of v) = subst (λ g. HaveTypes D (types_under D t g) (parts_of v)) e q.under in
+        let u : AreOfTypes D (types_under D t h) (parts_of v) = subst (λ g. AreOfTypes D (types_under D t g) (parts_of v)) e q.under in
         let l = as_long D mask (types_under D t h) (parts_of v) m.long u in
         let s = c.each (kept_values mask (parts_of v) vs) (kept_typed D mask (types_under D t h) ts (parts_of v) vs m.long u b) in
         under_from mask rows v vs l (subst (λ g. AllMarked g mask rows) (sym e) m.marked)
@@ -336,11 +336,11 @@ head_covered D t ts h rows mask m c = record { each = here }
 
 -- no value has parts of these types
 pub head_empty : (D : Declarations) (t : Typ) (ts : List Typ) (h : Head) (rows : List Row)
-    → ((vs : Values) → HaveTypes D (types_under D t h) vs → ⊥) → CoversHead D t ts h rows
-head_empty D t ts h rows n = record { each = λ v vs a b e. absurd (n (parts_of v) (subst (λ g. HaveTypes D (types_under D t g) (parts_of v)) e (taken D t v a).under)) }
+    → ((vs : Values) → AreOfTypes D (types_under D t h) vs → ⊥) → CoversHead D t ts h rows
+head_empty D t ts h rows n = record { each = λ v vs a b e. absurd (n (parts_of v) (subst (λ g. AreOfTypes D (types_under D t g) (parts_of v)) e (taken D t v a).under)) }
 
 pub missed_at_head : (D : Declarations) (t : Typ) (ts : List Typ) (h : Head) (rows : List Row) (mask : List Bool) (vs ws : Values) → IsHead D t h → MaskOf D t h rows mask
-    → HaveTypes D (types_under D t h) vs → HaveTypes D ts ws → Misses D (kept_types mask (types_under D t h) ts) (rows_under h mask rows) (kept_values mask vs ws)
+    → AreOfTypes D (types_under D t h) vs → AreOfTypes D ts ws → Misses D (kept_types mask (types_under D t h) ts) (rows_under h mask rows) (kept_values mask vs ws)
     → MissesHead D t ts h rows (value_and (with_head t h vs) ws)
 missed_at_head D t ts h rows mask vs ws i m u k c =
     let b = built D t h vs i u in
@@ -364,24 +364,24 @@ pub others_covered : (D : Declarations) (t : Typ) (ts : List Typ) (hs : List Hea
     → CoversHeads D t ts hs rows → CoversAll D ts (rows_beside rows) → CoversAll D (t ∷ ts) rows
 others_covered D t ts hs rows c o = record { each = each }
   where
-    by : (b : Bool) (v : Value) (vs : Values) → has hs (head_of v) ≡ b → HasType D t v → HaveTypes D ts vs → SomeRow rows (value_and v vs)
+    by : (b : Bool) (v : Value) (vs : Values) → has hs (head_of v) ≡ b → IsOfType D t v → AreOfTypes D ts vs → SomeRow rows (value_and v vs)
     by true v vs e h k = c.each v vs h k e
     by false v vs e h k = beside_from rows v vs (o.each vs k)
 
-    each : (vs : Values) → HaveTypes D (t ∷ ts) vs → SomeRow rows vs
+    each : (vs : Values) → AreOfTypes D (t ∷ ts) vs → SomeRow rows vs
     each no_value h = absurd h
     each (value_and v vs) h = by (has hs (head_of v)) v vs refl h.0 h.1
 
 -- every value has one of the heads
 pub none_apart : (D : Declarations) (t : Typ) (ts : List Typ) (hs : List Head) (rows : List Row)
-    → CoversHeads D t ts hs rows → ((v : Value) → HasType D t v → has hs (head_of v) ≡ true) → CoversAll D (t ∷ ts) rows
+    → CoversHeads D t ts hs rows → ((v : Value) → IsOfType D t v → has hs (head_of v) ≡ true) → CoversAll D (t ∷ ts) rows
 none_apart D t ts hs rows c n = record { each = each }
   where
-    each : (vs : Values) → HaveTypes D (t ∷ ts) vs → SomeRow rows vs
+    each : (vs : Values) → AreOfTypes D (t ∷ ts) vs → SomeRow rows vs
     each no_value h = absurd h
     each (value_and v vs) h = c.each v vs h.0 h.1 (n v h.0)
 
 pub missed_apart : (D : Declarations) (t : Typ) (ts : List Typ) (hs : List Head) (rows : List Row) (v : Value) (ws : Values) → AreHeads D t rows hs
-    → HasType D t v → has hs (head_of v) ≡ false → Misses D ts (rows_beside rows) ws → Misses D (t ∷ ts) rows (value_and v ws)
+    → IsOfType D t v → has hs (head_of v) ≡ false → Misses D ts (rows_beside rows) ws → Misses D (t ∷ ts) rows (value_and v ws)
 missed_apart D t ts hs rows v ws a h n m =
     record { typed = (h, m.typed); apart = λ s. m.apart (beside_to rows v ws (a.all (head_of v) (taken D t v h).headed n) s) }

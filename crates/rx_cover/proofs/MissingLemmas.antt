@@ -16,7 +16,7 @@ use Rattle.rx_cover.specs.Matrices.{rows_weight, gather, with_head_in, row_head,
 use Rattle.rx_cover.proofs.HeadLemmas.{both_true, same_head_is, same_head_refl}
 use Rattle.rx_cover.proofs.WeightLemmas.{under_less}
 use Rattle.rx_cover.specs.Values as plain
-use Rattle.rx_cover.specs.Values.{Values, no_value, value_and, HaveTypes}
+use Rattle.rx_cover.specs.Values.{Values, no_value, value_and, AreOfTypes}
 use Rattle.rx_cover.specs.Heads.{Head, has, same_head, IsHead, types_under, with_head, pointed_value}
 use Rattle.rx_cover.specs.Matrices.{Row, CoversAll, Misses, MissesHead, CoversRange, MissesRange, CoversHeads, Distinct, rows_within, AreHeads, kept_types, kept_values, rows_under, rows_beside, mark_rows}
 use Rattle.rx_cover.specs.declared.value.Value.{Value}
@@ -37,14 +37,14 @@ stacked_push l v = onto_push no_value l v
 
 pub refill_marked : (D : Declarations) (t : Typ) (ts : List Typ) (stack parts left new : List Value) (b : Bool) → Takes stack parts left new b → Stacked D (t ∷ ts) stack → Refills D (true ∷ []) (t ∷ []) ts stack parts left new b
 refill_marked D t ts stack parts left new true (takes v e f) s =
-    let q = subst (λ l. HaveTypes D (t ∷ ts) l) (ap stacked e ∙ stacked_push left v) s.typed in
+    let q = subst (λ l. AreOfTypes D (t ∷ ts) l) (ap stacked e ∙ stacked_push left v) s.typed in
     record { more = v ∷ []; is = f; typed = (q.0, tt); rest = q.1; kept = sym (ap stacked e ∙ stacked_push left v) }
-refill_marked D t ts stack parts left new false (takes_none e) s = absurd (subst (λ l. HaveTypes D (t ∷ ts) (stacked l)) e s.typed)
+refill_marked D t ts stack parts left new false (takes_none e) s = absurd (subst (λ l. AreOfTypes D (t ∷ ts) (stacked l)) e s.typed)
 
 pub refill_found : (D : Declarations) (t : Typ) (ts : List Typ) (stack parts new : List Value) (b : Bool) → Adds D (t ∷ []) parts new b → Stacked D ts stack → Refills D (false ∷ []) (t ∷ []) ts stack parts stack new b
 refill_found D t ts stack parts new true a s = record { more = a.more; is = a.is; typed = a.typed; rest = s.typed; kept = one a.more a.typed }
   where
-    one : (vs : List Value) → HaveTypes D (t ∷ []) (plain_values vs) → kept_values (false ∷ []) (plain_values vs) (stacked stack) ≡ stacked stack
+    one : (vs : List Value) → AreOfTypes D (t ∷ []) (plain_values vs) → kept_values (false ∷ []) (plain_values vs) (stacked stack) ≡ stacked stack
     one [] h = absurd h
     one (v ∷ []) h = refl
     one (v ∷ w ∷ vs) h = absurd h.1
@@ -58,12 +58,12 @@ pub refill_more : (D : Declarations) (b : Bool) (mask : List Bool) (t : Typ) (us
     → Refills D (b ∷ []) (t ∷ []) (kept_types mask us ts) s p s1 p1 true → (Stacked D (kept_types mask us ts) s1 → Refills D mask us ts s1 p1 s2 p2 r) → Refills D (b ∷ mask) (t ∷ us) ts s p s2 p2 r
 refill_more D b mask t us ts s p s1 p1 s2 p2 false a k = no
   where
-    no : (vs : Values) → HaveTypes D (t ∷ us) vs → ⊥
+    no : (vs : Values) → AreOfTypes D (t ∷ us) vs → ⊥
     no no_value h = absurd h
     no (value_and v vs) h = k (record { typed = a.rest }) vs h.1
 refill_more D b mask t us ts s p s1 p1 s2 p2 true a k = let q = k (record { typed = a.rest }) in by q a.more a.is a.typed a.kept
   where
-    by : Refilled D mask us ts s1 p1 s2 p2 → (m : List Value) → p1 ≡ p ++ m → HaveTypes D (t ∷ []) (plain_values m) → kept_values (b ∷ []) (plain_values m) (stacked s1) ≡ stacked s → Refilled D (b ∷ mask) (t ∷ us) ts s p s2 p2
+    by : Refilled D mask us ts s1 p1 s2 p2 → (m : List Value) → p1 ≡ p ++ m → AreOfTypes D (t ∷ []) (plain_values m) → kept_values (b ∷ []) (plain_values m) (stacked s1) ≡ stacked s → Refilled D (b ∷ mask) (t ∷ us) ts s p s2 p2
     by q [] e h c = absurd h
     by q (v ∷ w ∷ m) e h c = absurd h.1
     by q (v ∷ []) e h c = record {
@@ -86,7 +86,7 @@ pub refill_stop : (D : Declarations) (b : Bool) (mask : List Bool) (t : Typ) (us
     → Refills D (b ∷ []) (t ∷ []) (kept_types mask us ts) s p s1 p1 false → Refills D (b ∷ mask) (t ∷ us) ts s p s2 p2 false
 refill_stop D b mask t us ts s p s1 p1 s2 p2 a = no
   where
-    no : (vs : Values) → HaveTypes D (t ∷ us) vs → ⊥
+    no : (vs : Values) → AreOfTypes D (t ∷ us) vs → ⊥
     no no_value h = absurd h
     no (value_and v vs) h = a (value_and v no_value) (h.0, tt)
 
@@ -102,7 +102,7 @@ pub rebuilt_some : (D : Declarations) (t : Typ) (h : Head) (mask : List Bool) (u
 rebuilt_some D t h mask us ts stack left new all r (at_end v e f) = record {
   parts = plain_values new;
   others = stacked left;
-  typed = subst (λ l. HaveTypes D us (plain_values l)) (sym r.is) r.typed;
+  typed = subst (λ l. AreOfTypes D us (plain_values l)) (sym r.is) r.typed;
   rest = r.rest;
   kept = subst (λ l. kept_values mask (plain_values l) (stacked left) ≡ stacked stack) (sym r.is) r.kept;
   is = ap stacked e ∙ stacked_push left v ∙ ap (λ x. value_and x (stacked left)) f;

@@ -2,7 +2,7 @@
 use Rattle.std.specs.Prelude.{◌≡◌, ℕ, ◌<◌, ◌≤◌, ◌⊎◌, List, [], ◌∷◌, Option, Some, None}
 use Rattle.rx_typed.specs.Types.{Typ, Declarations}
 use Rattle.rx_typed.specs.Tree.{Pattern}
-use Rattle.rx_cover.specs.Values.{Value, HasType}
+use Rattle.rx_cover.specs.Values.{Value, IsOfType}
 use Rattle.rx_cover.specs.Matching.{SomeMatches, Covers}
 use Rattle.rx_cover.specs.Choices.{Choice}
 use Rattle.rx_cover.specs.Width.{width, limit, capped}
@@ -15,7 +15,7 @@ CoversTyp D (Some t) ps = Covers D t ps
 -- a value of the scrutinee's type that no arm matches
 abbrev pub MissesTyp : Declarations → Option Typ → List Pattern → Value → Type 0
 MissesTyp D None ps v = ⊥
-MissesTyp D (Some t) ps v = HasType D t v × (SomeMatches ps v → ⊥)
+MissesTyp D (Some t) ps v = IsOfType D t v × (SomeMatches ps v → ⊥)
 
 pub record Covered (D : Declarations) (c : Choice) : Type 0 where
   pub narrow : width c.arms ≤ limit

@@ -3,7 +3,7 @@ use Rattle.std.specs.Prelude.{◌≡◌, ℕ, suc, pos, negsuc, ◌<◌, ◌≤�
 use Rattle.rx_typed.specs.Types.{Typ, named, Declared, Declarations, FieldDeclared, VariantDeclared, struct_declared, enum_declared, variants_declared}
 use Rattle.rx_typed.specs.Elaborated.{with_sign}
 use Rattle.rx_cover.specs.Values as plain
-use Rattle.rx_cover.specs.Values.{Values, no_value, value_and, HasType, HaveTypes}
+use Rattle.rx_cover.specs.Values.{Values, no_value, value_and, IsOfType, AreOfTypes}
 use Rattle.rx_typed.specs.Tree.{Pattern}
 use Rattle.rx_cover.specs.Matching.{SomeMatches, Covers}
 use Rattle.rx_cover.specs.Causes.{CoversTyp, MissesTyp}
@@ -21,17 +21,17 @@ pub record Numbered (D : Declarations) : Type 0 where
 
 -- a value of the type whose head is none of these, where there is one
 abbrev pub Apart : Declarations → Typ → List Head → Option plain.Value → Type 0
-Apart D t hs None = (v : plain.Value) → HasType D t v → has hs (head_of v) ≡ true
-Apart D t hs (Some v) = HasType D t v × (has hs (head_of v) ≡ false)
+Apart D t hs None = (v : plain.Value) → IsOfType D t v → has hs (head_of v) ≡ true
+Apart D t hs (Some v) = IsOfType D t v × (has hs (head_of v) ≡ false)
 
 -- a head of the type that is none of these; where a value has another, one has this
 pub record HeadFound (D : Declarations) (t : Typ) (hs : List Head) (h : Head) : Type 0 where
   pub fits : IsHead D t h
   pub apart : has hs h ≡ false
-  pub begins : (v : plain.Value) → HasType D t v → has hs (head_of v) ≡ false → (vs : Values) × HaveTypes D (types_under D t h) vs
+  pub begins : (v : plain.Value) → IsOfType D t v → has hs (head_of v) ≡ false → (vs : Values) × AreOfTypes D (types_under D t h) vs
 
 abbrev pub HeadApart : Declarations → Typ → List Head → Option Head → Type 0
-HeadApart D t hs None = (v : plain.Value) → HasType D t v → has hs (head_of v) ≡ true
+HeadApart D t hs None = (v : plain.Value) → IsOfType D t v → has hs (head_of v) ≡ true
 HeadApart D t hs (Some h) = HeadFound D t hs h
 
 -- a type has this head alone
@@ -45,13 +45,13 @@ Bounded _ = Unit {0}
 
 -- a variant that is none of these has values
 abbrev pub VariantFree : Declarations → ℕ → ℕ → List Typ → List Head → Bool → Type 0
-VariantFree D i k ts hs true = (has hs (chosen i k) ≡ false) × ((vs : Values) × HaveTypes D ts vs)
-VariantFree D i k ts hs false = (vs : Values) → HaveTypes D ts vs → has hs (chosen i k) ≡ true
+VariantFree D i k ts hs true = (has hs (chosen i k) ≡ false) × ((vs : Values) × AreOfTypes D ts vs)
+VariantFree D i k ts hs false = (vs : Values) → AreOfTypes D ts vs → has hs (chosen i k) ≡ true
 
 -- a value of the type with this head, where there is one
 abbrev pub Headed : Declarations → Typ → Head → Option plain.Value → Type 0
-Headed D t h None = (vs : Values) → HaveTypes D (types_under D t h) vs → ⊥
-Headed D t h (Some v) = HasType D t v × (head_of v ≡ h)
+Headed D t h None = (vs : Values) → AreOfTypes D (types_under D t h) vs → ⊥
+Headed D t h (Some v) = IsOfType D t v × (head_of v ≡ h)
 
 -- ---- values that are written, node by node
 
@@ -85,8 +85,8 @@ Begins D t pending awaiting old new false = HeadApart D t [] None
 
 -- values of these types are written, or there are none
 abbrev pub Writes : Declarations → List Typ → List Node → List Node → Bool → Type 0
-Writes D ts old new true = (vs : Values) × HaveTypes D ts vs × (new ≡ old ++ nodes_of vs)
-Writes D ts old new false = (vs : Values) → HaveTypes D ts vs → ⊥
+Writes D ts old new true = (vs : Values) × AreOfTypes D ts vs × (new ≡ old ++ nodes_of vs)
+Writes D ts old new false = (vs : Values) → AreOfTypes D ts vs → ⊥
 
 -- what stands at an item's number
 pub data IsStruct : Option Declared → List FieldDeclared → Type 0 where
@@ -104,11 +104,11 @@ Free hs g most (Some m) = (m ≤ most) × (has hs (whole (with_sign g m)) ≡ fa
 pub record Added (D : Declarations) (ts : List Typ) (old new : List Value) : Type 0 where
   pub more : List Value
   pub is : new ≡ old ++ more
-  pub typed : HaveTypes D ts (plain_values more)
+  pub typed : AreOfTypes D ts (plain_values more)
 
 abbrev pub Adds : Declarations → List Typ → List Value → List Value → Bool → Type 0
 Adds D ts old new true = Added D ts old new
-Adds D ts old new false = (vs : Values) → HaveTypes D ts vs → ⊥
+Adds D ts old new false = (vs : Values) → AreOfTypes D ts vs → ⊥
 
 -- the values of a list from its end
 abbrev pub stacked_onto : Values → List Value → Values
@@ -127,13 +127,13 @@ Settles D ts rows (Some vs) = Misses D ts rows (stacked vs)
 pub record Rebuilt (D : Declarations) (t : Typ) (h : Head) (mask : List Bool) (us ts : List Typ) (stack all : List Value) : Type 0 where
   pub parts : Values
   pub others : Values
-  pub typed : HaveTypes D us parts
-  pub rest : HaveTypes D ts others
+  pub typed : AreOfTypes D us parts
+  pub rest : AreOfTypes D ts others
   pub kept : kept_values mask parts others ≡ stacked stack
   pub is : stacked all ≡ value_and (with_head t h parts) others
 
 abbrev pub Rebuilds : Declarations → Typ → Head → List Bool → List Typ → List Typ → List Value → Option (List Value) → Type 0
-Rebuilds D t h mask us ts stack None = (vs : Values) → HaveTypes D us vs → ⊥
+Rebuilds D t h mask us ts stack None = (vs : Values) → AreOfTypes D us vs → ⊥
 Rebuilds D t h mask us ts stack (Some all) = Rebuilt D t h mask us ts stack all
 
 -- the same for the values whose first has this head
@@ -155,13 +155,13 @@ SettlesHeads D t ts hs rows (Some vs) = Misses D (t ∷ ts) rows (stacked vs)
 pub record Refilled (D : Declarations) (mask : List Bool) (us ts : List Typ) (stack parts left new : List Value) : Type 0 where
   pub more : List Value
   pub is : new ≡ parts ++ more
-  pub typed : HaveTypes D us (plain_values more)
-  pub rest : HaveTypes D ts (stacked left)
+  pub typed : AreOfTypes D us (plain_values more)
+  pub rest : AreOfTypes D ts (stacked left)
   pub kept : kept_values mask (plain_values more) (stacked left) ≡ stacked stack
 
 abbrev pub Refills : Declarations → List Bool → List Typ → List Typ → List Value → List Value → List Value → List Value → Bool → Type 0
 Refills D mask us ts stack parts left new true = Refilled D mask us ts stack parts left new
-Refills D mask us ts stack parts left new false = (vs : Values) → HaveTypes D us vs → ⊥
+Refills D mask us ts stack parts left new false = (vs : Values) → AreOfTypes D us vs → ⊥
 
 -- the last value of a list is moved to the end of another
 pub data Takes : List Value → List Value → List Value → List Value → Bool → Type 0 where
@@ -174,7 +174,7 @@ pub data Finished : List Value → plain.Value → List Value → Type 0 where
 
 -- a stack has values of these types, and more
 pub record Stacked (D : Declarations) (ts : List Typ) (stack : List Value) : Type 0 where
-  pub typed : HaveTypes D ts (stacked stack)
+  pub typed : AreOfTypes D ts (stacked stack)
 
 -- all are heads of the type
 abbrev pub AllHeads : Declarations → Typ → List Head → Type 0
@@ -188,13 +188,13 @@ pub record HeadsOf (D : Declarations) (t : Typ) (hs : List Head) : Type 0 where
 
 -- the stack with a value apart from these heads at its end, where there is one
 abbrev pub Besides : Declarations → Typ → List Head → List Value → Option (List Value) → Type 0
-Besides D t hs stack None = (v : plain.Value) → HasType D t v → has hs (head_of v) ≡ true
-Besides D t hs stack (Some all) = (v : plain.Value) × HasType D t v × (has hs (head_of v) ≡ false) × (stacked all ≡ value_and v (stacked stack))
+Besides D t hs stack None = (v : plain.Value) → IsOfType D t v → has hs (head_of v) ≡ true
+Besides D t hs stack (Some all) = (v : plain.Value) × IsOfType D t v × (has hs (head_of v) ≡ false) × (stacked all ≡ value_and v (stacked stack))
 
 -- a value that no pattern matches, where there is one
 abbrev pub Missed : Declarations → Typ → List Pattern → Option plain.Value → Type 0
 Missed D t ps None = Covers D t ps
-Missed D t ps (Some v) = HasType D t v × (SomeMatches ps v → ⊥)
+Missed D t ps (Some v) = IsOfType D t v × (SomeMatches ps v → ⊥)
 
 -- the last of a list
 abbrev pub IsLast : List Value → Option Value → Type 0

@@ -5,20 +5,20 @@ use Rattle.rx_core.specs.declared.types.Kind.{Kind}
 use Rattle.rx_typed.specs.Types.{Typ, integer, boolean, tuple_of, reference, named, Shapes, no_shape, shape_and, shapes_of}
 use Rattle.rx_typed.specs.Types.{Declared, struct_declared, enum_declared, Declarations, VariantDeclared}
 use Rattle.rx_typed_declarations.specs.Held.{field_types}
-use Rattle.rx_cover.specs.Values.{Value, Values, HasType, HaveTypes}
+use Rattle.rx_cover.specs.Values.{Value, Values, IsOfType, AreOfTypes}
 
 abbrev pub told : List Bool → ℕ → Bool
 told table i = slice_index_or table i false
 
 -- whether a type has values
 abbrev pub Valued : Declarations → Typ → Bool → Type 0
-Valued D t true = (v : Value) × HasType D t v
-Valued D t false = (v : Value) → HasType D t v → ⊥
+Valued D t true = (v : Value) × IsOfType D t v
+Valued D t false = (v : Value) → IsOfType D t v → ⊥
 
 -- whether there are values of these types, one after the other
 abbrev pub AllValued : Declarations → List Typ → Bool → Type 0
-AllValued D ts true = (vs : Values) × HaveTypes D ts vs
-AllValued D ts false = (vs : Values) → HaveTypes D ts vs → ⊥
+AllValued D ts true = (vs : Values) × AreOfTypes D ts vs
+AllValued D ts false = (vs : Values) → AreOfTypes D ts vs → ⊥
 
 -- a table says of each struct and enum whether it has values
 pub record Inhabited (D : Declarations) (table : List Bool) : Type 0 where

@@ -4,7 +4,7 @@ use Rattle.rx_typed.specs.Types.{Typ, Declarations}
 use Rattle.rx_typed.specs.Tree as tree
 use Rattle.rx_typed.specs.Tree.{Pattern, any, bind, exactly, parts, behind, Subpatterns, no_part, part_and, whole_number}
 use Rattle.rx_cover.specs.Values as value
-use Rattle.rx_cover.specs.Values.{Value, Values, number, tuple, made, pointing, no_value, value_and, HasType}
+use Rattle.rx_cover.specs.Values.{Value, Values, number, tuple, made, pointing, no_value, value_and, IsOfType}
 
 -- what is asked of a part, by its number
 abbrev pub part_of : Subpatterns → ℕ → Pattern
@@ -35,4 +35,4 @@ SomeMatches (p ∷ ps) v = Matches p v ⊎ SomeMatches ps v
 
 -- every value of the type matches some pattern
 abbrev pub Covers : Declarations → Typ → List Pattern → Type 0
-Covers D t ps = (v : Value) → HasType D t v → SomeMatches ps v
+Covers D t ps = (v : Value) → IsOfType D t v → SomeMatches ps v

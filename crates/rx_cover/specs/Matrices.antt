@@ -2,7 +2,7 @@
 use Rattle.std.specs.Prelude.{◌≡◌, ℕ, suc, ◌+◌, ◌<◌, ◌≤◌, nat_le, nat_lt, not, Bool, true, false, ◌&&◌, ◌||◌, if◌then◌else◌, ◌⊎◌, List, [], ◌∷◌, ◌++◌, Option, Some, None, slice_set}
 use Rattle.rx_typed.specs.Types.{Typ, Declarations}
 use Rattle.rx_typed.specs.Tree.{Pattern, any, bind, exactly, parts, variant, behind, Subpatterns, no_part, part_and}
-use Rattle.rx_cover.specs.Values.{Value, Values, no_value, value_and, HasType, HaveTypes}
+use Rattle.rx_cover.specs.Values.{Value, Values, no_value, value_and, IsOfType, AreOfTypes}
 use Rattle.rx_cover.specs.Matching.{part_of, Matches}
 use Rattle.rx_cover.specs.Heads.{Head, head_in, parts_in, head_of, same_head, has, place, with_one, IsHead, is_head}
 
@@ -21,16 +21,16 @@ SomeRow (r ∷ rs) vs = MatchRow r vs ⊎ SomeRow rs vs
 
 -- every list of values of these types matches some row
 pub record CoversAll (D : Declarations) (ts : List Typ) (rows : List Row) : Type 0 where
-  pub each : (vs : Values) → HaveTypes D ts vs → SomeRow rows vs
+  pub each : (vs : Values) → AreOfTypes D ts vs → SomeRow rows vs
 
 -- values of these types that no row matches
 pub record Misses (D : Declarations) (ts : List Typ) (rows : List Row) (vs : Values) : Type 0 where
-  pub typed : HaveTypes D ts vs
+  pub typed : AreOfTypes D ts vs
   pub apart : SomeRow rows vs → ⊥
 
 -- every such list whose first value has this head
 pub record CoversHead (D : Declarations) (t : Typ) (ts : List Typ) (h : Head) (rows : List Row) : Type 0 where
-  pub each : (v : Value) (vs : Values) → HasType D t v → HaveTypes D ts vs → head_of v ≡ h → SomeRow rows (value_and v vs)
+  pub each : (v : Value) (vs : Values) → IsOfType D t v → AreOfTypes D ts vs → head_of v ≡ h → SomeRow rows (value_and v vs)
 
 -- such a list that no row matches, whose first value has this head
 pub record MissesHead (D : Declarations) (t : Typ) (ts : List Typ) (h : Head) (rows : List Row) (vs : Values) : Type 0 where
@@ -42,7 +42,7 @@ pub record MissesHead (D : Declarations) (t : Typ) (ts : List Typ) (h : Head) (r
 
 -- the same of the heads from one place of a list to before another
 pub record CoversRange (D : Declarations) (t : Typ) (ts : List Typ) (heads : List Head) (low high : ℕ) (rows : List Row) : Type 0 where
-  pub each : (v : Value) (vs : Values) → HasType D t v → HaveTypes D ts vs → low ≤ place heads (head_of v) → place heads (head_of v) < high → SomeRow rows (value_and v vs)
+  pub each : (v : Value) (vs : Values) → IsOfType D t v → AreOfTypes D ts vs → low ≤ place heads (head_of v) → place heads (head_of v) < high → SomeRow rows (value_and v vs)
 
 pub record MissesRange (D : Declarations) (t : Typ) (ts : List Typ) (heads : List Head) (low high : ℕ) (rows : List Row) (vs : Values) : Type 0 where
   pub misses : Misses D (t ∷ ts) rows vs
@@ -54,7 +54,7 @@ pub record MissesRange (D : Declarations) (t : Typ) (ts : List Typ) (heads : Lis
 
 -- every such list whose first value has one of these heads
 pub record CoversHeads (D : Declarations) (t : Typ) (ts : List Typ) (heads : List Head) (rows : List Row) : Type 0 where
-  pub each : (v : Value) (vs : Values) → HasType D t v → HaveTypes D ts vs → has heads (head_of v) ≡ true → SomeRow rows (value_and v vs)
+  pub each : (v : Value) (vs : Values) → IsOfType D t v → AreOfTypes D ts vs → has heads (head_of v) ≡ true → SomeRow rows (value_and v vs)
 
 -- ---- what a head leaves of a matrix
 

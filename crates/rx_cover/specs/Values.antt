@@ -49,18 +49,18 @@ is_struct (Some (struct_declared c l fs)) = true
 is_struct _ = false
 
 abbrev mutual
-  pub HasType : Declarations → Typ → Value → Type 0
-  HasType D (integer k) (number n) = InKind k n
-  HasType D boolean (truth b) = Unit {0}
-  HasType D (tuple_of ts) (tuple vs) = HaveTypes D (shapes_listed ts) vs
-  HasType D (reference m t) (pointing v) = HasType D t v
-  HasType D (named i) (made j vs) =
-      (i ≡ j) × (is_struct (slice_get D i) ≡ true) × HaveTypes D (field_types (fields_declared (slice_get D i))) vs
-  HasType D (named i) (variant j k vs) =
-      (i ≡ j) × (k < length (variants_declared (slice_get D i))) × HaveTypes D (variant_parts D i k) vs
-  HasType D _ _ = ⊥
+  pub IsOfType : Declarations → Typ → Value → Type 0
+  IsOfType D (integer k) (number n) = InKind k n
+  IsOfType D boolean (truth b) = Unit {0}
+  IsOfType D (tuple_of ts) (tuple vs) = AreOfTypes D (shapes_listed ts) vs
+  IsOfType D (reference m t) (pointing v) = IsOfType D t v
+  IsOfType D (named i) (made j vs) =
+      (i ≡ j) × (is_struct (slice_get D i) ≡ true) × AreOfTypes D (field_types (fields_declared (slice_get D i))) vs
+  IsOfType D (named i) (variant j k vs) =
+      (i ≡ j) × (k < length (variants_declared (slice_get D i))) × AreOfTypes D (variant_parts D i k) vs
+  IsOfType D _ _ = ⊥
 
-  pub HaveTypes : Declarations → List Typ → Values → Type 0
-  HaveTypes D [] no_value = Unit {0}
-  HaveTypes D (t ∷ ts) (value_and v vs) = HasType D t v × HaveTypes D ts vs
-  HaveTypes D _ _ = ⊥
+  pub AreOfTypes : Declarations → List Typ → Values → Type 0
+  AreOfTypes D [] no_value = Unit {0}
+  AreOfTypes D (t ∷ ts) (value_and v vs) = IsOfType D t v × AreOfTypes D ts vs
+  AreOfTypes D _ _ = ⊥

@@ -2,7 +2,7 @@
 
 ghost use Rattle.std.specs.Prelude.{◌≡◌};
 ghost use Rattle.rx_graph_cycles.specs.Reaches.{NoCycle};
-ghost use Rattle.rx_typed_declarations.specs.Held.{held};
+ghost use Rattle.rx_typed_declarations.specs.Held.{held_by_each};
 ghost use Rattle.rx_typed.specs.PlainTypes.{declarations};
 ghost use Rattle.rx_typed.specs.PlainTree.{plain-Expr};
 ghost use Rattle.rx_cover.specs.Choices.{Choice as PlainChoice, choices_of};
@@ -58,7 +58,7 @@ pub fn covers(
     spans: &[Span],
     tree: &TypedTree,
 ) -> Result<(), CoverFault>
-    requires finite { NoCycle (held (declarations decls.now.items)) }
+    requires finite { NoCycle (held_by_each (declarations decls.now.items)) }
     requires numbered { finding.Numbered (declarations decls.now.items) }
     requires inhabited { Inhabited (declarations decls.now.items) inhabited.now }
     ensures { spec.Answers (declarations decls.now.items) spans.now (choices_of (plain-Expr tree.now.body)) result }

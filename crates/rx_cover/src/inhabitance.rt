@@ -3,7 +3,7 @@
 ghost use Rattle.std.specs.Prelude.{◌≡◌, ◌<◌, false, IfOk, length, map, replicate, slice_get};
 ghost use Rattle.rx_typed.specs.Types.{shapes_of};
 ghost use Rattle.rx_typed.specs.PlainTypes.{plain-Ty, plain-FieldDecl, plain-VariantDecl, declarations};
-ghost use Rattle.rx_typed_declarations.specs.Held.{field_types, held as held_spec};
+ghost use Rattle.rx_typed_declarations.specs.Held.{field_types, held_by_each as held_spec};
 ghost use Rattle.rx_graph_cycles.specs.Reaches.{NoCycle};
 ghost use Rattle.rx_cover.specs.Inhabited as spec;
 

@@ -2,7 +2,7 @@
 
 ghost use Rattle.std.specs.Prelude.{◌≡◌, IfOk, map, option_map};
 ghost use Rattle.rx_graph_cycles.specs.Reaches.{NoCycle};
-ghost use Rattle.rx_typed_declarations.specs.Held.{held};
+ghost use Rattle.rx_typed_declarations.specs.Held.{held_by_each};
 ghost use Rattle.rx_typed.specs.PlainTypes.{declarations};
 ghost use Rattle.rx_typed.specs.PlainTree.{plain-Expr};
 ghost use Rattle.rx_cover.specs.Choices.{choices_of};
@@ -97,7 +97,7 @@ pub(crate) fn first_problem(
     inhabited: &[bool],
     tree: &TypedTree,
 ) -> Result<Option<(usize, Problem)>, AllocError>
-    requires finite { NoCycle (held (declarations decls.now.items)) }
+    requires finite { NoCycle (held_by_each (declarations decls.now.items)) }
     requires numbered { finding.Numbered (declarations decls.now.items) }
     requires inhabited { Inhabited (declarations decls.now.items) inhabited.now }
     ensures { IfOk result (λ o. spec.Told (declarations decls.now.items) (choices_of (plain-Expr tree.now.body)) o) }

@@ -9,7 +9,7 @@ use Rattle.rx_resolve_names.specs.declared.resolved.ItemNames.{ItemNames}
 use Rattle.rx_typed.specs.Types as types
 use Rattle.rx_typed.specs.Types.{Declarations, Typ, integer, boolean, tuple_of, reference, no_shape, shape_and, unit_shape, result_declared}
 use Rattle.rx_typed.specs.PlainTypes.{declarations}
-use Rattle.rx_typed_declarations.specs.Held.{held}
+use Rattle.rx_typed_declarations.specs.Held.{held_by_each}
 use Rattle.rx_typed_declarations.specs.Sizes.{Sized}
 use Rattle.rx_typeck_typed.specs.declared.typed.Typed.{Typed}
 use Rattle.rx_typeck_typed.specs.declared.typed.TypedFn.{TypedFn}
@@ -87,8 +87,8 @@ module _ (T : Text) (d : Case) (n made : ℕ) (q : ProgramTree) (u : Typed) wher
 
 -- ---- what meets all conditions
 
-module _ (finite : (p : ProgramTree) (names : List ItemNames) (t : Typed) → IsTyped p names t → NoCycle (held (declarations t.decls.items)))
-    (one_size : (D : Declarations) (P Q : ℕ → ℕ) → NoCycle (held D) → Sized D P → Sized D Q → (i : ℕ) → P i ≡ Q i)
+module _ (finite : (p : ProgramTree) (names : List ItemNames) (t : Typed) → IsTyped p names t → NoCycle (held_by_each (declarations t.decls.items)))
+    (one_size : (D : Declarations) (P Q : ℕ → ℕ) → NoCycle (held_by_each D) → Sized D P → Sized D Q → (i : ℕ) → P i ≡ Q i)
     (numbered : (bytes : List ℕ) (p : ProgramTree) → Parses bytes p → length bytes ≤ 1048576 → IsNumbered p)
     (bytes : List ℕ) (w : Wish) (x : Extracts bytes w) (short : length bytes ≤ 1048576) where
   abbrev T : Text

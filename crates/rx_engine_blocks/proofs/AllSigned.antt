@@ -5,7 +5,7 @@ use Rattle.rx_typed.specs.Types.{integer, peeled}
 use Rattle.rx_typeck_solver.specs.declared.facts.Subject.{Subject}
 use Rattle.rx_typeck_solver.specs.declared.facts.Subject.TheVariants as subject
 use Rattle.rx_typeck_solver.specs.declared.facts.Demand.{Demand}
-use Rattle.rx_typeck_solver.specs.Facts.{Types, Known}
+use Rattle.rx_typeck_solver.specs.Facts.{Assignment, KnownItems}
 use Rattle.rx_typeck_solver.specs.Valid.{IsIn, Told, Valid, literals_of}
 use Rattle.rx_typeck_solver.specs.Ordered.{Orderly}
 use Rattle.rx_engine_blocks.specs.Renumbering.{Renumbering, shape_at, subject_at}
@@ -15,8 +15,8 @@ use Rattle.rx_engine_blocks.proofs.Meets.{peeled_at}
 use Rattle.rx_engine_blocks.proofs.Outlines.{composed_sees, tests_met}
 use Rattle.rx_engine_blocks.proofs.Viewing.{peeled_shared}
 
-module _ (r : Renumbering) (u : PartialInverse r) (view : Viewed) (behind : Behind) (IsFixed : Subject → Type 0) (D E : Known) (A V : Types) (ds es : List Demand) where
-  abbrev A' : Types
+module _ (r : Renumbering) (u : PartialInverse r) (view : Viewed) (behind : Behind) (IsFixed : Subject → Type 0) (D E : KnownItems) (A V : Assignment) (ds es : List Demand) where
+  abbrev A' : Assignment
   A' = composed r u view A V
 
   kind_there : (m n : ℕ) → r.nodes m ≡ n → peeled (A (subject.Node m)) ≡ integer Kind.I32 → peeled (A' (subject.Node n)) ≡ integer Kind.I32

@@ -4,7 +4,7 @@ use Rattle.std.proofs.Common.{◌≡◌, ℕ, List, [], ◌∷◌, ◌++◌, app
 use Rattle.rx_typed.specs.Types.{outline}
 use Rattle.rx_typeck_solver.specs.declared.facts.Subject.{Subject}
 use Rattle.rx_typeck_solver.specs.declared.facts.Demand.{Demand}
-use Rattle.rx_typeck_solver.specs.Facts.{Types, Known, MeetsEach}
+use Rattle.rx_typeck_solver.specs.Facts.{Assignment, KnownItems, MeetsEach}
 use Rattle.rx_typeck_solver.specs.Valid.{IsIn, Told, Valid, literals_of}
 use Rattle.rx_typeck_solver.specs.Ordered.{Orderly}
 use Rattle.rx_engine_blocks.specs.Renumbering.{Renumbering, shape_at, subject_at}
@@ -29,7 +29,7 @@ use Rattle.rx_engine_blocks.proofs.Tying.{part_alike, part_by_itself}
 
 -- ---- what is among others
 
-among_met : (D : Known) (A : Types) (run text : List Demand) → Among run text → MeetsEach D A text → MeetsEach D A run
+among_met : (D : KnownItems) (A : Assignment) (run text : List Demand) → Among run text → MeetsEach D A text → MeetsEach D A run
 among_met D A run text a h = (first D A run a.back (first D A a.front (run ++ a.back) (subst (MeetsEach D A) a.is h)).1).0
 
 among_literal : (run text : List Demand) → Among run text → (n : ℕ) → IsIn n (literals_of run) → IsIn n (literals_of text)
@@ -37,7 +37,7 @@ among_literal run text a n i = subst (λ ds. IsIn n (literals_of ds)) (sym a.is)
 
 -- ---- what a part tells is enough for what is copied into it
 
-module _ (q : Renumbering) (behind : Behind) (fs : List Demand) (D : Known) (A B : Types) (s : (x : Subject) → ToldIn q behind fs x → A x ≡ B x)
+module _ (q : Renumbering) (behind : Behind) (fs : List Demand) (D : KnownItems) (A B : Assignment) (s : (x : Subject) → ToldIn q behind fs x → A x ≡ B x)
     (Special : List Demand → List Demand → Type 0) (special : (es es' : List Demand) → Special es es' → EachAbout (Told fs) es' → MeetsEach D A es → MeetsEach D B es) where
   copied_met : {gs gs' : List Demand} → DemandsLike q Special gs gs' → EachAbout (Told fs) gs' → MeetsEach D A gs → MeetsEach D B gs
   copied_met like_no_demand k h = tt
@@ -51,7 +51,7 @@ module _ (q : Renumbering) (behind : Behind) (fs : List Demand) (D : Known) (A B
 
 -- ---- the part that has the run
 
-module _ (r : Renumbering) (u : PartialInverse r) (view : Viewed) (behind : Behind) (q : Renumbering) (Ordinary : List Demand → List Demand → Type 0) (fs : List Demand) (D E : Known) (known : Knows r D E) (A V : Types)
+module _ (r : Renumbering) (u : PartialInverse r) (view : Viewed) (behind : Behind) (q : Renumbering) (Ordinary : List Demand → List Demand → Type 0) (fs : List Demand) (D E : KnownItems) (known : Knows r D E) (A V : Assignment)
     (elsewhere : (gs gs' : List Demand) → Ordinary gs gs' → EachAbout (Told fs) gs' → Elsewhere D A (ToldIn q none_behind fs) gs)
     (text run head copy end call : List Demand) where
   abbrev There : Subject → Type 0
@@ -61,7 +61,7 @@ module _ (r : Renumbering) (u : PartialInverse r) (view : Viewed) (behind : Behi
   B2 = Block r u view behind There D E A V
 
   -- what stands round the run, where the run is met
-  round_met : (B : Types) → ((x : Subject) → outline (A x) ≡ outline (B x)) → ((x : Subject) → There x → A x ≡ B x) → MeetsEach D B run
+  round_met : (B : Assignment) → ((x : Subject) → outline (A x) ≡ outline (B x)) → ((x : Subject) → There x → A x ≡ B x) → MeetsEach D B run
       → (gs gs' : List Demand) → Round Ordinary run call gs gs' → EachAbout (Told fs) gs' → MeetsEach D A gs → MeetsEach D B gs
   round_met B o s w gs gs' (ordinary z) k h = elsewhere gs gs' z k B o s h
   round_met B o s w gs gs' instead k h = w
@@ -80,8 +80,8 @@ module _ (r : Renumbering) (u : PartialInverse r) (view : Viewed) (behind : Behi
 -- ---- both parts
 
 -- both are blocks
-pub both_blocks : (r : Renumbering) (u : PartialInverse r) (view : Viewed) (refs : Behind) (q : Renumbering) (w : PartialInverse q) (D E : Known) → Knows r D E → Knows q D E
-    → (A V W : Types) (text run call head copy end es fs : List Demand) → es ≡ head ++ (copy ++ end) → Among run text
+pub both_blocks : (r : Renumbering) (u : PartialInverse r) (view : Viewed) (refs : Behind) (q : Renumbering) (w : PartialInverse q) (D E : KnownItems) → Knows r D E → Knows q D E
+    → (A V W : Assignment) (text run call head copy end es fs : List Demand) → es ≡ head ++ (copy ++ end) → Among run text
     → DemandsLike r (StandsFor r u view refs (ToldIn q none_behind fs) D E A V es) run copy
     → DemandsLike q (Round (StandsFor q w none_viewed none_behind (ToldIn r refs es) D E A W fs) run call) text fs
     → Orderly (task_of es) → Orderly (task_of fs) → MeetsEach E V es → MeetsEach E W fs → MutableAt view A → EachCopies view A run
@@ -116,8 +116,8 @@ both_blocks r u view refs q w D E k m A V W text run call head copy end es fs i 
     round c gs gs' instead = subst (λ xs. Block q w none_viewed none_behind Here D E A W xs call) (append-nil run)
         (block_then q w none_viewed none_behind Here D E A W run [] [] call (left q w none_viewed none_behind Here D E m A W run run_elsewhere) (added q w none_viewed none_behind Here D E m A W call c))
 
-pub both_alike : (r : Renumbering) (u : PartialInverse r) (view : Viewed) (refs : Behind) (q : Renumbering) (w : PartialInverse q) (D E : Known) → Knows r D E → Knows q D E
-    → (A V W : Types) (text run call head copy end es fs : List Demand) → es ≡ head ++ (copy ++ end) → Among run text
+pub both_alike : (r : Renumbering) (u : PartialInverse r) (view : Viewed) (refs : Behind) (q : Renumbering) (w : PartialInverse q) (D E : KnownItems) → Knows r D E → Knows q D E
+    → (A V W : Assignment) (text run call head copy end es fs : List Demand) → es ≡ head ++ (copy ++ end) → Among run text
     → DemandsLike r (StandsFor r u view refs (ToldIn q none_behind fs) D E A V es) run copy
     → DemandsLike q (Round (StandsFor q w none_viewed none_behind (ToldIn r refs es) D E A W fs) run call) text fs
     → Orderly (task_of es) → Orderly (task_of fs) → Valid D (task_of text) A → Valid E (task_of es) V → Valid E (task_of fs) W
@@ -133,8 +133,8 @@ both_alike r u view refs q w D E k m A V W text run call head copy end es fs i a
     )
 
 -- where nothing says that they are accepted
-pub both_by_themselves : (r : Renumbering) (u : PartialInverse r) (view : Viewed) (refs : Behind) (q : Renumbering) (w : PartialInverse q) (D E : Known) → Knows r D E → Knows q D E
-    → (A V W : Types) (text run call head copy end es fs : List Demand) → es ≡ head ++ (copy ++ end) → Among run text
+pub both_by_themselves : (r : Renumbering) (u : PartialInverse r) (view : Viewed) (refs : Behind) (q : Renumbering) (w : PartialInverse q) (D E : KnownItems) → Knows r D E → Knows q D E
+    → (A V W : Assignment) (text run call head copy end es fs : List Demand) → es ≡ head ++ (copy ++ end) → Among run text
     → DemandsLike r (StandsFor r u view refs (ToldIn q none_behind fs) D E A V es) run copy
     → DemandsLike q (Round (StandsFor q w none_viewed none_behind (ToldIn r refs es) D E A W fs) run call) text fs
     → Orderly (task_of es) → Orderly (task_of fs) → Valid D (task_of text) A → AllReferences r u view refs E A es → MutableAt view A → EachCopies view A run

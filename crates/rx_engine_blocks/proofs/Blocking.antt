@@ -2,7 +2,7 @@
 use Rattle.std.proofs.Common.{List, [], ◌∷◌, ◌++◌, ⊎_elim}
 use Rattle.rx_typeck_solver.specs.declared.facts.Subject.{Subject}
 use Rattle.rx_typeck_solver.specs.declared.facts.Demand.{Demand}
-use Rattle.rx_typeck_solver.specs.Facts.{Types, Known, MeetsEach}
+use Rattle.rx_typeck_solver.specs.Facts.{Assignment, KnownItems, MeetsEach}
 use Rattle.rx_engine_blocks.specs.Renumbering.{Renumbering}
 use Rattle.rx_engine_blocks.specs.Along.{PartialInverse, Viewed, composed}
 use Rattle.rx_engine_blocks.specs.Untested.{untested}
@@ -10,11 +10,11 @@ use Rattle.rx_engine_blocks.specs.Blocks.{Behind, Block}
 use Rattle.rx_engine_blocks.proofs.Meets.{first}
 use Rattle.rx_engine_blocks.proofs.Split.{both_met, literal_split, literal_left, literal_right}
 
-untested_both : (D : Known) (A : Types) (xs ys : List Demand) → MeetsEach D A (untested xs) → MeetsEach D A (untested ys) → MeetsEach D A (untested (xs ++ ys))
+untested_both : (D : KnownItems) (A : Assignment) (xs ys : List Demand) → MeetsEach D A (untested xs) → MeetsEach D A (untested ys) → MeetsEach D A (untested (xs ++ ys))
 untested_both D A [] ys h k = k
 untested_both D A (x ∷ xs) ys h k = (h.0, untested_both D A xs ys h.1 k)
 
-module _ (r : Renumbering) (u : PartialInverse r) (view : Viewed) (behind : Behind) (IsFixed : Subject → Type 0) (D D' : Known) (A V : Types) where
+module _ (r : Renumbering) (u : PartialInverse r) (view : Viewed) (behind : Behind) (IsFixed : Subject → Type 0) (D D' : KnownItems) (A V : Assignment) where
   abbrev B2 : List Demand → List Demand → Type 0
   B2 = Block r u view behind IsFixed D D' A V
 

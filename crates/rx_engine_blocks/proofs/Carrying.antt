@@ -3,18 +3,18 @@ use Rattle.std.proofs.Common.{◌≡◌, ℕ, sym, ap, ◌∙◌, inl, inr, ◌�
 use Rattle.rx_core.specs.declared.types.Kind.{Kind}
 use Rattle.rx_typed.specs.Types.{integer, peeled}
 use Rattle.rx_typeck_solver.specs.declared.facts.Subject.TheVariants as subject
-use Rattle.rx_typeck_solver.specs.Facts.{Types, Known}
+use Rattle.rx_typeck_solver.specs.Facts.{Assignment, KnownItems}
 use Rattle.rx_typeck_solver.specs.Valid.{Task, Typed, HasKind, IsIn, Open, PrefersI32, Agree, Valid}
 use Rattle.rx_typeck_solver.specs.Ordered.{Orderly}
 use Rattle.rx_engine_blocks.specs.Carried.{Accepted, Near, Carried, Whole}
 use Rattle.rx_engine_blocks.proofs.Combining.{asks_met, kind_same, Joined, joined}
 
-module _ (D D' : Known) (task task' : Task) (A A' : Types) (o : Orderly task') (v : Valid D task A) (c : Carried D D' task task' A A') where
-  kind : (B : Types) → Typed D' task' B → (n : ℕ) → IsIn n task'.literals → (k : Kind) × HasKind D' task' B n k
+module _ (D D' : KnownItems) (task task' : Task) (A A' : Assignment) (o : Orderly task') (v : Valid D task A) (c : Carried D D' task task' A A') where
+  kind : (B : Assignment) → Typed D' task' B → (n : ℕ) → IsIn n task'.literals → (k : Kind) × HasKind D' task' B n k
   kind B t n i = asks_met D' B n task'.demands (o.literals n i) t
 
   -- a literal has the kind that the text gives it, or another one
-  same_or : (B : Types) → Typed D' task' B → (n : ℕ) → IsIn n task'.literals → (peeled (A' (subject.Node n)) ≡ peeled (B (subject.Node n))) ⊎ (peeled (A' (subject.Node n)) ≡ peeled (B (subject.Node n)) → ⊥)
+  same_or : (B : Assignment) → Typed D' task' B → (n : ℕ) → IsIn n task'.literals → (peeled (A' (subject.Node n)) ≡ peeled (B (subject.Node n))) ⊎ (peeled (A' (subject.Node n)) ≡ peeled (B (subject.Node n)) → ⊥)
   same_or B t n i =
       let k = kind A' c.typed n i in
       let l = kind B t n i in
@@ -22,10 +22,10 @@ module _ (D D' : Known) (task task' : Task) (A A' : Types) (o : Orderly task') (
 
   -- ---- what is open here is open in the text, or has i32
 
-  abbrev first : (B : Types) → Typed D' task' B → Joined D' task' o A' B
+  abbrev first : (B : Assignment) → Typed D' task' B → Joined D' task' o A' B
   first B t = joined D' task' o A' B c.typed t
 
-  near : (B : Types) (t : Typed D' task' B) → Near D D' task task' A A' (first B t).join
+  near : (B : Assignment) (t : Typed D' task' B) → Near D D' task task' A A' (first B t).join
   near B t n i h = (first B t).first n i h
 
   prefers : (n : ℕ) → Open D' task' n → HasKind D' task' A' n Kind.I32
@@ -60,7 +60,7 @@ module _ (D D' : Known) (task task' : Task) (A A' : Types) (o : Orderly task') (
 
   -- ---- and no other assignment is like that
 
-  module _ (h : Whole D D' task task' A A' c) (B : Types) (p : PrefersI32 D' task' B) where
+  module _ (h : Whole D D' task task' A A' c) (B : Assignment) (p : PrefersI32 D' task' B) where
     -- an open literal has i32 in both
     literal_is : (n : ℕ) → IsIn n task'.literals → (peeled (A' (subject.Node n)) ≡ peeled (B (subject.Node n))) ⊎ HasKind D' task' B n Kind.I32
     literal_is n i = ⊎_elim (λ e. inl e)

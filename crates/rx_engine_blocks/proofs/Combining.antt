@@ -7,7 +7,7 @@ use Rattle.rx_typeck_solver.specs.declared.facts.Subject.TheVariants as subject
 use Rattle.rx_typeck_solver.specs.declared.facts.Fact.{Fact}
 use Rattle.rx_typeck_solver.specs.declared.facts.Fact.TheVariants as fact
 use Rattle.rx_typeck_solver.specs.declared.facts.Demand.{Demand}
-use Rattle.rx_typeck_solver.specs.Facts.{Types, Known, has, MeetsAll, MeetsEach}
+use Rattle.rx_typeck_solver.specs.Facts.{Assignment, KnownItems, has, MeetsAll, MeetsEach}
 use Rattle.rx_typeck_solver.specs.Valid.{Task, Told, IsIn, Typed, HasKind}
 use Rattle.rx_typeck_solver.specs.Solver.{Leaf, Fixed, KindOf, Term, State, Root, Found, empty, filled_or, chosen, Found_all, Failed, Lacking, solve}
 use Rattle.rx_typeck_solver.specs.Ordered.{asks_integer, AsksInteger, Orderly}
@@ -19,7 +19,7 @@ use Rattle.rx_typeck_solver.proofs.Choice.{empty_good, empty_stands, Chooses, ch
 
 -- ---- a literal has a kind
 
-pub asks_fact : (D : Known) (A : Types) (n : ℕ) (fs : List Fact) → IsTrue (asks_integer n fs) → MeetsAll D A fs → (k : Kind) × (peeled (A (subject.Node n)) ≡ integer k)
+pub asks_fact : (D : KnownItems) (A : Assignment) (n : ℕ) (fs : List Fact) → IsTrue (asks_integer n fs) → MeetsAll D A fs → (k : Kind) × (peeled (A (subject.Node n)) ≡ integer k)
 asks_fact D A n [] h m = cc
 asks_fact D A n (fact.Integer j s ∷ fs) h m = go (nat_eq j n) refl h (λ i. asks_fact D A n fs i m.1)
   where
@@ -33,7 +33,7 @@ asks_fact D A n (fact.IntegerBehind j s ∷ fs) h m = go (nat_eq j n) refl h (λ
     go false e h r = r h
 asks_fact D A n (_ ∷ fs) h m = asks_fact D A n fs h m.1
 
-pub asks_met : (D : Known) (A : Types) (n : ℕ) (ds : List Demand) → AsksInteger ds n → MeetsEach D A ds → (k : Kind) × (peeled (A (subject.Node n)) ≡ integer k)
+pub asks_met : (D : KnownItems) (A : Assignment) (n : ℕ) (ds : List Demand) → AsksInteger ds n → MeetsEach D A ds → (k : Kind) × (peeled (A (subject.Node n)) ≡ integer k)
 asks_met D A n [] h m = absurd h
 asks_met D A n (d ∷ ds) (inl h) m = asks_fact D A n d.facts h.1 m.0
 asks_met D A n (d ∷ ds) (inr h) m = asks_met D A n ds h m.1
@@ -59,10 +59,10 @@ or_is _ l = inr (λ e. cc, refl)
 
 -- ---- the state that the solver finds stands for all typed assignments
 
-module _ (D : Known) (task : Task) (o : Orderly task) where
+module _ (D : KnownItems) (task : Task) (o : Orderly task) where
   -- and one that is joined with i32
-  pub record Joined (A B : Types) : Type 0 where
-    pub join : Types
+  pub record Joined (A B : Assignment) : Type 0 where
+    pub join : Assignment
     pub typed : Typed D task join
     pub first : (n : ℕ) → IsIn n task.literals → HasKind D task A n Kind.I32 → HasKind D task join n Kind.I32
     pub second : (n : ℕ) → IsIn n task.literals → HasKind D task A n Kind.I32 ⊎ (peeled (join (subject.Node n)) ≡ peeled (B (subject.Node n)))
@@ -71,24 +71,24 @@ module _ (D : Known) (task : Task) (o : Orderly task) where
     abbrev pub adds : Adds empty st (λ A. MeetsEach D A task.demands)
     adds = subst (λ r. IsFound D empty task.demands r) end (solve_step D task.demands empty empty_good)
 
-    pub stands_typed : (A : Types) → Stands A st → Typed D task A
+    pub stands_typed : (A : Assignment) → Stands A st → Typed D task A
     stands_typed A s = (adds.sound A s).1
 
-    pub typed_stands : (A : Types) → Typed D task A → Stands A st
+    pub typed_stands : (A : Assignment) → Typed D task A → Stands A st
     typed_stands A t = adds.complete A (empty_stands A) t
 
-    outlined : (A B : Types) → Typed D task A → Typed D task B → (x : Subject) → Told task.demands x → outline (A x) ≡ outline (B x)
+    outlined : (A B : Assignment) → Typed D task A → Typed D task B → (x : Subject) → Told task.demands x → outline (A x) ≡ outline (B x)
     outlined A B a b x t =
         let k = told_known D task st o end x t in
         let e : outline (A x) ≡ outline k.0 = ap outline ((typed_stands A a).shapes x k.0 k.1) ∙ outline_map (leaf_kind A) k.0 in
         let f : outline (B x) ≡ outline k.0 = ap outline ((typed_stands B b).shapes x k.0 k.1) ∙ outline_map (leaf_kind B) k.0 in
         e ∙ sym f
 
-    module _ (A B : Types) (sa : Stands A st) (sb : Stands B st) where
+    module _ (A B : Assignment) (sa : Stands A st) (sb : Stands B st) where
       abbrev χ : ℕ → Kind
       χ u = i32_or (kind_at A u) (kind_at B u)
 
-      abbrev both : Types
+      abbrev both : Assignment
       both = chosen st χ
 
       one_of : (P : Kind → Type 0) (k l : Kind) → P k → P l → P (i32_or k l)
@@ -128,7 +128,7 @@ module _ (D : Known) (task : Task) (o : Orderly task) where
           go None e = let q : peeled (both (subject.Node n)) ≡ unit_shape = ap (λ p. peeled (filled_or (λ c. χ (st.rep c)) p)) e in let r : unit_shape ≡ integer is.0 = sym q ∙ is.1 in absurd (cc)
           go (Some t) e = let p = integer_leaf (peeled t) isa.0 (sym (ap peeled (sa.shapes (subject.Node n) t e) ∙ peeled_map (leaf_kind A) t) ∙ isa.1) in (t, p.0, e, p.1)
 
-      leaf_type : (C : Types) (n : ℕ) (p : LeafOf n) → Stands C st → peeled (C (subject.Node n)) ≡ integer (leaf_kind C p.1)
+      leaf_type : (C : Assignment) (n : ℕ) (p : LeafOf n) → Stands C st → peeled (C (subject.Node n)) ≡ integer (leaf_kind C p.1)
       leaf_type C n p s = ap peeled (s.shapes (subject.Node n) p.0 p.2) ∙ peeled_map (leaf_kind C) p.0 ∙ ap (filled C) p.3
 
       leaf_rooted : (n : ℕ) (p : LeafOf n) → RootedLeaf st.shapes p.1
@@ -152,7 +152,7 @@ module _ (D : Known) (task : Task) (o : Orderly task) where
       }
 
   -- the solver finds a state, since something is typed
-  pub finds : {P : Type 0} → (A : Types) → Typed D task A → ((st : State) → solve D task.demands empty ≡ Found_all st → P) → P
+  pub finds : {P : Type 0} → (A : Assignment) → Typed D task A → ((st : State) → solve D task.demands empty ≡ Found_all st → P) → P
   finds {P} A t f = go (solve D task.demands empty) refl
     where
       go : (r : Found) → solve D task.demands empty ≡ r → P
@@ -160,8 +160,8 @@ module _ (D : Known) (task : Task) (o : Orderly task) where
       go (Failed d) e = absurd ((failed_breaks D task d e).2 A t)
       go Lacking e = absurd (not_lacking D task o e)
 
-  pub same_outlines : (A B : Types) → Typed D task A → Typed D task B → (x : Subject) → Told task.demands x → outline (A x) ≡ outline (B x)
+  pub same_outlines : (A B : Assignment) → Typed D task A → Typed D task B → (x : Subject) → Told task.demands x → outline (A x) ≡ outline (B x)
   same_outlines A B a b x t = finds A a (λ st e. outlined st e A B a b x t)
 
-  pub joined : (A B : Types) → Typed D task A → Typed D task B → Joined A B
+  pub joined : (A B : Assignment) → Typed D task A → Typed D task B → Joined A B
   joined A B a b = finds A a (λ st e. joined_at st e A B (typed_stands st e A a) (typed_stands st e B b))

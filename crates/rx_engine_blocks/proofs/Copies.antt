@@ -7,7 +7,7 @@ use Rattle.rx_typeck_solver.specs.declared.facts.Op.{Op}
 use Rattle.rx_typeck_solver.specs.declared.facts.Op.TheVariants as op
 use Rattle.rx_typeck_solver.specs.declared.facts.Fact.{Fact}
 use Rattle.rx_typeck_solver.specs.declared.facts.Fact.TheVariants as fact
-use Rattle.rx_typeck_solver.specs.Facts.{Types, Known, coerced, pointee, field_of, part_of, made, MeetsAll}
+use Rattle.rx_typeck_solver.specs.Facts.{Assignment, KnownItems, coerced, pointee, field_of, part_of, made, MeetsAll}
 use Rattle.rx_engine_blocks.specs.Renumbering.{Renumbering, shape_at, subject_at, passing_at, op_at, fact_at}
 use Rattle.rx_engine_blocks.specs.DemandsLike.{FactsLike}
 use Rattle.rx_engine_blocks.specs.DemandsLike.FactLike.{like_fact}
@@ -55,7 +55,7 @@ pointee_shared true (tuple_of ts) = refl
 pointee_shared true (named i) = refl
 pointee_shared false t = refl
 
-steps_shared : (D : Known) (r : Renumbering) {o : Op} → Steps o → (b : Bool) (t : Typ) → made (λ k. k) D.items (op_at r o) (shared b t ∷ []) [] ≡ made (λ k. k) D.items (op_at r o) (t ∷ []) []
+steps_shared : (D : KnownItems) (r : Renumbering) {o : Op} → Steps o → (b : Bool) (t : Typ) → made (λ k. k) D.items (op_at r o) (shared b t ∷ []) [] ≡ made (λ k. k) D.items (op_at r o) (t ∷ []) []
 steps_shared D r (to_field {x = x}) b t = ap (field_of (λ k. k) D.items x) (peeled_shared b t)
 steps_shared D r (to_part {k = k}) b t = ap (part_of k) (peeled_shared b t)
 steps_shared D r to_pointee b t = pointee_shared b t
@@ -69,9 +69,9 @@ inside m t v e = cc
 coerced_shared : (t e : Typ) → coerced (reference true t) (reference false e) ≡ reference true t → e ≡ t
 coerced_shared t e h = inside true e t h
 
-module _ (r : Renumbering) (u : PartialInverse r) (view : Viewed) (D D' : Known) (known : Knows r D D') (B C : Types) (sees : Sees r view B C) where
+module _ (r : Renumbering) (u : PartialInverse r) (view : Viewed) (D D' : KnownItems) (known : Knows r D D') (B C : Assignment) (sees : Sees r view B C) where
   -- the assignment of the answer if nothing were viewed
-  abbrev straight : Types
+  abbrev straight : Assignment
   straight = composed r u none_viewed B C
 
   straight_same : (x : Subject) → view x ≡ false → C (subject_at r x) ≡ straight (subject_at r x)
@@ -146,7 +146,7 @@ module _ (r : Renumbering) (u : PartialInverse r) (view : Viewed) (D D' : Known)
 
 -- ---- tests alone
 
-pub tests_there : (r : Renumbering) (D' : Known) (C : Types) {fs fs' : List Fact} → FactsLike r fs fs' → AllTests fs → MeetsAll D' C (no_tests fs')
+pub tests_there : (r : Renumbering) (D' : KnownItems) (C : Assignment) {fs fs' : List Fact} → FactsLike r fs fs' → AllTests fs → MeetsAll D' C (no_tests fs')
 tests_there r D' C like_no_fact a = tt
 tests_there r D' C (like_more_facts (like_fact {f = fact.Passes t xs ps qs}) l) a = tests_there r D' C l a
 tests_there r D' C (like_more_facts (like_fact {f = fact.Equals x o xs ps}) l) a = absurd a
@@ -154,7 +154,7 @@ tests_there r D' C (like_more_facts (like_fact {f = fact.Integer n s}) l) a = ab
 tests_there r D' C (like_more_facts (like_fact {f = fact.IntegerBehind n s}) l) a = absurd a
 tests_there r D' C (like_more_facts (like_fact {f = fact.Never}) l) a = absurd a
 
-pub tests_back : (D : Known) (A B : Types) → ((x : Subject) → outline (A x) ≡ outline (B x)) → (fs : List Fact) → AllTests fs → MeetsAll D A fs → MeetsAll D B fs
+pub tests_back : (D : KnownItems) (A B : Assignment) → ((x : Subject) → outline (A x) ≡ outline (B x)) → (fs : List Fact) → AllTests fs → MeetsAll D A fs → MeetsAll D B fs
 tests_back D A B o [] a h = tt
 tests_back D A B o (fact.Passes t xs ps qs ∷ fs) a h = (test_anywhere D A B o t xs ps qs h.0, tests_back D A B o fs a h.1)
 tests_back D A B o (_ ∷ fs) a h = absurd a

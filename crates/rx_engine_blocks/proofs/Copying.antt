@@ -7,7 +7,7 @@ use Rattle.rx_typeck_solver.specs.declared.facts.Fact.{Fact}
 use Rattle.rx_typeck_solver.specs.declared.facts.Fact.TheVariants as fact
 use Rattle.rx_typeck_solver.specs.declared.facts.Demand.{Demand}
 use Rattle.rx_typed.specs.Types.{outline}
-use Rattle.rx_typeck_solver.specs.Facts.{Types, Known, MeetsAll}
+use Rattle.rx_typeck_solver.specs.Facts.{Assignment, KnownItems, MeetsAll}
 use Rattle.rx_engine_blocks.specs.Renumbering.{Renumbering, fact_at}
 use Rattle.rx_engine_blocks.specs.DemandsLike.{Is, FactsLike, DemandLike, DemandsLike}
 use Rattle.rx_engine_blocks.specs.DemandsLike.Is.{itself}
@@ -34,11 +34,11 @@ only r f fs fs' e l = by fs' (subst (λ gs. FactsLike r gs fs') e l)
     by : (gs : List Fact) → FactsLike r (f ∷ []) gs → gs ≡ fact_at r f ∷ []
     by gs (like_more_facts like_fact like_no_fact) = refl
 
-module _ (r : Renumbering) (u : PartialInverse r) (view : Viewed) (behind : Behind) (IsFixed : Subject → Type 0) (D D' : Known) (known : Knows r D D') (A V : Types) (views : MutableAt view A) where
+module _ (r : Renumbering) (u : PartialInverse r) (view : Viewed) (behind : Behind) (IsFixed : Subject → Type 0) (D D' : KnownItems) (known : Knows r D D') (A V : Assignment) (views : MutableAt view A) where
   abbrev B2 : List Demand → List Demand → Type 0
   B2 = Block r u view behind IsFixed D D' A V
 
-  abbrev A' : Types
+  abbrev A' : Assignment
   A' = composed r u view A V
 
   is_so : {X : Type 0} {a b : X} → Is a b → a ≡ b
@@ -47,11 +47,11 @@ module _ (r : Renumbering) (u : PartialInverse r) (view : Viewed) (behind : Behi
   -- facts that are copied, there and back
   record Facts (fs fs' : List Fact) : Type 0 where
     there : MeetsAll D A fs → MeetsAll D' A' (no_tests fs')
-    back : (B C : Types) → Tied r view behind IsFixed A B C → MeetsAll D A fs → MeetsAll D' C fs' → MeetsAll D B fs
+    back : (B C : Assignment) → Tied r view behind IsFixed A B C → MeetsAll D A fs → MeetsAll D' C fs' → MeetsAll D B fs
 
   -- of one fact
   one_fact : (fs fs' : List Fact) (f : Fact) → fs ≡ f ∷ [] → fs' ≡ fact_at r f ∷ [] → (MeetsAll D A (f ∷ []) → MeetsAll D' A' (no_tests (fact_at r f ∷ [])))
-      → ((B C : Types) → Tied r view behind IsFixed A B C → MeetsAll D' C (fact_at r f ∷ []) → MeetsAll D B (f ∷ [])) → Facts fs fs'
+      → ((B C : Assignment) → Tied r view behind IsFixed A B C → MeetsAll D' C (fact_at r f ∷ []) → MeetsAll D B (f ∷ [])) → Facts fs fs'
   one_fact fs fs' f e i a b = record {
     there = λ h. subst (λ gs. MeetsAll D' A' (no_tests gs)) (sym i) (a (subst (MeetsAll D A) e h));
     back = λ B C t h m. subst (MeetsAll D B) (sym e) (b B C t (subst (MeetsAll D' C) i m));
@@ -120,6 +120,6 @@ all_plain : (fs : List Fact) → AllAbout NotViewed fs
 all_plain [] = tt
 all_plain (f ∷ fs) = (about_plain f, all_plain fs)
 
-pub plain_copies : (A : Types) (ds : List Demand) → EachCopies none_viewed A ds
+pub plain_copies : (A : Assignment) (ds : List Demand) → EachCopies none_viewed A ds
 plain_copies A [] = tt
 plain_copies A (d ∷ ds) = (plainly (all_plain d.facts), plain_copies A ds)

@@ -6,7 +6,7 @@ use Rattle.rx_typeck_solver.specs.declared.facts.Subject.TheVariants as subject
 use Rattle.rx_typeck_solver.specs.declared.facts.Fact.{Fact}
 use Rattle.rx_typeck_solver.specs.declared.facts.Fact.TheVariants as fact
 use Rattle.rx_typeck_solver.specs.declared.facts.Demand.{Demand}
-use Rattle.rx_typeck_solver.specs.Facts.{Types, Known}
+use Rattle.rx_typeck_solver.specs.Facts.{Assignment, KnownItems}
 use Rattle.rx_typeck_solver.specs.Valid.{Told, Valid}
 use Rattle.rx_typeck_solver.specs.Ordered.{asks_integer, AsksInteger, Orderly}
 use Rattle.rx_engine_blocks.specs.Blocks.{task_of}
@@ -33,7 +33,7 @@ module _ (P : Subject → Type 0) where
   asked_each n (d ∷ ds) (inl h) a = asked_all n d.facts h.1 a.0
   asked_each n (d ∷ ds) (inr h) a = asked_each n ds h a.1
 
-pub free_elsewhere : (D : Known) (ds : List Demand) → Orderly (task_of ds) → (A B : Types) → Valid D (task_of ds) A → ((x : Subject) → Told ds x → A x ≡ B x) → Valid D (task_of ds) B
+pub free_elsewhere : (D : KnownItems) (ds : List Demand) → Orderly (task_of ds) → (A B : Assignment) → Valid D (task_of ds) A → ((x : Subject) → Told ds x → A x ≡ B x) → Valid D (task_of ds) B
 free_elsewhere D ds o A B v same =
     let about = about_told D A ds o.ordered v.prefers.typed in
     record {

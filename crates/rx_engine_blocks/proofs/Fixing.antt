@@ -6,13 +6,13 @@ use Rattle.rx_typed.specs.Named as named
 use Rattle.rx_typed.specs.Named.{Written, WrittenTypes, Parameter, written_node}
 use Rattle.rx_typeck_solver.specs.declared.facts.Subject.TheVariants as subject
 use Rattle.rx_typeck_solver.specs.declared.facts.Demand.{Demand}
-use Rattle.rx_typeck_solver.specs.Facts.{Types, Known, coerced, types_at, MeetsAll, MeetsEach}
+use Rattle.rx_typeck_solver.specs.Facts.{Assignment, KnownItems, coerced, types_at, MeetsAll, MeetsEach}
 use Rattle.rx_typeck_typed.specs.Asking.{type_of}
 use Rattle.rx_typeck_typed.specs.Demands as rules
 use Rattle.rx_engine_blocks.specs.Signature.{typ_written, typs_written, AsWritten}
 use Rattle.rx_engine_blocks.proofs.Meets.{first}
 
-module _ (D : Known) (C : Types) where
+module _ (D : KnownItems) (C : Assignment) where
   -- demands in front of the last
   front : (ds : List Demand) (d : Demand) → MeetsEach D C (ds ++ d ∷ []) → MeetsEach D C ds
   front ds d h = (first D C ds (d ∷ []) h).0

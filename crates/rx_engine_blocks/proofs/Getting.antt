@@ -5,7 +5,7 @@ use Rattle.rx_typeck_solver.specs.declared.facts.Subject.{Subject}
 use Rattle.rx_typeck_solver.specs.declared.facts.Passing.{Passing}
 use Rattle.rx_typeck_solver.specs.declared.facts.Fact.{Fact}
 use Rattle.rx_typeck_solver.specs.declared.facts.Demand.{Demand}
-use Rattle.rx_typeck_solver.specs.Facts.{Types, Known, gone_through, passed, types_at, made, Meets, MeetsAll, MeetsEach}
+use Rattle.rx_typeck_solver.specs.Facts.{Assignment, KnownItems, gone_through, passed, types_at, made, Meets, MeetsAll, MeetsEach}
 use Rattle.rx_engine_blocks.specs.Gets.{IsFact, IsAsked, Gets, GetsAll, NoReferences}
 use Rattle.rx_engine_blocks.specs.Gets.IsFact.{this_fact, later_fact}
 use Rattle.rx_engine_blocks.specs.Gets.IsAsked.{asked_here, asked_later}
@@ -13,7 +13,7 @@ use Rattle.rx_engine_blocks.specs.Gets.Gets.{by_fact, the_same}
 use Rattle.rx_engine_blocks.specs.Gets.GetsAll.{gets_none, gets_more}
 use Rattle.rx_engine_blocks.specs.Gets.NoReferences.{no_passing, one_passing}
 
-module _ (E : Known) (C : Types) where
+module _ (E : KnownItems) (C : Assignment) where
   fact_met : {f : Fact} (fs : List Fact) → MeetsAll E C fs → IsFact f fs → Meets E C f
   fact_met fs h this_fact = h.0
   fact_met fs h (later_fact {fs = gs} i) = fact_met gs h.1 i

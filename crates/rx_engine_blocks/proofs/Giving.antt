@@ -11,7 +11,7 @@ use Rattle.rx_typeck_solver.specs.declared.facts.Rule.{Rule}
 use Rattle.rx_typeck_solver.specs.declared.facts.Op.TheVariants as op
 use Rattle.rx_typeck_solver.specs.declared.facts.Subject.TheVariants as subject
 use Rattle.rx_typeck_solver.specs.declared.facts.Demand.{Demand}
-use Rattle.rx_typeck_solver.specs.Facts.{Types, Known, coerced, fixed, MeetsAll, MeetsEach}
+use Rattle.rx_typeck_solver.specs.Facts.{Assignment, KnownItems, coerced, fixed, MeetsAll, MeetsEach}
 use Rattle.rx_typeck_typed.specs.Asking.{Asking, ask, is, when, type_of, expected}
 use Rattle.rx_typeck_typed.specs.Demands as rules
 use Rattle.rx_typeck_typed.specs.Demands.{Listed, members, values, parameters, parts_of}
@@ -36,7 +36,7 @@ some_same t u e = cc
 fixed_some : (o : Option Typ) (t e : Typ) → o ≡ Some t → fixed (λ k. k) o ≡ Some e → e ≡ t
 fixed_some o t e i h = sym (some_same _ _ (sym (ap (fixed (λ k. k)) i) ∙ h)) ∙ map_itself t
 
-module _ (D : Known) (C : Types) where
+module _ (D : KnownItems) (C : Assignment) where
   abbrev Fronts : Asking → Type 0
   Fronts f = (ds : List Demand) → MeetsEach D C (f ds) → MeetsEach D C ds
 

@@ -65,7 +65,7 @@ module _ (P : Subject → Type 0) (Q : List Demand → Type 0) (asked : (d : Dem
 
   -- ---- values and places
 
-  fits_keep : (n : Node) → AtNode P n → Keeps (rules.fits n)
+  fits_keep : (n : Node) → AtNode P n → Keeps (rules.coerces n)
   fits_keep n h = asks_keep n _ _ ((h.0, (h.0, (h.1, tt)), tt), tt)
 
   own_expected : (n : Node) → AtNode P n → Keeps (rules.expects_own n)

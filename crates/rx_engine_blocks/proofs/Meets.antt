@@ -13,7 +13,7 @@ use Rattle.rx_typeck_solver.specs.declared.facts.Test.TheVariants as test
 use Rattle.rx_typeck_solver.specs.declared.facts.Fact.{Fact}
 use Rattle.rx_typeck_solver.specs.declared.facts.Fact.TheVariants as fact
 use Rattle.rx_typeck_solver.specs.declared.facts.Demand.{Demand}
-use Rattle.rx_typeck_solver.specs.Facts.{Types, Known, bound, coerced, fixed, field_of, part_of, pointee, of_one, of_two, made, is_plain, is_integer, is_truth, is_tuple, is_item, is_mutable_reference, is_lent, is_none, binding_kept, test_one, test_two, names_of, exactly, is_unit_typ, is_unit, holds, gone_through, passed, types_at, outlines_at, Meets, MeetsAll, MeetsEach}
+use Rattle.rx_typeck_solver.specs.Facts.{Assignment, KnownItems, bound, coerced, fixed, field_of, part_of, pointee, of_one, of_two, made, is_plain, is_integer, is_truth, is_tuple, is_item, is_mutable_reference, is_lent, is_none, binding_kept, test_one, test_two, names_of, exactly, is_unit_typ, is_unit, holds, gone_through, passed, types_at, outlines_at, Meets, MeetsAll, MeetsEach}
 use Rattle.rx_typeck_solver.specs.Ordered.{Knowing, anything, all_known}
 use Rattle.rx_typeck_solver.proofs.Base.{and_both}
 use Rattle.rx_engine_blocks.specs.PlainFacts.{plain_fact}
@@ -26,11 +26,11 @@ use Rattle.rx_engine_blocks.specs.DemandsLike.FactsLike.{like_no_fact, like_more
 use Rattle.rx_engine_blocks.specs.DemandsLike.DemandsLike.{like_no_demand, like_more_demands, like_other_demands}
 
 -- demands in front, and the last
-pub first : (D : Known) (A : Types) (xs ys : List Demand) → MeetsEach D A (xs ++ ys) → MeetsEach D A xs × MeetsEach D A ys
+pub first : (D : KnownItems) (A : Assignment) (xs ys : List Demand) → MeetsEach D A (xs ++ ys) → MeetsEach D A xs × MeetsEach D A ys
 first D A [] ys h = (tt, h)
 first D A (x ∷ xs) ys h = let p = first D A xs ys h.1 in ((h.0, p.0), p.1)
 
-pub last : (D : Known) (A : Types) (xs : List Demand) (d : Demand) → MeetsEach D A xs → MeetsAll D A d.facts → MeetsEach D A (xs ++ d ∷ [])
+pub last : (D : KnownItems) (A : Assignment) (xs : List Demand) (d : Demand) → MeetsEach D A xs → MeetsAll D A d.facts → MeetsEach D A (xs ++ d ∷ [])
 last D A [] d h k = (k, tt)
 last D A (x ∷ xs) d h k = (h.0, last D A xs d h.1 k)
 
@@ -150,7 +150,7 @@ module _ (r : Renumbering) where
   names_in [] = refl
   names_in (f ∷ fs) = ap (λ xs. f.name ∷ xs) (names_in fs)
 
-  module _ (K K' : Known) (k : Knows r K K') where
+  module _ (K K' : KnownItems) (k : Knows r K K') where
     -- ---- what types are made of
 
     fixed_at : (o : Option Typ) → fixed (λ k. k) (option_map (shape_at r) o) ≡ option_map (shape_at r) (fixed (λ k. k) o)
@@ -376,7 +376,7 @@ module _ (r : Renumbering) where
     -- ---- facts
 
     -- the subjects whose types are renamed, among them all nodes
-    module _ (A A' : Types) (P : Knowing) (node : (n : ℕ) → IsTrue (P (subject.Node n))) (along : (x : Subject) → IsTrue (P x) → A' (subject_at r x) ≡ shape_at r (A x)) where
+    module _ (A A' : Assignment) (P : Knowing) (node : (n : ℕ) → IsTrue (P (subject.Node n))) (along : (x : Subject) → IsTrue (P x) → A' (subject_at r x) ≡ shape_at r (A x)) where
       passed_at : (ps : List Passing) → passed A' (map (passing_at r) ps) ≡ passed A ps
       passed_at [] = refl
       passed_at (p ∷ ps) = ap (λ ms. ms ++ passed A' (map (passing_at r) ps)) (ap (gone_through p.all) (along (subject.Node p.node) (node p.node)) ∙ gone_at p.all (A (subject.Node p.node)))
@@ -436,7 +436,7 @@ module _ (r : Renumbering) where
     is_plain_fact (fact.Passes t xs ps qs) = all_anything xs
     is_plain_fact fact.Never = refl
 
-    module _ (A A' : Types) (along : Along r A A') where
+    module _ (A A' : Assignment) (along : Along r A A') where
       pub all_there : {fs fs' : List Fact} → FactsLike r fs fs' → MeetsAll K A fs → MeetsAll K' A' fs'
       all_there like_no_fact h = tt
       all_there (like_more_facts (like_fact {f = f}) l) h = (meets_there A A' anything (λ n. refl) (λ x _. along x) f (is_plain_fact f) h.0, all_there l h.1)

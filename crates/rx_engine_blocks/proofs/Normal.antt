@@ -3,7 +3,7 @@ use Rattle.std.proofs.Common.{◌≡◌, ℕ, IsTrue, Some, refl, sym, ap, ◌�
 use Rattle.rx_core.specs.declared.types.Kind.{Kind}
 use Rattle.rx_typed.specs.Types.{Shape, Shapes, integer, boolean, tuple_of, reference, named, no_shape, shape_and, Typ, outline, shapes_map}
 use Rattle.rx_typeck_solver.specs.declared.facts.Subject.{Subject}
-use Rattle.rx_typeck_solver.specs.Facts.{Types, Known, has}
+use Rattle.rx_typeck_solver.specs.Facts.{Assignment, KnownItems, has}
 use Rattle.rx_typeck_solver.specs.Solver.{Leaf, Fixed, KindOf, Term, State, Root, chosen}
 use Rattle.rx_typeck_solver.proofs.Base.{kind_at, leaf_kind, filled, Rooted, RootedEach, Good, Stands}
 use Rattle.rx_typeck_solver.proofs.Choice.{chosen_stands, kind_root}
@@ -13,8 +13,8 @@ use Rattle.rx_engine_blocks.proofs.Meets.{outline_at, undo, undone}
 
 -- ---- the assignment of a state with the kinds of another one
 
-module _ (st : State) (g : Good st) (B : Types) (s : Stands B st) where
-  abbrev pub normal : Types
+module _ (st : State) (g : Good st) (B : Assignment) (s : Stands B st) where
+  abbrev pub normal : Assignment
   normal = chosen st (kind_at B)
 
   pub normal_stands : Stands normal st
@@ -41,7 +41,7 @@ module _ (st : State) (g : Good st) (B : Types) (s : Stands B st) where
 
 -- ---- types that the renaming gives
 
-module _ (r : Renumbering) (K K' : Known) (k : Knows r K K') where
+module _ (r : Renumbering) (K K' : KnownItems) (k : Knows r K K') where
   abbrev pub redo : {L : Type 0} → Shape L → Shape L
   redo t = shape_at r (shape_at (undo r K K' k) t)
 

@@ -8,7 +8,7 @@ use Rattle.rx_typeck_solver.specs.declared.facts.Subject.TheVariants as subject
 use Rattle.rx_typeck_solver.specs.declared.facts.Fact.{Fact}
 use Rattle.rx_typeck_solver.specs.declared.facts.Fact.TheVariants as fact
 use Rattle.rx_typeck_solver.specs.declared.facts.Demand.{Demand}
-use Rattle.rx_typeck_solver.specs.Facts.{Types, Known, made, passed, types_at, Meets, MeetsAll, MeetsEach}
+use Rattle.rx_typeck_solver.specs.Facts.{Assignment, KnownItems, made, passed, types_at, Meets, MeetsAll, MeetsEach}
 use Rattle.rx_typeck_solver.specs.Valid.{Told, Tells, TellsAny}
 use Rattle.rx_typeck_solver.specs.Ordered.{Knowing, nothing, learns, learns_all, all_known, all_passed, ready, Ready, Ordered}
 use Rattle.rx_typeck_solver.proofs.Base.{and_both}
@@ -18,7 +18,7 @@ use Rattle.rx_engine_blocks.specs.Gets.{IsFact, this_fact, later_fact, IsAsked, 
 use Rattle.rx_engine_blocks.proofs.Told.{Covers, each_covered, each_passing, learns_covers}
 use Rattle.rx_engine_blocks.proofs.Same.{its_outline, passed_same, types_same}
 
-module _ (D : Known) (A B : Types) where
+module _ (D : KnownItems) (A B : Assignment) where
   abbrev One : Subject → Type 0
   One x = A x ≡ B x
 
@@ -54,7 +54,7 @@ module _ (D : Known) (A B : Types) where
       let q = facts_tell d.node K d.facts c h.0 a.0 b.0 (λ m s w. i m s (asked_here w)) in
       ⊎_elim (q.0 x) (demands_tell (learns_all K d.facts) ds q.1 h.1 a.1 b.1 (λ m s w. i m s (asked_later w)) x) t
 
-pub one_type : (D : Known) (ds : List Demand) → Ordered nothing ds → (A B : Types) → MeetsEach D A ds → MeetsEach D B ds → ((n : ℕ) (s : Kinds) → IsAsked (fact.Integer n s) ds → A (subject.Node n) ≡ B (subject.Node n))
+pub one_type : (D : KnownItems) (ds : List Demand) → Ordered nothing ds → (A B : Assignment) → MeetsEach D A ds → MeetsEach D B ds → ((n : ℕ) (s : Kinds) → IsAsked (fact.Integer n s) ds → A (subject.Node n) ≡ B (subject.Node n))
     → (x : Subject) → Told ds x → A x ≡ B x
 one_type D ds o A B a b i = demands_tell D A B nothing ds (λ x h. absurd (unknown h)) o a b i
   where
@@ -73,11 +73,11 @@ asked_told f (d ∷ ds) x t (asked_here w) = inl (fact_told f d.facts x t w)
 asked_told f (d ∷ ds) x t (asked_later w) = inr (asked_told f ds x t w)
 
 -- so a part whose integers are all the text's tells one type where that has its
-pub integers_settle : (r : Renumbering) (E : Known) (V : Types) (ds es : List Demand) → Ordered nothing es → MeetsEach E V es
+pub integers_settle : (r : Renumbering) (E : KnownItems) (V : Assignment) (ds es : List Demand) → Ordered nothing es → MeetsEach E V es
     → ((n : ℕ) (s : Kinds) → IsAsked (fact.Integer n s) es → (m : ℕ) × (r.nodes m ≡ n) × Told ds (subject.Node m)) → (y : Subject) → Told es y → TellsOne r E V ds es y
 integers_settle r E V ds es o meets i y t = inr (λ C c agrees. one_type E es o C V c meets (λ n s w. by C agrees n s w (i n s w)) y t)
   where
-    by : (C : Types) → AgreesThere r V ds es C → (n : ℕ) (s : Kinds) → IsAsked (fact.Integer n s) es → (m : ℕ) × (r.nodes m ≡ n) × Told ds (subject.Node m) → C (subject.Node n) ≡ V (subject.Node n)
+    by : (C : Assignment) → AgreesThere r V ds es C → (n : ℕ) (s : Kinds) → IsAsked (fact.Integer n s) es → (m : ℕ) × (r.nodes m ≡ n) × Told ds (subject.Node m) → C (subject.Node n) ≡ V (subject.Node n)
     by C agrees n s w k =
         let told : Told es (subject.Node (r.nodes k.0)) = subst (λ (z : ℕ). Told es (subject.Node z)) (sym k.1) (asked_told (fact.Integer n s) es (subject.Node n) refl w) in
         subst (λ (z : ℕ). C (subject.Node z) ≡ V (subject.Node z)) k.1 (agrees (subject.Node k.0) k.2 told)

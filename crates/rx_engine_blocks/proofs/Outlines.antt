@@ -7,7 +7,7 @@ use Rattle.rx_typeck_solver.specs.declared.facts.Subject.TheVariants as subject
 use Rattle.rx_typeck_solver.specs.declared.facts.Fact.{Fact}
 use Rattle.rx_typeck_solver.specs.declared.facts.Fact.TheVariants as fact
 use Rattle.rx_typeck_solver.specs.declared.facts.Demand.{Demand}
-use Rattle.rx_typeck_solver.specs.Facts.{Types, Known, MeetsAll, MeetsEach}
+use Rattle.rx_typeck_solver.specs.Facts.{Assignment, KnownItems, MeetsAll, MeetsEach}
 use Rattle.rx_typeck_solver.specs.Valid.{Task, Told, TellsAny}
 use Rattle.rx_typeck_solver.specs.Ordered.{Knowing, nothing, learns, learns_all, Ready, Ordered, Orderly}
 use Rattle.rx_engine_blocks.specs.Renumbering.{Renumbering}
@@ -20,7 +20,7 @@ use Rattle.rx_engine_blocks.proofs.Told.{about_told}
 
 -- ---- the composed types
 
-module _ (r : Renumbering) (u : PartialInverse r) (view : Viewed) (A V : Types) where
+module _ (r : Renumbering) (u : PartialInverse r) (view : Viewed) (A V : Assignment) where
   pub composed_sees : Sees r view A (composed r u view A V)
   composed_sees (subject.Variable x) = ap (λ o. text_or r view (option_map subject.Variable o) A (V (subject.Variable (r.variables x)))) (u.variable_there x)
   composed_sees (subject.Node n) = ap (λ o. text_or r view (option_map subject.Node o) A (V (subject.Node (r.nodes n)))) (u.node_there n)
@@ -30,12 +30,12 @@ module _ (r : Renumbering) (u : PartialInverse r) (view : Viewed) (A V : Types) 
   composed_new y e = ap (λ o. text_or r view o A (V y)) e
 
 -- where nothing is viewed
-pub composed_along : (r : Renumbering) (u : PartialInverse r) (A V : Types) → Along r A (composed r u none_viewed A V)
+pub composed_along : (r : Renumbering) (u : PartialInverse r) (A V : Assignment) → Along r A (composed r u none_viewed A V)
 composed_along r u A V x = composed_sees r u none_viewed A V x
 
 -- ---- without tests
 
-pub facts_untested : (D : Known) (A : Types) (fs : List Fact) → MeetsAll D A fs → MeetsAll D A (no_tests fs)
+pub facts_untested : (D : KnownItems) (A : Assignment) (fs : List Fact) → MeetsAll D A fs → MeetsAll D A (no_tests fs)
 facts_untested D A [] h = tt
 facts_untested D A (fact.Equals x o xs ps ∷ fs) h = (h.0, facts_untested D A fs h.1)
 facts_untested D A (fact.Integer n s ∷ fs) h = (h.0, facts_untested D A fs h.1)
@@ -43,7 +43,7 @@ facts_untested D A (fact.IntegerBehind n s ∷ fs) h = (h.0, facts_untested D A 
 facts_untested D A (fact.Passes t xs ps qs ∷ fs) h = facts_untested D A fs h.1
 facts_untested D A (fact.Never ∷ fs) h = (h.0, facts_untested D A fs h.1)
 
-pub met_untested : (D : Known) (A : Types) (ds : List Demand) → MeetsEach D A ds → MeetsEach D A (untested ds)
+pub met_untested : (D : KnownItems) (A : Assignment) (ds : List Demand) → MeetsEach D A ds → MeetsEach D A (untested ds)
 met_untested D A [] h = tt
 met_untested D A (d ∷ ds) h = (facts_untested D A d.facts h.0, met_untested D A ds h.1)
 
@@ -84,7 +84,7 @@ told_untested (d ∷ ds) x h = ⊎_elim (λ e. inl (tells_untested d.facts x e))
 
 -- ---- the tests
 
-module _ (D : Known) (A V : Types) (P : Subject → Type 0) (o : (x : Subject) → P x → outline (V x) ≡ outline (A x)) where
+module _ (D : KnownItems) (A V : Assignment) (P : Subject → Type 0) (o : (x : Subject) → P x → outline (V x) ≡ outline (A x)) where
   facts_tested : (fs : List Fact) → AllAbout P fs → MeetsAll D V fs → MeetsAll D A (no_tests fs) → MeetsAll D A fs
   facts_tested [] q v h = tt
   facts_tested (fact.Equals x w xs ps ∷ fs) q v h = (h.0, facts_tested fs q.1 v.1 h.1)
@@ -97,7 +97,7 @@ module _ (D : Known) (A V : Types) (P : Subject → Type 0) (o : (x : Subject) �
   each_tested [] q v h = tt
   each_tested (d ∷ ds) q v h = (facts_tested d.facts q.0 v.0 h.0, each_tested ds q.1 v.1 h.1)
 
-module _ (D : Known) (ds : List Demand) (o : Ordered nothing ds) (V : Types) (v : MeetsEach D V ds) where
+module _ (D : KnownItems) (ds : List Demand) (o : Ordered nothing ds) (V : Assignment) (v : MeetsEach D V ds) where
   -- a task without literals
   abbrev bare : Task
   bare = record { demands = untested ds; literals = [] }
@@ -105,8 +105,8 @@ module _ (D : Known) (ds : List Demand) (o : Ordered nothing ds) (V : Types) (v 
   bare_orderly : Orderly bare
   bare_orderly = record { ordered = ordered_untested nothing ds o; literals = λ n i. absurd i }
 
-  pub outline_told : (A : Types) → MeetsEach D A (untested ds) → (x : Subject) → Told ds x → outline (V x) ≡ outline (A x)
+  pub outline_told : (A : Assignment) → MeetsEach D A (untested ds) → (x : Subject) → Told ds x → outline (V x) ≡ outline (A x)
   outline_told A h x t = same_outlines D bare bare_orderly V A (met_untested D V ds v) h x (told_untested ds x t)
 
-  pub tests_met : (A : Types) → MeetsEach D A (untested ds) → MeetsEach D A ds
+  pub tests_met : (A : Assignment) → MeetsEach D A (untested ds) → MeetsEach D A ds
   tests_met A h = each_tested D A V (Told ds) (outline_told A h) ds (about_told D V ds o v) v h

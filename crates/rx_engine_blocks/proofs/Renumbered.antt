@@ -7,7 +7,7 @@ use Rattle.rx_typeck_solver.specs.declared.facts.Subject.TheVariants as subject
 use Rattle.rx_typeck_solver.specs.declared.facts.Fact.{Fact}
 use Rattle.rx_typeck_solver.specs.declared.facts.Fact.TheVariants as fact
 use Rattle.rx_typeck_solver.specs.declared.facts.Demand.{Demand}
-use Rattle.rx_typeck_solver.specs.Facts.{Types, Known}
+use Rattle.rx_typeck_solver.specs.Facts.{Assignment, KnownItems}
 use Rattle.rx_typeck_solver.specs.Valid.{Task, Told, Tells, TellsAny, IsIn, Typed, Valid, literals_of}
 use Rattle.rx_typeck_solver.specs.Solver.{Term, State, empty, filled_or, chosen, Found_all, solve}
 use Rattle.rx_typeck_solver.specs.Ordered.{Orderly}
@@ -70,15 +70,15 @@ module _ (r : Renumbering) where
       (λ h. let w = literal_one d m h in literal_right ds' (d' ∷ []) (r.nodes m) (one_literal d' (r.nodes m) (sym (is_so e.unsuffixed) ∙ w.0) (ap r.nodes w.1 ∙ is_so e.node)))
       (literal_split ds (d ∷ []) m i)
 
-module _ (r : Renumbering) (K K' : Known) (k : Knows r K K') where
-  module _ (i : Inverse r) (ds ds' : List Demand) (l : DemandsLike r NoSpecial ds ds') (A : Types) where
+module _ (r : Renumbering) (K K' : KnownItems) (k : Knows r K K') where
+  module _ (i : Inverse r) (ds ds' : List Demand) (l : DemandsLike r NoSpecial ds ds') (A : Assignment) where
     abbrev task : Task
     task = task_of ds
 
     abbrev part : Task
     part = task_of ds'
 
-    abbrev A' : Types
+    abbrev A' : Assignment
     A' = renumbered_types r i A
 
     unsubjected : (x : Subject) → unsubject r i (subject_at r x) ≡ x
@@ -96,13 +96,13 @@ module _ (r : Renumbering) (K K' : Known) (k : Knows r K K') where
       good : Good st
       good = (adds K' part o st end).good
 
-      stands : (B : Types) → Typed K' part B → Stands B st
+      stands : (B : Assignment) → Typed K' part B → Stands B st
       stands B t = typed_stands K' part o st end B t
 
-      abbrev back : Types → Types
+      abbrev back : Assignment → Assignment
       back B x = shape_at (undo r K K' k) (chosen st (kind_at B) (subject_at r x))
 
-      back_along : (B : Types) → Typed K' part B → Along r (back B) (chosen st (kind_at B))
+      back_along : (B : Assignment) → Typed K' part B → Along r (back B) (chosen st (kind_at B))
       back_along B t x = go (st.shapes (subject_at r x)) refl
         where
           y : Subject
@@ -114,17 +114,17 @@ module _ (r : Renumbering) (K K' : Known) (k : Knows r K K') where
               (ap outline ((normal_stands st good B (stands B t)).shapes y s e) ∙ outline_map (leaf_kind (chosen st (kind_at B))) s
               ∙ sym (ap outline ((stands A' typed).shapes y s e) ∙ outline_map (leaf_kind A') s) ∙ ap outline (along x)))
 
-      back_typed : (B : Types) → Typed K' part B → Typed K task (back B)
+      back_typed : (B : Assignment) → Typed K' part B → Typed K task (back B)
       back_typed B t = each_back r K K' k (back B) (chosen st (kind_at B)) (back_along B t) l (stands_typed K' part o st end (chosen st (kind_at B)) (normal_stands st good B (stands B t)))
 
       -- what is told is found
-      found : (B : Types) → Typed K' part B → (x : Subject) → Told ds' x → chosen st (kind_at B) x ≡ B x
+      found : (B : Assignment) → Typed K' part B → (x : Subject) → Told ds' x → chosen st (kind_at B) x ≡ B x
       found B t x h = let p = told_known K' part st o end x h in normal_same st good B (stands B t) x p.0 p.1
 
       its_kind : (t : Typ) (l : Kind) → shape_at r t ≡ integer l → t ≡ integer l
       its_kind t l e = shape_apart r K K' k t (integer l) e
 
-      same_kind : (C C' : Types) (m : ℕ) (l : Kind) → Along r C C' → peeled (C' (subject.Node (r.nodes m))) ≡ integer l → peeled (C (subject.Node m)) ≡ peeled (C' (subject.Node (r.nodes m)))
+      same_kind : (C C' : Assignment) (m : ℕ) (l : Kind) → Along r C C' → peeled (C' (subject.Node (r.nodes m))) ≡ integer l → peeled (C (subject.Node m)) ≡ peeled (C' (subject.Node (r.nodes m)))
       same_kind C C' m l a e = its_kind (peeled (C (subject.Node m))) l (sym (peeled_at r (C (subject.Node m))) ∙ ap peeled (sym (a (subject.Node m))) ∙ e) ∙ sym e
 
       -- a literal has its kind there and back
@@ -134,7 +134,7 @@ module _ (r : Renumbering) (K K' : Known) (k : Knows r K K') where
       abbrev LiteralTold : ℕ → Type 0
       LiteralTold n = Told ds' (subject.Node n)
 
-      literal_back : (m : ℕ) → IsIn (r.nodes m) (literals_of ds') → (B : Types) → Typed K' part B → peeled (back B (subject.Node m)) ≡ peeled (B (subject.Node (r.nodes m)))
+      literal_back : (m : ℕ) → IsIn (r.nodes m) (literals_of ds') → (B : Assignment) → Typed K' part B → peeled (back B (subject.Node m)) ≡ peeled (B (subject.Node (r.nodes m)))
       literal_back m h B t =
           let N = chosen st (kind_at B) in
           let tn = stands_typed K' part o st end N (normal_stands st good B (stands B t)) in

@@ -8,11 +8,11 @@ use Rattle.rx_typeck_solver.specs.declared.facts.Test.{Test}
 use Rattle.rx_typeck_solver.specs.declared.facts.Fact.{Fact}
 use Rattle.rx_typeck_solver.specs.declared.facts.Fact.TheVariants as fact
 use Rattle.rx_typeck_solver.specs.declared.facts.Demand.{Demand}
-use Rattle.rx_typeck_solver.specs.Facts.{Types, Known, gone_through, passed, types_at, outlines_at, made, holds, Meets, MeetsAll, MeetsEach}
+use Rattle.rx_typeck_solver.specs.Facts.{Assignment, KnownItems, gone_through, passed, types_at, outlines_at, made, holds, Meets, MeetsAll, MeetsEach}
 use Rattle.rx_typeck_solver.proofs.Natural.{gone_map}
 use Rattle.rx_engine_blocks.specs.Parts.{EachOf, EachPassing, About, AllAbout, EachAbout}
 
-module _ (D : Known) (A B : Types) (P : Subject → Type 0) where
+module _ (D : KnownItems) (A B : Assignment) (P : Subject → Type 0) where
   module _ (o : (x : Subject) → P x → outline (A x) ≡ outline (B x)) where
     outlines_same : (xs : List Subject) → EachOf P xs → outlines_at A xs ≡ outlines_at B xs
     outlines_same [] h = refl
@@ -66,6 +66,6 @@ any_passing : (ps : List Passing) → EachPassing Anything ps
 any_passing [] = tt
 any_passing (p ∷ ps) = (tt, any_passing ps)
 
-pub test_anywhere : (D : Known) (A B : Types) → ((x : Subject) → outline (A x) ≡ outline (B x)) → (t : Test) (xs : List Subject) (ps qs : List Passing)
+pub test_anywhere : (D : KnownItems) (A B : Assignment) → ((x : Subject) → outline (A x) ≡ outline (B x)) → (t : Test) (xs : List Subject) (ps qs : List Passing)
     → Meets D A (fact.Passes t xs ps qs) → Meets D B (fact.Passes t xs ps qs)
 test_anywhere D A B o t xs ps qs h = test_same D A B Anything (λ x _. o x) t xs ps qs (any_of xs, any_passing ps, any_passing qs) h

@@ -10,7 +10,7 @@ use Rattle.rx_typeck_solver.specs.declared.facts.Subject.{Subject}
 use Rattle.rx_typeck_solver.specs.declared.facts.Subject.TheVariants as subject
 use Rattle.rx_typeck_solver.specs.declared.facts.Op.TheVariants as op
 use Rattle.rx_typeck_solver.specs.declared.facts.Demand.{Demand}
-use Rattle.rx_typeck_solver.specs.Facts.{Types, Known, MeetsAll, MeetsEach, coerced, made}
+use Rattle.rx_typeck_solver.specs.Facts.{Assignment, KnownItems, MeetsAll, MeetsEach, coerced, made}
 use Rattle.rx_typeck_solver.specs.Valid.{Told}
 use Rattle.rx_typeck_typed.specs.Demands.{a_value, declared, of_exp, of_parameters, of_statement, whole_pattern}
 use Rattle.rx_engine_blocks.specs.Renumbering.{Renumbering, shape_at, subject_at}
@@ -29,19 +29,19 @@ use Rattle.rx_engine_blocks.proofs.Fixing.{declared_is, fitting_is, parameters_a
 use Rattle.rx_engine_blocks.proofs.Giving.{arguments_front, call_fits, named_is, place_front, site_fits, value_front, variant_fits}
 use Rattle.rx_engine_blocks.proofs.Sites.{coerced_outlined}
 
-its_type : (C : Types) {v : ℕ} {t : Written} (xs : List Parameter) → AsWritten C xs → IsParameter v t xs → C (subject.Variable v) ≡ typ_written t
+its_type : (C : Assignment) {v : ℕ} {t : Written} (xs : List Parameter) → AsWritten C xs → IsParameter v t xs → C (subject.Variable v) ≡ typ_written t
 its_type C xs h the_first = h.0
 its_type C (x ∷ xs) h (a_later i) = its_type C xs h.1 i
 
-its_fit : (C : Types) (ts : List Typ) {e : Exp} {k : ℕ} (j : ℕ) (es : Exps) → EachFits C ts j es → IsNumber e k j es → (u : Typ) → slice_get ts k ≡ Some u → FitsType (given_type C e) u
+its_fit : (C : Assignment) (ts : List Typ) {e : Exp} {k : ℕ} (j : ℕ) (es : Exps) → EachFits C ts j es → IsNumber e k j es → (u : Typ) → slice_get ts k ≡ Some u → FitsType (given_type C e) u
 its_fit C ts j es h this_one u s = h.0 u s
 its_fit C ts j (named.exp_and a es) h (one_behind i) u s = its_fit C ts _ es h.1 i u s
 
-gives_type : (C : Types) {e : Exp} {v : ℕ} {t u : Typ} → outline (C (subject.Variable v)) ≡ outline t → FitsType (given_type C e) u → Gives e v t u → C (subject.Variable v) ≡ t
+gives_type : (C : Assignment) {e : Exp} {v : ℕ} {t u : Typ} → outline (C (subject.Variable v)) ≡ outline t → FitsType (given_type C e) u → Gives e v t u → C (subject.Variable v) ≡ t
 gives_type C o h (by_itself {x = x} {t = t} {u = u} f) = fitting_is (C (subject.Variable x.number)) t u o (ap Some h) (ap Some f)
 gives_type C o h (borrowed {m = m} {x = x} {t = t}) = reference_is m (C (subject.Variable x.number)) t h
 
-front_met : (E : Known) (C : Types) (es gs hs : List Demand) → es ≡ gs ++ hs → MeetsEach E C es → MeetsEach E C gs
+front_met : (E : KnownItems) (C : Assignment) (es gs hs : List Demand) → es ≡ gs ++ hs → MeetsEach E C es → MeetsEach E C gs
 front_met E C es gs hs e h = (first E C gs hs (subst (MeetsEach E C) e h)).0
 
 -- two types of one outline that the same type fits are one
@@ -63,7 +63,7 @@ expected_is boolean c t o h k = h ∙ sym k
 expected_is (tuple_of a) c t o h k = h ∙ sym k
 expected_is (item a) c t o h k = h ∙ sym k
 
-module _ (D : Known) (C : Types) where
+module _ (D : KnownItems) (C : Assignment) where
   front : (ds : List Demand) (d : Demand) → MeetsEach D C (ds ++ d ∷ []) → MeetsEach D C ds
   front ds d h = (first D C ds (d ∷ []) h).0
 
@@ -105,7 +105,7 @@ module _ (D : Known) (C : Types) where
       let y : C (subject.Expected k.number) ≡ C (subject.Variable x.number) = same_type _ _ (back _ _ before).0 ∙ named_is D C p x x.known ds (place_front D C p x.number p.site _ (front _ _ before)) in
       expected_is u (C (subject.Variable x.number)) T o (ap (coerced u) (sym y) ∙ ap (λ t. coerced t (C (subject.Expected k.number))) (sym c) ∙ fit ∙ c) w
 
-pub settled_is : (E : Known) (es : List Demand) (C : Types) → MeetsEach E C es → (y : Subject) (T : Typ) → outline (C y) ≡ outline T → Settles E es y T → C y ≡ T
+pub settled_is : (E : KnownItems) (es : List Demand) (C : Assignment) → MeetsEach E C es → (y : Subject) (T : Typ) → outline (C y) ≡ outline T → Settles E es y T → C y ≡ T
 settled_is E es C h y T o (a_parameter xs ds e i w) = its_type C xs (parameters_are E C xs [] (front_met E C es (of_parameters xs []) ds e h)) i ∙ w
 settled_is E es C h y T o (a_declaration {x = x} k m t ds gs e w) = declared_is E C k x m t ds (front_met E C es (declared (named.bind k x m) (Some t) ds) gs e h) ∙ w
 settled_is E es C h y T o (a_result {x = x} f q n p m g given ds gs e w) =
@@ -123,6 +123,6 @@ settled_is E es C h y T o (an_argument {u = u} f n g given ds gs e a i s w) =
 settled_is E es C h y T o (a_part {u = u} f n i v given ds gs e a j s w) =
     gives_type C o (its_fit C (variant_parts E.items i v) 0 given (variant_fits E C f n i v given a ds (front_met E C es (of_exp f (named.variant n i v given) ds) gs e h)) j u s) w
 
-pub settled_fixes : (r : Renumbering) (view : Viewed) (IsFixed : Subject → Type 0) (E : Known) (A : Types) (es : List Demand)
+pub settled_fixes : (r : Renumbering) (view : Viewed) (IsFixed : Subject → Type 0) (E : KnownItems) (A : Assignment) (es : List Demand)
     → ((x : Subject) → IsFixed x → Told es (subject_at r x) → Settles E es (subject_at r x) (shared (view x) (shape_at r (A x)))) → Fixes r view IsFixed E A es
 settled_fixes r view IsFixed E A es s = λ C h near o x i t. settled_is E es C h (subject_at r x) (shared (view x) (shape_at r (A x))) (o x t) (s x i t)

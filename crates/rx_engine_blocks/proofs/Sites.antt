@@ -10,7 +10,7 @@ use Rattle.rx_typeck_solver.specs.declared.facts.Op.{Op}
 use Rattle.rx_typeck_solver.specs.declared.facts.Op.TheVariants as op
 use Rattle.rx_typeck_solver.specs.declared.facts.Fact.TheVariants as fact
 use Rattle.rx_typeck_solver.specs.declared.facts.Demand.{Demand}
-use Rattle.rx_typeck_solver.specs.Facts.{Types, Known, coerced, made}
+use Rattle.rx_typeck_solver.specs.Facts.{Assignment, KnownItems, coerced, made}
 use Rattle.rx_engine_blocks.specs.Renumbering.{Renumbering, shape_at, subject_at}
 use Rattle.rx_engine_blocks.specs.DemandsLike.{FactsLike}
 use Rattle.rx_engine_blocks.specs.DemandsLike.FactLike.{like_fact}
@@ -58,8 +58,8 @@ unit_outlined (integer k) e = cc
 unit_outlined boolean e = cc
 unit_outlined (named i) e = cc
 
-module _ (r : Renumbering) (u : PartialInverse r) (view : Viewed) (behind : Behind) (IsFixed : Subject → Type 0) (D D' : Known) (known : Knows r D D') (A V : Types) (whole : List Demand) where
-  abbrev A' : Types
+module _ (r : Renumbering) (u : PartialInverse r) (view : Viewed) (behind : Behind) (IsFixed : Subject → Type 0) (D D' : KnownItems) (known : Knows r D D') (A V : Assignment) (whole : List Demand) where
+  abbrev A' : Assignment
   A' = composed r u view A V
 
   abbrev B2 : List Demand → List Demand → Type 0
@@ -68,7 +68,7 @@ module _ (r : Renumbering) (u : PartialInverse r) (view : Viewed) (behind : Behi
   abbrev There : Subject → Type 0
   There = ToldIn r behind whole
 
-  as_it_is : (P Q : Types) → Sees r view P Q → (x : Subject) → view x ≡ false → Q (subject_at r x) ≡ shape_at r (P x)
+  as_it_is : (P Q : Assignment) → Sees r view P Q → (x : Subject) → view x ≡ false → Q (subject_at r x) ≡ shape_at r (P x)
   as_it_is P Q s x v = s x ∙ ap (λ b. shared b (shape_at r (P x))) v
 
   here : (x : Subject) → view x ≡ false → A' (subject_at r x) ≡ shape_at r (A x)
@@ -86,7 +86,7 @@ module _ (r : Renumbering) (u : PartialInverse r) (view : Viewed) (behind : Behi
       forth : A x ≡ A e → coerced (A' (subject_at r x)) (A' (subject_at r e)) ≡ A' (subject_at r x)
       forth h = ap (coerced (A' (subject_at r x))) (here e v.1 ∙ ap (shape_at r) (sym h) ∙ sym (here x v.0)) ∙ coerced_itself (A' (subject_at r x))
 
-      back : (B C : Types) → Tied r view behind IsFixed A B C → A x ≡ A e → coerced (C (subject_at r x)) (C (subject_at r e)) ≡ C (subject_at r x) → B x ≡ B e
+      back : (B C : Assignment) → Tied r view behind IsFixed A B C → A x ≡ A e → coerced (C (subject_at r x)) (C (subject_at r e)) ≡ C (subject_at r x) → B x ≡ B e
       back B C t h m =
           let p = as_it_is B C t.sees x v.0 in
           let q = as_it_is B C t.sees e v.1 in
@@ -105,14 +105,14 @@ module _ (r : Renumbering) (u : PartialInverse r) (view : Viewed) (behind : Behi
     literal = λ m i. absurd i;
   }
 
-  unit_same : (n : ℕ) → A (subject.Node n) ≡ unit_shape → A (subject.Expected n) ≡ unit_shape → (B : Types) → ((x : Subject) → outline (A x) ≡ outline (B x))
+  unit_same : (n : ℕ) → A (subject.Node n) ≡ unit_shape → A (subject.Expected n) ≡ unit_shape → (B : Assignment) → ((x : Subject) → outline (A x) ≡ outline (B x))
       → ◌≡◌ {A = Option Typ} (Some (coerced (B (subject.Node n)) (B (subject.Expected n)))) (Some (B (subject.Node n)))
   unit_same n p q B o =
       let i = unit_outlined (B (subject.Node n)) (sym (ap outline p) ∙ o (subject.Node n)) in
       let j = unit_outlined (B (subject.Expected n)) (sym (ap outline q) ∙ o (subject.Expected n)) in
       ap Some (ap (λ t. coerced t (B (subject.Expected n))) i ∙ ap (coerced unit_shape) j ∙ sym i)
 
-  unit_still : (n : ℕ) (o : Op) → made (λ k. k) D.items o [] [] ≡ Some unit_shape → (B : Types) → ((x : Subject) → outline (A x) ≡ outline (B x))
+  unit_still : (n : ℕ) (o : Op) → made (λ k. k) D.items o [] [] ≡ Some unit_shape → (B : Assignment) → ((x : Subject) → outline (A x) ≡ outline (B x))
       → made (λ k. k) D.items o [] [] ≡ Some (A (subject.Expected n)) → made (λ k. k) D.items o [] [] ≡ Some (B (subject.Expected n))
   unit_still n o p B same h =
       let e = some_same _ _ (sym p ∙ h) in

@@ -10,7 +10,7 @@ use Rattle.rx_typeck_solver.specs.declared.facts.Passing.{Passing}
 use Rattle.rx_typeck_solver.specs.declared.facts.Test.{Test}
 use Rattle.rx_typeck_solver.specs.declared.facts.Fact.TheVariants as fact
 use Rattle.rx_typeck_solver.specs.declared.facts.Demand.{Demand}
-use Rattle.rx_typeck_solver.specs.Facts.{Types, Known, pointee, MeetsEach}
+use Rattle.rx_typeck_solver.specs.Facts.{Assignment, KnownItems, pointee, MeetsEach}
 use Rattle.rx_engine_blocks.specs.Renumbering.{Renumbering, shape_at}
 use Rattle.rx_engine_blocks.specs.Knows.{Knows}
 use Rattle.rx_engine_blocks.specs.Along.{PartialInverse, Viewed, shared, composed}
@@ -25,11 +25,11 @@ use Rattle.rx_engine_blocks.proofs.Outlines.{composed_sees, composed_new, met_un
 some_same : (t v : Typ) → ◌≡◌ {A = Option Typ} (Some t) (Some v) → t ≡ v
 some_same t v e = cc
 
-module _ (r : Renumbering) (u : PartialInverse r) (view : Viewed) (behind : Behind) (IsFixed : Subject → Type 0) (D D' : Known) (known : Knows r D D') (A V : Types) where
+module _ (r : Renumbering) (u : PartialInverse r) (view : Viewed) (behind : Behind) (IsFixed : Subject → Type 0) (D D' : KnownItems) (known : Knows r D D') (A V : Assignment) where
   abbrev B2 : List Demand → List Demand → Type 0
   B2 = Block r u view behind IsFixed D D' A V
 
-  abbrev A' : Types
+  abbrev A' : Assignment
   A' = composed r u view A V
 
   -- what the answer adds
@@ -92,7 +92,7 @@ module _ (r : Renumbering) (u : PartialInverse r) (view : Viewed) (behind : Behi
               ((ap pointee its ∙ ap Some (ap (shape_at r) (some_same _ _ w.0.0) ∙ sym here), tt), tt),
             )
 
-        back : (B C : Types) → Tied r view behind IsFixed A B C → ((Some (A (subject.Variable x)) ≡ Some (A (subject.Node n))) × Unit {0}) × Unit {0}
+        back : (B C : Assignment) → Tied r view behind IsFixed A B C → ((Some (A (subject.Variable x)) ≡ Some (A (subject.Node n))) × Unit {0}) × Unit {0}
             → ((Some (C (subject.Variable y)) ≡ Some (C (subject.Node k))) × Unit {0}) × (((pointee (C (subject.Node k)) ≡ Some (C (subject.Node (r.nodes n)))) × Unit {0}) × Unit {0})
             → ((Some (B (subject.Variable x)) ≡ Some (B (subject.Node n))) × Unit {0}) × Unit {0}
         back B C t w m =

@@ -2,10 +2,10 @@
 use Rattle.std.proofs.Common.{◌≡◌, ℕ, Bool, true, false, List, [], ◌∷◌, ◌++◌, refl, sym, subst, inl, inr, ◌⊎◌, ⊎_elim, if◌then◌else◌}
 use Rattle.rx_typeck_solver.specs.declared.facts.Subject.{Subject}
 use Rattle.rx_typeck_solver.specs.declared.facts.Demand.{Demand}
-use Rattle.rx_typeck_solver.specs.Facts.{Types, Known, MeetsEach}
+use Rattle.rx_typeck_solver.specs.Facts.{Assignment, KnownItems, MeetsEach}
 use Rattle.rx_typeck_solver.specs.Valid.{Told, IsIn, literals_of}
 
-pub both_met : (D : Known) (A : Types) (xs ys : List Demand) → MeetsEach D A xs → MeetsEach D A ys → MeetsEach D A (xs ++ ys)
+pub both_met : (D : KnownItems) (A : Assignment) (xs ys : List Demand) → MeetsEach D A xs → MeetsEach D A ys → MeetsEach D A (xs ++ ys)
 both_met D A [] ys h k = k
 both_met D A (x ∷ xs) ys h k = (h.0, both_met D A xs ys h.1 k)
 

@@ -3,7 +3,7 @@ use Rattle.std.proofs.Common.{List, [], ◌∷◌, ◌++◌, map, inl, inr, ◌�
 use Rattle.rx_typeck_solver.specs.declared.facts.Subject.{Subject}
 use Rattle.rx_typeck_solver.specs.declared.facts.Passing.{Passing}
 use Rattle.rx_typeck_solver.specs.declared.facts.Demand.{Demand}
-use Rattle.rx_typeck_solver.specs.Facts.{Types, Known, MeetsEach}
+use Rattle.rx_typeck_solver.specs.Facts.{Assignment, KnownItems, MeetsEach}
 use Rattle.rx_typeck_solver.specs.Valid.{Told}
 use Rattle.rx_engine_blocks.specs.Renumbering.{Renumbering, passing_at}
 use Rattle.rx_engine_blocks.specs.Knows.{Knows}
@@ -13,14 +13,14 @@ use Rattle.rx_engine_blocks.specs.Parts.{EachPassing, AllAbout, EachAbout, SameA
 use Rattle.rx_engine_blocks.specs.Seen.{SeenDemands}
 use Rattle.rx_engine_blocks.specs.Seen.SeenDemands.{seen_variable, longer, assigned}
 use Rattle.rx_engine_blocks.specs.Pinned.{PinnedDemands}
-use Rattle.rx_engine_blocks.specs.Pinned.PinnedDemands.{suffixed}
+use Rattle.rx_engine_blocks.specs.Pinned.PinnedDemands.{suffixed, in_range}
 use Rattle.rx_engine_blocks.proofs.Special.{added, seen_block}
 use Rattle.rx_engine_blocks.proofs.Pinning.{pinned_block}
 use Rattle.rx_engine_blocks.proofs.Same.{each_same}
 use Rattle.rx_engine_blocks.proofs.MadeCode.{no_literals}
 use Rattle.rx_engine_blocks.proofs.Told.{each_copied, passings_copied}
 
-module _ (r : Renumbering) (u : PartialInverse r) (view : Viewed) (behind : Behind) (IsFixed : Subject → Type 0) (D D' : Known) (known : Knows r D D') (A V : Types) (whole : List Demand) where
+module _ (r : Renumbering) (u : PartialInverse r) (view : Viewed) (behind : Behind) (IsFixed : Subject → Type 0) (D D' : KnownItems) (known : Knows r D D') (A V : Assignment) (whole : List Demand) where
   abbrev There : Subject → Type 0
   There = ToldIn r behind whole
 
@@ -47,7 +47,8 @@ module _ (r : Renumbering) (u : PartialInverse r) (view : Viewed) (behind : Behi
   seen_stands references met gs gs' z = record { block = seen_block r u view behind IsFixed D D' known A V whole references met gs gs' z; elsewhere = λ k B o s h. each_same D A B There s gs (seen_about gs gs' z k) h }
 
   pinned_about : (gs gs' : List Demand) → PinnedDemands r A gs gs' → EachAbout (Told whole) gs' → EachAbout There gs
-  pinned_about gs gs' (suffixed n e) k = ((inl k.0.0, tt), ((inl k.1.0.0, tt), tt))
+  pinned_about gs gs' (suffixed n e) k = ((inl k.0.0, tt), tt)
+  pinned_about gs gs' (in_range n) k = ((inl k.0.0, tt), tt)
 
   pub pinned_stands : (gs gs' : List Demand) → PinnedDemands r A gs gs' → StandsFor r u view behind IsFixed D D' A V whole gs gs'
   pinned_stands gs gs' z = record { block = pinned_block r u view behind IsFixed D D' known A V gs gs' z; elsewhere = λ k B o s h. each_same D A B There s gs (pinned_about gs gs' z k) h }

@@ -7,7 +7,7 @@ use Rattle.rx_typeck_solver.specs.declared.facts.Passing.{Passing}
 use Rattle.rx_typeck_solver.specs.declared.facts.Fact.{Fact}
 use Rattle.rx_typeck_solver.specs.declared.facts.Fact.TheVariants as fact
 use Rattle.rx_typeck_solver.specs.declared.facts.Demand.{Demand}
-use Rattle.rx_typeck_solver.specs.Facts.{Types, Known, MeetsAll, MeetsEach}
+use Rattle.rx_typeck_solver.specs.Facts.{Assignment, KnownItems, MeetsAll, MeetsEach}
 use Rattle.rx_typeck_solver.specs.Valid.{Told, Tells, TellsAny}
 use Rattle.rx_typeck_solver.specs.Ordered.{Knowing, nothing, more, learns, learns_all, all_known, all_passed, ready, Ready, Ordered}
 use Rattle.rx_typeck_solver.specs.Solver.{same_subject}
@@ -20,7 +20,7 @@ use Rattle.rx_engine_blocks.specs.Parts.{EachOf, EachPassing, About, AllAbout, E
 
 -- ---- what facts in order are about
 
-module _ (P : Subject → Type 0) (D : Known) (V : Types) where
+module _ (P : Subject → Type 0) (D : KnownItems) (V : Assignment) where
   abbrev pub Covers : Knowing → Type 0
   Covers K = (x : Subject) → IsTrue (K x) → P x
 
@@ -69,7 +69,7 @@ module _ (P : Subject → Type 0) (D : Known) (V : Types) where
       (q.0, each_about (learns_all K d.facts) ds q.1 (λ x w. t x (inr w)) h.1 m.1)
 
 -- the facts of demands in order are about what these tell
-pub about_told : (D : Known) (V : Types) (ds : List Demand) → Ordered nothing ds → MeetsEach D V ds → EachAbout (Told ds) ds
+pub about_told : (D : KnownItems) (V : Assignment) (ds : List Demand) → Ordered nothing ds → MeetsEach D V ds → EachAbout (Told ds) ds
 about_told D V ds o m = each_about (Told ds) D V nothing ds (λ x h. absurd (unknown h)) (λ x t. t) o m
   where
     unknown : IsTrue false → ⊥

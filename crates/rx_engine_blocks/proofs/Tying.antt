@@ -6,7 +6,7 @@ use Rattle.rx_typed.specs.Types.{Shapes, integer, boolean, tuple_of, reference, 
 use Rattle.rx_typeck_solver.specs.declared.facts.Subject.{Subject}
 use Rattle.rx_typeck_solver.specs.declared.facts.Subject.TheVariants as subject
 use Rattle.rx_typeck_solver.specs.declared.facts.Demand.{Demand}
-use Rattle.rx_typeck_solver.specs.Facts.{Types, Known, has}
+use Rattle.rx_typeck_solver.specs.Facts.{Assignment, KnownItems, has}
 use Rattle.rx_typeck_solver.specs.Valid.{Agree, Task, Told, IsIn, Typed, Valid, literals_of}
 use Rattle.rx_typeck_solver.specs.Solver.{Leaf, Fixed, KindOf, Term, State, Root, empty, filled_or, Found_all, solve}
 use Rattle.rx_typeck_solver.specs.Ordered.{Orderly}
@@ -28,7 +28,7 @@ use Rattle.rx_engine_blocks.proofs.Carrying.{accepted_valid, whole_valid}
 
 -- ---- assignments that are the same at the roots
 
-module _ (st : State) (P Q : Types) (h : (u : ℕ) → Root st.shapes u → kind_at P u ≡ kind_at Q u) where
+module _ (st : State) (P Q : Assignment) (h : (u : ℕ) → Root st.shapes u → kind_at P u ≡ kind_at Q u) where
   mutual
     filled_alike : (t : Term) → Rooted st.shapes t → filled P t ≡ filled Q t
     filled_alike (integer (Fixed k)) r = refl
@@ -47,8 +47,8 @@ abbrev patch : Option Term → Typ → Typ → Typ
 patch None a b = a
 patch (Some t) a b = b
 
-module _ (r : Renumbering) (u : PartialInverse r) (view : Viewed) (behind : Behind) (IsFixed : Subject → Type 0) (D D' : Known) (known : Knows r D D') (A V : Types) (ds ds' : List Demand) (references : AllReferences r u view behind D' A ds') (views : MutableAt view A) where
-  abbrev A' : Types
+module _ (r : Renumbering) (u : PartialInverse r) (view : Viewed) (behind : Behind) (IsFixed : Subject → Type 0) (D D' : KnownItems) (known : Knows r D D') (A V : Assignment) (ds ds' : List Demand) (references : AllReferences r u view behind D' A ds') (views : MutableAt view A) where
+  abbrev A' : Assignment
   A' = composed r u view A V
 
   sees : Sees r view A A'
@@ -77,7 +77,7 @@ module _ (r : Renumbering) (u : PartialInverse r) (view : Viewed) (behind : Behi
     good : Good st
     good = (adds D' part o st end).good
 
-    stands : (C : Types) → Typed D' part C → Stands C st
+    stands : (C : Assignment) → Typed D' part C → Stands C st
     stands C t = typed_stands D' part o st end C t
 
     -- what is told has a shape, and what is hidden has none
@@ -88,8 +88,8 @@ module _ (r : Renumbering) (u : PartialInverse r) (view : Viewed) (behind : Behi
         go None e = refl
         go (Some s) e = absurd ((references x y b).hidden (known_told D' part st o end (subject.Variable (r.variables x)) (s, e)))
 
-    module _ (C : Types) (t : Typed D' part C) (near : NearIn r A ds' C) where
-      abbrev N0 : Types
+    module _ (C : Assignment) (t : Typed D' part C) (near : NearIn r A ds' C) where
+      abbrev N0 : Assignment
       N0 = normal st good C (stands C t)
 
       s0 : Stands N0 st
@@ -105,7 +105,7 @@ module _ (r : Renumbering) (u : PartialInverse r) (view : Viewed) (behind : Behi
       else (subject.Node n) = A' (subject.Node n)
       else (subject.Expected n) = A' (subject.Expected n)
 
-      abbrev N : Types
+      abbrev N : Assignment
       N y = patch (st.shapes y) (else y) (N0 y)
 
       patched : (y : Subject) (u : Term) → st.shapes y ≡ Some u → N y ≡ N0 y
@@ -172,7 +172,7 @@ module _ (r : Renumbering) (u : PartialInverse r) (view : Viewed) (behind : Behi
 
       -- ---- the assignment of the text
 
-      abbrev B : Types
+      abbrev B : Assignment
       B x = text_of r D D' known (view x) (N (subject_at r x))
 
       outline_there : (x : Subject) → outline (N (subject_at r x)) ≡ outline (shared (view x) (shape_at r (A x)))
@@ -240,13 +240,13 @@ module _ (r : Renumbering) (u : PartialInverse r) (view : Viewed) (behind : Behi
     -- ---- the part
 
     -- an integer has its kind in both
-    same_kind : (P Q : Types) (m : ℕ) (l : Kind) → Sees r view P Q → peeled (Q (subject.Node (r.nodes m))) ≡ integer l → peeled (P (subject.Node m)) ≡ peeled (Q (subject.Node (r.nodes m)))
+    same_kind : (P Q : Assignment) (m : ℕ) (l : Kind) → Sees r view P Q → peeled (Q (subject.Node (r.nodes m))) ≡ integer l → peeled (P (subject.Node m)) ≡ peeled (Q (subject.Node (r.nodes m)))
     same_kind P Q m l a e = shape_apart r D D' known (peeled (P (subject.Node m))) (integer l) (sym (peeled_at r (P (subject.Node m))) ∙ sym (peeled_shared (view (subject.Node m)) (shape_at r (P (subject.Node m)))) ∙ ap peeled (sym (a (subject.Node m))) ∙ e) ∙ sym e
 
-    kind_of_literal : (P Q : Types) (m n : ℕ) → r.nodes m ≡ n → Sees r view P Q → ((l : Kind) × (peeled (Q (subject.Node n)) ≡ integer l)) → peeled (P (subject.Node m)) ≡ peeled (Q (subject.Node n))
+    kind_of_literal : (P Q : Assignment) (m n : ℕ) → r.nodes m ≡ n → Sees r view P Q → ((l : Kind) × (peeled (Q (subject.Node n)) ≡ integer l)) → peeled (P (subject.Node m)) ≡ peeled (Q (subject.Node n))
     kind_of_literal P Q m n e a q = same_kind P Q m q.0 a (ap (λ j. peeled (Q (subject.Node j))) e ∙ q.1) ∙ ap (λ j. peeled (Q (subject.Node j))) e
 
-    near_in : (C : Types) → Near D D' (task_of ds) part A A' C → NearIn r A ds' C
+    near_in : (C : Assignment) → Near D D' (task_of ds) part A A' C → NearIn r A ds' C
     near_in C e m i k = e (r.nodes m) i (ap peeled (sees (subject.Node m)) ∙ peeled_shared (view (subject.Node m)) (shape_at r (A (subject.Node m))) ∙ peeled_at r (A (subject.Node m)) ∙ ap (shape_at r) k)
 
     module _ (b : Block r u view behind IsFixed D D' A V ds ds') (v : Valid D (task_of ds) A) where
@@ -275,7 +275,7 @@ module _ (r : Renumbering) (u : PartialInverse r) (view : Viewed) (behind : Behi
         )
 
         -- a node that the part doesn't tell has the text's type
-        untold : (m : ℕ) → (Told ds' (subject.Node (r.nodes m)) → ⊥) → (C : Types) (t : Typed D' part C) (h : NearIn r A ds' C) → B C t h (subject.Node m) ≡ A (subject.Node m)
+        untold : (m : ℕ) → (Told ds' (subject.Node (r.nodes m)) → ⊥) → (C : Assignment) (t : Typed D' part C) (h : NearIn r A ds' C) → B C t h (subject.Node m) ≡ A (subject.Node m)
         untold m silent C t h = go (st.shapes (subject.Node (r.nodes m))) refl
           where
             go : (p : Option Term) → st.shapes (subject.Node (r.nodes m)) ≡ p → B C t h (subject.Node m) ≡ A (subject.Node m)
@@ -283,19 +283,19 @@ module _ (r : Renumbering) (u : PartialInverse r) (view : Viewed) (behind : Behi
             go (Some s) e = absurd (silent (known_told D' part st o end (subject.Node (r.nodes m)) (s, e)))
 
         -- what comes from what the text tells has its types where the text's do
-        from_text : (C : Types) (t : Typed D' part C) (h : NearIn r A ds' C) → Agree D (task_of ds) A (B C t h) → AgreesThere r A' ds ds' C
+        from_text : (C : Assignment) (t : Typed D' part C) (h : NearIn r A ds' C) → Agree D (task_of ds) A (B C t h) → AgreesThere r A' ds ds' C
         from_text C t h g x told there =
             let p = told_known D' part st o end (subject_at r x) there in
             sym (told_same C t h (subject_at r x) p.0 p.1) ∙ seesB C t h x ∙ ap (λ q. shared (view x) (shape_at r q)) (sym (g x told)) ∙ sym (sees x)
 
         other : (m : ℕ) → LiteralStands r IsFixed ds' m → ((n : ℕ) × IsIn n (literals_of ds') × Paired D D' (task_of ds) part A A' carried.back m n)
-            ⊎ ((C : Types) (t : Typed D' part C) (e : Near D D' (task_of ds) part A A' C) → peeled (carried.back C t e (subject.Node m)) ≡ peeled (A (subject.Node m)))
+            ⊎ ((C : Assignment) (t : Typed D' part C) (e : Near D D' (task_of ds) part A A' C) → peeled (carried.back C t e (subject.Node m)) ≡ peeled (A (subject.Node m)))
         unfolding carried
         other m (inl w) = inl (r.nodes m, w, paired m w)
         other m (inr (inl silent)) = inr (λ C t e. ap peeled (untold m silent C t (near_in C e)))
         other m (inr (inr f)) = inr (λ C t e. ap peeled (sym (settledB C t (near_in C e) (subject.Node m) f)))
 
-        agrees : (C : Types) (t : Typed D' part C) (h : NearIn r A ds' C) → Agree D (task_of ds) A (B C t h) → (y : Subject) → Told ds' y → TellsOne r D' A' ds ds' y → A' y ≡ C y
+        agrees : (C : Assignment) (t : Typed D' part C) (h : NearIn r A ds' C) → Agree D (task_of ds) A (B C t h) → (y : Subject) → Told ds' y → TellsOne r D' A' ds ds' y → A' y ≡ C y
         agrees C t h g y there (inl x) = subst (λ z. A' z ≡ C z) (sym x.1) (sym (from_text C t h g x.0 x.2 (subst (λ z. Told ds' z) x.1 there)))
         agrees C t h g y there (inr f) = sym (f C t (from_text C t h g))
 
@@ -322,12 +322,12 @@ module _ (r : Renumbering) (u : PartialInverse r) (view : Viewed) (behind : Behi
   part_alike o fixes b v w x t = w.only_one A' (part_valid o fixes b v w).prefers (subject_at r x) t ∙ sees x
 
 -- what meets what is asked, with the text's types at what comes from the text, is valid where all else in the part has one type
-pub part_by_itself : (r : Renumbering) (u : PartialInverse r) (view : Viewed) (behind : Behind) (IsFixed : Subject → Type 0) (D D' : Known) → Knows r D D' → (A V : Types) (ds ds' : List Demand) → AllReferences r u view behind D' A ds' → MutableAt view A
+pub part_by_itself : (r : Renumbering) (u : PartialInverse r) (view : Viewed) (behind : Behind) (IsFixed : Subject → Type 0) (D D' : KnownItems) → Knows r D D' → (A V : Assignment) (ds ds' : List Demand) → AllReferences r u view behind D' A ds' → MutableAt view A
     → Orderly (task_of ds') → Fixes r view IsFixed D' A ds' → Block r u view behind IsFixed D D' A V ds ds' → Valid D (task_of ds) A → ByItself r u view IsFixed D' A V ds ds' → Valid D' (task_of ds') V
 part_by_itself r u view behind IsFixed D D' known A V ds ds' references views o fixes b v itself =
     let A' = composed r u view A V in
     let same : A' ≡ V = λ i y. itself.same y i in
-    let met = subst (λ (W : Types). Typed D' (task_of ds') W) (sym same) itself.meets in
-    let again = subst (λ (W : Types). ByItself r u view IsFixed D' A W ds ds') (sym same) itself in
-    subst (λ (W : Types). Valid D' (task_of ds') W) same
+    let met = subst (λ (W : Assignment). Typed D' (task_of ds') W) (sym same) itself.meets in
+    let again = subst (λ (W : Assignment). ByItself r u view IsFixed D' A W ds ds') (sym same) itself in
+    subst (λ (W : Assignment). Valid D' (task_of ds') W) same
     (finds D' (task_of ds') o V itself.meets (λ st end. part_itself r u view behind IsFixed D D' known A V ds ds' references views o itself.meets met fixes st end b v again))

@@ -1,7 +1,7 @@
 -- A type that is seen as the text's is, or as a shared reference where the text's is mutable, gives back one of the text.
 use Rattle.std.proofs.Common.{◌≡◌, Bool, true, false, refl, sym, ap, ◌∙◌}
 use Rattle.rx_typed.specs.Types.{integer, boolean, tuple_of, reference, named, Typ, outline, peeled}
-use Rattle.rx_typeck_solver.specs.Facts.{Known}
+use Rattle.rx_typeck_solver.specs.Facts.{KnownItems}
 use Rattle.rx_engine_blocks.specs.Renumbering.{Renumbering, shape_at}
 use Rattle.rx_engine_blocks.specs.Knows.{Knows}
 use Rattle.rx_engine_blocks.specs.Along.{shared}
@@ -32,7 +32,7 @@ unshared _ t = t
 abbrev pub IsMutable : Bool → Typ → Type 0
 IsMutable b a = b ≡ true → (t : Typ) × (a ≡ reference true t)
 
-module _ (r : Renumbering) (D D' : Known) (known : Knows r D D') where
+module _ (r : Renumbering) (D D' : KnownItems) (known : Knows r D D') where
   abbrev U : Typ → Typ
   U q = shape_at (undo r D D' known) q
 

@@ -3,12 +3,12 @@ use Rattle.std.specs.Prelude.{◌≡◌, ℕ, Bool, true, false, Option, Some, N
 use Rattle.rx_typeck_solver.specs.declared.facts.Subject.{Subject}
 use Rattle.rx_typeck_solver.specs.declared.facts.Subject.TheVariants as subject
 use Rattle.rx_typed.specs.Types.{Typ, reference}
-use Rattle.rx_typeck_solver.specs.Facts.{Types}
+use Rattle.rx_typeck_solver.specs.Facts.{Assignment}
 use Rattle.rx_engine_blocks.specs.Renumbering.{Renumbering, shape_at, subject_at}
 
 module _ (r : Renumbering) where
   -- each type of the text is that of the answer
-  abbrev pub Along : Types → Types → Type 0
+  abbrev pub Along : Assignment → Assignment → Type 0
   Along A A' = (x : Subject) → A' (subject_at r x) ≡ shape_at r (A x)
 
   -- nodes and variables can be numbered back
@@ -23,7 +23,7 @@ module _ (r : Renumbering) where
   unsubject i (subject.Node n) = subject.Node (i.unnode n)
   unsubject i (subject.Expected n) = subject.Expected (i.unnode n)
 
-  abbrev pub renumbered_types : Inverse → Types → Types
+  abbrev pub renumbered_types : Inverse → Assignment → Assignment
   renumbered_types i A x = shape_at r (A (unsubject i x))
 
   -- those that come from the text can be
@@ -51,17 +51,17 @@ shared true (reference m t) = reference false t
 shared _ t = t
 
 -- each type of the text is that of the answer, but for what is viewed
-abbrev pub Sees : Renumbering → Viewed → Types → Types → Type 0
+abbrev pub Sees : Renumbering → Viewed → Assignment → Assignment → Type 0
 Sees r view A A' = (x : Subject) → A' (subject_at r x) ≡ shared (view x) (shape_at r (A x))
 
 -- what is viewed is a mutable reference in the text
-abbrev pub MutableAt : Viewed → Types → Type 0
+abbrev pub MutableAt : Viewed → Assignment → Type 0
 MutableAt view A = (x : Subject) → view x ≡ true → (t : Typ) × (A x ≡ reference true t)
 
 -- the text's type of what comes from the text, as it is seen there, else the answer's own
-abbrev pub text_or : Renumbering → Viewed → Option Subject → Types → Typ → Typ
+abbrev pub text_or : Renumbering → Viewed → Option Subject → Assignment → Typ → Typ
 text_or r view None A t = t
 text_or r view (Some x) A t = shared (view x) (shape_at r (A x))
 
-abbrev pub composed : (r : Renumbering) → PartialInverse r → Viewed → Types → Types → Types
+abbrev pub composed : (r : Renumbering) → PartialInverse r → Viewed → Assignment → Assignment → Assignment
 composed r u view A V y = text_or r view (subject_back r u y) A (V y)

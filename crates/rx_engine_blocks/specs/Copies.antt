@@ -7,7 +7,7 @@ use Rattle.rx_typeck_solver.specs.declared.facts.Op.TheVariants as op
 use Rattle.rx_typeck_solver.specs.declared.facts.Fact.{Fact}
 use Rattle.rx_typeck_solver.specs.declared.facts.Fact.TheVariants as fact
 use Rattle.rx_typeck_solver.specs.declared.facts.Demand.{Demand}
-use Rattle.rx_typeck_solver.specs.Facts.{Types}
+use Rattle.rx_typeck_solver.specs.Facts.{Assignment}
 use Rattle.rx_engine_blocks.specs.Along.{Viewed}
 use Rattle.rx_engine_blocks.specs.Parts.{AllAbout}
 
@@ -22,7 +22,7 @@ AllTests [] = Unit {0}
 AllTests (fact.Passes t xs ps qs ∷ fs) = AllTests fs
 AllTests (_ ∷ fs) = ⊥
 
-pub data CopiesWell (view : Viewed) (A : Types) : Demand → Type 0 where
+pub data CopiesWell (view : Viewed) (A : Assignment) : Demand → Type 0 where
   -- about nothing that is viewed
   plainly : {d : Demand} → AllAbout (λ x. view x ≡ false) d.facts → CopiesWell view A d
   -- tests alone
@@ -35,6 +35,6 @@ pub data CopiesWell (view : Viewed) (A : Types) : Demand → Type 0 where
   becomes_shared : {d : Demand} (x e : Subject) (t : Typ) → d.facts ≡ fact.Equals x op.Coerced (x ∷ e ∷ []) [] ∷ [] → view x ≡ true → view e ≡ false → A e ≡ reference false t
       → CopiesWell view A d
 
-abbrev pub EachCopies : Viewed → Types → List Demand → Type 0
+abbrev pub EachCopies : Viewed → Assignment → List Demand → Type 0
 EachCopies view A [] = Unit {0}
 EachCopies view A (d ∷ ds) = CopiesWell view A d × EachCopies view A ds

@@ -9,15 +9,20 @@ use Rattle.rx_typeck_solver.specs.declared.facts.Kinds.{Kinds}
 use Rattle.rx_typeck_solver.specs.declared.facts.Subject.TheVariants as subject
 use Rattle.rx_typeck_solver.specs.declared.facts.Fact.TheVariants as fact
 use Rattle.rx_typeck_solver.specs.declared.facts.Demand.{Demand}
-use Rattle.rx_typeck_solver.specs.Facts.{Types}
+use Rattle.rx_typeck_solver.specs.Facts.{Assignment}
 use Rattle.rx_typeck_typed.specs.Asking.{all, just}
 use Rattle.rx_engine_blocks.specs.Renumbering.{Renumbering}
 
--- what a literal asks: its kinds, those that hold it, whether it has no suffix
-abbrev pub of_literal : ℕ → Span → Kinds → Kinds → Bool → List Demand
-of_literal n s u v o = record { node = n; span = s; broken = broken.Mismatch Rule.Equal; unsuffixed = false; facts = fact.Integer n u ∷ [] }
-    ∷ record { node = n; span = s; broken = broken.Literal; unsuffixed = o; facts = fact.Integer n v ∷ [] } ∷ []
+-- what a literal asks of its kind: those that its suffix lets it have
+abbrev pub of_suffix : ℕ → Span → Kinds → List Demand
+of_suffix n s u = record { node = n; span = s; broken = broken.Mismatch Rule.Equal; unsuffixed = false; facts = fact.Integer n u ∷ [] } ∷ []
 
-pub data PinnedDemands (r : Renumbering) (A : Types) : List Demand → List Demand → Type 0 where
-  suffixed : (n : ℕ) {s s' : Span} {v : Kinds} {l : Kind} → A (subject.Node n) ≡ integer l
-      → PinnedDemands r A (of_literal n s all v true) (of_literal (r.nodes n) s' (just l) v false)
+-- and behind what its place asks: those that hold it; whether it has no suffix
+abbrev pub of_range : ℕ → Span → Kinds → Bool → List Demand
+of_range n s v o = record { node = n; span = s; broken = broken.Literal; unsuffixed = o; facts = fact.Integer n v ∷ [] } ∷ []
+
+pub data PinnedDemands (r : Renumbering) (A : Assignment) : List Demand → List Demand → Type 0 where
+  -- the kind is any in the text, and that of the text in the answer
+  suffixed : (n : ℕ) {s s' : Span} {l : Kind} → A (subject.Node n) ≡ integer l → PinnedDemands r A (of_suffix n s all) (of_suffix (r.nodes n) s' (just l))
+  -- it holds the literal in both
+  in_range : (n : ℕ) {s s' : Span} {v : Kinds} → PinnedDemands r A (of_range n s v true) (of_range (r.nodes n) s' v false)

@@ -12,7 +12,7 @@ use Rattle.rx_typeck_solver.specs.declared.facts.Subject.TheVariants as subject
 use Rattle.rx_typeck_solver.specs.declared.facts.Op.TheVariants as op
 use Rattle.rx_typeck_solver.specs.declared.facts.Fact.TheVariants as fact
 use Rattle.rx_typeck_solver.specs.declared.facts.Demand.{Demand}
-use Rattle.rx_typeck_solver.specs.Facts.{Known, coerced, made}
+use Rattle.rx_typeck_solver.specs.Facts.{KnownItems, coerced, made}
 use Rattle.rx_typeck_typed.specs.Demands.{declared, of_exp, of_parameters, of_statement}
 use Rattle.rx_engine_blocks.specs.Gets.{Gets, IsAsked}
 use Rattle.rx_engine_blocks.specs.Given.{AreGiven}
@@ -33,7 +33,7 @@ pub data Gives : Exp → ℕ → Typ → Typ → Type 0 where
   by_itself : {n : Node} {x : Use} {t u : Typ} → coerced t u ≡ t → Gives (named.var n x) x.number t u
   borrowed : {n k : Node} {m : Bool} {x : Use} {t : Typ} → Gives (named.borrow n m (named.var k x)) x.number t (reference m t)
 
-pub data Settles (E : Known) (es : List Demand) : Subject → Typ → Type 0 where
+pub data Settles (E : KnownItems) (es : List Demand) : Subject → Typ → Type 0 where
   a_parameter : {v : ℕ} {t : Written} {T : Typ} (xs : List Parameter) (ds : List Demand) → es ≡ of_parameters xs [] ++ ds → IsParameter v t xs → typ_written t ≡ T
       → Settles E es (subject.Variable v) T
   a_declaration : {x : ℕ} {T : Typ} (k : Node) (m : Bool) (t : Written) (ds gs : List Demand) → es ≡ declared (named.bind k x m) (Some t) ds ++ gs → typ_written t ≡ T

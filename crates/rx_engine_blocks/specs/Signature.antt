@@ -4,7 +4,7 @@ use Rattle.rx_typed.specs.Types.{Typ, integer, boolean, tuple_of, reference, nam
 use Rattle.rx_typed.specs.Named as named
 use Rattle.rx_typed.specs.Named.{Written, WrittenTypes, Parameter}
 use Rattle.rx_typeck_solver.specs.declared.facts.Subject.TheVariants as subject
-use Rattle.rx_typeck_solver.specs.Facts.{Types}
+use Rattle.rx_typeck_solver.specs.Facts.{Assignment}
 
 abbrev mutual
   pub typ_written : Written → Typ
@@ -19,6 +19,6 @@ abbrev mutual
   typs_written (named.written_and t ts) = typ_written t ∷ typs_written ts
 
 -- each parameter has the type that is written
-abbrev pub AsWritten : Types → List Parameter → Type 0
+abbrev pub AsWritten : Assignment → List Parameter → Type 0
 AsWritten C [] = Unit {0}
 AsWritten C (x ∷ xs) = (C (subject.Variable x.variable) ≡ typ_written x.typ) × AsWritten C xs

@@ -11,7 +11,7 @@ use Rattle.rx_typeck_solver.specs.declared.facts.Op.TheVariants as op
 use Rattle.rx_typeck_solver.specs.declared.facts.Test.{Test}
 use Rattle.rx_typeck_solver.specs.declared.facts.Fact.TheVariants as fact
 use Rattle.rx_typeck_solver.specs.declared.facts.Demand.{Demand}
-use Rattle.rx_typeck_solver.specs.Facts.{Types, Known, coerced, made}
+use Rattle.rx_typeck_solver.specs.Facts.{Assignment, KnownItems, coerced, made}
 use Rattle.rx_engine_blocks.specs.Renumbering.{Renumbering, shape_at}
 use Rattle.rx_engine_blocks.specs.Along.{Viewed}
 use Rattle.rx_engine_blocks.specs.Seen.{a_demand}
@@ -30,7 +30,7 @@ expects_demand n s b o = a_demand n s b (fact.Equals (subject.Expected n) o [] [
 abbrev pub AsItIs : Viewed → ℕ → Type 0
 AsItIs view n = (view (subject.Node n) ≡ false) × (view (subject.Expected n) ≡ false)
 
-pub data ChangedSite (r : Renumbering) (view : Viewed) (D D' : Known) (A : Types) : List Demand → List Demand → Type 0 where
+pub data ChangedSite (r : Renumbering) (view : Viewed) (D D' : KnownItems) (A : Assignment) : List Demand → List Demand → Type 0 where
   -- what only reborrowed is a coercion site
   own_fits : {n : ℕ} {s s' : Span} {b c : Broken} → AsItIs view n → ChangedSite r view D D' A (own_demand n s b ∷ []) (fits_demand (r.nodes n) s' c ∷ [])
   -- what was none is a coercion site, and fits

@@ -11,7 +11,7 @@ ghost use Rattle.rx_typed.specs.declared.nodes.Node.{Node};
 ghost use Rattle.rx_typed.specs.Named.{bind, call, variant, Exps, Parameter, Statements, Written};
 ghost use Rattle.rx_typed.specs.Types.{integer, outline, parameters_declared, peeled, reference, variant_parts, Typ};
 ghost use Rattle.rx_typeck_typed.specs.Demands.{declared, of_exp, of_parameter, of_parameters, of_statements};
-ghost use Rattle.rx_typeck_solver.specs.Facts.{coerced, Known, MeetsEach, Types};
+ghost use Rattle.rx_typeck_solver.specs.Facts.{coerced, KnownItems, MeetsEach, Assignment};
 ghost use Rattle.rx_typeck_solver.specs.Ordered.{Orderly};
 ghost use Rattle.rx_typeck_solver.specs.Valid.{literals_of, IsIn, Task, Told, Valid};
 ghost use Rattle.rx_engine_blocks.specs.Renumbering.{shape_at, subject_at, Renumbering};
@@ -36,32 +36,32 @@ ghost use Rattle.rx_engine_blocks.specs.Pinned.{PinnedDemands};
 
 /// Types meet demands exactly where the corresponding types meet the corresponding demands.
 pub fn renumbered_are_met()
-    ensures { (r : Renumbering) (D E : Known) → Knows r D E → (A B : Types) → Along r A B → (ds es : ListOf Demand) → DemandsLike r NoSpecial ds es → (MeetsEach D A ds ↔ MeetsEach E B es) }
+    ensures { (r : Renumbering) (D E : KnownItems) → Knows r D E → (A B : Assignment) → Along r A B → (ds es : ListOf Demand) → DemandsLike r NoSpecial ds es → (MeetsEach D A ds ↔ MeetsEach E B es) }
 {}
 
 /// What is carried from a valid assignment is valid, in a part that is accepted.
 pub fn carried_is_valid()
-    ensures { (D E : Known) (task part : Task) (A B : Types) → Orderly part → Valid D task A → Carried D E task part A B → Accepted E part → Valid E part B }
+    ensures { (D E : KnownItems) (task part : Task) (A B : Assignment) → Orderly part → Valid D task A → Carried D E task part A B → Accepted E part → Valid E part B }
 {}
 
 /// Demands by other numbers have the valid assignment by these numbers.
 pub fn renumbered_are_valid()
-    ensures { (r : Renumbering) (D E : Known) → Knows r D E → (i : Inverse r) (ds es : ListOf Demand) → DemandsLike r NoSpecial ds es → Orderly (task_of es)
-        → (A : Types) → Valid D (task_of ds) A → Valid E (task_of es) (renumbered_types r i A) }
+    ensures { (r : Renumbering) (D E : KnownItems) → Knows r D E → (i : Inverse r) (ds es : ListOf Demand) → DemandsLike r NoSpecial ds es → Orderly (task_of es)
+        → (A : Assignment) → Valid D (task_of ds) A → Valid E (task_of es) (renumbered_types r i A) }
 {}
 
 /// A part of the answer that stands for the text block by block gives what comes from the text the text's types, where it gives them
 /// in each of its assignments to what another part tells.
 pub fn parts_are_typed_alike()
-    ensures { (r : Renumbering) (u : PartialInverse r) (view : Viewed) (behind : Behind) (q : Renumbering) (elsewhere : Behind) (fs : ListOf Demand) (D E : Known) → Knows r D E
-        → (A V : Types) (ds es : ListOf Demand) → AllReferences r u view behind E A es → MutableAt view A → Orderly (task_of es) → Fixes r view (ToldIn q elsewhere fs) E A es
+    ensures { (r : Renumbering) (u : PartialInverse r) (view : Viewed) (behind : Behind) (q : Renumbering) (elsewhere : Behind) (fs : ListOf Demand) (D E : KnownItems) → Knows r D E
+        → (A V : Assignment) (ds es : ListOf Demand) → AllReferences r u view behind E A es → MutableAt view A → Orderly (task_of es) → Fixes r view (ToldIn q elsewhere fs) E A es
         → Block r u view behind (ToldIn q elsewhere fs) D E A V ds es → Valid D (task_of ds) A → Valid E (task_of es) V
         → (x : Subject) → Told es (subject_at r x) → V (subject_at r x) ≡ shared (view x) (shape_at r (A x)) }
 {}
 
 /// The same where each literal of the part that has no suffix has i32 in the text, whatever else is fixed.
 pub fn signed_parts_are_typed_alike()
-    ensures { (r : Renumbering) (u : PartialInverse r) (view : Viewed) (behind : Behind) (q : Renumbering) (elsewhere : Behind) (fs : ListOf Demand) (D E : Known) (A V : Types) (ds es : ListOf Demand)
+    ensures { (r : Renumbering) (u : PartialInverse r) (view : Viewed) (behind : Behind) (q : Renumbering) (elsewhere : Behind) (fs : ListOf Demand) (D E : KnownItems) (A V : Assignment) (ds es : ListOf Demand)
         → Orderly (task_of es) → Block r u view behind (ToldIn q elsewhere fs) D E A V ds es
         → ((m : ℕ) → IsIn m (literals_of ds) → IsIn (r.nodes m) (literals_of es) → peeled (A (subject.Node m)) ≡ integer Kind.I32)
         → Valid D (task_of ds) A → Valid E (task_of es) V → (x : Subject) → Told es (subject_at r x) → V (subject_at r x) ≡ shared (view x) (shape_at r (A x)) }
@@ -71,8 +71,8 @@ pub fn signed_parts_are_typed_alike()
 /// and other demands in its place. Each gives what comes from the text the text's types, where it gives them in each of its assignments to
 /// what the other tells too.
 pub fn runs_are_typed_alike()
-    ensures { (r : Renumbering) (u : PartialInverse r) (view : Viewed) (behind : Behind) (q : Renumbering) (w : PartialInverse q) (D E : Known) → Knows r D E → Knows q D E
-        → (A V W : Types) (text run other head copy end es fs : ListOf Demand) → es ≡ head ++ (copy ++ end) → Among run text
+    ensures { (r : Renumbering) (u : PartialInverse r) (view : Viewed) (behind : Behind) (q : Renumbering) (w : PartialInverse q) (D E : KnownItems) → Knows r D E → Knows q D E
+        → (A V W : Assignment) (text run other head copy end es fs : ListOf Demand) → es ≡ head ++ (copy ++ end) → Among run text
         → DemandsLike r (StandsFor r u view behind (ToldIn q none_behind fs) D E A V es) run copy
         → DemandsLike q (Round (StandsFor q w none_viewed none_behind (ToldIn r behind es) D E A W fs) run other) text fs
         → Orderly (task_of es) → Orderly (task_of fs) → Valid D (task_of text) A → Valid E (task_of es) V → Valid E (task_of fs) W
@@ -85,8 +85,8 @@ pub fn runs_are_typed_alike()
 
 /// Both are blocks.
 pub fn runs_are_blocks()
-    ensures { (r : Renumbering) (u : PartialInverse r) (view : Viewed) (behind : Behind) (q : Renumbering) (w : PartialInverse q) (D E : Known) → Knows r D E → Knows q D E
-        → (A V W : Types) (text run other head copy end es fs : ListOf Demand) → es ≡ head ++ (copy ++ end) → Among run text
+    ensures { (r : Renumbering) (u : PartialInverse r) (view : Viewed) (behind : Behind) (q : Renumbering) (w : PartialInverse q) (D E : KnownItems) → Knows r D E → Knows q D E
+        → (A V W : Assignment) (text run other head copy end es fs : ListOf Demand) → es ≡ head ++ (copy ++ end) → Among run text
         → DemandsLike r (StandsFor r u view behind (ToldIn q none_behind fs) D E A V es) run copy
         → DemandsLike q (Round (StandsFor q w none_viewed none_behind (ToldIn r behind es) D E A W fs) run other) text fs
         → Orderly (task_of es) → Orderly (task_of fs) → Valid E (task_of es) V → Valid E (task_of fs) W → MutableAt view A → EachCopies view A run
@@ -96,58 +96,58 @@ pub fn runs_are_blocks()
 
 /// What comes from the text in the front of a part has the outlines of the text there, whatever follows.
 pub fn fronts_are_outlined_alike()
-    ensures { (r : Renumbering) (u : PartialInverse r) (view : Viewed) (behind : Behind) (q : Renumbering) (elsewhere : Behind) (fs : ListOf Demand) (D E : Known)
-        → (A V : Types) (gs front rest : ListOf Demand) → Block r u view behind (ToldIn q elsewhere fs) D E A V gs front → Orderly (task_of (front ++ rest))
+    ensures { (r : Renumbering) (u : PartialInverse r) (view : Viewed) (behind : Behind) (q : Renumbering) (elsewhere : Behind) (fs : ListOf Demand) (D E : KnownItems)
+        → (A V : Assignment) (gs front rest : ListOf Demand) → Block r u view behind (ToldIn q elsewhere fs) D E A V gs front → Orderly (task_of (front ++ rest))
         → MeetsEach D A gs → MeetsEach E V (front ++ rest) → (x : Subject) → Told front (subject_at r x) → outline (V (subject_at r x)) ≡ outline (shared (view x) (shape_at r (A x))) }
 {}
 
 /// Demands that are copied are a block, where those about what is viewed may be copied.
 pub fn copies_are_blocks()
-    ensures { (r : Renumbering) (u : PartialInverse r) (view : Viewed) (behind : Behind) (q : Renumbering) (elsewhere : Behind) (fs : ListOf Demand) (D E : Known) → Knows r D E
-        → (A V : Types) → MutableAt view A → (ds es : ListOf Demand) → DemandsLike r NoSpecial ds es → EachCopies view A ds → Block r u view behind (ToldIn q elsewhere fs) D E A V ds es }
+    ensures { (r : Renumbering) (u : PartialInverse r) (view : Viewed) (behind : Behind) (q : Renumbering) (elsewhere : Behind) (fs : ListOf Demand) (D E : KnownItems) → Knows r D E
+        → (A V : Assignment) → MutableAt view A → (ds es : ListOf Demand) → DemandsLike r NoSpecial ds es → EachCopies view A ds → Block r u view behind (ToldIn q elsewhere fs) D E A V ds es }
 {}
 
 /// For a variable behind a reference, and the tests of places that stand on it, stand those of what the reference leads to.
 pub fn references_stand_for_variables()
-    ensures { (r : Renumbering) (u : PartialInverse r) (view : Viewed) (behind : Behind) (q : Renumbering) (elsewhere : Behind) (fs : ListOf Demand) (D E : Known) → Knows r D E
-        → (A V : Types) (es : ListOf Demand) → AllReferences r u view behind E A es → MeetsEach E V es → (gs gs' : ListOf Demand) → SeenDemands r u view behind gs gs'
+    ensures { (r : Renumbering) (u : PartialInverse r) (view : Viewed) (behind : Behind) (q : Renumbering) (elsewhere : Behind) (fs : ListOf Demand) (D E : KnownItems) → Knows r D E
+        → (A V : Assignment) (es : ListOf Demand) → AllReferences r u view behind E A es → MeetsEach E V es → (gs gs' : ListOf Demand) → SeenDemands r u view behind gs gs'
         → StandsFor r u view behind (ToldIn q elsewhere fs) D E A V es gs gs' }
 {}
 
 /// For a literal stands one with its kind as suffix.
 pub fn suffixes_stand_for_literals()
-    ensures { (r : Renumbering) (u : PartialInverse r) (view : Viewed) (behind : Behind) (q : Renumbering) (elsewhere : Behind) (fs : ListOf Demand) (D E : Known) → Knows r D E
-        → (A V : Types) (es gs gs' : ListOf Demand) → PinnedDemands r A gs gs' → StandsFor r u view behind (ToldIn q elsewhere fs) D E A V es gs gs' }
+    ensures { (r : Renumbering) (u : PartialInverse r) (view : Viewed) (behind : Behind) (q : Renumbering) (elsewhere : Behind) (fs : ListOf Demand) (D E : KnownItems) → Knows r D E
+        → (A V : Assignment) (es gs gs' : ListOf Demand) → PinnedDemands r A gs gs' → StandsFor r u view behind (ToldIn q elsewhere fs) D E A V es gs gs' }
 {}
 
 /// For nothing stand demands of what is new in the part, or has the type there that comes from the text.
 pub fn additions_stand_for_nothing()
-    ensures { (r : Renumbering) (u : PartialInverse r) (view : Viewed) (behind : Behind) (q : Renumbering) (elsewhere : Behind) (fs : ListOf Demand) (D E : Known) → Knows r D E
-        → (A V : Types) (es gs : ListOf Demand) → Added (composed r u view A V) V gs → StandsFor r u view behind (ToldIn q elsewhere fs) D E A V es [] gs }
+    ensures { (r : Renumbering) (u : PartialInverse r) (view : Viewed) (behind : Behind) (q : Renumbering) (elsewhere : Behind) (fs : ListOf Demand) (D E : KnownItems) → Knows r D E
+        → (A V : Assignment) (es gs : ListOf Demand) → Added (composed r u view A V) V gs → StandsFor r u view behind (ToldIn q elsewhere fs) D E A V es [] gs }
 {}
 
 /// Where an expression stands at another place, others stand for what its place asks: it is a coercion site now, or one no more, or another
 /// declaration tells the type that is expected.
 pub fn changed_sites_stand()
-    ensures { (r : Renumbering) (u : PartialInverse r) (view : Viewed) (behind : Behind) (q : Renumbering) (elsewhere : Behind) (fs : ListOf Demand) (D E : Known) → Knows r D E
-        → (A V : Types) (es gs gs' : ListOf Demand) → ChangedSite r view D E A gs gs' → StandsFor r u view behind (ToldIn q elsewhere fs) D E A V es gs gs' }
+    ensures { (r : Renumbering) (u : PartialInverse r) (view : Viewed) (behind : Behind) (q : Renumbering) (elsewhere : Behind) (fs : ListOf Demand) (D E : KnownItems) → Knows r D E
+        → (A V : Assignment) (es gs gs' : ListOf Demand) → ChangedSite r view D E A gs gs' → StandsFor r u view behind (ToldIn q elsewhere fs) D E A V es gs gs' }
 {}
 
 /// A parameter has one type in all assignments, that which is written.
 pub fn parameters_are_fixed()
-    ensures { (D : Known) (A B : Types) (x : Parameter) (ds es : ListOf Demand) → MeetsEach D A (of_parameter x ds) → MeetsEach D B (of_parameter x es)
+    ensures { (D : KnownItems) (A B : Assignment) (x : Parameter) (ds es : ListOf Demand) → MeetsEach D A (of_parameter x ds) → MeetsEach D B (of_parameter x es)
         → A (subject.Variable x.variable) ≡ B (subject.Variable x.variable) }
 {}
 
 /// Parameters in front of all else have the types that are written, in each assignment; so has a variable that is declared with a type.
 pub fn what_is_written_is_fixed()
-    ensures { (D : Known) (C : Types) → ((xs : ListOf Parameter) (ds : ListOf Demand) → MeetsEach D C (of_parameters xs [] ++ ds) → AsWritten C xs)
+    ensures { (D : KnownItems) (C : Assignment) → ((xs : ListOf Parameter) (ds : ListOf Demand) → MeetsEach D C (of_parameters xs [] ++ ds) → AsWritten C xs)
         × ((k : Node) (x : ℕ) (m : Bool) (t : Written) (ds es : ListOf Demand) → MeetsEach D C (declared (bind k x m) (Some t) ds ++ es) → C (subject.Variable x) ≡ typ_written t) }
 {}
 
 /// Variables and borrows of variables that are arguments of a call, or parts of a variant, fit the types that are declared.
 pub fn what_is_given_fits()
-    ensures { (D : Known) (C : Types) (f : ℕ) (n : Node) (es : Exps) (ds : ListOf Demand) → AreGiven es
+    ensures { (D : KnownItems) (C : Assignment) (f : ℕ) (n : Node) (es : Exps) (ds : ListOf Demand) → AreGiven es
         → ((g : ℕ) → MeetsEach D C (of_exp f (call n g es) ds) → EachFits C (parameters_declared (slice_get D.items g)) 0 es)
         × ((i v : ℕ) → MeetsEach D C (of_exp f (variant n i v es) ds) → EachFits C (variant_parts D.items i v) 0 es) }
 {}
@@ -165,14 +165,14 @@ pub fn what_fits_is_fixed()
 /// A part gives what another tells too the text's types in each of its assignments, where this is what it settles by itself: its parameters,
 /// variables that it declares with a type, and those that it gives where declared types are expected.
 pub fn what_is_settled_is_fixed()
-    ensures { (r : Renumbering) (view : Viewed) (q : Renumbering) (elsewhere : Behind) (fs : ListOf Demand) (E : Known) (A : Types) (es : ListOf Demand)
+    ensures { (r : Renumbering) (view : Viewed) (q : Renumbering) (elsewhere : Behind) (fs : ListOf Demand) (E : KnownItems) (A : Assignment) (es : ListOf Demand)
         → ((x : Subject) → ToldIn q elsewhere fs x → Told es (subject_at r x) → Settles E es (subject_at r x) (shared (view x) (shape_at r (A x)))) → Fixes r view (ToldIn q elsewhere fs) E A es }
 {}
 
 /// What the rules ask of parameters and statements that are made anew is added, where their nodes and variables are new in the part or have
 /// the types there that come from the text.
 pub fn what_is_made_is_added()
-    ensures { (r : Renumbering) (u : PartialInverse r) (view : Viewed) (A V : Types) (f : ℕ) (xs : ListOf Parameter) (ss : Statements)
+    ensures { (r : Renumbering) (u : PartialInverse r) (view : Viewed) (A V : Assignment) (f : ℕ) (xs : ListOf Parameter) (ss : Statements)
         → MadeParameters (SameAs (composed r u view A V) V) xs → MadeStatements (SameAs (composed r u view A V) V) ss
         → Added (composed r u view A V) V (of_parameters xs []) × Added (composed r u view A V) V (of_statements f ss []) }
 {}
@@ -184,21 +184,21 @@ pub fn pairs_can_be_undone()
 
 /// What is not told may have any type in the valid assignment.
 pub fn what_is_not_told_is_free()
-    ensures { (D : Known) (ds : ListOf Demand) → Orderly (task_of ds) → (A B : Types) → Valid D (task_of ds) A → ((x : Subject) → Told ds x → A x ≡ B x) → Valid D (task_of ds) B }
+    ensures { (D : KnownItems) (ds : ListOf Demand) → Orderly (task_of ds) → (A B : Assignment) → Valid D (task_of ds) A → ((x : Subject) → Told ds x → A x ≡ B x) → Valid D (task_of ds) B }
 {}
 
 /// A part of the answer of which nothing says that it is accepted has a valid assignment: one that meets what is asked, with the text's types
 /// at what comes from the text, where the part stands for the text block by block and all else that it tells has one type.
 pub fn parts_are_valid()
-    ensures { (r : Renumbering) (u : PartialInverse r) (view : Viewed) (behind : Behind) (q : Renumbering) (elsewhere : Behind) (fs : ListOf Demand) (D E : Known) → Knows r D E
-        → (A V : Types) (ds es : ListOf Demand) → AllReferences r u view behind E A es → MutableAt view A → Orderly (task_of es) → Fixes r view (ToldIn q elsewhere fs) E A es
+    ensures { (r : Renumbering) (u : PartialInverse r) (view : Viewed) (behind : Behind) (q : Renumbering) (elsewhere : Behind) (fs : ListOf Demand) (D E : KnownItems) → Knows r D E
+        → (A V : Assignment) (ds es : ListOf Demand) → AllReferences r u view behind E A es → MutableAt view A → Orderly (task_of es) → Fixes r view (ToldIn q elsewhere fs) E A es
         → Block r u view behind (ToldIn q elsewhere fs) D E A V ds es → Valid D (task_of ds) A → ByItself r u view (ToldIn q elsewhere fs) E A V ds es → Valid E (task_of es) V }
 {}
 
 /// So it is of both parts of a text with a run: the one that has the run between demands that it adds, and the one with what stands round it.
 pub fn runs_are_valid()
-    ensures { (r : Renumbering) (u : PartialInverse r) (view : Viewed) (behind : Behind) (q : Renumbering) (w : PartialInverse q) (D E : Known) → Knows r D E → Knows q D E
-        → (A V W : Types) (text run other head copy end es fs : ListOf Demand) → es ≡ head ++ (copy ++ end) → Among run text
+    ensures { (r : Renumbering) (u : PartialInverse r) (view : Viewed) (behind : Behind) (q : Renumbering) (w : PartialInverse q) (D E : KnownItems) → Knows r D E → Knows q D E
+        → (A V W : Assignment) (text run other head copy end es fs : ListOf Demand) → es ≡ head ++ (copy ++ end) → Among run text
         → DemandsLike r (StandsFor r u view behind (ToldIn q none_behind fs) D E A V es) run copy
         → DemandsLike q (Round (StandsFor q w none_viewed none_behind (ToldIn r behind es) D E A W fs) run other) text fs
         → Orderly (task_of es) → Orderly (task_of fs) → Valid D (task_of text) A → AllReferences r u view behind E A es → MutableAt view A → EachCopies view A run
@@ -210,12 +210,12 @@ pub fn runs_are_valid()
 
 /// Two assignments that meet demands in order, and give the same integers where these ask for some, give all that is told the same types.
 pub fn integers_settle_types()
-    ensures { (D : Known) (ds : ListOf Demand) → Orderly (task_of ds) → (A B : Types) → MeetsEach D A ds → MeetsEach D B ds
+    ensures { (D : KnownItems) (ds : ListOf Demand) → Orderly (task_of ds) → (A B : Assignment) → MeetsEach D A ds → MeetsEach D B ds
         → ((n : ℕ) (s : Kinds) → IsAsked (fact.Integer n s) ds → A (subject.Node n) ≡ B (subject.Node n)) → (x : Subject) → Told ds x → A x ≡ B x }
 {}
 
 /// So a part that asks for no integer but those of the text has one type for all that it tells, where what comes from the text has its types.
 pub fn integers_of_the_text_settle_a_part()
-    ensures { (r : Renumbering) (E : Known) (V : Types) (ds es : ListOf Demand) → Orderly (task_of es) → MeetsEach E V es
+    ensures { (r : Renumbering) (E : KnownItems) (V : Assignment) (ds es : ListOf Demand) → Orderly (task_of es) → MeetsEach E V es
         → ((n : ℕ) (s : Kinds) → IsAsked (fact.Integer n s) es → (m : ℕ) × (r.nodes m ≡ n) × Told ds (subject.Node m)) → (y : Subject) → Told es y → TellsOne r E V ds es y }
 {}

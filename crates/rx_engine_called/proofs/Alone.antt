@@ -13,11 +13,11 @@ use Rattle.rx_exits_plan.specs.Occurrences.{has_number, in_statements, is_direct
 use Rattle.rx_exits_plan.specs.Plan.{handed_value, is_redeclared, variables_of}
 use Rattle.rx_exits_plan.specs.PlainPlan.{IsExitPlan, plan_of}
 use Rattle.rx_hoist_extraction.specs.Plan.{has_exit, outs_of, to_next, Variable}
-use Rattle.rx_hoist_extraction.specs.Values.{held, next_values, result_if_any, result_of, Value}
+use Rattle.rx_hoist_extraction.specs.Values.{variables_held, next_values, result_if_any, result_of, Value}
 use Rattle.rx_hoist_naming.specs.NamedPlan.{last_number, named_plan, named_variables, names_in, Told, value_if}
 
 -- a value that is the run's is one
-lone : (b : Bool) (v : Option Typ) (outs : List Variable) (u : Typ) → ◌≡◌ {A = List Value} (if b then result_if_any v ++ held outs else []) (result_of u ∷ []) → is_some v ≡ true
+lone : (b : Bool) (v : Option Typ) (outs : List Variable) (u : Typ) → ◌≡◌ {A = List Value} (if b then result_if_any v ++ variables_held outs else []) (result_of u ∷ []) → is_some v ≡ true
 lone false v outs u e = absurd (cc)
 lone true (Some w) outs u e = refl
 lone true None [] u e = absurd (cc)

@@ -5,7 +5,7 @@ use Rattle.rx_tree.specs.declared.tree.Ident.{Ident}
 use Rattle.rx_tree.specs.Lists.{listed}
 use Rattle.rx_tree.specs.Plain as plain
 use Rattle.rx_tree.specs.Plain.{PatternTree, Expression, Expressions, OptionalExpression, OptionalExpressions, FieldExpressions, Arms, Body, Statement, Statements}
-use Rattle.rx_resolve_names.specs.Scopes.{Declared, Variables, entered, variable_named}
+use Rattle.rx_resolve_names.specs.Scopes.{DeclaredNames, Variables, entered, variable_named}
 use Rattle.rx_resolve_names.specs.declared.resolved.ItemNames.{ItemNames}
 use Rattle.rx_resolve_names.specs.Meant.{Around, a_loop, a_test, is_meant, number, out_of_test, nowhere, target, Target, through_test, to_loop}
 use Rattle.rx_resolve_names.specs.Steps.{and_then, ◌>>◌, child, Inside, known, led, names, next, numbered as entry_of, one, Outcome, position, with_loop}
@@ -35,7 +35,7 @@ covers_one own sc0 sc y k h x = by (bytes_eq x y)
     by true = (λ e. (k, refl), λ e. absurd (cc))
     by false = h x
 
-covers_piled : (own : Names) (ds : Declared) (sc0 sc : Variables) → Covers own sc0 sc → Covers (piled own ds) sc0 (entered sc ds)
+covers_piled : (own : Names) (ds : DeclaredNames) (sc0 sc : Variables) → Covers own sc0 sc → Covers (piled own ds) sc0 (entered sc ds)
 covers_piled own [] sc0 sc h = h
 covers_piled own (d ∷ ds) sc0 sc h = covers_piled (d.0 ∷ own) ds sc0 (record { name = d.0; number = d.1.number } ∷ sc) (covers_one own sc0 sc d.0 d.1.number h)
 

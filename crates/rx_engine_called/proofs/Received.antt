@@ -5,7 +5,7 @@ use Rattle.rx_typed.specs.Types.{Typ}
 use Rattle.rx_lower_walks.specs.Walks.{Among, here, there}
 use Rattle.rx_hoist_extraction.specs.Names.{Distinct, is_among, Names}
 use Rattle.rx_hoist_extraction.specs.Plan.{Exit, has_exit, Leaving, names_of, outs_of, Plan, same_exit, to_next, Variable}
-use Rattle.rx_hoist_extraction.specs.Values.{held, held_by, next_values, result_if_any, result_of, Value}
+use Rattle.rx_hoist_extraction.specs.Values.{variables_held, held_by, next_values, result_if_any, result_of, Value}
 use Rattle.rx_hoist_extraction.specs.Fresh.{fresh_variable}
 use Rattle.rx_hoist_extraction.specs.Call.{is_own}
 use Rattle.rx_hoist_extraction.proofs.FreshNames.{fresh_differ, fresh_is_free, unlike}
@@ -85,11 +85,11 @@ module _ (pl : Plan) (own : Names) where
 
 -- ---- of Next
 
-held_are : (vs : List Variable) → held_in (held vs) ≡ vs
+held_are : (vs : List Variable) → held_in (variables_held vs) ≡ vs
 held_are [] = refl
 held_are (v ∷ vs) = ap (λ (l : List Variable). v ∷ l) (held_are vs)
 
-values_hold : (v : Option Typ) (vs : List Variable) → held_in (result_if_any v ++ held vs) ≡ vs
+values_hold : (v : Option Typ) (vs : List Variable) → held_in (result_if_any v ++ variables_held vs) ≡ vs
 values_hold None vs = held_are vs
 values_hold (Some t) vs = held_are vs
 
@@ -105,7 +105,7 @@ found_outs T e (x ∷ xs) h f = by (same_exit e x.exit) f (λ g. found_outs T e 
 pub next_holds : (T : List Variable → Type 0) (pl : Plan) → T [] → ((x : Leaving) → Among x pl.exits → T x.outs) → T (held_in (next_values pl))
 next_holds T pl none h = by (has_exit to_next pl.exits) refl
   where
-    by : (b : Bool) → has_exit to_next pl.exits ≡ b → T (held_in (if b then result_if_any pl.value ++ held (outs_of to_next pl.exits) else []))
+    by : (b : Bool) → has_exit to_next pl.exits ≡ b → T (held_in (if b then result_if_any pl.value ++ variables_held (outs_of to_next pl.exits) else []))
     by true e = subst T (sym (values_hold pl.value (outs_of to_next pl.exits))) (found_outs T to_next pl.exits h e)
     by false e = none
 

@@ -30,7 +30,7 @@ use Rattle.rx_hoist_extraction.specs.Names.{behind_all, declared_by, is_among, N
 use Rattle.rx_hoist_extraction.specs.Run.{as_statements, behind, labels_round, Run, run_block, run_parts}
 use Rattle.rx_hoist_extraction.specs.Plan as plan
 use Rattle.rx_hoist_extraction.specs.Plan.{has_exit, Leaving, names_of, outs_of, Param, to_next, Variable}
-use Rattle.rx_hoist_extraction.specs.Values.{held, held_by, next_values, result_if_any, result_of, Value}
+use Rattle.rx_hoist_extraction.specs.Values.{variables_held, held_by, next_values, result_if_any, result_of, Value}
 use Rattle.rx_hoist_extraction.specs.Call.{is_own}
 use Rattle.rx_hoist_naming.specs.NamedPlan.{named_exit, named_leaving, named_params, named_plan, named_variable, named_variables, names_in, place_of, Told}
 use Rattle.rx_hoist_naming.specs.Words.{OutsAgree}
@@ -296,11 +296,11 @@ module _ (ns : Names) (t : TypedFn) (ls : List ℕ) (k : ℕ) where
       at (exit.Continue l) p h rest = of_pair (exit.Continue l) p (other (exit.Continue l) refl (rest h))
       at exit.Return p h rest = of_pair exit.Return p (other exit.Return refl (rest h))
 
-held_names_are : (vs : List Variable) → held_names (held vs) ≡ names_of vs
+held_names_are : (vs : List Variable) → held_names (variables_held vs) ≡ names_of vs
 held_names_are [] = refl
 held_names_are (v ∷ vs) = ap (λ (l : Names). v.name ∷ l) (held_names_are vs)
 
-next_names : (b : Bool) (v : Option Typ) (vs : List Variable) → b ≡ true → held_names (if b then result_if_any v ++ held vs else []) ≡ names_of vs
+next_names : (b : Bool) (v : Option Typ) (vs : List Variable) → b ≡ true → held_names (if b then result_if_any v ++ variables_held vs else []) ≡ names_of vs
 next_names true None vs e = held_names_are vs
 next_names true (Some t) vs e = held_names_are vs
 next_names false v vs e = absurd (cc)

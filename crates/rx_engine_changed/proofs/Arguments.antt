@@ -6,7 +6,7 @@ use Rattle.rx_typed.specs.Named.{Exp, Exps}
 use Rattle.rx_resolve_names.specs.Scopes.{variable_named}
 use Rattle.rx_hoist_extraction.specs.Plan.{Mode, Param}
 use Rattle.rx_hoist_extraction.specs.NewFunction.{passed, passed_types, viewed}
-use Rattle.rx_typeck_solver.specs.Facts.{coerced, Known}
+use Rattle.rx_typeck_solver.specs.Facts.{coerced, KnownItems}
 use Rattle.rx_typeck_solver.specs.declared.facts.Subject.TheVariants as subject
 use Rattle.rx_typeck_typed.specs.Demands.{argument_count}
 use Rattle.rx_engine_names.specs.Renaming.{Renaming}
@@ -32,7 +32,7 @@ none_more j = omega (arith)
 none_before : (k : ℕ) → k ≡ zero + k
 none_before k = omega (arith)
 
-fits_itself : (t : Typ) → coerced t t ≡ t
+pub fits_itself : (t : Typ) → coerced t t ≡ t
 fits_itself (integer k) = refl
 fits_itself boolean = refl
 fits_itself (tuple_of ts) = refl
@@ -40,7 +40,7 @@ fits_itself (reference true t) = refl
 fits_itself (reference false t) = refl
 fits_itself (item i) = refl
 
-module _ (E : Known) (B : Context) (q : Renumbering) where
+module _ (E : KnownItems) (B : Context) (q : Renumbering) where
   -- a mutable reference fits a shared one
   fits_view : (t : Typ) → coerced (shape_at q t) (shape_at q (viewed t)) ≡ shape_at q t
   fits_view (integer k) = refl
@@ -74,8 +74,8 @@ module _ (E : Known) (B : Context) (q : Renumbering) where
     as_many [] no_argument = refl
     as_many (x ∷ xs) (more_arguments i is) = ap suc (as_many xs is)
 
-    pub call_fits : {e : Exp} (t : Typ) → IsCall C R e → PassesOn e → Every (HasItsType E B q C R) C.plan.params → parameters_declared (slice_get E.items C.number) ≡ types C.plan.params
-        → result_declared (slice_get E.items C.number) ≡ Some t → (made : Entries) × ValueFits E B e t made
-    call_fits t (is_call s is) p h i r =
+    pub call_fits : (f : ℕ) {e : Exp} (u t : Typ) → IsCall C R e → PassesOn e → Every (HasItsType E B q C R) C.plan.params → parameters_declared (slice_get E.items C.number) ≡ types C.plan.params
+        → result_declared (slice_get E.items C.number) ≡ Some t → (made : Entries) × ValueFits E f B e u t made
+    call_fits f u t (is_call s is) p h i r =
         let a = all_fit C.plan.params C.number zero is p h (λ j. ap (slice_get (parameters_declared (slice_get E.items C.number))) (none_more j) ∙ ap (λ us. slice_get us j) i) in
         (_, a_call (ap length i ∙ as_many C.plan.params is) a.1 r)

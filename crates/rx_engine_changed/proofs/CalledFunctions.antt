@@ -29,13 +29,13 @@ use Rattle.rx_engine_changed.proofs.RoundFunctions.{function_ending, function_ro
 
 module _ (p q : ProgramTree) (n m : ℕ) (s : Span) (f : Function) (r : Run) (pl : Plan) (G : Handing) (stands : RunStands r pl f) (R : Renaming) (apart : IsOneToOne R) (ns ns' : List NodeNames) (e : R.item n ≡ m) (base : Numbers → Holes) (returns : (q : Numbers) → (base q).returns) where
   abbrev Claim : Body → Body → Type 0
-  Claim b b' = LikeFunction (HoleOf p q n m s f r pl G b b') R (function_named n s f ns) (function_named m s (with_other_block b b' f) ns') → (function_named n s f ns).never_given ≡ [] → (function_named m s (with_other_block b b' f) ns').never_given ≡ []
+  Claim b b' = LikeFunction (HoleOf p q n m s f r pl G b b') R (function_named n s f ns) (function_named m s (with_other_block b b' f) ns') → (function_named n s f ns).never_given ≡ []
       → NumberedOnce R (IsCall R as_mutable (chosen r (statements b)) (call_parts p r pl f).statements) (λ q. round (base q) q) (function_named n s f ns) (function_named m s (with_other_block b b' f) ns')
 
   in_block : (b : Body) → StandsAlone b r.way f.body → goes_past r (statements b) ≡ false
       → GoesOn R as_mutable (told_handed G) (inside_of p n s f) (inside_of q m s f) (in_front r (statements b)) (chosen r (statements b)) (call_parts p r pl f).statements
       → LikeFunction (put_in (inside_of p n s f) (inside_of q m s f) b (with_parts r (call_parts p r pl f) b) (labels_round r f) (by_others (told_handed G) (inside_of p n s f) (inside_of q m s f) (in_front r (statements b)) (chosen r (statements b)) (call_parts p r pl f).statements)) R
-      (function_named n s f ns) (function_named m s (with_other_block b (with_parts r (call_parts p r pl f) b) f) ns') → (function_named n s f ns).never_given ≡ [] → (function_named m s (with_other_block b (with_parts r (call_parts p r pl f) b) f) ns').never_given ≡ []
+      (function_named n s f ns) (function_named m s (with_other_block b (with_parts r (call_parts p r pl f) b) f) ns') → (function_named n s f ns).never_given ≡ []
       → NumberedOnce R (IsCall R as_mutable (chosen r (statements b)) (call_parts p r pl f).statements) (λ q. round (base q) q) (function_named n s f ns) (function_named m s (with_other_block b (with_parts r (call_parts p r pl f) b) f) ns')
   in_block (plain.body sp ss o) alone past goes_on =
       let l = listed ss in let front = in_front r l in let run = chosen r l in let rest = behind r l in let call = (call_parts p r pl f).statements in let same = run_splits r ss stands.forward in
@@ -51,7 +51,7 @@ module _ (p q : ProgramTree) (n m : ℕ) (s : Span) (f : Function) (r : Run) (pl
       Told3 sp ss o front run call rest z =
           let I = inside_of p n s f in let I' = inside_of q m s f in
           let old = plain.body sp ss o in let new = plain.body sp (as_statements (front ++ (call ++ rest))) z in
-          LikeFunction (put_in I I' old new (labels_round r f) (by_others (told_handed G) I I' front run call)) R (function_named n s f ns) (function_named m s (with_other_block old new f) ns') → (function_named n s f ns).never_given ≡ [] → (function_named m s (with_other_block old new f) ns').never_given ≡ []
+          LikeFunction (put_in I I' old new (labels_round r f) (by_others (told_handed G) I I' front run call)) R (function_named n s f ns) (function_named m s (with_other_block old new f) ns') → (function_named n s f ns).never_given ≡ []
           → NumberedOnce R (IsCall R as_mutable run call) (λ q. round (base q) q) (function_named n s f ns) (function_named m s (with_other_block old new f) ns')
 
       Told4 : Span → Statements → OptionalExpression → List plain.Statement → List plain.Statement → List plain.Statement → List plain.Statement → Type 0
@@ -61,7 +61,7 @@ module _ (p q : ProgramTree) (n m : ℕ) (s : Span) (f : Function) (r : Run) (pl
   in_ending : (b : Body) → StandsAlone b r.way f.body → goes_past r (statements b) ≡ true
       → GoesOnLast R as_mutable (told_last G) (inside_of p n s f) (inside_of q m s f) (in_front r (statements b)) (chosen r (statements b)) (call_parts p r pl f).statements (tail b) (call_parts p r pl f).tail
       → LikeFunction (put_in (inside_of p n s f) (inside_of q m s f) b (with_parts r (call_parts p r pl f) b) (labels_round r f) (by_an_end (told_last G) (inside_of p n s f) (inside_of q m s f) (in_front r (statements b)) (chosen r (statements b)) (call_parts p r pl f).statements (tail b) (call_parts p r pl f).tail)) R
-      (function_named n s f ns) (function_named m s (with_other_block b (with_parts r (call_parts p r pl f) b) f) ns') → (function_named n s f ns).never_given ≡ [] → (function_named m s (with_other_block b (with_parts r (call_parts p r pl f) b) f) ns').never_given ≡ []
+      (function_named n s f ns) (function_named m s (with_other_block b (with_parts r (call_parts p r pl f) b) f) ns') → (function_named n s f ns).never_given ≡ []
       → NumberedOnce R (IsLastCall R as_mutable (chosen r (statements b)) (call_parts p r pl f).statements (tail b) (call_parts p r pl f).tail) (λ q. round (base q) q) (function_named n s f ns) (function_named m s (with_other_block b (with_parts r (call_parts p r pl f) b) f) ns')
   in_ending (plain.body sp ss o) alone past goes_on =
       let l = listed ss in let front = in_front r l in let run = chosen r l in let call = (call_parts p r pl f).statements in let last = (call_parts p r pl f).tail in
@@ -81,12 +81,12 @@ module _ (p q : ProgramTree) (n m : ℕ) (s : Span) (f : Function) (r : Run) (pl
       Ends sp ss o front run call row last z =
           let I = inside_of p n s f in let I' = inside_of q m s f in
           let old = plain.body sp ss o in let new = plain.body sp (as_statements (front ++ row)) z in
-          LikeFunction (put_in I I' old new (labels_round r f) (by_an_end (told_last G) I I' front run call o last)) R (function_named n s f ns) (function_named m s (with_other_block old new f) ns') → (function_named n s f ns).never_given ≡ [] → (function_named m s (with_other_block old new f) ns').never_given ≡ []
+          LikeFunction (put_in I I' old new (labels_round r f) (by_an_end (told_last G) I I' front run call o last)) R (function_named n s f ns) (function_named m s (with_other_block old new f) ns') → (function_named n s f ns).never_given ≡ []
           → NumberedOnce R (IsLastCall R as_mutable run call o last) (λ q. round (base q) q) (function_named n s f ns) (function_named m s (with_other_block old new f) ns')
 
   pub called_last_beside : goes_past r (statements (run_block r f)) ≡ true → EndGoesOn p q n m s f r pl G R
       → LikeFunction (EndHoleOf p q n m s f r pl G (run_block r f) (with_parts r (call_parts p r pl f) (run_block r f))) R (function_named n s f ns) (function_named m s (with_other_block (run_block r f) (with_parts r (call_parts p r pl f) (run_block r f)) f) ns')
-      → (function_named n s f ns).never_given ≡ [] → (function_named m s (with_other_block (run_block r f) (with_parts r (call_parts p r pl f) (run_block r f)) f) ns').never_given ≡ []
+      → (function_named n s f ns).never_given ≡ []
       → NumberedOnce R (IsLastCall R as_mutable (chosen r (statements (run_block r f))) (call_parts p r pl f).statements (tail (run_block r f)) (call_parts p r pl f).tail) (λ q. round (base q) q) (function_named n s f ns) (function_named m s (with_other_block (run_block r f) (with_parts r (call_parts p r pl f) (run_block r f)) f) ns')
   called_last_beside past goes_on = in_ending (run_block r f) stands.alone past goes_on
 

@@ -1,5 +1,5 @@
 -- A whole function numbered beside the one in which a block becomes another.
-use Rattle.std.proofs.Common.{◌≡◌, ℕ, Bool, true, false, List, [], ◌∷◌, Option, refl, sym, ◌∙◌, subst, arith}
+use Rattle.std.proofs.Common.{◌≡◌, ℕ, zero, suc, Bool, true, false, List, [], ◌∷◌, ◌++◌, Option, slice_get, refl, sym, ap, ◌∙◌, subst, arith}
 use Rattle.rx_core.specs.declared.types.Span.{Span}
 use Rattle.rx_tree.specs.Plain.{Body, Parameter, Function}
 use Rattle.rx_resolve_names.specs.declared.resolved.NodeNames.{NodeNames}
@@ -19,7 +19,7 @@ use Rattle.rx_engine_blocks.specs.DemandsLike.Is.{itself}
 use Rattle.rx_engine_typing.specs.Renumbered as ren
 use Rattle.rx_engine_typing.specs.Renumbered.{RenumberedParameters, RenumberedNodes, RenumberedFunction}
 use Rattle.rx_engine_changed.specs.Beside.{Instead, Piece, Grows, Numbers, AllCorrespond, Follows, IsOneToOne}
-use Rattle.rx_engine_changed.specs.Stages.{Mutability, InStep, not_yet}
+use Rattle.rx_engine_changed.specs.Stages.{is_waiting, waits_there, Mutability, InStep, LikeDeclared, known, given, not_yet, waits}
 use Rattle.rx_engine_changed.proofs.Lists.{grows_on, before, begins_later}
 use Rattle.rx_engine_changed.proofs.Steps.{alike_declared, next_node, next_entry, entry_number, one_node}
 use Rattle.rx_engine_changed.proofs.Counts.{count_body}
@@ -27,6 +27,31 @@ use Rattle.rx_engine_changed.proofs.Kept.{Adds, adds_on, adds_pair, adds_so, non
 use Rattle.rx_engine_changed.proofs.Parts.{OnlySpecial}
 use Rattle.rx_engine_changed.proofs.Patterns.{new_known, type_kept, optional_type_kept}
 use Rattle.rx_engine_changed.proofs.Walk.{BodyKept}
+
+-- ---- variables that wait at the end
+
+true_false : true ≡ false → ⊥
+true_false e = cc
+
+none_waits : (vs : List Declaration) → numbering.all_waiting vs ≡ [] → (n : ℕ) → waits_there (slice_get vs n) ≡ false
+none_waits [] u n = refl
+none_waits (v ∷ vs) u n = by v.stage refl (λ h k. none_waits vs h k) n
+  where
+    by : (s : Stage) → v.stage ≡ s → (numbering.all_waiting vs ≡ [] → (k : ℕ) → waits_there (slice_get vs k) ≡ false) → (n : ℕ) → waits_there (slice_get (v ∷ vs) n) ≡ false
+    by (Stage.Waits p z) e r n = absurd (let h = sym (ap (λ (s : Stage). numbering.a_waiting s ++ numbering.all_waiting vs) e) ∙ u in cc)
+    by Stage.Known e r zero = ap is_waiting e
+    by Stage.Known e r (suc n) = r (sym (ap (λ (s : Stage). numbering.a_waiting s ++ numbering.all_waiting vs) e) ∙ u) n
+    by Stage.Given e r zero = ap is_waiting e
+    by Stage.Given e r (suc n) = r (sym (ap (λ (s : Stage). numbering.a_waiting s ++ numbering.all_waiting vs) e) ∙ u) n
+
+none_waiting : (vs : List Declaration) → ((n : ℕ) → waits_there (slice_get vs n) ≡ false) → numbering.all_waiting vs ≡ []
+none_waiting [] h = refl
+none_waiting (v ∷ vs) h = ap (λ (l : List Node). l ++ numbering.all_waiting vs) (by v.stage (h 0)) ∙ none_waiting vs (λ n. h (suc n))
+  where
+    by : (s : Stage) → is_waiting s ≡ false → numbering.a_waiting s ≡ []
+    by (Stage.Waits p z) e = absurd (true_false e)
+    by Stage.Known e = refl
+    by Stage.Given e = refl
 
 module _ (R : Renaming) (W : Mutability) (apart : IsOneToOne R) (even : (n m : ℕ) (b : Bool) → W n m b b) (P : Instead → Type 0) (such : Body → Bool) where
   abbrev ParametersLike : Numbers → List named.Parameter → List named.Parameter → Type 0
@@ -55,10 +80,24 @@ module _ (R : Renaming) (W : Mutability) (apart : IsOneToOne R) (even : (n m : �
   entry_if_number false c = refl
 
   begun : (ns ns' : List NodeNames) → InStep R W [] (numbering.begins ns) (numbering.begins ns')
-  begun ns ns' = record { variables = λ n m r. not_yet; loops = λ n m r. refl; counted = refl; counted' = refl }
+  begun ns ns' = record { variables = λ n m r. not_yet; alone = λ m w. refl; loops = λ n m r. refl; counted = refl; counted' = refl }
 
   no_nodes : (q : Numbers) (ns ns' : List Node) → ns ≡ [] → ns' ≡ [] → RenumberedNodes q.by ns ns'
   no_nodes q ns ns' e e' = subst (λ (z : List Node). RenumberedNodes q.by z ns') (sym e) (subst (λ (z : List Node). RenumberedNodes q.by [] z) (sym e') ren.RenumberedNodes.no_node)
+
+  -- where no variable of the first waits at its end, none of the second does
+  like_waiting : {made : List Piece} {X : Bool → Bool → Type 0} {o o' : Option Declaration} → LikeDeclared made X o o' → waits_there o' ≡ waits_there o
+  like_waiting not_yet = refl
+  like_waiting (known w) = refl
+  like_waiting (given w) = refl
+  like_waiting (waits w z) = refl
+
+  second_given : {made : List Piece} (c c' : Cursor) → InStep R W made c c' → numbering.all_waiting c.variables ≡ [] → (m : ℕ) → waits_there (slice_get c'.variables m) ≡ false
+  second_given c c' st u m = by (waits_there (slice_get c'.variables m)) refl
+    where
+      by : (b : Bool) → waits_there (slice_get c'.variables m) ≡ b → waits_there (slice_get c'.variables m) ≡ false
+      by false e = e
+      by true e = st.alone m (λ n r. true_false (sym e ∙ like_waiting (st.variables n m r) ∙ none_waits c.variables u n))
 
   is_item : {i j : ℕ} → i ≡ j → Is i j
   is_item {i = i} {j = j} e = subst (λ (z : ℕ). Is i z) e itself
@@ -73,9 +112,9 @@ module _ (R : Renaming) (W : Mutability) (apart : IsOneToOne R) (even : (n m : �
       pub like : (q : Numbers) → Follows R q → AllCorrespond q pieces → RenumberedFunction q.by q.loops (holes q) (numbering.function_named i s f ns) (numbering.function_named i' s g ns')
 
     pub function_kept : (i i' : ℕ) (s : Span) (f : Function) (b : Body) (ns ns' : List NodeNames) → R.item i ≡ i' → BodyKept R W apart even P such H only untyped holes Site.Expects f.body b
-        → LikeFunction H R (numbering.function_named i s f ns) (numbering.function_named i' s (with_body b f) ns') → (numbering.function_named i s f ns).never_given ≡ [] → (numbering.function_named i' s (with_body b f) ns').never_given ≡ []
+        → LikeFunction H R (numbering.function_named i s f ns) (numbering.function_named i' s (with_body b f) ns') → (numbering.function_named i s f ns).never_given ≡ []
         → FunctionKept i i' s f (with_body b f) ns ns'
-    function_kept i i' s f b ns ns' e kb h u u' =
+    function_kept i i' s f b ns ns' e kb h u =
         let c = numbering.begins ns in let c' = numbering.begins ns' in
         let d = (a_node s Site.Value c).1 in let d' = (a_node s Site.Value c').1 in
         let x = (numbering.entry_if (numbering.has_entry f) d).1 in let x' = (numbering.entry_if (numbering.has_entry f) d').1 in
@@ -96,6 +135,6 @@ module _ (R : Renaming) (W : Mutability) (apart : IsOneToOne R) (even : (n m : �
                 params = A.like q g (before q B.grows w1);
                 result = B.like q g w1;
                 body = K.like q g w;
-                never_given = no_nodes q (numbering.function_named i s f ns).never_given (numbering.function_named i' s (with_body b f) ns').never_given u u';
+                never_given = no_nodes q (numbering.function_named i s f ns).never_given (numbering.function_named i' s (with_body b f) ns').never_given u (none_waiting (numbering.of_body Site.Expects b z').1.variables (second_given (numbering.of_body Site.Expects f.body z).1 (numbering.of_body Site.Expects b z').1 K.step u));
               };
         }

@@ -99,13 +99,13 @@ none_more m = omega arith
 pub adds_so : {P : Instead → Type 0} {n m : ℕ} {made now : List Piece} → n ≡ m → Adds P n made now → Adds P m made now
 adds_so e h = record { many = let a = h.many in omega (arith, a, e); each = h.each }
 
--- what each has of its own, and what stands there
-pub adds_other : {P : Instead → Type 0} {a b a' b' : ℕ} {now : List Piece} (i : Instead) → P i → Adds P 1 now (replaced i ∷ unpaired a b a' b' ∷ now)
-adds_other {P = P} {a = a} {b = b} {a' = a'} {b' = b'} {now = now} i p = record { many = refl; each = λ j z. by j z }
+-- what stands for a part
+pub adds_other : {P : Instead → Type 0} {now : List Piece} (i : Instead) → P i → Adds P 1 now (replaced i ∷ now)
+adds_other {P = P} {now = now} i p = record { many = refl; each = λ j z. by j z }
   where
-    by : (j : Instead) → IsPiece (replaced j) (replaced i ∷ unpaired a b a' b' ∷ now) → IsPiece (replaced j) now ⊎ P j
+    by : (j : Instead) → IsPiece (replaced j) (replaced i ∷ now) → IsPiece (replaced j) now ⊎ P j
     by j newest = inr p
-    by j (older (older z)) = inl z
+    by j (older z) = inl z
 
 module _ {R : Renaming} {W : Mutability} {P : Instead → Type 0} where
   abbrev pub gives : {made : List Piece} {A A' : Type 0} {T : A → A' → Type 0} {S : Numbers → A → A' → Type 0} (c c' : Cursor) (a : A) (a' : A') → InStep R W made c c' → T a a' → ((q : Numbers) → Follows R q → AllCorrespond q made → S q a a') → Kept R W P 0 made T S c c' (a, c) (a', c')

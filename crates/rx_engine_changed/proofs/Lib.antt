@@ -19,3 +19,14 @@ pub mod CalledFunctions
 pub mod OneCall
 pub mod MovedRuns
 pub mod Arguments
+mod Spots
+mod Inside
+mod Staging
+mod Standing
+mod Handing
+mod Matched
+mod Whole
+mod Handed
+pub mod Deeds
+pub mod GoingOn
+pub mod NoneWaiting

@@ -123,16 +123,16 @@ pub grows_on : {l : List Piece} {a a' : ℕ} {m : List Piece} {b b' : ℕ} {n : 
 grows_on (stays h h') (stays k k') = stays (omega (arith, h, k)) (omega (arith, h', k'))
 grows_on (and_pair g h h') (stays k k') = and_pair g (omega (arith, h, k)) (omega (arith, h', k'))
 grows_on (and_own g i i' h h') (stays k k') = and_own g i i' (omega (arith, h, k)) (omega (arith, h', k'))
-grows_on (and_instead g) (stays k k') = and_instead (grows_on g (stays k k'))
+grows_on (and_instead g i j l m) (stays k k') = and_instead g (omega (arith, i, k)) j l (omega (arith, m, k'))
 grows_on g (and_pair f k k') = and_pair (grows_on g f) k k'
 grows_on g (and_own f i i' k k') = and_own (grows_on g f) i i' k k'
-grows_on g (and_instead f) = and_instead (grows_on g f)
+grows_on g (and_instead f i j l m) = and_instead (grows_on g f) i j l m
 
 pub still_piece : {l : List Piece} {a a' : ℕ} {n : List Piece} {b b' : ℕ} {p : Piece} → Grows l a a' n b b' → IsPiece p l → IsPiece p n
 still_piece (stays h h') i = i
 still_piece (and_pair g h h') i = older (still_piece g i)
 still_piece (and_own g k k' h h') i = older (still_piece g i)
-still_piece (and_instead g) i = older (still_piece g i)
+still_piece (and_instead g k l m o) i = older (still_piece g i)
 
 pub before : {l : List Piece} {a a' : ℕ} {n : List Piece} {b b' : ℕ} (q : Numbers) → Grows l a a' n b b' → AllCorrespond q n → AllCorrespond q l
 before q g w p i = w p (still_piece g i)

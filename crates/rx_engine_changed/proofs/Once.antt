@@ -1,10 +1,10 @@
 -- Pieces with one thing that stands for a part.
-use Rattle.std.proofs.Common.{◌≡◌, ◌⊎◌, inl, inr, ℕ, List, [], ◌∷◌, refl, sym, subst, arith}
+use Rattle.std.proofs.Common.{◌≡◌, ◌≤◌, ◌<◌, ◌⊎◌, inl, inr, ℕ, List, [], ◌∷◌, None, refl, sym, subst, arith}
 use Rattle.rx_typed.specs.Named.{Function}
 use Rattle.rx_engine_names.specs.Renaming.{Made, Renaming}
 use Rattle.rx_engine_names.specs.Apart.{Apart, Below, Few}
 use Rattle.rx_engine_typing.specs.Renumbered.{Holes}
-use Rattle.rx_engine_changed.specs.Beside.{paired, unpaired, replaced, newest, older, Instead, IsPiece, Numbers, Piece}
+use Rattle.rx_engine_changed.specs.Beside.{behind_own, first_own, paired, unpaired, replaced, newest, older, Instead, IsPiece, Numbers, Piece}
 use Rattle.rx_engine_changed.specs.Chosen.{least, OneInstead}
 use Rattle.rx_engine_changed.specs.Numbered.{NumberedBeside}
 use Rattle.rx_engine_changed.specs.Once.{ByOneNumbering, NumberedOnce}
@@ -61,6 +61,7 @@ by_one_numbering items M a b c d fa fb fc fd vs bs ls bl P holes f g o =
       follows = x.follows;
       variables_apart = x.variables_apart;
       loops_apart = x.loops_apart;
-      such = subst P (sym (x.correspond (replaced o.instead) o.there)) o.such;
+      such = subst P (sym (x.correspond (replaced o.instead) o.there).0) o.such;
+      own = subst (λ (i : Instead). (k : ℕ) → first_own i ≤ k → k < behind_own i → x.numbers.back.node k ≡ None) (sym (x.correspond (replaced o.instead) o.there).0) (x.correspond (replaced o.instead) o.there).1;
       like = o.beside.like x.numbers x.follows x.correspond;
     }

@@ -4,11 +4,11 @@ use Rattle.std.proofs.Common.{◌≡◌, ◌≤◌, ◌<◌, ◌+◌, ◌-◌, i
 use Rattle.rx_tree.specs.Lists.{Every}
 use Rattle.rx_resolve_names.specs.Meant.{number}
 use Rattle.rx_engine_names.specs.Renaming.{Has, Made, Renaming, Serves}
-use Rattle.rx_engine_names.specs.Apart.{Apart, Below, Few, Unlike}
+use Rattle.rx_engine_names.specs.Apart.{Apart, Below, Few, NoneAcross, Unlike}
 use Rattle.rx_engine_blocks.specs.Paired.{Pairs, second_of, first_of_pair, or_greater, numbered, less, or_less, numbered_back, OneToOne, by_pairs}
 use Rattle.rx_engine_blocks.proofs.Pairing.{numbered_there, numbered_from}
 use Rattle.rx_engine_typing.specs.Corresponding.{StayApart}
-use Rattle.rx_engine_changed.specs.Beside.{Piece, paired, unpaired, replaced, Instead, Grows, stays, and_pair, and_own, and_instead, IsPiece, newest, older, Numbers, Follows, IsOneToOne, Corresponds}
+use Rattle.rx_engine_changed.specs.Beside.{behind_own, first_own, Piece, paired, unpaired, replaced, Instead, Grows, stays, and_pair, and_own, and_instead, IsPiece, newest, older, Numbers, Follows, IsOneToOne, Corresponds}
 use Rattle.rx_engine_changed.specs.Chosen.{node_pairs, has_pair, least, OneInstead, Chosen}
 use Rattle.rx_engine_changed.proofs.Steps.{Decided, so, not_so, same_or_not}
 
@@ -55,7 +55,7 @@ second_below {b = b} {b' = b'} n m (and_pair {now = now} {n = k} {n' = l} g h h'
     by (so d) w = let f = some_is l m (sym (first_is k l (node_pairs now) n d) ∙ e) in (omega (arith, h, d), omega (arith, h', f))
     by (not_so d) w = let x = w (sym (later_is k l (node_pairs now) n d) ∙ e) in let a = x.0 in let c = x.1 in (omega (arith, h, a), omega (arith, h', c))
 second_below n m (and_own g i i' h h') e = let x = second_below n m g e in let a = x.0 in let c = x.1 in (omega (arith, h, a, i), omega (arith, h', c, i'))
-second_below n m (and_instead g) e = second_below n m g e
+second_below n m (and_instead g i j l h) e = let x = second_below n m g e in let a = x.0 in let c = x.1 in (omega (arith, a, i), omega (arith, c, j, l, h))
 
 first_below : {ps : List Piece} {b b' : ℕ} (n m : ℕ) → FromNothing ps b b' → first_of_pair (node_pairs ps) m ≡ Some n → (n < b) × (m < b')
 first_below n m (stays h h') e = absurd (none_some n e)
@@ -65,7 +65,7 @@ first_below {b = b} {b' = b'} n m (and_pair {now = now} {n = k} {n' = l} g h h')
     by (so d) w = let f = some_is k n (sym (first_back k l (node_pairs now) m d) ∙ e) in (omega (arith, h, f), omega (arith, h', d))
     by (not_so d) w = let x = w (sym (later_back k l (node_pairs now) m d) ∙ e) in let a = x.0 in let c = x.1 in (omega (arith, h, a), omega (arith, h', c))
 first_below n m (and_own g i i' h h') e = let x = first_below n m g e in let a = x.0 in let c = x.1 in (omega (arith, h, a, i), omega (arith, h', c, i'))
-first_below n m (and_instead g) e = first_below n m g e
+first_below n m (and_instead g i j l h) e = let x = first_below n m g e in let a = x.0 in let c = x.1 in (omega (arith, a, i), omega (arith, c, j, l, h))
 
 there_and_back : {ps : List Piece} {b b' : ℕ} (n m : ℕ) → FromNothing ps b b' → second_of (node_pairs ps) n ≡ Some m → first_of_pair (node_pairs ps) m ≡ Some n
 there_and_back n m (stays h h') e = absurd (none_some m e)
@@ -75,7 +75,7 @@ there_and_back n m (and_pair {now = now} {n = k} {n' = l} g h h') e = by (same_o
     by (so d) w v = first_back k l (node_pairs now) m (some_is l m (sym (first_is k l (node_pairs now) n d) ∙ e)) ∙ ap (λ (x : ℕ). Some x) d
     by (not_so d) w v = let f = sym (later_is k l (node_pairs now) n d) ∙ e in let x = (v f).1 in later_back k l (node_pairs now) m (λ y. absurd (omega (arith, x, y))) ∙ w f
 there_and_back n m (and_own g i i' h h') e = there_and_back n m g e
-there_and_back n m (and_instead g) e = there_and_back n m g e
+there_and_back n m (and_instead g i j l h) e = there_and_back n m g e
 
 back_and_there : {ps : List Piece} {b b' : ℕ} (n m : ℕ) → FromNothing ps b b' → first_of_pair (node_pairs ps) m ≡ Some n → second_of (node_pairs ps) n ≡ Some m
 back_and_there n m (stays h h') e = absurd (none_some n e)
@@ -85,7 +85,7 @@ back_and_there n m (and_pair {now = now} {n = k} {n' = l} g h h') e = by (same_o
     by (so d) w v = first_is k l (node_pairs now) n (some_is k n (sym (first_back k l (node_pairs now) m d) ∙ e)) ∙ ap (λ (x : ℕ). Some x) d
     by (not_so d) w v = let f = sym (later_back k l (node_pairs now) m d) ∙ e in let x = (v f).0 in later_is k l (node_pairs now) n (λ y. absurd (omega (arith, x, y))) ∙ w f
 back_and_there n m (and_own g i i' h h') e = back_and_there n m g e
-back_and_there n m (and_instead g) e = back_and_there n m g e
+back_and_there n m (and_instead g i j l h) e = back_and_there n m g e
 
 pair_found : {ps : List Piece} {b b' : ℕ} (n m : ℕ) → FromNothing ps b b' → IsPiece (paired n m) ps → second_of (node_pairs ps) n ≡ Some m
 pair_found n m (stays h h') i = elim i [ ]
@@ -93,14 +93,14 @@ pair_found n m (and_pair {now = now} g h h') newest = first_is n m (node_pairs n
 pair_found n m (and_pair {now = now} {n = k} {n' = l} g h h') (older i) =
     let e = pair_found n m g i in let x = (second_below n m g e).0 in later_is k l (node_pairs now) n (λ y. absurd (omega (arith, x, y))) ∙ e
 pair_found n m (and_own g j j' h h') (older i) = pair_found n m g i
-pair_found n m (and_instead g) (older i) = pair_found n m g i
+pair_found n m (and_instead g j l h k) (older i) = pair_found n m g i
 
 own_below : {ps : List Piece} {b b' : ℕ} (n m n' m' : ℕ) → FromNothing ps b b' → IsPiece (unpaired n m n' m') ps → m' ≤ b'
 own_below n m n' m' (stays h h') i = elim i [ ]
 own_below n m n' m' (and_pair g h h') (older i) = let x = own_below n m n' m' g i in omega (arith, x, h')
 own_below n m n' m' (and_own g j j' h h') newest = h'
 own_below n m n' m' (and_own g j j' h h') (older i) = let x = own_below n m n' m' g i in omega (arith, x, j', h')
-own_below n m n' m' (and_instead g) (older i) = own_below n m n' m' g i
+own_below n m n' m' (and_instead g j l h k) (older i) = let x = own_below n m n' m' g i in omega (arith, x, l, h, k)
 
 none_where : (o : Option ℕ) → ((j : ℕ) → o ≡ Some j → ⊥) → o ≡ None
 none_where None w = refl
@@ -112,7 +112,23 @@ own_found n m n' m' k (and_pair {now = now} {n = x} {n' = y} g h h') (older i) a
     let z = own_below n m n' m' g i in later_back x y (node_pairs now) k (λ e. absurd (omega (arith, e, z, d))) ∙ own_found n m n' m' k g i a d
 own_found n m n' m' k (and_own {now = now} g j j' h h') newest a d = none_where (first_of_pair (node_pairs now) k) (λ x e. let z = (first_below x k g e).1 in absurd (omega (arith, z, a)))
 own_found n m n' m' k (and_own g j j' h h') (older i) a d = own_found n m n' m' k g i a d
-own_found n m n' m' k (and_instead g) (older i) a d = own_found n m n' m' k g i a d
+own_found n m n' m' k (and_instead g j l h o) (older i) a d = own_found n m n' m' k g i a d
+
+-- what stands for a part is new
+instead_below : {ps : List Piece} {b b' : ℕ} (o : Instead) → FromNothing ps b b' → IsPiece (replaced o) ps → behind_own o ≤ b'
+instead_below o (stays h h') i = elim i [ ]
+instead_below o (and_pair g h h') (older i) = let x = instead_below o g i in omega (arith, x, h')
+instead_below o (and_own g j j' h h') (older i) = let x = instead_below o g i in omega (arith, x, j', h')
+instead_below o (and_instead g j l h k) newest = k
+instead_below o (and_instead g j l h k) (older i) = let x = instead_below o g i in omega (arith, x, l, h, k)
+
+instead_found : {ps : List Piece} {b b' : ℕ} (o : Instead) (k : ℕ) → FromNothing ps b b' → IsPiece (replaced o) ps → first_own o ≤ k → k < behind_own o → first_of_pair (node_pairs ps) k ≡ None
+instead_found o k (stays h h') i a d = elim i [ ]
+instead_found o k (and_pair {now = now} {n = x} {n' = y} g h h') (older i) a d =
+    let z = instead_below o g i in later_back x y (node_pairs now) k (λ e. absurd (omega (arith, e, z, d))) ∙ instead_found o k g i a d
+instead_found o k (and_own g j j' h h') (older i) a d = instead_found o k g i a d
+instead_found o k (and_instead {now = now} g j l h m) newest a d = none_where (first_of_pair (node_pairs now) k) (λ x e. let z = (first_below x k g e).1 in absurd (omega (arith, z, l, a)))
+instead_found o k (and_instead g j l h m) (older i) a d = instead_found o k g i a d
 
 -- ---- pairs that are one to one
 
@@ -192,8 +208,20 @@ has_second (p ∷ ps) a b f g h k n m e =
 
 -- ---- the renaming
 
-pub least_serves : (items : ℕ → ℕ) (M : Made) → Serves items M (least items M)
-least_serves items M = record { variables = has_so M.variables; loops = has_so M.loops; items_are = λ n. refl }
+so_has : (ps : Pairs) (n m : ℕ) → has_pair ps n m ≡ true → Has ps n m
+so_has [] n m e = absurd (cc)
+so_has (p ∷ ps) n m e =
+    either_true ((n == p.0) && (m == p.1)) _ e (Has (p ∷ ps) n m) (λ h. let w = both_true (n == p.0) (m == p.1) h in inl (inl (eqb-true n p.0 w.0, eqb-true m p.1 w.1)))
+    (λ e. either_true ((n == number p.0) && (m == number p.1)) _ e (Has (p ∷ ps) n m) (λ h. let w = both_true (n == number p.0) (m == number p.1) h in inl (inr (eqb-true n (number p.0) w.0, eqb-true m (number p.1) w.1))) (λ e. inr (so_has ps n m e)))
+
+-- where no pair goes across what was passed
+pub least_serves : (items : ℕ → ℕ) (M : Made) (a b c d : ℕ) → Few a → Few b → Few c → Few d → NoneAcross M a b c d → Serves items M (least items M)
+least_serves items M a b c d fa fb fc fd across = record {
+  variables = has_so M.variables;
+  loops = has_so M.loops;
+  items_are = λ n. refl;
+  passages = λ x h. let y = across fa fb fc fd x h in record { variables = λ n m e. y.variables n m (so_has M.variables n m e); loops = λ n m e. y.loops n m (so_has M.loops n m e) };
+}
 
 module _ (items : ℕ → ℕ) (M : Made) (a b c d : ℕ) (fa : Few a) (fb : Few b) (fc : Few c) (fd : Few d) (vs : Apart M.variables) (bs : Below M.variables a b) (ls : Apart M.loops) (bl : Below M.loops c d) where
   abbrev pub R : Renaming
@@ -258,7 +286,7 @@ module _ (items : ℕ → ℕ) (M : Made) (a b c d : ℕ) (fa : Few a) (fb : Few
     corresponds : (p : Piece) → IsPiece p ps → Corresponds Q p
     corresponds (paired n m) h = ap (or_greater big n) (pair_found n m g h)
     corresponds (unpaired n m n' m') h = λ k x y. from_none k (own_found n m n' m' k g h x y) (let z = own_below n m n' m' g h in omega (arith, y, z))
-    corresponds (replaced j) h = one j h
+    corresponds (replaced j) h = (one j h, λ k x y. from_none k (instead_found j k g h x y) (let z = instead_below j g h in omega (arith, y, z)))
 
     back_apart : (f : ℕ → ℕ) (u : ℕ → Option ℕ) → ((n : ℕ) → u (f n) ≡ Some n) → StayApart f
     back_apart f u w m n e = some_is m n (sym (w m) ∙ ap u e ∙ w n)

@@ -25,7 +25,7 @@ use Rattle.rx_engine_typing.specs.Renumbered as ren
 use Rattle.rx_engine_typing.specs.Renumbered.{RenumberedBody, RenumberedElse, RenumberedStatements}
 use Rattle.rx_engine_holes.specs.Run.{append}
 use Rattle.rx_engine_holes.specs.Tail.TailBlock.{a_tail}
-use Rattle.rx_engine_changed.specs.Beside.{Instead, for_a_run, for_an_end, Piece, paired, unpaired, replaced, Grows, stays, and_own, and_instead, newest, Numbers, IsOneToOne}
+use Rattle.rx_engine_changed.specs.Beside.{Instead, for_a_run, for_an_end, Piece, paired, replaced, Grows, stays, and_instead, newest, Numbers, IsOneToOne}
 use Rattle.rx_engine_changed.specs.Stages.{Mutability, InStep}
 use Rattle.rx_engine_changed.specs.Once.{IsLastCall}
 use Rattle.rx_engine_changed.specs.Round.{block_ending, round, with_others, GoesOnLast, OneBlock, SameEnd}
@@ -62,8 +62,8 @@ module _ (R : Renaming) (W : Mutability) (apart : IsOneToOne R) (even : (n m : �
   holes q = round (base q) q
 
   pub returning : (i : Instead) (q : Numbers) → (with_others q.by q.loops (base q) i).returns
-  returning (for_a_run a b) q = returns0 q
-  returning (for_an_end n s d a o b o') q = returns0 q
+  returning (for_a_run a b n m) q = returns0 q
+  returning (for_an_end n s d a o b o' k m) q = returns0 q
 
   abbrev pub returns : (q : Numbers) → (holes q).returns
   returns q = returning q.instead q
@@ -124,10 +124,10 @@ module _ (R : Renaming) (W : Mutability) (apart : IsOneToOne R) (even : (n m : �
           ∙ sym (or_assoc (some_diverges a) (some_diverges b) (else_diverges o)) ∙ ap (λ (x : Bool). x || else_diverges o) (sym (row_diverges a b))
 
       -- rows as the rules have them
-      an_end : (q : Numbers) (a a' x x' : named.Statements) (o o' : Else) → q.instead ≡ for_an_end N s0 (some_diverges a) x o x' o' → q.by.nodes c.number ≡ c'.number → RenumberedStatements q.by q.loops (base q) a a'
+      an_end : (q : Numbers) (k l : ℕ) (a a' x x' : named.Statements) (o o' : Else) → q.instead ≡ for_an_end N s0 (some_diverges a) x o x' o' k l → q.by.nodes c.number ≡ c'.number → RenumberedStatements q.by q.loops (base q) a a'
           → BodyLike R W apart even (IsLastCall R W run call o0 o1) (at_place s0) H none_else untyped holes q (named.body N (joined a x) o) (named.body N' (joined a' x') o')
-      an_end q a a' x x' o o' e d h =
-          let i = for_an_end N s0 (some_diverges a) x o x' o' in
+      an_end q k l a a' x x' o o' e d h =
+          let i = for_an_end N s0 (some_diverges a) x o x' o' k l in
           subst (λ (i : Instead). RenumberedBody q.by q.loops (with_others q.by q.loops (base q) i) (named.body N (joined a x) o) (named.body N' (joined a' x') o')) (sym e)
           (subst (λ (z : named.Statements). RenumberedBody q.by q.loops (with_others q.by q.loops (base q) i) (named.body N z o) (named.body N' (joined a' x') o')) (sym (same_row a x))
           (subst (λ (z : named.Statements). RenumberedBody q.by q.loops (with_others q.by q.loops (base q) i) (named.body N (append a x) o) (named.body N' z o')) (sym (same_row a' x'))
@@ -148,17 +148,17 @@ module _ (R : Renaming) (W : Mutability) (apart : IsOneToOne R) (even : (n m : �
           let Y = copied_statements R W apart even (IsLastCall R W run call o0 o1) same base returns0 (as_statements front) _ D D' (next_node R W apart even s0 s0 t t c c' st) l in
           let g = goes_on Y.now F.1 F'.1 p t Y.step s in
           let up = (rises_on (statements_rises (as_statements run) F.1) (optional_rises o0 t G.1)).grows in let up' = (rises_on (statements_rises (as_statements call) F'.1) (optional_rises o1 t G'.1)).grows in
-          let i = for_an_end N s0 (some_diverges F.0) G.0 O.0 G'.0 O'.0 in
-          let own : Grows Y.now F.1.number F'.1.number (replaced i ∷ unpaired F.1.number O.1.number F'.1.number O'.1.number ∷ Y.now) O.1.number O'.1.number
-          = and_instead (and_own (stays (omega arith) (omega arith)) up up' (omega arith) (omega arith)) in record {
-            now = replaced i ∷ unpaired F.1.number O.1.number F'.1.number O'.1.number ∷ Y.now;
+          let i = for_an_end N s0 (some_diverges F.0) G.0 O.0 G'.0 O'.0 F'.1.number O'.1.number in
+          let own : Grows Y.now F.1.number F'.1.number (replaced i ∷ Y.now) O.1.number O'.1.number
+          = and_instead {n = F.1.number} {n' = F'.1.number} (stays (omega arith) (omega arith)) up (omega arith) up' (omega arith) in record {
+            now = replaced i ∷ Y.now;
             adds = adds_so one_more (adds_pair (adds_on Y.adds (adds_other i (record { made = Y.now; cursor = F.1; cursor' = F'.1; step = Y.step; node = N; front = F.0; site = t; is = refl; ends = g.1 }))));
             grows = grows_on (grows_on (one_node c c') Y.grows) own;
             step = alike_later R W apart even g.0 own;
             same = (end_never F.0 F'.0 G.0 G'.0 O.0 O'.0 Y.same g.1, end_diverges F.0 F'.0 G.0 G'.0 O.0 O'.0 Y.same g.1);
             like = λ q f w.
                 let w1 = before q own w in
-                an_end q F.0 F'.0 G.0 G'.0 O.0 O'.0 (w (replaced i) newest) (before q Y.grows w1 (paired c.number c'.number) newest) (Y.like q f w1);
+                an_end q F'.1.number O'.1.number F.0 F'.0 G.0 G'.0 O.0 O'.0 (w (replaced i) newest).0 (before q Y.grows w1 (paired c.number c'.number) newest) (Y.like q f w1);
           }
 
     the_block : (t : Site) → BKept t old new

@@ -24,7 +24,7 @@ use Rattle.rx_engine_typing.specs.Renumbered as ren
 use Rattle.rx_engine_typing.specs.Renumbered.{RenumberedBody, RenumberedElse, RenumberedStatements}
 use Rattle.rx_engine_holes.specs.Run.{append}
 use Rattle.rx_engine_holes.specs.Run.RunBlock.{a_run}
-use Rattle.rx_engine_changed.specs.Beside.{Instead, for_a_run, Piece, paired, unpaired, replaced, Grows, stays, and_own, and_instead, newest, Numbers, IsOneToOne}
+use Rattle.rx_engine_changed.specs.Beside.{Instead, for_a_run, Piece, paired, replaced, Grows, stays, and_instead, newest, Numbers, IsOneToOne}
 use Rattle.rx_engine_changed.specs.Stages.{Mutability, InStep}
 use Rattle.rx_engine_changed.specs.Once.{IsCall}
 use Rattle.rx_engine_changed.specs.Round.{block_with, round, with_others, GoesOn, OneBlock}
@@ -81,8 +81,8 @@ module _ (R : Renaming) (W : Mutability) (apart : IsOneToOne R) (even : (n m : �
   holes q = round (base q) q
 
   pub returning : (i : Instead) (q : Numbers) → (with_others q.by q.loops (base q) i).returns
-  returning (for_a_run a b) q = returns0 q
-  returning (Instead.for_an_end n s d a o b o') q = returns0 q
+  returning (for_a_run a b n m) q = returns0 q
+  returning (Instead.for_an_end n s d a o b o' k m) q = returns0 q
 
   abbrev pub returns : (q : Numbers) → (holes q).returns
   returns q = returning q.instead q
@@ -140,14 +140,14 @@ module _ (R : Renaming) (W : Mutability) (apart : IsOneToOne R) (even : (n m : �
           row_diverges a' (joined2 b' d') ∙ same_or {a = some_diverges a} {a' = some_diverges a'} e (row_diverges b' d' ∙ same_or f g ∙ sym (row_diverges b d)) ∙ sym (row_diverges a (joined2 b d))
 
       -- rows as the rules have them
-      a_block : (q : Numbers) (a a' b b' x x' : named.Statements) (o o' : Else) → q.instead ≡ for_a_run x x' → q.by.nodes c.number ≡ c'.number
+      a_block : (q : Numbers) (k l : ℕ) (a a' b b' x x' : named.Statements) (o o' : Else) → q.instead ≡ for_a_run x x' k l → q.by.nodes c.number ≡ c'.number
           → RenumberedStatements q.by q.loops (base q) a a' → RenumberedStatements q.by q.loops (base q) b b' → RenumberedElse q.by q.loops (base q) o o'
           → BodyLike R W apart even (IsCall R W run call) (at_place s0) H none_else untyped holes q (named.body N (joined3 a x b) o) (named.body N' (joined3 a' x' b') o')
-      a_block q a a' b b' x x' o o' e d h k l =
+      a_block q i j a a' b b' x x' o o' e d h k l =
           subst (λ (i : Instead). RenumberedBody q.by q.loops (with_others q.by q.loops (base q) i) (named.body N (joined3 a x b) o) (named.body N' (joined3 a' x' b') o')) (sym e)
-          (subst (λ (z : named.Statements). RenumberedBody q.by q.loops (with_others q.by q.loops (base q) (for_a_run x x')) (named.body N z o) (named.body N' (joined3 a' x' b') o')) (sym (rows a x b))
-          (subst (λ (z : named.Statements). RenumberedBody q.by q.loops (with_others q.by q.loops (base q) (for_a_run x x')) (named.body N (append a (append x b)) o) (named.body N' z o')) (sym (rows a' x' b'))
-          (at_node q (λ n. RenumberedBody q.by q.loops (with_others q.by q.loops (base q) (for_a_run x x')) (named.body N (append a (append x b)) o) (named.body n (append a' (append x' b')) o')) c.number c'.number s0 s0 t d
+          (subst (λ (z : named.Statements). RenumberedBody q.by q.loops (with_others q.by q.loops (base q) (for_a_run x x' i j)) (named.body N z o) (named.body N' (joined3 a' x' b') o')) (sym (rows a x b))
+          (subst (λ (z : named.Statements). RenumberedBody q.by q.loops (with_others q.by q.loops (base q) (for_a_run x x' i j)) (named.body N (append a (append x b)) o) (named.body N' z o')) (sym (rows a' x' b'))
+          (at_node q (λ n. RenumberedBody q.by q.loops (with_others q.by q.loops (base q) (for_a_run x x' i j)) (named.body N (append a (append x b)) o) (named.body n (append a' (append x' b')) o')) c.number c'.number s0 s0 t d
           (ren.RenumberedBody.other_block (a_run {n = N} {s = s0} h k l)))))
 
       -- nothing else stands for a part of what is copied
@@ -167,18 +167,18 @@ module _ (R : Renaming) (W : Mutability) (apart : IsOneToOne R) (even : (n m : �
           let Y = copied_statements R W apart even (IsCall R W run call) same base returns0 (as_statements front) _ D D' (next_node R W apart even s0 s0 t t c c' st) l in
           let g = goes_on Y.now F.1 F'.1 p Y.step s in
           let up = (statements_rises (as_statements run) F.1).grows in let up' = (statements_rises (as_statements call) F'.1).grows in
-          let own : Grows Y.now F.1.number F'.1.number (replaced (for_a_run G.0 G'.0) ∷ unpaired F.1.number G.1.number F'.1.number G'.1.number ∷ Y.now) G.1.number G'.1.number
-          = and_instead (and_own (stays (omega arith) (omega arith)) up up' (omega arith) (omega arith)) in
+          let own : Grows Y.now F.1.number F'.1.number (replaced (for_a_run G.0 G'.0 F'.1.number G'.1.number) ∷ Y.now) G.1.number G'.1.number
+          = and_instead {n = F.1.number} {n' = F'.1.number} (stays (omega arith) (omega arith)) up (omega arith) up' (omega arith) in
           let Z = copied_statements R W apart even (IsCall R W run call) same base returns0 (as_statements behind) _ G.1 G'.1 (alike_later R W apart even g.0 own) m in
           let V = copied_tail R W apart even (IsCall R W run call) same base returns0 t o0 _ B.1 B'.1 Z.step h.tails in record {
             now = V.now;
-            adds = adds_so one_more (adds_pair (adds_on Y.adds (adds_on (adds_other (for_a_run G.0 G'.0) (record { made = Y.now; cursor = F.1; cursor' = F'.1; step = Y.step; is = refl; diverges = g.1 })) (adds_on Z.adds V.adds))));
+            adds = adds_so one_more (adds_pair (adds_on Y.adds (adds_on (adds_other (for_a_run G.0 G'.0 F'.1.number G'.1.number) (record { made = Y.now; cursor = F.1; cursor' = F'.1; step = Y.step; is = refl; diverges = g.1 })) (adds_on Z.adds V.adds))));
             grows = grows_on (grows_on (one_node c c') Y.grows) (grows_on own (grows_on Z.grows V.grows));
             step = V.step;
             same = (tails O.0 O'.0 (three_diverge F.0 G.0 B.0 F'.0 G'.0 B'.0 Y.same g.1 Z.same) V.same, same_or (three_diverge F.0 G.0 B.0 F'.0 G'.0 B'.0 Y.same g.1 Z.same) V.same.1);
             like = λ q f w.
                 let w1 = before q V.grows w in let w2 = before q Z.grows w1 in let w3 = before q own w2 in
-                a_block q F.0 F'.0 B.0 B'.0 G.0 G'.0 O.0 O'.0 (w2 (replaced (for_a_run G.0 G'.0)) newest) (before q Y.grows w3 (paired c.number c'.number) newest) (Y.like q f w3) (Z.like q f w1) (V.like q f w);
+                a_block q F'.1.number G'.1.number F.0 F'.0 B.0 B'.0 G.0 G'.0 O.0 O'.0 (w2 (replaced (for_a_run G.0 G'.0 F'.1.number G'.1.number)) newest).0 (before q Y.grows w3 (paired c.number c'.number) newest) (Y.like q f w3) (Z.like q f w1) (V.like q f w);
           }
 
     the_block : (t : Site) → BKept t old new

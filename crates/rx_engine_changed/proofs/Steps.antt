@@ -11,7 +11,7 @@ use Rattle.rx_typed.specs.declared.nodes.Site.{Site}
 use Rattle.rx_typed.specs.Naming.{Cursor, a_node, an_entry, taken, as_known, known_among, declaration, not_declared, is_known}
 use Rattle.rx_engine_names.specs.Renaming.{Renaming}
 use Rattle.rx_engine_changed.specs.Beside.{Piece, paired, Grows, stays, and_pair, IsPiece, IsOneToOne}
-use Rattle.rx_engine_changed.specs.Stages.{Mutability, LikeDeclared, not_yet, known, given, waits, Alike, InStep}
+use Rattle.rx_engine_changed.specs.Stages.{Mutability, LikeDeclared, not_yet, known, given, waits, waits_there, Alike, InStep}
 use Rattle.rx_engine_changed.proofs.Lists.{newest_at, older_at, one_longer, set_there, set_elsewhere, set_many, Within, becomes_known, stays_known, known_length, still_piece}
 
 -- ---- numbers are the same or not
@@ -60,6 +60,10 @@ stage_there : (vs : List Declaration) (n : ℕ) (s : Stage) → slice_get (slice
 stage_there [] n s = refl
 stage_there (v ∷ vs) zero s = refl
 stage_there (v ∷ vs) (suc n) s = stage_there vs n s
+
+known_waits_not : (o : Option Declaration) → waits_there (option_map as_known o) ≡ false
+known_waits_not None = refl
+known_waits_not (Some d) = refl
 
 -- ---- numbers of a pattern's variables
 
@@ -122,16 +126,21 @@ module _ (R : Renaming) (W : Mutability) (apart : IsOneToOne R) (even : (n m : �
 
   module _ {made : List Piece} {vs : List Declaration} {ls : List Bool} {d : ℕ} {vs' : List Declaration} {ls' : List Bool} {d' : ℕ} (st : Alike R W made vs ls d vs' ls' d') where
     pub alike_later : {a a' : ℕ} {now : List Piece} {b b' : ℕ} → Grows made a a' now b b' → Alike R W now vs ls d vs' ls' d'
-    alike_later g = record { variables = λ n m r. declared_later g (st.variables n m r); loops = st.loops; counted = st.counted; counted' = st.counted' }
+    alike_later g = record { variables = λ n m r. declared_later g (st.variables n m r); alone = st.alone; loops = st.loops; counted = st.counted; counted' = st.counted' }
 
     pub alike_declared : (x : Declaration) → R.variable d d' ≡ true → ((n m : ℕ) → LikeDeclared made (W n m) (Some x) (Some x)) → Alike R W made (vs ++ x ∷ []) ls (suc d) (vs' ++ x ∷ []) ls' (suc d')
     alike_declared x e same = record {
       variables = λ n m r. by n m r (same_or_not n d);
+      alone = λ m w. lone m w (same_or_not m d');
       loops = st.loops;
       counted = one_longer vs x ∙ ap suc st.counted;
       counted' = one_longer vs' x ∙ ap suc st.counted';
     }
       where
+        lone : (m : ℕ) → ((n : ℕ) → R.variable n m ≡ true → ⊥) → Decided (m ≡ d') → waits_there (slice_get (vs' ++ x ∷ []) m) ≡ false
+        lone m w (so h) = absurd (w d (subst (λ (z : ℕ). R.variable d z ≡ true) (sym h) e))
+        lone m w (not_so h) = ap waits_there (older_at vs' x m (λ g. h (g ∙ st.counted'))) ∙ st.alone m w
+
         by : (n m : ℕ) → R.variable n m ≡ true → Decided (n ≡ d) → LikeDeclared made (W n m) (slice_get (vs ++ x ∷ []) n) (slice_get (vs' ++ x ∷ []) m)
         by n m r (so h) =
             let k : m ≡ d' = apart.variables_on n m d' r (subst (λ (z : ℕ). R.variable z d' ≡ true) (sym h) e) in
@@ -147,6 +156,7 @@ module _ (R : Renaming) (W : Mutability) (apart : IsOneToOne R) (even : (n m : �
         → Alike R W made (slice_set vs x (record (get_or vs x not_declared) { stage = s })) ls d (slice_set vs' x' (record (get_or vs' x' not_declared) { stage = s' })) ls' d'
     alike_staged x x' s s' e h = record {
       variables = λ n m r. by n m r (same_or_not n x);
+      alone = λ m w. lone m w (same_or_not m x');
       loops = st.loops;
       counted = set_many vs x (record (get_or vs x not_declared) { stage = s }) ∙ st.counted;
       counted' = set_many vs' x' (record (get_or vs' x' not_declared) { stage = s' }) ∙ st.counted';
@@ -157,6 +167,10 @@ module _ (R : Renaming) (W : Mutability) (apart : IsOneToOne R) (even : (n m : �
 
         z' : Declaration
         z' = record (get_or vs' x' not_declared) { stage = s' }
+
+        lone : (m : ℕ) → ((n : ℕ) → R.variable n m ≡ true → ⊥) → Decided (m ≡ x') → waits_there (slice_get (slice_set vs' x' z') m) ≡ false
+        lone m w (so h) = absurd (w x (subst (λ (y : ℕ). R.variable x y ≡ true) (sym h) e))
+        lone m w (not_so h) = ap waits_there (set_elsewhere vs' x' m z' h) ∙ st.alone m w
 
         by : (n m : ℕ) → R.variable n m ≡ true → Decided (n ≡ x) → LikeDeclared made (W n m) (slice_get (slice_set vs x z) n) (slice_get (slice_set vs' x' z') m)
         by n m r (so g) =
@@ -180,11 +194,16 @@ module _ (R : Renaming) (W : Mutability) (apart : IsOneToOne R) (even : (n m : �
     pub alike_known : {i i' j j' : ℕ} → Ranges R i i' j j' → Alike R W made (known_among i (j - i) vs) ls d (known_among i' (j' - i') vs') ls' d'
     alike_known {i} {i'} {j} {j'} g = record {
       variables = λ n m r. by n m r (within_or_not i j n);
+      alone = λ m w. lone m w (within_or_not i' j' m);
       loops = st.loops;
       counted = known_length i (j - i) vs ∙ st.counted;
       counted' = known_length i' (j' - i') vs' ∙ st.counted';
     }
       where
+        lone : (m : ℕ) → ((n : ℕ) → R.variable n m ≡ true → ⊥) → Decided (Within i' j' m) → waits_there (slice_get (known_among i' (j' - i') vs') m) ≡ false
+        lone m w (so h) = ap waits_there (becomes_known i' j' m vs' h) ∙ known_waits_not (slice_get vs' m)
+        lone m w (not_so h) = ap waits_there (stays_known i' j' m vs' (ranges_rise g).1 h) ∙ st.alone m w
+
         by : (n m : ℕ) → R.variable n m ≡ true → Decided (Within i j n) → LikeDeclared made (W n m) (slice_get (known_among i (j - i) vs) n) (slice_get (known_among i' (j' - i') vs') m)
         by n m r (so h) =
             subst (λ (o : Option Declaration). LikeDeclared made (W n m) o (slice_get (known_among i' (j' - i') vs') m)) (sym (becomes_known i j n vs h))
@@ -196,14 +215,14 @@ module _ (R : Renaming) (W : Mutability) (apart : IsOneToOne R) (even : (n m : �
     -- ---- loops
 
     pub alike_loop : R.loop (length ls) (length ls') ≡ true → Alike R W made vs (ls ++ false ∷ []) d vs' (ls' ++ false ∷ []) d'
-    alike_loop e = record { variables = st.variables; loops = λ n m r. by n m r (same_or_not n (length ls)); counted = st.counted; counted' = st.counted' }
+    alike_loop e = record { variables = st.variables; alone = st.alone; loops = λ n m r. by n m r (same_or_not n (length ls)); counted = st.counted; counted' = st.counted' }
       where
         by : (n m : ℕ) → R.loop n m ≡ true → Decided (n ≡ length ls) → slice_get (ls ++ false ∷ []) n ≡ slice_get (ls' ++ false ∷ []) m
         by n m r (so h) = newest_at ls false n h ∙ sym (newest_at ls' false m (apart.loops_on n m (length ls') r (subst (λ (z : ℕ). R.loop z (length ls') ≡ true) (sym h) e)))
         by n m r (not_so h) = older_at ls false n h ∙ st.loops n m r ∙ sym (older_at ls' false m (λ g. h (apart.loops_back n (length ls) m r (subst (λ (z : ℕ). R.loop (length ls) z ≡ true) (sym g) e))))
 
     pub alike_led : (l l' : ℕ) → R.loop l l' ≡ true → Alike R W made vs (slice_set ls l true) d vs' (slice_set ls' l' true) d'
-    alike_led l l' e = record { variables = st.variables; loops = λ n m r. by n m r (same_or_not n l); counted = st.counted; counted' = st.counted' }
+    alike_led l l' e = record { variables = st.variables; alone = st.alone; loops = λ n m r. by n m r (same_or_not n l); counted = st.counted; counted' = st.counted' }
       where
         by : (n m : ℕ) → R.loop n m ≡ true → Decided (n ≡ l) → slice_get (slice_set ls l true) n ≡ slice_get (slice_set ls' l' true) m
         by n m r (so h) =

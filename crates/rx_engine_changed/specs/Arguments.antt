@@ -8,7 +8,7 @@ use Rattle.rx_resolve_names.specs.Scopes.{variable_named}
 use Rattle.rx_hoist_extraction.specs.Plan.{Param}
 use Rattle.rx_hoist_extraction.specs.NewFunction.{passed}
 use Rattle.rx_typeck_solver.specs.declared.facts.Subject.TheVariants as subject
-use Rattle.rx_typeck_solver.specs.Facts.{Known}
+use Rattle.rx_typeck_solver.specs.Facts.{KnownItems}
 use Rattle.rx_engine_names.specs.Renaming.{Renaming}
 use Rattle.rx_engine_names.specs.Calls.{Calls}
 use Rattle.rx_engine_blocks.specs.Renumbering.{shape_at, Renumbering}
@@ -29,6 +29,6 @@ PassesOn (named.call n g es) = ArePassed es
 PassesOn _ = ⊥
 
 -- the variable of a param has its type, and as it is passed this keeps the limits
-abbrev pub HasItsType : Known → Context → Renumbering → Calls → Renaming → Param → Type 0
+abbrev pub HasItsType : KnownItems → Context → Renumbering → Calls → Renaming → Param → Type 0
 HasItsType E B q C R x = ((j m : ℕ) → variable_named C.scope x.variable.name ≡ Some j → R.variable j m ≡ true → B (subject.Variable m) ≡ Some (shape_at q x.variable.typ))
     × IsTrue (keeps_limits E.sizes (outline (shape_at q (passed x.mode x.variable.typ))))

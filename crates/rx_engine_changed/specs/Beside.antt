@@ -9,17 +9,25 @@ use Rattle.rx_engine_blocks.specs.Renumbering.{Renumbering}
 use Rattle.rx_engine_blocks.specs.Along.{PartialInverse}
 
 -- what stands in one for statements of the other; or for the last statements and the tail of a block with this node, behind statements that
--- diverge or not
+-- diverge or not. What stands there has its own nodes from the first number on, before the second
 pub data Instead : Type 0 where
-  for_a_run : Statements → Statements → Instead
-  for_an_end : Node → Span → Bool → Statements → Else → Statements → Else → Instead
+  for_a_run : Statements → Statements → ℕ → ℕ → Instead
+  for_an_end : Node → Span → Bool → Statements → Else → Statements → Else → ℕ → ℕ → Instead
+
+abbrev pub first_own : Instead → ℕ
+first_own (for_a_run run call n m) = n
+first_own (for_an_end k s d run o call o' n m) = n
+
+abbrev pub behind_own : Instead → ℕ
+behind_own (for_a_run run call n m) = m
+behind_own (for_an_end k s d run o call o' n m) = m
 
 pub data Piece : Type 0 where
   -- two nodes correspond
   paired : ℕ → ℕ → Piece
   -- the first has its own from the first number on, before the second; the other from the third on, before the fourth
   unpaired : ℕ → ℕ → ℕ → ℕ → Piece
-  -- no nodes, but what stands there
+  -- what stands there
   replaced : Instead → Piece
 
 -- Pieces, the newest first, that were made from these numbers on, behind others, until the next nodes have these numbers.
@@ -27,7 +35,7 @@ pub data Grows (made : List Piece) (a a' : ℕ) : List Piece → ℕ → ℕ →
   stays : {b b' : ℕ} → a ≤ b → a' ≤ b' → Grows made a a' made b b'
   and_pair : {now : List Piece} {n n' b b' : ℕ} → Grows made a a' now n n' → n < b → n' < b' → Grows made a a' (paired n n' ∷ now) b b'
   and_own : {now : List Piece} {n m n' m' b b' : ℕ} → Grows made a a' now n n' → n ≤ m → n' ≤ m' → m ≤ b → m' ≤ b' → Grows made a a' (unpaired n m n' m' ∷ now) b b'
-  and_instead : {now : List Piece} {i : Instead} {b b' : ℕ} → Grows made a a' now b b' → Grows made a a' (replaced i ∷ now) b b'
+  and_instead : {now : List Piece} {i : Instead} {n n' b b' : ℕ} → Grows made a a' now n n' → n ≤ b → n' ≤ first_own i → first_own i ≤ behind_own i → behind_own i ≤ b' → Grows made a a' (replaced i ∷ now) b b'
 
 pub data IsPiece (p : Piece) : List Piece → Type 0 where
   newest : {ps : List Piece} → IsPiece p (p ∷ ps)
@@ -43,7 +51,7 @@ pub record Numbers : Type 0 where
 abbrev pub Corresponds : Numbers → Piece → Type 0
 Corresponds q (paired n n') = q.by.nodes n ≡ n'
 Corresponds q (unpaired n m n' m') = (k : ℕ) → n' ≤ k → k < m' → q.back.node k ≡ None
-Corresponds q (replaced i) = q.instead ≡ i
+Corresponds q (replaced i) = (q.instead ≡ i) × ((k : ℕ) → first_own i ≤ k → k < behind_own i → q.back.node k ≡ None)
 
 abbrev pub AllCorrespond : Numbers → List Piece → Type 0
 AllCorrespond q ps = (p : Piece) → IsPiece p ps → Corresponds q p

@@ -1,6 +1,6 @@
 -- The function with the call of an extraction beside the text's (REM, "Extract function"; Rust Reference, "Block expressions"): where something
 -- follows the run in its block, and where it goes to the block's end; and what is asked where the run is come to.
-use Rattle.std.specs.Prelude.{◌≡◌, ℕ, [], length, Ok}
+use Rattle.std.specs.Prelude.{◌≡◌, ℕ, Bool, true, false, [], length, Ok}
 use Rattle.rx_core.specs.declared.types.Span.{Span}
 use Rattle.rx_tree.specs.Lists.{statements, tail}
 use Rattle.rx_tree.specs.Plain as plain
@@ -25,6 +25,7 @@ use Rattle.rx_engine_names.specs.CalledRuns.{call_parts}
 use Rattle.rx_engine_typing.specs.Renumbered.{no_holes}
 use Rattle.rx_engine_changed.specs.Beside.{Instead}
 use Rattle.rx_engine_changed.specs.Chosen.{least}
+use Rattle.rx_engine_changed.specs.DoAlike.{EndDoesAlike, RunDoesAlike}
 use Rattle.rx_engine_changed.specs.Once.{ByOneNumbering, IsCall, IsLastCall}
 use Rattle.rx_engine_changed.specs.Round.{as_mutable, round, GoesOn, GoesOnLast}
 
@@ -49,21 +50,33 @@ EndHoleOf p q n m s f r pl G old new = put_in (inside_of p n s f) (inside_of q m
 abbrev pub EndGoesOn : (p q : ProgramTree) (n m : ℕ) (s : Span) (f : Function) (r : Run) (pl : Plan) (G : Handing) → Renaming → Type 0
 EndGoesOn p q n m s f r pl G R = GoesOnLast R as_mutable (told_last G) (inside_of p n s f) (inside_of q m s f) (in_front r (statements (run_block r f))) (chosen r (statements (run_block r f))) (call_parts p r pl f).statements (tail (run_block r f)) (call_parts p r pl f).tail
 
--- Such a function, which is this one and resolves: where this is asked of the renaming in which what was made corresponds, and no variable is left
--- without a type in either, it is the text's by one numbering, and what stands there for a part is such.
+-- the run and what stands for it do the same to what both know: so they go on in step
+abbrev pub RunDoes : (p q : ProgramTree) (n m : ℕ) (s : Span) (f : Function) (r : Run) (pl : Plan) (G : Handing) → Renaming → Type 0
+RunDoes p q n m s f r pl G R = RunDoesAlike R as_mutable (told_handed G) (inside_of p n s f) (inside_of q m s f) (in_front r (statements (run_block r f))) (chosen r (statements (run_block r f))) (call_parts p r pl f).statements
+
+abbrev pub EndDoes : (p q : ProgramTree) (n m : ℕ) (s : Span) (f : Function) (r : Run) (pl : Plan) (G : Handing) → Renaming → Type 0
+EndDoes p q n m s f r pl G R = EndDoesAlike R as_mutable (told_last G) (inside_of p n s f) (inside_of q m s f) (in_front r (statements (run_block r f))) (chosen r (statements (run_block r f))) (call_parts p r pl f).statements (tail (run_block r f)) (call_parts p r pl f).tail
+
+-- Such a function, which is this one and resolves: where this is asked of the renaming in which what was made corresponds, and no variable of the
+-- text's is left without a type, it is the text's by one numbering, and what stands there for a part is such.
 pub record CalledOnce (p q : ProgramTree) (c : Inserted p q) (n m : ℕ) (s : Span) (f g : Function) (t : ItemNames) (Asked : Renaming → Type 0) (P : Renaming → Instead → Type 0) : Type 0 where
   pub tables : ItemNames
   pub resolves : in_item q m (plain.function_item s g) ≡ Ok tables
   pub made : Made
   pub numbered : Few (length t.vars) → Few (length tables.vars) → Few (length t.loops) → Few (length tables.loops) → Asked (least (number_there c) made)
-      → (function_named n s f t.names).never_given ≡ [] → (function_named m s g tables.names).never_given ≡ []
+      → (function_named n s f t.names).never_given ≡ []
       → ByOneNumbering (least (number_there c) made) (P (least (number_there c) made)) (λ q. round no_holes q) (function_named n s f t.names) (function_named m s g tables.names)
 
 -- where something follows the run in its block, and where it goes to the block's end
 abbrev pub CallIsNumbered : (p q : ProgramTree) (c : Inserted p q) (n m : ℕ) (s : Span) (f : Function) (r : Run) (pl : Plan) (G : Handing) (t : ItemNames) → Type 0
-CallIsNumbered p q c n m s f r pl G t = CalledOnce p q c n m s f (with_other_block (run_block r f) (with_parts r (call_parts p r pl f) (run_block r f)) f) t (RunGoesOn p q n m s f r pl G)
+CallIsNumbered p q c n m s f r pl G t = CalledOnce p q c n m s f (with_other_block (run_block r f) (with_parts r (call_parts p r pl f) (run_block r f)) f) t (RunDoes p q n m s f r pl G)
     (λ R. IsCall R as_mutable (chosen r (statements (run_block r f))) (call_parts p r pl f).statements)
 
 abbrev pub EndIsNumbered : (p q : ProgramTree) (c : Inserted p q) (n m : ℕ) (s : Span) (f : Function) (r : Run) (pl : Plan) (G : Handing) (t : ItemNames) → Type 0
-EndIsNumbered p q c n m s f r pl G t = CalledOnce p q c n m s f (with_other_block (run_block r f) (with_parts r (call_parts p r pl f) (run_block r f)) f) t (EndGoesOn p q n m s f r pl G)
+EndIsNumbered p q c n m s f r pl G t = CalledOnce p q c n m s f (with_other_block (run_block r f) (with_parts r (call_parts p r pl f) (run_block r f)) f) t (EndDoes p q n m s f r pl G)
     (λ R. IsLastCall R as_mutable (chosen r (statements (run_block r f))) (call_parts p r pl f).statements (tail (run_block r f)) (call_parts p r pl f).tail)
+
+-- by whether the run goes to its block's end
+abbrev pub IsNumbered : Bool → (p q : ProgramTree) (c : Inserted p q) (n m : ℕ) (s : Span) (f : Function) (r : Run) (pl : Plan) (G : Handing) (t : ItemNames) → Type 0
+IsNumbered false p q c n m s f r pl G t = CallIsNumbered p q c n m s f r pl G t
+IsNumbered true p q c n m s f r pl G t = EndIsNumbered p q c n m s f r pl G t

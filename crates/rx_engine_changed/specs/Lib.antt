@@ -7,3 +7,8 @@ pub mod Called
 pub mod AsItStands
 pub mod Once
 pub mod Arguments
+pub mod Spots
+pub mod Inside
+pub mod HandedTypes
+pub mod Deeds
+pub mod DoAlike

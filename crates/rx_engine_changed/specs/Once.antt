@@ -1,6 +1,6 @@
 -- Two functions of which the second is the first by each numbering in which the pieces that were made correspond, with one thing that stands for a
 -- part; and where a run and the call for it are come to (REM, "Extract function"; Rust Reference, "Block expressions").
-use Rattle.std.specs.Prelude.{◌≡◌, ℕ, List, []}
+use Rattle.std.specs.Prelude.{◌≡◌, ◌≤◌, ◌<◌, ℕ, List, [], None}
 use Rattle.rx_tree.specs.Plain.{OptionalExpression, Statement}
 use Rattle.rx_typed.specs.declared.nodes.Node.{Node}
 use Rattle.rx_typed.specs.declared.nodes.Site.{Site}
@@ -13,7 +13,7 @@ use Rattle.rx_engine_blocks.specs.Renumbering.{node_at, Renumbering}
 use Rattle.rx_engine_holes.specs.Tail.{of_end}
 use Rattle.rx_engine_typing.specs.Renumbered.{Holes, RenumberedFunction}
 use Rattle.rx_engine_typing.specs.Corresponding.{StayApart}
-use Rattle.rx_engine_changed.specs.Beside.{for_a_run, for_an_end, replaced, Follows, Instead, IsPiece, Numbers, Piece}
+use Rattle.rx_engine_changed.specs.Beside.{behind_own, first_own, for_a_run, for_an_end, replaced, Follows, Instead, IsPiece, Numbers, Piece}
 use Rattle.rx_engine_changed.specs.Stages.{InStep, Mutability}
 use Rattle.rx_engine_changed.specs.Round.{SameEnd}
 use Rattle.rx_engine_changed.specs.Chosen.{OneInstead}
@@ -33,6 +33,8 @@ pub record ByOneNumbering (R : Renaming) (P : Instead → Type 0) (holes : Numbe
   pub variables_apart : StayApart numbers.by.variables
   pub loops_apart : StayApart numbers.loops
   pub such : P numbers.instead
+  -- what stands there is new
+  pub own : (k : ℕ) → first_own numbers.instead ≤ k → k < behind_own numbers.instead → numbers.back.node k ≡ None
   pub like : RenumberedFunction numbers.by numbers.loops (holes numbers) f g
 
 -- the statements of a run and those for it, from cursors that were come to in step; both diverge or neither does
@@ -41,7 +43,7 @@ pub record IsCall (R : Renaming) (W : Mutability) (run call : List Statement) (i
   pub cursor : Cursor
   pub cursor' : Cursor
   pub step : InStep R W made cursor cursor'
-  pub is : i ≡ for_a_run (of_statements (as_statements run) cursor).0 (of_statements (as_statements call) cursor').0
+  pub is : i ≡ for_a_run (of_statements (as_statements run) cursor).0 (of_statements (as_statements call) cursor').0 cursor'.number (of_statements (as_statements call) cursor').1.number
   pub diverges : some_diverges (of_statements (as_statements call) cursor').0 ≡ some_diverges (of_statements (as_statements run) cursor).0
 
 -- the same with tails, in a block with this node
@@ -56,6 +58,7 @@ pub record IsLastCall (R : Renaming) (W : Mutability) (run call : List Statement
   pub is : i ≡ for_an_end node node.span (some_diverges front)
       (of_statements (as_statements run) cursor).0 (of_optional site tail (of_statements (as_statements run) cursor).1).0
       (of_statements (as_statements call) cursor').0 (of_optional site last (of_statements (as_statements call) cursor').1).0
+      cursor'.number (of_optional site last (of_statements (as_statements call) cursor').1).1.number
   pub ends : SameEnd (of_statements (as_statements run) cursor).0 (of_optional site tail (of_statements (as_statements run) cursor).1).0
       (of_statements (as_statements call) cursor').0 (of_optional site last (of_statements (as_statements call) cursor').1).0
 

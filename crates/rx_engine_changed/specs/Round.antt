@@ -30,8 +30,8 @@ abbrev pub block_ending : Span → List Statement → List Statement → Optiona
 block_ending s front run o = plain.body s (as_statements (front ++ run)) o
 
 abbrev pub with_others : (r : Renumbering) → (ℕ → ℕ) → Holes → Instead → Holes
-with_others r loops H (for_a_run run call) = with_run r loops H run call
-with_others r loops H (for_an_end n s d run o call o') = with_tail r loops H n s d run o call o'
+with_others r loops H (for_a_run run call n m) = with_run r loops H run call
+with_others r loops H (for_an_end n s d run o call o' k m) = with_tail r loops H n s d run o call o'
 
 -- `H` says what else may stand in front and behind
 abbrev pub round : Holes → Numbers → Holes

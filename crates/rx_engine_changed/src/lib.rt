@@ -6,5 +6,8 @@ mod laws;
 pub use laws::{
     calls_of_a_plan_fit, copied_runs_are_renumbered, functions_with_a_call_are_renumbered,
     functions_with_a_call_are_valid, functions_with_a_call_at_the_end_are_renumbered,
-    functions_with_a_call_have_one_numbering, made_pairs_are_one_to_one, pieces_tell_a_numbering,
+    functions_with_a_call_have_one_numbering, functions_with_a_call_that_fits_are_valid,
+    made_pairs_are_one_to_one, pieces_tell_a_numbering, runs_that_do_alike_go_on,
+    statements_are_numbered_in_order, valid_functions_leave_none_waiting,
+    what_a_call_makes_is_apart, what_stands_for_a_run_fits, what_stands_for_an_end_fits,
 };

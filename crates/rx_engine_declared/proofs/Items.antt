@@ -8,7 +8,7 @@ use Rattle.rx_tree.specs.declared.tree.Ident.{Ident}
 use Rattle.rx_tree.specs.declared.tree.BoundLifetime.{BoundLifetime}
 use Rattle.rx_tree.specs.Plain as plain
 use Rattle.rx_tree.specs.Plain.{TypeTree, FieldOf, VariantOf, Parameter, Function, ItemTree, ProgramTree}
-use Rattle.rx_resolve_names.specs.Scopes.{Declared}
+use Rattle.rx_resolve_names.specs.Scopes.{DeclaredNames}
 use Rattle.rx_resolve_names.specs.declared.resolved.ItemNames.{ItemNames}
 use Rattle.rx_resolve_names.specs.declared.resolved.NodeNames.{NodeNames}
 use Rattle.rx_resolve_names.specs.Meant.{number, firsts, lifetimes_declared}
@@ -97,7 +97,7 @@ parameters_front P x xs left mid rest first more ls n q z =
     ((plain-Ty g.0.0, map plain-Ty u.0.0, ap (λ x. map plain-Ty x.0) (sym all), w.0, v.0), ap (λ x. x.1.names) (sym all) ∙ v.1)
 
 module _ (F : List NodeNames) where
-  fields_read : (I : Inside) (at : List ℕ) (ds : Declared) (i : ℕ) (fs : List FieldOf) (t t' : ItemNames) → in_declared I at ds i fs t ≡ Ok t' → (rest : List NodeNames) → F ≡ t'.names ++ rest → Left F t (FieldsRead I.program fs)
+  fields_read : (I : Inside) (at : List ℕ) (ds : DeclaredNames) (i : ℕ) (fs : List FieldOf) (t t' : ItemNames) → in_declared I at ds i fs t ≡ Ok t' → (rest : List NodeNames) → F ≡ t'.names ++ rest → Left F t (FieldsRead I.program fs)
   fields_read I at ds i [] t t' e rest h = record {
     left = rest;
     stands = before_none F t t' rest e h;
@@ -110,7 +110,7 @@ module _ (F : List NodeNames) where
       let a = type_read F I (child at i) f.typ t o.0 o.1 b.left b.stands in
       record { left = a.left; stands = a.stands; reads = fields_front I.program f fs a.left b.left a.reads b.reads }
 
-  variants_read : (I : Inside) (at : List ℕ) (ds : Declared) (n i : ℕ) (vs : List VariantOf) (t t' : ItemNames) → in_variants I at ds n i vs t ≡ Ok t' → (rest : List NodeNames) → F ≡ t'.names ++ rest → Left F t (VariantsRead I.program vs)
+  variants_read : (I : Inside) (at : List ℕ) (ds : DeclaredNames) (n i : ℕ) (vs : List VariantOf) (t t' : ItemNames) → in_variants I at ds n i vs t ≡ Ok t' → (rest : List NodeNames) → F ≡ t'.names ++ rest → Left F t (VariantsRead I.program vs)
   variants_read I at ds m i [] t t' e rest h = record {
     left = rest;
     stands = before_none F t t' rest e h;
@@ -165,7 +165,7 @@ module _ (F : List NodeNames) where
       let first : a.0 ≡ c.0 ∷ [] = sym (the_same (c.0 ∷ []) a.0 c.2) in
       ap length (sym (the_same (a.0 ++ b.0) ns b.2) ∙ ap (λ (l : List ℕ). l ++ b.0) first) ∙ ap suc (each_bound I n ls b.0 b.1)
 
-  pub all_bounds : (I : Inside) (ds : Declared) (n : ℕ) (ls : List BoundLifetime) (ns : List ℕ) → lifetimes_of I ds n ls ≡ Ok ns → length ns ≡ length (bounded n ls)
+  pub all_bounds : (I : Inside) (ds : DeclaredNames) (n : ℕ) (ls : List BoundLifetime) (ns : List ℕ) → lifetimes_of I ds n ls ≡ Ok ns → length ns ≡ length (bounded n ls)
   all_bounds I ds n [] ns e = ap length (sym (the_same [] ns e))
   all_bounds I ds n (l ∷ ls) ns e =
       let d = named_ok (declare ds l.name n) (λ ds. both (bounds_in I l.bounds) (lifetimes_of I ds (suc n) ls)) ns e in
@@ -191,7 +191,7 @@ module _ (F : List NodeNames) where
 
 -- ---- items
 
-pub distinct_names : (ds : Declared) (n : ℕ) (xs : List Ident) (t t' : ItemNames) → distinct ds n xs t ≡ Ok t' → t ≡ t'
+pub distinct_names : (ds : DeclaredNames) (n : ℕ) (xs : List Ident) (t t' : ItemNames) → distinct ds n xs t ≡ Ok t' → t ≡ t'
 distinct_names ds n [] t t' e = the_same t t' e
 distinct_names ds n (x ∷ xs) t t' e = let a = named_ok (declare ds x n) (λ ds. distinct ds (suc n) xs t) t' e in distinct_names a.0 (suc n) xs t t' a.2
 

@@ -227,7 +227,7 @@ module _ (A : Acting ℕ) (blind : IsBlind A) where
             bind_same (values_same u s) (λ vs s1. ap (λ js. performed A (at_mark m (Build k js (temporaries_of es') d)) vs s1) (fields_same u) ∙ ap (λ ts. performed A (at_mark m (Build k (fields_of es) ts d)) vs s1) (temporaries_same u))
         value_same u_unit d s = refl
         value_same (u_lazily {m = m} {b = t} {e = e} {f = f} {e' = e'} {f' = f'} u w) d s = bind_same (own s u (λ d s. value_same u d s)) (λ v s1.
-            bind_same (ap (λ x. performed A (at_mark m (actions.Test (tree.held x) (matching.equals (tree.truth t)))) (v ∷ []) s1) (temporary_same u)) (λ z s2.
+            bind_same (ap (λ x. performed A (at_mark m (actions.Test (tree.temporary_place x) (matching.equals (tree.truth t)))) (v ∷ []) s1) (temporary_same u)) (λ z s2.
             bind_same (decided_same z s2 (λ s3. own s3 w (λ d s. value_same w d s)) (λ s3. refl)) (λ y s4.
             ap (λ x. performed A (at_mark m (Build tree.lazy [] (x ∷ temporary_of f' ∷ []) d)) (y ∷ []) s4) (temporary_same u) ∙ ap (λ x. performed A (at_mark m (Build tree.lazy [] (temporary_of e ∷ x ∷ []) d)) (y ∷ []) s4) (temporary_same w))))
         value_same (u_assign {m = m} {p = p} u) d s = bind_same (own s u (λ d s. value_same u d s)) (λ v s1. ap (λ t. performed A (at_mark m (actions.Write p t [])) (v ∷ []) s1) (temporary_same u))

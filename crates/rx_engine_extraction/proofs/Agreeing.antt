@@ -11,7 +11,7 @@ use Rattle.rx_typed_declarations.specs.Sizes.{Sized}
 use Rattle.rx_graph_cycles.specs.Reaches.{NoCycle}
 use Rattle.rx_resolve_names.specs.declared.resolved.ItemNames.{ItemNames}
 use Rattle.rx_typed.specs.Types.{Declarations}
-use Rattle.rx_typed_declarations.specs.Held.{held}
+use Rattle.rx_typed_declarations.specs.Held.{held_by_each}
 use Rattle.rx_typed_declarations.proofs.Polarities.{same_declared}
 use Rattle.rx_typeck_typed.specs.Programs.{Fits as Declared}
 use Rattle.rx_typeck_typed.specs.declared.typed.Typed.{Typed}
@@ -70,7 +70,7 @@ pub record Twice (T : Text) (u : Typed) : Type 0 where
   pub each : Each SameFunction T.types.functions u.functions
 
 pub typed_twice : ((p : ProgramTree) (names : List ItemNames) (t u : Typed) → IsTyped p names t → IsTyped p names u → AreSame t u)
-    → ((p : ProgramTree) (D : Declarations) → Declared p D → NoCycle (held D)) → ((D : Declarations) → NoCycle (held D) → (P : ℕ → ℕ) × Sized D P)
+    → ((p : ProgramTree) (D : Declarations) → Declared p D → NoCycle (held_by_each D)) → ((D : Declarations) → NoCycle (held_by_each D) → (P : ℕ → ℕ) × Sized D P)
     → (bytes : List ℕ) (T : Text) (u : Typed) → IsText bytes T → IsText bytes (retyped T u) → Twice T u
 typed_twice same finite some bytes T u is other =
     let x = is.accepted.front in let y = other.accepted.front in

@@ -14,7 +14,7 @@ use Rattle.rx_resolve_names.specs.declared.resolved.ItemNames.{ItemNames}
 use Rattle.rx_typed.specs.declared.declarations.Decl.{Decl}
 use Rattle.rx_typed.specs.PlainTypes.{declarations}
 use Rattle.rx_typed.specs.Regions.{RegionTyp, RegionTyps, no_region, regions_at, all_erased, regions}
-use Rattle.rx_typed_declarations.specs.Held.{held, named_among}
+use Rattle.rx_typed_declarations.specs.Held.{held_by_each, named_among}
 use Rattle.rx_typed_declarations.specs.Variance.{unrecorded, Recorded}
 use Rattle.rx_typed_declarations.proofs.RegionLemmas.{item_erased}
 use Rattle.rx_typed_declarations.proofs.Filling.{fill_by, all_filled}
@@ -38,12 +38,12 @@ use Rattle.rx_engine_extraction.proofs.AgreeingTypes.{one_meaning, each_at}
 
 -- ---- the pairs that fields ask: where no item reaches itself, there are lists of them
 
-none_past : (items : List Decl) (n : ℕ) → length (held (declarations items)) ≤ n → regions_at (regions items) n ≡ no_region
+none_past : (items : List Decl) (n : ℕ) → length (held_by_each (declarations items)) ≤ n → regions_at (regions items) n ≡ no_region
 none_past [] n h = refl
 none_past (d ∷ ds) zero h = absurd (omega (arith, h))
 none_past (d ∷ ds) (suc n) h = none_past ds n (omega (arith, h))
 
-targets_named : (items : List Decl) (n : ℕ) → targets (held (declarations items)) n ≡ named_among (all_erased (regions_at (regions items) n))
+targets_named : (items : List Decl) (n : ℕ) → targets (held_by_each (declarations items)) n ≡ named_among (all_erased (regions_at (regions items) n))
 targets_named [] n = refl
 targets_named (d ∷ ds) zero = ap named_among (sym (item_erased d))
 targets_named (d ∷ ds) (suc n) = targets_named ds n
@@ -53,7 +53,7 @@ module _ (items : List Decl) where
   H = regions items
 
   abbrev edges : List (List ℕ)
-  edges = held (declarations items)
+  edges = held_by_each (declarations items)
 
   nothing : (ts : RegionTyps) (x y : ℕ) → ts ≡ no_region → ImpliedAmong H ts x y → ⊥
   nothing ts x y is h = none_there (subst (λ (rs : RegionTyps). ImpliedAmong H rs x y) is h)
@@ -76,7 +76,7 @@ module _ (items : List Decl) where
       (subst (λ (ns : List ℕ). (j : ℕ) → IsIn ns j → ImpliesOf H j (get_or table j [])) (targets_named items n) tells) x y in
       (λ h. in_held (told.0 h), λ h. told.1 (of_held n x y h))
 
-  pub asked_exist : NoCycle (held (declarations items)) → (P : ℕ → List Bound) × AreAsked items P
+  pub asked_exist : NoCycle (held_by_each (declarations items)) → (P : ℕ → List Bound) × AreAsked items P
   asked_exist apart =
       let o = order_exists edges apart in
       let table = replicate (length edges) [] in (
@@ -98,7 +98,7 @@ same_back f g s = record {
 }
 
 module _ (same : (p : ProgramTree) (names : List ItemNames) (t u : Typed) → IsTyped p names t → IsTyped p names u → AreSame t u)
-    (finite : (p : ProgramTree) (names : List ItemNames) (t : Typed) → IsTyped p names t → NoCycle (held (declarations t.decls.items)))
+    (finite : (p : ProgramTree) (names : List ItemNames) (t : Typed) → IsTyped p names t → NoCycle (held_by_each (declarations t.decls.items)))
     (none : (p : ProgramTree) (names : List ItemNames) (t : Typed) → IsTyped p names t → (n : ℕ) (s : Span) (f : plain.Function) → nth p n ≡ Some (plain.function_item s f)
     → Every (λ (l : BoundLifetime). l.bounds ≡ []) f.lifetimes → (g : TypedFn) → function_at t.functions n ≡ Some g → (P : ℕ → List Bound) → (context_of t.decls.items P g).lifetimes.bounds ≡ [])
     (missing : (C : Context) (g : List Site) → C.lifetimes.bounds ≡ [] → (l k : ℕ) → IsLeastBound C g l k ↔ Missing C g l k)

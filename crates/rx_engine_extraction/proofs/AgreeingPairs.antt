@@ -25,7 +25,7 @@ use Rattle.rx_lower.specs.Functions.{function}
 use Rattle.rx_region_outlives.specs.Implied.{HasPair, ImpliesOf}
 use Rattle.rx_region_outlives.specs.Related.{in_place, within, first_polarity, other_polarities, arguments, related, all_related, subtypes}
 use Rattle.rx_region.specs.Constraints.{Context, lifetimes_of, instances, through, reborrows, made_parts, root_type, type_at, type_in, held, variances, flows, parts_flow, parameters_flow, signature_asks, asks, all_ask, formed, imposed}
-use Rattle.rx_region.specs.Known.{Known, itself, by, Missing}
+use Rattle.rx_region.specs.Known.{KnownToOutlive, itself, by, Missing}
 use Rattle.rx_region.specs.Solutions.{Point, Least, whole, ends, live, longer}
 use Rattle.rx_facts.specs.Functions.{sites_of}
 use Rattle.rx_facts.specs.Same.{SameFunction}
@@ -175,7 +175,7 @@ module _ (D E : List Decl) (items : map unrecorded D ≡ map unrecorded E) where
     least_too g l x (live r is there) = live r is there
     least_too g l x (longer k pair h) = longer k (subst (λ (ps : List Bound). HasPair ps l k) (imposed_alike (actions_of g)) pair) (least_too g k x h)
 
-    known_back : (l k : ℕ) → Known two l k → Known one l k
+    known_back : (l k : ℕ) → KnownToOutlive two l k → KnownToOutlive one l k
     known_back l k itself = itself
     known_back l k (by m pair h) = by m pair (known_back m k h)
 

@@ -10,7 +10,7 @@ use Rattle.rx_resolve_names.specs.declared.resolved.ItemNames.{ItemNames}
 use Rattle.rx_resolve_names.specs.Causes.{Meant}
 use Rattle.rx_typed.specs.Types.{Declarations}
 use Rattle.rx_typed.specs.PlainTypes.{declarations}
-use Rattle.rx_typed_declarations.specs.Held.{held}
+use Rattle.rx_typed_declarations.specs.Held.{held_by_each}
 use Rattle.rx_typed_declarations.specs.Sizes.{Sized}
 use Rattle.rx_typed_declarations.proofs.Polarities.{same_declared}
 use Rattle.rx_typeck_typed.specs.Programs.{Fits as Declared}
@@ -42,10 +42,10 @@ use Rattle.rx_engine_extraction.proofs.Telling.{told_alike}
 module _ (one_tokens : (bytes : List ℕ) (ts us : List Tok) → Lexes bytes ts → Lexes bytes us → ts ≡ us)
     (one_tree : (bytes : List ℕ) (p q : ProgramTree) → Parses bytes p → Parses bytes q → p ≡ q)
     (same : (p : ProgramTree) (names : List ItemNames) (t u : Typed) → IsTyped p names t → IsTyped p names u → AreSame t u)
-    (finite : (p : ProgramTree) (D : Declarations) → Declared p D → NoCycle (held D))
-    (typed_finite : (p : ProgramTree) (names : List ItemNames) (t : Typed) → IsTyped p names t → NoCycle (held (declarations t.decls.items)))
-    (some : (D : Declarations) → NoCycle (held D) → (P : ℕ → ℕ) × Sized D P)
-    (one_size : (D : Declarations) (P Q : ℕ → ℕ) → NoCycle (held D) → Sized D P → Sized D Q → (i : ℕ) → P i ≡ Q i) where
+    (finite : (p : ProgramTree) (D : Declarations) → Declared p D → NoCycle (held_by_each D))
+    (typed_finite : (p : ProgramTree) (names : List ItemNames) (t : Typed) → IsTyped p names t → NoCycle (held_by_each (declarations t.decls.items)))
+    (some : (D : Declarations) → NoCycle (held_by_each D) → (P : ℕ → ℕ) × Sized D P)
+    (one_size : (D : Declarations) (P Q : ℕ → ℕ) → NoCycle (held_by_each D) → Sized D P → Sized D Q → (i : ℕ) → P i ≡ Q i) where
   -- one text, but for its types
   one_text : (bytes : List ℕ) (T U : Text) → IsText bytes T → IsText bytes U → U ≡ retyped T U.types
   one_text bytes T U is other =

@@ -16,12 +16,12 @@ use Rattle.rx_typed.specs.PlainTypes.{plain-Ty, declarations}
 use Rattle.rx_typed.specs.Regions.{RegionTyp, region-Ty, erased}
 use Rattle.rx_typed.specs.Named.{Function}
 use Rattle.rx_typed.specs.Naming.{function_named}
-use Rattle.rx_typed_declarations.specs.Held.{held}
+use Rattle.rx_typed_declarations.specs.Held.{held_by_each}
 use Rattle.rx_typed_declarations.specs.Sizes.{Sized, IsSizes}
 use Rattle.rx_typed_declarations.proofs.RegionLemmas.{is_erased}
 use Rattle.rx_typeck_typed.specs.Programs.{Fits}
 use Rattle.rx_typeck_solver.specs.declared.facts.Subject.{Subject}
-use Rattle.rx_typeck_solver.specs.Facts.{Types, Known}
+use Rattle.rx_typeck_solver.specs.Facts.{Assignment, KnownItems}
 use Rattle.rx_typeck_typed.specs.declared.typed.TypedFn.{TypedFn}
 use Rattle.rx_typeck_typed.specs.declared.typed.Typed.{Typed}
 use Rattle.rx_typeck_typed.specs.Typing.{Given, known_in, entries, variables_at, type_at, TypeIs, FunctionTyped, FunctionsTyped, IsTyped}
@@ -44,7 +44,7 @@ one_assignment G i s f ns vars t u a b = λ j x. one_type x (type_at t x) (a.fou
     one_type x None h = a.untold x h ∙ sym (b.untold x h)
     one_type x (Some y) h = a.valid.only_one b.types b.valid.prefers x h.0
 
-told_same : (K : Known) (F : Function) (A : Types) (x : Subject) (o p : Option Ty) → TypeIs K F A x o → TypeIs K F A x p → option_map region-Ty o ≡ option_map region-Ty p
+told_same : (K : KnownItems) (F : Function) (A : Assignment) (x : Subject) (o p : Option Ty) → TypeIs K F A x o → TypeIs K F A x p → option_map region-Ty o ≡ option_map region-Ty p
 told_same K F A x None None h k = refl
 told_same K F A x None (Some z) h k = absurd (h k.0)
 told_same K F A x (Some y) None h k = absurd (k h.0)
@@ -62,7 +62,7 @@ same_types G i s f ns vars t u a b = record { item = a.item ∙ sym b.item; type
     types x =
         let F = function_named i s f ns in
         let one = told_same (known_in G) F a.types x (type_at t x) (type_at u x) (a.found x)
-        (subst (λ (A : Types). TypeIs (known_in G) F A x (type_at u x)) (sym (one_assignment G i s f ns vars t u a b)) (b.found x)) in
+        (subst (λ (A : Assignment). TypeIs (known_in G) F A x (type_at u x)) (sym (one_assignment G i s f ns vars t u a b)) (b.found x)) in
         plain_is (type_at t x) ∙ (ap (option_map erased) one ∙ sym (plain_is (type_at u x)))
 
 each_typed : (G : Given) (ns : List ItemNames) (i : ℕ) (p : ProgramTree) (ts us : List TypedFn) → FunctionsTyped G ns i p ts → FunctionsTyped G ns i p us → Each SameTypes ts us
@@ -116,7 +116,7 @@ abbrev given : ProgramTree → List Decl → List ℕ → Given
 given p ds sizes = record { program = p; declared = ds; sizes = sizes }
 
 module _ (same : (p : ProgramTree) (names : List ItemNames) (t u : Typed) → IsTyped p names t → IsTyped p names u → AreSame t u)
-    (finite : (p : ProgramTree) (D : Declarations) → Fits p D → NoCycle (held D)) (some : (D : Declarations) → NoCycle (held D) → (P : ℕ → ℕ) × Sized D P) where
+    (finite : (p : ProgramTree) (D : Declarations) → Fits p D → NoCycle (held_by_each D)) (some : (D : Declarations) → NoCycle (held_by_each D) → (P : ℕ → ℕ) × Sized D P) where
   typed_alike : (p : ProgramTree) (ns : List ItemNames) (t u : Typed) → IsTyped p ns t → IsTyped p ns u → Each SameTypes t.functions u.functions
   typed_alike p ns t u a b =
       let one : b.declared ≡ a.declared = ok_is b.declared a.declared (sym b.declares.items ∙ a.declares.items) in

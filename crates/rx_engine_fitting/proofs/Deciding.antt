@@ -11,7 +11,7 @@ use Rattle.rx_resolve_names.specs.declared.resolved.ItemNames.{ItemNames}
 use Rattle.rx_typed.specs.Types.{Declarations}
 use Rattle.rx_typed.specs.PlainTypes.{declarations}
 use Rattle.rx_typed.specs.PlainTree.{plain-TypedTree}
-use Rattle.rx_typed_declarations.specs.Held.{held}
+use Rattle.rx_typed_declarations.specs.Held.{held_by_each}
 use Rattle.rx_typed_declarations.specs.Sizes.{Sized}
 use Rattle.rx_typeck_typed.specs.declared.typed.Typed.{Typed}
 use Rattle.rx_typeck_typed.specs.declared.typed.TypedFn.{TypedFn}
@@ -62,8 +62,8 @@ none_of_three false false false e = (refl, refl, refl)
 fewer : (a b : ℕ) → a + b ≤ 128 → b ≤ 2 ^ 32
 fewer a b h = omega (arith, h)
 
-module _ (finite : (p : ProgramTree) (names : List ItemNames) (t : Typed) → IsTyped p names t → NoCycle (held (declarations t.decls.items)))
-    (one_size : (D : Declarations) (P Q : ℕ → ℕ) → NoCycle (held D) → Sized D P → Sized D Q → (i : ℕ) → P i ≡ Q i)
+module _ (finite : (p : ProgramTree) (names : List ItemNames) (t : Typed) → IsTyped p names t → NoCycle (held_by_each (declarations t.decls.items)))
+    (one_size : (D : Declarations) (P Q : ℕ → ℕ) → NoCycle (held_by_each D) → Sized D P → Sized D Q → (i : ℕ) → P i ≡ Q i)
     (ready : (p : ProgramTree) (t : Typed) → IsNumbered p → (front : IsFront p t) → (f : TypedFn) → Among f t.functions → (r : Run) (h : Home) → Sits (plain-TypedTree f.tree) r h
     → Accepted (asked_of (declarations t.decls.items) front.parts f r h) f.mutable)
     (bytes : List ℕ) (T : Text) (w : Wish) (d : Case) (is : IsText bytes T) (short : T.length ≤ 1048576) (allowed : (u : Uses) → HasMember (allowed_by u) → IsMember (w.choice u) (allowed_by u)) (stands : Stands T w d few_levels) where

@@ -8,7 +8,7 @@ use Rattle.rx_resolve_names.specs.declared.resolved.ItemNames.{ItemNames}
 use Rattle.rx_resolve_names.specs.declared.resolved.NodeNames.{NodeNames}
 use Rattle.rx_resolve_names.specs.Items.{in_item, in_items, in_program, apart}
 use Rattle.rx_typed.specs.Naming.{function_named}
-use Rattle.rx_typeck_solver.specs.Facts.{Known, Types}
+use Rattle.rx_typeck_solver.specs.Facts.{KnownItems, Assignment}
 use Rattle.rx_typeck_solver.specs.Ordered.{Orderly}
 use Rattle.rx_typeck_solver.specs.Stepping.{known}
 use Rattle.rx_typeck_solver.specs.Valid.{Valid}
@@ -31,7 +31,7 @@ use Rattle.rx_engine_fitting.proofs.KeptTypes.{stays_typed, numbers_back, typed_
 
 module _ (orderly : (i : ℕ) (s : Span) (f : Function) (ns : List NodeNames) → Orderly (task (function_named i s f ns))) (P : ProgramTree) (r : Run) (pl : Plan) (bs : Bounds) (place : Span) (g : Function)
     (there : nth P r.item ≡ Some (plain.function_item place g)) (free : AreFree P pl) (ns ms : List ItemNames) (n : in_program P ≡ Ok ns) (m : in_program (extraction P r pl bs) ≡ Ok ms) (t : Typed) (a : IsTyped P ns t)
-    (E : Known) (k : Knows (kept (number_there (extraction_inserted P r pl bs place g there free))) (known a.declared a.sizes) E) where
+    (E : KnownItems) (k : Knows (kept (number_there (extraction_inserted P r pl bs place g there free))) (known a.declared a.sizes) E) where
   abbrev Q : ProgramTree
   Q = extraction P r pl bs
 
@@ -50,7 +50,7 @@ module _ (orderly : (i : ℕ) (s : Span) (f : Function) (ns : List NodeNames) �
       ∙ ap (λ (p : ProgramTree). slice_get p j) (sym c.first)
 
   abbrev StaysTyped : Span → Function → ℕ → Type 0
-  StaysTyped s f j = (slice_get Q j ≡ Some (plain.function_item s f)) × (A : Types) × Valid E (task (function_named j s f (entries (slice_get ms j)))) A
+  StaysTyped s f j = (slice_get Q j ≡ Some (plain.function_item s f)) × (A : Assignment) × Valid E (task (function_named j s f (entries (slice_get ms j)))) A
 
   pub typed_stays : (j : ℕ) (s : Span) (f : Function) → slice_get P j ≡ Some (plain.function_item s f) → (j ≡ r.item → ⊥) → StaysTyped s f (past r.item (added pl) j)
   typed_stays j s f at other =

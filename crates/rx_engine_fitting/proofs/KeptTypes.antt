@@ -7,7 +7,7 @@ use Rattle.rx_resolve_names.specs.declared.resolved.ItemNames.{ItemNames}
 use Rattle.rx_resolve_names.specs.declared.resolved.NodeNames.{NodeNames}
 use Rattle.rx_resolve_names.specs.Items.{in_item}
 use Rattle.rx_typed.specs.Naming.{function_named}
-use Rattle.rx_typeck_solver.specs.Facts.{Known, Types}
+use Rattle.rx_typeck_solver.specs.Facts.{KnownItems, Assignment}
 use Rattle.rx_typeck_solver.specs.Ordered.{Orderly}
 use Rattle.rx_typeck_solver.specs.Valid.{Valid}
 use Rattle.rx_typeck_typed.specs.Demands.{demands, task}
@@ -31,7 +31,7 @@ use Rattle.rx_engine_validated.proofs.KeptFunctions.{function_kept}
 
 pub stays_typed : ((i : ℕ) (s : Span) (f : Function) (ns : List NodeNames) → Orderly (task (function_named i s f ns)))
     → (p q : ProgramTree) (c : Inserted p q) (n : ℕ) (s : Span) (f : Function) (t u : ItemNames) → in_item p n (plain.function_item s f) ≡ Ok t → in_item q (number_there c n) (plain.function_item s f) ≡ Ok u
-    → (D E : Known) → Knows (kept (number_there c)) D E → (i : Inverse (kept (number_there c))) → (A : Types) → Valid D (task (function_named n s f t.names)) A
+    → (D E : KnownItems) → Knows (kept (number_there c)) D E → (i : Inverse (kept (number_there c))) → (A : Assignment) → Valid D (task (function_named n s f t.names)) A
     → Valid E (task (function_named (number_there c n) s f u.names)) (renumbered_types (kept (number_there c)) i A)
 stays_typed orderly p q c n s f t u e d D E k i A v =
     let m = number_there c n in

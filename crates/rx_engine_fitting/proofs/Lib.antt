@@ -3,3 +3,4 @@ mod KeptTypes
 mod FewItems
 mod Declared
 mod TwoFunctions
+mod OneNumbering

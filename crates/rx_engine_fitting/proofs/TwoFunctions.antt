@@ -13,7 +13,7 @@ use Rattle.rx_typed.specs.Naming.{function_named}
 use Rattle.rx_typed.specs.PlainTypes.{declarations}
 use Rattle.rx_typed.specs.declared.declarations.Decl.{Decl}
 use Rattle.rx_typed_declarations.specs.Sizes.{IsSizes}
-use Rattle.rx_typeck_solver.specs.Facts.{Known}
+use Rattle.rx_typeck_solver.specs.Facts.{KnownItems}
 use Rattle.rx_typeck_solver.specs.Ordered.{Orderly}
 use Rattle.rx_typeck_solver.specs.Stepping.{known}
 use Rattle.rx_typeck_typed.specs.Demands.{task}
@@ -39,15 +39,15 @@ use Rattle.rx_engine_kept.proofs.AllDeclared.{one_item, new_there}
 use Rattle.rx_engine_fitting.proofs.Declared.{item_same, typed_stays}
 
 -- a function of these has no valid assignment; the first item has number i
-abbrev UntypedAmong : Known → List ItemNames → ℕ → ProgramTree → TypeFault → Type 0
+abbrev UntypedAmong : KnownItems → List ItemNames → ℕ → ProgramTree → TypeFault → Type 0
 UntypedAmong K ns i is e = (j : ℕ) × (s : Span) × (f : Function) × (slice_get is j ≡ Some (plain.function_item s f)) × FunctionUntyped K (function_named (i + j) s f (entries (slice_get ns (i + j)))) (variables_at (slice_get ns (i + j))) e
 
-one_further : (K : Known) (ns : List ItemNames) (i : ℕ) (x : ItemTree) (is : ProgramTree) (e : TypeFault) → UntypedAmong K ns (suc i) is e → UntypedAmong K ns i (x ∷ is) e
+one_further : (K : KnownItems) (ns : List ItemNames) (i : ℕ) (x : ItemTree) (is : ProgramTree) (e : TypeFault) → UntypedAmong K ns (suc i) is e → UntypedAmong K ns i (x ∷ is) e
 one_further K ns i x is e h =
     let on : suc i + h.0 ≡ i + suc h.0 = omega arith in
     (suc h.0, h.1, h.2, h.3, subst (λ (k : ℕ). FunctionUntyped K (function_named k h.1 h.2 (entries (slice_get ns k))) (variables_at (slice_get ns k)) e) on h.4)
 
-first_untyped : (K : Known) (ns : List ItemNames) (i : ℕ) (is : ProgramTree) (e : TypeFault) → FirstUntyped K ns i is e → UntypedAmong K ns i is e
+first_untyped : (K : KnownItems) (ns : List ItemNames) (i : ℕ) (is : ProgramTree) (e : TypeFault) → FirstUntyped K ns i is e → UntypedAmong K ns i is e
 first_untyped K ns i [] e h = absurd h
 first_untyped K ns i (plain.function_item s f ∷ is) e (inl h) =
     let here : i ≡ i + 0 = omega arith in
@@ -63,12 +63,12 @@ pub by_cause : {X : Type 0} (p : ProgramTree) (ns : List ItemNames) (e : TypeFau
 by_cause p ns e right there (in_declaration d w q) = absurd (right d w)
 by_cause p ns e right there (in_function ds x sizes y z) = there ds x sizes y z
 
-number_here : (k many : ℕ) → past k many k ≡ k
+pub number_here : (k many : ℕ) → past k many k ≡ k
 number_here k many = ap (λ (b : Bool). if b then k else k + many) (le-leb k k (omega arith))
 
 module _ (orderly : (i : ℕ) (s : Span) (f : Function) (ns : List NodeNames) → Orderly (task (function_named i s f ns))) (P : ProgramTree) (r : Run) (pl : Plan) (bs : Bounds) (place : Span) (g : Function)
     (there : nth P r.item ≡ Some (plain.function_item place g)) (free : AreFree P pl) (N : TypesNamed P pl) (ns ms : List ItemNames) (n : in_program P ≡ Ok ns) (m : in_program (extraction P r pl bs) ≡ Ok ms) (t : Typed) (a : IsTyped P ns t)
-    (E : Known) (k : Knows (kept (number_there (extraction_inserted P r pl bs place g there free))) (known a.declared a.sizes) E) (e : TypeFault) where
+    (E : KnownItems) (k : Knows (kept (number_there (extraction_inserted P r pl bs place g there free))) (known a.declared a.sizes) E) (e : TypeFault) where
   abbrev Q : ProgramTree
   Q = extraction P r pl bs
 

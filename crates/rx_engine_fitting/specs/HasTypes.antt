@@ -9,7 +9,7 @@ use Rattle.rx_typed.specs.Naming.{function_named}
 use Rattle.rx_typed.specs.PlainTypes.{declarations}
 use Rattle.rx_typed.specs.declared.declarations.Decl.{Decl}
 use Rattle.rx_typed_declarations.specs.Sizes.{IsSizes}
-use Rattle.rx_typeck_solver.specs.Facts.{Types}
+use Rattle.rx_typeck_solver.specs.Facts.{Assignment}
 use Rattle.rx_typeck_solver.specs.Stepping.{known}
 use Rattle.rx_typeck_solver.specs.Valid.{Valid}
 use Rattle.rx_typeck_typed.specs.Demands.{task}
@@ -19,4 +19,4 @@ use Rattle.rx_typeck_typed.specs.Typing.{entries}
 -- of its item's number and span, and the function
 abbrev pub HasTypes : ProgramTree → ℕ → Span → Function → Type 0
 HasTypes p n s f = (names : List ItemNames) → Meant p names → (ds : List Decl) → Declares p names ds → (sizes : List ℕ) → IsSizes (declarations ds) sizes
-    → (A : Types) × Valid (known ds sizes) (task (function_named n s f (entries (slice_get names n)))) A
+    → (A : Assignment) × Valid (known ds sizes) (task (function_named n s f (entries (slice_get names n)))) A

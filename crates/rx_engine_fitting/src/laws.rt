@@ -15,7 +15,7 @@ ghost use Rattle.rx_typed.specs.Naming.{function_named};
 ghost use Rattle.rx_typed.specs.PlainTypes.{declarations};
 ghost use Rattle.rx_typed.specs.declared.declarations.Decl.{Decl};
 ghost use Rattle.rx_typed_declarations.specs.Sizes.{IsSizes};
-ghost use Rattle.rx_typeck_solver.specs.Facts.{Known, Types};
+ghost use Rattle.rx_typeck_solver.specs.Facts.{KnownItems, Assignment};
 ghost use Rattle.rx_typeck_solver.specs.Stepping.{known};
 ghost use Rattle.rx_typeck_solver.specs.Valid.{Valid};
 ghost use Rattle.rx_typeck_typed.specs.Demands.{task};
@@ -31,7 +31,8 @@ ghost use Rattle.rx_hoist_extraction.specs.NewFunction.{new_function};
 ghost use Rattle.rx_hoist_extraction.specs.Run.{loops_round, run_parts};
 ghost use Rattle.rx_hoist_extraction.specs.Pinned.{pinned_function};
 ghost use Rattle.rx_hoist_extraction.specs.Plan.{Bounds};
-ghost use Rattle.rx_engine_names.specs.Extractions.{ExtractionAlike, RunNames};
+ghost use Rattle.rx_engine_changed.specs.Called.{IsNumbered};
+ghost use Rattle.rx_engine_names.specs.Extractions.{goes_to_end, handing_there, ExtractionAlike, RunNames};
 ghost use Rattle.rx_engine_names.specs.Insertion.{number_there, past, Inserted};
 ghost use Rattle.rx_engine_blocks.specs.Along.{renumbered_types, Inverse};
 ghost use Rattle.rx_engine_blocks.specs.Knows.{Knows};
@@ -45,6 +46,7 @@ ghost use Rattle.rx_engine_extraction.specs.Promise.{Stands};
 ghost use Rattle.rx_engine_fitting.specs.HasTypes.{HasTypes};
 ghost use Rattle.rx_engine_fitting.specs.UntypedAt.{UntypedAt};
 
+use rx_engine_changed::functions_with_a_call_have_one_numbering;
 use rx_engine_declared::declarations_stay;
 use rx_engine_kept::{enums_of_exits_keep_the_limits, extractions_declare};
 use rx_engine_names::unused_names_are_free;
@@ -82,6 +84,24 @@ pub fn met_extractions_are_alike()
     typed_declarations_are_finite();
 }
 
+/// So the function with the call is the text's, with its kinds and types written out, by one numbering, with the statements of the call once for the
+/// run's: asked is still that both do the same to what both know, by the renaming in which what was made corresponds, and that no variable of the
+/// text's is left without a type.
+pub fn met_extractions_are_numbered()
+    ensures { (bytes : List ℕ) (T : Text) (w : Wish) (d : Case) → IsText bytes T → T.length ≤ most_bytes → ((u : Uses) → HasMember (allowed_by u) → IsMember (w.choice u) (allowed_by u))
+        → Stands T w d few_levels → (bounds : Bounds) → (s : Span) × (f : Function) × (nth T.program d.run.function ≡ Some (plain.function_item s f)) × (c : Inserted T.program (extraction T.program (run_of d.run) (named T w d) bounds))
+        × (t : ItemNames) × (in_item T.program d.run.function (plain.function_item s (pinned_function T.program d.run.span (named T w d).pins f)) ≡ Ok t)
+        × IsNumbered (goes_to_end (run_of d.run) (pinned_function T.program d.run.span (named T w d).pins f)) T.program (extraction T.program (run_of d.run) (named T w d) bounds) c d.run.function d.run.function s
+        (pinned_function T.program d.run.span (named T w d).pins f) (run_of d.run) (named T w d) (handing_there (run_of d.run) (named T w d) (pinned_function T.program d.run.span (named T w d).pins f)) t }
+{
+    accepted_functions_are_ready();
+    decided_runs_are_selected();
+    functions_with_a_call_have_one_numbering();
+    one_size_each();
+    settled_extractions_are_alike();
+    typed_declarations_are_finite();
+}
+
 /// Where each condition up to the parts of types is met, no declaration of the extraction is wrong, whatever the bounds
 /// of the new function's lifetimes: its names have a meaning, and it declares what it does.
 pub fn met_extractions_declare()
@@ -104,7 +124,7 @@ pub fn met_extractions_declare()
 /// the numbers of the items there.
 pub fn functions_that_stay_keep_their_types()
     ensures { (p q : ProgramTree) (c : Inserted p q) (n : ℕ) (s : Span) (f : Function) (t u : ItemNames) → in_item p n (plain.function_item s f) ≡ Ok t → in_item q (number_there c n) (plain.function_item s f) ≡ Ok u
-        → (D E : Known) → Knows (kept (number_there c)) D E → (i : Inverse (kept (number_there c))) → (A : Types) → Valid D (task (function_named n s f t.names)) A
+        → (D E : KnownItems) → Knows (kept (number_there c)) D E → (i : Inverse (kept (number_there c))) → (A : Assignment) → Valid D (task (function_named n s f t.names)) A
         → Valid E (task (function_named (number_there c n) s f u.names)) (renumbered_types (kept (number_there c)) i A) }
 {
     demands_are_orderly();
@@ -118,7 +138,7 @@ pub fn met_extractions_keep_types_of_what_stays()
         → (es : List Decl) → Declares (extraction T.program (run_of d.run) (named T w d) bounds) ms es → (sizes : List ℕ) → IsSizes (declarations es) sizes
         → (n : ℕ) (s : Span) (f : Function) → slice_get T.program n ≡ Some (plain.function_item s f) → (n ≡ d.run.function → ⊥)
         → (slice_get (extraction T.program (run_of d.run) (named T w d) bounds) (past d.run.function (added (named T w d)) n) ≡ Some (plain.function_item s f))
-        × (A : Types) × Valid (known es sizes) (task (function_named (past d.run.function (added (named T w d)) n) s f (entries (slice_get ms (past d.run.function (added (named T w d)) n))))) A }
+        × (A : Assignment) × Valid (known es sizes) (task (function_named (past d.run.function (added (named T w d)) n) s f (entries (slice_get ms (past d.run.function (added (named T w d)) n))))) A }
 {
     accepted_functions_are_ready();
     declarations_stay();

@@ -224,7 +224,7 @@ assignable_adds n false x ps = asks_adds n _ _
 
 -- an integer of an expression, and one of a pattern
 integer_adds : (n : Node) (m : Bool) (v : ℕ) (k : Option Kind) → Adds (rules.integer_at n m v k)
-integer_adds n m v k = then_adds (asks_adds n _ _) (then_adds (literal_asked n _ _ _ refl) (value_adds n n.site))
+integer_adds n m v k = then_adds (asks_adds n _ _) (then_adds (value_adds n n.site) (literal_asked n _ _ _ refl))
 
 literal_adds : (n : Node) (g : Bool) (v : ℕ) (k : Option Kind) → Adds (rules.literal_at n g v k)
 literal_adds n g v k = then_adds (asks_adds n _ _) (then_adds (when_adds g _ (asks_adds n _ _)) (then_adds (asks_adds n _ _) (literal_asked n _ _ _ refl)))

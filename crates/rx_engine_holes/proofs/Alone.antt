@@ -2,7 +2,7 @@
 use Rattle.std.proofs.Common.{◌≡◌, List, [], ◌++◌, append-nil, sym, subst}
 use Rattle.rx_typeck_solver.specs.declared.facts.Subject.{Subject}
 use Rattle.rx_typeck_solver.specs.declared.facts.Demand.{Demand}
-use Rattle.rx_typeck_solver.specs.Facts.{Known, Types}
+use Rattle.rx_typeck_solver.specs.Facts.{KnownItems, Assignment}
 use Rattle.rx_typeck_solver.specs.Ordered.{Orderly}
 use Rattle.rx_typeck_solver.specs.Valid.{Valid}
 use Rattle.rx_engine_blocks.specs.Renumbering.{Renumbering}
@@ -23,7 +23,7 @@ use Rattle.rx_engine_blocks.proofs.Tying.{part_by_itself}
 use Rattle.rx_engine_holes.specs.Named.{NamedIn}
 use Rattle.rx_engine_holes.proofs.Naming.{each_about, named_left, named_right}
 
-module _ (r : Renumbering) (u : PartialInverse r) (view : Viewed) (behind : Behind) (D E : Known) (k : Knows r D E) (A V : Types) (front run back head copy end : List Demand) where
+module _ (r : Renumbering) (u : PartialInverse r) (view : Viewed) (behind : Behind) (D E : KnownItems) (k : Knows r D E) (A V : Assignment) (front run back head copy end : List Demand) where
   -- what stands round the run
   abbrev P : Subject → Type 0
   P = NamedIn (front ++ back)

@@ -7,7 +7,7 @@ use Rattle.rx_typed.specs.Named as named
 use Rattle.rx_typed.specs.Named.{Exp}
 use Rattle.rx_typeck_solver.specs.declared.facts.Subject.{Subject}
 use Rattle.rx_typeck_solver.specs.declared.facts.Demand.{Demand}
-use Rattle.rx_typeck_solver.specs.Facts.{Types, Known}
+use Rattle.rx_typeck_solver.specs.Facts.{Assignment, KnownItems}
 use Rattle.rx_typeck_typed.specs.Asking.{all, fitting}
 use Rattle.rx_typeck_typed.specs.Demands as rules
 use Rattle.rx_engine_blocks.specs.Renumbering.{Renumbering, node_at}
@@ -35,7 +35,7 @@ use Rattle.rx_engine_typing.proofs.Forms.{Asks}
 use Rattle.rx_engine_holes.specs.Special.{SpecialExp, special_at}
 use Rattle.rx_engine_holes.specs.Special.SpecialExp.{a_dereference, a_suffix, a_break, a_continue}
 
-module _ (Returns : Type 0) (r : Renumbering) (u : PartialInverse r) (view : Viewed) (behind : Behind) (D E : Known) (A V : Types) (loops : ℕ → ℕ) (S : List Demand → List Demand → Type 0)
+module _ (Returns : Type 0) (r : Renumbering) (u : PartialInverse r) (view : Viewed) (behind : Behind) (D E : KnownItems) (A V : Assignment) (loops : ℕ → ℕ) (S : List Demand → List Demand → Type 0)
     (seen_so : (gs gs' : List Demand) → SeenDemands r u view behind gs gs' → S gs gs') (pinned_so : (gs gs' : List Demand) → PinnedDemands r A gs gs' → S gs gs')
     (added_so : (d : Demand) → AllAbout (SameAs (composed r u view A V) V) d.facts → d.unsuffixed ≡ false → S [] (d ∷ [])) (changed_so : (gs gs' : List Demand) → ChangedSite r view D E A gs gs' → S gs gs') where
   abbrev H : Exp → Exp → Type 0
@@ -97,10 +97,6 @@ module _ (Returns : Type 0) (r : Renumbering) (u : PartialInverse r) (view : Vie
   pub one_then_two : (ds ds' : List Demand) (a a' b' : Demand) → R (ds ++ a ∷ []) (ds' ++ a' ∷ b' ∷ []) → R (ds ++ a ∷ []) ((ds' ++ a' ∷ []) ++ b' ∷ [])
   one_then_two ds ds' a a' b' h = subst (λ xs. R (ds ++ a ∷ []) xs) (sym (append_assoc ds' (a' ∷ []) (b' ∷ []))) h
 
-  two_then_two : (ds ds' : List Demand) (a b a' b' : Demand) → R (ds ++ a ∷ b ∷ []) (ds' ++ a' ∷ b' ∷ []) → R ((ds ++ a ∷ []) ++ b ∷ []) ((ds' ++ a' ∷ []) ++ b' ∷ [])
-  two_then_two ds ds' a b a' b' h = subst (λ xs. R xs ((ds' ++ a' ∷ []) ++ b' ∷ [])) (sym (append_assoc ds (a ∷ []) (b ∷ [])))
-      (subst (λ xs. R (ds ++ a ∷ b ∷ []) xs) (sym (append_assoc ds' (a' ∷ []) (b' ∷ []))) h)
-
   -- one demand that is added
   pub add_one : (ds : List Demand) (d : Demand) → AllAbout (SameAs (composed r u view A V) V) d.facts → d.unsuffixed ≡ false → (gs : List Demand) → R ds gs → R ds (gs ++ d ∷ [])
   add_one ds d a e gs h = subst (λ xs. R xs (gs ++ d ∷ [])) (append-nil ds) (like_other_demands [] (d ∷ []) h (added_so d a e))
@@ -118,8 +114,9 @@ module _ (Returns : Type 0) (r : Renumbering) (u : PartialInverse r) (view : Vie
       place_like r loops (special_at Returns r u view behind A V) S special_fits n s x y n.site (through_like.longer longer k)
       (one_then_two ds ds' _ _ _ (like_other_demands _ _ d (seen_so _ _ (seen.SeenDemands.seen_variable h i v))))
   special_asks_in f f' e e' ds ds' (a_suffix {n = n} {s = s} {m = m} {v = v} {l = l} h) d =
-      value_like r loops (special_at Returns r u view behind A V) S special_fits n s n.site
-      (two_then_two ds ds' _ _ _ _ (like_other_demands (pinned.of_literal n.number n.span all (fitting m v) true) _ d (pinned_so _ _ (pinned.PinnedDemands.suffixed n.number h))))
+      like_other_demands (pinned.of_range n.number n.span (fitting m v) true) _
+      (value_like r loops (special_at Returns r u view behind A V) S special_fits n s n.site (like_other_demands (pinned.of_suffix n.number n.span all) _ d (pinned_so _ _ (pinned.PinnedDemands.suffixed n.number h))))
+      (pinned_so _ _ (pinned.PinnedDemands.in_range n.number))
   special_asks_in f f' e e' ds ds' (a_break {n = n} {s = s} {e = x} h) d =
       never_like r loops (special_at Returns r u view behind A V) S special_fits n s n.site (made_return f' (node_at r n s) x h ds ds' d)
   special_asks_in f f' e e' ds ds' (a_continue {n = n} {s = s} {e = x} h) d =

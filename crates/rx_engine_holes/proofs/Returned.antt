@@ -14,7 +14,7 @@ use Rattle.rx_typeck_solver.specs.declared.facts.Op.TheVariants as op
 use Rattle.rx_typeck_solver.specs.declared.facts.Test.{Test}
 use Rattle.rx_typeck_solver.specs.declared.facts.Fact.TheVariants as fact
 use Rattle.rx_typeck_solver.specs.declared.facts.Demand.{Demand}
-use Rattle.rx_typeck_solver.specs.Facts.{Types, Known, made}
+use Rattle.rx_typeck_solver.specs.Facts.{Assignment, KnownItems, made}
 use Rattle.rx_typeck_typed.specs.Asking.{asks as asks_at}
 use Rattle.rx_typeck_typed.specs.Demands as rules
 use Rattle.rx_typeck_typed.specs.Demands.{Matched}
@@ -46,7 +46,7 @@ use Rattle.rx_engine_holes.proofs.Asking.{special_fits, special_asks_in, longer,
 use Rattle.rx_engine_holes.proofs.Sited.{value_asks}
 use Rattle.rx_engine_holes.proofs.Initialised.{place_initialises, initialiser_like}
 
-module _ (r : Renumbering) (u : PartialInverse r) (view : Viewed) (behind : Behind) (D E : Known) (A V : Types) (loops : ℕ → ℕ) (f : ℕ) (S : List Demand → List Demand → Type 0)
+module _ (r : Renumbering) (u : PartialInverse r) (view : Viewed) (behind : Behind) (D E : KnownItems) (A V : Assignment) (loops : ℕ → ℕ) (f : ℕ) (S : List Demand → List Demand → Type 0)
     (seen_so : (gs gs' : List Demand) → SeenDemands r u view behind gs gs' → S gs gs') (pinned_so : (gs gs' : List Demand) → PinnedDemands r A gs gs' → S gs gs')
     (added_so : (d : Demand) → AllAbout (SameAs (composed r u view A V) V) d.facts → d.unsuffixed ≡ false → S [] (d ∷ []))
     (changed_so : (gs gs' : List Demand) → ChangedSite r view D E A gs gs' → S gs gs') where

@@ -5,7 +5,7 @@ use Rattle.rx_typed.specs.declared.nodes.Node.{Node}
 use Rattle.rx_typed.specs.Named.{else_diverges, some_diverges, tail_never, Else, Function, Statements}
 use Rattle.rx_typeck_solver.specs.declared.facts.Subject.{Subject}
 use Rattle.rx_typeck_solver.specs.declared.facts.Demand.{Demand}
-use Rattle.rx_typeck_solver.specs.Facts.{Types, Known, MeetsEach}
+use Rattle.rx_typeck_solver.specs.Facts.{Assignment, KnownItems, MeetsEach}
 use Rattle.rx_typeck_typed.specs.Demands as rules
 use Rattle.rx_engine_blocks.specs.Renumbering.{Renumbering, node_at}
 use Rattle.rx_engine_blocks.specs.DemandsLike.{Is, DemandsLike}
@@ -30,7 +30,7 @@ use Rattle.rx_engine_holes.specs.Tail.{with_tail, of_end}
 use Rattle.rx_engine_holes.proofs.Around.{run_fits, run_asks}
 use Rattle.rx_engine_holes.proofs.Tails.{tail_fits, tail_asks}
 
-module _ (q : Renumbering) (w : PartialInverse q) (IsFixed : Subject → Type 0) (fs : List Demand) (D E : Known) (known : Knows q D E) (A W : Types) (references : AllReferences q w none_viewed none_behind E A fs)
+module _ (q : Renumbering) (w : PartialInverse q) (IsFixed : Subject → Type 0) (fs : List Demand) (D E : KnownItems) (known : Knows q D E) (A W : Assignment) (references : AllReferences q w none_viewed none_behind E A fs)
     (met : MeetsEach E W fs) (loops : ℕ → ℕ) (asked given : List Demand) where
   abbrev O : List Demand → List Demand → Type 0
   O = StandsFor q w none_viewed none_behind IsFixed D E A W fs

@@ -10,7 +10,7 @@ use Rattle.rx_typeck_solver.specs.declared.facts.Subject.TheVariants as subject
 use Rattle.rx_typeck_solver.specs.declared.facts.Fact.{Fact}
 use Rattle.rx_typeck_solver.specs.declared.facts.Fact.TheVariants as fact
 use Rattle.rx_typeck_solver.specs.declared.facts.Demand.{Demand}
-use Rattle.rx_typeck_solver.specs.Facts.{Known, MeetsEach, Types}
+use Rattle.rx_typeck_solver.specs.Facts.{KnownItems, MeetsEach, Assignment}
 use Rattle.rx_typeck_solver.specs.Ordered.{Orderly}
 use Rattle.rx_typeck_solver.specs.Valid.{literals_of, IsIn, Told, TellsAny, Valid}
 use Rattle.rx_typeck_typed.specs.Demands as rules
@@ -50,8 +50,8 @@ use Rattle.rx_engine_holes.proofs.Tails.{tail_asks, tail_fits}
 
 -- ---- the text's types of what comes from the text
 
-module _ (q : Renumbering) (w : PartialInverse q) (A V : Types) where
-  abbrev W : Types
+module _ (q : Renumbering) (w : PartialInverse q) (A V : Assignment) where
+  abbrev W : Assignment
   W = composed q w none_viewed A V
 
   comes : (x : Subject) → subject_back q w (subject_at q x) ≡ Some x
@@ -76,7 +76,7 @@ module _ (q : Renumbering) (asked given : List Demand) where
   abbrev S : List Demand → List Demand → Type 0
   S = Round NoSpecial asked given
 
-  met : (D E : Known) → Knows q D E → (A W : Types) → Along q A W → MeetsEach E W given → {ds es : List Demand} → DemandsLike q S ds es → MeetsEach D A ds → MeetsEach E W es
+  met : (D E : KnownItems) → Knows q D E → (A W : Assignment) → Along q A W → MeetsEach E W given → {ds es : List Demand} → DemandsLike q S ds es → MeetsEach D A ds → MeetsEach E W es
   met D E k A W l g like_no_demand h = tt
   met D E k A W l g (like_more_demands {ds = ds} {ds' = ds'} {d = d} {d' = d'} m e) h =
       let p = first D A ds (d ∷ []) h in last E W ds' d' (met D E k A W l g m p.0) (all_there q D E k A W l e.facts p.1.0)
@@ -157,7 +157,7 @@ module _ (q : Renumbering) (asked given : List Demand) where
 
 -- ---- by itself
 
-others_by_themselves : (q : Renumbering) (w : PartialInverse q) (D E : Known) → Knows q D E → (A V : Types) (IsFixed : Subject → Type 0) (text part asked given : List Demand) → Orderly (task_of part) → DemandsLike q (Round NoSpecial asked given) text part
+others_by_themselves : (q : Renumbering) (w : PartialInverse q) (D E : KnownItems) → Knows q D E → (A V : Assignment) (IsFixed : Subject → Type 0) (text part asked given : List Demand) → Orderly (task_of part) → DemandsLike q (Round NoSpecial asked given) text part
     → MeetsEach D A text → MeetsEach E (composed q w none_viewed A V) given → ((n : ℕ) (s : Kinds) → IsAsked (fact.Integer n s) given → ⊥) → ((m : ℕ) → IsIn m (literals_of asked) → LiteralStands q IsFixed part m)
     → ByItself q w none_viewed IsFixed E A (composed q w none_viewed A V) text part
 others_by_themselves q w D E k A V IsFixed text part asked given o l h g none stands =
@@ -170,7 +170,7 @@ others_by_themselves q w D E k A V IsFixed text part asked given o l h g none st
 
 -- ---- a valid assignment
 
-pub others_are_valid : (q : Renumbering) (w : PartialInverse q) (D E : Known) → Knows q D E → (A V : Types) (text part asked given : List Demand) → Orderly (task_of part) → DemandsLike q (Round NoSpecial asked given) text part
+pub others_are_valid : (q : Renumbering) (w : PartialInverse q) (D E : KnownItems) → Knows q D E → (A V : Assignment) (text part asked given : List Demand) → Orderly (task_of part) → DemandsLike q (Round NoSpecial asked given) text part
     → Valid D (task_of text) A → EachNamesItsOwn asked → OthersFit q w E A V asked given part → Valid E (task_of part) (composed q w none_viewed A V)
 others_are_valid q w D E k A V text part asked given o l v its fit =
     part_by_itself q w none_viewed none_behind P D E k A W0 text part (λ x y e. cc) (λ x e. cc) o fit.fixes
@@ -180,7 +180,7 @@ others_are_valid q w D E k A V text part asked given o l v its fit =
     P : Subject → Type 0
     P = NamedIn asked
 
-    W0 : Types
+    W0 : Assignment
     W0 = composed q w none_viewed A V
 
     run_elsewhere : Elsewhere D A P asked

@@ -5,7 +5,7 @@ use Rattle.rx_typeck_solver.specs.declared.facts.Demand.{Demand}
 use Rattle.rx_typeck_solver.specs.declared.facts.Fact.TheVariants as fact
 use Rattle.rx_typeck_solver.specs.declared.facts.Kinds.{Kinds}
 use Rattle.rx_typeck_solver.specs.declared.facts.Subject.{Subject}
-use Rattle.rx_typeck_solver.specs.Facts.{Known, MeetsEach, Types}
+use Rattle.rx_typeck_solver.specs.Facts.{KnownItems, MeetsEach, Assignment}
 use Rattle.rx_typeck_solver.specs.Valid.{literals_of, IsIn}
 use Rattle.rx_engine_blocks.specs.Renumbering.{Renumbering}
 use Rattle.rx_engine_blocks.specs.Along.{composed, none_viewed, PartialInverse}
@@ -21,7 +21,7 @@ abbrev pub AskForNoInteger : List Demand → Type 0
 AskForNoInteger ds = (n : ℕ) → (IsIn n (literals_of ds) → ⊥) × ((s : Kinds) → IsAsked (fact.Integer n s) ds → ⊥)
 
 -- `asked` is what the run asks, `given` what others ask for it
-pub record OthersFit (q : Renumbering) (w : PartialInverse q) (E : Known) (A W : Types) (asked given part : List Demand) : Type 0 where
+pub record OthersFit (q : Renumbering) (w : PartialInverse q) (E : KnownItems) (A W : Assignment) (asked given part : List Demand) : Type 0 where
   -- what the run names is fixed in each assignment of the part
   pub fixes : Fixes q none_viewed (NamedIn asked) E A part
   -- by the text's types of what comes from it, and these at the rest

@@ -9,7 +9,7 @@ use Rattle.rx_typed.specs.Named as named
 use Rattle.rx_typed.specs.Named.{Exp, Written, node_of}
 use Rattle.rx_typeck_solver.specs.declared.facts.Subject.TheVariants as subject
 use Rattle.rx_typeck_solver.specs.declared.facts.Op.TheVariants as op
-use Rattle.rx_typeck_solver.specs.Facts.{Types, Known, made}
+use Rattle.rx_typeck_solver.specs.Facts.{Assignment, KnownItems, made}
 use Rattle.rx_typeck_typed.specs.Asking.{expected}
 use Rattle.rx_engine_blocks.specs.Renumbering.{Renumbering, node_at, shape_at}
 use Rattle.rx_engine_blocks.specs.Along.{PartialInverse, Viewed, composed}
@@ -21,7 +21,7 @@ use Rattle.rx_engine_holes.specs.Sited.{at_site}
 use Rattle.rx_engine_holes.specs.Special.{special_at}
 
 -- the text's function has the number `f`; `H` says what else may stand for something, in what is returned too
-pub data ReturnedExp (r : Renumbering) (u : PartialInverse r) (view : Viewed) (D E : Known) (A V : Types) (loops : ℕ → ℕ) (f : ℕ) (H : Holes) : Exp → Exp → Type 0 where
+pub data ReturnedExp (r : Renumbering) (u : PartialInverse r) (view : Viewed) (D E : KnownItems) (A V : Assignment) (loops : ℕ → ℕ) (f : ℕ) (H : Holes) : Exp → Exp → Type 0 where
   otherwise : {e e' : Exp} → H.expression e e' → ReturnedExp r u view D E A V loops f H e e'
   -- the variant has a part of the type that the text's function gives
   a_return : {n m : Node} {s : Span} {i v : ℕ} {e e' : Exp} (t : Typ) → RenumberedExp r loops H e e' → AtNode (SameAs (composed r u view A V) V) m
@@ -40,7 +40,7 @@ pub data ReturnedExp (r : Renumbering) (u : PartialInverse r) (view : Viewed) (D
       → ReturnedExp r u view D E A V loops f H (named.return n named.absent) (named.return (node_at r n s) (named.present e))
 
 -- returns stand in one another as often as the number says
-abbrev pub returned_holes : (r : Renumbering) → PartialInverse r → Viewed → Behind → Known → Known → Types → Types → (ℕ → ℕ) → ℕ → ℕ → Holes
+abbrev pub returned_holes : (r : Renumbering) → PartialInverse r → Viewed → Behind → KnownItems → KnownItems → Assignment → Assignment → (ℕ → ℕ) → ℕ → ℕ → Holes
 returned_holes r u view behind D E A V loops f zero = special_at ⊥ r u view behind A V
 returned_holes r u view behind D E A V loops f (suc k) = record {
   expression = ReturnedExp r u view D E A V loops f (returned_holes r u view behind D E A V loops f k);

@@ -9,7 +9,7 @@ use Rattle.rx_typed.specs.Types.{integer}
 use Rattle.rx_typed.specs.Named as named
 use Rattle.rx_typed.specs.Named.{Exp}
 use Rattle.rx_typeck_solver.specs.declared.facts.Subject.TheVariants as subject
-use Rattle.rx_typeck_solver.specs.Facts.{Types}
+use Rattle.rx_typeck_solver.specs.Facts.{Assignment}
 use Rattle.rx_engine_blocks.specs.Renumbering.{Renumbering, node_at}
 use Rattle.rx_engine_blocks.specs.Along.{PartialInverse, Viewed, composed}
 use Rattle.rx_engine_blocks.specs.Blocks.{Behind}
@@ -17,7 +17,7 @@ use Rattle.rx_engine_blocks.specs.Parts.{SameAs}
 use Rattle.rx_engine_blocks.specs.Made.{MadeExp}
 use Rattle.rx_engine_typing.specs.Renumbered.{Holes}
 
-pub data SpecialExp (r : Renumbering) (u : PartialInverse r) (view : Viewed) (behind : Behind) (A V : Types) : Exp → Exp → Type 0 where
+pub data SpecialExp (r : Renumbering) (u : PartialInverse r) (view : Viewed) (behind : Behind) (A V : Assignment) : Exp → Exp → Type 0 where
   -- `*y` for `x`, with a new node inside
   a_dereference : {n : Node} {s t : Span} {x y k : ℕ} {m m' : Bool} → behind x ≡ Some y → u.node k ≡ None → view (subject.Node n.number) ≡ false
       → SpecialExp r u view behind A V (named.var n (record { number = x; mutable = m; known = true }))
@@ -32,7 +32,7 @@ pub data SpecialExp (r : Renumbering) (u : PartialInverse r) (view : Viewed) (be
       → SpecialExp r u view behind A V (named.continue n l) (named.return (node_at r n s) (named.present e))
 
 -- these, where a return stands for a return or not
-abbrev pub special_at : Type 0 → (r : Renumbering) → PartialInverse r → Viewed → Behind → Types → Types → Holes
+abbrev pub special_at : Type 0 → (r : Renumbering) → PartialInverse r → Viewed → Behind → Assignment → Assignment → Holes
 special_at returns r u view behind A V = record {
   expression = SpecialExp r u view behind A V;
   block = λ b b'. ⊥;
@@ -42,5 +42,5 @@ special_at returns r u view behind A V = record {
   given_before = λ e e'. ⊥;
 }
 
-abbrev pub special_holes : (r : Renumbering) → PartialInverse r → Viewed → Behind → Types → Types → Holes
+abbrev pub special_holes : (r : Renumbering) → PartialInverse r → Viewed → Behind → Assignment → Assignment → Holes
 special_holes r u view behind A V = special_at (Unit {0}) r u view behind A V

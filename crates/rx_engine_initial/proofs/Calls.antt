@@ -9,7 +9,7 @@ use Rattle.rx_meaning_keeping.proofs.Parts.{Parted}
 use Rattle.rx_engine_initial.specs.Tracing.{View, IsQuiet, Traced, only_new, only_old}
 use Rattle.rx_engine_initial.specs.Matching.{Hist, Reach, Good, SameOut, Piece, doing, ending, fill, Runs, Fronts, Aways, Stays, dead, closing, IsCall, Closes, Maps, Keeps}
 use Rattle.rx_engine_initial.specs.Matching as matching
-use Rattle.rx_engine_initial.specs.Variables.{Kept, Sides, Known, IsSeen, part_set, there_as_a_whole, not_assigned, reference_set, reference_there}
+use Rattle.rx_engine_initial.specs.Variables.{Kept, Sides, KnownVariables, IsSeen, part_set, there_as_a_whole, not_assigned, reference_set, reference_there}
 use Rattle.rx_engine_initial.specs.Copies.{world}
 use Rattle.rx_engine_initial.specs.Entered.{IsNewHere}
 use Rattle.rx_engine_initial.specs.Handing.{Straight}
@@ -23,30 +23,30 @@ use Rattle.rx_engine_initial.proofs.Handing.{good_front}
 use Rattle.rx_engine_initial.proofs.Fates.{fates_kept}
 use Rattle.rx_engine_initial.specs.Fates.{Fates}
 
-taken_on : {l us : List Action} → Taken l us on → us ≡ l
+pub taken_on : {l us : List Action} → Taken l us on → us ≡ l
 taken_on all_taken = refl
 
 taken_front : {l us : List Action} → Taken l us stopped → (vs : List Action) × (us ++ vs ≡ l)
 taken_front (some_taken vs e) = (vs, e)
 
-never_leaves : {A : Type 0} {l us : List Action} {j : Exit} → Taken l us (leaves j) → A
+pub never_leaves : {A : Type 0} {l us : List Action} {j : Exit} → Taken l us (leaves j) → A
 never_leaves h = elim h [ ]
 
 never_fails : {A : Type 0} {l us : List Action} → Taken l us fails → A
 never_fails h = elim h [ ]
 
-runs_all : {H : List Piece} {l vs : List Action} → Does H l → Runs H vs → vs ≡ l
+pub runs_all : {H : List Piece} {l vs : List Action} → Does H l → Runs H vs → vs ≡ l
 runs_all no_piece matching.done = refl
 runs_all (one_piece {us = us} s d) (matching.does_one {us = u} {vs = v} a r) = ap (λ k. k ++ v) (taken_on (straightly s u on a)) ∙ ap (λ k. us ++ k) (runs_all d r)
 runs_all (one_variable d) (matching.begins r) = runs_all d r
 
-no_aways : {A : Type 0} {H : List Piece} {l vs : List Action} {j : Exit} → Does H l → Aways H vs j → A
+pub no_aways : {A : Type 0} {H : List Piece} {l vs : List Action} {j : Exit} → Does H l → Aways H vs j → A
 no_aways (one_piece s d) (matching.in_one {us = u} {j = j} a) = never_leaves (straightly s u (leaves j) a)
 no_aways (one_piece s d) (matching.past_one a r) = no_aways d r
 no_aways (one_variable d) (matching.past_begin r) = no_aways d r
 no_aways no_piece a = elim a [ ]
 
-stays_there : {H : List Piece} {l : List Action} → Does H l → Stays H
+pub stays_there : {H : List Piece} {l : List Action} → Does H l → Stays H
 stays_there no_piece = tt
 stays_there (one_piece s d) = (λ us a. never_fails (straightly s us fails a), stays_there d)
 stays_there (one_variable d) = stays_there d
@@ -82,7 +82,7 @@ module _ (S : Sides) (new : Parted S.frame) where
   dead_kills (reference_set z k q h) n x = refl
   dead_kills (reference_there z q) n x = refl
 
-  module _ (R : Known S) (V : View) (s : IsSeen S R.variables V) where
+  module _ (R : KnownVariables S) (V : View) (s : IsSeen S R.variables V) where
     old_dead : (us w : List Action) (n x : ℕ) (o : Out) → Traced (IsWalk S.text) V us w → Traced (IsWalk S.text) V us (w ++ dead n x o)
     old_dead us w n x on t = only_old (does n (Dead x)) t (dead_gives s n x) (dead_kills s n x)
     old_dead us w n x (leaves j) t = only_old (does (exit_node j) (Dead x)) t (dead_gives s (exit_node j) x) (dead_kills s (exit_node j) x)
@@ -113,17 +113,17 @@ module _ (S : Sides) (new : Parted S.frame) where
     seen_too (reference_set x n q h) = reference_set x n (f _ q) h
     seen_too (reference_there x q) = reference_there x (f _ q)
 
-  pub closes_by : (R T : Known S) (H K : List Piece) → AllNew R.variables H → ((k : Kept) → Among k R.variables → Among k T.variables) → ((l k : ℕ) → Among (l, k) T.loops → Among (l, k) R.loops)
+  pub closes_by : (R T : KnownVariables S) (H K : List Piece) → AllNew R.variables H → ((k : Kept) → Among k R.variables → Among k T.variables) → ((l k : ℕ) → Among (l, k) T.loops → Among (l, k) R.loops)
       → Closes (world S) R T H K
   closes_by R T H K new_ones wider loops = record {
     loops = loops;
     ended = λ us w o p e h V s. new_closing R V s H new_ones us (w ++ closing K p) o (old_closing R V s K us w p (h V (seen_too R.variables T.variables wider s)));
   }
 
-  pub closes_so : (R T : Known S) (H K : List Piece) (q r : Order) → StandsFor S R T H K q r → Closes (world S) R T H K
+  pub closes_so : (R T : KnownVariables S) (H K : List Piece) (q r : Order) → StandsFor S R T H K q r → Closes (world S) R T H K
   closes_so R T H K q r c = closes_by R T H K c.new c.wider c.loops
 
-  pub call_so : Parted S.frame_there → (R T : Known S) (H K : List Piece) (q r : Order) → StandsFor S R T H K q r → IsCall (world S) R T H K q r
+  pub call_so : Parted S.frame_there → (R T : KnownVariables S) (H K : List Piece) (q r : Order) → StandsFor S R T H K q r → IsCall (world S) R T H K q r
   call_so old R T H K q r c = record {
     stays = stays_there c.does;
     no_fail = c.never_fails;

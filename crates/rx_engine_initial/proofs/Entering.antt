@@ -15,9 +15,9 @@ use Rattle.rx_facts_tables.specs.Initialised.{InOrder, Initialised}
 use Rattle.rx_meaning_keeping.proofs.Parts.{Parted}
 use Rattle.rx_engine_initial.specs.Tracing.{View, IsQuiet, Traced, start, only_new}
 use Rattle.rx_engine_initial.specs.Matching.{Hist, Reach, Good, SameOut, both_on, both_leave, Comes, cut, gone, whole, Answer, Maps, Keeps}
-use Rattle.rx_engine_initial.specs.Variables.{Kept, as_itself, by_reference, Sides, both_end, LikePart, Known, standing_in, fresh, set_view, whole_view, fresh_view, sure_view, IsSeen, part_set, there_as_a_whole, not_assigned, reference_set, reference_there}
+use Rattle.rx_engine_initial.specs.Variables.{Kept, as_itself, by_reference, Sides, both_end, LikePart, KnownVariables, standing_in, fresh, set_view, whole_view, fresh_view, sure_view, IsSeen, part_set, there_as_a_whole, not_assigned, reference_set, reference_there}
 use Rattle.rx_engine_initial.specs.Copies.{world}
-use Rattle.rx_engine_initial.specs.Entered.{OnEach, IsNewHere, OneMore, Given, given_none, by_value, by_borrow, Declared, declared_none, declared_and}
+use Rattle.rx_engine_initial.specs.Entered.{OnEach, IsNewHere, OneMore, Given, given_none, by_value, by_borrow, LocalsDeclared, declared_none, declared_and}
 use Rattle.rx_engine_initial.proofs.Tracing.{nil_right, joined, after_one}
 use Rattle.rx_engine_initial.proofs.Ways.{no, and_left, and_right, and_both, is_false, clash, same_self}
 use Rattle.rx_engine_initial.proofs.Uses.{none_is, all_turned}
@@ -28,11 +28,11 @@ use Rattle.rx_engine_initial.proofs.InOrder.{dead_in_order, declare_in_order, wi
 use Rattle.rx_engine_initial.proofs.Unset.{unset, stands_not}
 
 -- from one scope at the beginning of a part to another one behind it
-abbrev pub Leads : (S : Sides) → Known S → Known S → Order → Order → Type 0
+abbrev pub Leads : (S : Sides) → KnownVariables S → KnownVariables S → Order → Order → Type 0
 Leads S T R s q = (us w vs : List Action) (o : Out) → Hist (world S) T us w → Reach (world S) q w → Walk s vs o → Answer (world S) R q us w vs o
 
 -- where this holds of the new function's actions so far
-abbrev LeadsIf : (S : Sides) → (List Action → Type 0) → Known S → Known S → Order → Order → Type 0
+abbrev LeadsIf : (S : Sides) → (List Action → Type 0) → KnownVariables S → KnownVariables S → Order → Order → Type 0
 LeadsIf S Q T R s q = (us w vs : List Action) (o : Out) → Q us → Hist (world S) T us w → Reach (world S) q w → Walk s vs o → Answer (world S) R q us w vs o
 
 given_last : (s : Switch) (us : List Action) (a : Action) (b : Bool) → s.gives a ≡ true → after s (us ++ a ∷ []) b ≡ true
@@ -101,7 +101,7 @@ module _ (S : Sides) (new : Parted S.frame) where
 
   -- ---- one action in front, and a variable that ends behind
 
-  act_leads : (P Q : List Action → Type 0) (R T U : Known S) (a : Action) (s q : Order)
+  act_leads : (P Q : List Action → Type 0) (R T U : KnownVariables S) (a : Action) (s q : Order)
       → ((us w : List Action) → P us → Hist (world S) R us w → Reach (world S) q w → InOrder S.frame S.muts us a × Q (us ++ a ∷ []) × Hist (world S) T (us ++ a ∷ []) w)
       → LeadsIf S Q T U s q → LeadsIf S P R U (order.then (order.act a) s) q
   act_leads P Q R T U a s q g f us w vs o r h k rests = answer_rests
@@ -126,10 +126,10 @@ module _ (S : Sides) (new : Parted S.frame) where
       by e idle i = answer_rests
 
   -- its end is nothing to the others
-  narrow : (R T : Known S) (k : Kept) (x : ℕ) → OneMore S R T k → IsNewHere R.variables x → (us w : List Action) (n : ℕ) → Hist (world S) T us w → Hist (world S) R (us ++ does n (Dead x) ∷ []) w
+  narrow : (R T : KnownVariables S) (k : Kept) (x : ℕ) → OneMore S R T k → IsNewHere R.variables x → (us w : List Action) (n : ℕ) → Hist (world S) T us w → Hist (world S) R (us ++ does n (Dead x) ∷ []) w
   narrow R T k x m f us w n h V s = only_new (does n (Dead x)) (h V (subst (λ vs. IsSeen S vs V) (sym m.variables) (wider_seen S k R.variables s))) (quiet_end R.variables x f s n)
 
-  ending_leads : (U R T : Known S) (k : Kept) (x n : ℕ) → OneMore S R T k → IsNewHere R.variables x → (s q : Order) → Leads S U T s q → Leads S U R (order.ending n x s) q
+  ending_leads : (U R T : KnownVariables S) (k : Kept) (x n : ℕ) → OneMore S R T k → IsNewHere R.variables x → (s q : Order) → Leads S U T s q → Leads S U R (order.ending n x s) q
   ending_leads U R T k x n m f s q g us w vs o h c rests = answer_rests
   ending_leads U R T k x n m f s q g us w vs o h c (stops {o = p} a) = answer_stops (ending_leads U R T k x n m f s q g us w vs p h c a)
   ending_leads U R T k x n m f s q g us w vs o h c (ends {us = u} a) = by (g us w u on h c a)
@@ -223,24 +223,24 @@ module _ (S : Sides) (new : Parted S.frame) where
       lost true b e = refl
       lost false b e = no e
 
-  declare_param : (R : Known S) (x n : ℕ) → IsNewHere R.variables x → (us w : List Action) → Hist (world S) R us w
+  declare_param : (R : KnownVariables S) (x n : ℕ) → IsNewHere R.variables x → (us w : List Action) → Hist (world S) R us w
       → InOrder S.frame S.muts us (does n (Declare x)) × (was_assigned (us ++ does n (Declare x) ∷ []) x ≡ false) × Hist (world S) R (us ++ does n (Declare x) ∷ []) w
   declare_param R x n f us w h = (declare_in_order S us n x, began us n x, λ V s. only_new (does n (Declare x)) (h V s) (quiet_begin R.variables x f s n))
 
-  written_facts : (R T : Known S) (x y n : ℕ) (t : Temporary) → IsNewHere R.variables x → OneMore S R T (as_itself x y) → (us w : List Action) → Hist (world S) R us w → was_assigned w y ≡ true
+  written_facts : (R T : KnownVariables S) (x y n : ℕ) (t : Temporary) → IsNewHere R.variables x → OneMore S R T (as_itself x y) → (us w : List Action) → Hist (world S) R us w → was_assigned w y ≡ true
       → Hist (world S) T (us ++ does n (Write (own x) t []) ∷ []) w
   written_facts R T x y n t f m us w h e V s =
       itself_more R.variables (us ++ does n (Write (own x) t []) ∷ []) w x y (λ V s. only_new (does n (Write (own x) t [])) (h V s) (quiet_write R.variables x f s n t))
       (λ k j p l. start (λ q. write_sets us n k x t false p)) (λ qs. start (λ q. write_stands us n x t qs false))
       (start (λ q. clash (after (fresh y) w true) q (all_turned y w false ∙ ap not e))) (subst (λ vs. IsSeen S vs V) m.variables s)
 
-  borrowed_facts : (R T : Known S) (x n : ℕ) (t : Temporary) → IsNewHere R.variables x → OneMore S R T (by_reference x) → (us w : List Action) → Hist (world S) R us w
+  borrowed_facts : (R T : KnownVariables S) (x n : ℕ) (t : Temporary) → IsNewHere R.variables x → OneMore S R T (by_reference x) → (us w : List Action) → Hist (world S) R us w
       → Hist (world S) T (us ++ does n (Write (own x) t []) ∷ []) w
   borrowed_facts R T x n t f m us w h V s =
       borrowed_more R.variables (us ++ does n (Write (own x) t []) ∷ []) w x (λ V s. only_new (does n (Write (own x) t [])) (h V s) (quiet_write R.variables x f s n t))
       (λ k p. start (λ q. write_sets us n k x t false p)) (start (λ q. write_stands us n x t [] false)) (subst (λ vs. IsSeen S vs V) m.variables s)
 
-  param_leads : (R T : Known S) (k : Kept) (x n m : ℕ) (t : Temporary) (s q : Order) → IsNewHere R.variables x → OneMore S R T k
+  param_leads : (R T : KnownVariables S) (k : Kept) (x n m : ℕ) (t : Temporary) (s q : Order) → IsNewHere R.variables x → OneMore S R T k
       → ((us w : List Action) → Hist (world S) R us w → Reach (world S) q w → Hist (world S) T (us ++ does n (Write (own x) t []) ∷ []) w)
       → Leads S T T s q → Leads S R R (order.then (order.act (does n (Declare x))) (order.then (order.act (does n (Write (own x) t []))) (order.ending m x s))) q
   param_leads R T k x n m t s q f o g l us w vs p h r a =
@@ -254,7 +254,7 @@ module _ (S : Sides) (new : Parted S.frame) where
     own_there : (x y n m : ℕ) → is_part S.frame (own x) n ≡ true → LikePart S x y n m → is_part S.frame_there (own y) m ≡ true
     own_there x y n m h l = sym (l [] [] both_end) ∙ h
 
-    declared_facts : (R T : Known S) (x y n : ℕ) → IsNewHere R.variables x → OneMore S R T (as_itself x y) → (us w : List Action) → Hist (world S) R us w → IsWalk S.text w → stands w y [] ≡ false
+    declared_facts : (R T : KnownVariables S) (x y n : ℕ) → IsNewHere R.variables x → OneMore S R T (as_itself x y) → (us w : List Action) → Hist (world S) R us w → IsWalk S.text w → stands w y [] ≡ false
         → Hist (world S) T (us ++ does n (Declare x) ∷ []) w
     declared_facts R T x y n f m us w h c e V s =
         itself_more R.variables (us ++ does n (Declare x) ∷ []) w x y (λ V s. only_new (does n (Declare x)) (h V s) (quiet_begin R.variables x f s n))
@@ -265,7 +265,7 @@ module _ (S : Sides) (new : Parted S.frame) where
     reached : (q : Order) (w : List Action) → Reach (world S) q w → IsWalk S.text w
     reached q w r = subst (IsWalk S.text) (nil_right w) (r [] stopped rests)
 
-    local_leads : (R T : Known S) (x y n m : ℕ) (s q : Order) → IsNewHere R.variables x → OneMore S R T (as_itself x y) → OnEach S q (λ w. stands w y [] ≡ false)
+    local_leads : (R T : KnownVariables S) (x y n m : ℕ) (s q : Order) → IsNewHere R.variables x → OneMore S R T (as_itself x y) → OnEach S q (λ w. stands w y [] ≡ false)
         → Leads S T T s q → Leads S R R (order.then (order.act (does n (Declare x))) (order.ending m x s)) q
     local_leads R T x y n m s q f o g l us w vs p h r a =
         act_leads (λ u. Unit {0}) (λ u. Unit {0}) R T R (does n (Declare x)) (order.ending m x s) q
@@ -275,13 +275,13 @@ module _ (S : Sides) (new : Parted S.frame) where
 
     -- ---- lists of them
 
-    pub given_maps : (q : Order) {R U : Known S} {ps : List Parameter} → Given S q R ps U → (n : ℕ) (s : Order) → Maps (world S) U s q → Maps (world S) R (beginning ps n s) q
+    pub given_maps : (q : Order) {R U : KnownVariables S} {ps : List Parameter} → Given S q R ps U → (n : ℕ) (s : Order) → Maps (world S) U s q → Maps (world S) R (beginning ps n s) q
     given_maps q given_none n s l = l
     given_maps q (by_value {R = R} {T = T} {p = p} {ps = ps} y f o g r) n s l = param_leads R T (as_itself p.variable y) p.variable p.node n (temporary_at p.node 0) (beginning ps n s) q f o
         (λ u v j c. written_facts R T p.variable y p.node (temporary_at p.node 0) f o u v j (g v c)) (given_maps q r n s l)
     given_maps q (by_borrow {R = R} {T = T} {p = p} {ps = ps} f o r) n s l = param_leads R T (by_reference p.variable) p.variable p.node n (temporary_at p.node 0) (beginning ps n s) q f o
         (λ u v j c. borrowed_facts R T p.variable p.node (temporary_at p.node 0) f o u v j) (given_maps q r n s l)
 
-    pub declared_maps : (q : Order) {R U : Known S} {xs : List ℕ} → Declared S q R xs U → (k n : ℕ) (s : Order) → Maps (world S) U s q → Maps (world S) R (declaring k xs n s) q
+    pub declared_maps : (q : Order) {R U : KnownVariables S} {xs : List ℕ} → LocalsDeclared S q R xs U → (k n : ℕ) (s : Order) → Maps (world S) U s q → Maps (world S) R (declaring k xs n s) q
     declared_maps q declared_none k n s l = l
     declared_maps q (declared_and {R = R} {T = T} {x = x} {xs = xs} y f o g r) k n s l = local_leads R T x y k n (declaring k xs n s) q f o g (declared_maps q r k n s l)

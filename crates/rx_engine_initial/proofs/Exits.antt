@@ -19,13 +19,13 @@ use Rattle.rx_engine_related.specs.AboutRun.{text_of}
 use Rattle.rx_engine_related.specs.OneSite.{StandsOnce}
 use Rattle.rx_engine_related.specs.Accepted.{Accepted}
 use Rattle.rx_engine_initial.specs.Matching.{Reach, Matches, is_gone}
-use Rattle.rx_engine_initial.specs.Variables.{as_itself, Sides, Known}
+use Rattle.rx_engine_initial.specs.Variables.{as_itself, Sides, KnownVariables}
 use Rattle.rx_engine_initial.specs.Copies.{world}
 use Rattle.rx_engine_initial.specs.Handing.{Handing, Straight, giving}
 use Rattle.rx_engine_initial.specs.Planned.{IsTextOf, MeetsMark, AllFor}
 use Rattle.rx_engine_initial.proofs.Planned.{out_set, out_live, giving_gone, ahead_mark}
 
-pub exits_so : (A : Asked) (k : Plan) → IsPlan A k → (S : Sides) → Sized S.frame.declared S.frame.sizes → Accepted A S.muts_there → IsTextOf S A k → (R : Known S) (e : Exit) (q : Order)
+pub exits_so : (A : Asked) (k : Plan) → IsPlan A k → (S : Sides) → Sized S.frame.declared S.frame.sizes → Accepted A S.muts_there → IsTextOf S A k → (R : KnownVariables S) (e : Exit) (q : Order)
     → Among e k.exits → StandsOnce (text_of A k) (shown (leaves e)) → ((x : ℕ) → ¬ (PartlyMoved A k x)) → MeetsMark S (leaves e) q
     → (xs : List ℕ) → AllFor R xs (k.outs e) → (l : List Action) → Handing xs l → (s : Order) → Straight s l → (n : ℕ) (t : Temporary) → Matches (world S) R (giving s n t) q
 exits_so A k plan S sized acc o R e q i once whole meets xs outs l d s f n t =

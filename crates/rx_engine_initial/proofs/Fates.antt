@@ -13,7 +13,7 @@ use Rattle.rx_facts_tables.specs.Live.{living, has_root, roots_of, written}
 use Rattle.rx_meaning_keeping.proofs.Parts.{Parted}
 use Rattle.rx_engine_initial.specs.Tracing.{View, IsQuiet, IsKept, Traced, start, kept, over, unset}
 use Rattle.rx_engine_initial.specs.Matching.{Hist}
-use Rattle.rx_engine_initial.specs.Variables.{as_itself, by_reference, Sides, both_end, LikePart, Known, standing_in, fresh, always, steady, set_view, whole_view, fresh_view, sure_view, IsSeen, part_set, there_as_a_whole, not_assigned, reference_set, reference_there}
+use Rattle.rx_engine_initial.specs.Variables.{as_itself, by_reference, Sides, both_end, LikePart, KnownVariables, standing_in, fresh, always, steady, set_view, whole_view, fresh_view, sure_view, IsSeen, part_set, there_as_a_whole, not_assigned, reference_set, reference_there}
 use Rattle.rx_engine_initial.specs.Copies.{IsOther, world}
 use Rattle.rx_engine_initial.specs.Fates.{LeavesBe, AllLeave, Fate, untouched, lent, handed_out, needless, begins_again, Fates}
 use Rattle.rx_engine_initial.proofs.Tracing.{after_both, quiet_behind}
@@ -163,7 +163,7 @@ module _ (S : Sides) (V : View) (same : V.start_there ≡ true → V.start ≡ t
   unset_all : after V.old w V.start_there ≡ false → Traced (IsWalk S.text) V us w
   unset_all e = unset us w at_first e
 
-module _ (S : Sides) (new : Parted S.frame) (old : Parted S.frame_there) (R : Known S) (h w us u : List Action) (H : Hist (world S) R h w) where
+module _ (S : Sides) (new : Parted S.frame) (old : Parted S.frame_there) (R : KnownVariables S) (h w us u : List Action) (H : Hist (world S) R h w) where
   own_there : (x y n m : ℕ) → is_part S.frame (own x) n ≡ true → LikePart S x y n m → is_part S.frame_there (own y) m ≡ true
   own_there x y n m p l = sym (l [] [] both_end) ∙ p
 
@@ -221,7 +221,7 @@ module _ (S : Sides) (new : Parted S.frame) (old : Parted S.frame_there) (R : Kn
   })
   fresh_fate x y (begins_again d vs ws k e f) = start (λ q. written_holds (fresh x) true vs ws (does k (Declare x)) e (same_self x) (λ a i. fresh_quiet x a.node a.act (f a i)))
 
-  pub fates_kept : (T : Known S) → Fates S R T w us u → Hist (world S) T (h ++ us) (w ++ u)
+  pub fates_kept : (T : KnownVariables S) → Fates S R T w us u → Hist (world S) T (h ++ us) (w ++ u)
   fates_kept T f V s = by s
     where
       steady_after : (l : List Action) (b : Bool) → after steady l b ≡ b

@@ -16,7 +16,7 @@ use Rattle.rx_facts_tables.specs.Live.{living, used, has_root}
 use Rattle.rx_meaning_keeping.proofs.Parts.{Parted}
 use Rattle.rx_engine_initial.specs.Tracing.{View, Traced, start, copied}
 use Rattle.rx_engine_initial.specs.Matching.{Hist}
-use Rattle.rx_engine_initial.specs.Variables.{Kept, as_itself, by_reference, Sides, SameWay, both_end, LikePart, LikeVariable, Known, standing_in, fresh, always, steady, set_view, whole_view, fresh_view, sure_view, IsSeen, part_set, there_as_a_whole, not_assigned, reference_set, reference_there}
+use Rattle.rx_engine_initial.specs.Variables.{Kept, as_itself, by_reference, Sides, SameWay, both_end, LikePart, LikeVariable, KnownVariables, standing_in, fresh, always, steady, set_view, whole_view, fresh_view, sure_view, IsSeen, part_set, there_as_a_whole, not_assigned, reference_set, reference_there}
 use Rattle.rx_engine_initial.specs.Copies.{IsSafe, in_temporary, behind_it, IsEasy, easy_copy, easy_take, easy_borrow, easy_test, easy_write, easy_call, easy_build, easy_input, easy_print, easy_give, IsCopy, reads, writes, borrows, tests, declares, ends, easily, BeginsSo, begins_so, world}
 use Rattle.rx_engine_initial.proofs.Tracing.{after_one, holds_here}
 use Rattle.rx_engine_initial.proofs.Ways.{no, and_left, and_right, and_both, clash, same_self, all_same, Holds, holds_of, of_holds, fronts_hold, holds_same}
@@ -34,7 +34,7 @@ nothing_more k ss (step.Field i ∷ qs) h = no (holds_of (step.Field i ∷ qs) (
 nothing_more k ss (step.Variant v ∷ qs) h = no (holds_of (step.Variant v ∷ qs) (step.Deref k ∷ ss) h).front
 nothing_more k ss (step.Deref m ∷ qs) h = clash true refl (holds_of (step.Deref m ∷ qs) (step.Deref k ∷ ss) h).outside
 
-module _ (S : Sides) (new : Parted S.frame) (old : Parted S.frame_there) (init : Initialised S.frame_there S.muts_there S.text) (R : Known S) where
+module _ (S : Sides) (new : Parted S.frame) (old : Parted S.frame_there) (init : Initialised S.frame_there S.muts_there S.text) (R : KnownVariables S) where
   module _ (us w : List Action) (H : Hist (world S) R us w) (j : ℕ) (b : Act) (c : IsWalk S.text (w ++ does j b ∷ [])) where
     holds : (V : View) → IsSeen S R.variables V → V.live.gives (does j b) ≡ true → after V.old w V.start_there ≡ true → after V.new us V.start ≡ true
     holds V s l h = holds_here (IsWalk S.text) V (whole_gives S new old R s) (H V s) (does j b ∷ []) c (ahead_at V.live (does j b) l) h
@@ -174,7 +174,7 @@ wider_seen S k vs (not_assigned x y q) = not_assigned x y (there q)
 wider_seen S k vs (reference_set x n q h) = reference_set x n (there q) h
 wider_seen S k vs (reference_there x q) = reference_there x (there q)
 
-pub begun : (S : Sides) → Parted S.frame → Parted S.frame_there → (R T : Known S) (us w : List Action) (a b : Action) → BeginsSo S R T a b → Hist (world S) R us w → Hist (world S) T (us ++ a ∷ []) (w ++ b ∷ [])
+pub begun : (S : Sides) → Parted S.frame → Parted S.frame_there → (R T : KnownVariables S) (us w : List Action) (a b : Action) → BeginsSo S R T a b → Hist (world S) R us w → Hist (world S) T (us ++ a ∷ []) (w ++ b ∷ [])
 begun S new old R T us w _ _ (begins_so {m = i} {n = j} {x = x} {y = y} e f) H V s = by (split S us w i j x y R.variables (subst (λ vs. IsSeen S vs V) e s))
   where
     by : IsSeen S R.variables V ⊎ Starts V (us ++ does i (Declare x) ∷ []) (w ++ does j (Declare y) ∷ []) → Traced (IsWalk S.text) V (us ++ does i (Declare x) ∷ []) (w ++ does j (Declare y) ∷ [])

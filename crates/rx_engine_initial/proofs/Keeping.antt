@@ -13,7 +13,7 @@ use Rattle.rx_facts_tables.specs.Wholes.{placed, is_variable, is_all, regains, l
 use Rattle.rx_facts_tables.specs.Live.{living}
 use Rattle.rx_meaning_keeping.proofs.Parts.{Parted}
 use Rattle.rx_engine_initial.specs.Tracing.{View, Alike, WholeGives}
-use Rattle.rx_engine_initial.specs.Variables.{Kept, as_itself, by_reference, Sides, SameWay, both_end, LikePart, Known, lost, standing_in, fresh, steady, set_view, whole_view, fresh_view, sure_view, IsSeen, part_set, there_as_a_whole, not_assigned, reference_set, reference_there}
+use Rattle.rx_engine_initial.specs.Variables.{Kept, as_itself, by_reference, Sides, SameWay, both_end, LikePart, KnownVariables, lost, standing_in, fresh, steady, set_view, whole_view, fresh_view, sure_view, IsSeen, part_set, there_as_a_whole, not_assigned, reference_set, reference_there}
 use Rattle.rx_engine_initial.specs.Copies.{IsSafe, in_temporary, behind_it, IsEasy, easy_copy, easy_take, easy_borrow, easy_test, easy_write, easy_call, easy_build, easy_input, easy_print, easy_give, IsOther, LeavesIt, LeavesAll, IsCopy, reads, writes, borrows, tests, declares, ends, easily}
 use Rattle.rx_engine_initial.proofs.Ways.{no, and_left, and_right, and_both, agree, is_false, clash, same_self, other_number, behind_same, all_same, front_same}
 use Rattle.rx_engine_initial.proofs.Uses.{written_is, no_part}
@@ -68,7 +68,7 @@ pub other_is : (r : Root) (y : ℕ) (t : Bool) → IsOther r y → (is_variable 
 other_is (variable z) y t o h = o (eqb-true z y (and_left (z == y) t h))
 other_is (temporary u) y t o h = no h
 
-module _ (S : Sides) (new : Parted S.frame) (old : Parted S.frame_there) (R : Known S) where
+module _ (S : Sides) (new : Parted S.frame) (old : Parted S.frame_there) (R : KnownVariables S) where
   -- ---- one variable there for one here
 
   same_number : (x y z u : ℕ) → Among (as_itself x y) R.variables → Among (as_itself z u) R.variables → (z == x) ≡ (u == y)

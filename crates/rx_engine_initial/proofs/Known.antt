@@ -8,7 +8,7 @@ use Rattle.rx_facts_tables.specs.Initialised.{InOrder, Initialised}
 use Rattle.rx_meaning_keeping.proofs.Parts.{Parted}
 use Rattle.rx_engine_initial.specs.Tracing.{View}
 use Rattle.rx_engine_initial.specs.Matching.{WhichLoop, this_loop, outer_loop, Keeps}
-use Rattle.rx_engine_initial.specs.Variables.{as_itself, Sides, Known, IsSeen}
+use Rattle.rx_engine_initial.specs.Variables.{as_itself, Sides, KnownVariables, IsSeen}
 use Rattle.rx_engine_initial.specs.Copies.{ends, BeginsSo, begins_so, InsideSo, world}
 use Rattle.rx_engine_initial.proofs.Tracing.{joined}
 use Rattle.rx_engine_initial.proofs.Keeping.{copy_alike}
@@ -17,13 +17,13 @@ use Rattle.rx_engine_initial.proofs.InOrder.{in_order, dead_in_order, declare_in
 pub walk_front : (f : Function) (us vs : List Action) → IsWalk f (us ++ vs) → IsWalk f us
 walk_front f us vs (rest, o, a) = (vs ++ rest, o, subst (λ l. Walk (order_function f) l o) (joined us vs rest) a)
 
-begin_in_order : (S : Sides) (R T : Known S) (us : List Action) (a b : Action) → BeginsSo S R T a b → InOrder S.frame S.muts us a
+begin_in_order : (S : Sides) (R T : KnownVariables S) (us : List Action) (a b : Action) → BeginsSo S R T a b → InOrder S.frame S.muts us a
 begin_in_order S R T us _ _ (begins_so {m = i} {x = x} e f) = declare_in_order S us i x
 
-begin_wider : (S : Sides) (R T : Known S) (a b : Action) (V : View) → BeginsSo S R T a b → IsSeen S R.variables V → IsSeen S T.variables V
+begin_wider : (S : Sides) (R T : KnownVariables S) (a b : Action) (V : View) → BeginsSo S R T a b → IsSeen S R.variables V → IsSeen S T.variables V
 begin_wider S R T _ _ V (begins_so {x = x} {y = y} e f) s = subst (λ vs. IsSeen S vs V) (sym e) (wider_seen S (as_itself x y) R.variables s)
 
-begin_loops : (S : Sides) (R T : Known S) (a b : Action) (l k : ℕ) → BeginsSo S R T a b → Among (l, k) T.loops → Among (l, k) R.loops
+begin_loops : (S : Sides) (R T : KnownVariables S) (a b : Action) (l k : ℕ) → BeginsSo S R T a b → Among (l, k) T.loops → Among (l, k) R.loops
 begin_loops S R T _ _ l k (begins_so e f) q = subst (λ ls. Among (l, k) ls) f q
 
 which_loop : (ls : List (ℕ × ℕ)) (l k : ℕ) → ((m j : ℕ) → Among (m, j) ls → m ≡ l → ⊥) → ((m j : ℕ) → Among (m, j) ls → j ≡ k → ⊥) → (p q : ℕ × ℕ) → q ≡ (l, k) → Among p (q ∷ ls)

@@ -11,7 +11,7 @@ use Rattle.rx_facts_tables.specs.Live.{living, has_root, roots_of, written}
 use Rattle.rx_meaning_keeping.proofs.Parts.{Parted}
 use Rattle.rx_engine_initial.specs.Tracing.{View, Traced, only_old}
 use Rattle.rx_engine_initial.specs.Matching.{Hist, IsPassedOver}
-use Rattle.rx_engine_initial.specs.Variables.{Sides, Known, IsSeen, part_set, there_as_a_whole, not_assigned, reference_set, reference_there}
+use Rattle.rx_engine_initial.specs.Variables.{Sides, KnownVariables, IsSeen, part_set, there_as_a_whole, not_assigned, reference_set, reference_there}
 use Rattle.rx_engine_initial.specs.Copies.{IsOther, LeavesIt, LeavesAll, world}
 use Rattle.rx_engine_initial.specs.Handing.{Straight, no_action, one_action, in_sequence}
 use Rattle.rx_engine_initial.proofs.Tracing.{nil_right, joined}
@@ -46,7 +46,7 @@ unwritten x (Input d) o = refl
 unwritten x (Print t) o = refl
 unwritten x (Give t) o = refl
 
-module _ (S : Sides) (new : Parted S.frame) (old : Parted S.frame_there) (R : Known S) where
+module _ (S : Sides) (new : Parted S.frame) (old : Parted S.frame_there) (R : KnownVariables S) where
   gives_none : {V : View} → IsSeen S R.variables V → (b : Action) → LeavesAll R.variables b.act → V.old.gives b ≡ false
   gives_none (part_set x y n m q h l) b f = is_false (sets S.frame_there m b.act) (leaves_sets S new old R y m (own_there S new old R x y n m h l) b.act (f x y q))
   gives_none (there_as_a_whole x y qs q o) b f = is_false (regains y qs b.act) (leaves_regains S new old R y qs b.act (f x y q))

@@ -29,7 +29,7 @@ use Rattle.rx_engine_related.proofs.Plainly.{without_reads, LastOf, held, read, 
 use Rattle.rx_engine_related.proofs.Recombining.{recombined}
 use Rattle.rx_engine_related.proofs.Choosing.{param_named, local_named, out_is, not_chosen, elsewhere_offered, special_is}
 use Rattle.rx_engine_initial.specs.Matching.{Hist, Reach, Good, IsGone, Maps}
-use Rattle.rx_engine_initial.specs.Variables.{as_itself, Sides, both_end, LikePart, Known, set_view, part_set}
+use Rattle.rx_engine_initial.specs.Variables.{as_itself, Sides, both_end, LikePart, KnownVariables, set_view, part_set}
 use Rattle.rx_engine_initial.specs.Copies.{world}
 use Rattle.rx_engine_initial.specs.Handing.{Handing, Straight, giving}
 use Rattle.rx_engine_initial.specs.Planned.{IsTextOf, MeetsMark, AllFor}
@@ -146,7 +146,7 @@ module _ (A : Asked) (muts : List Bool) (acc : Accepted A muts) (k : Plan) (plan
 
 -- ---- where the new function is left
 
-module _ (S : Sides) (new : Parted S.frame) (old : Parted S.frame_there) (R : Known S) where
+module _ (S : Sides) (new : Parted S.frame) (old : Parted S.frame_there) (R : KnownVariables S) where
   -- what is set there, and live behind the mark, is set here
   handed_set : (us w : List Action) → Hist (world S) R us w → (a : Action) (x y : ℕ) → Among (as_itself x y) R.variables → AllSet S.frame_there w (own y)
       → ((vs : List Action) × IsWalk S.text (w ++ a ∷ vs) × (ahead (living (variable y)) (a ∷ vs) ≡ true)) → AllSet S.frame us (own x)

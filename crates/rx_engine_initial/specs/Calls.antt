@@ -4,7 +4,7 @@ use Rattle.rx_lower_walks.specs.Actions.{Action}
 use Rattle.rx_lower_walks.specs.Orders.{Order}
 use Rattle.rx_lower_walks.specs.Walks.{fails, Walk, Among}
 use Rattle.rx_engine_initial.specs.Matching.{Hist, Reach, Good, Piece, doing, ending, fill, Runs}
-use Rattle.rx_engine_initial.specs.Variables.{Kept, Sides, Known}
+use Rattle.rx_engine_initial.specs.Variables.{Kept, Sides, KnownVariables}
 use Rattle.rx_engine_initial.specs.Copies.{world}
 use Rattle.rx_engine_initial.specs.Entered.{IsNewHere}
 use Rattle.rx_engine_initial.specs.Handing.{Straight}
@@ -22,7 +22,7 @@ AllNew vs [] = Unit {0}
 AllNew vs (doing s ∷ H) = AllNew vs H
 AllNew vs (ending n x ∷ H) = IsNewHere vs x × AllNew vs H
 
-pub record StandsFor (S : Sides) (R T : Known S) (H K : List Piece) (q r : Order) : Type 0 where
+pub record StandsFor (S : Sides) (R T : KnownVariables S) (H K : List Piece) (q r : Order) : Type 0 where
   pub actions : List Action
   pub does : Does H actions
   pub orderly : (us w : List Action) → Hist (world S) R us w → Reach (world S) (fill K r) w → Good (world S) us actions

@@ -11,7 +11,7 @@ use Rattle.rx_facts_tables.specs.Wholes.{placed}
 use Rattle.rx_facts_tables.specs.Initialised.{InOrder}
 use Rattle.rx_engine_initial.specs.Tracing.{View}
 use Rattle.rx_engine_initial.specs.Matching.{World}
-use Rattle.rx_engine_initial.specs.Variables.{Kept, as_itself, by_reference, Sides, SameWay, Known, IsSeen}
+use Rattle.rx_engine_initial.specs.Variables.{Kept, as_itself, by_reference, Sides, SameWay, KnownVariables, IsSeen}
 
 -- what is in a temporary, or behind a reference that is there
 pub data IsSafe (vs : List Kept) : Place → Type 0 where
@@ -58,11 +58,11 @@ pub data IsCopy (vs : List Kept) : Act → Act → Type 0 where
 -- ---- the two programs
 
 -- a variable begins in both; the scope behind that
-pub data BeginsSo (S : Sides) (R T : Known S) : Action → Action → Type 0 where
+pub data BeginsSo (S : Sides) (R T : KnownVariables S) : Action → Action → Type 0 where
   begins_so : {m n x y : ℕ} → T.variables ≡ as_itself x y ∷ R.variables → T.loops ≡ R.loops → BeginsSo S R T (does m (Declare x)) (does n (Declare y))
 
 -- the scope inside of a loop, which is none of those around it
-pub record InsideSo (S : Sides) (R T : Known S) (l k : ℕ) : Type 0 where
+pub record InsideSo (S : Sides) (R T : KnownVariables S) (l k : ℕ) : Type 0 where
   pub variables : T.variables ≡ R.variables
   pub loops : T.loops ≡ (l, k) ∷ R.loops
   pub here : (m j : ℕ) → Among (m, j) R.loops → m ≡ l → ⊥
@@ -71,7 +71,7 @@ pub record InsideSo (S : Sides) (R T : Known S) (l k : ℕ) : Type 0 where
 abbrev pub world : Sides → World
 world S = record {
   C = IsWalk S.text;
-  Scope = Known S;
+  Scope = KnownVariables S;
   Seen = λ R V. IsSeen S R.variables V;
   Ok = λ us a. InOrder S.frame S.muts us a;
   Same = λ R a b. IsCopy R.variables a.act b.act;

@@ -9,7 +9,7 @@ use Rattle.rx_facts_tables.specs.Along.{after, ahead}
 use Rattle.rx_facts_tables.specs.Setting.{is_behind, AllSet}
 use Rattle.rx_facts_tables.specs.Wholes.{assigns, begins, was_assigned}
 use Rattle.rx_facts_tables.specs.Live.{living}
-use Rattle.rx_engine_initial.specs.Variables.{Kept, as_itself, by_reference, Sides, Known, standing_in}
+use Rattle.rx_engine_initial.specs.Variables.{Kept, as_itself, by_reference, Sides, KnownVariables, standing_in}
 use Rattle.rx_engine_initial.specs.Copies.{IsOther}
 
 -- an action that neither begins, ends, writes nor moves a variable
@@ -28,7 +28,7 @@ abbrev pub NotLive : Sides → List Action → ℕ → Type 0
 NotLive S w y = (ws : List Action) → IsWalk S.text (w ++ ws) → ahead (living (variable y)) ws ≡ false
 
 -- the text does `u` behind `w`, the new program `us` in place of it; with what was in scope in front
-pub data Fate (S : Sides) (R : Known S) (w us u : List Action) (x y : ℕ) : Type 0 where
+pub data Fate (S : Sides) (R : KnownVariables S) (w us u : List Action) (x y : ℕ) : Type 0 where
   -- neither does anything to it
   untouched : Among (as_itself x y) R.variables → AllLeave us x → AllLeave u y → Fate S R w us u x y
   -- it is lent or copied: it was all there in front, and is used there before it is written as a whole
@@ -44,6 +44,6 @@ pub data Fate (S : Sides) (R : Known S) (w us u : List Action) (x y : ℕ) : Typ
   begins_again : NotLive S (w ++ u) y → (before behind : List Action) (n : ℕ) → us ≡ before ++ does n (Declare x) ∷ behind → AllLeave behind x → Fate S R w us u x y
 
 -- of all that is in scope behind
-pub record Fates (S : Sides) (R T : Known S) (w us u : List Action) : Type 0 where
+pub record Fates (S : Sides) (R T : KnownVariables S) (w us u : List Action) : Type 0 where
   pub fates : (x y : ℕ) → Among (as_itself x y) T.variables → Fate S R w us u x y
   pub references : (x : ℕ) → Among (by_reference x) T.variables → Among (by_reference x) R.variables × AllLeave us x

@@ -10,7 +10,7 @@ use Rattle.rx_exits_plan.specs.Asked.{Asked}
 use Rattle.rx_exits_plan.specs.Plan.{Plan}
 use Rattle.rx_engine_related.specs.AboutRun.{text_of}
 use Rattle.rx_engine_initial.specs.Matching.{Reach}
-use Rattle.rx_engine_initial.specs.Variables.{as_itself, Sides, Known}
+use Rattle.rx_engine_initial.specs.Variables.{as_itself, Sides, KnownVariables}
 use Rattle.rx_engine_initial.specs.Copies.{world}
 
 -- the text is that of a plan
@@ -23,5 +23,5 @@ abbrev pub MeetsMark : Sides → Point → Order → Type 0
 MeetsMark S p q = (w : List Action) → Reach (world S) q w → IsWalk S.text (w ++ shown p ∷ [])
 
 -- the new function's variables for these
-abbrev pub AllFor : {S : Sides} → Known S → List ℕ → List ℕ → Type 0
+abbrev pub AllFor : {S : Sides} → KnownVariables S → List ℕ → List ℕ → Type 0
 AllFor R xs ys = (x : ℕ) → Among x xs → (y : ℕ) × Among (as_itself x y) R.variables × Among y ys

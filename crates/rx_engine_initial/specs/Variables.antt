@@ -46,7 +46,7 @@ pub record LikeVariable (S : Sides) (x y : ℕ) : Type 0 where
   pub fixed : IsFixed S.muts x → IsFixed S.muts_there y
 
 -- what is in scope: variables, none twice, and loops, the new function's with the text's
-pub record Known (S : Sides) : Type 0 where
+pub record KnownVariables (S : Sides) : Type 0 where
   pub variables : List Kept
   pub loops : List (ℕ × ℕ)
   pub one_there : (x y z : ℕ) → Among (as_itself x y) variables → Among (as_itself x z) variables → y ≡ z

@@ -22,9 +22,9 @@ ghost use Rattle.rx_engine_related.specs.OneSite.{StandsOnce};
 ghost use Rattle.rx_engine_related.specs.Accepted.{Accepted};
 ghost use Rattle.rx_engine_initial.specs.Tracing.{View, Traced, WholeGives};
 ghost use Rattle.rx_engine_initial.specs.Matching.{Hist, Reach, Answer, Piece, fill, Matches};
-ghost use Rattle.rx_engine_initial.specs.Variables.{Sides, LikeVariable, Known, type_at};
+ghost use Rattle.rx_engine_initial.specs.Variables.{Sides, LikeVariable, KnownVariables, type_at};
 ghost use Rattle.rx_engine_initial.specs.Copies.{LeavesAll, world};
-ghost use Rattle.rx_engine_initial.specs.Entered.{OnEach, Given, Declared};
+ghost use Rattle.rx_engine_initial.specs.Entered.{OnEach, Given, LocalsDeclared};
 ghost use Rattle.rx_engine_initial.specs.Handing.{Handing, Straight, in_front, giving};
 ghost use Rattle.rx_engine_initial.specs.Calls.{StandsFor};
 ghost use Rattle.rx_engine_initial.specs.Fates.{Fates};
@@ -41,7 +41,7 @@ pub fn what_holds_there_holds_here()
 /// comes from a walk of that order which goes out alike, for each fact of what is in scope.
 pub fn walks_come_from_walks()
     ensures { (S : Sides) → Sized S.frame.declared S.frame.sizes → Sized S.frame_there.declared S.frame_there.sizes → Initialised S.frame_there S.muts_there S.text
-        → (R : Known S) (s q : Order) → Matches (world S) R s q → (us w vs : ListOf Action) (o : Out) → Hist (world S) R us w → Reach (world S) q w
+        → (R : KnownVariables S) (s q : Order) → Matches (world S) R s q → (us w vs : ListOf Action) (o : Out) → Hist (world S) R us w → Reach (world S) q w
         → Walk s vs o → Answer (world S) R q us w vs o }
 {}
 
@@ -49,7 +49,7 @@ pub fn walks_come_from_walks()
 /// call, or what follows where the run is entered, as for the new function.
 pub fn functions_are_initialised()
     ensures { (S : Sides) → Sized S.frame.declared S.frame.sizes → Sized S.frame_there.declared S.frame_there.sizes → Initialised S.frame_there S.muts_there S.text
-        → (R : Known S) → R.variables ≡ [] → (f : Function) (q : Order) (w : ListOf Action) → Reach (world S) q w → Matches (world S) R (order_function f) q
+        → (R : KnownVariables S) → R.variables ≡ [] → (f : Function) (q : Order) (w : ListOf Action) → Reach (world S) q w → Matches (world S) R (order_function f) q
         → Initialised S.frame S.muts f }
 {}
 
@@ -62,7 +62,7 @@ pub fn variables_of_one_type_are_alike()
 /// What the text does alone, without a choice, matches in front of what matches, where it neither begins nor writes a variable in scope: a
 /// mark, or the reads where a run is entered.
 pub fn what_the_text_does_alone_matches()
-    ensures { (S : Sides) → Sized S.frame.declared S.frame.sizes → Sized S.frame_there.declared S.frame_there.sizes → (R : Known S) (s q r : Order) (l : ListOf Action)
+    ensures { (S : Sides) → Sized S.frame.declared S.frame.sizes → Sized S.frame_there.declared S.frame_there.sizes → (R : KnownVariables S) (s q r : Order) (l : ListOf Action)
         → Straight q l → ((b : Action) → Among b l → LeavesAll R.variables b.act) → Matches (world S) R s r → Matches (world S) R s (in_front q r) }
 {}
 
@@ -70,23 +70,23 @@ pub fn what_the_text_does_alone_matches()
 /// that comes there; a local's stands on none.
 pub fn params_and_locals_match()
     ensures params { (S : Sides) → Sized S.frame.declared S.frame.sizes → Sized S.frame_there.declared S.frame_there.sizes
-        → Initialised S.frame_there S.muts_there S.text → (R U : Known S) (ps : ListOf Parameter) (q : Order) → Given S q R ps U → (n : ℕ) (s : Order)
+        → Initialised S.frame_there S.muts_there S.text → (R U : KnownVariables S) (ps : ListOf Parameter) (q : Order) → Given S q R ps U → (n : ℕ) (s : Order)
         → Matches (world S) U s q → Matches (world S) R (beginning ps n s) q }
     ensures locals { (S : Sides) → Sized S.frame.declared S.frame.sizes → Sized S.frame_there.declared S.frame_there.sizes
-        → Initialised S.frame_there S.muts_there S.text → (R U : Known S) (xs : ListOf ℕ) (q : Order) → Declared S q R xs U → (k n : ℕ) (s : Order)
+        → Initialised S.frame_there S.muts_there S.text → (R U : KnownVariables S) (xs : ListOf ℕ) (q : Order) → LocalsDeclared S q R xs U → (k n : ℕ) (s : Order)
         → Matches (world S) U s q → Matches (world S) R (declaring k xs n s) q }
 {}
 
 /// Where actions of the new program stand in place of actions of the text, as a call in place of a run, and each variable that is in scope
 /// behind them has one of the fates, the walks go on for each fact.
 pub fn fates_keep_facts()
-    ensures { (S : Sides) → Sized S.frame.declared S.frame.sizes → Sized S.frame_there.declared S.frame_there.sizes → (R T : Known S) (h w us u : ListOf Action)
+    ensures { (S : Sides) → Sized S.frame.declared S.frame.sizes → Sized S.frame_there.declared S.frame_there.sizes → (R T : KnownVariables S) (h w us u : ListOf Action)
         → Hist (world S) R h w → Fates S R T w us u → Hist (world S) T (h ++ us) (w ++ u) }
 {}
 
 /// So statements without a choice match a run that they stand for, in front of what matches.
 pub fn calls_match()
-    ensures { (S : Sides) → Sized S.frame.declared S.frame.sizes → Sized S.frame_there.declared S.frame_there.sizes → (R T : Known S) (H K : ListOf Piece) (q r : Order)
+    ensures { (S : Sides) → Sized S.frame.declared S.frame.sizes → Sized S.frame_there.declared S.frame_there.sizes → (R T : KnownVariables S) (H K : ListOf Piece) (q r : Order)
         → StandsFor S R T H K q r → Matches (world S) T q r → Matches (world S) R (fill H q) (fill K r) }
 {}
 
@@ -122,7 +122,7 @@ pub fn entries_match()
 
 /// So where the new function takes the variables that an exit hands out, and gives what it makes of them, it is in order.
 pub fn exits_match()
-    ensures { (A : Asked) (k : Plan) → IsPlan A k → (S : Sides) → Sized S.frame.declared S.frame.sizes → Accepted A S.muts_there → IsTextOf S A k → (R : Known S) (e : Exit) (q : Order)
+    ensures { (A : Asked) (k : Plan) → IsPlan A k → (S : Sides) → Sized S.frame.declared S.frame.sizes → Accepted A S.muts_there → IsTextOf S A k → (R : KnownVariables S) (e : Exit) (q : Order)
         → Among e k.exits → StandsOnce (text_of A k) (shown (leaves e)) → ((x : ℕ) → ¬ (PartlyMoved A k x)) → MeetsMark S (leaves e) q
         → (xs : ListOf ℕ) → AllFor R xs (k.outs e) → (l : ListOf Action) → Handing xs l → (s : Order) → Straight s l → (n : ℕ) (t : Temporary)
         → Matches (world S) R (giving s n t) q }

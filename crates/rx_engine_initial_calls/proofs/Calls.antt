@@ -22,7 +22,7 @@ use Rattle.rx_engine_related.specs.AboutRun.{special_of, text_of}
 use Rattle.rx_engine_related.specs.Accepted.{Accepted}
 use Rattle.rx_engine_initial.specs.Matching.{Hist, Reach, Good, Comes, gone, both_leave, Piece, doing, ending, fill, Runs, done, does_one, begins, Aways, Closes, IsCall, Matches, is_call}
 use Rattle.rx_engine_initial.specs.Matching as matching
-use Rattle.rx_engine_initial.specs.Variables.{as_itself, by_reference, Sides, both_end, LikePart, Known, set_view, fresh_view, part_set, not_assigned}
+use Rattle.rx_engine_initial.specs.Variables.{as_itself, by_reference, Sides, both_end, LikePart, KnownVariables, set_view, fresh_view, part_set, not_assigned}
 use Rattle.rx_engine_initial.specs.Copies.{world}
 use Rattle.rx_engine_initial.specs.Planned.{IsTextOf}
 use Rattle.rx_engine_initial.specs.Fates.{NotLive, Fate, untouched, lent, handed_out, needless, begins_again, Fates}
@@ -55,7 +55,7 @@ module _ (A : Asked) (k : Plan) (plan : IsPlan A k) (S : Sides) (acc : Accepted 
 
   -- ---- the way of an exit, beside a walk of the text to it
 
-  module _ (R : Known S) (t : Order) (e : Exit) (exits : Among e k.exits) (u : List Action) (out : Out) (walk : Walk t u out) (g : IsGoneThrough A k e u) where
+  module _ (R : KnownVariables S) (t : Order) (e : Exit) (exits : Among e k.exits) (u : List Action) (out : Out) (walk : Walk t u out) (g : IsGoneThrough A k e u) where
     module _ (w : List Action) (reach : Reach (world S) t w) where
       there : IsWalk (text_of A k) (w ++ u)
       there = subst (λ (f : Function). IsWalk f (w ++ u)) o.text (reach u out walk)
@@ -74,7 +74,7 @@ module _ (A : Asked) (k : Plan) (plan : IsPlan A k) (S : Sides) (acc : Accepted 
       fate m us x y (is_gone i s d n f) = needless i (not_live m y s n) f (λ a j. g.declared a j y d)
       fate m us x y (is_again s n b c l q f) = begins_again (not_live m y s n) b c l q f
 
-      pub fates : e ≢ returns → (T : Known S) (us : List Action) → ((x y : ℕ) → Among (as_itself x y) T.variables → Becomes S A k e R us x y) → ((x : ℕ) → Among (by_reference x) T.variables → ⊥)
+      pub fates : e ≢ returns → (T : KnownVariables S) (us : List Action) → ((x y : ℕ) → Among (as_itself x y) T.variables → Becomes S A k e R us x y) → ((x : ℕ) → Among (by_reference x) T.variables → ⊥)
           → Fates S R T w us u
       fates n T us f h = record {
         fates = λ x y i. fate n us x y (f x y i);
@@ -110,7 +110,7 @@ module _ (A : Asked) (k : Plan) (plan : IsPlan A k) (S : Sides) (acc : Accepted 
 
   -- ---- the call alone
 
-  module _ (R T : Known S) (H K : List Piece) (q r : Order) (ends : Among next k.exits) (h : IsCallOf S A k R T H) (u : List Action) (runs : Runs K u) (g : IsGoneThrough A k next u) where
+  module _ (R T : KnownVariables S) (H K : List Piece) (q r : Order) (ends : Among next k.exits) (h : IsCallOf S A k R T H) (u : List Action) (runs : Runs K u) (g : IsGoneThrough A k next u) where
     stands_for : ((us : List Action) → Walk q us fails → ⊥) → StandsFor S R T H K q r
     stands_for f = record {
       actions = h.actions;
@@ -128,7 +128,7 @@ module _ (A : Asked) (k : Plan) (plan : IsPlan A k) (S : Sides) (acc : Accepted 
 
   -- ---- its match
 
-  module _ (R T : Known S) (H K : List Piece) (q r : Order) (h : IsMatchOf S A k R T H (fill K r)) (ways : HasWays A k K (fill K r)) where
+  module _ (R T : KnownVariables S) (H K : List Piece) (q r : Order) (h : IsMatchOf S A k R T H (fill K r)) (ways : HasWays A k K (fill K r)) where
     module _ (us w : List Action) (H0 : Hist (world S) R us w) (reach : Reach (world S) (fill K r) w) where
       front_good : (vs : List Action) → IsFront S k R vs → Good (world S) us vs
       front_good vs f = let z = ways.through f.exit f.exits in good_front S new us vs f.rest (subst (λ l. Good (world S) us l) (sym f.is)

@@ -10,4 +10,5 @@ pub mod SeveralJumps
 pub mod OtherActions
 pub mod Reaching
 pub mod Reached
+pub mod Onward
 pub mod Ways

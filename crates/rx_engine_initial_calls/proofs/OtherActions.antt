@@ -36,7 +36,7 @@ act_holds {a = a} rests w rest e = absurd (not_empty a w rest e)
 act_holds (stops h) w rest e = act_holds h w rest e
 act_holds {a = a} {b = b} acts w rest e = only_one a b w rest e
 
-known : {a : Action} {X : Order → Type 0} {s : Order} → Holds a X s → (v rest : List Action) (o : Out) → Walk s (v ++ a ∷ rest) o → X s
+pub known : {a : Action} {X : Order → Type 0} {s : Order} → Holds a X s → (v rest : List Action) (o : Out) → Walk s (v ++ a ∷ rest) o → X s
 known (is_other b f) v rest o w = absurd (f (act_holds w v rest refl))
 known (is_known x) v rest o w = x
 

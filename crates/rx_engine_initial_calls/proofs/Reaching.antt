@@ -109,33 +109,33 @@ body_same q = cc
 same_block : (n : ℕ) (c d : Around) (b e : Body) (l : List Spot) → Among (a_block c n b) l → Among (a_block d n e) l → blocks_at n l ≤ 1 → b ≡ e
 same_block n c d b e l i j h = body_same (one_spot n l i j (same_self n) (same_self n) h)
 
-abbrev IsHome : Asked → Spot → Type 0
+abbrev pub IsHome : Asked → Spot → Type 0
 IsHome A (a_block c n b) = n ≡ A.run.block → b ≡ A.home.body
 IsHome A (a_jump c n l again) = Unit {0}
 IsHome A (a_return c n) = Unit {0}
 
-is_home : (A : Asked) → Sits A.function A.run A.home → blocks_at A.run.block (spots_of_function A.function) ≤ 1 → (x : Spot) → Among x (spots_of_function A.function) → IsHome A x
+pub is_home : (A : Asked) → Sits A.function A.run A.home → blocks_at A.run.block (spots_of_function A.function) ≤ 1 → (x : Spot) → Among x (spots_of_function A.function) → IsHome A x
 is_home A sits few (a_block c n b) i = λ e. same_block A.run.block c A.home.around b A.home.body (spots_of_function A.function) (subst (λ m. Among (a_block c m b) (spots_of_function A.function)) e i) sits.block few
 is_home A sits few (a_jump c n l again) i = tt
 is_home A sits few (a_return c n) i = tt
 
 -- ---- in it
 
-abbrev within : Asked → List Statement
+abbrev pub within : Asked → List Statement
 within A = map (changed_statement (marking A.home.around.loops)) (inside A.run A.home.body)
 
-abbrev rest_of : Asked → Body
+abbrev pub rest_of : Asked → Body
 rest_of A = before (behind A.run A.home.body) (ends (ended_tail A.run.tail A.run.block A.home.around.loops (tail A.home.body)))
 
-abbrev from_entry : Asked → Body
+abbrev pub from_entry : Asked → Body
 from_entry A = before (within A) (before (ended A.run.tail) (rest_of A))
 
 -- the run and what follows it in its block
-record Entered (A : Asked) (s : Order) : Type 0 where
-  to : Temporary
-  was_to : Temporary
-  unmarked : NoMarks (order_body A.home.body A.run.block was_to)
-  is : s ≡ order_body (from_entry A) A.run.block to
+pub record Entered (A : Asked) (s : Order) : Type 0 where
+  pub to : Temporary
+  pub was_to : Temporary
+  pub unmarked : NoMarks (order_body A.home.body A.run.block was_to)
+  pub is : s ≡ order_body (from_entry A) A.run.block to
 
 home_covered : (A : Asked) (e : Exit) (d f : Temporary) → NoMarks (order_body A.home.body A.run.block f)
     → Covered (Holds (shown (leaves e)) (Entered A)) (order_body (marked_body A.run A.home.around.loops [] A.home.body) A.run.block d)
@@ -168,7 +168,7 @@ function_covered A h sits few e =
     (covered (Holds (shown (leaves e)) (Entered A)) C (IsHome A) (block_covers A e) f.body (outermost f) (temporary_of (changed C f.body)) (temporary_of f.body) (is_home A sits few)
     (of_beginning f.params (mark_of f.body).node (order f.body (temporary_of f.body)) (no_marks (order_function f) h.none)))
 
-comes_there : (A : Asked) → HasNoMark (order_function A.function) → Sits A.function A.run A.home → blocks_at A.run.block (spots_of_function A.function) ≤ 1 → (e : Exit) → SomeComes A (leaves e)
+pub comes_there : (A : Asked) → HasNoMark (order_function A.function) → Sits A.function A.run A.home → blocks_at A.run.block (spots_of_function A.function) ≤ 1 → (e : Exit) → SomeComes A (leaves e)
     → Met (shown (leaves e)) (Entered A)
 comes_there A h sits few e (w, c) = by c
   where
@@ -294,7 +294,7 @@ past_run ls n (binds s p c ∷ ss) ts h =
 
 -- ---- where the run is entered
 
-reads_both : (xs : List ℕ) (v w : List Action) → all_read xs (v ++ w) ≡ all_read xs v ++ w
+pub reads_both : (xs : List ℕ) (v w : List Action) → all_read xs (v ++ w) ≡ all_read xs v ++ w
 reads_both [] v w = refl
 reads_both (x ∷ xs) v w = ap (λ l. entry_read x ∷ l) (reads_both xs v w)
 
@@ -322,10 +322,17 @@ module _ (A : Asked) (k : Plan) (short : A.run.tail ≡ false) where
   rest_never : (a : Action) (m : is_mark a.act ≡ true) (z : Met a (Entered A)) → Never a m (order_body (rest_of A) A.run.block z.is.to)
   rest_never a m z = never_met m (rest_covered A z.is.to z.is.was_to short z.is.unmarked)
 
-  through : (e : Exit) → Met (shown (leaves e)) (Entered A) → (q : Order) → (u : List Action) × Walk (fill (run_pieces A k) q) u stopped × IsGoneThrough A k e u
+  -- it is done behind the reads of the params, whatever follows
+  pub up_to : (e : Exit) (z : Met (shown (leaves e)) (Entered A)) (r : Order) → Walk (fill (run_pieces A k) r) (shown enters ∷ (all_read k.params z.front ++ shown (leaves e) ∷ [])) stopped
+  up_to e z r = subst (λ l. Walk (fill (run_pieces A k) r) (shown enters ∷ l) stopped) (reads_both k.params z.front (shown (leaves e) ∷ []))
+      (both {us = shown enters ∷ []} {vs = all_read k.params (z.front ++ shown (leaves e) ∷ [])} (mark_walk enters)
+      (read_walk A.run.block k.params (within A ++ ended A.run.tail) r (z.front ++ shown (leaves e) ∷ []) stopped
+      (to_it (shown (leaves e)) refl Pieces (order_body (rest_of A) A.run.block z.is.to) r (rest_never (shown (leaves e)) refl z) z.front [] stopped (entered_walk (shown (leaves e)) refl z))))
+
+  pub through : (e : Exit) → Met (shown (leaves e)) (Entered A) → (q : Order) → (u : List Action) × Walk (fill (run_pieces A k) q) u stopped × IsGoneThrough A k e u
   through e z q = (
     shown enters ∷ (all_read k.params z.front ++ shown (leaves e) ∷ []),
-    walks q,
+    up_to e z q,
     record {
       entered = (z.front ++ shown (leaves e) ∷ [], ap (λ l. shown enters ∷ l) (sym (reads_both k.params z.front (shown (leaves e) ∷ []))));
       inner = shown enters ∷ all_read k.params z.front;
@@ -333,17 +340,11 @@ module _ (A : Asked) (k : Plan) (short : A.run.tail ≡ false) where
       left = refl;
       ended = λ b i. elim i [ ];
       named = λ b i y f. done_by (shown (leaves e)) refl (λ s. Untouched y s) (λ c. LeavesBe c.act y) (λ s v o h w c j. walk_leaves y h w c j) (run_pieces A k) orders.nowhere (never_met refl c_nowhere)
-          (untouched_run A k y f) (shown enters ∷ all_read k.params z.front) [] stopped (walks orders.nowhere) b i;
+          (untouched_run A k y f) (shown enters ∷ all_read k.params z.front) [] stopped (up_to e z orders.nowhere) b i;
       declared = λ b i y f. not_begun y b.act (done_by (shown (leaves e)) refl (λ s. Undeclared y s) (λ c. Declares c.act y → ⊥) (λ s v o h w c j. walk_away y h w c j) (run_pieces A k) orders.nowhere (never_met refl c_nowhere)
-          (undeclared_run A k y f) (shown enters ∷ all_read k.params z.front) [] stopped (walks orders.nowhere) b i);
+          (undeclared_run A k y f) (shown enters ∷ all_read k.params z.front) [] stopped (up_to e z orders.nowhere) b i);
     },
   )
-    where
-      walks : (r : Order) → Walk (fill (run_pieces A k) r) (shown enters ∷ (all_read k.params z.front ++ shown (leaves e) ∷ [])) stopped
-      walks r = subst (λ l. Walk (fill (run_pieces A k) r) (shown enters ∷ l) stopped) (reads_both k.params z.front (shown (leaves e) ∷ []))
-          (both {us = shown enters ∷ []} {vs = all_read k.params (z.front ++ shown (leaves e) ∷ [])} (mark_walk enters)
-          (read_walk A.run.block k.params (within A ++ ended A.run.tail) r (z.front ++ shown (leaves e) ∷ []) stopped
-          (to_it (shown (leaves e)) refl Pieces (order_body (rest_of A) A.run.block z.is.to) r (rest_never (shown (leaves e)) refl z) z.front [] stopped (entered_walk (shown (leaves e)) refl z))))
 
   to_end : Met at_end (Entered A) → (u : List Action) × Runs (run_pieces A k) u × IsGoneThrough A k next u
   to_end z =

@@ -14,7 +14,7 @@ use Rattle.rx_exits_plan.specs.Points.{Exit}
 use Rattle.rx_exits_plan.specs.Plan.{Plan}
 use Rattle.rx_meaning_keeping.proofs.Parts.{Parted}
 use Rattle.rx_engine_initial.specs.Matching.{Good}
-use Rattle.rx_engine_initial.specs.Variables.{as_itself, by_reference, Sides, Known}
+use Rattle.rx_engine_initial.specs.Variables.{as_itself, by_reference, Sides, KnownVariables}
 use Rattle.rx_engine_initial.specs.Copies.{IsEasy, easy_copy, easy_take, easy_borrow, easy_test, easy_write, easy_call, easy_build, easy_input, easy_print, easy_give, in_temporary, behind_it, world}
 use Rattle.rx_engine_initial.specs.Entered.{IsNewHere}
 use Rattle.rx_engine_initial.specs.Handing.{Takes, by_read, by_borrow, by_reborrow, Handing, none_taken}
@@ -72,7 +72,7 @@ handing_leaves z (handing.takes_one {n = n} {x = x} {a = a} {us = l} t d h) us e
 handing_leaves z (handing.does_one {n = n} {a = a} {us = l} y h) us e =
     subst (λ k. was_assigned k z ≡ false) (joined us (does n a ∷ []) l) (handing_leaves z h (us ++ does n a ∷ []) (left_so z us (does n a) (easy_leaves z y) e))
 
-module _ (S : Sides) (new : Parted S.frame) (k : Plan) (exit : Exit) (R : Known S) where
+module _ (S : Sides) (new : Parted S.frame) (k : Plan) (exit : Exit) (R : KnownVariables S) where
   -- of a variable for a local that is handed out, and was not assigned yet
   abbrev pub Unassigned : List ℕ → List Action → Type 0
   Unassigned xs us = (x y : ℕ) → Among (as_itself x y) R.variables → Among y k.locals → Among y (k.outs exit) → IsFixed S.muts x → (Among x xs → ⊥) → was_assigned us x ≡ false

@@ -17,18 +17,18 @@ use Rattle.rx_exits_plan.specs.Plan.{Plan, IsPlan}
 use Rattle.rx_exits_plan.specs.PartlyMoved.{PartlyMoved}
 use Rattle.rx_meaning_keeping.proofs.Parts.{parted}
 use Rattle.rx_engine_related.specs.AboutRun.{text_of}
-use Rattle.rx_engine_related.specs.OnePlace.{Meets, alike, ends_in_one, ends_in_other, LeadsToOnePlace}
+use Rattle.rx_engine_related.specs.OnePlace.{MeetInOne, alike, ends_in_one, ends_in_other, LeadsToOnePlace}
 use Rattle.rx_engine_related.specs.Accepted.{Accepted}
 use Rattle.rx_engine_related.proofs.Choosing.{out_is}
 use Rattle.rx_engine_initial.specs.Matching.{Matches, is_gone}
-use Rattle.rx_engine_initial.specs.Variables.{Sides, Known}
+use Rattle.rx_engine_initial.specs.Variables.{Sides, KnownVariables}
 use Rattle.rx_engine_initial.specs.Copies.{world}
 use Rattle.rx_engine_initial.specs.Handing.{Handing, Straight, giving}
 use Rattle.rx_engine_initial.specs.Planned.{IsTextOf, MeetsMark, AllFor}
 use Rattle.rx_engine_initial.proofs.Planned.{out_set, giving_gone, ahead_mark}
 
 -- variables that end are no uses
-meets_ahead : (x : ℕ) {us vs : List Action} → Meets us vs → ahead (living (variable x)) us ≡ ahead (living (variable x)) vs
+meets_ahead : (x : ℕ) {us vs : List Action} → MeetInOne us vs → ahead (living (variable x)) us ≡ ahead (living (variable x)) vs
 meets_ahead x alike = refl
 meets_ahead x (ends_in_one m) = meets_ahead x m
 meets_ahead x (ends_in_other m) = meets_ahead x m
@@ -38,7 +38,7 @@ module _ (A : Asked) (k : Plan) (plan : IsPlan A k) (e : Exit) (exits : Among e 
       → (us : List Action) × IsWalk (text_of A k) (w ++ shown (leaves e) ∷ us) × (ahead (living (variable x)) us ≡ true)
   out_needed x o w c = let l = (out_is A k plan e exits x o).1 in let m = led l.0 w l.1 l.2 c in (m.0, m.2, sym (meets_ahead x m.1) ∙ l.3)
 
-  module _ (S : Sides) (sized : Sized S.frame.declared S.frame.sizes) (acc : Accepted A S.muts_there) (o : IsTextOf S A k) (R : Known S) (q : Order) (whole : (x : ℕ) → ¬ (PartlyMoved A k x))
+  module _ (S : Sides) (sized : Sized S.frame.declared S.frame.sizes) (acc : Accepted A S.muts_there) (o : IsTextOf S A k) (R : KnownVariables S) (q : Order) (whole : (x : ℕ) → ¬ (PartlyMoved A k x))
       (meets : MeetsMark S (leaves e) q) where
     set : (w : List Action) → IsWalk S.text (w ++ shown (leaves e) ∷ []) → (y : ℕ) → Among y (k.outs e) → AllSet S.frame_there w (own y)
     set w c y m = subst (λ (F : Frame). AllSet F w (own y)) (sym o.types) (out_set A S.muts_there acc k plan e y (whole y) exits m w (subst (λ (g : Function). IsWalk g (w ++ shown (leaves e) ∷ [])) o.text c))

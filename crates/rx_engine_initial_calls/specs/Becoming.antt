@@ -11,11 +11,11 @@ use Rattle.rx_exits_plan.specs.Asked.{Asked}
 use Rattle.rx_exits_plan.specs.Plan.{Plan, variables_of, foreign_of}
 use Rattle.rx_engine_simulation.specs.Sights.{In}
 use Rattle.rx_engine_related.specs.AboutRun.{special_of}
-use Rattle.rx_engine_initial.specs.Variables.{as_itself, Sides, Known}
+use Rattle.rx_engine_initial.specs.Variables.{as_itself, Sides, KnownVariables}
 use Rattle.rx_engine_initial.specs.Fates.{AllLeave}
 
 -- `us`: what the caller does in place of the run; `x` is for the text's `y`
-pub data Becomes (S : Sides) (A : Asked) (k : Plan) (e : Exit) (R : Known S) (us : List Action) (x y : ℕ) : Type 0 where
+pub data Becomes (S : Sides) (A : Asked) (k : Plan) (e : Exit) (R : KnownVariables S) (us : List Action) (x y : ℕ) : Type 0 where
   -- the run does not name it
   is_unnamed : Among (as_itself x y) R.variables → (Among y (variables_of A) → ⊥) → AllLeave us x → Becomes S A k e R us x y
   -- a param that is lent or copied

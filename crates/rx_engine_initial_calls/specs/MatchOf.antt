@@ -10,14 +10,14 @@ use Rattle.rx_exits_plan.specs.Points.{Exit, next, returns}
 use Rattle.rx_exits_plan.specs.Asked.{Asked}
 use Rattle.rx_exits_plan.specs.Plan.{Plan}
 use Rattle.rx_engine_initial.specs.Matching.{SameExit, Piece, Runs, Fronts, Aways, Stays}
-use Rattle.rx_engine_initial.specs.Variables.{as_itself, Sides, Known}
+use Rattle.rx_engine_initial.specs.Variables.{as_itself, Sides, KnownVariables}
 use Rattle.rx_engine_initial_calls.specs.Received.{IsWay}
 use Rattle.rx_engine_initial_calls.specs.Becoming.{Becomes}
 use Rattle.rx_engine_initial_calls.specs.GoneThrough.{IsGoneThrough}
 use Rattle.rx_engine_initial_calls.specs.CallOf.{Scopes}
 
 -- a front of the way of some exit
-pub record IsFront (S : Sides) (k : Plan) (R : Known S) (us : List Action) : Type 0 where
+pub record IsFront (S : Sides) (k : Plan) (R : KnownVariables S) (us : List Action) : Type 0 where
   pub exit : Exit
   pub exits : Among exit k.exits
   pub all : List Action
@@ -26,18 +26,18 @@ pub record IsFront (S : Sides) (k : Plan) (R : Known S) (us : List Action) : Typ
   pub is : us ++ rest ≡ all
 
 -- where it leaves: it returns, or some walk of the text leaves so by an exit, and each variable outside becomes what the plan says of it there
-pub data LeavesSo (S : Sides) (A : Asked) (k : Plan) (R : Known S) (t : Order) (us : List Action) : orders.Exit → Type 0 where
+pub data LeavesSo (S : Sides) (A : Asked) (k : Plan) (R : KnownVariables S) (t : Order) (us : List Action) : orders.Exit → Type 0 where
   by_return : {n : ℕ} → LeavesSo S A k R t us (orders.returns n)
   by_jump : {i j : orders.Exit} {u : List Action} (e : Exit) → Among e k.exits → e ≢ returns → SameExit (λ l m. Among (l, m) R.loops) j i → Walk t u (leaves i) → IsGoneThrough A k e u
       → ((x y : ℕ) → Among (as_itself x y) R.variables → Becomes S A k e R us x y) → LeavesSo S A k R t us j
 
-pub record GoesOn (S : Sides) (A : Asked) (k : Plan) (R T : Known S) (us : List Action) : Type 0 where
+pub record GoesOn (S : Sides) (A : Asked) (k : Plan) (R T : KnownVariables S) (us : List Action) : Type 0 where
   pub exits : Among next k.exits
   pub way : IsWay S k next R us
   pub becomes : (x y : ℕ) → Among (as_itself x y) T.variables → Becomes S A k next R us x y
 
 -- `t`: the run in front of the rest of its block
-pub record IsMatchOf (S : Sides) (A : Asked) (k : Plan) (R T : Known S) (H : List Piece) (t : Order) : Type 0 where
+pub record IsMatchOf (S : Sides) (A : Asked) (k : Plan) (R T : KnownVariables S) (H : List Piece) (t : Order) : Type 0 where
   pub stays : Stays H
   pub fronts : (us : List Action) → Fronts H us → IsFront S k R us
   pub goes_on : (us : List Action) → Runs H us → GoesOn S A k R T us

@@ -9,7 +9,7 @@ use Rattle.rx_lower_walks.specs.Walks.{Among}
 use Rattle.rx_facts_tables.specs.Initialised.{IsFixed}
 use Rattle.rx_exits_plan.specs.Points.{Exit}
 use Rattle.rx_exits_plan.specs.Plan.{Plan}
-use Rattle.rx_engine_initial.specs.Variables.{as_itself, Sides, Known}
+use Rattle.rx_engine_initial.specs.Variables.{as_itself, Sides, KnownVariables}
 use Rattle.rx_engine_initial.specs.Copies.{IsEasy}
 use Rattle.rx_engine_initial.specs.Handing.{Takes, Handing}
 use Rattle.rx_engine_initial.specs.Planned.{AllFor}
@@ -25,7 +25,7 @@ abbrev pub LeftOf : ℕ → List ℕ → List ℕ → Type 0
 LeftOf x hs gs = (z : ℕ) → Among z gs → Among z hs × (x ≡ z → ⊥)
 
 -- by the variables that hold what was received, and those outside that were assigned
-pub data Receives (S : Sides) (k : Plan) (e : Exit) (R : Known S) : List ℕ → List ℕ → List Action → Type 0 where
+pub data Receives (S : Sides) (k : Plan) (e : Exit) (R : KnownVariables S) : List ℕ → List ℕ → List Action → Type 0 where
   no_more : {hs xs : List ℕ} → Receives S k e R hs xs []
   receives_one : {m n x : ℕ} {t : Temporary} {ss : List Step} {hs xs : List ℕ} {us : List Action} → IsNewHere R.variables x → Receives S k e R (x ∷ hs) xs us
       → Receives S k e R hs xs (does m (Declare x) ∷ does n (Write (own x) t ss) ∷ us)
@@ -37,7 +37,7 @@ pub data Receives (S : Sides) (k : Plan) (e : Exit) (R : Known S) : List ℕ →
   does_one : {n : ℕ} {a : Act} {hs xs : List ℕ} {us : List Action} → IsEasy [] a → Receives S k e R hs xs us → Receives S k e R hs xs (does n a ∷ us)
 
 -- one way through: params are taken, each variable once, the call is made, and what it gives is received
-pub record IsWay (S : Sides) (k : Plan) (e : Exit) (R : Known S) (us : List Action) : Type 0 where
+pub record IsWay (S : Sides) (k : Plan) (e : Exit) (R : KnownVariables S) (us : List Action) : Type 0 where
   pub taken : List ℕ
   pub arguments : List Action
   pub takes : Handing taken arguments

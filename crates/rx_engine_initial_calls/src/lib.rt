@@ -4,7 +4,8 @@
 mod laws;
 
 pub use laws::{
-    calls_of_plans_match, calls_of_reached_runs_match, exits_of_several_jumps_match,
-    lent_variables_stand, matched_calls_match, matched_calls_of_reached_runs_match,
-    reached_exits_are_gone_through, runs_are_pieces,
+    calls_of_plans_match, calls_of_reached_runs_match, exits_of_reached_runs_match,
+    exits_of_several_jumps_match, jumps_leave_reached_runs, lent_variables_stand,
+    matched_calls_match, matched_calls_of_reached_runs_match, reached_exits_are_gone_through,
+    runs_are_pieces,
 };

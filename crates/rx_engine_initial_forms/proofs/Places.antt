@@ -9,7 +9,7 @@ use Rattle.rx_lower_walks.specs.Walks.{Among}
 use Rattle.rx_facts_tables.specs.Wholes.{placed}
 use Rattle.rx_engine_simulation.specs.Sights.{How, through, viewed, Sight, sight, Renaming, sight_of}
 use Rattle.rx_engine_simulation.specs.Places.{LikeSteps, no_steps, fields, variants, derefs, Use, IsDirect, LikePlace, direct, behind, shared, of_temporary}
-use Rattle.rx_engine_initial.specs.Variables.{Kept, as_itself, by_reference, Sides, SameWay, both_end, both_field, both_variant, both_behind, Known}
+use Rattle.rx_engine_initial.specs.Variables.{Kept, as_itself, by_reference, Sides, SameWay, both_end, both_field, both_variant, both_behind, KnownVariables}
 use Rattle.rx_engine_initial.specs.Copies.{IsSafe, in_temporary, behind_it, easy_copy, easy_take, easy_borrow, easy_test, easy_write, IsCopy, reads, writes, borrows, tests, easily}
 use Rattle.rx_engine_initial.proofs.Uses.{some_is}
 use Rattle.rx_engine_initial_forms.specs.Agreeing.{Agrees, MovesSo}
@@ -20,7 +20,7 @@ same_way (fields s) = both_field (same_way s)
 same_way (variants s) = both_variant (same_way s)
 same_way (derefs s) = both_behind
 
-module _ (S : Sides) (N : Renaming) (R : Known S) (g : Agrees S N R) where
+module _ (S : Sides) (N : Renaming) (R : KnownVariables S) (g : Agrees S N R) where
   pub read_copy : {u : Use} {p q : Place} (l : LikePlace N u p q) (v z : Bool) → MovesSo l v z → (d t : Temporary) → IsCopy R.variables (Read z q d) (Read v p t)
   read_copy (direct {x = x} {y = y} w e i a s) v z m d t = reads (g.as_they_are x y w e i) (same_way s) m
   read_copy {p = p} (behind {x = x} {y = y} {k = k} {ss' = ss} w n e a s) v z m d t =

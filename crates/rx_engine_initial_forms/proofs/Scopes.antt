@@ -3,13 +3,13 @@ use Rattle.std.proofs.Common.{◌≡◌, ◌⊎◌, inl, inr, ℕ, Bool, true, f
 use Rattle.rx_lower_walks.specs.Walks.{Among, here, there}
 use Rattle.rx_engine_simulation.specs.Sights.{Hold, How, through, viewed, Sight, sight, Renaming, sight_of, IsNew}
 use Rattle.rx_engine_simulation.specs.Places.{IsDirect}
-use Rattle.rx_engine_initial.specs.Variables.{Kept, as_itself, by_reference, Sides, LikeVariable, Known}
+use Rattle.rx_engine_initial.specs.Variables.{Kept, as_itself, by_reference, Sides, LikeVariable, KnownVariables}
 use Rattle.rx_engine_initial.specs.Entered.{OneMore}
 use Rattle.rx_engine_initial.proofs.Ways.{same_self, other_number}
 use Rattle.rx_engine_initial.proofs.Uses.{some_is, none_is}
 use Rattle.rx_engine_initial_forms.specs.Agreeing.{Agrees}
 
-module _ (S : Sides) (N : Renaming) (R : Known S) (g : Agrees S N R) (x y : ℕ) (w : How) (d : IsDirect w) (new_there : sight_of N x ≡ None) (new_here : IsNew N y) (like : LikeVariable S y x) where
+module _ (S : Sides) (N : Renaming) (R : KnownVariables S) (g : Agrees S N R) (x y : ℕ) (w : How) (d : IsDirect w) (new_there : sight_of N x ≡ None) (new_here : IsNew N y) (like : LikeVariable S y x) where
   -- the new function's variable is none of those in scope, nor is the text's
   not_here : {A : Type 0} (b : ℕ) → Among (as_itself y b) R.variables → A
   not_here b i = let z = g.no_others b y i in absurd (new_here b (sight y z.0) z.1 refl)
@@ -50,7 +50,7 @@ module _ (S : Sides) (N : Renaming) (R : Known S) (g : Agrees S N R) (x y : ℕ)
   alike a b here = like
   alike a b (there i) = R.alike a b i
 
-  abbrev more : Known S
+  abbrev more : KnownVariables S
   more = record { variables = as_itself y x ∷ R.variables; loops = R.loops; one_there = one_there; one_here = one_here; apart = apart; alike = alike }
 
   -- what the longer renaming says: of the new variable, or what was said
@@ -75,7 +75,7 @@ module _ (S : Sides) (N : Renaming) (R : Known S) (g : Agrees S N R) (x y : ℕ)
   no_other_references : (a : ℕ) → Among (by_reference a) (as_itself y x ∷ R.variables) → (z : ℕ) × (h : How) × (sight_of ((x, sight y w) ∷ N) z ≡ Some (sight a h))
   no_other_references a (there i) = let q = g.no_other_references a i in (q.0, q.1, further q.0 (sight a q.1) q.2)
 
-  pub one_more : (T : Known S) × OneMore S R T (as_itself y x) × Agrees S ((x, sight y w) ∷ N) T
+  pub one_more : (T : KnownVariables S) × OneMore S R T (as_itself y x) × Agrees S ((x, sight y w) ∷ N) T
   one_more = (
     more,
     record { variables = refl; loops = refl },

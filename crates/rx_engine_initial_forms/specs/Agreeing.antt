@@ -10,9 +10,9 @@ use Rattle.rx_engine_simulation.specs.Histories.{Facts}
 use Rattle.rx_engine_simulation.specs.Sights.{Hold, How, through, viewed, sight, Renaming, sight_of}
 use Rattle.rx_engine_simulation.specs.Places.{Use, IsDirect, LikePlace, direct, behind, shared, of_temporary}
 use Rattle.rx_engine_simulation.specs.Binders.{LikeTaken, takes_none, takes_read, takes_borrow, LikeBindings, no_binding, binding_and}
-use Rattle.rx_engine_initial.specs.Variables.{as_itself, by_reference, Sides, LikeVariable, Known}
+use Rattle.rx_engine_initial.specs.Variables.{as_itself, by_reference, Sides, LikeVariable, KnownVariables}
 
-pub record Agrees (S : Sides) (N : Renaming) (R : Known S) : Type 0 where
+pub record Agrees (S : Sides) (N : Renaming) (R : KnownVariables S) : Type 0 where
   pub as_they_are : (x y : ℕ) (w : How) → sight_of N x ≡ Some (sight y w) → IsDirect w → Among (as_itself y x) R.variables
   pub behind_them : (x y : ℕ) (w : Hold) (m : Bool) → sight_of N x ≡ Some (sight y (through w m)) → Among (by_reference y) R.variables
   pub seen_through : (x y : ℕ) → sight_of N x ≡ Some (sight y viewed) → Among (by_reference y) R.variables

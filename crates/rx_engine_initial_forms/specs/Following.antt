@@ -12,21 +12,21 @@ use Rattle.rx_engine_simulation.specs.Sights.{Renaming}
 use Rattle.rx_engine_simulation.specs.Jumps.{Jumping, loop_of}
 use Rattle.rx_engine_simulation.specs.Openings.{Openings}
 use Rattle.rx_engine_simulation.specs.Like.{LikeExp, opens, reads, borrows, views, shares, builds, builds_structs, builds_variants, units, lazies, assigns, updates, calls, inputs, prints, blocks, chooses, loops, stays, gives, LikeAll, no_operands, operands_and, LikeMatched, at_places, of_values, LikeArms, no_arms, arms_and, LikeBody, opens_in, ends_in, runs_on, declares_all, lets_in, reads_place, looks_behind}
-use Rattle.rx_engine_initial.specs.Variables.{Sides, Known}
+use Rattle.rx_engine_initial.specs.Variables.{Sides, KnownVariables}
 use Rattle.rx_engine_initial_forms.specs.Alike.{AlikeExp, AlikeBody}
 use Rattle.rx_engine_initial_forms.specs.Agreeing.{Agrees, MovesSo, AllLike, BindingsSo}
 
 -- the loops around
-pub record AgreesOnLoops (S : Sides) (J : Jumping) (R : Known S) : Type 0 where
+pub record AgreesOnLoops (S : Sides) (J : Jumping) (R : KnownVariables S) : Type 0 where
   pub known : (l k : ℕ) → loop_of J.loops l ≡ Some k → Among (k, l) R.loops
   pub no_others : (l k : ℕ) → Among (k, l) R.loops → loop_of J.loops l ≡ Some k
 
 -- the answer's tree, and the text's
 abbrev pub ExpAsked : Sides → Jumping → Renaming → Exp → Exp → Type 0
-ExpAsked S J N e f = (R : Known S) → Agrees S N R → AgreesOnLoops S J R → AlikeExp S R e f
+ExpAsked S J N e f = (R : KnownVariables S) → Agrees S N R → AgreesOnLoops S J R → AlikeExp S R e f
 
 abbrev pub BodyAsked : Sides → Jumping → Renaming → Body → Body → Type 0
-BodyAsked S J N b c = (R : Known S) → Agrees S N R → AgreesOnLoops S J R → AlikeBody S R b c
+BodyAsked S J N b c = (R : KnownVariables S) → Agrees S N R → AgreesOnLoops S J R → AlikeBody S R b c
 
 module _ (S : Sides) {items : ℕ → ℕ} {O : Openings} {gain : Allowance} {V : Facts} where
   abbrev mutual

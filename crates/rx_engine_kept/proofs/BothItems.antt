@@ -4,7 +4,7 @@ use Rattle.std.proofs.Common.{◌≡◌, ℕ, suc, List, [], ◌∷◌, ◌++◌
 use Rattle.rx_core.specs.declared.types.Ty.{Ty}
 use Rattle.rx_core.specs.declared.types.Ty.TheVariants as ty
 use Rattle.rx_tree.specs.Plain.{TypeTree, FieldOf, VariantOf, Parameter, ProgramTree}
-use Rattle.rx_resolve_names.specs.Scopes.{Declared}
+use Rattle.rx_resolve_names.specs.Scopes.{DeclaredNames}
 use Rattle.rx_resolve_names.specs.declared.resolved.ItemNames.{ItemNames}
 use Rattle.rx_resolve_names.specs.declared.resolved.NodeNames.{NodeNames}
 use Rattle.rx_resolve_names.specs.Steps as names
@@ -64,7 +64,7 @@ one_parameter I at i x xs c c' e =
     let same : y.0 ≡ o.0.tables = ap (λ (z : Bound). z.tables) (the_same (record { bindings = d.0; tables = y.0 }) o.0 y.2) in
     record { behind = o.0; typ = y.1 ∙ ap (λ (z : ItemNames). Ok z) same; others = o.2 }
 
-module _ (P Q : ProgramTree) (items : ℕ → ℕ) (k : Keeps items P Q) (a b : ℕ) (L : Declared) where
+module _ (P Q : ProgramTree) (items : ℕ → ℕ) (k : Keeps items P Q) (a b : ℕ) (L : DeclaredNames) where
   abbrev I : Inside
   I = record { program = P; item = a; lifetimes = L }
 
@@ -85,7 +85,7 @@ module _ (P Q : ProgramTree) (items : ℕ → ℕ) (k : Keeps items P Q) (a b : 
       by ls n q d (Some x) e = let r = (h (with_one.0 x) (one_leaves x)).go ls n q (takes_one P y l ls n x q e d) in (r.0, r.1, r.2, sym (answer_one Q y l' ls n x e) ∙ r.3)
 
   module _ (F G : List NodeNames) where
-    pub fields_both : (at at' : List ℕ) (ds ds' : Declared) (i i' : ℕ) (fs : List FieldOf) (t t' u u' : ItemNames) → in_declared I at ds i fs t ≡ Ok t' → in_declared J at' ds' i' fs u ≡ Ok u' → (m m' : List NodeNames) → F ≡ t'.names ++ m → G ≡ u'.names ++ m'
+    pub fields_both : (at at' : List ℕ) (ds ds' : DeclaredNames) (i i' : ℕ) (fs : List FieldOf) (t t' u u' : ItemNames) → in_declared I at ds i fs t ≡ Ok t' → in_declared J at' ds' i' fs u ≡ Ok u' → (m m' : List NodeNames) → F ≡ t'.names ++ m → G ≡ u'.names ++ m'
         → Left F G t u (λ l l'. Goes Any (fields_of P fs) (fields_of Q fs) l l' m m')
     fields_both at at' ds ds' i i' [] t t' u u' e f m m' h g = record {
       left = m;
@@ -110,7 +110,7 @@ module _ (P Q : ProgramTree) (items : ℕ → ℕ) (k : Keeps items P Q) (a b : 
               (goes_map (type_of P in_field.0 x.typ) (type_of Q in_field.0 x.typ) (λ t. record { name = x.name.name; ty = t }) (λ t. record { name = x.name.name; ty = t }) (one.goes in_field.0 field_leaves)) more.goes;
         }
 
-    pub variants_both : (at at' : List ℕ) (ds ds' : Declared) (n n' i i' : ℕ) (vs : List VariantOf) (t t' u u' : ItemNames) → in_variants I at ds n i vs t ≡ Ok t' → in_variants J at' ds' n' i' vs u ≡ Ok u' → (m m' : List NodeNames) → F ≡ t'.names ++ m → G ≡ u'.names ++ m'
+    pub variants_both : (at at' : List ℕ) (ds ds' : DeclaredNames) (n n' i i' : ℕ) (vs : List VariantOf) (t t' u u' : ItemNames) → in_variants I at ds n i vs t ≡ Ok t' → in_variants J at' ds' n' i' vs u ≡ Ok u' → (m m' : List NodeNames) → F ≡ t'.names ++ m → G ≡ u'.names ++ m'
         → Left F G t u (λ l l'. Goes Any (variants_of P vs) (variants_of Q vs) l l' m m')
     variants_both at at' ds ds' n n' i i' [] t t' u u' e f m m' h g = record {
       left = m;

@@ -6,7 +6,7 @@ use Rattle.rx_core.specs.declared.types.Ty.TheVariants as ty
 use Rattle.rx_tree.specs.declared.tree.Ident.{Ident}
 use Rattle.rx_tree.specs.Plain as plain
 use Rattle.rx_tree.specs.Plain.{TypeTree, TypeTrees, ItemTree, ProgramTree}
-use Rattle.rx_resolve_names.specs.Scopes.{Declared}
+use Rattle.rx_resolve_names.specs.Scopes.{DeclaredNames}
 use Rattle.rx_resolve_names.specs.declared.resolved.ItemNames.{ItemNames}
 use Rattle.rx_resolve_names.specs.declared.resolved.NodeNames.{NodeNames}
 use Rattle.rx_resolve_names.specs.Meant.{type_name, has_name, item_named, as_type}
@@ -73,7 +73,7 @@ written_lifetime n n' u u' l l' g g' same =
     (λ a b r. subst (λ (z : ℕ). Goes Any (occurs z) (occurs (first b)) l l' l l') (sym (ap first (r.0 ∙ g)))
     (subst (λ (z : ℕ). Goes Any (occurs n) (occurs z) l l' l l') (sym (ap first (r.1 ∙ g') ∙ same)) (occurs_goes n l l')))
 
-module _ (P Q : ProgramTree) (items : ℕ → ℕ) (k : Keeps items P Q) (a b : ℕ) (L : Declared) where
+module _ (P Q : ProgramTree) (items : ℕ → ℕ) (k : Keeps items P Q) (a b : ℕ) (L : DeclaredNames) where
   abbrev I : Inside
   I = record { program = P; item = a; lifetimes = L }
 

@@ -13,7 +13,7 @@ use Rattle.rx_resolve_names.specs.Holding as text
 use Rattle.rx_typed.specs.Types.{Declared, Declarations}
 use Rattle.rx_typed.specs.PlainTypes.{declarations}
 use Rattle.rx_typed.specs.declared.declarations.Decl.{Decl}
-use Rattle.rx_typed_declarations.specs.Held.{held}
+use Rattle.rx_typed_declarations.specs.Held.{held_by_each}
 use Rattle.rx_typed_declarations.specs.Sizes.{declared_parts, Sized}
 use Rattle.rx_typeck_typed.specs.Steps.{on_ok}
 use Rattle.rx_typeck_typed.specs.Items.{declared_item, declared_items, entries_of}
@@ -105,7 +105,7 @@ module _ (P : ProgramTree) (r : Run) (pl : Plan) (bs : Bounds) (s : Span) (f : F
 
   -- ---- limits
 
-  module _ (apart : NoCycle (held D)) (fits : EnumFits D pl) (W : ℕ → ℕ) (z : Sized E W) where
+  module _ (apart : NoCycle (held_by_each D)) (fits : EnumFits D pl) (W : ℕ → ℕ) (z : Sized E W) where
     abbrev before : ℕ → ℕ
     before i = W (past r.item (added pl) i)
 
@@ -146,7 +146,7 @@ module _ (P : ProgramTree) (r : Run) (pl : Plan) (bs : Bounds) (s : Span) (f : F
         by (inl h) = enum_item_fits (suc (r.item + i)) h.0 (ap (slice_get E) h.2 ∙ enum_declared_there P r pl bs s f there free (λ k. k) (λ k. k) N ns ms es n m e h.0)
         by (inr h) = function_item_fits (suc (r.item + i)) (ap (slice_get E) h.1 ∙ function_declared_there P r pl bs s f there free (λ k. k) (λ k. k) N ns ms es n m e)
 
-  pub extraction_fits : NoCycle (held D) → length Q < 4294967296 → NoCycle (text.held Q) → EnumFits D pl → Fits Q E
+  pub extraction_fits : NoCycle (held_by_each D) → length Q < 4294967296 → NoCycle (text.held_in_tree Q) → EnumFits D pl → Fits Q E
   extraction_fits apart small none fits =
       let finite = finite_by_text Q ms es m e none in
       let many : length E ≡ length Q = count_plain es ∙ count_declared Q ms 0 Q es e in

@@ -9,8 +9,8 @@ use Rattle.rx_tree.specs.declared.tree.Ident.{Ident}
 use Rattle.rx_tree.specs.declared.tree.BoundLifetime.{BoundLifetime}
 use Rattle.rx_tree.specs.Plain as plain
 use Rattle.rx_tree.specs.Plain.{TypeTree, VariantOf, Parameter, Function, ItemTree, ProgramTree}
-use Rattle.rx_resolve_names.specs.declared.table.Known.{Known}
-use Rattle.rx_resolve_names.specs.Scopes.{Declared, declared_as}
+use Rattle.rx_resolve_names.specs.declared.table.NumberedName.{NumberedName}
+use Rattle.rx_resolve_names.specs.Scopes.{DeclaredNames, declared_as}
 use Rattle.rx_resolve_names.specs.declared.resolved.ItemNames.{ItemNames}
 use Rattle.rx_resolve_names.specs.declared.resolved.NodeNames.{NodeNames}
 use Rattle.rx_resolve_names.specs.Meant.{number, kept, firsts, number_in, type_name, item_named, as_type, Around}
@@ -68,26 +68,26 @@ one_counts n s ds ls e = refl
 
 -- ---- the numbers of declared lifetimes
 
-abbrev EachNumber : Declared → ℕ → List Ident → Type 0
+abbrev EachNumber : DeclaredNames → ℕ → List Ident → Type 0
 EachNumber ds n [] = Unit {0}
 EachNumber ds n (x ∷ xs) = (number_in ds x.name ≡ Some (number n)) × EachNumber ds (suc n) xs
 
 -- each means its place
-numbered_once : (ds : Declared) (n : ℕ) (xs : List Ident) (t t' : ItemNames) → distinct ds n xs t ≡ Ok t' → EachNumber (firsts ds n xs) n xs
+numbered_once : (ds : DeclaredNames) (n : ℕ) (xs : List Ident) (t t' : ItemNames) → distinct ds n xs t ≡ Ok t' → EachNumber (firsts ds n xs) n xs
 numbered_once ds n [] t t' e = tt
 numbered_once ds n (x ∷ xs) t t' e =
-    let k : Known = record { number = number n; span = x.span } in
+    let k : NumberedName = record { number = number n; span = x.span } in
     let a = named_ok (declare ds x n) (λ ds. distinct ds (suc n) xs t) t' e in
-    by (declared_as ds x.name) refl a.0 a.1 (λ same. numbered_once (ds ++ (x.name, k) ∷ []) (suc n) xs t t' (subst (λ (z : Declared). distinct z (suc n) xs t ≡ Ok t') (sym same) a.2))
+    by (declared_as ds x.name) refl a.0 a.1 (λ same. numbered_once (ds ++ (x.name, k) ∷ []) (suc n) xs t t' (subst (λ (z : DeclaredNames). distinct z (suc n) xs t ≡ Ok t') (sym same) a.2))
   where
-    by : (o : Option Known) → declared_as ds x.name ≡ o → (es : Declared) → declared_behind ds x n o ≡ Ok es
+    by : (o : Option NumberedName) → declared_as ds x.name ≡ o → (es : DeclaredNames) → declared_behind ds x n o ≡ Ok es
         → (ds ++ (x.name, record { number = number n; span = x.span }) ∷ [] ≡ es → EachNumber (firsts (ds ++ (x.name, record { number = number n; span = x.span }) ∷ []) (suc n) xs) (suc n) xs)
         → EachNumber (firsts (kept ds x n o) (suc n) xs) n (x ∷ xs)
     by (Some k) none es d rest = absurd (cc)
     by None none es d rest =
-        let k : Known = record { number = number n; span = x.span } in
+        let k : NumberedName = record { number = number n; span = x.span } in
         let now = ds ++ (x.name, k) ∷ [] in (
-          ap (λ (o : Option Known). option_map (λ (k : Known). k.number) o) (firsts_keep now (suc n) xs x.name k (declared_last ds x.name x.name k none (same_name x.name))),
+          ap (λ (o : Option NumberedName). option_map (λ (k : NumberedName). k.number) o) (firsts_keep now (suc n) xs x.name k (declared_last ds x.name x.name k none (same_name x.name))),
           rest (the_same now es d),
         )
 
@@ -112,7 +112,7 @@ module _ (P Q : ProgramTree) (items : ℕ → ℕ) (keeps : Keeps items P Q) (ts
   abbrev row : ℕ → List ℕ
   row = fresh_lifetime pl.lifetimes
 
-  module _ (b : ℕ) (L : Declared) where
+  module _ (b : ℕ) (L : DeclaredNames) where
     abbrev J : Inside
     J = record { program = Q; item = b; lifetimes = L }
 
@@ -130,7 +130,7 @@ module _ (P Q : ProgramTree) (items : ℕ → ℕ) (keeps : Keeps items P Q) (ts
         occur : Occur J s row n many lifetimes
         reads : (ls : List ℕ) (k : ℕ) → (w : List VariantDecl) × (variants_of Q (variants P pl s n xs) (reading l ls k) ≡ Ok (w, reading m (ls ++ lifetimes) k))
 
-      variants_read : (ds : Declared) (c i n : ℕ) (xs : List Leaving) → Every (λ (x : Leaving). Every (λ (t : Typ). NamesTypes P t) (fields_at pl x)) xs → (u u' : ItemNames) → in_variants J [] ds c i (variants P pl s n xs) u ≡ Ok u'
+      variants_read : (ds : DeclaredNames) (c i n : ℕ) (xs : List Leaving) → Every (λ (x : Leaving). Every (λ (t : Typ). NamesTypes P t) (fields_at pl x)) xs → (u u' : ItemNames) → in_variants J [] ds c i (variants P pl s n xs) u ≡ Ok u'
           → (m : List NodeNames) → G ≡ u'.names ++ m → Left u (λ l. VariantsRead xs n (positions_of P (all_fields pl xs)) l m)
       variants_read ds c i n [] h u u' e m g = record {
         left = m;

@@ -10,7 +10,7 @@ use Rattle.rx_tree.specs.Lists.{Every}
 use Rattle.rx_tree.specs.declared.tree.Ident.{Ident}
 use Rattle.rx_tree.specs.Plain as plain
 use Rattle.rx_tree.specs.Plain.{TypeTree, TypeTrees, ItemTree, ProgramTree}
-use Rattle.rx_resolve_names.specs.Scopes.{Declared}
+use Rattle.rx_resolve_names.specs.Scopes.{DeclaredNames}
 use Rattle.rx_resolve_names.specs.declared.resolved.ItemNames.{ItemNames}
 use Rattle.rx_resolve_names.specs.declared.resolved.NodeNames.{NodeNames}
 use Rattle.rx_resolve_names.specs.Steps as names
@@ -168,7 +168,7 @@ counts_there (Some (plain.struct_item s d)) h = refl
 counts_there (Some (plain.enum_item s d)) h = refl
 counts_there (Some (plain.function_item s f)) h = absurd (cc)
 
-module _ (P Q : ProgramTree) (items : ℕ → ℕ) (k : Keeps items P Q) (a b : ℕ) (L : Declared) (find : (t : Shape Kind) → NamesTypes P t → Finds (record { program = P; item = a; lifetimes = L }) P t) (s : Span) (row : ℕ → List ℕ) where
+module _ (P Q : ProgramTree) (items : ℕ → ℕ) (k : Keeps items P Q) (a b : ℕ) (L : DeclaredNames) (find : (t : Shape Kind) → NamesTypes P t → Finds (record { program = P; item = a; lifetimes = L }) P t) (s : Span) (row : ℕ → List ℕ) where
   abbrev J : Inside
   J = record { program = Q; item = b; lifetimes = L }
 

@@ -10,7 +10,7 @@ use Rattle.rx_resolve_names.specs.Holding.{if_found, held_in, held_among, held_b
 use Rattle.rx_typed.specs.Types.{Typ, shapes_of, FieldDeclared, VariantDeclared, Declared, Declarations}
 use Rattle.rx_typed.specs.PlainTypes.{declarations}
 use Rattle.rx_typed.specs.declared.declarations.Decl.{Decl}
-use Rattle.rx_typed_declarations.specs.Held.{named_in, named_among, field_types, variant_types, held_by, held}
+use Rattle.rx_typed_declarations.specs.Held.{named_in, named_among, field_types, variant_types, held_by, held_by_each}
 use Rattle.rx_typeck_typed.specs.Items.{declared_items}
 use Rattle.rx_engine_names.proofs.NoCycles.{to_target, no_cycle_before}
 use Rattle.rx_engine_declared.specs.Denoting.{Denotes, DenoteEach}
@@ -57,18 +57,18 @@ module _ (Q : ProgramTree) where
   item_holds (plain.function_item s f) D d = ap held_by d.2
 
 -- what an edge leads from
-edge_from : (D : Declarations) (n j : ℕ) → IsIn (targets (held D) n) j → (d : Declared) × (slice_get D n ≡ Some d) × IsIn (held_by d) j
+edge_from : (D : Declarations) (n j : ℕ) → IsIn (targets (held_by_each D) n) j → (d : Declared) × (slice_get D n ≡ Some d) × IsIn (held_by d) j
 edge_from [] n j h = absurd h
 edge_from (d ∷ ds) zero j h = (d, refl, h)
 edge_from (d ∷ ds) (suc n) j h = edge_from ds n j h
 
-pub finite_by_text : (Q : ProgramTree) (ms : List ItemNames) (es : List Decl) → in_program Q ≡ Ok ms → declared_items Q ms 0 Q ≡ Ok es → NoCycle (text.held Q) → NoCycle (held (declarations es))
-finite_by_text Q ms es m e none = no_cycle_before (λ (n : ℕ). n) (text.held Q) (held (declarations es)) (λ n j h. (j, refl, λ i same. subst (λ (z : ℕ). IsIn (targets (text.held Q) z) j) same (edge n j h))) none
+pub finite_by_text : (Q : ProgramTree) (ms : List ItemNames) (es : List Decl) → in_program Q ≡ Ok ms → declared_items Q ms 0 Q ≡ Ok es → NoCycle (text.held_in_tree Q) → NoCycle (held_by_each (declarations es))
+finite_by_text Q ms es m e none = no_cycle_before (λ (n : ℕ). n) (text.held_in_tree Q) (held_by_each (declarations es)) (λ n j h. (j, refl, λ i same. subst (λ (z : ℕ). IsIn (targets (text.held_in_tree Q) z) j) same (edge n j h))) none
   where
-    edge : (n j : ℕ) → IsIn (targets (held (declarations es)) n) j → IsIn (targets (text.held Q) n) j
+    edge : (n j : ℕ) → IsIn (targets (held_by_each (declarations es)) n) j → IsIn (targets (text.held_in_tree Q) n) j
     edge n j h = let a = edge_from (declarations es) n j h in by n j a.0 a.1 a.2 (slice_get Q n) refl (tells Q ms es m e n)
       where
-        by : (n j : ℕ) (d : Declared) → slice_get (declarations es) n ≡ Some d → IsIn (held_by d) j → (o : Option ItemTree) → slice_get Q n ≡ o → Tells Q o (slice_get (declarations es) n) → IsIn (targets (text.held Q) n) j
+        by : (n j : ℕ) (d : Declared) → slice_get (declarations es) n ≡ Some d → IsIn (held_by d) j → (o : Option ItemTree) → slice_get Q n ≡ o → Tells Q o (slice_get (declarations es) n) → IsIn (targets (text.held_in_tree Q) n) j
         by n j d at h None is t = absurd (let bad = sym at ∙ t in cc)
         by n j d at h (Some i) is t =
             let same : t.0 ≡ d = one t.0 d (sym t.1 ∙ at) in

@@ -6,9 +6,9 @@ use Rattle.rx_tree.specs.Lists.{Every}
 use Rattle.rx_graph_cycles.specs.Reaches.{NoCycle}
 use Rattle.rx_core.specs.declared.types.Kind.{Kind}
 use Rattle.rx_typed.specs.Types.{Typ, Shape, Shapes, integer, boolean, tuple_of, reference, named, no_shape, shape_and, Declarations, levels, at_least_one, parts, sum_of_parts, keeps_limits}
-use Rattle.rx_typed_declarations.specs.Held.{held}
+use Rattle.rx_typed_declarations.specs.Held.{held_by_each}
 use Rattle.rx_typed_declarations.specs.Sizes.{Sized}
-use Rattle.rx_typeck_solver.specs.Facts.{Known}
+use Rattle.rx_typeck_solver.specs.Facts.{KnownItems}
 use Rattle.rx_hoist_extraction.specs.Plan.{Plan, has_enum}
 use Rattle.rx_hoist_extraction.specs.NewEnum.{all_fields}
 use Rattle.rx_hoist_extraction.specs.NewFunction.{passed_types}
@@ -39,8 +39,8 @@ enum_few : (b : Bool) (n : ℕ) (ns ms : List ℕ) → b ≡ true → first_past
 enum_few true n ns ms h e = (first_within 4096 n ns e).0
 enum_few false n ns ms h e = absurd (cc)
 
-pub limits_give_fits : ((D : Declarations) (P Q : ℕ → ℕ) → NoCycle (held D) → Sized D P → Sized D Q → (i : ℕ) → P i ≡ Q i)
-    → (D : Declarations) (pl : Plan) (Z : ℕ → ℕ) → NoCycle (held D) → Sized D Z → first_past 128 (made_levels pl) ≡ None → first_past 4096 (made_parts Z pl) ≡ None → EnumFits D pl
+pub limits_give_fits : ((D : Declarations) (P Q : ℕ → ℕ) → NoCycle (held_by_each D) → Sized D P → Sized D Q → (i : ℕ) → P i ≡ Q i)
+    → (D : Declarations) (pl : Plan) (Z : ℕ → ℕ) → NoCycle (held_by_each D) → Sized D Z → first_past 128 (made_levels pl) ≡ None → first_past 4096 (made_parts Z pl) ≡ None → EnumFits D pl
 limits_give_fits one D pl Z none z low few h = (
   λ W w.
       let same = one D W Z none w z in
@@ -77,7 +77,7 @@ parts_within : (b : Bool) (f : Typ → ℕ) (n : ℕ) (ts us : List Typ) → fir
 parts_within true f n ts us e = (each_within 4096 f ts (first_within 4096 n (map f ts) e).1, λ h. absurd (cc))
 parts_within false f n ts us e = let a = every_front (λ (t : Typ). f t ≤ 4096) ts us (each_within 4096 f (ts ++ us) e) in (a.0, λ h. a.1)
 
-module _ (r : Renumbering) (D E : Known) (k : Knows r D E) (Z : ℕ → ℕ) (less : (i : ℕ) → D.sizes i ≤ Z i) where
+module _ (r : Renumbering) (D E : KnownItems) (k : Knows r D E) (Z : ℕ → ℕ) (less : (i : ℕ) → D.sizes i ≤ Z i) where
   abbrev Keeps : Typ → Type 0
   Keeps t = keeps_limits E.sizes (shape_at r t) ≡ true
 

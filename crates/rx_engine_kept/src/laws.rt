@@ -12,7 +12,7 @@ ghost use Rattle.rx_resolve_names.specs.Items.{in_item, in_program};
 ghost use Rattle.rx_typed.specs.PlainTypes.{declarations};
 ghost use Rattle.rx_typed.specs.Types.{keeps_limits, Declarations, Typ};
 ghost use Rattle.rx_typed.specs.declared.declarations.Decl.{Decl};
-ghost use Rattle.rx_typed_declarations.specs.Held.{held};
+ghost use Rattle.rx_typed_declarations.specs.Held.{held_by_each};
 ghost use Rattle.rx_typed_declarations.specs.Sizes.{Sized};
 ghost use Rattle.rx_typeck_typed.specs.Items.{declared_item};
 ghost use Rattle.rx_typeck_typed.specs.Programs.{Declares};
@@ -21,7 +21,7 @@ ghost use Rattle.rx_hoist_extraction.specs.Plan.{has_enum, Bounds, Plan};
 ghost use Rattle.rx_hoist_extraction.specs.NewFunction.{passed_types};
 ghost use Rattle.rx_hoist_extraction.specs.Extraction.{extraction};
 ghost use Rattle.rx_hoist_extraction.specs.Limits.{end_types, first_past, made_levels, made_parts};
-ghost use Rattle.rx_typeck_solver.specs.Facts.{Known};
+ghost use Rattle.rx_typeck_solver.specs.Facts.{KnownItems};
 ghost use Rattle.rx_engine_blocks.specs.Renumbering.{shape_at, Renumbering};
 ghost use Rattle.rx_engine_blocks.specs.Knows.{Knows};
 ghost use Rattle.rx_engine_names.specs.Insertion.{Inserted};
@@ -51,7 +51,7 @@ pub fn extractions_declare()
 
 /// Where no type that an extraction makes has too many levels, and none too many parts, its enum of exits keeps the limits of a declaration.
 pub fn enums_of_exits_keep_the_limits()
-    ensures { (D : Declarations) (plan : Plan) (parts : ℕ → ℕ) → NoCycle (held D) → Sized D parts → first_past 128 (made_levels plan) ≡ None → first_past 4096 (made_parts parts plan) ≡ None → EnumFits D plan }
+    ensures { (D : Declarations) (plan : Plan) (parts : ℕ → ℕ) → NoCycle (held_by_each D) → Sized D parts → first_past 128 (made_levels plan) ≡ None → first_past 4096 (made_parts parts plan) ≡ None → EnumFits D plan }
 {
     one_size_each();
 }
@@ -59,6 +59,6 @@ pub fn enums_of_exits_keep_the_limits()
 /// Nor do the types of its new function pass the limits of types there: those of its parameters, and where there is no enum of exits
 /// that of its result.
 pub fn types_of_new_functions_keep_the_limits()
-    ensures { (r : Renumbering) (D E : Known) → Knows r D E → (plan : Plan) (parts : ℕ → ℕ) → ((i : ℕ) → D.sizes i ≤ parts i) → first_past 128 (made_levels plan) ≡ None → first_past 4096 (made_parts parts plan) ≡ None
+    ensures { (r : Renumbering) (D E : KnownItems) → Knows r D E → (plan : Plan) (parts : ℕ → ℕ) → ((i : ℕ) → D.sizes i ≤ parts i) → first_past 128 (made_levels plan) ≡ None → first_past 4096 (made_parts parts plan) ≡ None
         → Every (λ (t : Typ). keeps_limits E.sizes (shape_at r t) ≡ true) (passed_types plan.params) × (has_enum plan.exits ≡ false → Every (λ (t : Typ). keeps_limits E.sizes (shape_at r t) ≡ true) (end_types plan)) }
 {}

@@ -4,7 +4,7 @@ use Rattle.std.proofs.Common.{◌≡◌, ℕ, Bool, true, false, not, ◌&&◌, 
 use Rattle.std.proofs.lemmas.Slice.Eq.{bytes_eq-Decides}
 use Rattle.rx_tree.specs.Plain as plain
 use Rattle.rx_tree.specs.Plain.{Statement, Statements}
-use Rattle.rx_resolve_names.specs.Scopes.{Declared, Variables, variable_named, entered}
+use Rattle.rx_resolve_names.specs.Scopes.{DeclaredNames, Variables, variable_named, entered}
 use Rattle.rx_resolve_names.specs.declared.resolved.ItemNames.{ItemNames}
 use Rattle.rx_resolve_names.specs.Meant.{Around}
 use Rattle.rx_resolve_names.specs.Steps.{and_then, ◌>>◌, Inside, child, next}
@@ -34,11 +34,11 @@ covers_one own sc0 sc y k h x = by (bytes_eq x y)
     by true = (λ e. (k, refl), λ e. absurd (cc))
     by false = h x
 
-covers_piled : (own : Names) (ds : Declared) (sc0 sc : Variables) → Covers own sc0 sc → Covers (piled own ds) sc0 (entered sc ds)
+covers_piled : (own : Names) (ds : DeclaredNames) (sc0 sc : Variables) → Covers own sc0 sc → Covers (piled own ds) sc0 (entered sc ds)
 covers_piled own [] sc0 sc h = h
 covers_piled own (d ∷ ds) sc0 sc h = covers_piled (d.0 ∷ own) ds sc0 (record { name = d.0; number = d.1.number } ∷ sc) (covers_one own sc0 sc d.0 d.1.number h)
 
-covers_entered : (own names : Names) (ds : Declared) (sc0 sc : Variables) → declared_names ds ≡ names → Covers own sc0 sc → Covers (names ++ own) sc0 (entered sc ds)
+covers_entered : (own names : Names) (ds : DeclaredNames) (sc0 sc : Variables) → declared_names ds ≡ names → Covers own sc0 sc → Covers (names ++ own) sc0 (entered sc ds)
 covers_entered own names ds sc0 sc e h x =
     subst (λ (z : Bool). Since z (variable_named (entered sc ds) x) (variable_named sc0 x)) (among_piled x own ds ∙ ap (λ (l : Names). is_among x (l ++ own)) e) (covers_piled own ds sc0 sc h x)
 

@@ -6,7 +6,7 @@ use Rattle.rx_tree.specs.declared.tree.Ident.{Ident}
 use Rattle.rx_tree.specs.declared.tree.BoundLifetime.{BoundLifetime}
 use Rattle.rx_tree.specs.Plain as plain
 use Rattle.rx_tree.specs.Plain.{TypeTree, TypeTrees, PatternTree, Expression, OptionalExpression, Body, Parameter, Function, ItemTree, ProgramTree}
-use Rattle.rx_resolve_names.specs.Scopes.{Declared, variable_named, entered}
+use Rattle.rx_resolve_names.specs.Scopes.{DeclaredNames, variable_named, entered}
 use Rattle.rx_resolve_names.specs.declared.resolved.ItemNames.{ItemNames}
 use Rattle.rx_resolve_names.specs.declared.resolved.NodeNames.{NodeNames}
 use Rattle.rx_resolve_names.specs.Meant.{number, number_in, firsts, lifetimes_declared, to_loop, nowhere}
@@ -36,15 +36,15 @@ use Rattle.rx_engine_names.proofs.KeptItems.{Keeps as KeepsItems, keeps_fits}
 
 -- ---- lifetimes
 
-bounds_same : (P Q : ProgramTree) (a b : ℕ) (L : Declared) (ls : List Ident) → bounds_in (record { program = P; item = a; lifetimes = L }) ls ≡ bounds_in (record { program = Q; item = b; lifetimes = L }) ls
+bounds_same : (P Q : ProgramTree) (a b : ℕ) (L : DeclaredNames) (ls : List Ident) → bounds_in (record { program = P; item = a; lifetimes = L }) ls ≡ bounds_in (record { program = Q; item = b; lifetimes = L }) ls
 bounds_same P Q a b L [] = refl
 bounds_same P Q a b L (l ∷ ls) = ap (both (one (known (number_in L l.name) l.span))) (bounds_same P Q a b L ls)
 
-lifetimes_same : (P Q : ProgramTree) (a b : ℕ) (L ds : Declared) (n : ℕ) (ls : List BoundLifetime) → lifetimes_of (record { program = P; item = a; lifetimes = L }) ds n ls ≡ lifetimes_of (record { program = Q; item = b; lifetimes = L }) ds n ls
+lifetimes_same : (P Q : ProgramTree) (a b : ℕ) (L ds : DeclaredNames) (n : ℕ) (ls : List BoundLifetime) → lifetimes_of (record { program = P; item = a; lifetimes = L }) ds n ls ≡ lifetimes_of (record { program = Q; item = b; lifetimes = L }) ds n ls
 lifetimes_same P Q a b L ds n [] = refl
 lifetimes_same P Q a b L ds n (l ∷ ls) = by (declare ds l.name n) (λ ds. lifetimes_same P Q a b L ds (suc n) ls)
   where
-    by : (o : Outcome Declared) → ((ds : Declared) → lifetimes_of (record { program = P; item = a; lifetimes = L }) ds (suc n) ls ≡ lifetimes_of (record { program = Q; item = b; lifetimes = L }) ds (suc n) ls)
+    by : (o : Outcome DeclaredNames) → ((ds : DeclaredNames) → lifetimes_of (record { program = P; item = a; lifetimes = L }) ds (suc n) ls ≡ lifetimes_of (record { program = Q; item = b; lifetimes = L }) ds (suc n) ls)
         → and_then o (λ ds. both (bounds_in (record { program = P; item = a; lifetimes = L }) l.bounds) (lifetimes_of (record { program = P; item = a; lifetimes = L }) ds (suc n) ls))
         ≡ and_then o (λ ds. both (bounds_in (record { program = Q; item = b; lifetimes = L }) l.bounds) (lifetimes_of (record { program = Q; item = b; lifetimes = L }) ds (suc n) ls))
     by (Err x) h = refl
@@ -67,7 +67,7 @@ or_false false = refl
 abbrev pub untold : Names → Outer
 untold known = record { names = known; tells = λ x o. is_among x known ≡ false → o ≡ None }
 
-scopes_begin : (N : Claims) (M : Made) (known : Names) (ds es : Declared) → BoundAlike M ds es → declared_names ds ≡ known → Scopes [] M N [] (untold known) [] (entered [] ds) (entered [] es)
+scopes_begin : (N : Claims) (M : Made) (known : Names) (ds es : DeclaredNames) → BoundAlike M ds es → declared_names ds ≡ known → Scopes [] M N [] (untold known) [] (entered [] ds) (entered [] es)
 scopes_begin N M known ds es b d =
     let h = scopes_entered [] M no_claims [] (untold []) [] known ds es [] [] b d (record { callees = λ x n. refl; variables = λ x e. absurd (cc); outer = λ x e k. refl }) in record {
       callees = λ x a. by x (is_among x (known ++ [])) (ap (is_among x) (append-nil known)) (h.callees x tt);
@@ -101,20 +101,20 @@ function_numbers {R = R} {t = t} {u = u} {t1 = t1} {u1 = u1} {es = es} {es' = es
     (record { params = h; result = g; body = d })))))))
 
 module _ (L : Frame) (H : Holes) (P Q : ProgramTree) (k : KeepsItems L.items P Q) (i : Span → Option kinds.Kind → Option kinds.Kind) (l : PatternTree → Option TypeTree → Option TypeTree) (b : Body → Body → Body) (N : Claims) (rounds : Rounds) (round : rounds.holds [] []) where
-  abbrev here : ℕ → Declared → Inside
+  abbrev here : ℕ → DeclaredNames → Inside
   here a ls = record { program = P; item = a; lifetimes = ls }
 
-  abbrev there : ℕ → Declared → Inside
+  abbrev there : ℕ → DeclaredNames → Inside
   there a ls = record { program = Q; item = a; lifetimes = ls }
 
   abbrev C : Changes
   C = keeping i l b
 
   -- the special places are alike, and the body is within the claims
-  abbrev Along : ℕ → ℕ → Declared → Function → Type 0
+  abbrev Along : ℕ → ℕ → DeclaredNames → Function → Type 0
   Along a a' ls f = Special (whole_in N rounds L H (here a ls) (there a' ls) (keeps_fits L.items P Q k a a' ls).items_fit C (untold (parameter_names f.params))) × BodyWithin N [] [] f.body
 
-  function_along : (a a' : ℕ) (ls : Declared) (s : Span) (f : Function) → Along a a' ls f → (M : Made) (t t' u : ItemNames) → in_function (here a ls) [] [] [] f t ≡ Ok t' → Reached L M t u → AtPlace 0 t → AtPlace 0 u
+  function_along : (a a' : ℕ) (ls : DeclaredNames) (s : Span) (f : Function) → Along a a' ls f → (M : Made) (t t' u : ItemNames) → in_function (here a ls) [] [] [] f t ≡ Ok t' → Reached L M t u → AtPlace 0 t → AtPlace 0 u
       → Part L M t t' u (λ G v. in_function (there a' ls) [] [] [] (with_body (changed_body C [] [] f.body) f) u ≡ Ok v) (FunctionNumbers H s f (with_body (changed_body C [] [] f.body) f) t u t')
   function_along a a' ls s f fine M t t' u e q p p' =
       let I = here a ls in let I' = there a' ls in let F = keeps_fits L.items P Q k a a' ls in
@@ -152,14 +152,14 @@ module _ (L : Frame) (H : Holes) (P Q : ProgramTree) (k : KeepsItems L.items P Q
       (λ R sv k l m r. function_numbers s f new (not (is_nothing ks)) (function_entry I f X.0 X.1) k l m r)
 
   -- an item, whatever its number is
-  pub function_item_along : L.holds [] 0 0 → (n m : ℕ) (s : Span) (f : Function) → Along (number n) (number m) (firsts [] 0 (lifetimes_declared (plain.function_item s f))) f → (T : ItemNames) → in_item P n (plain.function_item s f) ≡ Ok T
+  pub function_item_along : L.holds [] 0 0 → L.passed (record { variables = []; loops = []; passages = [] }) 0 0 0 0 → (n m : ℕ) (s : Span) (f : Function) → Along (number n) (number m) (firsts [] 0 (lifetimes_declared (plain.function_item s f))) f → (T : ItemNames) → in_item P n (plain.function_item s f) ≡ Ok T
       → (U : ItemNames) × (in_item Q m (plain.function_item s (with_body (changed_body C [] [] f.body) f)) ≡ Ok U) × (G : Made) × Reached L G T U
       × ((R : Renaming) → Serves L.items G R → LikeFunction H R (function_named n s f T.names) (function_named m s (with_body (changed_body C [] [] f.body) f) U.names))
-  function_item_along start n m s f fine T e =
+  function_item_along start begun n m s f fine T e =
       let ls = firsts [] 0 (lifetimes_declared (plain.function_item s f)) in
       let t : ItemNames = record { vars = []; lifetimes = map (λ (l : Ident). l.span) (lifetimes_declared (plain.function_item s f)); loops = []; names = [] } in
-      let none : Made = record { variables = []; loops = [] } in
-      let A = function_along (number n) (number m) ls s f fine none t T t e (record { vars = start; loops = start }) refl refl in (
+      let none : Made = record { variables = []; loops = []; passages = [] } in
+      let A = function_along (number n) (number m) ls s f fine none t T t e (record { vars = start; loops = start; passages = begun }) refl refl in (
         A.table,
         A.answer,
         A.made,
@@ -171,13 +171,13 @@ module _ (L : Frame) (H : Holes) (P Q : ProgramTree) (k : KeepsItems L.items P Q
 
 -- ---- where nothing is claimed
 module _ (L : Frame) (H : Holes) (P Q : ProgramTree) (k : KeepsItems L.items P Q) (i : Span → Option kinds.Kind → Option kinds.Kind) (l : PatternTree → Option TypeTree → Option TypeTree) (b : Body → Body → Body) where
-  abbrev Fine : ℕ → ℕ → Declared → Function → Type 0
+  abbrev Fine : ℕ → ℕ → DeclaredNames → Function → Type 0
   Fine a a' ls f = Becomes L H (record { program = P; item = a; lifetimes = ls }) (record { program = Q; item = a'; lifetimes = ls }) (keeps_fits L.items P Q k a a' ls).items_fit (keeping i l b) (untold (parameter_names f.params))
 
-  pub function_item_alike : L.holds [] 0 0 → (n m : ℕ) (s : Span) (f : Function) → Fine (number n) (number m) (firsts [] 0 (lifetimes_declared (plain.function_item s f))) f → (T : ItemNames) → in_item P n (plain.function_item s f) ≡ Ok T
+  pub function_item_alike : L.holds [] 0 0 → L.passed (record { variables = []; loops = []; passages = [] }) 0 0 0 0 → (n m : ℕ) (s : Span) (f : Function) → Fine (number n) (number m) (firsts [] 0 (lifetimes_declared (plain.function_item s f))) f → (T : ItemNames) → in_item P n (plain.function_item s f) ≡ Ok T
       → (U : ItemNames) × (in_item Q m (plain.function_item s (with_body (changed_body (keeping i l b) [] [] f.body) f)) ≡ Ok U) × (G : Made) × Reached L G T U
       × ((R : Renaming) → Serves L.items G R → LikeFunction H R (function_named n s f T.names) (function_named m s (with_body (changed_body (keeping i l b) [] [] f.body) f) U.names))
-  function_item_alike start n m s f fine T e =
+  function_item_alike start begun n m s f fine T e =
       let ls = firsts [] 0 (lifetimes_declared (plain.function_item s f)) in
-      function_item_along L H P Q k i l b no_claims any_rounds tt start n m s f
+      function_item_along L H P Q k i l b no_claims any_rounds tt start begun n m s f
       (special L H (record { program = P; item = number n; lifetimes = ls }) (record { program = Q; item = number m; lifetimes = ls }) (keeps_fits L.items P Q k (number n) (number m) ls).items_fit i l b (untold (parameter_names f.params)) fine, body_within [] [] f.body) T e

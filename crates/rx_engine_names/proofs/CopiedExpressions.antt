@@ -7,7 +7,7 @@ use Rattle.rx_tree.specs.Lists.{listed}
 use Rattle.rx_tree.specs.Plain as plain
 use Rattle.rx_tree.specs.Spans.{pattern_span}
 use Rattle.rx_tree.specs.Plain.{TypeTree, PatternTree, Expression, Expressions, OptionalExpression, OptionalExpressions, FieldExpressions, Arms, Body, Statement, Statements}
-use Rattle.rx_resolve_names.specs.Scopes.{Declared, Variables, variable_named, entered}
+use Rattle.rx_resolve_names.specs.Scopes.{DeclaredNames, Variables, variable_named, entered}
 use Rattle.rx_resolve_names.specs.declared.resolved.ItemNames.{ItemNames}
 use Rattle.rx_resolve_names.specs.declared.resolved.NodeNames.{NodeNames}
 use Rattle.rx_resolve_names.specs.Meant.{number, Around, a_loop, a_test}
@@ -126,7 +126,7 @@ callee_alike K M at at' x b f (Some n) (Some m) h t t' u e q =
       grows = grows_not M;
       table = with_names X' u;
       answer = refl;
-      reached = record { vars = q.vars; loops = q.loops };
+      reached = record { vars = q.vars; loops = q.loops; passages = q.passages };
       added = X ∷ [];
       added' = X' ∷ [];
       grown = refl;
@@ -213,7 +213,7 @@ let_alike K S M own m w at at' s p y o o' t r u n h f e q =
     let b0 : Bound = record { bindings = []; tables = t } in let b0' : Bound = record { bindings = []; tables = u } in
     let y' = K.C.at_let p y in
     let i = initialiser_at y in let i' = initialiser_at y' in
-    let to : Declared → ItemNames → Scoped = λ ds t. record { scope = entered w.sc ds; tables = t } in let to' : Declared → ItemNames → Scoped = λ ds t. record { scope = entered w.sc' ds; tables = t } in
+    let to : DeclaredNames → ItemNames → Scoped = λ ds t. record { scope = entered w.sc ds; tables = t } in let to' : DeclaredNames → ItemNames → Scoped = λ ds t. record { scope = entered w.sc' ds; tables = t } in
     let g = in_optional_type K.I (child at 1) y in let k = in_optional K.I w.sc w.ls (child at i) o in
     let g' = in_optional_type K.I' (child at' 1) y' in let k' = in_optional K.I' w.sc' w.ls' (child at' i') o' in
     let Z = named_ok (in_pattern K.I (child at 0) p b0) (λ b. and_then ((g >> k) b.tables) (λ t. Ok (to b.bindings t))) r e in
@@ -329,7 +329,7 @@ mutual
       (λ R sv k l r b b' i i'. numbers_node s i i' (λ n n' g. numbers_then (k false false Site.Value Site.Value) (λ c d h. numbers_then (l (numbering.branch_site i o) (numbering.branch_site i' (changed_optional K.C own m o))) (λ x y z.
       numbers_map (named.if n c x) (named.if n' d y) (r (numbering.passed_on i) (numbering.passed_on i')) (λ _ _ v. like_if g h z v)))))
   expression_alike K S M own m w at at' (plain.if_let s p c x o) a t t' u e q =
-      let rest : Declared → Naming = λ ds. in_expression K.I w.sc w.ls (child at 1) c >> in_block K.I (entered w.sc ds) w.ls (child at 2) x >> in_optional K.I w.sc w.ls (child at 3) o in
+      let rest : DeclaredNames → Naming = λ ds. in_expression K.I w.sc w.ls (child at 1) c >> in_block K.I (entered w.sc ds) w.ls (child at 2) x >> in_optional K.I w.sc w.ls (child at 3) o in
       let Z = named_ok (in_pattern K.I (child at 0) p (record { bindings = []; tables = t })) (λ b. rest b.bindings b.tables) t' e in
       let ds = Z.0.bindings in
       let X = named_ok (in_expression K.I w.sc w.ls (child at 1) c Z.0.tables) (in_block K.I (entered w.sc ds) w.ls (child at 2) x >> in_optional K.I w.sc w.ls (child at 3) o) t' Z.2 in
@@ -342,7 +342,7 @@ mutual
       let D = optional_alike K S B.made own m (later K M B.made own m w (grows_on P.grows (grows_on A.grows B.grows))) (child at 3) (child at' 3) o a.2 Y.0 t' B.table Y.2 B.reached in
       let f' = in_expression K.I' w.sc' w.ls' (child at' 1) (changed K.C own m c) in
       let g' = in_block K.I' (entered w.sc' es) w.ls' (child at' 2) (changed_body K.C (bound p ++ own) m x) in let h' = in_optional K.I' w.sc' w.ls' (child at' 3) (changed_optional K.C own m o) in
-      let rest' : Declared → Naming = λ ds. in_expression K.I' w.sc' w.ls' (child at' 1) (changed K.C own m c) >> in_block K.I' (entered w.sc' ds) w.ls' (child at' 2) (changed_body K.C (bound p ++ own) m x) >> in_optional K.I' w.sc' w.ls' (child at' 3) (changed_optional K.C own m o) in
+      let rest' : DeclaredNames → Naming = λ ds. in_expression K.I' w.sc' w.ls' (child at' 1) (changed K.C own m c) >> in_block K.I' (entered w.sc' ds) w.ls' (child at' 2) (changed_body K.C (bound p ++ own) m x) >> in_optional K.I' w.sc' w.ls' (child at' 3) (changed_optional K.C own m o) in
       in_turn4 P A B D (λ y z v x. and_ok (in_pattern K.I' (child at' 0) p (record { bindings = []; tables = u })) (record { bindings = es; tables = P.table }) (λ b. rest' b.bindings b.tables) (Ok D.table) P.answer.1
       (then_ok f' (g' >> h') P.table A.table D.table z (then_ok g' h' A.table B.table D.table v x)))
       (λ R sv y k l r b b' i i'. numbers_node s i i' (λ n n' g. numbers_both keeps_counted keeps_counted (λ i0 i0'. numbers_then y (λ p p' v. numbers_both keeps_counted keeps_counted (λ j0 j0'.
@@ -382,7 +382,7 @@ mutual
       let q1 = loop_reached K.L M t u p p' q in
       let w1 = in_the_loop K M1 own m (later K M M1 own m w (grows_loops M t u)) l (number (length t.loops)) (number (length u.loops)) (newest_kept M.loops (length t.loops) (length u.loops)) in
       let w2 = in_the_test K M1 own (a_loop l 0 ∷ m) w1 in
-      let rest : Declared → Naming = λ ds. in_expression K.I w2.sc w2.ls (child at 1) c >> in_block K.I (entered w1.sc ds) w1.ls (child at 2) x in
+      let rest : DeclaredNames → Naming = λ ds. in_expression K.I w2.sc w2.ls (child at 1) c >> in_block K.I (entered w1.sc ds) w1.ls (child at 2) x in
       let Z = named_ok (in_pattern K.I (child at 0) y0 (record { bindings = []; tables = with_loop p t })) (λ b. rest b.bindings b.tables) t' e in
       let ds = Z.0.bindings in
       let X = named_ok (in_expression K.I w2.sc w2.ls (child at 1) c Z.0.tables) (in_block K.I (entered w1.sc ds) w1.ls (child at 2) x) t' Z.2 in
@@ -391,7 +391,7 @@ mutual
       let w3 = with_bindings K P.made own (a_loop l 0 ∷ m) (later K M1 P.made own (a_loop l 0 ∷ m) w1 P.grows) (bound y0) ds es P.answer.2 (pattern_binds K.I (child at 0) y0 (record { bindings = []; tables = with_loop p t }) Z.0 Z.1) in
       let A = expression_alike K S P.made own (a_test ∷ a_loop l 0 ∷ m) (later K M1 P.made own (a_test ∷ a_loop l 0 ∷ m) w2 P.grows) (child at 1) (child at' 1) c a.0 Z.0.tables X.0 P.table X.1 P.reached in
       let B = body_alike K S A.made (bound y0 ++ own) (a_loop l 0 ∷ m) (later K P.made A.made (bound y0 ++ own) (a_loop l 0 ∷ m) w3 A.grows) (child at 2) (child at' 2) x a.1 X.0 t' A.table X.2 A.reached in
-      let rest' : Declared → Naming = λ ds. in_expression K.I' w2.sc' w2.ls' (child at' 1) (changed K.C own (a_test ∷ a_loop l 0 ∷ m) c) >> in_block K.I' (entered w1.sc' ds) w1.ls' (child at' 2) (changed_body K.C (bound y0 ++ own) (a_loop l 0 ∷ m) x) in
+      let rest' : DeclaredNames → Naming = λ ds. in_expression K.I' w2.sc' w2.ls' (child at' 1) (changed K.C own (a_test ∷ a_loop l 0 ∷ m) c) >> in_block K.I' (entered w1.sc' ds) w1.ls' (child at' 2) (changed_body K.C (bound y0 ++ own) (a_loop l 0 ∷ m) x) in
       in_new_loop K M t t' u p p' (in_turn3 P A B
       (λ y z v. and_ok (in_pattern K.I' (child at' 0) y0 (record { bindings = []; tables = with_loop p' u })) (record { bindings = es; tables = P.table }) (λ b. rest' b.bindings b.tables) (Ok B.table) P.answer.1
       (then_ok (in_expression K.I' w2.sc' w2.ls' (child at' 1) (changed K.C own (a_test ∷ a_loop l 0 ∷ m) c)) (in_block K.I' w3.sc' w3.ls' (child at' 2) (changed_body K.C (bound y0 ++ own) (a_loop l 0 ∷ m) x)) P.table A.table B.table z v))
@@ -444,7 +444,7 @@ mutual
   arms_alike K S M own m w at at' j j' plain.no_arm a t t' u e q =
       unchanged K.L M t t' u (λ G v. Ok u ≡ Ok v) (ArmsNumbers K.H t u plain.no_arm plain.no_arm) e q refl (λ R. λ i i'. numbers_give named.no_arm named.no_arm like_no_arm)
   arms_alike K S M own m w at at' j j' (plain.arm_and p x xs) a t t' u e q =
-      let arm : Declared → Naming = λ ds. in_expression K.I (entered w.sc ds) w.ls (child at (next j)) x in
+      let arm : DeclaredNames → Naming = λ ds. in_expression K.I (entered w.sc ds) w.ls (child at (next j)) x in
       let Y = named_ok (pattern_then K.I (child at j) p arm t) (in_arms K.I w.sc w.ls at (next (next j)) xs) t' e in
       let Z = named_ok (in_pattern K.I (child at j) p (record { bindings = []; tables = t })) (λ b. arm b.bindings b.tables) Y.0 Y.1 in
       let ds = Z.0.bindings in
@@ -453,7 +453,7 @@ mutual
       let w1 = with_bindings K P.made own m (later K M P.made own m w P.grows) (bound p) ds es P.answer.2 (pattern_binds K.I (child at j) p (record { bindings = []; tables = t }) Z.0 Z.1) in
       let A = expression_alike K S P.made (bound p ++ own) m w1 (child at (next j)) (child at' (next j')) x a.0 Z.0.tables Y.0 P.table Z.2 P.reached in
       let B = arms_alike K S A.made own m (later K M A.made own m w (grows_on P.grows A.grows)) at at' (next (next j)) (next (next j')) xs a.1 Y.0 t' A.table Y.2 A.reached in
-      let arm' : Declared → Naming = λ ds. in_expression K.I' (entered w.sc' ds) w.ls' (child at' (next j')) (changed K.C (bound p ++ own) m x) in
+      let arm' : DeclaredNames → Naming = λ ds. in_expression K.I' (entered w.sc' ds) w.ls' (child at' (next j')) (changed K.C (bound p ++ own) m x) in
       in_turn3 P A B
       (λ y z v. then_ok (pattern_then K.I' (child at' j') p arm') (in_arms K.I' w.sc' w.ls' at' (next (next j')) (changed_arms K.C own m xs)) u A.table B.table
       (and_ok (in_pattern K.I' (child at' j') p (record { bindings = []; tables = u })) (record { bindings = es; tables = P.table }) (λ b. arm' b.bindings b.tables) (Ok A.table) P.answer.1 z) v)

@@ -4,7 +4,7 @@ use Rattle.rx_core.specs.declared.types.Span.{Span}
 use Rattle.rx_tree.specs.declared.tree.Ident.{Ident}
 use Rattle.rx_tree.specs.Plain as plain
 use Rattle.rx_tree.specs.Plain.{Body, OptionalExpression, Statements, ProgramTree}
-use Rattle.rx_resolve_names.specs.Scopes.{Declared, Variables, variable_named}
+use Rattle.rx_resolve_names.specs.Scopes.{DeclaredNames, Variables, variable_named}
 use Rattle.rx_resolve_names.specs.declared.resolved.ItemNames.{ItemNames}
 use Rattle.rx_resolve_names.specs.declared.resolved.NodeNames.{NodeNames}
 use Rattle.rx_resolve_names.specs.Meant.{Around, a_loop, a_test, Target, to_loop, through_test, is_meant, target}
@@ -16,7 +16,7 @@ use Rattle.rx_typed.specs.Naming.{of_optional, of_statements}
 use Rattle.rx_hoist_extraction.specs.Names.{Names, is_among}
 use Rattle.rx_hoist_extraction.specs.Changed.{kept, changed_statements, changed_optional}
 use Rattle.rx_hoist_extraction.proofs.Unchanged.{same_body}
-use Rattle.rx_engine_names.specs.Renaming.{Renaming, Pairs, Has, Made}
+use Rattle.rx_engine_names.specs.Renaming.{Has, HasPassage, Made, Pairs, Passage, Renaming, Serves}
 use Rattle.rx_engine_names.specs.LikeNamed.{no_holes, like_int, like_typed, like_return}
 use Rattle.rx_engine_names.specs.Replaced.{NamesAlike, LoopsAlike, only}
 use Rattle.rx_engine_names.proofs.SideBySide.{numbers_node, numbers_map, restated}
@@ -28,7 +28,7 @@ use Rattle.rx_engine_names.proofs.CopiedExpressions.{optional_alike, statements_
 use Rattle.rx_engine_names.proofs.PlainPlaces.{none_starred, whole, plain_variable, jump_fits, plain_break, plain_continue, special}
 use Rattle.rx_engine_names.proofs.NoClaims.{statements_within, optional_within}
 use Rattle.rx_engine_names.proofs.KeptItems.{keeps_itself, keeps_fits}
-use Rattle.rx_engine_names.proofs.MovedPlaces.{loose}
+use Rattle.rx_engine_names.proofs.MovedPlaces.{loose, unpassed}
 use Rattle.rx_engine_names.proofs.Alone.{Alone}
 
 -- ---- nothing is changed
@@ -145,6 +145,10 @@ own_target (a_loop x m ∷ ls) l n e = by (is_meant l x) e (own_target ls l n)
 total : Renaming
 total = record { variable = λ n m. true; loop = λ n m. true; item = λ n. n }
 
+total_serves : (M : Made) → M.passages ≡ [] → Serves (λ n. n) M total
+unfolding total
+total_serves M e = record { variables = λ n m h. refl; loops = λ n m h. refl; items_are = λ n. refl; passages = λ x h. absurd (subst (λ (l : List Passage). HasPassage l x) e h) }
+
 -- what they add
 pub record Text (t : ItemNames) (r : Scoped) (ss : Statements) : Type 0 where
   pub added : List NodeNames
@@ -156,23 +160,23 @@ pub record TextTail (t t' : ItemNames) (o : OptionalExpression) : Type 0 where
   pub grown : t'.names ≡ t.names ++ added
   pub numbers : (k : Site) → Alone (λ z. Unit {0}) t t' added (of_optional k o)
 
-module _ (P : ProgramTree) (a : ℕ) (L : Declared) where
+module _ (P : ProgramTree) (a : ℕ) (L : DeclaredNames) where
   abbrev here : Inside
   here = record { program = P; item = a; lifetimes = L }
 
   abbrev Same : Setting
-  Same = whole (loose (λ n. n)) no_holes here here (keeps_fits (λ n. n) P P (keeps_itself P) a a L).items_fit kept unknown
+  Same = whole (unpassed (λ n. n)) no_holes here here (keeps_fits (λ n. n) P P (keeps_itself P) a a L).items_fit kept unknown
 
   -- the text beside itself, for a scope and what stands round it
   itself_special : Special Same
-  itself_special = special (loose (λ n. n)) no_holes here here (keeps_fits (λ n. n) P P (keeps_itself P) a a L).items_fit (λ s k. k) (λ p y. y) (λ b c. c) unknown (record {
+  itself_special = special (unpassed (λ n. n)) no_holes here here (keeps_fits (λ n. n) P P (keeps_itself P) a a L).items_fit (λ s k. k) (λ p y. y) (λ b c. c) unknown (record {
     suffix = λ R s n n' b b' v k h g. like_int g;
-    annotated = λ M at at' p y t t' u e q. restated (optional_type_alike (loose (λ n. n)) M here here (keeps_fits (λ n. n) P P (keeps_itself P) a a L) at at' y t t' u e q) (λ z. z) (λ R sv h. numbers_map (λ z. z) (λ z. z) h (λ a b r. like_typed r));
+    annotated = λ M at at' p y t t' u e q. restated (optional_type_alike (unpassed (λ n. n)) M here here (keeps_fits (λ n. n) P P (keeps_itself P) a a L) at at' y t t' u e q) (λ z. z) (λ R sv h. numbers_map (λ z. z) (λ z. z) h (λ a b r. like_typed r));
     blocks = λ M own m w at at' b c t t' u e q h. h tt;
   })
 
   abbrev Own : Variables → List Around → Made
-  Own sc ls = record { variables = own_pairs sc; loops = own_loops ls }
+  Own sc ls = record { variables = own_pairs sc; loops = own_loops ls; passages = [] }
 
   itself : (sc : Variables) (ls : List Around) (x : List ℕ) (o : Option ℕ) → variable_named sc x ≡ o → AtName (Corresponds [] (Own sc ls)) false false (variable_named sc x) (variable_named sc x)
   itself sc ls x None h = subst (λ (o : Option ℕ). AtName (Corresponds [] (Own sc ls)) false false o o) (sym h) refl
@@ -195,8 +199,8 @@ module _ (P : ProgramTree) (a : ℕ) (L : Declared) where
   pub text_alone : (sc : Variables) (ls : List Around) (at : List ℕ) (i : ℕ) (ss : Statements) (t : ItemNames) (r : Scoped) → in_statements here sc ls at i ss t ≡ Ok r → Text t r ss
   unfolding total
   text_alone sc ls at i ss t r e =
-      let A = statements_alike Same itself_special (Own sc ls) [] [] (itself_stand sc ls) at at i i ss (statements_within [] [] ss) t r t e (record { vars = tt; loops = tt }) in
-      let N = A.numbers total (record { variables = λ n m h. refl; loops = λ n m h. refl; items_are = λ n. refl }) in record {
+      let A = statements_alike Same itself_special (Own sc ls) [] [] (itself_stand sc ls) at at i i ss (statements_within [] [] ss) t r t e (record { vars = tt; loops = tt; passages = refl }) in
+      let N = A.numbers total (total_serves A.made A.reached.passages) in record {
         added = A.added;
         grown = A.grown;
         numbers = record {
@@ -210,8 +214,8 @@ module _ (P : ProgramTree) (a : ℕ) (L : Declared) where
   pub tail_alone : (sc : Variables) (ls : List Around) (at : List ℕ) (o : OptionalExpression) (t t' : ItemNames) → in_optional here sc ls at o t ≡ Ok t' → TextTail t t' o
   unfolding total
   tail_alone sc ls at o t t' e =
-      let A = optional_alike Same itself_special (Own sc ls) [] [] (itself_stand sc ls) at at o (optional_within [] [] o) t t' t e (record { vars = tt; loops = tt }) in
-      let N = A.numbers total (record { variables = λ n m h. refl; loops = λ n m h. refl; items_are = λ n. refl }) in record {
+      let A = optional_alike Same itself_special (Own sc ls) [] [] (itself_stand sc ls) at at o (optional_within [] [] o) t t' t e (record { vars = tt; loops = tt; passages = refl }) in
+      let N = A.numbers total (total_serves A.made A.reached.passages) in record {
         added = A.added;
         grown = A.grown;
         numbers = λ k. record {

@@ -4,7 +4,7 @@ use Rattle.rx_core.specs.declared.types.Span.{Span}
 use Rattle.rx_tree.specs.declared.tree.Ident.{Ident}
 use Rattle.rx_tree.specs.Plain as plain
 use Rattle.rx_tree.specs.Plain.{TypeTree, TypeTrees, PatternTree, PatternTrees, FieldPatterns}
-use Rattle.rx_resolve_names.specs.Scopes.{Declared}
+use Rattle.rx_resolve_names.specs.Scopes.{DeclaredNames}
 use Rattle.rx_resolve_names.specs.declared.resolved.ItemNames.{ItemNames}
 use Rattle.rx_resolve_names.specs.declared.resolved.NodeNames.{NodeNames}
 use Rattle.rx_resolve_names.specs.Meant.{number}
@@ -132,7 +132,7 @@ optional_type_alike L M I I' F at at' y t t' u e q = annotation_alike L M I I' F
 
 -- what a step that may bind comes to
 abbrev pub BindingPart : Frame → Made → Binding → Bound → Bound → Bound → Kind → Type 0
-BindingPart L M f' b b1 b' K = Part L M b.tables b1.tables b'.tables (λ G v. (ds : Declared) × (f' b' ≡ Ok (record { bindings = ds; tables = v })) × BoundAlike G b1.bindings ds) K
+BindingPart L M f' b b1 b' K = Part L M b.tables b1.tables b'.tables (λ G v. (ds : DeclaredNames) × (f' b' ≡ Ok (record { bindings = ds; tables = v })) × BoundAlike G b1.bindings ds) K
 
 abbrev pub PatternNumbers : ItemNames → ItemNames → PatternTree → ItemNames → Kind
 PatternNumbers t u p t' R u' es es' = Numbers (LikePattern R) t u t' u' es es' (of_pattern p) (of_pattern p)
@@ -167,8 +167,8 @@ bind_alike : (L : Frame) (M : Made) (I I' : Inside) (at at' : List ℕ) (s : Spa
 bind_alike L M I I' at at' s x w b b1 b' e q a =
     let n = length b.tables.vars in let m = length b'.tables.vars in
     let X = entry I at (number n ∷ []) in let X' = entry I' at' (number m ∷ []) in
-    let to : Declared → Bound = λ ds. record { bindings = ds; tables = with_names X (with_variable x.span b.tables) } in
-    let to' : Declared → Bound = λ ds. record { bindings = ds; tables = with_names X' (with_variable x.span b'.tables) } in
+    let to : DeclaredNames → Bound = λ ds. record { bindings = ds; tables = with_names X (with_variable x.span b.tables) } in
+    let to' : DeclaredNames → Bound = λ ds. record { bindings = ds; tables = with_names X' (with_variable x.span b'.tables) } in
     let G = with_pair M b.tables b'.tables in let g = grows_pair M b.tables b'.tables in
     let d = named_ok (declare b.bindings x n) (λ ds. Ok (to ds)) b1 e in
     let D = declares_alike G b.bindings b'.bindings d.0 x n m (bound_later M G g b.bindings b'.bindings a) d.1 (newest_kept M.variables n m) in
@@ -178,8 +178,8 @@ bind_alike L M I I' at at' s x w b b1 b' e q a =
       made = G;
       grows = g;
       table = (to' D.bindings).tables;
-      answer = (D.bindings, ap (λ (o : Outcome Declared). and_then o (λ ds. Ok (to' ds))) D.declared, D.alike);
-      reached = record { vars = q2.vars; loops = q2.loops };
+      answer = (D.bindings, ap (λ (o : Outcome DeclaredNames). and_then o (λ ds. Ok (to' ds))) D.declared, D.alike);
+      reached = record { vars = q2.vars; loops = q2.loops; passages = q2.passages };
       added = X ∷ [];
       added' = X' ∷ [];
       grown = refl;
@@ -251,7 +251,7 @@ mutual
   pattern_binds I at (plain.wild s) b b1 e = binds_none b b1 e
   pattern_binds I at (plain.bind s x w) b b1 e =
       let n = length b.tables.vars in
-      let to : Declared → Bound = λ ds. record { bindings = ds; tables = with_names (entry I at (number n ∷ [])) (with_variable x.span b.tables) } in
+      let to : DeclaredNames → Bound = λ ds. record { bindings = ds; tables = with_names (entry I at (number n ∷ [])) (with_variable x.span b.tables) } in
       let d = named_ok (declare b.bindings x n) (λ ds. Ok (to ds)) b1 e in
       ap (λ (v : Bound). declared_names v.bindings) (sym (the_same (to d.0) b1 d.2)) ∙ declared_more b.bindings d.0 x n d.1
   pattern_binds I at (plain.int_pattern s g v k) b b1 e = binds_none b b1 e

@@ -7,8 +7,8 @@ use Rattle.rx_core.specs.declared.types.Span.{Span}
 use Rattle.rx_tree.specs.declared.tree.Ident.{Ident}
 use Rattle.rx_tree.specs.declared.tree.BoundLifetime.{BoundLifetime}
 use Rattle.rx_tree.specs.Lists.{Every}
-use Rattle.rx_resolve_names.specs.declared.table.Known.{Known}
-use Rattle.rx_resolve_names.specs.Scopes.{Declared, declared_as}
+use Rattle.rx_resolve_names.specs.declared.table.NumberedName.{NumberedName}
+use Rattle.rx_resolve_names.specs.Scopes.{DeclaredNames, declared_as}
 use Rattle.rx_resolve_names.specs.Meant.{number, kept, firsts, number_in}
 use Rattle.rx_resolve_names.specs.Steps.{Outcome, known, one, both, declare, declared_behind, Inside}
 use Rattle.rx_resolve_names.specs.Names.{lifetime_in}
@@ -25,7 +25,7 @@ use Rattle.rx_engine_names.proofs.NewScopes.{is_name, same_name}
 
 -- ---- the first of each name
 
-declared_stays : (ds es : Declared) (x : List ℕ) (k : Known) → declared_as ds x ≡ Some k → declared_as (ds ++ es) x ≡ Some k
+declared_stays : (ds es : DeclaredNames) (x : List ℕ) (k : NumberedName) → declared_as ds x ≡ Some k → declared_as (ds ++ es) x ≡ Some k
 declared_stays [] es x k e = absurd (cc)
 declared_stays (d ∷ ds) es x k e = by (bytes_eq x d.0) e (declared_stays ds es x k)
   where
@@ -33,7 +33,7 @@ declared_stays (d ∷ ds) es x k e = by (bytes_eq x d.0) e (declared_stays ds es
     by true e h = e
     by false e h = h e
 
-pub declared_last : (ds : Declared) (x y : List ℕ) (k : Known) → declared_as ds x ≡ None → bytes_eq x y ≡ true → declared_as (ds ++ (y, k) ∷ []) x ≡ Some k
+pub declared_last : (ds : DeclaredNames) (x y : List ℕ) (k : NumberedName) → declared_as ds x ≡ None → bytes_eq x y ≡ true → declared_as (ds ++ (y, k) ∷ []) x ≡ Some k
 declared_last [] x y k e g = ap (λ (b : Bool). if b then Some k else None) g
 declared_last (d ∷ ds) x y k e g = by (bytes_eq x d.0) e (declared_last ds x y k)
   where
@@ -41,25 +41,25 @@ declared_last (d ∷ ds) x y k e g = by (bytes_eq x d.0) e (declared_last ds x y
     by true e h = absurd (cc)
     by false e h = h e g
 
-pub firsts_keep : (ds : Declared) (n : ℕ) (ys : List Ident) (x : List ℕ) (k : Known) → declared_as ds x ≡ Some k → declared_as (firsts ds n ys) x ≡ Some k
+pub firsts_keep : (ds : DeclaredNames) (n : ℕ) (ys : List Ident) (x : List ℕ) (k : NumberedName) → declared_as ds x ≡ Some k → declared_as (firsts ds n ys) x ≡ Some k
 firsts_keep ds n [] x k e = e
 firsts_keep ds n (y ∷ ys) x k e = firsts_keep (kept ds y n (declared_as ds y.name)) (suc n) ys x k (by (declared_as ds y.name))
   where
-    by : (o : Option Known) → declared_as (kept ds y n o) x ≡ Some k
+    by : (o : Option NumberedName) → declared_as (kept ds y n o) x ≡ Some k
     by (Some l) = e
     by None = declared_stays ds ((y.name, record { number = number n; span = y.span }) ∷ []) x k e
 
-firsts_have : (ds : Declared) (n : ℕ) (ys : List Ident) (x : List ℕ) → is_among x (idents ys) ≡ true → (k : Known) × (declared_as (firsts ds n ys) x ≡ Some k)
+firsts_have : (ds : DeclaredNames) (n : ℕ) (ys : List Ident) (x : List ℕ) → is_among x (idents ys) ≡ true → (k : NumberedName) × (declared_as (firsts ds n ys) x ≡ Some k)
 firsts_have ds n [] x e = absurd (cc)
 firsts_have ds n (y ∷ ys) x e = by (bytes_eq x y.name) refl e (firsts_have (kept ds y n (declared_as ds y.name)) (suc n) ys x)
   where
-    this : bytes_eq x y.name ≡ true → (o : Option Known) → declared_as ds y.name ≡ o → (k : Known) × (declared_as (firsts (kept ds y n o) (suc n) ys) x ≡ Some k)
+    this : bytes_eq x y.name ≡ true → (o : Option NumberedName) → declared_as ds y.name ≡ o → (k : NumberedName) × (declared_as (firsts (kept ds y n o) (suc n) ys) x ≡ Some k)
     this g (Some l) h = (l, firsts_keep ds (suc n) ys x l (ap (declared_as ds) (is_name x y.name g) ∙ h))
     this g None h =
-        let l : Known = record { number = number n; span = y.span } in
+        let l : NumberedName = record { number = number n; span = y.span } in
         (l, firsts_keep (ds ++ (y.name, l) ∷ []) (suc n) ys x l (declared_last ds x y.name l (ap (declared_as ds) (is_name x y.name g) ∙ h) g))
 
-    by : (b : Bool) → bytes_eq x y.name ≡ b → (b || is_among x (idents ys)) ≡ true → (is_among x (idents ys) ≡ true → (k : Known) × (declared_as (firsts ds n (y ∷ ys)) x ≡ Some k)) → (k : Known) × (declared_as (firsts ds n (y ∷ ys)) x ≡ Some k)
+    by : (b : Bool) → bytes_eq x y.name ≡ b → (b || is_among x (idents ys)) ≡ true → (is_among x (idents ys) ≡ true → (k : NumberedName) × (declared_as (firsts ds n (y ∷ ys)) x ≡ Some k)) → (k : NumberedName) × (declared_as (firsts ds n (y ∷ ys)) x ≡ Some k)
     by true g h rest = this g (declared_as ds y.name) refl
     by false g h rest = rest h
 
@@ -70,7 +70,7 @@ Meant I x = (s : Span) → (k : ℕ) × (lifetime_in I (ident s x) ≡ Ok k)
 pub declared_means : (I : Inside) (ls : List Ident) (x : List ℕ) → I.lifetimes ≡ firsts [] 0 ls → is_among x (idents ls) ≡ true → Meant I x
 declared_means I ls x is e s =
     let k = firsts_have [] 0 ls x e in
-    (k.0.number, ap (λ (ds : Declared). known (number_in ds x) s) is ∙ ap (λ (o : Option Known). known (option_map (λ (k : Known). k.number) o) s) k.1)
+    (k.0.number, ap (λ (ds : DeclaredNames). known (number_in ds x) s) is ∙ ap (λ (o : Option NumberedName). known (option_map (λ (k : NumberedName). k.number) o) s) k.1)
 
 -- ---- bounds
 
@@ -79,13 +79,13 @@ bounds_resolve I [] h = ([], refl)
 bounds_resolve I (l ∷ ls) h = let r = bounds_resolve I ls h.1 in
     (h.0.0 ∷ r.0, ap (λ (o : Outcome ℕ). both (one o) (bounds_in I ls)) h.0.1 ∙ ap (λ (o : Outcome (List ℕ)). both (Ok (h.0.0 ∷ [])) o) r.1)
 
-lifetimes_resolve : (I : Inside) (ds : Declared) (n : ℕ) (ls : List BoundLifetime) → Distinct (map (λ (l : BoundLifetime). l.name.name) ls)
+lifetimes_resolve : (I : Inside) (ds : DeclaredNames) (n : ℕ) (ls : List BoundLifetime) → Distinct (map (λ (l : BoundLifetime). l.name.name) ls)
     → Every (λ (l : BoundLifetime). Every (λ (m : Ident). (k : ℕ) × (lifetime_in I m ≡ Ok k)) l.bounds) ls → ((x : List ℕ) → is_among x (map (λ (l : BoundLifetime). l.name.name) ls) ≡ true → declared_as ds x ≡ None)
     → (ns : List ℕ) × (lifetimes_of I ds n ls ≡ Ok ns)
 lifetimes_resolve I ds n [] d h new = ([], refl)
 lifetimes_resolve I ds n (l ∷ ls) d h new =
     let x = l.name.name in
-    let k : Known = record { number = number n; span = l.name.span } in
+    let k : NumberedName = record { number = number n; span = l.name.span } in
     let es = ds ++ (x, k) ∷ [] in
     let b = bounds_resolve I l.bounds h.0 in
     let r = lifetimes_resolve I es (suc n) ls d.1 h.1 (λ y e. none_push ds (x, k) y (new y (or_right (bytes_eq y x) (is_among y (map (λ (l : BoundLifetime). l.name.name) ls)) e)) (other y e (bytes_eq y x) refl)) in (

@@ -27,7 +27,7 @@ use Rattle.rx_engine_names.specs.CalledRuns.{RunStands, TextSays, TextSaysLast}
 use Rattle.rx_engine_names.specs.Extractions.{goes_to_end, handing_there, moves_there, Called, CallNames, ExtractionAlike, NamesHandedOut, RunNames, RunSays}
 use Rattle.rx_engine_names.proofs.KeptItems.{inserted_keeps, keeps_itself}
 use Rattle.rx_engine_names.proofs.KeptPrograms.{same_function}
-use Rattle.rx_engine_names.proofs.ExtractionItems.{extraction_inserted, extraction_resolves}
+use Rattle.rx_engine_names.proofs.ExtractionItems.{extraction_inserted, extraction_resolves, numbers_there}
 use Rattle.rx_engine_names.proofs.PinnedFunctions.{pinned_function_alike}
 use Rattle.rx_engine_names.proofs.FoundFunctions.{new_function_found}
 use Rattle.rx_engine_names.proofs.CalledFunctions.{called_last, called_within}
@@ -92,6 +92,7 @@ module _ (p : ProgramTree) (r : Run) (pl : Plan) (bs : Bounds) (s : Span) (f : F
         record {
           names = all.0;
           meant = record { names_are = all.1; finite = no_new_cycle p r pl bs s f there free ts m.names_are run.plan.types m.finite };
+          numbers = numbers_there p r pl bs s f there free;
           stays = same_function (number_there inserted) p q (inserted_keeps p q inserted);
           pinned = k.0;
           pinned_resolves = k.1;

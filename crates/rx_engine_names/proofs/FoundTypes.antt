@@ -7,7 +7,7 @@ use Rattle.rx_tree.specs.declared.tree.Ident.{Ident}
 use Rattle.rx_tree.specs.Lists.{Every}
 use Rattle.rx_tree.specs.Plain as plain
 use Rattle.rx_tree.specs.Plain.{ItemTree, ProgramTree}
-use Rattle.rx_resolve_names.specs.Scopes.{Declared, declared_as}
+use Rattle.rx_resolve_names.specs.Scopes.{DeclaredNames, declared_as}
 use Rattle.rx_resolve_names.specs.declared.resolved.ItemNames.{ItemNames}
 use Rattle.rx_resolve_names.specs.Meant.{type_name, function_name, has_name, item_named, as_type}
 use Rattle.rx_resolve_names.specs.Steps.{and_then, known, Inside}
@@ -25,11 +25,11 @@ use Rattle.rx_engine_names.proofs.NoDoubles.{none_pop, behind_none}
 -- ---- an item that has a name
 
 -- what is declared later is not declared yet, and has another name than what is declared in between
-earlier : (ds new : Declared) (n : ℕ) (o : Option Ident) (x : List ℕ) → declared_in ds n o ≡ Ok new → declared_as new x ≡ None → (declared_as ds x ≡ None) × (has_name x o ≡ false)
-earlier ds new n None x e h = (ap (λ (z : Declared). declared_as z x) (the_same ds new e) ∙ h, refl)
+earlier : (ds new : DeclaredNames) (n : ℕ) (o : Option Ident) (x : List ℕ) → declared_in ds n o ≡ Ok new → declared_as new x ≡ None → (declared_as ds x ≡ None) × (has_name x o ≡ false)
+earlier ds new n None x e h = (ap (λ (z : DeclaredNames). declared_as z x) (the_same ds new e) ∙ h, refl)
 earlier ds new n (Some y) x e h =
     let b = behind_none ds new y n (declared_as ds y.name) e in
-    none_pop ds (y.name, record { number = _; span = y.span }) x (ap (λ (z : Declared). declared_as z x) (sym b.1) ∙ h)
+    none_pop ds (y.name, record { number = _; span = y.span }) x (ap (λ (z : DeclaredNames). declared_as z x) (sym b.1) ∙ h)
 
 named_there : (l : Lists) (n i : ℕ) (is : ProgramTree) (j : ItemTree) (y : Ident) → apart l n is ≡ Ok tt → slice_get is i ≡ Some j → type_name j ≡ Some y
     → (declared_as l.types y.name ≡ None) × (item_named type_name n is y.name ≡ Some (n + i, j))
@@ -89,7 +89,7 @@ abbrev mutual
   FindAll I P no_shape = Unit {0}
   FindAll I P (shape_and t ts) = Finds I P t × FindAll I P ts
 
-module _ (P : ProgramTree) (ts : List ItemNames) (e : in_program P ≡ Ok ts) (a : ℕ) (L : Declared) where
+module _ (P : ProgramTree) (ts : List ItemNames) (e : in_program P ≡ Ok ts) (a : ℕ) (L : DeclaredNames) where
   abbrev here : Inside
   here = record { program = P; item = a; lifetimes = L }
 

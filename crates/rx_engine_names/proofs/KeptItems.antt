@@ -6,7 +6,7 @@ use Rattle.rx_core.specs.declared.types.Span.{Span}
 use Rattle.rx_tree.specs.declared.tree.Ident.{Ident}
 use Rattle.rx_tree.specs.Plain as plain
 use Rattle.rx_tree.specs.Plain.{Function, ItemTree, ProgramTree}
-use Rattle.rx_resolve_names.specs.Scopes.{Declared}
+use Rattle.rx_resolve_names.specs.Scopes.{DeclaredNames}
 use Rattle.rx_resolve_names.specs.Meant.{type_name, function_name, has_name, item_named, as_type, as_struct, as_enum, as_rt, as_function, variants_of, number_in}
 use Rattle.rx_resolve_names.specs.Steps.{Outcome, and_then, known, one, both}
 use Rattle.rx_engine_names.specs.Insertion.{NotNamed, Inserted, past, number_there}
@@ -104,7 +104,7 @@ variants_fit f P Q k a v ns e =
     )
 
 -- what is kept tells what names of items mean in both
-pub items_keep : (f : ℕ → ℕ) (P Q : ProgramTree) → Keeps f P Q → (a b : ℕ) (ls ms : Declared) → FitItems f (record { program = P; item = a; lifetimes = ls }) (record { program = Q; item = b; lifetimes = ms })
+pub items_keep : (f : ℕ → ℕ) (P Q : ProgramTree) → Keeps f P Q → (a b : ℕ) (ls ms : DeclaredNames) → FitItems f (record { program = P; item = a; lifetimes = ls }) (record { program = Q; item = b; lifetimes = ms })
 items_keep f P Q k a b ls ms = record {
   types = λ x n e. type_fits f P Q k as_type type_tells x.name x.span n e;
   structs = λ x n e. type_fits f P Q k as_struct struct_tells x.name x.span n e;
@@ -114,7 +114,7 @@ items_keep f P Q k a b ls ms = record {
 }
 
 -- what is kept tells what names mean in both, in an item with the same lifetimes
-pub keeps_fits : (f : ℕ → ℕ) (P Q : ProgramTree) → Keeps f P Q → (a b : ℕ) (ls : Declared) → Fits f (record { program = P; item = a; lifetimes = ls }) (record { program = Q; item = b; lifetimes = ls })
+pub keeps_fits : (f : ℕ → ℕ) (P Q : ProgramTree) → Keeps f P Q → (a b : ℕ) (ls : DeclaredNames) → Fits f (record { program = P; item = a; lifetimes = ls }) (record { program = Q; item = b; lifetimes = ls })
 keeps_fits f P Q k a b ls = record {
   items_fit = items_keep f P Q k a b ls ls;
   lifetimes = λ l n e. (n, e, tt);

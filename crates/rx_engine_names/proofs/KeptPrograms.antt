@@ -5,7 +5,7 @@ use Rattle.rx_core.specs.declared.types.Span.{Span}
 use Rattle.rx_tree.specs.declared.tree.Ident.{Ident}
 use Rattle.rx_tree.specs.Plain as plain
 use Rattle.rx_tree.specs.Plain.{FieldOf, VariantOf, Function, ItemTree, ProgramTree}
-use Rattle.rx_resolve_names.specs.Scopes.{Declared}
+use Rattle.rx_resolve_names.specs.Scopes.{DeclaredNames}
 use Rattle.rx_resolve_names.specs.declared.resolved.ItemNames.{ItemNames}
 use Rattle.rx_resolve_names.specs.Meant.{number, firsts, lifetimes_declared}
 use Rattle.rx_resolve_names.specs.Steps.{Outcome, and_then, ◌>>◌, Inside, declare, child, next}
@@ -17,7 +17,7 @@ use Rattle.rx_tree.specs.Lists.{Every}
 use Rattle.rx_tree.specs.Plain.{PatternTree, TypeTree, Body}
 use Rattle.rx_typed.specs.Naming.{function_named}
 use Rattle.rx_hoist_extraction.proofs.Unchanged.{same_body}
-use Rattle.rx_engine_names.specs.Renaming.{Pairs, Has, Made, Serves}
+use Rattle.rx_engine_names.specs.Renaming.{Pairs, Has, HasPassage, Made, Passage, Serves}
 use Rattle.rx_engine_names.specs.LikeNamed.{LikeFunction, no_holes, like_int, like_typed}
 use Rattle.rx_engine_names.specs.Insertion.{Inserted, number_there}
 use Rattle.rx_engine_names.specs.Alike.{same_numbers}
@@ -33,6 +33,9 @@ lockstep items = record {
   items = items;
   holds = λ ps n m. (n ≡ m) × Every (λ (p : ℕ × ℕ). p.0 ≡ p.1) ps;
   pushed = λ ps n m h. (ap suc h.0, (h.0, h.1));
+  passed = λ M n m k l. M.passages ≡ [];
+  passed_variable = λ M n m k l h. h;
+  passed_loop = λ M n m k l h. h;
 }
 
 same_pairs : (ps : Pairs) → Every (λ (p : ℕ × ℕ). p.0 ≡ p.1) ps → (n m : ℕ) → Has ps n m → n ≡ m
@@ -49,6 +52,7 @@ same_serve items G t u q = record {
   variables = λ n m h. is_itself n m (same_pairs G.variables q.vars.1 n m h);
   loops = λ n m h. is_itself n m (same_pairs G.loops q.loops.1 n m h);
   items_are = λ n. refl;
+  passages = λ x h. absurd (subst (λ (l : List Passage). HasPassage l x) q.passages h);
 }
 
 -- ---- a function that stays
@@ -60,7 +64,7 @@ module _ (items : ℕ → ℕ) (P Q : ProgramTree) (k : Keeps items P Q) where
   pub same_function : (n m : ℕ) (s : Span) (f : Function) (T : ItemNames) → in_item P n (plain.function_item s f) ≡ Ok T
       → (U : ItemNames) × (in_item Q m (plain.function_item s f) ≡ Ok U) × LikeFunction no_holes (same_numbers items) (function_named n s f T.names) (function_named m s f U.names)
   same_function n m s f T e =
-      let A = function_item_alike frame no_holes P Q k (λ s k. k) (λ p t. t) (λ b c. c) (refl, tt) n m s f (record {
+      let A = function_item_alike frame no_holes P Q k (λ s k. k) (λ p t. t) (λ b c. c) (refl, tt) refl n m s f (record {
         suffix = λ R s n n' b b' v k h g. like_int g;
         annotated = λ M at at' p y t t' u e q. restated (optional_type_alike frame M _ _ (keeps_fits items P Q k _ _ _) at at' y t t' u e q) (λ z. z) (λ R sv h. numbers_map (λ z. z) (λ z. z) h (λ a b r. like_typed r));
         blocks = λ M own m w at at' b c t t' u e q h. h tt;
@@ -74,13 +78,13 @@ module _ (items : ℕ → ℕ) (P Q : ProgramTree) (k : Keeps items P Q) where
 abbrev Goes : (ℕ → ℕ) → ItemNames → Outcome ItemNames → Type 0
 Goes g t' o = (v : ItemNames) × (o ≡ Ok v) × (M : Made) × Reached (lockstep g) M t' v
 
-distinct_same : (ds : Declared) (n : ℕ) (xs : List Ident) (t t' u : ItemNames) → distinct ds n xs t ≡ Ok t' → (t ≡ t') × (distinct ds n xs u ≡ Ok u)
+distinct_same : (ds : DeclaredNames) (n : ℕ) (xs : List Ident) (t t' u : ItemNames) → distinct ds n xs t ≡ Ok t' → (t ≡ t') × (distinct ds n xs u ≡ Ok u)
 distinct_same ds n [] t t' u e = (the_same t t' e, refl)
 distinct_same ds n (x ∷ xs) t t' u e =
     let a = named_ok (declare ds x n) (λ ds. distinct ds (suc n) xs t) t' e in let r = distinct_same a.0 (suc n) xs t t' u a.2 in
     (r.0, and_ok (declare ds x n) a.0 (λ ds. distinct ds (suc n) xs u) (Ok u) a.1 r.1)
 
-fields_go : (g : ℕ → ℕ) (P Q : ProgramTree) (c : Keeps g P Q) (M : Made) (a b : ℕ) (L : Declared) (at : List ℕ) (ds : Declared) (i : ℕ) (fs : List FieldOf) (t t' u : ItemNames) → in_declared (record { program = P; item = a; lifetimes = L }) at ds i fs t ≡ Ok t' → Reached (lockstep g) M t u
+fields_go : (g : ℕ → ℕ) (P Q : ProgramTree) (c : Keeps g P Q) (M : Made) (a b : ℕ) (L : DeclaredNames) (at : List ℕ) (ds : DeclaredNames) (i : ℕ) (fs : List FieldOf) (t t' u : ItemNames) → in_declared (record { program = P; item = a; lifetimes = L }) at ds i fs t ≡ Ok t' → Reached (lockstep g) M t u
     → Goes g t' (in_declared (record { program = Q; item = b; lifetimes = L }) at ds i fs u)
 fields_go g P Q c M a b L at ds i [] t t' u e q = (u, refl, M, subst (λ (z : ItemNames). Reached (lockstep g) M z u) (the_same t t' e) q)
 fields_go g P Q c M a b L at ds i (f ∷ fs) t t' u e q =
@@ -91,7 +95,7 @@ fields_go g P Q c M a b L at ds i (f ∷ fs) t t' u e q =
     let r = fields_go g P Q c T.made a b L at d.0 (next i) fs y.0 t' T.table y.2 T.reached in
     (r.0, and_ok (declare ds f.name i) d.0 (λ ds. (in_type I' (child at i) f.typ >> in_declared I' at ds (next i) fs) u) (Ok r.0) d.1 (then_ok (in_type I' (child at i) f.typ) (in_declared I' at d.0 (next i) fs) u T.table r.0 T.answer r.1), r.2, r.3)
 
-variants_go : (g : ℕ → ℕ) (P Q : ProgramTree) (c : Keeps g P Q) (M : Made) (a b : ℕ) (L : Declared) (at : List ℕ) (ds : Declared) (n i : ℕ) (vs : List VariantOf) (t t' u : ItemNames) → in_variants (record { program = P; item = a; lifetimes = L }) at ds n i vs t ≡ Ok t' → Reached (lockstep g) M t u
+variants_go : (g : ℕ → ℕ) (P Q : ProgramTree) (c : Keeps g P Q) (M : Made) (a b : ℕ) (L : DeclaredNames) (at : List ℕ) (ds : DeclaredNames) (n i : ℕ) (vs : List VariantOf) (t t' u : ItemNames) → in_variants (record { program = P; item = a; lifetimes = L }) at ds n i vs t ≡ Ok t' → Reached (lockstep g) M t u
     → Goes g t' (in_variants (record { program = Q; item = b; lifetimes = L }) at ds n i vs u)
 variants_go g P Q c M a b L at ds n i [] t t' u e q = (u, refl, M, subst (λ (z : ItemNames). Reached (lockstep g) M z u) (the_same t t' e) q)
 variants_go g P Q c M a b L at ds n i (v ∷ vs) t t' u e q =
@@ -106,7 +110,7 @@ variants_go g P Q c M a b L at ds n i (v ∷ vs) t t' u e q =
 -- ---- an item that stays
 
 abbrev none : Made
-none = record { variables = []; loops = [] }
+none = record { variables = []; loops = []; passages = [] }
 
 pub same_item : (g : ℕ → ℕ) (P Q : ProgramTree) → Keeps g P Q → (n m : ℕ) (i : ItemTree) (T : ItemNames) → in_item P n i ≡ Ok T → (U : ItemNames) × (in_item Q m i ≡ Ok U)
 same_item g P Q c n m (plain.rt_item s r) T e = (_, refl)
@@ -116,14 +120,14 @@ same_item g P Q c n m (plain.struct_item s d) T e =
     let t : ItemNames = record { vars = []; lifetimes = map (λ (l : Ident). l.span) (lifetimes_declared (plain.struct_item s d)); loops = []; names = [] } in
     let x = named_ok (distinct [] 0 d.lifetimes t) (in_declared (record { program = P; item = number n; lifetimes = L }) [] [] 0 d.fields) T e in
     let y = distinct_same [] 0 d.lifetimes t x.0 t x.1 in
-    let r = fields_go g P Q c none (number n) (number m) L [] [] 0 d.fields x.0 T t x.2 (subst (λ (z : ItemNames). Reached (lockstep g) none z t) y.0 (record { vars = (refl, tt); loops = (refl, tt) })) in
+    let r = fields_go g P Q c none (number n) (number m) L [] [] 0 d.fields x.0 T t x.2 (subst (λ (z : ItemNames). Reached (lockstep g) none z t) y.0 (record { vars = (refl, tt); loops = (refl, tt); passages = refl })) in
     (r.0, then_ok (distinct [] 0 d.lifetimes) (in_declared (record { program = Q; item = number m; lifetimes = L }) [] [] 0 d.fields) t t r.0 y.1 r.1)
 same_item g P Q c n m (plain.enum_item s d) T e =
     let L = firsts [] 0 (lifetimes_declared (plain.enum_item s d)) in
     let t : ItemNames = record { vars = []; lifetimes = map (λ (l : Ident). l.span) (lifetimes_declared (plain.enum_item s d)); loops = []; names = [] } in
     let x = named_ok (distinct [] 0 d.lifetimes t) (in_variants (record { program = P; item = number n; lifetimes = L }) [] [] 0 0 d.variants) T e in
     let y = distinct_same [] 0 d.lifetimes t x.0 t x.1 in
-    let r = variants_go g P Q c none (number n) (number m) L [] [] 0 0 d.variants x.0 T t x.2 (subst (λ (z : ItemNames). Reached (lockstep g) none z t) y.0 (record { vars = (refl, tt); loops = (refl, tt) })) in
+    let r = variants_go g P Q c none (number n) (number m) L [] [] 0 0 d.variants x.0 T t x.2 (subst (λ (z : ItemNames). Reached (lockstep g) none z t) y.0 (record { vars = (refl, tt); loops = (refl, tt); passages = refl })) in
     (r.0, then_ok (distinct [] 0 d.lifetimes) (in_variants (record { program = Q; item = number m; lifetimes = L }) [] [] 0 0 d.variants) t t r.0 y.1 r.1)
 
 -- ---- all items

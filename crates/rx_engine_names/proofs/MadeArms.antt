@@ -19,7 +19,7 @@ use Rattle.rx_typed.specs.Naming.{an_entry, first, passed_on}
 use Rattle.rx_hoist_extraction.specs.Names.{Names, is_among, Distinct}
 use Rattle.rx_hoist_extraction.specs.Run.{as_statements}
 use Rattle.rx_hoist_extraction.specs.Plan.{Exit, to_next, to_break, to_continue, to_return, Variable, Plan, names_of}
-use Rattle.rx_hoist_extraction.specs.Values.{held, values_at}
+use Rattle.rx_hoist_extraction.specs.Values.{variables_held, values_at}
 use Rattle.rx_hoist_extraction.specs.Fresh.{fresh_variable}
 use Rattle.rx_hoist_extraction.specs.Made.{binding, done}
 use Rattle.rx_hoist_extraction.specs.Call.{jump_label, assigned, jump_behind, fresh_from, arm_value}
@@ -116,9 +116,9 @@ module _ (items : ℕ → ℕ) (G : Handing) (I' : Inside) (ls : List Around) (M
   JumpsTo x R e = IsJump G R x e
 
   made_assigns : (sc : Variables) (at' : List ℕ) (x : Exit) (jumping : Expression) → ((at' : List ℕ) (u : ItemNames) → Makes items M u (λ v. in_expression I' sc ls at' jumping u ≡ Ok v) (ExpAlone (JumpsTo x) u jumping))
-      → (vs : List Variable) (i d j : ℕ) → MeantFrom sc d (fresh_from G.call.plan i (length (held vs))) → Every (λ (v : Variable). NameMeant G M sc v.name) vs → (u : ItemNames)
-      → Makes items M u (λ v. in_statements I' sc ls at' j (as_statements (assigned s vs (fresh_from G.call.plan i (length (held vs))) ++ done s jumping ∷ [])) u ≡ Ok (goes_to sc v))
-      (StatementsAlone (λ R ss. AreAssigned G.call R (OneDone s (JumpsTo x R)) d (names_of vs) ss) u (as_statements (assigned s vs (fresh_from G.call.plan i (length (held vs))) ++ done s jumping ∷ [])))
+      → (vs : List Variable) (i d j : ℕ) → MeantFrom sc d (fresh_from G.call.plan i (length (variables_held vs))) → Every (λ (v : Variable). NameMeant G M sc v.name) vs → (u : ItemNames)
+      → Makes items M u (λ v. in_statements I' sc ls at' j (as_statements (assigned s vs (fresh_from G.call.plan i (length (variables_held vs))) ++ done s jumping ∷ [])) u ≡ Ok (goes_to sc v))
+      (StatementsAlone (λ R ss. AreAssigned G.call R (OneDone s (JumpsTo x R)) d (names_of vs) ss) u (as_statements (assigned s vs (fresh_from G.call.plan i (length (variables_held vs))) ++ done s jumping ∷ [])))
   made_assigns sc at' x jumping J [] i d j h m u =
       let A = made_done items M I' s sc ls (child at' j) jumping (JumpsTo x) u (J (child (child at' j) 0) u) in
       made_more items M I' s sc ls at' j (done s jumping) plain.no_statement sc sc (λ R a. IsDone s (JumpsTo x R) a) (λ R ss. ss ≡ named.no_statement) (λ R ss. AreAssigned G.call R (OneDone s (JumpsTo x R)) d [] ss) u A
@@ -127,7 +127,7 @@ module _ (items : ℕ → ℕ) (G : Handing) (I' : Inside) (ls : List Around) (M
   made_assigns sc at' x jumping J (v ∷ vs) i d j h m u =
       let y = fresh_variable G.call.plan.identifiers i in
       let e = plain.assign s (plain.var s v.name) (plain.var s y) in
-      let rest = as_statements (assigned s vs (fresh_from G.call.plan (suc i) (length (held vs))) ++ done s jumping ∷ []) in
+      let rest = as_statements (assigned s vs (fresh_from G.call.plan (suc i) (length (variables_held vs))) ++ done s jumping ∷ []) in
       let A = made_done items M I' s sc ls (child at' j) e (λ R b. IsAssigned G.call R v.name (IsMade s d) b) u
       (made_assigned items G.call I' sc ls M (child (child at' j) 0) v.name (plain.var s y) (λ R b. IsMade s d b) m.0 (λ u. made_use items M I' s sc ls (child (child (child at' j) 0) 1) y d h.0 u) u) in
       made_more items M I' s sc ls at' j (done s e) rest sc sc (λ R a. IsDone s (IsAssigned G.call R v.name (IsMade s d)) a) (λ R ss. AreAssigned G.call R (OneDone s (JumpsTo x R)) (suc d) (names_of vs) ss)
@@ -140,7 +140,7 @@ module _ (items : ℕ → ℕ) (G : Handing) (I' : Inside) (ls : List Around) (M
       (ExpAlone (λ R e. IsArm G R d k x (names_of vs) e) u (arm_value s labels x vs (fresh_from G.call.plan 0 k)))
 
   made_jump : (sc : Variables) (at' : List ℕ) (x : Exit) (jumping : Expression) → ((at' : List ℕ) (u : ItemNames) → Makes items M u (λ v. in_expression I' sc ls at' jumping u ≡ Ok v) (ExpAlone (JumpsTo x) u jumping))
-      → (vs : List Variable) (k d : ℕ) → k ≡ length (held vs) → MeantFrom sc d (fresh_from G.call.plan 0 k) → Every (λ (v : Variable). NameMeant G M sc v.name) vs → (u : ItemNames)
+      → (vs : List Variable) (k d : ℕ) → k ≡ length (variables_held vs) → MeantFrom sc d (fresh_from G.call.plan 0 k) → Every (λ (v : Variable). NameMeant G M sc v.name) vs → (u : ItemNames)
       → Makes items M u (λ v. in_expression I' sc ls at' (jump_behind s (assigned s vs (fresh_from G.call.plan 0 k)) jumping) u ≡ Ok v) (ExpAlone (λ R e. IsArm G R d k x (names_of vs) e) u (jump_behind s (assigned s vs (fresh_from G.call.plan 0 k)) jumping))
   made_jump sc at' x jumping J [] k d e h m u = makes_map (J at' u) (λ a. a) (λ R sv N m t. weaker (N m t) (λ b p. jump_alone p))
   made_jump sc at' x jumping J (v ∷ vs) zero d e h m u = absurd (omega (arith, e))
@@ -148,18 +148,18 @@ module _ (items : ℕ → ℕ) (G : Handing) (I' : Inside) (ls : List Around) (M
       (ExpAlone (λ R e. IsArm G R d (suc k) x (names_of (v ∷ vs)) e) u (jump_behind s (assigned s (v ∷ vs) (fresh_from G.call.plan 0 (suc k))) jumping)))
       (sym same) (by (subst (λ (k : ℕ). MeantFrom sc d (fresh_from G.call.plan 0 (suc k))) same h))
     where
-      same : k ≡ length (held vs)
+      same : k ≡ length (variables_held vs)
       same = omega (arith, e)
 
-      by : MeantFrom sc d (fresh_from G.call.plan 0 (suc (length (held vs)))) → Makes items M u (λ w. in_expression I' sc ls at' (jump_behind s (assigned s (v ∷ vs) (fresh_from G.call.plan 0 (suc (length (held vs))))) jumping) u ≡ Ok w)
-          (ExpAlone (λ R e. IsArm G R d (suc (length (held vs))) x (names_of (v ∷ vs)) e) u (jump_behind s (assigned s (v ∷ vs) (fresh_from G.call.plan 0 (suc (length (held vs))))) jumping))
+      by : MeantFrom sc d (fresh_from G.call.plan 0 (suc (length (variables_held vs)))) → Makes items M u (λ w. in_expression I' sc ls at' (jump_behind s (assigned s (v ∷ vs) (fresh_from G.call.plan 0 (suc (length (variables_held vs))))) jumping) u ≡ Ok w)
+          (ExpAlone (λ R e. IsArm G R d (suc (length (variables_held vs))) x (names_of (v ∷ vs)) e) u (jump_behind s (assigned s (v ∷ vs) (fresh_from G.call.plan 0 (suc (length (variables_held vs))))) jumping))
       by h =
-          let ss = as_statements (assigned s (v ∷ vs) (fresh_from G.call.plan 0 (suc (length (held vs)))) ++ done s jumping ∷ []) in
+          let ss = as_statements (assigned s (v ∷ vs) (fresh_from G.call.plan 0 (suc (length (variables_held vs)))) ++ done s jumping ∷ []) in
           let A = made_assigns sc (child at' 0) x jumping J (v ∷ vs) 0 d 0 h m u in
           makes_map A (λ y. and_ok (in_statements I' sc ls (child at' 0) 0 ss u) (goes_to sc A.table) (λ r. Ok r.tables) (Ok A.table) y refl)
           (λ R sv N b t. alone_node s t (λ n g. alone_map {S = λ b. (m : Node) × (z : named.Statements) × (b ≡ named.body m z named.absent) × (m.span ≡ s) × AreAssigned G.call R (OneDone s (JumpsTo x R)) d (names_of (v ∷ vs)) z} (named.block n)
           (alone_node s (passed_on t) (λ m f. alone_map (λ z. named.body m z named.absent) N (λ z p. (m, z, refl, f, p))))
-          (λ b p. subst (λ (b : named.Body). IsArm G R d (suc (length (held vs))) x (names_of (v ∷ vs)) (named.block n b)) (sym p.2) (jump_with g p.3 p.4))))
+          (λ b p. subst (λ (b : named.Body). IsArm G R d (suc (length (variables_held vs))) x (names_of (v ∷ vs)) (named.block n b)) (sym p.2) (jump_with g p.3 p.4))))
 
   every_meant : (sc : Variables) (d k : ℕ) (vs : List Variable) → length G.call.plan.identifiers + k ≤ 2 ^ 64 → Every (OutMeant G M sc) vs → Every (λ (v : Variable). NameMeant G M (entered sc (declared_from s d (fresh_from G.call.plan 0 k))) v.name) vs
   every_meant sc d k [] b h = tt
@@ -187,10 +187,10 @@ module _ (items : ℕ → ℕ) (G : Handing) (I' : Inside) (ls : List Around) (M
       let k = length (values_at G.call.plan to_next vs) in let ys = fresh_from G.call.plan 0 k in
       next_made (entered sc (declared_from s d ys)) at' vs k d (meant_from s d ys sc (fresh_distinct G.call.plan 0 k (omega (arith, b)))) u
   made_arm sc at' (to_break j) vs d b h u =
-      let k = length (held vs) in let ys = fresh_from G.call.plan 0 k in let sc1 = entered sc (declared_from s d ys) in
+      let k = length (variables_held vs) in let ys = fresh_from G.call.plan 0 k in let sc1 = entered sc (declared_from s d ys) in
       made_jump sc1 at' (to_break j) (plain.break s (jump_label s labels j)) (λ at1 u1. made_break sc1 at1 j h.0 u1) vs k d refl (meant_from s d ys sc (fresh_distinct G.call.plan 0 k (omega (arith, b)))) (every_meant sc d k vs b h.1) u
   made_arm sc at' (to_continue j) vs d b h u =
-      let k = length (held vs) in let ys = fresh_from G.call.plan 0 k in let sc1 = entered sc (declared_from s d ys) in
+      let k = length (variables_held vs) in let ys = fresh_from G.call.plan 0 k in let sc1 = entered sc (declared_from s d ys) in
       made_jump sc1 at' (to_continue j) (plain.continue s (jump_label s labels j)) (λ at1 u1. made_continue sc1 at1 j h.0 u1) vs k d refl (meant_from s d ys sc (fresh_distinct G.call.plan 0 k (omega (arith, b)))) (every_meant sc d k vs b h.1) u
   made_arm sc at' to_return vs d b h u =
       let k = length (values_at G.call.plan to_return vs) in let ys = fresh_from G.call.plan 0 k in

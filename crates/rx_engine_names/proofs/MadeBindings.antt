@@ -5,8 +5,8 @@ use Rattle.std.proofs.lemmas.Slice.Eq.{bytes_eq-Decides}
 use Rattle.rx_core.specs.declared.types.Span.{Span}
 use Rattle.rx_tree.specs.Lists.{Every}
 use Rattle.rx_tree.specs.Plain.{PatternTree}
-use Rattle.rx_resolve_names.specs.declared.table.Known.{Known}
-use Rattle.rx_resolve_names.specs.Scopes.{Declared, declared_as, Variables, variable_named, entered}
+use Rattle.rx_resolve_names.specs.declared.table.NumberedName.{NumberedName}
+use Rattle.rx_resolve_names.specs.Scopes.{DeclaredNames, declared_as, Variables, variable_named, entered}
 use Rattle.rx_resolve_names.specs.declared.resolved.ItemNames.{ItemNames}
 use Rattle.rx_resolve_names.specs.Meant.{number}
 use Rattle.rx_resolve_names.specs.Steps.{Outcome, and_then, Inside, declared_behind, child, next, entry, with_names, with_variable}
@@ -33,7 +33,7 @@ abbrev pub AllNew : Names → Names → Type 0
 AllNew done [] = Unit {0}
 AllNew done (x ∷ xs) = (is_among x done ≡ false) × AllNew (done ++ x ∷ []) xs
 
-pub not_declared : (ds : Declared) (x : List ℕ) → is_among x (declared_names ds) ≡ false → declared_as ds x ≡ None
+pub not_declared : (ds : DeclaredNames) (x : List ℕ) → is_among x (declared_names ds) ≡ false → declared_as ds x ≡ None
 not_declared [] x h = refl
 not_declared (d ∷ ds) x h = by (bytes_eq x d.0) h (not_declared ds x)
   where
@@ -112,19 +112,19 @@ pub data IsBind (s : Span) (d : ℕ) (m : Bool) : named.Pattern → Type 0 where
   is_bind : {n : Node} → n.span ≡ s → IsBind s d m (named.bind n d m)
 
 -- with these bindings in front
-abbrev with_bound : Declared → Span → ℕ → List (List ℕ × Bool) → ItemNames → Bound
+abbrev with_bound : DeclaredNames → Span → ℕ → List (List ℕ × Bool) → ItemNames → Bound
 with_bound ds s d xs t = record { bindings = ds ++ declared_from s d (bound_names xs); tables = t }
 
 module _ (items : ℕ → ℕ) (M : Made) (I' : Inside) (s : Span) where
-  unfoldable pub made_bind : (at' : List ℕ) (x : List ℕ) (m : Bool) (ds : Declared) (u : ItemNames) → declared_as ds x ≡ None
+  unfoldable pub made_bind : (at' : List ℕ) (x : List ℕ) (m : Bool) (ds : DeclaredNames) (u : ItemNames) → declared_as ds x ≡ None
       → Makes items M u (λ v. in_pattern I' at' (binding s x m) (record { bindings = ds; tables = u }) ≡ Ok (record { bindings = ds ++ (x, record { number = number (length u.vars); span = s }) ∷ []; tables = v }))
       (λ R u' es. Alone (IsBind s (length u.vars) m) u u' es (of_pattern (binding s x m)))
   made_bind at' x m ds u none =
       let z = entry I' at' (number (length u.vars) ∷ []) in
-      let to : Declared → Outcome Bound = λ new. Ok (record { bindings = new; tables = with_names z (with_variable s u) }) in
+      let to : DeclaredNames → Outcome Bound = λ new. Ok (record { bindings = new; tables = with_names z (with_variable s u) }) in
       let decl : Declaration = record { mutable = m; stage = Stage.Given } in record {
         table = with_names z (with_variable s u);
-        answer = ap (λ (o : Option Known). and_then (declared_behind ds (ident s x) (length u.vars) o) to) none;
+        answer = ap (λ (o : Option NumberedName). and_then (declared_behind ds (ident s x) (length u.vars) o) to) none;
         added = z ∷ [];
         grown = refl;
         numbers = λ R sv. alone_node s Site.Value (λ n g. alone_then (alone_entry z) (λ a e. alone_map (λ v. named.bind n v m) (alone_declare {u = with_names z u} s decl)
@@ -137,19 +137,19 @@ module _ (items : ℕ → ℕ) (M : Made) (I' : Inside) (s : Span) where
   more : {d : ℕ} {m : Bool} {ms : List Bool} {p : named.Pattern} {ps : named.Patterns} → IsBind s d m p → AreBound s (suc d) ms ps → AreBound s d (m ∷ ms) (named.pattern_and p ps)
   more (is_bind g) h = more_bound g h
 
-  pub made_bindings : (at' : List ℕ) (i : ℕ) (xs : List (List ℕ × Bool)) (ds : Declared) (u : ItemNames) → AllNew (declared_names ds) (bound_names xs)
+  pub made_bindings : (at' : List ℕ) (i : ℕ) (xs : List (List ℕ × Bool)) (ds : DeclaredNames) (u : ItemNames) → AllNew (declared_names ds) (bound_names xs)
       → Makes items M u (λ v. in_patterns I' at' i (as_patterns (bindings_of s xs)) (record { bindings = ds; tables = u }) ≡ Ok (with_bound ds s (length u.vars) xs v)) (BoundAlone u xs)
   unfolding made_bind
   made_bindings at' i [] ds u new =
-      makes_nothing u (λ v. Ok (record { bindings = ds; tables = u }) ≡ Ok (with_bound ds s (length u.vars) [] v)) (BoundAlone u []) (ap (λ (l : Declared). Ok (record { bindings = l; tables = u })) (sym (append-nil ds))) (λ R. alone_give named.no_pattern none_bound)
+      makes_nothing u (λ v. Ok (record { bindings = ds; tables = u }) ≡ Ok (with_bound ds s (length u.vars) [] v)) (BoundAlone u []) (ap (λ (l : DeclaredNames). Ok (record { bindings = l; tables = u })) (sym (append-nil ds))) (λ R. alone_give named.no_pattern none_bound)
   made_bindings at' i (x ∷ xs) ds u new =
-      let k : Known = record { number = number (length u.vars); span = s } in
+      let k : NumberedName = record { number = number (length u.vars); span = s } in
       let ds1 = ds ++ (x.0, k) ∷ [] in
       let A = made_bind (child at' i) x.0 x.1 ds u (not_declared ds x.0 new.0) in
       let B = made_bindings at' (next i) xs ds1 A.table (subst (λ (l : Names). AllNew l (bound_names xs)) (sym (names_more ds x.0 k)) new.1) in
       let same : length A.table.vars ≡ suc (length u.vars) = one_more u.vars s in
       makes_then A B
       (λ y z. and_ok (in_pattern I' (child at' i) (binding s x.0 x.1) (record { bindings = ds; tables = u })) (record { bindings = ds1; tables = A.table }) (in_patterns I' at' (next i) (as_patterns (bindings_of s xs))) (Ok (with_bound ds s (length u.vars) (x ∷ xs) B.table)) y
-      (z ∙ ap (λ (l : Declared). Ok (record { bindings = l; tables = B.table })) (append_assoc ds ((x.0, k) ∷ []) (declared_from s (length A.table.vars) (bound_names xs))
+      (z ∙ ap (λ (l : DeclaredNames). Ok (record { bindings = l; tables = B.table })) (append_assoc ds ((x.0, k) ∷ []) (declared_from s (length A.table.vars) (bound_names xs))
       ∙ ap (λ (d : ℕ). ds ++ (x.0, k) ∷ declared_from s d (bound_names xs)) same)))
       (λ R sv N O. alone_then N (λ p e. alone_map (named.pattern_and p) O (λ ps h. more e (subst (λ (d : ℕ). AreBound s d (bound_mutable xs) ps) same h))))

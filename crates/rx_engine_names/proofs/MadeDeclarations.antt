@@ -5,7 +5,7 @@ use Rattle.rx_core.specs.declared.types.Kind.{Kind}
 use Rattle.rx_tree.specs.Lists.{Every}
 use Rattle.rx_tree.specs.Plain as plain
 use Rattle.rx_tree.specs.Plain.{TypeTree, TypeTrees, PatternTree, Expression, ProgramTree}
-use Rattle.rx_resolve_names.specs.Scopes.{Declared, Variables, entered}
+use Rattle.rx_resolve_names.specs.Scopes.{DeclaredNames, Variables, entered}
 use Rattle.rx_resolve_names.specs.declared.resolved.ItemNames.{ItemNames}
 use Rattle.rx_resolve_names.specs.Meant.{Around}
 use Rattle.rx_resolve_names.specs.Steps.{Outcome, and_then, ◌>>◌, Inside, one, both, child, next, entry, with_names, names}
@@ -70,7 +70,7 @@ module _ (items : ℕ → ℕ) (I I' : Inside) (F : Fits items I I') (P : Progra
 
 -- ---- `let p = e;`
 
-pub made_let : (items : ℕ → ℕ) (M : Made) (I' : Inside) (s : Span) (sc : Variables) (ls : List Around) (at' : List ℕ) (p : PatternTree) (ds : Declared) (e : Expression) (S : Renaming → named.Pattern → Type 0) (E : Renaming → named.Exp → Type 0) (T : Renaming → named.Statement → Type 0) (u : ItemNames)
+pub made_let : (items : ℕ → ℕ) (M : Made) (I' : Inside) (s : Span) (sc : Variables) (ls : List Around) (at' : List ℕ) (p : PatternTree) (ds : DeclaredNames) (e : Expression) (S : Renaming → named.Pattern → Type 0) (E : Renaming → named.Exp → Type 0) (T : Renaming → named.Statement → Type 0) (u : ItemNames)
     (A : Makes items M u (λ v. in_pattern I' (child at' 0) p (record { bindings = []; tables = u }) ≡ Ok (record { bindings = ds; tables = v })) (λ R u' es. Alone (S R) u u' es (of_pattern p)))
     → Makes items M A.table (λ v. in_expression I' sc ls (child at' 1) e A.table ≡ Ok v) (ExpAlone E A.table e)
     → ((R : Renaming) (n : Node) → n.span ≡ s → (q : named.Pattern) → S R q → (e : named.Exp) → E R e → T R (named.lets n q None e))

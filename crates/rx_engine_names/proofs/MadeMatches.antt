@@ -4,7 +4,7 @@ use Rattle.rx_core.specs.declared.types.Span.{Span}
 use Rattle.rx_tree.specs.Lists.{Every}
 use Rattle.rx_tree.specs.Plain as plain
 use Rattle.rx_tree.specs.Plain.{Expression, PatternTree, Arms}
-use Rattle.rx_resolve_names.specs.Scopes.{Declared, Variables, entered}
+use Rattle.rx_resolve_names.specs.Scopes.{DeclaredNames, Variables, entered}
 use Rattle.rx_resolve_names.specs.declared.resolved.ItemNames.{ItemNames}
 use Rattle.rx_resolve_names.specs.Meant.{Around}
 use Rattle.rx_resolve_names.specs.Steps.{Outcome, and_then, Naming, Inside, child, next, entry, with_names, names}
@@ -95,7 +95,7 @@ module _ (items : ℕ → ℕ) (G : Handing) (I' : Inside) (sc : Variables) (ls 
       let P = pattern_made (child at' i) x.exit vs.0 k bs.0 u in
       let A = made_arm items G I' ls M sc (child at' (next i)) x.exit x.outs d bs.0 es.0 P.table in
       let B = made_arms at' (next (next i)) xs vs.1 es.1 bs.1 A.table in
-      let arm : Declared → Naming = λ ds. in_expression I' (entered sc ds) ls (child at' (next i)) e in
+      let arm : DeclaredNames → Naming = λ ds. in_expression I' (entered sc ds) ls (child at' (next i)) e in
       let inner = makes_then {Z = λ v. (in_expression I' (entered sc (declared_from s d ys)) ls (child at' (next i)) e P.table ≡ Ok A.table) × (in_arms I' sc ls at' (next (next i)) rest A.table ≡ Ok v)}
       {N = λ R u' es. (t : Site) (q : named.Pattern) → IsVariantPattern x.exit d (not_mutable k) q
       → Alone (AreArms G R (x ∷ xs)) P.table u' es (numbering.and_then (of_expression false t e) (λ e. numbering.and_then (of_arms t rest) (λ l. give (named.arm_and q e l))))} A B (λ y z. (y, z))

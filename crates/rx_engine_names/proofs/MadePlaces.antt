@@ -47,7 +47,7 @@ entry_alone L M I' at' t u n ns r e q = let z = entry I' at' (n ∷ ns) in recor
   grows = grows_not M;
   table = with_names z u;
   answer = ap (λ (o : Outcome (List ℕ)). names I' at' o u) e;
-  reached = record { vars = q.vars; loops = q.loops };
+  reached = record { vars = q.vars; loops = q.loops; passages = q.passages };
   added = [];
   added' = z ∷ [];
   grown = sym (append-nil t.names);

@@ -35,7 +35,18 @@ use Rattle.rx_engine_names.proofs.MadePlaces.{AllMeant, made_leaving}
 
 -- what is kept of the numbers of the next variables and loops: nothing
 abbrev pub loose : (ℕ → ℕ) → Frame
-loose items = record { items = items; holds = λ ps n m. Unit {0}; pushed = λ ps n m h. tt }
+loose items = record { items = items; holds = λ ps n m. Unit {0}; pushed = λ ps n m h. tt; passed = λ M n m k l. Unit {0}; passed_variable = λ M n m k l h. tt; passed_loop = λ M n m k l h. tt }
+
+-- nothing was passed
+abbrev pub unpassed : (ℕ → ℕ) → Frame
+unpassed items = record {
+  items = items;
+  holds = λ ps n m. Unit {0};
+  pushed = λ ps n m h. tt;
+  passed = λ M n m k l. M.passages ≡ [];
+  passed_variable = λ M n m k l h. h;
+  passed_loop = λ M n m k l h. h;
+}
 
 module _ (items : ℕ → ℕ) (V : Moves) (I I' : Inside) (start : Variables) (F : FitItems items I I') (E : ExitsNamed V I') where
   -- the setting; `start` is the scope where the copy begins
@@ -108,7 +119,7 @@ module _ (items : ℕ → ℕ) (V : Moves) (I I' : Inside) (start : Variables) (
         grows = grows_not M;
         table = u;
         answer = refl;
-        reached = record { vars = tt; loops = tt };
+        reached = record { vars = tt; loops = tt; passages = tt };
         added = z ∷ [];
         added' = [];
         grown = refl;

@@ -154,7 +154,7 @@ module _ (items : ℕ → ℕ) (V : Moves) (I I' : Inside) (start : Variables) (
     grows = grows_not M;
     table = bound_table at3 u;
     answer = refl;
-    reached = record { vars = tt; loops = tt };
+    reached = record { vars = tt; loops = tt; passages = tt };
     added = [];
     added' = z ∷ [];
     grown = sym (append-nil t.names);

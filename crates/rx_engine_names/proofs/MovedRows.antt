@@ -90,7 +90,7 @@ module _ (items : ℕ → ℕ) (V : Moves) (I I' : Inside) (start : Variables) (
 
   expression_behind : (M : Made) (own : Names) (w : Stand At M own (rounds V)) → w.ls ≡ V.loops → (e : Expression) → Within (asked V I I' start) own (rounds V) e → (at at' : List ℕ) (t t' v : ItemNames) → in_expression I w.sc V.loops at e t ≡ Ok t'
       → ExpPart At M own (rounds V) w at' e (changed C own (rounds V) e) t t' v
-  expression_behind M own w here e within at at' t t' v is = expression_alike At (moved_special items V I I' start F E) M own (rounds V) w at at' e within t t' v (ap (λ (ls : List Around). in_expression I w.sc ls at e t) here ∙ is) (record { vars = tt; loops = tt })
+  expression_behind M own w here e within at at' t t' v is = expression_alike At (moved_special items V I I' start F E) M own (rounds V) w at at' e within t t' v (ap (λ (ls : List Around). in_expression I w.sc ls at e t) here ∙ is) (record { vars = tt; loops = tt; passages = tt })
 
   behind_run : (M : Made) (own : Names) (w : Stand At M own (rounds V)) → w.ls ≡ V.loops → w.ls' ≡ [] → (e : Expression) → Within (asked V I I' start) own (rounds V) e → (at : List ℕ) (t t' : ItemNames) → in_expression I w.sc V.loops at e t ≡ Ok t'
       → (more : List NodeNames) → t'.names ≡ t.names ++ more → (at' : List ℕ) (v : ItemNames) → Later items M v (λ z. in_expression I' w.sc' [] at' (changed C own (rounds V) e) v ≡ Ok z) (ExpAlone (TailLike V t more e) v (changed C own (rounds V) e))
@@ -115,7 +115,7 @@ module _ (items : ℕ → ℕ) (V : Moves) (I I' : Inside) (start : Variables) (
       let w = begins items V I I' start F E M h in
       let ss = as_statements xs in
       let ss' = changed_statements C [] (rounds V) ss in
-      let A = statements_alike At (moved_special items V I I' start F E) M [] (rounds V) w at at' i i' ss within t r u e (record { vars = tt; loops = tt }) in
+      let A = statements_alike At (moved_special items V I I' start F E) M [] (rounds V) w at at' i i' ss within t r u e (record { vars = tt; loops = tt; passages = tt }) in
       let own = behind_all [] ss in
       let w1 = in_scope At A.made [] own (rounds V) (later At M A.made [] (rounds V) w A.grows) r.scope A.answer.0 A.answer.2 in record {
         made = A.made;

@@ -106,7 +106,7 @@ module _ (items : ℕ → ℕ) (V : Moves) (I I' : Inside) (start : Variables) (
   moved_tail : (M : Made) (own : Names) (w : Stand J M own (rounds V)) → w.ls ≡ V.loops → w.ls' ≡ [] → (o : OptionalExpression) → OptionalWithin (asked V I I' start) own (rounds V) o → (at at' : List ℕ) (t t' v : ItemNames) → in_optional I w.sc V.loops at o t ≡ Ok t'
       → TailAlike items V I' w.sc' M at' o (changed_optional (moving V.plan V.place) own (rounds V) o) t t' v
   moved_tail M own w here none o within at at' t t' v e =
-      let A = optional_alike J moved_special M own (rounds V) w at at' o within t t' v (ap (λ (ls : List Around). in_optional I w.sc ls at o t) here ∙ e) (record { vars = tt; loops = tt }) in record {
+      let A = optional_alike J moved_special M own (rounds V) w at at' o within t t' v (ap (λ (ls : List Around). in_optional I w.sc ls at o t) here ∙ e) (record { vars = tt; loops = tt; passages = tt }) in record {
         tables = A.table;
         resolves = ap (λ (ls : List Around). in_optional I' w.sc' ls at' (changed_optional (moving V.plan V.place) own (rounds V) o) v) (sym none) ∙ A.answer;
         made = A.made;
@@ -123,7 +123,7 @@ module _ (items : ℕ → ℕ) (V : Moves) (I I' : Inside) (start : Variables) (
   unfolding begins
   moved_run M h at at' i i' ss within t u r e =
       let w = begins M h in
-      let A = statements_alike J moved_special M [] (rounds V) w at at' i i' ss within t r u e (record { vars = tt; loops = tt }) in
+      let A = statements_alike J moved_special M [] (rounds V) w at at' i i' ss within t r u e (record { vars = tt; loops = tt; passages = tt }) in
       let own = behind_all [] ss in
       let w1 = in_scope J A.made [] own (rounds V) (later J M A.made [] (rounds V) w A.grows) r.scope A.answer.0 A.answer.2 in record {
         statements = record {

@@ -8,8 +8,8 @@ use Rattle.rx_tree.specs.declared.tree.Ident.{Ident}
 use Rattle.rx_tree.specs.Lists.{Every}
 use Rattle.rx_tree.specs.Plain as plain
 use Rattle.rx_tree.specs.Plain.{TypeTrees, VariantOf, ItemTree, ProgramTree}
-use Rattle.rx_resolve_names.specs.declared.table.Known.{Known}
-use Rattle.rx_resolve_names.specs.Scopes.{Declared, declared_as}
+use Rattle.rx_resolve_names.specs.declared.table.NumberedName.{NumberedName}
+use Rattle.rx_resolve_names.specs.Scopes.{DeclaredNames, declared_as}
 use Rattle.rx_resolve_names.specs.declared.resolved.ItemNames.{ItemNames}
 use Rattle.rx_resolve_names.specs.Meant.{number, type_name, item_named, as_type, as_enum, number_in, firsts, kept, variants_of, lifetimes_declared}
 use Rattle.rx_resolve_names.specs.Steps.{◌>>◌, Inside, known, one, both, declare, declared_behind, child, next}
@@ -60,7 +60,7 @@ name_among x (y ∷ ys) e = by (same_exit x y.exit) refl e (name_among x ys)
     by false g h rest = or_right (bytes_eq (exit_name x) (exit_name y.exit)) (is_among (exit_name x) (exit_names ys)) (rest h)
 
 -- names that follow are declared behind one that differs
-still_new : (ds : Declared) (y : List ℕ) (k : Known) (ys : Names) → is_among y ys ≡ false → ((x : List ℕ) → (bytes_eq x y || is_among x ys) ≡ true → declared_as ds x ≡ None) → (x : List ℕ) → is_among x ys ≡ true → declared_as (ds ++ (y, k) ∷ []) x ≡ None
+still_new : (ds : DeclaredNames) (y : List ℕ) (k : NumberedName) (ys : Names) → is_among y ys ≡ false → ((x : List ℕ) → (bytes_eq x y || is_among x ys) ≡ true → declared_as ds x ≡ None) → (x : List ℕ) → is_among x ys ≡ true → declared_as (ds ++ (y, k) ∷ []) x ≡ None
 still_new ds y k ys f new x e = none_push ds (y, k) x (new x (or_right (bytes_eq x y) (is_among x ys) e)) (by (bytes_eq x y) refl)
   where
     by : (b : Bool) → bytes_eq x y ≡ b → b ≡ false
@@ -70,15 +70,15 @@ still_new ds y k ys f new x e = none_push ds (y, k) x (new x (or_right (bytes_eq
 abbrev named_variants : ProgramTree → Plan → Span → ℕ → List Leaving → List Ident
 named_variants P pl s m xs = map (λ (v : VariantOf). v.name) (variants P pl s m xs)
 
-exit_number : (P : ProgramTree) (pl : Plan) (s : Span) (n m : ℕ) (ds : Declared) (xs : List Leaving) (x : Exit) → has_exit x xs ≡ true → Distinct (exit_names xs) → ((y : List ℕ) → is_among y (exit_names xs) ≡ true → declared_as ds y ≡ None)
+exit_number : (P : ProgramTree) (pl : Plan) (s : Span) (n m : ℕ) (ds : DeclaredNames) (xs : List Leaving) (x : Exit) → has_exit x xs ≡ true → Distinct (exit_names xs) → ((y : List ℕ) → is_among y (exit_names xs) ≡ true → declared_as ds y ≡ None)
     → number_in (firsts ds n (named_variants P pl s m xs)) (exit_name x) ≡ Some (number (n + place_of x xs))
 exit_number P pl s n m ds [] x e d new = absurd (cc)
 exit_number P pl s n m ds (y ∷ ys) x e d new =
     let z = exit_name y.exit in
-    let k : Known = record { number = number n; span = s } in
+    let k : NumberedName = record { number = number n; span = s } in
     let m1 = m + positions_of P (fields_at pl y) in
     let none = new z (or_left (bytes_eq z z) (is_among z (exit_names ys)) (same_name z)) in
-    ap (λ (o : Option Known). number_in (firsts (kept ds (ident s z) n o) (suc n) (named_variants P pl s m1 ys)) (exit_name x)) none
+    ap (λ (o : Option NumberedName). number_in (firsts (kept ds (ident s z) n o) (suc n) (named_variants P pl s m1 ys)) (exit_name x)) none
     ∙ by (same_exit x y.exit) refl e (λ h. exit_number P pl s (suc n) m1 (ds ++ (z, k) ∷ []) ys x h d.1 (still_new ds z k (exit_names ys) d.0 new)) (none)
   where
     by : (b : Bool) → same_exit x y.exit ≡ b → (b || has_exit x ys) ≡ true
@@ -86,10 +86,10 @@ exit_number P pl s n m ds (y ∷ ys) x e d new =
         → declared_as ds (exit_name y.exit) ≡ None
         → number_in (firsts (ds ++ (exit_name y.exit, record { number = number n; span = s }) ∷ []) (suc n) (named_variants P pl s (m + positions_of P (fields_at pl y)) ys)) (exit_name x) ≡ Some (number (n + (if b then zero else suc (place_of x ys))))
     by true g h rest none =
-        let k : Known = record { number = number n; span = s } in
+        let k : NumberedName = record { number = number n; span = s } in
         let same = same_names x y.exit g in
         let here : n + 0 ≡ n = omega arith in
-        ap (λ (o : Option Known). option_map (λ (k : Known). k.number) o) (firsts_keep (ds ++ (exit_name y.exit, k) ∷ []) (suc n) (named_variants P pl s (m + positions_of P (fields_at pl y)) ys) (exit_name x) k
+        ap (λ (o : Option NumberedName). option_map (λ (k : NumberedName). k.number) o) (firsts_keep (ds ++ (exit_name y.exit, k) ∷ []) (suc n) (named_variants P pl s (m + positions_of P (fields_at pl y)) ys) (exit_name x) k
         (declared_last ds (exit_name x) (exit_name y.exit) k (ap (declared_as ds) same ∙ none) (ap (λ (z : List ℕ). bytes_eq z (exit_name y.exit)) same ∙ same_name (exit_name y.exit))))
         ∙ ap (λ j. Some (number j)) (sym here)
     by false g h rest none = let on : suc n + place_of x ys ≡ n + suc (place_of x ys) = omega arith in rest h ∙ ap (λ j. Some (number j)) on
@@ -138,10 +138,10 @@ module _ (P Q : ProgramTree) (V : Moves) (stands : EnumStands P Q V) (apart : Di
 
 -- ---- the enum's item
 
-pub distinct_resolves : (ds : Declared) (n : ℕ) (ls : List Ident) (t : ItemNames) → Distinct (idents ls) → ((x : List ℕ) → is_among x (idents ls) ≡ true → declared_as ds x ≡ None) → distinct ds n ls t ≡ Ok t
+pub distinct_resolves : (ds : DeclaredNames) (n : ℕ) (ls : List Ident) (t : ItemNames) → Distinct (idents ls) → ((x : List ℕ) → is_among x (idents ls) ≡ true → declared_as ds x ≡ None) → distinct ds n ls t ≡ Ok t
 distinct_resolves ds n [] t d new = refl
 distinct_resolves ds n (l ∷ ls) t d new =
-    let k : Known = record { number = number n; span = l.span } in
+    let k : NumberedName = record { number = number n; span = l.span } in
     let none = new l.name (or_left (bytes_eq l.name l.name) (is_among l.name (idents ls)) (same_name l.name)) in
     and_ok (declare ds l n) (ds ++ (l.name, k) ∷ []) (λ ds. distinct ds (suc n) ls t) (Ok t) (ap (declared_behind ds l n) none)
     (distinct_resolves (ds ++ (l.name, k) ∷ []) (suc n) ls t d.1 (still_new ds l.name k (idents ls) d.0 new))
@@ -153,16 +153,16 @@ module _ (items : ℕ → ℕ) (P : ProgramTree) (pl : Plan) (s : Span) (I I' : 
   each_resolves : (at : List ℕ) (i n : ℕ) (ts : List Typ) → Every (λ (t : Typ). Finds I P t) ts → n + positions_of P ts ≤ total → (u : ItemNames) → (v : ItemNames) × (in_types I' at i (each_full P s row n ts) u ≡ Ok v)
   each_resolves at i n [] f l u = (u, refl)
   each_resolves at i n (t ∷ ts) f l u =
-      let A = full_made items (record { variables = []; loops = [] }) I' s row total meant I F P (child at i) n t f.0 (omega (arith, l)) u in
+      let A = full_made items (record { variables = []; loops = []; passages = [] }) I' s row total meant I F P (child at i) n t f.0 (omega (arith, l)) u in
       let r = each_resolves at (next i) (n + positions P t) ts f.1 (omega (arith, l)) A.table in
       (r.0, then_ok (in_type I' (child at i) (full P s row n t)) (in_types I' at (next i) (each_full P s row (n + positions P t) ts)) u A.table r.0 A.answer r.1)
 
-  variants_resolve : (n i m : ℕ) (ds : Declared) (xs : List Leaving) → Distinct (exit_names xs) → ((y : List ℕ) → is_among y (exit_names xs) ≡ true → declared_as ds y ≡ None) → Every (λ (x : Leaving). Every (λ (t : Typ). Finds I P t) (fields_at pl x)) xs
+  variants_resolve : (n i m : ℕ) (ds : DeclaredNames) (xs : List Leaving) → Distinct (exit_names xs) → ((y : List ℕ) → is_among y (exit_names xs) ≡ true → declared_as ds y ≡ None) → Every (λ (x : Leaving). Every (λ (t : Typ). Finds I P t) (fields_at pl x)) xs
       → m + positions_of P (all_fields pl xs) ≤ total → (u : ItemNames) → (v : ItemNames) × (in_variants I' [] ds n i (variants P pl s m xs) u ≡ Ok v)
   variants_resolve n i m ds [] d new f l u = (u, refl)
   variants_resolve n i m ds (x ∷ xs) d new f l u =
       let z = exit_name x.exit in
-      let k : Known = record { number = number n; span = s } in
+      let k : NumberedName = record { number = number n; span = s } in
       let ts = fields_at pl x in
       let ys = each_full P s row m ts in
       let both_there = positions_both P ts (all_fields pl xs) in

@@ -4,7 +4,7 @@ use Rattle.std.proofs.lemmas.Bool.{or_left, or_right}
 use Rattle.std.proofs.Common.{◌≡◌, ℕ, suc, ◌+◌, ◌<◌, arith, Bool, true, false, not, List, [], ◌∷◌, ◌++◌, length, Ok, refl, sym, ap, ◌∙◌, subst, append_assoc}
 use Rattle.rx_core.specs.declared.types.Span.{Span}
 use Rattle.rx_tree.specs.Plain.{Function, Parameter, ProgramTree}
-use Rattle.rx_resolve_names.specs.Scopes.{Declared, entered}
+use Rattle.rx_resolve_names.specs.Scopes.{DeclaredNames, entered}
 use Rattle.rx_resolve_names.specs.declared.resolved.ItemNames.{ItemNames}
 use Rattle.rx_resolve_names.specs.declared.resolved.NodeNames.{NodeNames}
 use Rattle.rx_resolve_names.specs.Meant.{number, firsts}
@@ -57,7 +57,7 @@ parameters_more I at i [] b b1 e = ap (λ (v : Bound). length v.tables.vars) (sy
 parameters_more I at i (x ∷ xs) b b1 e =
     let X = named_ok (in_parameter I at i x b) (in_parameters I at (next i) xs) b1 e in
     let t = with_variable x.name.span b.tables in
-    let typed : Declared → Outcome Bound = λ ds. and_then (in_type I (child at i) x.typ t) (λ t. Ok (record { bindings = ds; tables = t })) in
+    let typed : DeclaredNames → Outcome Bound = λ ds. and_then (in_type I (child at i) x.typ t) (λ t. Ok (record { bindings = ds; tables = t })) in
     let d = named_ok (declare b.bindings x.name i) typed X.0 X.1 in
     let y = named_ok (in_type I (child at i) x.typ t) (λ t. Ok (record { bindings = d.0; tables = t })) X.0 d.2 in
     let one : length X.0.tables.vars ≡ suc (length b.tables.vars) = ap (λ (v : Bound). length v.tables.vars) (sym (the_same (record { bindings = d.0; tables = y.0 }) X.0 y.2)) ∙ type_no_more I (child at i) x.typ t y.0 y.1 ∙ one_more b.tables.vars x.name.span in
@@ -102,7 +102,7 @@ module _ (items : ℕ → ℕ) (M : Made) (I' : Inside) (f : Function) (ns : Lis
   pub entry_vars : length behind_entry.vars ≡ length u.vars
   entry_vars = names_no_more I' [] (Ok ks) u behind_entry E.answer
 
-module _ (items : ℕ → ℕ) (M : Made) (P : ProgramTree) (V : Moves) (I' : Inside) (f : Function) (m : ℕ) (S : Renaming → named.Body → Type 0) (ns : List ℕ) (lifetimes : lifetimes_of I' [] 0 f.lifetimes ≡ Ok ns) (u : ItemNames) (bindings : Declared) where
+module _ (items : ℕ → ℕ) (M : Made) (P : ProgramTree) (V : Moves) (I' : Inside) (f : Function) (m : ℕ) (S : Renaming → named.Body → Type 0) (ns : List ℕ) (lifetimes : lifetimes_of I' [] 0 f.lifetimes ≡ Ok ns) (u : ItemNames) (bindings : DeclaredNames) where
   abbrev at_entry : Makes items M u (λ v. numbered I' [] (ns ++ numbers_from 0 f.params) u ≡ Ok v) (EntryIfAlone u (not (is_nothing (ns ++ numbers_from 0 f.params))))
   at_entry = E items M I' f ns u
 

@@ -7,7 +7,7 @@ use Rattle.rx_tree.specs.Plain as plain
 use Rattle.rx_tree.specs.Plain.{TypeTree, Function, ItemTree, ProgramTree}
 use Rattle.rx_tree.specs.Positions.{NodeTree}
 use Rattle.rx_tree.specs.Nodes.{within_statements, within_optional}
-use Rattle.rx_resolve_names.specs.Scopes.{Declared, Variables, variable_named, entered}
+use Rattle.rx_resolve_names.specs.Scopes.{DeclaredNames, Variables, variable_named, entered}
 use Rattle.rx_resolve_names.specs.declared.resolved.ItemNames.{ItemNames}
 use Rattle.rx_resolve_names.specs.Meant.{number, firsts, lifetimes_declared, Around}
 use Rattle.rx_resolve_names.specs.Steps.{Inside, child}
@@ -19,7 +19,7 @@ use Rattle.rx_typed.specs.Naming.{begins, of_parameters}
 use Rattle.rx_hoist_extraction.specs.Names.{is_among, behind_all}
 use Rattle.rx_hoist_extraction.specs.Run.{Parts, as_statements}
 use Rattle.rx_hoist_extraction.specs.Plan.{Exit, is_unit, exit_name, to_next, to_break, to_continue, to_return, Variable, Param, Leaving, Plan, Bounds, same_exit, has_exit, has_enum, outs_of, names_of, enum_name}
-use Rattle.rx_hoist_extraction.specs.Values.{Value, result_of, value_type, held, values_at, next_values, types_of, result_if_any}
+use Rattle.rx_hoist_extraction.specs.Values.{Value, result_of, value_type, variables_held, values_at, next_values, types_of, result_if_any}
 use Rattle.rx_hoist_extraction.specs.Fresh.{fresh_lifetime}
 use Rattle.rx_hoist_extraction.specs.Made.{ident}
 use Rattle.rx_hoist_extraction.specs.Changed.{changed_optional}
@@ -63,7 +63,7 @@ maybe_named : (P : ProgramTree) (o : Option Typ) → MaybeNames P o → Every (�
 maybe_named P None h = tt
 maybe_named P (Some t) h = (h, tt)
 
-held_named : (P : ProgramTree) (vs : List Variable) → Every (λ (v : Variable). NamesTypes P v.typ) vs → Every (λ (t : Typ). NamesTypes P t) (types_of (held vs))
+held_named : (P : ProgramTree) (vs : List Variable) → Every (λ (v : Variable). NamesTypes P v.typ) vs → Every (λ (t : Typ). NamesTypes P t) (types_of (variables_held vs))
 held_named P [] h = tt
 held_named P (v ∷ vs) h = (h.0, held_named P vs h.1)
 
@@ -76,7 +76,7 @@ types_both [] ys = refl
 types_both (x ∷ xs) ys = ap (λ (z : List Typ). value_type x ∷ z) (types_both xs ys)
 
 pub values_named : (P : ProgramTree) (pl : Plan) → TypesNamed P pl → (x : Exit) (vs : List Variable) → Every (λ (v : Variable). NamesTypes P v.typ) vs → Every (λ (t : Typ). NamesTypes P t) (types_of (values_at pl x vs))
-values_named P pl h to_next vs k = subst (Every (λ (t : Typ). NamesTypes P t)) (sym (types_both (result_if_any pl.value) (held vs))) (every_join (λ (t : Typ). NamesTypes P t) (types_of (result_if_any pl.value)) (types_of (held vs)) (maybe_named P pl.value h.value) (held_named P vs k))
+values_named P pl h to_next vs k = subst (Every (λ (t : Typ). NamesTypes P t)) (sym (types_both (result_if_any pl.value) (variables_held vs))) (every_join (λ (t : Typ). NamesTypes P t) (types_of (result_if_any pl.value)) (types_of (variables_held vs)) (maybe_named P pl.value h.value) (held_named P vs k))
 values_named P pl h (to_break n) vs k = held_named P vs k
 values_named P pl h (to_continue n) vs k = held_named P vs k
 values_named P pl h to_return vs k = returned_named P pl.result h.result (is_unit pl.result)
@@ -121,7 +121,7 @@ result_vars I at None t t' e = ap (λ (z : ItemNames). length z.vars) (sym (the_
 result_vars I at (Some y) t t' e = type_no_more I at y t t' e
 
 module _ (P Q : ProgramTree) (c : Inserted P Q) (ts : List ItemNames) (whole : in_program P ≡ Ok ts) (pl : Plan) (bs : Bounds) (s : Span) (loops : List Around) (scope : Variables) (enum : ℕ) (run : Parts)
-    (N : PlanNames P (moves_by pl s loops scope enum) run) (stands : EnumStands P Q (moves_by pl s loops scope enum)) (m : ℕ) (a : ℕ) (own_lifetimes : Declared) where
+    (N : PlanNames P (moves_by pl s loops scope enum) run) (stands : EnumStands P Q (moves_by pl s loops scope enum)) (m : ℕ) (a : ℕ) (own_lifetimes : DeclaredNames) where
   abbrev V : Moves
   V = moves_by pl s loops scope enum
 
@@ -170,7 +170,7 @@ module _ (P Q : ProgramTree) (c : Inserted P Q) (ts : List ItemNames) (whole : i
   fits : Every (λ (n : NodeTree). Every (LifetimeFits I I') (lifetimes_at n)) (within_statements (as_statements run.statements)) × Every (λ (n : NodeTree). Every (LifetimeFits I I') (lifetimes_at n)) (within_optional run.tail)
   fits = every_front (λ (n : NodeTree). Every (LifetimeFits I I') (lifetimes_at n)) (within_statements (as_statements run.statements)) (within_optional run.tail) (run_fits I I' run (copied_means P pl bs s run I' lifetimes_are))
 
-  abbrev bindings : Declared
+  abbrev bindings : DeclaredNames
   bindings = params_declared s 0 pl.params
 
   abbrev known : Every (λ (x : List ℕ). (n : ℕ) × (variable_named scope x ≡ Some n)) (param_names pl.params) × Every (λ (x : List ℕ). (n : ℕ) × (variable_named scope x ≡ Some n)) (names_of pl.locals)

@@ -6,7 +6,7 @@ use Rattle.rx_tree.specs.declared.tree.Ident.{Ident}
 use Rattle.rx_tree.specs.Lists.{Every, nth}
 use Rattle.rx_tree.specs.Plain as plain
 use Rattle.rx_tree.specs.Plain.{Function, ItemTree, ProgramTree}
-use Rattle.rx_resolve_names.specs.Scopes.{Declared, Variables}
+use Rattle.rx_resolve_names.specs.Scopes.{DeclaredNames, Variables}
 use Rattle.rx_resolve_names.specs.declared.resolved.ItemNames.{ItemNames}
 use Rattle.rx_resolve_names.specs.Meant.{number, firsts, lifetimes_declared, type_name, has_name, item_named, Around}
 use Rattle.rx_resolve_names.specs.Steps.{Outcome, and_then, Inside}
@@ -86,7 +86,7 @@ module _ (P : ProgramTree) (r : Run) (pl : Plan) (bs : Bounds) (s : Span) (f : F
         let few = ap (λ (b : Bool). parameter_positions P pl + (if b then enum_positions P pl else positions_of P (types_of (next_values pl)))) h in
         enum_resolves (number_there inserted) P Q pl r.span n I fit N.exits_apart (fields_found P pl I (type_finds P ts whole 0 []) pl.exits fields) (omega (arith, N.fresh_lifetimes, few))
 
-    module _ (a : ℕ) (own_lifetimes : Declared) (at : List ℕ) (i : ℕ) (t : ItemNames) (m : Scoped) (comes : in_statements (record { program = P; item = a; lifetimes = own_lifetimes }) scope loops at i (as_statements (run_parts r g).statements) t ≡ Ok m)
+    module _ (a : ℕ) (own_lifetimes : DeclaredNames) (at : List ℕ) (i : ℕ) (t : ItemNames) (m : Scoped) (comes : in_statements (record { program = P; item = a; lifetimes = own_lifetimes }) scope loops at i (as_statements (run_parts r g).statements) t ≡ Ok m)
         (at3 : List ℕ) (t' : ItemNames) (ends : in_optional (record { program = P; item = a; lifetimes = own_lifetimes }) m.scope loops at3 (run_parts r g).tail m.tables ≡ Ok t')
         (within : StatementsWithin (run_claims (moves_by pl r.span loops scope (suc r.item))) [] (rounds (moves_by pl r.span loops scope (suc r.item))) (as_statements (run_parts r g).statements))
         (inside : OptionalWithin (run_claims (moves_by pl r.span loops scope (suc r.item))) (behind_all [] (as_statements (run_parts r g).statements)) (rounds (moves_by pl r.span loops scope (suc r.item))) (run_parts r g).tail) where

@@ -5,7 +5,7 @@ use Rattle.std.proofs.lemmas.Slice.Eq.{bytes_eq-Decides}
 use Rattle.std.proofs.Common.{◌≡◌, ℕ, suc, Bool, true, false, ◌||◌, if◌then◌else◌, List, [], ◌∷◌, ◌++◌, length, Option, Some, None, inl, inr, refl, sym, ap, ◌∙◌, subst, bytes_eq}
 use Rattle.rx_core.specs.declared.types.Span.{Span}
 use Rattle.rx_tree.specs.Lists.{Every}
-use Rattle.rx_resolve_names.specs.Scopes.{Declared, Variables, variable_named, entered}
+use Rattle.rx_resolve_names.specs.Scopes.{DeclaredNames, Variables, variable_named, entered}
 use Rattle.rx_resolve_names.specs.Meant.{number, Around}
 use Rattle.rx_resolve_names.specs.Steps.{next}
 use Rattle.rx_hoist_extraction.specs.Names.{Names, Distinct, is_among}
@@ -69,7 +69,7 @@ paired_named o n a e = subst (λ (z : Option ℕ). Has (paired z n) a (number n)
 -- ---- params
 
 -- how they are declared, from place i on
-abbrev pub params_declared : Span → ℕ → List Param → Declared
+abbrev pub params_declared : Span → ℕ → List Param → DeclaredNames
 params_declared s i [] = []
 params_declared s i (x ∷ xs) = (x.variable.name, record { number = number i; span = s }) ∷ params_declared s (next i) xs
 
@@ -90,7 +90,7 @@ other_than_params s i (x ∷ xs) sc y e =
 
 -- a name means variables that correspond
 abbrev pub MeansBoth : Pairs → Pairs → Bool → Variables → Variables → List ℕ → Type 0
-MeansBoth B O r sc sc' y = (a : ℕ) × (b : ℕ) × (variable_named sc y ≡ Some a) × (variable_named sc' y ≡ Some b) × Paired B (record { variables = O; loops = [] }) r a b
+MeansBoth B O r sc sc' y = (a : ℕ) × (b : ℕ) × (variable_named sc y ≡ Some a) × (variable_named sc' y ≡ Some b) × Paired B (record { variables = O; loops = []; passages = [] }) r a b
 
 param_means : (text : Variables) (s : Span) (n i : ℕ) → i ≡ number n → (xs : List Param) (sc : Variables) → Distinct (param_names xs) → Every (λ (x : List ℕ). (a : ℕ) × (variable_named text x ≡ Some a)) (param_names xs) → (y : List ℕ) → is_among y (param_names xs) ≡ true
     → MeansBoth (referred_paired text n xs) (others_paired text n xs) (is_among y (referred xs)) text (entered sc (params_declared s i xs)) y
@@ -112,7 +112,7 @@ param_means text s n i place (x ∷ xs) sc d m y e =
           number n,
           h,
           here f g,
-          subst (λ (c : Bool). Paired B (record { variables = others_paired text (suc n) xs; loops = [] }) c a (number n)) (sym (ap (λ (c : Bool). c || is_among y (referred xs)) g))
+          subst (λ (c : Bool). Paired B (record { variables = others_paired text (suc n) xs; loops = []; passages = [] }) c a (number n)) (sym (ap (λ (c : Bool). c || is_among y (referred xs)) g))
               (has_left (paired (variable_named text x.variable.name) n) (referred_paired text (suc n) xs) a (number n) (paired_named (variable_named text x.variable.name) n a t)),
         )
     this false f g a h =
@@ -122,13 +122,13 @@ param_means text s n i place (x ∷ xs) sc d m y e =
           number n,
           h,
           here f g,
-          subst (λ (c : Bool). Paired (referred_paired text (suc n) xs) (record { variables = O; loops = [] }) c a (number n)) (sym (not_referred xs y f))
+          subst (λ (c : Bool). Paired (referred_paired text (suc n) xs) (record { variables = O; loops = []; passages = [] }) c a (number n)) (sym (not_referred xs y f))
               (has_left (paired (variable_named text x.variable.name) n) (others_paired text (suc n) xs) a (number n) (paired_named (variable_named text x.variable.name) n a t)),
         )
 
     -- it is one of the others
-    wider : (ps qs : Pairs) (r : Bool) (a b : ℕ) → Paired (referred_paired text (suc n) xs) (record { variables = others_paired text (suc n) xs; loops = [] }) r a b
-        → Paired (ps ++ referred_paired text (suc n) xs) (record { variables = qs ++ others_paired text (suc n) xs; loops = [] }) r a b
+    wider : (ps qs : Pairs) (r : Bool) (a b : ℕ) → Paired (referred_paired text (suc n) xs) (record { variables = others_paired text (suc n) xs; loops = []; passages = [] }) r a b
+        → Paired (ps ++ referred_paired text (suc n) xs) (record { variables = qs ++ others_paired text (suc n) xs; loops = []; passages = [] }) r a b
     wider ps qs true a b h = has_right ps (referred_paired text (suc n) xs) a b h
     wider ps qs false a b h = has_right qs (others_paired text (suc n) xs) a b h
 
@@ -148,7 +148,7 @@ param_means text s n i place (x ∷ xs) sc d m y e =
           r.1,
           r.2,
           r.3,
-          subst (λ (c : Bool). Paired (referred_paired text n (x ∷ xs)) (record { variables = others_paired text n (x ∷ xs); loops = [] }) c r.0 r.1) (sym (same_flag (is_referred x.mode) g))
+          subst (λ (c : Bool). Paired (referred_paired text n (x ∷ xs)) (record { variables = others_paired text n (x ∷ xs); loops = []; passages = [] }) c r.0 r.1) (sym (same_flag (is_referred x.mode) g))
               (wider (if is_referred x.mode then paired (variable_named text x.variable.name) n else []) (if is_referred x.mode then [] else paired (variable_named text x.variable.name) n) (is_among y (referred xs)) r.0 r.1 r.4),
         )
 
@@ -204,7 +204,7 @@ module _ (pl : Plan) (s : Span) (ls : List Around) (text : Variables) (enum : �
       outer : Variables
       outer = entered [] (params_declared s 0 pl.params)
 
-      widened : (r : Bool) (a b : ℕ) → Paired (referred_paired text 0 pl.params) (record { variables = others_paired text 0 pl.params; loops = [] }) r a b → Paired (referred_paired text 0 pl.params) (begun pl text) r a b
+      widened : (r : Bool) (a b : ℕ) → Paired (referred_paired text 0 pl.params) (record { variables = others_paired text 0 pl.params; loops = []; passages = [] }) r a b → Paired (referred_paired text 0 pl.params) (begun pl text) r a b
       widened true a b h = h
       widened false a b h = has_left (others_paired text 0 pl.params) (locals_paired text (length pl.params) pl.locals) a b h
 

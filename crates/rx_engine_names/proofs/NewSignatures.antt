@@ -4,8 +4,8 @@ use Rattle.std.proofs.Common.{◌≡◌, ℕ, suc, ◌+◌, ◌≤◌, ◌<◌, 
 use Rattle.rx_core.specs.declared.types.Kind as kinds
 use Rattle.rx_tree.specs.Lists.{Every}
 use Rattle.rx_tree.specs.Plain.{TypeTree, ProgramTree}
-use Rattle.rx_resolve_names.specs.declared.table.Known.{Known}
-use Rattle.rx_resolve_names.specs.Scopes.{Declared, declared_as, Variables, variable_named}
+use Rattle.rx_resolve_names.specs.declared.table.NumberedName.{NumberedName}
+use Rattle.rx_resolve_names.specs.Scopes.{DeclaredNames, declared_as, Variables, variable_named}
 use Rattle.rx_resolve_names.specs.declared.resolved.ItemNames.{ItemNames}
 use Rattle.rx_resolve_names.specs.Meant.{number}
 use Rattle.rx_resolve_names.specs.Steps.{Outcome, and_then, Inside, declare, declared_behind, child, next, with_variable}
@@ -96,17 +96,17 @@ module _ (items : ℕ → ℕ) (M : Made) (P : ProgramTree) (V : Moves) (I I' : 
     pub params_made : (n i m : ℕ) → i ≡ number n → (xs : List Param) → m + positions_of P (passed_types xs) ≤ total → Every (λ (x : Param). Finds I P x.variable.typ) xs → Distinct (param_names xs)
         → Every (λ (x : List ℕ). (a : ℕ) × (variable_named V.scope x ≡ Some a)) (param_names xs)
         → ((a b : ℕ) → Has (referred_paired V.scope n xs) a b → Has V.behind a b) → ((a b : ℕ) → Has (others_paired V.scope n xs) a b → Has M.variables a b)
-        → (ds : Declared) → ((x : List ℕ) → is_among x (param_names xs) ≡ true → declared_as ds x ≡ None) → (u : ItemNames) → length u.vars ≡ n
+        → (ds : DeclaredNames) → ((x : List ℕ) → is_among x (param_names xs) ≡ true → declared_as ds x ≡ None) → (u : ItemNames) → length u.vars ≡ n
         → Makes items M u (λ v. in_parameters I' [] i (new_parameters P V.plan V.place m xs) (record { bindings = ds; tables = u }) ≡ Ok (record { bindings = ds ++ params_declared V.place i xs; tables = v }))
         (λ R u' es. Alone (λ ys. AreParameters P V R n xs ys) u u' es (of_parameters (new_parameters P V.plan V.place m xs)))
     params_made n i m place [] l f d known held made ds new u at =
         makes_nothing u (λ v. Ok (record { bindings = ds; tables = u }) ≡ Ok (record { bindings = ds ++ []; tables = v })) (λ R u' es. Alone (λ ys. AreParameters P V R n [] ys) u u' es (give []))
-        (ap (λ (l : Declared). Ok (record { bindings = l; tables = u })) (sym (append-nil ds))) (λ R. alone_give [] no_parameter)
+        (ap (λ (l : DeclaredNames). Ok (record { bindings = l; tables = u })) (sym (append-nil ds))) (λ R. alone_give [] no_parameter)
     params_made n i m place (x ∷ xs) l f d known held made ds new u at =
         let s = V.place in
         let y = x.variable.name in
         let tp = passed x.mode x.variable.typ in
-        let z : List ℕ × Known = (y, record { number = number i; span = s }) in
+        let z : List ℕ × NumberedName = (y, record { number = number i; span = s }) in
         let es = ds ++ z ∷ [] in
         let v1 = with_variable s u in
         let T = full_made items M I' s row total meant I F P (child [] i) m tp (passed_finds I P x.mode x.variable.typ f.0) (omega (arith, l)) v1 in
@@ -120,7 +120,7 @@ module _ (items : ℕ → ℕ) (M : Made) (P : ProgramTree) (V : Moves) (I I' : 
         (Ok (record { bindings = ds ++ params_declared s i (x ∷ xs); tables = B.table }))
         (and_ok (declare ds (ident s y) i) es (λ ds. and_then (in_type I' (child [] i) (full P s row m tp) v1) (λ t. Ok (record { bindings = ds; tables = t }))) (Ok (record { bindings = es; tables = T.table }))
         (ap (declared_behind ds (ident s y) i) (new y (or_left (bytes_eq y y) (is_among y (param_names xs)) (same_name y)))) (ap (λ (o : Outcome ItemNames). and_then o (λ t. Ok (record { bindings = es; tables = t }))) p))
-        (q ∙ ap (λ (l : Declared). Ok (record { bindings = l; tables = B.table })) (append_assoc ds (z ∷ []) (params_declared s (next i) xs))))
+        (q ∙ ap (λ (l : DeclaredNames). Ok (record { bindings = l; tables = B.table })) (append_assoc ds (z ∷ []) (params_declared s (next i) xs))))
         (λ R sv N O. alone_then (alone_then (alone_declare s (record { mutable = is_by_value x.mode && (x.moved && x.variable.mutable); stage = Stage.Known })) (λ v h. alone_map {T = λ p. IsParam n x R p} (λ w. record { variable = v; typ = w }) N (λ w g. (h ∙ at, g))))
         (λ p h. alone_map (λ ps. p ∷ ps) O (λ ps g. whole R sv p ps h g))))
       where

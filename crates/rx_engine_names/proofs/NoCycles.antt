@@ -7,7 +7,7 @@ use Rattle.rx_tree.specs.declared.tree.Ident.{Ident}
 use Rattle.rx_tree.specs.Plain as plain
 use Rattle.rx_tree.specs.Plain.{TypeTree, TypeTrees, FieldOf, VariantOf, Function, ItemTree, ProgramTree}
 use Rattle.rx_graph_cycles.specs.Reaches.{targets, IsIn, Reaches, edge, further, NoCycle}
-use Rattle.rx_resolve_names.specs.Scopes.{Declared}
+use Rattle.rx_resolve_names.specs.Scopes.{DeclaredNames}
 use Rattle.rx_resolve_names.specs.declared.resolved.ItemNames.{ItemNames}
 use Rattle.rx_resolve_names.specs.Meant.{number, type_name, item_named, as_type, firsts, lifetimes_declared}
 use Rattle.rx_resolve_names.specs.Steps.{and_then, Inside, one, both, declare, child, next, numbered}
@@ -50,7 +50,7 @@ held_both f ps qs ps1 qs1 h k j i = by (in_one_of qs qs1 j i)
     by (inl e) = let r = h j e in (r.0, r.1, in_left ps ps1 r.0 r.2)
     by (inr e) = let r = k j e in (r.0, r.1, in_right ps ps1 r.0 r.2)
 
-module _ (f : ℕ → ℕ) (P Q : ProgramTree) (a b : ℕ) (ls ms : Declared) (F : FitItems f (record { program = P; item = a; lifetimes = ls }) (record { program = Q; item = b; lifetimes = ms })) where
+module _ (f : ℕ → ℕ) (P Q : ProgramTree) (a b : ℕ) (ls ms : DeclaredNames) (F : FitItems f (record { program = P; item = a; lifetimes = ls }) (record { program = Q; item = b; lifetimes = ms })) where
   abbrev I : Inside
   I = record { program = P; item = a; lifetimes = ls }
 
@@ -83,14 +83,14 @@ module _ (f : ℕ → ℕ) (P Q : ProgramTree) (a b : ℕ) (ls ms : Declared) (F
         let x = named_ok (in_type I (child at i) y t) (in_types I at (next i) ys) t' e in
         held_both f (held_in P y) (held_in Q y) (held_among P ys) (held_among Q ys) (type_before (child at i) y t x.0 x.1) (types_before at (next i) ys x.0 t' x.2)
 
-  fields_before : (at : List ℕ) (ds : Declared) (i : ℕ) (xs : List FieldOf) (t t' : ItemNames) → in_declared I at ds i xs t ≡ Ok t' → HeldBefore f (held_by_fields P xs) (held_by_fields Q xs)
+  fields_before : (at : List ℕ) (ds : DeclaredNames) (i : ℕ) (xs : List FieldOf) (t t' : ItemNames) → in_declared I at ds i xs t ≡ Ok t' → HeldBefore f (held_by_fields P xs) (held_by_fields Q xs)
   fields_before at ds i [] t t' e = λ j k. absurd k
   fields_before at ds i (x ∷ xs) t t' e =
       let D = named_ok (declare ds x.name i) (λ ds. and_then (in_type I (child at i) x.typ t) (in_declared I at ds (next i) xs)) t' e in
       let A = named_ok (in_type I (child at i) x.typ t) (in_declared I at D.0 (next i) xs) t' D.2 in
       held_both f (held_in P x.typ) (held_in Q x.typ) (held_by_fields P xs) (held_by_fields Q xs) (type_before (child at i) x.typ t A.0 A.1) (fields_before at D.0 (next i) xs A.0 t' A.2)
 
-  variants_before : (at : List ℕ) (ds : Declared) (n i : ℕ) (vs : List VariantOf) (t t' : ItemNames) → in_variants I at ds n i vs t ≡ Ok t' → HeldBefore f (held_by_variants P vs) (held_by_variants Q vs)
+  variants_before : (at : List ℕ) (ds : DeclaredNames) (n i : ℕ) (vs : List VariantOf) (t t' : ItemNames) → in_variants I at ds n i vs t ≡ Ok t' → HeldBefore f (held_by_variants P vs) (held_by_variants Q vs)
   variants_before at ds n i [] t t' e = λ j k. absurd k
   variants_before at ds n i (v ∷ vs) t t' e =
       let D = named_ok (declare ds v.name n) (λ ds. and_then (in_types I at i v.types t) (in_variants I at ds (suc n) (behind i v.types) vs)) t' e in
@@ -99,7 +99,7 @@ module _ (f : ℕ → ℕ) (P Q : ProgramTree) (a b : ℕ) (ls ms : Declared) (F
 
 -- what an item holds
 pub item_before : (f : ℕ → ℕ) (P Q : ProgramTree) (n : ℕ) (i : ItemTree) (T : ItemNames) → in_item P n i ≡ Ok T
-    → ((a : ℕ) (ls : Declared) → FitItems f (record { program = P; item = a; lifetimes = ls }) (record { program = Q; item = a; lifetimes = ls })) → HeldBefore f (held_by P i) (held_by Q i)
+    → ((a : ℕ) (ls : DeclaredNames) → FitItems f (record { program = P; item = a; lifetimes = ls }) (record { program = Q; item = a; lifetimes = ls })) → HeldBefore f (held_by P i) (held_by Q i)
 item_before f P Q n (plain.rt_item s r) T e F = λ j k. absurd k
 item_before f P Q n (plain.function_item s g) T e F = λ j k. absurd k
 item_before f P Q n (plain.struct_item s d) T e F =

@@ -5,8 +5,8 @@ use Rattle.rx_core.specs.declared.types.Span.{Span}
 use Rattle.rx_tree.specs.declared.tree.Ident.{Ident}
 use Rattle.rx_tree.specs.Plain as plain
 use Rattle.rx_tree.specs.Plain.{Function, Enumeration, ItemTree, ProgramTree}
-use Rattle.rx_resolve_names.specs.declared.table.Known.{Known}
-use Rattle.rx_resolve_names.specs.Scopes.{Declared, declared_as}
+use Rattle.rx_resolve_names.specs.declared.table.NumberedName.{NumberedName}
+use Rattle.rx_resolve_names.specs.Scopes.{DeclaredNames, declared_as}
 use Rattle.rx_resolve_names.specs.declared.resolved.ItemNames.{ItemNames}
 use Rattle.rx_resolve_names.specs.Meant.{number, type_name, function_name}
 use Rattle.rx_resolve_names.specs.Steps.{and_then, declare, declared_behind}
@@ -20,10 +20,10 @@ use Rattle.rx_engine_names.proofs.KeptPrograms.{all_items}
 -- ---- no name twice
 
 -- what is not declared in the first list, and is none of these, is not in the second
-abbrev Covers : Names → Declared → Declared → Type 0
+abbrev Covers : Names → DeclaredNames → DeclaredNames → Type 0
 Covers X ds es = (x : List ℕ) → is_among x X ≡ false → declared_as ds x ≡ None → declared_as es x ≡ None
 
-pub none_push : (ds : Declared) (d : List ℕ × Known) (x : List ℕ) → declared_as ds x ≡ None → bytes_eq x d.0 ≡ false → declared_as (ds ++ d ∷ []) x ≡ None
+pub none_push : (ds : DeclaredNames) (d : List ℕ × NumberedName) (x : List ℕ) → declared_as ds x ≡ None → bytes_eq x d.0 ≡ false → declared_as (ds ++ d ∷ []) x ≡ None
 none_push [] d x e f = ap (λ (b : Bool). if b then Some d.1 else None) f
 none_push (c ∷ ds) d x e f = by (bytes_eq x c.0) e (none_push ds d x)
   where
@@ -31,7 +31,7 @@ none_push (c ∷ ds) d x e f = by (bytes_eq x c.0) e (none_push ds d x)
     by true e h = absurd (cc)
     by false e h = h e f
 
-pub none_pop : (ds : Declared) (d : List ℕ × Known) (x : List ℕ) → declared_as (ds ++ d ∷ []) x ≡ None → (declared_as ds x ≡ None) × (bytes_eq x d.0 ≡ false)
+pub none_pop : (ds : DeclaredNames) (d : List ℕ × NumberedName) (x : List ℕ) → declared_as (ds ++ d ∷ []) x ≡ None → (declared_as ds x ≡ None) × (bytes_eq x d.0 ≡ false)
 none_pop [] d x e = (refl, by (bytes_eq x d.0) e)
   where
     by : (b : Bool) → (if b then Some d.1 else None) ≡ None → b ≡ false
@@ -43,19 +43,19 @@ none_pop (c ∷ ds) d x e = by (bytes_eq x c.0) e (none_pop ds d x)
     by true e h = absurd (cc)
     by false e h = h e
 
-pub behind_none : (ds new : Declared) (x : Ident) (n : ℕ) (o : Option Known) → declared_behind ds x n o ≡ Ok new → (o ≡ None) × (new ≡ ds ++ (x.name, record { number = number n; span = x.span }) ∷ [])
+pub behind_none : (ds new : DeclaredNames) (x : Ident) (n : ℕ) (o : Option NumberedName) → declared_behind ds x n o ≡ Ok new → (o ≡ None) × (new ≡ ds ++ (x.name, record { number = number n; span = x.span }) ∷ [])
 behind_none ds new x n None e = (refl, sym (the_same _ _ e))
 behind_none ds new x n (Some k) e = absurd (cc)
 
-declared_covers : (X : Names) (ds es new : Declared) (n m : ℕ) (o : Option Ident) → Covers X ds es → Avoids X o → declared_in ds n o ≡ Ok new → (new' : Declared) × (declared_in es m o ≡ Ok new') × Covers X new new'
-declared_covers X ds es new n m None c a e = (es, refl, subst (λ (z : Declared). Covers X z es) (the_same ds new e) c)
+declared_covers : (X : Names) (ds es new : DeclaredNames) (n m : ℕ) (o : Option Ident) → Covers X ds es → Avoids X o → declared_in ds n o ≡ Ok new → (new' : DeclaredNames) × (declared_in es m o ≡ Ok new') × Covers X new new'
+declared_covers X ds es new n m None c a e = (es, refl, subst (λ (z : DeclaredNames). Covers X z es) (the_same ds new e) c)
 declared_covers X ds es new n m (Some y) c a e =
     let d = behind_none ds new y n (declared_as ds y.name) e in
-    let k : List ℕ × Known = (y.name, record { number = number n; span = y.span }) in let l : List ℕ × Known = (y.name, record { number = number m; span = y.span }) in (
+    let k : List ℕ × NumberedName = (y.name, record { number = number n; span = y.span }) in let l : List ℕ × NumberedName = (y.name, record { number = number m; span = y.span }) in (
       es ++ l ∷ [],
       ap (declared_behind es y m) (c y.name a d.0),
       λ x f g.
-          let h = none_pop ds k x (ap (λ (z : Declared). declared_as z x) (sym d.1) ∙ g) in none_push es l x (c x f h.0) h.1,
+          let h = none_pop ds k x (ap (λ (z : DeclaredNames). declared_as z x) (sym d.1) ∙ g) in none_push es l x (c x f h.0) h.1,
     )
 
 apart_covers : (X Y : Names) (is : ProgramTree) (l l' : Lists) (n m : ℕ) → Covers X l.types l'.types → Covers Y l.functions l'.functions → AvoidAll X Y is → apart l n is ≡ Ok tt → apart l' m is ≡ Ok tt
@@ -70,36 +70,36 @@ apart_covers X Y (i ∷ is) l l' n m c d a e =
     (apart_covers X Y is (record { types = x.0; functions = y.0 }) (record { types = t.0; functions = f.0 }) (suc n) (suc m) t.2 f.2 a.1 y.2))
 
 -- a new name
-covers_new : (ds : Declared) (y : List ℕ) (k : Known) → Covers (y ∷ []) ds (ds ++ (y, k) ∷ [])
+covers_new : (ds : DeclaredNames) (y : List ℕ) (k : NumberedName) → Covers (y ∷ []) ds (ds ++ (y, k) ∷ [])
 covers_new ds y k x f e = none_push ds (y, k) x e (or_none (bytes_eq x y) f)
   where
     or_none : (b : Bool) → (b || false) ≡ false → b ≡ false
     or_none true e = absurd (cc)
     or_none false e = refl
 
-abbrev IsNew : Option (Span × Enumeration) → Declared → Type 0
+abbrev IsNew : Option (Span × Enumeration) → DeclaredNames → Type 0
 IsNew None ds = Unit {0}
 IsNew (Some e) ds = declared_as ds e.1.name.name ≡ None
 
 apart_new : (o : Option (Span × Enumeration)) (s : Span) (g : Function) (behind : ProgramTree) (l : Lists) (n m : ℕ) → IsNew o l.types → declared_as l.functions g.name.name ≡ None → AvoidAll (enum_names o) (g.name.name ∷ []) behind
     → apart l n behind ≡ Ok tt → apart l m (enum_first o (plain.function_item s g) ++ behind) ≡ Ok tt
 apart_new None s g behind l n m t f a e =
-    let k : Known = record { number = number m; span = g.name.span } in
+    let k : NumberedName = record { number = number m; span = g.name.span } in
     and_ok (declare l.functions g.name m) (l.functions ++ (g.name.name, k) ∷ []) (λ fs. apart (record { types = l.types; functions = fs }) (suc m) behind) (Ok tt) (ap (declared_behind l.functions g.name m) f)
     (apart_covers [] (g.name.name ∷ []) behind l (record { types = l.types; functions = l.functions ++ (g.name.name, k) ∷ [] }) n (suc m) (λ x f e. e) (covers_new l.functions g.name.name k) a e)
 apart_new (Some d) s g behind l n m t f a e =
-    let k : Known = record { number = number (suc m); span = g.name.span } in let j : Known = record { number = number m; span = d.1.name.span } in
+    let k : NumberedName = record { number = number (suc m); span = g.name.span } in let j : NumberedName = record { number = number m; span = d.1.name.span } in
     let ts = l.types ++ (d.1.name.name, j) ∷ [] in
     and_ok (declare l.types d.1.name m) ts (λ ts. apart (record { types = ts; functions = l.functions }) (suc m) (plain.function_item s g ∷ behind)) (Ok tt) (ap (declared_behind l.types d.1.name m) t)
     (and_ok (declare l.functions g.name (suc m)) (l.functions ++ (g.name.name, k) ∷ []) (λ fs. apart (record { types = ts; functions = fs }) (suc (suc m)) behind) (Ok tt) (ap (declared_behind l.functions g.name (suc m)) f)
     (apart_covers (d.1.name.name ∷ []) (g.name.name ∷ []) behind l (record { types = ts; functions = l.functions ++ (g.name.name, k) ∷ [] }) n (suc (suc m)) (covers_new l.types d.1.name.name j) (covers_new l.functions g.name.name k) a e))
 
-stays_new : (x : List ℕ) (ds new : Declared) (n : ℕ) (o : Option Ident) → Differs x o → declared_in ds n o ≡ Ok new → declared_as ds x ≡ None → declared_as new x ≡ None
-stays_new x ds new n None d e h = ap (λ (z : Declared). declared_as z x) (sym (the_same ds new e)) ∙ h
+stays_new : (x : List ℕ) (ds new : DeclaredNames) (n : ℕ) (o : Option Ident) → Differs x o → declared_in ds n o ≡ Ok new → declared_as ds x ≡ None → declared_as new x ≡ None
+stays_new x ds new n None d e h = ap (λ (z : DeclaredNames). declared_as z x) (sym (the_same ds new e)) ∙ h
 stays_new x ds new n (Some y) d e h =
-    let b = behind_none ds new y n (declared_as ds y.name) e in ap (λ (z : Declared). declared_as z x) b.1 ∙ none_push ds (y.name, record { number = number n; span = y.span }) x h d
+    let b = behind_none ds new y n (declared_as ds y.name) e in ap (λ (z : DeclaredNames). declared_as z x) b.1 ∙ none_push ds (y.name, record { number = number n; span = y.span }) x h d
 
-enum_stays : (q : Option (Span × Enumeration)) (ds new : Declared) (n : ℕ) (o : Option Ident) → EnumDiffers q o → declared_in ds n o ≡ Ok new → IsNew q ds → IsNew q new
+enum_stays : (q : Option (Span × Enumeration)) (ds new : DeclaredNames) (n : ℕ) (o : Option Ident) → EnumDiffers q o → declared_in ds n o ≡ Ok new → IsNew q ds → IsNew q new
 enum_stays None ds new n o d e h = tt
 enum_stays (Some q) ds new n o d e h = stays_new q.1.name.name ds new n o d e h
 

@@ -7,12 +7,12 @@ use Rattle.rx_tree.specs.Lists.{Every, nth}
 use Rattle.rx_tree.specs.Plain as plain
 use Rattle.rx_tree.specs.Plain.{Function, ItemTree, ProgramTree}
 use Rattle.rx_graph_cycles.specs.Reaches.{targets, IsIn, NoCycle}
-use Rattle.rx_resolve_names.specs.Scopes.{Declared}
+use Rattle.rx_resolve_names.specs.Scopes.{DeclaredNames}
 use Rattle.rx_resolve_names.specs.declared.resolved.ItemNames.{ItemNames}
 use Rattle.rx_resolve_names.specs.Meant.{type_name, item_named, as_type}
 use Rattle.rx_resolve_names.specs.Steps.{Inside}
 use Rattle.rx_resolve_names.specs.Items.{in_items, in_program, Lists, apart}
-use Rattle.rx_resolve_names.specs.Holding.{if_found, held_in, held_among, held_by_variants, held_by, held}
+use Rattle.rx_resolve_names.specs.Holding.{if_found, held_in, held_among, held_by_variants, held_by, held_in_tree}
 use Rattle.rx_typed.specs.Types as types
 use Rattle.rx_typed.specs.Types.{Typ, Shape, Shapes, integer, boolean, tuple_of, reference, no_shape, shape_and}
 use Rattle.rx_hoist_extraction.specs.Run.{Run, loops_round, run_parts}
@@ -100,7 +100,7 @@ module _ (P : ProgramTree) (r : Run) (pl : Plan) (bs : Bounds) (s : Span) (f : F
   abbrev items : ℕ → ℕ
   items n = past r.item (added pl) n
 
-  fits : (a b : ℕ) (ls ms : Declared) → FitItems items (record { program = P; item = a; lifetimes = ls }) (record { program = Q; item = b; lifetimes = ms })
+  fits : (a b : ℕ) (ls ms : DeclaredNames) → FitItems items (record { program = P; item = a; lifetimes = ls }) (record { program = Q; item = b; lifetimes = ms })
   fits a b ls ms =
       let c = extraction_inserted P r pl bs s f there free in
       let F = items_keep (number_there c) P Q (inserted_keeps P Q c) a b ls ms in
@@ -128,12 +128,12 @@ module _ (P : ProgramTree) (r : Run) (pl : Plan) (bs : Bounds) (s : Span) (f : F
       variants_there items P Q pl r.span I (fits 0 0 [] []) 0 pl.exits (fields_found P pl I (type_finds P ts whole 0 []) pl.exits (fields_named P pl typed pl.exits typed.outs))
 
   abbrev EdgeAt : ℕ → ℕ → Type 0
-  EdgeAt n j = (k : ℕ) × (j ≡ items k) × ((m : ℕ) → n ≡ items m → IsIn (targets (held P) m) k)
+  EdgeAt n j = (k : ℕ) × (j ≡ items k) × ((m : ℕ) → n ≡ items m → IsIn (targets (held_in_tree P) m) k)
 
   -- in front, and behind
   edge_of : (n m : ℕ) (i : ItemTree) (j : ℕ) → nth P m ≡ Some i → IsIn (held_by Q i) j → ((z : ℕ) → n ≡ items z → z ≡ m) → EdgeAt n j
   edge_of n m i j at h only =
-      let b = old_item m i at j h in (b.0, b.1, λ z e. subst (λ (w : ℕ). IsIn (targets (held P) w) b.0) (sym (only z e)) (to_target (held_by P) P m b.0 i at b.2))
+      let b = old_item m i at j h in (b.0, b.1, λ z e. subst (λ (w : ℕ). IsIn (targets (held_in_tree P) w) b.0) (sym (only z e)) (to_target (held_by P) P m b.0 i at b.2))
 
   -- an item that holds nothing
   nothing_held : (i : ItemTree) (fn : Span × Function) (j : ℕ) → i ≡ plain.function_item fn.0 fn.1 → IsIn (held_by Q i) j → ⊥
@@ -181,8 +181,8 @@ module _ (P : ProgramTree) (r : Run) (pl : Plan) (bs : Bounds) (s : Span) (f : F
       from (inr (inl same)) = absurd (nothing_held i (s, with_call P r pl g) j (some_item i (plain.function_item s (with_call P r pl g)) (sym at ∙ ap (nth Q) same ∙ old_changed P r pl bs s f there)) h)
       from (inr (inr l)) = behind (order n (r.item + added pl)) l
 
-  edges_there : EdgesBefore items (held P) (held Q)
+  edges_there : EdgesBefore items (held_in_tree P) (held_in_tree Q)
   edges_there n j h = let t = target_of (held_by Q) Q n j h in edge_there n j t.0 t.1 t.2
 
-  pub no_new_cycle : NoCycle (held P) → NoCycle (held Q)
-  no_new_cycle h = no_cycle_before items (held P) (held Q) edges_there h
+  pub no_new_cycle : NoCycle (held_in_tree P) → NoCycle (held_in_tree Q)
+  no_new_cycle h = no_cycle_before items (held_in_tree P) (held_in_tree Q) edges_there h

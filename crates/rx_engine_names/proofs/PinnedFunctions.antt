@@ -26,6 +26,6 @@ module _ (items : ℕ → ℕ) (P Q : ProgramTree) (k : Keeps items P Q) (ts : L
   pinned_function_alike None h n m s f T e = same_function items P Q k n m s f T e
   pinned_function_alike (Some pins) h n m s f T e =
       let ls = firsts [] 0 (lifetimes_declared (plain.function_item s f)) in
-      let A = function_item_alike (lockstep items) (written_out (Some pins)) P Q k (pinned_suffix pins) (pinned_type P place pins) (λ b c. c) (refl, tt) n m s f
+      let A = function_item_alike (lockstep items) (written_out (Some pins)) P Q k (pinned_suffix pins) (pinned_type P place pins) (λ b c. c) (refl, tt) refl n m s f
       (pinned_becomes (lockstep items) _ _ (keeps_fits items P Q k (number n) (number m) ls) P place pins (untold (parameter_names f.params)) (each_finds P ts whole (number n) ls pins.types h)) T e in
       (A.0, A.1, A.4 (same_numbers items) (same_serve items A.2 T A.0 A.3))

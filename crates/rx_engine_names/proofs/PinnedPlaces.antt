@@ -75,7 +75,7 @@ module _ (L : Frame) (I I' : Inside) (F : Fits L.items I I') (P : ProgramTree) (
           grows = grows_not M;
           table = with_names z u;
           answer = ap (λ (o : Outcome ℕ). names I' at' (both (one o) (Ok [])) u) j.1;
-          reached = record { vars = q.vars; loops = q.loops };
+          reached = record { vars = q.vars; loops = q.loops; passages = q.passages };
           added = [];
           added' = z ∷ [];
           grown = sym (append-nil t.names);

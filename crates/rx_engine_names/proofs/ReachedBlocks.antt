@@ -8,7 +8,7 @@ use Rattle.rx_tree.specs.Plain.{TypeTree, TypeTrees, PatternTree, PatternTrees, 
 use Rattle.rx_tree.specs.Lists.{Every, listed}
 use Rattle.rx_tree.specs.Positions.{NodeTree, an_item, a_type, a_block, a_statement, an_expression, a_pattern, type_nodes, pattern_nodes, field_pattern_nodes, optional_type_nodes, expression_nodes, optional_nodes, argument_nodes, field_nodes, arm_nodes, statement_nodes, children, descend}
 use Rattle.rx_tree.proofs.NodesLaws.{every_both}
-use Rattle.rx_resolve_names.specs.Scopes.{Declared, Variables, entered, variable_named}
+use Rattle.rx_resolve_names.specs.Scopes.{DeclaredNames, Variables, entered, variable_named}
 use Rattle.rx_resolve_names.specs.declared.resolved.ItemNames.{ItemNames}
 use Rattle.rx_resolve_names.specs.Meant.{number, lifetimes_declared, Around, a_loop, a_test}
 use Rattle.rx_resolve_names.specs.Steps.{Outcome, and_then, Naming, ◌>>◌, Inside, child, next, names, one, position, with_loop, numbered}

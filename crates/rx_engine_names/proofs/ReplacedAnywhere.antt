@@ -1,11 +1,11 @@
 -- A block in which other statements stand for a run, wherever all names mean what corresponds in front of it: what stands in front is copied,
 -- and what stands behind, where its names mean what corresponds still.
-use Rattle.std.proofs.Common.{◌≡◌, ℕ, Bool, true, false, not, ◌||◌, List, [], ◌++◌, length, Option, Some, None, Ok, refl, ap, ◌∙◌, subst, arith}
+use Rattle.std.proofs.Common.{◌≡◌, ◌≤◌, ◌<◌, ◌⊎◌, inl, inr, ℕ, Bool, true, false, not, ◌||◌, List, [], ◌∷◌, ◌++◌, length, Option, Some, None, Ok, refl, sym, ap, ◌∙◌, subst, arith}
 use Rattle.rx_core.specs.declared.types.Span.{Span}
 use Rattle.rx_tree.specs.Lists.{listed}
 use Rattle.rx_tree.specs.Plain as plain
 use Rattle.rx_tree.specs.Plain.{Body, OptionalExpression, Statement, Statements, ProgramTree}
-use Rattle.rx_resolve_names.specs.Scopes.{Declared, Variables, variable_named}
+use Rattle.rx_resolve_names.specs.Scopes.{DeclaredNames, Variables, variable_named}
 use Rattle.rx_resolve_names.specs.declared.resolved.ItemNames.{ItemNames}
 use Rattle.rx_resolve_names.specs.declared.resolved.NodeNames.{NodeNames}
 use Rattle.rx_resolve_names.specs.Meant.{number, Around}
@@ -18,12 +18,13 @@ use Rattle.rx_tree.specs.declared.tree.Ident.{Ident}
 use Rattle.rx_hoist_extraction.specs.Names.{Names, is_among, behind_all}
 use Rattle.rx_hoist_extraction.specs.Run.{as_statements}
 use Rattle.rx_hoist_extraction.specs.Changed.{kept}
-use Rattle.rx_engine_names.specs.Renaming.{Renaming, Has, Made, Serves}
+use Rattle.rx_engine_names.specs.Renaming.{Renaming, Has, HasPassage, Made, Passage, Serves}
 use Rattle.rx_engine_names.specs.LikeNamed.{no_holes, LikeElse, LikeStatements, like_int, like_typed, like_return}
 use Rattle.rx_engine_names.specs.Within.{OptionalWithin, StatementsWithin}
+use Rattle.rx_engine_names.specs.Apart.{Below}
 use Rattle.rx_engine_names.specs.Moves.{StandsAt, labels_of}
 use Rattle.rx_engine_names.specs.Replaced.{Keeps, LoopsAlike, StandsLast, Replaced}
-use Rattle.rx_engine_names.specs.Placed.{Meet, AllMeet, Agree, agreed, Told, StandFor, ToldLast}
+use Rattle.rx_engine_names.specs.Placed.{Meet, AllMeet, Agree, agreed, NamedByBoth, Told, StandFor, ToldLast}
 use Rattle.rx_engine_names.proofs.SideBySide.{named_ok, and_ok, Kind, Numbers, numbers_map, numbers_node, serves_before, Grows, grows_on, Part, restated, Frame, Reached}
 use Rattle.rx_engine_names.proofs.Scoped.{unknown, Corresponds, AtName, Both, at_both}
 use Rattle.rx_engine_names.proofs.Fitting.{Fits}
@@ -33,8 +34,8 @@ use Rattle.rx_engine_names.proofs.CopiedExpressions.{statements_alike, optional_
 use Rattle.rx_engine_names.proofs.PlainPlaces.{none_starred, whole, plain_variable, jump_fits, plain_break, plain_continue, special}
 use Rattle.rx_engine_names.proofs.NoClaims.{statements_within}
 use Rattle.rx_engine_names.proofs.ResolvingGrows.{statements_grow}
-use Rattle.rx_engine_names.proofs.ScopesRise.{statements_rise, rises_itself}
-use Rattle.rx_engine_names.proofs.PairsApart.{one_to_one, widens, onto_apart}
+use Rattle.rx_engine_names.proofs.ScopesRise.{bound_below, statements_rise, rises_itself, BoundBelow, Rises}
+use Rattle.rx_engine_names.proofs.PairsApart.{below_wider, has_below, one_to_one, onto_apart, onto_below, onto_named, passed_on, widens, OldOrNamed}
 use Rattle.rx_engine_names.proofs.CopiedParts.{statements_kept, tail_kept, Text, text_alone}
 use Rattle.rx_engine_names.proofs.BehindStatements.{covers_itself, statements_cover, meet_weaker, pairs_onto, onto_kept, meet_behind}
 use Rattle.rx_engine_names.proofs.ReplacedBlocks.{past_all, split, join, body_numbers, rows_numbers, four}
@@ -169,26 +170,63 @@ by_renaming items M R sv o o' h = meet_weaker (Has M.variables) (λ n m. R.varia
 
 -- ---- what is made stays one to one
 
-passes : (items : ℕ → ℕ) (run call : List Statement) (I I' : Inside) (ls ls' : List Around) (at at' : List ℕ) (i j : ℕ) (M : Made) (sc sc' : Variables) (t u : ItemNames) (r r' : Scoped)
-    → in_statements I sc ls at i (as_statements run) t ≡ Ok r → in_statements I' sc' ls' at' j (as_statements call) u ≡ Ok r' → Reached (one_to_one items) M t u
-    → Reached (one_to_one items) (record { variables = pairs_onto (behind_all [] (as_statements run)) (behind_all [] (as_statements call)) r.scope r'.scope M.variables; loops = M.loops }) r.tables r'.tables
-passes items run call I I' ls ls' at at' i j M sc sc' t u r r' e d q =
-    let g = statements_grow I sc ls at i (as_statements run) t r e in let g' = statements_grow I' sc' ls' at' j (as_statements call) u r' d in
+-- what has been made behind a run and what stands for it, which is passed there
+abbrev pub past_run : List Statement → List Statement → Made → Scoped → Scoped → Made
+past_run run call M r r' =
+    let ps = pairs_onto (behind_all [] (as_statements run)) (behind_all [] (as_statements call)) r.scope r'.scope M.variables in record {
+      variables = ps;
+      loops = M.loops;
+      passages = record { variables = ps; loops = M.loops; variable = length r.tables.vars; variable' = length r'.tables.vars; loop = length r.tables.loops; loop' = length r'.tables.loops } ∷ M.passages;
+    }
+
+pub past_grows : (run call : List Statement) (M : Made) (r r' : Scoped) → Grows M (past_run run call M r r')
+past_grows run call M r r' = record { variables = onto_kept (behind_all [] (as_statements run)) (behind_all [] (as_statements call)) r.scope r'.scope M.variables; loops = λ n m h. h; passages = λ x h. inr h }
+
+passes : (items : ℕ → ℕ) (run call : List Statement) (I I' : Inside) (ls ls' : List Around) (at at' : List ℕ) (i1 j1 : ℕ) (M : Made) (sc sc' : Variables) (t u : ItemNames) (r r' : Scoped)
+    → in_statements I sc ls at i1 (as_statements run) t ≡ Ok r → in_statements I' sc' ls' at' j1 (as_statements call) u ≡ Ok r' → Reached (one_to_one items) M t u
+    → Reached (one_to_one items) (past_run run call M r r') r.tables r'.tables
+passes items run call I I' ls ls' at at' i1 j1 M sc sc' t u r r' e d q =
+    let g = statements_grow I sc ls at i1 (as_statements run) t r e in let g' = statements_grow I' sc' ls' at' j1 (as_statements call) u r' d in
     let n = length t.vars in let m = length u.vars in record {
       vars = λ few few'.
           let base = q.vars (omega (arith, g.0, few)) (omega (arith, g'.0, few')) in
           onto_apart (behind_all [] (as_statements run)) (behind_all [] (as_statements call)) r.scope r'.scope n m (length r.tables.vars) (length r'.tables.vars)
-          (statements_rise I ls at i (as_statements run) [] sc t r n (omega arith) few (rises_itself sc n) e) (statements_rise I' ls' at' j (as_statements call) [] sc' u r' m (omega arith) few' (rises_itself sc' m) d)
+          (statements_rise I ls at i1 (as_statements run) [] sc t r n (omega arith) few (rises_itself sc n) e) (statements_rise I' ls' at' j1 (as_statements call) [] sc' u r' m (omega arith) few' (rises_itself sc' m) d)
           M.variables base.1 g.0 g'.0 base.0 (behind_all [] (as_statements call)) (λ w h. h);
       loops = widens M.loops (length t.loops) (length u.loops) (length r.tables.loops) (length r'.tables.loops) g.1 g'.1 q.loops;
+      passages = passed_on M (pairs_onto old names r.scope r'.scope M.variables) n m (length t.loops) (length u.loops) (length r.tables.vars) (length r'.tables.vars) (length r.tables.loops) (length r'.tables.loops) g.0 g'.0 g.1 g'.1
+          (onto_below old names r.scope r'.scope (length r.tables.vars) (length r'.tables.vars) b b' M.variables names (λ w h. h) (below_wider M.variables n m (length r.tables.vars) (length r'.tables.vars) g.0 g'.0 q.passages.below))
+          (λ few few' i j y. since (statements_rise I ls at i1 (as_statements run) [] sc t r n (omega arith) few (rises_itself sc n) e) (statements_rise I' ls' at' j1 (as_statements call) [] sc' u r' m (omega arith) few' (rises_itself sc' m) d) i j
+          (onto_named old names r.scope r'.scope (length r.tables.vars) (length r'.tables.vars) b b' M.variables names i j (λ w h. h) y)) q.passages;
     }
+  where
+    old : Names
+    old = behind_all [] (as_statements run)
+
+    names : Names
+    names = behind_all [] (as_statements call)
+
+    b : BoundBelow old r.scope (length r.tables.vars)
+    b = bound_below I ls at i1 (as_statements run) sc t r e
+
+    b' : BoundBelow names r'.scope (length r'.tables.vars)
+    b' = bound_below I' ls' at' j1 (as_statements call) sc' u r' d
+
+    same : (n m : ℕ) → Some n ≡ Some m → n ≡ m
+    same n m e = cc
+
+    since : Rises old r.scope (length t.vars) (length r.tables.vars) → Rises names r'.scope (length u.vars) (length r'.tables.vars) → (i j : ℕ) → OldOrNamed old names r.scope r'.scope M.variables i j → Has M.variables i j ⊎ ((length t.vars ≤ i) × (length u.vars ≤ j))
+    since k k' i j (inl y) = inl y
+    since k k' i j (inr y) =
+        let z = k.means y.0 y.1 in let z' = k'.means y.0 y.2 in let s = same i z.0 (sym y.3 ∙ z.1) in let s' = same j z'.0 (sym y.4 ∙ z'.1) in let a = z.2 in let a' = z'.2 in
+        inr (omega (arith, a, s), omega (arith, a', s'))
 
 -- ---- the block
 
 loops_later : (M M' : Made) (ls ls' : List Around) → Grows M M' → LoopsAlike M ls ls' → LoopsAlike M' ls ls'
 loops_later M M' ls ls' g h l n e = let r = h l n e in (r.0, r.1, g.loops n r.0 r.2)
 
-module _ (T : Told) (items : ℕ → ℕ) (P : ProgramTree) (a : ℕ) (L : Declared) (Q : ProgramTree) (b : ℕ) (F : Fits items (record { program = P; item = a; lifetimes = L }) (record { program = Q; item = b; lifetimes = L })) (ls ls' : List Around) (s : Span) (front run call behind : List Statement) (o : OptionalExpression) where
+module _ (T : Told) (items : ℕ → ℕ) (P : ProgramTree) (a : ℕ) (L : DeclaredNames) (Q : ProgramTree) (b : ℕ) (F : Fits items (record { program = P; item = a; lifetimes = L }) (record { program = Q; item = b; lifetimes = L })) (ls ls' : List Around) (s : Span) (front run call behind : List Statement) (o : OptionalExpression) where
   abbrev J : Frame
   J = one_to_one items
 
@@ -269,6 +307,28 @@ module _ (T : Told) (items : ℕ → ℕ) (P : ProgramTree) (a : ℕ) (L : Decla
         };
       }
 
+  -- where variables and loops that correspond stand
+  abbrev passage_at : Made → Scoped → Scoped → Passage
+  passage_at M r r' =
+      let ps = pairs_onto (behind_all [] (as_statements run)) (behind_all [] (as_statements call)) r.scope r'.scope M.variables in
+      record { variables = ps; loops = M.loops; variable = length r.tables.vars; variable' = length r'.tables.vars; loop = length r.tables.loops; loop' = length r'.tables.loops }
+
+  either : (M : Made) (r r' : Scoped) (t u : ItemNames) → Below M.variables (length t.vars) (length u.vars) → BoundBelow (behind_all [] (as_statements run)) r.scope (length r.tables.vars) → BoundBelow (behind_all [] (as_statements call)) r'.scope (length r'.tables.vars)
+      → (n k : ℕ) → Has (passage_at M r r').variables n k ⊎ ((length r.tables.vars ≤ n) × (length r'.tables.vars ≤ k))
+      → ((n < length t.vars) × (k < length u.vars)) ⊎ (NamedByBoth run call r.scope r'.scope n k ⊎ ((length r.tables.vars ≤ n) × (length r'.tables.vars ≤ k)))
+  either M r r' t u h b b' n k (inr y) = inr (inr y)
+  either M r r' t u h b b' n k (inl y) = by (onto_named (behind_all [] (as_statements run)) (behind_all [] (as_statements call)) r.scope r'.scope (length r.tables.vars) (length r'.tables.vars) b b' M.variables (behind_all [] (as_statements call)) n k (λ w z. z) y)
+    where
+      by : OldOrNamed (behind_all [] (as_statements run)) (behind_all [] (as_statements call)) r.scope r'.scope M.variables n k
+          → ((n < length t.vars) × (k < length u.vars)) ⊎ (NamedByBoth run call r.scope r'.scope n k ⊎ ((length r.tables.vars ≤ n) × (length r'.tables.vars ≤ k)))
+      by (inl z) = inl (has_below M.variables (length t.vars) (length u.vars) n k h z)
+      by (inr z) = inr (inl z)
+
+  either_loop : (M : Made) (r r' : Scoped) (t u : ItemNames) → Below M.loops (length t.loops) (length u.loops) → (n k : ℕ) → Has M.loops n k ⊎ ((length r.tables.loops ≤ n) × (length r'.tables.loops ≤ k))
+      → ((n < length t.loops) × (k < length u.loops)) ⊎ ((length r.tables.loops ≤ n) × (length r'.tables.loops ≤ k))
+  either_loop M r r' t u h n k (inl y) = inl (has_below M.loops (length t.loops) (length u.loops) n k h y)
+  either_loop M r r' t u h n k (inr y) = inr y
+
   -- ways to the tails
   abbrev path_of : List ℕ → List Statement → List ℕ
   path_of at middle = child at (number (length (listed (as_statements (front ++ (middle ++ behind))))))
@@ -279,9 +339,9 @@ module _ (T : Told) (items : ℕ → ℕ) (P : ProgramTree) (a : ℕ) (L : Decla
   module _ (sc sc' : Variables) (M : Made) (at at' : List ℕ) (t t' u : ItemNames) where
     -- all parts
     parts_together : (r m e : Scoped) (A : FrontMade sc' M at' t u r) → in_statements I sc ls at 0 (as_statements front) t ≡ Ok r → in_statements I r.scope ls at (past_all 0 front) (as_statements run) r.tables ≡ Ok m → (N : Text r.tables m (as_statements run))
-        → (C : Resolved T items I' r.scope ls A.answer.0 ls' A.made at' (past_all 0 front) call A.table) → (D : Text A.table C.end (as_statements call)) → (G : Made) → Grows A.made G
+        → (C : Resolved T items I' r.scope ls A.answer.0 ls' A.made at' (past_all 0 front) call A.table) → (D : Text A.table C.end (as_statements call)) → (G : Made) → Grows A.made G → HasPassage G.passages (passage_at A.made m C.end)
         → ((x : List ℕ) → Agree run call x → Meet (Has G.variables) (variable_named m.scope x) (variable_named C.end.scope x)) → BehindMade G at' (past_all (past_all 0 front) call) (path_of at' call) m e t' C.end → BlockMade sc sc' M at at' t t' u
-    parts_together r m e A comes goes N C D G g meet Z =
+    parts_together r m e A comes goes N C D G g here meet Z =
         let B = Z.statements in let O = Z.tail in
         let m1 : Scoped = record { scope = A.answer.0; tables = A.table } in let m3 : Scoped = record { scope = B.answer.0; tables = B.table } in record {
           made = O.made;
@@ -304,6 +364,8 @@ module _ (T : Told) (items : ℕ → ℕ) (P : ProgramTree) (a : ℕ) (L : Decla
                         made = record { middle = m1; comes = A.answer.1; place = past_all 0 front; end = C.end; goes = C.resolves; added = D.added; grown = D.grown; cursor = c'; rest = rest'; stands = (q.declared', q.loops'); names = e'; is = refl };
                         names = λ z. by_renaming items A.made R sA (variable_named r.scope z) (variable_named A.answer.0 z) (A.answer.2 z);
                         behind = λ z d. by_renaming items G R sC (variable_named m.scope z) (variable_named C.end.scope z) (meet z d);
+                        variables = λ n k w. either A.made m C.end r.tables A.table A.reached.passages.below (bound_below I ls at (past_all 0 front) (as_statements run) r.scope r.tables m goes) (bound_below I' ls' at' (past_all 0 front) (as_statements call) A.answer.0 A.table C.end C.resolves) n k ((sC.passages (passage_at A.made m C.end) here).variables n k w);
+                        loops = λ n k w. either_loop A.made m C.end r.tables A.table A.reached.passages.below_loops n k ((sC.passages (passage_at A.made m C.end) here).loops n k w);
                         told = C.told D.added D.grown R sA c' rest' (q.declared', q.loops') e';
                       };
                       cursors = record { declared = x.stands.0; declared' = y.stands.0; loops = x.stands.1; loops' = y.stands.1 };
@@ -320,14 +382,13 @@ module _ (T : Told) (items : ℕ → ℕ) (P : ProgramTree) (a : ℕ) (L : Decla
         → in_optional I e.scope ls (path_of at run) o e.tables ≡ Ok t' → FrontMade sc' M at' t u r → BlockMade sc sc' M at at' t t' u
     with_front loops follows ends stands r m e comes goes on last A =
         let i1 = past_all 0 front in
-        let C = stands at at' t r m i1 comes goes A.answer.0 A.made (record { variables = A.grows.variables; loops = A.grows.loops }) A.answer.2 i1 A.table in
-        let old = behind_all [] (as_statements run) in let bound = behind_all [] (as_statements call) in
-        let G : Made = record { variables = pairs_onto old bound m.scope C.end.scope A.made.variables; loops = A.made.loops } in
-        let g : Grows A.made G = record { variables = onto_kept old bound m.scope C.end.scope A.made.variables; loops = λ n m h. h } in
+        let C = stands at at' t r m i1 comes goes A.answer.0 A.made (record { variables = A.grows.variables; loops = A.grows.loops; passages = A.grows.passages }) A.answer.2 i1 A.table in
+        let G : Made = past_run run call A.made m C.end in
+        let g : Grows A.made G = past_grows run call A.made m C.end in
         let meet = meet_behind run call A.made.variables r.scope A.answer.0 m.scope C.end.scope A.answer.2
         (statements_cover I ls at i1 (as_statements run) [] r.scope r.scope r.tables m (covers_itself r.scope) goes)
         (statements_cover I' ls' at' i1 (as_statements call) [] A.answer.0 A.answer.0 A.table C.end (covers_itself A.answer.0) C.resolves) in
-        parts_together r m e A comes goes (text_alone P a L r.scope ls at i1 (as_statements run) r.tables m goes) C (text_alone Q b L A.answer.0 ls' at' i1 (as_statements call) A.table C.end C.resolves) G g meet
+        parts_together r m e A comes goes (text_alone P a L r.scope ls at i1 (as_statements run) r.tables m goes) C (text_alone Q b L A.answer.0 ls' at' i1 (as_statements call) A.table C.end C.resolves) G g (inl refl) meet
         (behind_made G at at' (past_all i1 run) (past_all i1 call) (path_of at run) (path_of at' call) m e t' C.end meet (loops_later A.made G ls ls' g (loops_later M A.made ls ls' A.grows loops)) follows ends on last
         (passes items run call I I' ls ls' at at' i1 i1 A.made r.scope A.answer.0 r.tables A.table m C.end goes C.resolves A.reached))
 

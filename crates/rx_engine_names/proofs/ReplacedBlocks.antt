@@ -4,7 +4,7 @@ use Rattle.rx_core.specs.declared.types.Span.{Span}
 use Rattle.rx_tree.specs.Lists.{listed}
 use Rattle.rx_tree.specs.Plain as plain
 use Rattle.rx_tree.specs.Plain.{Body, OptionalExpression, Statement, Statements, ProgramTree}
-use Rattle.rx_resolve_names.specs.Scopes.{Declared, Variables}
+use Rattle.rx_resolve_names.specs.Scopes.{DeclaredNames, Variables}
 use Rattle.rx_resolve_names.specs.declared.resolved.ItemNames.{ItemNames}
 use Rattle.rx_resolve_names.specs.declared.resolved.NodeNames.{NodeNames}
 use Rattle.rx_resolve_names.specs.Meant.{number, Around}
@@ -117,7 +117,7 @@ module _ (front run call behind : List Statement) where
 -- ---- the block
 
 pub keeps_grows : {M M' : Made} → Keeps M M' → Grows M M'
-keeps_grows k = record { variables = k.variables; loops = k.loops }
+keeps_grows k = record { variables = k.variables; loops = k.loops; passages = k.passages }
 
 loops_later : (M M' : Made) (ls ls' : List Around) → Grows M M' → LoopsAlike M ls ls' → LoopsAlike M' ls ls'
 loops_later M M' ls ls' g h l n e = let r = h l n e in (r.0, r.1, g.loops n r.0 r.2)
@@ -127,7 +127,7 @@ four t a n b o =
     ap (λ (l : List NodeNames). (l ++ b) ++ o) (append_assoc t a n) ∙ ap (λ (l : List NodeNames). l ++ o) (append_assoc t (a ++ n) b) ∙ append_assoc t ((a ++ n) ++ b) o
     ∙ ap (λ (l : List NodeNames). t ++ (l ++ o)) (append_assoc a n b)
 
-module _ (items : ℕ → ℕ) (P : ProgramTree) (a : ℕ) (L : Declared) (Q : ProgramTree) (b : ℕ) (F : Fits items (record { program = P; item = a; lifetimes = L }) (record { program = Q; item = b; lifetimes = L })) (ls ls' : List Around) (s : Span) (front run call behind : List Statement) (o : OptionalExpression) where
+module _ (items : ℕ → ℕ) (P : ProgramTree) (a : ℕ) (L : DeclaredNames) (Q : ProgramTree) (b : ℕ) (F : Fits items (record { program = P; item = a; lifetimes = L }) (record { program = Q; item = b; lifetimes = L })) (ls ls' : List Around) (s : Span) (front run call behind : List Statement) (o : OptionalExpression) where
   abbrev I : Inside
   I = record { program = P; item = a; lifetimes = L }
 
@@ -160,18 +160,18 @@ module _ (items : ℕ → ℕ) (P : ProgramTree) (a : ℕ) (L : Declared) (Q : P
       let S1 = split I sc ls at 0 front (run ++ behind) t X.0 X.1 in
       let S2 = split I S1.middle.scope ls at i1 run behind S1.middle.tables X.0 S1.rest in
       let w1 = copied_stand items I I' F xs sc sc' M ls ls' names loops in
-      let A = statements_alike (Copying items I I' F xs sc sc') (copied_special items I I' F xs sc sc') M xs [] w1 at at' 0 0 (as_statements front) within t S1.middle u S1.front (record { vars = tt; loops = tt }) in
+      let A = statements_alike (Copying items I I' F xs sc sc') (copied_special items I I' F xs sc sc') M xs [] w1 at at' 0 0 (as_statements front) within t S1.middle u S1.front (record { vars = tt; loops = tt; passages = tt }) in
       let own1 = behind_all xs (as_statements front) in
       let N = text_alone P a L S1.middle.scope ls at i1 (as_statements run) S1.middle.tables S2.middle S2.front in
-      let C = stands S1.middle S2.middle i1 S1.front S2.front A.answer.0 A.made (record { variables = A.grows.variables; loops = A.grows.loops }) (names_behind items I I' F xs sc sc' A.made own1 S1.middle.scope A.answer.0 A.answer.2.variables) i1 A.table in
+      let C = stands S1.middle S2.middle i1 S1.front S2.front A.answer.0 A.made (record { variables = A.grows.variables; loops = A.grows.loops; passages = A.grows.passages }) (names_behind items I I' F xs sc sc' A.made own1 S1.middle.scope A.answer.0 A.answer.2.variables) i1 A.table in
       let D = text_alone Q b L A.answer.0 ls' at' i1 (as_statements call) A.table (record { scope = C.scope; tables = C.tables }) C.resolves in
       let gC : Grows A.made C.made = keeps_grows C.stays in
       let K2 = Copying items I I' F C.names S2.middle.scope C.scope in
       let w2 = copied_stand items I I' F C.names S2.middle.scope C.scope C.made ls ls' C.alike (loops_later A.made C.made ls ls' gC (loops_later M A.made ls ls' A.grows loops)) in
-      let B = statements_alike K2 (copied_special items I I' F C.names S2.middle.scope C.scope) C.made C.names [] w2 at at' i2 j2 (as_statements behind) C.follows S2.middle.tables X.0 C.tables S2.rest (record { vars = tt; loops = tt }) in
+      let B = statements_alike K2 (copied_special items I I' F C.names S2.middle.scope C.scope) C.made C.names [] w2 at at' i2 j2 (as_statements behind) C.follows S2.middle.tables X.0 C.tables S2.rest (record { vars = tt; loops = tt; passages = tt }) in
       let own3 = behind_all C.names (as_statements behind) in
       let w3 = in_scope K2 B.made C.names own3 [] (later K2 C.made B.made C.names [] w2 B.grows) X.0.scope B.answer.0 B.answer.2 in
-      let O = optional_alike K2 (copied_special items I I' F C.names S2.middle.scope C.scope) B.made own3 [] w3 (child at k) (child at' k') o C.ends X.0.tables t' B.table X.2 (record { vars = tt; loops = tt }) in
+      let O = optional_alike K2 (copied_special items I I' F C.names S2.middle.scope C.scope) B.made own3 [] w3 (child at k) (child at' k') o C.ends X.0.tables t' B.table X.2 (record { vars = tt; loops = tt; passages = tt }) in
       let m1 : Scoped = record { scope = A.answer.0; tables = A.table } in let m2 : Scoped = record { scope = C.scope; tables = C.tables } in let m3 : Scoped = record { scope = B.answer.0; tables = B.table } in
       let first : in_statements I' sc' ls' at' 0 (as_statements front) u ≡ Ok m1 = subst (λ (z : Statements). in_statements I' sc' ls' at' 0 z u ≡ Ok m1) (statements_kept s xs [] (as_statements front)) A.answer.1 in
       let last : in_statements I' C.scope ls' at' j2 (as_statements behind) C.tables ≡ Ok m3 = subst (λ (z : Statements). in_statements I' C.scope ls' at' j2 z C.tables ≡ Ok m3) (statements_kept s C.names [] (as_statements behind)) B.answer.1 in
@@ -182,7 +182,7 @@ module _ (items : ℕ → ℕ) (P : ProgramTree) (a : ℕ) (L : Declared) (Q : P
         table = O.table;
         answer = and_ok (in_statements I' sc' ls' at' 0 (as_statements (front ++ (call ++ behind))) u) m3 (λ r. in_optional I' r.scope ls' (child at' k') o r.tables) (Ok O.table)
             (join I' sc' ls' at' 0 front (call ++ behind) u m1 m3 first (join I' A.answer.0 ls' at' i1 call behind A.table m2 m3 C.resolves last)) end;
-        reached = record { vars = tt; loops = tt };
+        reached = record { vars = tt; loops = tt; passages = tt };
         added = (A.added ++ (N.added ++ B.added)) ++ O.added;
         added' = (A.added' ++ (D.added ++ B.added')) ++ O.added';
         grown = O.grown ∙ ap (λ (l : List NodeNames). l ++ O.added) (B.grown ∙ ap (λ (l : List NodeNames). l ++ B.added) (N.grown ∙ ap (λ (l : List NodeNames). l ++ N.added) A.grown)) ∙ four t.names A.added N.added B.added O.added;
@@ -219,7 +219,7 @@ module _ (items : ℕ → ℕ) (P : ProgramTree) (a : ℕ) (L : Declared) (Q : P
     tables = A.table;
     resolves = A.answer;
     made = A.made;
-    stays = record { variables = A.grows.variables; loops = A.grows.loops };
+    stays = record { variables = A.grows.variables; loops = A.grows.loops; passages = A.grows.passages };
     added = A.added;
     added' = A.added';
     grown = A.grown;
@@ -245,7 +245,7 @@ pub tails_alone : {t t1 t2 : ItemNames} {es fs : List NodeNames} (k : Site) (ys 
     → Alone (λ p. Unit {0}) t t2 (es ++ fs) (with_tail k ys o)
 tails_alone k ys o N O = alone_then N (λ b z. alone_map (λ z. (b, z)) O (λ z d. tt))
 
-module _ (items : ℕ → ℕ) (P : ProgramTree) (a : ℕ) (L : Declared) (Q : ProgramTree) (b : ℕ) (F : Fits items (record { program = P; item = a; lifetimes = L }) (record { program = Q; item = b; lifetimes = L })) (ls ls' : List Around) (s : Span) (front run call : List Statement) (o o' : OptionalExpression) where
+module _ (items : ℕ → ℕ) (P : ProgramTree) (a : ℕ) (L : DeclaredNames) (Q : ProgramTree) (b : ℕ) (F : Fits items (record { program = P; item = a; lifetimes = L }) (record { program = Q; item = b; lifetimes = L })) (ls ls' : List Around) (s : Span) (front run call : List Statement) (o o' : OptionalExpression) where
   abbrev Here : Inside
   Here = record { program = P; item = a; lifetimes = L }
 
@@ -275,10 +275,10 @@ module _ (items : ℕ → ℕ) (P : ProgramTree) (a : ℕ) (L : Declared) (Q : P
       let X = named_ok (in_statements Here sc ls at 0 (as_statements (front ++ run)) t) (λ r. in_optional Here r.scope ls (child at k) o r.tables) t' e in
       let S = split Here sc ls at 0 front run t X.0 X.1 in
       let w1 = copied_stand items Here There F xs sc sc' M ls ls' names loops in
-      let A = statements_alike (Copying items Here There F xs sc sc') (copied_special items Here There F xs sc sc') M xs [] w1 at at' 0 0 (as_statements front) within t S.middle u S.front (record { vars = tt; loops = tt }) in
+      let A = statements_alike (Copying items Here There F xs sc sc') (copied_special items Here There F xs sc sc') M xs [] w1 at at' 0 0 (as_statements front) within t S.middle u S.front (record { vars = tt; loops = tt; passages = tt }) in
       let N = text_alone P a L S.middle.scope ls at i1 (as_statements run) S.middle.tables X.0 S.rest in
       let T = tail_alone P a L X.0.scope ls (child at k) o X.0.tables t' X.2 in
-      let C = stands S.middle S.front A.answer.0 A.made (record { variables = A.grows.variables; loops = A.grows.loops }) (names_behind items Here There F xs sc sc' A.made (behind_all xs (as_statements front)) S.middle.scope A.answer.0 A.answer.2.variables) i1 (child at' k') A.table in
+      let C = stands S.middle S.front A.answer.0 A.made (record { variables = A.grows.variables; loops = A.grows.loops; passages = A.grows.passages }) (names_behind items Here There F xs sc sc' A.made (behind_all xs (as_statements front)) S.middle.scope A.answer.0 A.answer.2.variables) i1 (child at' k') A.table in
       let D = text_alone Q b L A.answer.0 ls' at' i1 (as_statements call) A.table C.end C.goes in
       let G = tail_alone Q b L C.end.scope ls' (child at' k') o' C.end.tables C.tables C.ends in
       let m1 : Scoped = record { scope = A.answer.0; tables = A.table } in
@@ -291,7 +291,7 @@ module _ (items : ℕ → ℕ) (P : ProgramTree) (a : ℕ) (L : Declared) (Q : P
         grows = A.grows;
         table = C.tables;
         answer = and_ok (in_statements There sc' ls' at' 0 (as_statements (front ++ call)) u) C.end (λ r. in_optional There r.scope ls' (child at' k') o' r.tables) (Ok C.tables) (join There sc' ls' at' 0 front call u m1 C.end first C.goes) C.ends;
-        reached = record { vars = tt; loops = tt };
+        reached = record { vars = tt; loops = tt; passages = tt };
         added = A.added ++ (N.added ++ T.added);
         added' = A.added' ++ (D.added ++ G.added);
         grown = grown_text ∙ ap (λ (l : List NodeNames). l ++ (N.added ++ T.added)) A.grown ∙ append_assoc t.names A.added (N.added ++ T.added);
@@ -328,7 +328,7 @@ module _ (items : ℕ → ℕ) (P : ProgramTree) (a : ℕ) (L : Declared) (Q : P
     tables = A.table;
     resolves = A.answer;
     made = A.made;
-    stays = record { variables = A.grows.variables; loops = A.grows.loops };
+    stays = record { variables = A.grows.variables; loops = A.grows.loops; passages = A.grows.passages };
     added = A.added;
     added' = A.added';
     grown = A.grown;

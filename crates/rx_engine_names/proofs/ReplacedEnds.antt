@@ -1,11 +1,11 @@
 -- The block of a run that goes to its end, wherever all names mean what corresponds in front of it: what stands in front is copied, the last
 -- statements and the tail are replaced.
-use Rattle.std.proofs.Common.{◌≡◌, ℕ, Bool, false, not, ◌||◌, List, [], ◌++◌, length, Ok, refl, ap, ◌∙◌, subst, append_assoc}
+use Rattle.std.proofs.Common.{◌≡◌, ◌≤◌, ◌<◌, ◌⊎◌, inl, inr, ℕ, Bool, false, not, ◌||◌, List, [], ◌∷◌, ◌++◌, length, Ok, refl, ap, ◌∙◌, subst, append_assoc}
 use Rattle.rx_core.specs.declared.types.Span.{Span}
 use Rattle.rx_tree.specs.Lists.{listed}
 use Rattle.rx_tree.specs.Plain as plain
 use Rattle.rx_tree.specs.Plain.{Body, OptionalExpression, Statement, Statements, ProgramTree}
-use Rattle.rx_resolve_names.specs.Scopes.{Declared, Variables, variable_named}
+use Rattle.rx_resolve_names.specs.Scopes.{DeclaredNames, Variables, variable_named}
 use Rattle.rx_resolve_names.specs.declared.resolved.ItemNames.{ItemNames}
 use Rattle.rx_resolve_names.specs.declared.resolved.NodeNames.{NodeNames}
 use Rattle.rx_resolve_names.specs.Meant.{number, Around}
@@ -16,23 +16,29 @@ use Rattle.rx_typed.specs.Named as named
 use Rattle.rx_typed.specs.Naming.{of_statements, of_body}
 use Rattle.rx_hoist_extraction.specs.Names.{is_among, behind_all}
 use Rattle.rx_hoist_extraction.specs.Run.{as_statements}
-use Rattle.rx_engine_names.specs.Renaming.{Renaming, Has, Made}
+use Rattle.rx_engine_names.specs.Renaming.{Renaming, Has, Made, Pairs, Passage}
 use Rattle.rx_engine_names.specs.LikeNamed.{no_holes, LikeStatements}
 use Rattle.rx_engine_names.specs.Replaced.{many, joined, LoopsAlike, StandsLast, EndReplaced, end_replaced}
 use Rattle.rx_engine_names.specs.Placed.{AllMeet, ToldLast, EndFor}
-use Rattle.rx_engine_names.proofs.SideBySide.{named_ok, and_ok, Kind, Numbers, numbers_then_told, numbers_map, numbers_node, Part, Frame, Reached}
+use Rattle.rx_engine_names.specs.Apart.{Below}
+use Rattle.rx_engine_names.proofs.SideBySide.{named_ok, and_ok, grows_on, serves_before, Grows, Kind, Numbers, numbers_then_told, numbers_map, numbers_node, Part, Frame, Reached}
 use Rattle.rx_engine_names.proofs.Scoped.{Corresponds, AtName}
 use Rattle.rx_engine_names.proofs.Fitting.{Fits}
 use Rattle.rx_engine_names.proofs.CopiedExpressions.{statements_alike}
 use Rattle.rx_engine_names.proofs.PlainPlaces.{none_starred}
 use Rattle.rx_engine_names.proofs.NoClaims.{statements_within}
 use Rattle.rx_engine_names.proofs.ResolvingGrows.{grown_then, statements_grow, optional_grows}
-use Rattle.rx_engine_names.proofs.PairsApart.{one_to_one, widens}
+use Rattle.rx_engine_names.proofs.PairsApart.{below_wider, has_below, one_to_one, passed_on, widens}
 use Rattle.rx_engine_names.proofs.CopiedParts.{statements_kept, text_alone, tail_alone}
 use Rattle.rx_engine_names.proofs.ReplacedBlocks.{past_all, split, join, by_equal, many_numbered, in_parts, with_tail, body_in_parts, tails_alone}
 use Rattle.rx_engine_names.proofs.ReplacedAnywhere.{to_meet, Whole, whole_special, whole_stand, EndResolves, by_renaming}
 
-module _ (T : ToldLast) (items : ℕ → ℕ) (P : ProgramTree) (a : ℕ) (L : Declared) (Q : ProgramTree) (b : ℕ) (F : Fits items (record { program = P; item = a; lifetimes = L }) (record { program = Q; item = b; lifetimes = L })) (ls ls' : List Around) (s : Span) (front run call : List Statement) (o o' : OptionalExpression) where
+-- of pairs that were made in front
+in_front_or : (ps : Pairs) (n m n1 m1 : ℕ) → Below ps n m → (i j : ℕ) → Has ps i j ⊎ ((n1 ≤ i) × (m1 ≤ j)) → ((i < n) × (j < m)) ⊎ ((n1 ≤ i) × (m1 ≤ j))
+in_front_or ps n m n1 m1 h i j (inl y) = inl (has_below ps n m i j h y)
+in_front_or ps n m n1 m1 h i j (inr y) = inr y
+
+module _ (T : ToldLast) (items : ℕ → ℕ) (P : ProgramTree) (a : ℕ) (L : DeclaredNames) (Q : ProgramTree) (b : ℕ) (F : Fits items (record { program = P; item = a; lifetimes = L }) (record { program = Q; item = b; lifetimes = L })) (ls ls' : List Around) (s : Span) (front run call : List Statement) (o o' : OptionalExpression) where
   abbrev Kept : Frame
   Kept = one_to_one items
 
@@ -64,7 +70,7 @@ module _ (T : ToldLast) (items : ℕ → ℕ) (P : ProgramTree) (a : ℕ) (L : D
       (subst (λ (z : Bool). AtName (Corresponds [] A.made) z (is_among x own1 || false) (variable_named S.middle.scope x) (variable_named A.answer.0 x)) (none_starred (not (is_among x own1))) (A.answer.2.callees x tt)) in
       let N = text_alone P a L S.middle.scope ls at i1 (as_statements run) S.middle.tables X.0 S.rest in
       let T1 = tail_alone P a L X.0.scope ls (child at k) o X.0.tables t' X.2 in
-      let Z = stands at at' t S.middle X.0 i1 S.front S.rest (child at k) t' X.2 A.answer.0 A.made (record { variables = A.grows.variables; loops = A.grows.loops }) meet1 i1 (child at' k') A.table in
+      let Z = stands at at' t S.middle X.0 i1 S.front S.rest (child at k) t' X.2 A.answer.0 A.made (record { variables = A.grows.variables; loops = A.grows.loops; passages = A.grows.passages }) meet1 i1 (child at' k') A.table in
       let C = Z.stands in
       let D = text_alone Q b L A.answer.0 ls' at' i1 (as_statements call) A.table C.end C.goes in
       let G = tail_alone Q b L C.end.scope ls' (child at' k') o' C.end.tables C.tables C.ends in
@@ -75,20 +81,26 @@ module _ (T : ToldLast) (items : ℕ → ℕ) (P : ProgramTree) (a : ℕ) (L : D
       let first : in_statements There sc' ls' at' 0 (as_statements front) u ≡ Ok m1 = subst (λ (z : Statements). in_statements There sc' ls' at' 0 z u ≡ Ok m1) (statements_kept s [] [] (as_statements front)) A.answer.1 in
       let grown : C.tables.names ≡ A.table.names ++ (D.added ++ G.added) = G.grown ∙ ap (λ (l : List NodeNames). l ++ G.added) D.grown ∙ append_assoc A.table.names D.added G.added in
       let grown_text : t'.names ≡ S.middle.tables.names ++ (N.added ++ T1.added) = T1.grown ∙ ap (λ (l : List NodeNames). l ++ T1.added) N.grown ∙ append_assoc S.middle.tables.names N.added T1.added in
+      let here : Passage = record { variables = A.made.variables; loops = A.made.loops; variable = length t'.vars; variable' = length C.tables.vars; loop = length t'.loops; loop' = length C.tables.loops } in
+      let past : Made = record { variables = A.made.variables; loops = A.made.loops; passages = here ∷ A.made.passages } in
+      let on : Grows A.made past = record { variables = λ n m h. h; loops = λ n m h. h; passages = λ x h. inr h } in
       record {
-        made = A.made;
-        grows = A.grows;
+        made = past;
+        grows = grows_on A.grows on;
         table = C.tables;
         answer = and_ok (in_statements There sc' ls' at' 0 (as_statements (front ++ call)) u) C.end (λ r. in_optional There r.scope ls' (child at' k') o' r.tables) (Ok C.tables) (join There sc' ls' at' 0 front call u m1 C.end first C.goes) C.ends;
         reached = record {
           vars = widens A.made.variables (length S.middle.tables.vars) (length A.table.vars) (length t'.vars) (length C.tables.vars) g.0 g'.0 A.reached.vars;
           loops = widens A.made.loops (length S.middle.tables.loops) (length A.table.loops) (length t'.loops) (length C.tables.loops) g.1 g'.1 A.reached.loops;
+          passages = passed_on A.made A.made.variables (length S.middle.tables.vars) (length A.table.vars) (length S.middle.tables.loops) (length A.table.loops) (length t'.vars) (length C.tables.vars) (length t'.loops) (length C.tables.loops) g.0 g'.0 g.1 g'.1
+              (below_wider A.made.variables (length S.middle.tables.vars) (length A.table.vars) (length t'.vars) (length C.tables.vars) g.0 g'.0 A.reached.passages.below) (λ few few' i j y. inl y) A.reached.passages;
         };
         added = A.added ++ (N.added ++ T1.added);
         added' = A.added' ++ (D.added ++ G.added);
         grown = grown_text ∙ ap (λ (l : List NodeNames). l ++ (N.added ++ T1.added)) A.grown ∙ append_assoc t.names A.added (N.added ++ T1.added);
         grown' = grown ∙ ap (λ (l : List NodeNames). l ++ (D.added ++ G.added)) A.grown' ∙ append_assoc u.names A.added' (D.added ++ G.added);
-        numbers = λ R sv m m'.
+        numbers = λ R sw m m'.
+            let sv = serves_before on sw in
             let NA = subst (λ (z : Statements). Numbers (LikeStatements no_holes R) t u S.middle.tables A.table A.added A.added' (of_statements (as_statements front)) (of_statements z)) (statements_kept s [] [] (as_statements front)) (A.numbers R sv) in
             let NS : Numbers (λ p p'. StoodLast sc sc' at at' t u R p.0 p.1 p'.0 p'.1) S.middle.tables A.table t' C.tables (N.added ++ T1.added) (D.added ++ G.added) (with_tail m run o) (with_tail m' call o') = record {
               holds = λ c c' rest rest' q e e'.
@@ -97,6 +109,8 @@ module _ (T : ToldLast) (items : ℕ → ℕ) (P : ProgramTree) (a : ℕ) (L : D
                       text = record { middle = S.middle; comes = S.front; place = i1; way = child at k; resolves = text; added = N.added ++ T1.added; grown = grown_text; cursor = c; rest = rest; stands = (q.declared, q.loops); names = e; site = m; is = refl; is_last = refl };
                       made = record { middle = m1; comes = first; place = i1; way = child at' k'; resolves = C; added = D.added ++ G.added; grown = grown; cursor = c'; rest = rest'; stands = (q.declared', q.loops'); names = e'; site = m'; is = refl; is_last = refl };
                       names = λ z. by_renaming items A.made R sv (variable_named S.middle.scope z) (variable_named A.answer.0 z) (meet1 z);
+                      variables = λ n k w. in_front_or A.made.variables (length S.middle.tables.vars) (length A.table.vars) (length t'.vars) (length C.tables.vars) A.reached.passages.below n k ((sw.passages here (inl refl)).variables n k w);
+                      loops = λ n k w. in_front_or A.made.loops (length S.middle.tables.loops) (length A.table.loops) (length t'.loops) (length C.tables.loops) A.reached.passages.below_loops n k ((sw.passages here (inl refl)).loops n k w);
                       told = Z.told (D.added ++ G.added) grown R sv m' c' rest' (q.declared', q.loops') e';
                     };
                     cursors = record { declared = x.stands.0; declared' = y.stands.0; loops = x.stands.1; loops' = y.stands.1 };

@@ -22,7 +22,7 @@ use Rattle.rx_hoist_extraction.specs.Extraction.{replacing}
 use Rattle.rx_engine_names.specs.Renaming.{Renaming, Has, Made, Serves}
 use Rattle.rx_engine_names.specs.LikeNamed.{Holes, LikeFunction, like_int, like_typed, like_return, like_other_block}
 use Rattle.rx_engine_names.specs.Alike.{with_body}
-use Rattle.rx_engine_names.specs.Apart.{OneToOne}
+use Rattle.rx_engine_names.specs.Apart.{NoneAcross, OneToOne}
 use Rattle.rx_engine_names.specs.Insertion.{Inserted, number_there}
 use Rattle.rx_engine_names.specs.Within.{OptionalWithin, BodyWithin, StatementsWithin}
 use Rattle.rx_engine_names.specs.Moves.{labels_of}
@@ -37,7 +37,7 @@ use Rattle.rx_engine_names.proofs.PlainPlaces.{keeping, whole_in, none_starred, 
 use Rattle.rx_engine_names.proofs.KeptItems.{inserted_keeps, keeps_fits}
 use Rattle.rx_engine_names.specs.ParameterNames.{parameter_names}
 use Rattle.rx_engine_names.proofs.ChangedFunctions.{untold, function_item_along}
-use Rattle.rx_engine_names.proofs.PairsApart.{one_to_one}
+use Rattle.rx_engine_names.proofs.PairsApart.{none_passed, one_to_one}
 use Rattle.rx_engine_names.proofs.BehindStatements.{meet_weaker}
 use Rattle.rx_engine_names.proofs.ReplacedAnywhere.{to_meet, CallFits, EndFits, replaced_part}
 use Rattle.rx_engine_names.proofs.ReplacedEnds.{ended_part}
@@ -135,12 +135,12 @@ module _ (p q : ProgramTree) (c : Inserted p q) (n m : ℕ) (s : Span) (f : Func
   Changed = with_body (changed_body (replacing (body_span old) new) [] [] f.body) f
 
   pub placed_function : Fills → (way : List ℕ) → labels ≡ labels_at way f.body → StandsAlone old way f.body → BindsNot name f.body → (t : ItemNames) → in_item p n (plain.function_item s f) ≡ Ok t
-      → (u : ItemNames) × (in_item q m (plain.function_item s Changed) ≡ Ok u) × (made : Made) × OneToOne made.variables (length t.vars) (length u.vars) × OneToOne made.loops (length t.loops) (length u.loops)
+      → (u : ItemNames) × (in_item q m (plain.function_item s Changed) ≡ Ok u) × (made : Made) × OneToOne made.variables (length t.vars) (length u.vars) × OneToOne made.loops (length t.loops) (length u.loops) × NoneAcross made (length t.vars) (length u.vars) (length t.loops) (length u.loops)
       × ((R : Renaming) → Serves items made R → LikeFunction H R (function_named n s f t.names) (function_named m s Changed u.names))
   placed_function fills way is alone free t e =
       let within = subst (λ (ls : List (Option Ident)). BodyWithin (placed old ls name) [] [] f.body) (sym is) (stands_within old f.body way name alone free) in
-      let A = function_item_along (one_to_one items) H p q (inserted_keeps p q c) (λ s k. k) (λ p y. y) at_block (placed old labels name) same_labels refl (λ few few'. (tt, tt)) n m s f (place_special fills, within) t e in
-      (A.0, A.1, A.2, A.3.vars, A.3.loops, A.4)
+      let A = function_item_along (one_to_one items) H p q (inserted_keeps p q c) (λ s k. k) (λ p y. y) at_block (placed old labels name) same_labels refl (λ few few'. (tt, tt)) (none_passed items) n m s f (place_special fills, within) t e in
+      (A.0, A.1, A.2, A.3.vars, A.3.loops, A.3.passages.across, A.4)
 
 -- ---- other statements for a run
 

@@ -3,7 +3,7 @@ use Rattle.std.proofs.Common.{◌≡◌, ℕ, ◌≤◌, true, List, [], ◌∷�
 use Rattle.rx_tree.specs.declared.tree.Ident.{Ident}
 use Rattle.rx_tree.specs.Plain as plain
 use Rattle.rx_tree.specs.Plain.{TypeTree, TypeTrees, PatternTree, PatternTrees, FieldPatterns, Expression, Expressions, OptionalExpression, OptionalExpressions, FieldExpressions, Statement, Statements}
-use Rattle.rx_resolve_names.specs.Scopes.{Declared, Variables, variable_named, entered}
+use Rattle.rx_resolve_names.specs.Scopes.{DeclaredNames, Variables, variable_named, entered}
 use Rattle.rx_resolve_names.specs.declared.resolved.ItemNames.{ItemNames}
 use Rattle.rx_resolve_names.specs.Meant.{number, Around, a_loop, a_test}
 use Rattle.rx_resolve_names.specs.Steps.{Outcome, and_then, Naming, ◌>>◌, nothing, Inside, declare, child, next, with_loop, with_variable, position, entry, with_names, numbered, names}
@@ -79,7 +79,7 @@ order_grows f g p q b b' e = let a = named_ok (f b) g b' e in grown_then b.table
 binds_grows : (I : Inside) (at : List ℕ) (x : Ident) → BindingGrows (binds I at x)
 binds_grows I at x b b' e =
     let n = length b.tables.vars in
-    let to : Declared → Bound = λ ds. record { bindings = ds; tables = with_names (entry I at (number n ∷ [])) (with_variable x.span b.tables) } in
+    let to : DeclaredNames → Bound = λ ds. record { bindings = ds; tables = with_names (entry I at (number n ∷ [])) (with_variable x.span b.tables) } in
     let a = named_ok (declare b.bindings x n) (λ ds. Ok (to ds)) b' e in
     subst (λ (z : Bound). Grown b.tables z.tables) (the_same (to a.0) b' a.2) (omega (arith, one_more b.tables.vars x.span), omega arith)
 
@@ -101,7 +101,7 @@ mutual
   field_patterns_grow I at i plain.no_field_pattern = also_grows nothing nothing_grows
   field_patterns_grow I at i (plain.field_pattern_and x p fs) = order_grows _ _ (pattern_grows I (child at i) p) (field_patterns_grow I at (next i) fs)
 
-pattern_then_grows : (I : Inside) (at : List ℕ) (p : PatternTree) (f : Declared → Naming) → ((ds : Declared) → Grows (f ds)) → Grows (pattern_then I at p f)
+pattern_then_grows : (I : Inside) (at : List ℕ) (p : PatternTree) (f : DeclaredNames → Naming) → ((ds : DeclaredNames) → Grows (f ds)) → Grows (pattern_then I at p f)
 pattern_then_grows I at p f g t t' e =
     let a = named_ok (in_pattern I at p (record { bindings = []; tables = t })) (λ b. f b.bindings b.tables) t' e in
     grown_then t a.0.tables t' (pattern_grows I at p (record { bindings = []; tables = t }) a.0 a.1) (g a.0.bindings a.0.tables t' a.2)

@@ -12,7 +12,7 @@ use Rattle.rx_typed.specs.declared.nodes.Site.{Site}
 use Rattle.rx_typed.specs.declared.nodes.Declaration.{Declaration}
 use Rattle.rx_typed.specs.Naming as numbering
 use Rattle.rx_typed.specs.Naming.{Cursor, Numbering, give, a_node, an_entry, taken, declare, a_loop}
-use Rattle.rx_engine_names.specs.Renaming.{Renaming, Pairs, Has, Made, Serves}
+use Rattle.rx_engine_names.specs.Renaming.{Renaming, Pairs, Has, HasPassage, Made, Passage, Serves}
 use Rattle.rx_engine_names.specs.LikeNamed.{SameSpan}
 
 -- ---- outcomes
@@ -38,28 +38,35 @@ pub record Frame : Type 1 where
   pub items : ℕ → ℕ
   pub holds : Pairs → ℕ → ℕ → Type 0
   pub pushed : (ps : Pairs) (n m : ℕ) → holds ps n m → holds ((n, m) ∷ ps) (suc n) (suc m)
+  -- with what was passed, by the numbers of the next variables and the next loops
+  pub passed : Made → ℕ → ℕ → ℕ → ℕ → Type 0
+  pub passed_variable : (M : Made) (n m k l : ℕ) → passed M n m k l → passed (record { variables = (n, m) ∷ M.variables; loops = M.loops; passages = M.passages }) (suc n) (suc m) k l
+  pub passed_loop : (M : Made) (n m k l : ℕ) → passed M n m k l → passed (record { variables = M.variables; loops = (k, l) ∷ M.loops; passages = M.passages }) n m (suc k) (suc l)
 
 -- the tables
 pub record Reached (L : Frame) (M : Made) (t u : ItemNames) : Type 0 where
   pub vars : L.holds M.variables (length t.vars) (length u.vars)
   pub loops : L.holds M.loops (length t.loops) (length u.loops)
+  pub passages : L.passed M (length t.vars) (length u.vars) (length t.loops) (length u.loops)
 
 -- what was made stays
 pub record Grows (M M' : Made) : Type 0 where
   pub variables : (n m : ℕ) → Has M.variables n m → Has M'.variables n m
   pub loops : (n m : ℕ) → Has M.loops n m → Has M'.loops n m
+  pub passages : (x : Passage) → HasPassage M.passages x → HasPassage M'.passages x
 
 pub grows_not : (M : Made) → Grows M M
-grows_not M = record { variables = λ n m h. h; loops = λ n m h. h }
+grows_not M = record { variables = λ n m h. h; loops = λ n m h. h; passages = λ x h. h }
 
 pub grows_on : {M M' M'' : Made} → Grows M M' → Grows M' M'' → Grows M M''
-grows_on g h = record { variables = λ n m x. h.variables n m (g.variables n m x); loops = λ n m x. h.loops n m (g.loops n m x) }
+grows_on g h = record { variables = λ n m x. h.variables n m (g.variables n m x); loops = λ n m x. h.loops n m (g.loops n m x); passages = λ x w. h.passages x (g.passages x w) }
 
 pub serves_before : {items : ℕ → ℕ} {M M' : Made} {R : Renaming} → Grows M M' → Serves items M' R → Serves items M R
 serves_before g s = record {
   variables = λ n m x. s.variables n m (g.variables n m x);
   loops = λ n m x. s.loops n m (g.loops n m x);
   items_are = s.items_are;
+  passages = λ x w. s.passages x (g.passages x w);
 }
 
 -- the numberings stand where the tables do
@@ -231,22 +238,24 @@ one_more xs x = length-append xs (x ∷ []) ∙ add-one (length xs)
 
 -- one more variable of both, one more loop of both
 abbrev pub with_pair : Made → ItemNames → ItemNames → Made
-with_pair M t u = record { variables = (length t.vars, length u.vars) ∷ M.variables; loops = M.loops }
+with_pair M t u = record { variables = (length t.vars, length u.vars) ∷ M.variables; loops = M.loops; passages = M.passages }
 
 abbrev pub with_loops : Made → ItemNames → ItemNames → Made
-with_loops M t u = record { variables = M.variables; loops = (length t.loops, length u.loops) ∷ M.loops }
+with_loops M t u = record { variables = M.variables; loops = (length t.loops, length u.loops) ∷ M.loops; passages = M.passages }
 
 pub grows_pair : (M : Made) (t u : ItemNames) → Grows M (with_pair M t u)
-grows_pair M t u = record { variables = λ n m h. inr h; loops = λ n m h. h }
+grows_pair M t u = record { variables = λ n m h. inr h; loops = λ n m h. h; passages = λ x h. h }
 
 pub grows_loops : (M : Made) (t u : ItemNames) → Grows M (with_loops M t u)
-grows_loops M t u = record { variables = λ n m h. h; loops = λ n m h. inr h }
+grows_loops M t u = record { variables = λ n m h. h; loops = λ n m h. inr h; passages = λ x h. h }
 
 pub variable_reached : (L : Frame) (M : Made) (t u : ItemNames) (s s' : Span) → Reached L M t u → Reached L (with_pair M t u) (with_variable s t) (with_variable s' u)
 variable_reached L M t u s s' q = record {
   vars = subst (λ (n : ℕ). L.holds (with_pair M t u).variables n (length (with_variable s' u).vars)) (sym (one_more t.vars s))
       (subst (λ (n : ℕ). L.holds (with_pair M t u).variables (suc (length t.vars)) n) (sym (one_more u.vars s')) (L.pushed M.variables (length t.vars) (length u.vars) q.vars));
   loops = q.loops;
+  passages = subst (λ (n : ℕ). L.passed (with_pair M t u) n (length (with_variable s' u).vars) (length t.loops) (length u.loops)) (sym (one_more t.vars s))
+      (subst (λ (n : ℕ). L.passed (with_pair M t u) (suc (length t.vars)) n (length t.loops) (length u.loops)) (sym (one_more u.vars s')) (L.passed_variable M (length t.vars) (length u.vars) (length t.loops) (length u.loops) q.passages));
 }
 
 pub loop_reached : (L : Frame) (M : Made) (t u : ItemNames) (p p' : Position) → Reached L M t u → Reached L (with_loops M t u) (with_loop p t) (with_loop p' u)
@@ -254,6 +263,8 @@ loop_reached L M t u p p' q = record {
   vars = q.vars;
   loops = subst (λ (n : ℕ). L.holds (with_loops M t u).loops n (length (with_loop p' u).loops)) (sym (one_more t.loops p))
       (subst (λ (n : ℕ). L.holds (with_loops M t u).loops (suc (length t.loops)) n) (sym (one_more u.loops p')) (L.pushed M.loops (length t.loops) (length u.loops) q.loops));
+  passages = subst (λ (n : ℕ). L.passed (with_loops M t u) (length t.vars) (length u.vars) n (length (with_loop p' u).loops)) (sym (one_more t.loops p))
+      (subst (λ (n : ℕ). L.passed (with_loops M t u) (length t.vars) (length u.vars) (suc (length t.loops)) n) (sym (one_more u.loops p')) (L.passed_loop M (length t.vars) (length u.vars) (length t.loops) (length u.loops) q.passages));
 }
 
 -- the newest correspond, as they are declared and as they are named
@@ -364,7 +375,7 @@ names_alike L M I I' at at' t t' u n n' ns ns' r r' is is' e q =
       grows = grows_not M;
       table = with_names x' u;
       answer = ap (λ (o : Outcome (List ℕ)). and_then o (λ ns. numbered I' at' ns u)) is';
-      reached = record { vars = q.vars; loops = q.loops };
+      reached = record { vars = q.vars; loops = q.loops; passages = q.passages };
       added = x ∷ [];
       added' = x' ∷ [];
       grown = refl;

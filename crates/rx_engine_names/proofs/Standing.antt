@@ -5,7 +5,7 @@ use Rattle.rx_tree.specs.declared.tree.Ident.{Ident}
 use Rattle.rx_tree.specs.Plain as plain
 use Rattle.rx_tree.specs.Spans.{body_span, pattern_span}
 use Rattle.rx_tree.specs.Plain.{TypeTree, PatternTree, Expression, Expressions, OptionalExpression, OptionalExpressions, FieldExpressions, Arms, Body, Statement, Statements}
-use Rattle.rx_resolve_names.specs.Scopes.{Declared, Variables, entered}
+use Rattle.rx_resolve_names.specs.Scopes.{DeclaredNames, Variables, entered}
 use Rattle.rx_resolve_names.specs.declared.resolved.ItemNames.{ItemNames}
 use Rattle.rx_resolve_names.specs.Meant.{Around, a_loop, a_test, Target, to_loop, out_of_test, nowhere, through_test, is_meant, target}
 use Rattle.rx_resolve_names.specs.Steps.{Inside}
@@ -200,7 +200,7 @@ later K M M' own m w g = record {
   round = w.round;
 }
 
-abbrev pub with_bindings : (K : Setting) (M : Made) (own : Names) (m : List Around) (w : Stand K M own m) (names : Names) (ds es : Declared) → BoundAlike M ds es → declared_names ds ≡ names → Stand K M (names ++ own) m
+abbrev pub with_bindings : (K : Setting) (M : Made) (own : Names) (m : List Around) (w : Stand K M own m) (names : Names) (ds es : DeclaredNames) → BoundAlike M ds es → declared_names ds ≡ names → Stand K M (names ++ own) m
 with_bindings K M own m w names ds es b e = record {
   sc = entered w.sc ds;
   sc' = entered w.sc' es;

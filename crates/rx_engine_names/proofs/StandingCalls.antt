@@ -20,7 +20,7 @@ use Rattle.rx_engine_names.proofs.Alone.{makes_entry}
 use Rattle.rx_engine_names.proofs.MadeCalls.{made_call}
 
 keeps_all : (M : Made) → Keeps M M
-keeps_all M = record { variables = λ n m h. h; loops = λ n m h. h }
+keeps_all M = record { variables = λ n m h. h; loops = λ n m h. h; passages = λ x h. h }
 
 module _ (C : Calls) (I' : Inside) (ls' : List Around) (M : Made) (sc' sc : Variables) (f : FunctionMeant C I' sc') (h : ParamsMeant C M sc' C.plan.params) (names : Names) (behind : List Statement) (o : OptionalExpression) where
   -- `call;`

@@ -6,7 +6,7 @@ use Rattle.rx_core.specs.declared.types.Span.{Span}
 use Rattle.rx_tree.specs.Lists.{Every, statements, tail}
 use Rattle.rx_tree.specs.Plain as plain
 use Rattle.rx_tree.specs.Plain.{Function, OptionalExpression, ProgramTree, Statement}
-use Rattle.rx_resolve_names.specs.Scopes.{Declared, Variables, variable_named}
+use Rattle.rx_resolve_names.specs.Scopes.{DeclaredNames, Variables, variable_named}
 use Rattle.rx_resolve_names.specs.declared.resolved.ItemNames.{ItemNames}
 use Rattle.rx_resolve_names.specs.Meant.{number, Around}
 use Rattle.rx_resolve_names.specs.Steps.{Inside}
@@ -21,10 +21,10 @@ use Rattle.rx_hoist_extraction.specs.Plan.{Bounds, Leaving, Param, Plan, Variabl
 use Rattle.rx_hoist_extraction.specs.Values.{next_values, result_of, values_of}
 use Rattle.rx_hoist_extraction.specs.Pinned.{pinned_function}
 use Rattle.rx_hoist_extraction.specs.NewFunction.{new_function}
-use Rattle.rx_hoist_extraction.specs.Extraction.{extraction, new_number}
+use Rattle.rx_hoist_extraction.specs.Extraction.{added, extraction, new_number}
 use Rattle.rx_hoist_naming.specs.Words.{NamesTypes}
 use Rattle.rx_engine_names.specs.Alike.{same_numbers}
-use Rattle.rx_engine_names.specs.Insertion.{Inserted, number_there}
+use Rattle.rx_engine_names.specs.Insertion.{past, Inserted, number_there}
 use Rattle.rx_engine_names.specs.LikeNamed.{LikeFunction, no_holes}
 use Rattle.rx_engine_names.specs.WrittenOut.{PinsName, written_out}
 use Rattle.rx_engine_names.specs.Within.{OptionalWithin, StatementsWithin}
@@ -86,7 +86,7 @@ pub record RunNames (P : ProgramTree) (r : Run) (pl : Plan) (g : Function) (loop
   pub round : labels_of loops ≡ labels_round r g
   pub plan : PlanNames P (moves_there r pl loops scope) (run_parts r g)
   pub item : ℕ
-  pub lifetimes : Declared
+  pub lifetimes : DeclaredNames
   pub at : List ℕ
   pub from : ℕ
   pub before : ItemNames
@@ -108,6 +108,8 @@ pub record ExtractionAlike (p : ProgramTree) (r : Run) (pl : Plan) (bs : Bounds)
     (run : RunNames p r pl (pinned_function p r.span pl.pins f) loops scope) : Type 0 where
   pub names : List ItemNames
   pub meant : Meant (extraction p r pl bs) names
+  -- an item behind the function of the run has a number greater by the number of new items
+  pub numbers : (n : ℕ) → number_there c n ≡ past r.item (added pl) n
   -- a function that stays, whatever its numbers
   pub stays : (n m : ℕ) (place : Span) (h : Function) (v : ItemNames) → in_item p n (plain.function_item place h) ≡ Ok v
       → (u : ItemNames) × (in_item (extraction p r pl bs) m (plain.function_item place h) ≡ Ok u) × LikeFunction no_holes (same_numbers (number_there c)) (function_named n place h v.names) (function_named m place h u.names)

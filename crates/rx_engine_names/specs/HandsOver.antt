@@ -5,7 +5,7 @@ use Rattle.rx_tree.specs.declared.tree.Ident.{Ident}
 use Rattle.rx_core.specs.declared.types.Span.{Span}
 use Rattle.rx_tree.specs.Lists.{Every}
 use Rattle.rx_tree.specs.Plain.{OptionalExpression, Statement, ProgramTree}
-use Rattle.rx_resolve_names.specs.Scopes.{Declared, Variables, variable_named, entered}
+use Rattle.rx_resolve_names.specs.Scopes.{DeclaredNames, Variables, variable_named, entered}
 use Rattle.rx_resolve_names.specs.declared.resolved.ItemNames.{ItemNames}
 use Rattle.rx_resolve_names.specs.declared.resolved.NodeNames.{NodeNames}
 use Rattle.rx_resolve_names.specs.Meant.{number, function_name, item_named, as_function, Around, to_loop, target}
@@ -63,7 +63,7 @@ handed_names pl own (held_by v ∷ []) = if is_own own v then v.name ∷ [] else
 handed_names pl own (h ∷ i ∷ hs) = received_names pl own 0 (h ∷ i ∷ hs)
 
 -- names that are bound, with numbers from d on
-abbrev pub declared_from : Span → ℕ → Names → Declared
+abbrev pub declared_from : Span → ℕ → Names → DeclaredNames
 declared_from s d [] = []
 declared_from s d (x ∷ xs) = (x, record { number = number d; span = s }) ∷ declared_from s (suc d) xs
 

@@ -70,7 +70,7 @@ moves_by pl s ls sc e = record {
 }
 
 abbrev pub begun : Plan → Variables → Made
-begun pl sc = record { variables = others_paired sc 0 pl.params ++ locals_paired sc (length pl.params) pl.locals; loops = [] }
+begun pl sc = record { variables = others_paired sc 0 pl.params ++ locals_paired sc (length pl.params) pl.locals; loops = []; passages = [] }
 
 -- ---- types with lifetimes
 

@@ -1,6 +1,6 @@
 -- Where a block stands in a function (Rust Reference, "Block expressions", "Scopes", "Loop labels"), and the block with other statements
 -- in it that stands there in the second: the hole for it.
-use Rattle.std.specs.Prelude.{◌≡◌, ℕ, true, false, List, [], ◌++◌, Option, Some, None, Ok, length}
+use Rattle.std.specs.Prelude.{◌≡◌, ◌≤◌, ◌<◌, ◌⊎◌, ℕ, true, false, List, [], ◌++◌, Option, Some, None, Ok, length}
 use Rattle.rx_tree.specs.declared.tree.Ident.{Ident}
 use Rattle.rx_core.specs.declared.types.Span.{Span}
 use Rattle.rx_tree.specs.Plain as plain
@@ -25,7 +25,7 @@ use Rattle.rx_hoist_extraction.specs.Run.{as_statements, same_place, labels_on}
 use Rattle.rx_engine_names.specs.Renaming.{Renaming, Made, Serves}
 use Rattle.rx_engine_names.specs.LikeNamed.{Holes, no_holes, LikeFunction}
 use Rattle.rx_engine_names.specs.Alike.{with_body}
-use Rattle.rx_engine_names.specs.Apart.{OneToOne}
+use Rattle.rx_engine_names.specs.Apart.{NoneAcross, OneToOne}
 use Rattle.rx_engine_names.specs.Insertion.{Inserted, number_there}
 use Rattle.rx_engine_names.specs.Within.{Claims}
 use Rattle.rx_engine_names.specs.Moves.{StandsAt, labels_of}
@@ -118,12 +118,19 @@ pub record InPlace (I I' : Inside) (b b' : Body) (labels : List (Option Ident)) 
 abbrev pub Told : Type 1
 Told = Variables → List Around → Variables → ItemNames → Scoped → Renaming → named.Statements → Type 0
 
+-- a name that both bind means these behind them
+abbrev pub NamedByBoth : List Statement → List Statement → Variables → Variables → ℕ → ℕ → Type 0
+NamedByBoth run call sc sc' n m = (z : List ℕ) × (is_among z (behind_all [] (as_statements run)) ≡ true) × (is_among z (behind_all [] (as_statements call)) ≡ true) × (variable_named sc z ≡ Some n) × (variable_named sc' z ≡ Some m)
+
 -- in front of both, names mean what corresponds, and behind them, where both bind a name or neither does
 pub record StandFor (T : Told) (I I' : Inside) (front run call : List Statement) (p : Place) (R : Renaming) (x y : named.Statements) : Type 0 where
   pub text : NumberedBehind I p.scope p.around p.way front run p.tables x
   pub made : NumberedBehind I' p.start p.round p.way' front call p.tables' y
   pub names : AllMeet (λ n m. R.variable n m ≡ true) text.middle.scope made.middle.scope
   pub behind : (z : List ℕ) → Agree run call z → Meet (λ n m. R.variable n m ≡ true) (variable_named text.end.scope z) (variable_named made.end.scope z)
+  -- variables that correspond stand both in front, or a name that both bind means them behind, or both come behind
+  pub variables : (n m : ℕ) → R.variable n m ≡ true → ((n < length text.middle.tables.vars) × (m < length made.middle.tables.vars)) ⊎ (NamedByBoth run call text.end.scope made.end.scope n m ⊎ ((length text.end.tables.vars ≤ n) × (length made.end.tables.vars ≤ m)))
+  pub loops : (n m : ℕ) → R.loop n m ≡ true → ((n < length text.middle.tables.loops) × (m < length made.middle.tables.loops)) ⊎ ((length text.end.tables.loops ≤ n) × (length made.end.tables.loops ≤ m))
   pub told : T text.middle.scope p.around made.middle.scope made.middle.tables made.end R y
 
 abbrev pub by_others : Told → Inside → Inside → List Statement → List Statement → List Statement → Place → Renaming → named.Body → named.Body → Type 0
@@ -137,6 +144,9 @@ pub record EndFor (T : ToldLast) (I I' : Inside) (front run call : List Statemen
   pub text : NumberedLast I p.scope p.around p.way front run tail p.tables x o
   pub made : NumberedLast I' p.start p.round p.way' front call last p.tables' y o'
   pub names : AllMeet (λ n m. R.variable n m ≡ true) text.middle.scope made.middle.scope
+  -- what corresponds stands both in front, or both behind
+  pub variables : (n m : ℕ) → R.variable n m ≡ true → ((n < length text.middle.tables.vars) × (m < length made.middle.tables.vars)) ⊎ ((length text.resolves.tables.vars ≤ n) × (length made.resolves.tables.vars ≤ m))
+  pub loops : (n m : ℕ) → R.loop n m ≡ true → ((n < length text.middle.tables.loops) × (m < length made.middle.tables.loops)) ⊎ ((length text.resolves.tables.loops ≤ n) × (length made.resolves.tables.loops ≤ m))
   pub told : T text.middle.scope p.around made.middle.scope made.middle.tables made.resolves.end R y o'
 
 abbrev pub by_an_end : ToldLast → Inside → Inside → List Statement → List Statement → List Statement → OptionalExpression → OptionalExpression → Place → Renaming → named.Body → named.Body → Type 0
@@ -145,7 +155,9 @@ by_an_end T I I' front run call tail last p R = EndReplaced R (length front) (En
 abbrev pub put_in : Inside → Inside → Body → Body → List (Option Ident) → (Place → Renaming → named.Body → named.Body → Type 0) → Holes
 put_in I I' b b' labels P = record no_holes { block = InPlace I I' b b' labels P; copied = λ s. same_place (body_span b) s ≡ false }
 
--- a function of which the run's block becomes another: it resolves, variables and loops correspond one to one, and the trees are alike but there
+-- a function of which the run's block becomes another: it resolves, variables and loops correspond one to one, none across that
+-- block, and the trees are alike but there
 abbrev pub LikeButFor : (p q : ProgramTree) (c : Inserted p q) (n m : ℕ) (s : Span) (f : Function) (old new : Body) (labels : List (Option Ident)) (P : Place → Renaming → named.Body → named.Body → Type 0) (t : ItemNames) → Type 0
 LikeButFor p q c n m s f old new labels P t = (u : ItemNames) × (in_item q m (plain.function_item s (with_body (changed_body (replacing (body_span old) new) [] [] f.body) f)) ≡ Ok u) × (made : Made) × OneToOne made.variables (length t.vars) (length u.vars) × OneToOne made.loops (length t.loops) (length u.loops)
+    × NoneAcross made (length t.vars) (length u.vars) (length t.loops) (length u.loops)
     × ((R : Renaming) → Serves (number_there c) made R → LikeFunction (put_in (inside_of p n s f) (inside_of q m s f) old new labels P) R (function_named n s f t.names) (function_named m s (with_body (changed_body (replacing (body_span old) new) [] [] f.body) f) u.names))

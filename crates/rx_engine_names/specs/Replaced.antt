@@ -16,7 +16,7 @@ use Rattle.rx_typed.specs.Named.{Else}
 use Rattle.rx_typed.specs.Naming.{Cursor, of_optional, of_statements, of_body}
 use Rattle.rx_hoist_extraction.specs.Names.{Names, is_among, behind_all}
 use Rattle.rx_hoist_extraction.specs.Run.{as_statements}
-use Rattle.rx_engine_names.specs.Renaming.{Renaming, Has, Made, Serves}
+use Rattle.rx_engine_names.specs.Renaming.{Renaming, Has, HasPassage, Made, Passage, Serves}
 use Rattle.rx_engine_names.specs.LikeNamed.{no_holes, SameSpan, LikeElse, LikeStatements}
 use Rattle.rx_engine_names.specs.Within.{Claims, OptionalWithin, StatementsWithin}
 use Rattle.rx_engine_names.specs.Moves.{StandsAt}
@@ -57,6 +57,7 @@ only xs sc sc' = record {
 pub record Keeps (M M' : Made) : Type 0 where
   pub variables : (n m : ℕ) → Has M.variables n m → Has M'.variables n m
   pub loops : (n m : ℕ) → Has M.loops n m → Has M'.loops n m
+  pub passages : (x : Passage) → HasPassage M.passages x → HasPassage M'.passages x
 
 -- Statements that stand for others, where the scope of the text behind those is given: they resolve, names behind them mean variables
 -- that correspond, and what follows names no others.

@@ -7,7 +7,7 @@ ghost use Rattle.rx_tree.specs.Positions.{a_block, descend};
 ghost use Rattle.rx_tree.specs.Plain.{Body, Function, ItemTree, OptionalExpression, ProgramTree, Statement, Statements};
 ghost use Rattle.rx_resolve_names.specs.declared.resolved.ItemNames.{ItemNames};
 ghost use Rattle.rx_resolve_names.specs.Items.{in_item, in_items, in_program};
-ghost use Rattle.rx_resolve_names.specs.Scopes.{Declared, Variables, variable_named};
+ghost use Rattle.rx_resolve_names.specs.Scopes.{DeclaredNames, Variables, variable_named};
 ghost use Rattle.rx_tree.specs.Lists.{nth, statements, Every};
 ghost use Rattle.rx_tree.specs.Spans.{body_span};
 ghost use Rattle.rx_tree.specs.declared.tree.Ident.{Ident};
@@ -15,7 +15,7 @@ ghost use Rattle.rx_typed.specs.Types.{Typ};
 ghost use Rattle.rx_resolve_names.specs.Meant.{as_function, function_name, item_named, target, to_loop, Around, number};
 ghost use Rattle.rx_graph_cycles.specs.Reaches.{NoCycle};
 ghost use Rattle.rx_resolve_names.specs.Causes.{Meant};
-ghost use Rattle.rx_resolve_names.specs.Holding.{held};
+ghost use Rattle.rx_resolve_names.specs.Holding.{held_in_tree};
 ghost use Rattle.rx_resolve_names.specs.Steps.{Inside};
 ghost use Rattle.rx_resolve_names.specs.Names.{in_block, in_optional, in_statements, variant_in, Scoped};
 ghost use Rattle.rx_typed.specs.Naming.{function_named};
@@ -107,7 +107,7 @@ pub fn pinned_functions_resolve()
 /// and the enum of exits is to have its variants. Then a variable behind a reference is dereferenced, a jump that leaves returns the
 /// variant of its exit with variables that correspond to its outs, and a return that of Return.
 pub fn moved_runs_are_alike()
-    ensures { (p q : ProgramTree) (c : Inserted p q) (v : Moves) (a b : ℕ) (ls ms : Declared) (start : Variables) (made : Made)
+    ensures { (p q : ProgramTree) (c : Inserted p q) (v : Moves) (a b : ℕ) (ls ms : DeclaredNames) (start : Variables) (made : Made)
         → ExitsNamed v (record { program = q; item = b; lifetimes = ms }) → StartsAlike v made start
         → (at at' : List ℕ) (i i' : ℕ) (ss : Statements) → StatementsWithin (asked v (record { program = p; item = a; lifetimes = ls }) (record { program = q; item = b; lifetimes = ms }) start) [] (rounds v) ss
         → (t u : ItemNames) (r : Scoped) → in_statements (record { program = p; item = a; lifetimes = ls }) v.scope v.loops at i ss t ≡ Ok r
@@ -123,7 +123,7 @@ pub fn calls_are_made()
 
 /// A block in which other statements stand for some resolves where these do, and its tree is like that of the text but for them.
 pub fn blocks_are_replaced()
-    ensures { (p q : ProgramTree) (c : Inserted p q) (a b : ℕ) (ls : Declared) (scope start : Variables) (around round : List Around) (made : Made) (xs : Names)
+    ensures { (p q : ProgramTree) (c : Inserted p q) (a b : ℕ) (ls : DeclaredNames) (scope start : Variables) (around round : List Around) (made : Made) (xs : Names)
         → NamesAlike made xs scope start → LoopsAlike made around round
         → (span : Span) (front run call behind : List Statement) (tail : OptionalExpression) → StatementsWithin (only xs scope start) xs [] (as_statements front) → (at at' : List ℕ) (t t' u : ItemNames)
         → ((r s : Scoped) (i : ℕ) → in_statements (record { program = p; item = a; lifetimes = ls }) scope around at 0 (as_statements front) t ≡ Ok r → in_statements (record { program = p; item = a; lifetimes = ls }) r.scope around at i (as_statements run) r.tables ≡ Ok s
@@ -134,7 +134,7 @@ pub fn blocks_are_replaced()
 
 /// Likewise where the block's tail is replaced with its last statements.
 pub fn ends_are_replaced()
-    ensures { (p q : ProgramTree) (c : Inserted p q) (a b : ℕ) (ls : Declared) (scope start : Variables) (around round : List Around) (made : Made) (xs : Names)
+    ensures { (p q : ProgramTree) (c : Inserted p q) (a b : ℕ) (ls : DeclaredNames) (scope start : Variables) (around round : List Around) (made : Made) (xs : Names)
         → NamesAlike made xs scope start → LoopsAlike made around round
         → (span : Span) (front run call : List Statement) (tail last : OptionalExpression) → StatementsWithin (only xs scope start) xs [] (as_statements front) → (at at' : List ℕ) (t t' u : ItemNames)
         → ((r : Scoped) → in_statements (record { program = p; item = a; lifetimes = ls }) scope around at 0 (as_statements front) t ≡ Ok r
@@ -155,7 +155,7 @@ pub fn new_functions_are_found()
 /// correspond. A jump that is made leads where the run's does. The names that are bound behind it are those of the values that are handed
 /// out, where the run declares them or they have fresh names, and those that are redeclared.
 pub fn calls_hand_out()
-    ensures over { (p q : ProgramTree) (c : Inserted p q) (ts : List ItemNames) → in_program p ≡ Ok ts → (a b : ℕ) (ls : Declared) (g : Handing) (scope : Variables) (around : List Around) (made : Made)
+    ensures over { (p q : ProgramTree) (c : Inserted p q) (ts : List ItemNames) → in_program p ≡ Ok ts → (a b : ℕ) (ls : DeclaredNames) (g : Handing) (scope : Variables) (around : List Around) (made : Made)
         → HandsOver g (record { program = q; item = b; lifetimes = ls }) scope around made → Every (λ (v : Variable). NamesTypes p v.typ) g.call.plan.redeclared → ((t : Typ) → next_values g.call.plan ≡ result_of t ∷ [] → g.call.plan.redeclared ≡ [])
         → (at : List ℕ) (i : ℕ) (u : ItemNames) → HandedOver (number_there c) p g (record { program = q; item = b; lifetimes = ls }) scope around made at i u }
     ensures meant { (g : Handing) (inside : Inside) (scope : Variables) (around : List Around) (made : Made) → AllMeet (Has made.variables) g.call.scope scope → LoopsAlike made g.loops around → HandsOut g inside → HandsOver g inside scope around made }
@@ -205,7 +205,7 @@ pub fn calls_stand()
 /// the end in the plan's shape. Asked: what a plan of an accepted program gives.
 pub fn new_functions_are_alike()
     ensures { (p q : ProgramTree) (c : Inserted p q) (ts : List ItemNames) → in_program p ≡ Ok ts → (plan : Plan) (bounds : Bounds) (place : Span) (loops : List Around) (scope : Variables) (e : ℕ) (run : Parts)
-        → PlanNames p (moves_by plan place loops scope e) run → EnumStands p q (moves_by plan place loops scope e) → (m a : ℕ) (ls : Declared) (at : List ℕ) (i : ℕ) (t : ItemNames) (r : Scoped)
+        → PlanNames p (moves_by plan place loops scope e) run → EnumStands p q (moves_by plan place loops scope e) → (m a : ℕ) (ls : DeclaredNames) (at : List ℕ) (i : ℕ) (t : ItemNames) (r : Scoped)
         → in_statements (record { program = p; item = a; lifetimes = ls }) scope loops at i (as_statements run.statements) t ≡ Ok r → (at' : List ℕ) (t' : ItemNames) → in_optional (record { program = p; item = a; lifetimes = ls }) r.scope loops at' run.tail r.tables ≡ Ok t'
         → StatementsWithin (run_claims (moves_by plan place loops scope e)) [] (rounds (moves_by plan place loops scope e)) (as_statements run.statements) → OptionalWithin (run_claims (moves_by plan place loops scope e)) (behind_all [] (as_statements run.statements)) (rounds (moves_by plan place loops scope e)) run.tail
         → NewFunctionAlike (number_there c) p q (moves_by plan place loops scope e) m (new_function p plan bounds place (rounds (moves_by plan place loops scope e)) run) (as_statements run.statements) run.tail t t' r.scope }
@@ -226,7 +226,7 @@ pub fn exits_stand()
 pub fn new_items_have_meanings()
     ensures { (p : ProgramTree) (r : Run) (plan : Plan) (bounds : Bounds) (s : Span) (f : Function) → nth p r.item ≡ Some (plain.function_item s f) → AreFree p plan → (loops : List Around) (scope : Variables)
         → labels_of loops ≡ labels_round r (pinned_function p r.span plan.pins f) → PlanNames p (moves_by plan r.span loops scope (suc r.item)) (run_parts r (pinned_function p r.span plan.pins f)) → (ts : List ItemNames) → in_program p ≡ Ok ts
-        → (a : ℕ) (ls : Declared) (at : List ℕ) (i : ℕ) (t : ItemNames) (m : Scoped) → in_statements (record { program = p; item = a; lifetimes = ls }) scope loops at i (as_statements (run_parts r (pinned_function p r.span plan.pins f)).statements) t ≡ Ok m
+        → (a : ℕ) (ls : DeclaredNames) (at : List ℕ) (i : ℕ) (t : ItemNames) (m : Scoped) → in_statements (record { program = p; item = a; lifetimes = ls }) scope loops at i (as_statements (run_parts r (pinned_function p r.span plan.pins f)).statements) t ≡ Ok m
         → (at' : List ℕ) (t' : ItemNames) → in_optional (record { program = p; item = a; lifetimes = ls }) m.scope loops at' (run_parts r (pinned_function p r.span plan.pins f)).tail m.tables ≡ Ok t'
         → StatementsWithin (run_claims (moves_by plan r.span loops scope (suc r.item))) [] (rounds (moves_by plan r.span loops scope (suc r.item))) (as_statements (run_parts r (pinned_function p r.span plan.pins f)).statements)
         → OptionalWithin (run_claims (moves_by plan r.span loops scope (suc r.item))) (behind_all [] (as_statements (run_parts r (pinned_function p r.span plan.pins f)).statements)) (rounds (moves_by plan r.span loops scope (suc r.item))) (run_parts r (pinned_function p r.span plan.pins f)).tail
@@ -237,14 +237,14 @@ pub fn new_items_have_meanings()
 /// and enums of the program.
 pub fn no_cycles_are_made()
     ensures { (p : ProgramTree) (r : Run) (plan : Plan) (bounds : Bounds) (s : Span) (f : Function) → nth p r.item ≡ Some (plain.function_item s f) → AreFree p plan → (ts : List ItemNames) → in_program p ≡ Ok ts → TypesNamed p plan
-        → NoCycle (held p) → NoCycle (held (extraction p r plan bounds)) }
+        → NoCycle (held_in_tree p) → NoCycle (held_in_tree (extraction p r plan bounds)) }
 {}
 
 /// The extraction of a program whose names have meanings has meanings for its names, where those of the function with the call have.
 pub fn extractions_have_meanings()
     ensures { (p : ProgramTree) (r : Run) (plan : Plan) (bounds : Bounds) (s : Span) (f : Function) → nth p r.item ≡ Some (plain.function_item s f) → AreFree p plan → (loops : List Around) (scope : Variables)
         → labels_of loops ≡ labels_round r (pinned_function p r.span plan.pins f) → PlanNames p (moves_by plan r.span loops scope (suc r.item)) (run_parts r (pinned_function p r.span plan.pins f)) → (ts : List ItemNames) → Meant p ts
-        → (a : ℕ) (ls : Declared) (at : List ℕ) (i : ℕ) (t : ItemNames) (m : Scoped) → in_statements (record { program = p; item = a; lifetimes = ls }) scope loops at i (as_statements (run_parts r (pinned_function p r.span plan.pins f)).statements) t ≡ Ok m
+        → (a : ℕ) (ls : DeclaredNames) (at : List ℕ) (i : ℕ) (t : ItemNames) (m : Scoped) → in_statements (record { program = p; item = a; lifetimes = ls }) scope loops at i (as_statements (run_parts r (pinned_function p r.span plan.pins f)).statements) t ≡ Ok m
         → (at' : List ℕ) (t' : ItemNames) → in_optional (record { program = p; item = a; lifetimes = ls }) m.scope loops at' (run_parts r (pinned_function p r.span plan.pins f)).tail m.tables ≡ Ok t'
         → StatementsWithin (run_claims (moves_by plan r.span loops scope (suc r.item))) [] (rounds (moves_by plan r.span loops scope (suc r.item))) (as_statements (run_parts r (pinned_function p r.span plan.pins f)).statements)
         → OptionalWithin (run_claims (moves_by plan r.span loops scope (suc r.item))) (behind_all [] (as_statements (run_parts r (pinned_function p r.span plan.pins f)).statements)) (rounds (moves_by plan r.span loops scope (suc r.item))) (run_parts r (pinned_function p r.span plan.pins f)).tail

@@ -28,12 +28,12 @@ its = temporary_at 3 0
 abbrev until : List Action
 until =
     declared_parameter first_parameter ∷ written_parameter first_parameter
-    ∷ does 4 (Build (tree.constant (tree.truth true)) [] [] (temporary_at 4 0)) ∷ does 5 (Test (tree.held (temporary_at 4 0)) (equals (tree.truth true))) ∷ []
+    ∷ does 4 (Build (tree.constant (tree.truth true)) [] [] (temporary_at 4 0)) ∷ does 5 (Test (tree.temporary_place (temporary_at 4 0)) (equals (tree.truth true))) ∷ []
 
 abbrev move : Action
 move = does 6 (Read true (own 0) its)
 
-failing : Walk (order moves_perhaps its) (does 4 (Build (tree.constant (tree.truth true)) [] [] (temporary_at 4 0)) ∷ does 5 (Test (tree.held (temporary_at 4 0)) (equals (tree.truth true))) ∷ []) walk.on
+failing : Walk (order moves_perhaps its) (does 4 (Build (tree.constant (tree.truth true)) [] [] (temporary_at 4 0)) ∷ does 5 (Test (tree.temporary_place (temporary_at 4 0)) (equals (tree.truth true))) ∷ []) walk.on
 failing = walk.both (walk.both walk.nothing walk.acts) (walk.next (walk.both walk.acts (walk.other walk.fail)) (walk.holds tt walk.nothing))
 
 comes : Into (order_body (tree.runs moves_perhaps behind_it) 1 there) (order_function branching) (declared_parameter first_parameter ∷ written_parameter first_parameter ∷ [])

@@ -1,5 +1,5 @@
 -- How many marks of one point the marked function has, but for those behind what is returned: no more than its run, form by form. So the mark
--- where the run is entered stands once, where one block has the run's node.
+-- where the run is entered stands once, and that at its end, where one block has the run's node.
 use Rattle.std.proofs.Common.{◌≡◌, ℕ, suc, ◌+◌, ◌≤◌, ◌==◌, if◌then◌else◌, Bool, true, false, List, [], ◌∷◌, map, drop, refl, ap, arith, ◌*◌}
 use Rattle.rx_typed.specs.Tree.{Temporary, Mark, Exp, read, borrow, share, build, unit, lazily, assign, update, call, input, print, block, choose, loop, jump, give, Body, ends, Function, mark_of, temporary_of}
 use Rattle.rx_lower_walks.specs.Orders.{order, order_body, order_function}
@@ -14,7 +14,7 @@ use Rattle.rx_exits_plan.specs.Exits.{past, spots_in_statements}
 use Rattle.rx_engine_related.specs.OneSite.{StandsOnce, blocks_at}
 use Rattle.rx_engine_related.proofs.Counting.{one_if, count, stands_once}
 use Rattle.rx_engine_related.proofs.Bare.{NoMarks, no_marks, none_counted}
-use Rattle.rx_engine_related.proofs.Sole.{Light, few, weighed, weighed_both, all_free, take_free, drop_free, before_count, changed_count, beginning_count, reads_count, light, differ, jump_weight, free, of_beginning, anywhere}
+use Rattle.rx_engine_related.proofs.Sole.{Light, few, weighed, weighed_both, all_free, take_free, drop_free, before_count, changed_count, beginning_count, reads_count, light, differ, jump_weight, no_jump_weight, free, of_beginning, anywhere}
 
 -- ---- inside the run
 
@@ -28,7 +28,7 @@ jump_count k true m l again d = omega arith
 jump_count k false m l again d = omega arith
 
 module _ (k : ℕ) (other : (2 == k) ≡ false) (ls : List ℕ) where
-  marking_light : Light k (marking ls) light (jump_weight k ls)
+  pub marking_light : Light k (marking ls) light (jump_weight k ls)
   marking_light = record {
     jump_mark = λ m l again. jump_keeps (is_among l ls) m l again;
     return_mark = λ e. refl;
@@ -159,3 +159,23 @@ module _ (ls : List ℕ) where
       let x = function_count 0 refl ls r xs f h in
       let z = once_each r (spots_of_function f) in
       stands_once (marked r ls xs f) enters (omega (arith, x, z, one))
+
+-- ---- at its end
+
+module _ (ls : List ℕ) where
+  once_at_end : (r : Run) (l : List Spot) → weighed (of_run 1 refl ls r) free l ≡ blocks_at r.block l
+  once_at_end r [] = refl
+  once_at_end r (a_block a n b ∷ l) = by (n == r.block) (once_at_end r l)
+    where
+      by : (t : Bool) → weighed (of_run 1 refl ls r) free l ≡ blocks_at r.block l
+          → (if t then inner 1 refl ls r a b else 0) + weighed (of_run 1 refl ls r) free l ≡ (if t then suc (blocks_at r.block l) else blocks_at r.block l)
+      by true h = let e = no_jump_weight ls (spots_in_statements (past (in_front r b) a) (inside r b)) in let c = no_jump_weight ls (spots a (tail b)) in omega (arith, h, e, c)
+      by false h = omega (arith, h)
+  once_at_end r (a_jump a n j again ∷ l) = let h = once_at_end r l in omega (arith, h)
+  once_at_end r (a_return a n ∷ l) = once_at_end r l
+
+  pub marked_end_stands_once : (r : Run) (xs : List ℕ) (f : Function) → HasNoMark (order_function f) → blocks_at r.block (spots_of_function f) ≤ 1 → StandsOnce (marked r ls xs f) (shown (leaves next))
+  marked_end_stands_once r xs f h one =
+      let x = function_count 1 refl ls r xs f h in
+      let z = once_at_end r (spots_of_function f) in
+      stands_once (marked r ls xs f) (leaves next) (omega (arith, x, z, one))

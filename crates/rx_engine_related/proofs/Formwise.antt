@@ -1,7 +1,7 @@
 -- Form by form: where what is put at blocks, jumps and returns of a tree is so related, in whichever way that goes with the forms of orders, the orders of
 -- the two changed trees are.
 use Rattle.std.proofs.Common.{◌≡◌, ℕ, Bool, List, [], ◌∷◌, map, refl, sym, ap, ◌∙◌, subst}
-use Rattle.rx_typed.specs.Tree.{Temporary, truth, operation, lazy, Mark, Exp, read, borrow, share, build, unit, lazily, assign, update, call, input, print, block, choose, loop, jump, give, Operands, no_operand, operand_and, Scrutinee, at_place, of_value, Arms, no_arm, arm_and, Body, ends, runs, declares, lets, Parameter, Function, held, mark_of, temporary_at, temporary_of, temporaries_of, fields_of}
+use Rattle.rx_typed.specs.Tree.{Temporary, truth, operation, lazy, Mark, Exp, read, borrow, share, build, unit, lazily, assign, update, call, input, print, block, choose, loop, jump, give, Operands, no_operand, operand_and, Scrutinee, at_place, of_value, Arms, no_arm, arm_and, Body, ends, runs, declares, lets, Parameter, Function, temporary_place, mark_of, temporary_at, temporary_of, temporaries_of, fields_of}
 use Rattle.rx_lower_walks.specs.Matching.{equals, PartTest, Binding, tests, bindings}
 use Rattle.rx_lower_walks.specs.Actions.{Write, Test, Build, Call, Print, Give, Action, at_mark, Subject, in_temporary, subject}
 use Rattle.rx_lower_walks.specs.Orders.{Order, testing, binding, declaring, order, order_all, order_scrutinee, order_arms, order_body, beginning, order_function}
@@ -109,7 +109,7 @@ module _ (Rel : Order → Order → Type 0) (L : Congruent Rel) where
       further (share m e) d = L.sequence (further e _) L.same
       further (build m w es) d = L.sequence (all_further es) (act_further (ap (λ is. at_mark m (Build w is (temporaries_of (changed_all D es)) d)) (same_fields es) ∙ ap (λ ts. at_mark m (Build w (fields_of (changed_all C es)) ts d)) (same_temporaries es)))
       further (unit m) d = L.same
-      further (lazily m b e g) d = L.sequence (own_further e (further e _)) (L.sequence (told (λ t. at_mark m (Test (held t) (equals (truth b)))) e) (L.sequence (L.choice (own_further g (further g _)) L.same)
+      further (lazily m b e g) d = L.sequence (own_further e (further e _)) (L.sequence (told (λ t. at_mark m (Test (temporary_place t) (equals (truth b)))) e) (L.sequence (L.choice (own_further g (further g _)) L.same)
           (act_further (ap (λ t. at_mark m (Build lazy [] (t ∷ temporary_of (changed D g) ∷ []) d)) (same_temporary e) ∙ ap (λ t. at_mark m (Build lazy [] (temporary_of (changed C e) ∷ t ∷ []) d)) (same_temporary g)))))
       further (assign m p e) d = L.sequence (own_further e (further e _)) (told (λ t. at_mark m (Write p t [])) e)
       further (update m o p e) d = L.sequence (own_further e (further e _)) (L.sequence L.same (L.sequence (told (λ t. at_mark m (Build (operation o) [] (temporary_at m.node 1 ∷ t ∷ []) (temporary_at m.node 2))) e) L.same))

@@ -1,6 +1,6 @@
 -- The marked function in which variables are used where its run is entered is the one without, with reads put in: form by form.
 use Rattle.std.proofs.Common.{◌≡◌, ℕ, ◌==◌, if◌then◌else◌, Bool, true, false, List, [], ◌∷◌, map, refl, sym, ap, ◌∙◌, subst}
-use Rattle.rx_typed.specs.Tree.{Temporary, truth, operation, lazy, Mark, Exp, read, borrow, share, build, unit, lazily, assign, update, call, input, print, block, choose, loop, jump, give, Operands, no_operand, operand_and, Scrutinee, at_place, of_value, Arms, no_arm, arm_and, Body, ends, runs, declares, lets, Parameter, Function, held, mark_of, temporary_at, temporary_of, temporaries_of, fields_of}
+use Rattle.rx_typed.specs.Tree.{Temporary, truth, operation, lazy, Mark, Exp, read, borrow, share, build, unit, lazily, assign, update, call, input, print, block, choose, loop, jump, give, Operands, no_operand, operand_and, Scrutinee, at_place, of_value, Arms, no_arm, arm_and, Body, ends, runs, declares, lets, Parameter, Function, temporary_place, mark_of, temporary_at, temporary_of, temporaries_of, fields_of}
 use Rattle.rx_lower_walks.specs.Matching.{equals, PartTest, Binding, tests, bindings}
 use Rattle.rx_lower_walks.specs.Actions.{Write, Test, Build, Call, Print, Give, Action, at_mark, Subject, in_temporary, subject}
 use Rattle.rx_lower_walks.specs.Orders.{Order, testing, binding, declaring, order, order_all, order_scrutinee, order_arms, order_body, beginning, order_function}
@@ -109,7 +109,7 @@ module _ (r : Run) (ls xs : List ℕ) where
     wide (share m e) d = w_then (wide e _) as_it_was
     wide (build m w es) d = w_then (all_wide es) (act_wide (ap (λ is. at_mark m (Build w is (temporaries_of (changed_all D es)) d)) (same_fields es) ∙ ap (λ ts. at_mark m (Build w (fields_of (changed_all C es)) ts d)) (same_temporaries es)))
     wide (unit m) d = as_it_was
-    wide (lazily m b e g) d = w_then (own_wide e (wide e _)) (w_then (told (λ t. at_mark m (Test (held t) (equals (truth b)))) e) (w_then (w_or (own_wide g (wide g _)) as_it_was)
+    wide (lazily m b e g) d = w_then (own_wide e (wide e _)) (w_then (told (λ t. at_mark m (Test (temporary_place t) (equals (truth b)))) e) (w_then (w_or (own_wide g (wide g _)) as_it_was)
         (act_wide (ap (λ t. at_mark m (Build lazy [] (t ∷ temporary_of (changed D g) ∷ []) d)) (same_temporary e) ∙ ap (λ t. at_mark m (Build lazy [] (temporary_of (changed C e) ∷ t ∷ []) d)) (same_temporary g)))))
     wide (assign m p e) d = w_then (own_wide e (wide e _)) (told (λ t. at_mark m (Write p t [])) e)
     wide (update m o p e) d = w_then (own_wide e (wide e _)) (w_then as_it_was (w_then (told (λ t. at_mark m (Build (operation o) [] (temporary_at m.node 1 ∷ t ∷ []) (temporary_at m.node 2))) e) as_it_was))

@@ -349,7 +349,7 @@ module _ (x : ℕ) where
     placing r ls xs = record {
       of_block = λ a n was b d f i h q g. block_part r ls xs (n == r.block) (may_begin r was) was b n d f i refl h g;
       of_jump = λ n j c d i. tells_leave m refl (order.exit n.node j c);
-      of_return = λ q. refl;
+      of_return = λ q i g t. g t;
     }
 
     text_says : (r : Run) (ls xs : List ℕ) (f : Function) → HasNoMark (order_function f) → weighed (weighs r) no_weight (spots_of_function f) ≤ 1 → Says (order_function (marked r ls xs f))

@@ -165,7 +165,7 @@ module _ (l : ℕ) (again : Bool) where
 
   -- ---- in the run
 
-  other_mark : (p : Point) → (number p == k) ≡ false → Led m refl l again (order (mark p) (temporary_of (mark p)))
+  pub other_mark : (p : Point) → (number p == k) ≡ false → Led m refl l again (order (mark p) (temporary_of (mark p)))
   other_mark p e = led_two m refl l again (then_splits m refl l again) (free_led m refl l again bare_nothing) (led_forms.of_act (shown p) (ap one_if e))
 
   a_marked_jump : (n : Mark) (j : ℕ) (c : Bool) (d : Temporary) → Led m refl l again (order (mark_then (leaves (jump_exit j c)) (jump n j c)) d)
@@ -183,7 +183,7 @@ module _ (l : ℕ) (again : Bool) where
   passing_led ls = record {
     of_block = λ a n was b d f i h q x. x;
     of_jump = λ n j c d. by (is_among j ls) n j c d;
-    of_return = λ e. refl;
+    of_return = λ e i x d. x d;
   }
     where
       by : (t : Bool) (n : Mark) (j : ℕ) (c : Bool) (d : Temporary) → Led m refl l again (order (if t then mark_then (leaves (jump_exit j c)) (jump n j c) else jump n j c) d)
@@ -193,20 +193,23 @@ module _ (l : ℕ) (again : Bool) where
   abbrev pub nowhere_around : Around
   nowhere_around = record { scope = []; loops = [] }
 
+  -- statements with changes of this kind
+  pub went : (C : Changes) → Changing k Other IsLed C light → (u : ℕ → Bool → ℕ) → Light k C light u → (ss : List Statement) (b : Body) (n : ℕ) (d : Temporary) → AllFree ss → is_among l (loops_of ss) ≡ false
+      → Led m refl l again (order_body b n d) → Led m refl l again (order_body (before (map (changed_statement C) ss) b) n d)
+  went C G u K [] b n d h i x = x
+  went C G u K (does e ∷ ss) b n d h i x =
+      let z = among_both l (loops_in (order e (temporary_of e))) (loops_of ss) i in
+      led_two m refl l again (then_splits m refl l again) (grown k Other IsLed led_forms C light G light u K e nowhere_around _ (temporary_of e) h.0 (other_loops l (order e (temporary_of e)) z.0))
+      (went C G u K ss b n d h.1 z.1 x)
+  went C G u K (begins s xs ∷ ss) b n d h i x = of_declaring_part k Other IsLed led_forms 0 s xs n _ (went C G u K ss b n d h.1 i x)
+  went C G u K (binds s p c ∷ ss) b n d h i x =
+      let z = among_both l (loops_in (order_scrutinee c)) (loops_of ss) i in
+      led_two m refl l again (then_splits m refl l again) (grown_matched k Other IsLed led_forms C light G light u K c nowhere_around h.0 (other_loops l (order_scrutinee c) z.0))
+      (of_binding_part k Other IsLed led_forms 0 _ (bindings [] p) n _ (went C G u K ss b n d h.1 z.1 x))
+
   pub passed : (ls : List ℕ) (ss : List Statement) (b : Body) (n : ℕ) (d : Temporary) → AllFree ss → is_among l (loops_of ss) ≡ false → Led m refl l again (order_body b n d)
       → Led m refl l again (order_body (before (map (changed_statement (passing ls)) ss) b) n d)
-  passed ls [] b n d h i x = x
-  passed ls (does e ∷ ss) b n d h i x =
-      let z = among_both l (loops_in (order e (temporary_of e))) (loops_of ss) i in
-      led_two m refl l again (then_splits m refl l again)
-      (grown k Other IsLed led_forms (passing ls) light (passing_led ls) light (jump_weight k ls) (passing_light k ls) e nowhere_around _ (temporary_of e) h.0 (other_loops l (order e (temporary_of e)) z.0))
-      (passed ls ss b n d h.1 z.1 x)
-  passed ls (begins s xs ∷ ss) b n d h i x = of_declaring_part k Other IsLed led_forms 0 s xs n _ (passed ls ss b n d h.1 i x)
-  passed ls (binds s p c ∷ ss) b n d h i x =
-      let z = among_both l (loops_in (order_scrutinee c)) (loops_of ss) i in
-      led_two m refl l again (then_splits m refl l again)
-      (grown_matched k Other IsLed led_forms (passing ls) light (passing_led ls) light (jump_weight k ls) (passing_light k ls) c nowhere_around h.0 (other_loops l (order_scrutinee c) z.0))
-      (of_binding_part k Other IsLed led_forms 0 _ (bindings [] p) n _ (passed ls ss b n d h.1 z.1 x))
+  passed ls ss b n d h i x = went (passing ls) (passing_led ls) (jump_weight k ls) (passing_light k ls) ss b n d h i x
 
   pub unpassed : (ss : List Statement) (b : Body) (n : ℕ) (d : Temporary) → AllFree ss → Led m refl l again (order_body b n d) → Led m refl l again (order_body (before ss b) n d)
   unpassed [] b n d h x = x
@@ -265,7 +268,7 @@ module _ (l : ℕ) (again : Bool) (k : ℕ) (text : Body → Body) (has : Body �
   placing = record {
     of_block = λ a n was b d f i h q x. block_part (n == k) (has was) was b n d f i refl h x;
     of_jump = λ n j c d. (part_forms l again).of_leave (orders.exit n.node j c);
-    of_return = λ e. refl;
+    of_return = λ e i x d. x d;
   }
 
   pub function_part : (f : Function) → HasNoMark (order_function f) → told (weighed (weighs has k) no_weight (spots_of_function f)) (order_function (changed_function (in_block k text) f))

@@ -1,6 +1,6 @@
 -- Form by form: where the parts of a tree with changes at its blocks and jumps are told of, by how many blocks weigh in them, so is the
 -- tree.
-use Rattle.std.proofs.Common.{◌≡◌, ℕ, ◌+◌, ◌≤◌, ◌==◌, Bool, List, [], ◌∷◌, ◌++◌, refl, sym, subst, arith}
+use Rattle.std.proofs.Common.{◌≡◌, ℕ, ◌+◌, ◌≤◌, ◌==◌, Bool, List, [], ◌∷◌, ◌++◌, refl, arith}
 use Rattle.rx_core.specs.declared.types.Step.{Step}
 use Rattle.rx_typed.specs.Tree.{Temporary, Mode, by_value, by_reference, Mark, Exp, read, borrow, share, build, unit, lazily, assign, update, call, input, print, block, choose, loop, jump, give, Operands, no_operand, operand_and, Scrutinee, at_place, of_value, Arms, no_arm, arm_and, Body, ends, runs, declares, lets, Parameter, mark_of, temporary_at, temporary_of}
 use Rattle.rx_lower_walks.specs.Matching.{PartTest, Binding, tests, bindings}
@@ -99,7 +99,8 @@ no_weight l again = 0
 pub record Changing (k : ℕ) (Ok : ℕ → Type 0) (P : ℕ → Order → Type 0) (C : Changes) (w : Around → ℕ → Body → ℕ) : Type 0 where
   pub of_block : (a : Around) (n : ℕ) (was b : Body) (d f : Temporary) (i : ℕ) → NoMarks (order_body was n f) → Loops Ok (order_body was n f) → P i (order_body b n d) → P (w a n was + i) (order_body (C.at_block n was b) n d)
   pub of_jump : (m : Mark) (l : ℕ) (again : Bool) (d : Temporary) → P 0 (order (C.at_jump m l again) d)
-  pub of_return : (e : Exp) → C.at_return e ≡ e
+  -- parts of the operand give parts of what is put there
+  pub of_return : (e : Exp) (i : ℕ) → ((d : Temporary) → P i (order e d)) → (d : Temporary) → P i (order (C.at_return e) d)
 
 module _ (k : ℕ) (Ok : ℕ → Type 0) (P : ℕ → Order → Type 0) (F : Forms k Ok P) (C : Changes) (w : Around → ℕ → Body → ℕ) (G : Changing k Ok P C w)
     (w0 : Around → ℕ → Body → ℕ) (u0 : ℕ → Bool → ℕ) (K : Light k C w0 u0) where
@@ -135,8 +136,8 @@ module _ (k : ℕ) (Ok : ℕ → Type 0) (P : ℕ → Order → Type 0) (F : For
     grown (loop m l e) a d f h i = F.of_passes (W (spots (with_loop l a) e)) l _ i.0 (grown e (with_loop l a) (temporary_of (changed C e)) (temporary_of e) h i.1)
     grown (jump m l again) a d f h i = G.of_jump m l again d
     grown (give m e) a d f h i =
-        subst (λ c. P (W (spots a e ++ a_return a m.node ∷ [])) (order (give m c) d)) (sym (G.of_return (changed C e)))
-        (both_then (spots a e) (a_return a m.node ∷ []) _ _ (grown e a (temporary_of (changed C e)) (temporary_of e) h.0 i.0) (act_with k Ok P F 0 _ _ refl (F.of_leave _)))
+        both_then (spots a e) (a_return a m.node ∷ []) _ _ (G.of_return (changed C e) (W (spots a e)) (λ t. grown e a t (temporary_of e) h.0 i.0) (temporary_of (C.at_return (changed C e))))
+        (act_with k Ok P F 0 _ _ refl (F.of_leave _))
 
     grown_all : (es : Operands) (a : Around) → NoMarks (order_all es) → Loops Ok (order_all es) → P (W (spots_in a es)) (order_all (changed_all C es))
     grown_all no_operand a h i = F.of_nothing

@@ -41,11 +41,13 @@ pub mod ReadingRun
 pub mod Premises
 pub mod Undeclared
 pub mod Entry
+pub mod MarkedJumps
 pub mod Inside
 pub mod Weaker
 pub mod Freed
 pub mod Same
 pub mod Loops
+pub mod MarkedExits
 pub mod Specials
 pub mod Outs
 pub mod Locals

@@ -50,7 +50,7 @@ use Rattle.rx_engine_related.proofs.Inside.{has_some}
 abbrev pub NotIn : ℕ → List ℕ → Type 0
 NotIn j l = is_among j l ≡ false
 
-not_both : (j : ℕ) (l m : List ℕ) → NotIn j l → NotIn j m → NotIn j (l ++ m)
+pub not_both : (j : ℕ) (l m : List ℕ) → NotIn j l → NotIn j m → NotIn j (l ++ m)
 not_both j [] m p q = q
 not_both j (x ∷ l) m p q = by (j == x) p (λ r. not_both j l m r q)
   where
@@ -315,7 +315,7 @@ pub run_apart : (f : Function) → RelatedFunction (λ f. f) no_openings without
 run_apart f self r h i l round = took l r.count (drop r.first (statements h.body)) (dropped l r.first (statements h.body) (each_block self h.around r.block h.body i l round).0)
 
 -- nor has one of its tail
-tail_apart : (f : Function) → RelatedFunction (λ f. f) no_openings without_turns [] f f → (r : Run) (h : Home) → Among (a_block h.around r.block h.body) (spots_of_function f) → (l : ℕ) → Among l h.around.loops
+pub tail_apart : (f : Function) → RelatedFunction (λ f. f) no_openings without_turns [] f f → (r : Run) (h : Home) → Among (a_block h.around r.block h.body) (spots_of_function f) → (l : ℕ) → Among l h.around.loops
     → NotIn l (loops_of (inside r h.body) ++ loops_in (order (tail h.body) (temporary_of (tail h.body))))
 tail_apart f self r h i l round =
     not_both l (loops_of (inside r h.body)) (loops_in (order (tail h.body) (temporary_of (tail h.body)))) (run_apart f self r h i l round) (each_block self h.around r.block h.body i l round).1

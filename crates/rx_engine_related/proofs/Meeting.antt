@@ -8,7 +8,7 @@ use Rattle.rx_lower_walks.specs.Orders as order
 use Rattle.rx_lower_walks.specs.Walks.{Out, on, leaves, fails, stopped, IsAway, Passed, by_end, by_continue, Left, by_break, by_outer_break, by_outer_continue, by_return, by_stop, Walk, rests, stops, nothing, acts, both, first, one, other, leave, fail, holds, next, ends, jumps, halts, last, more}
 use Rattle.rx_lower_walks.proofs.WalksFronts.{fronts}
 use Rattle.rx_exits_plan.specs.Unmarked.{is_mark}
-use Rattle.rx_engine_related.specs.OnePlace.{Meets, alike, ends_in_one, ends_in_other}
+use Rattle.rx_engine_related.specs.OnePlace.{MeetInOne, alike, ends_in_one, ends_in_other}
 
 -- ---- lists
 
@@ -20,17 +20,17 @@ ends_both : {us vs : List Action} → AreEnds us → AreEnds vs → AreEnds (us 
 ends_both none k = k
 ends_both (and h) k = and (ends_both h k)
 
-meets_behind : {us vs : List Action} → Meets us vs → (w : List Action) → Meets (us ++ w) (vs ++ w)
+meets_behind : {us vs : List Action} → MeetInOne us vs → (w : List Action) → MeetInOne (us ++ w) (vs ++ w)
 meets_behind alike w = alike
 meets_behind (ends_in_one h) w = ends_in_one (meets_behind h w)
 meets_behind (ends_in_other h) w = ends_in_other (meets_behind h w)
 
-meets_ends : {us vs : List Action} → AreEnds us → AreEnds vs → (w : List Action) → Meets (us ++ w) (vs ++ w)
+meets_ends : {us vs : List Action} → AreEnds us → AreEnds vs → (w : List Action) → MeetInOne (us ++ w) (vs ++ w)
 meets_ends none none w = alike
 meets_ends none (and k) w = ends_in_other (meets_ends none k w)
 meets_ends (and h) k w = ends_in_one (meets_ends h k w)
 
-pub meets_none : {us : List Action} → AreEnds us → Meets us []
+pub meets_none : {us : List Action} → AreEnds us → MeetInOne us []
 meets_none none = alike
 meets_none (and h) = ends_in_one (meets_none h)
 
@@ -370,7 +370,7 @@ module _ (a : Action) (is : is_mark a.act ≡ true) (l : ℕ) (again : Bool) whe
 
   pub record Joined (s : Order) (v us : List Action) (o : Out) : Type 0 where
     pub list : List Action
-    pub meets : Meets us list
+    pub meets : MeetInOne us list
     pub walk : Walk s (v ++ a ∷ list) o
 
   -- all go on alike
@@ -397,7 +397,7 @@ module _ (a : Action) (is : is_mark a.act ≡ true) (l : ℕ) (again : Bool) whe
       let z = h.join f.inner f.later k.inner k.later f.out k.out f.walk k.walk in
       record {
         list = z.list ++ f.rest;
-        meets = subst (λ c. Meets c (z.list ++ f.rest)) (sym f.behind) (meets_behind z.meets f.rest);
+        meets = subst (λ c. MeetInOne c (z.list ++ f.rest)) (sym f.behind) (meets_behind z.meets f.rest);
         walk = subst (λ c. Walk q c o) (shape k.front k.inner z.list f.rest v k.before) (f.goes k.front (k.inner ++ a ∷ z.list) k.is_front z.walk);
       }
 
@@ -406,7 +406,7 @@ module _ (a : Action) (is : is_mark a.act ≡ true) (l : ℕ) (again : Bool) whe
       let z = h.join f.inner f.later k.inner k.later f.out k.out f.walk k.walk in
       record {
         list = z.list ++ f.rest;
-        meets = subst (λ c. Meets c (z.list ++ f.rest)) (sym f.behind) (meets_behind z.meets f.rest);
+        meets = subst (λ c. MeetInOne c (z.list ++ f.rest)) (sym f.behind) (meets_behind z.meets f.rest);
         walk = subst (λ c. Walk (order.passes n s) c o) (shape k.front k.inner z.list f.rest v k.before) (f.goes k.front (k.inner ++ a ∷ z.list) f.out k.is_front same z.walk);
       }
 
@@ -431,7 +431,7 @@ module _ (a : Action) (is : is_mark a.act ≡ true) (l : ℕ) (again : Bool) whe
           by (c, inr (n, e)) =
               let y = h.onward k.inner k.later k.out k.walk in record {
                 list = y.list ++ f.rest;
-                meets = subst (λ z. Meets z (y.list ++ f.rest)) (sym f.behind) (meets_ends c y.are f.rest);
+                meets = subst (λ z. MeetInOne z (y.list ++ f.rest)) (sym f.behind) (meets_ends c y.are f.rest);
                 walk = subst (λ c. Walk (order.passes l s) c o) (shape k.front k.inner y.list f.rest v k.before)
                     (f.goes k.front (k.inner ++ a ∷ y.list) (leaves (exit y.node l again)) k.is_front (subst (λ z. PassAlike l z (leaves (exit y.node l again))) (sym e) (both_alike n y.node again)) y.walk);
               }

@@ -78,6 +78,10 @@ not_direct x (binds s p c ∷ ss) h =
     neither x (bound p) (declared_by_all ss) (not_listed x (bound p) (away_front x (all_declared (bound p)) (occurrences_matched c) i))
     (not_direct x ss (away_rest x (all_declared (bound p) ++ occurrences_matched c) (in_statements ss) h))
 
+-- what the run doesn't declare is declared by none of its own statements
+pub none_direct : (A : Asked) (x : ℕ) → is_declared_in_run A.run A.home.body x ≡ false → is_direct A.run A.home.body x ≡ false
+none_direct A x h = not_direct x (inside A.run A.home.body) (away_front x (in_statements (inside A.run A.home.body)) (in_value (last_value A.run A.home.body)) (away_of x (in_run A.run A.home.body) h))
+
 -- ---- of a plan
 
 module _ (A : Asked) (muts : List Bool) (k : Plan) (p : IsPlan A k) (e : Exit) (i : Among e k.exits) (x : ℕ) (o : Among x (k.outs e)) (named : Among x (foreign_of A)) where
@@ -85,10 +89,7 @@ module _ (A : Asked) (muts : List Bool) (k : Plan) (p : IsPlan A k) (e : Exit) (
   live = (e, i, (out_is A k p e i x o).1)
 
   undeclared : is_direct A.run A.home.body x ≡ false
-  undeclared =
-      let z = of_those (λ y. not (is_declared_in_run A.run A.home.body y)) (variables_of A) named in
-      let away = away_of x (in_run A.run A.home.body) (not_so (is_declared_in_run A.run A.home.body x) z.1) in
-      not_direct x (inside A.run A.home.body) (away_front x (in_statements (inside A.run A.home.body)) (in_value (last_value A.run A.home.body)) away)
+  undeclared = none_direct A x (not_so (is_declared_in_run A.run A.home.body x) (of_those (λ y. not (is_declared_in_run A.run A.home.body y)) (variables_of A) named).1)
 
   moved_or_local : (is_moved A x ≡ true) ⊎ Among x k.locals
   moved_or_local = by (either (is_moved A x) (has_number x k.locals || is_direct A.run A.home.body x) (of_those (is_offered A k.locals) (variables_of A) (out_is A k p e i x o).0).1)

@@ -10,7 +10,7 @@ use Rattle.rx_facts_tables.specs.Along.{Arrives, ahead}
 use Rattle.rx_facts_tables.proofs.Ways.{path_through, through, only}
 use Rattle.rx_facts_tables.specs.Live.{living}
 use Rattle.rx_engine_related.specs.OneSite.{StandsOnce}
-use Rattle.rx_engine_related.specs.OnePlace.{Meets, alike, ends_in_one, ends_in_other, LeadsToOnePlace}
+use Rattle.rx_engine_related.specs.OnePlace.{MeetInOne, alike, ends_in_one, ends_in_other, LeadsToOnePlace}
 
 -- the site of an action of a walk, the way to it, and the path on
 record At (f : Function) (a : Action) (w us : List Action) : Type 0 where
@@ -43,7 +43,7 @@ pub sole_leads : (f : Function) (a : Action) → StandsOnce f a → LeadsToOnePl
 sole_leads f a once w v us h k = (us, alike, recombined f a once w v us h k)
 
 -- what ends behind it is not used
-pub ahead_meets : (x : ℕ) {us vs : List Action} → Meets us vs → ahead (living (variable x)) us ≡ true → ahead (living (variable x)) vs ≡ true
+pub ahead_meets : (x : ℕ) {us vs : List Action} → MeetInOne us vs → ahead (living (variable x)) us ≡ true → ahead (living (variable x)) vs ≡ true
 ahead_meets x alike e = e
 ahead_meets x (ends_in_one h) e = ahead_meets x h e
 ahead_meets x (ends_in_other h) e = ahead_meets x h e

@@ -350,7 +350,7 @@ function_count k nz r ls xs f h =
 
 -- ---- its end
 
-no_jump_weight : (ls : List ℕ) (l : List Spot) → weighed light (jump_weight 1 ls) l ≡ 0
+pub no_jump_weight : (ls : List ℕ) (l : List Spot) → weighed light (jump_weight 1 ls) l ≡ 0
 no_jump_weight ls [] = refl
 no_jump_weight ls (a_block a n b ∷ l) = let h = no_jump_weight ls l in omega (arith, h)
 no_jump_weight ls (a_jump a n k again ∷ l) = by (is_among k ls) again (no_jump_weight ls l)

@@ -10,7 +10,7 @@ ghost use Rattle.rx_facts_tables.specs.Places.{Frame, is_part};
 ghost use Rattle.rx_facts_tables.specs.Setting.{is_set};
 ghost use Rattle.rx_facts_tables.specs.Initialised.{Initialised};
 ghost use Rattle.rx_exits_plan.specs.Blocks.{tail, before};
-ghost use Rattle.rx_exits_plan.specs.Runs.{Run, Home, inside};
+ghost use Rattle.rx_exits_plan.specs.Runs.{Run, Home, Sits, inside};
 ghost use Rattle.rx_exits_plan.specs.Points.{Exit, next, returns, jump_exit, Point, enters, leaves};
 ghost use Rattle.rx_exits_plan.specs.Marked.{mark, entering, shown, marked, is_among};
 ghost use Rattle.rx_exits_plan.specs.Spots.{a_block, spots_of_function};
@@ -38,8 +38,9 @@ ghost use Rattle.rx_engine_simulation.specs.Openings.{no_openings};
 ghost use Rattle.rx_engine_simulation.specs.Programs.{LikeFunction};
 ghost use Rattle.rx_engine_simulation.specs.Marking.{without_turns, facts_alone, TreeEntry};
 ghost use Rattle.rx_engine_simulation.specs.Marks.{AreWritten};
+ghost use Rattle.rx_engine_related.specs.ByForm.{IsItself};
 ghost use Rattle.rx_engine_related.specs.OneSite.{StandsOnce, blocks_at, times_taken};
-ghost use Rattle.rx_engine_related.specs.OnePlace.{LeadsToOnePlace, loops_in, loops_of};
+ghost use Rattle.rx_engine_related.specs.OnePlace.{LeadsToOnePlace, loops_in, loops_of, loops_of_run};
 ghost use Rattle.rx_engine_related.specs.AboutRun.{special_of, about_run, marked_with, text_of};
 ghost use Rattle.rx_engine_related.specs.Accepted.{Accepted};
 ghost use Rattle.rx_engine_related.specs.Ambiguous.{moves_perhaps, behind_it, branching};
@@ -111,11 +112,17 @@ pub fn single_jumps_stand_once()
 {}
 
 /// The marks of a `break` or `continue` lead to one place, however many jumps of the run take it, where no loop in the run has the number of
-/// the loop that they leave.
+/// the loop that they leave: in the text that runs as the function does, and in the function with marks, also behind what is returned.
+/// So do those of each exit but `return` there, where the function is like itself.
 pub fn jumps_lead_to_one_place()
-    ensures { (r : Run) (h : Home) (xs : ListOf ℕ) (f : Function) (l : ℕ) (again : Bool) → HasNoMark (order_function f) → blocks_at r.block (spots_of_function f) ≤ 1
+    ensures running { (r : Run) (h : Home) (xs : ListOf ℕ) (f : Function) (l : ℕ) (again : Bool) → HasNoMark (order_function f) → blocks_at r.block (spots_of_function f) ≤ 1
         → Among (a_block h.around r.block h.body) (spots_of_function f) → is_among l (loops_of (inside r h.body)) ≡ false
         → LeadsToOnePlace (running r h.around.loops xs f) (shown (leaves (jump_exit l again))) }
+    ensures marked { (r : Run) (h : Home) (xs : ListOf ℕ) (f : Function) (l : ℕ) (again : Bool) → HasNoMark (order_function f) → blocks_at r.block (spots_of_function f) ≤ 1
+        → Among (a_block h.around r.block h.body) (spots_of_function f) → is_among l (loops_of_run r h.body) ≡ false
+        → LeadsToOnePlace (marked r h.around.loops xs f) (shown (leaves (jump_exit l again))) }
+    ensures exits { (A : Asked) (k : Plan) → IsPlan A k → Sits A.function A.run A.home → HasNoMark (order_function A.function) → blocks_at A.run.block (spots_of_function A.function) ≤ 1
+        → IsItself (Some (Some A.function)) → (e : Exit) → Among e k.exits → e ≢ returns → LeadsToOnePlace (text_of A k) (shown (leaves e)) }
 {}
 
 /// A history that comes to a body that begins with a mark goes on to the mark.

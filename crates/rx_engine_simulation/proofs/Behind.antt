@@ -4,7 +4,7 @@ use Rattle.std.proofs.Common.{◌≡◌, ℕ, Bool, true, List, [], ◌∷◌, l
 use Rattle.rx_core.specs.declared.types.Step.{Step}
 use Rattle.rx_core.specs.declared.types.Step.TheVariants as step
 use Rattle.rx_typed.specs.Tree as tree
-use Rattle.rx_typed.specs.Tree.{Mark, Mode, by_reference, Body, Pattern, Temporary, own, held, under}
+use Rattle.rx_typed.specs.Tree.{Mark, Mode, by_reference, Body, Pattern, Temporary, own, temporary_place, under}
 use Rattle.rx_lower_walks.specs.Matching.{Binding, bindings}
 use Rattle.rx_lower_walks.specs.Actions.{Declare, Write, Borrow, Subject, in_place, in_temporary, part, does}
 use Rattle.rx_meaning.specs.Endings.{Cause, Ending, astray, missing_reference, wrong}
@@ -77,7 +77,7 @@ module _ (y r : ℕ) (v : Value) (p : Temporary) where
   abbrev Holds : State → Type 0
   Holds s = (slot_of s.frame.slots y ≡ Some r) × (element s.memory r ≡ Some v)
 
-  same_borrow : (k n : Bool) (ss : List Step) (d : Temporary) (s : State) → Holds s → does_plainly (Borrow k (under (own y) (step.Deref n ∷ ss)) d) [] s ≡ does_plainly (Borrow k (under (held p) (step.Deref n ∷ ss)) d) (v ∷ []) s
+  same_borrow : (k n : Bool) (ss : List Step) (d : Temporary) (s : State) → Holds s → does_plainly (Borrow k (under (own y) (step.Deref n ∷ ss)) d) [] s ≡ does_plainly (Borrow k (under (temporary_place p) (step.Deref n ∷ ss)) d) (v ∷ []) s
   same_borrow k n ss d s h =
       ap (λ o. or_ends {A = Spot} (where_some (and_then o (λ i. Some (in_slot i [] true))) astray (λ at. why_not_followed s.memory (step.Deref n ∷ ss) at)) (and_then (and_then o (λ i. Some (in_slot i [] true))) (λ at. follow s.memory (step.Deref n ∷ ss) at)) (λ at. or_ends astray (reference_to k at) (λ w. results.gives [] w s))) h.0
       ∙ ap (λ o. or_ends {A = Spot} (where_some (and_then o (λ u. get [] u)) (where_some o astray (λ u. why_no_part [] u)) (λ u. where_some (pointed true u) (unlike missing_reference u) (λ to. why_not_followed s.memory ss to))) (and_then (and_then o (λ u. get [] u)) (λ u. and_then (pointed true u) (λ to. follow s.memory ss to))) (λ at. or_ends astray (reference_to k at) (λ w. results.gives [] w s))) h.1
@@ -93,7 +93,7 @@ module _ (y r : ℕ) (v : Value) (p : Temporary) where
     one_same n z (step.Deref w ∷ ss) (by_reference k) bs g other rest s h =
         by (borrow_cases k (why_not_found (under (own y) (step.Deref w ∷ ss)) [] s) (spot (under (own y) (step.Deref w ∷ ss)) [] s) s (does_plainly (Borrow k (under (own y) (step.Deref w ∷ ss)) (tree.temporary_at n 0)) [] s) refl)
       where
-        same : performed plainly (does n (Borrow k (under (held p) (step.Deref w ∷ ss)) (tree.temporary_at n 0))) (v ∷ []) s ≡ performed plainly (does n (Borrow k (under (own y) (step.Deref w ∷ ss)) (tree.temporary_at n 0))) [] s
+        same : performed plainly (does n (Borrow k (under (temporary_place p) (step.Deref w ∷ ss)) (tree.temporary_at n 0))) (v ∷ []) s ≡ performed plainly (does n (Borrow k (under (own y) (step.Deref w ∷ ss)) (tree.temporary_at n 0))) [] s
         same = ap (λ r. result_of r) (sym (same_borrow k w ss (tree.temporary_at n 0) s h))
 
         by : ((u : Value) × (performed plainly (does n (Borrow k (under (own y) (step.Deref w ∷ ss)) (tree.temporary_at n 0))) [] s ≡ on [] u s)) ⊎ ((e : Ending) × (performed plainly (does n (Borrow k (under (own y) (step.Deref w ∷ ss)) (tree.temporary_at n 0))) [] s ≡ stops [] e))

@@ -4,7 +4,7 @@ use Rattle.std.proofs.Common.{◌≡◌, ℕ, zero, suc, ◌+◌, ◌<◌, ◌�
 use Rattle.std.proofs.lemmas.Bool.{eqb-false}
 use Rattle.rx_core.specs.declared.types.Step.TheVariants as step
 use Rattle.rx_typed.specs.Tree as tree
-use Rattle.rx_typed.specs.Tree.{Temporary, Mark, Exp, Operands, Scrutinee, Arms, Body, Function, own, mark_of, temporary_at, temporary_of, temporaries_of, fields_of, held, under, operation, lazy}
+use Rattle.rx_typed.specs.Tree.{Temporary, Mark, Exp, Operands, Scrutinee, Arms, Body, Function, own, mark_of, temporary_at, temporary_of, temporaries_of, fields_of, temporary_place, under, operation, lazy}
 use Rattle.rx_lower_walks.specs.Matching.{equals, bindings}
 use Rattle.rx_lower_walks.specs.Actions.{Action, Test, Build, at_mark, subject}
 use Rattle.rx_lower_walks.specs.Orders as orders
@@ -135,7 +135,7 @@ module _ (items : ℕ → ℕ) (P Q : Functions) (d : Direction) where
             let q = less V d R Z Z' c (omega arith) r in view_alike V d R Z Z' J c h j s s' q.inv q.turns Q (below_level plainly Q n) w.node w' b' b x y t t' seen
         exp_alike {V} {k} {J} {R} (shares {m = w} {m' = w'} l) Z Z' m c t t' h j s s' r at =
             alike_bind V d R Z Z' J Given Given c c h j s s' _ _ _ _ (le_refl c) (exp_alike l Z Z' m c _ _ h j s s' r (first_at V at)) (λ h1 j1 v v' u u' g z.
-            borrow_alike V d R Z Z' J c h1 j1 u u' z.inv z.turns w.node w'.node false (under (held (temporary_at w.node 1)) (step.Deref true ∷ [])) (under (held (temporary_at w'.node 1)) (step.Deref true ∷ [])) t t' (v ∷ []) (v' ∷ []) (of_temporary (derefs no_steps)) (more_given g none_given))
+            borrow_alike V d R Z Z' J c h1 j1 u u' z.inv z.turns w.node w'.node false (under (temporary_place (temporary_at w.node 1)) (step.Deref true ∷ [])) (under (temporary_place (temporary_at w'.node 1)) (step.Deref true ∷ [])) t t' (v ∷ []) (v' ∷ []) (of_temporary (derefs no_steps)) (more_given g none_given))
         exp_alike {V} {k} {J} {R} (builds {m = w} {m' = w'} {w = b} {es = es} {es' = es'} f ls) Z Z' m c t t' h j s s' r at =
             alike_bind V d R Z Z' J (Operanded es) Given c c h j s s' _ _ _ _ (le_refl c) (all_alike ls Z Z' m c h j s s' r (first_at V at)) (λ h1 j1 vs vs' u u' g z.
             subst (λ js. DoAlike V d R Z Z' J Given c h1 j1 u u' (performed followed (at_mark w (Build b (fields_of es) (temporaries_of es) t)) vs u) (performed plainly (at_mark w' (Build b js (temporaries_of es') t')) vs' u')) (fields_same ls)
@@ -152,7 +152,7 @@ module _ (items : ℕ → ℕ) (P Q : Functions) (d : Direction) where
         exp_alike {V} {k} {J} {R} (lazies {m = w} {m' = w'} {b = b} {e = e} {f = f} {e' = e'} {f' = f'} i i2 le la lb) Z Z' m c t t' h j s s' r at =
             alike_bind_at V d R Z Z' J Given Given (i2 + c) c h j s s' _ _ _ _ (omega arith) (order e (temporary_of e)) (value_walk P m e s) (exp_alike la Z Z' m (i2 + c) _ _ h j s s' (less V d R Z Z' (i + (i2 + c)) (omega arith) r) (first_at V at)) (λ h1 j1 v v' u u' k1 g z.
             let r1 = go_on V d R Z Z' r z in
-            alike_bind_at V d R Z Z' J Given Given (i2 + c) c h1 j1 u u' _ _ _ _ (omega arith) (orders.act (at_mark w (Test (held (temporary_of e)) (equals (tree.truth b))))) (act_walk (at_mark w (Test (held (temporary_of e)) (equals (tree.truth b)))) (v ∷ []) u) (test_alike V d R Z Z' J (i2 + c) h1 j1 u u' z.inv z.turns w.node w'.node (equals (tree.truth b)) (held (temporary_of e)) (held (temporary_of e')) (v ∷ []) (v' ∷ []) (of_temporary no_steps) (more_given g none_given)) (λ h2 j2 x x' u2 u2' k2 g2 z2.
+            alike_bind_at V d R Z Z' J Given Given (i2 + c) c h1 j1 u u' _ _ _ _ (omega arith) (orders.act (at_mark w (Test (temporary_place (temporary_of e)) (equals (tree.truth b))))) (act_walk (at_mark w (Test (temporary_place (temporary_of e)) (equals (tree.truth b)))) (v ∷ []) u) (test_alike V d R Z Z' J (i2 + c) h1 j1 u u' z.inv z.turns w.node w'.node (equals (tree.truth b)) (temporary_place (temporary_of e)) (temporary_place (temporary_of e')) (v ∷ []) (v' ∷ []) (of_temporary no_steps) (more_given g none_given)) (λ h2 j2 x x' u2 u2' k2 g2 z2.
             let r2 = go_on V d R Z Z' r1 z2 in
             alike_bind V d R Z Z' J Given Given c c h2 j2 u2 u2' _ _ _ _ (le_refl c) (decided_alike V d R Z Z' J Given c h2 j2 u2 u2' x x' _ _ _ _ g2.0 (exp_alike lb Z Z' m c _ _ h2 j2 u2 u2' r2 (one_at V (first_at V (next_at V (next_at V at k1) k2)))) (λ good. both_on j2 refl (given_more z2.grown.more g) (stay V d R Z Z' (less V d R Z Z' c (omega arith) r2)))) (λ h3 j3 y y' u3 u3' g3 z3.
             build_alike V d R Z Z' J c h3 j3 u3 u3' z3.inv z3.turns w.node w'.node lazy [] (temporary_of e ∷ temporary_of f ∷ []) (temporary_of e' ∷ temporary_of f' ∷ []) t t' (y ∷ []) (y' ∷ []) (more_given g3 none_given) tt tt)))

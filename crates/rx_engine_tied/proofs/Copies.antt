@@ -14,7 +14,7 @@ use Rattle.rx_resolve_names.specs.Meant.{a_loop, a_test, Around, is_meant, numbe
 use Rattle.rx_resolve_names.specs.Steps.{child, Inside}
 use Rattle.rx_resolve_names.specs.Names.{in_block, in_optional, in_statements, Scoped}
 use Rattle.rx_resolve_names.specs.Items.{in_program}
-use Rattle.rx_resolve_names.specs.Scopes.{Declared}
+use Rattle.rx_resolve_names.specs.Scopes.{DeclaredNames}
 use Rattle.rx_hoist_extraction.specs.Changed.{changed_body}
 use Rattle.rx_hoist_extraction.specs.Names.{behind_all, Names}
 use Rattle.rx_hoist_extraction.specs.Pinned.{pinned_suffix, pinned_type, pinning}
@@ -91,7 +91,7 @@ leads_itself (a_loop k m ∷ ls) l n e = by (is_meant l k) e (leads_itself ls l 
 
 -- ---- a block
 
-module _ (P : ProgramTree) (ts : List ItemNames) (all : in_program P ≡ Ok ts) (item : ℕ) (lifetimes : Declared) (place : Span) (pins : Pins) (named : PinsName P (Some pins)) where
+module _ (P : ProgramTree) (ts : List ItemNames) (all : in_program P ≡ Ok ts) (item : ℕ) (lifetimes : DeclaredNames) (place : Span) (pins : Pins) (named : PinsName P (Some pins)) where
   abbrev I : Inside
   I = record { program = P; item = item; lifetimes = lifetimes }
 
@@ -104,7 +104,7 @@ module _ (P : ProgramTree) (ts : List ItemNames) (all : in_program P ≡ Ok ts) 
   pub written_block : (sc : Variables) (ls : List Around) (at : List ℕ) (b : Body) (t t' : ItemNames) → in_block I sc ls at b t ≡ Ok t' → (mine : Names) (round : List Around)
       → (u : ItemNames) × (in_block I sc ls at (changed_body (pinning P place pins) mine round b) t ≡ Ok u)
   written_block sc ls at b t t' e mine round =
-      let M : Made = record { variables = selves (numbers sc); loops = selves (loops_of ls) } in
+      let M : Made = record { variables = selves (numbers sc); loops = selves (loops_of ls); passages = [] } in
       let w : Stand K M [] [] = record {
         sc = sc;
         sc' = sc;
@@ -116,7 +116,7 @@ module _ (P : ProgramTree) (ts : List ItemNames) (all : in_program P ≡ Ok ts) 
       } in
       let S = special (lockstep itself) (written_out (Some pins)) I I F.items_fit (pinned_suffix pins) (pinned_type P place pins) (λ b c. c) unknown
       (pinned_becomes (lockstep itself) I I F P place pins unknown (each_finds P ts all item lifetimes pins.types named)) in
-      let q : Reached (lockstep itself) M t t = record { vars = (refl, selves_are (numbers sc)); loops = (refl, selves_are (loops_of ls)) } in
+      let q : Reached (lockstep itself) M t t = record { vars = (refl, selves_are (numbers sc)); loops = (refl, selves_are (loops_of ls)); passages = refl } in
       let A = body_alike K S M [] [] w at at b (body_within [] [] b) t t' t e q in
       (A.table, subst (λ (c : Body). in_block I sc ls at c t ≡ Ok A.table) (anywhere.body P place pins [] mine [] round b) A.answer)
 

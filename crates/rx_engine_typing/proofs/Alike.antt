@@ -21,7 +21,7 @@ use Rattle.rx_typeck_solver.specs.declared.facts.Test.TheVariants as test
 use Rattle.rx_typeck_solver.specs.declared.facts.Passing.{Passing}
 use Rattle.rx_typeck_solver.specs.declared.facts.Fact.TheVariants as fact
 use Rattle.rx_typeck_solver.specs.declared.facts.Demand.{Demand}
-use Rattle.rx_typeck_solver.specs.Facts.{Types, Known, names_of, exactly}
+use Rattle.rx_typeck_solver.specs.Facts.{Assignment, KnownItems, names_of, exactly}
 use Rattle.rx_typeck_typed.specs.Asking.{Asking, asks}
 use Rattle.rx_typeck_typed.specs.Demands as rules
 use Rattle.rx_engine_blocks.specs.Renumbering.{Renumbering, node_at}
@@ -48,7 +48,7 @@ use Rattle.rx_engine_typing.proofs.Asking.{Asks, NoPlace, no_if_place, asks_map,
 use Rattle.rx_engine_typing.proofs.Trees as trees
 use Rattle.rx_engine_typing.proofs.Trees.{Alike, AlikeBody}
 
-module _ (r : Renumbering) (loops : ℕ → ℕ) (H : Holes) (Special : List Demand → List Demand → Type 0) (fits : Fits r loops H Special) (K : Known) (A : Types) (T' : Assigned)
+module _ (r : Renumbering) (loops : ℕ → ℕ) (H : Holes) (Special : List Demand → List Demand → Type 0) (fits : Fits r loops H Special) (K : KnownItems) (A : Assignment) (T' : Assigned)
     (a : Corresponding r (record { items = K.items; typ = λ n. A (subject_of.Node n); expected = λ n. A (subject_of.Expected n) }) T') (fields_apart : FieldsApart K.items)
     (O : Openings) (gain : Allowance) (c : ℕ) (V : Facts) (apart : StayApart r.variables) (loops_apart : StayApart loops) where
   abbrev pub T : Assigned

@@ -10,7 +10,7 @@ use Rattle.rx_tree.specs.Positions.{NodeTree, an_item, a_type, a_block, a_statem
 use Rattle.rx_tree.specs.Nodes.{below_type, within_types, within_type, below_pattern, within_patterns, within_field_patterns, below_expression, within_expressions, within_optional, within_arguments, within_fields, within_arms, below_block, below_statement, within_statements, within_parameters, below_item, nodes, total}
 use Rattle.rx_tree.specs.Size.{bindings_at, loops_at, IsNumbered}
 use Rattle.rx_resolve_names.specs.Scopes as scopes
-use Rattle.rx_resolve_names.specs.Scopes.{Declared, Variables, variable_named}
+use Rattle.rx_resolve_names.specs.Scopes.{DeclaredNames, Variables, variable_named}
 use Rattle.rx_resolve_names.specs.declared.resolved.ItemNames.{ItemNames}
 use Rattle.rx_resolve_names.specs.Meant.{number, type_name, function_name, item_named, as_function, as_rt, Around, a_loop, a_test, target}
 use Rattle.rx_resolve_names.specs.Steps.{Outcome, and_then, Naming, ◌>>◌, Inside, known, one, declare, led, child, next, with_loop, with_variable, with_names, position, entry, numbered, names}
@@ -82,7 +82,7 @@ module _ (I : Inside) where
   bind_counted : (at : List ℕ) (s : Span) (x : Ident) (w : Bool) (b b1 : Bound) → binds I at x b ≡ Ok b1 → Counted (a_pattern (plain.bind s x w) ∷ []) b.tables b1.tables
   bind_counted at s x w b b1 e =
       let n = length b.tables.vars in let X = entry I at (number n ∷ []) in
-      let to : Declared → Bound = λ ds. record { bindings = ds; tables = with_names X (with_variable x.span b.tables) } in
+      let to : DeclaredNames → Bound = λ ds. record { bindings = ds; tables = with_names X (with_variable x.span b.tables) } in
       let d = named_ok (declare b.bindings x n) (λ ds. Ok (to ds)) b1 e in
       let m = one_more b.tables.vars x.span in
       subst (λ (v : Bound). Counted (a_pattern (plain.bind s x w) ∷ []) b.tables v.tables) (the_same (to d.0) b1 d.2) (omega (arith, m), omega arith)
@@ -240,7 +240,7 @@ module _ (I : Inside) where
     statement_counted : (sc : Variables) (ls : List Around) (at : List ℕ) (a : Statement) (t : ItemNames) (r : Scoped) → in_statement I sc ls at a t ≡ Ok r → Counted (a_statement a ∷ below_statement a) t r.tables
     statement_counted sc ls at (plain.let_statement s p y o) t r e =
         let b0 : Bound = record { bindings = []; tables = t } in
-        let to : Declared → ItemNames → Scoped = λ ds t. record { scope = scopes.entered sc ds; tables = t } in
+        let to : DeclaredNames → ItemNames → Scoped = λ ds t. record { scope = scopes.entered sc ds; tables = t } in
         let g = in_optional_type I (child at 1) y in let k = in_optional I sc ls (child at (initialiser_at y)) o in
         let Z = named_ok (in_pattern I (child at 0) p b0) (λ b. and_then ((g >> k) b.tables) (λ t. Ok (to b.bindings t))) r e in
         let Y = named_ok ((g >> k) Z.0.tables) (λ t. Ok (to Z.0.bindings t)) r Z.2 in
@@ -261,7 +261,7 @@ module _ (I : Inside) where
   parameters_counted at i (x ∷ xs) b b1 e =
       let t = with_variable x.name.span b.tables in
       let X = named_ok (in_parameter I at i x b) (in_parameters I at (next i) xs) b1 e in
-      let typed : Declared → Outcome Bound = λ ds. and_then (in_type I (child at i) x.typ t) (λ t. Ok (record { bindings = ds; tables = t })) in
+      let typed : DeclaredNames → Outcome Bound = λ ds. and_then (in_type I (child at i) x.typ t) (λ t. Ok (record { bindings = ds; tables = t })) in
       let d = named_ok (declare b.bindings x.name i) typed X.0 X.1 in
       let y = named_ok (in_type I (child at i) x.typ t) (λ t. Ok (record { bindings = d.0; tables = t })) X.0 d.2 in
       let same : record { bindings = d.0; tables = y.0 } ≡ X.0 = the_same _ X.0 y.2 in

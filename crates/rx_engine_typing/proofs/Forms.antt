@@ -173,7 +173,7 @@ module _ (r : Renumbering) (loops : ℕ → ℕ) (H : Holes) (Special : List Dem
   mutual
     pub exp_alike : {e e' : Exp} {ds ds' : List Demand} → RenumberedExp r loops H e e' → R ds ds' → R (rules.of_exp f e ds) (rules.of_exp f' e' ds')
     exp_alike {ds = ds} {ds' = ds'} (like.RenumberedExp.hole {e = e} {e' = e'} h) d = asking.asks e e' ds ds' h d
-    exp_alike (like.RenumberedExp.int {n = n} {s = s}) d = value_like r loops H Special fits n s n.site (asked r loops H Special fits n s _ _ _ _ (asked r loops H Special fits n s _ _ _ _ d))
+    exp_alike (like.RenumberedExp.int {n = n} {s = s}) d = asked r loops H Special fits n s _ _ _ _ (value_like r loops H Special fits n s n.site (asked r loops H Special fits n s _ _ _ _ d))
     exp_alike (like.RenumberedExp.bool {n = n} {s = s}) d = own_like r loops H Special fits n s op.Truth [] itself d
     exp_alike (like.RenumberedExp.tuple {n = n} {s = s} {es = es} h) d = limits_like r loops H Special fits (renumbered {n = n} {s = s}) (own_like r loops H Special fits n s op.Tuple (rules.exp_nodes es) (like_exp_nodes r loops H Special fits h) (each_like rules.members 0 h d))
     exp_alike (like.RenumberedExp.var {n = n} {s = s} {x = x}) d = place_like r loops H Special fits n s x.number (r.variables x.number) n.site same (named_like r loops H Special fits n s x x.known d)

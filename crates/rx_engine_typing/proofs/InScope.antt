@@ -4,7 +4,7 @@ use Rattle.std.specs.Str.{bytes_eq}
 use Rattle.rx_core.specs.declared.types.Position.{Position}
 use Rattle.rx_tree.specs.declared.tree.Ident.{Ident}
 use Rattle.rx_resolve_names.specs.Scopes as scopes
-use Rattle.rx_resolve_names.specs.Scopes.{Declared, Variables, Variable, variable_named}
+use Rattle.rx_resolve_names.specs.Scopes.{DeclaredNames, Variables, Variable, variable_named}
 use Rattle.rx_resolve_names.specs.declared.resolved.ItemNames.{ItemNames}
 use Rattle.rx_resolve_names.specs.Meant.{number, Around, a_loop, a_test, Target, to_loop, out_of_test, nowhere, through_test, is_meant, target}
 use Rattle.rx_resolve_names.specs.Steps.{with_loop}
@@ -67,7 +67,7 @@ one_entered xs v sc i h x n = by (bytes_eq x v.name) (h x n)
     by true r e = let s : v.number ≡ n = cc in subst (λ (z : ℕ). IsIn z xs) s i
     by false r e = r e
 
-all_entered : (ds : Declared) (sc : Variables) (xs : spec.Around) (n k : ℕ) → Numbered ds (from_number n k) → n + k ≤ 4294967296 → ((x : List ℕ) (m : ℕ) → variable_named sc x ≡ Some m → IsIn m xs)
+all_entered : (ds : DeclaredNames) (sc : Variables) (xs : spec.Around) (n k : ℕ) → Numbered ds (from_number n k) → n + k ≤ 4294967296 → ((x : List ℕ) (m : ℕ) → variable_named sc x ≡ Some m → IsIn m xs)
     → (x : List ℕ) (m : ℕ) → variable_named (scopes.entered sc ds) x ≡ Some m → IsIn m (entered xs (from_number n k))
 all_entered [] sc xs n zero d l h = h
 all_entered [] sc xs n (suc k) d l h = absurd d
@@ -81,7 +81,7 @@ pub stands_entered : {sc : Variables} {ls : List Around} {xs js : spec.Around} {
     → Stands (scopes.entered sc b1.bindings) ls (entered xs (from_number (length t.vars) x.count)) js b1.tables
 stands_entered {sc} {ls} {xs} {js} {t} b1 x w = let v = x.vars in let l = x.loops in record {
   here = λ f. let h = w.here (few_before x.part.grows f) in let g = f.0 in record {
-    variables = subst (λ (ds : Declared). (y : List ℕ) (m : ℕ) → variable_named (scopes.entered sc ds) y ≡ Some m → IsIn m (entered xs (from_number (length t.vars) x.count))) (sym x.names)
+    variables = subst (λ (ds : DeclaredNames). (y : List ℕ) (m : ℕ) → variable_named (scopes.entered sc ds) y ≡ Some m → IsIn m (entered xs (from_number (length t.vars) x.count))) (sym x.names)
         (all_entered x.further sc xs (length t.vars) x.count x.numbers (omega (arith, v, g)) h.variables);
     loops = h.loops;
   };

@@ -6,7 +6,7 @@ use Rattle.rx_tree.specs.declared.tree.BoundLifetime.{BoundLifetime}
 use Rattle.rx_tree.specs.Plain as plain
 use Rattle.rx_tree.specs.Plain.{TypeTree, TypeTrees, Parameter, Function, ItemTree, ProgramTree}
 use Rattle.rx_resolve_names.specs.Scopes as scopes
-use Rattle.rx_resolve_names.specs.Scopes.{Declared, Variables, declared_as}
+use Rattle.rx_resolve_names.specs.Scopes.{DeclaredNames, Variables, declared_as}
 use Rattle.rx_resolve_names.specs.declared.resolved.ItemNames.{ItemNames}
 use Rattle.rx_resolve_names.specs.declared.resolved.NodeNames.{NodeNames}
 use Rattle.rx_resolve_names.specs.Meant.{number, number_in, firsts, lifetimes_declared}
@@ -45,7 +45,7 @@ bounds_entry : (I : Inside) (ls : List Ident) (ns : List ℕ) → bounds_in I ls
 bounds_entry I [] ns e = ap (λ (l : List ℕ). not (is_nothing l)) (sym (the_same [] ns e))
 bounds_entry I (l ∷ ls) ns e = one_or_more I l ls ns e
 
-lifetimes_entry : (I : Inside) (ds : Declared) (n : ℕ) (ls : List BoundLifetime) (ns : List ℕ) → lifetimes_of I ds n ls ≡ Ok ns → not (is_nothing ns) ≡ has_bounds ls
+lifetimes_entry : (I : Inside) (ds : DeclaredNames) (n : ℕ) (ls : List BoundLifetime) (ns : List ℕ) → lifetimes_of I ds n ls ≡ Ok ns → not (is_nothing ns) ≡ has_bounds ls
 lifetimes_entry I ds n [] ns e = ap (λ (l : List ℕ). not (is_nothing l)) (sym (the_same [] ns e))
 lifetimes_entry I ds n (l ∷ ls) ns e =
     let x = named_ok (declare ds l.name n) (λ ds. both (bounds_in I l.bounds) (lifetimes_of I ds (suc n) ls)) ns e in
@@ -132,7 +132,7 @@ module _ (I : Inside) where
       let t = with_variable x.name.span b.tables in
       let n = length b.tables.vars in
       let X = named_ok (in_parameter I at i x b) (in_parameters I at (next i) xs) b1 e in
-      let typed : Declared → Outcome Bound = λ ds. and_then (in_type I (child at i) x.typ t) (λ t. Ok (record { bindings = ds; tables = t })) in
+      let typed : DeclaredNames → Outcome Bound = λ ds. and_then (in_type I (child at i) x.typ t) (λ t. Ok (record { bindings = ds; tables = t })) in
       let d = named_ok (declare b.bindings x.name i) typed X.0 X.1 in
       let y = named_ok (in_type I (child at i) x.typ t) (λ t. Ok (record { bindings = d.0; tables = t })) X.0 d.2 in
       let same : record { bindings = d.0; tables = y.0 } ≡ X.0 = the_same _ X.0 y.2 in

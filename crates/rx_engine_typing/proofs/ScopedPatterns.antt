@@ -5,8 +5,8 @@ use Rattle.rx_core.specs.declared.types.Span.{Span}
 use Rattle.rx_tree.specs.declared.tree.Ident.{Ident}
 use Rattle.rx_tree.specs.Plain as plain
 use Rattle.rx_tree.specs.Plain.{TypeTree, TypeTrees, PatternTree, PatternTrees, FieldPatterns}
-use Rattle.rx_resolve_names.specs.declared.table.Known.{Known}
-use Rattle.rx_resolve_names.specs.Scopes.{Declared, declared_as}
+use Rattle.rx_resolve_names.specs.declared.table.NumberedName.{NumberedName}
+use Rattle.rx_resolve_names.specs.Scopes.{DeclaredNames, declared_as}
 use Rattle.rx_resolve_names.specs.declared.resolved.ItemNames.{ItemNames}
 use Rattle.rx_resolve_names.specs.Meant.{number, number_in, item_named, type_name, as_enum, variants_of}
 use Rattle.rx_resolve_names.specs.Steps.{Outcome, and_then, Naming, Inside, known, one, both, declare, declared_behind, child, next, with_variable, with_names, entry, numbered, names}
@@ -94,7 +94,7 @@ from_number n zero = []
 from_number n (suc k) = n ∷ from_number (suc n) k
 
 -- the names of a pattern have these numbers, as they are kept
-abbrev pub Numbered : Declared → List ℕ → Type 0
+abbrev pub Numbered : DeclaredNames → List ℕ → Type 0
 Numbered [] [] = Unit {0}
 Numbered (d ∷ ds) (n ∷ ns) = (d.1.number ≡ number n) × Numbered ds ns
 Numbered _ _ = ⊥
@@ -104,7 +104,7 @@ from_both n zero l = let h : n + 0 ≡ n = omega arith in let g : 0 + l ≡ l = 
 from_both n (suc k) l = let h : n + suc k ≡ suc n + k = omega arith in let g : suc k + l ≡ suc (k + l) = omega arith in
     ap (λ (z : List ℕ). n ∷ z) (ap (λ m. from_number (suc n) k ++ from_number m l) h ∙ from_both (suc n) k l) ∙ ap (from_number n) (sym g)
 
-numbered_append : (ds es : Declared) (ns ms : List ℕ) → Numbered ds ns → Numbered es ms → Numbered (ds ++ es) (ns ++ ms)
+numbered_append : (ds es : DeclaredNames) (ns ms : List ℕ) → Numbered ds ns → Numbered es ms → Numbered (ds ++ es) (ns ++ ms)
 numbered_append [] es [] ms h k = k
 numbered_append [] es (n ∷ ns) ms h k = absurd h
 numbered_append (d ∷ ds) es [] ms h k = absurd h
@@ -115,7 +115,7 @@ numbered_append (d ∷ ds) es (n ∷ ns) ms h k = (h.0, numbered_append ds es ns
 -- the second has further names, numbered from the variables so far; numbering declares as many
 pub record Binds {A : Type 0} (b b1 : Bound) (of : A → List ℕ) (m : Numbering A) : Type 0 where
   pub count : ℕ
-  pub further : Declared
+  pub further : DeclaredNames
   pub names : b1.bindings ≡ b.bindings ++ further
   pub numbers : Numbered further (from_number (length b.tables.vars) count)
   pub vars : length b1.tables.vars ≡ length b.tables.vars + count
@@ -143,7 +143,7 @@ both_bound {b = b} {b1 = b1} {b2 = b2} {of' = of'} whole f w x y =
     ap (λ (z : List ℕ). from_number (length b.tables.vars) x.count ++ z) at ∙ from_both (length b.tables.vars) x.count y.count in record {
       count = x.count + y.count;
       further = x.further ++ y.further;
-      names = y.names ∙ ap (λ (z : Declared). z ++ y.further) x.names ∙ append_assoc b.bindings x.further y.further;
+      names = y.names ∙ ap (λ (z : DeclaredNames). z ++ y.further) x.names ∙ append_assoc b.bindings x.further y.further;
       numbers = subst (λ (z : List ℕ). Numbered (x.further ++ y.further) z) all (numbered_append x.further y.further _ _ x.numbers y.numbers);
       vars = omega (arith, v, u);
       loops = y.loops ∙ x.loops;
@@ -192,7 +192,7 @@ at_node of s h w x = record {
   part = restated x.part (λ es k. takes_node s Site.Value (λ n q. takes_map (h n) k (λ y g. w n y ∙ g)));
 }
 
-pub declared_further : (ds new : Declared) (x : Ident) (n : ℕ) (o : Option Known) → declared_behind ds x n o ≡ Ok new → new ≡ ds ++ (x.name, record { number = number n; span = x.span }) ∷ []
+pub declared_further : (ds new : DeclaredNames) (x : Ident) (n : ℕ) (o : Option NumberedName) → declared_behind ds x n o ≡ Ok new → new ≡ ds ++ (x.name, record { number = number n; span = x.span }) ∷ []
 declared_further ds new x n None e = sym (the_same _ _ e)
 declared_further ds new x n (Some k) e = absurd (cc)
 
@@ -201,7 +201,7 @@ module _ (I : Inside) where
   bind_taken at s x w b b1 e =
       let n = length b.tables.vars in
       let X = entry I at (number n ∷ []) in
-      let to : Declared → Bound = λ ds. record { bindings = ds; tables = with_names X (with_variable x.span b.tables) } in
+      let to : DeclaredNames → Bound = λ ds. record { bindings = ds; tables = with_names X (with_variable x.span b.tables) } in
       let d = named_ok (declare b.bindings x n) (λ ds. Ok (to ds)) b1 e in
       let m : length (to d.0).tables.vars ≡ suc n = one_more b.tables.vars x.span in
       let one : n + 1 ≡ suc n = omega arith in

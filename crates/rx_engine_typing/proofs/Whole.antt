@@ -7,7 +7,7 @@ use Rattle.rx_typed.specs.Elaborated.{Assigned, elaborated}
 use Rattle.rx_typed.specs.Tree as tree
 use Rattle.rx_typeck_solver.specs.declared.facts.Demand.{Demand}
 use Rattle.rx_typeck_solver.specs.declared.facts.Subject.TheVariants as subject_of
-use Rattle.rx_typeck_solver.specs.Facts.{Types, Known, MeetsEach}
+use Rattle.rx_typeck_solver.specs.Facts.{Assignment, KnownItems, MeetsEach}
 use Rattle.rx_typeck_typed.specs.Demands as rules
 use Rattle.rx_engine_blocks.specs.Renumbering.{Renumbering, node_at}
 use Rattle.rx_engine_blocks.specs.DemandsLike.{DemandsLike, NoSpecial}
@@ -34,7 +34,7 @@ nothing_special = record { special = []; asked = [] }
 pub untouched : (g : tree.Function) → Untouched g nothing_special
 untouched g = λ a h x i. absurd i
 
-module _ (r : Renumbering) (loops : ℕ → ℕ) (H : Holes) (Special : List Demand → List Demand → Type 0) (fits : Fits r loops H Special) (K : Known) (A : Types) (T' : Assigned)
+module _ (r : Renumbering) (loops : ℕ → ℕ) (H : Holes) (Special : List Demand → List Demand → Type 0) (fits : Fits r loops H Special) (K : KnownItems) (A : Assignment) (T' : Assigned)
     (a : Corresponding r (record { items = K.items; typ = λ n. A (subject_of.Node n); expected = λ n. A (subject_of.Expected n) }) T') (fields_apart : FieldsApart K.items)
     (O : Openings) (gain : Allowance) (c : ℕ) (apart : StayApart r.variables) (loops_apart : StayApart loops) where
   abbrev pub T : Assigned
@@ -58,7 +58,7 @@ module _ (r : Renumbering) (loops : ℕ → ℕ) (H : Holes) (Special : List Dem
     }
 
 -- where any variable may be `mut` in one alone, and any assignment may give no type
-module _ (r : Renumbering) (loops : ℕ → ℕ) (K : Known) (A : Types) (T' : Assigned)
+module _ (r : Renumbering) (loops : ℕ → ℕ) (K : KnownItems) (A : Assignment) (T' : Assigned)
     (a : Corresponding r (record { items = K.items; typ = λ n. A (subject_of.Node n); expected = λ n. A (subject_of.Expected n) }) T') (fields_apart : FieldsApart K.items)
     (O : Openings) (gain : Allowance) (apart : StayApart r.variables) (loops_apart : StayApart loops) where
   abbrev Anything : List Demand → List Demand → Type 0
@@ -89,7 +89,7 @@ module _ (r : Renumbering) (loops : ℕ → ℕ) (K : Known) (A : Types) (T' : A
       (record { expression = λ i xs ls e e' z s. absurd z; block = λ i xs ls b b' z s. absurd z }) met (omega arith)
 
 -- where nothing else stands for anything
-module _ (r : Renumbering) (loops : ℕ → ℕ) (K : Known) (A : Types) (T' : Assigned)
+module _ (r : Renumbering) (loops : ℕ → ℕ) (K : KnownItems) (A : Assignment) (T' : Assigned)
     (a : Corresponding r (record { items = K.items; typ = λ n. A (subject_of.Node n); expected = λ n. A (subject_of.Expected n) }) T') (fields_apart : FieldsApart K.items)
     (O : Openings) (gain : Allowance) (apart : StayApart r.variables) (loops_apart : StayApart loops) where
   pub whole_alike : (f g : Function) → RenumberedFunction r loops no_holes f g → ScopedFunction f → MeetsEach K A (rules.demands f)

@@ -4,11 +4,11 @@ use Rattle.std.specs.Prelude.{◌≡◌, ℕ, Some, option_map, slice_get}
 use Rattle.rx_typed.specs.Types.{FieldDeclared, Declarations, field_number, fields_declared}
 use Rattle.rx_typed.specs.Elaborated.{Assigned}
 use Rattle.rx_typeck_solver.specs.declared.facts.Subject.TheVariants as subject
-use Rattle.rx_typeck_solver.specs.Facts.{Types, Known}
+use Rattle.rx_typeck_solver.specs.Facts.{Assignment, KnownItems}
 use Rattle.rx_engine_blocks.specs.Renumbering.{Renumbering, shape_at, declared_at}
 
 -- an assignment as the typed tree takes it
-abbrev pub given_types : Known → Types → Assigned
+abbrev pub given_types : KnownItems → Assignment → Assigned
 given_types D A = record { items = D.items; typ = λ n. A (subject.Node n); expected = λ n. A (subject.Expected n) }
 
 pub record Corresponding (r : Renumbering) (T T' : Assigned) : Type 0 where

@@ -10,7 +10,7 @@ ghost use Rattle.rx_resolve_names.specs.Items.{in_item};
 ghost use Rattle.rx_typed.specs.Naming.{function_named};
 ghost use Rattle.rx_typed.specs.Elaborated.{elaborated, Assigned};
 ghost use Rattle.rx_typed.specs.Named.{Function};
-ghost use Rattle.rx_typeck_solver.specs.Facts.{Known, MeetsEach, Types};
+ghost use Rattle.rx_typeck_solver.specs.Facts.{KnownItems, MeetsEach, Assignment};
 ghost use Rattle.rx_typeck_solver.specs.Ordered.{Orderly};
 ghost use Rattle.rx_typeck_solver.specs.Valid.{Valid};
 ghost use Rattle.rx_typeck_typed.specs.Demands.{demands, task};
@@ -31,21 +31,21 @@ pub fn renumbered_functions_ask_alike()
 
 /// A function that is another by other numbers has the valid assignment by these numbers.
 pub fn renumbered_functions_are_typed_alike()
-    ensures { (r : Renumbering) (loops : ℕ → ℕ) (D E : Known) → Knows r D E → (i : Inverse r) (f g : Function) → RenumberedFunction r loops no_holes f g → Orderly (task g)
-        → (A : Types) → Valid D (task f) A → Valid E (task g) (renumbered_types r i A) }
+    ensures { (r : Renumbering) (loops : ℕ → ℕ) (D E : KnownItems) → Knows r D E → (i : Inverse r) (f g : Function) → RenumberedFunction r loops no_holes f g → Orderly (task g)
+        → (A : Assignment) → Valid D (task f) A → Valid E (task g) (renumbered_types r i A) }
 {}
 
 /// The typed trees of such functions are alike, where the types correspond, names of the first stand where they mean something, and its
 /// types meet what the rules ask.
 pub fn renumbered_functions_have_like_trees()
-    ensures { (r : Renumbering) (loops : ℕ → ℕ) → StayApart r.variables → StayApart loops → (D : Known) (A : Types) (T : Assigned) → Corresponding r (given_types D A) T → FieldsApart D.items
+    ensures { (r : Renumbering) (loops : ℕ → ℕ) → StayApart r.variables → StayApart loops → (D : KnownItems) (A : Assignment) (T : Assigned) → Corresponding r (given_types D A) T → FieldsApart D.items
         → (f g : Function) → RenumberedFunction r loops no_holes f g → ScopedFunction f → MeetsEach D A (demands f) → LikeFunction r.items no_openings (record { turns = 0; strays = false }) (elaborated (given_types D A) f) (elaborated T g) }
 {}
 
 /// The same where variables may be `mut` in one of both alone or known in the second alone, and an assignment that gives a variable its type in the first may give none in
 /// the second, since the type is known before and expected of the value.
 pub fn functions_with_types_known_before_have_like_trees()
-    ensures { (r : Renumbering) (loops : ℕ → ℕ) → StayApart r.variables → StayApart loops → (D : Known) (A : Types) (T : Assigned) → Corresponding r (given_types D A) T → FieldsApart D.items
+    ensures { (r : Renumbering) (loops : ℕ → ℕ) → StayApart r.variables → StayApart loops → (D : KnownItems) (A : Assignment) (T : Assigned) → Corresponding r (given_types D A) T → FieldsApart D.items
         → (f g : Function) → RenumberedFunction r loops known_before f g → ScopedFunction f → MeetsEach D A (demands f) → LikeFunction r.items no_openings (record { turns = 0; strays = false }) (elaborated (given_types D A) f) (elaborated T g) }
 {}
 

@@ -15,7 +15,7 @@ use Rattle.rx_typed.specs.PlainTypes.{declarations}
 use Rattle.rx_typed.specs.PlainTree.{plain-TypedTree}
 use Rattle.rx_typed.specs.Tree.{Function}
 use Rattle.rx_typed_declarations.proofs.Polarities.{same_declared}
-use Rattle.rx_typeck_solver.specs.Facts.{Known}
+use Rattle.rx_typeck_solver.specs.Facts.{KnownItems}
 use Rattle.rx_typeck_solver.specs.Ordered.{Orderly}
 use Rattle.rx_typeck_typed.specs.Demands.{task}
 use Rattle.rx_typeck_typed.specs.declared.typed.Typed.{Typed}
@@ -76,7 +76,7 @@ entry_same : (o : Option Declared) → o ≡ option_map (declared_at (kept uncha
 entry_same None = refl
 entry_same (Some d) = ap (λ (e : Declared). Some e) (sym (declared_same d))
 
-knows_itself : (D : Known) → Knows (kept unchanged) D D
+knows_itself : (D : KnownItems) → Knows (kept unchanged) D D
 knows_itself D = record { items = λ i. entry_same (slice_get D.items i); sizes = λ i. refl; unitem = λ i. i; unnamed = λ i. refl }
 
 -- ---- a program with nothing new behind one of its functions
@@ -115,7 +115,7 @@ module _ (orderly : (i : ℕ) (s : Span) (f : plain.Function) (ns : List NodeNam
   abbrev G : Given
   G = given_by p ns t typed
 
-  abbrev K : Known
+  abbrev K : KnownItems
   K = known_in G
 
   function_itself : (n : ℕ) (s : Span) (f : plain.Function) (x : ItemNames) (g : TypedFn) → slice_get p n ≡ Some (plain.function_item s f) → in_item p n (plain.function_item s f) ≡ Ok x → FunctionTyped G n s f x.names x.vars g

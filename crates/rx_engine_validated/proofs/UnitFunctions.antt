@@ -9,7 +9,7 @@ use Rattle.rx_typed.specs.Named as numbered
 use Rattle.rx_typed.specs.PlainTypes.{declarations}
 use Rattle.rx_typed.specs.Tree.{Function}
 use Rattle.rx_typed_declarations.proofs.Polarities.{same_declared}
-use Rattle.rx_typeck_solver.specs.Facts.{Known}
+use Rattle.rx_typeck_solver.specs.Facts.{KnownItems}
 use Rattle.rx_typeck_typed.specs.declared.typed.Typed.{Typed}
 use Rattle.rx_typeck_typed.specs.Typing.{Given, known_in, assigned, entries, IsTyped}
 use Rattle.rx_machine.specs.Functions.{typed_functions, program_of}
@@ -85,7 +85,7 @@ module _ (p : ProgramTree) (ns : List ItemNames) (t : Typed) (typed : IsTyped p 
   abbrev G : Given
   G = record { program = p; declared = typed.declared; sizes = typed.sizes }
 
-  abbrev K : Known
+  abbrev K : KnownItems
   K = known_in G
 
   returns_at : (f : ℕ) (F : Function) → In f (unit_items K.items) → StandsAt G ns p typed.declared t.functions f F → ReadsNoUnit F.body → ReturnsUnit (unit_items K.items) F.body

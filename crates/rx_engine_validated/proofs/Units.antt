@@ -18,7 +18,7 @@ use Rattle.rx_typeck_solver.specs.declared.facts.Fact.{Fact}
 use Rattle.rx_typeck_solver.specs.declared.facts.Fact.TheVariants as fact
 use Rattle.rx_typeck_solver.specs.declared.facts.Demand.{Demand}
 use Rattle.rx_typeck_solver.specs.declared.facts.Op.TheVariants as op
-use Rattle.rx_typeck_solver.specs.Facts.{MeetsAll, MeetsEach, Types, Known, types_at}
+use Rattle.rx_typeck_solver.specs.Facts.{MeetsAll, MeetsEach, Assignment, KnownItems, types_at}
 use Rattle.rx_typeck_typed.specs.Asking.{Asking, ◌>>◌, all, signed}
 use Rattle.rx_typeck_typed.specs.Demands as rules
 use Rattle.rx_repair.specs.TemporaryTypes.{at_site, own_or}
@@ -64,7 +64,7 @@ right_false false b e = refl
 pub body_site : (t : Site) (b : Body) → BodySited t b → (body_node b).site ≡ t
 body_site t (named.body n ss o) h = h.0
 
-module _ (K : Known) (A : Types) (U : List ℕ) (units : (g : ℕ) → result_declared (slice_get K.items g) ≡ Some unit_shape → In g U) where
+module _ (K : KnownItems) (A : Assignment) (U : List ℕ) (units : (g : ℕ) → result_declared (slice_get K.items g) ≡ Some unit_shape → In g U) where
   abbrev Wants : Type 0 → Asking → Type 0
   Wants R a = Asks K A R a
 
@@ -115,7 +115,7 @@ module _ (K : Known) (A : Types) (U : List ℕ) (units : (g : ℕ) → result_de
   integer_given : (n : Node) (m : Bool) (v : ℕ) (k : Option Kind) → Wants (Plain n) (rules.integer_at n m v k)
   integer_given n m v k =
       asks_map (λ h. record { typ = integer h.0.0.0; has = record { same = h.0.0.1; outside = h.1.0; stands = h.1.1 }; scalar = a_number h.0.0.0 })
-      (both (one_asked n _ _ _) (then_second (quiet n _ _ _) (pieces.value_given K A n n.site)))
+      (both (one_asked n _ _ _) (then_first (pieces.value_given K A n n.site) (quiet n _ _ _)))
 
   arithmetic_given : (n a : Node) (x : Bool) (b : Node) (y : Bool) → Wants (Plain n) (rules.arithmetic n a x b y)
   arithmetic_given n a x b y =

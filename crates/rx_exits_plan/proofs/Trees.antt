@@ -1,6 +1,6 @@
 -- A changed tree has the order of the tree, with silent parts put in, where what is put at blocks, jumps and returns has: form by form.
 use Rattle.std.proofs.Common.{◌≡◌, ℕ, Bool, List, [], ◌∷◌, refl, sym, ◌∙◌, subst, ap}
-use Rattle.rx_typed.specs.Tree.{Temporary, Making, operation, lazy, truth, Mark, Exp, read, borrow, share, build, unit, lazily, assign, update, call, input, print, block, choose, loop, jump, give, Operands, no_operand, operand_and, Scrutinee, at_place, of_value, Arms, no_arm, arm_and, Body, ends, runs, declares, lets, Function, Parameter, held, mark_of, temporary_at, temporary_of, temporaries_of, fields_of}
+use Rattle.rx_typed.specs.Tree.{Temporary, Making, operation, lazy, truth, Mark, Exp, read, borrow, share, build, unit, lazily, assign, update, call, input, print, block, choose, loop, jump, give, Operands, no_operand, operand_and, Scrutinee, at_place, of_value, Arms, no_arm, arm_and, Body, ends, runs, declares, lets, Function, Parameter, temporary_place, mark_of, temporary_at, temporary_of, temporaries_of, fields_of}
 use Rattle.rx_lower_walks.specs.Matching.{equals, PartTest, Binding, tests, bindings}
 use Rattle.rx_lower_walks.specs.Actions.{Write, Test, Build, Call, Print, Give, Action, at_mark, Subject, in_temporary, subject}
 use Rattle.rx_lower_walks.specs.Orders.{Order, testing, binding, declaring, order, order_all, order_scrutinee, order_arms, order_body, beginning, order_function}
@@ -126,7 +126,7 @@ module _ (C : Changes) (K : Keeps C) where
     changed_alike (share m e) d f = is_then (changed_alike e _ _) (is_act refl)
     changed_alike (build m w es) d f = is_then (all_alike es) (built m w es d f)
     changed_alike (unit m) d f = is_nothing
-    changed_alike (lazily m b e g) d f = is_then (changed_alike e _ _) (is_then (told (λ t. at_mark m (Test (held t) (equals (truth b)))) e)
+    changed_alike (lazily m b e g) d f = is_then (changed_alike e _ _) (is_then (told (λ t. at_mark m (Test (temporary_place t) (equals (truth b)))) e)
         (is_then (is_or (changed_alike g _ _) is_nothing) (is_act (ap (λ t. unmarked (at_mark m (Build lazy [] (t ∷ temporary_of (changed C g) ∷ []) d) ∷ [])) (same_temporary e)
         ∙ ap (λ t. unmarked (at_mark m (Build lazy [] (temporary_of e ∷ t ∷ []) d) ∷ [])) (same_temporary g)))))
     changed_alike (assign m p e) d f = is_then (changed_alike e _ _) (told (λ t. at_mark m (Write p t [])) e)

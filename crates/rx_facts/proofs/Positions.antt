@@ -17,7 +17,7 @@ use Rattle.rx_typed_declarations.specs.Variance.{unrecorded}
 use Rattle.rx_typed.specs.Renaming.{unit_region, instance}
 use Rattle.rx_typed.specs.Places as places
 use Rattle.rx_typed.specs.Places.{fields_of, part_at, item_behind, behind, place_type}
-use Rattle.rx_lower_lifetimes.specs.Values.{Open, Known, Held, lifetimes_of, root_type, made_item, made_type, result_type, value_type, hold, held_by, held_type}
+use Rattle.rx_lower_lifetimes.specs.Values.{Open, KnownTypes, Held, lifetimes_of, root_type, made_item, made_type, result_type, value_type, hold, held_by, held_type}
 use Rattle.rx_lower_lifetimes.specs.Variables.{Written, parameter_type, written_type, told, open_type, open_types}
 use Rattle.rx_lower_lifetimes.specs.Positions.{own_lifetimes, all_own, in_variables, in_held, positions}
 use Rattle.rx_lower_lifetimes.specs.Lowered.{parameters, known, actions}
@@ -100,7 +100,7 @@ made_same D tuple ts = refl
 made_same D (struct i) ts = made_item_same D i
 made_same D (variant_of i v) ts = made_item_same D i
 
-abbrev pub knowing : List Decl → List Open → Known
+abbrev pub knowing : List Decl → List Open → KnownTypes
 knowing D vs = record { items = D; variables = vs }
 
 value_same : (D : List Decl) (vs : List Open) (H : List Held) (a : Act) → value_type (knowing (plain D) vs) H a ≡ value_type (knowing D vs) H a

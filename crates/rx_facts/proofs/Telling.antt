@@ -9,7 +9,7 @@ use Rattle.rx_lower_walks.specs.PlainSite.{plain-Site}
 use Rattle.rx_lower_walks.specs.Graph.{Site}
 use Rattle.rx_facts_tables.specs.Places.{Frame}
 use Rattle.rx_facts_tables.specs.LiveTables.{Lives}
-use Rattle.rx_facts_tables.specs.Answer.{IsTable, Answers}
+use Rattle.rx_facts_tables.specs.Answer.{IsInitTable, Answers}
 use Rattle.rx_facts_tables.specs.Initialised.{Initialised, IsUnset, IsAgain}
 use Rattle.rx_facts_tables.specs.Wholes.{placed}
 use Rattle.rx_facts_tables.specs.declared.whole.InitFault.{InitFault as NodeFault}
@@ -42,8 +42,8 @@ module _ (items : List Decl) (P : ℕ → ℕ) (f : TypedFn) (g : Lowered) (type
     initialised = subst (λ (ms : List Bool). Initialised (framed items P (trimmed f.variables)) ms (body f)) m
         (subst (λ (ts : List (Option Ty)). Initialised (framed items P ts) muts (body f)) t both.0);
     live = subst (λ (h : List Site). Lives h x.live) graph_is l;
-    init = subst (λ (h : List Site). IsTable (framed items P (trimmed f.variables)) h x.init) graph_is
-        (subst (λ (ts : List (Option Ty)). IsTable (framed items P ts) (map plain-Site sites) x.init) t both.1);
+    init = subst (λ (h : List Site). IsInitTable (framed items P (trimmed f.variables)) h x.init) graph_is
+        (subst (λ (ts : List (Option Ty)). IsInitTable (framed items P ts) (map plain-Site sites) x.init) t both.1);
   }
 
   pub says_of : (e : NodeFault) → Answers (framed items P types) muts (map plain-Site sites) (Err e) → NodeSays (declarations items) P f e

@@ -15,7 +15,7 @@ use Rattle.rx_typed.specs.Regions.{RegionTyp, region-Ty}
 use Rattle.rx_typed.specs.Named.{Function}
 use Rattle.rx_typed.specs.Naming.{function_named}
 use Rattle.rx_typed.specs.Elaborated.{elaborated}
-use Rattle.rx_typed_declarations.specs.Held.{held}
+use Rattle.rx_typed_declarations.specs.Held.{held_by_each}
 use Rattle.rx_typed_declarations.specs.Sizes.{Sized, IsSizes}
 use Rattle.rx_typed_declarations.specs.Variance.{unrecorded}
 use Rattle.rx_typeck_typed.specs.Programs.{Fits}
@@ -24,7 +24,7 @@ use Rattle.rx_typeck_typed.specs.declared.variables.AnnotatedVariable.{Annotated
 use Rattle.rx_typeck_typed.specs.Walks.{plain-Variable}
 use Rattle.rx_typeck_solver.specs.declared.facts.Subject.{Subject}
 use Rattle.rx_typeck_solver.specs.declared.facts.Subject.TheVariants as subject
-use Rattle.rx_typeck_solver.specs.Facts.{Types, Known}
+use Rattle.rx_typeck_solver.specs.Facts.{Assignment, KnownItems}
 use Rattle.rx_typeck_typed.specs.declared.typed.TypedFn.{TypedFn}
 use Rattle.rx_typeck_typed.specs.declared.typed.Typed.{Typed}
 use Rattle.rx_typeck_typed.specs.Typing.{Given, known_in, entries, variables_at, assigned, type_at, TypeIs, FunctionTyped, FunctionsTyped, IsTyped}
@@ -48,7 +48,7 @@ one_assignment : (G : Given) (i : ℕ) (s : Span) (f : plain.Function) (ns : Lis
     (a : FunctionTyped G i s f ns vars t) (b : FunctionTyped G i s f ns vars u) → a.types ≡ b.types
 one_assignment G i s f ns vars t u a b = fun_ext _ _ (λ x. one_type G i s f ns vars t u a b x (type_at t x) (a.found x))
 
-told_same : (K : Known) (F : Function) (A : Types) (x : Subject) (o p : Option Ty) → TypeIs K F A x o → TypeIs K F A x p → option_map region-Ty o ≡ option_map region-Ty p
+told_same : (K : KnownItems) (F : Function) (A : Assignment) (x : Subject) (o p : Option Ty) → TypeIs K F A x o → TypeIs K F A x p → option_map region-Ty o ≡ option_map region-Ty p
 told_same K F A x None None h k = refl
 told_same K F A x None (Some z) h k = absurd (h k.0)
 told_same K F A x (Some y) None h k = absurd (k h.0)
@@ -91,7 +91,7 @@ same_function G i s f ns vars t u a b =
       mutable = a.mutable ∙ sym b.mutable;
       bodies = a.tree ∙ (ap (λ A. elaborated (assigned (known_in G) A) F) types ∙ sym b.tree);
       types = same_trimmed region-Ty t.variables u.variables (λ x. told_same (known_in G) F a.types (subject.Variable x) (type_at t (subject.Variable x)) (type_at u (subject.Variable x))
-          (a.found (subject.Variable x)) (subst (λ (A : Types). TypeIs (known_in G) F A (subject.Variable x) (type_at u (subject.Variable x))) (sym types) (b.found (subject.Variable x))));
+          (a.found (subject.Variable x)) (subst (λ (A : Assignment). TypeIs (known_in G) F A (subject.Variable x) (type_at u (subject.Variable x))) (sym types) (b.found (subject.Variable x))));
       annotated = written_pairs t.annotations ∙ (ap (map of_pair) (a.annotated ∙ sym b.annotated) ∙ sym (written_pairs u.annotations));
     }
 
@@ -119,8 +119,8 @@ same_list (x ∷ xs) (y ∷ ys) long each =
 abbrev given : ProgramTree → List Decl → List ℕ → Given
 given p ds sizes = record { program = p; declared = ds; sizes = sizes }
 
-module _ (finite : (p : ProgramTree) (D : Declarations) → Fits p D → NoCycle (held D)) (some : (D : Declarations) → NoCycle (held D) → (P : ℕ → ℕ) × Sized D P) where
-  one_table : (D : Declarations) (xs ys : List ℕ) → NoCycle (held D) → IsSizes D xs → IsSizes D ys → xs ≡ ys
+module _ (finite : (p : ProgramTree) (D : Declarations) → Fits p D → NoCycle (held_by_each D)) (some : (D : Declarations) → NoCycle (held_by_each D) → (P : ℕ → ℕ) × Sized D P) where
+  one_table : (D : Declarations) (xs ys : List ℕ) → NoCycle (held_by_each D) → IsSizes D xs → IsSizes D ys → xs ≡ ys
   one_table D xs ys none x y = let s = some D none in
       same_list xs ys (x.whole ∙ sym y.whole) (λ i less. let within : i < length D = omega (arith, less, x.whole) in
       x.each s.0 s.1 i within ∙ sym (y.each s.0 s.1 i within))

@@ -7,7 +7,7 @@ use Rattle.rx_typeck_typed.specs.declared.typed.Typed.{Typed}
 use Rattle.rx_typeck_typed.specs.declared.typed.TypedFn.{TypedFn}
 use Rattle.rx_typed_declarations.specs.Sizes.{Sized, told}
 use Rattle.rx_facts_tables.specs.LiveTables.{Lives}
-use Rattle.rx_facts_tables.specs.Answer.{IsTable}
+use Rattle.rx_facts_tables.specs.Answer.{IsInitTable}
 use Rattle.rx_facts_tables.specs.Wholes.{placed}
 use Rattle.rx_facts_tables.specs.Initialised.{IsUnset, IsAgain}
 use Rattle.rx_facts_tables.specs.declared.whole.InitFault.{InitFault as NodeFault}
@@ -48,7 +48,7 @@ LowerAnswers t r = EachLowered t.decls.items t.functions r
 pub record AreFactsOf (D : Declarations) (P : ℕ → ℕ) (f : TypedFn) (x : FunctionFacts) : Type 0 where
   pub initialised : IsInitialised D P f
   pub live : Lives (sites_of f) x.live
-  pub init : IsTable (frame_of D P f) (sites_of f) x.init
+  pub init : IsInitTable (frame_of D P f) (sites_of f) x.init
 
 -- of all functions, by the table of sizes
 pub record AreFacts (t : Typed) (x : ProgramFacts) : Type 0 where

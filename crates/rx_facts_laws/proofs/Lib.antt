@@ -2,3 +2,5 @@ pub mod Arriving
 pub mod Living
 pub mod Excluding
 pub mod Typing
+mod Tables
+mod OfTables

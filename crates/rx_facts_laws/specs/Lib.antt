@@ -1,2 +1,4 @@
 pub mod LiveOnWalks
 pub mod SetOnWalks
+pub mod SameTables
+pub mod TreesOfTables

@@ -10,6 +10,7 @@ ghost use Rattle.rx_typed.specs.Naming.{function_named};
 ghost use Rattle.rx_typed.specs.Elaborated.{Assigned, elaborated};
 ghost use Rattle.rx_lower_walks.specs.Actions.{Action};
 ghost use Rattle.rx_typed.specs.PlainTree.{plain-TypedTree};
+ghost use Rattle.rx_typed.specs.PlainTypes.{declarations};
 ghost use Rattle.rx_typeck_typed.specs.Typing.{IsTyped};
 ghost use Rattle.rx_typeck_typed.specs.declared.typed.Typed.{Typed};
 ghost use Rattle.rx_typeck_typed.specs.declared.typed.TypedFn.{TypedFn};
@@ -23,8 +24,26 @@ ghost use Rattle.rx_facts_tables.specs.Live.{IsLive};
 ghost use Rattle.rx_facts_tables.specs.Initialised.{Initialised, IsUnset, IsAgain, MayBeSet, MayBeUnset};
 ghost use Rattle.rx_facts_laws.specs.LiveOnWalks.{LiveOnSomeWalk};
 ghost use Rattle.rx_facts_laws.specs.SetOnWalks.{SetOnSomeWalk, UnsetOnSomeWalk};
+ghost use Rattle.rx_facts_laws.specs.SameTables.{HaveSameTables};
+ghost use Rattle.rx_facts_laws.specs.TreesOfTables.{IsOfTables};
 
 use rx_lower_walks::actions_are_distinct;
+use rx_typeck_typed::declared_are_finite;
+use rx_typed_declarations::one_size_each;
+
+/// Two typed programs of one text have the same tables, to the last entry, and the same polarities recorded.
+pub fn one_table()
+    ensures { (p : ProgramTree) (names : ListOf ItemNames) (t u : Typed) → IsTyped p names t → IsTyped p names u → HaveSameTables t u }
+{
+    declared_are_finite();
+    one_size_each();
+}
+
+/// The typed tree of a function is the one that its tables of types make: so the coercions of its sites are those that
+/// are read of the tables.
+pub fn trees_are_of_tables()
+    ensures { (p : ProgramTree) (names : ListOf ItemNames) (t : Typed) → IsTyped p names t → (f : TypedFn) → Among f t.functions → IsOfTables p names (declarations t.decls.items) f }
+{}
 
 /// No two sites of a function of a typed program have the same action. So clause `once` of the laws below is true of it.
 pub fn typed_actions_are_distinct()

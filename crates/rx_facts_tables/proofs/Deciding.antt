@@ -24,7 +24,7 @@ use Rattle.rx_facts_tables.specs.Wholes as wholes
 use Rattle.rx_facts_tables.specs.Initialised.{IsFixed, InOrder, Initialised, IsUnset, looked, entered, IsAgain, again}
 use Rattle.rx_facts_tables.specs.Tables.{switches, KeepsForAll, LooksIll, EntersIll, AssignsIll}
 use Rattle.rx_facts_tables.specs.Judged.{Well, Ill, AllWell, SomeIll}
-use Rattle.rx_facts_tables.specs.Answer.{IsTable, IsFacts, Answers}
+use Rattle.rx_facts_tables.specs.Answer.{IsInitTable, IsFacts, Answers}
 use Rattle.rx_facts_tables.specs.declared.facts.Kind.TheVariants as kind
 use Rattle.rx_facts_tables.specs.declared.facts.Setup.{Setup}
 use Rattle.rx_facts_tables.specs.declared.judging.Facts.{Facts}
@@ -136,7 +136,7 @@ module _ (s : Setup) (muts : List Bool) (t : Facts) (g : List Site) (facts : IsF
 
 pub answers_ok : (s : Setup) (muts : List Bool) (t : Facts) (g : List Site) → IsFacts s g (length muts) t → IsSized s.frame.now → IsLayout (plain-Frame s.frame.now) s.layout.now
     → KeepsForAll s.watched.now g → AllWell s muts t g → (table : InitTable) → table.set ≡ t.set → table.unset ≡ t.unset → table.layout ≡ s.layout.now
-    → (f : Function) → g ≡ graph f → Initialised (plain-Frame s.frame.now) muts f × IsTable (plain-Frame s.frame.now) g table
+    → (f : Function) → g ≡ graph f → Initialised (plain-Frame s.frame.now) muts f × IsInitTable (plain-Frame s.frame.now) g table
 answers_ok s muts t g facts sized layout kept well table a b c f e = (
   initialised s muts t g facts f e sized layout.total kept well,
   record {

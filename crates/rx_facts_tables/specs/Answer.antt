@@ -21,14 +21,14 @@ use Rattle.rx_facts_tables.specs.declared.whole.InitFault.{InitFault}
 use Rattle.rx_facts_tables.specs.declared.whole.InitFault.TheVariants as fault
 
 -- the table has, of each part and each site, whether the part is set on some walk that comes there, and whether unset
-pub record IsTable (F : Frame) (g : List Site) (t : InitTable) : Type 0 where
+pub record IsInitTable (F : Frame) (g : List Site) (t : InitTable) : Type 0 where
   pub layout : IsLayout F t.layout
   pub set : (p n : ℕ) → p < length g → n < t.layout.total → (at t.set.rows p n ≡ true) ↔ ((w : List Action) × Arrives g 0 w p × (is_set F w n ≡ true))
   pub unset : (p n : ℕ) → p < length g → n < t.layout.total → (at t.unset.rows p n ≡ true) ↔ ((w : List Action) × Arrives g 0 w p × (is_set F w n ≡ false))
 
 -- of a function whose graph the sites are
 abbrev pub Answers : Frame → List Bool → List Site → Result InitTable InitFault → Type 0
-Answers F muts g (Ok t) = (f : Function) → g ≡ graph f → Initialised F muts f × IsTable F g t
+Answers F muts g (Ok t) = (f : Function) → g ≡ graph f → Initialised F muts f × IsInitTable F g t
 Answers F muts g (Err (fault.Unset n q)) = (f : Function) → g ≡ graph f → IsUnset F f n (placed q.var q.steps)
 Answers F muts g (Err (fault.Again n x)) = (f : Function) → g ≡ graph f → IsAgain muts f n x
 Answers F muts g (Err fault.OutOfMemory) = Unit {0}

@@ -8,7 +8,7 @@ ghost use Rattle.rx_graph.specs.Facts.{has};
 ghost use Rattle.rx_facts_tables.specs.Layouts.{plain-Frame, IsSized, IsLayout};
 ghost use Rattle.rx_facts_tables.specs.Initialised.{MayBeSet, MayBeUnset};
 ghost use Rattle.rx_facts_tables.specs.Tables as tables;
-ghost use Rattle.rx_facts_tables.specs.Answer.{IsFacts, IsTable, Answers};
+ghost use Rattle.rx_facts_tables.specs.Answer.{IsFacts, IsInitTable, Answers};
 
 use crate::acts::numbers;
 use crate::facts::{Kind, Setup, table};
@@ -44,7 +44,7 @@ impl InitTable {
     pub fn may_be_set(&self, frame: &Frame<'_>, place: &Place, site: usize) -> bool
         requires sized { IsSized frame.now }
         requires layout { IsLayout (plain-Frame frame.now) self.now.layout }
-        ensures { (g : ListOf graphs.Site) → IsTable (plain-Frame frame.now) g self.now → site < length g
+        ensures { (g : ListOf graphs.Site) → IsInitTable (plain-Frame frame.now) g self.now → site < length g
             → (result ≡ true) ↔ MayBeSet (plain-Frame frame.now) g (plain-Place place.now) site }
     {
         some_at(&self.set, site, range(frame, &self.layout, place))
@@ -54,7 +54,7 @@ impl InitTable {
     pub fn may_be_unset(&self, frame: &Frame<'_>, place: &Place, site: usize) -> bool
         requires sized { IsSized frame.now }
         requires layout { IsLayout (plain-Frame frame.now) self.now.layout }
-        ensures { (g : ListOf graphs.Site) → IsTable (plain-Frame frame.now) g self.now → site < length g
+        ensures { (g : ListOf graphs.Site) → IsInitTable (plain-Frame frame.now) g self.now → site < length g
             → (result ≡ true) ↔ MayBeUnset (plain-Frame frame.now) g (plain-Place place.now) site }
     {
         some_at(&self.unset, site, range(frame, &self.layout, place))

@@ -6,7 +6,7 @@ use Rattle.std.proofs.lemmas.List.{length-set}
 use Rattle.std.proofs.lemmas.Option.{none-some, slice_get_within, slice_get-get_or}
 use Rattle.rx_graph_bits.specs.Rows.{holds, Inserted}
 use Rattle.rx_graph.specs.Facts.{has, targets}
-use Rattle.rx_graph.specs.Equations.{Rules, Lawful, Meets, Derived, Solves}
+use Rattle.rx_graph.specs.Equations.{Rules, Lawful, MeetsEquations, Derived, Solves}
 use Rattle.rx_graph.specs.Equations as equations
 use Rattle.rx_graph.specs.Worklist.{heights, Fit, Begun, Joined, Follows, Sound, Stands, StandsBut, Passing, Grown, site_of, Among, NoneNoted}
 use Rattle.rx_graph.proofs.Spreading.{neither, or_true, different}
@@ -322,7 +322,7 @@ module _ {I : Type 0} (R : Rules I) (L : Lawful R) (edges : List (List ℕ)) whe
   still_none T U P Q h s t none e q i = none e q (omega (arith, i, s.sound.count, t.sound.count))
 
   -- what comes to a site is below its value in each table that meets the equations
-  below_each : (U : List I) → Meets R edges U → (p : ℕ) (a : I) → Derived R edges p a → (b : I) → slice_get U p ≡ Some b → R.Below a b
+  below_each : (U : List I) → MeetsEquations R edges U → (p : ℕ) (a : I) → Derived R edges p a → (b : I) → slice_get U p ≡ Some b → R.Below a b
   below_each U m p a (equations.begins h) b e = let o = m.begins p b e in L.transitive a o.0 b (L.one_beginning p a o.0 h o.1) o.2
   below_each U m p d (equations.comes q a v c t first s more j) b e =
       let u = some_there U q (subst (λ n. q < n) (sym m.count) (leads edges q p t)) in let o = m.follows q p u.0 b t u.1 e in

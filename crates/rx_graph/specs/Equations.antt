@@ -29,7 +29,7 @@ pub record Lawful {I : Type 0} (R : Rules I) : Type 0 where
   pub bounded : (a : I) → R.Fits a → R.height a ≤ R.most
 
 -- the equations: what a site begins with is below its value, and so is what the sites that lead to it make of theirs
-pub record Meets {I : Type 0} (R : Rules I) (edges : List (List ℕ)) (T : List I) : Type 0 where
+pub record MeetsEquations {I : Type 0} (R : Rules I) (edges : List (List ℕ)) (T : List I) : Type 0 where
   pub count : length T ≡ length edges
   pub begins : (p : ℕ) (a : I) → slice_get T p ≡ Some a → (b : I) × R.Begins p b × R.Below b a
   pub follows : (q p : ℕ) (a c : I) → has (targets edges q) p ≡ true → slice_get T q ≡ Some a → slice_get T p ≡ Some c → (b : I) × R.Steps q a b × R.Below b c
@@ -42,7 +42,7 @@ pub data Derived {I : Type 0} (R : Rules I) (edges : List (List ℕ)) : ℕ → 
 
 -- the table is the least that meets the equations, and each of its values comes to its site
 pub record Solves {I : Type 0} (R : Rules I) (edges : List (List ℕ)) (T : List I) : Type 0 where
-  pub meets : Meets R edges T
-  pub least : (U : List I) → Meets R edges U → (p : ℕ) (a b : I) → slice_get T p ≡ Some a → slice_get U p ≡ Some b → R.Below a b
+  pub meets : MeetsEquations R edges T
+  pub least : (U : List I) → MeetsEquations R edges U → (p : ℕ) (a b : I) → slice_get T p ≡ Some a → slice_get U p ≡ Some b → R.Below a b
   pub fits : (p : ℕ) (a : I) → slice_get T p ≡ Some a → R.Fits a
   pub derived : (p : ℕ) (a : I) → slice_get T p ≡ Some a → Derived R edges p a

@@ -4,7 +4,7 @@ ghost use Rattle.std.specs.Prelude.{◌≡◌, map, max, option_map};
 ghost use Rattle.rx_typed.specs.Types as types;
 ghost use Rattle.rx_typed.specs.PlainTypes.{plain-Ty};
 ghost use Rattle.rx_hoist_plan.specs.PlainPlan.{plain-Leaving, plain-Mode, plain-Param, plain-Plan, plain-Variable};
-ghost use Rattle.rx_hoist_extraction.specs.Values.{held, types_of};
+ghost use Rattle.rx_hoist_extraction.specs.Values.{variables_held, types_of};
 ghost use Rattle.rx_hoist_extraction.specs.NewEnum.{all_fields};
 ghost use Rattle.rx_hoist_extraction.specs.NewFunction.{passed, passed_types};
 ghost use Rattle.rx_hoist_extraction.specs.Limits as limits;
@@ -53,7 +53,7 @@ fn past(count: u64) -> Option<u64>
 
 /// The first number of levels of the types of these variables that is too great.
 fn outs_past(outs: &[Variable]) -> Option<u64>
-    ensures { result ≡ spec.first (types_of (held (map plain-Variable outs.now))) }
+    ensures { result ≡ spec.first (types_of (variables_held (map plain-Variable outs.now))) }
 {
     for out in outs {
         let count = levels(&out.ty);
@@ -116,7 +116,7 @@ fn parameters_past(params: &[Param]) -> Option<u64>
 
 /// The most levels of the types of these variables, or this number.
 fn outs_levels(number: u64, outs: &[Variable]) -> u64
-    ensures { result ≡ max number (capped (types.most_levels (types.shapes_of (types_of (held (map plain-Variable outs.now)))))) }
+    ensures { result ≡ max number (capped (types.most_levels (types.shapes_of (types_of (variables_held (map plain-Variable outs.now)))))) }
 {
     let mut most = number;
     for out in outs {

@@ -5,7 +5,7 @@ ghost use Rattle.rx_typed.specs.Types as types;
 ghost use Rattle.rx_typed.specs.PlainTypes.{plain-Ty};
 ghost use Rattle.rx_typed_declarations.specs.Sizes.{told};
 ghost use Rattle.rx_hoist_plan.specs.PlainPlan.{plain-Leaving, plain-Mode, plain-Param, plain-Plan, plain-Variable};
-ghost use Rattle.rx_hoist_extraction.specs.Values.{held, types_of};
+ghost use Rattle.rx_hoist_extraction.specs.Values.{variables_held, types_of};
 ghost use Rattle.rx_hoist_extraction.specs.NewEnum.{all_fields};
 ghost use Rattle.rx_hoist_extraction.specs.NewFunction.{passed, passed_types};
 ghost use Rattle.rx_hoist_extraction.specs.Limits as limits;
@@ -21,7 +21,7 @@ use rx_modes_policy::Mode;
 
 /// A number, and the parts of the types of these variables.
 fn with_outs(sizes: &[u64], number: u64, outs: &[Variable]) -> u64
-    ensures { result ≡ capped (number + types.sum_of_parts (told sizes.now) (types.shapes_of (types_of (held (map plain-Variable outs.now))))) }
+    ensures { result ≡ capped (number + types.sum_of_parts (told sizes.now) (types.shapes_of (types_of (variables_held (map plain-Variable outs.now))))) }
 {
     let mut total = number;
     for out in outs {

@@ -282,8 +282,8 @@ each_after_adds (rules.parameters g) e = nothing_adds
 each_after_adds (rules.parts_of i v) e = nothing_adds
 
 -- behind the type of the literal
-pub behind_integer : (n : Node) (m : Bool) (v : ℕ) (k : Option Kind) → Adds (asks n broken.Literal (is_open k) (fact.Integer n.number (fitting m v) ∷ []) >> rules.value_at n)
-behind_integer n m v k = then_adds _ _ (asks_add n _ _ _) (value_adds n n.site)
+pub behind_integer : (n : Node) (m : Bool) (v : ℕ) (k : Option Kind) → Adds (rules.value_at n >> asks n broken.Literal (is_open k) (fact.Integer n.number (fitting m v) ∷ []))
+behind_integer n m v k = then_adds _ _ (value_adds n n.site) (asks_add n _ _ _)
 
 pub integer_adds : (n : Node) (m : Bool) (v : ℕ) (k : Option Kind) → Adds (rules.integer_at n m v k)
 integer_adds n m v k = then_adds _ _ (asks_add n _ _ _) (behind_integer n m v k)

@@ -21,7 +21,7 @@ use Rattle.rx_typeck_solver.specs.declared.facts.Broken.TheVariants as broken
 use Rattle.rx_typeck_solver.specs.declared.facts.Op.TheVariants as op
 use Rattle.rx_typeck_solver.specs.declared.facts.Rule.{Rule}
 use Rattle.rx_typeck_solver.specs.declared.facts.Demand.{Demand}
-use Rattle.rx_typeck_solver.specs.Facts.{Types, Known, MeetsEach}
+use Rattle.rx_typeck_solver.specs.Facts.{Assignment, KnownItems, MeetsEach}
 use Rattle.rx_typeck_typed.specs.Asking.{◌>>◌, type_of}
 use Rattle.rx_typeck_typed.specs.Demands as rules
 use Rattle.rx_typeck_typed.specs.Demands.{Listed, members, values, parameters, parts_of, matched, through}
@@ -51,7 +51,7 @@ unfolding OneNode
 one_node (plain.var s x) c = inl (λ S. node_with (no_expression_block (plain.var s x)) (upto (sym (entry_number (a_node s Site.Place c).1)) (no_child (suc c.number) S)))
 one_node _ c = inr refl
 
-module _ (K : Known) (A : Types) (T : Assigned) (f : ℕ) where
+module _ (K : KnownItems) (A : Assignment) (T : Assigned) (f : ℕ) where
   abbrev Met : List Demand → Type 0
   Met ds = MeetsEach K A ds
 

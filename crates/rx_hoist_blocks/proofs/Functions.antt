@@ -16,7 +16,7 @@ use Rattle.rx_typed.specs.Elaborated.{Assigned, elaborated as elaborated_functio
 use Rattle.rx_typed.specs.Tree as tree
 use Rattle.rx_typeck_solver.specs.declared.facts.Op.TheVariants as op
 use Rattle.rx_typeck_solver.specs.declared.facts.Demand.{Demand}
-use Rattle.rx_typeck_solver.specs.Facts.{Types, Known, MeetsEach}
+use Rattle.rx_typeck_solver.specs.Facts.{Assignment, KnownItems, MeetsEach}
 use Rattle.rx_typeck_typed.specs.Demands as rules
 use Rattle.rx_lower_walks.specs.Walks.{Among}
 use Rattle.rx_exits_plan.specs.Spots.{Around, Spot, a_block as spot_block, a_return, outermost, spots}
@@ -41,7 +41,7 @@ parameter_row (x ∷ xs) c S ns j w =
 no_item_block : (i : ItemTree) (b : plain.Body) → an_item i ≡ a_block b → ⊥
 no_item_block i b e = cc
 
-module _ (K : Known) (A : Types) (T : Assigned) where
+module _ (K : KnownItems) (A : Assignment) (T : Assigned) where
   -- the body, whose tail is handed to the caller
   function_body_walked : (f : ℕ) (b : plain.Body) (c : Cursor) (ds : List Demand) → MeetsEach K A (rules.of_body f (naming.of_body Site.Expects b c).0 ds)
       → Walked (a_block b) c.number (naming.of_body Site.Expects b c).1.number (λ a. spots a (function_body T (naming.of_body Site.Expects b c).0))
@@ -75,7 +75,7 @@ module _ (K : Known) (A : Types) (T : Assigned) where
 among_at : {m n : ℕ} {a : Around} {b : tree.Body} {l : List Spot} → m ≡ n → Among (spot_block a m b) l → Among (spot_block a n b) l
 among_at {m} {n} {a} {b} {l} e h = subst (λ (x : ℕ). Among (spot_block a x b) l) e h
 
-pub typed_block : (K : Known) (A : Types) (T : Assigned) (i : ℕ) (s : Span) (f : Function) (ns : List NodeNames) → MeetsEach K A (rules.demands (function_named i s f ns))
+pub typed_block : (K : KnownItems) (A : Assignment) (T : Assigned) (i : ℕ) (s : Span) (f : Function) (ns : List NodeNames) → MeetsEach K A (rules.demands (function_named i s f ns))
     → (path : List ℕ) (b : plain.Body) → descend (Some (an_item (plain.function_item s f))) path ≡ Some (a_block b)
     → TypedBlock (elaborated_function T (function_named i s f ns)) (length (in_front (Some (an_item (plain.function_item s f))) path)) b
 typed_block K A T i s f ns h path b e =

@@ -12,20 +12,21 @@ use Rattle.rx_typed.specs.Named.{Exp, node_of, root, never, body_never, else_nev
 use Rattle.rx_typed.specs.Naming as naming
 use Rattle.rx_typed.specs.Naming.{Cursor, a_node, an_entry}
 use Rattle.rx_typeck_solver.specs.declared.facts.Broken.{Broken}
+use Rattle.rx_typeck_solver.specs.declared.facts.Broken.TheVariants as broken
 use Rattle.rx_typeck_solver.specs.declared.facts.Op.{Op}
 use Rattle.rx_typeck_solver.specs.declared.facts.Op.TheVariants as op
 use Rattle.rx_typeck_solver.specs.declared.facts.Subject.{Subject}
 use Rattle.rx_typeck_solver.specs.declared.facts.Fact.TheVariants as fact
 use Rattle.rx_typeck_solver.specs.declared.facts.Demand.{Demand}
-use Rattle.rx_typeck_solver.specs.Facts.{Types, Known, MeetsAll, MeetsEach}
-use Rattle.rx_typeck_typed.specs.Asking.{Asking, ◌>>◌, asks, type_of}
+use Rattle.rx_typeck_solver.specs.Facts.{Assignment, KnownItems, MeetsAll, MeetsEach}
+use Rattle.rx_typeck_typed.specs.Asking.{Asking, ◌>>◌, asks, type_of, fitting, is_open}
 use Rattle.rx_typeck_typed.specs.Demands as rules
 use Rattle.rx_exits_plan.specs.Spots.{Around, Spot}
 use Rattle.rx_hoist_blocks.proofs.Adding.{Adds, asks_add, each_adds, step_behind}
 use Rattle.rx_hoist_blocks.proofs.Children.{Walked, upto, no_child, one_child, node_with}
 use Rattle.rx_hoist_blocks.proofs.Parts.{no_expression_block, entry_number}
 
-module _ (K : Known) (A : Types) where
+module _ (K : KnownItems) (A : Assignment) where
   front : (ds es : List Demand) → MeetsEach K A (ds ++ es) → MeetsEach K A ds
   front [] es h = tt
   front (d ∷ ds) es h = (h.0, front ds es h.1)
@@ -131,7 +132,8 @@ module _ (K : Known) (A : Types) where
       let E = (naming.of_expression false Site.Place e n.1).0 in
       node_with (no_expression_block (plain.deref s e)) (one_child (place_walked e false n.1 f ds
       (before (rules.step_at n.0 op.Pointee (node_of E) >> rules.place_in n.0 (root E).number (rules.through (named.deref n.0 E)) Site.Place) (step_behind n.0 _ (node_of E) (root E).number (rules.through (named.deref n.0 E)) Site.Place) (rules.of_exp f E ds) h) S))
-  place_walked (plain.int s v k) m c f ds h S = absurd (value_placed Site.Place refl (a_node s Site.Place c).0 _ h)
+  place_walked (plain.int s v k) m c f ds h S = let n = (a_node s Site.Place c).0 in
+      absurd (value_placed Site.Place refl n _ (before (asks n broken.Literal (is_open k) (fact.Integer n.number (fitting m v) ∷ [])) (asks_add n _ _ _) _ h))
   place_walked (plain.bool s b) m c f ds h S = absurd (own_placed (a_node s Site.Place c).0 refl _ [] _ h)
   place_walked (plain.tuple s es) m c f ds h S = let n = (a_node s Site.Place c).0 in absurd (own_placed n refl _ _ _ (before (rules.limits n) (asks_add n _ _ _) _ h))
   place_walked (plain.negate s e) m c f ds h S = absurd (value_placed Site.Place refl (a_node s Site.Place c).0 _ h)

@@ -472,7 +472,7 @@ pub(crate) fn eval(
 
 /// A `break`.
 #[tactic(auto, using(rx_tree::proofs::Rules::expression_rules))]
-pub(crate) fn breaks(alloc: Global, span: Span, label: &Option<Ident>) -> Result<Expr, AllocError>
+pub fn breaks(alloc: Global, span: Span, label: &Option<Ident>) -> Result<Expr, AllocError>
     ensures { IfOk result (λ it. plain-Expr it ≡ plain.break span label.now) }
 {
     let label = label.copy(alloc)?;
@@ -484,11 +484,7 @@ pub(crate) fn breaks(alloc: Global, span: Span, label: &Option<Ident>) -> Result
 
 /// A `continue`.
 #[tactic(auto, using(rx_tree::proofs::Rules::expression_rules))]
-pub(crate) fn continues(
-    alloc: Global,
-    span: Span,
-    label: &Option<Ident>,
-) -> Result<Expr, AllocError>
+pub fn continues(alloc: Global, span: Span, label: &Option<Ident>) -> Result<Expr, AllocError>
     ensures { IfOk result (λ it. plain-Expr it ≡ plain.continue span label.now) }
 {
     let label = label.copy(alloc)?;
@@ -500,7 +496,7 @@ pub(crate) fn continues(
 
 /// A `return`.
 #[tactic(auto, using(rx_tree::proofs::Rules::expression_rules))]
-pub(crate) fn returns(span: Span, value: Option<Boxed<Expr>>) -> Expr
+pub fn returns(span: Span, value: Option<Boxed<Expr>>) -> Expr
     ensures { plain-Expr result ≡ plain.return span (optional_of (option_map plain-Expr value)) }
 {
     Expr {

@@ -10,7 +10,7 @@ use rx_tree::{Block, Expr, Ident, Pattern, TypeText};
 use std::alloc::{AllocError, Global};
 
 /// What becomes of the special places of a tree. A node that is no special place stays as it is.
-pub(crate) trait Places {
+pub trait Places {
     ghost use Rattle.rx_hoist_extraction.specs.Changed.{Changes};
 
     ghost changes: { Self → Changes };

@@ -338,9 +338,13 @@ fn one_arm<'t, P: Places>(
     )
 }
 
-/// What becomes of a block.
+/// What becomes of a block, where these names are bound since the beginning and this stands round it.
+///
+/// # Errors
+///
+/// Memory runs out.
 #[cycle(changed)]
-pub(crate) fn block<'t, P: Places>(
+pub fn block<'t, P: Places>(
     alloc: Global,
     places: &P,
     own: &Names<'t>,

@@ -13,7 +13,7 @@ use Rattle.rx_print_spelling.specs.Formed.{Spells, MaybeLasting, SomeArm, Formed
 use Rattle.rx_hoist_extraction.specs.Names.{Names, declared_by}
 use Rattle.rx_hoist_extraction.specs.Run.{Parts}
 use Rattle.rx_hoist_extraction.specs.Plan.{Exit, to_next, to_break, to_continue, to_return, Mode, by_value, by_reborrow, by_view, by_shared, by_mut, Variable, Param, Leaving, Plan, has_enum, has_exit, outs_of}
-use Rattle.rx_hoist_extraction.specs.Values.{Value, result_of, held_by, held, result_if_any, values_at, values_of, next_values}
+use Rattle.rx_hoist_extraction.specs.Values.{Value, result_of, held_by, variables_held, result_if_any, values_at, values_of, next_values}
 use Rattle.rx_hoist_extraction.specs.Fresh.{fresh_variable}
 use Rattle.rx_hoist_extraction.specs.Made.{binding, as_patterns, joined, done, assignment, let_value}
 use Rattle.rx_hoist_extraction.specs.NewBody.{declared}
@@ -112,14 +112,14 @@ abbrev ValueSpells : ProgramTree → Value → Type 0
 ValueSpells P (result_of t) = Unit {0}
 ValueSpells P (held_by v) = VariableSpells P v
 
-held_values : (P : ProgramTree) (vs : List Variable) → Every (VariableSpells P) vs → Every (ValueSpells P) (held vs)
+held_values : (P : ProgramTree) (vs : List Variable) → Every (VariableSpells P) vs → Every (ValueSpells P) (variables_held vs)
 held_values P [] h = tt
 held_values P (v ∷ vs) h = (h.0, held_values P vs h.1)
 
 values_at_next : (P : ProgramTree) (pl : Plan) → FormedPlan P pl → Every (ValueSpells P) (next_values pl)
 values_at_next P pl F = by (has_exit to_next pl.exits)
   where
-    outs : Every (ValueSpells P) (held (outs_of to_next pl.exits))
+    outs : Every (ValueSpells P) (variables_held (outs_of to_next pl.exits))
     outs = held_values P (outs_of to_next pl.exits) (outs_spell P to_next pl.exits F.exits)
 
     both : (t : Option Typ) → Every (ValueSpells P) (values_at (record pl { value = t }) to_next (outs_of to_next pl.exits))
@@ -206,7 +206,7 @@ replacement_formed P pl F s labels l p = let c = whole_call pl s labels in
 
 -- without a value of the run there is a statement
 
-some_statement : (pl : Plan) (s : Span) (own : Names) (c : Expression) (vs : List Variable) → Follows (handed pl s own c (held vs)).statements plain.absent
+some_statement : (pl : Plan) (s : Span) (own : Names) (c : Expression) (vs : List Variable) → Follows (handed pl s own c (variables_held vs)).statements plain.absent
 some_statement pl s own c [] = tt
 some_statement pl s own c (v ∷ []) = tt
 some_statement pl s own c (v ∷ w ∷ vs) = tt
@@ -216,7 +216,7 @@ call_is_statement P pl s labels p e = still_follows (handed pl s (declared_by p.
     (by (has_exit to_next pl.exits) pl.value e)
   where
     by : (b : Bool) (t : Option Typ) → t ≡ None
-        → Follows (handed pl s (declared_by p.statements) (whole_call pl s labels) (if b then result_if_any t ++ held (outs_of to_next pl.exits) else [])).statements plain.absent
+        → Follows (handed pl s (declared_by p.statements) (whole_call pl s labels) (if b then result_if_any t ++ variables_held (outs_of to_next pl.exits) else [])).statements plain.absent
     by true None q = some_statement pl s (declared_by p.statements) (whole_call pl s labels) (outs_of to_next pl.exits)
     by true (Some t) q = absurd cc
     by false t q = tt

@@ -12,7 +12,7 @@ use Rattle.rx_typed.specs.Types.{Typ, Shape, Shapes, integer, boolean, tuple_of,
 use Rattle.rx_print_spelling.specs.Formed.{Lasting, MaybeLasting, IsSome, GivenLifetimes, FormedType, FormedTypes, WrittenType, FormedBound, FormedVariant, FormedParameter, FormedItem}
 use Rattle.rx_hoist_extraction.specs.Names.{Names}
 use Rattle.rx_hoist_extraction.specs.Plan.{Exit, to_next, to_break, to_continue, to_return, Mode, by_value, by_reborrow, by_view, by_shared, by_mut, Variable, Param, Leaving, Bounds, Plan, has_enum, outs_of, same_exit, has_exit, is_unit}
-use Rattle.rx_hoist_extraction.specs.Values.{Value, result_of, held, result_if_any, values_at, next_values, types_of}
+use Rattle.rx_hoist_extraction.specs.Values.{Value, result_of, variables_held, result_if_any, values_at, next_values, types_of}
 use Rattle.rx_hoist_extraction.specs.Fresh.{fresh_lifetime}
 use Rattle.rx_hoist_extraction.specs.WrittenTypes.{lifetimes_of, positions, all_positions, positions_of, lifetimes_from, list_if_any, full, all_full, each_full, elided, all_elided}
 use Rattle.rx_hoist_extraction.specs.NewEnum.{fields_at, all_fields, enum_positions, variants, new_enum}
@@ -73,7 +73,7 @@ mutual
 
 -- ---- what exits hand out
 
-held_spell : (P : ProgramTree) (vs : List Variable) → Every (VariableSpells P) vs → Every (TypeSpells P) (types_of (held vs))
+held_spell : (P : ProgramTree) (vs : List Variable) → Every (VariableSpells P) vs → Every (TypeSpells P) (types_of (variables_held vs))
 held_spell P [] h = tt
 held_spell P (v ∷ vs) h = (h.0.1, held_spell P vs h.1)
 
@@ -90,7 +90,7 @@ unit_or_not P t true h = tt
 unit_or_not P t false h = (h, tt)
 
 values_spell : (P : ProgramTree) (pl : Plan) → FormedPlan P pl → (x : Exit) (vs : List Variable) → Every (VariableSpells P) vs → Every (TypeSpells P) (types_of (values_at pl x vs))
-values_spell P pl F to_next vs h = with_result P pl.value (held vs) F.value (held_spell P vs h)
+values_spell P pl F to_next vs h = with_result P pl.value (variables_held vs) F.value (held_spell P vs h)
 values_spell P pl F (to_break k) vs h = held_spell P vs h
 values_spell P pl F (to_continue k) vs h = held_spell P vs h
 values_spell P pl F to_return vs h = unit_or_not P pl.result (is_unit pl.result) F.result

@@ -21,14 +21,14 @@ result_if_any (Some t) = result_of t ∷ []
 abbrev pub unless_unit : Typ → List Value
 unless_unit t = if is_unit t then [] else result_of t ∷ []
 
-abbrev pub held : List Variable → List Value
-held vs = map (λ v. held_by v) vs
+abbrev pub variables_held : List Variable → List Value
+variables_held vs = map (λ v. held_by v) vs
 
 -- the run's value comes before the outs of Next; a return hands out its operand alone
 abbrev pub values_at : Plan → Exit → List Variable → List Value
-values_at pl to_next vs = result_if_any pl.value ++ held vs
-values_at pl (to_break k) vs = held vs
-values_at pl (to_continue k) vs = held vs
+values_at pl to_next vs = result_if_any pl.value ++ variables_held vs
+values_at pl (to_break k) vs = variables_held vs
+values_at pl (to_continue k) vs = variables_held vs
 values_at pl to_return vs = unless_unit pl.result
 
 abbrev pub values_of : Plan → Leaving → List Value

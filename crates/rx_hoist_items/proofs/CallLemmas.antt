@@ -8,7 +8,7 @@ use Rattle.rx_tree.specs.PlainOf.{arms_of}
 use Rattle.rx_tree.specs.Lists.{nth}
 use Rattle.rx_hoist_extraction.specs.Names.{Names}
 use Rattle.rx_hoist_extraction.specs.Plan.{Leaving, Plan, Variable}
-use Rattle.rx_hoist_extraction.specs.Values.{Value, result_of, held, held_by}
+use Rattle.rx_hoist_extraction.specs.Values.{Value, result_of, variables_held, held_by}
 use Rattle.rx_hoist_extraction.specs.Fresh.{fresh_variable}
 use Rattle.rx_hoist_extraction.specs.Made.{as_patterns, let_value}
 use Rattle.rx_hoist_extraction.specs.Call as calls
@@ -129,6 +129,6 @@ pub next_put : (s : Span) (own row more : Names) (h : Value) (hs : List Value) �
 next_put s own row more h hs e = ap (λ l. put_back s own (nth_name row) 0 h ++ l)
     (sym (put_behind s own 1 row hs) ∙ ap (λ r. all_put_back s own (nth_name r) 0 hs) (sym e))
 
-pub no_first : (s : Span) (r : ℕ → List ℕ) (vs : List Variable) → first_as_tail s r (held vs) ≡ plain.absent
+pub no_first : (s : Span) (r : ℕ → List ℕ) (vs : List Variable) → first_as_tail s r (variables_held vs) ≡ plain.absent
 no_first s r [] = refl
 no_first s r (v ∷ vs) = refl

@@ -21,7 +21,7 @@ use Rattle.rx_hoist_made.specs.Lasts.{last_one}
 use Rattle.rx_typed.specs.Types.{Typ, Shape, Shapes, integer, boolean, tuple_of, reference, named, no_shape, shape_and, shapes_of}
 use Rattle.rx_hoist_extraction.specs.Names.{Names}
 use Rattle.rx_hoist_extraction.specs.Plan.{Leaving, Param, Plan, enum_name, exit_name, has_enum}
-use Rattle.rx_hoist_extraction.specs.Values.{held, next_values, result_if_any, types_of}
+use Rattle.rx_hoist_extraction.specs.Values.{variables_held, next_values, result_if_any, types_of}
 use Rattle.rx_hoist_extraction.specs.Fresh.{fresh, fresh_lifetime}
 use Rattle.rx_hoist_extraction.specs.Made.{ident}
 use Rattle.rx_hoist_extraction.specs.WrittenTypes.{name_of, lifetimes_of, positions, all_positions, positions_of, lifetimes_from, list_if_any, full, all_full, each_full}
@@ -225,8 +225,8 @@ pub ruleset trees_rules = (trees_few, trees_many)
 
 pub result_first : (P : ProgramTree) (s : Span) (row more : Names) (h : Handed) (t : Bor Ty) (u : TypeTree) → h.result ≡ Some t
     → u ≡ full P s (nth_name row) 0 (plain-Ty t.now) → more ≡ drop (positions P (plain-Ty t.now)) row
-    → u ∷ fulls P s (nth_name more) 0 (types_of (held (map plain-Variable h.outs.now))) ≡ fulls P s (nth_name row) 0 (types_of (plain-Handed h))
-result_first P s row more h t u e f g = let outs = held (map plain-Variable h.outs.now) in
+    → u ∷ fulls P s (nth_name more) 0 (types_of (variables_held (map plain-Variable h.outs.now))) ≡ fulls P s (nth_name row) 0 (types_of (plain-Handed h))
+result_first P s row more h t u e f g = let outs = variables_held (map plain-Variable h.outs.now) in
     ap (λ (v : TypeTree). v ∷ fulls P s (nth_name more) 0 (types_of outs)) f ∙ sym (next_typ P s row more (plain-Ty t.now) (types_of outs) g)
     ∙ sym (ap (λ (o : Option (Bor Ty)). fulls P s (nth_name row) 0 (types_of (result_if_any (option_map (λ t. plain-Ty t.now) o) ++ outs))) e)
 

@@ -3,7 +3,7 @@
 ghost use Rattle.std.specs.Prelude.{◌≡◌, ◌++◌, ◌<◌, ◌^◌, IfOk, OnOk, codes, drop, length, map};
 ghost use Rattle.rx_tree.specs.PlainOf.{plain-Enum, plain-EnumVariant, plain-Program, plain-TypeText};
 ghost use Rattle.rx_hoist_plan.specs.PlainPlan.{plain-Leaving, plain-Plan, plain-Variable};
-ghost use Rattle.rx_hoist_extraction.specs.Values.{held, types_of};
+ghost use Rattle.rx_hoist_extraction.specs.Values.{variables_held, types_of};
 ghost use Rattle.rx_hoist_extraction.specs.WrittenTypes.{positions_of};
 ghost use Rattle.rx_hoist_extraction.specs.NewEnum as new_enum_spec;
 ghost use Rattle.rx_hoist_made.specs.PlainHanded.{plain-Handed};
@@ -27,8 +27,8 @@ fn with_types(
     variables: &[Variable],
 ) -> Result<List<TypeText>, AllocError>
     ensures made { IfOk result (λ it. map plain-TypeText it ≡ map plain-TypeText types
-        ++ rows.fulls (plain-Program program.now) span (nth_name row.old) 0 (types_of (held (map plain-Variable variables.now)))) }
-    ensures rest { OnOk result (row.new ≡ drop (positions_of (plain-Program program.now) (types_of (held (map plain-Variable variables.now)))) row.old) }
+        ++ rows.fulls (plain-Program program.now) span (nth_name row.old) 0 (types_of (variables_held (map plain-Variable variables.now)))) }
+    ensures rest { OnOk result (row.new ≡ drop (positions_of (plain-Program program.now) (types_of (variables_held (map plain-Variable variables.now)))) row.old) }
 {
     let mut all = types;
     for variable in variables {

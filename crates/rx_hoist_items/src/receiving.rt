@@ -5,7 +5,7 @@ ghost use Rattle.rx_tree.specs.Plain as plain;
 ghost use Rattle.rx_tree.specs.PlainOf.{plain-Expr, plain-Pattern, plain-Stmt, optional_of};
 ghost use Rattle.rx_hoist_plan.specs.PlainPlan.{plain-Plan, plain-Variable};
 ghost use Rattle.rx_hoist_extraction.specs.Names.{declared_by};
-ghost use Rattle.rx_hoist_extraction.specs.Values.{held};
+ghost use Rattle.rx_hoist_extraction.specs.Values.{variables_held};
 ghost use Rattle.rx_hoist_extraction.specs.Made as made;
 ghost use Rattle.rx_hoist_extraction.specs.Call as calls;
 ghost use Rattle.rx_hoist_items.specs.Calling as calling;
@@ -52,7 +52,7 @@ fn with_received(
     outs: &[Variable],
 ) -> Result<List<Pattern>, AllocError>
     ensures { IfOk result (λ it. map plain-Pattern it ≡ map plain-Pattern patterns
-        ++ calling.all_received span (declared_by (map plain-Stmt run.now)) (nth_name row.old) 0 (held (map plain-Variable outs.now))) }
+        ++ calling.all_received span (declared_by (map plain-Stmt run.now)) (nth_name row.old) 0 (variables_held (map plain-Variable outs.now))) }
 {
     let mut all = patterns;
     for out in outs {
@@ -116,7 +116,7 @@ fn with_all_put(
     outs: &[Variable],
 ) -> Result<List<Stmt>, AllocError>
     ensures { IfOk result (λ it. map plain-Stmt it ≡ map plain-Stmt stmts
-        ++ calling.all_put_back span (declared_by (map plain-Stmt run.now)) (nth_name row.old) 0 (held (map plain-Variable outs.now))) }
+        ++ calling.all_put_back span (declared_by (map plain-Stmt run.now)) (nth_name row.old) 0 (variables_held (map plain-Variable outs.now))) }
 {
     let mut all = stmts;
     for out in outs {
@@ -249,7 +249,7 @@ fn first_handed(
     outs: &[Variable],
 ) -> Result<Parts, AllocError>
     ensures { IfOk result (λ it. plain-Parts it ≡ calling.few_handed span (declared_by (map plain-Stmt run.now)) (plain-Expr call)
-        (held (map plain-Variable outs.now))) }
+        (variables_held (map plain-Variable outs.now))) }
 {
     match outs {
         [out, ..] => {

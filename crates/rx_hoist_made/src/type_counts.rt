@@ -4,7 +4,7 @@ ghost use Rattle.std.specs.Prelude.{◌≡◌, ◌+◌, suc, map};
 ghost use Rattle.rx_tree.specs.PlainOf.{plain-Program};
 ghost use Rattle.rx_typed.specs.PlainTypes.{plain-Ty};
 ghost use Rattle.rx_hoist_plan.specs.PlainPlan.{plain-Leaving, plain-Mode, plain-Param, plain-Plan, plain-Variable};
-ghost use Rattle.rx_hoist_extraction.specs.Values.{held, types_of};
+ghost use Rattle.rx_hoist_extraction.specs.Values.{variables_held, types_of};
 ghost use Rattle.rx_hoist_extraction.specs.WrittenTypes as types;
 ghost use Rattle.rx_hoist_extraction.specs.NewEnum as new_enum;
 ghost use Rattle.rx_hoist_extraction.specs.NewFunction as new_function;
@@ -49,7 +49,7 @@ fn all_positions(program: &Program, parts: &[Ty]) -> u64
 /// A number, and the positions of the types of these variables.
 fn with_variables(program: &Program, number: u64, variables: &[Variable]) -> u64
     ensures { result ≡ capped (number
-        + types.positions_of (plain-Program program.now) (types_of (held (map plain-Variable variables.now)))) }
+        + types.positions_of (plain-Program program.now) (types_of (variables_held (map plain-Variable variables.now)))) }
 {
     let mut total = number;
     for variable in variables {

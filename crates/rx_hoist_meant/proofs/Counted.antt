@@ -6,7 +6,7 @@ use Rattle.rx_tree.specs.Positions.{NodeTree, an_expression, a_block, a_pattern}
 use Rattle.rx_tree.specs.Nodes.{below_pattern, below_expression, within_expressions, within_optional, within_arguments, within_fields, within_arms, below_block, below_statement, within_statements, within_type, total}
 use Rattle.rx_tree.specs.Size.{loops_at}
 use Rattle.rx_tree.proofs.NodesLaws.{total_both}
-use Rattle.rx_resolve_names.specs.Scopes.{Declared, Variables, variable_named, entered}
+use Rattle.rx_resolve_names.specs.Scopes.{DeclaredNames, Variables, variable_named, entered}
 use Rattle.rx_resolve_names.specs.declared.resolved.ItemNames.{ItemNames}
 use Rattle.rx_resolve_names.specs.Meant.{number, Around, a_loop, a_test}
 use Rattle.rx_resolve_names.specs.Steps.{Outcome, and_then, Naming, ◌>>◌, nothing, Inside, child, next, with_loop, position}
@@ -38,7 +38,7 @@ more_adds n m f h p t t' e = let x = p t t' e in omega (arith, x, h)
 nothing_keeps : Keeps nothing
 nothing_keeps t t' e = subst (λ (z : ItemNames). length z.loops ≡ length t.loops) (the_same t t' e) refl
 
-pattern_then_adds : (n : ℕ) (I : Inside) (at : List ℕ) (p : PatternTree) (f : Declared → Naming) → ((ds : Declared) → Adds n (f ds)) → Adds n (pattern_then I at p f)
+pattern_then_adds : (n : ℕ) (I : Inside) (at : List ℕ) (p : PatternTree) (f : DeclaredNames → Naming) → ((ds : DeclaredNames) → Adds n (f ds)) → Adds n (pattern_then I at p f)
 pattern_then_adds n I at p f g t t' e =
     let a = named_ok (in_pattern I at p (record { bindings = []; tables = t })) (λ b. f b.bindings b.tables) t' e in
     let x = pattern_keeps I at p (record { bindings = []; tables = t }) a.0 a.1 in let y = g a.0.bindings a.0.tables t' a.2 in omega (arith, x, y)

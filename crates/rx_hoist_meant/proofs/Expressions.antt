@@ -11,7 +11,7 @@ use Rattle.rx_tree.specs.Plain as plain
 use Rattle.rx_tree.specs.Plain.{TypeTree, PatternTree, Expression, Expressions, OptionalExpression, OptionalExpressions, FieldExpressions, Arms, Body, Statement, Statements}
 use Rattle.rx_tree.specs.Positions.{a_pattern, an_expression, a_block, optional_type_nodes}
 use Rattle.rx_tree.specs.Nodes.{below_pattern, below_expression, below_block, below_statement, within_type, within_expressions, within_optional, within_arguments, within_fields, within_arms, within_statements}
-use Rattle.rx_resolve_names.specs.Scopes.{Declared, Variables, variable_named, entered}
+use Rattle.rx_resolve_names.specs.Scopes.{DeclaredNames, Variables, variable_named, entered}
 use Rattle.rx_resolve_names.specs.declared.resolved.ItemNames.{ItemNames}
 use Rattle.rx_resolve_names.specs.declared.resolved.NodeNames.{NodeNames}
 use Rattle.rx_resolve_names.specs.Meant.{number, type_name, function_name, item_named, as_function, as_rt, Around, a_loop, a_test, target, to_loop, out_of_test, nowhere, Target}
@@ -407,7 +407,7 @@ module _ (C : Claims) (I : Inside) (N M : ℕ) (small : N ≤ 4294967295) (littl
       → in_statement I sc ls at (plain.let_statement s p y o) t ≡ Ok r → StatementTaken (plain.let_statement s p y o) vs ls t r
   let_part at s p y o sc vs ls t r w b h e =
       let b0 : BoundSoFar = record { bindings = []; tables = t } in
-      let to : Declared → ItemNames → Scoped = λ ds t. record { scope = entered sc ds; tables = t } in
+      let to : DeclaredNames → ItemNames → Scoped = λ ds t. record { scope = entered sc ds; tables = t } in
       let i = initialiser_at y in
       let g = in_optional_type I (child at 1) y in let k = in_optional I sc ls (child at i) o in
       let Z = named_ok (in_pattern I (child at 0) p b0) (λ b. and_then ((g >> k) b.tables) (λ t. Ok (to b.bindings t))) r e in

@@ -8,7 +8,7 @@ use Rattle.rx_tree.specs.Plain.{Parameter, Function, TypeTree, TypeTrees}
 use Rattle.rx_tree.specs.Positions.{NodeTree, a_block, a_type, optional_type_nodes, parameter_nodes}
 use Rattle.rx_tree.specs.Nodes.{within_type, within_parameters, below_block, total}
 use Rattle.rx_tree.specs.Size.{loops_at}
-use Rattle.rx_resolve_names.specs.Scopes.{Declared, entered}
+use Rattle.rx_resolve_names.specs.Scopes.{DeclaredNames, entered}
 use Rattle.rx_resolve_names.specs.declared.resolved.ItemNames.{ItemNames}
 use Rattle.rx_resolve_names.specs.declared.resolved.NodeNames.{NodeNames}
 use Rattle.rx_resolve_names.specs.Meant.{number}
@@ -77,7 +77,7 @@ parameters_keep I at i [] b b1 e = ap (λ (z : BoundSoFar). length z.tables.loop
 parameters_keep I at i (x ∷ xs) b b1 e =
     let t = with_variable x.name.span b.tables in
     let X = named_ok (in_parameter I at i x b) (in_parameters I at (next i) xs) b1 e in
-    let typed : Declared → Outcome BoundSoFar = λ ds. and_then (in_type I (child at i) x.typ t) (λ t. Ok (record { bindings = ds; tables = t })) in
+    let typed : DeclaredNames → Outcome BoundSoFar = λ ds. and_then (in_type I (child at i) x.typ t) (λ t. Ok (record { bindings = ds; tables = t })) in
     let d = named_ok (declare b.bindings x.name i) typed X.0 X.1 in
     let to : ItemNames → BoundSoFar = λ t. record { bindings = d.0; tables = t } in
     let y = named_ok (in_type I (child at i) x.typ t) (λ t. Ok (to t)) X.0 d.2 in
@@ -185,7 +185,7 @@ module _ (C : Claims) (I : Inside) (s : Span) (f : Function) (i : ℕ) where
       let w : Scope C I N M small few_loops S names vs [] (entered [] b1.0.bindings) t3.0 = (
         λ m.
             let few : length b1.0.tables.vars ≤ N = omega (arith, cr, m) in (
-              subst (λ (ds : Declared). ScopeIs names vs (entered [] ds)) (sym P.adds) (entered_is names P.numbers P.new [] [] (P.are few) tt),
+              subst (λ (ds : DeclaredNames). ScopeIs names vs (entered [] ds)) (sym P.adds) (entered_is names P.numbers P.new [] [] (P.are few) tt),
               parameters_below (length t3.0.vars) (length t1.0.vars) (omega (arith, cr, cp)) P.numbers (numbers_are few),
             ),
         λ x i. absurd (none_among i),

@@ -6,7 +6,7 @@ use Rattle.rx_tree.specs.Plain as plain
 use Rattle.rx_tree.specs.Plain.{TypeTree, TypeTrees, PatternTree, PatternTrees, FieldPatterns}
 use Rattle.rx_tree.specs.Positions.{a_pattern, optional_type_nodes}
 use Rattle.rx_tree.specs.Nodes.{below_pattern, within_patterns, within_field_patterns}
-use Rattle.rx_resolve_names.specs.Scopes.{Declared}
+use Rattle.rx_resolve_names.specs.Scopes.{DeclaredNames}
 use Rattle.rx_resolve_names.specs.declared.resolved.ItemNames.{ItemNames}
 use Rattle.rx_resolve_names.specs.declared.resolved.NodeNames.{NodeNames}
 use Rattle.rx_resolve_names.specs.Meant.{number}
@@ -79,7 +79,7 @@ order_keeps f g p q b b' e = let a = named_ok (f b) g b' e in q a.0 b' a.2 ∙ p
 binds_keeps : (I : Inside) (at : List ℕ) (x : Ident) → BindingKeeps (binds I at x)
 binds_keeps I at x b b' e =
     let n = length b.tables.vars in
-    let to : Declared → Bound = λ ds. record { bindings = ds; tables = with_names (entry I at (number n ∷ [])) (with_variable x.span b.tables) } in
+    let to : DeclaredNames → Bound = λ ds. record { bindings = ds; tables = with_names (entry I at (number n ∷ [])) (with_variable x.span b.tables) } in
     let a = named_ok (declare b.bindings x n) (λ ds. Ok (to ds)) b' e in
     ap (λ (z : Bound). length z.tables.loops) (sym (the_same (to a.0) b' a.2))
 

@@ -8,7 +8,7 @@ use Rattle.rx_tree.specs.Plain as plain
 use Rattle.rx_tree.specs.Plain.{TypeTree, PatternTree, Expression, Expressions, OptionalExpression, OptionalExpressions, FieldExpressions, Arms, Body, Statement, Statements}
 use Rattle.rx_tree.specs.Positions.{a_pattern, an_expression, a_block}
 use Rattle.rx_tree.specs.Nodes.{below_pattern, below_expression, below_block, below_statement, within_type, within_expressions, within_optional, within_arguments, within_fields, within_arms, within_statements}
-use Rattle.rx_resolve_names.specs.Scopes.{Declared, Variables, variable_named, entered}
+use Rattle.rx_resolve_names.specs.Scopes.{DeclaredNames, Variables, variable_named, entered}
 use Rattle.rx_resolve_names.specs.declared.resolved.ItemNames.{ItemNames}
 use Rattle.rx_resolve_names.specs.declared.resolved.NodeNames.{NodeNames}
 use Rattle.rx_resolve_names.specs.Meant.{number, type_name, function_name, item_named, as_function, as_rt, Around, a_loop, a_test, target}
@@ -89,7 +89,7 @@ module _ (C : Claims) (I : Inside) (N : ℕ) (small : N ≤ 4294967295) (S : See
       → Scope vs sc t → Scope (reverse P.numbers ++ vs) (entered sc b1.bindings) b1.tables
   with_pattern p t b1 vs sc P w = λ m.
       let c = P.part.count in
-      subst (λ (ds : Declared). ScopeIs names (reverse P.numbers ++ vs) (entered sc ds)) (sym P.adds) (entered_is names P.numbers P.new vs sc (P.are m) (w (omega (arith, c, m))))
+      subst (λ (ds : DeclaredNames). ScopeIs names (reverse P.numbers ++ vs) (entered sc ds)) (sym P.adds) (entered_is names P.numbers P.new vs sc (P.are m) (w (omega (arith, c, m))))
 
   -- ---- what is no recursion
 
@@ -155,7 +155,7 @@ module _ (C : Claims) (I : Inside) (N : ℕ) (small : N ≤ 4294967295) (S : See
       → in_statement I sc ls at (plain.let_statement s p y o) t ≡ Ok r → StatementTaken (plain.let_statement s p y o) vs t r
   let_part at s p y o sc vs ls t r w b h e =
       let b0 : BoundSoFar = record { bindings = []; tables = t } in
-      let to : Declared → ItemNames → Scoped = λ ds t. record { scope = entered sc ds; tables = t } in
+      let to : DeclaredNames → ItemNames → Scoped = λ ds t. record { scope = entered sc ds; tables = t } in
       let i = initialiser_at y in
       let g = in_optional_type I (child at 1) y in let k = in_optional I sc ls (child at i) o in
       let Z = named_ok (in_pattern I (child at 0) p b0) (λ b. and_then ((g >> k) b.tables) (λ t. Ok (to b.bindings t))) r e in

@@ -7,7 +7,7 @@ use Rattle.rx_tree.specs.Plain as plain
 use Rattle.rx_tree.specs.Plain.{Parameter, Function}
 use Rattle.rx_tree.specs.Positions.{a_block}
 use Rattle.rx_tree.specs.Nodes.{within_type, within_parameters, below_block}
-use Rattle.rx_resolve_names.specs.Scopes.{Declared, declared_as, entered}
+use Rattle.rx_resolve_names.specs.Scopes.{DeclaredNames, declared_as, entered}
 use Rattle.rx_resolve_names.specs.declared.resolved.ItemNames.{ItemNames}
 use Rattle.rx_resolve_names.specs.declared.resolved.NodeNames.{NodeNames}
 use Rattle.rx_resolve_names.specs.Meant.{number}
@@ -45,7 +45,7 @@ module _ (C : Claims) (I : Inside) (N : ℕ) (small : N ≤ 4294967295) (S : See
       let t = with_variable x.name.span b.tables in
       let n = length b.tables.vars in
       let X = named_ok (in_parameter I at i x b) (in_parameters I at (next i) xs) b1 e in
-      let typed : Declared → Outcome BoundSoFar = λ ds. and_then (in_type I (child at i) x.typ t) (λ t. Ok (record { bindings = ds; tables = t })) in
+      let typed : DeclaredNames → Outcome BoundSoFar = λ ds. and_then (in_type I (child at i) x.typ t) (λ t. Ok (record { bindings = ds; tables = t })) in
       let d = named_ok (declare b.bindings x.name i) typed X.0 X.1 in
       let y = named_ok (in_type I (child at i) x.typ t) (λ t. Ok (record { bindings = d.0; tables = t })) X.0 d.2 in
       let same : record { bindings = d.0; tables = y.0 } ≡ X.0 = the_same _ X.0 y.2 in
@@ -69,11 +69,11 @@ module _ (C : Claims) (I : Inside) (N : ℕ) (small : N ≤ 4294967295) (S : See
       } in
       let R = parameters_taken at (next i) xs (record { bindings = d.0; tables = y.0 }) b1 (ap (in_parameters I at (next i) xs) same ∙ X.2) w1 rest in
       let cr = R.part.count in
-      let one : Declared = (x.name.name, record { number = number i; span = x.name.span }) ∷ [] in
+      let one : DeclaredNames = (x.name.name, record { number = number i; span = x.name.span }) ∷ [] in
       record {
         numbers = n ∷ R.numbers;
         new = one ++ R.new;
-        adds = R.adds ∙ ap (λ (l : Declared). l ++ R.new) (declared_behind_is b.bindings d.0 x.name i (declared_as b.bindings x.name.name) d.1) ∙ append_assoc b.bindings one R.new;
+        adds = R.adds ∙ ap (λ (l : DeclaredNames). l ++ R.new) (declared_behind_is b.bindings d.0 x.name i (declared_as b.bindings x.name.name) d.1) ∙ append_assoc b.bindings one R.new;
         are = λ most.
             let k = w (omega (arith, later, cr, most)) in
             (sym k ∙ sym (kept i N (omega (arith, k, later, cr, most)) small), first, R.are most);
@@ -132,7 +132,7 @@ module _ (C : Claims) (I : Inside) (s : Span) (f : Function) (i : ℕ) where
       let cp = P.part.count in let cr = R.count in
       let vs = reverse P.numbers ++ [] in
       let w : Scope C I N small S names vs (entered [] b1.0.bindings) t3.0 = λ m.
-      subst (λ (ds : Declared). ScopeIs names vs (entered [] ds)) (sym P.adds) (entered_is names P.numbers P.new [] [] (P.are (omega (arith, cr, m))) tt) in
+      subst (λ (ds : DeclaredNames). ScopeIs names vs (entered [] ds)) (sym P.adds) (entered_is names P.numbers P.new [] [] (P.are (omega (arith, cr, m))) tt) in
       let all_nodes : Bound names (length f.params) nodes = record {
         each = λ k x g. let l = length-map f.params (λ (x : Parameter). x.name.name) in in_right words (names_bound nodes) k (length f.params + k) x (omega (arith, l)) g;
       } in

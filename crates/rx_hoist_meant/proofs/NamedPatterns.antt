@@ -6,8 +6,8 @@ use Rattle.rx_tree.specs.Plain as plain
 use Rattle.rx_tree.specs.Plain.{PatternTree, PatternTrees, FieldPatterns}
 use Rattle.rx_tree.specs.Positions.{a_pattern}
 use Rattle.rx_tree.specs.Nodes.{below_pattern, within_patterns, within_field_patterns}
-use Rattle.rx_resolve_names.specs.declared.table.Known.{Known}
-use Rattle.rx_resolve_names.specs.Scopes.{Declared, declared_as}
+use Rattle.rx_resolve_names.specs.declared.table.NumberedName.{NumberedName}
+use Rattle.rx_resolve_names.specs.Scopes.{DeclaredNames, declared_as}
 use Rattle.rx_resolve_names.specs.declared.resolved.ItemNames.{ItemNames}
 use Rattle.rx_resolve_names.specs.Meant.{number}
 use Rattle.rx_resolve_names.specs.Steps.{Naming, nothing, Inside, one, declare, declared_behind, child, next, with_variable, entry, with_names, numbered, names as naming}
@@ -30,7 +30,7 @@ most = 4294967295
 pub kept : (n k : ℕ) → n < k → k ≤ 4294967295 → number n ≡ n
 kept n k l m = omega (arith, l, m)
 
-pub declared_behind_is : (ds new : Declared) (x : Ident) (n : ℕ) (o : Option Known) → declared_behind ds x n o ≡ Ok new → new ≡ ds ++ (x.name, record { number = number n; span = x.span }) ∷ []
+pub declared_behind_is : (ds new : DeclaredNames) (x : Ident) (n : ℕ) (o : Option NumberedName) → declared_behind ds x n o ≡ Ok new → new ≡ ds ++ (x.name, record { number = number n; span = x.span }) ∷ []
 declared_behind_is ds new x n None e = sym (the_same _ _ e)
 declared_behind_is ds new x n (Some k) e = absurd (cc)
 
@@ -38,7 +38,7 @@ module _ (C : Claims) (I : Inside) (N : ℕ) (small : N ≤ 4294967295) (S : See
   -- what was bound from the first tables to the second: the numbers, and the names in scope
   pub record Binds {A : Type 0} (b b1 : BoundSoFar) (k : ℕ) (T : List ℕ → A → Type 0) (m : numbering.Numbering A) : Type 0 where
     pub numbers : List ℕ
-    pub new : Declared
+    pub new : DeclaredNames
     pub adds : b1.bindings ≡ b.bindings ++ new
     pub are : length b1.tables.vars ≤ N → NumbersAre names numbers new
     pub part : Part N b.tables b1.tables k (λ es. Takes (T numbers) b.tables b1.tables es m)
@@ -70,7 +70,7 @@ module _ (C : Claims) (I : Inside) (N : ℕ) (small : N ≤ 4294967295) (S : See
   bind_taken at s x w b b1 h e =
       let n = length b.tables.vars in
       let X = entry I at (number n ∷ []) in
-      let to : Declared → BoundSoFar = λ ds. record { bindings = ds; tables = with_names X (with_variable x.span b.tables) } in
+      let to : DeclaredNames → BoundSoFar = λ ds. record { bindings = ds; tables = with_names X (with_variable x.span b.tables) } in
       let d = named_ok (declare b.bindings x n) (λ ds. Ok (to ds)) b1 e in
       let m : length (to d.0).tables.vars ≡ suc n = one_more b.tables.vars x.span in
       let zero : n + 0 ≡ n = omega arith in
@@ -90,8 +90,8 @@ module _ (C : Claims) (I : Inside) (N : ℕ) (small : N ≤ 4294967295) (S : See
         };
       })
 
-  two : (b b1 b2 : BoundSoFar) (xs ys : Declared) → b1.bindings ≡ b.bindings ++ xs → b2.bindings ≡ b1.bindings ++ ys → b2.bindings ≡ b.bindings ++ (xs ++ ys)
-  two b b1 b2 xs ys d e = e ∙ ap (λ (l : Declared). l ++ ys) d ∙ append_assoc b.bindings xs ys
+  two : (b b1 b2 : BoundSoFar) (xs ys : DeclaredNames) → b1.bindings ≡ b.bindings ++ xs → b2.bindings ≡ b1.bindings ++ ys → b2.bindings ≡ b.bindings ++ (xs ++ ys)
+  two b b1 b2 xs ys d e = e ∙ ap (λ (l : DeclaredNames). l ++ ys) d ∙ append_assoc b.bindings xs ys
 
   mutual
     pub pattern_taken : (at : List ℕ) (p : PatternTree) (b b1 : BoundSoFar) → Bound names (length b.tables.vars) (a_pattern p ∷ below_pattern p) → in_pattern I at p b ≡ Ok b1 → PatternTaken p b b1

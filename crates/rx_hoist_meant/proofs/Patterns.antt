@@ -6,7 +6,7 @@ use Rattle.rx_core.specs.declared.types.Span.{Span}
 use Rattle.rx_tree.specs.Plain.{PatternTree}
 use Rattle.rx_tree.specs.Positions.{a_pattern}
 use Rattle.rx_tree.specs.Nodes.{below_pattern}
-use Rattle.rx_resolve_names.specs.Scopes.{Declared, Variables, entered}
+use Rattle.rx_resolve_names.specs.Scopes.{DeclaredNames, Variables, entered}
 use Rattle.rx_resolve_names.specs.declared.resolved.ItemNames.{ItemNames}
 use Rattle.rx_resolve_names.specs.declared.resolved.NodeNames.{NodeNames}
 use Rattle.rx_resolve_names.specs.Steps.{Inside}
@@ -133,7 +133,7 @@ module _ (C : Claims) (I : Inside) (N M : ℕ) (small : N ≤ 4294967295) (S : S
           };
         };
         scope = λ vs sc most s. subst (λ (l : List ℕ). ScopeIs names (reverse l ++ vs) (entered sc b1.bindings)) (numbers most)
-            (subst (λ (ds : Declared). ScopeIs names (reverse P.numbers ++ vs) (entered sc ds)) (sym P.adds) (entered_is names P.numbers P.new vs sc (P.are most) s));
+            (subst (λ (ds : DeclaredNames). ScopeIs names (reverse P.numbers ++ vs) (entered sc ds)) (sym P.adds) (entered_is names P.numbers P.new vs sc (P.are most) s));
         count = omega (arith, count, bind_count);
         same_loops = keeps;
       }

@@ -6,7 +6,7 @@ use Rattle.rx_typed.specs.Named as named
 use Rattle.rx_typed.specs.Named.{Exp, Exps, Else, Fields, Arms, Body, Statement, Statements, Function, node_of, body_node, is_place, is_variable, root, never, body_never, else_never, some_diverges}
 use Rattle.rx_typeck_solver.specs.declared.facts.Op.TheVariants as op
 use Rattle.rx_typeck_solver.specs.declared.facts.Demand.{Demand}
-use Rattle.rx_typeck_solver.specs.Facts.{Types, Known, MeetsEach}
+use Rattle.rx_typeck_solver.specs.Facts.{Assignment, KnownItems, MeetsEach}
 use Rattle.rx_typeck_solver.specs.declared.facts.Broken.{Broken}
 use Rattle.rx_typeck_solver.specs.declared.facts.Fact.{Fact}
 use Rattle.rx_typeck_typed.specs.Asking.{Asking, ◌>>◌, nothing, asks}
@@ -16,7 +16,7 @@ use Rattle.rx_hoist_naming.proofs.Good.{GoodFact}
 use Rattle.rx_hoist_naming.proofs.Asked as asked
 use Rattle.rx_hoist_meant.specs.Placed.{Placed, PlacedAll, PlacedElse, PlacedFields, PlacedArms, PlacedBody, PlacedStatement, PlacedRow}
 
-module _ (C : Claims) (K : Known) (A : Types) where
+module _ (C : Claims) (K : KnownItems) (A : Assignment) where
   abbrev Asks : Type 0 → Asking → Type 0
   Asks R a = asked.Asks C K A R a
 

@@ -7,7 +7,7 @@ use Rattle.std.proofs.lemmas.Slice.Eq.{bytes_eq-Decides}
 use Rattle.rx_core.specs.Bytes.{same_bytes}
 use Rattle.rx_core.proofs.BytesLemmas.{same_bytes-true, same_bytes-equal}
 use Rattle.rx_tree.specs.Positions.{NodeTree}
-use Rattle.rx_resolve_names.specs.Scopes.{Declared, Variables, variable_named, entered}
+use Rattle.rx_resolve_names.specs.Scopes.{DeclaredNames, Variables, variable_named, entered}
 use Rattle.rx_typed.specs.Named as named
 use Rattle.rx_typed.specs.Named.{Exp, Exps, Else, Fields, Arms, Body, Statement, Statements}
 use Rattle.rx_typed.specs.Elaborated.{variables}
@@ -60,18 +60,18 @@ module _ (names : List (List ℕ)) where
   ScopeIs (x ∷ xs) (v ∷ vs) = (x ≡ v.number) × (slice_get names x ≡ Some v.name) × ScopeIs xs vs
   ScopeIs _ _ = ⊥
 
-  abbrev pub NumbersAre : List ℕ → Declared → Type 0
+  abbrev pub NumbersAre : List ℕ → DeclaredNames → Type 0
   NumbersAre [] [] = Unit {0}
   NumbersAre (x ∷ xs) (d ∷ ds) = (x ≡ d.1.number) × (slice_get names x ≡ Some d.0) × NumbersAre xs ds
   NumbersAre _ _ = ⊥
 
-  pub both_numbers : (xs ys : List ℕ) (ds es : Declared) → NumbersAre xs ds → NumbersAre ys es → NumbersAre (xs ++ ys) (ds ++ es)
+  pub both_numbers : (xs ys : List ℕ) (ds es : DeclaredNames) → NumbersAre xs ds → NumbersAre ys es → NumbersAre (xs ++ ys) (ds ++ es)
   both_numbers [] ys [] es g h = h
   both_numbers [] ys (d ∷ ds) es g h = absurd g
   both_numbers (x ∷ xs) ys [] es g h = absurd g
   both_numbers (x ∷ xs) ys (d ∷ ds) es g h = (g.0, g.1, both_numbers xs ys ds es g.2 h)
 
-  pub entered_is : (xs : List ℕ) (ds : Declared) (vs : List ℕ) (sc : Variables) → NumbersAre xs ds → ScopeIs vs sc → ScopeIs (reverse xs ++ vs) (entered sc ds)
+  pub entered_is : (xs : List ℕ) (ds : DeclaredNames) (vs : List ℕ) (sc : Variables) → NumbersAre xs ds → ScopeIs vs sc → ScopeIs (reverse xs ++ vs) (entered sc ds)
   entered_is [] [] vs sc g h = h
   entered_is [] (d ∷ ds) vs sc g h = absurd g
   entered_is (x ∷ xs) [] vs sc g h = absurd g

@@ -18,7 +18,7 @@ use Rattle.rx_exits_plan.specs.Blocks.{bound}
 use Rattle.rx_exits_plan.specs.Spots.{Around, with_variables, with_loop}
 use Rattle.rx_typeck_solver.specs.declared.facts.Op.TheVariants as op
 use Rattle.rx_typeck_solver.specs.declared.facts.Demand.{Demand}
-use Rattle.rx_typeck_solver.specs.Facts.{Types, Known, MeetsEach}
+use Rattle.rx_typeck_solver.specs.Facts.{Assignment, KnownItems, MeetsEach}
 use Rattle.rx_typeck_solver.specs.declared.facts.Broken.{Broken}
 use Rattle.rx_typeck_solver.specs.declared.facts.Fact.{Fact}
 use Rattle.rx_typeck_typed.specs.Asking.{Asking, ◌>>◌, nothing, asks}
@@ -75,7 +75,7 @@ module _ (T : Assigned) where
 
 -- ---- the parts of a typed tree, as it is put together
 
-module _ (C : Claims) (K : Known) (A : Types) (same : ℕ → ℕ → Bool) where
+module _ (C : Claims) (K : KnownItems) (A : Assignment) (same : ℕ → ℕ → Bool) where
   abbrev pub T : Assigned
   T = asked.T C K A
 

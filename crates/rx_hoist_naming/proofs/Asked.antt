@@ -23,14 +23,14 @@ use Rattle.rx_typeck_solver.specs.declared.facts.Passing.{Passing}
 use Rattle.rx_typeck_solver.specs.declared.facts.Fact.{Fact}
 use Rattle.rx_typeck_solver.specs.declared.facts.Fact.TheVariants as fact
 use Rattle.rx_typeck_solver.specs.declared.facts.Demand.{Demand}
-use Rattle.rx_typeck_solver.specs.Facts.{Types, Known, MeetsAll, MeetsEach}
+use Rattle.rx_typeck_solver.specs.Facts.{Assignment, KnownItems, MeetsAll, MeetsEach}
 use Rattle.rx_typeck_typed.specs.Asking.{Asking, ◌>>◌, nothing, asks, when, typed}
 use Rattle.rx_typeck_typed.specs.Demands as rules
 use Rattle.rx_hoist_naming.proofs.Claims.{Claims, OfWritten, OfWrittens, OfAnnotation, OfPattern, OfPatterns, OfFieldPatterns, IsPlaced, OfExp, OfExps, OfElse, OfFields, OfArms, OfBody, OfStatement, OfStatements, OfParameters, OfFunction}
 use Rattle.rx_hoist_naming.proofs.Good.{GoodOp, GoodFact, GoodDemand, GoodDemands, every_append}
 use Rattle.rx_hoist_naming.proofs.Occurring as occurring
 
-module _ (C : Claims) (K : Known) (A : Types) where
+module _ (C : Claims) (K : KnownItems) (A : Assignment) where
   abbrev pub T : Assigned
   T = record { items = K.items; typ = λ n. A (subject.Node n); expected = λ n. A (subject.Expected n) }
 
@@ -374,7 +374,7 @@ module _ (C : Claims) (K : Known) (A : Types) where
   each_after_u (rules.parts_of i v) e = none
 
   pub integer_asks : (n : Node) (m : Bool) (v : ℕ) (k : Option Kind) → Asks (NoPlace n.site) (rules.integer_at n m v k)
-  integer_asks n m v k = then_second (asked n _ _ _ tt) (then_second (asked n _ _ _ tt) (value_asks n n.site))
+  integer_asks n m v k = then_second (asked n _ _ _ tt) (then_first (value_asks n n.site) (asked n _ _ _ tt))
 
   -- ---- what expressions give
 

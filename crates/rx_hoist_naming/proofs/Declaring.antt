@@ -27,7 +27,7 @@ use Rattle.rx_typed_declarations.specs.Held.{field_types, variant_types}
 use Rattle.rx_typed_declarations.specs.WellFormed.{is_adt, all_below, fits, all_fit, bounds_fit, item_fits, signature_fits, WellFormed, WellSigned}
 use Rattle.rx_typed_declarations.specs.Sizes.{Sized, declared_parts}
 use Rattle.rx_typed_declarations.proofs.RegionLemmas.{is_erased, item_erased}
-use Rattle.rx_typeck_solver.specs.Facts.{Known}
+use Rattle.rx_typeck_solver.specs.Facts.{KnownItems}
 use Rattle.rx_typeck_typed.specs.Steps as steps
 use Rattle.rx_typeck_typed.specs.Items.{declared_item, declared_items, entries_of, fields_of, variants_of, begins, all_used, derives_copy, bounded, bounds_of, entry_of, parameters_of, answer_of}
 use Rattle.rx_hoist_naming.specs.Words.{is_type_item}
@@ -162,7 +162,7 @@ no_parts P (Some (types.struct_declared c l fs)) e = absurd (cc)
 no_parts P (Some (types.enum_declared c l vs)) e = absurd (cc)
 no_parts P (Some (types.function_declared ps t)) e = refl
 
-pub renames : (K : Known) → Sized K.items K.sizes → Renames K (others K.items)
+pub renames : (K : KnownItems) → Sized K.items K.sizes → Renames K (others K.items)
 renames K Z = record {
   kept = λ i e. ap (λ (b : Bool). other_by (length K.items) b i) e;
   gone = λ i e. past i (is_adt (slice_get K.items i)) e;

@@ -28,7 +28,7 @@ use Rattle.rx_modes_policy.specs.declared.uses.Mode.{Mode}
 use Rattle.rx_hoist_extraction.specs.Names as names
 use Rattle.rx_hoist_extraction.specs.Plan as plan
 use Rattle.rx_hoist_extraction.specs.Plan.{Variable, Param, Leaving, Pins, Plan, same_exit, has_exit, outs_of}
-use Rattle.rx_hoist_extraction.specs.Values.{result_of as handed_out, held_by, result_if_any, unless_unit, held, values_at, values_of, next_values}
+use Rattle.rx_hoist_extraction.specs.Values.{result_of as handed_out, held_by, result_if_any, unless_unit, variables_held, values_at, values_of, next_values}
 use Rattle.rx_hoist_extraction.specs.NewFunction.{signature_positions}
 use Rattle.rx_hoist_extraction.specs.FormedPlan.{TypeSpells, MaybeSpells, VariableSpells, PinsSpell, FormedPlan}
 use Rattle.rx_hoist_nodes.specs.Nodes.{nodes_of}
@@ -174,7 +174,7 @@ one_unless t = by (plan.is_unit t)
     by false = omega arith
 
 values_few : (pl : Plan) (x : plan.Exit) (vs : List Variable) → length (values_at pl x vs) ≤ 1 + length vs
-values_few pl plan.to_next vs = let a = one_result pl.value in let b = length-append (result_if_any pl.value) (held vs) in let c = length-map vs (λ v. held_by v) in omega (arith, a, b, c)
+values_few pl plan.to_next vs = let a = one_result pl.value in let b = length-append (result_if_any pl.value) (variables_held vs) in let c = length-map vs (λ v. held_by v) in omega (arith, a, b, c)
 values_few pl (plan.to_break k) vs = let c = length-map vs (λ v. held_by v) in omega (arith, c)
 values_few pl (plan.to_continue k) vs = let c = length-map vs (λ v. held_by v) in omega (arith, c)
 values_few pl plan.to_return vs = let a = one_unless pl.result in omega (arith, a)

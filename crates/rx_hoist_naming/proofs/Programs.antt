@@ -26,7 +26,7 @@ use Rattle.rx_typed_declarations.proofs.RegionLemmas.{is_erased}
 use Rattle.rx_typed_declarations.proofs.Polarities.{same_declared}
 use Rattle.rx_typeck_elaborate_parts.specs.Assigning.{shape_of}
 use Rattle.rx_typeck_solver.specs.declared.facts.Subject.{Subject}
-use Rattle.rx_typeck_solver.specs.Facts.{Known}
+use Rattle.rx_typeck_solver.specs.Facts.{KnownItems}
 use Rattle.rx_typeck_solver.specs.Views.{unnumbered, all_unnumbered}
 use Rattle.rx_typeck_typed.specs.Demands.{task}
 use Rattle.rx_typeck_typed.specs.declared.typed.Typed.{Typed}
@@ -145,7 +145,7 @@ module _ (p : ProgramTree) (ns : List ItemNames) (t : Typed) (few : IsNumbered p
   abbrev G : Given
   G = record { program = p; declared = typed.declared; sizes = typed.sizes }
 
-  abbrev K : Known
+  abbrev K : KnownItems
   K = known_in G
 
   abbrev D : Declarations

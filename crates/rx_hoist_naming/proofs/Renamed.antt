@@ -17,7 +17,7 @@ use Rattle.rx_typeck_solver.specs.declared.facts.Test.TheVariants as test
 use Rattle.rx_typeck_solver.specs.declared.facts.Fact.{Fact}
 use Rattle.rx_typeck_solver.specs.declared.facts.Fact.TheVariants as fact
 use Rattle.rx_typeck_solver.specs.declared.facts.Demand.{Demand}
-use Rattle.rx_typeck_solver.specs.Facts.{Types, Known, bound, coerced, fixed, field_of, part_of, pointee, of_one, of_two, made, is_plain, is_integer, is_truth, is_tuple, is_item, is_mutable_reference, is_lent, binding_kept, binding_writable, test_one, test_two, all_mutable, is_none, holds, gone_through, passed, types_at, outlines_at, Meets, MeetsAll, MeetsEach}
+use Rattle.rx_typeck_solver.specs.Facts.{Assignment, KnownItems, bound, coerced, fixed, field_of, part_of, pointee, of_one, of_two, made, is_plain, is_integer, is_truth, is_tuple, is_item, is_mutable_reference, is_lent, binding_kept, binding_writable, test_one, test_two, all_mutable, is_none, holds, gone_through, passed, types_at, outlines_at, Meets, MeetsAll, MeetsEach}
 use Rattle.rx_typeck_solver.specs.Valid.{Task, PrefersI32, Valid, Told}
 use Rattle.rx_hoist_naming.proofs.Good.{GoodOp, GoodTest, GoodFact, GoodDemands}
 
@@ -215,7 +215,7 @@ pub record DeclaredWell (D : Declarations) : Type 0 where
   pub results : (f : ℕ) (t : Typ) → result_declared (slice_get D f) ≡ Some t → Names (λ i. is_adt (slice_get D i) ≡ true) t
 
 -- other numbers for what is no struct or enum
-pub record Renames (K : Known) (r : ℕ → ℕ) : Type 0 where
+pub record Renames (K : KnownItems) (r : ℕ → ℕ) : Type 0 where
   pub kept : (i : ℕ) → is_adt (slice_get K.items i) ≡ true → r i ≡ i
   pub gone : (i : ℕ) → is_adt (slice_get K.items i) ≡ false → is_adt (slice_get K.items (r i)) ≡ false
   pub other : (i : ℕ) → r i ≡ i → is_adt (slice_get K.items i) ≡ true
@@ -238,7 +238,7 @@ no_copy (Some (function_declared ps t)) e = refl
 true_by : (b c : Bool) → b ≡ c → IsTrue c → IsTrue b
 true_by b c e h = subst IsTrue (sym e) h
 
-module _ (K : Known) (r : ℕ → ℕ) (W : DeclaredWell K.items) (R : Renames K r) where
+module _ (K : KnownItems) (r : ℕ → ℕ) (W : DeclaredWell K.items) (R : Renames K r) where
   abbrev D : Declarations
   D = K.items
 
@@ -453,22 +453,22 @@ module _ (K : Known) (r : ℕ → ℕ) (W : DeclaredWell K.items) (R : Renames K
 
   -- ---- facts
 
-  abbrev others : Types → Types
+  abbrev others : Assignment → Assignment
   others A = λ x. renamed r (A x)
 
-  passed_others : (A : Types) (ps : List Passing) → passed (others A) ps ≡ passed A ps
+  passed_others : (A : Assignment) (ps : List Passing) → passed (others A) ps ≡ passed A ps
   passed_others A [] = refl
   passed_others A (p ∷ ps) = ap (λ (l : List Bool). l ++ passed (others A) ps) (gone_renamed r p.all (A (subject.Node p.node))) ∙ ap (λ (l : List Bool). gone_through p.all (A (subject.Node p.node)) ++ l) (passed_others A ps)
 
-  types_others : (A : Types) (xs : List Subject) → types_at (others A) xs ≡ map (renamed r) (types_at A xs)
+  types_others : (A : Assignment) (xs : List Subject) → types_at (others A) xs ≡ map (renamed r) (types_at A xs)
   types_others A [] = refl
   types_others A (x ∷ xs) = ap (λ (l : List Typ). renamed r (A x) ∷ l) (types_others A xs)
 
-  outlines_others : (A : Types) (xs : List Subject) → outlines_at (others A) xs ≡ map (renamed r) (outlines_at A xs)
+  outlines_others : (A : Assignment) (xs : List Subject) → outlines_at (others A) xs ≡ map (renamed r) (outlines_at A xs)
   outlines_others A [] = refl
   outlines_others A (x ∷ xs) = ap (λ (o : Outline). o ∷ outlines_at (others A) xs) (outline_renamed r (A x)) ∙ ap (λ (l : List Outline). renamed r (outline (A x)) ∷ l) (outlines_others A xs)
 
-  meets_others : (A : Types) (f : Fact) → GoodFact IsAdt f → Meets K A f → Meets K (others A) f
+  meets_others : (A : Assignment) (f : Fact) → GoodFact IsAdt f → Meets K A f → Meets K (others A) f
   meets_others A (fact.Equals x o xs ps) g e =
       ap (λ (ts : List Typ). made (λ (k : Kind). k) D o ts (passed (others A) ps)) (types_others A xs) ∙ ap (λ (ms : List Bool). made (λ (k : Kind). k) D o (map (renamed r) (types_at A xs)) ms) (passed_others A ps)
       ∙ made_renamed o g (types_at A xs) (passed A ps) ∙ ap (λ (t : Option Typ). option_map (renamed r) t) e
@@ -480,16 +480,16 @@ module _ (K : Known) (r : ℕ → ℕ) (W : DeclaredWell K.items) (R : Renames K
       (subst (λ (ms : List Bool). IsTrue (holds K t (map (renamed r) (outlines_at A xs)) (passed A ps) ms)) (sym (passed_others A qs)) (holds_renamed t g (outlines_at A xs) (passed A ps) (passed A qs) h)))
   meets_others A fact.Never g h = h
 
-  all_others : (A : Types) (fs : List Fact) → Every (GoodFact IsAdt) fs → MeetsAll K A fs → MeetsAll K (others A) fs
+  all_others : (A : Assignment) (fs : List Fact) → Every (GoodFact IsAdt) fs → MeetsAll K A fs → MeetsAll K (others A) fs
   all_others A [] g h = h
   all_others A (f ∷ fs) g h = (meets_others A f g.0 h.0, all_others A fs g.1 h.1)
 
-  each_others : (A : Types) (ds : List Demand) → GoodDemands IsAdt ds → MeetsEach K A ds → MeetsEach K (others A) ds
+  each_others : (A : Assignment) (ds : List Demand) → GoodDemands IsAdt ds → MeetsEach K A ds → MeetsEach K (others A) ds
   each_others A [] g h = h
   each_others A (d ∷ ds) g h = (all_others A d.facts g.0 h.0, each_others A ds g.1 h.1)
 
   -- a valid assignment is the only one, so it names structs and enums alone
-  pub told_named : (task : Task) (A : Types) → GoodDemands IsAdt task.demands → Valid K task A → (x : Subject) → Told task.demands x → Names IsAdt (A x)
+  pub told_named : (task : Task) (A : Assignment) → GoodDemands IsAdt task.demands → Valid K task A → (x : Subject) → Told task.demands x → Names IsAdt (A x)
   told_named task A g v x t =
       let p = v.prefers in
       let other : PrefersI32 K task (others A) = record {

@@ -8,8 +8,8 @@ use Rattle.rx_tree.specs.Plain as plain
 use Rattle.rx_tree.specs.Plain.{TypeTree, TypeTrees, PatternTree, PatternTrees, FieldPatterns}
 use Rattle.rx_tree.specs.Positions.{a_pattern, a_type}
 use Rattle.rx_tree.specs.Nodes.{below_type, within_types, within_type, below_pattern, within_patterns, within_field_patterns}
-use Rattle.rx_resolve_names.specs.declared.table.Known.{Known}
-use Rattle.rx_resolve_names.specs.Scopes.{Declared, declared_as, Variable, Variables, variable_named, entered}
+use Rattle.rx_resolve_names.specs.declared.table.NumberedName.{NumberedName}
+use Rattle.rx_resolve_names.specs.Scopes.{DeclaredNames, declared_as, Variable, Variables, variable_named, entered}
 use Rattle.rx_resolve_names.specs.declared.resolved.ItemNames.{ItemNames}
 use Rattle.rx_resolve_names.specs.declared.resolved.NodeNames.{NodeNames}
 use Rattle.rx_resolve_names.specs.Meant.{number}
@@ -46,14 +46,14 @@ no_result_binds (Some y) = no_type_binds y
 abbrev pub ScopeBelow : ℕ → Variables → Type 0
 ScopeBelow k sc = (x : List ℕ) (n : ℕ) → variable_named sc x ≡ Some n → n < k
 
-abbrev pub DeclaredBelow : ℕ → Declared → Type 0
+abbrev pub DeclaredBelow : ℕ → DeclaredNames → Type 0
 DeclaredBelow k [] = Unit {0}
 DeclaredBelow k (d ∷ ds) = (d.1.number < k) × DeclaredBelow k ds
 
 pub scope_later : (k l : ℕ) (sc : Variables) → k ≤ l → ScopeBelow k sc → ScopeBelow l sc
 scope_later k l sc m h x n e = let a = h x n e in omega (arith, a, m)
 
-pub declared_later : (k l : ℕ) (ds : Declared) → k ≤ l → DeclaredBelow k ds → DeclaredBelow l ds
+pub declared_later : (k l : ℕ) (ds : DeclaredNames) → k ≤ l → DeclaredBelow k ds → DeclaredBelow l ds
 declared_later k l [] m h = tt
 declared_later k l (d ∷ ds) m h = let a = h.0 in (omega (arith, a, m), declared_later k l ds m h.1)
 
@@ -64,24 +64,24 @@ scope_one k v sc l h x n = by (bytes_eq x v.name) (h x n)
     by true r e = let s : v.number ≡ n = cc in subst (λ (z : ℕ). z < k) s l
     by false r e = r e
 
-pub scope_entered : (k : ℕ) (sc : Variables) (ds : Declared) → ScopeBelow k sc → DeclaredBelow k ds → ScopeBelow k (entered sc ds)
+pub scope_entered : (k : ℕ) (sc : Variables) (ds : DeclaredNames) → ScopeBelow k sc → DeclaredBelow k ds → ScopeBelow k (entered sc ds)
 scope_entered k sc [] h b = h
 scope_entered k sc (d ∷ ds) h b = scope_entered k (record { name = d.0; number = d.1.number } ∷ sc) ds (scope_one k (record { name = d.0; number = d.1.number }) sc b.0 h) b.1
 
-below_more : (k : ℕ) (ds : Declared) (x : List ℕ) (d : Known) → DeclaredBelow k ds → d.number < k → DeclaredBelow k (ds ++ (x, d) ∷ [])
+below_more : (k : ℕ) (ds : DeclaredNames) (x : List ℕ) (d : NumberedName) → DeclaredBelow k ds → d.number < k → DeclaredBelow k (ds ++ (x, d) ∷ [])
 below_more k [] x d h l = (l, tt)
 below_more k (c ∷ ds) x d h l = (h.0, below_more k ds x d h.1 l)
 
-declared_behind_is : (ds new : Declared) (x : Ident) (n : ℕ) (o : Option Known) → declared_behind ds x n o ≡ Ok new → new ≡ ds ++ (x.name, record { number = number n; span = x.span }) ∷ []
+declared_behind_is : (ds new : DeclaredNames) (x : Ident) (n : ℕ) (o : Option NumberedName) → declared_behind ds x n o ≡ Ok new → new ≡ ds ++ (x.name, record { number = number n; span = x.span }) ∷ []
 declared_behind_is ds new x n None e = sym (the_same _ _ e)
 declared_behind_is ds new x n (Some k) e = absurd (cc)
 
 number_least : (n k : ℕ) → n < k → number n < k
 number_least n k h = omega (arith, h)
 
-pub declare_below : (k : ℕ) (ds new : Declared) (x : Ident) (n : ℕ) → declare ds x n ≡ Ok new → DeclaredBelow k ds → n < k → DeclaredBelow k new
+pub declare_below : (k : ℕ) (ds new : DeclaredNames) (x : Ident) (n : ℕ) → declare ds x n ≡ Ok new → DeclaredBelow k ds → n < k → DeclaredBelow k new
 declare_below k ds new x n e h l =
-    subst (λ (z : Declared). DeclaredBelow k z) (sym (declared_behind_is ds new x n (declared_as ds x.name) e))
+    subst (λ (z : DeclaredNames). DeclaredBelow k z) (sym (declared_behind_is ds new x n (declared_as ds x.name) e))
     (below_more k ds x.name (record { number = number n; span = x.span }) h (number_least n k l))
 
 -- ---- what names mean
@@ -184,7 +184,7 @@ module _ (C : Claims) (I : Inside) (N : ℕ) (S : Sees C I N) where
   bind_taken at s x w b b1 e h =
       let n = length b.tables.vars in
       let X = entry I at (number n ∷ []) in
-      let to : Declared → Bound = λ ds. record { bindings = ds; tables = with_names X (with_variable x.span b.tables) } in
+      let to : DeclaredNames → Bound = λ ds. record { bindings = ds; tables = with_names X (with_variable x.span b.tables) } in
       let d = named_ok (declare b.bindings x n) (λ ds. Ok (to ds)) b1 e in
       let m : length (to d.0).tables.vars ≡ suc n = one_more b.tables.vars x.span in
       subst (λ (v : Bound). PatternTaken (plain.bind s x w) b v) (the_same (to d.0) b1 d.2) (record {

@@ -9,9 +9,9 @@ use Rattle.rx_lower_walks.specs.Graph.{Site, site_at}
 use Rattle.rx_lower_lifetimes.specs.Numbered.{Own}
 use Rattle.rx_facts_tables.proofs.Ways.{site_within}
 use Rattle.rx_loan.specs.Accesses.{Loan, acts_against}
-use Rattle.rx_loan.specs.Loans.{loans_of, InScope, Meets, IsLegal}
+use Rattle.rx_loan.specs.Loans.{loans_of, InScope, MeetsLoan, IsLegal}
 use Rattle.rx_loan.specs.PlainOf.{plain-Loan}
-use Rattle.rx_loan.specs.Tables.{IsTable, IsMet, NoneForbids, OneForbids}
+use Rattle.rx_loan.specs.Tables.{IsLoanTable, IsMet, NoneForbids, OneForbids}
 use Rattle.rx_loan.specs.declared.accesses.Loan.{Loan as LoanOf}
 use Rattle.rx_loan.specs.declared.table.LoanTable.{LoanTable}
 
@@ -79,9 +79,9 @@ at_among (m ∷ ls) zero l h = subst (λ x. Among l (x ∷ ls)) (some_is h) here
 at_among (m ∷ ls) (suc i) l h = there (at_among ls i l h)
 
 abbrev pub LegalBefore : List Site → (ℕ → ℕ → Bool) → List Loan → ℕ → Type 0
-LegalBefore g R ls k = (l : Loan) (p : ℕ) → p < k → Meets g R ls l p → ⊥
+LegalBefore g R ls k = (l : Loan) (p : ℕ) → p < k → MeetsLoan g R ls l p → ⊥
 
-pub legal_next : (g : List Site) (os : List Own) (R : ℕ → ℕ → Bool) (t : LoanTable) (k : ℕ) (s : Site) → IsTable g os R t → site_at g k ≡ Some s
+pub legal_next : (g : List Site) (os : List Own) (R : ℕ → ℕ → Bool) (t : LoanTable) (k : ℕ) (s : Site) → IsLoanTable g os R t → site_at g k ≡ Some s
     → NoneForbids t (acts_against s.action.act) k → LegalBefore g R (loans_of g os) k → LegalBefore g R (loans_of g os) (k + 1)
 legal_next g os R t k s table at_k none before l p h meets = one (cases_eq p k) where
   same_site : (a b : Site) → Some a ≡ Some b → a ≡ b
@@ -101,7 +101,7 @@ legal_next g os R t k s table at_k none before l p h meets = one (cases_eq p k) 
 pub legal_at_all : (g : List Site) (R : ℕ → ℕ → Bool) (ls : List Loan) (k : ℕ) → length g ≤ k → LegalBefore g R ls k → IsLegal g R ls
 legal_at_all g R ls k past before l p meets = before l p (omega (arith, past, site_within g p meets.against.0 meets.against.1)) meets
 
-pub one_met : (g : List Site) (os : List Own) (R : ℕ → ℕ → Bool) (t : LoanTable) (k b : ℕ) (s : Site) → IsTable g os R t → site_at g k ≡ Some s
+pub one_met : (g : List Site) (os : List Own) (R : ℕ → ℕ → Bool) (t : LoanTable) (k b : ℕ) (s : Site) → IsLoanTable g os R t → site_at g k ≡ Some s
     → OneForbids t (acts_against s.action.act) k b → IsMet g R (loans_of g os) b k
 one_met g os R t k b s table at_k one =
     let at_i : slice_get (loans_of g os) one.0 ≡ Some one.1 = ap (λ ls. slice_get ls one.0) (sym table.list) ∙ one.2 in (

@@ -11,7 +11,7 @@ use Rattle.rx_region.specs.Tables.{sets_of, Keeps}
 use Rattle.rx_region.specs.declared.regions.Regions.{Regions}
 use Rattle.rx_facts_tables.proofs.Ways.{site_within}
 use Rattle.rx_loan.specs.Loans.{loans_of, IsLegal}
-use Rattle.rx_loan.specs.Tables.{IsTable, IsMet}
+use Rattle.rx_loan.specs.Tables.{IsLoanTable, IsMet}
 use Rattle.rx_loan.specs.declared.table.LoanTable.{LoanTable}
 use Rattle.rx_loan.proofs.Walking.{more_scope, fewer_legal}
 use Rattle.rx_loan.specs.Accepted.{at_sites, IsAccepted}
@@ -40,7 +40,7 @@ set_has r l p h = behind (nat_lt p r.sites) (at r.rows l p) h where
 
 -- a table by some sets of sites is one by others that have the same
 same_table : (g : List Site) (os : List Own) (R S : ℕ → ℕ → Bool) (t : LoanTable) → ((l p : ℕ) → p < length g → R l p ≡ true → S l p ≡ true)
-    → ((l p : ℕ) → p < length g → S l p ≡ true → R l p ≡ true) → IsTable g os R t → IsTable g os S t
+    → ((l p : ℕ) → p < length g → S l p ≡ true → R l p ≡ true) → IsLoanTable g os R t → IsLoanTable g os S t
 same_table g os R S t more fewer table = record {
   list = table.list;
   exact = λ i p l e w. (
@@ -56,7 +56,7 @@ same_least C g R S a b l p h = (b l (site p)).1 ((a l (site p)).0 h)
 -- ---- answers
 
 pub accepted : (C : Context) (g : List Site) (r : Regions) (t : LoanTable) → r.sites ≡ length g → AreLeast C g (sets_of r) → Keeps C (sets_of r)
-    → IsTable g C.lifetimes.owned (at r.rows) t → IsLegal g (at r.rows) (loans_of g C.lifetimes.owned) → AreLoans C g t
+    → IsLoanTable g C.lifetimes.owned (at r.rows) t → IsLegal g (at r.rows) (loans_of g C.lifetimes.owned) → AreLoans C g t
 accepted C g r t is least known table legal = record {
   accepted = (
     sets_of r,

@@ -4,7 +4,7 @@ use Rattle.std.specs.Prelude.{◌≡◌, ℕ, ◌<◌, Bool, true, List}
 use Rattle.rx_lower_walks.specs.Graph.{Site}
 use Rattle.rx_region.specs.Constraints.{Context}
 use Rattle.rx_region.specs.Solutions.{site, end, Sets, Solution}
-use Rattle.rx_region.specs.Known.{Known}
+use Rattle.rx_region.specs.Known.{KnownToOutlive}
 use Rattle.rx_loan.specs.Loans.{loans_of, IsLegal}
 
 -- whether a lifetime has a site
@@ -15,7 +15,7 @@ at_sites R l p = R l (site p)
 pub record AcceptedBy (C : Context) (g : List Site) (R : Sets) : Type 0 where
   pub solution : Solution C g R
   -- where the set of one of the function's own lifetimes has the end of another, it is known to outlive that
-  pub known : (l k : ℕ) → l < C.lifetimes.own → k < C.lifetimes.own → R l (end k) ≡ true → Known C l k
+  pub known : (l k : ℕ) → l < C.lifetimes.own → k < C.lifetimes.own → R l (end k) ≡ true → KnownToOutlive C l k
   pub legal : IsLegal g (at_sites R) (loans_of g C.lifetimes.owned)
 
 abbrev pub IsAccepted : Context → List Site → Type 0

@@ -5,7 +5,7 @@ use Rattle.rx_region.specs.Constraints.{Context}
 use Rattle.rx_region.specs.Solutions.{Sets, AreLeast}
 use Rattle.rx_region.specs.Known.{Missing}
 use Rattle.rx_loan.specs.Loans.{loans_of}
-use Rattle.rx_loan.specs.Tables.{IsTable, IsMet}
+use Rattle.rx_loan.specs.Tables.{IsLoanTable, IsMet}
 use Rattle.rx_loan.specs.declared.table.LoanTable.{LoanTable}
 use Rattle.rx_loan.specs.Accepted.{at_sites, IsAccepted}
 use Rattle.rx_loan.specs.declared.judging.BorrowFault.{BorrowFault}
@@ -14,7 +14,7 @@ use Rattle.rx_loan.specs.declared.judging.BorrowFault.TheVariants as fault
 -- the function is accepted, and the table says where each loan is in scope under the least sets
 pub record AreLoans (C : Context) (g : List Site) (t : LoanTable) : Type 0 where
   pub accepted : IsAccepted C g
-  pub exact : (R : Sets) → AreLeast C g R → IsTable g C.lifetimes.owned (at_sites R) t
+  pub exact : (R : Sets) → AreLeast C g R → IsLoanTable g C.lifetimes.owned (at_sites R) t
 
 -- no pair is missing; under the least sets a loan of this borrow is in scope at a site that accesses what it forbids
 pub record IsForbidden (C : Context) (g : List Site) (b p : ℕ) : Type 0 where

@@ -43,11 +43,11 @@ abbrev pub InScope : List Site → (ℕ → ℕ → Bool) → Loan → ℕ → T
 InScope g R l p = Reached (edges_of g) (R l.region) (λ q. ends_at (site_at g q) l.place) l.site p
 
 -- a site accesses what a loan in scope there forbids
-pub record Meets (g : List Site) (R : ℕ → ℕ → Bool) (ls : List Loan) (l : Loan) (p : ℕ) : Type 0 where
+pub record MeetsLoan (g : List Site) (R : ℕ → ℕ → Bool) (ls : List Loan) (l : Loan) (p : ℕ) : Type 0 where
   pub listed : Among l ls
   pub scope : InScope g R l p
   pub against : (s : Site) × (site_at g p ≡ Some s) × (acts_against s.action.act l ≡ true)
 
 -- no access meets a conflicting loan in scope
 abbrev pub IsLegal : List Site → (ℕ → ℕ → Bool) → List Loan → Type 0
-IsLegal g R ls = (l : Loan) (p : ℕ) → Meets g R ls l p → ⊥
+IsLegal g R ls = (l : Loan) (p : ℕ) → MeetsLoan g R ls l p → ⊥

@@ -7,18 +7,18 @@ use Rattle.rx_lower_walks.specs.Graph.{Site, site_at}
 use Rattle.rx_lower_lifetimes.specs.Numbered.{Own}
 use Rattle.rx_loan.specs.Accesses as accesses
 use Rattle.rx_loan.specs.Accesses.{Access, conflicts, acts_against}
-use Rattle.rx_loan.specs.Loans.{loans_of, ends_at, InScope, Meets}
+use Rattle.rx_loan.specs.Loans.{loans_of, ends_at, InScope, MeetsLoan}
 use Rattle.rx_loan.specs.PlainOf.{plain-Loan}
 use Rattle.rx_loan.specs.declared.table.LoanTable.{LoanTable}
 
 -- the loans of the sites, and of each the sites at which it is in scope
-pub record IsTable (g : List Site) (os : List Own) (R : ℕ → ℕ → Bool) (t : LoanTable) : Type 0 where
+pub record IsLoanTable (g : List Site) (os : List Own) (R : ℕ → ℕ → Bool) (t : LoanTable) : Type 0 where
   pub list : map plain-Loan t.list ≡ loans_of g os
   pub exact : (i p : ℕ) (l : accesses.Loan) → slice_get (loans_of g os) i ≡ Some l → p < length g → (at t.rows.items i p ≡ true) ↔ InScope g R l p
 
 -- a loan of this borrow is in scope at a site that accesses what it forbids
 abbrev pub IsMet : List Site → (ℕ → ℕ → Bool) → List accesses.Loan → ℕ → ℕ → Type 0
-IsMet g R ls b p = (l : accesses.Loan) × (l.site ≡ b) × Meets g R ls l p
+IsMet g R ls b p = (l : accesses.Loan) × (l.site ≡ b) × MeetsLoan g R ls l p
 
 -- ---- what private functions do
 

@@ -58,7 +58,7 @@ fn against(table: &LoanTable, act: &Act, site: usize) -> Option<u32>
 /// Some access does: the first site at which one does, and the borrow of the first loan that forbids it.
 pub fn legal(sites: &[Site], table: &LoanTable) -> Result<(), Conflict>
     requires { length sites.now ≤ 16384 }
-    ensures { (os : ListOf numbered.Own) (R : ℕ → ℕ → Bool) → tables.IsTable (map plain-Site sites.now) os R table.now
+    ensures { (os : ListOf numbered.Own) (R : ℕ → ℕ → Bool) → tables.IsLoanTable (map plain-Site sites.now) os R table.now
         → MatchResult result (λ _. spec.IsLegal (map plain-Site sites.now) R (spec.loans_of (map plain-Site sites.now) os))
         (λ f. tables.IsMet (map plain-Site sites.now) R (spec.loans_of (map plain-Site sites.now) os) f.borrow f.access) }
 {

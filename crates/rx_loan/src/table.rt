@@ -36,7 +36,7 @@ impl LoanTable {
     /// its region alone, none of which writes a prefix of its place before.
     pub fn in_scope(&self, loan: usize, site: usize) -> bool
         ensures held { result ≡ at self.now.rows.items loan site }
-        ensures exact { (g : ListOf graphs.Site) (os : ListOf numbered.Own) (R : ℕ → ℕ → Bool) (l : accesses.Loan) → tables.IsTable g os R self.now
+        ensures exact { (g : ListOf graphs.Site) (os : ListOf numbered.Own) (R : ℕ → ℕ → Bool) (l : accesses.Loan) → tables.IsLoanTable g os R self.now
             → slice_get (spec.loans_of g os) loan ≡ Some l → site < length g → (result ≡ true) ↔ spec.InScope g R l site }
     {
         self.row_holds(loan, site)
@@ -120,7 +120,7 @@ pub fn loans(
     regions: &[Row],
 ) -> Result<LoanTable, AllocError>
     requires { length sites.now ≤ 16384 }
-    ensures { IfOk result (λ t. tables.IsTable (map plain-Site sites.now) (map plain-Own owned.now) (at regions.now) t) }
+    ensures { IfOk result (λ t. tables.IsLoanTable (map plain-Site sites.now) (map plain-Own owned.now) (at regions.now) t) }
 {
     let list = all_loans(alloc, sites, owned)?;
     let rows = scopes(alloc, sites, regions, list.as_slice())?;

@@ -15,7 +15,7 @@ use Rattle.rx_lower_walks.specs.Sums.{sum}
 use Rattle.rx_lower_walks.proofs.Standing.{alone}
 use Rattle.rx_lower_walks.proofs.Agrees.{sum_like}
 use Rattle.rx_typed.specs.Numbers.{capped}
-use Rattle.rx_lower_lifetimes.specs.Values.{Known, Held, value_type, hold, held_by}
+use Rattle.rx_lower_lifetimes.specs.Values.{KnownTypes, Held, value_type, hold, held_by}
 use Rattle.rx_lower_lifetimes.specs.Positions.{own_lifetimes, all_own}
 use Rattle.rx_lower_lifetimes.specs.Held.{held_acts, held_items, all_noted}
 
@@ -140,7 +140,7 @@ mutual
 
 -- ---- what is noted
 
-held_deed : (K : Known) (H : List Held) (a : Action) (us : List Action) (c : Act) → a.act ≡ c → held_by K H (deed a c ++ us) ≡ held_by K (hold H (filled c) (value_type K H c)) us
+held_deed : (K : KnownTypes) (H : List Held) (a : Action) (us : List Action) (c : Act) → a.act ≡ c → held_by K H (deed a c ++ us) ≡ held_by K (hold H (filled c) (value_type K H c)) us
 held_deed K H a us (Declare x) e = rw e refl
 held_deed K H a us (Dead x) e = refl
 held_deed K H a us (Read m p d) e = rw e refl
@@ -153,7 +153,7 @@ held_deed K H a us (Input d) e = rw e refl
 held_deed K H a us (Print t) e = rw e refl
 held_deed K H a us (Give t) e = rw e refl
 
-pub held_deeds : (K : Known) (H : List Held) (us : List Action) → held_by K H (deeds us) ≡ held_by K H us
+pub held_deeds : (K : KnownTypes) (H : List Held) (us : List Action) → held_by K H (deeds us) ≡ held_by K H us
 held_deeds K H [] = refl
 held_deeds K H (a ∷ us) = held_deed K H a (deeds us) a.act refl ∙ held_deeds K (hold H (filled a.act) (value_type K H a.act)) us
 
@@ -174,7 +174,7 @@ own_deeds : (D : List Decl) (us : List Action) → all_own D (deeds us) ≡ all_
 own_deeds D [] = refl
 own_deeds D (a ∷ us) = own_deed D a (deeds us) a.act refl ∙ ap (λ n. own_lifetimes D a.act + n) (own_deeds D us)
 
-notes_are : (K : Known) (H : List Held) (n : ℕ) (us : List Action)
+notes_are : (K : KnownTypes) (H : List Held) (n : ℕ) (us : List Action)
     → all_noted K (record { held = H; own = capped n }) us ≡ record { held = held_by K H us; own = capped (n + all_own K.items us) }
 notes_are K H n [] = let e : capped n ≡ capped (n + 0) = omega arith in ap (λ m. record { held = H; own = m }) e
 notes_are K H n (a ∷ us) =
@@ -186,7 +186,7 @@ notes_are K H n (a ∷ us) =
     ∙ ap (λ m. record { held = held_by K H' us; own = m }) f
 
 -- the sites of a flow's graph, and what is noted of the flow
-pub flow_notes : (K : Known) (f : Flow) → let us = actions_of (graph_of (order_of f)) in
+pub flow_notes : (K : KnownTypes) (f : Flow) → let us = actions_of (graph_of (order_of f)) in
     all_noted K (record { held = []; own = 0 }) (held_acts f) ≡ record { held = held_by K [] us; own = capped (all_own K.items us) }
 flow_notes K f =
     let us = actions_of (graph_of (order_of f)) in

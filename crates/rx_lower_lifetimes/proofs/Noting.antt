@@ -5,10 +5,10 @@ use Rattle.std.proofs.lemmas.List.{at_drop_more}
 use Rattle.rx_lower_walks.specs.declared.flow.Item as code
 use Rattle.rx_lower_walks.specs.Flows.{Items, Item, doing, ending, may, trying, item_and, items_of}
 use Rattle.rx_lower_walks.specs.PlainFlow.{plain-Item}
-use Rattle.rx_lower_lifetimes.specs.Values.{Known}
+use Rattle.rx_lower_lifetimes.specs.Values.{KnownTypes}
 use Rattle.rx_lower_lifetimes.specs.Held.{held_items, item_acts, goes_on, Notes, noted, all_noted}
 
-pub noted_append : (K : Known) (N : Notes) (us bs : List Action) → all_noted K N (us ++ bs) ≡ all_noted K (all_noted K N us) bs
+pub noted_append : (K : KnownTypes) (N : Notes) (us bs : List Action) → all_noted K N (us ++ bs) ≡ all_noted K (all_noted K N us) bs
 noted_append K N [] bs = refl
 noted_append K N (a ∷ us) bs = noted_append K (noted K N a) us bs
 
@@ -27,7 +27,7 @@ items_first is l i it less it_is =
     ∙ ap (λ y. items_of (map plain-Item (y ∷ drop (i + 1) is)) l) (sym it_is)
 
 -- a turn of the loop over a sequence: what follows the item is reached, or not
-pub notes_turn : (K : Known) (N M : Notes) (is : List code.Item) (l : Items) (i : ℕ) (it : code.Item) → i < length is → it ≡ get_or is i it
+pub notes_turn : (K : KnownTypes) (N M : Notes) (is : List code.Item) (l : Items) (i : ℕ) (it : code.Item) → i < length is → it ≡ get_or is i it
     → (goes : Bool) → goes_on (plain-Item it) ≡ goes → M ≡ all_noted K N (item_acts (plain-Item it))
     → all_noted K M (if goes then held_items (items_of (map plain-Item (drop (i + 1) is)) l) else []) ≡ all_noted K N (held_items (items_of (map plain-Item (drop i is)) l))
 notes_turn K N M is l i it less it_is goes e noted_is =

@@ -5,7 +5,7 @@ use Rattle.rx_typed.specs.Regions.{RegionTyp}
 use Rattle.rx_typed.specs.Tree.{Temporary}
 use Rattle.rx_lower_walks.specs.Actions.{Action, filled}
 use Rattle.rx_lower_walks.specs.Walks.{Among, here, there}
-use Rattle.rx_lower_lifetimes.specs.Values.{Known, Held, same, is_held, value_type, hold, held_by}
+use Rattle.rx_lower_lifetimes.specs.Values.{KnownTypes, Held, same, is_held, value_type, hold, held_by}
 
 same_itself : (t : Temporary) → same t t ≡ true
 same_itself t = rw ((Decides-eqb t.node t.node).1 refl, (Decides-eqb t.which t.which).1 refl) refl
@@ -41,11 +41,11 @@ becomes_held H d t = go (is_held H d) refl
     go true e = e
     go false e = held_last H d t
 
-all_stay : (K : Known) (us : List Action) (H : List Held) (d : Temporary) → is_held H d ≡ true → is_held (held_by K H us) d ≡ true
+all_stay : (K : KnownTypes) (us : List Action) (H : List Held) (d : Temporary) → is_held H d ≡ true → is_held (held_by K H us) d ≡ true
 all_stay K [] H d e = e
 all_stay K (a ∷ us) H d e = all_stay K us (hold H (filled a.act) (value_type K H a.act)) d (stays_held H (filled a.act) (value_type K H a.act) d e)
 
-pub filled_are_held : (K : Known) (us : List Action) (H : List Held) (a : Action) (d : Temporary) → Among a us → filled a.act ≡ Some d → is_held (held_by K H us) d ≡ true
+pub filled_are_held : (K : KnownTypes) (us : List Action) (H : List Held) (a : Action) (d : Temporary) → Among a us → filled a.act ≡ Some d → is_held (held_by K H us) d ≡ true
 filled_are_held K [] H a d i e = elim i [ ]
 filled_are_held K (u ∷ us) H a d here e =
     all_stay K us (hold H (filled u.act) (value_type K H u.act)) d

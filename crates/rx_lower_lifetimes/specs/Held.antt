@@ -6,7 +6,7 @@ use Rattle.rx_lower_walks.specs.Flows.{Flow, nothing, nowhere, act, items, or, l
 use Rattle.rx_lower_walks.specs.Around.{nothing_around}
 use Rattle.rx_lower_walks.specs.Sums.{sum}
 use Rattle.rx_typed.specs.Numbers.{capped}
-use Rattle.rx_lower_lifetimes.specs.Values.{Known, Held, value_type, hold}
+use Rattle.rx_lower_lifetimes.specs.Values.{KnownTypes, Held, value_type, hold}
 use Rattle.rx_lower_lifetimes.specs.Positions.{own_lifetimes}
 
 abbrev mutual
@@ -44,9 +44,9 @@ pub record Notes : Type 0 where
   pub held : List Held
   pub own : ℕ
 
-abbrev pub noted : Known → Notes → Action → Notes
+abbrev pub noted : KnownTypes → Notes → Action → Notes
 noted K N a = record { held = hold N.held (filled a.act) (value_type K N.held a.act); own = capped (N.own + own_lifetimes K.items a.act) }
 
-abbrev pub all_noted : Known → Notes → List Action → Notes
+abbrev pub all_noted : KnownTypes → Notes → List Action → Notes
 all_noted K N [] = N
 all_noted K N (a ∷ us) = all_noted K (noted K N a) us

@@ -9,7 +9,7 @@ use Rattle.rx_typed.specs.Tree as tree
 use Rattle.rx_lower_walks.specs.Actions.{Action}
 use Rattle.rx_lower_walks.specs.Pieces.{graph}
 use Rattle.rx_lower_walks.specs.Text.{actions_of}
-use Rattle.rx_lower_lifetimes.specs.Values.{Open, Known, Held, lifetimes_of, held_by, result_type}
+use Rattle.rx_lower_lifetimes.specs.Values.{Open, KnownTypes, Held, lifetimes_of, held_by, result_type}
 use Rattle.rx_lower_lifetimes.specs.Variables.{Written, open_types}
 use Rattle.rx_lower_lifetimes.specs.Positions.{all_own}
 use Rattle.rx_lower_lifetimes.specs.Numbered.{all_open, all_numbered, opened, Own, all_owned}
@@ -21,7 +21,7 @@ pub record Function : Type 0 where
   pub body : tree.Function
   pub variables : List Open
 
-abbrev pub known : Function → Known
+abbrev pub known : Function → KnownTypes
 known F = record { items = F.items; variables = F.variables }
 
 -- the actions of its sites, and the temporaries that they fill

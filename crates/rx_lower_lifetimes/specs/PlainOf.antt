@@ -17,7 +17,7 @@ plain-Open o = record { typ = region-Ty o.ty; from = o.from }
 abbrev pub plain-Held : Held → values.Held
 plain-Held h = record { temporary = plain-Temporary h.temporary; typ = region-Ty h.ty }
 
-abbrev pub known : List Decl → List Open → values.Known
+abbrev pub known : List Decl → List Open → values.KnownTypes
 known D vs = record { items = D; variables = map plain-Open vs }
 
 abbrev pub plain-Notes : Notes → acts.Notes

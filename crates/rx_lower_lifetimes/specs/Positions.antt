@@ -4,7 +4,7 @@ use Rattle.std.specs.Prelude.{ℕ, ◌+◌, List, [], ◌∷◌, length, slice_g
 use Rattle.rx_typed.specs.declared.declarations.Decl.{Decl}
 use Rattle.rx_typed.specs.Regions.{lifetimes_in}
 use Rattle.rx_lower_walks.specs.Actions.{Act, Borrow, Call, Action}
-use Rattle.rx_lower_lifetimes.specs.Values.{Open, Known, Held, lifetimes_of, held_by}
+use Rattle.rx_lower_lifetimes.specs.Values.{Open, KnownTypes, Held, lifetimes_of, held_by}
 
 -- the lifetimes that an action has of its own
 abbrev pub own_lifetimes : List Decl → Act → ℕ
@@ -25,5 +25,5 @@ in_held [] = 0
 in_held (h ∷ hs) = length (lifetimes_in h.typ) + in_held hs
 
 -- those of a function, by the actions of its sites
-abbrev pub positions : Known → List Action → ℕ
+abbrev pub positions : KnownTypes → List Action → ℕ
 positions K us = in_variables K.variables + (in_held (held_by K [] us) + all_own K.items us)

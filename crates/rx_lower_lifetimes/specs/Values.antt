@@ -26,7 +26,7 @@ pub record Open : Type 0 where
   pub from : ℕ
 
 -- what is declared, and the types of the variables by their numbers
-pub record Known : Type 0 where
+pub record KnownTypes : Type 0 where
   pub items : List Decl
   pub variables : List Open
 
@@ -52,11 +52,11 @@ held_type (h ∷ hs) t = if same h.temporary t then h.typ else held_type hs t
 abbrev pub open_unit : Open
 open_unit = record { typ = unit_region; from = 0 }
 
-abbrev pub root_type : Known → List Held → Root → RegionTyp
+abbrev pub root_type : KnownTypes → List Held → Root → RegionTyp
 root_type K H (variable x) = (get_or K.variables x open_unit).typ
 root_type K H (temporary t) = held_type H t
 
-abbrev pub type_in : Known → List Held → Place → RegionTyp
+abbrev pub type_in : KnownTypes → List Held → Place → RegionTyp
 type_in K H p = place_type K.items (root_type K H p.root) p.steps
 
 -- ---- what an action makes
@@ -98,7 +98,7 @@ abbrev pub result_type : Option Decl → RegionTyp
 result_type (Some (decl.Func l ps t bs)) = region-Ty t
 result_type _ = unit_region
 
-abbrev pub value_type : Known → List Held → Act → RegionTyp
+abbrev pub value_type : KnownTypes → List Held → Act → RegionTyp
 value_type K H (Read m p d) = type_in K H p
 value_type K H (Borrow k p d) = region_reference k 0 (type_in K H p)
 value_type K H (Call f ts d) = result_type (slice_get K.items f)
@@ -112,7 +112,7 @@ abbrev pub hold : List Held → Option Temporary → RegionTyp → List Held
 hold H None t = H
 hold H (Some d) t = if is_held H d then H else H ++ record { temporary = d; typ = t } ∷ []
 
-abbrev pub held_by : Known → List Held → List Action → List Held
+abbrev pub held_by : KnownTypes → List Held → List Action → List Held
 held_by K H [] = H
 held_by K H (a ∷ us) = held_by K (hold H (filled a.act) (value_type K H a.act)) us
 

@@ -2,7 +2,7 @@
 use Rattle.std.proofs.Common.{◌≡◌, ℕ, ◌+◌, ◌<◌, ◌≤◌, List, [], ◌∷◌, ◌++◌, Result, Ok, IfOk, map, drop, length, get_or, sym, ap, ◌∙◌, subst}
 use Rattle.std.specs.declared.alloc.AllocError.{AllocError}
 use Rattle.std.proofs.lemmas.List.{at_drop_all}
-use Rattle.rx_typed.specs.Tree.{Temporary, held, temporary_of, mark_of}
+use Rattle.rx_typed.specs.Tree.{Temporary, temporary_of, mark_of}
 use Rattle.rx_typed.specs.declared.tree.TypedTree.{TypedTree}
 use Rattle.rx_typed.specs.declared.tree.Operand.{Operand}
 use Rattle.rx_typed.specs.declared.tree.Arm.{Arm}

@@ -79,7 +79,7 @@ pub(crate) fn lazily(
     into: Temporary,
 ) -> Result<Flow, AllocError>
     ensures { IfOk result (λ it. order_of (plain-Flow it) ≡ order.then (order_of (plain-Flow first))
-        (order.then (order.act (at_mark (plain-Mark mark.now) (actions.Test (tree.held (plain-Temporary from)) (matching.equals (tree.truth both)))))
+        (order.then (order.act (at_mark (plain-Mark mark.now) (actions.Test (tree.temporary_place (plain-Temporary from)) (matching.equals (tree.truth both)))))
         (order.then (order.or (order.order (plain-Expr right.now) (tree.temporary_of (plain-Expr right.now))) order.nothing)
         (order.act (at_mark (plain-Mark mark.now) (actions.Build tree.lazy [] (plain-Temporary from ∷ tree.temporary_of (plain-Expr right.now) ∷ []) (plain-Temporary into))))))) }
 {

@@ -64,7 +64,7 @@ pub fn jump(node: usize, number: u32, again: bool) -> Flow
 
 /// What a temporary refers to.
 fn referred(alloc: Global, temporary: Temporary) -> Result<Place, AllocError>
-    ensures { IfOk result (λ it. plain-Place it ≡ tree.under (tree.held (plain-Temporary temporary)) (step.Deref true ∷ [])) }
+    ensures { IfOk result (λ it. plain-Place it ≡ tree.under (tree.temporary_place (plain-Temporary temporary)) (step.Deref true ∷ [])) }
 {
     let steps = List::from_slice(alloc, &[Step::Deref(true)])?;
     Ok(Place {
@@ -82,7 +82,7 @@ pub fn shared(
     into: Temporary,
 ) -> Result<Flow, AllocError>
     ensures { IfOk result (λ it. order_of (plain-Flow it) ≡ order.then (order_of (plain-Flow flow))
-        (order.act (does node (actions.Borrow false (tree.under (tree.held (plain-Temporary from)) (step.Deref true ∷ [])) (plain-Temporary into))))) }
+        (order.act (does node (actions.Borrow false (tree.under (tree.temporary_place (plain-Temporary from)) (step.Deref true ∷ [])) (plain-Temporary into))))) }
 {
     let (place, flow) = keep(flow, referred(alloc, from))?;
     with_act(alloc, flow, node, Act::Borrow(false, place, into))
@@ -162,7 +162,7 @@ fn first_of_two(
     flow: Flow,
 ) -> Result<List<Item>, AllocError>
     ensures { IfOk result (λ it. map plain-Item it ≡ flows.doing (plain-Flow flow)
-        ∷ flows.doing (flows.act (does node (actions.Test (tree.held (plain-Temporary from)) (matching.equals (tree.truth both))))) ∷ []) }
+        ∷ flows.doing (flows.act (does node (actions.Test (tree.temporary_place (plain-Temporary from)) (matching.equals (tree.truth both))))) ∷ []) }
 {
     let items = then_flow(List::new(alloc), flow)?;
     let check = Check::Equals(Constant::Truth(both));
@@ -179,7 +179,7 @@ pub fn lazily(
     into: Temporary,
 ) -> Result<Flow, AllocError>
     ensures { IfOk result (λ it. order_of (plain-Flow it) ≡ order.then (order_of (plain-Flow parts.0))
-        (order.then (order.act (does node (actions.Test (tree.held (plain-Temporary temporaries.0)) (matching.equals (tree.truth both)))))
+        (order.then (order.act (does node (actions.Test (tree.temporary_place (plain-Temporary temporaries.0)) (matching.equals (tree.truth both)))))
         (order.then (order.or (order_of (plain-Flow parts.1)) order.nothing)
         (order.act (does node (actions.Build tree.lazy [] (plain-Temporary temporaries.0 ∷ plain-Temporary temporaries.1 ∷ []) (plain-Temporary into))))))) }
 {

@@ -50,7 +50,7 @@ pub fn own(alloc: Global, variable: u32) -> Place
 
 /// A temporary.
 pub fn held(alloc: Global, temporary: Temporary) -> Place
-    ensures { plain-Place result ≡ tree.held (plain-Temporary temporary) }
+    ensures { plain-Place result ≡ tree.temporary_place (plain-Temporary temporary) }
 {
     Place {
         root: Root::Temporary(temporary),

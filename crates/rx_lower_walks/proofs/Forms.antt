@@ -296,7 +296,7 @@ passed_borrow K T scope n elaborated.plain m e rest vs d f = act_held K scope _ 
 passed_borrow K T scope n elaborated.reborrow m e rest vs d f = act_held K scope _ n.number rest vs 0 (Borrow m (place T e) d) (omega arith) (omega arith) (borrow_no_end (place T e).root) f
 passed_borrow K T scope n elaborated.share m e rest vs d f =
     let a = Borrow m (place T e) (temporary_at n.number 1) in
-    let b = Borrow false (tree.under (tree.held (temporary_at n.number 1)) (step.Deref true ∷ [])) d in
+    let b = Borrow false (tree.under (tree.temporary_place (temporary_at n.number 1)) (step.Deref true ∷ [])) d in
     let r : borrowed (place T e).root ≡ 4 = ap borrowed (place_root T e).1 in
     plain_held K scope _ n.number rest vs 0 (weight K n.number a + weight K n.number b) (omega arith) (omega arith) (two_acts K n.number a b (λ h. omega (arith, r, h)))
     (λ k. let x = no_end K n.number a (borrow_no_end (place T e).root) k in let y = no_end K n.number b (λ e. omega (arith, e)) k in omega (arith, x, y)) f
@@ -307,7 +307,7 @@ passed_call K T scope n elaborated.plain g es rest vs d h f = act_held K scope _
 passed_call K T scope n elaborated.reborrow g es rest vs d h f = act_held K scope _ n.number rest vs (most K scope (order_all es)) (Call g (tree.temporaries_of es) d) (omega arith) h (λ e. omega (arith, e)) f
 passed_call K T scope n elaborated.share g es rest vs d h f =
     let a = Call g (tree.temporaries_of es) (temporary_at n.number 1) in
-    let b = Borrow false (tree.under (tree.held (temporary_at n.number 1)) (step.Deref true ∷ [])) d in
+    let b = Borrow false (tree.under (tree.temporary_place (temporary_at n.number 1)) (step.Deref true ∷ [])) d in
     plain_held K scope _ n.number rest vs (most K scope (order_all es)) (weight K n.number a + weight K n.number b) (omega arith) h (two_acts K n.number a b (λ e. omega (arith, e)))
     (λ k. let x = no_end K n.number a (λ e. omega (arith, e)) k in let y = no_end K n.number b (λ e. omega (arith, e)) k in omega (arith, x, y)) f
 
@@ -325,7 +325,7 @@ pub lazily_held : (K : Key) (scope : Scope) (m : Mark) (c : Bool) (a b : Exp) (r
     → most K scope (order.order a (temporary_of a)) + most K scope (order.order b (temporary_of b)) ≤ times K.node rest → times K.node (m.node ∷ rest) ≤ 1
     → Held K scope (order.order (tree.lazily m c a b) d) m.node (m.node ∷ rest) vs
 lazily_held K scope m c a b rest vs d h f =
-    let t = Test (tree.held (temporary_of a)) (Rattle.rx_lower_walks.specs.Matching.equals (truth c)) in
+    let t = Test (tree.temporary_place (temporary_of a)) (Rattle.rx_lower_walks.specs.Matching.equals (truth c)) in
     let w = Build tree.lazy [] (temporary_of a ∷ temporary_of b ∷ []) d in
     plain_held K scope _ m.node rest vs (most K scope (order.order a (temporary_of a)) + most K scope (order.order b (temporary_of b))) (weight K m.node t + weight K m.node w) (omega arith) h
     (two_acts K m.node t w (λ e. omega (arith, e)))

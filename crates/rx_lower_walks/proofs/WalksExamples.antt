@@ -5,7 +5,7 @@ use Rattle.rx_core.specs.declared.types.Kind.{Kind}
 use Rattle.rx_core.specs.declared.types.Step.{Step}
 use Rattle.rx_core.specs.declared.types.Step.TheVariants as step
 use Rattle.rx_tree.specs.declared.tree.BinaryOp.{BinaryOp}
-use Rattle.rx_typed.specs.Tree.{Temporary, Place, truth, whole_number, constant, negation, operation, own, held, under, temporary_at}
+use Rattle.rx_typed.specs.Tree.{Temporary, Place, truth, whole_number, constant, negation, operation, own, temporary_place, under, temporary_at}
 use Rattle.rx_lower_walks.specs.Matching.{has_tag, equals}
 use Rattle.rx_lower_walks.specs.Actions.{Action, Declare, Dead, Read, Write, Borrow, Test, Call, Build, Input, Print, Give, does}
 use Rattle.rx_lower_walks.specs.Orders.{returns, order_function}
@@ -34,7 +34,7 @@ abbrev gets : ℕ → ℕ → ℕ → Action
 gets n x d = does n (Write (own x) (temporary d) [])
 
 abbrev holds : ℕ → ℕ → Action
-holds n d = does n (Test (held (temporary d)) (equals (truth true)))
+holds n d = does n (Test (temporary_place (temporary d)) (equals (truth true)))
 
 abbrev pub product_actions : List Action
 product_actions =
@@ -88,7 +88,7 @@ gate_walk = refl
 abbrev pub steps_actions : List Action
 steps_actions =
     literal 4 Kind.I64 (pos 0) ∷ begins 3 0 ∷ gets 3 0 4
-    ∷ does 9 (Call 2 [] (temporary 9)) ∷ does 7 (Test (held (temporary 9)) (has_tag 0))
+    ∷ does 9 (Call 2 [] (temporary 9)) ∷ does 7 (Test (temporary_place (temporary 9)) (has_tag 0))
     ∷ begins 8 1 ∷ does 8 (Write (own 1) (temporary 9) (step.Variant 0 ∷ step.Field 0 ∷ []))
     ∷ does 13 (Test (own 1) (equals (whole_number Kind.I64 (pos 13)))) ∷ does 17 (Dead 1)
     ∷ copied 26 0 26 ∷ does 25 (Print (temporary 26)) ∷ does 1 (Give (temporary 1)) ∷ does 1 (Dead 0) ∷ []

@@ -1,7 +1,7 @@
 -- The actions of a function: what each takes and what it fills.
 use Rattle.std.specs.Prelude.{ℕ, Bool, List, [], ◌∷◌, Option, Some, None}
 use Rattle.rx_core.specs.declared.types.Step.{Step}
-use Rattle.rx_typed.specs.Tree.{Place, Temporary, Mode, by_value, by_reference, Making, Mark, Scrutinee, at_place, of_value, own, held, under, temporary_at, temporary_of}
+use Rattle.rx_typed.specs.Tree.{Place, Temporary, Mode, by_value, by_reference, Making, Mark, Scrutinee, at_place, of_value, own, temporary_place, under, temporary_at, temporary_of}
 use Rattle.rx_lower_walks.specs.Matching.{Check, PartTest, Binding}
 
 pub data Act : Type 0 where
@@ -66,7 +66,7 @@ subject (of_value e) = in_temporary (temporary_of e)
 
 abbrev pub part : Subject → List Step → Place
 part (in_place p) ss = under p ss
-part (in_temporary t) ss = under (held t) ss
+part (in_temporary t) ss = under (temporary_place t) ss
 
 abbrev pub test_of : Subject → PartTest → Action
 test_of S t = does t.node (Test (part S t.steps) t.check)

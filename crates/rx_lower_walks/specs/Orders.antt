@@ -2,7 +2,7 @@
 -- (Rust Reference, "Expressions", "Evaluation order of operands"; "Destructors", "Drop scopes" for where variables end.)
 use Rattle.std.specs.Prelude.{ℕ, Bool, true, false, List, [], ◌∷◌, Option, Some, None}
 use Rattle.rx_core.specs.declared.types.Step.TheVariants as step
-use Rattle.rx_typed.specs.Tree.{Temporary, truth, operation, lazy, Exp, read, borrow, share, build, unit, lazily, assign, update, call, input, print, block, choose, loop, jump, give, Operands, no_operand, operand_and, Scrutinee, at_place, of_value, Arms, no_arm, arm_and, Body, ends, runs, declares, lets, Parameter, Function, own, held, under, mark_of, temporary_at, temporary_of, temporaries_of, fields_of}
+use Rattle.rx_typed.specs.Tree.{Temporary, truth, operation, lazy, Exp, read, borrow, share, build, unit, lazily, assign, update, call, input, print, block, choose, loop, jump, give, Operands, no_operand, operand_and, Scrutinee, at_place, of_value, Arms, no_arm, arm_and, Body, ends, runs, declares, lets, Parameter, Function, own, temporary_place, under, mark_of, temporary_at, temporary_of, temporaries_of, fields_of}
 use Rattle.rx_lower_walks.specs.Matching.{equals, PartTest, Binding, tests, bindings}
 use Rattle.rx_lower_walks.specs.Actions.{Act, Declare, Read, Write, Borrow, Test, Call, Build, Input, Print, Give, Action, does, at_mark, Subject, subject, test_of, taken, declared, written}
 
@@ -73,11 +73,11 @@ abbrev mutual
   order (build m w es) d = then (order_all es) (act (at_mark m (Build w (fields_of es) (temporaries_of es) d)))
   -- `&&`, `||`: the right operand or not
   order (lazily m b e f) d =
-      then (order e (temporary_of e)) (then (act (at_mark m (Test (held (temporary_of e)) (equals (truth b)))))
+      then (order e (temporary_of e)) (then (act (at_mark m (Test (temporary_place (temporary_of e)) (equals (truth b)))))
       (then (or (order f (temporary_of f)) nothing) (act (at_mark m (Build lazy [] (temporary_of e ∷ temporary_of f ∷ []) d)))))
   -- `&p`, `&mut p`, a reborrow; a value that becomes shared
   order (borrow m k p) d = act (at_mark m (Borrow k p d))
-  order (share m e) d = then (order e (temporary_at m.node 1)) (act (at_mark m (Borrow false (under (held (temporary_at m.node 1)) (step.Deref true ∷ [])) d)))
+  order (share m e) d = then (order e (temporary_at m.node 1)) (act (at_mark m (Borrow false (under (temporary_place (temporary_at m.node 1)) (step.Deref true ∷ [])) d)))
   order (call m f es) d = then (order_all es) (act (at_mark m (Call f (temporaries_of es) d)))
   -- `rt::next()`, `println!`
   order (input m) d = act (at_mark m (Input d))

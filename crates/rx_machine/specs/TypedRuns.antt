@@ -7,7 +7,7 @@ use Rattle.rx_resolve_names.specs.declared.resolved.NodeNames.{NodeNames}
 use Rattle.rx_resolve_names.specs.Causes.{Meant}
 use Rattle.rx_typed.specs.Naming.{function_named}
 use Rattle.rx_typed.specs.Elaborated.{Assigned}
-use Rattle.rx_typeck_solver.specs.Facts.{Types}
+use Rattle.rx_typeck_solver.specs.Facts.{Assignment}
 use Rattle.rx_typeck_solver.specs.Valid.{Valid}
 use Rattle.rx_typeck_typed.specs.Demands.{task}
 use Rattle.rx_meaning.specs.Programs.{Program, typed_program}
@@ -21,7 +21,7 @@ names_of ns i = entries (slice_get ns i)
 abbrev pub TypesAre : Given → List ItemNames → ℕ → ProgramTree → (ℕ → Assigned) → Type 0
 TypesAre G ns i [] T = Unit {0}
 TypesAre G ns i (plain.function_item s f ∷ is) T =
-    ((A : Types) × Valid (known_in G) (task (function_named i s f (names_of ns i))) A × (T i ≡ assigned (known_in G) A)) × TypesAre G ns (suc i) is T
+    ((A : Assignment) × Valid (known_in G) (task (function_named i s f (names_of ns i))) A × (T i ≡ assigned (known_in G) A)) × TypesAre G ns (suc i) is T
 TypesAre G ns i (_ ∷ is) T = TypesAre G ns (suc i) is T
 
 -- this is the program of the text, with the entries of names and, for each function, the types of a valid assignment

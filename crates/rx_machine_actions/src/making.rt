@@ -12,7 +12,7 @@ ghost use Rattle.rx_machine_actions.specs.PlainActs.{plain-Made, written_fields,
 
 use crate::operators::{Made, of_calculated, operated};
 use rx_core::{LetGo, List, keep};
-use rx_machine_values::{Lack, Number, Parts, Value, boxed_parts, negated};
+use rx_machine_values::{Lack, Number, Parts, Value, negated, parts_of};
 use rx_tree::BinaryOp;
 use rx_typed::{Constant, Making, Operand};
 use std::alloc::{AllocError, Global};
@@ -209,6 +209,15 @@ fn place_all(parts: &mut Vec<Value>, operands: &[Operand], values: List<Value>)
     values.let_go();
 }
 
+/// Values as parts in a box.
+fn boxed_values(alloc: Global, values: Vec<Value>) -> Result<Box<Parts>, AllocError>
+    ensures { IfOk result (λ it. plain-Parts it.value ≡ values_of (map plain-Value values.items)) }
+{
+    let outcome = parts_of(alloc, values.as_slice());
+    List::from_vec(values).let_go();
+    outcome
+}
+
 /// The values of operands in the order of their fields: of the first operand that was written for each.
 fn arrange(
     alloc: Global,
@@ -221,7 +230,7 @@ fn arrange(
     let (unset, values) = keep(values, unset_parts(alloc, count))?;
     let mut parts = unset.into_vec();
     place_all(&mut parts, operands, values);
-    let boxed = boxed_parts(alloc, Parts { items: parts })?;
+    let boxed = boxed_values(alloc, parts)?;
     Ok(boxed)
 }
 

@@ -32,45 +32,47 @@ fn is_number(number: Number, kind: Kind, negative: bool, magnitude: u64) -> Opti
     Some(wanted.value() == number.value())
 }
 
-#[tactic(auto, using(rx_machine_values::proofs::ValueRules::value_rules))]
-fn equals_integer(value: &Value, kind: Kind, negative: bool, magnitude: u64) -> Option<bool>
-    ensures { result ≡ checked (equals (plain-Constant (ConstantInteger kind negative magnitude))) (plain-Value value.now) }
+fn equals_integer(part: Part, kind: Kind, negative: bool, magnitude: u64) -> Option<bool>
+    ensures { result ≡ checked (equals (plain-Constant (ConstantInteger kind negative magnitude))) (plain-Part part.entry) }
 {
-    match value {
-        Value::Number(number) => is_number(*number, kind, negative, magnitude),
-        Value::Truth(_) => None,
-        Value::Unit => None,
-        Value::Whole(_) => None,
-        Value::Tagged(_, _) => None,
-        Value::Pointer(_) => None,
-        Value::Lacking(_) => None,
+    match part {
+        Part::Number(number) => is_number(number, kind, negative, magnitude),
+        Part::Truth(_) => None,
+        Part::Whole(_) => None,
+        Part::Tagged(_, _) => None,
+        Part::Pointer(_) => None,
+        Part::Lacking(_) => None,
+    }
+}
+
+fn is_truth(part: Part, truth: bool) -> Option<bool>
+    ensures { result ≡ checked (equals (plain-Constant (ConstantTruth truth))) (plain-Part part.entry) }
+{
+    match part {
+        Part::Truth(other) => Some(truth == other),
+        Part::Number(_) => None,
+        Part::Whole(_) => None,
+        Part::Tagged(_, _) => None,
+        Part::Pointer(_) => None,
+        Part::Lacking(_) => None,
     }
 }
 
 /// Whether a truth value is this one; none where it is no truth value.
-#[tactic(auto, using(rx_machine_values::proofs::ValueRules::value_rules))]
 pub fn equals_truth(value: &Value, truth: bool) -> Option<bool>
     ensures { result ≡ checked (equals (plain-Constant (ConstantTruth truth))) (plain-Value value.now) }
 {
-    match value {
-        Value::Truth(other) => Some(truth == *other),
-        Value::Number(_) => None,
-        Value::Unit => None,
-        Value::Whole(_) => None,
-        Value::Tagged(_, _) => None,
-        Value::Pointer(_) => None,
-        Value::Lacking(_) => None,
-    }
+    is_truth(value.as_part(), truth)
 }
 
-fn equals_constant(value: &Value, constant: Constant) -> Option<bool>
-    ensures { result ≡ checked (equals (plain-Constant constant)) (plain-Value value.now) }
+fn equals_constant(part: Part, constant: Constant) -> Option<bool>
+    ensures { result ≡ checked (equals (plain-Constant constant)) (plain-Part part.entry) }
 {
     match constant {
         Constant::Integer(kind, negative, magnitude) => {
-            equals_integer(value, kind, negative, magnitude)
+            equals_integer(part, kind, negative, magnitude)
         }
-        Constant::Truth(truth) => equals_truth(value, truth),
+        Constant::Truth(truth) => is_truth(part, truth),
     }
 }
 
@@ -79,24 +81,21 @@ fn is_constant(at: Option<Part>, constant: Constant) -> Option<bool>
     ensures { result ≡ and_then (option_map plain-Part at.entry) (λ u. checked (equals (plain-Constant constant)) u) }
 {
     match at {
-        Some(Part::Value(value)) => equals_constant(value, constant),
-        Some(Part::Parts(_)) => None,
+        Some(part) => equals_constant(part, constant),
         None => None,
     }
 }
 
-#[tactic(auto, using(rx_machine_values::proofs::ValueRules::value_rules))]
-fn has_tag_of(value: &Value, tag: u32) -> Option<bool>
-    ensures { result ≡ checked (has_tag tag) (plain-Value value.now) }
+fn has_tag_of(part: Part, tag: u32) -> Option<bool>
+    ensures { result ≡ checked (has_tag tag) (plain-Part part.entry) }
 {
-    match value {
-        Value::Tagged(other, _) => Some(tag == *other),
-        Value::Truth(_) => None,
-        Value::Number(_) => None,
-        Value::Unit => None,
-        Value::Whole(_) => None,
-        Value::Pointer(_) => None,
-        Value::Lacking(_) => None,
+    match part {
+        Part::Tagged(other, _) => Some(tag == other),
+        Part::Truth(_) => None,
+        Part::Number(_) => None,
+        Part::Whole(_) => None,
+        Part::Pointer(_) => None,
+        Part::Lacking(_) => None,
     }
 }
 
@@ -106,8 +105,7 @@ fn is_variant(at: Option<Part>, several: bool, tag: u32) -> Option<bool>
 {
     if several {
         match at {
-            Some(Part::Value(value)) => has_tag_of(value, tag),
-            Some(Part::Parts(_)) => None,
+            Some(part) => has_tag_of(part, tag),
             None => None,
         }
     } else {

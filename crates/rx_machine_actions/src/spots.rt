@@ -60,32 +60,17 @@ fn at_pointer<'v>(
     Ok(Some(Spot::Slot(pointer.slot, path, writable && pointer.mutable)))
 }
 
-#[tactic(auto, using(rx_machine_values::proofs::ValueRules::value_rules))]
-fn pointed_value<'v>(
-    alloc: Global,
-    value: &Value,
-    writable: bool,
-) -> Result<Option<Spot<'v>>, AllocError>
-    ensures { IfOk result (λ to. option_map plain-Spot to ≡ places.pointed writable (plain-Value value.now)) }
-{
-    match value {
-        Value::Pointer(pointer) => at_pointer(alloc, pointer, writable),
-        Value::Number(_) => Ok(None),
-        Value::Truth(_) => Ok(None),
-        Value::Unit => Ok(None),
-        Value::Whole(_) => Ok(None),
-        Value::Tagged(_, _) => Ok(None),
-        Value::Lacking(_) => Ok(None),
-    }
-}
-
 /// Where the reference leads that stands somewhere.
 fn pointed<'v>(alloc: Global, part: Part, writable: bool) -> Result<Option<Spot<'v>>, AllocError>
     ensures { IfOk result (λ to. option_map plain-Spot to ≡ places.pointed writable (plain-Part part.entry)) }
 {
     match part {
-        Part::Value(value) => pointed_value(alloc, value, writable),
-        Part::Parts(_) => Ok(None),
+        Part::Pointer(pointer) => at_pointer(alloc, pointer, writable),
+        Part::Number(_) => Ok(None),
+        Part::Truth(_) => Ok(None),
+        Part::Whole(_) => Ok(None),
+        Part::Tagged(_, _) => Ok(None),
+        Part::Lacking(_) => Ok(None),
     }
 }
 
@@ -180,7 +165,7 @@ pub fn at_place<'m>(memory: &'m Memory, slot: usize, steps: &[Step]) -> Option<P
         ≡ and_then (places.follow (plain-Memory memory.now) steps.now (in_slot slot [] true)) (λ to. places.content (plain-Memory memory.now) to) }
 {
     match memory.slot(slot) {
-        Some(value) => memory.place(Part::Value(value), steps),
+        Some(value) => memory.place(value.as_part(), steps),
         None => None,
     }
 }
@@ -296,7 +281,7 @@ fn write_by(
 {
     let (way, value) = keep(value, way_to(alloc, memory, slot, steps))?;
     match way {
-        Some(way) => Ok(memory.write(way.slot, way.path.as_slice(), value)),
+        Some(way) => memory.write(alloc, way.slot, way.path.as_slice(), value),
         None => {
             value.let_go();
             Ok(false)
@@ -316,7 +301,7 @@ pub fn write(
     ensures { IfOk result (λ done. Wrote (plain-Memory memory.old) slot steps.now (plain-Value value) (plain-Memory memory.new) done) }
 {
     if steps.is_empty() {
-        Ok(memory.write(slot, steps, value))
+        Ok(memory.set(slot, value))
     } else {
         write_by(alloc, memory, slot, steps, value)
     }

@@ -1,6 +1,6 @@
 //! Variables with numbers and truth values, by a table of slots.
 
-ghost use Rattle.std.specs.Prelude.{◌≡◌, [], option_map};
+ghost use Rattle.std.specs.Prelude.{◌≡◌, option_map};
 ghost use Rattle.rx_typed.specs.Tree.{variable as variable_root};
 ghost use Rattle.rx_machine_values.specs.PlainMemory.{plain-Memory};
 ghost use Rattle.rx_machine_direct.specs.Direct as spec;
@@ -8,7 +8,7 @@ ghost use Rattle.rx_machine_direct.specs.PlainScalar.{plain-Scalar};
 ghost use Rattle.rx_machine_direct.specs.PlainReached.{Wrote};
 
 use crate::scalars::{Scalar, scalar_of};
-use rx_core::{Place, Step};
+use rx_core::Place;
 use rx_machine_values::Memory;
 
 /// The slot of a variable.
@@ -56,12 +56,11 @@ pub fn at_place(slots: &[Option<usize>], memory: &Memory, place: &Place) -> Opti
 }
 
 /// Writes a number or truth value to a slot; whether it is there.
-fn store_in(memory: &mut Memory, slot: Option<usize>, path: &[Step], scalar: Scalar) -> bool
-    requires { path.now ≡ [] }
+fn store_in(memory: &mut Memory, slot: Option<usize>, scalar: Scalar) -> bool
     ensures { Wrote (spec.stored_in (plain-Memory memory.old) slot (plain-Scalar scalar)) (plain-Memory memory.old) (plain-Memory memory.new) result }
 {
     match slot {
-        Some(slot) => memory.write(slot, path, scalar.value()),
+        Some(slot) => memory.set(slot, scalar.value()),
         None => false,
     }
 }
@@ -71,12 +70,7 @@ pub fn store(slots: &[Option<usize>], memory: &mut Memory, place: &Place, scalar
     ensures { Wrote (spec.stored slots.now (plain-Memory memory.old) (variable_root place.now.var) place.now.steps (plain-Scalar scalar)) (plain-Memory memory.old) (plain-Memory memory.new) result }
 {
     if place.steps.is_empty() {
-        store_in(
-            memory,
-            slot_at(slots, place.var as usize),
-            place.steps.as_slice(),
-            scalar,
-        )
+        store_in(memory, slot_at(slots, place.var as usize), scalar)
     } else {
         false
     }

@@ -95,7 +95,7 @@ borrows_lead m k p to g = λ t K s f. found_follows m t K s _ _ _ _ _ (λ at. re
 
 -- a value that is held
 pub shares_lead : (m : Machine) (v : values.Value) (to : Step) → IsGiven (and_then (pointed true v) (λ at. reference_to false at)) to
-    → Leads m (frames.performs (Borrow false (tree.under (tree.held nowhere) (PlaceStep.Deref true ∷ [])) nowhere) (v ∷ [])) m to
+    → Leads m (frames.performs (Borrow false (tree.under (tree.temporary_place nowhere) (PlaceStep.Deref true ∷ [])) nowhere) (v ∷ [])) m to
 shares_lead m v to g = λ t K s f. found_follows m t K s _ _ _ _ _ (λ at. reference_to false at) to f (by (pointed true v)) g
   where
     by : (o : Option Spot) → and_then o (λ at. Some at) ≡ o

@@ -1,7 +1,7 @@
 -- What the code's steps stand for.
 use Rattle.std.specs.Prelude.{true, false, List, [], ◌∷◌, map}
 use Rattle.rx_core.specs.declared.types.Step.TheVariants.{Deref}
-use Rattle.rx_typed.specs.Tree.{Body, lazy, held, under, temporary_at}
+use Rattle.rx_typed.specs.Tree.{Body, lazy, temporary_place, under, temporary_at}
 use Rattle.rx_lower_walks.specs.Actions as actions
 use Rattle.rx_lower_walks.specs.Actions.{in_place, in_temporary}
 use Rattle.rx_lower_walks.specs.Orders as orders
@@ -78,7 +78,7 @@ plain-Next (next.Part h e) = frames.part (plain-Hole h) (plain-Expr e.now)
 plain-Next (next.Gives v) = frames.gives (plain-Value v)
 plain-Next (next.Reads m p) = frames.performs (actions.Read m (plain-Place p.now) nowhere) []
 plain-Next (next.Borrows k p) = frames.performs (actions.Borrow k (plain-Place p.now) nowhere) []
-plain-Next (next.Shares v) = frames.performs (actions.Borrow false (under (held nowhere) (Deref true ∷ [])) nowhere) (plain-Value v ∷ [])
+plain-Next (next.Shares v) = frames.performs (actions.Borrow false (under (temporary_place nowhere) (Deref true ∷ [])) nowhere) (plain-Value v ∷ [])
 plain-Next (next.Writes p v) = frames.performs (actions.Write (plain-Place p.now) nowhere []) (plain-Value v ∷ [])
 plain-Next (next.Prints v) = frames.performs (actions.Print nowhere) (plain-Value v ∷ [])
 plain-Next next.Inputs = frames.performs (actions.Input nowhere) []

@@ -141,7 +141,7 @@ impl<'a> Machine<'a> {
                 Some(slot) => at_place(&self.memory, slot, place.steps.as_slice()),
                 None => None,
             },
-            Subject::Held(_, value) => Some(Part::Value(value)),
+            Subject::Held(_, value) => Some(value.as_part()),
         }
     }
 
@@ -162,7 +162,7 @@ impl<'a> Machine<'a> {
                 Ok(it)
             }
             Subject::Held(_, value) => {
-                let from = Spot::Held(Part::Value(value));
+                let from = Spot::Held(value.as_part());
                 let it = borrow(alloc, &self.memory, from, path, mutable)?;
                 Ok(it)
             }
@@ -413,7 +413,7 @@ impl<'a> Machine<'a> {
 fn held_part(alloc: Global, value: &Value, path: &[PlaceStep]) -> Result<Option<Value>, AllocError>
     ensures { IfOk result (λ it. option_map plain-Value it ≡ plain.get path.now (plain-Value value.now)) }
 {
-    match at_path(Part::Value(value), path) {
+    match at_path(value.as_part(), path) {
         Some(part) => {
             let copy = copied_part(alloc, part)?;
             Ok(Some(copy))

@@ -3,7 +3,7 @@
 use Rattle.std.specs.Prelude.{ℕ, true, false, Bool, List, [], ◌∷◌, ◌++◌}
 use Rattle.rx_core.specs.declared.types.Step.{Step}
 use Rattle.rx_tree.specs.declared.tree.BinaryOp.{BinaryOp}
-use Rattle.rx_typed.specs.Tree.{Mark, Place, Pattern, Making, operation, lazy, temporary_of, Exp, read, borrow, share, build, unit, lazily, assign, update, call, input, print, block, choose, loop, jump, give, Operands, no_operand, operand_and, Scrutinee, at_place, of_value, Arms, Body, ends, runs, declares, lets, held, under, fields_of}
+use Rattle.rx_typed.specs.Tree.{Mark, Place, Pattern, Making, operation, lazy, temporary_of, Exp, read, borrow, share, build, unit, lazily, assign, update, call, input, print, block, choose, loop, jump, give, Operands, no_operand, operand_and, Scrutinee, at_place, of_value, Arms, Body, ends, runs, declares, lets, temporary_place, under, fields_of}
 use Rattle.rx_typed.specs.Tree as tree
 use Rattle.rx_lower_walks.specs.Matching.{equals, bindings}
 use Rattle.rx_lower_walks.specs.Actions.{Act, Read, Write, Borrow, Test, Build, Input, Print, Subject, in_place, in_temporary}
@@ -63,7 +63,7 @@ finish P below (calls f) vs s = found (element P f) (λ g. take_turn s (λ s1. e
 
 abbrev pub decide : Functions → Meaning → Bool → Value → Exp → State → Result ℕ Value
 decide P below b v f s =
-    bind (acts (Test (held nowhere) (equals (tree.truth b))) (v ∷ []) s) (λ t s1.
+    bind (acts (Test (temporary_place nowhere) (equals (tree.truth b))) (v ∷ []) s) (λ t s1.
     bind (decided t (λ s2. value P below f s2) (λ s2. on [] v s2) s1) (λ w s3. acts (Build lazy [] [] nowhere) (w ∷ []) s3))
 
 abbrev pub modify : BinaryOp → Place → Value → State → Result ℕ Value
@@ -74,7 +74,7 @@ modify o p v s =
 -- what is done with the value of the operand that was out
 abbrev pub resume : Functions → Meaning → Hole → Value → State → Result ℕ Value
 resume P below (operand w vs es) v s = bind (values P below es s) (λ ws s1. finish P below w (vs ++ v ∷ ws) s1)
-resume P below shares v s = acts (Borrow false (under (held nowhere) (Step.Deref true ∷ [])) nowhere) (v ∷ []) s
+resume P below shares v s = acts (Borrow false (under (temporary_place nowhere) (Step.Deref true ∷ [])) nowhere) (v ∷ []) s
 resume P below (first_of b f) v s = decide P below b v f s
 resume P below second_of v s = acts (Build lazy [] [] nowhere) (v ∷ []) s
 resume P below (assigns p) v s = acts (Write p nowhere []) (v ∷ []) s
@@ -144,7 +144,7 @@ opened_body (lets i p c rest) = opened_let c p rest
 abbrev pub filled : Hole → Value → Next
 filled (operand w vs no_operand) v = finishes w (vs ++ v ∷ [])
 filled (operand w vs (operand_and i e es)) v = part (operand w (vs ++ v ∷ []) es) e
-filled shares v = performs (Borrow false (under (held nowhere) (Step.Deref true ∷ [])) nowhere) (v ∷ [])
+filled shares v = performs (Borrow false (under (temporary_place nowhere) (Step.Deref true ∷ [])) nowhere) (v ∷ [])
 filled (first_of b f) v = decides b v f
 filled second_of v = performs (Build lazy [] [] nowhere) (v ∷ [])
 filled (assigns p) v = performs (Write p nowhere []) (v ∷ [])

@@ -2,7 +2,7 @@
 -- variables, which do nothing. Clause for clause it is the meaning otherwise.
 use Rattle.std.specs.Prelude.{ℕ, zero, suc, ℤ, true, false, List, [], ◌∷◌}
 use Rattle.rx_core.specs.declared.types.Step.{Step}
-use Rattle.rx_typed.specs.Tree.{Temporary, operation, lazy, Exp, read, borrow, share, build, unit, lazily, assign, update, call, input, print, block, choose, loop, jump, give, Operands, no_operand, operand_and, Scrutinee, at_place, of_value, Arms, no_arm, arm_and, Body, ends, runs, declares, lets, Parameter, Function, held, under, fields_of}
+use Rattle.rx_typed.specs.Tree.{Temporary, operation, lazy, Exp, read, borrow, share, build, unit, lazily, assign, update, call, input, print, block, choose, loop, jump, give, Operands, no_operand, operand_and, Scrutinee, at_place, of_value, Arms, no_arm, arm_and, Body, ends, runs, declares, lets, Parameter, Function, temporary_place, under, fields_of}
 use Rattle.rx_typed.specs.Tree as tree
 use Rattle.rx_lower_walks.specs.Matching.{equals, tests, bindings, Binding}
 use Rattle.rx_lower_walks.specs.Actions.{Act, Declare, Read, Write, Borrow, Test, Build, Input, Print, Subject, subject, taken, written}
@@ -52,9 +52,9 @@ unfoldable mutual
   value P below (unit m) s = on [] unit_value s
   value P below (block m b) s = body P below b s
   value P below (borrow m k p) s = acts (Borrow k p nowhere) [] s
-  value P below (share m e) s = bind (value P below e s) (λ v s1. acts (Borrow false (under (held nowhere) (Step.Deref true ∷ [])) nowhere) (v ∷ []) s1)
+  value P below (share m e) s = bind (value P below e s) (λ v s1. acts (Borrow false (under (temporary_place nowhere) (Step.Deref true ∷ [])) nowhere) (v ∷ []) s1)
   value P below (lazily m b e f) s =
-      bind (value P below e s) (λ v s1. bind (acts (Test (held nowhere) (equals (tree.truth b))) (v ∷ []) s1) (λ t s2.
+      bind (value P below e s) (λ v s1. bind (acts (Test (temporary_place nowhere) (equals (tree.truth b))) (v ∷ []) s1) (λ t s2.
       bind (decided t (λ s3. value P below f s3) (λ s3. on [] v s3) s2) (λ w s4. acts (Build lazy [] [] nowhere) (w ∷ []) s4)))
   value P below (assign m p e) s = bind (value P below e s) (λ v s1. acts (Write p nowhere []) (v ∷ []) s1)
   value P below (update m o p e) s =

@@ -1,87 +1,95 @@
--- Writes to parts of values, step by step.
-use Rattle.std.proofs.Common.{◌≡◌, ℕ, zero, suc, ◌<◌, ◌≤◌, Bool, true, false, List, [], ◌∷◌, map, length, get_or, slice_set, Option, None, Some, refl, sym, ap, ◌∙◌, subst, arith}
+-- Values with others in the place of parts.
+use Rattle.std.proofs.Common.{◌≡◌, ℕ, zero, suc, ◌+◌, ◌<◌, ◌≤◌, List, [], ◌∷◌, ◌++◌, length, take, drop, slice_get, Option, None, Some, option_map, if◌then◌else◌, refl, sym, ap, ◌∙◌, arith, length-drop, append_assoc, eq-eqb}
+use Rattle.std.proofs.lemmas.List.{take_all}
+use Rattle.std.specs.Prelude.{Result, Ok, Err, IfOk}
 use Rattle.rx_core.specs.declared.types.Step.{Step}
-use Rattle.rx_meaning.specs.Values as plain
-use Rattle.rx_meaning.specs.Values.{Values, no_value, value_and, whole, tagged, and_then, field, with_field, with_part, put}
+use Rattle.rx_meaning.specs.Values.{Value, Values, whole, tagged, and_then, part, with_part, with_field, get, put}
 use Rattle.rx_machine_values.specs.declared.value.Value as code
-use Rattle.rx_machine_values.specs.PlainValues.{plain-Value, values_of}
-use Rattle.rx_machine_values.specs.Writes.{Puts, PutsParts, fields_of}
+use Rattle.rx_machine_values.specs.PlainValues.{plain-Value}
+use Rattle.rx_machine_values.specs.Rows.{Node, values_in, begins, first_value, replaced}
+use Rattle.rx_machine_values.specs.Writes.{with_this, with_step, changed_at}
+use Rattle.rx_machine_values.proofs.RowLemmas.{IsRow, field_is, replaced_is}
 
--- a write to a field
-field_put : (vs : Values) (i : ℕ) (ss : List Step) (u w x : plain.Value) (b : Bool) → field vs i ≡ Some u → Puts u ss w x b → PutsParts vs (Step.Field i ∷ ss) w (with_field vs i x) b
-field_put vs i ss u w x true e p = rw (e, p) refl
-field_put vs i ss u w x false e p = (rw (e, p.0) refl, ap (with_field vs i) p.1 ∙ same vs i u e)
+-- ---- a field
+
+pub field_replaced : (i j : ℕ) (ns row : List Node) (w x : Value) → begins i ns ≡ Some j → j < length ns → IsRow row w → x ≡ whole (values_in (replaced ns j row)) → Some x ≡ with_this (whole (values_in ns)) (Step.Field i) w
+field_replaced i j ns row w x e l h is =
+    ap Some (is ∙ ap whole (replaced_is i j ns row w e h))
+    ∙ sym (ap (λ o. and_then o (λ u. Some (whole (with_field (values_in ns) i w)))) (field_is i ns ∙ ap (λ o. and_then o (λ k. first_value (drop k ns))) e) ∙ by (drop j ns) (let d = length-drop j ns in omega (arith, l, d)))
   where
-    same : (vs : Values) (i : ℕ) (u : plain.Value) → field vs i ≡ Some u → with_field vs i u ≡ vs
-    same no_value i u e = refl
-    same (value_and v vs) zero u e = ap (λ (y : plain.Value). value_and y vs) (sym (cc))
-    same (value_and v vs) (suc i) u e = ap (λ l. value_and v l) (same vs i u e)
+    by : (ms : List Node) → 0 < length ms → and_then (first_value ms) (λ u. Some (whole (with_field (values_in ns) i w))) ≡ Some (whole (with_field (values_in ns) i w))
+    by [] l = absurd (omega (arith, l))
+    by (m ∷ ms) l = refl
 
-field_of : (xs : List code.Value) (i : ℕ) (v : code.Value) → i < length xs → v ≡ get_or xs i v → field (values_of (map plain-Value xs)) i ≡ Some (plain-Value v)
-field_of [] i v l e = absurd (omega (arith, l))
-field_of (x ∷ xs) zero v l e = ap (λ y. Some (plain-Value y)) (sym e)
-field_of (x ∷ xs) (suc i) v l e = field_of xs i v (omega (arith, l)) e
+pub field_missing : (i : ℕ) (ns : List Node) (w : Value) → begins i ns ≡ None → None ≡ with_this (whole (values_in ns)) (Step.Field i) w
+field_missing i ns w e = sym (ap (λ o. and_then o (λ u. Some (whole (with_field (values_in ns) i w)))) (field_is i ns ∙ ap (λ o. and_then o (λ k. first_value (drop k ns))) e))
 
-set_is : (xs : List code.Value) (i : ℕ) (v : code.Value) → values_of (map plain-Value (slice_set xs i v)) ≡ with_field (values_of (map plain-Value xs)) i (plain-Value v)
-set_is [] i v = refl
-set_is (x ∷ xs) zero v = refl
-set_is (x ∷ xs) (suc i) v = ap (λ l. value_and (plain-Value x) l) (set_is xs i v)
+-- what is written in three steps
+pub three : (none one two all a b c : List Node) → none ≡ [] → one ≡ none ++ a → two ≡ one ++ b → all ≡ two ++ c → all ≡ a ++ (b ++ c)
+three none one two all a b c e f g h = h ∙ ap (λ l. l ++ c) (g ∙ ap (λ l. l ++ b) (f ∙ ap (λ l. l ++ a) e)) ∙ append_assoc a b c
 
-pub put_at : (xs : List code.Value) (i : ℕ) (ss : List Step) (v new : code.Value) (w : plain.Value) (b : Bool) → i < length xs → v ≡ get_or xs i v → Puts (plain-Value v) ss w (plain-Value new) b
-    → PutsParts (values_of (map plain-Value xs)) (Step.Field i ∷ ss) w (values_of (map plain-Value (slice_set xs i new))) b
-put_at xs i ss v new w b l e p = subst (λ us. PutsParts (values_of (map plain-Value xs)) (Step.Field i ∷ ss) w us b) (sym (set_is xs i new))
-    (field_put (values_of (map plain-Value xs)) i ss (plain-Value v) w (plain-Value new) b (field_of xs i v l e) p)
+-- ---- a variant
 
-pub put_past : (xs : List code.Value) (i : ℕ) (ss : List Step) (w : plain.Value) → length xs ≤ i → PutsParts (values_of (map plain-Value xs)) (Step.Field i ∷ ss) w (values_of (map plain-Value xs)) false
-put_past xs i ss w l = (rw (past xs i l) refl, refl)
+variant_with : (t j : ℕ) (vs : Values) (w : Value) → t ≡ j → with_this (tagged t vs) (Step.Variant j) w ≡ with_part (tagged t vs) (Step.Variant t) w
+variant_with t j vs w e =
+    ap (λ i. with_this (tagged t vs) (Step.Variant i) w) (sym e)
+    ∙ ap (λ b. and_then (if b then Some (whole vs) else None) (λ u. with_part (tagged t vs) (Step.Variant t) w)) (eq-eqb t t refl)
+
+pub tagged_ok : {E : Type 0} (t j : ℕ) (s : Step) (w : Value) (r : Result (Option code.Value) E) → s ≡ Step.Variant j → t ≡ j → IfOk r (λ it. (vs : Values) → option_map plain-Value it ≡ with_part (tagged t vs) (Step.Variant t) w)
+    → IfOk r (λ it. (vs : Values) → option_map plain-Value it ≡ with_this (tagged t vs) s w)
+tagged_ok t j s w (Ok it) f e h = λ vs. h vs ∙ sym (ap (λ x. with_this (tagged t vs) x w) f ∙ variant_with t j vs w e)
+tagged_ok t j s w (Err x) f e h = tt
+
+-- ---- the last step of a path
+
+put_last : (p : List Step) (s : Step) (w v : Value) → put (p ++ s ∷ []) w v ≡ and_then (with_step v p s w) (λ x. put p x v)
+put_last [] s w v = by (part v s)
   where
-    past : (xs : List code.Value) (i : ℕ) → length xs ≤ i → field (values_of (map plain-Value xs)) i ≡ None
-    past [] i l = refl
-    past (x ∷ xs) zero l = absurd (omega (arith, l))
-    past (x ∷ xs) (suc i) l = past xs i (omega (arith, l))
-
--- what is written behind a step of a tuple or struct leaves one
-pub whole_puts : (vs us : Values) (s : Step) (ss : List Step) (w : plain.Value) (b : Bool) → PutsParts vs (s ∷ ss) w us b → Puts (whole vs) (s ∷ ss) w (whole us) b
-whole_puts vs us (Step.Field i) ss w b p = by_field (field vs i) b p
+    by : (o : Option Value) → and_then o (λ u. and_then (Some w) (λ x. with_part v s x)) ≡ and_then (and_then o (λ u. with_part v s w)) (λ x. Some x)
+    by None = refl
+    by (Some u) = same (with_part v s w)
+      where
+        same : (o : Option Value) → o ≡ and_then o (λ x. Some x)
+        same None = refl
+        same (Some x) = refl
+put_last (t ∷ p) s w v = by (part v t) (put_last p s w)
   where
-    rest : Option plain.Value → Option plain.Value
-    rest o = and_then o (λ x. Some (whole (with_field vs i x)))
+    by : (o : Option Value) → ((u : Value) → put (p ++ s ∷ []) w u ≡ and_then (with_step u p s w) (λ x. put p x u))
+        → and_then o (λ u. and_then (put (p ++ s ∷ []) w u) (λ x. with_part v t x))
+        ≡ and_then (and_then (and_then o (λ u. get p u)) (λ u. with_this u s w)) (λ x. and_then o (λ u. and_then (put p x u) (λ y. with_part v t y)))
+    by None k = refl
+    by (Some u) k = ap (λ r. and_then r (λ x. with_part v t x)) (k u) ∙ nested (with_step u p s w)
+      where
+        nested : (o : Option Value) → and_then (and_then o (λ x. put p x u)) (λ x. with_part v t x) ≡ and_then o (λ x. and_then (put p x u) (λ y. with_part v t y))
+        nested None = refl
+        nested (Some x) = refl
 
-    written : Option plain.Value → Option plain.Value
-    written o = and_then o (λ u. rest (put ss w u))
+-- what is left to put, where the last steps are done
+abbrev pub Putting : List Step → Value → Value → ℕ → Value → Type 0
+Putting p w v turn x = (k : ℕ) → k + turn ≡ length p → put p w v ≡ put (take k p) x v
 
-    Said : Option plain.Value → Bool → Type 0
-    Said o true = and_then o fields_of ≡ Some us
-    Said o false = (and_then o fields_of ≡ None) × (us ≡ vs)
+pub putting_begins : (p : List Step) (w v : Value) → Putting p w v 0 w
+putting_begins p w v k e = ap (λ q. put q w v) (sym (take_all k p (omega (arith, e))))
 
-    Told : Option plain.Value → Bool → Type 0
-    Told o true = o ≡ Some (whole us)
-    Told o false = (o ≡ None) × (whole us ≡ whole vs)
+splits : (p : List Step) (i : ℕ) → i < length p → (s : Step) × (slice_get p i ≡ Some s) × (take (suc i) p ≡ take i p ++ s ∷ [])
+splits [] i l = absurd (omega (arith, l))
+splits (s ∷ p) zero l = (s, refl, refl)
+splits (s ∷ p) (suc i) l = let r = splits p i (omega (arith, l)) in (r.0, r.1, ap (λ q. s ∷ q) r.2)
 
-    by_rest : (o : Option plain.Value) (b : Bool) → Said (rest o) b → Told (rest o) b
-    by_rest None true e = cc
-    by_rest None false e = (refl, ap whole e.1)
-    by_rest (Some x) true e = cc
-    by_rest (Some x) false e = cc
+module _ (p : List Step) (w v x : Value) (turn last : ℕ) (h : Putting p w v turn x) (e : last + (turn + 1) ≡ length p) where
+  next_is : put p w v ≡ and_then (changed_at v p last x) (λ y. put (take last p) y v)
+  next_is =
+      h (suc last) (omega (arith, e)) ∙ ap (λ q. put q x v) there.2 ∙ put_last (take last p) there.0 x v
+      ∙ ap (λ o. and_then (and_then o (λ s. with_step v (take last p) s x)) (λ y. put (take last p) y v)) (sym there.1)
+    where
+      there : (s : Step) × (slice_get p last ≡ Some s) × (take (suc last) p ≡ take last p ++ s ∷ [])
+      there = splits p last (omega (arith, e))
 
-    by_field : (o : Option plain.Value) (b : Bool) → Said (written o) b → Told (written o) b
-    by_field None true e = cc
-    by_field None false e = (refl, ap whole e.1)
-    by_field (Some u) b e = by_rest (put ss w u) b e
-whole_puts vs us (Step.Variant i) ss w true p = cc
-whole_puts vs us (Step.Variant i) ss w false p = (refl, ap whole p.1)
-whole_puts vs us (Step.Deref m) ss w true p = cc
-whole_puts vs us (Step.Deref m) ss w false p = (refl, ap whole p.1)
+  pub putting_goes_on : (y : Value) → Some y ≡ changed_at v p last x → Putting p w v (turn + 1) y
+  putting_goes_on y f k g = next_is ∙ sym (ap (λ o. and_then o (λ z. put (take last p) z v)) f) ∙ (let j : last ≡ k = omega (arith, e, g) in ap (λ n. put (take n p) y v) j)
 
-pub unit_puts : (s : Step) (ss : List Step) (w : plain.Value) → Puts plain.unit_value (s ∷ ss) w plain.unit_value false
-unit_puts (Step.Field i) ss w = (refl, refl)
-unit_puts (Step.Variant i) ss w = (refl, refl)
-unit_puts (Step.Deref m) ss w = (refl, refl)
+  pub putting_fails : None ≡ changed_at v p last x → None ≡ put p w v
+  putting_fails f = sym (next_is ∙ sym (ap (λ o. and_then o (λ z. put (take last p) z v)) f))
 
--- ---- the same of equal values
-
-pub puts_if : (v v2 x x2 w : plain.Value) (p : List Step) (b : Bool) → v ≡ v2 → x ≡ x2 → Puts v2 p w x2 b → Puts v p w x b
-puts_if v v2 x x2 w p b e f h = subst (λ y. Puts y p w x b) (sym e) (subst (λ y. Puts v2 p w y b) (sym f) h)
-
-pub parts_if : (vs vs2 us us2 : Values) (w : plain.Value) (p : List Step) (b : Bool) → vs ≡ vs2 → us ≡ us2 → PutsParts vs2 p w us2 b → PutsParts vs p w us b
-parts_if vs vs2 us us2 w p b e f h = subst (λ y. PutsParts y p w us b) (sym e) (subst (λ y. PutsParts vs2 p w y b) (sym f) h)
+pub putting_ends : (p : List Step) (w v x : Value) (turn : ℕ) → length p ≤ turn → turn ≤ length p → Putting p w v turn x → Some x ≡ put p w v
+putting_ends p w v x turn a b h = sym (h 0 (omega (arith, a, b)))

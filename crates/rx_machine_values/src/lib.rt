@@ -8,9 +8,9 @@ mod reading;
 mod value;
 mod writing;
 
-pub use copying::{boxed_parts, boxed_pointer, copied, copied_part};
+pub use copying::{boxed_pointer, copied_part, parts_of};
 pub use memory::Memory;
 pub use number::{Calculated, Number, computed, negated};
-pub use reading::{Part, at_path, field_from, is_part_set, is_set, step_from};
-pub use value::{Lack, Parts, Pointer, Value};
+pub use reading::{Part, at_path, field_from, is_part_set, step_from};
+pub use value::{Lack, Node, Parts, Pointer, Value};
 pub use writing::put;

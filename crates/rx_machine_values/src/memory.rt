@@ -2,6 +2,7 @@
 
 ghost use Rattle.std.specs.Prelude.{◌≡◌, [], ◌∷◌, ◌++◌, OnOk, IfOk, length, option_map};
 ghost use Rattle.rx_meaning.specs.Values as plain;
+ghost use Rattle.rx_meaning.specs.Values.{and_then};
 ghost use Rattle.rx_machine_values.specs.PlainValues.{plain-Value, plain-Part};
 ghost use Rattle.rx_machine_values.specs.PlainMemory.{plain-Memory};
 ghost use Rattle.rx_machine_values.specs.Reaching as spec;
@@ -12,6 +13,7 @@ use crate::value::{Lack, Value};
 use crate::writing::put;
 use rx_core::{LetGo, Step};
 use std::alloc::{AllocError, Global};
+use std::mem::replace;
 
 /// What stands in each slot, by its number from 0.
 #[derive(Drop)]
@@ -63,33 +65,57 @@ impl Memory {
         ensures { option_map plain-Part result ≡ spec.content_at (plain-Memory self.now) slot path.now }
     {
         match self.slot(slot) {
-            Some(value) => at_path(Part::Value(value), path),
+            Some(value) => at_path(value.as_part(), path),
             None => None,
         }
     }
 
-    /// Writes a value in a slot at a path; whether that leads somewhere. Else nothing changes.
-    pub fn write(&mut self, slot: usize, path: &[Step], value: Value) -> bool
-        ensures { writes.Wrote (plain-Memory self.old) slot path.now (plain-Value value) (plain-Memory self.new) result }
+    /// Writes a value in a slot; whether there is one. Else nothing changes.
+    pub fn set(&mut self, slot: usize, value: Value) -> bool
+        ensures { writes.Wrote (plain-Memory self.old) slot [] (plain-Value value) (plain-Memory self.new) result }
     {
         if slot < self.slots.len() {
-            put(&mut self.slots[slot], path, value)
+            replace(&mut self.slots[slot], value).let_go();
+            true
         } else {
             value.let_go();
             false
         }
     }
 
-    #[tactic(auto, using(crate::proofs::ValueRules::value_rules))]
-    fn behind_value<'m>(&'m self, value: &'m Value) -> Option<Part<'m>>
-        ensures { option_map plain-Part result ≡ spec.behind (plain-Memory self.now) (plain-Value value.now) }
+    /// What a slot would hold with a value at a path in it; none where that leads nowhere.
+    fn changed(
+        &self,
+        alloc: Global,
+        slot: usize,
+        path: &[Step],
+        value: Value,
+    ) -> Result<Option<Value>, AllocError>
+        ensures { IfOk result (λ it. option_map plain-Value it
+            ≡ and_then (plain.element (plain-Memory self.now) slot) (λ u. plain.put path.now (plain-Value value) u)) }
     {
-        match value {
-            Value::Pointer(pointer) => self.content(pointer.slot, pointer.path.as_slice()),
-            Value::Number(_) | Value::Truth(_) | Value::Unit => None,
-            Value::Whole(_) => None,
-            Value::Tagged(_, _) => None,
-            Value::Lacking(_) => None,
+        match self.slot(slot) {
+            Some(held) => put(alloc, held, path, value),
+            None => {
+                value.let_go();
+                Ok(None)
+            }
+        }
+    }
+
+    /// Writes a value in a slot at a path; whether that leads somewhere. Else nothing changes.
+    pub fn write(
+        &mut self,
+        alloc: Global,
+        slot: usize,
+        path: &[Step],
+        value: Value,
+    ) -> Result<bool, AllocError>
+        ensures { IfOk result (λ done. writes.Wrote (plain-Memory self.old) slot path.now (plain-Value value) (plain-Memory self.new) done) }
+    {
+        match self.changed(alloc, slot, path, value)? {
+            Some(changed) => Ok(self.set(slot, changed)),
+            None => Ok(false),
         }
     }
 
@@ -98,8 +124,12 @@ impl Memory {
         ensures { option_map plain-Part result ≡ spec.behind (plain-Memory self.now) (plain-Part at.entry) }
     {
         match at {
-            Part::Value(value) => self.behind_value(value),
-            Part::Parts(_) => None,
+            Part::Pointer(pointer) => self.content(pointer.slot, pointer.path.as_slice()),
+            Part::Number(_) => None,
+            Part::Truth(_) => None,
+            Part::Whole(_) => None,
+            Part::Tagged(_, _) => None,
+            Part::Lacking(_) => None,
         }
     }
 

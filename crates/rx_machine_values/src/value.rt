@@ -20,8 +20,31 @@ pub struct Pointer {
     pub mutable: bool,
 }
 
+/// A node of values in order, in front of its parts. A node has no others in it, so that values of any depth are copied
+/// and let go by loops.
+#[derive(Drop)]
+pub enum Node {
+    Number(Number),
+    Truth(bool),
+    /// A tuple or struct, with how many nodes its fields take, which follow.
+    Whole(usize),
+    /// A variant by its number, with how many nodes its parts take, which follow.
+    Tagged(u32, usize),
+    Pointer(Box<Pointer>),
+    /// What stands where no value does.
+    Lacking(Lack),
+}
+
+// A part of a value takes no more.
+const _: () = prove!(size_of::<Node>() == 24);
+
+/// Values in order, by their nodes.
+#[derive(Drop)]
+pub struct Parts {
+    pub nodes: List<Node>,
+}
+
 /// A value. What holds others is behind a box, so that an integer takes little room.
-#[cycle(values)]
 #[derive(Drop)]
 pub enum Value {
     Number(Number),
@@ -40,14 +63,13 @@ pub enum Value {
 // An integer in a slot of memory takes no more.
 const _: () = prove!(size_of::<Value>() == 24);
 
-/// Values in order.
-#[cycle(values)]
-#[derive(Drop)]
-pub struct Parts {
-    pub items: Vec<Value>,
+impl LetGo for Pointer {
+    fn let_go(self) {
+        let _gone = self;
+    }
 }
 
-impl LetGo for Pointer {
+impl LetGo for Node {
     fn let_go(self) {
         let _gone = self;
     }

@@ -1,7 +1,7 @@
 -- What each expression does, by recursion on the typed tree and on the turns (Rust Reference, "Expressions", "Statements").
 use Rattle.std.specs.Prelude.{ℕ, zero, suc, true, false, nat_eq, List, [], ◌∷◌, Option, Some, if◌then◌else◌}
 use Rattle.rx_core.specs.declared.types.Step.{Step}
-use Rattle.rx_typed.specs.Tree.{Temporary, operation, lazy, Exp, read, borrow, share, build, unit, lazily, assign, update, call, input, print, block, choose, loop, jump, give, Operands, no_operand, operand_and, Scrutinee, at_place, of_value, Arms, no_arm, arm_and, Body, ends, runs, declares, lets, Parameter, Function, held, under, mark_of, temporary_at, temporary_of, temporaries_of, fields_of}
+use Rattle.rx_typed.specs.Tree.{Temporary, operation, lazy, Exp, read, borrow, share, build, unit, lazily, assign, update, call, input, print, block, choose, loop, jump, give, Operands, no_operand, operand_and, Scrutinee, at_place, of_value, Arms, no_arm, arm_and, Body, ends, runs, declares, lets, Parameter, Function, temporary_place, under, mark_of, temporary_at, temporary_of, temporaries_of, fields_of}
 use Rattle.rx_typed.specs.Tree as tree
 use Rattle.rx_lower_walks.specs.Matching.{equals, tests, bindings}
 use Rattle.rx_lower_walks.specs.Actions.{Read, Write, Borrow, Test, Call, Build, Input, Print, Give, at_mark, Subject, subject}
@@ -89,11 +89,11 @@ unfoldable mutual
   value A P below (borrow m k p) d s = performed A (at_mark m (Borrow k p d)) [] s
   value A P below (share m e) d s =
       bind (value A P below e (temporary_at m.node 1) s) (λ v s1.
-      performed A (at_mark m (Borrow false (under (held (temporary_at m.node 1)) (Step.Deref true ∷ [])) d)) (v ∷ []) s1)
+      performed A (at_mark m (Borrow false (under (temporary_place (temporary_at m.node 1)) (Step.Deref true ∷ [])) d)) (v ∷ []) s1)
   -- "Lazy boolean operators"
   value A P below (lazily m b e f) d s =
       bind (value A P below e (temporary_of e) s) (λ v s1.
-      bind (performed A (at_mark m (Test (held (temporary_of e)) (equals (tree.truth b)))) (v ∷ []) s1) (λ t s2.
+      bind (performed A (at_mark m (Test (temporary_place (temporary_of e)) (equals (tree.truth b)))) (v ∷ []) s1) (λ t s2.
       bind (decided t (λ s3. value A P below f (temporary_of f) s3) (λ s3. on [] v s3) s2) (λ w s4.
       performed A (at_mark m (Build lazy [] (temporary_of e ∷ temporary_of f ∷ []) d)) (w ∷ []) s4)))
   -- "Assignment expressions", "Compound assignment expressions" (of integers): the right side, then the place

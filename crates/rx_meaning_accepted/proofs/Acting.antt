@@ -29,7 +29,7 @@ use Rattle.rx_lower_walks.specs.Orders as order
 use Rattle.rx_lower_walks.specs.Orders.{Order, order_all, order_scrutinee, order_arms, order_body, order_function, beginning}
 use Rattle.rx_typeck_solver.specs.declared.facts.Subject.{Subject}
 use Rattle.rx_typeck_solver.specs.declared.facts.Demand.{Demand}
-use Rattle.rx_typeck_solver.specs.Facts.{MeetsEach, Types, Known, types_at, names_of}
+use Rattle.rx_typeck_solver.specs.Facts.{MeetsEach, Assignment, KnownItems, types_at, names_of}
 use Rattle.rx_typeck_typed.specs.Asking.{Asking, ask, expected}
 use Rattle.rx_typeck_typed.specs.Demands as rules
 use Rattle.rx_meaning_keeping.specs.Units.{GoesOn}
@@ -57,7 +57,7 @@ use Rattle.rx_meaning_accepted.proofs.Values as values
 use Rattle.rx_meaning_accepted.proofs.Values.{is_false, not_both, either_true, both_are, or_false, left_false, right_false, stays_alive}
 use Rattle.rx_meaning_accepted.proofs.Joining as joining
 
-module _ (K : Known) (A : Types) (U : Temporary → Typ) (R : Typ) (f : ℕ) (result : (u : Typ) → result_declared (slice_get K.items f) ≡ Some u → R ≡ u) where
+module _ (K : KnownItems) (A : Assignment) (U : Temporary → Typ) (R : Typ) (f : ℕ) (result : (u : Typ) → result_declared (slice_get K.items f) ≡ Some u → R ≡ u) where
   abbrev Wants : Type 0 → Asking → Type 0
   Wants S a = Asks K A S a
 

@@ -7,19 +7,19 @@ use Rattle.rx_tree.specs.declared.tree.BinaryOp.{BinaryOp}
 use Rattle.rx_tree.specs.Lists.{Every}
 use Rattle.rx_typed.specs.Types.{Typ, boolean, reference, unit_shape}
 use Rattle.rx_typed.specs.Tree as tree
-use Rattle.rx_typed.specs.Tree.{Temporary, Place, Making, Mark, mark_of, temporary_of, temporary_at, temporaries_of, fields_of, held, under}
+use Rattle.rx_typed.specs.Tree.{Temporary, Place, Making, Mark, mark_of, temporary_of, temporary_at, temporaries_of, fields_of, temporary_place, under}
 use Rattle.rx_lower_walks.specs.Matching.{PartTest, Binding, tests, bindings}
 use Rattle.rx_lower_walks.specs.Actions.{Act, Read, Write, Borrow, Call, Build, Print, Give, in_temporary}
 use Rattle.rx_lower_walks.specs.Actions as actions
 use Rattle.rx_lower_walks.specs.Orders as order
 use Rattle.rx_lower_walks.specs.Orders.{Order, order_all, order_scrutinee, order_arms, order_body, testing, binding, declaring}
-use Rattle.rx_typeck_solver.specs.Facts.{Types, Known}
+use Rattle.rx_typeck_solver.specs.Facts.{Assignment, KnownItems}
 use Rattle.rx_meaning_keeping.specs.Units.{GoesOn, FillsUnit, OperandsFill, ScrutineeFills, ArmsFill, BodyFills}
 use Rattle.rx_meaning_keeping.specs.RightOperands.{HasRight, OperandsHaveRight, ScrutineeHasRight, ArmsHaveRight, BodyHasRight}
 use Rattle.rx_meaning_typed.specs.TypedActs.{typ_along, Makes, joins, Operates, operates, IsShown}
 use Rattle.rx_meaning_accepted.proofs.Patterns as patterns
 
-module _ (K : Known) (A : Types) (U : Temporary → Typ) (R : Typ) where
+module _ (K : KnownItems) (A : Assignment) (U : Temporary → Typ) (R : Typ) where
   abbrev Q : Act → Type 0
   Q = patterns.Q K A U R
 

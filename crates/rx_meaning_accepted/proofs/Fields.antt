@@ -8,8 +8,8 @@ use Rattle.rx_tree.specs.declared.tree.Ident.{Ident}
 use Rattle.rx_tree.specs.Lists.{Every}
 use Rattle.rx_tree.specs.Plain as plain
 use Rattle.rx_tree.specs.Plain.{TypeTree, FieldOf, Structure, ItemTree, ProgramTree}
-use Rattle.rx_resolve_names.specs.declared.table.Known.{Known}
-use Rattle.rx_resolve_names.specs.Scopes.{Declared, declared_as}
+use Rattle.rx_resolve_names.specs.declared.table.NumberedName.{NumberedName}
+use Rattle.rx_resolve_names.specs.Scopes.{DeclaredNames, declared_as}
 use Rattle.rx_resolve_names.specs.declared.resolved.ItemNames.{ItemNames}
 use Rattle.rx_resolve_names.specs.declared.resolved.NodeNames.{NodeNames}
 use Rattle.rx_resolve_names.specs.Meant.{number, firsts, lifetimes_declared}
@@ -90,11 +90,11 @@ abbrev field_names : List FieldOf → List (List ℕ)
 field_names [] = []
 field_names (f ∷ fs) = f.name.name ∷ field_names fs
 
-abbrev names_in : Declared → List (List ℕ)
+abbrev names_in : DeclaredNames → List (List ℕ)
 names_in [] = []
 names_in (d ∷ ds) = d.0 ∷ names_in ds
 
-none_as : (ds : Declared) (x : List ℕ) → declared_as ds x ≡ None → Every (Unlike x) (names_in ds)
+none_as : (ds : DeclaredNames) (x : List ℕ) → declared_as ds x ≡ None → Every (Unlike x) (names_in ds)
 none_as [] x e = tt
 none_as (d ∷ ds) x e = by (bytes_eq x d.0) refl e (none_as ds x)
   where
@@ -102,15 +102,15 @@ none_as (d ∷ ds) x e = by (bytes_eq x d.0) refl e (none_as ds x)
     by true q h g = absurd (cc)
     by false q h g = (q, g h)
 
-names_more : (ds : Declared) (x : List ℕ × Known) → names_in (ds ++ x ∷ []) ≡ names_in ds ++ x.0 ∷ []
+names_more : (ds : DeclaredNames) (x : List ℕ × NumberedName) → names_in (ds ++ x ∷ []) ≡ names_in ds ++ x.0 ∷ []
 names_more [] x = refl
 names_more (d ∷ ds) x = ap (λ (l : List (List ℕ)). d.0 ∷ l) (names_more ds x)
 
-behind_new : (ds new : Declared) (x : Ident) (n : ℕ) (o : Option Known) → declared_behind ds x n o ≡ Ok new → (o ≡ None) × (names_in new ≡ names_in ds ++ x.name ∷ [])
+behind_new : (ds new : DeclaredNames) (x : Ident) (n : ℕ) (o : Option NumberedName) → declared_behind ds x n o ≡ Ok new → (o ≡ None) × (names_in new ≡ names_in ds ++ x.name ∷ [])
 behind_new ds new x n None e = (refl, ap names_in (sym (the_same _ new e)) ∙ names_more ds (x.name, record { number = number n; span = x.span }))
 behind_new ds new x n (Some k) e = absurd (cc)
 
-fields_new : (I : Inside) (at : List ℕ) (ds : Declared) (i : ℕ) (fs : List FieldOf) (t t' : ItemNames) → in_declared I at ds i fs t ≡ Ok t' → AllNew (names_in ds) (field_names fs)
+fields_new : (I : Inside) (at : List ℕ) (ds : DeclaredNames) (i : ℕ) (fs : List FieldOf) (t t' : ItemNames) → in_declared I at ds i fs t ≡ Ok t' → AllNew (names_in ds) (field_names fs)
 fields_new I at ds i [] t t' e = tt
 fields_new I at ds i (f ∷ fs) t t' e =
     let a = named_ok (declare ds f.name i) (λ ds. (in_type I (child at i) f.typ >> in_declared I at ds (next i) fs) t) t' e in

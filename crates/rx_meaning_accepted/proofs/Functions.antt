@@ -13,7 +13,7 @@ use Rattle.rx_lower_walks.specs.Orders as order
 use Rattle.rx_lower_walks.specs.Orders.{Order, order_function, beginning, argument}
 use Rattle.rx_lower_walks.specs.Walks.{IsWalk}
 use Rattle.rx_typeck_solver.specs.declared.facts.Subject.TheVariants as subject
-use Rattle.rx_typeck_solver.specs.Facts.{MeetsEach, Types, Known}
+use Rattle.rx_typeck_solver.specs.Facts.{MeetsEach, Assignment, KnownItems}
 use Rattle.rx_typeck_typed.specs.Asking.{Asking}
 use Rattle.rx_typeck_typed.specs.Demands as rules
 use Rattle.rx_meaning_typed.specs.TypedActs.{Typing, ActsTyped}
@@ -36,7 +36,7 @@ use Rattle.rx_meaning_accepted.proofs.Building as building
 use Rattle.rx_meaning_accepted.proofs.Joining as joining
 use Rattle.rx_meaning_accepted.proofs.Acting as acting
 
-module _ (K : Known) (A : Types) (F : Function) (count : ℕ) (numbers : AreFrom 0 (nodes F) count) (sited : BodySited Site.Expects F.body) (fits : FunctionFits K.items F) (met : MeetsEach K A (rules.demands F)) where
+module _ (K : KnownItems) (A : Assignment) (F : Function) (count : ℕ) (numbers : AreFrom 0 (nodes F) count) (sited : BodySited Site.Expects F.body) (fits : FunctionFits K.items F) (met : MeetsEach K A (rules.demands F)) where
   abbrev V : ℕ → Typ
   V x = A (subject.Variable x)
 

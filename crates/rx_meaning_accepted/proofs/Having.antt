@@ -35,7 +35,7 @@ use Rattle.rx_typeck_solver.specs.declared.facts.Test.TheVariants as test
 use Rattle.rx_typeck_solver.specs.declared.facts.Passing.{Passing}
 use Rattle.rx_typeck_solver.specs.declared.facts.Fact.TheVariants as fact
 use Rattle.rx_typeck_solver.specs.declared.facts.Demand.{Demand}
-use Rattle.rx_typeck_solver.specs.Facts.{MeetsAll, Types, Known, coerced, field_of, part_of, pointee, names_of, exactly, MeetsEach}
+use Rattle.rx_typeck_solver.specs.Facts.{MeetsAll, Assignment, KnownItems, coerced, field_of, part_of, pointee, names_of, exactly, MeetsEach}
 use Rattle.rx_typeck_typed.specs.Asking.{Asking, asks}
 use Rattle.rx_typeck_typed.specs.Demands as rules
 use Rattle.rx_hoist_naming.proofs.Claims.{Claims, OfPattern, OfPatterns, OfFieldPatterns, IsPlaced, OfParameters}
@@ -53,7 +53,7 @@ use Rattle.rx_meaning_accepted.proofs.Uses.{UsedExp, UsedExps, UsedElse, UsedFie
 use Rattle.rx_meaning_accepted.proofs.Writing.{PartFits, whole_fits, assignable_asks, written_fits}
 use Rattle.rx_meaning_accepted.proofs.Asking.{value_asks, Asks, NoPlace, no_if_place, asks_map, none, both, then_first, then_second, then_u, one_asked, quiet, whole_type_u, refused, never_asks, join_asks, own_asks, borrowed_asks, bound_u, literal_u, before_u, after_u, tested_u, printed_u, unit_u, not_never_u, operation_asks, updated_u, negated_asks, inverted_asks, given_u, returns_u, branch_before_u, branch_after_asks, if_joins_asks, one_variable_u, evaluated_u, tail_before_u, tail_after_u, loop_asks, each_before_u, each_after_u, integer_asks, never_given_u, parameters_u, result_u}
 
-module _ (C : Claims) (M : ℕ → Type 0) (K : Known) (A : Types) (P : ℕ → ℕ) (ts : List (Option Typ)) (Z : Sized K.items P) (apart : (i : ℕ) → NamedApart (fields_declared (slice_get K.items i)))
+module _ (C : Claims) (M : ℕ → Type 0) (K : KnownItems) (A : Assignment) (P : ℕ → ℕ) (ts : List (Option Typ)) (Z : Sized K.items P) (apart : (i : ℕ) → NamedApart (fields_declared (slice_get K.items i)))
     (variables : (x : ℕ) → C.variable x → slice_get ts x ≡ Some (Some (A (subject.Variable x)))) where
   abbrev pub T : Assigned
   T = record { items = K.items; typ = λ n. A (subject.Node n); expected = λ n. A (subject.Expected n) }
@@ -99,7 +99,7 @@ module _ (C : Claims) (M : ℕ → Type 0) (K : Known) (A : Types) (P : ℕ → 
   abbrev Fits : Node → Site → Type 0
   Fits n t = t ≡ Site.Initialises → coerced (A (subject.Node n.number)) (A (subject.Expected n.number)) ≡ A (subject.Node n.number)
 
-  fits_asks : (n : Node) → Wants (coerced (A (subject.Node n.number)) (A (subject.Expected n.number)) ≡ A (subject.Node n.number)) (rules.fits n)
+  fits_asks : (n : Node) → Wants (coerced (A (subject.Node n.number)) (A (subject.Expected n.number)) ≡ A (subject.Node n.number)) (rules.coerces n)
   fits_asks n = asks_map (λ h. some_same _ _ h.0) (one_asked n _ _ _)
 
   place_asks : (n : Node) (x : ℕ) (ps : List Passing) (t : Site) → Wants (Fits n t) (rules.place_in n x ps t)
@@ -118,8 +118,8 @@ module _ (C : Claims) (M : ℕ → Type 0) (K : Known) (A : Types) (P : ℕ → 
   looks : (p : Place) (t : Typ) → At p t → Looked p
   looks p t h = placing.looked F Z p t h
 
-  held_looks : (t : Temporary) (ss : List Step) → Looked (tree.under (tree.held t) ss)
-  held_looks t ss = placing.nowhere_looked F Z (tree.under (tree.held t) ss) t refl
+  held_looks : (t : Temporary) (ss : List Step) → Looked (tree.under (tree.temporary_place t) ss)
+  held_looks t ss = placing.nowhere_looked F Z (tree.under (tree.temporary_place t) ss) t refl
 
   stays : (p : Place) (t : Typ) → At p t → At (tree.under p []) t
   stays p t h = placing.goes F Z p [] t t h (placing.leads F Z [] t t (λ n. refl))
@@ -165,7 +165,7 @@ module _ (C : Claims) (M : ℕ → Type 0) (K : Known) (A : Types) (P : ℕ → 
 
   further : (S : actions.Subject) (at ss : List Step) (t : Typ) → At (tree.under (actions.part S at) ss) t → At (actions.part S (at ++ ss)) t
   further (in_place p) at ss t h = placing.regrouped F Z p at ss t h
-  further (in_temporary d) at ss t h = placing.regrouped F Z (tree.held d) at ss t h
+  further (in_temporary d) at ss t h = placing.regrouped F Z (tree.temporary_place d) at ss t h
 
   behind_fine : (t : Typ) (q : tree.Pattern) (S : actions.Subject) (at : List Step) → At (actions.part S at) t → ((at : List Step) → At (actions.part S at) (peeled t) → Fine S at q) → Fine S at (elaborated.behind_all t q)
   behind_fine (integer k) q S at h f = f at h

@@ -26,11 +26,11 @@ use Rattle.rx_facts.specs.Passing.{AllAre}
 use Rattle.rx_facts.specs.Functions.{frame_of, IsInitialised}
 use Rattle.rx_typeck_elaborate_parts.specs.Assigning.{joined}
 use Rattle.rx_typeck_solver.specs.declared.facts.Subject.TheVariants as subject
-use Rattle.rx_typeck_solver.specs.Facts.{Known}
+use Rattle.rx_typeck_solver.specs.Facts.{KnownItems}
 use Rattle.rx_typeck_typed.specs.declared.typed.Typed.{Typed}
 use Rattle.rx_typeck_typed.specs.declared.typed.TypedFn.{TypedFn}
 use Rattle.rx_typeck_typed.specs.Typing.{Given, known_in, assigned, is_mutable, TypeIs, FunctionTyped, FunctionsTyped, IsTyped}
-use Rattle.rx_typeck_typed.specs.HaveTypes.{HasType, EachTyped}
+use Rattle.rx_typeck_typed.specs.HaveTypes.{HasTypeInTables, EachTyped}
 use Rattle.rx_meaning.specs.Values.{element}
 use Rattle.rx_machine.specs.Functions.{is_function, first_of, behind, typed_functions}
 use Rattle.rx_meaning_keeping.specs.Formed.{Any, Formed, AllFormed}
@@ -76,7 +76,7 @@ mapped_at f [] x a e = absurd (cc)
 mapped_at f (y ∷ l) zero a e = ap (λ z. Some (f z)) (let q : y ≡ a = cc in q)
 mapped_at f (y ∷ l) (suc x) a e = mapped_at f l x a e
 
-each_variable : (G : Given) (ns : List ItemNames) (i : ℕ) (is : ProgramTree) (ts : List TypedFn) → FunctionsTyped G ns i is ts → EachTyped ns i is ts → (t : TypedFn) → Among t ts → (x : ℕ) → x < length t.mutable → HasType t (subject.Variable x)
+each_variable : (G : Given) (ns : List ItemNames) (i : ℕ) (is : ProgramTree) (ts : List TypedFn) → FunctionsTyped G ns i is ts → EachTyped ns i is ts → (t : TypedFn) → Among t ts → (x : ℕ) → x < length t.mutable → HasTypeInTables t (subject.Variable x)
 each_variable G ns i [] ts h k t a = absurd (elim (subst (λ (l : List TypedFn). Among t l) h a) [ ])
 each_variable G ns i (plain.rt_item a b ∷ is) ts h k t y = each_variable G ns (suc i) is ts h k t y
 each_variable G ns i (plain.struct_item a b ∷ is) ts h k t y = each_variable G ns (suc i) is ts h k t y
@@ -92,7 +92,7 @@ module _ (p : ProgramTree) (ns : List ItemNames) (t : Typed) (few : IsNumbered p
   abbrev G : Given
   G = record { program = p; declared = typed.declared; sizes = typed.sizes }
 
-  abbrev K : Known
+  abbrev K : KnownItems
   K = known_in G
 
   same : declarations t.decls.items ≡ declarations typed.declared

@@ -8,7 +8,7 @@ use Rattle.rx_typed.specs.Named.{Exps, Fields, node_of}
 use Rattle.rx_typed.specs.Elaborated as elaborated
 use Rattle.rx_typed.specs.Elaborated.{Assigned}
 use Rattle.rx_typed.specs.Tree.{fields_of}
-use Rattle.rx_typeck_solver.specs.Facts.{Types, Known, types_at, names_of}
+use Rattle.rx_typeck_solver.specs.Facts.{Assignment, KnownItems, types_at, names_of}
 use Rattle.rx_typeck_typed.specs.Demands.{argument_count, names_given, exp_nodes}
 use Rattle.rx_meaning_typed.specs.TypedActs.{types_of_fields, Fill, no_field, field_and}
 use Rattle.rx_repair.proofs.Places.{some_same}
@@ -58,7 +58,7 @@ each_within g ts k (named.exp_and e es) f = (
   each_within g ts (suc k) es (λ i. ap (λ (j : ℕ). slice_get ts j) (let q : suc k + i ≡ k + suc i = omega arith in q) ∙ f (suc i)),
 )
 
-pub nodes_as : (K : Known) (A : Types) (es : Exps) → types_at A (exp_nodes es) ≡ each_as (own K A) es
+pub nodes_as : (K : KnownItems) (A : Assignment) (es : Exps) → types_at A (exp_nodes es) ≡ each_as (own K A) es
 nodes_as K A named.no_exp = refl
 nodes_as K A (named.exp_and e es) = ap (λ (l : List Typ). own K A (node_of e) ∷ l) (nodes_as K A es)
 

@@ -7,7 +7,7 @@ use Rattle.rx_tree.specs.Lists.{listed}
 use Rattle.rx_tree.specs.Plain as plain
 use Rattle.rx_tree.specs.Plain.{PatternTree, PatternTrees, Expression, Expressions, OptionalExpression, OptionalExpressions, FieldExpressions, Arms, Body, Statement, Statements}
 use Rattle.rx_resolve_names.specs.Scopes as scopes
-use Rattle.rx_resolve_names.specs.Scopes.{Declared, Variables, variable_named}
+use Rattle.rx_resolve_names.specs.Scopes.{DeclaredNames, Variables, variable_named}
 use Rattle.rx_resolve_names.specs.declared.resolved.ItemNames.{ItemNames}
 use Rattle.rx_resolve_names.specs.declared.resolved.NodeNames.{NodeNames}
 use Rattle.rx_resolve_names.specs.Meant.{number, type_name, function_name, item_named, as_function, as_rt, Around, a_loop, a_test, Target, to_loop, out_of_test, nowhere, through_test, target}
@@ -403,7 +403,7 @@ module _ (D : Declarations) (I : Inside) (S : Sees D I) where
     statement_taken : (sc : Variables) (ls : List Around) (at : List ℕ) (a : Statement) (t : ItemNames) (r : Scoped) (js : List ℕ) → Stands [] ls [] js t → in_statement I sc ls at a t ≡ Ok r → StatementTaken js a t r
     statement_taken sc ls at (plain.let_statement s p y plain.absent) t r js w e =
         let b0 : Bound = record { bindings = []; tables = t } in
-        let to : Declared → ItemNames → Scoped = λ ds t. record { scope = scopes.entered sc ds; tables = t } in
+        let to : DeclaredNames → ItemNames → Scoped = λ ds t. record { scope = scopes.entered sc ds; tables = t } in
         let g = in_optional_type I (child at 1) y in let k = in_optional I sc ls (child at (initialiser_at y)) plain.absent in
         let Z = named_ok (in_pattern I (child at 0) p b0) (λ b. and_then ((g >> k) b.tables) (λ t. Ok (to b.bindings t))) r e in
         let Y = named_ok ((g >> k) Z.0.tables) (λ t. Ok (to Z.0.bindings t)) r Z.2 in
@@ -417,7 +417,7 @@ module _ (D : Declarations) (I : Inside) (S : Sees D I) where
         takes_last (m Site.Value) (λ _ _. takes_quiet (quiet_between i j) (λ _ _. takes_quiet (quiet_waits (numbering.has_no_type z) c) (λ _ _. takes_give (named.declares n c z) sound_none)))))))))))
     statement_taken sc ls at (plain.let_statement s p y (plain.present x)) t r js w e =
         let b0 : Bound = record { bindings = []; tables = t } in
-        let to : Declared → ItemNames → Scoped = λ ds t. record { scope = scopes.entered sc ds; tables = t } in
+        let to : DeclaredNames → ItemNames → Scoped = λ ds t. record { scope = scopes.entered sc ds; tables = t } in
         let g = in_optional_type I (child at 1) y in let k = in_optional I sc ls (child at (initialiser_at y)) (plain.present x) in
         let Z = named_ok (in_pattern I (child at 0) p b0) (λ b. and_then ((g >> k) b.tables) (λ t. Ok (to b.bindings t))) r e in
         let Y = named_ok ((g >> k) Z.0.tables) (λ t. Ok (to Z.0.bindings t)) r Z.2 in

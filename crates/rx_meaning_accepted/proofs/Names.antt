@@ -6,8 +6,8 @@ use Rattle.rx_core.specs.declared.types.Span.{Span}
 use Rattle.rx_tree.specs.declared.tree.Ident.{Ident}
 use Rattle.rx_tree.specs.Plain as plain
 use Rattle.rx_tree.specs.Plain.{ItemTree, ProgramTree, VariantOf}
-use Rattle.rx_resolve_names.specs.declared.table.Known.{Known}
-use Rattle.rx_resolve_names.specs.Scopes.{Declared, declared_as}
+use Rattle.rx_resolve_names.specs.declared.table.NumberedName.{NumberedName}
+use Rattle.rx_resolve_names.specs.Scopes.{DeclaredNames, declared_as}
 use Rattle.rx_resolve_names.specs.declared.resolved.ItemNames.{ItemNames}
 use Rattle.rx_resolve_names.specs.declared.resolved.NodeNames.{NodeNames}
 use Rattle.rx_resolve_names.specs.Meant.{number, type_name, has_name, item_named, as_struct, as_enum, kept, firsts, number_in, variant_names, variants_of}
@@ -106,27 +106,27 @@ enum_declares p es s x d e =
 
 -- ---- numbers of variants
 
-abbrev AllBelow : ℕ → Declared → Type 0
+abbrev AllBelow : ℕ → DeclaredNames → Type 0
 AllBelow k [] = Unit {0}
 AllBelow k (d ∷ ds) = (d.1.number < k) × AllBelow k ds
 
-below_last : (k : ℕ) (ds : Declared) (x : List ℕ) (d : Known) → AllBelow k ds → d.number < k → AllBelow k (ds ++ (x, d) ∷ [])
+below_last : (k : ℕ) (ds : DeclaredNames) (x : List ℕ) (d : NumberedName) → AllBelow k ds → d.number < k → AllBelow k (ds ++ (x, d) ∷ [])
 below_last k [] x d h l = (l, tt)
 below_last k (c ∷ ds) x d h l = (h.0, below_last k ds x d h.1 l)
 
-kept_below : (k : ℕ) (ds : Declared) (x : Ident) (n : ℕ) (o : Option Known) → AllBelow k ds → n < k → AllBelow k (kept ds x n o)
+kept_below : (k : ℕ) (ds : DeclaredNames) (x : Ident) (n : ℕ) (o : Option NumberedName) → AllBelow k ds → n < k → AllBelow k (kept ds x n o)
 kept_below k ds x n None h l = below_last k ds x.name (record { number = number n; span = x.span }) h (omega (arith, l))
 kept_below k ds x n (Some d) h l = h
 
-firsts_below : (k : ℕ) (ds : Declared) (n : ℕ) (xs : List Ident) → AllBelow k ds → n + length xs ≤ k → AllBelow k (firsts ds n xs)
+firsts_below : (k : ℕ) (ds : DeclaredNames) (n : ℕ) (xs : List Ident) → AllBelow k ds → n + length xs ≤ k → AllBelow k (firsts ds n xs)
 firsts_below k ds n [] h l = h
 firsts_below k ds n (x ∷ xs) h l = firsts_below k (kept ds x n (declared_as ds x.name)) (suc n) xs (kept_below k ds x n (declared_as ds x.name) h (omega (arith, l))) (omega (arith, l))
 
-named_below : (k : ℕ) (ds : Declared) (x : List ℕ) (j : ℕ) → AllBelow k ds → number_in ds x ≡ Some j → j < k
+named_below : (k : ℕ) (ds : DeclaredNames) (x : List ℕ) (j : ℕ) → AllBelow k ds → number_in ds x ≡ Some j → j < k
 named_below k [] x j h e = absurd (cc)
 named_below k (d ∷ ds) x j h e = by (bytes_eq x d.0) e (λ g. named_below k ds x j h.1 g)
   where
-    by : (b : Bool) → option_map (λ (z : Known). z.number) (if b then Some d.1 else declared_as ds x) ≡ Some j → (number_in ds x ≡ Some j → j < k) → j < k
+    by : (b : Bool) → option_map (λ (z : NumberedName). z.number) (if b then Some d.1 else declared_as ds x) ≡ Some j → (number_in ds x ≡ Some j → j < k) → j < k
     by true e f = let q : d.1.number ≡ j = cc in let l = h.0 in omega (arith, q, l)
     by false e f = f e
 

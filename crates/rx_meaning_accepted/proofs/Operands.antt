@@ -17,7 +17,7 @@ use Rattle.rx_typeck_solver.specs.declared.facts.Rule.{Rule}
 use Rattle.rx_typeck_solver.specs.declared.facts.Fact.{Fact}
 use Rattle.rx_typeck_solver.specs.declared.facts.Fact.TheVariants as fact
 use Rattle.rx_typeck_solver.specs.declared.facts.Kinds.{Kinds}
-use Rattle.rx_typeck_solver.specs.Facts.{MeetsAll, Types, Known, AnInteger, is_plain, is_unit, names_of, exactly, all_among}
+use Rattle.rx_typeck_solver.specs.Facts.{MeetsAll, Assignment, KnownItems, AnInteger, is_plain, is_unit, names_of, exactly, all_among}
 use Rattle.rx_typeck_typed.specs.Asking.{Asking, ask, passes, all, signed}
 use Rattle.rx_typeck_typed.specs.Demands as rules
 use Rattle.rx_meaning_typed.specs.TypedActs.{Operates, adds, subtracts, multiplies, divides, leaves, equal_numbers, equal_truths, unequal_numbers, unequal_truths, less, at_most, greater, at_least, IsShown}
@@ -63,7 +63,7 @@ and_front false b e = absurd (cc)
 fields_count : (ds xs : List (List ℕ)) → exactly ds xs ≡ true → length ds ≡ length xs
 fields_count ds xs e = eqb-true (length ds) (length xs) (and_front _ (all_among ds xs) e)
 
-module _ (K : Known) (A : Types) where
+module _ (K : KnownItems) (A : Assignment) where
   abbrev Wants : Type 0 → Asking → Type 0
   Wants R a = Asks K A R a
 
@@ -99,7 +99,7 @@ module _ (K : Known) (A : Types) where
   number_has n s h k = record { kind = h.0; has = record { same = h.1; outside = k.0; stands = k.1 } }
 
   pub integer_given : (n : Node) (m : Bool) (v : ℕ) (k : Option Kind) → Wants (Number n) (rules.integer_at n m v k)
-  integer_given n m v k = asks_map (λ h. number_has n _ h.0.0 h.1) (both (one_asked n _ _ _) (then_second (quiet n _ _ _) (value_given K A n n.site)))
+  integer_given n m v k = asks_map (λ h. number_has n _ h.0.0 h.1) (both (one_asked n _ _ _) (then_first (value_given K A n n.site) (quiet n _ _ _)))
 
   -- of two operands that have a type
   abbrev pub Both : Bool → Bool → Type 0 → Type 0

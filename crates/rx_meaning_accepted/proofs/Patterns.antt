@@ -25,7 +25,7 @@ use Rattle.rx_typeck_solver.specs.declared.facts.Subject.{Subject}
 use Rattle.rx_typeck_solver.specs.declared.facts.Subject.TheVariants as subject
 use Rattle.rx_typeck_solver.specs.declared.facts.Test.TheVariants as test
 use Rattle.rx_typeck_solver.specs.declared.facts.Passing.{Passing as Gone}
-use Rattle.rx_typeck_solver.specs.Facts.{Types, Known, passed, gone_through, bound, all_mutable, is_item, is_integer, is_truth}
+use Rattle.rx_typeck_solver.specs.Facts.{Assignment, KnownItems, passed, gone_through, bound, all_mutable, is_item, is_integer, is_truth}
 use Rattle.rx_typeck_typed.specs.Asking.{Asking}
 use Rattle.rx_typeck_typed.specs.Demands as rules
 use Rattle.rx_meaning_typed.specs.TypedActs.{Typing, typ_along, root_typ, place_typ, IsEnum, constant_typ, ActTyped}
@@ -114,7 +114,7 @@ several_is_enum (Some (function_declared ps t)) e = absurd (cc)
 
 -- ---- of a function
 
-module _ (K : Known) (A : Types) (U : Temporary → Typ) (R : Typ) where
+module _ (K : KnownItems) (A : Assignment) (U : Temporary → Typ) (R : Typ) where
   abbrev pub V : ℕ → Typ
   V x = A (subject.Variable x)
 
@@ -199,7 +199,7 @@ module _ (K : Known) (A : Types) (U : Temporary → Typ) (R : Typ) where
   bound_fine : (n : Node) (x : ℕ) (c : Bool) (r : Met) (ms : List Bool) → MetIs r ms → bound ms (OfNode n) ≡ V x → U (temporary_at n.number 0) ≡ V x
       → (S : actions.Subject) (at : List Step) → At S at (OfNode n) → BindingFine S (record { node = n.number; variable = x; steps = at; mode = elaborated.mode_of c r })
   bound_fine n x c None [] m b u (in_place p) at h = (reads_as (tree.under p at) (OfNode n) (U (temporary_at n.number 0)) (b ∙ sym u) h, (V x, refl, ap (λ (z : Typ). Some z) u))
-  bound_fine n x c None [] m b u (in_temporary d) at h = (tt, (V x, refl, reads_as (tree.under (tree.held d) at) (OfNode n) (V x) b h))
+  bound_fine n x c None [] m b u (in_temporary d) at h = (tt, (V x, refl, reads_as (tree.under (tree.temporary_place d) at) (OfNode n) (V x) b h))
   bound_fine n x c None (k ∷ ms) m b u S at h = absurd m
   bound_fine n x c (Some j) [] m b u S at h = absurd m
   bound_fine n x c (Some j) (k ∷ ms) m b u (in_place p) at h =

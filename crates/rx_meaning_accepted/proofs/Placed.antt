@@ -8,7 +8,7 @@ use Rattle.rx_core.specs.declared.types.Kind.{Kind}
 use Rattle.rx_core.specs.declared.types.Step.{Step}
 use Rattle.rx_core.specs.declared.types.Step.TheVariants as step
 use Rattle.rx_typed.specs.Types.{Shapes, Typ, integer, boolean, tuple_of, reference, named, shapes_listed, shapes_of, peeled, FieldDeclared, VariantDeclared, Declared, rt_declared, struct_declared, enum_declared, function_declared, Declarations, fields_declared, variants_declared, parts_declared, field_typ, field_number, variant_parts, at_least_one, parts, sum_of_parts}
-use Rattle.rx_typed.specs.Tree.{Place, variable, temporary, Temporary, own, held, under}
+use Rattle.rx_typed.specs.Tree.{Place, variable, temporary, Temporary, own, temporary_place, under}
 use Rattle.rx_typed.specs.Elaborated.{dereferences, field_in}
 use Rattle.rx_typed_declarations.specs.Sizes.{Sized, declared_parts}
 use Rattle.rx_typed_declarations.specs.Held.{field_types}
@@ -127,7 +127,7 @@ module _ (F : Frame) (Z : Sized F.declared F.sizes) where
   pub nowhere_looked : (p : Place) → (t : Temporary) → p.root ≡ temporary t → Looked p
   nowhere_looked p t h x ss e = let q : p.root ≡ variable x = ap (λ (r : Place). r.root) e in cc
 
-  pub held_is : (t : Temporary) (ss : List Step) (u : Typ) → IsAt (under (held t) ss) u
+  pub held_is : (t : Temporary) (ss : List Step) (u : Typ) → IsAt (under (temporary_place t) ss) u
   held_is t ss u x e = cc
 
   -- further steps

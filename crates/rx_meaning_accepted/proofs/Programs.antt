@@ -19,7 +19,7 @@ use Rattle.rx_typed_declarations.proofs.Polarities.{same_declared}
 use Rattle.rx_lower_walks.specs.Orders.{argument}
 use Rattle.rx_lower_walks.specs.Walks.{Among}
 use Rattle.rx_typeck_solver.specs.declared.facts.Subject.TheVariants as subject
-use Rattle.rx_typeck_solver.specs.Facts.{Known, Types, MeetsEach}
+use Rattle.rx_typeck_solver.specs.Facts.{KnownItems, Assignment, MeetsEach}
 use Rattle.rx_typeck_typed.specs.Demands as rules
 use Rattle.rx_typeck_typed.specs.declared.typed.Typed.{Typed}
 use Rattle.rx_typeck_typed.specs.declared.typed.TypedFn.{TypedFn}
@@ -46,7 +46,7 @@ module _ (p : ProgramTree) (ns : List ItemNames) (t : Typed) (typed : IsTyped p 
   abbrev G : Given
   G = record { program = p; declared = typed.declared; sizes = typed.sizes }
 
-  abbrev K : Known
+  abbrev K : KnownItems
   K = known_in G
 
   abbrev P : Functions
@@ -67,7 +67,7 @@ module _ (p : ProgramTree) (ns : List ItemNames) (t : Typed) (typed : IsTyped p 
     abbrev Named : named.Function
     Named = function_named f x.span x.text (entries (slice_get ns f))
 
-    abbrev A : Types
+    abbrev A : Assignment
     A = x.checked.types
 
     abbrev typing_here : Typing

@@ -27,7 +27,7 @@ use Rattle.rx_lower_walks.specs.Actions as actions
 use Rattle.rx_lower_walks.specs.Orders as order
 use Rattle.rx_lower_walks.specs.Orders.{Order, order_all, order_scrutinee, order_arms, order_body, order_function, beginning}
 use Rattle.rx_typeck_solver.specs.declared.facts.Subject.{Subject}
-use Rattle.rx_typeck_solver.specs.Facts.{MeetsEach, Types, Known, types_at, names_of}
+use Rattle.rx_typeck_solver.specs.Facts.{MeetsEach, Assignment, KnownItems, types_at, names_of}
 use Rattle.rx_typeck_typed.specs.Asking.{Asking, ask, expected}
 use Rattle.rx_typeck_typed.specs.Demands as rules
 use Rattle.rx_meaning_keeping.specs.Units.{GoesOn}
@@ -89,7 +89,7 @@ none_before n = omega arith
 pub stays_alive : (e : Exp) → diverges e ≡ false → never e ≡ false
 stays_alive e h = is_false (never e) (λ q. not_both (diverges e) (never_diverges e q) h)
 
-module _ (K : Known) (A : Types) (U : Temporary → Typ) (R : Typ) where
+module _ (K : KnownItems) (A : Assignment) (U : Temporary → Typ) (R : Typ) where
   abbrev pub V : ℕ → Typ
   V = patterns.V K A U R
 

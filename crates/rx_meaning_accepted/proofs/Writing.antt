@@ -17,7 +17,7 @@ use Rattle.rx_facts_tables.specs.Setting.{is_behind}
 use Rattle.rx_facts_tables.specs.Wholes.{is_all}
 use Rattle.rx_typeck_solver.specs.declared.facts.Subject.TheVariants as subject
 use Rattle.rx_typeck_solver.specs.declared.facts.Passing.{Passing}
-use Rattle.rx_typeck_solver.specs.Facts.{Types, Known, passed, is_none, all_mutable}
+use Rattle.rx_typeck_solver.specs.Facts.{Assignment, KnownItems, passed, is_none, all_mutable}
 use Rattle.rx_typeck_typed.specs.Demands as rules
 use Rattle.rx_typeck_typed.specs.Demands.{through}
 use Rattle.rx_hoist_naming.proofs.Claims.{Claims}
@@ -59,7 +59,7 @@ one_none (tuple_of ts) q h n = n
 one_none (reference m t) q h n = absurd (true≢false h)
 one_none (types.named i) q h n = n
 
-module _ (K : Known) (A : Types) where
+module _ (K : KnownItems) (A : Assignment) where
   abbrev T : Assigned
   T = record { items = K.items; typ = λ n. A (subject.Node n); expected = λ n. A (subject.Expected n) }
 

@@ -76,7 +76,7 @@ module _ (T : Typing) (St : Store) (s : State) (memory : MemoryTyped false T.dec
     -- the value that stands there, as one of the coverage
     record Shown : Type 0 where
       pub value : covering.Value
-      pub has : covering.HasType T.declared t value
+      pub has : covering.IsOfType T.declared t value
       pub shows : (w : Value) → GotAt [] ≡ Some w → Filled T.declared w t value
 
     shown : IsInhabited T.declared t → Shown

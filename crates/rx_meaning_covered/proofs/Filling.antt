@@ -60,13 +60,13 @@ good_below D t u s e h = (free_below D t u s e h.0, inhabited_below D t u s e h.
 
 module _ (L : Bool) (D : Declarations) (S : Store) where
   mutual
-    pub filled : {v : Value} {t : Typ} → HasType L D S v t → IsRanged v → HasNoReference D t × IsInhabited D t → (c : covering.Value) × covering.HasType D t c × Filled D v t c
+    pub filled : {v : Value} {t : Typ} → HasType L D S v t → IsRanged v → HasNoReference D t × IsInhabited D t → (c : covering.Value) × covering.IsOfType D t c × Filled D v t c
     filled (of_number {k = k} {z = z}) r g = (covering.number z, kind_of k z r, as_number)
     filled (of_truth {b = b}) r g = (covering.truth b, tt, as_truth)
     filled (of_tuple {ts = ts} h) r g = let a = all_filled h r (λ i u e. good_below D (tuple_of ts) u (Step.Field i) e g) in (covering.tuple a.0, a.1, as_tuple a.2)
     filled (of_struct {i = i} {fs = fs} d h) r g =
         let a = all_filled h r (λ j u e. good_below D (named i) u (Step.Field j) (subst (λ z. item_behind z (Step.Field j) ≡ Some u) (sym d) e) g) in
-        (covering.made i a.0, (refl, subst (λ z. is_struct z ≡ true) (sym d) refl, subst (λ z. covering.HaveTypes D (field_types (fields_declared z)) a.0) (sym d) (subst (λ z. covering.HaveTypes D z a.0) (fields_listed fs) a.1)), as_struct d a.2)
+        (covering.made i a.0, (refl, subst (λ z. is_struct z ≡ true) (sym d) refl, subst (λ z. covering.AreOfTypes D (field_types (fields_declared z)) a.0) (sym d) (subst (λ z. covering.AreOfTypes D z a.0) (fields_listed fs) a.1)), as_struct d a.2)
     filled (of_enum {i = i} {v = v} {ds = ds} {d = x} d f h) r g =
         let e1 = subst (λ z. item_behind z (Step.Variant v) ≡ Some (tuple_of (shapes_of x.parts))) (sym d) (ap parts_behind f) in
         let g1 = good_below D (named i) (tuple_of (shapes_of x.parts)) (Step.Variant v) e1 g in
@@ -75,15 +75,15 @@ module _ (L : Bool) (D : Declarations) (S : Store) where
           (
             refl,
             subst (λ z. v < length (variants_declared z)) (sym d) (slice_less ds v x f),
-            subst (λ z. covering.HaveTypes D (parts_declared (slice_get (variants_declared z) v)) a.0) (sym d)
-                (subst (λ z. covering.HaveTypes D (parts_declared z) a.0) (sym f) (subst (λ z. covering.HaveTypes D z a.0) (parts_listed x.parts) a.1)),
+            subst (λ z. covering.AreOfTypes D (parts_declared (slice_get (variants_declared z) v)) a.0) (sym d)
+                (subst (λ z. covering.AreOfTypes D (parts_declared z) a.0) (sym f) (subst (λ z. covering.AreOfTypes D z a.0) (parts_listed x.parts) a.1)),
           ),
           as_variant d f a.2,
         )
     filled (of_reference {k = k} {u = u} a b c) r g = absurd (g.0 [] k u refl)
     filled (of_lack {t = t}) r g = let a = g.1 [] t refl in (a.0, a.1, as_lack)
 
-    all_filled : {vs : Values} {ts : Shapes Kind} → HaveTypes L D S vs ts → AreRanged vs → AllGood D ts → (cs : covering.Values) × covering.HaveTypes D (shapes_listed ts) cs × AllFilled D vs ts cs
+    all_filled : {vs : Values} {ts : Shapes Kind} → HaveTypes L D S vs ts → AreRanged vs → AllGood D ts → (cs : covering.Values) × covering.AreOfTypes D (shapes_listed ts) cs × AllFilled D vs ts cs
     all_filled none_typed r g = (covering.no_value, tt, none_filled)
     all_filled (each_typed {t = t} h hs) r g = let a = filled h r.0 (g 0 t refl) in let b = all_filled hs r.1 (λ i u e. g (suc i) u e) in (covering.value_and a.0 b.0, (a.1, b.1), each_filled a.2 b.2)
 
@@ -100,27 +100,27 @@ parts_in (covering.made i cs) = cs
 parts_in (covering.variant i k cs) = cs
 parts_in _ = covering.no_value
 
-listed_part : (D : Declarations) (ts : Shapes Kind) (cs : covering.Values) → covering.HaveTypes D (shapes_listed ts) cs → (i : ℕ) (u : Typ) → shape_at ts i ≡ Some u → (d : covering.Value) × (part_at cs i ≡ Some d) × covering.HasType D u d
+listed_part : (D : Declarations) (ts : Shapes Kind) (cs : covering.Values) → covering.AreOfTypes D (shapes_listed ts) cs → (i : ℕ) (u : Typ) → shape_at ts i ≡ Some u → (d : covering.Value) × (part_at cs i ≡ Some d) × covering.IsOfType D u d
 listed_part D no_shape cs h i u e = absurd (cc)
 listed_part D (shape_and t ts) covering.no_value h i u e = absurd h
-listed_part D (shape_and t ts) (covering.value_and c cs) h zero u e = (c, refl, subst (λ z. covering.HasType D z c) (some_is e) h.0)
+listed_part D (shape_and t ts) (covering.value_and c cs) h zero u e = (c, refl, subst (λ z. covering.IsOfType D z c) (some_is e) h.0)
 listed_part D (shape_and t ts) (covering.value_and c cs) h (suc i) u e = listed_part D ts cs h.1 i u e
 
-item_part : (D : Declarations) (o : Option Declared) (cs : covering.Values) → is_struct o ≡ true → covering.HaveTypes D (field_types (fields_declared o)) cs → (i : ℕ) (u : Typ) → item_behind o (Step.Field i) ≡ Some u
-    → (d : covering.Value) × (part_at cs i ≡ Some d) × covering.HasType D u d
-item_part D (Some (struct_declared c l fs)) cs s h i u e = listed_part D (shapes_of (types_of_fields fs)) cs (subst (λ z. covering.HaveTypes D z cs) (sym (fields_listed fs)) h) i u e
+item_part : (D : Declarations) (o : Option Declared) (cs : covering.Values) → is_struct o ≡ true → covering.AreOfTypes D (field_types (fields_declared o)) cs → (i : ℕ) (u : Typ) → item_behind o (Step.Field i) ≡ Some u
+    → (d : covering.Value) × (part_at cs i ≡ Some d) × covering.IsOfType D u d
+item_part D (Some (struct_declared c l fs)) cs s h i u e = listed_part D (shapes_of (types_of_fields fs)) cs (subst (λ z. covering.AreOfTypes D z cs) (sym (fields_listed fs)) h) i u e
 item_part D None cs s h i u e = absurd (cc)
 item_part D (Some rt_declared) cs s h i u e = absurd (cc)
 item_part D (Some (enum_declared c l vs)) cs s h i u e = absurd (cc)
 item_part D (Some (function_declared ps t)) cs s h i u e = absurd (cc)
 
 -- of a tuple or a struct
-pub field_part : (D : Declarations) (t : Typ) (c : covering.Value) → covering.HasType D t c → (i : ℕ) (u : Typ) → typ_behind D t (Step.Field i) ≡ Some u → (d : covering.Value) × (part_at (parts_in c) i ≡ Some d) × covering.HasType D u d
+pub field_part : (D : Declarations) (t : Typ) (c : covering.Value) → covering.IsOfType D t c → (i : ℕ) (u : Typ) → typ_behind D t (Step.Field i) ≡ Some u → (d : covering.Value) × (part_at (parts_in c) i ≡ Some d) × covering.IsOfType D u d
 field_part D (tuple_of ts) (covering.tuple cs) h i u e = listed_part D ts cs h i u e
 field_part D (named j) (covering.made k cs) h i u e = item_part D (slice_get D j) cs h.1 h.2 i u e
 field_part D (named j) (covering.variant k n cs) h i u e = no_struct (slice_get D j) h.1 e
   where
-    no_struct : (o : Option Declared) → n < length (variants_declared o) → item_behind o (Step.Field i) ≡ Some u → (d : covering.Value) × (part_at cs i ≡ Some d) × covering.HasType D u d
+    no_struct : (o : Option Declared) → n < length (variants_declared o) → item_behind o (Step.Field i) ≡ Some u → (d : covering.Value) × (part_at cs i ≡ Some d) × covering.IsOfType D u d
     no_struct (Some (struct_declared c l fs)) g e = absurd (omega (arith, g))
     no_struct (Some (enum_declared c l vs)) g e = absurd (cc)
     no_struct None g e = absurd (cc)
@@ -173,14 +173,14 @@ filled_variant {D = D} (as_variant {i = n} {v = v} {ds = ds} {d = x} {vs = vs} {
 filled_variant as_lack i k cs q w u e g = absurd (cc)
 
 -- the parts of a variant are of the types that are declared
-variant_listed : (D : Declarations) (o : Option VariantDeclared) (cs : covering.Values) (u : Typ) → covering.HaveTypes D (parts_declared o) cs → parts_behind o ≡ Some u → covering.HasType D u (covering.tuple cs)
+variant_listed : (D : Declarations) (o : Option VariantDeclared) (cs : covering.Values) (u : Typ) → covering.AreOfTypes D (parts_declared o) cs → parts_behind o ≡ Some u → covering.IsOfType D u (covering.tuple cs)
 variant_listed D None cs u h e = absurd (cc)
-variant_listed D (Some d) cs u h e = subst (λ z. covering.HasType D z (covering.tuple cs)) (some_is e) (subst (λ z. covering.HaveTypes D z cs) (sym (parts_listed d.parts)) h)
+variant_listed D (Some d) cs u h e = subst (λ z. covering.IsOfType D z (covering.tuple cs)) (some_is e) (subst (λ z. covering.AreOfTypes D z cs) (sym (parts_listed d.parts)) h)
 
-pub variant_part : (D : Declarations) (i k : ℕ) (cs : covering.Values) (u : Typ) → covering.HaveTypes D (variant_parts D i k) cs → typ_behind D (named i) (Step.Variant k) ≡ Some u → covering.HasType D u (covering.tuple cs)
+pub variant_part : (D : Declarations) (i k : ℕ) (cs : covering.Values) (u : Typ) → covering.AreOfTypes D (variant_parts D i k) cs → typ_behind D (named i) (Step.Variant k) ≡ Some u → covering.IsOfType D u (covering.tuple cs)
 variant_part D i k cs u h e = by (slice_get D i) h e
   where
-    by : (o : Option Declared) → covering.HaveTypes D (parts_declared (slice_get (variants_declared o) k)) cs → item_behind o (Step.Variant k) ≡ Some u → covering.HasType D u (covering.tuple cs)
+    by : (o : Option Declared) → covering.AreOfTypes D (parts_declared (slice_get (variants_declared o) k)) cs → item_behind o (Step.Variant k) ≡ Some u → covering.IsOfType D u (covering.tuple cs)
     by (Some (enum_declared c l vs)) h e = variant_listed D (slice_get vs k) cs u h e
     by (Some (struct_declared c l fs)) h e = absurd (cc)
     by None h e = absurd (cc)

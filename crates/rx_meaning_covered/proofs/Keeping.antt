@@ -3,7 +3,7 @@
 use Rattle.std.proofs.Common.{◌≡◌, ℕ, zero, suc, Bool, true, false, nat_eq, List, [], ◌∷◌, ◌++◌, length, Option, Some, None, refl, sym, ap, subst, eqb-true, if◌then◌else◌, append_assoc, append-nil, ◌∙◌, inl, inr}
 use Rattle.std.proofs.lemmas.Bool.{eqb-false}
 use Rattle.rx_core.specs.declared.types.Step.{Step}
-use Rattle.rx_typed.specs.Tree.{Temporary, Mode, by_value, by_reference, Pattern, Exp, read, borrow, share, build, unit, lazily, assign, update, call, input, print, block, choose, loop, jump, give, Operands, no_operand, operand_and, Scrutinee, at_place, of_value, Arms, no_arm, arm_and, Body, ends, runs, lets, Parameter, Function, own, held, under, mark_of, temporary_at, temporary_of, temporaries_of, fields_of}
+use Rattle.rx_typed.specs.Tree.{Temporary, Mode, by_value, by_reference, Pattern, Exp, read, borrow, share, build, unit, lazily, assign, update, call, input, print, block, choose, loop, jump, give, Operands, no_operand, operand_and, Scrutinee, at_place, of_value, Arms, no_arm, arm_and, Body, ends, runs, lets, Parameter, Function, own, temporary_place, under, mark_of, temporary_at, temporary_of, temporaries_of, fields_of}
 use Rattle.rx_typed.specs.Tree as tree
 use Rattle.rx_lower_walks.specs.Matching.{PartTest, Binding, bindings}
 use Rattle.rx_lower_walks.specs.Matching as matching
@@ -266,7 +266,7 @@ module _ {E : Type 0} (A : Acting E) (Ok : Ending → Type 0) (Is : List Action 
 
   -- a new variable is written from what was taken
   fine_new : (S : Subject) (us : List Value) (bs : List Binding) (ws : List Value) (n x : ℕ) (d : Temporary) (ss : List Step) (K0 K2 K : Pending) (K1 : Value → Pending) (V : Order) (w : List Action) (s : State) (go : State → Result (Told E) Value)
-      → Does Rs (Write (own x) d ss) ws K0 (λ u. K2) → ((s1 : State) → Leads (under (held d) ss) ws s1) → IsOther S x → Ctx (order.then (order.act (does n (Declare x))) (order.then (order.act (does n (Write (own x) d ss))) V)) w → I w s K0
+      → Does Rs (Write (own x) d ss) ws K0 (λ u. K2) → ((s1 : State) → Leads (under (temporary_place d) ss) ws s1) → IsOther S x → Ctx (order.then (order.act (does n (Declare x))) (order.then (order.act (does n (Write (own x) d ss))) V)) w → I w s K0
       → AllLead S us s bs → GoesWith S us bs K2 K K1 V go
       → FineAt K K1 (order.then (order.act (does n (Declare x))) (order.then (order.act (does n (Write (own x) d ss))) V)) w
       (bind (performed (fully A) (does n (Declare x)) [] s) (λ u s2. bind (performed (fully A) (does n (Write (own x) d ss)) ws s2) (λ z s3. go s3)))
@@ -310,7 +310,7 @@ module _ {E : Type 0} (A : Acting E) (Ok : Ending → Type 0) (Is : List Action 
   fine_binding _ _ bs (by_reference m) n x ss K K1 V w s go (of_place {p = p}) a c i st o l k =
       fine_took (in_place p) [] bs n x (Borrow m (under p ss) (temporary_at n 0)) [] K K K K1 V w s go (borrows a) st tt o c i l k
   fine_binding _ _ bs (by_reference m) n x ss K K1 V w s go (of_held {t = t} {v = v}) a c i st o l k =
-      fine_took (in_temporary t) (v ∷ []) bs n x (Borrow m (under (held t) ss) (temporary_at n 0)) (v ∷ []) (holds t v K) (holds t v K) K K1 V w s go (borrows_held a) st tt o c i l k
+      fine_took (in_temporary t) (v ∷ []) bs n x (Borrow m (under (temporary_place t) ss) (temporary_at n 0)) (v ∷ []) (holds t v K) (holds t v K) K K1 V w s go (borrows_held a) st tt o c i l k
 
   fine_bound : (S : Subject) (vs : List Value) (bs : List Binding) (n : ℕ) (K : Pending) (K1 : Value → Pending) (V : Order) (w : List Action) (s : State) (go : State → Result (Told E) Value)
       → Fits S vs → Apart (with_subject S (ids K)) bs → Ctx (binding S bs n V) w → I w s (holding S vs K) → AllLead S vs s bs → Goes K K K1 V go → FineAt K K1 (binding S bs n V) w (bound (fully A) S vs bs n go s)
@@ -490,7 +490,7 @@ module _ {E : Type 0} (A : Acting E) (Ok : Ending → Type 0) (Is : List Action 
       value_fine (share m e) d w s K h g fu c i =
           fine_then Is Ok (Leap K) (Good (λ v. holds (temporary_at m.node 1) v K)) (Good (λ v. holds d v K)) w _ _ c (value_fine e _ w s K h.0 g fu (context_first Is w c) i) (λ w1 v s1 c1 i1.
           fine_post Ok (Leap K) (Good (λ u. holds d u K)) (Good (λ u. holds d u (holds (temporary_at m.node 1) v K))) _ w1 _ (λ l u s2 i2. law.drops l s2 _ _ (keeps (skips (thin_all K))) i2)
-          (fine_one w1 _ (v ∷ []) s1 K _ _ (borrows_held h.1) (direct_leads (under (held (temporary_at m.node 1)) (Step.Deref true ∷ [])) (v ∷ []) s1 tt tt) c1 i1))
+          (fine_one w1 _ (v ∷ []) s1 K _ _ (borrows_held h.1) (direct_leads (under (temporary_place (temporary_at m.node 1)) (Step.Deref true ∷ [])) (v ∷ []) s1 tt tt) c1 i1))
       value_fine (build m y es) d w s K h g fu c i =
           fine_then Is Ok (Leap K) (GoodAll (temporaries_of es) K) (Good (λ v. holds d v K)) w _ _ c (values_fine es w s K h.0 g fu (context_first Is w c) i)
           (λ w1 vs s1 c1 q. fine_one w1 _ vs s1 K _ _ (builds K q.0 (λ z. as_many_fields es) h.1) tt c1 q.1)

@@ -88,9 +88,9 @@ variant_matched n i b v ps (covering.tuple cs) m = absurd m
 variant_matched n i b v ps (covering.made j cs) m = absurd m
 variant_matched n i b v ps (covering.pointing c) m = absurd m
 
-variant_has : (D : Declarations) (t : Typ) (i v : ℕ) (c : covering.Value) (cs : covering.Values) → t ≡ named i → c ≡ covering.variant i v cs → covering.HasType D t c → (u : Typ) → typ_behind D t (Step.Variant v) ≡ Some u → covering.HasType D u (covering.tuple cs)
+variant_has : (D : Declarations) (t : Typ) (i v : ℕ) (c : covering.Value) (cs : covering.Values) → t ≡ named i → c ≡ covering.variant i v cs → covering.IsOfType D t c → (u : Typ) → typ_behind D t (Step.Variant v) ≡ Some u → covering.IsOfType D u (covering.tuple cs)
 variant_has D t i v c cs q e h u g =
-    let h1 = subst (λ z. covering.HasType D (named i) z) e (subst (λ z. covering.HasType D z c) q h) in
+    let h1 = subst (λ z. covering.IsOfType D (named i) z) e (subst (λ z. covering.IsOfType D z c) q h) in
     variant_part D i v cs u h1.2 (subst (λ z. typ_behind D z (Step.Variant v) ≡ Some u) q g)
 
 tag_is : {D : Declarations} {w : Value} {t : Typ} {c : covering.Value} → Filled D w t c → (i v : ℕ) (cs : covering.Values) → c ≡ covering.variant i v cs → IsTagged v w
@@ -159,7 +159,7 @@ module _ (D : Declarations) (TypAt : List Step → Typ → Type 0) (typ_on : (at
     variant_fails n false v qs at t ty x a bad tag k = k a bad
 
     mutual
-      pub none_fails : (p : Pattern) (at : List Step) (t : Typ) (c : covering.Value) → TypAt at t → HasNoReference D t → PatternFits D t p → covering.HasType D t c → Shows at t c → Matches p c → (x : PartTest) → Among x (tests at p) → Fails x → ⊥
+      pub none_fails : (p : Pattern) (at : List Step) (t : Typ) (c : covering.Value) → TypAt at t → HasNoReference D t → PatternFits D t p → covering.IsOfType D t c → Shows at t c → Matches p c → (x : PartTest) → Among x (tests at p) → Fails x → ⊥
       none_fails any at t c ty free f h sh m x a bad = elim a [ ]
       none_fails (bind n y o) at t c ty free f h sh m x a bad = elim a [ ]
       none_fails (exactly n k) at t c ty free f h sh m _ walk.here bad = let w = told (record { node = n; steps = at; check = equals k }) t ty bad in constant_holds (sh w.0 w.1) n k m w.2
@@ -172,7 +172,7 @@ module _ (D : Declarations) (TypAt : List Step → Typ → Type 0) (typ_on : (at
           (variant_has D t i v c y.parts f.0 y.is h f.2.0 f.2.1) (variant_shows at t c sh i v y.parts y.is f.2.0 f.2.1) y.matched x a1 b1)
       none_fails (behind o p) at t c ty free f h sh m x a bad = free [] o f.0 (ap (λ z. Some z) f.1)
 
-      none_in_fails : (ps : Subpatterns) (at : List Step) (t : Typ) (c : covering.Value) → TypAt at t → HasNoReference D t → PartsFit D t ps → covering.HasType D t c → Shows at t c → MatchParts ps 0 (parts_in c) → (x : PartTest) → Among x (tests_in at ps) → Fails x → ⊥
+      none_in_fails : (ps : Subpatterns) (at : List Step) (t : Typ) (c : covering.Value) → TypAt at t → HasNoReference D t → PartsFit D t ps → covering.IsOfType D t c → Shows at t c → MatchParts ps 0 (parts_in c) → (x : PartTest) → Among x (tests_in at ps) → Fails x → ⊥
       none_in_fails no_part at t c ty free f h sh m x a bad = elim a [ ]
       none_in_fails (part_and i p ps) at t c ty free f h sh m x a bad =
           let d = field_part D t c h i f.1.0 f.1.1 in
@@ -185,7 +185,7 @@ module _ (D : Declarations) (TypAt : List Step → Typ → Type 0) (typ_on : (at
   module _ (S : Subject) (vs : List Value) (s : State) (to_field : (at : List Step) (i : ℕ) → Leads (part S at) vs s → Leads (part S (at ++ Step.Field i ∷ [])) vs s)
       (to_variant : (at : List Step) (v : ℕ) → Leads (part S at) vs s → ((w : Value) → Got at ≡ Some w → IsTagged v w) → Leads (part S (at ++ Step.Variant v ∷ [])) vs s) where
     mutual
-      pub all_lead : (p : Pattern) (at : List Step) (t : Typ) (c : covering.Value) → HasNoReference D t → PatternFits D t p → covering.HasType D t c → Shows at t c → Matches p c → AllOther S (bindings at p) → Leads (part S at) vs s → AllLead S vs s (bindings at p)
+      pub all_lead : (p : Pattern) (at : List Step) (t : Typ) (c : covering.Value) → HasNoReference D t → PatternFits D t p → covering.IsOfType D t c → Shows at t c → Matches p c → AllOther S (bindings at p) → Leads (part S at) vs s → AllLead S vs s (bindings at p)
       all_lead any at t c free f h sh m o l = tt
       all_lead (bind n y k) at t c free f h sh m o l = ((l, o.0), tt)
       all_lead (exactly n k) at t c free f h sh m o l = tt
@@ -196,7 +196,7 @@ module _ (D : Declarations) (TypAt : List Step → Typ → Type 0) (typ_on : (at
           (variant_shows at t c sh i v y.parts y.is f.2.0 f.2.1) y.matched o (to_variant at v l (λ w q. tag_is (sh w q) i v y.parts y.is))
       all_lead (behind k p) at t c free f h sh m o l = absurd (free [] k f.0 (ap (λ z. Some z) f.1))
 
-      all_in_lead : (ps : Subpatterns) (at : List Step) (t : Typ) (c : covering.Value) → HasNoReference D t → PartsFit D t ps → covering.HasType D t c → Shows at t c → MatchParts ps 0 (parts_in c) → AllOther S (bindings_in at ps) → Leads (part S at) vs s
+      all_in_lead : (ps : Subpatterns) (at : List Step) (t : Typ) (c : covering.Value) → HasNoReference D t → PartsFit D t ps → covering.IsOfType D t c → Shows at t c → MatchParts ps 0 (parts_in c) → AllOther S (bindings_in at ps) → Leads (part S at) vs s
           → AllLead S vs s (bindings_in at ps)
       all_in_lead no_part at t c free f h sh m o l = tt
       all_in_lead (part_and i p ps) at t c free f h sh m o l =

@@ -3,7 +3,7 @@ use Rattle.std.specs.Prelude.{ℤ, pos}
 use Rattle.std.proofs.Common.{◌≡◌, ℕ, Bool, true, false, List, [], ◌∷◌, ◌++◌, Option, Some, None, refl, sym, subst, ◌⊎◌, inl, inr, if◌then◌else◌}
 use Rattle.rx_core.specs.declared.types.Kind.{Kind}
 use Rattle.rx_core.specs.declared.types.Step.{Step}
-use Rattle.rx_typed.specs.Tree.{Root, variable, temporary, Temporary, Place, Parameter, Constant, whole_number, Making, constant, negation, inversion, operation, lazy, tuple, struct, variant_of, Function, own, held, under}
+use Rattle.rx_typed.specs.Tree.{Root, variable, temporary, Temporary, Place, Parameter, Constant, whole_number, Making, constant, negation, inversion, operation, lazy, tuple, struct, variant_of, Function, own, temporary_place, under}
 use Rattle.rx_typed.specs.Tree as tree
 use Rattle.rx_lower_walks.specs.Actions.{Act, Declare, Dead, Read, Write, Borrow, Test, Call, Build, Input, Print, Give, Action, does, operands}
 use Rattle.rx_lower_walks.specs.Walks.{IsWalk, Among}
@@ -199,13 +199,13 @@ module _ (N : Temporary → Bool) where
       or_ranged N (λ v. holds d v K) (why_not_found p [] s) (spot p [] s) (λ at. or_ends astray (reference_to b at) (λ v. gives [] v s)) (λ at e.
       or_ranged N (λ v. holds d v K) astray (reference_to b at) (λ v. gives [] v s) (λ v q. with_pending N s K (holds d v K) i (inr (reference_ranged b at v q), i.pending)))
   plainly_ranged _ _ s _ _ (using.borrows_held {m = b} {t = t} {d = d} {ss = ss} {v = v} {K = K} u) g i =
-      let p = under (held t) ss in
+      let p = under (temporary_place t) ss in
       or_ranged N (λ x. holds d x (holds t v K)) (why_not_found p (v ∷ []) s) (spot p (v ∷ []) s) (λ at. or_ends astray (reference_to b at) (λ v. gives [] v s)) (λ at e.
       or_ranged N (λ x. holds d x (holds t v K)) astray (reference_to b at) (λ v. gives [] v s) (λ x q. with_pending N s (holds t v K) (holds d x (holds t v K)) i (inr (reference_ranged b at x q), i.pending)))
   plainly_ranged _ _ s K _ (using.tests {p = p} {c = c}) g i =
       or_ranged N (λ v. K) (why_not_found p [] s) (found p [] s) (λ f. or_ends (why_not_checked f.1) (checked c f.1) (λ y. gives [] (truth y) s)) (λ f e. or_ranged N (λ v. K) (why_not_checked f.1) (checked c f.1) (λ y. gives [] (truth y) s) (λ y q. i))
   plainly_ranged _ _ s _ _ (using.tests_held {t = t} {ss = ss} {c = c} {v = v} {K = K}) g i =
-      let p = under (held t) ss in
+      let p = under (temporary_place t) ss in
       or_ranged N (λ x. holds t v K) (why_not_found p (v ∷ []) s) (found p (v ∷ []) s) (λ f. or_ends (why_not_checked f.1) (checked c f.1) (λ y. gives [] (truth y) s))
       (λ f e. or_ranged N (λ x. holds t v K) (why_not_checked f.1) (checked c f.1) (λ y. gives [] (truth y) s) (λ y q. i))
   plainly_ranged _ _ s _ _ (using.writes {p = p} {t = t} {v = v} {K = K}) g i = write_ranged p s v (holds t v K) K i (in_range (N t ≡ true) (IsRanged v) (g.uses t walk.here) i.pending.0) i.pending.1

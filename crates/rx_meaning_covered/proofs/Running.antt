@@ -4,7 +4,7 @@ use Rattle.std.specs.Prelude.{ℤ}
 use Rattle.std.proofs.Common.{◌≡◌, ℕ, suc, Bool, true, false, List, [], ◌∷◌, ◌++◌, Some, refl, subst, ap, ◌∙◌}
 use Rattle.rx_core.specs.declared.types.Step.{Step}
 use Rattle.rx_typed.specs.Types.{Declarations}
-use Rattle.rx_typed.specs.Tree.{Root, variable, temporary, Temporary, Place, held, under, Pattern, Scrutinee, Arms, Parameter, Function}
+use Rattle.rx_typed.specs.Tree.{Root, variable, temporary, Temporary, Place, temporary_place, under, Pattern, Scrutinee, Arms, Parameter, Function}
 use Rattle.rx_lower_walks.specs.Matching.{tests, bindings}
 use Rattle.rx_lower_walks.specs.Actions.{Action, Subject, subject, part}
 use Rattle.rx_lower_walks.specs.Orders.{order_scrutinee}
@@ -91,7 +91,7 @@ none_ranged (temporary t) = tt
 
 stood : (N : Temporary → Bool) (T : Typing) (St : Store) (s : State) (S : Subject) (vs : List Value) (K : Pending) → Fits S vs → IsDirectSubject S → IsNotOf N S → StateTyped false T St s (holding S vs K) → StateRanged N s (holding S vs K) → Stood T St S vs
 stood N T St s _ _ K (of_place {p = p}) d m i r = record { place = p; same = λ at. refl; given = none_typed T St p.root; in_range = none_ranged p.root; is_held = d.1; direct = d.0 }
-stood N T St s _ _ K (of_held {t = t} {v = v}) d m i r = record { place = held t; same = λ at. refl; given = i.pending.0.0; in_range = in_range (N t ≡ true) (IsRanged v) m r.pending.0; is_held = tt; direct = tt }
+stood N T St s _ _ K (of_held {t = t} {v = v}) d m i r = record { place = temporary_place t; same = λ at. refl; given = i.pending.0.0; in_range = in_range (N t ≡ true) (IsRanged v) m r.pending.0; is_held = tt; direct = tt }
 
 -- at a typed state without references whose integers are in their ranges
 module _ (N : Temporary → Bool) (T : Typing) (free : (r : Root) → HasNoReference T.declared (root_typ T r)) (St : Store) (s : State) (c : Scrutinee) (vs : List Value) (K : Pending) (x : StateTyped false T St s (holding (subject c) vs K)) (y : StateRanged N s (holding (subject c) vs K))

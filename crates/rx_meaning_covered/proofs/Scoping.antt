@@ -1,7 +1,7 @@
 -- Where names mean something, what an action uses has begun on the walk: by induction on orders and their walks.
 use Rattle.std.proofs.Common.{◌≡◌, ℕ, false, List, [], ◌∷◌, ◌++◌, map, refl, sym, subst, ⊎_elim, append_assoc, append-nil}
 use Rattle.rx_core.specs.declared.types.Step.{Step}
-use Rattle.rx_typed.specs.Tree.{Root, variable, temporary, Place, Mode, by_value, by_reference, Temporary, Exp, read, borrow, share, build, unit, lazily, assign, update, call, input, print, block, choose, loop, jump, give, Operands, no_operand, operand_and, Scrutinee, at_place, of_value, Arms, no_arm, arm_and, Body, ends, runs, lets, Parameter, Function, own, held, under, mark_of, temporary_of, temporary_at}
+use Rattle.rx_typed.specs.Tree.{Root, variable, temporary, Place, Mode, by_value, by_reference, Temporary, Exp, read, borrow, share, build, unit, lazily, assign, update, call, input, print, block, choose, loop, jump, give, Operands, no_operand, operand_and, Scrutinee, at_place, of_value, Arms, no_arm, arm_and, Body, ends, runs, lets, Parameter, Function, own, temporary_place, under, mark_of, temporary_of, temporary_at}
 use Rattle.rx_typed.specs.Tree as tree
 use Rattle.rx_lower_walks.specs.Matching.{PartTest, Binding, tests, bindings}
 use Rattle.rx_lower_walks.specs.Actions.{Act, Declare, Dead, Read, Write, Borrow, Test, Call, Build, Input, Print, Give, Action, does, Subject, in_place, in_temporary, subject, part, taking, declared, written}

@@ -5,7 +5,7 @@ use Rattle.std.proofs.Common.{◌≡◌, ℕ, zero, suc, Bool, true, false, List
 use Rattle.rx_core.specs.declared.types.Kind.{Kind}
 use Rattle.rx_core.specs.declared.types.Step.{Step}
 use Rattle.rx_typed.specs.Types.{Typ, Shapes, integer, boolean, tuple_of, reference, named, Declared, Declarations, rt_declared, struct_declared, enum_declared, function_declared}
-use Rattle.rx_typed.specs.Tree.{Root, variable, temporary, Temporary, Place, own, held, under}
+use Rattle.rx_typed.specs.Tree.{Root, variable, temporary, Temporary, Place, own, temporary_place, under}
 use Rattle.rx_meaning_keeping.specs.Pending.{Pending}
 use Rattle.rx_meaning_keeping.specs.Using.{Does}
 use Rattle.rx_meaning_keeping.specs.Using as using
@@ -319,7 +319,7 @@ module _ (L : Bool) (T : Typing) (S : Store) (s : State) (memory : MemoryTyped L
       or_sound (why_not_found p [] s) (found p [] s) (λ f. or_ends (why_not_checked f.1) (checked c f.1) (λ y. gives [] (truth y) s)) (λ f. not_found p [] g.0 g.1 (none_held p.root) sl w f)
       (λ f e. or_sound (why_not_checked f.1) (checked c f.1) (λ y. gives [] (truth y) s) (λ z. unlike_sound mistyped f.1 tt) (λ y q. tt))
   acts_soundly _ _ _ _ (using.tests_held {t = t} {ss = ss} {c = c} {v = v} {K = K}) g i sl w =
-      let p = under (held t) ss in
+      let p = under (temporary_place t) ss in
       or_sound (why_not_found p (v ∷ []) s) (found p (v ∷ []) s) (λ f. or_ends (why_not_checked f.1) (checked c f.1) (λ y. gives [] (truth y) s)) (λ f. not_found p (v ∷ []) g.0 g.1 i.pending.0.0 sl w f)
       (λ f e. or_sound (why_not_checked f.1) (checked c f.1) (λ y. gives [] (truth y) s) (λ z. unlike_sound mistyped f.1 tt) (λ y q. tt))
   acts_soundly _ _ _ _ (using.writes {p = p} {t = t} {v = v} {K = K}) g i sl w =

@@ -68,4 +68,4 @@ pub record RangesFit (N : Temporary → Bool) (F : Function) : Type 0 where
 -- ---- each part of a type has values
 
 abbrev pub IsInhabited : Declarations → Typ → Type 0
-IsInhabited D t = (ss : List Step) (u : Typ) → typ_along D t ss ≡ Some u → (c : covering.Value) × covering.HasType D u c
+IsInhabited D t = (ss : List Step) (u : Typ) → typ_along D t ss ≡ Some u → (c : covering.Value) × covering.IsOfType D u c

@@ -2,7 +2,7 @@
 -- "Place expressions and value expressions"). What lacks a value has no variant.
 use Rattle.std.specs.Prelude.{◌≡◌, ℕ, List, [], ◌∷◌, Option, Some, None}
 use Rattle.rx_core.specs.declared.types.Step.{Step}
-use Rattle.rx_typed.specs.Tree.{Root, variable, temporary, Place, held, under}
+use Rattle.rx_typed.specs.Tree.{Root, variable, temporary, Place, temporary_place, under}
 use Rattle.rx_lower_walks.specs.Actions.{Act, Read, Write, Borrow, Test}
 use Rattle.rx_meaning.specs.Values.{Value, whole, tagged, and_then, field, element, slot_of, State}
 
@@ -46,7 +46,7 @@ abbrev pub Stands : Act → List Value → State → Type 0
 Stands (Read m p d) vs s = Leads p vs s
 Stands (Borrow k p d) vs s = Leads p vs s
 Stands (Test p c) vs s = Leads p vs s
-Stands (Write p t ss) vs s = HasNoVariant p.steps × IsHeld p.root [] × Leads (under (held t) ss) vs s
+Stands (Write p t ss) vs s = HasNoVariant p.steps × IsHeld p.root [] × Leads (under (temporary_place t) ss) vs s
 Stands _ vs s = Unit {0}
 
 -- ---- slots

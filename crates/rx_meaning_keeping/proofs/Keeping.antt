@@ -2,7 +2,7 @@
 use Rattle.std.proofs.Common.{◌≡◌, ℕ, zero, suc, Bool, true, false, nat_eq, List, [], ◌∷◌, ◌++◌, length, Option, Some, None, refl, sym, ap, subst, eqb-true, if◌then◌else◌, append_assoc, append-nil, ◌∙◌, ◌⊎◌, inl, inr}
 use Rattle.std.proofs.lemmas.Bool.{eqb-false}
 use Rattle.rx_core.specs.declared.types.Step.{Step}
-use Rattle.rx_typed.specs.Tree.{Temporary, Mode, by_value, by_reference, Exp, read, borrow, share, build, unit, lazily, assign, update, call, input, print, block, choose, loop, jump, give, Operands, no_operand, operand_and, Scrutinee, at_place, of_value, Arms, no_arm, arm_and, Body, ends, runs, lets, Parameter, Function, own, held, under, mark_of, temporary_at, temporary_of, temporaries_of, fields_of}
+use Rattle.rx_typed.specs.Tree.{Temporary, Mode, by_value, by_reference, Exp, read, borrow, share, build, unit, lazily, assign, update, call, input, print, block, choose, loop, jump, give, Operands, no_operand, operand_and, Scrutinee, at_place, of_value, Arms, no_arm, arm_and, Body, ends, runs, lets, Parameter, Function, own, temporary_place, under, mark_of, temporary_at, temporary_of, temporaries_of, fields_of}
 use Rattle.rx_typed.specs.Tree as tree
 use Rattle.rx_lower_walks.specs.Matching.{PartTest, Binding, bindings}
 use Rattle.rx_lower_walks.specs.Matching as matching
@@ -277,7 +277,7 @@ module _ {E : Type 0} (A : Acting E) (Ok : Ending → Type 0) (Is : List Action 
       (λ w1 ws s1 c1 q. rw (q.0) (fine_new (v ∷ []) n x t ss (holds t v K) (holds t v K) K K1 V w1 s1 go writes_part c1 q.1 k))
   fine_binding _ _ (by_reference m) n x ss K K1 V w s go (of_place {p = p}) a c i k = fine_took n x (Borrow m (under p ss) (temporary_at n 0)) [] K K K K1 V w s go (borrows a) c i k
   fine_binding _ _ (by_reference m) n x ss K K1 V w s go (of_held {t = t} {v = v}) a c i k =
-      fine_took n x (Borrow m (under (held t) ss) (temporary_at n 0)) (v ∷ []) (holds t v K) (holds t v K) K K1 V w s go (borrows_held a) c i k
+      fine_took n x (Borrow m (under (temporary_place t) ss) (temporary_at n 0)) (v ∷ []) (holds t v K) (holds t v K) K K1 V w s go (borrows_held a) c i k
 
   fine_bound : (S : Subject) (vs : List Value) (bs : List Binding) (n : ℕ) (K : Pending) (K1 : Value → Pending) (V : Order) (w : List Action) (s : State) (go : State → Result (Told E) Value)
       → Fits S vs → Apart (with_subject S (ids K)) bs → Ctx (binding S bs n V) w → I w s (holding S vs K) → Goes K K K1 V go → FineAt K K1 (binding S bs n V) w (bound (fully A) S vs bs n go s)

@@ -3,7 +3,7 @@ use Rattle.std.proofs.Common.{◌≡◌, ℕ, ℤ, Bool, true, false, List, [], 
 use Rattle.std.proofs.lemmas.Bool.Decides.{Decides-eqb}
 use Rattle.rx_core.specs.declared.types.Step.{Step}
 use Rattle.rx_typed.specs.Tree as tree
-use Rattle.rx_typed.specs.Tree.{Place, Root, variable, temporary, Temporary, Parameter, Function, Arms, own, held, under}
+use Rattle.rx_typed.specs.Tree.{Place, Root, variable, temporary, Temporary, Parameter, Function, Arms, own, temporary_place, under}
 use Rattle.rx_lower_walks.specs.Actions.{Act, Dead, Read, Write, Borrow, Test, Call, Build, Input, Print, Give, Action, does}
 use Rattle.rx_lower_walks.specs.Walks.{IsWalk}
 use Rattle.rx_meaning.specs.Endings.{Cause, Ending, wrong, lacks, astray}
@@ -123,14 +123,14 @@ module _ (F : Frame) (parts : Parted F) (k : World) (f : Function) (ready : Read
       or_keeps F parts k w n (Borrow m p d) s (λ v. holds d v K) (why_not_found p [] s) (spot p [] s) (λ x. or_ends astray (reference_to m x) (λ v. gives [] v s)) (λ x e. or_keeps F parts k w n (Borrow m p d) s (λ v. holds d v K) astray (reference_to m x) (λ v. gives [] v s) (λ v e1.
       (tt, inv_more F parts k w (does n (Borrow m p d)) s.memory s.frame.slots K (holds d v K) (λ z. refl) (λ y rs. refl) i (pointer_set m x v e1, i.here))))
   plainly_keeps w n _ _ s _ _ (using.borrows_held {m = m} {t = t} {d = d} {ss = ss} {v = y} {K = K} u) is i =
-      or_keeps F parts k w n (Borrow m (under (held t) ss) d) s (λ v. holds d v (holds t y K)) (why_not_found (under (held t) ss) (y ∷ []) s) (spot (under (held t) ss) (y ∷ []) s) (λ x. or_ends astray (reference_to m x) (λ v. gives [] v s)) (λ x e. or_keeps F parts k w n (Borrow m (under (held t) ss) d) s (λ v. holds d v (holds t y K)) astray (reference_to m x) (λ v. gives [] v s) (λ v e1.
-      (tt, inv_more F parts k w (does n (Borrow m (under (held t) ss) d)) s.memory s.frame.slots (holds t y K) (holds d v (holds t y K)) (λ z. refl) (λ y rs. refl) i (pointer_set m x v e1, i.here))))
+      or_keeps F parts k w n (Borrow m (under (temporary_place t) ss) d) s (λ v. holds d v (holds t y K)) (why_not_found (under (temporary_place t) ss) (y ∷ []) s) (spot (under (temporary_place t) ss) (y ∷ []) s) (λ x. or_ends astray (reference_to m x) (λ v. gives [] v s)) (λ x e. or_keeps F parts k w n (Borrow m (under (temporary_place t) ss) d) s (λ v. holds d v (holds t y K)) astray (reference_to m x) (λ v. gives [] v s) (λ v e1.
+      (tt, inv_more F parts k w (does n (Borrow m (under (temporary_place t) ss) d)) s.memory s.frame.slots (holds t y K) (holds d v (holds t y K)) (λ z. refl) (λ y rs. refl) i (pointer_set m x v e1, i.here))))
   plainly_keeps w n _ _ s K _ (using.tests {p = p} {c = c}) is i =
       or_keeps F parts k w n (Test p c) s (λ v. K) (why_not_found p [] s) (found p [] s) (λ x. or_ends (why_not_checked x.1) (checked c x.1) (λ b. gives [] (truth b) s)) (λ x e. or_keeps F parts k w n (Test p c) s (λ v. K) (why_not_checked x.1) (checked c x.1) (λ b. gives [] (truth b) s) (λ b e1.
       ((refl, b, refl), inv_more F parts k w (does n (Test p c)) s.memory s.frame.slots K K (λ z. refl) (λ y rs. refl) i i.here)))
   plainly_keeps w n _ _ s _ _ (using.tests_held {t = t} {ss = ss} {c = c} {v = y} {K = K}) is i =
-      or_keeps F parts k w n (Test (under (held t) ss) c) s (λ v. holds t y K) (why_not_found (under (held t) ss) (y ∷ []) s) (found (under (held t) ss) (y ∷ []) s) (λ x. or_ends (why_not_checked x.1) (checked c x.1) (λ b. gives [] (truth b) s)) (λ x e. or_keeps F parts k w n (Test (under (held t) ss) c) s (λ v. holds t y K) (why_not_checked x.1) (checked c x.1) (λ b. gives [] (truth b) s) (λ b e1.
-      ((refl, b, refl), inv_more F parts k w (does n (Test (under (held t) ss) c)) s.memory s.frame.slots (holds t y K) (holds t y K) (λ z. refl) (λ y rs. refl) i i.here)))
+      or_keeps F parts k w n (Test (under (temporary_place t) ss) c) s (λ v. holds t y K) (why_not_found (under (temporary_place t) ss) (y ∷ []) s) (found (under (temporary_place t) ss) (y ∷ []) s) (λ x. or_ends (why_not_checked x.1) (checked c x.1) (λ b. gives [] (truth b) s)) (λ x e. or_keeps F parts k w n (Test (under (temporary_place t) ss) c) s (λ v. holds t y K) (why_not_checked x.1) (checked c x.1) (λ b. gives [] (truth b) s) (λ b e1.
+      ((refl, b, refl), inv_more F parts k w (does n (Test (under (temporary_place t) ss) c)) s.memory s.frame.slots (holds t y K) (holds t y K) (λ z. refl) (λ y rs. refl) i i.here)))
   plainly_keeps w n _ _ s _ _ (using.writes {p = p} {t = t} {v = v} {K = K}) is i = write_keeps F parts k w n p t [] s v (holds t v K) K i.here.0 i i.here.1
   plainly_keeps w n _ _ s _ _ (using.writes_part {x = x} {t = t} {ss = ss} {v = v} {K = K}) is i =
       or_keeps F parts k w n (Write (own x) t ss) s (λ u. holds t v K) (why_no_part ss v) (get ss v) (λ u. or_ends (why_not_found (own x) [] s) (spot (own x) [] s) (λ at. or_ends (why_not_written s.memory at) (after_write u s.memory at) (λ M. gives [] unit_value (with_memory s M)))) (λ u e. write_keeps F parts k w n (own x) t ss s u (holds t v K) (holds t v K) (get_set ss v u i.here.0 e) i i.here)

@@ -1,7 +1,7 @@
 -- What an action uses and fills: its values, what is pending before it and behind it, and what it gives.
 use Rattle.std.specs.Prelude.{◌≡◌, ℕ, Bool, List, [], ◌∷◌, length, None}
 use Rattle.rx_core.specs.declared.types.Step.{Step}
-use Rattle.rx_typed.specs.Tree.{Temporary, Place, held, under}
+use Rattle.rx_typed.specs.Tree.{Temporary, Place, temporary_place, under}
 use Rattle.rx_typed.specs.Tree as tree
 use Rattle.rx_lower_walks.specs.Actions.{Act, Declare, Dead, Read, Write, Borrow, Test, Call, Build, Input, Print, Give}
 use Rattle.rx_meaning.specs.Values.{Value, truth, unit_value, State}
@@ -20,9 +20,9 @@ pub data Does (Rs : Temporary → Type 0) : Act → List Value → Pending → (
   borrows : {m : Bool} {p : Place} {d : Temporary} {K : Pending} → Unheld d (ids K) → Does Rs (Borrow m p d) [] K (λ v. holds d v K)
   -- of what a pending value leads to
   borrows_held : {m : Bool} {t d : Temporary} {ss : List Step} {v : Value} {K : Pending} → Unheld d (t ∷ ids K)
-      → Does Rs (Borrow m (under (held t) ss) d) (v ∷ []) (holds t v K) (λ u. holds d u (holds t v K))
+      → Does Rs (Borrow m (under (temporary_place t) ss) d) (v ∷ []) (holds t v K) (λ u. holds d u (holds t v K))
   tests : {p : Place} {c : _} {K : Pending} → Does Rs (Test p c) [] K (λ u. K)
-  tests_held : {t : Temporary} {ss : List Step} {c : _} {v : Value} {K : Pending} → Does Rs (Test (under (held t) ss) c) (v ∷ []) (holds t v K) (λ u. holds t v K)
+  tests_held : {t : Temporary} {ss : List Step} {c : _} {v : Value} {K : Pending} → Does Rs (Test (under (temporary_place t) ss) c) (v ∷ []) (holds t v K) (λ u. holds t v K)
   writes : {p : Place} {t : Temporary} {v : Value} {K : Pending} → Does Rs (Write p t []) (v ∷ []) (holds t v K) (λ u. K)
   -- a new variable, from a part of what a pattern is matched against
   writes_part : {x : ℕ} {t : Temporary} {ss : List Step} {v : Value} {K : Pending} → Does Rs (Write (tree.own x) t ss) (v ∷ []) (holds t v K) (λ u. holds t v K)

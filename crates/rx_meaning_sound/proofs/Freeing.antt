@@ -88,13 +88,13 @@ module _ (D : Declarations) (declared : ItemsPlain D D) where
   front_of P (t ∷ a) b h = (h.0, front_of P a b h.1)
 
   abbrev Valued : Typ → Type 0
-  Valued t = (c : covering.Value) × covering.HasType D t c
+  Valued t = (c : covering.Value) × covering.IsOfType D t c
 
   abbrev AllValued : List Typ → Type 0
-  AllValued ts = (cs : covering.Values) × covering.HaveTypes D ts cs
+  AllValued ts = (cs : covering.Values) × covering.AreOfTypes D ts cs
 
   struct_valued : (i : ℕ) (c : Bool) (l : ℕ) (fs : List FieldDeclared) → slice_get D i ≡ Some (struct_declared c l fs) → AllValued (field_types fs) → Valued (types.named i)
-  struct_valued i c l fs q h = (covering.made i h.0, (refl, ap is_struct q, subst (λ (o : Option Declared). covering.HaveTypes D (field_types (fields_declared o)) h.0) (sym q) h.1))
+  struct_valued i c l fs q h = (covering.made i h.0, (refl, ap is_struct q, subst (λ (o : Option Declared). covering.AreOfTypes D (field_types (fields_declared o)) h.0) (sym q) h.1))
 
   enum_valued : (i : ℕ) (c : Bool) (l : ℕ) (v : VariantDeclared) (vs : List VariantDeclared) → slice_get D i ≡ Some (enum_declared c l (v ∷ vs)) → AllValued v.parts → Valued (types.named i)
   enum_valued i c l v vs q h = (
@@ -102,7 +102,7 @@ module _ (D : Declarations) (declared : ItemsPlain D D) where
     (
       refl,
       subst (λ (o : Option Declared). 0 < length (variants_declared o)) (sym q) (omega arith),
-      subst (λ (o : Option Declared). covering.HaveTypes D (parts_declared (slice_get (variants_declared o) 0)) h.0) (sym q) h.1,
+      subst (λ (o : Option Declared). covering.AreOfTypes D (parts_declared (slice_get (variants_declared o) 0)) h.0) (sym q) h.1,
     ),
   )
 
@@ -132,12 +132,12 @@ module _ (D : Declarations) (declared : ItemsPlain D D) where
     what_is_declared i (Some rt_declared) q w h = absurd h
     what_is_declared i (Some (struct_declared c k fs)) q w h =
         let x = all_valued (shapes_of (types_of_fields fs)) (subst (λ (ts : List Typ). EachOf P (shapes_of ts)) (sym (fields_same fs)) w) (list_plain D (types_of_fields fs) (item_at D D i (struct_declared c k fs) declared q)) in
-        struct_valued i c k fs q (x.0, subst (λ (ts : List Typ). covering.HaveTypes D ts x.0) (fields_listed fs) x.1)
+        struct_valued i c k fs q (x.0, subst (λ (ts : List Typ). covering.AreOfTypes D ts x.0) (fields_listed fs) x.1)
     what_is_declared i (Some (enum_declared c k [])) q w h = absurd h
     what_is_declared i (Some (enum_declared c k (v ∷ vs))) q w h =
         let g = item_at D D i (enum_declared c k (v ∷ vs)) declared q in
         let x = all_valued (shapes_of v.parts) (front_of P v.parts (variant_types vs) w) (list_plain D v.parts g.0) in
-        enum_valued i c k v vs q (x.0, subst (λ (ts : List Typ). covering.HaveTypes D ts x.0) (parts_listed v.parts) x.1)
+        enum_valued i c k v vs q (x.0, subst (λ (ts : List Typ). covering.AreOfTypes D ts x.0) (parts_listed v.parts) x.1)
     what_is_declared i (Some (function_declared ps t)) q w h = absurd h
 
   -- structs and enums that end within so many levels have one

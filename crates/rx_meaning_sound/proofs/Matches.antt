@@ -9,7 +9,7 @@ use Rattle.rx_typed.specs.Elaborated as elaborated
 use Rattle.rx_typed.specs.Tree.{Temporary}
 use Rattle.rx_typeck_solver.specs.declared.facts.Subject.TheVariants as subject
 use Rattle.rx_typeck_solver.specs.declared.facts.Demand.{Demand}
-use Rattle.rx_typeck_solver.specs.Facts.{MeetsEach, Types, Known}
+use Rattle.rx_typeck_solver.specs.Facts.{MeetsEach, Assignment, KnownItems}
 use Rattle.rx_typeck_typed.specs.Demands as rules
 use Rattle.rx_meaning_covered.specs.Standing.{Standing}
 use Rattle.rx_meaning_covered.specs.Ranged.{IsInhabited}
@@ -30,7 +30,7 @@ use Rattle.rx_meaning_sound.specs.Matched.{ChoiceTyped, LetTyped}
 use Rattle.rx_meaning_sound.proofs.Literals.{BodyLiterals}
 use Rattle.rx_meaning_sound.proofs.Matching as matching
 
-module _ (K : Known) (A : Types) (F : Function) (count : ℕ) (numbers : AreFrom 0 (nodes F) count) (sited : BodySited Site.Expects F.body) (fits : FunctionFits K.items F) (means : BodyMeans K.items F.body) (met : MeetsEach K A (rules.demands F))
+module _ (K : KnownItems) (A : Assignment) (F : Function) (count : ℕ) (numbers : AreFrom 0 (nodes F) count) (sited : BodySited Site.Expects F.body) (fits : FunctionFits K.items F) (means : BodyMeans K.items F.body) (met : MeetsEach K A (rules.demands F))
     (free : (n : ℕ) → NotLent (A (subject.Node n))) (inhabited : (n : ℕ) → IsInhabited K.items (A (subject.Node n))) (apart : (i : ℕ) → NamedApart (fields_declared (slice_get K.items i))) where
   abbrev V : ℕ → Typ
   V x = A (subject.Variable x)

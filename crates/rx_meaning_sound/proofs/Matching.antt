@@ -23,7 +23,7 @@ use Rattle.rx_cover.specs.Choices.{scrutinee_typ}
 use Rattle.rx_typeck_solver.specs.declared.facts.Subject.{Subject}
 use Rattle.rx_typeck_solver.specs.declared.facts.Subject.TheVariants as subject
 use Rattle.rx_typeck_solver.specs.declared.facts.Demand.{Demand}
-use Rattle.rx_typeck_solver.specs.Facts.{MeetsEach, Types, Known}
+use Rattle.rx_typeck_solver.specs.Facts.{MeetsEach, Assignment, KnownItems}
 use Rattle.rx_typeck_typed.specs.Asking.{Asking, type_of}
 use Rattle.rx_typeck_typed.specs.Demands as rules
 use Rattle.rx_meaning_keeping.specs.Units.{GoesOn}
@@ -67,7 +67,7 @@ is_true_not : (k : Bool) → not k ≡ false → k ≡ true
 is_true_not true e = refl
 is_true_not false e = absurd (cc)
 
-module _ (K : Known) (A : Types) (U : Temporary → Typ) (R : Typ) (f : ℕ) (result : (u : Typ) → result_declared (slice_get K.items f) ≡ Some u → R ≡ u)
+module _ (K : KnownItems) (A : Assignment) (U : Temporary → Typ) (R : Typ) (f : ℕ) (result : (u : Typ) → result_declared (slice_get K.items f) ≡ Some u → R ≡ u)
     (free : (n : ℕ) → NotLent (A (subject.Node n))) (inhabited : (n : ℕ) → IsInhabited K.items (A (subject.Node n))) (apart : (i : ℕ) → NamedApart (fields_declared (slice_get K.items i))) where
   abbrev Wants : Type 0 → Asking → Type 0
   Wants S a = Asks K A S a
@@ -365,7 +365,7 @@ module _ (K : Known) (A : Types) (U : Temporary → Typ) (R : Typ) (f : ℕ) (re
   assignable_u n p = when_u (not (is_variable p)) _ (quiet n _ _ _)
 
   literal_told : (n : Node) (m : Bool) (v : ℕ) (k : Option Kind) → Wants (Fit (T K A) n m v) (rules.integer_at n m v k)
-  literal_told n m v k = asks_map (λ h e. literal_fits (OfNode n) m v h.0 e) (then_second (quiet n _ _ _) (then_first (one_asked n _ _ _) (pieces.value_given K A n n.site)))
+  literal_told n m v k = asks_map (λ h e. literal_fits (OfNode n) m v h.0 e) (then_second (quiet n _ _ _) (then_second (pieces.value_given K A n n.site) (one_asked n _ _ _)))
 
   loop_same : (n : Node) (k : Bool) → Wants (not k ≡ false → Same n) (rules.loop_given n k)
   loop_same n true = asks_map (λ h q. same_if n h.stands) (pieces.unit_given K A n)

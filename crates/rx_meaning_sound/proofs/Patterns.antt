@@ -17,7 +17,7 @@ use Rattle.rx_typed.specs.Tree as tree
 use Rattle.rx_typed.specs.Tree.{Temporary}
 use Rattle.rx_typeck_solver.specs.declared.facts.Subject.{Subject}
 use Rattle.rx_typeck_solver.specs.declared.facts.Passing.{Passing as Gone}
-use Rattle.rx_typeck_solver.specs.Facts.{Types, Known, names_of, is_among, all_among, exactly}
+use Rattle.rx_typeck_solver.specs.Facts.{Assignment, KnownItems, names_of, is_among, all_among, exactly}
 use Rattle.rx_typeck_typed.specs.Asking.{Asking}
 use Rattle.rx_typeck_typed.specs.Demands as rules
 use Rattle.rx_meaning.specs.Values.{and_then}
@@ -93,7 +93,7 @@ step_in D t u k (Some w) q e = whole_same (typ_behind D t (step.Field k)) u (sub
 
 -- ---- patterns
 
-module _ (K : Known) (A : Types) (U : Temporary → Typ) (R : Typ) (apart : (i : ℕ) → NamedApart (fields_declared (slice_get K.items i))) where
+module _ (K : KnownItems) (A : Assignment) (U : Temporary → Typ) (R : Typ) (apart : (i : ℕ) → NamedApart (fields_declared (slice_get K.items i))) where
   abbrev Wants : Type 0 → Asking → Type 0
   Wants r a = Asks K A r a
 

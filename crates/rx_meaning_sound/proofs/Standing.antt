@@ -14,7 +14,7 @@ use Rattle.rx_typed.specs.Tree.{Function}
 use Rattle.rx_typed.specs.PlainTree.{plain-TypedTree}
 use Rattle.rx_typed_declarations.specs.WellFormed.{WellSigned}
 use Rattle.rx_typed_declarations.specs.Sizes.{Sized, told}
-use Rattle.rx_typeck_solver.specs.Facts.{Known}
+use Rattle.rx_typeck_solver.specs.Facts.{KnownItems}
 use Rattle.rx_typeck_typed.specs.declared.typed.Typed.{Typed}
 use Rattle.rx_typeck_typed.specs.declared.typed.TypedFn.{TypedFn}
 use Rattle.rx_typeck_typed.specs.Typing.{Given, known_in, assigned, IsTyped}
@@ -29,7 +29,7 @@ use Rattle.rx_meaning_sound.proofs.Elaborating.{function_stands}
 module _ (p : ProgramTree) (ns : List ItemNames) (t : Typed) (few : IsNumbered p) (meant : Meant p ns) (typed : IsTyped p ns t) (signed : WellSigned t.decls.items)
     (sized : Sized (declarations typed.declared) (told typed.sizes))
     (scoped : (j n i : ℕ) (s : Span) (f : FunctionTree) → slice_get p j ≡ Some (plain.function_item s f) → (u : ItemNames) → in_item p n (plain.function_item s f) ≡ Ok u → ScopedFunction (function_named i s f u.names)) where
-  abbrev K : Known
+  abbrev K : KnownItems
   K = known_in (record { program = p; declared = typed.declared; sizes = typed.sizes })
 
   pub functions_stand_fresh : (g : TypedFn) → Among g t.functions → StandsFresh (plain-TypedTree g.tree)

@@ -6,7 +6,7 @@ use Rattle.rx_core.specs.declared.types.Kind.{Kind}
 use Rattle.rx_core.specs.declared.types.Step.{Step}
 use Rattle.rx_typed.specs.Types.{Typ, integer, reference}
 use Rattle.rx_typed.specs.Tree as tree
-use Rattle.rx_typed.specs.Tree.{Root, variable, temporary, Temporary, Place, lazy, own, held, under}
+use Rattle.rx_typed.specs.Tree.{Root, variable, temporary, Temporary, Place, lazy, own, temporary_place, under}
 use Rattle.rx_lower_walks.specs.Actions.{Act, Declare, Dead, Read, Write, Borrow, Test, Call, Build, Input, Print, Give, Action, does}
 use Rattle.rx_meaning.specs.Endings.{Cause, wrong, lacks, astray}
 use Rattle.rx_meaning.specs.Straying.{why_no_part, why_not_found, why_not_written, why_not_checked}
@@ -181,9 +181,9 @@ module _ (L : Bool) (T : Typing) (k : Store) (w : List Action) (n : ℕ) where
   plainly_typed _ _ s K _ using.dies g l m i = (tt, i)
   plainly_typed _ _ s K _ (using.reads {m = b} {p = p} {d = d} u) g l m i = read_typed b p d s K g i
   plainly_typed _ _ s K _ (using.borrows {m = b} {p = p} {d = d} u) g l m i = borrow_typed b p d [] s K g.0 g.1 g.2 (lends_borrow L T b p d l) i (none_held i.0 p.root)
-  plainly_typed _ _ s _ _ (using.borrows_held {m = b} {t = t} {d = d} {ss = ss} {v = v} {K = K} u) g l m i = borrow_typed b (under (held t) ss) d (v ∷ []) s (holds t v K) g.0 g.1 g.2 (lends_borrow L T b (under (held t) ss) d l) i i.2.pending.0.0
+  plainly_typed _ _ s _ _ (using.borrows_held {m = b} {t = t} {d = d} {ss = ss} {v = v} {K = K} u) g l m i = borrow_typed b (under (temporary_place t) ss) d (v ∷ []) s (holds t v K) g.0 g.1 g.2 (lends_borrow L T b (under (temporary_place t) ss) d l) i i.2.pending.0.0
   plainly_typed _ _ s K _ (using.tests {p = p} {c = c}) g l m i = test_typed p c [] s K g.0 g.1 g.2 i (none_held i.0 p.root)
-  plainly_typed _ _ s _ _ (using.tests_held {t = t} {ss = ss} {c = c} {v = v} {K = K}) g l m i = test_typed (under (held t) ss) c (v ∷ []) s (holds t v K) g.0 g.1 g.2 i i.2.pending.0.0
+  plainly_typed _ _ s _ _ (using.tests_held {t = t} {ss = ss} {c = c} {v = v} {K = K}) g l m i = test_typed (under (temporary_place t) ss) c (v ∷ []) s (holds t v K) g.0 g.1 g.2 i i.2.pending.0.0
   plainly_typed _ _ s _ _ (using.writes {p = p} {t = t} {v = v} {K = K}) g l m i =
       write_typed p t [] s v g.0 (holds t v K) K i (subst (λ z. HasType L T.declared i.0 v z) (some_is g.2) i.2.pending.0.0) g.1 (lends_write L T p t [] l) i.2.pending.1
   plainly_typed _ _ s _ _ (using.writes_part {x = x} {t = t} {ss = ss} {v = v} {K = K}) g l m i =

@@ -16,14 +16,14 @@ use Rattle.rx_modes_uses.specs.Deeds as deeds
 use Rattle.rx_modes_uses.specs.Deeds.{Done}
 use Rattle.rx_modes_uses.specs.Outside.{in_run, outside_run}
 
-abbrev pub HasType : Asked → ℕ → Typ → Type 0
-HasType A x t = slice_get A.frame.types x ≡ Some (Some t)
+abbrev pub VariableHasType : Asked → ℕ → Typ → Type 0
+VariableHasType A x t = slice_get A.frame.types x ≡ Some (Some t)
 
 abbrev pub IsCopy : Asked → ℕ → Type 0
-IsCopy A x = (t : Typ) × HasType A x t × (copies A.frame.declared t ≡ true)
+IsCopy A x = (t : Typ) × VariableHasType A x t × (copies A.frame.declared t ≡ true)
 
 abbrev pub IsMutableReference : Asked → ℕ → Type 0
-IsMutableReference A x = (t : Typ) × HasType A x (reference true t)
+IsMutableReference A x = (t : Typ) × VariableHasType A x (reference true t)
 
 -- a truth value for each variable of the function says whether it is declared `mut`
 abbrev pub IsDeclaredMut : List Bool → ℕ → Type 0

@@ -11,7 +11,7 @@ mod words;
 pub use declarations::{push_enum, push_struct};
 pub use margin::Margin;
 pub use patterns::push_pattern;
-pub use signatures::{push_called, push_signature};
+pub use signatures::{push_angles, push_called, push_signature};
 pub use types::push_annotation;
 pub use words::{
     comma, kind_text, operator_text, push_decimal, push_mutable, push_number, truth_text,

@@ -77,8 +77,8 @@ fn push_lifetimes(out: &mut Text, list: &[BoundLifetime]) -> Result<(), AllocErr
     Ok(())
 }
 
-/// Adds the lifetimes of a function, where it has some.
-fn push_angles(out: &mut Text, list: &[BoundLifetime]) -> Result<(), AllocError>
+/// Adds the lifetimes of a function in angle brackets, where it has some.
+pub fn push_angles(out: &mut Text, list: &[BoundLifetime]) -> Result<(), AllocError>
     ensures { OnOk result (out.new ≡ out.old ++ flat (in_angles (map bound_pieces list.now))) }
 {
     if list.is_empty() {

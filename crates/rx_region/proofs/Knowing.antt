@@ -78,11 +78,11 @@ diagonal_regular n S T empty h = subst (λ m. Regular m (words n) T) (sym h.regu
 
 -- ---- known pairs
 
-known_follows : (C : Context) (l k : ℕ) → known.Known C l k → Follows (told C) l k
+known_follows : (C : Context) (l k : ℕ) → known.KnownToOutlive C l k → Follows (told C) l k
 known_follows C l k known.itself = tables.itself
 known_follows C l k (known.by m pair x) = tables.by m pair (known_follows C m k x)
 
-follows_known : (C : Context) (l k : ℕ) → Follows (told C) l k → known.Known C l k
+follows_known : (C : Context) (l k : ℕ) → Follows (told C) l k → known.KnownToOutlive C l k
 follows_known C l k tables.itself = known.itself
 follows_known C l k (tables.by m pair x) = known.by m pair (follows_known C m k x)
 
@@ -103,13 +103,13 @@ of_test T l k e = ap (λ m. at T l m && not (at [] l k)) (zero_more k) ∙ ap (�
     zero_more m = omega arith
 
 module _ (C : Context) (ps : List Bound) (n : ℕ) (T : List (List ℕ)) (is : ps ≡ told C) (within : Within ps n) (own_below : C.lifetimes.own ≤ n) (closed : ClosedFrom ps n T) where
-  pub rows_known : (l k : ℕ) → l < C.lifetimes.own → k < C.lifetimes.own → (at T l k ≡ true) ↔ known.Known C l k
+  pub rows_known : (l k : ℕ) → l < C.lifetimes.own → k < C.lifetimes.own → (at T l k ≡ true) ↔ known.KnownToOutlive C l k
   rows_known l k i j =
       let exact = closed.exact within l k (omega (arith, i, own_below)) (omega (arith, j, own_below)) in
       (λ e. follows_known C l k (subst (λ qs. Follows qs l k) is (exact.0 e)), λ x. exact.1 (subst (λ qs. Follows qs l k) (sym is) (known_follows C l k x)))
 
   pub pairs_known : (qs : List Bound) → qs ≡ pairs_below (in_rows T) C.lifetimes.own → (l k : ℕ)
-      → HasPair qs l k ↔ ((l < C.lifetimes.own) × (k < C.lifetimes.own) × known.Known C l k)
+      → HasPair qs l k ↔ ((l < C.lifetimes.own) × (k < C.lifetimes.own) × known.KnownToOutlive C l k)
   pairs_known qs are l k = (
     λ h. let e = listed (in_rows T) C.lifetimes.own l k (from_pair _ l k (subst (λ rs. HasPair rs l k) are h)) in
         (e.1, e.2, (rows_known l k e.1 e.2).0 (test_of T l k e.0)),
@@ -119,7 +119,7 @@ module _ (C : Context) (ps : List Bound) (n : ℕ) (T : List (List ℕ)) (is : p
 -- ---- missing pairs
 
 module _ (C : Context) (g : List Site) (R : Sets) (K : List (List ℕ)) (own : ℕ) (least : AreLeast C g R) (own_is : own ≡ C.lifetimes.own)
-    (rows : (l k : ℕ) → l < C.lifetimes.own → k < C.lifetimes.own → (at K l k ≡ true) ↔ known.Known C l k) where
+    (rows : (l k : ℕ) → l < C.lifetimes.own → k < C.lifetimes.own → (at K l k ≡ true) ↔ known.KnownToOutlive C l k) where
   negated : (b : Bool) → not b ≡ true → b ≡ true → ⊥
   negated true h e = true≢false (sym h)
   negated false h e = true≢false (sym e)
@@ -141,10 +141,10 @@ module _ (C : Context) (g : List Site) (R : Sets) (K : List (List ℕ)) (own : �
 
 -- where none is, sets keep to what is known
 module _ (C : Context) (R : Sets) (K : List (List ℕ)) (own : ℕ) (own_is : own ≡ C.lifetimes.own)
-    (rows : (l k : ℕ) → l < C.lifetimes.own → k < C.lifetimes.own → (at K l k ≡ true) ↔ known.Known C l k) where
+    (rows : (l k : ℕ) → l < C.lifetimes.own → k < C.lifetimes.own → (at K l k ≡ true) ↔ known.KnownToOutlive C l k) where
   pub keeps : (ps : List Bound) → ps ≡ pairs_below (λ l k. R l (end k) && not (at K l k)) own → ps ≡ [] → Keeps C R
   keeps ps are none l k i j e = by_row (at K l k) refl where
-    by_row : (b : Bool) → at K l k ≡ b → known.Known C l k
+    by_row : (b : Bool) → at K l k ≡ b → known.KnownToOutlive C l k
     by_row true x = (rows l k i j).0 x
     by_row false x = absurd (subst (λ qs. HasPair qs l k) none (subst (λ qs. HasPair qs l k) (sym are) (to_pair _ l k
         (lists (λ l k. R l (end k) && not (at K l k)) own l k (subst (λ m. l < m) (sym own_is) i) (subst (λ m. k < m) (sym own_is) j)

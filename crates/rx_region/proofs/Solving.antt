@@ -11,7 +11,7 @@ use Rattle.rx_region.specs.Constraints.{Context}
 use Rattle.rx_region.specs.Solutions.{Point, Sets, Solution, Least, AreLeast}
 use Rattle.rx_region.specs.Solutions as solutions
 use Rattle.rx_region.specs.Points.{number, point, has_point}
-use Rattle.rx_region.specs.Tables.{Must, Asks, IsTable, Meets}
+use Rattle.rx_region.specs.Tables.{Must, Asks, IsOutlivesTable, MeetsConstraints}
 use Rattle.rx_region.specs.Tables as tables
 use Rattle.rx_region.specs.declared.outlives.Outlives.{Outlives}
 use Rattle.rx_region.proofs.Points.{there, at_point, Inside, point_number, point_inside, point_has}
@@ -58,11 +58,11 @@ module _ (C : Context) (g : List Site) (o : Outlives) (asks : Asks C g o) where
       let rest = complete k x h in
       (rest.0, closing.longer (outlives l k) (pair_has o.pairs l k (subst (λ ps. HasPair ps l k) (sym asks.pairs) pair)) rest.1)
 
-  comes_there : (i l : ℕ) → IsTable o → Comes o.pairs o.rows i l → l < length o.rows
+  comes_there : (i l : ℕ) → IsOutlivesTable o → Comes o.pairs o.rows i l → l < length o.rows
   comes_there i l t (closing.here e) = there o.rows l i e
   comes_there i l t (closing.longer b has x) = (t.within b has).0
 
-  pub are_least : (w : ℕ) (R : List (List ℕ)) → IsTable o → Closed o.pairs w o.rows R → AreLeast C g (λ l x. has_point R o.sites l x)
+  pub are_least : (w : ℕ) (R : List (List ℕ)) → IsOutlivesTable o → Closed o.pairs w o.rows R → AreLeast C g (λ l x. has_point R o.sites l x)
   are_least w R t closed = λ l x. (
     λ e. let h = point_inside R o.sites l x e in
         let inside = there R l (number o.sites x) h.1 in
@@ -74,7 +74,7 @@ module _ (C : Context) (g : List Site) (o : Outlives) (asks : Asks C g o) where
 
   -- ---- a solution is what meets the constraints
 
-  pub meets_solution : (R : Sets) → Meets o R → Solution C g R
+  pub meets_solution : (R : Sets) → MeetsConstraints o R → Solution C g R
   meets_solution R h = record {
     whole = λ l p own within. h.whole l p (subst (λ n. l < n) (sym asks.own) own) (subst (λ n. p < n) (sym asks.sites) within);
     ends = λ l own. h.ends l (subst (λ n. l < n) (sym asks.own) own);
@@ -86,7 +86,7 @@ module _ (C : Context) (g : List Site) (o : Outlives) (asks : Asks C g o) where
   met R l p s (tables.whole a b) = s.whole l p a b
   met R l p s (tables.live r a b) = s.live r p l a b
 
-  pub solution_meets : (R : Sets) → Solution C g R → Meets o R
+  pub solution_meets : (R : Sets) → Solution C g R → MeetsConstraints o R
   solution_meets R s = record {
     whole = λ l p own within. s.whole l p (subst (λ n. l < n) asks.own own) (subst (λ n. p < n) asks.sites within);
     ends = λ l own. s.ends l (subst (λ n. l < n) asks.own own);

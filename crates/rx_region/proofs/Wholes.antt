@@ -138,7 +138,7 @@ pub knows_so : (C : Context) (ts a b : List Bound) (n m : ℕ) (T U V : List (Li
 knows_so C ts a b n m T U V pairs is same_a same_b within own_below size closed same_v listed same = record {
   own = refl;
   pairs = λ x y. pairs_known C ts n T is all_within below all_closed pairs (listed ∙ ap (λ W. pairs_below (λ l k. at W l (0 + k) && not (at [] l k)) C.lifetimes.own) same_v) x y;
-  rows = λ x y i j. subst (λ W. (at W x y ≡ true) ↔ known.Known C x y) (sym same) (rows_known C ts n T is all_within below all_closed x y i j);
+  rows = λ x y i j. subst (λ W. (at W x y ≡ true) ↔ known.KnownToOutlive C x y) (sym same) (rows_known C ts n T is all_within below all_closed x y i j);
 } where
   all_within : Within ts n
   all_within = subst (λ k. Within ts k) (sym size) (subst (λ qs. Within qs m) same_a within)

@@ -20,13 +20,13 @@ abbrev pub told : Context → List Bound
 told C = C.lifetimes.bounds ++ (parameters_ask C C.lifetimes.params ++ implied_in C.implied C.lifetimes.answer)
 
 -- with all that follows from them
-pub data Known (C : Context) : ℕ → ℕ → Type 0 where
-  itself : {l : ℕ} → Known C l l
-  by : {l k : ℕ} (m : ℕ) → HasPair (told C) l m → Known C m k → Known C l k
+pub data KnownToOutlive (C : Context) : ℕ → ℕ → Type 0 where
+  itself : {l : ℕ} → KnownToOutlive C l l
+  by : {l k : ℕ} (m : ℕ) → HasPair (told C) l m → KnownToOutlive C m k → KnownToOutlive C l k
 
 -- the end of the second is in the least set of the first, and it is not known that this outlives that
 pub record Missing (C : Context) (g : List Site) (l k : ℕ) : Type 0 where
   pub long : l < C.lifetimes.own
   pub short : k < C.lifetimes.own
   pub needed : Least C g l (end k)
-  pub unknown : Known C l k → ⊥
+  pub unknown : KnownToOutlive C l k → ⊥

@@ -38,7 +38,7 @@ pub record Asks (C : Context) (g : List Site) (o : Outlives) : Type 0 where
 
 -- sets that meet constraints: a lifetime of the function's own has all sites and its own end, each has the sites that it must
 -- hold, and that of the longer of a pair contains that of the shorter
-pub record Meets (o : Outlives) (R : Sets) : Type 0 where
+pub record MeetsConstraints (o : Outlives) (R : Sets) : Type 0 where
   pub whole : (l p : ℕ) → l < o.own → p < o.sites → R l (site p) ≡ true
   pub ends : (l : ℕ) → l < o.own → R l (end l) ≡ true
   pub must : (l p : ℕ) → has_point o.rows o.sites l (site p) ≡ true → R l (site p) ≡ true
@@ -51,8 +51,8 @@ sets_of r l x = has_point r.rows r.sites l x
 -- the pairs that are known, of the function's own lifetimes
 pub record Knows (C : Context) (k : Known) : Type 0 where
   pub own : k.own ≡ C.lifetimes.own
-  pub pairs : (x y : ℕ) → HasPair k.pairs x y ↔ ((x < C.lifetimes.own) × (y < C.lifetimes.own) × knowing.Known C x y)
-  pub rows : (x y : ℕ) → x < C.lifetimes.own → y < C.lifetimes.own → (at k.rows x y ≡ true) ↔ knowing.Known C x y
+  pub pairs : (x y : ℕ) → HasPair k.pairs x y ↔ ((x < C.lifetimes.own) × (y < C.lifetimes.own) × knowing.KnownToOutlive C x y)
+  pub rows : (x y : ℕ) → x < C.lifetimes.own → y < C.lifetimes.own → (at k.rows x y ≡ true) ↔ knowing.KnownToOutlive C x y
 
 -- the pairs of which the least sets of the longer have the end of the shorter, and that are not known
 abbrev pub Misses : Context → List Site → List Bound → Type 0
@@ -61,12 +61,12 @@ Misses C g ps = (x y : ℕ) → HasPair ps x y ↔ knowing.Missing C g x y
 -- sets in which the end of one of the function's own lifetimes is in that of another alone where this is known to outlive it
 -- (RFC 2094, "Named lifetimes")
 abbrev pub Keeps : Context → Sets → Type 0
-Keeps C R = (x y : ℕ) → x < C.lifetimes.own → y < C.lifetimes.own → R x (end y) ≡ true → knowing.Known C x y
+Keeps C R = (x y : ℕ) → x < C.lifetimes.own → y < C.lifetimes.own → R x (end y) ≡ true → knowing.KnownToOutlive C x y
 
 -- ---- what tables are like
 
 -- rows of bits for all points, and one for each member of a pair
-pub record IsTable (o : Outlives) : Type 0 where
+pub record IsOutlivesTable (o : Outlives) : Type 0 where
   pub regular : Regular (length o.rows) (words (o.sites + o.own)) o.rows
   pub within : Within o.pairs (length o.rows)
 

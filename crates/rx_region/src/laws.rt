@@ -5,12 +5,12 @@ ghost use Rattle.rx_lower_walks.specs.Graph.{Site};
 ghost use Rattle.rx_region.specs.Constraints.{Context};
 ghost use Rattle.rx_region.specs.Known.{Missing};
 ghost use Rattle.rx_region.specs.Solutions.{Sets, Solution};
-ghost use Rattle.rx_region.specs.Tables.{Asks, Meets, Keeps};
+ghost use Rattle.rx_region.specs.Tables.{Asks, MeetsConstraints, Keeps};
 ghost use Rattle.rx_region.specs.declared.outlives.Outlives.{Outlives as OutlivesOf};
 
 /// Sets are a solution exactly where they meet the constraints.
 pub fn solutions_meet_constraints()
-    ensures { (C : Context) (g : ListOf Site) (o : OutlivesOf) (R : Sets) → Asks C g o → Solution C g R ↔ Meets o R }
+    ensures { (C : Context) (g : ListOf Site) (o : OutlivesOf) (R : Sets) → Asks C g o → Solution C g R ↔ MeetsConstraints o R }
 {}
 
 /// Where a pair is missing, no solution keeps to what is known.

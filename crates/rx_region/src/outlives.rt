@@ -136,7 +136,7 @@ pub fn constraints(
     requires few { length sites.now ≤ 16384 }
     requires index { IsIndex live.now.index }
     ensures asks { IfOk result (λ it. Lives (map plain-Site sites.now) live.now → spec.Asks (plain-Given given.now) (map plain-Site sites.now) it) }
-    ensures table { IfOk result spec.IsTable }
+    ensures table { IfOk result spec.IsOutlivesTable }
 {
     let pairs = given.imposed(alloc, sites)?;
     let lifetimes = given.lifetimes;

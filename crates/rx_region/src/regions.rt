@@ -66,7 +66,7 @@ fn closed(alloc: Global, outlives: &Outlives, bound: usize) -> Result<Vec<Row>, 
 ///
 /// Memory runs out.
 pub fn solve(alloc: Global, outlives: &Outlives) -> Result<Regions, AllocError>
-    requires { spec.IsTable outlives.now }
+    requires { spec.IsOutlivesTable outlives.now }
     ensures least { IfOk result (λ r. (C : Context) (g : ListOf graphs.Site) → spec.Asks C g outlives.now → AreLeast C g (spec.sets_of r)) }
     ensures sites { IfOk result (λ r. r.sites ≡ outlives.now.sites) }
 {

@@ -7,7 +7,7 @@ use Rattle.rx_graph_cycles.specs.Orders.{InOrder}
 use Rattle.rx_typed.specs.declared.declarations.Decl.{Decl}
 use Rattle.rx_typed.specs.PlainTypes.{plain-Decl, declarations}
 use Rattle.rx_typed.specs.Regions.{RegionTyp, RegionTyps, no_region, regions_at, all_erased, regions}
-use Rattle.rx_typed_declarations.specs.Held.{held_by, held, named_among}
+use Rattle.rx_typed_declarations.specs.Held.{held_by, held_by_each, named_among}
 use Rattle.rx_typed_declarations.proofs.RegionLemmas.{item_erased}
 use Rattle.rx_typed_declarations.proofs.Filling.{Fills, fills_none, fills_one, length_fills, all_filled_so}
 use Rattle.rx_region_outlives.specs.Implied.{ImpliedAmong, ImpliedBy, in_held, HasPair, pairs_of, implied_among, ImpliesOf, AreImplied, FromHeld}
@@ -38,12 +38,12 @@ fills_next Value table put new order i v less is put_is h =
 -- ---- items
 
 targets_named : (items : List Decl) (n : ℕ)
-    → targets (held (declarations items)) n ≡ named_among (all_erased (regions_at (regions items) n))
+    → targets (held_by_each (declarations items)) n ≡ named_among (all_erased (regions_at (regions items) n))
 targets_named [] n = refl
 targets_named (d ∷ ds) zero = ap named_among (sym (item_erased d))
 targets_named (d ∷ ds) (suc n) = targets_named ds n
 
-none_past : (items : List Decl) (n : ℕ) → length (held (declarations items)) ≤ n → regions_at (regions items) n ≡ no_region
+none_past : (items : List Decl) (n : ℕ) → length (held_by_each (declarations items)) ≤ n → regions_at (regions items) n ≡ no_region
 none_past [] n h = refl
 none_past (d ∷ ds) zero h = absurd (omega arith)
 none_past (d ∷ ds) (suc n) h = none_past ds n (omega arith)
@@ -53,7 +53,7 @@ module _ (items : List Decl) where
   H = regions items
 
   abbrev edges : List (List ℕ)
-  edges = held (declarations items)
+  edges = held_by_each (declarations items)
 
   none_there : (x y : ℕ) → ImpliedAmong H no_region x y → ⊥
   none_there x y h = elim h [ ]

@@ -18,7 +18,7 @@ use Rattle.rx_region.specs.Known.{told, Missing}
 use Rattle.rx_region.proofs.LeastLaws.{least_serves, least_is_within}
 use Rattle.rx_region.specs.Tables.{Follows, itself, by}
 use Rattle.rx_loan.specs.Accesses.{Loan}
-use Rattle.rx_loan.specs.Loans.{loans_of, Meets, IsLegal}
+use Rattle.rx_loan.specs.Loans.{loans_of, MeetsLoan, IsLegal}
 use Rattle.rx_loan.proofs.Walking.{fewer_legal}
 use Rattle.rx_loan.specs.Accepted.{at_sites, IsAccepted}
 use Rattle.rx_check.specs.Contexts.{context_of}
@@ -31,11 +31,11 @@ use Rattle.rx_repair.proofs.OtherBounds.{reads_alike, owned_same, same_solutions
 
 -- ---- what is known
 
-pub known_follows : (C : Context) (l k : ℕ) → knowing.Known C l k → Follows (told C) l k
+pub known_follows : (C : Context) (l k : ℕ) → knowing.KnownToOutlive C l k → Follows (told C) l k
 known_follows C l k knowing.itself = itself
 known_follows C l k (knowing.by m pair rest) = by m pair (known_follows C m k rest)
 
-pub follows_known : (C : Context) (l k : ℕ) → Follows (told C) l k → knowing.Known C l k
+pub follows_known : (C : Context) (l k : ℕ) → Follows (told C) l k → knowing.KnownToOutlive C l k
 follows_known C l k itself = knowing.itself
 follows_known C l k (by m pair rest) = knowing.by m pair (follows_known C m k rest)
 
@@ -57,7 +57,7 @@ module _ (C : Context) (g : List Site) (none : C.lifetimes.bounds ≡ []) (R : S
   lacked l k m = record {
     long = m.long;
     short = m.short;
-    different = λ e. m.unknown (subst (λ n. knowing.Known C l n) e knowing.itself);
+    different = λ e. m.unknown (subst (λ n. knowing.KnownToOutlive C l n) e knowing.itself);
     needed = λ S s. least_is_within C g S s l (end k) m.needed;
     unknown = λ w. m.unknown (follows_known C l k (subst (λ (ps : List Bound). Follows ps l k) (sym told_is) w));
   }

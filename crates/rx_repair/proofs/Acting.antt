@@ -26,7 +26,7 @@ use Rattle.rx_lower_walks.specs.Actions as actions
 use Rattle.rx_lower_walks.specs.Orders as order
 use Rattle.rx_lower_walks.specs.Orders.{Order, order_all, order_scrutinee, order_arms, order_body, order_function, testing, binding, declaring, beginning}
 use Rattle.rx_typeck_solver.specs.declared.facts.Subject.{Subject}
-use Rattle.rx_typeck_solver.specs.Facts.{MeetsEach, Types, Known}
+use Rattle.rx_typeck_solver.specs.Facts.{MeetsEach, Assignment, KnownItems}
 use Rattle.rx_typeck_typed.specs.Asking.{Asking}
 use Rattle.rx_typeck_typed.specs.Demands as rules
 use Rattle.rx_repair.specs.TemporaryTypes as given_types
@@ -76,7 +76,7 @@ place_stays (named.return n o) h = absurd (cc)
 pub body_site : (t : Site) (b : Body) → BodySited t b → (body_node b).site ≡ t
 body_site t (named.body n ss o) h = h.0
 
-module _ (K : Known) (A : Types) (U : Temporary → Typ) where
+module _ (K : KnownItems) (A : Assignment) (U : Temporary → Typ) where
   abbrev V : ℕ → Typ
   V = patterns.V K A U
 

@@ -15,23 +15,23 @@ use Rattle.rx_typeck_solver.specs.declared.facts.Passing.{Passing}
 use Rattle.rx_typeck_solver.specs.declared.facts.Fact.{Fact}
 use Rattle.rx_typeck_solver.specs.declared.facts.Fact.TheVariants as fact
 use Rattle.rx_typeck_solver.specs.declared.facts.Demand.{Demand}
-use Rattle.rx_typeck_solver.specs.Facts.{Types, Known, MeetsAll, MeetsEach}
+use Rattle.rx_typeck_solver.specs.Facts.{Assignment, KnownItems, MeetsAll, MeetsEach}
 use Rattle.rx_typeck_typed.specs.Asking.{Asking, ◌>>◌, nothing, asks, when}
 use Rattle.rx_typeck_typed.specs.Demands as rules
 
-pub record Asks (K : Known) (A : Types) (R : Type 0) (a : Asking) : Type 0 where
+pub record Asks (K : KnownItems) (A : Assignment) (R : Type 0) (a : Asking) : Type 0 where
   pub more : List Demand
   pub adds : (ds : List Demand) → a ds ≡ ds ++ more
   pub gives : MeetsEach K A more → R
 
-abbrev pub U : Known → Types → Asking → Type 0
+abbrev pub U : KnownItems → Assignment → Asking → Type 0
 U K A a = Asks K A (Unit {0}) a
 
-pub met_front : (K : Known) (A : Types) (x y : List Demand) → MeetsEach K A (x ++ y) → MeetsEach K A x
+pub met_front : (K : KnownItems) (A : Assignment) (x y : List Demand) → MeetsEach K A (x ++ y) → MeetsEach K A x
 met_front K A [] y h = tt
 met_front K A (d ∷ x) y h = (h.0, met_front K A x y h.1)
 
-pub met_behind : (K : Known) (A : Types) (x y : List Demand) → MeetsEach K A (x ++ y) → MeetsEach K A y
+pub met_behind : (K : KnownItems) (A : Assignment) (x y : List Demand) → MeetsEach K A (x ++ y) → MeetsEach K A y
 met_behind K A [] y h = h
 met_behind K A (d ∷ x) y h = met_behind K A x y h.1
 
@@ -52,7 +52,7 @@ pub no_if_place : (n : Node) (o : Else) → OnePart n o → TwoParts n o → NoP
 no_if_place n named.absent a b = a
 no_if_place n (named.present e) a b = b
 
-module _ {K : Known} {A : Types} where
+module _ {K : KnownItems} {A : Assignment} where
   pub asks_map : {R S : Type 0} {a : Asking} → (R → S) → Asks K A R a → Asks K A S a
   asks_map f x = record { more = x.more; adds = x.adds; gives = λ h. f (x.gives h) }
 
@@ -280,7 +280,7 @@ module _ {K : Known} {A : Types} where
   each_after_u (rules.parts_of i v) e = none
 
   pub integer_asks : (n : Node) (m : Bool) (v : ℕ) (k : Option Kind) → Asks K A (NoPlace n.site) (rules.integer_at n m v k)
-  integer_asks n m v k = then_second (quiet n _ _ _) (then_second (quiet n _ _ _) (value_asks n n.site))
+  integer_asks n m v k = then_second (quiet n _ _ _) (then_first (value_asks n n.site) (quiet n _ _ _))
 
   pub never_given_u : (ns : List Node) → U K A (rules.of_never_given ns)
   never_given_u [] = none

@@ -24,7 +24,7 @@ use Rattle.rx_typeck_solver.specs.declared.facts.Subject.{Subject}
 use Rattle.rx_typeck_solver.specs.declared.facts.Subject.TheVariants as subject
 use Rattle.rx_typeck_solver.specs.declared.facts.Test.TheVariants as test
 use Rattle.rx_typeck_solver.specs.declared.facts.Passing.{Passing as Gone}
-use Rattle.rx_typeck_solver.specs.Facts.{Types, Known, passed, gone_through, bound, all_mutable, is_item}
+use Rattle.rx_typeck_solver.specs.Facts.{Assignment, KnownItems, passed, gone_through, bound, all_mutable, is_item}
 use Rattle.rx_typeck_typed.specs.Asking.{Asking}
 use Rattle.rx_typeck_typed.specs.Demands as rules
 use Rattle.rx_repair.proofs.Asking.{Asks, asks_map, none, both, then_first, then_second, then_u, one_asked, quiet, literal_u, when_u, binding_u}
@@ -133,7 +133,7 @@ module _ (D : Declarations) (V : ℕ → Typ) where
 
 -- ---- as the rules give them
 
-module _ (K : Known) (A : Types) where
+module _ (K : KnownItems) (A : Assignment) where
   abbrev V : ℕ → Typ
   V x = A (subject.Variable x)
 

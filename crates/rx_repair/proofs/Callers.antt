@@ -23,7 +23,7 @@ use Rattle.rx_typeck_typed.specs.declared.typed.TypedFn.{TypedFn}
 use Rattle.rx_facts.specs.Functions.{body, sites_of}
 use Rattle.rx_region.specs.Constraints.{Context, held, flows, parameters_flow, signature_asks, asks, all_ask, formed, imposed}
 use Rattle.rx_region.specs.Solutions.{Sets}
-use Rattle.rx_region.specs.Known.{Known, told}
+use Rattle.rx_region.specs.Known.{KnownToOutlive, told}
 use Rattle.rx_region.specs.Tables.{Follows, itself, by}
 use Rattle.rx_loan.specs.Accesses.{Loan}
 use Rattle.rx_loan.specs.Loans.{loan_at, loans_from, loans_of, IsLegal}
@@ -222,7 +222,7 @@ module _ (D : List Decl) (P : ℕ → List Bound) (i : ℕ) (bs : List Bound) (a
     told_same : h.item ≢ i → told K ≡ told C
     told_same ne = λ j. bounds_of (elsewhere bs D i h.item ne j) ++ by_types_alike K C reads j
 
-    known_same : h.item ≢ i → (l k : ℕ) → Known C l k → Known K l k
+    known_same : h.item ≢ i → (l k : ℕ) → KnownToOutlive C l k → KnownToOutlive K l k
     known_same ne l k w = follows_known K l k (subst (λ (ps : List Bound). Follows ps l k) (sym (told_same ne)) (known_follows C l k w))
 
     pub caller_accepted : h.item ≢ i → IsAccepted C (sites_of h) → IsAccepted K (sites_of h)

@@ -14,7 +14,7 @@ use Rattle.rx_typed.specs.Numbers.{open_one, open_in, number, numbers, numbered}
 use Rattle.rx_typed.specs.Numbers as numbers_of
 use Rattle.rx_lower_walks.specs.Actions.{Act, Build, Action, does, filled}
 use Rattle.rx_lower_walks.specs.Walks.{Among}
-use Rattle.rx_lower_lifetimes.specs.Values.{Open, Known, Held, same, is_held, held_type, value_type, hold, held_by, lifetimes_of}
+use Rattle.rx_lower_lifetimes.specs.Values.{Open, KnownTypes, Held, same, is_held, held_type, value_type, hold, held_by, lifetimes_of}
 use Rattle.rx_lower_lifetimes.specs.Numbered.{all_numbered, opened}
 use Rattle.rx_lower_lifetimes.specs.Lowered.{known, actions, temporaries}
 use Rattle.rx_lower.specs.Functions.{function}
@@ -74,7 +74,7 @@ same_is s t e =
     let b = (Decides-eqb s.which t.which).0 x.1 in
     λ j. record { node = a j; which = b j }
 
-module _ (K : Known) (T : Temporary → Typ) where
+module _ (K : KnownTypes) (T : Temporary → Typ) where
   held_as : (H : List Held) (d : Temporary) → HeldAs T H → is_held H d ≡ true → erased (held_type H d) ≡ T d
   held_as [] d h e = absurd (true≢false (sym e))
   held_as (x ∷ H) d h e = by (same x.temporary d) refl (held_as H d h.1) e

@@ -17,7 +17,7 @@ use Rattle.rx_typed.specs.Numbers.{open_in}
 use Rattle.rx_lower_walks.specs.Actions.{Act, Read, Borrow, Call, Build, Input, Action, filled}
 use Rattle.rx_lower_walks.specs.Walks.{Among}
 use Rattle.rx_lower_walks.specs.Walks as walks
-use Rattle.rx_lower_lifetimes.specs.Values.{Open, Known, Held, lifetimes_of, same, is_held, held_type, open_unit, root_type, type_in, constant_type, compares, first, made_item, made_type, result_type, value_type, hold, held_by}
+use Rattle.rx_lower_lifetimes.specs.Values.{Open, KnownTypes, Held, lifetimes_of, same, is_held, held_type, open_unit, root_type, type_in, constant_type, compares, first, made_item, made_type, result_type, value_type, hold, held_by}
 use Rattle.rx_lower_lifetimes.specs.Variables.{Written, parameter_type, written_type, told, raw_type, open_type, open_types}
 use Rattle.rx_lower_lifetimes.specs.Numbered.{all_numbered, opened}
 use Rattle.rx_repair.specs.Fitting.{HasAll, HaveAll}
@@ -177,7 +177,7 @@ item_has D i e =
     length-replicate (lifetimes_of (slice_get D i)) 0 ∙ (count_is (slice_get D i) (ap is_adt (sym at) ∙ e) ∙ ap lifetimes_declared (sym at))
 
 module _ (D : List Decl) (good : Good D) (signed : WellSigned D) (V : List Open) (variables : AllOpen (declarations D) V) where
-  abbrev K : Known
+  abbrev K : KnownTypes
   K = record { items = D; variables = V }
 
   root_has : (H : List Held) (r : Root) → AllHeld (declarations D) H → HasAll (declarations D) (root_type K H r)

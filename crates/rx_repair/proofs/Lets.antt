@@ -24,7 +24,7 @@ use Rattle.rx_typeck_typed.specs.Items.{begins}
 use Rattle.rx_typeck_typed.specs.Lets.{read, let_type}
 use Rattle.rx_typeck_typed.specs.Bindings.{behind, of_let, of_lets}
 use Rattle.rx_typeck_solver.specs.declared.facts.Subject.TheVariants as subject
-use Rattle.rx_typeck_solver.specs.Facts.{Types, Known, MeetsEach}
+use Rattle.rx_typeck_solver.specs.Facts.{Assignment, KnownItems, MeetsEach}
 use Rattle.rx_typeck_typed.specs.Asking.{Asking}
 use Rattle.rx_typeck_typed.specs.Demands as rules
 use Rattle.rx_repair.proofs.Asking.{Asks, asks_map, none, both, then_first, quiet, one_variable_u}
@@ -54,7 +54,7 @@ mutual
       ap (λ (u : Typ). shape_and u (written_typs (of_types ts (of_type t c).1).0)) (written_same t c d e)
       ∙ ap (shape_and (written_typ (of_type t d).0)) (writtens_same ts (of_type t c).1 (of_type t d).1 (type_level t c d e))
 
-module _ (K : Known) (A : Types) where
+module _ (K : KnownItems) (A : Assignment) where
   abbrev V : ℕ → Typ
   V x = A (subject.Variable x)
 
@@ -101,7 +101,7 @@ in_let = (λ l. _, λ p free y ns. refl)
 let_lenient : (free : ℕ) → Lenient (in_let.0 free)
 let_lenient free = record { elides = λ s r. refl; counts = λ s ds ls. refl }
 
-module _ (K : Known) (A : Types) (D : List Decl) (same : declarations D ≡ K.items) (p : ProgramTree) (free : ℕ) where
+module _ (K : KnownItems) (A : Assignment) (D : List Decl) (same : declarations D ≡ K.items) (p : ProgramTree) (free : ℕ) where
   abbrev W : ℕ → Typ
   W x = A (subject.Variable x)
 

@@ -22,11 +22,11 @@ use Rattle.rx_typeck_solver.specs.declared.facts.Fact.TheVariants as fact
 use Rattle.rx_typeck_solver.specs.declared.facts.Demand.{Demand}
 use Rattle.rx_typeck_typed.specs.Asking.{Asking, ◌>>◌, nothing, asks, ask, when, passes, fitting, is_open}
 use Rattle.rx_typeck_typed.specs.Demands as rules
-use Rattle.rx_typeck_solver.specs.Facts.{Types, Known, MeetsAll, MeetsEach}
+use Rattle.rx_typeck_solver.specs.Facts.{Assignment, KnownItems, MeetsAll, MeetsEach}
 use Rattle.rx_repair.proofs.Asking.{Asks, result_u}
 use Rattle.rx_repair.proofs.Letting.{Lets, InExp, InExps, InElse, InFields, InArms, InBody, InStatement, InStatements}
 
-module _ (K : Known) (A : Types) (N : Lets) (of_declared : (p : Pattern) (t : Option Written) → Asks K A (N p t) (rules.declared p t))
+module _ (K : KnownItems) (A : Assignment) (N : Lets) (of_declared : (p : Pattern) (t : Option Written) → Asks K A (N p t) (rules.declared p t))
     (M : Option Written → Type 0) (typed : (t : Option Written) (e : Exp) → Asks K A (M t) (rules.typed_before t e))
     (of_let : (p : Pattern) (t : Option Written) (e : Exp) → Asks K A (M t → N p t) (rules.initialised p t e)) where
   -- where what is asked is met, so is what was asked before, and this holds
@@ -280,8 +280,8 @@ module _ (K : Known) (A : Types) (N : Lets) (of_declared : (p : Pattern) (t : Op
   each_after_u (rules.parts_of i v) e = none
 
   -- behind the type of the literal
-  behind_integer : (n : Node) (m : Bool) (v : ℕ) (k : Option Kind) → U (asks n broken.Literal (is_open k) (fact.Integer n.number (fitting m v) ∷ []) >> rules.value_at n)
-  behind_integer n m v k = then_u (asked n _ _ _) (value_u n n.site)
+  behind_integer : (n : Node) (m : Bool) (v : ℕ) (k : Option Kind) → U (rules.value_at n >> asks n broken.Literal (is_open k) (fact.Integer n.number (fitting m v) ∷ []))
+  behind_integer n m v k = then_u (value_u n n.site) (asked n _ _ _)
 
   integer_u : (n : Node) (m : Bool) (v : ℕ) (k : Option Kind) → U (rules.integer_at n m v k)
   integer_u n m v k = then_u (asked n _ _ _) (behind_integer n m v k)

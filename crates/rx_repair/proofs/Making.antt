@@ -17,9 +17,9 @@ use Rattle.rx_lower_walks.specs.Walks.{Among, here, there}
 use Rattle.rx_lower_walks.specs.Pieces.{Scope, Variable, Looped, left, graph}
 use Rattle.rx_lower_walks.specs.Text.{ending_all, in_text, text, actions_of, Sublist}
 use Rattle.rx_lower_walks.specs.Text as texts
-use Rattle.rx_lower_lifetimes.specs.Values.{Known, Held, same, is_held, held_type, open_unit, type_in, made_type, value_type, hold, held_by}
+use Rattle.rx_lower_lifetimes.specs.Values.{KnownTypes, Held, same, is_held, held_type, open_unit, type_in, made_type, value_type, hold, held_by}
 use Rattle.rx_typeck_solver.specs.Facts as facts
-use Rattle.rx_typeck_solver.specs.Facts.{Types}
+use Rattle.rx_typeck_solver.specs.Facts.{Assignment}
 use Rattle.rx_typeck_solver.specs.declared.facts.Subject.TheVariants as subject
 use Rattle.rx_repair.proofs.Places.{along}
 use Rattle.rx_repair.proofs.Settling.{NoItem}
@@ -71,7 +71,7 @@ one_of P (b ∷ us) h a (there i) = one_of P us h.1 a i
 abbrev pub IsOf : Typ → RegionTyp → Type 0
 IsOf t r = (i : ℕ) → t ≡ types.named i → erased r ≡ types.named i
 
-module _ (K : Known) (U : Temporary → Typ) where
+module _ (K : KnownTypes) (U : Temporary → Typ) where
   abbrev HeldAs : List Held → Type 0
   HeldAs [] = Unit {0}
   HeldAs (h ∷ hs) = IsOf (U h.temporary) h.typ × HeldAs hs
@@ -116,7 +116,7 @@ module _ (K : Known) (U : Temporary → Typ) where
 
 -- ---- what an action makes
 
-module _ (S : facts.Known) (A : Types) (U : Temporary → Typ) (K : Known) (declared : declarations K.items ≡ S.items) (variables : (x : ℕ) → erased (get_or K.variables x open_unit).typ ≡ A (subject.Variable x)) where
+module _ (S : facts.KnownItems) (A : Assignment) (U : Temporary → Typ) (K : KnownTypes) (declared : declarations K.items ≡ S.items) (variables : (x : ℕ) → erased (get_or K.variables x open_unit).typ ≡ A (subject.Variable x)) where
   no_item_is : (t : Typ) (r : RegionTyp) → NoItem t → IsOf t r
   no_item_is t r h i e = absurd (subst NoItem e h)
 

@@ -13,7 +13,7 @@ use Rattle.rx_lower_walks.specs.Actions.{Act, Declare, Dead, Read, Write, Borrow
 use Rattle.rx_typed.specs.Renaming.{instance}
 use Rattle.rx_typed.specs.Places as places
 use Rattle.rx_typed.specs.Places.{fields_of, part_at, item_behind, behind, place_type}
-use Rattle.rx_lower_lifetimes.specs.Values.{Open, Known, Held, lifetimes_of, root_type, made_item, made_type, result_type, value_type, hold, held_by, held_type}
+use Rattle.rx_lower_lifetimes.specs.Values.{Open, KnownTypes, Held, lifetimes_of, root_type, made_item, made_type, result_type, value_type, hold, held_by, held_type}
 use Rattle.rx_lower_lifetimes.specs.Positions.{own_lifetimes}
 use Rattle.rx_lower_lifetimes.specs.Lowered.{parameters}
 use Rattle.rx_typed_declarations.specs.Variance.{variances_recorded}
@@ -139,7 +139,7 @@ module _ (bs : List Bound) where
     made_same (struct n) ts = made_item_same n
     made_same (variant_of n v) ts = made_item_same n
 
-    abbrev knowing : List Decl → List Open → Known
+    abbrev knowing : List Decl → List Open → KnownTypes
     knowing D V = record { items = D; variables = V }
 
     value_same : (V : List Open) (H : List Held) (a : Act) → value_type (knowing other V) H a ≡ value_type (knowing D V) H a

@@ -11,8 +11,8 @@ use Rattle.rx_tree.specs.declared.tree.Ident.{Ident}
 use Rattle.rx_tree.specs.Lists.{nth, Every}
 use Rattle.rx_tree.specs.Plain as plain
 use Rattle.rx_tree.specs.Plain.{ItemTree, ProgramTree}
-use Rattle.rx_resolve_names.specs.declared.table.Known.{Known}
-use Rattle.rx_resolve_names.specs.Scopes.{Declared, declared_as}
+use Rattle.rx_resolve_names.specs.declared.table.NumberedName.{NumberedName}
+use Rattle.rx_resolve_names.specs.Scopes.{DeclaredNames, declared_as}
 use Rattle.rx_resolve_names.specs.declared.resolved.ItemNames.{ItemNames}
 use Rattle.rx_resolve_names.specs.Meant.{number, firsts, lifetimes_declared}
 use Rattle.rx_resolve_names.specs.Steps.{Outcome, and_then, Inside, both, declare, declared_behind}
@@ -31,16 +31,16 @@ read_both m n l e = let a = read_ok m (λ ns. and_then n (λ ms. Ok (ns ++ ms)))
 abbrev names : List BoundLifetime → Names
 names ls = map (λ (l : BoundLifetime). l.name.name) ls
 
-abbrev Apart : Declared → List BoundLifetime → Type 0
+abbrev Apart : DeclaredNames → List BoundLifetime → Type 0
 Apart ds ls = Every (λ (l : BoundLifetime). declared_as ds l.name.name ≡ None) ls
 
 none_some : {A : Type 0} (a : A) → ◌≡◌ {A = Option A} (Some a) None → ⊥
 none_some a e = cc
 
-split_last : (ds : Declared) (k : List ℕ × Known) (x : List ℕ) → declared_as (ds ++ k ∷ []) x ≡ None → (declared_as ds x ≡ None) × (bytes_eq x k.0 ≡ false)
+split_last : (ds : DeclaredNames) (k : List ℕ × NumberedName) (x : List ℕ) → declared_as (ds ++ k ∷ []) x ≡ None → (declared_as ds x ≡ None) × (bytes_eq x k.0 ≡ false)
 split_last [] k x e = by (bytes_eq x k.0) e
   where
-    by : (b : Bool) → (if b then Some k.1 else None) ≡ None → (◌≡◌ {A = Option Known} None None) × (b ≡ false)
+    by : (b : Bool) → (if b then Some k.1 else None) ≡ None → (◌≡◌ {A = Option NumberedName} None None) × (b ≡ false)
     by true h = absurd (none_some k.1 h)
     by false h = (refl, refl)
 split_last (d ∷ ds) k x e = by (bytes_eq x d.0) e (split_last ds k x)
@@ -54,23 +54,23 @@ sides : (x y : List ℕ) → bytes_eq x y ≡ bytes_eq y x
 sides x y = same_from_decides (bytes_eq x y) (bytes_eq y x) (bytes_eq-Decides x y)
     ((λ e. sym ((bytes_eq-Decides y x).0 e)), (λ e. (bytes_eq-Decides y x).1 (sym e)))
 
-all_front : (ds : Declared) (k : List ℕ × Known) (ls : List BoundLifetime) → Apart (ds ++ k ∷ []) ls → Apart ds ls
+all_front : (ds : DeclaredNames) (k : List ℕ × NumberedName) (ls : List BoundLifetime) → Apart (ds ++ k ∷ []) ls → Apart ds ls
 all_front ds k [] h = tt
 all_front ds k (l ∷ ls) h = ((split_last ds k l.name.name h.0).0, all_front ds k ls h.1)
 
-none_same : (ds : Declared) (k : List ℕ × Known) (ls : List BoundLifetime) → Apart (ds ++ k ∷ []) ls → is_among k.0 (names ls) ≡ false
+none_same : (ds : DeclaredNames) (k : List ℕ × NumberedName) (ls : List BoundLifetime) → Apart (ds ++ k ∷ []) ls → is_among k.0 (names ls) ≡ false
 none_same ds k [] h = refl
 none_same ds k (l ∷ ls) h = or_from (bytes_eq k.0 l.name.name) (is_among k.0 (names ls)) (sides k.0 l.name.name ∙ (split_last ds k l.name.name h.0).1) (none_same ds k ls h.1)
 
-declared_new : (ds : Declared) (x : Ident) (n : ℕ) (es : Declared) → declare ds x n ≡ Ok es → (k : Known) × (declared_as ds x.name ≡ None) × (es ≡ ds ++ (x.name, k) ∷ [])
+declared_new : (ds : DeclaredNames) (x : Ident) (n : ℕ) (es : DeclaredNames) → declare ds x n ≡ Ok es → (k : NumberedName) × (declared_as ds x.name ≡ None) × (es ≡ ds ++ (x.name, k) ∷ [])
 declared_new ds x n es e = by (declared_as ds x.name) e
   where
-    by : (o : Option Known) → declared_behind ds x n o ≡ Ok es → (k : Known) × (o ≡ None) × (es ≡ ds ++ (x.name, k) ∷ [])
+    by : (o : Option NumberedName) → declared_behind ds x n o ≡ Ok es → (k : NumberedName) × (o ≡ None) × (es ≡ ds ++ (x.name, k) ∷ [])
     by None h = (record { number = number n; span = x.span }, refl, cc)
     by (Some k) h = absurd (cc)
 
 module _ (I : Inside) where
-  declared_apart : (ds : Declared) (n : ℕ) (ls : List BoundLifetime) (ns : List ℕ) → lifetimes_of I ds n ls ≡ Ok ns → Apart ds ls × Distinct (names ls)
+  declared_apart : (ds : DeclaredNames) (n : ℕ) (ls : List BoundLifetime) (ns : List ℕ) → lifetimes_of I ds n ls ≡ Ok ns → Apart ds ls × Distinct (names ls)
   declared_apart ds n [] ns e = (tt, tt)
   declared_apart ds n (l ∷ ls) ns e =
       let a = read_ok (declare ds l.name n) (λ es. both (bounds_in I l.bounds) (lifetimes_of I es (suc n) ls)) ns e in

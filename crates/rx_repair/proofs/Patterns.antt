@@ -23,7 +23,7 @@ use Rattle.rx_typeck_solver.specs.declared.facts.Subject.{Subject}
 use Rattle.rx_typeck_solver.specs.declared.facts.Subject.TheVariants as subject
 use Rattle.rx_typeck_solver.specs.declared.facts.Test.TheVariants as test
 use Rattle.rx_typeck_solver.specs.declared.facts.Passing.{Passing as Gone}
-use Rattle.rx_typeck_solver.specs.Facts.{Types, Known, passed, gone_through, bound, is_item}
+use Rattle.rx_typeck_solver.specs.Facts.{Assignment, KnownItems, passed, gone_through, bound, is_item}
 use Rattle.rx_typeck_typed.specs.Asking.{Asking}
 use Rattle.rx_typeck_typed.specs.Demands as rules
 use Rattle.rx_repair.specs.TemporaryTypes as given_types
@@ -63,7 +63,7 @@ module _ (Q : Act → Type 0) where
   Holds (order.ending n x s) = Holds s
   Holds (order.passes l s) = Holds s
 
-module _ (K : Known) (A : Types) (U : Temporary → Typ) where
+module _ (K : KnownItems) (A : Assignment) (U : Temporary → Typ) where
   abbrev pub V : ℕ → Typ
   V x = A (subject.Variable x)
 

@@ -17,7 +17,7 @@ use Rattle.rx_typeck_solver.specs.declared.facts.Passing.{Passing as Gone}
 use Rattle.rx_typeck_solver.specs.declared.facts.Fact.{Fact}
 use Rattle.rx_typeck_solver.specs.declared.facts.Fact.TheVariants as fact
 use Rattle.rx_typeck_solver.specs.declared.facts.Kinds.{Kinds}
-use Rattle.rx_typeck_solver.specs.Facts.{MeetsAll, Types, Known, coerced, AnInteger, types_at}
+use Rattle.rx_typeck_solver.specs.Facts.{MeetsAll, Assignment, KnownItems, coerced, AnInteger, types_at}
 use Rattle.rx_typeck_typed.specs.Asking.{Asking, when, type_of, all, signed}
 use Rattle.rx_typeck_typed.specs.Demands as rules
 use Rattle.rx_repair.specs.TemporaryTypes.{at_site}
@@ -25,7 +25,7 @@ use Rattle.rx_repair.proofs.Asking.{Asks, NoPlace, asks_map, none, both, then_fi
 use Rattle.rx_repair.proofs.Places.{some_same, fixed_same}
 use Rattle.rx_repair.proofs.Settling.{NoItem, NotLent, Passing, Settles, site_coercion, settled, Before, After}
 
-module _ (K : Known) (A : Types) where
+module _ (K : KnownItems) (A : Assignment) where
   abbrev pub T : Assigned
   T = record { items = K.items; typ = λ n. A (subject.Node n); expected = λ n. A (subject.Expected n) }
 
@@ -55,7 +55,7 @@ module _ (K : Known) (A : Types) where
 
   -- ---- sites
 
-  fits_given : (n : Node) → Wants (coerced (own n) (wished n) ≡ own n) (rules.fits n)
+  fits_given : (n : Node) → Wants (coerced (own n) (wished n) ≡ own n) (rules.coerces n)
   fits_given n = asks_map (λ h. some_same _ _ h.0) (one_asked n _ _ _)
 
   own_wished : (n : Node) → Wants (wished n ≡ own n) (rules.expects_own n)
@@ -140,7 +140,7 @@ module _ (K : Known) (A : Types) where
   integer_plain n s h k = plain_if n (integer h.0) (record { same = h.1; outside = k.0; stands = k.1 }) tt tt
 
   pub integer_given : (n : Node) (m : Bool) (v : ℕ) (k : Option Kind) → Wants (Plain n) (rules.integer_at n m v k)
-  integer_given n m v k = asks_map (λ h. integer_plain n _ h.0.0 h.1) (both (one_asked n _ _ _) (then_second (quiet n _ _ _) (value_given n n.site)))
+  integer_given n m v k = asks_map (λ h. integer_plain n _ h.0.0 h.1) (both (one_asked n _ _ _) (then_first (value_given n n.site) (quiet n _ _ _)))
 
   truth_plain : (n : Node) → Has n boolean → Plain n
   truth_plain n h = plain_if n boolean h tt tt

@@ -51,7 +51,7 @@ use Rattle.rx_typeck_typed.specs.Bindings.{lifetimes as let_lifetimes}
 use Rattle.rx_typeck_typed.specs.Walks.{plain-Variable}
 use Rattle.rx_typeck_solver.specs.declared.facts.Subject.TheVariants as subject
 use Rattle.rx_typeck_solver.specs.Facts as facts
-use Rattle.rx_typeck_solver.specs.Facts.{Types, MeetsEach}
+use Rattle.rx_typeck_solver.specs.Facts.{Assignment, MeetsEach}
 use Rattle.rx_typeck_typed.specs.Demands as rules
 use Rattle.rx_typeck_typed.specs.declared.typed.Typed.{Typed}
 use Rattle.rx_typeck_typed.specs.declared.typed.TypedFn.{TypedFn}
@@ -127,7 +127,7 @@ module _ (V : ℕ → Typ) where
       by true q s k = ap erased (sym (some_same (region-Ty a.ty) t s)) ∙ (h.0 ∙ ap V (eqb-true a.variable x q))
       by false q s k = k s
 
-param_is : (K : facts.Known) (A : Types) (xs : List Parameter) (ts : List Ty) → AgreeAs xs (map plain-Ty ts) → Every (Taken K A) xs → (x : ℕ) (t : Ty) → parameter_type (elaborated.parameters xs) ts x ≡ Some t → plain-Ty t ≡ A (subject.Variable x)
+param_is : (K : facts.KnownItems) (A : Assignment) (xs : List Parameter) (ts : List Ty) → AgreeAs xs (map plain-Ty ts) → Every (Taken K A) xs → (x : ℕ) (t : Ty) → parameter_type (elaborated.parameters xs) ts x ≡ Some t → plain-Ty t ≡ A (subject.Variable x)
 param_is K A [] ts h g x t e = absurd (no_param ts e)
   where
     no_param : (ts : List Ty) → parameter_type [] ts x ≡ Some t → ⊥
@@ -269,7 +269,7 @@ module _ (p : ProgramTree) (ns : List ItemNames) (t : Typed) (typed : IsTyped p 
   abbrev G : Given
   G = record { program = p; declared = typed.declared; sizes = typed.sizes }
 
-  abbrev K : facts.Known
+  abbrev K : facts.KnownItems
   K = known_in G
 
   abbrev D : List Decl
@@ -290,7 +290,7 @@ module _ (p : ProgramTree) (ns : List ItemNames) (t : Typed) (typed : IsTyped p 
   abbrev F : Function
   F = function_named Item S.span S.text Names
 
-  abbrev A : Types
+  abbrev A : Assignment
   A = S.typed.types
 
   abbrev V : ℕ → Typ

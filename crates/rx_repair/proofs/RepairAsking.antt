@@ -15,7 +15,7 @@ use Rattle.rx_typed.specs.Places.{part_at}
 use Rattle.rx_lower_lifetimes.specs.Numbered.{Own, none, region, signed}
 use Rattle.rx_lower_lifetimes.specs.Lowered.{Lifetimes}
 use Rattle.rx_region.specs.Constraints.{Context, held, flows, parts_flow, parameters_flow, made_parts, signature_asks, asks, all_ask, is_among, formed, imposed}
-use Rattle.rx_region.specs.Known.{Known, itself, by, parameters_ask, told, Missing}
+use Rattle.rx_region.specs.Known.{KnownToOutlive, itself, by, parameters_ask, told, Missing}
 use Rattle.rx_region.specs.Solutions.{Point, Least, whole, ends, live, longer}
 use Rattle.rx_check.specs.Contexts.{AreAsked}
 
@@ -119,7 +119,7 @@ module _ (D : List Decl) (P Q : ℕ → List Bound) (asked : AreAsked D P) (othe
     least_alike g l x (live r is there) = live r is there
     least_alike g l x (longer k pair h) = longer k (imposed_within (actions_of g) l k pair) (least_alike g k x h)
 
-    known_alike : (l k : ℕ) → Known first l k → Known second l k
+    known_alike : (l k : ℕ) → KnownToOutlive first l k → KnownToOutlive second l k
     known_alike l k itself = itself
     known_alike l k (by m pair h) = by m (told_within l m pair) (known_alike m k h)
 

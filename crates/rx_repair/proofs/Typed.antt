@@ -31,7 +31,7 @@ use Rattle.rx_lower.specs.Functions.{trimmed, trimmed_and, written, function}
 use Rattle.rx_region.specs.Constraints.{Context, held, temporary_type, variables_of, lifetimes_of}
 use Rattle.rx_typeck_solver.specs.declared.facts.Subject.{Subject}
 use Rattle.rx_typeck_solver.specs.declared.facts.Subject.TheVariants as subject
-use Rattle.rx_typeck_solver.specs.Facts.{Types, Known}
+use Rattle.rx_typeck_solver.specs.Facts.{Assignment, KnownItems}
 use Rattle.rx_typeck_elaborate_parts.specs.Assigning.{joined}
 use Rattle.rx_typeck_typed.specs.Programs.{Declares}
 use Rattle.rx_typeck_typed.specs.declared.variables.AnnotatedVariable.{AnnotatedVariable}
@@ -52,7 +52,7 @@ use Rattle.rx_repair.proofs.LetTypes.{PairsHave, all_count, lets_have}
 
 -- ---- the types that are found
 
-may_have : (K : Known) (F : Function) (A : Types) (x : Subject) (o : Option Ty) → TypeIs K F A x o → MayHave K.items o
+may_have : (K : KnownItems) (F : Function) (A : Assignment) (x : Subject) (o : Option Ty) → TypeIs K F A x o → MayHave K.items o
 may_have K F A x None h = tt
 may_have K F A x (Some t) h = subst (λ (u : RegionTyp). HasAll K.items u) (sym h.1) (unnumbered_has K.items (A x))
 

@@ -18,11 +18,11 @@ use Rattle.rx_region_outlives.specs.Implied.{HasPair}
 use Rattle.rx_region.specs.Constraints.{Context, root_type, imposed}
 use Rattle.rx_region.specs.Solutions.{Point, site, end, Sets, Solution, Least}
 use Rattle.rx_region.specs.Solutions as solutions
-use Rattle.rx_region.specs.Known.{told, Known, Missing}
+use Rattle.rx_region.specs.Known.{told, KnownToOutlive, Missing}
 use Rattle.rx_region.specs.Known as knowing
 use Rattle.rx_region.specs.Tables.{Follows, itself, by}
 use Rattle.rx_loan.specs.Accesses.{Loan, acts_against}
-use Rattle.rx_loan.specs.Loans.{loan_at, loans_from, loans_of, ends_at, InScope, Meets, IsLegal}
+use Rattle.rx_loan.specs.Loans.{loan_at, loans_from, loans_of, ends_at, InScope, MeetsLoan, IsLegal}
 use Rattle.rx_loan.specs.Accepted.{at_sites, AcceptedBy, IsAccepted}
 use Rattle.rx_repair.specs.LeastBounds.{by_types, IsLeastBound}
 use Rattle.rx_repair.proofs.Renamed.{bounds_moved, bounds_back}
@@ -102,7 +102,7 @@ module _ (f : ℕ → ℕ) (g : List Site) (R : Sets) (ls : List Loan) where
       let a = m.against in
       h (loan_renamed f l) p (record { listed = mapped_among f ls l m.listed; scope = m.scope; against = (a.0, a.1, against_same f a.0.action.act l ∙ a.2) })
 
-  meets_before : (m : Loan) (p : ℕ) → Meets g (at_sites R) (map (loan_renamed f) ls) m p → (l : Loan) × Meets g (at_sites (sets_renamed f R)) ls l p
+  meets_before : (m : Loan) (p : ℕ) → MeetsLoan g (at_sites R) (map (loan_renamed f) ls) m p → (l : Loan) × MeetsLoan g (at_sites (sets_renamed f R)) ls l p
   meets_before m p x =
       let w = was_among f ls m x.listed in
       let y = subst (λ (n : Loan). InScope g (at_sites R) n p × ((s : Site) × (site_at g p ≡ Some s) × (acts_against s.action.act n ≡ true))) w.is (x.scope, x.against) in
@@ -211,17 +211,17 @@ module _ (C : Context) (g : List Site) (fit : Fits C (actions_of g)) (r : Renami
 
   -- ---- what is known
 
-  known_on : (l k : ℕ) → Known C l k → Known (context_renamed r.to C) (r.to l) (r.to k)
+  known_on : (l k : ℕ) → KnownToOutlive C l k → KnownToOutlive (context_renamed r.to C) (r.to l) (r.to k)
   known_on l k knowing.itself = knowing.itself
   known_on l k (knowing.by m pair rest) =
       knowing.by (r.to m) (subst (λ (ds : List Bound). HasPair ds (r.to l) (r.to m)) (sym (all_told r.to C)) (bounds_moved r.to (told C) l m pair)) (known_on m k rest)
 
-  known_back : (l k : ℕ) → Known (context_renamed r.to C) l k → Known C (r.from l) (r.from k)
+  known_back : (l k : ℕ) → KnownToOutlive (context_renamed r.to C) l k → KnownToOutlive C (r.from l) (r.from k)
   known_back l k knowing.itself = knowing.itself
   known_back l k (knowing.by m pair rest) = knowing.by (r.from m) (pair_back C.lifetimes.own r (told C) (told (context_renamed r.to C)) (all_told r.to C) l m pair) (known_back m k rest)
 
-  known_before : (l k : ℕ) → Known (context_renamed r.to C) (r.to l) (r.to k) → Known C l k
-  known_before l k h = as_before C.lifetimes.own r (λ l k. Known C l k) l k (known_back (r.to l) (r.to k) h)
+  known_before : (l k : ℕ) → KnownToOutlive (context_renamed r.to C) (r.to l) (r.to k) → KnownToOutlive C l k
+  known_before l k h = as_before C.lifetimes.own r (λ l k. KnownToOutlive C l k) l k (known_back (r.to l) (r.to k) h)
 
   own_before : (l : ℕ) → r.to l < C.lifetimes.own → l < C.lifetimes.own
   own_before l h = subst (λ (k : ℕ). k < C.lifetimes.own) (r.from_to l) (r.own_from (r.to l) h)
@@ -255,8 +255,8 @@ module _ (C : Context) (g : List Site) (fit : Fits C (actions_of g)) (r : Renami
   accepted_on : (R : Sets) → AcceptedBy C g R → AcceptedBy (context_renamed r.to C) g (sets_renamed r.from R)
   accepted_on R a = record {
     solution = solution_on R a.solution;
-    known = λ l k h i e. subst (λ (z : ℕ). Known (context_renamed r.to C) l z) (r.to_from k)
-        (subst (λ (z : ℕ). Known (context_renamed r.to C) z (r.to (r.from k))) (r.to_from l) (known_on (r.from l) (r.from k) (a.known (r.from l) (r.from k) (r.own_from l h) (r.own_from k i) e)));
+    known = λ l k h i e. subst (λ (z : ℕ). KnownToOutlive (context_renamed r.to C) l z) (r.to_from k)
+        (subst (λ (z : ℕ). KnownToOutlive (context_renamed r.to C) z (r.to (r.from k))) (r.to_from l) (known_on (r.from l) (r.from k) (a.known (r.from l) (r.from k) (r.own_from l h) (r.own_from k i) e)));
     legal = subst (λ (ls : List Loan). IsLegal g (at_sites (sets_renamed r.from R)) ls) (sym (loans_same r.to g C.lifetimes.owned))
         (legal_after r.to g (sets_renamed r.from R) (loans_of g C.lifetimes.owned)
         (subst (λ (S : Sets). IsLegal g (at_sites S) (loans_of g C.lifetimes.owned)) (sym (sets_back C.lifetimes.own r R)) a.legal));

@@ -25,7 +25,7 @@ use Rattle.rx_typeck_typed.specs.Steps.{Outcome, Reading, on_ok}
 use Rattle.rx_typeck_typed.specs.Written.{elided, as_many, all_elided, listed, lifetimes_at, lifetimes_of, pointing, type_of, types_of}
 use Rattle.rx_typeck_typed.specs.Items.{entry_of, bounded, one_each, parameters_of}
 use Rattle.rx_typeck_solver.specs.declared.facts.Subject.TheVariants as subject
-use Rattle.rx_typeck_solver.specs.Facts.{Types, Known, types_at}
+use Rattle.rx_typeck_solver.specs.Facts.{Assignment, KnownItems, types_at}
 use Rattle.rx_typeck_typed.specs.Asking.{Asking}
 use Rattle.rx_typeck_typed.specs.Demands as rules
 use Rattle.rx_repair.proofs.Asking.{Asks, asks_map, none, both, then_first, then_second, one_asked, quiet, lifetimes_u}
@@ -46,7 +46,7 @@ abbrev mutual
 
 -- ---- what the rules give
 
-module _ (K : Known) (A : Types) where
+module _ (K : KnownItems) (A : Assignment) where
   abbrev Wants : Type 0 → Asking → Type 0
   Wants R a = Asks K A R a
 

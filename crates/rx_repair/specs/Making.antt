@@ -5,7 +5,7 @@ use Rattle.rx_typed.specs.Types.{Typ, named}
 use Rattle.rx_typed.specs.Tree.{Temporary, Making, struct, variant_of}
 use Rattle.rx_lower_walks.specs.Actions.{Act, Build, Action, does, filled}
 use Rattle.rx_lower_walks.specs.Walks.{Among}
-use Rattle.rx_lower_lifetimes.specs.Values.{Known, Held, value_type, held_by}
+use Rattle.rx_lower_lifetimes.specs.Values.{KnownTypes, Held, value_type, held_by}
 use Rattle.rx_region.specs.Constraints.{Context, held}
 
 -- what gets a struct or enum that is made has its type
@@ -30,7 +30,7 @@ HeldAs T [] = Unit {0}
 HeldAs T (h ∷ hs) = (erased h.typ ≡ T h.temporary) × HeldAs T hs
 
 -- each action makes a value of the type of the temporary that it fills, where those that were filled before have theirs
-abbrev pub ValuesAre : Known → (Temporary → Typ) → List Action → Type 0
+abbrev pub ValuesAre : KnownTypes → (Temporary → Typ) → List Action → Type 0
 ValuesAre K T us = (before after : List Action) (a : Action) (d : Temporary) → us ≡ before ++ a ∷ after → filled a.act ≡ Some d
     → HeldAs T (held_by K [] before) → erased (value_type K (held_by K [] before) a.act) ≡ T d
 

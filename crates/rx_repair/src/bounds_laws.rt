@@ -22,7 +22,7 @@ ghost use Rattle.rx_region.specs.Solutions.{Point, Sets, Solution, Least, AreLea
 ghost use Rattle.rx_region.specs.Known.{Missing};
 ghost use Rattle.rx_region.specs.Tables.{Follows};
 ghost use Rattle.rx_loan.specs.Accesses.{Loan};
-ghost use Rattle.rx_loan.specs.Loans.{loans_of, InScope, Meets, IsLegal};
+ghost use Rattle.rx_loan.specs.Loans.{loans_of, InScope, MeetsLoan, IsLegal};
 ghost use Rattle.rx_loan.specs.Accepted.{at_sites};
 ghost use Rattle.rx_facts.specs.Functions.{sites_of};
 ghost use Rattle.rx_check.specs.Contexts.{AreAsked, context_of};
@@ -79,7 +79,7 @@ pub fn accepted_where_least_bounds_follow()
         → AreLeast (context_of D P f) (sites_of f) R → IsLegal (sites_of f) (at_sites R) (loans_of (sites_of f) (context_of D P f).lifetimes.owned)
         → Borrows (with_bounds D f.item bs) P f ↔ ((l k : ℕ) → IsLeastBound (context_of D P f) (sites_of f) l k → Follows (bs ++ by_types (context_of D P f)) l k) }
     ensures refused { (D : List Decl) (P : ℕ → List Bound) (f : TypedFn) (bs : List Bound) (R : Sets) → CallsNotItself f
-        → AreLeast (context_of D P f) (sites_of f) R → (l : Loan) (p : ℕ) → Meets (sites_of f) (at_sites R) (loans_of (sites_of f) (context_of D P f).lifetimes.owned) l p
+        → AreLeast (context_of D P f) (sites_of f) R → (l : Loan) (p : ℕ) → MeetsLoan (sites_of f) (at_sites R) (loans_of (sites_of f) (context_of D P f).lifetimes.owned) l p
         → Borrows (with_bounds D f.item bs) P f → ⊥ }
     ensures fewest { (D : List Decl) (P : ℕ → List Bound) (f : TypedFn) (bs least : List Bound) → CallsNotItself f → IsFunction (slice_get D f.item)
         → AreLeastBounds (context_of D P f) (sites_of f) least → Borrows (with_bounds D f.item bs) P f → Borrows (with_bounds D f.item least) P f }

@@ -10,8 +10,8 @@ use Rattle.rx_tree.specs.declared.tree.EnumVariant.{EnumVariant}
 use Rattle.rx_tree.specs.declared.tree.BoundLifetime.{BoundLifetime}
 use Rattle.rx_tree.specs.PlainOf.{plain-EnumVariant}
 use Rattle.rx_tree.specs.Plain.{ItemTree, ProgramTree, VariantOf}
-use Rattle.rx_resolve_names.specs.declared.table.Known.{Known}
-use Rattle.rx_resolve_names.specs.Scopes.{Declared, declared_as}
+use Rattle.rx_resolve_names.specs.declared.table.NumberedName.{NumberedName}
+use Rattle.rx_resolve_names.specs.Scopes.{DeclaredNames, declared_as}
 use Rattle.rx_resolve_names.specs.Meant.{number, item_named, has_name, kept, variant_names, variants_of, as_function}
 use Rattle.rx_resolve.specs.Tables.{kept_in, names_from}
 
@@ -19,7 +19,7 @@ abbrev or : {A : Type 0} → Option A → Option A → Option A
 or None b = b
 or (Some a) b = Some a
 
-declared_push : (ds : Declared) (d : List ℕ × Known) (x : List ℕ) → declared_as (ds ++ d ∷ []) x ≡ or (declared_as ds x) (cond (bytes_eq x d.0) (Some d.1) None)
+declared_push : (ds : DeclaredNames) (d : List ℕ × NumberedName) (x : List ℕ) → declared_as (ds ++ d ∷ []) x ≡ or (declared_as ds x) (cond (bytes_eq x d.0) (Some d.1) None)
 declared_push [] d x = refl
 declared_push (e ∷ ds) d x = by (bytes_eq x e.0) (declared_push ds d x)
   where
@@ -33,13 +33,13 @@ abbrev numbered : Option (ℕ × ItemTree) → Option ℕ
 numbered None = None
 numbered (Some e) = Some (number e.0)
 
-abbrev number_of : Option Known → Option ℕ
+abbrev number_of : Option NumberedName → Option ℕ
 number_of None = None
 number_of (Some k) = Some k.number
 
 module _ (name : ItemTree → Option Ident) (x : List ℕ) where
   -- one more item in a table
-  one_more : (ds : Declared) (n : ℕ) (y : Option Ident) → number_of (declared_as (kept_in ds n y) x) ≡ or (number_of (declared_as ds x)) (cond (has_name x y) (Some (number n)) None)
+  one_more : (ds : DeclaredNames) (n : ℕ) (y : Option Ident) → number_of (declared_as (kept_in ds n y) x) ≡ or (number_of (declared_as ds x)) (cond (has_name x y) (Some (number n)) None)
   one_more ds n None = by (number_of (declared_as ds x))
     where
       by : (o : Option ℕ) → o ≡ or o None
@@ -50,7 +50,7 @@ module _ (name : ItemTree → Option Ident) (x : List ℕ) where
       after : Option ℕ → Type 0
       after r = r ≡ or (number_of (declared_as ds x)) (cond (bytes_eq x y.name) (Some (number n)) None)
 
-      there : (k : Known) → declared_as ds y.name ≡ Some k → (b : Bool) → bytes_eq x y.name ≡ b → number_of (declared_as ds x) ≡ or (number_of (declared_as ds x)) (cond b (Some (number n)) None)
+      there : (k : NumberedName) → declared_as ds y.name ≡ Some k → (b : Bool) → bytes_eq x y.name ≡ b → number_of (declared_as ds x) ≡ or (number_of (declared_as ds x)) (cond b (Some (number n)) None)
       there k is true same = ap (λ z. number_of (declared_as ds z)) ((bytes_decides x y.name).0 same) ∙ ap number_of is ∙ sym (ap (λ o. or o (Some (number n))) (ap (λ z. number_of (declared_as ds z)) ((bytes_decides x y.name).0 same) ∙ ap number_of is))
       there k is false same = of (number_of (declared_as ds x))
         where
@@ -58,12 +58,12 @@ module _ (name : ItemTree → Option Ident) (x : List ℕ) where
           of None = refl
           of (Some m) = refl
 
-      pushed : (o : Option Known) (b : Bool) → number_of (or o (cond b (Some (record { number = number n; span = y.span })) None)) ≡ or (number_of o) (cond b (Some (number n)) None)
+      pushed : (o : Option NumberedName) (b : Bool) → number_of (or o (cond b (Some (record { number = number n; span = y.span })) None)) ≡ or (number_of o) (cond b (Some (number n)) None)
       pushed None true = refl
       pushed None false = refl
       pushed (Some k) b = refl
 
-      by : (o : Option Known) → declared_as ds y.name ≡ o → number_of (declared_as (kept ds y n o) x) ≡ or (number_of (declared_as ds x)) (cond (bytes_eq x y.name) (Some (number n)) None)
+      by : (o : Option NumberedName) → declared_as ds y.name ≡ o → number_of (declared_as (kept ds y n o) x) ≡ or (number_of (declared_as ds x)) (cond (bytes_eq x y.name) (Some (number n)) None)
       by None is = ap number_of (declared_push ds (y.name, record { number = number n; span = y.span }) x) ∙ pushed (declared_as ds x) (bytes_eq x y.name)
       by (Some k) is = there k is (bytes_eq x y.name) refl
 
@@ -76,7 +76,7 @@ module _ (name : ItemTree → Option Ident) (x : List ℕ) where
   chosen true e o = refl
   chosen false e o = refl
 
-  found_from : (ds : Declared) (n : ℕ) (is : ProgramTree) → number_of (declared_as (names_from name ds n is) x) ≡ or (number_of (declared_as ds x)) (numbered (item_named name n is x))
+  found_from : (ds : DeclaredNames) (n : ℕ) (is : ProgramTree) → number_of (declared_as (names_from name ds n is) x) ≡ or (number_of (declared_as ds x)) (numbered (item_named name n is x))
   found_from ds n [] = by (number_of (declared_as ds x))
     where
       by : (o : Option ℕ) → o ≡ or o None
@@ -105,7 +105,7 @@ module _ (name : ItemTree → Option Ident) (x : List ℕ) where
       by false e q rest = let r = rest q in (suc r.0, r.1 ∙ omega arith, r.2)
 
   module _ (p : ProgramTree) (small : length p < 2 ^ 32) where
-    abbrev table : Declared
+    abbrev table : DeclaredNames
     table = names_from name [] 0 p
 
     agrees : number_of (declared_as table x) ≡ numbered (item_named name 0 p x)
@@ -118,7 +118,7 @@ module _ (name : ItemTree → Option Ident) (x : List ℕ) where
         by None h = refl
         by (Some e) h = absurd (true≢false (ap is_none h))
 
-    pub found_some : (k : Known) → declared_as table x ≡ Some k → (i : ItemTree) × (item_named name 0 p x ≡ Some (k.number, i)) × (slice_get p k.number ≡ Some i)
+    pub found_some : (k : NumberedName) → declared_as table x ≡ Some k → (i : ItemTree) × (item_named name 0 p x ≡ Some (k.number, i)) × (slice_get p k.number ≡ Some i)
     found_some k h = by (item_named name 0 p x) refl (sym (ap number_of h) ∙ agrees)
       where
         zero_plus : (k : ℕ) → 0 + k ≡ k
@@ -151,29 +151,29 @@ some_is {A = A} a o b h k = ap of (sym h ∙ k)
     of (Some x) = x
 
 -- the code's ways through a table of items
-module _ (name : ItemTree → Option Ident) (items : List Item) (types : Declared) (x : List ℕ) (are : types ≡ names_from name [] 0 (map plain-Item items)) (small : length (map plain-Item items) < 2 ^ 32) where
+module _ (name : ItemTree → Option Ident) (items : List Item) (types : DeclaredNames) (x : List ℕ) (are : types ≡ names_from name [] 0 (map plain-Item items)) (small : length (map plain-Item items) < 2 ^ 32) where
   pub item_absent : declared_as types x ≡ None → item_named name 0 (map plain-Item items) x ≡ None
   item_absent h = found_none name x (map plain-Item items) small (sym (ap (λ t. declared_as t x) are) ∙ h)
 
-  pub item_present : (k : Known) → declared_as types x ≡ Some k → (i : ItemTree) × (item_named name 0 (map plain-Item items) x ≡ Some (k.number, i)) × (slice_get (map plain-Item items) k.number ≡ Some i)
+  pub item_present : (k : NumberedName) → declared_as types x ≡ Some k → (i : ItemTree) × (item_named name 0 (map plain-Item items) x ≡ Some (k.number, i)) × (slice_get (map plain-Item items) k.number ≡ Some i)
   item_present k h = found_some name x (map plain-Item items) small k (sym (ap (λ t. declared_as t x) are) ∙ h)
 
-  pub item_is : (k : Known) (i : Item) → declared_as types x ≡ Some k → slice_get items k.number ≡ Some i → item_named name 0 (map plain-Item items) x ≡ Some (k.number, plain-Item i)
+  pub item_is : (k : NumberedName) (i : Item) → declared_as types x ≡ Some k → slice_get items k.number ≡ Some i → item_named name 0 (map plain-Item items) x ≡ Some (k.number, plain-Item i)
   item_is k i h at = let f = item_present k h in
       f.1 ∙ ap (λ j. Some (k.number, j)) (some_is f.0 (slice_get (map plain-Item items) k.number) (plain-Item i) f.2 (slice_get-mapped plain-Item items k.number (Some i) at))
 
-  pub item_there : (k : Known) → declared_as types x ≡ Some k → slice_get items k.number ≡ None → ⊥
+  pub item_there : (k : NumberedName) → declared_as types x ≡ Some k → slice_get items k.number ≡ None → ⊥
   item_there k h at = let f = item_present k h in true≢false (ap is_none (sym (slice_get-mapped plain-Item items k.number None at) ∙ f.2))
 
-  pub variants_there : (k : Known) → declared_as types x ≡ Some k → slice_get (map variant_names (map plain-Item items)) k.number ≡ None → ⊥
+  pub variants_there : (k : NumberedName) → declared_as types x ≡ Some k → slice_get (map variant_names (map plain-Item items)) k.number ≡ None → ⊥
   variants_there k h at = let f = item_present k h in true≢false (ap is_none (sym at ∙ slice_get-mapped variant_names (map plain-Item items) k.number (Some f.0) f.2))
 
-  pub variants_are_of : (k : Known) (vs : Declared) → declared_as types x ≡ Some k → slice_get (map variant_names (map plain-Item items)) k.number ≡ Some vs
+  pub variants_are_of : (k : NumberedName) (vs : DeclaredNames) → declared_as types x ≡ Some k → slice_get (map variant_names (map plain-Item items)) k.number ≡ Some vs
       → variants_of (item_named name 0 (map plain-Item items) x) ≡ vs
   variants_are_of k vs h at = let f = item_present k h in
       ap variants_of f.1 ∙ some_is (variant_names f.0) _ vs (slice_get-mapped variant_names (map plain-Item items) k.number (Some f.0) f.2) at
 
-  pub function_number : (r : Option Known) → r ≡ declared_as types x → option_map (λ (k : Known). k.number) r ≡ as_function (item_named name 0 (map plain-Item items) x)
+  pub function_number : (r : Option NumberedName) → r ≡ declared_as types x → option_map (λ (k : NumberedName). k.number) r ≡ as_function (item_named name 0 (map plain-Item items) x)
   function_number None h = ap as_function (sym (item_absent (sym h)))
   function_number (Some k) h = ap as_function (sym (item_present k (sym h)).1)
 

@@ -9,7 +9,7 @@ use Rattle.rx_tree.specs.PlainOf.{plain-Stmt, statements_of}
 use Rattle.rx_tree.specs.Lists.{listed}
 use Rattle.rx_tree.proofs.ListsLemmas.{listed-statements_of}
 use Rattle.rx_tree.specs.Plain.{Statement, Statements, Body, OptionalExpression}
-use Rattle.rx_resolve_names.specs.Scopes.{Declared, Variables, Variable, entered, oldest}
+use Rattle.rx_resolve_names.specs.Scopes.{DeclaredNames, Variables, Variable, entered, oldest}
 use Rattle.rx_resolve_names.specs.declared.resolved.ItemNames.{ItemNames}
 use Rattle.rx_resolve_names.specs.declared.resolved.Misnamed.{Misnamed}
 use Rattle.rx_resolve.specs.declared.walk.Walk.{Walk}
@@ -30,7 +30,7 @@ counted : (a b : Variables) → length (a ++ b) ≡ length a + length b
 counted [] b = omega arith
 counted (x ∷ a) b = ap suc (counted a b) ∙ omega arith
 
-entered_extends : (vs : Variables) (ds : Declared) → Extends (entered vs ds) vs
+entered_extends : (vs : Variables) (ds : DeclaredNames) → Extends (entered vs ds) vs
 entered_extends vs [] = ([], refl)
 entered_extends vs (d ∷ ds) =
     let v : Variable = record { name = d.0; number = d.1.number } in
@@ -40,7 +40,7 @@ oldest_extends : (new old : Variables) → Extends new old → oldest (length ol
 unfolding oldest
 oldest_extends new old e = ap (λ (n : Variables). drop (length n - length old) n) e.1 ∙ ap (λ n. drop n (e.0 ++ old)) (ap (λ n. n - length old) (counted e.0 old) ∙ omega arith) ∙ drop-append_seam e.0 old
 
-pub oldest_entered : (vs : Variables) (ds : Declared) → oldest (length vs) (entered vs ds) ≡ vs
+pub oldest_entered : (vs : Variables) (ds : DeclaredNames) → oldest (length vs) (entered vs ds) ≡ vs
 oldest_entered vs ds = oldest_extends (entered vs ds) vs (entered_extends vs ds)
 
 abbrev is_ok : {A B : Type 0} → Result A B → Bool
@@ -90,7 +90,7 @@ module _ (I : Inside) (ls : List Around) where
   oldest_statements sc at i ss t r h = oldest_extends r.scope sc (statements_extend sc at i ss t r h)
 
 -- what was entered is left
-pub bound_left : (w0 w1 w2 : Walk) (ds : Declared) (outer : ℕ) (left : Variables) → outer ≡ length w0.scope → with_scope (entered w0.scope ds) w0 ≡ w1 → w2 ≡ with_tables w2.tables w1
+pub bound_left : (w0 w1 w2 : Walk) (ds : DeclaredNames) (outer : ℕ) (left : Variables) → outer ≡ length w0.scope → with_scope (entered w0.scope ds) w0 ≡ w1 → w2 ≡ with_tables w2.tables w1
     → left ≡ oldest outer w2.scope → with_scope left w2 ≡ with_tables w2.tables w0
 bound_left w0 w1 w2 ds outer left count enter walk leave =
     let scope : w2.scope ≡ entered w0.scope ds = ap (λ (w : Walk). w.scope) walk ∙ sym (ap (λ (w : Walk). w.scope) enter) in

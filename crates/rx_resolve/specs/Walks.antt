@@ -4,7 +4,7 @@ use Rattle.rx_tree.specs.declared.tree.Ident.{Ident}
 use Rattle.rx_tree.specs.declared.tree.Item.{Item}
 use Rattle.rx_tree.specs.Plain.{ItemTree}
 use Rattle.rx_tree.specs.PlainOf.{plain-Item}
-use Rattle.rx_resolve_names.specs.Scopes.{Variables, Declared}
+use Rattle.rx_resolve_names.specs.Scopes.{Variables, DeclaredNames}
 use Rattle.rx_resolve_names.specs.declared.resolved.ItemNames.{ItemNames}
 use Rattle.rx_resolve.specs.declared.walk.Walk.{Walk}
 use Rattle.rx_resolve.specs.declared.walk.Around as code
@@ -54,7 +54,7 @@ Walks outcome old (Ok a) new = (outcome ≡ Ok new.tables) × (new ≡ with_tabl
 Walks outcome old (Err e) new = e ≢ misnamed.OutOfMemory → outcome ≡ Err e
 
 -- the same of a pattern, with what it has declared
-abbrev pub Binds : {A : Type 0} → Outcome Bound → Walk → Result A Misnamed → Walk → Declared → Type 0
+abbrev pub Binds : {A : Type 0} → Outcome Bound → Walk → Result A Misnamed → Walk → DeclaredNames → Type 0
 Binds outcome old (Ok a) new bindings = (outcome ≡ Ok (record { bindings = bindings; tables = new.tables })) × (new ≡ with_tables new.tables old)
 Binds outcome old (Err e) new bindings = e ≢ misnamed.OutOfMemory → outcome ≡ Err e
 
@@ -64,7 +64,7 @@ Scopes outcome old (Ok a) new = (outcome ≡ Ok (record { scope = new.scope; tab
 Scopes outcome old (Err e) new = e ≢ misnamed.OutOfMemory → outcome ≡ Err e
 
 -- the same of a whole pattern, whose bindings are given
-abbrev pub Declares : Outcome Bound → Walk → Result Declared Misnamed → Walk → Type 0
+abbrev pub Declares : Outcome Bound → Walk → Result DeclaredNames Misnamed → Walk → Type 0
 Declares outcome old (Ok bindings) new = (outcome ≡ Ok (record { bindings = bindings; tables = new.tables })) × (new ≡ with_tables new.tables old)
 Declares outcome old (Err e) new = e ≢ misnamed.OutOfMemory → outcome ≡ Err e
 

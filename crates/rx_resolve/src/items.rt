@@ -4,7 +4,7 @@ ghost use Rattle.std.specs.Prelude.{◌≡◌, ◌≢◌, ◌<◌, ◌^◌, [], 
 ghost use Rattle.rx_tree.specs.declared.tree.EnumVariant.{EnumVariant};
 ghost use Rattle.rx_tree.specs.declared.tree.BoundLifetime.{BoundLifetime};
 ghost use Rattle.rx_tree.specs.PlainOf.{plain-Item};
-ghost use Rattle.rx_resolve_names.specs.declared.table.Known.{Known};
+ghost use Rattle.rx_resolve_names.specs.declared.table.NumberedName.{NumberedName};
 ghost use Rattle.rx_resolve_names.specs.Scopes.{declared_as};
 ghost use Rattle.rx_resolve_names.specs.declared.resolved.Misnamed.TheVariants as misnamed;
 ghost use Rattle.rx_resolve_names.specs.Meant as meant;
@@ -13,7 +13,7 @@ ghost use Rattle.rx_resolve_names.specs.Items as items_spec;
 ghost use Rattle.rx_resolve.specs.Tables as tables;
 
 use rx_core::{List, Span};
-use rx_resolve_names::{Known, Misnamed, Table};
+use rx_resolve_names::{Misnamed, NumberedName, Table};
 use rx_tree::{BoundLifetime, EnumVariant, Ident, Item, ItemNode};
 use std::alloc::{AllocError, Global};
 use std::marker::Model;
@@ -49,7 +49,7 @@ fn declare_name<'t>(
 ) -> Result<(), Misnamed>
     ensures { steps.Resolves (steps.declare names.old (record { span = span; name = name.now }) place) result names.new }
 {
-    let known = Known {
+    let known = NumberedName {
         number: number(place),
         span,
     };
@@ -67,7 +67,7 @@ fn declare_name<'t>(
 fn keep_first<'t>(names: &mut Table<'t>, ident: &'t Ident, place: usize) -> Result<(), AllocError>
     ensures { OnOk result (names.new ≡ meant.kept names.old ident.now place (declared_as names.old ident.now.name)) }
 {
-    let known = Known {
+    let known = NumberedName {
         number: number(place),
         span: ident.span,
     };
@@ -111,8 +111,8 @@ fn first_variants<'t>(alloc: Global, variants: &'t [EnumVariant]) -> Result<Tabl
     Ok(names)
 }
 
-fn number_of(known: Option<Known>) -> Option<u32>
-    ensures { result ≡ option_map (λ (k : Known). k.number) known }
+fn number_of(known: Option<NumberedName>) -> Option<u32>
+    ensures { result ≡ option_map (λ (k : NumberedName). k.number) known }
 {
     match known {
         Some(known) => Some(known.number),

@@ -9,8 +9,8 @@ use Rattle.rx_tree.specs.Plain as plain
 use Rattle.rx_tree.specs.Plain.{TypeTree, TypeTrees, PatternTree, PatternTrees, FieldPatterns, Expression, Expressions, OptionalExpression, OptionalExpressions, FieldExpressions, Statement, Statements, FieldOf, VariantOf, Parameter, Function, ItemTree, ProgramTree}
 use Rattle.rx_graph_cycles.specs.Reaches.{FirstOnCycle}
 use Rattle.rx_graph_cycles.proofs.Deciding.{first_on_cycle, on_cycle_within}
-use Rattle.rx_resolve_names.specs.declared.table.Known.{Known}
-use Rattle.rx_resolve_names.specs.Scopes.{Declared, Variables, variable_named, declared_as, entered}
+use Rattle.rx_resolve_names.specs.declared.table.NumberedName.{NumberedName}
+use Rattle.rx_resolve_names.specs.Scopes.{DeclaredNames, Variables, variable_named, declared_as, entered}
 use Rattle.rx_resolve_names.specs.declared.resolved.ItemNames.{ItemNames}
 use Rattle.rx_resolve_names.specs.declared.resolved.Misnamed.{Misnamed}
 use Rattle.rx_resolve_names.specs.declared.resolved.Misnamed.TheVariants as misnamed
@@ -20,7 +20,7 @@ use Rattle.rx_resolve_names.specs.Meant.{number, type_name, function_name, item_
 use Rattle.rx_resolve_names.specs.Steps.{Outcome, and_then, Naming, ◌>>◌, nothing, Inside, known, one, both, declare, declared_behind, led, child, next, with_loop, with_variable, position, entry, with_names, numbered, names}
 use Rattle.rx_resolve_names.specs.Names.{lifetime_in, lifetimes_in, type_in, written, in_lifetime, in_type, in_types, behind, variant_in, struct_in, Bound, Binding, binds, also, in_order, in_pattern, in_patterns, in_field_patterns, pattern_then, callee, rt_span, in_loop, in_optional_type, initialiser_at, Scoped, in_expression, in_expressions, in_optional, in_arguments, in_fields, in_arms, in_block, in_statements, in_statement}
 use Rattle.rx_resolve_names.specs.Items.{distinct, in_declared, in_variants, bounds_in, lifetimes_of, in_parameter, in_parameters, numbers_from, body_at, in_function, in_form, in_item, in_items, Lists, declared_in, apart, in_program}
-use Rattle.rx_resolve_names.specs.Holding.{held_by, held, name_span}
+use Rattle.rx_resolve_names.specs.Holding.{held_by, held_in_tree, name_span}
 use Rattle.rx_resolve_names.specs.Causes.{Meant, Causes}
 
 -- ---- steps without want of memory
@@ -62,10 +62,10 @@ one_clean r h e = then_none r (λ n. Ok (n ∷ [])) h (λ n e. cc) e
 both_clean : (a b : Outcome (List ℕ)) → (a ≡ Err misnamed.OutOfMemory → ⊥) → (b ≡ Err misnamed.OutOfMemory → ⊥) → both a b ≡ Err misnamed.OutOfMemory → ⊥
 both_clean a b h k e = then_none a (λ ns. and_then b (λ ms. Ok (ns ++ ms))) h (λ ns. then_none b (λ ms. Ok (ns ++ ms)) k (λ ms e. cc)) e
 
-declare_clean : (ds : Declared) (x : Ident) (n : ℕ) → declare ds x n ≡ Err misnamed.OutOfMemory → ⊥
+declare_clean : (ds : DeclaredNames) (x : Ident) (n : ℕ) → declare ds x n ≡ Err misnamed.OutOfMemory → ⊥
 declare_clean ds x n = by (declared_as ds x.name)
   where
-    by : (o : Option Known) → declared_behind ds x n o ≡ Err misnamed.OutOfMemory → ⊥
+    by : (o : Option NumberedName) → declared_behind ds x n o ≡ Err misnamed.OutOfMemory → ⊥
     by None e = cc
     by (Some k) e = cc
 
@@ -145,7 +145,7 @@ mutual
   field_patterns_clean I at i plain.no_field_pattern = also_clean nothing nothing_clean
   field_patterns_clean I at i (plain.field_pattern_and x p fs) = order_clean _ _ (pattern_clean I (child at i) p) (field_patterns_clean I at (next i) fs)
 
-pattern_then_clean : (I : Inside) (at : List ℕ) (p : PatternTree) (f : Declared → Naming) → ((ds : Declared) → Clean (f ds)) → Clean (pattern_then I at p f)
+pattern_then_clean : (I : Inside) (at : List ℕ) (p : PatternTree) (f : DeclaredNames → Naming) → ((ds : DeclaredNames) → Clean (f ds)) → Clean (pattern_then I at p f)
 pattern_then_clean I at p f g t e =
     then_none (in_pattern I at p (record { bindings = []; tables = t })) (λ b. f b.bindings b.tables) (pattern_clean I at p (record { bindings = []; tables = t })) (λ b. g b.bindings b.tables) e
 
@@ -242,17 +242,17 @@ mutual
 
 -- ---- items
 
-distinct_clean : (ds : Declared) (n : ℕ) (xs : List Ident) → Clean (distinct ds n xs)
+distinct_clean : (ds : DeclaredNames) (n : ℕ) (xs : List Ident) → Clean (distinct ds n xs)
 distinct_clean ds n [] t e = cc
 distinct_clean ds n (x ∷ xs) t e = then_none (declare ds x n) (λ ds. distinct ds (suc n) xs t) (declare_clean ds x n) (λ ds. distinct_clean ds (suc n) xs t) e
 
-declared_clean : (I : Inside) (at : List ℕ) (ds : Declared) (i : ℕ) (fs : List FieldOf) → Clean (in_declared I at ds i fs)
+declared_clean : (I : Inside) (at : List ℕ) (ds : DeclaredNames) (i : ℕ) (fs : List FieldOf) → Clean (in_declared I at ds i fs)
 declared_clean I at ds i [] t e = cc
 declared_clean I at ds i (f ∷ fs) t e =
     then_none (declare ds f.name i) (λ ds. (in_type I (child at i) f.typ >> in_declared I at ds (next i) fs) t) (declare_clean ds f.name i)
     (λ ds. then_clean (in_type I (child at i) f.typ) (in_declared I at ds (next i) fs) (type_clean I (child at i) f.typ) (declared_clean I at ds (next i) fs) t) e
 
-variants_clean : (I : Inside) (at : List ℕ) (ds : Declared) (n i : ℕ) (vs : List VariantOf) → Clean (in_variants I at ds n i vs)
+variants_clean : (I : Inside) (at : List ℕ) (ds : DeclaredNames) (n i : ℕ) (vs : List VariantOf) → Clean (in_variants I at ds n i vs)
 variants_clean I at ds n i [] t e = cc
 variants_clean I at ds n i (v ∷ vs) t e =
     then_none (declare ds v.name n) (λ ds. (in_types I at i v.types >> in_variants I at ds (suc n) (behind i v.types) vs) t) (declare_clean ds v.name n)
@@ -262,7 +262,7 @@ bounds_clean : (I : Inside) (ls : List Ident) → bounds_in I ls ≡ Err misname
 bounds_clean I [] e = cc
 bounds_clean I (l ∷ ls) e = both_clean (one (lifetime_in I l)) (bounds_in I ls) (one_clean (lifetime_in I l) (known_clean (number_in I.lifetimes l.name) l.span)) (bounds_clean I ls) e
 
-lifetimes_clean : (I : Inside) (ds : Declared) (n : ℕ) (ls : List BoundLifetime) → lifetimes_of I ds n ls ≡ Err misnamed.OutOfMemory → ⊥
+lifetimes_clean : (I : Inside) (ds : DeclaredNames) (n : ℕ) (ls : List BoundLifetime) → lifetimes_of I ds n ls ≡ Err misnamed.OutOfMemory → ⊥
 lifetimes_clean I ds n [] e = cc
 lifetimes_clean I ds n (l ∷ ls) e =
     then_none (declare ds l.name n) (λ ds. both (bounds_in I l.bounds) (lifetimes_of I ds (suc n) ls)) (declare_clean ds l.name n)
@@ -305,7 +305,7 @@ items_clean p n (i ∷ is) e =
     (record { vars = []; lifetimes = map (λ (l : Ident). l.span) (lifetimes_declared i); loops = []; names = [] }))
     (λ x. then_none (in_items p (suc n) is) (λ xs. Ok (x ∷ xs)) (items_clean p (suc n) is) (λ xs e. cc)) e
 
-declared_in_clean : (ds : Declared) (n : ℕ) (x : Option Ident) → declared_in ds n x ≡ Err misnamed.OutOfMemory → ⊥
+declared_in_clean : (ds : DeclaredNames) (n : ℕ) (x : Option Ident) → declared_in ds n x ≡ Err misnamed.OutOfMemory → ⊥
 declared_in_clean ds n None e = cc
 declared_in_clean ds n (Some x) e = declare_clean ds x n e
 
@@ -335,7 +335,7 @@ fault_caused p (misnamed.Twice a b) e = (name_fault.Twice a b, (λ e. cc, e))
 fault_caused p (misnamed.Label s) e = (name_fault.Label s, (λ e. cc, e))
 fault_caused p misnamed.OutOfMemory e = absurd (program_clean p e)
 
-stands_at : (p : ProgramTree) (n : ℕ) → n < length (held p) → (i : ItemTree) × (slice_get p n ≡ Some i)
+stands_at : (p : ProgramTree) (n : ℕ) → n < length (held_in_tree p) → (i : ItemTree) × (slice_get p n ≡ Some i)
 stands_at p n l = at p n (let h = held_length p p in omega (arith, l, h))
   where
     held_length : (p q : ProgramTree) → length (map (held_by p) q) ≡ length q
@@ -350,12 +350,12 @@ stands_at p n l = at p n (let h = held_length p p in omega (arith, l, h))
 pub named_or_misnamed : (p : ProgramTree) → Named p ⊎ MisnamedAt p
 named_or_misnamed p = by (in_program p) refl
   where
-    cycles : (names : List ItemNames) → in_program p ≡ Ok names → (o : Option ℕ) × FirstOnCycle (held p) o → Named p ⊎ MisnamedAt p
+    cycles : (names : List ItemNames) → in_program p ≡ Ok names → (o : Option ℕ) × FirstOnCycle (held_in_tree p) o → Named p ⊎ MisnamedAt p
     cycles names e (None, none) = inl (names, record { names_are = e; finite = none })
     cycles names e (Some n, f) =
-        let s = stands_at p n (on_cycle_within (held p) n f.0) in
+        let s = stands_at p n (on_cycle_within (held_in_tree p) n f.0) in
         inr (name_fault.SelfHolding (name_span s.0), (λ e. cc, record { names = names; names_are = e; holding = record { number = n; item = s.0; first = f; stands = s.1; place = refl } }))
 
     by : (o : Outcome (List ItemNames)) → in_program p ≡ o → Named p ⊎ MisnamedAt p
-    by (Ok names) e = cycles names e (first_on_cycle (held p))
+    by (Ok names) e = cycles names e (first_on_cycle (held_in_tree p))
     by (Err m) e = inr (fault_caused p m e)

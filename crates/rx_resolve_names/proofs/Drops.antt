@@ -1,7 +1,7 @@
 -- What is left of a list from a place on.
 use Rattle.std.proofs.Common.{◌≡◌, ℕ, zero, suc, ◌+◌, List, [], ◌∷◌, Option, Some, None, drop, slice_get, refl, sym, ap, ◌∙◌, true≢false, is_none, arith}
-use Rattle.rx_resolve_names.specs.declared.table.Known.{Known}
-use Rattle.rx_resolve_names.specs.Scopes.{Declared, Variables, entered}
+use Rattle.rx_resolve_names.specs.declared.table.NumberedName.{NumberedName}
+use Rattle.rx_resolve_names.specs.Scopes.{DeclaredNames, Variables, entered}
 
 pub drop_one_more : {A : Type 0} (k : ℕ) (l : List A) → drop 1 (drop k l) ≡ drop (suc k) l
 drop_one_more zero l = refl
@@ -26,14 +26,14 @@ drop_past (y ∷ l) zero h = absurd (true≢false (sym (ap is_none h)))
 drop_past (y ∷ l) (suc k) h = drop_past l k h
 
 -- one more name of a list enters the scope
-pub enters_next : (vs new : Variables) (ds : Declared) (k : ℕ) (d : List ℕ × Known) → slice_get ds k ≡ Some d → new ≡ record { name = d.0; number = d.1.number } ∷ vs
+pub enters_next : (vs new : Variables) (ds : DeclaredNames) (k : ℕ) (d : List ℕ × NumberedName) → slice_get ds k ≡ Some d → new ≡ record { name = d.0; number = d.1.number } ∷ vs
     → entered new (drop (k + 1) ds) ≡ entered vs (drop k ds)
 enters_next vs new ds k d at is = ap (λ n. entered n (drop (k + 1) ds)) is ∙ sym (ap (entered vs) (drop_at ds k d at ∙ ap (λ n. d ∷ drop n ds) one))
   where
     one : suc k ≡ k + 1
     one = omega arith
 
-pub enters_none : (vs : Variables) (ds : Declared) (k : ℕ) → slice_get ds k ≡ None → entered vs (drop (k + 1) ds) ≡ entered vs (drop k ds)
+pub enters_none : (vs : Variables) (ds : DeclaredNames) (k : ℕ) → slice_get ds k ≡ None → entered vs (drop (k + 1) ds) ≡ entered vs (drop k ds)
 enters_none vs ds k at = ap (entered vs) (ap (λ n. drop n ds) one ∙ sym (drop_one_more k ds) ∙ ap (drop 1) (drop_past ds k at) ∙ sym (drop_past ds k at))
   where
     one : k + 1 ≡ suc k

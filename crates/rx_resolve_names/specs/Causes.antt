@@ -9,23 +9,23 @@ use Rattle.rx_resolve_names.specs.declared.resolved.Misnamed.TheVariants as misn
 use Rattle.rx_resolve_names.specs.declared.resolved.NameFault.{NameFault}
 use Rattle.rx_resolve_names.specs.declared.resolved.NameFault.TheVariants as name_fault
 use Rattle.rx_resolve_names.specs.Items.{in_program}
-use Rattle.rx_resolve_names.specs.Holding.{held, name_span}
+use Rattle.rx_resolve_names.specs.Holding.{held_in_tree, name_span}
 
 -- every name has its binding, no list has a name twice, every jump its loop, and no struct or enum reaches itself
 pub record Meant (p : ProgramTree) (names : List ItemNames) : Type 0 where
   pub names_are : in_program p ≡ Ok names
-  pub finite : NoCycle (held p)
+  pub finite : NoCycle (held_in_tree p)
 
 -- the first struct or enum that reaches itself, by the place of its name
 pub record FirstHolding (p : ProgramTree) (at : Span) : Type 0 where
   pub number : ℕ
   pub item : ItemTree
-  pub first : FirstOnCycle (held p) (Some number)
+  pub first : FirstOnCycle (held_in_tree p) (Some number)
   pub stands : slice_get p number ≡ Some item
   pub place : at ≡ name_span item
 
 abbrev pub HoldsItself : ProgramTree → Option Span → Type 0
-HoldsItself p None = NoCycle (held p)
+HoldsItself p None = NoCycle (held_in_tree p)
 HoldsItself p (Some at) = FirstHolding p at
 
 -- the names of a program have a meaning, but a struct or enum reaches itself

@@ -37,8 +37,8 @@ held_by p (plain.enum_item s d) = held_by_variants p d.variants
 held_by p _ = []
 
 -- those of each item
-abbrev pub held : ProgramTree → List (List ℕ)
-held p = map (held_by p) p
+abbrev pub held_in_tree : ProgramTree → List (List ℕ)
+held_in_tree p = map (held_by p) p
 
 -- the place of an item's name
 abbrev pub name_span : ItemTree → Span

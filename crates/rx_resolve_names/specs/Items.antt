@@ -5,23 +5,23 @@ use Rattle.rx_tree.specs.declared.tree.BoundLifetime.{BoundLifetime}
 use Rattle.rx_tree.specs.Plain as plain
 use Rattle.rx_tree.specs.Plain.{TypeTree, Parameter, Function, FieldOf, VariantOf, ItemTree, ProgramTree}
 use Rattle.rx_resolve_names.specs.declared.resolved.ItemNames.{ItemNames}
-use Rattle.rx_resolve_names.specs.Scopes.{Declared, Variables, entered}
+use Rattle.rx_resolve_names.specs.Scopes.{DeclaredNames, Variables, entered}
 use Rattle.rx_resolve_names.specs.Meant.{number, type_name, function_name, firsts, lifetimes_declared, Around}
 use Rattle.rx_resolve_names.specs.Steps.{Outcome, and_then, Naming, ◌>>◌, nothing, Inside, one, both, declare, with_variable, child, next, numbered}
 use Rattle.rx_resolve_names.specs.Names.{lifetime_in, in_type, in_types, behind, Binding, in_optional_type, in_block}
 
 -- a list of names without a double
-abbrev pub distinct : Declared → ℕ → List Ident → Naming
+abbrev pub distinct : DeclaredNames → ℕ → List Ident → Naming
 distinct ds n [] t = Ok t
 distinct ds n (x ∷ xs) t = and_then (declare ds x n) (λ ds. distinct ds (suc n) xs t)
 
 -- ---- structs and enums. `i` is the number of the next type among the item's children
 
-abbrev pub in_declared : Inside → List ℕ → Declared → ℕ → List FieldOf → Naming
+abbrev pub in_declared : Inside → List ℕ → DeclaredNames → ℕ → List FieldOf → Naming
 in_declared I at ds i [] t = Ok t
 in_declared I at ds i (f ∷ fs) t = and_then (declare ds f.name i) (λ ds. (in_type I (child at i) f.typ >> in_declared I at ds (next i) fs) t)
 
-abbrev pub in_variants : Inside → List ℕ → Declared → ℕ → ℕ → List VariantOf → Naming
+abbrev pub in_variants : Inside → List ℕ → DeclaredNames → ℕ → ℕ → List VariantOf → Naming
 in_variants I at ds n i [] t = Ok t
 in_variants I at ds n i (v ∷ vs) t = and_then (declare ds v.name n) (λ ds. (in_types I at i v.types >> in_variants I at ds (suc n) (behind i v.types) vs) t)
 
@@ -32,7 +32,7 @@ bounds_in I [] = Ok []
 bounds_in I (l ∷ ls) = both (one (lifetime_in I l)) (bounds_in I ls)
 
 -- the declared lifetimes, each with the numbers of its bounds
-abbrev pub lifetimes_of : Inside → Declared → ℕ → List BoundLifetime → Outcome (List ℕ)
+abbrev pub lifetimes_of : Inside → DeclaredNames → ℕ → List BoundLifetime → Outcome (List ℕ)
 lifetimes_of I ds n [] = Ok []
 lifetimes_of I ds n (l ∷ ls) = and_then (declare ds l.name n) (λ ds. both (bounds_in I l.bounds) (lifetimes_of I ds (suc n) ls))
 
@@ -83,10 +83,10 @@ in_items p n (i ∷ is) = and_then (in_item p n i) (λ x. and_then (in_items p (
 
 -- the names of structs, enums and `rt`, and those of functions
 pub record Lists : Type 0 where
-  pub types : Declared
-  pub functions : Declared
+  pub types : DeclaredNames
+  pub functions : DeclaredNames
 
-abbrev pub declared_in : Declared → ℕ → Option Ident → Outcome Declared
+abbrev pub declared_in : DeclaredNames → ℕ → Option Ident → Outcome DeclaredNames
 declared_in ds n None = Ok ds
 declared_in ds n (Some x) = declare ds x n
 

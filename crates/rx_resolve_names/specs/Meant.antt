@@ -5,8 +5,8 @@ use Rattle.rx_tree.specs.declared.tree.Ident.{Ident}
 use Rattle.rx_tree.specs.declared.tree.BoundLifetime.{BoundLifetime}
 use Rattle.rx_tree.specs.Plain as plain
 use Rattle.rx_tree.specs.Plain.{VariantOf, ItemTree, ProgramTree}
-use Rattle.rx_resolve_names.specs.declared.table.Known.{Known}
-use Rattle.rx_resolve_names.specs.Scopes.{Declared, declared_as}
+use Rattle.rx_resolve_names.specs.declared.table.NumberedName.{NumberedName}
+use Rattle.rx_resolve_names.specs.Scopes.{DeclaredNames, declared_as}
 
 -- a number as it is kept, in 32 bits; no program of a text that is read has a greater one
 abbrev pub number : ℕ → ℕ
@@ -62,24 +62,24 @@ as_function (Some (n, i)) = Some n
 
 -- ---- lists of names. Where two are the same, the first is meant
 
-abbrev pub kept : Declared → Ident → ℕ → Option Known → Declared
+abbrev pub kept : DeclaredNames → Ident → ℕ → Option NumberedName → DeclaredNames
 kept ds x n None = ds ++ (x.name, record { number = number n; span = x.span }) ∷ []
 kept ds x n (Some k) = ds
 
 -- the names behind those, the first of which has number n
-abbrev pub firsts : Declared → ℕ → List Ident → Declared
+abbrev pub firsts : DeclaredNames → ℕ → List Ident → DeclaredNames
 firsts ds n [] = ds
 firsts ds n (x ∷ xs) = firsts (kept ds x n (declared_as ds x.name)) (suc n) xs
 
-abbrev pub number_in : Declared → List ℕ → Option ℕ
-number_in ds x = option_map (λ (k : Known). k.number) (declared_as ds x)
+abbrev pub number_in : DeclaredNames → List ℕ → Option ℕ
+number_in ds x = option_map (λ (k : NumberedName). k.number) (declared_as ds x)
 
 -- the names of an enum's variants
-abbrev pub variant_names : ItemTree → Declared
+abbrev pub variant_names : ItemTree → DeclaredNames
 variant_names (plain.enum_item s d) = firsts [] 0 (map (λ (v : VariantOf). v.name) d.variants)
 variant_names _ = []
 
-abbrev pub variants_of : Option (ℕ × ItemTree) → Declared
+abbrev pub variants_of : Option (ℕ × ItemTree) → DeclaredNames
 variants_of None = []
 variants_of (Some (n, i)) = variant_names i
 

@@ -6,7 +6,7 @@ use Rattle.rx_tree.specs.Plain as plain
 use Rattle.rx_tree.specs.Plain.{TypeTree, TypeTrees, PatternTree, PatternTrees, FieldPatterns, Expression, Expressions, OptionalExpression, OptionalExpressions, FieldExpressions, Arms, Body, Statement, Statements, Parameter, Function, FieldOf, VariantOf, ItemTree, ProgramTree}
 use Rattle.rx_tree.specs.Lists.{listed}
 use Rattle.rx_resolve_names.specs.declared.resolved.ItemNames.{ItemNames}
-use Rattle.rx_resolve_names.specs.Scopes.{Declared, Variables, variable_named, entered}
+use Rattle.rx_resolve_names.specs.Scopes.{DeclaredNames, Variables, variable_named, entered}
 use Rattle.rx_resolve_names.specs.Meant.{number, type_name, function_name, item_named, as_type, as_struct, as_enum, as_rt, as_function, number_in, variants_of, Around, a_loop, a_test, target}
 use Rattle.rx_resolve_names.specs.Steps.{Outcome, and_then, Naming, ◌>>◌, nothing, Inside, known, one, both, declare, led, child, next, with_variable, with_loop, with_names, position, entry, names}
 
@@ -66,7 +66,7 @@ struct_in I x = known (as_struct (item_named type_name 0 I.program x.name)) x.sp
 
 -- the tables, and what the pattern has declared
 pub record Bound : Type 0 where
-  pub bindings : Declared
+  pub bindings : DeclaredNames
   pub tables : ItemNames
 
 abbrev pub Binding : Type 0
@@ -101,7 +101,7 @@ abbrev mutual
   in_field_patterns I at i (plain.field_pattern_and x p fs) = in_order (in_pattern I (child at i) p) (in_field_patterns I at (next i) fs)
 
 -- a whole pattern, and what follows it, which gets its bindings
-abbrev pub pattern_then : Inside → List ℕ → PatternTree → (Declared → Naming) → Naming
+abbrev pub pattern_then : Inside → List ℕ → PatternTree → (DeclaredNames → Naming) → Naming
 pattern_then I at p f t = and_then (in_pattern I at p (record { bindings = []; tables = t })) (λ b. f b.bindings b.tables)
 
 -- ---- expressions

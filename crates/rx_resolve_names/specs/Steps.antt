@@ -8,8 +8,8 @@ use Rattle.rx_resolve_names.specs.declared.resolved.ItemNames.{ItemNames}
 use Rattle.rx_resolve_names.specs.declared.resolved.NodeNames.{NodeNames}
 use Rattle.rx_resolve_names.specs.declared.resolved.Misnamed.{Misnamed}
 use Rattle.rx_resolve_names.specs.declared.resolved.Misnamed.TheVariants as misnamed
-use Rattle.rx_resolve_names.specs.declared.table.Known.{Known}
-use Rattle.rx_resolve_names.specs.Scopes.{Declared, declared_as}
+use Rattle.rx_resolve_names.specs.declared.table.NumberedName.{NumberedName}
+use Rattle.rx_resolve_names.specs.Scopes.{DeclaredNames, declared_as}
 use Rattle.rx_resolve_names.specs.Meant.{number, Target, to_loop, out_of_test, nowhere}
 
 abbrev pub Outcome : Type 0 → Type 0
@@ -34,7 +34,7 @@ pub record Inside : Type 0 where
   pub program : ProgramTree
   pub item : ℕ
   -- the lifetimes that the item declares
-  pub lifetimes : Declared
+  pub lifetimes : DeclaredNames
 
 -- ---- numbers of names
 
@@ -49,11 +49,11 @@ abbrev pub both : Outcome (List ℕ) → Outcome (List ℕ) → Outcome (List �
 both a b = and_then a (λ ns. and_then b (λ ms. Ok (ns ++ ms)))
 
 -- a name that is declared in a list, where no earlier one is the same
-abbrev pub declared_behind : Declared → Ident → ℕ → Option Known → Outcome Declared
+abbrev pub declared_behind : DeclaredNames → Ident → ℕ → Option NumberedName → Outcome DeclaredNames
 declared_behind ds x n None = Ok (ds ++ (x.name, record { number = number n; span = x.span }) ∷ [])
 declared_behind ds x n (Some k) = Err (misnamed.Twice k.span x.span)
 
-abbrev pub declare : Declared → Ident → ℕ → Outcome Declared
+abbrev pub declare : DeclaredNames → Ident → ℕ → Outcome DeclaredNames
 declare ds x n = declared_behind ds x n (declared_as ds x.name)
 
 -- the loop that a jump leads to: a label that names none is wrong, else the whole jump

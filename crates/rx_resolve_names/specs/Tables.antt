@@ -2,12 +2,12 @@
 use Rattle.std.specs.Prelude.{◌≡◌, ℕ, List, [], ◌∷◌, map, Option, Some, None}
 use Rattle.std.specs.Str.{bytes_eq}
 use Rattle.std.specs.Map.{lookup}
-use Rattle.rx_resolve_names.specs.declared.table.Known.{Known}
+use Rattle.rx_resolve_names.specs.declared.table.NumberedName.{NumberedName}
 use Rattle.rx_resolve_names.specs.declared.scope.Entered.{Entered}
-use Rattle.rx_resolve_names.specs.Scopes.{Declared, Variable, Variables, variable_named}
+use Rattle.rx_resolve_names.specs.Scopes.{DeclaredNames, Variable, Variables, variable_named}
 
 -- the names of a map's entries, with what they stand for
-abbrev pub declared_of : {R : Type 0} → (R → List ℕ) → List (R × Known) → Declared
+abbrev pub declared_of : {R : Type 0} → (R → List ℕ) → List (R × NumberedName) → DeclaredNames
 declared_of name es = map (λ e. (name e.0, e.1)) es
 
 abbrev pub variable_of : Entered → Variable

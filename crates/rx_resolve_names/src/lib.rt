@@ -9,4 +9,4 @@ mod table;
 pub use laws::named_or_misnamed;
 pub use resolved::{ItemNames, Misnamed, NameFault, NodeNames, Resolved};
 pub use scope::Scope;
-pub use table::{Known, Table};
+pub use table::{NumberedName, Table};

@@ -10,7 +10,7 @@ use std::marker::Model;
 
 /// The number and the place of a name.
 #[derive(Clone, Copy, Debug, PartialEq, Eq)]
-pub struct Known {
+pub struct NumberedName {
     pub number: u32,
     pub span: Span,
 }
@@ -18,14 +18,14 @@ pub struct Known {
 /// The names of a list in order, no two the same. Contracts see it as the list of them.
 #[derive(Drop)]
 pub struct Table<'t> {
-    names: IndexMap<&'t str, Known>,
+    names: IndexMap<&'t str, NumberedName>,
 }
 
 impl<'t> Model for Table<'t> {
-    ghost use Rattle.rx_resolve_names.specs.Scopes.{Declared};
+    ghost use Rattle.rx_resolve_names.specs.Scopes.{DeclaredNames};
     ghost use Rattle.rx_resolve_names.specs.Tables.{declared_of};
 
-    ghost Value = { Declared };
+    ghost Value = { DeclaredNames };
 
     ghost view = { λ t. declared_of (λ n. n.now) t.names.entries };
 }
@@ -41,14 +41,18 @@ impl<'t> Table<'t> {
     }
 
     /// What has this name.
-    pub fn get(&self, name: &str) -> Option<Known>
+    pub fn get(&self, name: &str) -> Option<NumberedName>
         ensures { result ≡ declared_as self.now name.now }
     {
         self.names.get(name).copied()
     }
 
     /// Adds a name at the end. Where the list has it, `Some` says what has it, and nothing changes.
-    pub fn declare(&mut self, name: &'t str, known: Known) -> Result<Option<Known>, AllocError>
+    pub fn declare(
+        &mut self,
+        name: &'t str,
+        known: NumberedName,
+    ) -> Result<Option<NumberedName>, AllocError>
         ensures { IfOk result (λ first. (first ≡ declared_as self.old name.now) × MatchOption first (self.new ≡ self.old ++ (name.now, known) ∷ []) (λ _. self.new ≡ self.old)) }
     {
         match self.get(name) {
@@ -68,7 +72,7 @@ impl<'t> Table<'t> {
     }
 
     /// The name at a place of the list, counted from 0, and what has it.
-    pub fn entry(&self, at: usize) -> Option<(&'t str, Known)>
+    pub fn entry(&self, at: usize) -> Option<(&'t str, NumberedName)>
         ensures { option_map (λ e. (e.0.now, e.1)) result ≡ slice_get self.now at }
     {
         let (name, known) = self.names.get_index(at)?;

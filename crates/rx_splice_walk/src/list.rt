@@ -2,7 +2,7 @@
 
 ghost use Rattle.std.specs.Prelude.{◌≡◌, ◌++◌, [], ◌∷◌, OnOk};
 
-use rx_core::{Edit, Span, Text};
+use rx_core::{Edit, Edits, List, Span, Text};
 use std::alloc::{AllocError, Global};
 use std::marker::Model;
 
@@ -35,6 +35,15 @@ impl EditList {
         ensures { result.now ≡ self.now }
     {
         self.edits.as_slice()
+    }
+
+    /// The edits, as a text is spliced by them.
+    pub fn into_edits(self) -> Edits
+        ensures { result.list ≡ self }
+    {
+        Edits {
+            list: List::from_vec(self.edits),
+        }
     }
 
     /// Adds a text in place of what stands at a span.

@@ -213,6 +213,18 @@ fn main() { let a = 300u8; } | Literal 20 25
 fn main() { let a = -128i32; let b = -2147483648; let c = 2147483648i64; } | Ok / i32 i32 i64
 fn main() { let a = -2147483649i32; } | Literal 21 34
 fn main() { let a = 2147483648i32; } | Literal 20 33
+fn main() { let x: u8 = 256; } | Literal 24 27
+fn main() { let x: u8 = -1; } | Mismatch 24 26 Equal
+fn main() { let x: bool = 256; } | Mismatch 26 29 Equal
+fn main() { let x: u8 = 300u8; } | Literal 24 29
+fn main() { let x: u64 = 300u8; } | Mismatch 25 30 Equal
+fn main() { let x: i32 = { 2147483648 }; } | Literal 27 37
+fn f(x: u8) {} fn main() { f(256); } | Literal 29 32
+struct S { a: u8 } fn main() { let s = S { a: 256 }; } | Literal 46 49
+enum E { A(u8) } fn main() { let e = E::A(256); } | Literal 42 45
+fn f() -> u8 { return 256; } fn main() {} | Literal 22 25
+fn f(b: bool) -> u8 { if b { 256 } else { 1 } } fn main() {} | Literal 29 32
+fn main() { let mut x = 1u8; x = 256; } | Literal 33 36
 fn main() { let a = -(2147483648i32); } | Ok / i32
 fn main() { let x = 1; let r = &mut x; } | Mutability 31 37 16 17
 fn main() { let x = (1, 2); x.0 = 3; } | Mutability 28 35 16 17

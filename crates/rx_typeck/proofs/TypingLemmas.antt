@@ -28,12 +28,13 @@ use Rattle.rx_typeck_solver.specs.declared.solver.Solved.{Solved}
 use Rattle.rx_typeck_solver.specs.declared.solver.Unsolved.{Unsolved}
 use Rattle.rx_typeck_solver.specs.declared.solver.Unsolved.TheVariants as unsolved
 use Rattle.rx_typeck_solver.specs.declared.export.Found.{Found}
-use Rattle.rx_typeck_solver.specs.Facts.{Types, Known, MeetsEach}
+use Rattle.rx_typeck_solver.specs.Facts.{Assignment, KnownItems, MeetsEach}
 use Rattle.rx_typeck_solver.specs.Stepping.{known}
 use Rattle.rx_typeck_solver.specs.Solver.{Term, filled_or}
 use Rattle.rx_typeck_solver.specs.Tabled.{table_of}
 use Rattle.rx_typeck_solver.specs.Valid.{Task, Told, Valid, Breaks, MeetsChosen, MeetsOne}
-use Rattle.rx_typeck_solver.specs.Solving.{types_of, HasType, IsSolved, IsUnsolved}
+use Rattle.rx_typeck_solver.specs.Solving.{types_of, HasTerm, IsSolved, IsUnsolved}
+use Rattle.rx_typeck_solver.specs.Trimmed.{IsTrimmed}
 use Rattle.rx_typeck_solver.specs.Views as views
 use Rattle.rx_typeck_solver.specs.Views.{unnumbered, all_unnumbered, kind_found, IsFound}
 use Rattle.rx_typeck_typed.specs.Demands.{demands, task}
@@ -49,20 +50,20 @@ use Rattle.rx_typeck.specs.Checking.{described, ItemTyped, ItemUntyped, Behind}
 
 -- ---- a function without a valid assignment
 
-meets_chosen : (K : Known) (t : Task) (bs : List Bool) (A : Types) (ds : List Demand) → MeetsEach K A ds → MeetsChosen K t bs A ds
+meets_chosen : (K : KnownItems) (t : Task) (bs : List Bool) (A : Assignment) (ds : List Demand) → MeetsEach K A ds → MeetsChosen K t bs A ds
 meets_chosen K t [] A ds h = tt
 meets_chosen K t (b ∷ bs) A [] h = tt
 meets_chosen K t (true ∷ bs) A (d ∷ ds) h = (h.0, meets_chosen K t bs A ds h.1)
 meets_chosen K t (false ∷ bs) A (d ∷ ds) h = meets_chosen K t bs A ds h.1
 
-meets_one : (K : Known) (t : Task) (n : ℕ) (r : Broken) (A : Types) (ds : List Demand) → MeetsEach K A ds → MeetsOne K t n r A ds
+meets_one : (K : KnownItems) (t : Task) (n : ℕ) (r : Broken) (A : Assignment) (ds : List Demand) → MeetsEach K A ds → MeetsOne K t n r A ds
 meets_one K t n r A [] h = tt
 meets_one K t n r A (d ∷ ds) h = ((λ _ _. h.0), meets_one K t n r A ds h.1)
 
-none_valid : (K : Known) (t : Task) (n : ℕ) (r : Broken) → Breaks K t n r → (A : Types) → Valid K t A → ⊥
+none_valid : (K : KnownItems) (t : Task) (n : ℕ) (r : Broken) → Breaks K t n r → (A : Assignment) → Valid K t A → ⊥
 none_valid K t n r b A v = b.none A (meets_chosen K t b.chosen A t.demands v.prefers.typed) (meets_one K t n r A t.demands v.prefers.typed)
 
-untyped : (K : Known) (f : Function) (vars : List Span) (n : ℕ) (s : Span) (b : Broken) → IsUnsolved K (task f) (unsolved.Broken n s b) → FunctionUntyped K f vars (fault_of s b vars)
+untyped : (K : KnownItems) (f : Function) (vars : List Span) (n : ℕ) (s : Span) (b : Broken) → IsUnsolved K (task f) (unsolved.Broken n s b) → FunctionUntyped K f vars (fault_of s b vars)
 untyped K f vars n s b h = record {
   none = ⊎_elim (λ x. none_valid K (task f) n b x) (λ x. x.1.not_valid) h.0;
   node = n;
@@ -73,11 +74,11 @@ untyped K f vars n s b h = record {
   is = refl;
 }
 
-untyped_of : (K : Known) (f : Function) (vars : List Span) (u : Unsolved) → IsUnsolved K (task f) u → of_unsolved u vars ≢ fault.OutOfMemory → FunctionUntyped K f vars (of_unsolved u vars)
+untyped_of : (K : KnownItems) (f : Function) (vars : List Span) (u : Unsolved) → IsUnsolved K (task f) u → of_unsolved u vars ≢ fault.OutOfMemory → FunctionUntyped K f vars (of_unsolved u vars)
 untyped_of K f vars (unsolved.Broken n s b) h told = untyped K f vars n s b h
 untyped_of K f vars unsolved.OutOfMemory h told = absurd (told refl)
 
-pub untyped_as : {A : Type 0} (K : Known) (f : Function) (vars : List Span) (r : Result A Unsolved) (u : Unsolved) (e : TypeFault)
+pub untyped_as : {A : Type 0} (K : KnownItems) (f : Function) (vars : List Span) (r : Result A Unsolved) (u : Unsolved) (e : TypeFault)
     → IfErr r (λ e. IsUnsolved K (task f) e) → r ≡ Err u → e ≡ of_unsolved u vars → e ≢ fault.OutOfMemory → FunctionUntyped K f vars e
 untyped_as K f vars r u e h er ee told =
     subst (FunctionUntyped K f vars) (sym ee) (untyped_of K f vars u (subst (λ r. IfErr r (λ e. IsUnsolved K (task f) e)) er h) (subst (λ e. e ≢ fault.OutOfMemory) ee told))
@@ -96,11 +97,11 @@ mutual
   all_erased_unnumbered D no_shape = refl
   all_erased_unnumbered D (shape_and t ts) = (λ i. shape_and (erased_unnumbered D t i) (all_erased_unnumbered D ts i))
 
-no_type : (s : Solved) (x : Subject) (o : Option Term) → table_of s.arena.entries.items s.tables x ≡ o → (HasType s x → ⊥) → unit_shape ≡ types_of s x
+no_type : (s : Solved) (x : Subject) (o : Option Term) → table_of s.arena.entries.items s.tables x ≡ o → (HasTerm s x → ⊥) → unit_shape ≡ types_of s x
 no_type s x None e h = sym (ap (filled_or (kind_found s)) e)
 no_type s x (Some t) e h = absurd (h (t, e))
 
-shape_is : (s : Solved) (D : Declarations) (x : Subject) (o : Option Ty) → views.TypeIs s D x o → shape_of o ≡ types_of s x
+shape_is : (s : Solved) (D : Declarations) (x : Subject) (o : Option Ty) → views.TypeFound s D x o → shape_of o ≡ types_of s x
 shape_is s D x None h = no_type s x (table_of s.arena.entries.items s.tables x) refl h
 shape_is s D x (Some t) h = sym (is_erased t) ∙ ap erased h.1 ∙ erased_unnumbered D (types_of s x)
 
@@ -114,7 +115,7 @@ assigned_same d sizes ts s nodes expected =
     let a = fun_ext _ _ nodes in let b = fun_ext _ _ expected in
     (λ i. record { items = declarations d.items; typ = a i; expected = b i })
 
-told_type : (K : Known) (f : Function) (s : Solved) (x : Subject) (o : Option Ty) → (Told (demands f) x ↔ HasType s x) → views.TypeIs s K.items x o → TypeIs K f (types_of s) x o
+told_type : (K : KnownItems) (f : Function) (s : Solved) (x : Subject) (o : Option Ty) → (Told (demands f) x ↔ HasTerm s x) → views.TypeFound s K.items x o → TypeIs K f (types_of s) x o
 told_type K f s x None t h = λ told. h (t.0 told)
 told_type K f s x (Some y) t h = (t.1 h.0, h.1)
 
@@ -132,19 +133,20 @@ typed p d sizes i at g entries vars t before found s is all solved item names mu
   valid = solved.valid;
   untold = λ x n. sym (no_type s x (table_of s.arena.entries.items s.tables x) refl (λ h. n ((solved.told x).1 h)));
   found = each;
+  trimmed = (subst (λ l. IsTrimmed l) (sym vs) all.trimmed.0, subst (λ l. IsTrimmed l) (sym ns) all.trimmed.1, subst (λ l. IsTrimmed l) (sym es) all.trimmed.2);
   tree = tree ∙ ap (λ T. elaborated T (function_named i at g entries)) (assigned_same d sizes t.types s
-      (λ n. shape_is s (declarations d.items) (subject.Node n) _ (subst (λ l. views.TypeIs s (declarations d.items) (subject.Node n) (joined (slice_get l n))) (sym ns) (all.each (subject.Node n))))
-      (λ n. shape_is s (declarations d.items) (subject.Expected n) _ (subst (λ l. views.TypeIs s (declarations d.items) (subject.Expected n) (joined (slice_get l n))) (sym es) (all.each (subject.Expected n)))));
+      (λ n. shape_is s (declarations d.items) (subject.Node n) _ (subst (λ l. views.TypeFound s (declarations d.items) (subject.Node n) (joined (slice_get l n))) (sym ns) (all.each (subject.Node n))))
+      (λ n. shape_is s (declarations d.items) (subject.Expected n) _ (subst (λ l. views.TypeFound s (declarations d.items) (subject.Expected n) (joined (slice_get l n))) (sym es) (all.each (subject.Expected n)))));
   annotated = annotated;
 }
   where
     each : (x : Subject) → TypeIs (known d.items sizes) (function_named i at g entries) (types_of s) x (type_at t x)
     each (subject.Variable x) = told_type (known d.items sizes) (function_named i at g entries) s (subject.Variable x) _ (solved.told (subject.Variable x))
-        (subst (λ l. views.TypeIs s (declarations d.items) (subject.Variable x) (joined (slice_get l x))) (sym vs) (all.each (subject.Variable x)))
+        (subst (λ l. views.TypeFound s (declarations d.items) (subject.Variable x) (joined (slice_get l x))) (sym vs) (all.each (subject.Variable x)))
     each (subject.Node n) = told_type (known d.items sizes) (function_named i at g entries) s (subject.Node n) _ (solved.told (subject.Node n))
-        (subst (λ l. views.TypeIs s (declarations d.items) (subject.Node n) (joined (slice_get l n))) (sym ns) (all.each (subject.Node n)))
+        (subst (λ l. views.TypeFound s (declarations d.items) (subject.Node n) (joined (slice_get l n))) (sym ns) (all.each (subject.Node n)))
     each (subject.Expected n) = told_type (known d.items sizes) (function_named i at g entries) s (subject.Expected n) _ (solved.told (subject.Expected n))
-        (subst (λ l. views.TypeIs s (declarations d.items) (subject.Expected n) (joined (slice_get l n))) (sym es) (all.each (subject.Expected n)))
+        (subst (λ l. views.TypeFound s (declarations d.items) (subject.Expected n) (joined (slice_get l n))) (sym es) (all.each (subject.Expected n)))
 
 -- ---- one function after the other
 

@@ -33,7 +33,7 @@ use Rattle.rx_typeck_solver.specs.declared.facts.Broken.{Broken}
 use Rattle.rx_typeck_solver.specs.declared.facts.Broken.TheVariants as broken
 use Rattle.rx_typeck_solver.specs.declared.solver.Unsolved.{Unsolved}
 use Rattle.rx_typeck_solver.specs.declared.solver.Unsolved.TheVariants as unsolved
-use Rattle.rx_typeck_solver.specs.Facts.{Types, Known}
+use Rattle.rx_typeck_solver.specs.Facts.{Assignment, KnownItems}
 use Rattle.rx_typeck_solver.specs.Stepping.{known}
 use Rattle.rx_typeck_solver.specs.Valid.{Valid, Breaks, IsUnclear, Asked, Told}
 use Rattle.rx_typeck_solver.specs.Views.{unnumbered}
@@ -50,7 +50,7 @@ use Rattle.rx_typeck_typed.specs.Typing.{Given, known_in, IsAnnotated, FunctionT
 abbrev pub given_of : Check → Given
 given_of c = record { program = map plain-Item c.items.now; declared = c.decls.now.items; sizes = c.sizes.now }
 
-abbrev pub known_of : Check → Known
+abbrev pub known_of : Check → KnownItems
 known_of c = known_in (given_of c)
 
 -- what is known of a function's variables and nodes before their types
@@ -85,7 +85,7 @@ ItemTyped G ns i (plain.function_item s f) all new =
     (t : TypedFn) × (new ≡ all ++ t ∷ []) × FunctionTyped G i s f (entries (slice_get ns i)) (variables_at (slice_get ns i)) t
 ItemTyped G ns i _ all new = new ≡ all
 
-abbrev pub ItemUntyped : Known → List ItemNames → ℕ → ItemTree → TypeFault → Type 0
+abbrev pub ItemUntyped : KnownItems → List ItemNames → ℕ → ItemTree → TypeFault → Type 0
 ItemUntyped K ns i (plain.function_item s f) e = FunctionUntyped K (function_named i s f (entries (slice_get ns i))) (variables_at (slice_get ns i)) e
 ItemUntyped K ns i _ e = ⊥
 

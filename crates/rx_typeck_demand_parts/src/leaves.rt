@@ -44,10 +44,10 @@ impl<'t> Walk<'t> {
     {
         let fact = Fact::Integer(node.number, with_suffix(suffix));
         self.ask_one(node, Rule::Equal, fact)?;
+        self.value_at(node)?;
         let fact = Fact::Integer(node.number, fitting(minus, value));
         let facts = pushed(List::new(self.alloc), fact)?;
-        self.asks(node, Broken::Literal, is_open(suffix), facts)?;
-        self.value_at(node)
+        self.asks(node, Broken::Literal, is_open(suffix), facts)
     }
 
     /// An integer; whether it stands directly under a minus.

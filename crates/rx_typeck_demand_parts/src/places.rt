@@ -61,7 +61,7 @@ pub fn through(alloc: Global, place: &Expr, number: usize) -> Result<List<Passin
 impl<'t> Walk<'t> {
     /// At a coercion site the type is the expected one, before its coercion.
     fn fits(&mut self, node: Node) -> Result<(), AllocError>
-        ensures { OnOk result (self.new ≡ walks.asked (demands.fits node) self.old) }
+        ensures { OnOk result (self.new ≡ walks.asked (demands.coerces node) self.old) }
     {
         self.ask_is(
             node,

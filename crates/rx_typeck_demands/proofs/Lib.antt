@@ -3,3 +3,4 @@ pub mod Ways
 pub mod Arms
 pub mod Members
 pub mod Depths
+pub mod Turns

@@ -16,7 +16,7 @@ use crate::expressions::expression;
 use rx_core::{Name, Span};
 use rx_tree::{Expr, ExprNode};
 use rx_typeck_demand_parts::{Walk, type_of};
-use rx_typeck_elaborate_parts::{Seen, value_seen, variable_seen};
+use rx_typeck_elaborate_parts::{Seen, either, value_seen, variable_seen};
 use rx_typeck_solver::Op;
 use rx_typed::{Node, Site};
 use std::alloc::AllocError;
@@ -97,7 +97,7 @@ fn assigns<'t>(
     let value = expression(walk, false, Site::Expects, value)?;
     walk.assignable(node, assigned, place)?;
     walk.own(node, Op::Unit, &[])?;
-    let diverges = assigned.diverges || value.diverges;
+    let diverges = either(assigned.diverges, value.diverges);
     Ok(value_seen(node, false, diverges))
 }
 
@@ -133,6 +133,6 @@ pub(crate) fn update(
     walk.updated(node, updated, value)?;
     walk.assignable(node, updated, place)?;
     walk.own(node, Op::Unit, &[])?;
-    let diverges = updated.diverges || value.diverges;
+    let diverges = either(updated.diverges, value.diverges);
     Ok(value_seen(node, false, diverges))
 }

@@ -17,7 +17,7 @@ use crate::statements::statements;
 use rx_core::{Boxed, Span};
 use rx_tree::{Block, Expr};
 use rx_typeck_demand_parts::Walk;
-use rx_typeck_elaborate_parts::{Seen, value_seen};
+use rx_typeck_elaborate_parts::{Seen, either, value_seen};
 use rx_typeck_solver::Op;
 use rx_typed::{Node, Site};
 use std::alloc::AllocError;
@@ -106,9 +106,10 @@ fn tail<'t>(
         Some(rest) => {
             let seen = joined_part(walk, node, node.site, rest.get())?;
             walk.join(node, seen.never)?;
+            let diverges = either(diverges, seen.diverges);
             Ok(Ways {
                 never: seen.never,
-                diverges: diverges || seen.diverges,
+                diverges,
             })
         }
         None => {

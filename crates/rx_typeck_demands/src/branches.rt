@@ -17,7 +17,7 @@ use crate::listed::Ways;
 use rx_core::Boxed;
 use rx_tree::{Arm, Block, Expr, Pattern};
 use rx_typeck_demand_parts::{Matched, Walk, as_matched, through, type_of};
-use rx_typeck_elaborate_parts::{Seen, value_seen};
+use rx_typeck_elaborate_parts::{Seen, both, either, value_seen};
 use rx_typeck_solver::Op;
 use rx_typed::{Node, Site};
 use std::alloc::AllocError;
@@ -76,7 +76,8 @@ pub(crate) fn other<'t>(
     match rest {
         Some(rest) => {
             let rest = joined_part(walk, node, passed_on(node.site), rest.get())?;
-            branched(walk, node, diverges, body, rest)
+            let seen = branched(walk, node, diverges, body, rest)?;
+            Ok(seen)
         }
         None => Ok(value_seen(node, false, diverges)),
     }
@@ -92,9 +93,9 @@ fn branched(
 ) -> Result<Seen, AllocError>
     ensures { IfOk result (λ seen. (seen ≡ seeing.value_seen node (body.never && rest.never) (diverges || (body.diverges && rest.diverges))) × (walk.new ≡ walks.asked (demands.join node (body.never && rest.never)) walk.old)) }
 {
-    let never = body.never && rest.never;
+    let never = both(body.never, rest.never);
     walk.join(node, never)?;
-    let diverges = diverges || body.diverges && rest.diverges;
+    let diverges = either(diverges, both(body.diverges, rest.diverges));
     Ok(value_seen(node, never, diverges))
 }
 
@@ -145,7 +146,8 @@ pub(crate) fn all_arms<'t>(
     let with = as_matched(seen, passing.as_slice());
     let ways = each_arm(walk, node, with, seen.node, arms)?;
     walk.join(node, ways.never)?;
-    Ok(value_seen(node, ways.never, seen.diverges || ways.diverges))
+    let diverges = either(seen.diverges, ways.diverges);
+    Ok(value_seen(node, ways.never, diverges))
 }
 
 /// The arms of a node, over what is matched and its node.
@@ -164,8 +166,8 @@ fn each_arm<'t>(
     let mut diverges = true;
     for arm in arms {
         let seen = one_arm(walk, node, with, of, arm)?;
-        never = never && seen.never;
-        diverges = diverges && seen.diverges;
+        never = both(never, seen.never);
+        diverges = both(diverges, seen.diverges);
     }
     Ok(Ways { never, diverges })
 }

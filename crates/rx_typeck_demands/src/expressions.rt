@@ -17,7 +17,7 @@ use crate::values::{call, make, tuple, variant};
 use rx_core::Span;
 use rx_tree::{BinaryOp, Expr, ExprNode, Ident};
 use rx_typeck_demand_parts::{Walk, is_strict};
-use rx_typeck_elaborate_parts::{Seen, part_seen, value_seen};
+use rx_typeck_elaborate_parts::{Seen, both, either, part_seen, value_seen};
 use rx_typeck_solver::Op;
 use rx_typed::{Node, Site};
 use std::alloc::AllocError;
@@ -249,6 +249,6 @@ fn binary(
     ensures { IfOk result (λ seen. (seen ≡ seeing.value_seen node false (left.diverges || (named.is_strict operator && right.diverges))) × (walk.new ≡ walks.asked (demands.operation operator node left.node left.never right.node right.never) walk.old)) }
 {
     walk.operation(operator, node, left, right)?;
-    let diverges = left.diverges || is_strict(operator) && right.diverges;
+    let diverges = either(left.diverges, both(is_strict(operator), right.diverges));
     Ok(value_seen(node, false, diverges))
 }

@@ -1,7 +1,5 @@
 //! Lists of values, and what is told of them.
 
-ghost use Rattle.std.specs.Prelude.{◌≡◌, ◌||◌};
-
 use rx_core::List;
 use rx_typeck_solver::Subject;
 
@@ -25,11 +23,4 @@ pub(crate) struct Members {
 pub(crate) struct Ways {
     pub(crate) never: bool,
     pub(crate) diverges: bool,
-}
-
-/// Whether one of two diverges.
-pub(crate) fn either(first: bool, second: bool) -> bool
-    ensures { result ≡ (first || second) }
-{
-    first || second
 }

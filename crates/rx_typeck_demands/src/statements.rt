@@ -16,7 +16,7 @@ use crate::expressions::expression;
 use rx_core::Span;
 use rx_tree::{Expr, Pattern, Stmt, StmtNode, TypeText};
 use rx_typeck_demand_parts::{Declares, Matched, Walk, as_matched, through, type_of};
-use rx_typeck_elaborate_parts::{Mark, Seen};
+use rx_typeck_elaborate_parts::{Mark, Seen, either};
 use rx_typeck_solver::{Op, Rule, Subject};
 use rx_typed::{Site, Stage};
 use std::alloc::AllocError;
@@ -30,7 +30,7 @@ pub(crate) fn statements<'t>(walk: &mut Walk<'t>, stmts: &'t [Stmt]) -> Result<b
     let mut diverges = false;
     for stmt in stmts {
         let one = statement(walk, stmt)?;
-        diverges = diverges || one;
+        diverges = either(diverges, one);
     }
     Ok(diverges)
 }
@@ -245,7 +245,8 @@ fn expected_value<'t>(
 {
     let next = walk.next(value.span, Site::Initialises);
     walk.expects(next, Op::Same, &[subject])?;
-    expression(walk, false, Site::Initialises, value)
+    let seen = expression(walk, false, Site::Initialises, value)?;
+    Ok(seen)
 }
 
 /// An expression as a statement; whether a `;` follows.

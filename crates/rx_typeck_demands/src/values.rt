@@ -12,11 +12,11 @@ ghost use Rattle.rx_typeck_demand_parts.specs.Walks as walks;
 ghost use Rattle.rx_typeck_demands.specs.Pieces as pieces;
 
 use crate::expressions::expression;
-use crate::listed::{Each, Members, either};
+use crate::listed::{Each, Members};
 use rx_core::{List, Name, Span};
 use rx_tree::{Expr, FieldExpr, Ident};
 use rx_typeck_demand_parts::{Walk, type_of};
-use rx_typeck_elaborate_parts::{Entry, Seen, value_seen};
+use rx_typeck_elaborate_parts::{Entry, Seen, either, value_seen};
 use rx_typeck_solver::{Op, Rule, Test};
 use rx_typed::{Node, Site};
 use std::alloc::{AllocError, Global};
@@ -179,7 +179,8 @@ fn element<'t>(
 {
     let next = walk.next(expr.span, site);
     each_before(walk, listed, place, next)?;
-    expression(walk, false, site, expr)
+    let seen = expression(walk, false, site, expr)?;
+    Ok(seen)
 }
 
 fn each_before(
@@ -255,7 +256,7 @@ fn values_of_fields<'t>(
     let mut diverges = false;
     for field in fields {
         let seen = value_of_field(walk, item, field)?;
-        diverges = diverges || seen.diverges;
+        diverges = either(diverges, seen.diverges);
     }
     Ok(diverges)
 }
@@ -272,5 +273,6 @@ fn value_of_field<'t>(
     let made = Op::FieldOf(item, field.field.name.copy(walk.alloc)?);
     let next = walk.next(field.value.span, Site::Expects);
     walk.expects(next, made, &[])?;
-    expression(walk, false, Site::Expects, &field.value)
+    let seen = expression(walk, false, Site::Expects, &field.value)?;
+    Ok(seen)
 }

@@ -6,7 +6,7 @@ use Rattle.rx_typed.specs.Types.{Shape, Shapes, integer, boolean, tuple_of, refe
 use Rattle.rx_typeck_solver.specs.declared.facts.Kinds.{Kinds}
 use Rattle.rx_typeck_solver.specs.declared.facts.Subject.{Subject}
 use Rattle.rx_typeck_solver.specs.declared.facts.Subject.TheVariants as subject
-use Rattle.rx_typeck_solver.specs.Facts.{Types, has}
+use Rattle.rx_typeck_solver.specs.Facts.{Assignment, has}
 use Rattle.rx_typeck_solver.specs.Solver.{only, meet, some_kind, Leaf, Fixed, KindOf, Term, State, upd, same_subject, updated, Step, Go, No, Stuck, Root}
 
 pub upd_same : {B : Type 0} (i : ℕ) (v : B) (f : ℕ → B) → upd i v f i ≡ v
@@ -97,14 +97,14 @@ abbrev pub kind_of : Typ → Kind
 kind_of (integer k) = k
 kind_of _ = Kind.I32
 
-abbrev pub kind_at : Types → ℕ → Kind
+abbrev pub kind_at : Assignment → ℕ → Kind
 kind_at A n = kind_of (A (subject.Node n))
 
-abbrev pub leaf_kind : Types → Leaf → Kind
+abbrev pub leaf_kind : Assignment → Leaf → Kind
 leaf_kind A (Fixed k) = k
 leaf_kind A (KindOf n) = kind_at A n
 
-abbrev pub filled : Types → Term → Typ
+abbrev pub filled : Assignment → Term → Typ
 filled A t = shape_map (leaf_kind A) t
 
 abbrev pub Table : Type 0
@@ -190,19 +190,19 @@ pub record Good (st : State) : Type 0 where
   pub rep_own : (n : ℕ) → (Root st.shapes n → ⊥) → st.rep n ≡ n
 
 -- the assignments that a state stands for
-pub record Stands (A : Types) (st : State) : Type 0 where
+pub record Stands (A : Assignment) (st : State) : Type 0 where
   pub shapes : (x : Subject) (t : Term) → st.shapes x ≡ Some t → A x ≡ filled A t
   pub within : (n : ℕ) → Root st.shapes n → IsTrue (has (st.set (st.rep n)) (kind_at A n))
   pub alike : (n : ℕ) → Root st.shapes n → kind_at A n ≡ kind_at A (st.rep n)
 
 -- a step adds exactly this to what the state asks
-pub record Adds (st st' : State) (M : Types → Type 0) : Type 0 where
+pub record Adds (st st' : State) (M : Assignment → Type 0) : Type 0 where
   pub good : Good st'
   pub keeps : (x : Subject) (t : Term) → st.shapes x ≡ Some t → st'.shapes x ≡ Some t
-  pub sound : (A : Types) → Stands A st' → Stands A st × M A
-  pub complete : (A : Types) → Stands A st → M A → Stands A st'
+  pub sound : (A : Assignment) → Stands A st' → Stands A st × M A
+  pub complete : (A : Assignment) → Stands A st → M A → Stands A st'
 
-abbrev pub IsStep : State → (Types → Type 0) → Step → Type 0
+abbrev pub IsStep : State → (Assignment → Type 0) → Step → Type 0
 IsStep st M (Go st') = Adds st st' M
-IsStep st M No = (A : Types) → Stands A st → M A → ⊥
+IsStep st M No = (A : Assignment) → Stands A st → M A → ⊥
 IsStep st M Stuck = Unit {0}

@@ -4,7 +4,7 @@ use Rattle.rx_core.specs.declared.types.Kind.{Kind}
 use Rattle.rx_typed.specs.Types.{Shapes, integer, boolean, tuple_of, reference, named, no_shape, shape_and, shapes_map}
 use Rattle.rx_typeck_solver.specs.declared.facts.Kinds.{Kinds}
 use Rattle.rx_typeck_solver.specs.declared.facts.Subject.TheVariants as subject
-use Rattle.rx_typeck_solver.specs.Facts.{Types, has}
+use Rattle.rx_typeck_solver.specs.Facts.{Assignment, has}
 use Rattle.rx_typeck_solver.specs.Solver.{Leaf, Fixed, KindOf, Term, State, Root, upd, meet, some_kind, pick, others, single, filled_leaf, filled_by, filled_or, chosen, answer, empty}
 use Rattle.rx_typeck_solver.proofs.Base.{kind_of, kind_at, leaf_kind, filled, Rooted, RootedEach, Good, Stands, has_meet, has_some, upd_elim, upd_at, upd_other}
 
@@ -55,25 +55,25 @@ answer_stands st g = chosen_stands st (λ c. pick (st.set c)) g (record { within
 pub empty_good : Good empty
 empty_good = record { rooted = λ x t e. absurd (cc); rep_root = λ u e. absurd (cc); rep_rep = λ u e. absurd (cc); kinds_left = λ u e. absurd (cc); rep_own = λ n h. refl }
 
-pub empty_stands : (A : Types) → Stands A empty
+pub empty_stands : (A : Assignment) → Stands A empty
 empty_stands A = record { shapes = λ x t e. absurd (cc); within = λ u e. absurd (cc); alike = λ u e. absurd (cc) }
 
 -- one class is given another kind
-abbrev pub switched : (st : State) (A : Types) (c : ℕ) (k : Kind) → Types
+abbrev pub switched : (st : State) (A : Assignment) (c : ℕ) (k : Kind) → Assignment
 switched st A c k = chosen st (upd c k (λ u. kind_at A u))
 
-pub switched_stands : (st : State) (A : Types) (c : ℕ) (k : Kind) → Good st → Stands A st → IsTrue (has (st.set c) k) → Stands (switched st A c k) st
+pub switched_stands : (st : State) (A : Assignment) (c : ℕ) (k : Kind) → Good st → Stands A st → IsTrue (has (st.set c) k) → Stands (switched st A c k) st
 switched_stands st A c k g s h = chosen_stands st (upd c k (λ u. kind_at A u)) g (record {
   within = λ u ru. upd_elim (λ k. IsTrue (has (st.set (st.rep u)) k)) c k (λ u. kind_at A u) (st.rep u)
       (λ e. subst (λ y. IsTrue (has (st.set y) k)) (sym e) h)
       (λ _. subst (λ k. IsTrue (has (st.set (st.rep u)) k)) (s.alike u ru) (s.within u ru));
 })
 
-pub switched_kind : (st : State) (A : Types) (c : ℕ) (k : Kind) (u : ℕ) → Root st.shapes u → st.rep u ≡ c → kind_at (switched st A c k) u ≡ k
+pub switched_kind : (st : State) (A : Assignment) (c : ℕ) (k : Kind) (u : ℕ) → Root st.shapes u → st.rep u ≡ c → kind_at (switched st A c k) u ≡ k
 switched_kind st A c k u ru e = kind_root st (upd c k (λ u. kind_at A u)) u ru ∙ upd_at c k (λ u. kind_at A u) (st.rep u) e
 
 -- other classes keep theirs
-pub switched_other : (st : State) (A : Types) (c : ℕ) (k : Kind) (u : ℕ) → Stands A st → Root st.shapes u → (st.rep u ≡ c → ⊥) → kind_at (switched st A c k) u ≡ kind_at A u
+pub switched_other : (st : State) (A : Assignment) (c : ℕ) (k : Kind) (u : ℕ) → Stands A st → Root st.shapes u → (st.rep u ≡ c → ⊥) → kind_at (switched st A c k) u ≡ kind_at A u
 switched_other st A c k u s ru n = kind_root st (upd c k (λ u. kind_at A u)) u ru ∙ upd_other c k (λ u. kind_at A u) (st.rep u) n ∙ sym (s.alike u ru)
 
 others_apart : (k l : Kind) → IsTrue (has (others k) l) → k ≡ l → ⊥

@@ -10,7 +10,7 @@ use Rattle.rx_typeck_solver.specs.declared.facts.Rule.{Rule}
 use Rattle.rx_typeck_solver.specs.declared.facts.Subject.TheVariants as subject
 use Rattle.rx_typeck_solver.specs.declared.facts.Subject.{Subject}
 use Rattle.rx_typeck_solver.specs.declared.facts.Demand.{Demand}
-use Rattle.rx_typeck_solver.specs.Facts.{Types, Known}
+use Rattle.rx_typeck_solver.specs.Facts.{Assignment, KnownItems}
 use Rattle.rx_typeck_solver.specs.Valid.{Task, Told, IsIn, Valid, Breaks, IsUnclear, Asked}
 use Rattle.rx_typeck_solver.specs.Solver.{Leaf, Fixed, KindOf, Term, State, empty, Found, Found_all, Failed, Lacking, solve, literal_fine, class_fine, Root, pick, filled_or, answer}
 use Rattle.rx_typeck_solver.specs.Ordered.{Orderly}
@@ -18,15 +18,15 @@ use Rattle.rx_typeck_solver.proofs.Order.{AskedAt}
 use Rattle.rx_typeck_solver.proofs.Final.{failed_breaks, not_lacking, asks_asked, root_asked, known_told, answer_valid, unclear_class, unclear_literal}
 
 -- a node of a task without a valid assignment
-pub record Faulty (K : Known) (task : Task) : Type 0 where
-  pub none : (A : Types) → Valid K task A → ⊥
+pub record Faulty (K : KnownItems) (task : Task) : Type 0 where
+  pub none : (A : Assignment) → Valid K task A → ⊥
   pub node : ℕ
   pub at : Span
   pub rule : Broken
   pub asked : Asked task.demands node at
   pub breaks : Breaks K task node rule ⊎ ((rule ≡ broken.Mismatch Rule.Unclear) × IsUnclear K task node)
 
-unclear : (K : Known) (task : Task) (n : ℕ) → AskedAt task.demands n → IsUnclear K task n → Faulty K task
+unclear : (K : KnownItems) (task : Task) (n : ℕ) → AskedAt task.demands n → IsUnclear K task n → Faulty K task
 unclear K task n a u = record { none = u.not_valid; node = n; at = a.0; rule = broken.Mismatch Rule.Unclear; asked = a.1; breaks = inr (refl, u) }
 
 -- ---- each of a list, or one that is not
@@ -94,29 +94,29 @@ roots st ls (m ∷ ns) = by (one_root st ls m) (roots st ls ns)
 -- ---- a task
 
 -- where the rules give no type, that of the assignment is the unit
-abbrev pub Untold : Task → Types → Type 0
+abbrev pub Untold : Task → Assignment → Type 0
 Untold task A = (x : Subject) → (Told task.demands x → ⊥) → A x ≡ unit_shape
 
-untold_unit : (K : Known) (task : Task) (st : State) (o : Orderly task) (e : solve K task.demands empty ≡ Found_all st) → Untold task (answer st)
+untold_unit : (K : KnownItems) (task : Task) (st : State) (o : Orderly task) (e : solve K task.demands empty ≡ Found_all st) → Untold task (answer st)
 untold_unit K task st o e x n = by (st.shapes x) refl
   where
     by : (t : Option Term) → st.shapes x ≡ t → answer st x ≡ unit_shape
     by None h = ap (filled_or (λ c. pick (st.set (st.rep c)))) h
     by (Some t) h = absurd (n (known_told K task st o e x (t, h)))
 
-pub valid_or_not : (K : Known) (task : Task) → Orderly task → ((A : Types) × (Valid K task A × Untold task A)) ⊎ Faulty K task
+pub valid_or_not : (K : KnownItems) (task : Task) → Orderly task → ((A : Assignment) × (Valid K task A × Untold task A)) ⊎ Faulty K task
 valid_or_not K task o = by (solve K task.demands empty) refl
   where
     ended : (st : State) → solve K task.demands empty ≡ Found_all st
         → All (λ n. literal_fine st (st.shapes (subject.Node n))) task.literals ⊎ ((n : ℕ) × IsIn n task.literals × (literal_fine st (st.shapes (subject.Node n)) ≡ false))
         → ((n : ℕ) → IsIn n (nodes_of task.demands) → Fine st task.literals n) ⊎ ((n : ℕ) × Coarse st task.literals n)
-        → ((A : Types) × (Valid K task A × Untold task A)) ⊎ Faulty K task
+        → ((A : Assignment) × (Valid K task A × Untold task A)) ⊎ Faulty K task
     ended st e (inr l) c = inr (unclear K task l.0 (asks_asked l.0 task.demands (o.literals l.0 l.1)) (unclear_literal K task st o e l.0 l.1 l.2))
     ended st e (inl l) (inr c) = inr (unclear K task c.0 (root_asked K task st o e c.0 c.1.0) (unclear_class K task st o e l c.0 c.1.0 c.1.1))
     ended st e (inl l) (inl f) =
         inl (answer st, (answer_valid K task st o e l (λ n r. let a = root_asked K task st o e n r in f n (asked_node n a.0 task.demands a.1) r), untold_unit K task st o e))
 
-    by : (r : Found) → solve K task.demands empty ≡ r → ((A : Types) × (Valid K task A × Untold task A)) ⊎ Faulty K task
+    by : (r : Found) → solve K task.demands empty ≡ r → ((A : Assignment) × (Valid K task A × Untold task A)) ⊎ Faulty K task
     by (Found_all st) e = ended st e (all_or_one (λ n. literal_fine st (st.shapes (subject.Node n))) task.literals) (roots st task.literals (nodes_of task.demands))
     by (Failed d) e =
         let b = failed_breaks K task d e in

@@ -11,14 +11,14 @@ use Rattle.rx_typeck_solver.specs.declared.facts.Test.{Test}
 use Rattle.rx_typeck_solver.specs.declared.facts.Fact.{Fact}
 use Rattle.rx_typeck_solver.specs.declared.facts.Fact.TheVariants as fact
 use Rattle.rx_typeck_solver.specs.declared.facts.Demand.{Demand}
-use Rattle.rx_typeck_solver.specs.Facts.{Types, Known, has, AnInteger, made, gone_through, passed, types_at, outlines_at, holds, Meets, MeetsAll, MeetsEach}
+use Rattle.rx_typeck_solver.specs.Facts.{Assignment, KnownItems, has, AnInteger, made, gone_through, passed, types_at, outlines_at, holds, Meets, MeetsAll, MeetsEach}
 use Rattle.rx_typeck_solver.specs.Solver.{Leaf, Fixed, KindOf, Term, State, Step, Go, No, Stuck, learn, leaf_in, integer_in, integer_at, behind_at, listed, terms_at, gone_at, passed_at, equal_to, equals, passes, take, take_all, Found, Found_all, Failed, Lacking, next, solve}
 use Rattle.rx_typeck_solver.proofs.Natural.{outlines_map, peeled_map, gone_map, made_map}
 use Rattle.rx_typeck_solver.proofs.Base.{kind_of, leaf_kind, filled, Table, RootedLeaf, Rooted, AllRooted, RootLeaf, its_leaf, rooted_of, to_all_rooted, rooted_peeled, Good, Stands, Adds, IsStep}
 use Rattle.rx_typeck_solver.proofs.Steps.{stay, another, go_step, after_step, after_both, restrict_step, put_step, fresh_step, unify_step}
 
 -- a type made of rooted ones is rooted
-pub made_rooted : (D : Known) (o : Op) (tab : Table) (ts : List Term) (ms : List Bool) (t : Term) → AllRooted tab ts → made Fixed D.items o ts ms ≡ Some t → Rooted tab t
+pub made_rooted : (D : KnownItems) (o : Op) (tab : Table) (ts : List Term) (ms : List Bool) (t : Term) → AllRooted tab ts → made Fixed D.items o ts ms ≡ Some t → Rooted tab t
 made_rooted D o tab ts ms t r e =
     let p = to_all_rooted tab ts r in
     let n = made_map (its_leaf tab) (λ k. (Fixed k, tt)) Fixed (λ k. refl) D.items o p.0 ms in
@@ -29,7 +29,7 @@ made_rooted D o tab ts ms t r e =
     go (Some u) h = let q : shape_map (its_leaf tab) u ≡ t = cc in subst (λ t. Rooted tab t) q (rooted_of tab u)
 
 -- what was read, as the assignments have it
-read_types : (A : Types) (st : State) (xs : List Subject) (ts : List Term) → Stands A st → terms_at st.shapes xs ≡ Some ts → types_at A xs ≡ map (filled A) ts
+read_types : (A : Assignment) (st : State) (xs : List Subject) (ts : List Term) → Stands A st → terms_at st.shapes xs ≡ Some ts → types_at A xs ≡ map (filled A) ts
 read_types A st [] ts s e = let h : [] ≡ ts = cc in rw (sym h) refl
 read_types A st (x ∷ xs) ts s e = go (st.shapes x) (terms_at st.shapes xs) refl refl e (λ us f. read_types A st xs us s f)
   where
@@ -38,11 +38,11 @@ read_types A st (x ∷ xs) ts s e = go (st.shapes x) (terms_at st.shapes xs) ref
     go (Some t) None a b h k = cc
     go None p a b h k = cc
 
-read_outlines : (A : Types) (xs : List Subject) → outlines_at A xs ≡ map outline (types_at A xs)
+read_outlines : (A : Assignment) (xs : List Subject) → outlines_at A xs ≡ map outline (types_at A xs)
 read_outlines A [] = refl
 read_outlines A (x ∷ xs) = ap (λ us. outline (A x) ∷ us) (read_outlines A xs)
 
-read_passed : (A : Types) (st : State) (ps : List Passing) (ms : List Bool) → Stands A st → passed_at st.shapes ps ≡ Some ms → passed A ps ≡ ms
+read_passed : (A : Assignment) (st : State) (ps : List Passing) (ms : List Bool) → Stands A st → passed_at st.shapes ps ≡ Some ms → passed A ps ≡ ms
 read_passed A st [] ms s e = cc
 read_passed A st (p ∷ ps) ms s e = go (st.shapes (subject.Node p.node)) (passed_at st.shapes ps) refl refl e (λ ns f. read_passed A st ps ns s f)
   where
@@ -61,7 +61,7 @@ read_rooted st (x ∷ xs) ts g e = go (st.shapes x) (terms_at st.shapes xs) refl
     go (Some t) None a b h k = cc
     go None p a b h k = cc
 
-module _ (D : Known) (st : State) (g : Good st) where
+module _ (D : KnownItems) (st : State) (g : Good st) where
   learn_step : (x : Subject) (t : Term) → Rooted st.shapes t → (o : Option Term) → st.shapes x ≡ o → IsStep st (λ A. A x ≡ filled A t) (learn o x t st)
   learn_step x t rt None e = put_step st x t g e rt
   learn_step x t rt (Some a) e = another st _ _ _ (λ A s. (λ h. s.shapes x a e ∙ h, λ h. sym (s.shapes x a e) ∙ h)) (unify_step st a t g (g.rooted x a e) rt)
@@ -87,7 +87,7 @@ module _ (D : Known) (st : State) (g : Good st) where
   equals_step : (x : Subject) (o : Op) (xs : List Subject) (ps : List Passing) (ts : Option (List Term)) (ms : Option (List Bool)) → terms_at st.shapes xs ≡ ts → passed_at st.shapes ps ≡ ms → IsStep st (λ A. made (λ k. k) D.items o (types_at A xs) (passed A ps) ≡ Some (A x)) (equals D o x ts ms st)
   equals_step x o xs ps (Some ts) (Some ms) e f = go (made Fixed D.items o ts ms) refl
     where
-      is : (A : Types) → Stands A st → made (λ k. k) D.items o (types_at A xs) (passed A ps) ≡ option_map (shape_map (leaf_kind A)) (made Fixed D.items o ts ms)
+      is : (A : Assignment) → Stands A st → made (λ k. k) D.items o (types_at A xs) (passed A ps) ≡ option_map (shape_map (leaf_kind A)) (made Fixed D.items o ts ms)
       is A s = ap (λ us. made (λ k. k) D.items o us (passed A ps)) (read_types A st xs ts s e) ∙ ap (λ ns. made (λ k. k) D.items o (map (filled A) ts) ns) (read_passed A st ps ms s f) ∙ made_map (leaf_kind A) Fixed (λ k. k) (λ k. refl) D.items o ts ms
 
       go : (m : Option Term) → made Fixed D.items o ts ms ≡ m → IsStep st (λ A. made (λ k. k) D.items o (types_at A xs) (passed A ps) ≡ Some (A x)) (equal_to m x st)
@@ -116,29 +116,29 @@ module _ (D : Known) (st : State) (g : Good st) where
   take_step (fact.Passes t xs ps qs) = passes_step t xs ps qs (terms_at st.shapes xs) (passed_at st.shapes ps) (passed_at st.shapes qs) refl refl refl
   take_step fact.Never = λ A s m. m
 
-pub take_all_step : (D : Known) (fs : List Fact) (st : State) → Good st → IsStep st (λ A. MeetsAll D A fs) (take_all D fs st)
+pub take_all_step : (D : KnownItems) (fs : List Fact) (st : State) → Good st → IsStep st (λ A. MeetsAll D A fs) (take_all D fs st)
 take_all_step D [] st g = stay st (λ A. Unit {0}) g (λ A _. tt)
 take_all_step D (f ∷ fs) st g = after_step st (λ A. Meets D A f) (λ A. MeetsAll D A fs) (take D f st) (λ s. take_all D fs s) (take_step D st g f) (λ st1 a. take_all_step D fs st1 a.good)
 
 -- where a list of demands fails
-pub record FailsAt (D : Known) (st : State) (ds : List Demand) (d : Demand) : Type 0 where
+pub record FailsAt (D : KnownItems) (st : State) (ds : List Demand) (d : Demand) : Type 0 where
   pub before : List Demand
   pub later : List Demand
   pub state : State
   pub split : ds ≡ before ++ d ∷ later
   pub adds : Adds st state (λ A. MeetsEach D A before)
-  pub fails : (A : Types) → Stands A state → MeetsAll D A d.facts → ⊥
+  pub fails : (A : Assignment) → Stands A state → MeetsAll D A d.facts → ⊥
 
-abbrev pub IsFound : Known → State → List Demand → Found → Type 0
+abbrev pub IsFound : KnownItems → State → List Demand → Found → Type 0
 IsFound D st ds (Found_all st') = Adds st st' (λ A. MeetsEach D A ds)
 IsFound D st ds (Failed d) = FailsAt D st ds d
 IsFound D st ds Lacking = Unit {0}
 
-pub solve_step : (D : Known) (ds : List Demand) (st : State) → Good st → IsFound D st ds (solve D ds st)
+pub solve_step : (D : KnownItems) (ds : List Demand) (st : State) → Good st → IsFound D st ds (solve D ds st)
 solve_step D [] st g = stay st (λ A. Unit {0}) g (λ A _. tt)
 solve_step D (d ∷ ds) st g = go (take_all D d.facts st) (take_all_step D d.facts st g) (λ st1 g1. solve_step D ds st1 g1)
   where
-    both : (st1 st2 : State) → (M N : Types → Type 0) → Adds st st1 M → Adds st1 st2 N → Adds st st2 (λ A. M A × N A)
+    both : (st1 st2 : State) → (M N : Assignment → Type 0) → Adds st st1 M → Adds st1 st2 N → Adds st st2 (λ A. M A × N A)
     both st1 st2 M N a b = after_both st st1 st2 M N a b
 
     rest : (st1 : State) → Adds st st1 (λ A. MeetsAll D A d.facts) → (r : Found) → IsFound D st1 ds r → IsFound D st (d ∷ ds) r

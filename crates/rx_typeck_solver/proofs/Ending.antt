@@ -10,13 +10,14 @@ use Rattle.rx_typeck_solver.specs.declared.demands.Failure.{Failure}
 use Rattle.rx_typeck_solver.specs.declared.solver.Solved.{Solved}
 use Rattle.rx_typeck_solver.specs.declared.solver.Unsolved.{Unsolved}
 use Rattle.rx_typeck_solver.specs.declared.solver.Unsolved.TheVariants as unsolved
-use Rattle.rx_typeck_solver.specs.Facts.{Known}
+use Rattle.rx_typeck_solver.specs.Facts.{KnownItems}
 use Rattle.rx_typeck_solver.specs.Valid.{Task, Breaks, IsUnclear, Asked}
 use Rattle.rx_typeck_solver.specs.Solver.{State, empty, all_kinds, some_kind, Found, Found_all, Failed, Lacking, solve}
 use Rattle.rx_typeck_solver.specs.Ordered.{Orderly}
 use Rattle.rx_typeck_solver.specs.Cells.{term}
 use Rattle.rx_typeck_solver.specs.Parents.{top, rep_of, Falling, set_of, Classed}
 use Rattle.rx_typeck_solver.specs.Tabled.{index_of, table_of, state_of, Fits, Sized}
+use Rattle.rx_typeck_solver.specs.Trimmed.{IsTrimmed}
 use Rattle.rx_typeck_solver.specs.Ends.{HasFailed, FoundIs, Ended, LiteralsAre, ClassesAre}
 use Rattle.rx_typeck_solver.specs.Solving.{IsSound, IsSolved, IsUnsolved, UnclearAt}
 use Rattle.rx_typeck_solver.proofs.Parenthood.{fun_ext}
@@ -72,6 +73,7 @@ fresh_fits es t f = record {
   formed = λ i h. absurd (let e = f.entries in let l : length es ≡ 0 = ap (λ m. length m) e in omega (arith, h, l));
   classed = subst (λ ps. Classed ps t.classes.sets.items) (sym f.parents) (subst (λ ss. Classed [] ss) (sym f.sets) (record { falling = λ z. omega arith; as_many = refl; left = λ z. left z }));
   terms = λ x i e. let q : None ≡ Some i = sym (fresh_index es t f x) ∙ e in absurd (cc);
+  trimmed = (subst (λ l. IsTrimmed l) (sym f.variables) tt, subst (λ l. IsTrimmed l) (sym f.nodes) tt, subst (λ l. IsTrimmed l) (sym f.expected) tt);
 }
   where
     left : (z : ℕ) → IsTrue (some_kind (set_of [] z))
@@ -84,7 +86,7 @@ fresh_sized sizes es t f = record {
 }
 
 -- from where nothing is known, demands in order lack nothing
-pub fresh_reads : (K : Known) (task : Task) (es : List Entry) (t : Tables) → Orderly task → Fresh es t → solve K task.demands (state_of es t) ≡ Lacking → ⊥
+pub fresh_reads : (K : KnownItems) (task : Task) (es : List Entry) (t : Tables) → Orderly task → Fresh es t → solve K task.demands (state_of es t) ≡ Lacking → ⊥
 fresh_reads K task es t o f e = not_lacking K task o (ap (solve K task.demands) (sym (fresh_empty es t f)) ∙ e)
 
 -- ---- classes whose parents are flat
@@ -105,11 +107,11 @@ asked_at (x ∷ ds) (suc i) d n h e q = inr (asked_at ds i d n (omega arith) e q
 pub asked_read : (qs ds : List Demand) (i : ℕ) (d : Demand) (n : ℕ) → qs ≡ ds → i < length qs → d ≡ get_or qs i d → d.node ≡ n → Asked ds n d.span
 asked_read qs ds i d n e h q r = subst (λ l. Asked l n d.span) e (asked_at qs i d n h q r)
 
-pub unclear_is : (K : Known) (task : Task) (n : ℕ) (u : Unsolved) → UnclearAt task.demands n u → IsUnclear K task n → IsUnsolved K task u
+pub unclear_is : (K : KnownItems) (task : Task) (n : ℕ) (u : Unsolved) → UnclearAt task.demands n u → IsUnclear K task n → IsUnsolved K task u
 unclear_is K task n (unsolved.Broken m s b) h i = (inr (h.1, subst (λ k. IsUnclear K task k) (sym h.0) i), subst (λ k. Asked task.demands k s) (sym h.0) h.2)
 unclear_is K task n unsolved.OutOfMemory h i = absurd h
 
-pub failed_is : (K : Known) (task : Task) (sizes : List ℕ) (es us : List Entry) (t u : Tables) (x : Failure) (o : Option Failure) → Fresh es t → Ended sizes us u (solve K task.demands (state_of es t)) o → o ≡ Some x
+pub failed_is : (K : KnownItems) (task : Task) (sizes : List ℕ) (es us : List Entry) (t u : Tables) (x : Failure) (o : Option Failure) → Fresh es t → Ended sizes us u (solve K task.demands (state_of es t)) o → o ≡ Some x
     → IsUnsolved K task (unsolved.Broken x.node x.span x.broken)
 failed_is K task sizes es us t u x o f e q = go (solve K task.demands (state_of es t)) refl (subst (λ p. FoundIs p (solve K task.demands (state_of es t)) (state_of us u)) q e.found)
   where
@@ -121,12 +123,12 @@ failed_is K task sizes es us t u x o f e q = go (solve K task.demands (state_of 
     go Lacking r h = absurd h
 
 -- the state at the end, with flat classes
-pub ended_all : (K : Known) (task : Task) (sizes : List ℕ) (es us : List Entry) (t u : Tables) (o : Option Failure) (ps : Vec ℕ Global) → Fresh es t → Ended sizes us u (solve K task.demands (state_of es t)) o → o ≡ None → rep_of ps.items ≡ rep_of u.classes.parents.items
+pub ended_all : (K : KnownItems) (task : Task) (sizes : List ℕ) (es us : List Entry) (t u : Tables) (o : Option Failure) (ps : Vec ℕ Global) → Fresh es t → Ended sizes us u (solve K task.demands (state_of es t)) o → o ≡ None → rep_of ps.items ≡ rep_of u.classes.parents.items
     → solve K task.demands empty ≡ Found_all (state_of us (record u { classes = record { parents = ps; sets = u.classes.sets } }))
 ended_all K task sizes es us t u o ps f e q r =
     ap (solve K task.demands) (sym (fresh_empty es t f)) ∙ subst (λ p. FoundIs p (solve K task.demands (state_of es t)) (state_of us u)) q e.found ∙ ap Found_all (flat_state us u ps r)
 
-module _ (K : Known) (task : Task) (o : Orderly task) (s : Solved) (end : solve K task.demands empty ≡ Found_all (state_of s.arena.entries.items s.tables)) where
+module _ (K : KnownItems) (task : Task) (o : Orderly task) (s : Solved) (end : solve K task.demands empty ≡ Found_all (state_of s.arena.entries.items s.tables)) where
   abbrev st : State
   st = state_of s.arena.entries.items s.tables
 

@@ -13,9 +13,10 @@ use Rattle.rx_typeck_solver.specs.Tabled.{index_of}
 use Rattle.rx_typeck_solver.specs.Solver.{filled_leaf, filled_by}
 use Rattle.rx_typeck_solver.specs.Cells.{Cell, is_one, is_many, term_in, shapes_in, cell_form, cell, IsList, FormOk, form_at}
 use Rattle.rx_typeck_solver.specs.Solving.{IsSound}
-use Rattle.rx_typeck_solver.specs.Views.{kind_found, IsEntry, typ_at, typs_at, unnumbered, all_unnumbered, regions_then, joined, EntryTyped, TableTyped, Entered, found_at, TypeIs, IsFound}
+use Rattle.rx_typeck_solver.specs.Views.{kind_found, IsEntry, typ_at, typs_at, unnumbered, all_unnumbered, regions_then, joined, EntryTyped, TableTyped, Entered, found_at, TypeFound, IsFound}
 use Rattle.rx_typeck_solver.proofs.Adding.{cell_is}
 use Rattle.rx_typeck_solver.proofs.Pairing.{term_is}
+use Rattle.rx_typeck_solver.proofs.Trimming.{trimmed_told}
 use Rattle.rx_typeck_solver.proofs.Viewing.{entry_some, entry_none}
 
 -- a lower list
@@ -142,18 +143,21 @@ entered s g = (
   all_entered s s.tables.expected.items (λ n i e. g.fits.terms (subject.Expected n) i e),
 )
 
-type_is : (s : Solved) (D : Declarations) (x : Subject) → IsSound s → (o : Option ℕ) (t : Option Ty) → o ≡ index_of s.tables x → EntryTyped s D o t → TypeIs s D x t
-type_is s D x g None t e h = subst (λ o. TypeIs s D x o) (sym h) (entry_none s x None e refl)
+type_is : (s : Solved) (D : Declarations) (x : Subject) → IsSound s → (o : Option ℕ) (t : Option Ty) → o ≡ index_of s.tables x → EntryTyped s D o t → TypeFound s D x t
+type_is s D x g None t e h = subst (λ o. TypeFound s D x o) (sym h) (entry_none s x None e refl)
 type_is s D x g (Some i) t e h =
     let q = entry_some s x (Some i) i g e refl in
-    subst (λ o. TypeIs s D x o) (sym h.1) (q.0, h.2 ∙ ap (unnumbered D) (sym q.2))
+    subst (λ o. TypeFound s D x o) (sym h.1) (q.0, h.2 ∙ ap (unnumbered D) (sym q.2))
 
 pub all_found : (s : Solved) (D : Declarations) (f : Found) → IsSound s → TableTyped s D s.tables.variables.items f.variables → TableTyped s D s.tables.nodes.items f.nodes
     → TableTyped s D s.tables.expected.items f.expected → IsFound s D f
 unfolding index_of
-all_found s D f g vs ns es = record { each = each }
+all_found s D f g vs ns es = record {
+  each = each;
+  trimmed = (trimmed_told s D s.tables.variables.items f.variables vs g.fits.trimmed.0, trimmed_told s D s.tables.nodes.items f.nodes ns g.fits.trimmed.1, trimmed_told s D s.tables.expected.items f.expected es g.fits.trimmed.2);
+}
   where
-    each : (x : Subject) → TypeIs s D x (found_at f x)
+    each : (x : Subject) → TypeFound s D x (found_at f x)
     each (subject.Variable x) = type_is s D (subject.Variable x) g _ _ refl (typed_at s D _ _ vs x)
     each (subject.Node n) = type_is s D (subject.Node n) g _ _ refl (typed_at s D _ _ ns n)
     each (subject.Expected n) = type_is s D (subject.Expected n) g _ _ refl (typed_at s D _ _ es n)

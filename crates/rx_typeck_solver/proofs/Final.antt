@@ -7,7 +7,7 @@ use Rattle.rx_typeck_solver.specs.declared.facts.Subject.TheVariants as subject
 use Rattle.rx_typeck_solver.specs.declared.facts.Fact.{Fact}
 use Rattle.rx_typeck_solver.specs.declared.facts.Fact.TheVariants as fact
 use Rattle.rx_typeck_solver.specs.declared.facts.Demand.{Demand}
-use Rattle.rx_typeck_solver.specs.Facts.{Types, Known, has, MeetsAll, MeetsEach}
+use Rattle.rx_typeck_solver.specs.Facts.{Assignment, KnownItems, has, MeetsAll, MeetsEach}
 use Rattle.rx_typeck_solver.specs.Valid.{Task, Told, IsIn, Typed, Open, PrefersI32, Valid, MeetsChosen, MeetsOne, Breaks, IsUnclear, Asked}
 use Rattle.rx_typeck_solver.specs.Solver.{Leaf, Fixed, KindOf, Term, State, Root, pick, single, answer, empty, filled_or, Found_all, Failed, Lacking, solve, open_fine, term_fine, literal_fine, leaf_is_of, term_is_of, literal_is_of, has_literal, class_fine}
 use Rattle.rx_typeck_solver.specs.Ordered.{nothing, knows, asks_integer, AsksInteger, Orderly}
@@ -20,7 +20,7 @@ use Rattle.rx_typeck_solver.proofs.Choice.{answer_stands, empty_good, empty_stan
 
 -- ---- a refusal
 
-meets_first : (D : Known) (A : Types) (xs ys : List Demand) → MeetsEach D A (xs ++ ys) → MeetsEach D A xs × MeetsEach D A ys
+meets_first : (D : KnownItems) (A : Assignment) (xs ys : List Demand) → MeetsEach D A (xs ++ ys) → MeetsEach D A xs × MeetsEach D A ys
 meets_first D A [] ys h = (tt, h)
 meets_first D A (x ∷ xs) ys h = let p = meets_first D A xs ys h.1 in ((h.0, p.0), p.1)
 
@@ -29,12 +29,12 @@ flags : List Demand → List Bool
 flags [] = []
 flags (d ∷ ds) = true ∷ flags ds
 
-chosen_is : (D : Known) (task : Task) (A : Types) (xs ys : List Demand) → MeetsChosen D task (flags xs) A (xs ++ ys) ↔ MeetsEach D A xs
+chosen_is : (D : KnownItems) (task : Task) (A : Assignment) (xs ys : List Demand) → MeetsChosen D task (flags xs) A (xs ++ ys) ↔ MeetsEach D A xs
 unfolding flags
 chosen_is D task A [] ys = (λ h. tt, λ h. tt)
 chosen_is D task A (x ∷ xs) ys = let p = chosen_is D task A xs ys in (λ h. (h.0, p.0 h.1), λ h. (h.0, p.1 h.1))
 
-one_is : (D : Known) (task : Task) (A : Types) (d : Demand) (xs ys : List Demand) → MeetsOne D task d.node d.broken A (xs ++ d ∷ ys) → MeetsAll D A d.facts
+one_is : (D : KnownItems) (task : Task) (A : Assignment) (d : Demand) (xs ys : List Demand) → MeetsOne D task d.node d.broken A (xs ++ d ∷ ys) → MeetsAll D A d.facts
 one_is D task A d [] ys h = h.0 refl refl
 one_is D task A d (x ∷ xs) ys h = one_is D task A d xs ys h.1
 
@@ -42,7 +42,7 @@ asked_in : (d : Demand) (xs ys : List Demand) → Asked (xs ++ d ∷ ys) d.node 
 asked_in d [] ys = inl (refl, refl)
 asked_in d (x ∷ xs) ys = inr (asked_in d xs ys)
 
-failing_breaks : (D : Known) (task : Task) (d : Demand) → FailsAt D empty task.demands d → Breaks D task d.node d.broken × Asked task.demands d.node d.span × ((A : Types) → Typed D task A → ⊥)
+failing_breaks : (D : KnownItems) (task : Task) (d : Demand) → FailsAt D empty task.demands d → Breaks D task d.node d.broken × Asked task.demands d.node d.span × ((A : Assignment) → Typed D task A → ⊥)
 failing_breaks D task d h = (breaks, subst (λ l. Asked l d.node d.span) (sym h.split) (asked_in d h.before h.later), none)
   where
     breaks : Breaks D task d.node d.broken
@@ -53,21 +53,21 @@ failing_breaks D task d h = (breaks, subst (λ l. Asked l d.node d.span) (sym h.
       none = λ A m o. h.fails A (h.adds.complete A (empty_stands A) ((chosen_is D task A h.before (d ∷ h.later)).0 (subst (λ l. MeetsChosen D task (flags h.before) A l) h.split m))) (one_is D task A d h.before h.later (subst (λ l. MeetsOne D task d.node d.broken A l) h.split o));
     }
 
-    none : (A : Types) → Typed D task A → ⊥
+    none : (A : Assignment) → Typed D task A → ⊥
     none A t = let p = meets_first D A h.before (d ∷ h.later) (subst (λ l. MeetsEach D A l) h.split t) in h.fails A (h.adds.complete A (empty_stands A) p.0) p.1.0
 
-pub failed_breaks : (D : Known) (task : Task) (d : Demand) → solve D task.demands empty ≡ Failed d → Breaks D task d.node d.broken × Asked task.demands d.node d.span × ((A : Types) → Typed D task A → ⊥)
+pub failed_breaks : (D : KnownItems) (task : Task) (d : Demand) → solve D task.demands empty ≡ Failed d → Breaks D task d.node d.broken × Asked task.demands d.node d.span × ((A : Assignment) → Typed D task A → ⊥)
 failed_breaks D task d e = failing_breaks D task d (subst (λ r. IsFound D empty task.demands r) e (solve_step D task.demands empty empty_good))
 
 nothing_covers : Covers nothing empty.shapes
 nothing_covers x h = absurd (cc)
 
-pub not_lacking : (D : Known) (task : Task) → Orderly task → solve D task.demands empty ≡ Lacking → ⊥
+pub not_lacking : (D : KnownItems) (task : Task) → Orderly task → solve D task.demands empty ≡ Lacking → ⊥
 not_lacking D task o e = subst (λ r. AfterAll (knows nothing task.demands) empty task.demands r) e (solve_after D nothing task.demands empty empty_good nothing_covers o.ordered)
 
 -- ---- literals
 
-asks_fact : (D : Known) (A : Types) (n : ℕ) (fs : List Fact) → IsTrue (asks_integer n fs) → MeetsAll D A fs → (k : Kind) × (peeled (A (subject.Node n)) ≡ integer k)
+asks_fact : (D : KnownItems) (A : Assignment) (n : ℕ) (fs : List Fact) → IsTrue (asks_integer n fs) → MeetsAll D A fs → (k : Kind) × (peeled (A (subject.Node n)) ≡ integer k)
 asks_fact D A n [] h m = cc
 asks_fact D A n (fact.Integer j s ∷ fs) h m = go (nat_eq j n) refl h (λ i. asks_fact D A n fs i m.1)
   where
@@ -81,7 +81,7 @@ asks_fact D A n (fact.IntegerBehind j s ∷ fs) h m = go (nat_eq j n) refl h (λ
     go false e h r = r h
 asks_fact D A n (_ ∷ fs) h m = asks_fact D A n fs h m.1
 
-asks_met : (D : Known) (A : Types) (n : ℕ) (ds : List Demand) → AsksInteger ds n → MeetsEach D A ds → (k : Kind) × (peeled (A (subject.Node n)) ≡ integer k)
+asks_met : (D : KnownItems) (A : Assignment) (n : ℕ) (ds : List Demand) → AsksInteger ds n → MeetsEach D A ds → (k : Kind) × (peeled (A (subject.Node n)) ≡ integer k)
 asks_met D A n [] h m = absurd h
 asks_met D A n (d ∷ ds) (inl h) m = asks_fact D A n d.facts h.1 m.0
 asks_met D A n (d ∷ ds) (inr h) m = asks_met D A n ds h m.1
@@ -92,7 +92,7 @@ asks_asked n (d ∷ ds) (inl h) = (d.span, inl (h.0, refl))
 asks_asked n (d ∷ ds) (inr h) = let p = asks_asked n ds h in (p.0, inr p.1)
 
 -- a shape that is an integer type is one
-integer_leaf : (A : Types) (t : Term) (k : Kind) → filled A t ≡ integer k → (a : Leaf) × (t ≡ integer a)
+integer_leaf : (A : Assignment) (t : Term) (k : Kind) → filled A t ≡ integer k → (a : Leaf) × (t ≡ integer a)
 integer_leaf A (integer a) k e = (a, refl)
 integer_leaf A _ k e = cc
 
@@ -102,7 +102,7 @@ either_false false b h = (refl, h)
 
 -- ---- the state at the end
 
-module _ (D : Known) (task : Task) (st : State) (o : Orderly task) (end : solve D task.demands empty ≡ Found_all st) where
+module _ (D : KnownItems) (task : Task) (st : State) (o : Orderly task) (end : solve D task.demands empty ≡ Found_all st) where
   adds : Adds empty st (λ A. MeetsEach D A task.demands)
   adds = subst (λ r. IsFound D empty task.demands r) end (solve_step D task.demands empty empty_good)
 
@@ -121,10 +121,10 @@ module _ (D : Known) (task : Task) (st : State) (o : Orderly task) (end : solve 
   pub root_asked : (n : ℕ) → Root st.shapes n → AskedAt task.demands n
   root_asked n r = ⊎_elim (λ e. absurd (cc)) (λ h. h) (after.roots n r)
 
-  to_typed : (A : Types) → Stands A st → Typed D task A
+  to_typed : (A : Assignment) → Stands A st → Typed D task A
   to_typed A s = (adds.sound A s).1
 
-  to_stands : (A : Types) → Typed D task A → Stands A st
+  to_stands : (A : Assignment) → Typed D task A → Stands A st
   to_stands A t = adds.complete A (empty_stands A) t
 
   s0 : Stands (answer st) st
@@ -147,7 +147,7 @@ module _ (D : Known) (task : Task) (st : State) (o : Orderly task) (end : solve 
       go None e = let q : peeled (answer st (subject.Node n)) ≡ unit_shape = ap (λ p. peeled (filled_or (λ c. pick (st.set (st.rep c))) p)) e in let r : unit_shape ≡ integer is.0 = sym q ∙ is.1 in absurd (cc)
       go (Some t) e = let p = integer_leaf (answer st) (peeled t) is.0 (sym (ap peeled (s0.shapes (subject.Node n) t e) ∙ peeled_map (leaf_kind (answer st)) t) ∙ is.1) in (t, p.0, e, p.1)
 
-  leaf_type : (A : Types) (n : ℕ) (p : LeafOf n) → Stands A st → peeled (A (subject.Node n)) ≡ integer (leaf_kind A p.1)
+  leaf_type : (A : Assignment) (n : ℕ) (p : LeafOf n) → Stands A st → peeled (A (subject.Node n)) ≡ integer (leaf_kind A p.1)
   leaf_type A n p s = ap peeled (s.shapes (subject.Node n) p.0 p.2) ∙ peeled_map (leaf_kind A) p.0 ∙ ap (filled A) p.3
 
   leaf_rooted : (n : ℕ) (p : LeafOf n) → RootedLeaf st.shapes p.1
@@ -156,7 +156,7 @@ module _ (D : Known) (task : Task) (st : State) (o : Orderly task) (end : solve 
   abbrev OpenAs : ℕ → ℕ → Type 0
   OpenAs n u = (t : Term) × (st.shapes (subject.Node n) ≡ Some t) × (peeled t ≡ integer (KindOf u))
 
-  open_type : (A : Types) (n u : ℕ) → OpenAs n u → Stands A st → peeled (A (subject.Node n)) ≡ integer (kind_at A u)
+  open_type : (A : Assignment) (n u : ℕ) → OpenAs n u → Stands A st → peeled (A (subject.Node n)) ≡ integer (kind_at A u)
   open_type A n u p s = leaf_type A n (p.0, KindOf u, p.1, p.2) s
 
   open_root : (n u : ℕ) → OpenAs n u → Root st.shapes u
@@ -180,7 +180,7 @@ module _ (D : Known) (task : Task) (st : State) (o : Orderly task) (end : solve 
       }
 
   -- an open literal that can't be i32: nothing is valid
-  no_i32 : (n u : ℕ) → IsIn n ls → OpenAs n u → single (st.set (st.rep u)) ≡ false → (st.set (st.rep u)).i32 ≡ false → (A : Types) → PrefersI32 D task A → ⊥
+  no_i32 : (n u : ℕ) → IsIn n ls → OpenAs n u → single (st.set (st.rep u)) ≡ false → (st.set (st.rep u)).i32 ≡ false → (A : Assignment) → PrefersI32 D task A → ⊥
   no_i32 n u h q m i A p =
       let s = to_stands A p.typed in
       let r : integer (kind_at A u) ≡ integer Kind.I32 = sym (open_type A n u q s) ∙ p.prefers n (two_kinds n u h q m) in
@@ -257,7 +257,7 @@ module _ (D : Known) (task : Task) (st : State) (o : Orderly task) (end : solve 
     }
 
     -- every assignment that prefers i32 is the answer at fine classes
-    fine_class : (B : Types) → PrefersI32 D task B → (u : ℕ) → Root st.shapes u → IsTrue (class_fine st ls (st.rep u)) → kind_at (answer st) u ≡ kind_at B u
+    fine_class : (B : Assignment) → PrefersI32 D task B → (u : ℕ) → Root st.shapes u → IsTrue (class_fine st ls (st.rep u)) → kind_at (answer st) u ≡ kind_at B u
     fine_class B p u ru h = go (single (st.set (st.rep u))) refl h
       where
         sb : Stands B st
@@ -279,7 +279,7 @@ module _ (D : Known) (task : Task) (st : State) (o : Orderly task) (end : solve 
     ClassesFine = (n : ℕ) → Root st.shapes n → IsTrue (class_fine st ls (st.rep n))
 
     mutual
-      fine_shape : ClassesFine → (B : Types) → PrefersI32 D task B → (t : Term) → Rooted st.shapes t → filled (answer st) t ≡ filled B t
+      fine_shape : ClassesFine → (B : Assignment) → PrefersI32 D task B → (t : Term) → Rooted st.shapes t → filled (answer st) t ≡ filled B t
       fine_shape cf B p (integer (Fixed k)) r = refl
       fine_shape cf B p (integer (KindOf u)) r = ap integer (fine_class B p u r (cf u r))
       fine_shape cf B p boolean r = refl
@@ -287,7 +287,7 @@ module _ (D : Known) (task : Task) (st : State) (o : Orderly task) (end : solve 
       fine_shape cf B p (reference m t) r = ap (reference m) (fine_shape cf B p t r)
       fine_shape cf B p (named i) r = refl
 
-      fine_shapes : ClassesFine → (B : Types) → PrefersI32 D task B → (ts : Shapes Leaf) → RootedEach st.shapes ts → shapes_map (leaf_kind (answer st)) ts ≡ shapes_map (leaf_kind B) ts
+      fine_shapes : ClassesFine → (B : Assignment) → PrefersI32 D task B → (ts : Shapes Leaf) → RootedEach st.shapes ts → shapes_map (leaf_kind (answer st)) ts ≡ shapes_map (leaf_kind B) ts
       fine_shapes cf B p no_shape r = refl
       fine_shapes cf B p (shape_and t ts) r = ap (λ u. shape_and u (shapes_map (leaf_kind (answer st)) ts)) (fine_shape cf B p t r.0) ∙ ap (shape_and (filled B t)) (fine_shapes cf B p ts r.1)
 
@@ -313,7 +313,7 @@ module _ (D : Known) (task : Task) (st : State) (o : Orderly task) (end : solve 
         other : (l : Kind) × IsTrue (has (st.set (st.rep u)) l) × (kind_at (answer st) u ≡ l → ⊥)
         other = double_other (st.set (st.rep u)) (kind_at (answer st) u) two.0
 
-        another : Types
+        another : Assignment
         another = switched st (answer st) (st.rep u) other.0
 
         s1 : Stands another st

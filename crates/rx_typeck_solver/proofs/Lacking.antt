@@ -12,7 +12,7 @@ use Rattle.rx_typeck_solver.specs.declared.facts.Fact.TheVariants as fact
 use Rattle.rx_typeck_solver.specs.declared.facts.Demand.{Demand}
 use Rattle.rx_typeck_solver.specs.declared.arena.Entry.{Entry}
 use Rattle.rx_typeck_solver.specs.declared.tables.Tables.{Tables}
-use Rattle.rx_typeck_solver.specs.Facts.{Known}
+use Rattle.rx_typeck_solver.specs.Facts.{KnownItems}
 use Rattle.rx_typeck_solver.specs.Solver.{Term, State, Step, Stuck, so, listed, terms_at, gone_at, passed_at, equals, passes, behind_at, take, take_all, Found, Lacking, next, solve}
 use Rattle.rx_typeck_solver.specs.Cells.{term}
 use Rattle.rx_typeck_solver.specs.Tabled.{index_of, table_of}
@@ -70,12 +70,12 @@ is_not_none None e h = cc
 
 -- ---- one fact
 
-equals_reads : (K : Known) (o : Op) (x : Subject) (ts : Option (List Term)) (ms : Option (List Bool)) (st : State) → (equals K o x ts ms st ≡ Stuck → ⊥) → IsSome ts × IsSome ms
+equals_reads : (K : KnownItems) (o : Op) (x : Subject) (ts : Option (List Term)) (ms : Option (List Bool)) (st : State) → (equals K o x ts ms st ≡ Stuck → ⊥) → IsSome ts × IsSome ms
 equals_reads K o x (Some ts) (Some ms) st h = (refl, refl)
 equals_reads K o x (Some ts) None st h = absurd (h refl)
 equals_reads K o x None ms st h = absurd (h refl)
 
-passes_reads : (K : Known) (c : Test) (ts : Option (List Term)) (ms ns : Option (List Bool)) (st : State) → (passes K c ts ms ns st ≡ Stuck → ⊥) → IsSome ts × IsSome ms × IsSome ns
+passes_reads : (K : KnownItems) (c : Test) (ts : Option (List Term)) (ms ns : Option (List Bool)) (st : State) → (passes K c ts ms ns st ≡ Stuck → ⊥) → IsSome ts × IsSome ms × IsSome ns
 passes_reads K c (Some ts) (Some ms) (Some ns) st h = (refl, refl, refl)
 passes_reads K c (Some ts) (Some ms) None st h = absurd (h refl)
 passes_reads K c (Some ts) None ns st h = absurd (h refl)
@@ -85,19 +85,19 @@ behind_reads : (o : Option Term) (k : Kinds) (st : State) → (behind_at o k st 
 behind_reads (Some t) k st h = refl
 behind_reads None k st h = absurd (h refl)
 
-pub fact_equals_reads : (K : Known) (w : Fact) (x : Subject) (o : Op) (xs : List Subject) (ps : List Passing) (st : State) → w ≡ fact.Equals x o xs ps → (take K w st ≡ Stuck → ⊥) → IsSome (terms_at st.shapes xs) × IsSome (passed_at st.shapes ps)
+pub fact_equals_reads : (K : KnownItems) (w : Fact) (x : Subject) (o : Op) (xs : List Subject) (ps : List Passing) (st : State) → w ≡ fact.Equals x o xs ps → (take K w st ≡ Stuck → ⊥) → IsSome (terms_at st.shapes xs) × IsSome (passed_at st.shapes ps)
 fact_equals_reads K w x o xs ps st e h = equals_reads K o x (terms_at st.shapes xs) (passed_at st.shapes ps) st (λ q. h (take_equals K w x o xs ps st e ∙ q))
 
-pub fact_behind_reads : (K : Known) (w : Fact) (n : ℕ) (k : Kinds) (st : State) → w ≡ fact.IntegerBehind n k → (take K w st ≡ Stuck → ⊥) → IsSome (st.shapes (subject.Node n))
+pub fact_behind_reads : (K : KnownItems) (w : Fact) (n : ℕ) (k : Kinds) (st : State) → w ≡ fact.IntegerBehind n k → (take K w st ≡ Stuck → ⊥) → IsSome (st.shapes (subject.Node n))
 fact_behind_reads K w n k st e h = behind_reads (st.shapes (subject.Node n)) k st (λ q. h (take_behind K w n k st e ∙ q))
 
-pub fact_passes_reads : (K : Known) (w : Fact) (c : Test) (xs : List Subject) (ps qs : List Passing) (st : State) → w ≡ fact.Passes c xs ps qs → (take K w st ≡ Stuck → ⊥) → IsSome (terms_at st.shapes xs) × IsSome (passed_at st.shapes ps) × IsSome (passed_at st.shapes qs)
+pub fact_passes_reads : (K : KnownItems) (w : Fact) (c : Test) (xs : List Subject) (ps qs : List Passing) (st : State) → w ≡ fact.Passes c xs ps qs → (take K w st ≡ Stuck → ⊥) → IsSome (terms_at st.shapes xs) × IsSome (passed_at st.shapes ps) × IsSome (passed_at st.shapes qs)
 fact_passes_reads K w c xs ps qs st e h = passes_reads K c (terms_at st.shapes xs) (passed_at st.shapes ps) (passed_at st.shapes qs) st (λ q. h (take_passes K w c xs ps qs st e ∙ q))
 
 -- ---- the first of several: what is left lacks nothing, so the first does not
 
-pub first_fact_reads : (K : Known) (w : Fact) (l rest : List Fact) (st : State) (whole : Step) → l ≡ w ∷ rest → take_all K l st ≡ whole → (whole ≡ Stuck → ⊥) → take K w st ≡ Stuck → ⊥
+pub first_fact_reads : (K : KnownItems) (w : Fact) (l rest : List Fact) (st : State) (whole : Step) → l ≡ w ∷ rest → take_all K l st ≡ whole → (whole ≡ Stuck → ⊥) → take K w st ≡ Stuck → ⊥
 first_fact_reads K w l rest st whole d q h e = h (sym q ∙ ap (λ x. take_all K x st) d ∙ ap (λ r. so r (λ s. take_all K rest s)) e)
 
-pub first_demand_reads : (K : Known) (d : Demand) (l rest : List Demand) (st : State) (whole : Found) → l ≡ d ∷ rest → solve K l st ≡ whole → (whole ≡ Lacking → ⊥) → take_all K d.facts st ≡ Stuck → ⊥
+pub first_demand_reads : (K : KnownItems) (d : Demand) (l rest : List Demand) (st : State) (whole : Found) → l ≡ d ∷ rest → solve K l st ≡ whole → (whole ≡ Lacking → ⊥) → take_all K d.facts st ≡ Stuck → ⊥
 first_demand_reads K d l rest st whole e q h k = h (sym q ∙ ap (λ x. solve K x st) e ∙ ap (λ r. next r d (λ s. solve K rest s)) k)

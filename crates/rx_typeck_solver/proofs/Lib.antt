@@ -12,6 +12,7 @@ pub mod ClassSteps
 pub mod Adding
 pub mod Pairing
 pub mod Tabling
+pub mod Trimming
 pub mod States
 pub mod ListReads
 pub mod Growth

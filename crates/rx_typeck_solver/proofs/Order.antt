@@ -10,7 +10,7 @@ use Rattle.rx_typeck_solver.specs.declared.facts.Op.{Op}
 use Rattle.rx_typeck_solver.specs.declared.facts.Fact.{Fact}
 use Rattle.rx_typeck_solver.specs.declared.facts.Fact.TheVariants as fact
 use Rattle.rx_typeck_solver.specs.declared.facts.Demand.{Demand}
-use Rattle.rx_typeck_solver.specs.Facts.{Known, made, gone_through, holds, Meets, MeetsAll}
+use Rattle.rx_typeck_solver.specs.Facts.{KnownItems, made, gone_through, holds, Meets, MeetsAll}
 use Rattle.rx_typeck_solver.specs.Valid.{Tells, TellsAny, Told, Asked}
 use Rattle.rx_typeck_solver.specs.Solver.{some_kind, Leaf, Fixed, KindOf, Term, State, upd, same_subject, updated, Root, Step, Go, No, Stuck, so, go_if, unify_leaf, unify, unify_each, learn, integer_in, integer_at, terms_at, passed_at, equal_to, equals, take, take_all, Found, Found_all, Failed, Lacking, next, solve}
 use Rattle.rx_typeck_solver.specs.Ordered.{Knowing, more, all_known, all_passed, ready, learns, learns_all, Ready, knows, Ordered}
@@ -100,7 +100,7 @@ either_true : (a b : Bool) → IsTrue (a || b) → IsTrue a ⊎ IsTrue b
 either_true true b h = inl refl
 either_true false b h = inr h
 
-module _ (D : Known) (st : State) (K : Knowing) (c : Covers K st.shapes) where
+module _ (D : KnownItems) (st : State) (K : Knowing) (c : Covers K st.shapes) where
   after_same : (L : Knowing) (T : Subject → Type 0) (F : ℕ → Type 0) (r : Step) → Same st r → ((x : Subject) → T x → IsKnown st.shapes x) → ((x : Subject) → IsTrue (L x) → IsTrue (K x) ⊎ T x) → AfterStep L T F st r
   after_same L T F (Go st') e t l = record {
     covers = λ x h. up x (⊎_elim (λ k. c x k) (λ k. t x k) (l x h));
@@ -197,7 +197,7 @@ module _ (D : Known) (st : State) (K : Knowing) (c : Covers K st.shapes) where
 after_done : (K : Knowing) (F : ℕ → Type 0) (st : State) → Covers K st.shapes → After K (λ x. ⊥) F st st
 after_done K F st c = record { covers = c; kept = λ x k. k; told = λ x h. absurd h; other = λ x k. inl k; roots = λ n r. inl r }
 
-pub facts_after : (D : Known) (n : ℕ) (K : Knowing) (fs : List Fact) (st : State) → Good st → Covers K st.shapes → Ready n K fs → AfterStep (learns_all K fs) (TellsAny fs) (λ m. m ≡ n) st (take_all D fs st)
+pub facts_after : (D : KnownItems) (n : ℕ) (K : Knowing) (fs : List Fact) (st : State) → Good st → Covers K st.shapes → Ready n K fs → AfterStep (learns_all K fs) (TellsAny fs) (λ m. m ≡ n) st (take_all D fs st)
 facts_after D n K [] st g c r = after_done K (λ m. m ≡ n) st c
 facts_after D n K (f ∷ fs) st g c r = go (take D f st) (take_step D st g f) (fact_after D st K c g n f r.0) (λ st1 g1 c1. facts_after D n (learns K f) fs st1 g1 c1 r.1)
   where
@@ -221,7 +221,7 @@ AfterAll K st ds (Found_all st') = After K (Told ds) (AskedAt ds) st st'
 AfterAll K st ds (Failed d) = Unit {0}
 AfterAll K st ds Lacking = ⊥
 
-pub solve_after : (D : Known) (K : Knowing) (ds : List Demand) (st : State) → Good st → Covers K st.shapes → Ordered K ds → AfterAll (knows K ds) st ds (solve D ds st)
+pub solve_after : (D : KnownItems) (K : Knowing) (ds : List Demand) (st : State) → Good st → Covers K st.shapes → Ordered K ds → AfterAll (knows K ds) st ds (solve D ds st)
 solve_after D K [] st g c r = after_done K (AskedAt []) st c
 solve_after D K (d ∷ ds) st g c r = go (take_all D d.facts st) (take_all_step D d.facts st g) (facts_after D d.node K d.facts st g c r.0) (λ st1 g1 c1. solve_after D (learns_all K d.facts) ds st1 g1 c1 r.1)
   where

@@ -14,7 +14,7 @@ use Rattle.rx_typeck_solver.specs.Solver.{KindOf, Term, State, upd, updated, Ste
 use Rattle.rx_typeck_solver.specs.Parents.{rep_of, Falling, set_of, Classed, state_in, step_if}
 use Rattle.rx_typeck_solver.specs.Cells.{Cell, one, many, term_in, is_one, cell, term, IsTerm, FormOk, form_at, Formed, Built, Extends, Makes}
 use Rattle.rx_typeck_solver.specs.Pairs.{unify_cells}
-use Rattle.rx_typeck_solver.specs.Tabled.{index_of, table_of, state_of, Fits, Sized}
+use Rattle.rx_typeck_solver.specs.Tabled.{index_of, table_of, state_of, AreTrimmed, Fits, Sized}
 use Rattle.rx_typeck_solver.proofs.Base.{decide_subject, updated_at, updated_other}
 use Rattle.rx_typeck_solver.proofs.Parenthood.{fun_ext, IsTop, rep_is, rep_top}
 use Rattle.rx_typeck_solver.proofs.ClassSteps.{sets_written, classed_set}
@@ -79,22 +79,24 @@ learnt_new es t u x i o e n h k c =
     ∙ ap (λ (tab : Subject → Option Term). Go (state_in tab t.classes.parents.items t.classes.sets.items)) (sym (table_put es t u x i h k))
     ∙ ap (λ (d : Classes). Go (state_in (table_of es u) d.parents.items d.sets.items)) (sym c)
 
-pub put_fits : (es : List Entry) (t u : Tables) (x : Subject) (i : ℕ) → Fits es t → IsTerm es i → index_of u x ≡ Some i → ((y : Subject) → (y ≡ x → ⊥) → index_of u y ≡ index_of t y) → u.classes ≡ t.classes → Fits es u
-put_fits es t u x i f it h k c = record {
+pub put_fits : (es : List Entry) (t u : Tables) (x : Subject) (i : ℕ) → Fits es t → IsTerm es i → index_of u x ≡ Some i → ((y : Subject) → (y ≡ x → ⊥) → index_of u y ≡ index_of t y) → u.classes ≡ t.classes → (AreTrimmed t → AreTrimmed u) → Fits es u
+put_fits es t u x i f it h k c more = record {
   formed = subst (λ (d : Classes). Formed (length d.parents.items) es) (sym c) f.formed;
   classed = subst (λ (d : Classes). Classed d.parents.items d.sets.items) (sym c) f.classed;
   terms = put_terms es t u x i it h k f.terms;
+  trimmed = more f.trimmed;
 }
 
 -- classes change, and the tables stay
 pub with_classes : Tables → Classes → Tables
 with_classes t d = record t { classes = d }
 
-pub classes_fits : (es : List Entry) (t u : Tables) → Fits es t → ((y : Subject) → index_of u y ≡ index_of t y) → Classed u.classes.parents.items u.classes.sets.items → length u.classes.parents.items ≡ length t.classes.parents.items → Fits es u
-classes_fits es t u f k c l = record {
+pub classes_fits : (es : List Entry) (t u : Tables) → Fits es t → ((y : Subject) → index_of u y ≡ index_of t y) → Classed u.classes.parents.items u.classes.sets.items → length u.classes.parents.items ≡ length t.classes.parents.items → AreTrimmed u → Fits es u
+classes_fits es t u f k c l ends = record {
   formed = subst (λ n. Formed n es) (sym l) f.formed;
   classed = c;
   terms = λ y i e. f.terms y i (sym (k y) ∙ e);
+  trimmed = ends;
 }
 
 cells_terms : (c d : Cell) (st : State) → IsTrue (is_one c) → IsTrue (is_one d) → unify_cells c d st ≡ learn (Some (term_in c)) (subject.Node 0) (term_in d) st
@@ -182,7 +184,7 @@ pub restated : (es : List Entry) (t : Tables) (d : Classes) (r : Step) (q : Bool
 restated es t d r q e = e ∙ ap (step_if q) (restate es t d)
 
 pub refits : (es : List Entry) (t : Tables) (d : Classes) → Fits es t → Classed d.parents.items d.sets.items → length d.parents.items ≡ length t.classes.parents.items → Fits es (record t { classes = d })
-refits es t d f c l = classes_fits es t (record t { classes = d }) f (same_index t d) c l
+refits es t d f c l = classes_fits es t (record t { classes = d }) f (same_index t d) c l f.trimmed
 
 pub integer_known : (es : List Entry) (t : Tables) (n i : ℕ) (k : Kinds) (o : Option ℕ) (r : Step) → o ≡ index_of t (subject.Node n) → o ≡ Some i → integer_in (term es i) k (state_of es t) ≡ r → integer_at (table_of es t (subject.Node n)) n k (state_of es t) ≡ r
 integer_known es t n i k o r e h g = ap (λ p. integer_at p n k (state_of es t)) (table_is es t (subject.Node n) o e ∙ ap (option_map (term es)) h) ∙ g
@@ -224,8 +226,8 @@ fresh_sized es us t d n i f r h make sizes z =
     sized_of sizes (length d.parents.items) us m.built
 
 -- the class's set is written last
-pub fresh_fits : (es us : List Entry) (t u v : Tables) (d : Classes) (n i : ℕ) (k : Kinds) → Fits es t → Freshened es us t u d n i → some_kind k ≡ true → ((y : Subject) → index_of v y ≡ index_of u y) → v.classes.parents ≡ u.classes.parents → v.classes.sets.items ≡ set u.classes.sets.items n k → Fits us v
-fresh_fits es us t u v d n i k f r h same ep es' =
+pub fresh_fits : (es us : List Entry) (t u v : Tables) (d : Classes) (n i : ℕ) (k : Kinds) → Fits es t → Freshened es us t u d n i → some_kind k ≡ true → ((y : Subject) → index_of v y ≡ index_of u y) → v.classes.parents ≡ u.classes.parents → v.classes.sets.items ≡ set u.classes.sets.items n k → AreTrimmed v → Fits us v
+fresh_fits es us t u v d n i k f r h same ep es' ends =
     let pp : v.classes.parents.items ≡ d.parents.items = ap (λ (p : Vec ℕ Global). p.items) ep ∙ ap (λ (c : Classes). c.parents.items) r.classes in
     let ss : v.classes.sets.items ≡ set d.sets.items n k = es' ∙ ap (λ (c : Classes). set c.sets.items n k) r.classes in
     record {
@@ -233,6 +235,7 @@ fresh_fits es us t u v d n i k f r h same ep es' =
       classed = subst (λ ps. Classed ps v.classes.sets.items) (sym pp) (subst (λ ss. Classed d.parents.items ss) (sym ss)
           (classed_set d.parents.items d.parents.items d.sets.items n k r.reached.classed r.reached.classed.falling refl (let w = r.within in let a = r.reached.classed.as_many in omega (arith, w, a)) h));
       terms = λ y j e. put_terms us (record t { classes = d }) u (subject.Node n) i r.at r.here r.other (λ z l q. term_kept es us l r.extends (f.terms z l (sym (same_index t d z) ∙ q))) y j (sym (same y) ∙ e);
+      trimmed = ends;
     }
 
 pub fresh_goes : (es us : List Entry) (t u v : Tables) (d : Classes) (n i : ℕ) (k : Kinds) → Fits es t → Freshened es us t u d n i → some_kind k ≡ true → ((y : Subject) → index_of v y ≡ index_of u y) → v.classes.parents ≡ u.classes.parents → v.classes.sets.items ≡ set u.classes.sets.items n k → fresh n k (state_of es t) ≡ Go (state_of us v)

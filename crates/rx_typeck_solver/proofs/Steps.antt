@@ -6,26 +6,26 @@ use Rattle.rx_typed.specs.Types.{Shapes, integer, boolean, tuple_of, reference, 
 use Rattle.rx_typeck_solver.specs.declared.facts.Kinds.{Kinds}
 use Rattle.rx_typeck_solver.specs.declared.facts.Subject.{Subject}
 use Rattle.rx_typeck_solver.specs.declared.facts.Subject.TheVariants as subject
-use Rattle.rx_typeck_solver.specs.Facts.{Types, has, AnInteger}
+use Rattle.rx_typeck_solver.specs.Facts.{Assignment, has, AnInteger}
 use Rattle.rx_typeck_solver.specs.Solver.{only, meet, some_kind, Leaf, Fixed, KindOf, Term, State, upd, updated, Step, Go, No, Stuck, so, go_if, Root, restrict, join, merge, unify_leaf, unify, unify_each, put, fresh}
 use Rattle.rx_typeck_solver.proofs.Base.{upd_same, upd_other, upd_elim, upd_at, decide, updated_at, updated_other, decide_subject, node_same, has_meet, has_some, has_only, kind_of, kind_at, leaf_kind, filled, Table, RootedLeaf, Rooted, RootedEach, Good, Stands, Adds, IsStep}
 
-pub stay : (st : State) (M : Types → Type 0) → Good st → ((A : Types) → Stands A st → M A) → Adds st st M
+pub stay : (st : State) (M : Assignment → Type 0) → Good st → ((A : Assignment) → Stands A st → M A) → Adds st st M
 stay st M g h = record { good = g; keeps = λ x t e. e; sound = λ A s. (s, h A s); complete = λ A s m. s }
 
-pub another : (st : State) (M N : Types → Type 0) (r : Step) → ((A : Types) → Stands A st → M A ↔ N A) → IsStep st M r → IsStep st N r
+pub another : (st : State) (M N : Assignment → Type 0) (r : Step) → ((A : Assignment) → Stands A st → M A ↔ N A) → IsStep st M r → IsStep st N r
 another st M N (Go st') e h = record { good = h.good; keeps = h.keeps; sound = λ A s. let p = h.sound A s in (p.0, (e A p.0).0 p.1); complete = λ A s n. h.complete A s ((e A s).1 n) }
 another st M N No e h = λ A s n. h A s ((e A s).1 n)
 another st M N Stuck e h = tt
 
-pub recast : (st st' : State) (M N : Types → Type 0) → ((A : Types) → Stands A st → M A ↔ N A) → Adds st st' M → Adds st st' N
+pub recast : (st st' : State) (M N : Assignment → Type 0) → ((A : Assignment) → Stands A st → M A ↔ N A) → Adds st st' M → Adds st st' N
 recast st st' M N e h = another st M N (Go st') e h
 
 narrow : (r : ℕ) (s : Kinds) (set : ℕ → Kinds) (z : ℕ) (k : Kind) → IsTrue (has (upd r (meet (set r) s) set z) k) → IsTrue (has (set z) k)
 narrow r s set z k h = ⊎_elim (λ e. subst (λ y. IsTrue (has (set y) k)) (sym e) ((has_meet (set r) s k).0 (rw (upd_at r (meet (set r) s) set z e) at h)).0) (λ n. rw (upd_other r (meet (set r) s) set z n) at h) (decide z r)
 
 -- two numbers of one class
-pub one_kind : (A : Types) (st : State) (z u : ℕ) → Stands A st → Root st.shapes z → Root st.shapes u → st.rep z ≡ st.rep u → kind_at A z ≡ kind_at A u
+pub one_kind : (A : Assignment) (st : State) (z u : ℕ) → Stands A st → Root st.shapes z → Root st.shapes u → st.rep z ≡ st.rep u → kind_at A z ≡ kind_at A u
 one_kind A st z u h rz ru e = h.alike z rz ∙ ap (λ y. kind_at A y) e ∙ sym (h.alike u ru)
 
 pub restrict_step : (st : State) (u : ℕ) (s : Kinds) → Good st → Root st.shapes u → IsStep st (λ A. IsTrue (has s (kind_at A u))) (restrict u s st)
@@ -84,10 +84,10 @@ joined_step st u v g ru rv = go (some_kind both) refl
       kinds_left = λ z rz. upd_elim (λ x. IsTrue (some_kind (new.set x))) q r (λ x. x) (st.rep z) (λ _. left e r (g.kinds_left u ru)) (λ _. left e (st.rep z) (g.kinds_left z rz));
     }
 
-    in_both : (A : Types) → Stands A st → kind_at A u ≡ kind_at A v → IsTrue (has both (kind_at A u))
+    in_both : (A : Assignment) → Stands A st → kind_at A u ≡ kind_at A v → IsTrue (has both (kind_at A u))
     in_both A h m = (has_meet (st.set r) (st.set q) (kind_at A u)).1 (h.within u ru, subst (λ k. IsTrue (has (st.set q) k)) (sym m) (h.within v rv))
 
-    full : (A : Types) → Stands A st → kind_at A u ≡ kind_at A v → Stands A new
+    full : (A : Assignment) → Stands A st → kind_at A u ≡ kind_at A v → Stands A new
     full A h m = record {
       shapes = h.shapes;
       within = λ z rz. upd_elim (λ x. IsTrue (has (new.set x) (kind_at A z))) q r (λ x. x) (st.rep z)
@@ -97,10 +97,10 @@ joined_step st u v g ru rv = go (some_kind both) refl
     }
 
     -- back from the new state
-    at_r : (A : Types) → Stands A new → (z : ℕ) → Root st.shapes z → st.rep z ≡ q → kind_at A z ≡ kind_at A r
+    at_r : (A : Assignment) → Stands A new → (z : ℕ) → Root st.shapes z → st.rep z ≡ q → kind_at A z ≡ kind_at A r
     at_r A h z rz e = h.alike z rz ∙ ap (λ x. kind_at A x) (upd_at q r (λ x. x) (st.rep z) e)
 
-    back : (A : Types) → Stands A new → Stands A st
+    back : (A : Assignment) → Stands A new → Stands A st
     back A h = record {
       shapes = h.shapes;
       within = λ z rz. ⊎_elim
@@ -251,7 +251,7 @@ fresh_step st i s g none = go (some_kind s) refl
 
 -- ---- shapes that are to be equal
 
-pub go_step : (st : State) (b : Bool) (M : Types → Type 0) → Good st → ((A : Types) → Stands A st → IsTrue b ↔ M A) → IsStep st M (go_if b st)
+pub go_step : (st : State) (b : Bool) (M : Assignment → Type 0) → Good st → ((A : Assignment) → Stands A st → IsTrue b ↔ M A) → IsStep st M (go_if b st)
 go_step st true M g e = stay st M g (λ A s. (e A s).0 refl)
 go_step st false M g e = λ A s m. let t = (e A s).1 m in absurd (cc)
 
@@ -262,7 +262,7 @@ leaf_step st (KindOf u) (Fixed l) g ra rb = another st _ _ _ (λ A s. (λ h. sym
 leaf_step st (KindOf u) (KindOf v) g ra rb = merge_step st u v g ra rb
 
 -- one step after another
-pub after_both : (st st1 st2 : State) (M N : Types → Type 0) → Adds st st1 M → Adds st1 st2 N → Adds st st2 (λ A. M A × N A)
+pub after_both : (st st1 st2 : State) (M N : Assignment → Type 0) → Adds st st1 M → Adds st1 st2 N → Adds st st2 (λ A. M A × N A)
 after_both st st1 st2 M N a b = record {
   good = b.good;
   keeps = λ x t e. b.keeps x t (a.keeps x t e);
@@ -270,12 +270,12 @@ after_both st st1 st2 M N a b = record {
   complete = λ A s m. b.complete A (a.complete A s m.0) m.1;
 }
 
-after_one : (st st1 : State) (M N : Types → Type 0) (r : Step) → Adds st st1 M → IsStep st1 N r → IsStep st (λ A. M A × N A) r
+after_one : (st st1 : State) (M N : Assignment → Type 0) (r : Step) → Adds st st1 M → IsStep st1 N r → IsStep st (λ A. M A × N A) r
 after_one st st1 M N (Go st2) a b = after_both st st1 st2 M N a b
 after_one st st1 M N No a b = λ A s m. b A (a.complete A s m.0) m.1
 after_one st st1 M N Stuck a b = tt
 
-pub after_step : (st : State) (M N : Types → Type 0) (r : Step) (f : State → Step) → IsStep st M r → ((st1 : State) → Adds st st1 M → IsStep st1 N (f st1)) → IsStep st (λ A. M A × N A) (so r f)
+pub after_step : (st : State) (M N : Assignment → Type 0) (r : Step) (f : State → Step) → IsStep st M r → ((st1 : State) → Adds st st1 M → IsStep st1 N (f st1)) → IsStep st (λ A. M A × N A) (so r f)
 after_step st M N (Go st1) f a h = after_one st st1 M N (f st1) a (h st1 a)
 after_step st M N No f a h = λ A s m. a A s m.0
 after_step st M N Stuck f a h = tt
@@ -294,7 +294,7 @@ mutual
   rooteds_kept tab new no_shape h r = tt
   rooteds_kept tab new (shape_and t ts) h r = (rooted_kept tab new t h r.0, rooteds_kept tab new ts h r.1)
 
-abbrev filled_each : Types → Shapes Leaf → Shapes Kind
+abbrev filled_each : Assignment → Shapes Leaf → Shapes Kind
 filled_each A ts = shapes_map (leaf_kind A) ts
 
 mutual

@@ -15,7 +15,7 @@ use Rattle.rx_typeck_solver.specs.declared.facts.Subject.TheVariants as subject
 use Rattle.rx_typeck_solver.specs.declared.arena.Entry.{Entry}
 use Rattle.rx_typeck_solver.specs.declared.tables.Tables.{Tables}
 use Rattle.rx_typeck_solver.specs.declared.reading.Passed.{Passed}
-use Rattle.rx_typeck_solver.specs.Facts.{Known, made, holds}
+use Rattle.rx_typeck_solver.specs.Facts.{KnownItems, made, holds}
 use Rattle.rx_typeck_solver.specs.Solver.{Fixed, Term, State, Step, No, so, go_if, learn, listed, terms_at, passed_at, equal_to, equals, passes, integer_at, behind_at, take, take_all}
 use Rattle.rx_typeck_solver.specs.Parents.{step_if, rep_of, set_of}
 use Rattle.rx_typeck_solver.specs.Cells.{term, IsTerm}
@@ -46,7 +46,7 @@ entries_terms es t (x ∷ xs) js f e = go (index_of t x) (terms_at (index_of t) 
     go None p a b h k = cc
 
 pub extended_fits : (sizes : List ℕ) (es us : List Entry) (t : Tables) → Fits es t → Grows sizes es us → Fits us t
-extended_fits sizes es us t f g = record { formed = g.formed (length t.classes.parents.items) f.formed; classed = f.classed; terms = λ x i e. term_kept es us i g.extends (f.terms x i e) }
+extended_fits sizes es us t f g = record { formed = g.formed (length t.classes.parents.items) f.formed; classed = f.classed; terms = λ x i e. term_kept es us i g.extends (f.terms x i e); trimmed = f.trimmed }
 
 module _ (items : List Decl) (sizes : List ℕ) (es us : List Entry) (t : Tables) (xs : List Subject) (js ks : List ℕ) (ps : List Passing) (s : Passed) (o : Op) (m : Option ℕ)
     (f : Fits es t) (e : terms_at (index_of t) xs ≡ Some js) (k : ks ≡ js) (d : sum_at (table_of es t) ps ≡ Some s)
@@ -106,36 +106,36 @@ pub stepped_as : (sizes : List ℕ) (es : List Entry) (t : Tables) (r q : Step) 
 stepped_as sizes es t r q g e h = record { step = e ∙ h.step; fits = h.fits; sized = h.sized }
 
 -- one fact
-pub take_equals : (K : Known) (w : Fact) (x : Subject) (o : Op) (xs : List Subject) (ps : List Passing) (st : State) → w ≡ fact.Equals x o xs ps → take K w st ≡ equals K o x (terms_at st.shapes xs) (passed_at st.shapes ps) st
+pub take_equals : (K : KnownItems) (w : Fact) (x : Subject) (o : Op) (xs : List Subject) (ps : List Passing) (st : State) → w ≡ fact.Equals x o xs ps → take K w st ≡ equals K o x (terms_at st.shapes xs) (passed_at st.shapes ps) st
 unfolding take
 take_equals K w x o xs ps st e = ap (λ v. take K v st) e
 
-pub take_integer : (K : Known) (w : Fact) (n : ℕ) (k : Kinds) (st : State) → w ≡ fact.Integer n k → take K w st ≡ integer_at (st.shapes (subject.Node n)) n k st
+pub take_integer : (K : KnownItems) (w : Fact) (n : ℕ) (k : Kinds) (st : State) → w ≡ fact.Integer n k → take K w st ≡ integer_at (st.shapes (subject.Node n)) n k st
 unfolding take
 take_integer K w n k st e = ap (λ v. take K v st) e
 
-pub take_behind : (K : Known) (w : Fact) (n : ℕ) (k : Kinds) (st : State) → w ≡ fact.IntegerBehind n k → take K w st ≡ behind_at (st.shapes (subject.Node n)) k st
+pub take_behind : (K : KnownItems) (w : Fact) (n : ℕ) (k : Kinds) (st : State) → w ≡ fact.IntegerBehind n k → take K w st ≡ behind_at (st.shapes (subject.Node n)) k st
 unfolding take
 take_behind K w n k st e = ap (λ v. take K v st) e
 
-pub take_passes : (K : Known) (w : Fact) (c : Test) (xs : List Subject) (ps qs : List Passing) (st : State) → w ≡ fact.Passes c xs ps qs → take K w st ≡ passes K c (terms_at st.shapes xs) (passed_at st.shapes ps) (passed_at st.shapes qs) st
+pub take_passes : (K : KnownItems) (w : Fact) (c : Test) (xs : List Subject) (ps qs : List Passing) (st : State) → w ≡ fact.Passes c xs ps qs → take K w st ≡ passes K c (terms_at st.shapes xs) (passed_at st.shapes ps) (passed_at st.shapes qs) st
 unfolding take
 take_passes K w c xs ps qs st e = ap (λ v. take K v st) e
 
-pub take_never : (K : Known) (w : Fact) (st : State) → w ≡ fact.Never → take K w st ≡ No
+pub take_never : (K : KnownItems) (w : Fact) (st : State) → w ≡ fact.Never → take K w st ≡ No
 unfolding take
 take_never K w st e = ap (λ v. take K v st) e
 
 -- facts in turn
-pub facts_go : (K : Known) (sizes : List ℕ) (es us : List Entry) (t u : Tables) (w : Fact) (l rest : List Fact) (whole : Step) (g : Bool) → Stepped sizes us u (take K w (state_of es t)) g → g ≡ true → l ≡ w ∷ rest → take_all K l (state_of es t) ≡ whole → take_all K rest (state_of us u) ≡ whole
+pub facts_go : (K : KnownItems) (sizes : List ℕ) (es us : List Entry) (t u : Tables) (w : Fact) (l rest : List Fact) (whole : Step) (g : Bool) → Stepped sizes us u (take K w (state_of es t)) g → g ≡ true → l ≡ w ∷ rest → take_all K l (state_of es t) ≡ whole → take_all K rest (state_of us u) ≡ whole
 facts_go K sizes es us t u w l rest whole g h e d q = sym (ap (λ x. take_all K x (state_of es t)) d ∙ ap (λ r. so r (λ s. take_all K rest s)) (h.step ∙ ap (λ b. step_if b (state_of us u)) e)) ∙ q
 
-pub facts_stop : (K : Known) (sizes : List ℕ) (es us : List Entry) (t u : Tables) (w : Fact) (l rest : List Fact) (whole : Step) (g : Bool) → Stepped sizes us u (take K w (state_of es t)) g → g ≡ false → l ≡ w ∷ rest → take_all K l (state_of es t) ≡ whole → Stepped sizes us u whole false
+pub facts_stop : (K : KnownItems) (sizes : List ℕ) (es us : List Entry) (t u : Tables) (w : Fact) (l rest : List Fact) (whole : Step) (g : Bool) → Stepped sizes us u (take K w (state_of es t)) g → g ≡ false → l ≡ w ∷ rest → take_all K l (state_of es t) ≡ whole → Stepped sizes us u whole false
 facts_stop K sizes es us t u w l rest whole g h e d q = record {
   step = sym q ∙ ap (λ x. take_all K x (state_of es t)) d ∙ ap (λ r. so r (λ s. take_all K rest s)) (h.step ∙ ap (λ b. step_if b (state_of us u)) e);
   fits = h.fits;
   sized = h.sized;
 }
 
-pub facts_end : (K : Known) (sizes : List ℕ) (es : List Entry) (t : Tables) (l : List Fact) (whole : Step) → Fits es t → Sized sizes es → l ≡ [] → take_all K l (state_of es t) ≡ whole → Stepped sizes es t whole true
+pub facts_end : (K : KnownItems) (sizes : List ℕ) (es : List Entry) (t : Tables) (l : List Fact) (whole : Step) → Fits es t → Sized sizes es → l ≡ [] → take_all K l (state_of es t) ≡ whole → Stepped sizes es t whole true
 facts_end K sizes es t l whole f z d q = record { step = sym q ∙ ap (λ x. take_all K x (state_of es t)) d; fits = f; sized = z }

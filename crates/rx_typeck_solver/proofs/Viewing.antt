@@ -14,18 +14,18 @@ use Rattle.rx_typeck_solver.specs.Parents.{set_of}
 use Rattle.rx_typeck_solver.specs.Cells.{term_in, shapes_in, cell_form, cell, term, form_at}
 use Rattle.rx_typeck_solver.specs.Tabled.{index_of, table_of}
 use Rattle.rx_typeck_solver.specs.Growing.{MadeIs}
-use Rattle.rx_typeck_solver.specs.Solving.{types_of, HasType, IsSound}
+use Rattle.rx_typeck_solver.specs.Solving.{types_of, HasTerm, IsSound}
 use Rattle.rx_typeck_solver.specs.Views.{kind_found, IsEntry, typ_at, PartIs}
 use Rattle.rx_typeck_solver.proofs.Natural.{peeled_map, parts_map}
 use Rattle.rx_typeck_solver.proofs.Pairing.{term_is, to_lower}
 use Rattle.rx_typeck_solver.proofs.States.{table_is}
 
-pub entry_some : (s : Solved) (x : Subject) (o : Option ℕ) (i : ℕ) → IsSound s → o ≡ index_of s.tables x → o ≡ Some i → HasType s x × IsEntry s i × (types_of s x ≡ typ_at s i)
+pub entry_some : (s : Solved) (x : Subject) (o : Option ℕ) (i : ℕ) → IsSound s → o ≡ index_of s.tables x → o ≡ Some i → HasTerm s x × IsEntry s i × (types_of s x ≡ typ_at s i)
 entry_some s x o i g e h =
     let q : table_of s.arena.entries.items s.tables x ≡ Some (term s.arena.entries.items i) = table_is s.arena.entries.items s.tables x o e ∙ ap (option_map (term s.arena.entries.items)) h in
     ((term s.arena.entries.items i, q), g.fits.terms x i (sym e ∙ h), ap (filled_or (kind_found s)) q)
 
-pub entry_none : (s : Solved) (x : Subject) (o : Option ℕ) → o ≡ index_of s.tables x → o ≡ None → HasType s x → ⊥
+pub entry_none : (s : Solved) (x : Subject) (o : Option ℕ) → o ≡ index_of s.tables x → o ≡ None → HasTerm s x → ⊥
 entry_none s x o e h t =
     let q : table_of s.arena.entries.items s.tables x ≡ None = table_is s.arena.entries.items s.tables x o e ∙ ap (option_map (term s.arena.entries.items)) h in
     let y : None ≡ Some t.0 = sym q ∙ t.1 in cc

@@ -16,11 +16,11 @@ use Rattle.rx_typeck_solver.specs.declared.facts.Fact.TheVariants as fact
 use Rattle.rx_typeck_solver.specs.declared.facts.Demand.{Demand}
 
 -- an assignment gives each variable, each node and each expectation a type
-abbrev pub Types : Type 0
-Types = Subject → Typ
+abbrev pub Assignment : Type 0
+Assignment = Subject → Typ
 
 -- what is declared, and how many parts each struct and enum has
-pub record Known : Type 0 where
+pub record KnownItems : Type 0 where
   pub items : Declarations
   pub sizes : ℕ → ℕ
 
@@ -169,7 +169,7 @@ is_unit None = false
 is_unit (Some t) = is_unit_typ t
 
 -- the types, the dereferences of a pattern (`ms`), those of a place (`qs`)
-abbrev pub holds : Known → Test → List Outline → List Bool → List Bool → Bool
+abbrev pub holds : KnownItems → Test → List Outline → List Bool → List Bool → Bool
 holds D test.Plain ts ms qs = test_one is_plain ts
 holds D test.IntegerBehind ts ms qs = test_one (λ t. is_integer (peeled t)) ts
 holds D test.TruthBehind ts ms qs = test_one (λ t. is_truth (peeled t)) ts
@@ -197,30 +197,30 @@ holds D (test.GivesUnit f) ts ms qs = is_unit (result_declared (slice_get D.item
 abbrev pub gone_through : {K : Type 0} → Bool → Shape K → List Bool
 gone_through all t = if all then references t else outermost t
 
-abbrev pub passed : Types → List Passing → List Bool
+abbrev pub passed : Assignment → List Passing → List Bool
 passed A [] = []
 passed A (p ∷ ps) = gone_through p.all (A (subject.Node p.node)) ++ passed A ps
 
-abbrev pub types_at : Types → List Subject → List Typ
+abbrev pub types_at : Assignment → List Subject → List Typ
 types_at A xs = map A xs
 
-abbrev pub outlines_at : Types → List Subject → List Outline
+abbrev pub outlines_at : Assignment → List Subject → List Outline
 outlines_at A xs = map (λ x. outline (A x)) xs
 
 abbrev pub AnInteger : Kinds → Typ → Type 0
 AnInteger s t = (k : Kind) × (t ≡ integer k) × IsTrue (has s k)
 
-abbrev pub Meets : Known → Types → Fact → Type 0
+abbrev pub Meets : KnownItems → Assignment → Fact → Type 0
 Meets D A (fact.Equals x o xs ps) = made (λ k. k) D.items o (types_at A xs) (passed A ps) ≡ Some (A x)
 Meets D A (fact.Integer n s) = AnInteger s (A (subject.Node n))
 Meets D A (fact.IntegerBehind n s) = AnInteger s (peeled (A (subject.Node n)))
 Meets D A (fact.Passes t xs ps qs) = IsTrue (holds D t (outlines_at A xs) (passed A ps) (passed A qs))
 Meets D A fact.Never = ⊥
 
-abbrev pub MeetsAll : Known → Types → List Fact → Type 0
+abbrev pub MeetsAll : KnownItems → Assignment → List Fact → Type 0
 MeetsAll D A [] = Unit {0}
 MeetsAll D A (f ∷ fs) = Meets D A f × MeetsAll D A fs
 
-abbrev pub MeetsEach : Known → Types → List Demand → Type 0
+abbrev pub MeetsEach : KnownItems → Assignment → List Demand → Type 0
 MeetsEach D A [] = Unit {0}
 MeetsEach D A (d ∷ ds) = MeetsAll D A d.facts × MeetsEach D A ds

@@ -5,6 +5,7 @@ pub mod Ordered
 pub mod Parents
 pub mod Cells
 pub mod Pairs
+pub mod Trimmed
 pub mod Tabled
 pub mod Reading
 pub mod Growing

@@ -11,7 +11,7 @@ use Rattle.rx_typeck_solver.specs.declared.facts.Test.{Test}
 use Rattle.rx_typeck_solver.specs.declared.facts.Fact.{Fact}
 use Rattle.rx_typeck_solver.specs.declared.facts.Fact.TheVariants as fact
 use Rattle.rx_typeck_solver.specs.declared.facts.Demand.{Demand}
-use Rattle.rx_typeck_solver.specs.Facts.{Types, Known, has, made, gone_through, holds}
+use Rattle.rx_typeck_solver.specs.Facts.{Assignment, KnownItems, has, made, gone_through, holds}
 
 -- ---- sets of integer types
 
@@ -178,23 +178,23 @@ abbrev pub equal_to : Option Term → Subject → State → Step
 equal_to None x st = No
 equal_to (Some t) x st = learn (st.shapes x) x t st
 
-abbrev pub equals : Known → Op → Subject → Option (List Term) → Option (List Bool) → State → Step
+abbrev pub equals : KnownItems → Op → Subject → Option (List Term) → Option (List Bool) → State → Step
 equals D o x (Some ts) (Some ms) st = equal_to (made Fixed D.items o ts ms) x st
 equals D o x _ _ st = Stuck
 
-abbrev pub passes : Known → Test → Option (List Term) → Option (List Bool) → Option (List Bool) → State → Step
+abbrev pub passes : KnownItems → Test → Option (List Term) → Option (List Bool) → Option (List Bool) → State → Step
 passes D t (Some ts) (Some ms) (Some qs) st = go_if (holds D t (map outline ts) ms qs) st
 passes D t _ _ _ st = Stuck
 
 -- one fact
-unfoldable pub take : Known → Fact → State → Step
+unfoldable pub take : KnownItems → Fact → State → Step
 take D (fact.Equals x o xs ps) st = equals D o x (terms_at st.shapes xs) (passed_at st.shapes ps) st
 take D (fact.Integer n s) st = integer_at (st.shapes (subject.Node n)) n s st
 take D (fact.IntegerBehind n s) st = behind_at (st.shapes (subject.Node n)) s st
 take D (fact.Passes t xs ps qs) st = passes D t (terms_at st.shapes xs) (passed_at st.shapes ps) (passed_at st.shapes qs) st
 take D fact.Never st = No
 
-abbrev pub take_all : Known → List Fact → State → Step
+abbrev pub take_all : KnownItems → List Fact → State → Step
 take_all D [] st = Go st
 take_all D (f ∷ fs) st = so (take D f st) (λ s. take_all D fs s)
 
@@ -209,7 +209,7 @@ next (Go st) d go = go st
 next No d go = Failed d
 next Stuck d go = Lacking
 
-abbrev pub solve : Known → List Demand → State → Found
+abbrev pub solve : KnownItems → List Demand → State → Found
 solve D [] st = Found_all st
 solve D (d ∷ ds) st = next (take_all D d.facts st) d (λ s. solve D ds s)
 
@@ -227,10 +227,10 @@ filled_or χ None = unit_shape
 filled_or χ (Some t) = filled_by χ t
 
 -- the assignment in which each class has the integer type that is chosen for it
-abbrev pub chosen : State → (ℕ → Kind) → Types
+abbrev pub chosen : State → (ℕ → Kind) → Assignment
 chosen st χ x = filled_or (λ n. χ (st.rep n)) (st.shapes x)
 
-abbrev pub answer : State → Types
+abbrev pub answer : State → Assignment
 answer st = chosen st (λ c. pick (st.set c))
 
 -- ---- whether the answer is the only one that prefers i32

@@ -13,7 +13,8 @@ use Rattle.rx_typeck_solver.specs.declared.views.Look.TheVariants as look
 use Rattle.rx_typeck_solver.specs.Solver.{pick, filled_by, filled_leaf}
 use Rattle.rx_typeck_solver.specs.Parents.{rep_of, set_of}
 use Rattle.rx_typeck_solver.specs.Cells.{cell, shapes_in, term, IsTerm}
-use Rattle.rx_typeck_solver.specs.Solving.{types_of, HasType}
+use Rattle.rx_typeck_solver.specs.Solving.{types_of, HasTerm}
+use Rattle.rx_typeck_solver.specs.Trimmed.{IsTrimmed}
 
 -- the integer type of an open node
 abbrev pub kind_found : Solved → ℕ → Kind
@@ -27,8 +28,8 @@ abbrev pub typ_at : Solved → ℕ → Typ
 typ_at s i = filled_by (kind_found s) (term s.arena.entries.items i)
 
 abbrev pub EntryIs : Solved → Subject → Option ℕ → Type 0
-EntryIs s x None = HasType s x → ⊥
-EntryIs s x (Some i) = HasType s x × IsEntry s i × (types_of s x ≡ typ_at s i)
+EntryIs s x None = HasTerm s x → ⊥
+EntryIs s x (Some i) = HasTerm s x × IsEntry s i × (types_of s x ≡ typ_at s i)
 
 -- the outermost form of a type, and the entry that a reference leads to
 abbrev pub LookIs : Solved → Look → Typ → Type 0
@@ -96,9 +97,11 @@ found_at f (subject.Node n) = joined (slice_get f.nodes n)
 found_at f (subject.Expected n) = joined (slice_get f.expected n)
 
 -- exactly what the demands tell has a type, and that is the one that was found
-abbrev pub TypeIs : Solved → Declarations → Subject → Option Ty → Type 0
-TypeIs s D x None = HasType s x → ⊥
-TypeIs s D x (Some t) = HasType s x × (region-Ty t ≡ unnumbered D (types_of s x))
+abbrev pub TypeFound : Solved → Declarations → Subject → Option Ty → Type 0
+TypeFound s D x None = HasTerm s x → ⊥
+TypeFound s D x (Some t) = HasTerm s x × (region-Ty t ≡ unnumbered D (types_of s x))
 
+-- and no table goes on behind its last type
 pub record IsFound (s : Solved) (D : Declarations) (f : Found) : Type 0 where
-  pub each : (x : Subject) → TypeIs s D x (found_at f x)
+  pub each : (x : Subject) → TypeFound s D x (found_at f x)
+  pub trimmed : IsTrimmed f.variables × IsTrimmed f.nodes × IsTrimmed f.expected

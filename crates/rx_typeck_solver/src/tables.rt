@@ -1,13 +1,14 @@
 //! The shapes of subjects, and the classes of nodes whose integer types are open.
 
-ghost use Rattle.std.specs.Prelude.{◌≡◌, ◌<◌, ◌≤◌, ℕ, [], List as ListOf, length, get_or, Option, Some, None, OnOk, IfOk, OnSome, IsSome, IsTrue};
+ghost use Rattle.std.specs.Prelude.{◌≡◌, ◌⊎◌, ◌+◌, ◌<◌, ◌≤◌, ℕ, [], List as ListOf, length, get_or, Option, Some, None, OnOk, IfOk, OnSome, IsSome, IsTrue};
 ghost use Rattle.rx_typed.specs.Types as types;
 ghost use Rattle.rx_typeck_solver.specs.declared.facts.Subject as subject;
 ghost use Rattle.rx_typeck_solver.specs.declared.facts.Subject.TheVariants as subjects;
 ghost use Rattle.rx_typeck_solver.specs.Solver as solver;
 ghost use Rattle.rx_typeck_solver.specs.Parents.{rep_of, set_of, Classed, state_in, step_if};
 ghost use Rattle.rx_typeck_solver.specs.Cells.{cell, term, Formed, Formable, Built, IsTerm, Extends};
-ghost use Rattle.rx_typeck_solver.specs.Tabled.{index_of, table_of, state_of, Fits, Sized, Sizable};
+ghost use Rattle.rx_typeck_solver.specs.Tabled.{index_of, table_of, state_of, AreTrimmed, Fits, Sized, Sizable};
+ghost use Rattle.rx_typeck_solver.specs.Trimmed.{IsTrimmed};
 
 use crate::arena::{Arena, Form};
 use crate::classes::Classes;
@@ -35,6 +36,7 @@ fn read(table: &[Option<usize>], at: usize) -> Option<usize>
 /// Makes a table so long that it has the place.
 fn lengthen(table: &mut Vec<Option<usize>>, at: usize) -> Result<(), AllocError>
     ensures longer { OnOk result (at < length table.new.items) }
+    ensures no_longer { OnOk result ((table.new.items ≡ table.old.items) ⊎ (length table.new.items ≤ at + 1)) }
     ensures same { OnOk result ((z : ℕ) → get_or table.new.items z None ≡ get_or table.old.items z None) }
 {
     while table.len() <= at {
@@ -50,6 +52,7 @@ fn lengthen(table: &mut Vec<Option<usize>>, at: usize) -> Result<(), AllocError>
 fn write(table: &mut Vec<Option<usize>>, at: usize, entry: usize) -> Result<(), AllocError>
     ensures here { OnOk result (get_or table.new.items at None ≡ Some entry) }
     ensures other { OnOk result ((z : ℕ) → (z ≡ at → ⊥) → get_or table.new.items z None ≡ get_or table.old.items z None) }
+    ensures trimmed { OnOk result (IsTrimmed table.old.items → IsTrimmed table.new.items) }
 {
     match lengthen(table, at) {
         Ok(()) => {
@@ -94,6 +97,7 @@ impl Tables {
         ensures here { OnOk result (index_of self.new of ≡ Some entry) }
         ensures other { OnOk result ((z : subject.Subject) → (z ≡ of → ⊥) → index_of self.new z ≡ index_of self.old z) }
         ensures classes { OnOk result (self.new.classes ≡ self.old.classes) }
+        ensures trimmed { OnOk result (AreTrimmed self.old → AreTrimmed self.new) }
     {
         match of {
             Subject::Variable(variable) => write(&mut self.variables, variable as usize, entry),

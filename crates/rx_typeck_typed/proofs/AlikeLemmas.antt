@@ -14,7 +14,7 @@ use Rattle.rx_typed.specs.Types.{Declarations}
 use Rattle.rx_typed.specs.PlainTypes.{declarations}
 use Rattle.rx_typed.specs.Naming.{function_named}
 use Rattle.rx_typed.specs.Elaborated.{elaborated}
-use Rattle.rx_typed_declarations.specs.Held.{held}
+use Rattle.rx_typed_declarations.specs.Held.{held_by_each}
 use Rattle.rx_typed_declarations.specs.Sizes.{Sized, IsSizes}
 use Rattle.rx_typeck_typed.specs.Programs.{Fits}
 use Rattle.rx_typeck_solver.specs.declared.facts.Subject.{Subject}
@@ -57,7 +57,7 @@ functions_alike G ns i (plain.enum_item s d ∷ p) ts us a b = functions_alike G
 abbrev given : ProgramTree → List Decl → List ℕ → Given
 given p ds sizes = record { program = p; declared = ds; sizes = sizes }
 
-module _ (finite : (p : ProgramTree) (D : Declarations) → Fits p D → NoCycle (held D)) (some : (D : Declarations) → NoCycle (held D) → (P : ℕ → ℕ) × Sized D P) where
+module _ (finite : (p : ProgramTree) (D : Declarations) → Fits p D → NoCycle (held_by_each D)) (some : (D : Declarations) → NoCycle (held_by_each D) → (P : ℕ → ℕ) × Sized D P) where
   pub one_typed : (p : ProgramTree) (ns : List ItemNames) (t u : Typed) → IsTyped p ns t → IsTyped p ns u → AreAlike t u
   one_typed p ns t u a b =
       let same : b.declared ≡ a.declared = ok_is b.declared a.declared (sym b.declares.items ∙ a.declares.items) in

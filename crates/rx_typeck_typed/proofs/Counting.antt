@@ -5,13 +5,13 @@ use Rattle.rx_typed.specs.Named as named
 use Rattle.rx_typed.specs.Named.{Written, WrittenTypes, Parameter, written_node, body_node}
 use Rattle.rx_typeck_solver.specs.declared.facts.Op.TheVariants as op
 use Rattle.rx_typeck_solver.specs.declared.facts.Demand.{Demand}
-use Rattle.rx_typeck_solver.specs.Facts.{Types, Known, MeetsEach}
+use Rattle.rx_typeck_solver.specs.Facts.{Assignment, KnownItems, MeetsEach}
 use Rattle.rx_typeck_typed.specs.Demands as rules
 use Rattle.rx_typeck_typed.proofs.Adding.{types_add, parameters_add, result_adds, body_adds, never_given_adds}
 use Rattle.rx_typeck_typed.proofs.Meeting.{meets_front, meets_last, meets_before}
 use Rattle.rx_typeck_typed.proofs.Reading.{Counted, AllCounted, ParametersCounted, ResultCounted}
 
-module _ (K : Known) (A : Types) where
+module _ (K : KnownItems) (A : Assignment) where
   lifetimes_counted : (n : Node) (i : ℕ) (l : Option ℕ) (ds : List Demand) → MeetsEach K A (rules.lifetimes_asked n i l ds) → Counted K.items (named.an_item n i l)
   lifetimes_counted n i None ds h = tt
   lifetimes_counted n i (Some k) ds h = let x = meets_last K A ds _ h in eqb-true _ k x.0

@@ -18,7 +18,7 @@ use Rattle.rx_typed.specs.declared.declarations.Decl.{Decl}
 use Rattle.rx_typed.specs.declared.declarations.Decl.TheVariants as decl
 use Rattle.rx_typed.specs.Types.{Declarations}
 use Rattle.rx_typed.specs.PlainTypes.{declarations}
-use Rattle.rx_typed_declarations.specs.Held.{held}
+use Rattle.rx_typed_declarations.specs.Held.{held_by_each}
 use Rattle.rx_typed_declarations.specs.Sizes.{Sized, IsSizes, capped}
 use Rattle.rx_typeck_solver.specs.declared.facts.Rule.{Rule}
 use Rattle.rx_typeck_typed.specs.declared.fault.DeclareFault.{DeclareFault}
@@ -238,11 +238,11 @@ fun_ext : (f g : ℕ → ℕ) → ((x : ℕ) → f x ≡ g x) → f ≡ g
 fun_ext f g h = λ i x. h x i
 
 -- each struct and enum has one number of parts, where none reaches itself
-module _ (some : (D : Declarations) → NoCycle (held D) → (P : ℕ → ℕ) × Sized D P) (one : (D : Declarations) (P Q : ℕ → ℕ) → NoCycle (held D) → Sized D P → Sized D Q → (i : ℕ) → P i ≡ Q i) where
+module _ (some : (D : Declarations) → NoCycle (held_by_each D) → (P : ℕ → ℕ) × Sized D P) (one : (D : Declarations) (P Q : ℕ → ℕ) → NoCycle (held_by_each D) → Sized D P → Sized D Q → (i : ℕ) → P i ≡ Q i) where
   abbrev pub SomeSizes : Declarations → Type 0
   SomeSizes D = (sizes : List ℕ) × IsSizes D sizes
 
-  some_sizes : (D : Declarations) → NoCycle (held D) → SomeSizes D
+  some_sizes : (D : Declarations) → NoCycle (held_by_each D) → SomeSizes D
   some_sizes D none = let s = some D none in (
     table s.0 0 (length D),
     record {
@@ -252,21 +252,21 @@ module _ (some : (D : Declarations) → NoCycle (held D) → (P : ℕ → ℕ) �
   )
 
   limited : (p : ProgramTree) (D : Declarations) → (o : Outcome (Unit {0})) × (Limited p D o × Told o)
-  limited p D = by (first_on_cycle (held D))
+  limited p D = by (first_on_cycle (held_by_each D))
     where
-      endless : (n : ℕ) → FirstOnCycle (held D) (Some n) → (o : Outcome (Unit {0})) × (Limited p D o × Told o)
+      endless : (n : ℕ) → FirstOnCycle (held_by_each D) (Some n) → (o : Outcome (Unit {0})) × (Limited p D o × Told o)
       endless n f = (
         fits_at (place_of (slice_get p n)) false,
         (
           record {
-            endless = λ m g. ap (λ k. fits_at (place_of (slice_get p k)) false) (one_first (held D) n m f g);
+            endless = λ m g. ap (λ k. fits_at (place_of (slice_get p k)) false) (one_first (held_by_each D) n m f g);
             each = λ none P s. absurd (none n f.0);
           },
           fits_at_told (place_of (slice_get p n)) false,
         ),
       )
 
-      finite : NoCycle (held D) → (o : Outcome (Unit {0})) × (Limited p D o × Told o)
+      finite : NoCycle (held_by_each D) → (o : Outcome (Unit {0})) × (Limited p D o × Told o)
       finite none = let s = some D none in (
         all_fit s.0 D 0 p,
         (
@@ -278,7 +278,7 @@ module _ (some : (D : Declarations) → NoCycle (held D) → (P : ℕ → ℕ) �
         ),
       )
 
-      by : (o : Option ℕ) × FirstOnCycle (held D) o → (o : Outcome (Unit {0})) × (Limited p D o × Told o)
+      by : (o : Option ℕ) × FirstOnCycle (held_by_each D) o → (o : Outcome (Unit {0})) × (Limited p D o × Told o)
       by (None, none) = finite none
       by (Some n, f) = endless n f
 
@@ -289,7 +289,7 @@ module _ (some : (D : Declarations) → NoCycle (held D) → (P : ℕ → ℕ) �
   abbrev pub Misdeclared : ProgramTree → List ItemNames → Type 0
   Misdeclared p ns = (e : DeclareFault) × ((e ≢ fault.OutOfMemory) × Wrong p ns e)
 
-  module _ (finite : (p : ProgramTree) (D : Declarations) → Fits p D → NoCycle (held D)) where
+  module _ (finite : (p : ProgramTree) (D : Declarations) → Fits p D → NoCycle (held_by_each D)) where
     pub declared_or_wrong : (p : ProgramTree) (ns : List ItemNames) → IsNumbered p → Declared p ns ⊎ Misdeclared p ns
     declared_or_wrong p ns numbered = by (declared_items p ns 0 p) refl (items_told p ns 0 p)
       where

@@ -9,8 +9,8 @@ use Rattle.rx_tree.specs.Plain.{Structure, Enumeration, ItemTree, ProgramTree}
 use Rattle.rx_tree.specs.Positions.{NodeTree}
 use Rattle.rx_tree.specs.Nodes.{nodes, total, below_item}
 use Rattle.rx_tree.specs.Size.{item_lifetimes, lifetimes_at as lifetimes_counted, IsNumbered}
-use Rattle.rx_resolve_names.specs.declared.table.Known.{Known}
-use Rattle.rx_resolve_names.specs.Scopes.{Declared, declared_as}
+use Rattle.rx_resolve_names.specs.declared.table.NumberedName.{NumberedName}
+use Rattle.rx_resolve_names.specs.Scopes.{DeclaredNames, declared_as}
 use Rattle.rx_resolve_names.specs.declared.resolved.ItemNames.{ItemNames}
 use Rattle.rx_resolve_names.specs.declared.resolved.NodeNames.{NodeNames}
 use Rattle.rx_resolve_names.specs.Meant.{number, type_name, item_named, has_name, as_type, number_in, firsts, kept}
@@ -40,29 +40,29 @@ named_same a b e = cc
 
 -- ---- the numbers of an item's lifetimes
 
-abbrev NumbersBelow : ℕ → Declared → Type 0
+abbrev NumbersBelow : ℕ → DeclaredNames → Type 0
 NumbersBelow m ds = (x : List ℕ) (k : ℕ) → number_in ds x ≡ Some k → k < m
 
 number_least : (n m : ℕ) → n < m → number n < m
 number_least n m h = omega (arith, h)
 
-in_one_more : (ds : Declared) (y : List ℕ) (d : Known) (x : List ℕ) (k : ℕ) → number_in (ds ++ (y, d) ∷ []) x ≡ Some k → (number_in ds x ≡ Some k) ⊎ (d.number ≡ k)
+in_one_more : (ds : DeclaredNames) (y : List ℕ) (d : NumberedName) (x : List ℕ) (k : ℕ) → number_in (ds ++ (y, d) ∷ []) x ≡ Some k → (number_in ds x ≡ Some k) ⊎ (d.number ≡ k)
 in_one_more [] y d x k e = last (bytes_eq x y) e where
-  last : (b : Bool) → option_map (λ (k : Known). k.number) (if b then Some d else None) ≡ Some k → (option_map (λ (k : Known). k.number) None ≡ Some k) ⊎ (d.number ≡ k)
+  last : (b : Bool) → option_map (λ (k : NumberedName). k.number) (if b then Some d else None) ≡ Some k → (option_map (λ (k : NumberedName). k.number) None ≡ Some k) ⊎ (d.number ≡ k)
   last true e = inr (cc)
   last false e = absurd (cc)
 in_one_more (c ∷ ds) y d x k e = here (bytes_eq x c.0) (in_one_more ds y d x k) e where
   here : (b : Bool) → (number_in (ds ++ (y, d) ∷ []) x ≡ Some k → (number_in ds x ≡ Some k) ⊎ (d.number ≡ k))
-      → option_map (λ (k : Known). k.number) (if b then Some c.1 else declared_as (ds ++ (y, d) ∷ []) x) ≡ Some k
-      → (option_map (λ (k : Known). k.number) (if b then Some c.1 else declared_as ds x) ≡ Some k) ⊎ (d.number ≡ k)
+      → option_map (λ (k : NumberedName). k.number) (if b then Some c.1 else declared_as (ds ++ (y, d) ∷ []) x) ≡ Some k
+      → (option_map (λ (k : NumberedName). k.number) (if b then Some c.1 else declared_as ds x) ≡ Some k) ⊎ (d.number ≡ k)
   here true later e = inl e
   here false later e = later e
 
-kept_below : (m : ℕ) (ds : Declared) (x : Ident) (n : ℕ) (o : Option Known) → NumbersBelow m ds → n < m → NumbersBelow m (kept ds x n o)
+kept_below : (m : ℕ) (ds : DeclaredNames) (x : Ident) (n : ℕ) (o : Option NumberedName) → NumbersBelow m ds → n < m → NumbersBelow m (kept ds x n o)
 kept_below m ds x n None h less = λ y k e. ⊎_elim (λ a. h y k a) (λ a. subst (λ j. j < m) a (number_least n m less)) (in_one_more ds x.name _ y k e)
 kept_below m ds x n (Some d) h less = h
 
-firsts_below : (m : ℕ) (ds : Declared) (n : ℕ) (xs : List Ident) → NumbersBelow m ds → n + length xs ≤ m → NumbersBelow m (firsts ds n xs)
+firsts_below : (m : ℕ) (ds : DeclaredNames) (n : ℕ) (xs : List Ident) → NumbersBelow m ds → n + length xs ≤ m → NumbersBelow m (firsts ds n xs)
 firsts_below m ds n [] h most = h
 firsts_below m ds n (x ∷ xs) h most = firsts_below m (kept ds x n (declared_as ds x.name)) (suc n) xs (kept_below m ds x n (declared_as ds x.name) h (omega (arith, most))) (omega (arith, most))
 

@@ -12,7 +12,7 @@ use Rattle.rx_graph_cycles.specs.Reaches.{NoCycle}
 use Rattle.rx_typed.specs.declared.declarations.Decl.{Decl}
 use Rattle.rx_typed.specs.Types.{Declared, Declarations}
 use Rattle.rx_typed.specs.PlainTypes.{plain-Decl, declarations}
-use Rattle.rx_typed_declarations.specs.Held.{held}
+use Rattle.rx_typed_declarations.specs.Held.{held_by_each}
 use Rattle.rx_typed_declarations.specs.Sizes.{declared_parts, Sized, capped, IsSizes, told}
 use Rattle.rx_typeck_typed.specs.declared.fault.DeclareFault.{DeclareFault}
 use Rattle.rx_typeck_typed.specs.Steps.{Outcome, on_ok}
@@ -61,12 +61,12 @@ small n (Some x) d e h = leb-true n 4096 (first (nat_le n 4096) (levels_fit x) h
     first true b h = refl
     first false b h = absurd (true≢false (sym h))
 
-module _ (finite : (p : ProgramTree) (D : Declarations) → Fits p D → NoCycle (held D)) (some : (D : Declarations) → NoCycle (held D) → (P : ℕ → ℕ) × Sized D P)
+module _ (finite : (p : ProgramTree) (D : Declarations) → Fits p D → NoCycle (held_by_each D)) (some : (D : Declarations) → NoCycle (held_by_each D) → (P : ℕ → ℕ) × Sized D P)
     (p : ProgramTree) (ns : List ItemNames) (ds : List Decl) (sizes : List ℕ) (declares : Declares p ns ds) (is_sizes : IsSizes (declarations ds) sizes) where
   abbrev D : Declarations
   D = declarations ds
 
-  apart : NoCycle (held D)
+  apart : NoCycle (held_by_each D)
   apart = finite p D declares.fits
 
   abbrev P : ℕ → ℕ

@@ -10,7 +10,7 @@ use Rattle.rx_core.proofs.Results.{ok_is}
 use Rattle.rx_typed.specs.declared.declarations.Decl.{Decl}
 use Rattle.rx_typed.specs.Types.{Declarations}
 use Rattle.rx_typed.specs.PlainTypes.{declarations}
-use Rattle.rx_typed_declarations.specs.Held.{held}
+use Rattle.rx_typed_declarations.specs.Held.{held_by_each}
 use Rattle.rx_typed_declarations.specs.Sizes.{Sized, IsSizes}
 use Rattle.rx_typeck_typed.specs.declared.fault.DeclareFault.{DeclareFault}
 use Rattle.rx_typeck_typed.specs.Steps.{Outcome}
@@ -46,7 +46,7 @@ same_list (x ∷ xs) (y ∷ ys) long each =
     let more : xs ≡ ys = same_list xs ys (omega (arith, long)) (λ i less. each (suc i) (omega (arith, less))) in
     λ j. here j ∷ more j
 
-module _ (finite : (p : ProgramTree) (D : Declarations) → Fits p D → NoCycle (held D)) (some : (D : Declarations) → NoCycle (held D) → (P : ℕ → ℕ) × Sized D P) where
+module _ (finite : (p : ProgramTree) (D : Declarations) → Fits p D → NoCycle (held_by_each D)) (some : (D : Declarations) → NoCycle (held_by_each D) → (P : ℕ → ℕ) × Sized D P) where
   fits_or_not : (p : ProgramTree) (D : Declarations) (e : DeclareFault) → Fits p D → Unfit p D e → ⊥
   fits_or_not p D e f (derived_wrong h) = one_outcome _ tt e f.derived_well h
   fits_or_not p D e f (past_limit d h) = let none = finite p D f in let s = some D none in
@@ -58,7 +58,7 @@ module _ (finite : (p : ProgramTree) (D : Declarations) → Fits p D → NoCycle
   declared_or_wrong p ns ds e d (unfit es h u) =
       fits_or_not p (declarations es) e (subst (λ x. Fits p (declarations x)) (ok_is ds es (sym d.items ∙ h)) d.fits) u
 
-  pub one_table : (D : Declarations) (xs ys : List ℕ) → NoCycle (held D) → IsSizes D xs → IsSizes D ys → xs ≡ ys
+  pub one_table : (D : Declarations) (xs ys : List ℕ) → NoCycle (held_by_each D) → IsSizes D xs → IsSizes D ys → xs ≡ ys
   one_table D xs ys none x y = let s = some D none in
       same_list xs ys (x.whole ∙ sym y.whole) (λ i less. let within : i < length D = omega (arith, less, x.whole) in
       x.each s.0 s.1 i within ∙ sym (y.each s.0 s.1 i within))

@@ -18,7 +18,7 @@ use Rattle.rx_typeck_solver.specs.declared.facts.Op.TheVariants as op
 use Rattle.rx_typeck_solver.specs.declared.facts.Test.TheVariants as test
 use Rattle.rx_typeck_solver.specs.declared.facts.Fact.TheVariants as fact
 use Rattle.rx_typeck_solver.specs.declared.facts.Demand.{Demand}
-use Rattle.rx_typeck_solver.specs.Facts.{Types, Known}
+use Rattle.rx_typeck_solver.specs.Facts.{Assignment, KnownItems}
 use Rattle.rx_typeck_solver.specs.Valid.{IsIn}
 use Rattle.rx_typeck_typed.specs.Asking.{Asking, ask, type_of}
 use Rattle.rx_typeck_typed.specs.Demands as rules
@@ -61,7 +61,7 @@ known_waits n s e = absurd (cc)
 pub known_no_given : {A : Type 0} → Stage.Known ≡ Stage.Given → A
 known_no_given e = absurd (cc)
 
-module _ (K : Known) (A : Types) where
+module _ (K : KnownItems) (A : Assignment) where
   pub stay : (c : Cursor) (ds : List Demand) → Counted c → Walk K A c ds c ds []
   stay c ds h = still_walk K A c c ds ds h (record { variables = refl; declared = refl }) (longer_same ds)
 

@@ -367,10 +367,10 @@ mutual
       let a = agrees_node s t c a0 in
       let n = (a_node s t c).0 in
       let p = integer_asked n (broken.Mismatch Rule.Equal) false (with_suffix k) ds in
-      let q = integer_asked n broken.Literal (is_open k) (fitting m v) (ask n Rule.Equal (fact.Integer n.number (with_suffix k) ∷ []) ds) in
-      let r = p.reach ⇒ q.reach in
-      let z = value_reach n t _ q.told (wanted_kept r w) in
-      record { reach = r ⇒ z; agrees = agrees_then (r ⇒ z) a; told = told_if (sure_kept z q.told); passed = passed_none }
+      let z = value_reach n t _ p.told (wanted_kept p.reach w) in
+      let q = integer_asked n broken.Literal (is_open k) (fitting m v) (rules.value_in n t (ask n Rule.Equal (fact.Integer n.number (with_suffix k) ∷ []) ds)) in
+      let r = p.reach ⇒ z ⇒ q.reach in
+      record { reach = r; agrees = agrees_then r a; told = told_if q.told; passed = passed_none }
   exp_told f (plain.bool s b) m t c ds a0 w = let a = agrees_node s t c a0 in owns f t _ ds ds (stays ds) a (own_told (a_node s t c).0 op.Truth [] ds known_none w) refl
   exp_told f (plain.tuple s es) m t c ds a0 w =
       let a = agrees_node s t c a0 in

@@ -15,7 +15,7 @@ use Rattle.rx_typeck_solver.specs.declared.facts.Subject.{Subject}
 use Rattle.rx_typeck_solver.specs.declared.facts.Subject.TheVariants as subject
 use Rattle.rx_typeck_solver.specs.declared.facts.Op.TheVariants as op
 use Rattle.rx_typeck_solver.specs.declared.facts.Demand.{Demand}
-use Rattle.rx_typeck_solver.specs.Facts.{Types, Known}
+use Rattle.rx_typeck_solver.specs.Facts.{Assignment, KnownItems}
 use Rattle.rx_typeck_solver.specs.Valid.{IsIn}
 use Rattle.rx_typeck_typed.specs.Demands as rules
 use Rattle.rx_typeck_typed.specs.Nodes.{type_nodes, optional_nodes, parameters_nodes, nodes as all_nodes, body_nodes}
@@ -26,7 +26,7 @@ use Rattle.rx_typeck_typed.proofs.Stages.{stage, Counted, known_given, known_ins
 use Rattle.rx_typeck_typed.proofs.Walks.{Later, Walk, walk_then}
 use Rattle.rx_typeck_typed.proofs.ExpressionWalks.{stay, asked, moved, node_walk, type_walk, body_walk, known_waits, known_no_given}
 
-module _ (K : Known) (A : Types) where
+module _ (K : KnownItems) (A : Assignment) where
   -- a parameter is a variable whose type is known, and told
   parameter_walk : (x : Parameter) (c : Cursor) (ds : List Demand) → Counted c
       → Walk K A c ds (naming.of_parameter x c).1 (rules.of_parameter (naming.of_parameter x c).0 ds) (type_nodes (naming.of_parameter x c).0.typ)

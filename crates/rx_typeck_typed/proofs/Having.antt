@@ -11,17 +11,17 @@ use Rattle.rx_typed.specs.Named as named
 use Rattle.rx_typed.specs.Naming.{function_named, function_variables}
 use Rattle.rx_typeck_solver.specs.declared.facts.Subject.{Subject}
 use Rattle.rx_typeck_solver.specs.declared.facts.Subject.TheVariants as subject
-use Rattle.rx_typeck_solver.specs.Facts.{Types, Known}
+use Rattle.rx_typeck_solver.specs.Facts.{Assignment, KnownItems}
 use Rattle.rx_typeck_solver.specs.Valid.{Told}
 use Rattle.rx_typeck_typed.specs.Demands.{demands}
 use Rattle.rx_typeck_typed.specs.declared.typed.Typed.{Typed}
 use Rattle.rx_typeck_typed.specs.declared.typed.TypedFn.{TypedFn}
 use Rattle.rx_typeck_typed.specs.Typing.{Given, known_in, is_mutable, type_at, TypeIs, FunctionTyped, FunctionsTyped, IsTyped}
-use Rattle.rx_typeck_typed.specs.HaveTypes.{HasType, AllTyped, EachTyped}
+use Rattle.rx_typeck_typed.specs.HaveTypes.{HasTypeInTables, AllTyped, EachTyped}
 use Rattle.rx_typeck_typed.proofs.FunctionWalks.{variable_sure, node_sure}
 use Rattle.rx_typeck_typed.proofs.Numbered.{all_numbered}
 
-found_some : (K : Known) (f : named.Function) (A : Types) (x : Subject) (o : Option Ty) → TypeIs K f A x o → Told (demands f) x → (ty : Ty) × (o ≡ Some ty)
+found_some : (K : KnownItems) (f : named.Function) (A : Assignment) (x : Subject) (o : Option Ty) → TypeIs K f A x o → Told (demands f) x → (ty : Ty) × (o ≡ Some ty)
 found_some K f A x None h t = absurd (h t)
 found_some K f A x (Some ty) h t = (ty, refl)
 
@@ -30,7 +30,7 @@ all_typed G i s f ns vars t typed =
     let K = known_in G in
     let F = function_named i s f ns in
     let met = typed.valid.prefers.typed in
-    let has : (x : Subject) → Told (demands F) x → HasType t x = λ x h. found_some K F typed.types x (type_at t x) (typed.found x) h in
+    let has : (x : Subject) → Told (demands F) x → HasTypeInTables t x = λ x h. found_some K F typed.types x (type_at t x) (typed.found x) h in
     let size : length t.mutable ≡ length (function_variables s f ns) = ap (λ (l : List Bool). length l) typed.mutable ∙ length-map (function_variables s f ns) is_mutable in
     record {
       variables = λ x h. let v = variable_sure K typed.types i s f ns x (omega (arith, h, size)) in has (subject.Variable x) (v.is met);

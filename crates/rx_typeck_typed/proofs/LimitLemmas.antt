@@ -8,7 +8,7 @@ use Rattle.std.proofs.lemmas.Bool.{cases_lt}
 use Rattle.rx_graph_cycles.specs.Reaches.{NoCycle, NoneBefore, FirstOnCycle, Reaches}
 use Rattle.rx_typed.specs.Types.{Declared, Declarations}
 use Rattle.rx_typed.specs.PlainTypes.{typ_integer, typ_boolean, typ_tuple, typ_shared, typ_mut, typ_item}
-use Rattle.rx_typed_declarations.specs.Held.{held}
+use Rattle.rx_typed_declarations.specs.Held.{held_by_each}
 use Rattle.rx_typed_declarations.specs.Sizes.{Sized, IsSizes, told, capped}
 use Rattle.rx_tree.specs.Plain.{ProgramTree}
 use Rattle.rx_resolve_names.specs.Holding.{name_span}
@@ -64,7 +64,7 @@ sized_fit D sizes s P sized p = all_same (told sizes) P D (λ i less.
 -- ---- the outcome
 
 pub finite_limited : (p : ProgramTree) (D : Declarations) (sizes : List ℕ) (o : Outcome (Unit {0}))
-    → NoCycle (held D) → IsSizes D sizes
+    → NoCycle (held_by_each D) → IsSizes D sizes
     → o ≡ all_fit (told sizes) D 0 p → Limited p D o
 finite_limited p D sizes o none s is = record {
   endless = λ n first. absurd (none n first.0);
@@ -72,7 +72,7 @@ finite_limited p D sizes o none s is = record {
 }
 
 pub finite_limits : (p : ProgramTree) (D : Declarations) (sizes : List ℕ) (o : Outcome (Unit {0}))
-    → length D < 4294967296 → NoCycle (held D) → IsSizes D sizes → o ≡ all_fit (told sizes) D 0 p → Limits p D o
+    → length D < 4294967296 → NoCycle (held_by_each D) → IsSizes D sizes → o ≡ all_fit (told sizes) D 0 p → Limits p D o
 finite_limits p D sizes (Ok u) small none s is = (small, finite_limited p D sizes (Ok tt) none s is)
 finite_limits p D sizes (Err e) small none s is = λ _. finite_limited p D sizes (Err e) none s is
 
@@ -91,6 +91,6 @@ none_before edges none (suc n) m less = by (none_before edges none n) (cases_lt 
     by earlier (inr h) = let same : n ≡ m = omega (arith, h, less) in
         λ r. none n (subst (λ k. Reaches edges k k) (sym same) r, earlier)
 
-pub limited_finite : (p : ProgramTree) (D : Declarations) → Limited p D (Ok tt) → NoCycle (held D)
-limited_finite p D l n = none_before (held D) (λ m first. true≢false (ap is_ok (l.endless m first))) (suc n) n
+pub limited_finite : (p : ProgramTree) (D : Declarations) → Limited p D (Ok tt) → NoCycle (held_by_each D)
+limited_finite p D l n = none_before (held_by_each D) (λ m first. true≢false (ap is_ok (l.endless m first))) (suc n) n
     (omega arith)

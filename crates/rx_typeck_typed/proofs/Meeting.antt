@@ -1,10 +1,10 @@
 -- Where all demands are met, those in front of the last are, and the last.
 use Rattle.std.proofs.Common.{List, [], ◌∷◌, ◌++◌, subst}
 use Rattle.rx_typeck_solver.specs.declared.facts.Demand.{Demand}
-use Rattle.rx_typeck_solver.specs.Facts.{Types, Known, MeetsAll, MeetsEach}
+use Rattle.rx_typeck_solver.specs.Facts.{Assignment, KnownItems, MeetsAll, MeetsEach}
 use Rattle.rx_typeck_typed.proofs.Adding.{Longer}
 
-module _ (K : Known) (A : Types) where
+module _ (K : KnownItems) (A : Assignment) where
   pub meets_front : (ds es : List Demand) → MeetsEach K A (ds ++ es) → MeetsEach K A ds
   meets_front [] es h = tt
   meets_front (d ∷ ds) es h = (h.0, meets_front ds es h.1)

@@ -9,8 +9,8 @@ use Rattle.rx_core.specs.declared.types.Ty.TheVariants as ty
 use Rattle.rx_tree.specs.declared.tree.Ident.{Ident}
 use Rattle.rx_tree.specs.Plain as plain
 use Rattle.rx_tree.specs.Plain.{TypeTree, TypeTrees, FieldOf, VariantOf, Structure, Enumeration, Function, ItemTree, ProgramTree}
-use Rattle.rx_resolve_names.specs.declared.table.Known.{Known}
-use Rattle.rx_resolve_names.specs.Scopes.{Declared, declared_as}
+use Rattle.rx_resolve_names.specs.declared.table.NumberedName.{NumberedName}
+use Rattle.rx_resolve_names.specs.Scopes.{DeclaredNames, declared_as}
 use Rattle.rx_resolve_names.specs.declared.resolved.ItemNames.{ItemNames}
 use Rattle.rx_resolve_names.specs.declared.resolved.NodeNames.{NodeNames}
 use Rattle.rx_resolve_names.specs.Meant.{number, type_name, item_named, has_name, as_type, number_in, firsts, kept, lifetimes_declared}
@@ -332,7 +332,7 @@ variants_read I D n v vs es es1 one others rest ls j r h =
           ∙ all_fit_append D n (map region-Ty a.0.0.parts) (region_variants c.0.0) (ap (λ (x : VariantDecl × Reading). all_fit D n (regions_of (map region-Ty x.0.parts))) (sym a2) ∙ b.1) d.1,
     )
 
-fields_added : (I : Inside) (D : Declarations) (n : ℕ) → Within I D n → (fs : List FieldOf) (at : List ℕ) (ds : Declared) (i : ℕ) (t t' : ItemNames) → in_declared I at ds i fs t ≡ Ok t'
+fields_added : (I : Inside) (D : Declarations) (n : ℕ) → Within I D n → (fs : List FieldOf) (at : List ℕ) (ds : DeclaredNames) (i : ℕ) (t t' : ItemNames) → in_declared I at ds i fs t ≡ Ok t'
     → Added t t' (FieldsRead I.program D n fs)
 fields_added I D n w [] at ds i t t' e = unchanged t t' _ e (no_fields_read I D n)
 fields_added I D n w (f ∷ fs) at ds i t t' e =
@@ -340,7 +340,7 @@ fields_added I D n w (f ∷ fs) at ds i t t' e =
     let b = named_ok (in_type I (child at i) f.typ t) (in_declared I at a.0 (next i) fs) t' a.2 in
     both_added t b.0 t' _ _ _ (type_added I D n w f.typ (child at i) t b.0 b.1) (fields_added I D n w fs at a.0 (next i) b.0 t' b.2) (λ es es1 p q. fields_read I D n f fs es es1 p q)
 
-variants_added : (I : Inside) (D : Declarations) (n : ℕ) → Within I D n → (vs : List VariantOf) (at : List ℕ) (ds : Declared) (k i : ℕ) (t t' : ItemNames) → in_variants I at ds k i vs t ≡ Ok t'
+variants_added : (I : Inside) (D : Declarations) (n : ℕ) → Within I D n → (vs : List VariantOf) (at : List ℕ) (ds : DeclaredNames) (k i : ℕ) (t t' : ItemNames) → in_variants I at ds k i vs t ≡ Ok t'
     → Added t t' (VariantsRead I.program D n vs)
 variants_added I D n w [] at ds k i t t' e = unchanged t t' _ e (no_variants_read I D n)
 variants_added I D n w (v ∷ vs) at ds k i t t' e =
@@ -350,29 +350,29 @@ variants_added I D n w (v ∷ vs) at ds k i t t' e =
 
 -- ---- the numbers of an item's lifetimes
 
-abbrev NumbersBelow : ℕ → Declared → Type 0
+abbrev NumbersBelow : ℕ → DeclaredNames → Type 0
 NumbersBelow m ds = (x : List ℕ) (k : ℕ) → number_in ds x ≡ Some k → k < m
 
 number_least : (n m : ℕ) → n < m → number n < m
 number_least n m h = omega (arith, h)
 
-in_one_more : (ds : Declared) (y : List ℕ) (d : Known) (x : List ℕ) (k : ℕ) → number_in (ds ++ (y, d) ∷ []) x ≡ Some k → (number_in ds x ≡ Some k) ⊎ (d.number ≡ k)
+in_one_more : (ds : DeclaredNames) (y : List ℕ) (d : NumberedName) (x : List ℕ) (k : ℕ) → number_in (ds ++ (y, d) ∷ []) x ≡ Some k → (number_in ds x ≡ Some k) ⊎ (d.number ≡ k)
 in_one_more [] y d x k e = last (bytes_eq x y) e where
-  last : (b : Bool) → option_map (λ (k : Known). k.number) (if b then Some d else None) ≡ Some k → (option_map (λ (k : Known). k.number) None ≡ Some k) ⊎ (d.number ≡ k)
+  last : (b : Bool) → option_map (λ (k : NumberedName). k.number) (if b then Some d else None) ≡ Some k → (option_map (λ (k : NumberedName). k.number) None ≡ Some k) ⊎ (d.number ≡ k)
   last true e = inr (cc)
   last false e = absurd (cc)
 in_one_more (c ∷ ds) y d x k e = here (bytes_eq x c.0) (in_one_more ds y d x k) e where
   here : (b : Bool) → (number_in (ds ++ (y, d) ∷ []) x ≡ Some k → (number_in ds x ≡ Some k) ⊎ (d.number ≡ k))
-      → option_map (λ (k : Known). k.number) (if b then Some c.1 else declared_as (ds ++ (y, d) ∷ []) x) ≡ Some k
-      → (option_map (λ (k : Known). k.number) (if b then Some c.1 else declared_as ds x) ≡ Some k) ⊎ (d.number ≡ k)
+      → option_map (λ (k : NumberedName). k.number) (if b then Some c.1 else declared_as (ds ++ (y, d) ∷ []) x) ≡ Some k
+      → (option_map (λ (k : NumberedName). k.number) (if b then Some c.1 else declared_as ds x) ≡ Some k) ⊎ (d.number ≡ k)
   here true later e = inl e
   here false later e = later e
 
-kept_below : (m : ℕ) (ds : Declared) (x : Ident) (n : ℕ) (o : Option Known) → NumbersBelow m ds → n < m → NumbersBelow m (kept ds x n o)
+kept_below : (m : ℕ) (ds : DeclaredNames) (x : Ident) (n : ℕ) (o : Option NumberedName) → NumbersBelow m ds → n < m → NumbersBelow m (kept ds x n o)
 kept_below m ds x n None h less = λ y k e. ⊎_elim (λ a. h y k a) (λ a. subst (λ j. j < m) a (number_least n m less)) (in_one_more ds x.name _ y k e)
 kept_below m ds x n (Some d) h less = h
 
-firsts_below : (m : ℕ) (ds : Declared) (n : ℕ) (xs : List Ident) → NumbersBelow m ds → n + length xs ≤ m → NumbersBelow m (firsts ds n xs)
+firsts_below : (m : ℕ) (ds : DeclaredNames) (n : ℕ) (xs : List Ident) → NumbersBelow m ds → n + length xs ≤ m → NumbersBelow m (firsts ds n xs)
 firsts_below m ds n [] h most = h
 firsts_below m ds n (x ∷ xs) h most = firsts_below m (kept ds x n (declared_as ds x.name)) (suc n) xs (kept_below m ds x n (declared_as ds x.name) h (omega (arith, most))) (omega (arith, most))
 
@@ -557,7 +557,7 @@ adt_at p ns ds P x i e =
     let q : slice_get (declarations ds) i ≡ Some (plain-Decl d.decl) = declared_at ds i ∙ ap (λ o. option_map plain-Decl o) d.stands in
     (ap is_adt q ∙ a.0, ap types.lifetimes_declared q ∙ a.1 ∙ ap (λ o. length (lifetimes_of o)) (sym there))
 
-distinct_same : (ds : Declared) (n : ℕ) (xs : List Ident) (t t' : ItemNames) → distinct ds n xs t ≡ Ok t' → t ≡ t'
+distinct_same : (ds : DeclaredNames) (n : ℕ) (xs : List Ident) (t t' : ItemNames) → distinct ds n xs t ≡ Ok t' → t ≡ t'
 distinct_same ds n [] t t' e = cc
 distinct_same ds n (x ∷ xs) t t' e = let a = named_ok (names.declare ds x n) (λ ds. distinct ds (suc n) xs t) t' e in distinct_same a.0 (suc n) xs t t' a.2
 

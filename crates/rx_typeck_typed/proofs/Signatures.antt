@@ -6,7 +6,7 @@ use Rattle.rx_core.specs.declared.types.Ty.{Ty}
 use Rattle.rx_tree.specs.declared.tree.Ident.{Ident}
 use Rattle.rx_tree.specs.declared.tree.BoundLifetime.{BoundLifetime}
 use Rattle.rx_tree.specs.Plain.{Parameter, Function}
-use Rattle.rx_resolve_names.specs.Scopes.{Declared, Variables}
+use Rattle.rx_resolve_names.specs.Scopes.{DeclaredNames, Variables}
 use Rattle.rx_resolve_names.specs.declared.resolved.ItemNames.{ItemNames}
 use Rattle.rx_resolve_names.specs.declared.resolved.NodeNames.{NodeNames}
 use Rattle.rx_resolve_names.specs.Meant.{number, Around}
@@ -72,7 +72,7 @@ bounds_found I m w (l ∷ ls) ks h =
     let r = bounds_found I m w ls x.1 x.3 in
     subst (λ (ks : List ℕ). Found m (suc (length ls)) ks) x.4 (record { as_many = ap suc r.as_many; below = both_true _ _ (w l.name x.0 (known_ok _ l.span x.0 x.2)) r.below })
 
-lifetimes_found : (I : Inside) (m : ℕ) → LifetimesBelow I m → (ds : Declared) (n k : ℕ) (ls : List BoundLifetime) (ks : List ℕ) → lifetimes_of I ds n ls ≡ Ok ks → Found m (length (bounded k ls)) ks
+lifetimes_found : (I : Inside) (m : ℕ) → LifetimesBelow I m → (ds : DeclaredNames) (n k : ℕ) (ls : List BoundLifetime) (ks : List ℕ) → lifetimes_of I ds n ls ≡ Ok ks → Found m (length (bounded k ls)) ks
 lifetimes_found I m w ds n k [] ks h = let e : [] ≡ ks = cc in subst (λ (ks : List ℕ). Found m 0 ks) e (record { as_many = refl; below = refl })
 lifetimes_found I m w ds n k (l ∷ ls) ks h =
     let a = named_ok (names.declare ds l.name n) (λ ds. names.both (bounds_in I l.bounds) (lifetimes_of I ds (suc n) ls)) ks h in

@@ -22,7 +22,7 @@ use Rattle.rx_typed_declarations.specs.Variance.{unrecorded}
 use Rattle.rx_typed_declarations.proofs.Polarities.{same_declared}
 use Rattle.rx_typeck_typed.specs.Steps.{Outcome, on_ok}
 use Rattle.rx_typeck_typed.specs.Items.{begins, bounded, bounds_of, entry_of, parameters_of, answer_of, declared_item, declared_function, entries_of}
-use Rattle.rx_typeck_solver.specs.Facts.{Types, Known, MeetsEach}
+use Rattle.rx_typeck_solver.specs.Facts.{Assignment, KnownItems, MeetsEach}
 use Rattle.rx_typeck_typed.specs.Demands.{demands}
 use Rattle.rx_typeck_typed.specs.declared.typed.Typed.{Typed}
 use Rattle.rx_typeck_typed.specs.declared.typed.TypedFn.{TypedFn}
@@ -99,7 +99,7 @@ module _ (p : ProgramTree) (ns : List ItemNames) (ds : List Decl) (P : Program p
   }
 
   -- a function whose demands are met
-  function_fits : (j : ℕ) (s : Span) (f : Function) (x : ItemNames) (d : Decl) (K : Known) (A : Types) → K.items ≡ D → length f.lifetimes < 4294967296 → in_item p j (plain.function_item s f) ≡ Ok x
+  function_fits : (j : ℕ) (s : Span) (f : Function) (x : ItemNames) (d : Decl) (K : KnownItems) (A : Assignment) → K.items ≡ D → length f.lifetimes < 4294967296 → in_item p j (plain.function_item s f) ≡ Ok x
       → declared_function p x.names f ≡ Ok d → MeetsEach K A (demands (function_named j s f x.names)) → signature_fits D d ≡ true
   function_fits j s f x d K A items few named declared met =
       let it = plain.function_item s f in

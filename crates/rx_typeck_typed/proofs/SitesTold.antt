@@ -23,7 +23,7 @@ use Rattle.rx_typeck_solver.specs.declared.facts.Demand.{Demand}
 use Rattle.rx_typeck_solver.specs.Ordered as order
 use Rattle.rx_typeck_solver.specs.Ordered.{Knowing, knows, learns, learns_all, ready, all_known}
 use Rattle.rx_typeck_typed.specs.Asking.{asks, ask, when, typed, type_of, expected, is, alike, passes, all, signed}
-use Rattle.rx_typeck_typed.specs.Demands.{through, fits, expects_own, kept, lendable, place_in, value_in, never_in, writable, assignable, matched_in, matched_if, matched, as_part, joins, join, hands_on, part_before, part_after, tested, printed, nothing_given, not_never, own, own_operand, same_operands, integer_operand, plain_operand, truth_operand, arithmetic, equality, order, lazy, updated, negated, inverted, operation, value_at}
+use Rattle.rx_typeck_typed.specs.Demands.{through, coerces, expects_own, kept, lendable, place_in, value_in, never_in, writable, assignable, matched_in, matched_if, matched, as_part, joins, join, hands_on, part_before, part_after, tested, printed, nothing_given, not_never, own, own_operand, same_operands, integer_operand, plain_operand, truth_operand, arithmetic, equality, order, lazy, updated, negated, inverted, operation, value_at}
 use Rattle.rx_typeck_typed.proofs.Reach.{Sure, Known, Passed, Reach, stays, ◌⇒◌, Tells, sure_kept, equals_asked, passes_asked, never_asked, asked, learnt, and_true, sure_passed, known_none, known_one, known_two, passed_none, EachReady, ready_each, each_join, each_typed, same_self}
 use Rattle.rx_typeck_typed.proofs.PatternsTold.{SureMatched}
 
@@ -113,7 +113,7 @@ told_place h = h.is
 
 -- ---- a value, or a place, where it stands
 
-fits_reach : (n : Node) (ds : List Demand) → Sure ds (type_of n) → Sure ds (expected n) → Reach ds (fits n ds)
+fits_reach : (n : Node) (ds : List Demand) → Sure ds (type_of n) → Sure ds (expected n) → Reach ds (coerces n ds)
 fits_reach n ds h k = (equals_asked n _ _ _ (type_of n ∷ expected n ∷ []) [] ds (known_two h k) passed_none).reach
 
 own_expected : (n : Node) (ds : List Demand) → Sure ds (type_of n) → Tells ds (expects_own n ds) (expected n)

@@ -15,7 +15,7 @@ use Rattle.rx_typeck_solver.specs.declared.facts.Passing.{Passing}
 use Rattle.rx_typeck_solver.specs.declared.facts.Fact.{Fact}
 use Rattle.rx_typeck_solver.specs.declared.facts.Fact.TheVariants as fact
 use Rattle.rx_typeck_solver.specs.declared.facts.Demand.{Demand}
-use Rattle.rx_typeck_solver.specs.Facts.{Types, Known, MeetsEach}
+use Rattle.rx_typeck_solver.specs.Facts.{Assignment, KnownItems, MeetsEach}
 use Rattle.rx_typeck_solver.specs.Valid.{IsIn, Tells, TellsAny, Told}
 use Rattle.rx_typeck_typed.specs.Asking.{Asking, asks, type_of}
 use Rattle.rx_typeck_typed.specs.Demands as rules
@@ -59,7 +59,7 @@ pub and_false : (a b : Bool) → (a && b) ≡ false → (a ≡ false) ⊎ (b ≡
 and_false true b e = inr e
 and_false false b e = inl refl
 
-module _ (K : Known) (A : Types) where
+module _ (K : KnownItems) (A : Assignment) where
   -- the demands tell the subject a type, where they are met
   pub record Sure (ds : List Demand) (x : Subject) : Type 0 where
     pub is : MeetsEach K A ds → Told ds x

@@ -14,7 +14,7 @@ use Rattle.rx_typed.specs.Naming.{Cursor, a_node, an_entry, declaration, known_a
 use Rattle.rx_typed.specs.Elaborated.{variables}
 use Rattle.rx_typeck_solver.specs.declared.facts.Subject.TheVariants as subject
 use Rattle.rx_typeck_solver.specs.declared.facts.Demand.{Demand}
-use Rattle.rx_typeck_solver.specs.Facts.{Types, Known}
+use Rattle.rx_typeck_solver.specs.Facts.{Assignment, KnownItems}
 use Rattle.rx_typeck_solver.specs.Valid.{IsIn}
 use Rattle.rx_typeck_typed.specs.Demands as rules
 use Rattle.rx_typeck_typed.specs.Nodes.{unless, pattern_nodes}
@@ -22,7 +22,7 @@ use Rattle.rx_typeck_typed.proofs.Adding.{Longer, longer_same, longer_then, one_
 use Rattle.rx_typeck_typed.proofs.Telling.{Sure, sure_longer, sure_refused, in_join, PatternTold}
 use Rattle.rx_typeck_typed.proofs.Stages.{stage, Counted, known_given, waits_given, waits_known, waits_no_given, waits_within, less_or, set_cases, among_cases, among_length, Still, entry_still, pattern_declares}
 
-module _ (K : Known) (A : Types) where
+module _ (K : KnownItems) (A : Assignment) where
   -- the node was told, or a variable waits there for its type
   abbrev pub Later : Cursor → List Demand → ℕ → Type 0
   Later c ds n = Sure K A ds (subject.Node n) ⊎ ((x : ℕ) × (s : Span) × (stage c.variables x ≡ Stage.Waits n s))

@@ -21,7 +21,7 @@ use Rattle.rx_typed_declarations.specs.Variance.{unrecorded}
 use Rattle.rx_typeck_solver.specs.declared.facts.Subject.{Subject}
 use Rattle.rx_typeck_solver.specs.Views.{unnumbered}
 use Rattle.rx_typed.specs.Naming.{function_named}
-use Rattle.rx_typed_declarations.specs.Held.{held}
+use Rattle.rx_typed_declarations.specs.Held.{held_by_each}
 use Rattle.rx_typed_declarations.specs.Sizes.{Sized, IsSizes}
 use Rattle.rx_typeck_typed.specs.declared.fault.DeclareFault.{DeclareFault}
 use Rattle.rx_typeck_typed.specs.declared.fault.DeclareFault.TheVariants as declare_fault
@@ -32,7 +32,7 @@ use Rattle.rx_typeck_typed.specs.Typing.{of_declaration, Causes, in_declaration,
 use Rattle.rx_typeck_typed.proofs.ExclusionLemmas as exclusion
 use Rattle.rx_typeck_solver.specs.declared.facts.Broken.{Broken}
 use Rattle.rx_typeck_solver.specs.declared.facts.Broken.TheVariants as broken
-use Rattle.rx_typeck_solver.specs.Facts.{Types, Known}
+use Rattle.rx_typeck_solver.specs.Facts.{Assignment, KnownItems}
 use Rattle.rx_typeck_solver.specs.Valid.{Valid}
 use Rattle.rx_typeck_solver.specs.Ordered.{Orderly}
 use Rattle.rx_typeck_solver.proofs.Deciding.{Untold, Faulty, valid_or_not}
@@ -54,7 +54,7 @@ each_valid G ns i (plain.rt_item s r ∷ p) ts t = each_valid G ns (suc i) p ts 
 each_valid G ns i (plain.struct_item s d ∷ p) ts t = each_valid G ns (suc i) p ts t
 each_valid G ns i (plain.enum_item s d ∷ p) ts t = each_valid G ns (suc i) p ts t
 
-pub no_first : (K : Known) (ns : List ItemNames) (i : ℕ) (p : ProgramTree) (e : TypeFault) → EachValid K ns i p → FirstUntyped K ns i p e → ⊥
+pub no_first : (K : KnownItems) (ns : List ItemNames) (i : ℕ) (p : ProgramTree) (e : TypeFault) → EachValid K ns i p → FirstUntyped K ns i p e → ⊥
 no_first K ns i [] e t u = u
 no_first K ns i (plain.function_item s f ∷ p) e t (inl u) = u.none t.0.0 t.0.1.valid
 no_first K ns i (plain.function_item s f ∷ p) e t (inr more) = no_first K ns (suc i) p e t.1 more.1
@@ -67,16 +67,16 @@ fault_told s (broken.Mismatch r) vars e = cc
 fault_told s (broken.Mutability x) vars e = cc
 fault_told s broken.Literal vars e = cc
 
-abbrev SomeUntyped : Known → List ItemNames → ℕ → ProgramTree → Type 0
+abbrev SomeUntyped : KnownItems → List ItemNames → ℕ → ProgramTree → Type 0
 SomeUntyped K ns i p = (e : TypeFault) × (e ≢ fault.OutOfMemory) × FirstUntyped K ns i p e
 
-pub each_or_first : (K : Known) (ns : List ItemNames) (i : ℕ) (p : ProgramTree)
+pub each_or_first : (K : KnownItems) (ns : List ItemNames) (i : ℕ) (p : ProgramTree)
     → ((i : ℕ) (s : Span) (f : plain.Function) (es : List NodeNames) → Orderly (task (function_named i s f es))) → EachValid K ns i p ⊎ SomeUntyped K ns i p
 each_or_first K ns i [] o = inl tt
 each_or_first K ns i (plain.function_item s f ∷ p) o = by (valid_or_not K (task (function_named i s f (entries (slice_get ns i)))) (o i s f (entries (slice_get ns i)))) (each_or_first K ns (suc i) p o)
   where
-    by : ((A : Types) × (Valid K (task (function_named i s f (entries (slice_get ns i)))) A × Untold (task (function_named i s f (entries (slice_get ns i)))) A)) ⊎ Faulty K (task (function_named i s f (entries (slice_get ns i)))) → EachValid K ns (suc i) p ⊎ SomeUntyped K ns (suc i) p
-        → (((A : Types) × IsValid K (function_named i s f (entries (slice_get ns i))) A) × EachValid K ns (suc i) p) ⊎ SomeUntyped K ns i (plain.function_item s f ∷ p)
+    by : ((A : Assignment) × (Valid K (task (function_named i s f (entries (slice_get ns i)))) A × Untold (task (function_named i s f (entries (slice_get ns i)))) A)) ⊎ Faulty K (task (function_named i s f (entries (slice_get ns i)))) → EachValid K ns (suc i) p ⊎ SomeUntyped K ns (suc i) p
+        → (((A : Assignment) × IsValid K (function_named i s f (entries (slice_get ns i))) A) × EachValid K ns (suc i) p) ⊎ SomeUntyped K ns i (plain.function_item s f ∷ p)
     by (inr u) r = let vars = variables_at (slice_get ns i) in
         inr (fault_of u.at u.rule vars, fault_told u.at u.rule vars, inl (record { none = u.none; node = u.node; at = u.at; rule = u.rule; asked = u.asked; breaks = u.breaks; is = refl }))
     by (inl v) (inl r) = inl ((v.0, record { valid = v.1.0; untold = v.1.1 }), r)
@@ -90,11 +90,11 @@ each_or_first K ns i (plain.enum_item s d ∷ p) o = each_or_first K ns (suc i) 
 fun_ext : {A B : Type 0} (f g : A → B) → ((x : A) → f x ≡ g x) → f ≡ g
 fun_ext f g h = λ i x. h x i
 
-one_type : (K : Known) (F : Function) (A B : Types) → Valid K (task F) A → Untold (task F) A → IsValid K F B → (x : Subject) (o : Option Ty) → TypeIs K F A x o → A x ≡ B x
+one_type : (K : KnownItems) (F : Function) (A B : Assignment) → Valid K (task F) A → Untold (task F) A → IsValid K F B → (x : Subject) (o : Option Ty) → TypeIs K F A x o → A x ≡ B x
 one_type K F A B v u w x None h = u x h ∙ sym (w.untold x h)
 one_type K F A B v u w x (Some y) h = v.only_one B w.valid.prefers x h.0
 
-type_told : (K : Known) (F : Function) (A : Types) (x : Subject) (o : Option Ty) (y : Ty) → TypeIs K F A x o → o ≡ Some y → region-Ty y ≡ unnumbered K.items (A x)
+type_told : (K : KnownItems) (F : Function) (A : Assignment) (x : Subject) (o : Option Ty) (y : Ty) → TypeIs K F A x o → o ≡ Some y → region-Ty y ≡ unnumbered K.items (A x)
 type_told K F A x None y h e = absurd (cc)
 type_told K F A x (Some z) y h e = let s : z ≡ y = cc in ap region-Ty (sym s) ∙ h.1
 
@@ -109,7 +109,7 @@ each_is_of G ns i (plain.function_item s f ∷ p) (x ∷ ts) v t =
         names = t.0.names;
         mutable = t.0.mutable;
         spans = t.0.spans;
-        types = λ y z e. type_told (known_in G) F t.0.types y (type_at x y) z (t.0.found y) e ∙ ap (λ (A : Types). unnumbered (known_in G).items (A y)) same;
+        types = λ y z e. type_told (known_in G) F t.0.types y (type_at x y) z (t.0.found y) e ∙ ap (λ (A : Assignment). unnumbered (known_in G).items (A y)) same;
         body = t.0.tree ∙ ap (λ A. elaborated (assigned (known_in G) A) F) same;
         written = t.0.annotated;
       },
@@ -135,7 +135,7 @@ declaration_told (declare_fault.Mismatch s r) h e = cc
 declaration_told (declare_fault.Elision s) h e = cc
 declaration_told declare_fault.OutOfMemory h e = h refl
 
-module _ (some : (D : Declarations) → NoCycle (held D) → (P : ℕ → ℕ) × Sized D P) (finite : (p : ProgramTree) (D : Declarations) → Fits p D → NoCycle (held D)) where
+module _ (some : (D : Declarations) → NoCycle (held_by_each D) → (P : ℕ → ℕ) × Sized D P) (finite : (p : ProgramTree) (D : Declarations) → Fits p D → NoCycle (held_by_each D)) where
   pub not_both : (p : ProgramTree) (ns : List ItemNames) (e : TypeFault) → WellTyped p ns → Causes p ns e → ⊥
   not_both p ns e w (in_declaration d wrong is) = exclusion.declared_or_wrong finite some p ns w.declared d w.declares wrong
   not_both p ns e w (in_function ds declares sizes is_sizes first) =
@@ -156,7 +156,7 @@ module _ (some : (D : Declarations) → NoCycle (held D) → (P : ℕ → ℕ) �
       (subst (λ x. FunctionsTyped (record { program = p; declared = x; sizes = typed.sizes }) ns 0 p t.functions) same typed.functions) in
       (typed.same ∙ ap (λ x. map unrecorded x) same, each_is_of G ns 0 p t.functions w.functions functions)
 
-  pub either : ((D : Declarations) (P Q : ℕ → ℕ) → NoCycle (held D) → Sized D P → Sized D Q → (i : ℕ) → P i ≡ Q i)
+  pub either : ((D : Declarations) (P Q : ℕ → ℕ) → NoCycle (held_by_each D) → Sized D P → Sized D Q → (i : ℕ) → P i ≡ Q i)
       → ((i : ℕ) (s : Span) (f : plain.Function) (es : List NodeNames) → Orderly (task (function_named i s f es)))
       → (p : ProgramTree) (ns : List ItemNames) → IsNumbered p → WellTyped p ns ⊎ ((e : TypeFault) × (e ≢ fault.OutOfMemory) × Causes p ns e)
   either one orderly p ns numbered = declared (deciding.declared_or_wrong some one finite p ns numbered)

@@ -12,7 +12,7 @@ use Rattle.rx_typeck_solver.specs.Valid.{Task, literals_of}
 use Rattle.rx_typeck_solver.specs.declared.facts.Fact.TheVariants as fact
 use Rattle.rx_typeck_typed.specs.Asking.{Asking, ◌>>◌, nothing, ask, type_of, alike}
 pub use Rattle.rx_typeck_typed.specs.rules.Types.{written_nodes, lifetimes_asked, written, of_type, of_types, limits, whole_type}
-pub use Rattle.rx_typeck_typed.specs.rules.Places.{through, fits, expects_own, kept, lendable, place_in, place_at, value_in, value_at, never_in, never_at, writable, assignable_at, assignable, step_at, borrowed}
+pub use Rattle.rx_typeck_typed.specs.rules.Places.{through, coerces, expects_own, kept, lendable, place_in, place_at, value_in, value_at, never_in, never_at, writable, assignable_at, assignable, step_at, borrowed}
 pub use Rattle.rx_typeck_typed.specs.rules.Patterns.{Matched, a_value, a_place, an_initialiser, matched_in, matched_if, matched, binding_of, direct, count, field_names, under, pattern_is, minus, bound_at, literal_at, part_is, of_pattern, of_parts, of_variant_parts, of_field_patterns, tuple_at, variant_at, struct_at, part_with, whole_pattern}
 pub use Rattle.rx_typeck_typed.specs.rules.Operators.{same_operands, integer_operand, plain_operand, truth_operand, own_operand, arithmetic, equality, order, lazy, updated, negated, inverted, operation}
 pub use Rattle.rx_typeck_typed.specs.rules.Expressions.{expects, as_part, joins, join, hands_on, part_before, part_after, tested, printed, nothing_given, not_never, own, exp_nodes, argument_count, names_given, named_at, fits_given, given, returns_unit, branch_before, branch_after, if_joins, loop_given, Listed, members, values, parameters, parts_of, each_before, each_after, integer_at}

@@ -14,13 +14,13 @@ use Rattle.rx_typeck_typed.specs.declared.typed.TypedFn.{TypedFn}
 use Rattle.rx_typeck_typed.specs.Typing.{entries, type_at}
 use Rattle.rx_typeck_typed.specs.Nodes.{nodes as all_nodes}
 
-abbrev pub HasType : TypedFn → Subject → Type 0
-HasType t x = (ty : Ty) × (type_at t x ≡ Some ty)
+abbrev pub HasTypeInTables : TypedFn → Subject → Type 0
+HasTypeInTables t x = (ty : Ty) × (type_at t x ≡ Some ty)
 
 -- each variable has a type, and each node but the item, statements and what is Never; and these are all nodes that there are
 pub record AllTyped (f : Function) (t : TypedFn) : Type 0 where
-  pub variables : (x : ℕ) → x < length t.mutable → HasType t (subject.Variable x)
-  pub nodes : (n : ℕ) → IsIn n (all_nodes true f) → HasType t (subject.Node n)
+  pub variables : (x : ℕ) → x < length t.mutable → HasTypeInTables t (subject.Variable x)
+  pub nodes : (n : ℕ) → IsIn n (all_nodes true f) → HasTypeInTables t (subject.Node n)
   pub others : (n : ℕ) → n < length t.spans → IsIn n (all_nodes true f) ⊎ IsIn n (all_nodes false f)
 
 -- of each function; the first item has this number

@@ -7,7 +7,7 @@ use Rattle.rx_resolve_names.specs.Holding.{name_span}
 use Rattle.rx_graph_cycles.specs.Reaches.{NoCycle, FirstOnCycle}
 use Rattle.rx_typed.specs.Types.{Typ, FieldDeclared, VariantDeclared, Declared, struct_declared, enum_declared}
 use Rattle.rx_typed.specs.Types.{Declarations, levels}
-use Rattle.rx_typed_declarations.specs.Held.{held}
+use Rattle.rx_typed_declarations.specs.Held.{held_by_each}
 use Rattle.rx_typed_declarations.specs.Sizes.{Sized}
 use Rattle.rx_typeck_solver.specs.declared.facts.Rule.{Rule}
 use Rattle.rx_typeck_typed.specs.declared.fault.DeclareFault.TheVariants as fault
@@ -53,8 +53,8 @@ place_of (Some i) = name_span i
 -- whether the limits are kept, and what is wrong where they are not: the first struct or enum that reaches itself,
 -- since it has no number of parts; where there is none, the first that passes a limit
 pub record Limited (p : ProgramTree) (D : Declarations) (o : Outcome (Unit {0})) : Type 0 where
-  pub endless : (n : ℕ) → FirstOnCycle (held D) (Some n) → o ≡ fits_at (place_of (slice_get p n)) false
-  pub each : NoCycle (held D) → (P : ℕ → ℕ) → Sized D P → o ≡ all_fit P D 0 p
+  pub endless : (n : ℕ) → FirstOnCycle (held_by_each D) (Some n) → o ≡ fits_at (place_of (slice_get p n)) false
+  pub each : NoCycle (held_by_each D) → (P : ℕ → ℕ) → Sized D P → o ≡ all_fit P D 0 p
 
 -- what a function that asks for the limits ensures: items have numbers of 32 bits too
 abbrev pub Limits : ProgramTree → Declarations → Outcome (Unit {0}) → Type 0

@@ -20,7 +20,7 @@ use Rattle.rx_typed.specs.Elaborated.{Assigned, Coercion, coercion, elaborated}
 use Rattle.rx_typed.specs.PlainTree.{plain-TypedTree}
 use Rattle.rx_typed_declarations.specs.Sizes.{IsSizes}
 use Rattle.rx_typed_declarations.specs.WellFormed.{WellFormed}
-use Rattle.rx_typed_declarations.specs.Variance.{Recorded, unrecorded}
+use Rattle.rx_typed_declarations.specs.Variance.{Recorded, AsMany, unrecorded}
 use Rattle.rx_typeck_elaborate_parts.specs.Assigning.{joined, shape_of}
 use Rattle.rx_typeck_typed.specs.declared.fault.DeclareFault.{DeclareFault}
 use Rattle.rx_typeck_typed.specs.declared.fault.DeclareFault.TheVariants as declare_fault
@@ -35,9 +35,10 @@ use Rattle.rx_typeck_solver.specs.declared.facts.Broken.{Broken}
 use Rattle.rx_typeck_solver.specs.declared.facts.Broken.TheVariants as broken
 use Rattle.rx_typeck_solver.specs.declared.solver.Unsolved.{Unsolved}
 use Rattle.rx_typeck_solver.specs.declared.solver.Unsolved.TheVariants as unsolved
-use Rattle.rx_typeck_solver.specs.Facts.{Types, Known}
+use Rattle.rx_typeck_solver.specs.Facts.{Assignment, KnownItems}
 use Rattle.rx_typeck_solver.specs.Stepping.{known}
 use Rattle.rx_typeck_solver.specs.Valid.{Valid, Breaks, IsUnclear, Asked, Told}
+use Rattle.rx_typeck_solver.specs.Trimmed.{IsTrimmed}
 use Rattle.rx_typeck_solver.specs.Views.{unnumbered}
 use Rattle.rx_typeck_typed.specs.Demands.{demands, task}
 use Rattle.rx_typeck_typed.specs.declared.typed.TypedFn.{TypedFn}
@@ -62,11 +63,11 @@ pub record Given : Type 0 where
   pub declared : List Decl
   pub sizes : List ℕ
 
-abbrev pub known_in : Given → Known
+abbrev pub known_in : Given → KnownItems
 known_in G = known G.declared G.sizes
 
 -- the assignment as the typed tree takes it
-abbrev pub assigned : Known → Types → Assigned
+abbrev pub assigned : KnownItems → Assignment → Assigned
 assigned K A = record { items = K.items; typ = λ n. A (subject.Node n); expected = λ n. A (subject.Expected n) }
 
 -- the type that a typed function has for a variable, a node, or what a node's place expects
@@ -75,12 +76,16 @@ type_at t (subject.Variable x) = joined (slice_get t.variables x)
 type_at t (subject.Node n) = joined (slice_get t.types.nodes n)
 type_at t (subject.Expected n) = joined (slice_get t.types.expected n)
 
+-- no table of types goes on behind its last one
+abbrev pub TypesTrimmed : TypedFn → Type 0
+TypesTrimmed t = IsTrimmed t.variables × IsTrimmed t.types.nodes × IsTrimmed t.types.expected
+
 -- what a coercion site does to the value of a node, by the node's type and the one that its place expects
 abbrev pub coercion_at : TypedFn → ℕ → Coercion
 coercion_at t n = coercion (shape_of (type_at t (subject.Node n))) (shape_of (type_at t (subject.Expected n)))
 
 -- exactly what the rules give a type has one: that of the assignment, in which each lifetime has the number 0
-abbrev pub TypeIs : Known → Function → Types → Subject → Option Ty → Type 0
+abbrev pub TypeIs : KnownItems → Function → Assignment → Subject → Option Ty → Type 0
 TypeIs K f A x None = Told (demands f) x → ⊥
 TypeIs K f A x (Some t) = Told (demands f) x × (region-Ty t ≡ unnumbered K.items (A x))
 
@@ -98,11 +103,12 @@ pub record FunctionTyped (G : Given) (i : ℕ) (s : Span) (f : plain.Function) (
   pub names : t.names ≡ vars
   pub mutable : t.mutable ≡ map is_mutable (function_variables s f ns)
   pub spans : t.spans ≡ function_spans s f ns
-  pub types : Types
+  pub types : Assignment
   pub valid : Valid (known_in G) (task (function_named i s f ns)) types
   -- the unit, where the rules give no type
   pub untold : (x : Subject) → (Told (demands (function_named i s f ns)) x → ⊥) → types x ≡ unit_shape
   pub found : (x : Subject) → TypeIs (known_in G) (function_named i s f ns) types x (type_at t x)
+  pub trimmed : TypesTrimmed t
   pub tree : plain-TypedTree t.tree ≡ elaborated (assigned (known_in G) types) (function_named i s f ns)
   pub annotated : IsAnnotated G i s f ns t.annotations
 
@@ -117,8 +123,8 @@ of_unsolved (unsolved.Broken n at b) vars = fault_of at b vars
 of_unsolved unsolved.OutOfMemory vars = fault.OutOfMemory
 
 -- a node of a function without a valid assignment breaks a rule, or it isn't clear which type is meant there
-pub record FunctionUntyped (K : Known) (f : Function) (vars : List Span) (e : TypeFault) : Type 0 where
-  pub none : (A : Types) → Valid K (task f) A → ⊥
+pub record FunctionUntyped (K : KnownItems) (f : Function) (vars : List Span) (e : TypeFault) : Type 0 where
+  pub none : (A : Assignment) → Valid K (task f) A → ⊥
   pub node : ℕ
   pub at : Span
   pub rule : Broken
@@ -136,10 +142,10 @@ FunctionsTyped G ns i (plain.function_item s f ∷ is) (t ∷ ts) =
 FunctionsTyped G ns i (_ ∷ is) ts = FunctionsTyped G ns (suc i) is ts
 
 -- the first function without a valid assignment
-abbrev pub FirstUntyped : Known → List ItemNames → ℕ → ProgramTree → TypeFault → Type 0
+abbrev pub FirstUntyped : KnownItems → List ItemNames → ℕ → ProgramTree → TypeFault → Type 0
 FirstUntyped K ns i [] e = ⊥
 FirstUntyped K ns i (plain.function_item s f ∷ is) e = let F = function_named i s f (entries (slice_get ns i)) in
-    FunctionUntyped K F (variables_at (slice_get ns i)) e ⊎ (((A : Types) × Valid K (task F) A) × FirstUntyped K ns (suc i) is e)
+    FunctionUntyped K F (variables_at (slice_get ns i)) e ⊎ (((A : Assignment) × Valid K (task F) A) × FirstUntyped K ns (suc i) is e)
 FirstUntyped K ns i (_ ∷ is) e = FirstUntyped K ns (suc i) is e
 
 -- ---- a program
@@ -150,6 +156,7 @@ pub record IsTyped (p : ProgramTree) (ns : List ItemNames) (t : Typed) : Type 0 
   -- the declarations are these, with the polarities of lifetimes recorded
   pub same : map unrecorded t.decls.items ≡ map unrecorded declared
   pub recorded : Recorded t.decls.items
+  pub as_many : AsMany t.decls.items
   pub well_formed : WellFormed t.decls.items
   pub sizes : List ℕ
   pub is_sizes : IsSizes (declarations declared) sizes

@@ -22,7 +22,7 @@ use Rattle.rx_typeck_typed.specs.Programs.{Declares}
 use Rattle.rx_typeck_typed.specs.Bindings.{annotated}
 use Rattle.rx_typeck_typed.specs.Walks.{plain-Variable}
 use Rattle.rx_typeck_solver.specs.declared.facts.Subject.{Subject}
-use Rattle.rx_typeck_solver.specs.Facts.{Types, Known}
+use Rattle.rx_typeck_solver.specs.Facts.{Assignment, KnownItems}
 use Rattle.rx_typeck_solver.specs.Stepping.{known}
 use Rattle.rx_typeck_solver.specs.Valid.{Valid, Told}
 use Rattle.rx_typeck_solver.specs.Views.{unnumbered}
@@ -31,14 +31,14 @@ use Rattle.rx_typeck_typed.specs.declared.typed.TypedFn.{TypedFn}
 use Rattle.rx_typeck_typed.specs.Typing.{Given, known_in, entries, variables_at, assigned, is_mutable, type_at}
 
 -- a valid assignment, in which a type is the unit where the rules give none
-pub record IsValid (K : Known) (F : named.Function) (A : Types) : Type 0 where
+pub record IsValid (K : KnownItems) (F : named.Function) (A : Assignment) : Type 0 where
   pub valid : Valid K (task F) A
   pub untold : (x : Subject) → (Told (demands F) x → ⊥) → A x ≡ unit_shape
 
 -- each function has one; the first item has this number
-abbrev pub EachValid : Known → List ItemNames → ℕ → ProgramTree → Type 0
+abbrev pub EachValid : KnownItems → List ItemNames → ℕ → ProgramTree → Type 0
 EachValid K ns i [] = Unit {0}
-EachValid K ns i (plain.function_item s f ∷ is) = ((A : Types) × IsValid K (function_named i s f (entries (slice_get ns i))) A) × EachValid K ns (suc i) is
+EachValid K ns i (plain.function_item s f ∷ is) = ((A : Assignment) × IsValid K (function_named i s f (entries (slice_get ns i))) A) × EachValid K ns (suc i) is
 EachValid K ns i (_ ∷ is) = EachValid K ns (suc i) is
 
 -- the program, with the entries of names of each item
@@ -58,13 +58,13 @@ pub record TypedFunction : Type 0 where
   pub names : List Span
   pub mutable : List Bool
   pub spans : List Span
-  pub types : Types
+  pub types : Assignment
   pub body : tree.Function
   -- the variables that `let`s with a type bind, with the types that they write
   pub written : List (ℕ × RegionTyp)
 
 -- by its assignment
-abbrev pub typed_function : Given → ℕ → Span → plain.Function → List NodeNames → List Span → Types → TypedFunction
+abbrev pub typed_function : Given → ℕ → Span → plain.Function → List NodeNames → List Span → Assignment → TypedFunction
 typed_function G i s f ns vars A = record {
   item = i;
   names = vars;
@@ -87,7 +87,7 @@ abbrev pub functions_of : (p : ProgramTree) (ns : List ItemNames) → WellTyped 
 functions_of p ns w = functions_by (record { program = p; declared = w.declared; sizes = w.sizes }) ns 0 p w.functions
 
 -- a function with its tables of types is this one
-pub record IsOf (K : Known) (t : TypedFn) (f : TypedFunction) : Type 0 where
+pub record IsOf (K : KnownItems) (t : TypedFn) (f : TypedFunction) : Type 0 where
   pub item : t.item ≡ f.item
   pub names : t.names ≡ f.names
   pub mutable : t.mutable ≡ f.mutable
@@ -96,7 +96,7 @@ pub record IsOf (K : Known) (t : TypedFn) (f : TypedFunction) : Type 0 where
   pub body : plain-TypedTree t.tree ≡ f.body
   pub written : map plain-Variable t.annotations ≡ f.written
 
-abbrev pub EachIsOf : Known → List TypedFn → List TypedFunction → Type 0
+abbrev pub EachIsOf : KnownItems → List TypedFn → List TypedFunction → Type 0
 EachIsOf K [] [] = Unit {0}
 EachIsOf K (t ∷ ts) (f ∷ fs) = IsOf K t f × EachIsOf K ts fs
 EachIsOf K _ _ = ⊥

@@ -9,13 +9,13 @@ ghost use Rattle.rx_typed.specs.declared.declarations.Decl.{Decl};
 ghost use Rattle.rx_graph_cycles.specs.Reaches.{NoCycle};
 ghost use Rattle.rx_typed.specs.Types.{Declarations, variants_declared};
 ghost use Rattle.rx_typed.specs.PlainTypes.{declarations};
-ghost use Rattle.rx_typed_declarations.specs.Held.{held};
+ghost use Rattle.rx_typed_declarations.specs.Held.{held_by_each};
 ghost use Rattle.rx_typed_declarations.specs.WellFormed.{WellFormed};
 ghost use Rattle.rx_typeck_typed.specs.Programs.{Fits, Declares};
 
 /// Of what a program declares no struct or enum reaches itself, so each has one number of parts.
 pub fn declared_are_finite()
-    ensures { (p : ProgramTree) (D : Declarations) → Fits p D → NoCycle (held D) }
+    ensures { (p : ProgramTree) (D : Declarations) → Fits p D → NoCycle (held_by_each D) }
 {}
 
 /// What a program declares, whose names have a meaning, is well-formed: what structs and enums hold names what is

@@ -7,7 +7,7 @@ ghost use Rattle.rx_resolve_names.specs.declared.resolved.ItemNames.{ItemNames};
 ghost use Rattle.rx_graph_cycles.specs.Reaches.{NoCycle};
 ghost use Rattle.rx_typed.specs.Types.{variants_declared};
 ghost use Rattle.rx_typed.specs.PlainTypes.{declarations};
-ghost use Rattle.rx_typed_declarations.specs.Held.{held};
+ghost use Rattle.rx_typed_declarations.specs.Held.{held_by_each};
 ghost use Rattle.rx_typeck_typed.specs.Alike.{AreAlike};
 ghost use Rattle.rx_typeck_typed.specs.Typing.{IsTyped, Causes};
 ghost use Rattle.rx_typeck_typed.specs.declared.typed.Typed.{Typed};
@@ -18,7 +18,7 @@ use rx_typed_declarations::one_size_each;
 
 /// Of what a typed program declares no struct or enum reaches itself, and each enum has fewer than 2^32 variants.
 pub fn typed_declarations_are_finite()
-    ensures finite { (p : ProgramTree) (names : List ItemNames) (t : Typed) → IsTyped p names t → NoCycle (held (declarations t.decls.items)) }
+    ensures finite { (p : ProgramTree) (names : List ItemNames) (t : Typed) → IsTyped p names t → NoCycle (held_by_each (declarations t.decls.items)) }
     ensures few { (p : ProgramTree) (names : List ItemNames) (t : Typed) → IsNumbered p → IsTyped p names t
         → (i : ℕ) → length (variants_declared (slice_get (declarations t.decls.items) i)) < 4294967296 }
 {

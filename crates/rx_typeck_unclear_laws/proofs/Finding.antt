@@ -6,7 +6,7 @@ use Rattle.rx_core.specs.declared.types.Span.{Span}
 use Rattle.rx_typed.specs.Types.{integer}
 use Rattle.rx_typeck_solver.specs.declared.facts.Subject.TheVariants as subject
 use Rattle.rx_typeck_solver.specs.declared.facts.Demand.{Demand}
-use Rattle.rx_typeck_solver.specs.Facts.{Types, Known}
+use Rattle.rx_typeck_solver.specs.Facts.{Assignment, KnownItems}
 use Rattle.rx_typeck_solver.specs.Valid.{Task, Told, IsIn, Typed, Open, Valid, IsUnclear, Asked}
 use Rattle.rx_typeck_solver.specs.Solver.{Leaf, Fixed, KindOf, Term, State, empty, Found, Found_all, Failed, Lacking, solve, literal_fine, class_fine, Root, answer}
 use Rattle.rx_typeck_solver.specs.Ordered.{Orderly}
@@ -75,13 +75,13 @@ roots st ls (m ∷ ns) = by (one_root st ls m) (roots st ls ns)
 
 -- ---- a task
 
-abbrev Found_there : Known → Task → Type 0
+abbrev Found_there : KnownItems → Task → Type 0
 Found_there K task = (m : ℕ) × (at : Span) × IsUnclear K task m × Asked task.demands m at
 
-pub open_told : (K : Known) (task : Task) → Orderly task → (n : ℕ) → Open K task n → Told task.demands (subject.Node n)
+pub open_told : (K : KnownItems) (task : Task) → Orderly task → (n : ℕ) → Open K task n → Told task.demands (subject.Node n)
 open_told K task o n w = literal_told K task o w.one w.typed_one n w.literal
 
-pub some_unclear : (K : Known) (task : Task) → Orderly task → (A : Types) → Typed K task A → ((V : Types) → Valid K task V → ⊥) → Found_there K task
+pub some_unclear : (K : KnownItems) (task : Task) → Orderly task → (A : Assignment) → Typed K task A → ((V : Assignment) → Valid K task V → ⊥) → Found_there K task
 some_unclear K task o A t v = by (solve K task.demands empty) refl
   where
     found : (m : ℕ) → AskedAt task.demands m → IsUnclear K task m → Found_there K task

@@ -1,2 +1,5 @@
 pub mod Telling
+mod Asks
+mod Others
+mod Apart
 pub mod Finding

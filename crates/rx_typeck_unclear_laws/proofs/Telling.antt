@@ -7,7 +7,7 @@ use Rattle.rx_typeck_solver.specs.declared.facts.Subject.TheVariants as subject
 use Rattle.rx_typeck_solver.specs.declared.facts.Fact.{Fact}
 use Rattle.rx_typeck_solver.specs.declared.facts.Fact.TheVariants as fact
 use Rattle.rx_typeck_solver.specs.declared.facts.Demand.{Demand}
-use Rattle.rx_typeck_solver.specs.Facts.{Types, Known, Meets, MeetsAll, MeetsEach}
+use Rattle.rx_typeck_solver.specs.Facts.{Assignment, KnownItems, Meets, MeetsAll, MeetsEach}
 use Rattle.rx_typeck_solver.specs.Valid.{Task, Tells, TellsAny, Told, IsIn, Typed}
 use Rattle.rx_typeck_solver.specs.Solver.{same_subject}
 use Rattle.rx_typeck_solver.specs.Ordered.{Knowing, nothing, learns, learns_all, Ready, Ordered, asks_integer, AsksInteger, Orderly}
@@ -17,7 +17,7 @@ either : (a b : Bool) → (a || b) ≡ true → (a ≡ true) ⊎ (b ≡ true)
 either true b h = inl refl
 either false b h = inr h
 
-module _ (D : Known) (A : Types) where
+module _ (D : KnownItems) (A : Assignment) where
   -- ---- what is known behind facts was known before, or is told by them
 
   known_more : (x y : Subject) (b : Bool) → IsTrue (same_subject x y || b) → IsTrue b ⊎ (x ≡ y)
@@ -69,5 +69,5 @@ module _ (D : Known) (A : Types) where
       by (inr t) = inr (inr t)
 
 -- each literal of a task whose demands can be met has its type told
-pub literal_told : (D : Known) (task : Task) → Orderly task → (A : Types) → Typed D task A → (n : ℕ) → IsIn n task.literals → Told task.demands (subject.Node n)
+pub literal_told : (D : KnownItems) (task : Task) → Orderly task → (A : Assignment) → Typed D task A → (n : ℕ) → IsIn n task.literals → Told task.demands (subject.Node n)
 literal_told D task o A typed n l = ⊎_elim (λ k. absurd (true≢false (sym k))) (λ t. t) (asked_told D A nothing task.demands n typed o.ordered (o.literals n l))

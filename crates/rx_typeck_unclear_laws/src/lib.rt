@@ -1,6 +1,6 @@
-//! Nodes at which it isn't clear which type is meant.
+//! Nodes at which it isn't clear which type is meant, and nodes that have none.
 #![tactic(auto)]
 
 mod laws;
 
-pub use laws::unclear_nodes_have_types;
+pub use laws::{no_others_have_types, unclear_nodes_have_types};

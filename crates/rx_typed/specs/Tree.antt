@@ -158,8 +158,8 @@ pub record Function : Type 0 where
 abbrev pub own : ℕ → Place
 own x = record { root = variable x; steps = [] }
 
-abbrev pub held : Temporary → Place
-held t = record { root = temporary t; steps = [] }
+abbrev pub temporary_place : Temporary → Place
+temporary_place t = record { root = temporary t; steps = [] }
 
 -- a place, and further steps
 abbrev pub under : Place → List Step → Place

@@ -6,7 +6,7 @@ use Rattle.rx_typed.specs.declared.declarations.Decl.{Decl}
 use Rattle.rx_graph_cycles.specs.Reaches.{targets}
 use Rattle.rx_typed.specs.Types.{Declared, Declarations}
 use Rattle.rx_typed.specs.PlainTypes.{plain-Decl, declarations}
-use Rattle.rx_typed_declarations.specs.Held.{held_by, held}
+use Rattle.rx_typed_declarations.specs.Held.{held_by, held_by_each}
 
 -- a function of what is left of a list, where the next element is known
 pub at_next : {X Y : Type 0} (F : List X → Y) (xs : List X) (i : ℕ) (x : X) → i < length xs → x ≡ get_or xs i x
@@ -18,7 +18,7 @@ abbrev pub held_of : Option Declared → List ℕ
 held_of None = []
 held_of (Some d) = held_by d
 
-pub targets_held : (D : Declarations) (n : ℕ) → targets (held D) n ≡ held_of (slice_get D n)
+pub targets_held : (D : Declarations) (n : ℕ) → targets (held_by_each D) n ≡ held_of (slice_get D n)
 targets_held [] n = refl
 targets_held (d ∷ D) zero = refl
 targets_held (d ∷ D) (suc n) = targets_held D n

@@ -4,6 +4,7 @@ pub mod Filling
 mod SizeLemmas
 mod SizeLaws
 pub mod RegionLemmas
+pub mod OneType
 mod FixingLemmas
 pub mod VarianceLemmas
 mod RecordLemmas

@@ -9,10 +9,10 @@ use Rattle.rx_typed.specs.declared.declarations.Decl.TheVariants as decl
 use Rattle.rx_graph_cycles.specs.Reaches.{NoCycle}
 use Rattle.rx_typed.specs.Types.{Declarations}
 use Rattle.rx_typed.specs.PlainTypes.{plain-Decl, declarations}
-use Rattle.rx_typed_declarations.specs.Held.{held}
+use Rattle.rx_typed_declarations.specs.Held.{held_by_each}
 use Rattle.rx_typed.specs.Regions.{RegionTyp, held_regions, regions}
 use Rattle.rx_typed_declarations.specs.WellFormed.{WellFormed, item_fits}
-use Rattle.rx_typed_declarations.specs.Variance.{polarity, Invariant, TellsOf, AreVariances, Recorded, variances_recorded, recording}
+use Rattle.rx_typed_declarations.specs.Variance.{polarity, Invariant, TellsOf, AreVariances, Recorded, variances_recorded, recording, polarity_count, AsMany}
 use Rattle.rx_typed_declarations.specs.Variance.{unrecorded, record_one, record_all}
 use Rattle.rx_typed_declarations.proofs.VarianceLemmas.{tells_none, regions_past, regions_are}
 
@@ -101,7 +101,7 @@ well_formed_same ds V wf = record {
   numbered = rw (length_same ds V) wf.numbered;
   named = λ i d is. let w = was ds V i d is in
       rw (declarations_same ds V) (w.fits_alike (declarations ds) ∙ wf.named i w.item w.stood);
-  finite = let Apart : Declarations → Type 0 = λ D. NoCycle (held D) in
+  finite = let Apart : Declarations → Type 0 = λ D. NoCycle (held_by_each D) in
       subst Apart (sym (declarations_same ds V)) wf.finite;
 }
 
@@ -147,6 +147,27 @@ module _ (ds : List Decl) (wf : WellFormed ds) where
       let Tells : List (List RegionTyp) → Type 0 = λ H. (k : ℕ) → (polarity now k ≡ Inv) ↔ Invariant H i k in
       subst Tells (sym (regions_same ds V)) (tells_at V i (are.each i) (what_stands ds V i are.whole))
 
+-- ---- how many are recorded
+
+abbrev HasAsMany : Option Decl → Type 0
+HasAsMany o = length (variances_recorded o) ≡ polarity_count o
+
+as_many_recorded : (d : Decl) (ps : List Polarity) → length ps ≡ polarity_count (Some d)
+    → HasAsMany (Some (recording d ps))
+as_many_recorded decl.Rt ps h = refl
+as_many_recorded (decl.Struct c l vs fs) ps h = h
+as_many_recorded (decl.Enum c l vs ds) ps h = h
+as_many_recorded (decl.Func l ts t bs) ps h = refl
+
+as_many_all : (ds : List Decl) (V : List (List Polarity)) → length V ≡ length ds
+    → ((i : ℕ) → length (get_or V i []) ≡ polarity_count (slice_get ds i)) → AsMany (record_all ds V)
+as_many_all ds V whole h i = by (what_stands ds V i whole)
+  where
+    by : At ds V i → HasAsMany (slice_get (record_all ds V) i)
+    by (past was is) = subst HasAsMany (sym is) refl
+    by (stands d was is) =
+        subst HasAsMany (sym is) (as_many_recorded d (get_or V i []) (h i ∙ ap polarity_count was))
+
 -- ---- the same, where the code has equations
 
 pub record_pop : (items new : List Decl) (V T : List (List Polarity)) (ps : List Polarity) (n : ℕ) → V ≡ T ++ ps ∷ []
@@ -169,3 +190,11 @@ recorded_at items items' new V wf same are is =
     let Are : List Decl → Type 0 = λ ds. AreVariances ds V in
     let Rec : List Decl → Type 0 = λ ds. Recorded ds in
     subst Rec (sym is) (recorded_all items wf V (subst Are same are))
+
+pub as_many_at : (items items' new : List Decl) (V : List (List Polarity)) → items' ≡ items → AreVariances items' V
+    → new ≡ record_all items V → AsMany new
+as_many_at items items' new V same are is =
+    let Are : List Decl → Type 0 = λ ds. AreVariances ds V in
+    let now : AreVariances items V = subst Are same are in
+    let Many : List Decl → Type 0 = λ ds. AsMany ds in
+    subst Many (sym is) (as_many_all items V now.whole now.as_many)

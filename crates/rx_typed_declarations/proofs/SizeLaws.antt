@@ -9,7 +9,7 @@ use Rattle.rx_graph_cycles.proofs.Ways.{is_in_front, is_in_behind}
 use Rattle.rx_typed.specs.Types.{Typ, integer, boolean, tuple_of, reference, named, Shapes, no_shape, shape_and}
 use Rattle.rx_typed.specs.Types.{shapes_of, rt_declared, struct_declared, enum_declared, function_declared}
 use Rattle.rx_typed.specs.Types.{Declared, Declarations, at_least_one, parts, sum_of_parts}
-use Rattle.rx_typed_declarations.specs.Held.{named_in, named_among, field_types, variant_types, held_by, held}
+use Rattle.rx_typed_declarations.specs.Held.{named_in, named_among, field_types, variant_types, held_by, held_by_each}
 use Rattle.rx_typed_declarations.specs.Sizes.{declared_parts, Sized}
 use Rattle.rx_typed_declarations.proofs.ItemLemmas.{held_of, targets_held}
 use Rattle.rx_typed_declarations.proofs.Filling.{by_targets}
@@ -43,22 +43,22 @@ module _ (P Q : ℕ → ℕ) where
   items_agree (Some (function_declared ps t)) h = refl
 
 module _ (D : Declarations) where
-  past_none : (i : ℕ) → length (held D) ≤ i → slice_get D i ≡ None
+  past_none : (i : ℕ) → length (held_by_each D) ≤ i → slice_get D i ≡ None
   past_none i le = slice_get_past D i (rw (sym (length-map D held_by)) le)
 
   -- at a number, by what it leads to
-  agree_at : (P Q : ℕ → ℕ) (n : ℕ) → Agree P Q (targets (held D) n)
+  agree_at : (P Q : ℕ → ℕ) (n : ℕ) → Agree P Q (targets (held_by_each D) n)
       → declared_parts P (slice_get D n) ≡ declared_parts Q (slice_get D n)
   agree_at P Q n h = items_agree P Q (slice_get D n) (subst (Agree P Q) (targets_held D n) h)
 
-  pub one_size : (P Q : ℕ → ℕ) → NoCycle (held D) → Sized D P → Sized D Q → (i : ℕ) → P i ≡ Q i
-  one_size P Q apart p q = by_targets (held D) (λ i. P i ≡ Q i) past step apart
+  pub one_size : (P Q : ℕ → ℕ) → NoCycle (held_by_each D) → Sized D P → Sized D Q → (i : ℕ) → P i ≡ Q i
+  one_size P Q apart p q = by_targets (held_by_each D) (λ i. P i ≡ Q i) past step apart
     where
-      past : (i : ℕ) → length (held D) ≤ i → P i ≡ Q i
+      past : (i : ℕ) → length (held_by_each D) ≤ i → P i ≡ Q i
       past i le =
           p i ∙ ap (declared_parts P) (past_none i le) ∙ ap (declared_parts Q) (sym (past_none i le)) ∙ sym (q i)
 
-      step : (n : ℕ) → ((j : ℕ) → IsIn (targets (held D) n) j → P j ≡ Q j) → P n ≡ Q n
+      step : (n : ℕ) → ((j : ℕ) → IsIn (targets (held_by_each D) n) j → P j ≡ Q j) → P n ≡ Q n
       step n h = p n ∙ agree_at P Q n h ∙ sym (q n)
 
   -- ---- sizes as far as so many steps tell
@@ -91,7 +91,7 @@ module _ (D : Declarations) where
               subst Stays same (a.stays m (omega arith) ∙ sym (a.stays (a.from + r.steps) (omega arith)))
           reach j (inr h) m le = r.reach j h m (omega arith) ∙ sym (r.reach j h (a.from + r.steps) (omega arith))
 
-  steady_past : (i : ℕ) → length (held D) ≤ i → Steady i
+  steady_past : (i : ℕ) → length (held_by_each D) ≤ i → Steady i
   unfolding parts_at
   steady_past i le = record { value = 1; from = 0; stays = λ m z. one m }
     where
@@ -99,11 +99,11 @@ module _ (D : Declarations) where
       one zero = refl
       one (suc m) = ap (declared_parts (parts_at m)) (past_none i le)
 
-  steady_step : (n : ℕ) → ((j : ℕ) → IsIn (targets (held D) n) j → Steady j) → Steady n
+  steady_step : (n : ℕ) → ((j : ℕ) → IsIn (targets (held_by_each D) n) j → Steady j) → Steady n
   unfolding parts_at
-  steady_step n of = by (enough (targets (held D) n) of)
+  steady_step n of = by (enough (targets (held_by_each D) n) of)
     where
-      by : Enough (targets (held D) n) → Steady n
+      by : Enough (targets (held_by_each D) n) → Steady n
       by e = record {
         value = declared_parts (parts_at e.steps) (slice_get D n);
         from = suc e.steps;
@@ -131,13 +131,13 @@ module _ (D : Declarations) where
     steady_sized : Sized D (λ i. (all i).value)
     unfolding parts_at
     steady_sized i =
-        let r = latest (targets (held D) i) in
+        let r = latest (targets (held_by_each D) i) in
         let m = r.0 + (all i).from in
         let here : parts_at (suc m) i ≡ (all i).value = (all i).stays (suc m) (omega arith) in
         sym here
         ∙ agree_at (parts_at m) (λ j. (all j).value) i (λ j h. let le = r.1 j h in (all j).stays m (omega arith))
 
-  pub sizes_exist : NoCycle (held D) → (P : ℕ → ℕ) × Sized D P
+  pub sizes_exist : NoCycle (held_by_each D) → (P : ℕ → ℕ) × Sized D P
   sizes_exist apart =
-      let all = by_targets (held D) Steady steady_past steady_step apart in
+      let all = by_targets (held_by_each D) Steady steady_past steady_step apart in
       ((λ i. (all i).value), steady_sized all)

@@ -13,7 +13,7 @@ use Rattle.rx_typed.specs.Types.{Typ, integer, boolean, tuple_of, reference, nam
 use Rattle.rx_typed.specs.Types.{shapes_of, Declared, rt_declared, struct_declared, enum_declared, function_declared}
 use Rattle.rx_typed.specs.Types.{Declarations, at_least_one, parts, sum_of_parts}
 use Rattle.rx_typed.specs.PlainTypes.{plain-Ty, plain-VariantDecl, plain-Decl, declarations}
-use Rattle.rx_typed_declarations.specs.Held.{named_in, named_among, field_types, variant_types, held_by, held}
+use Rattle.rx_typed_declarations.specs.Held.{named_in, named_among, field_types, variant_types, held_by, held_by_each}
 use Rattle.rx_typed_declarations.specs.Sizes.{declared_parts, Sized, capped, IsSizes, told, told_parts, told_sum, told_declared}
 use Rattle.rx_typed_declarations.specs.Sizes.{fill}
 use Rattle.rx_typed_declarations.proofs.ItemLemmas.{at_next, held_of, targets_held}
@@ -102,28 +102,28 @@ fill_is D sizes [] = refl
 fill_is D sizes (n ∷ ns) = fill_is D (slice_set sizes n (told_declared sizes (slice_get D n))) ns
 
 module _ (D : Declarations) (P : ℕ → ℕ) (sized : Sized D P) where
-  past : (i : ℕ) → length (held D) ≤ i → 1 ≡ capped (P i)
+  past : (i : ℕ) → length (held_by_each D) ≤ i → 1 ≡ capped (P i)
   past i le =
       let none = slice_get_past D i (rw (sym (length-map D held_by)) le) in
       ap capped (sym (sized i ∙ ap (declared_parts P) none))
 
-  step : (sizes : List ℕ) (n : ℕ) → Tells P sizes (targets (held D) n) → sizes_by D sizes n ≡ capped (P n)
+  step : (sizes : List ℕ) (n : ℕ) → Tells P sizes (targets (held_by_each D) n) → sizes_by D sizes n ≡ capped (P n)
   unfolding sizes_by
   step sizes n tells =
       let tells' = subst (Tells P sizes) (targets_held D n) tells in
       told_at P sizes (slice_get D n) tells' ∙ ap capped (sym (sized n))
 
-  all_told : (sizes order : List ℕ) → length sizes ≡ length D → InOrder (held D) order → (i : ℕ)
+  all_told : (sizes order : List ℕ) → length sizes ≡ length D → InOrder (held_by_each D) order → (i : ℕ)
       → told (fill D sizes order) i ≡ capped (P i)
   all_told sizes order whole is i =
       ap (λ l. told l i) (fill_is D sizes order)
-      ∙ all_filled ℕ 1 (held D) (λ j s. s ≡ capped (P j)) (sizes_by D) past step order sizes
+      ∙ all_filled ℕ 1 (held_by_each D) (λ j s. s ≡ capped (P j)) (sizes_by D) past step order sizes
       (whole ∙ sym (length-map D held_by)) is i
 
 length_fill : (D : Declarations) (sizes order : List ℕ) → length (fill D sizes order) ≡ length sizes
 length_fill D sizes order = ap length (fill_is D sizes order) ∙ length_fill_by (sizes_by D) sizes order
 
-is_sizes : (D : Declarations) (sizes order : List ℕ) → length sizes ≡ length D → InOrder (held D) order
+is_sizes : (D : Declarations) (sizes order : List ℕ) → length sizes ≡ length D → InOrder (held_by_each D) order
     → IsSizes D (fill D sizes order)
 is_sizes D sizes order whole is = record {
   whole = length_fill D sizes order ∙ whole;
@@ -134,7 +134,7 @@ is_sizes D sizes order whole is = record {
 
 -- the same, where the code has equations
 pub sizes_at : (items : List Decl) (edges : List (List ℕ)) (order order' table sizes : List ℕ)
-    → edges ≡ held (declarations items) → InOrder edges order → order' ≡ order → table ≡ replicate (length items) 1
+    → edges ≡ held_by_each (declarations items) → InOrder edges order → order' ≡ order → table ≡ replicate (length items) 1
     → sizes ≡ fill (declarations items) table order' → IsSizes (declarations items) sizes
 sizes_at items edges order order' table sizes edges_are is same ones sizes_are =
     let Is : List ℕ → Type 0 = λ l. IsSizes (declarations items) l in

@@ -15,7 +15,7 @@ use Rattle.rx_typed.specs.declared.declarations.Decl.{Decl}
 use Rattle.rx_typed.specs.declared.declarations.Decl.TheVariants as decl
 use Rattle.rx_typed.specs.Types.{Declarations}
 use Rattle.rx_typed.specs.PlainTypes.{plain-Decl, declarations}
-use Rattle.rx_typed_declarations.specs.Held.{named_in, named_among, held_by, held}
+use Rattle.rx_typed_declarations.specs.Held.{named_in, named_among, held_by, held_by_each}
 use Rattle.rx_typed.specs.Regions.{RegionTyp, region_integer, region_boolean, region_tuple, region_reference}
 use Rattle.rx_typed.specs.Regions.{region_named, RegionTyps, no_region, region_and, regions_of, regions_at}
 use Rattle.rx_typed.specs.Regions.{lifetimes_in, lifetimes_among, erased, all_erased, region_fields, region_variants}
@@ -23,7 +23,7 @@ use Rattle.rx_typed.specs.Regions.{held_regions, regions}
 use Rattle.rx_typed_declarations.specs.WellFormed.{WellFormed, all_below, fits, all_fit}
 use Rattle.rx_typed_declarations.specs.Variance.{Fixed, in_tuple, behind, under_mut, as_argument, FixedAmong, in_first, in_rest}
 use Rattle.rx_typed_declarations.specs.Variance.{Invariant, in_held, polarity, TellsOf, is_inv, fix_one, fix_arguments, fix_in}
-use Rattle.rx_typed_declarations.specs.Variance.{fix_among, polarities_of, fill, AreVariances}
+use Rattle.rx_typed_declarations.specs.Variance.{fix_among, polarities_of, fill, polarity_count, AreVariances}
 use Rattle.rx_typed_declarations.proofs.RegionLemmas.{item_erased}
 use Rattle.rx_typed.proofs.Items.{declared_at}
 use Rattle.rx_typed_declarations.proofs.ItemLemmas.{held_of, targets_held}
@@ -71,6 +71,9 @@ one_from false ps l k h = inl h
 one_length : (u : Bool) (ps : List Polarity) (l : ℕ) → length (fix_one u ps l) ≡ length ps
 one_length true ps l = length-set ps l Inv
 one_length false ps l = refl
+
+abbrev no_marks : List Polarity
+no_marks = []
 
 none_marked : (n k : ℕ) → Marked (replicate n Co) k → ⊥
 none_marked zero k h = co_inv h
@@ -394,7 +397,7 @@ module _ (items : List Decl) (wf : WellFormed items) where
   H = regions items
 
   abbrev edges : List (List ℕ)
-  edges = held (declarations items)
+  edges = held_by_each (declarations items)
 
   same_length : length items ≡ length edges
   same_length = sym (length-map (declarations items) held_by ∙ length-map items plain-Decl)
@@ -476,12 +479,33 @@ module _ (items : List Decl) (wf : WellFormed items) where
       (λ W n tells. step_at W n (slice_get items n) refl tells)
       order V (whole ∙ same_length) is i)
 
+  -- how many there are
+  none_as_many : (i : ℕ) → length edges ≤ i → length no_marks ≡ polarity_count (slice_get items i)
+  none_as_many i le = ap polarity_count (sym (slice_get_past items i (rw same_length le)))
+
+  value_as_many : (V : List (List Polarity)) (o : Option Decl) → length (polarities_of V o) ≡ polarity_count o
+  value_as_many V None = refl
+  value_as_many V (Some decl.Rt) = refl
+  value_as_many V (Some (decl.Func l ps t bs)) = refl
+  value_as_many V (Some (decl.Struct c l vs fs)) =
+      among_length H V false (replicate l Co) (regions_of (region_fields fs)) ∙ length-replicate l Co
+  value_as_many V (Some (decl.Enum c l vs ds)) =
+      among_length H V false (replicate l Co) (regions_of (region_variants ds)) ∙ length-replicate l Co
+
+  all_as_many : (V : List (List Polarity)) (order : List ℕ) → length V ≡ length items → InOrder edges order → (i : ℕ)
+      → length (get_or (fill items V order) i []) ≡ polarity_count (slice_get items i)
+  all_as_many V order whole is i =
+      let At : List (List Polarity) → Type 0 = λ W. length (get_or W i []) ≡ polarity_count (slice_get items i) in
+      subst At (sym (fill_is V order))
+      (all_filled (List Polarity) [] edges (λ n ps. length ps ≡ polarity_count (slice_get items n)) value none_as_many
+      (λ W n tells. value_as_many W (slice_get items n)) order V (whole ∙ same_length) is i)
+
   length_fill : (V : List (List Polarity)) (order : List ℕ) → length (fill items V order) ≡ length V
   length_fill V order = ap length (fill_is V order) ∙ length_fill_by value V order
 
   are_variances : (V : List (List Polarity)) (order : List ℕ) → length V ≡ length items → InOrder edges order
       → AreVariances items (fill items V order)
-  are_variances V order whole is = record { whole = length_fill V order ∙ whole; each = all_tell V order whole is }
+  are_variances V order whole is = record { whole = length_fill V order ∙ whole; each = all_tell V order whole is; as_many = all_as_many V order whole is }
 
   -- the same, where the code has equations
   pub variances_at : (graph : List (List ℕ)) (order order' : List ℕ) (V W : List (List Polarity)) → graph ≡ edges

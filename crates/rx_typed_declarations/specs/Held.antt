@@ -38,5 +38,5 @@ abbrev pub held_by : Declared → List ℕ
 held_by d = named_among (shapes_of (held_types d))
 
 -- those of each item
-abbrev pub held : Declarations → List (List ℕ)
-held D = map held_by D
+abbrev pub held_by_each : Declarations → List (List ℕ)
+held_by_each D = map held_by D

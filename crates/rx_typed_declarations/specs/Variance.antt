@@ -58,10 +58,21 @@ unrecorded d = recording d []
 abbrev pub Recorded : List Decl → Type 0
 Recorded items = (i : ℕ) → TellsOf items i (variances_recorded (slice_get items i))
 
+-- how many polarities an item has: a struct or enum has one for each of its lifetimes
+abbrev pub polarity_count : Option Decl → ℕ
+polarity_count (Some (decl.Struct c l vs fs)) = l
+polarity_count (Some (decl.Enum c l vs ds)) = l
+polarity_count _ = 0
+
+-- each item has recorded so many, and none past them
+abbrev pub AsMany : List Decl → Type 0
+AsMany items = (i : ℕ) → length (variances_recorded (slice_get items i)) ≡ polarity_count (slice_get items i)
+
 -- a table of the polarities of each item's lifetimes
 pub record AreVariances (items : List Decl) (table : List (List Polarity)) : Type 0 where
   pub whole : length table ≡ length items
   pub each : (i : ℕ) → TellsOf items i (slice_index_or table i [])
+  pub as_many : (i : ℕ) → length (slice_index_or table i []) ≡ polarity_count (slice_get items i)
 
 -- ---- what the private functions do: they mark what is invariant, with the polarities of the items held
 

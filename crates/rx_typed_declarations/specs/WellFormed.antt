@@ -7,7 +7,7 @@ use Rattle.rx_typed.specs.declared.declarations.Decl.{Decl}
 use Rattle.rx_typed.specs.declared.declarations.Decl.TheVariants as decl
 use Rattle.rx_typed.specs.Types.{Declared, struct_declared, enum_declared, Declarations, lifetimes_declared}
 use Rattle.rx_typed.specs.PlainTypes.{declarations}
-use Rattle.rx_typed_declarations.specs.Held.{held}
+use Rattle.rx_typed_declarations.specs.Held.{held_by_each}
 use Rattle.rx_typed.specs.Regions.{RegionTyp, region_integer, region_boolean, region_tuple, region_reference}
 use Rattle.rx_typed.specs.Regions.{region_named, RegionTyps, no_region, region_and, regions_of, region-Ty, held_regions}
 
@@ -58,7 +58,7 @@ pub record WellFormed (items : List Decl) : Type 0 where
   -- what structs and enums name is declared
   pub named : (i : ℕ) (d : Decl) → slice_get items i ≡ Some d → item_fits (declarations items) d ≡ true
   -- no struct or enum reaches itself
-  pub finite : NoCycle (held (declarations items))
+  pub finite : NoCycle (held_by_each (declarations items))
 
 -- what signatures name is declared, too
 pub record WellSigned (items : List Decl) : Type 0 where

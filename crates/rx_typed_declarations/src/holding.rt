@@ -76,7 +76,7 @@ fn held_by(alloc: Global, item: &Decl) -> Result<List<u32>, AllocError>
 /// The structs and enums that each of these items holds, through references too: by item, their numbers, each as often as
 /// it is named.
 pub fn held(alloc: Global, items: &[Decl]) -> Result<List<List<u32>>, AllocError>
-    ensures { IfOk result (λ it. it ≡ spec.held (declarations items.now)) }
+    ensures { IfOk result (λ it. it ≡ spec.held_by_each (declarations items.now)) }
 {
     let mut all = List::new(alloc);
     for item in items {
@@ -88,7 +88,7 @@ pub fn held(alloc: Global, items: &[Decl]) -> Result<List<List<u32>>, AllocError
 /// The number of the first struct or enum that reaches itself through the types that it holds.
 pub fn first_endless(alloc: Global, decls: &Decls) -> Result<Option<u32>, AllocError>
     requires { length decls.now.items < 4294967296 }
-    ensures { IfOk result (λ r. FirstOnCycle (spec.held (declarations decls.now.items)) r) }
+    ensures { IfOk result (λ r. FirstOnCycle (spec.held_by_each (declarations decls.now.items)) r) }
 {
     let edges = held(alloc, decls.items.as_slice())?;
     first_on_cycle(alloc, edges.as_slice())

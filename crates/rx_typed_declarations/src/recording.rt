@@ -83,6 +83,7 @@ pub fn recorded(alloc: Global, items: List<Decl>) -> Result<Decls, AllocError>
     ensures same { IfOk result (λ it. map spec.unrecorded it.items ≡ map spec.unrecorded items) }
     ensures well_formed { IfOk result (λ it. WellFormed it.items) }
     ensures recorded { IfOk result (λ it. spec.Recorded it.items) }
+    ensures as_many { IfOk result (λ it. spec.AsMany it.items) }
 {
     match variances(alloc, items.as_slice()) {
         Ok(table) => {

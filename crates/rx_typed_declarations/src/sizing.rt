@@ -3,7 +3,7 @@
 ghost use Rattle.std.specs.Prelude.{◌≡◌, ◌+◌, ◌<◌, IfOk, length, map, replicate, slice_get};
 ghost use Rattle.rx_typed.specs.Types as types;
 ghost use Rattle.rx_typed.specs.PlainTypes.{plain-Ty, plain-FieldDecl, plain-VariantDecl, declarations};
-ghost use Rattle.rx_typed_declarations.specs.Held.{field_types, variant_types, held as held_spec};
+ghost use Rattle.rx_typed_declarations.specs.Held.{field_types, variant_types, held_by_each as held_spec};
 ghost use Rattle.rx_graph_cycles.specs.Reaches.{NoCycle};
 ghost use Rattle.rx_typed_declarations.specs.Sizes as spec;
 

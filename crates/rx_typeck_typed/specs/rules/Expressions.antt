@@ -142,7 +142,9 @@ abbrev pub each_after : Listed → Exp → Asking
 each_after members e = not_never (node_of e) (never e)
 each_after _ e = nothing
 
--- an integer: whether it stands directly under a minus, the magnitude, the suffix
+-- an integer: whether it stands directly under a minus, the magnitude, the suffix. What its place asks comes before
+-- its range, so that one out of the range of the kind that is expected is Literal (Rust Reference, "Integer literal
+-- expressions").
 abbrev pub integer_at : Node → Bool → ℕ → Option Kind → Asking
-integer_at n m v k = ask n Rule.Equal (fact.Integer n.number (with_suffix k) ∷ [])
-    >> asks n broken.Literal (is_open k) (fact.Integer n.number (fitting m v) ∷ []) >> value_at n
+integer_at n m v k = ask n Rule.Equal (fact.Integer n.number (with_suffix k) ∷ []) >> value_at n
+    >> asks n broken.Literal (is_open k) (fact.Integer n.number (fitting m v) ∷ [])

@@ -23,8 +23,8 @@ through (named.deref n e) = record { node = (node_of e).number; all = false } �
 through _ = []
 
 -- at a coercion site the type is the expected one, before its coercion (Rust Reference, "Coercion types")
-abbrev pub fits : Node → Asking
-fits n = ask n Rule.Equal (is (type_of n) op.Coerced (type_of n ∷ expected n ∷ []) ∷ [])
+abbrev pub coerces : Node → Asking
+coerces n = ask n Rule.Equal (is (type_of n) op.Coerced (type_of n ∷ expected n ∷ []) ∷ [])
 
 -- what is no coercion site but reborrows expects the own type
 abbrev pub expects_own : Node → Asking
@@ -43,8 +43,8 @@ abbrev pub place_in : Node → ℕ → List Passing → Site → Asking
 place_in n x ps Site.Value = kept n test.Kept ps
 place_in n x ps Site.Place = nothing
 place_in n x ps Site.Scrutinee = nothing
-place_in n x ps Site.Expects = fits n >> kept n test.KeptOrLent ps >> lendable n x ps
-place_in n x ps Site.Initialises = fits n >> lendable n x ps
+place_in n x ps Site.Expects = coerces n >> kept n test.KeptOrLent ps >> lendable n x ps
+place_in n x ps Site.Initialises = coerces n >> lendable n x ps
 place_in n x ps Site.Reborrows = expects_own n >> kept n test.KeptOrLent ps >> lendable n x ps
 
 abbrev pub place_at : Exp → Asking
@@ -53,8 +53,8 @@ place_at e = place_in (node_of e) (root e).number (through e) (node_of e).site
 -- a value that is no place, where it stands
 abbrev pub value_in : Node → Site → Asking
 value_in n Site.Place = ask n Rule.NotPlace (fact.Never ∷ [])
-value_in n Site.Expects = fits n
-value_in n Site.Initialises = fits n
+value_in n Site.Expects = coerces n
+value_in n Site.Initialises = coerces n
 value_in n Site.Reborrows = expects_own n
 value_in n _ = nothing
 

@@ -17,7 +17,7 @@ pub returns : goal.returns
 returns c = λ q w D E k A loops n s d run o call p same same_never f g round ordered valid fixes made x a.
     let g' = q.items f.item in
     let m = node_at q n s in
-    let z = end_made E x in
+    let z = end_made E g' x in
     let plain = end_keeps Anywhere g' m d call p z.0 z.1 [] tt in
     others_are_valid q w D E k A (assigned made) (demands f) (demands g) (of_end f.item n d run o []) (of_end g' m d call p []) ordered
     (round_an_end q loops (of_end f.item n d run o []) (of_end g' m d call p []) n s d run o call p same same_never f g (λ ds. appended (end_adds f.item n d run o) ds) (λ ds. appended (end_adds g' m d call p) ds) round) valid (names_its_own (end_adds f.item n d run o))

@@ -6,4 +6,4 @@ use Rattle.rx_engine_holes.proofs.Calling.{statements_meet}
 use Rattle.rx_engine_holes.proofs.laws.statements_that_fit_are_met.Goals as goal
 
 pub returns : goal.returns
-returns c = λ q w E A f ss made x p. statements_meet E (composed q w none_viewed A (assigned made)) (of_text q w A) (tells_text q w A (assigned made)) f x (entries_are_had q w A made p) [] tt
+returns c = λ q w E A f ss made x p. statements_meet E (composed q w none_viewed A (assigned made)) f (of_text q w A) (tells_text q w A (assigned made)) x (entries_are_had q w A made p) [] tt

@@ -2,13 +2,13 @@ use Rattle.std.proofs.Common.{ℕ, List, map, refl}
 use Rattle.rx_typed.specs.Types.{Typ, levels}
 use Rattle.rx_hoist_plan.specs.declared.plan.Variable.{Variable}
 use Rattle.rx_hoist_plan.specs.PlainPlan.{plain-Variable}
-use Rattle.rx_hoist_extraction.specs.Values.{held, types_of}
+use Rattle.rx_hoist_extraction.specs.Values.{variables_held, types_of}
 use Rattle.rx_hoist_made.specs.Counts.{capped}
 use Rattle.rx_hoist.proofs.LevelLemmas.{past_on, past_found}
 use Rattle.rx_hoist.proofs.levels.outs_past.Goals as goal
 
 abbrev counts : List Variable → List ℕ
-counts vs = map (λ (t : Typ). capped (levels t)) (types_of (held (map plain-Variable vs)))
+counts vs = map (λ (t : Typ). capped (levels t)) (types_of (variables_held (map plain-Variable vs)))
 
 pub loop-out-preserved : goal.loop-out-preserved
 loop-out-preserved c =

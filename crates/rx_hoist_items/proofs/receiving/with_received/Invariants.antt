@@ -2,12 +2,12 @@ use Rattle.std.proofs.Common.{◌≡◌, ◌++◌, map, drop}
 use Rattle.rx_tree.specs.PlainOf.{plain-Pattern, plain-Stmt}
 use Rattle.rx_hoist_plan.specs.PlainPlan.{plain-Variable}
 use Rattle.rx_hoist_extraction.specs.Names.{declared_by}
-use Rattle.rx_hoist_extraction.specs.Values.{held}
+use Rattle.rx_hoist_extraction.specs.Values.{variables_held}
 use Rattle.rx_hoist_made.specs.Rows.{nth_name}
 use Rattle.rx_hoist_items.specs.Calling.{all_received}
 use Rattle.rx_hoist_items.proofs.receiving.with_received.Given as goal
 
 abbrev pub invariant-loop-out : goal.invariant-loop-out
 invariant-loop-out l =
-    map plain-Pattern l.all ++ all_received l.span (declared_by (map plain-Stmt l.run)) (nth_name l.row) 0 (held (map plain-Variable (drop l.out-index l.outs)))
-    ≡ map plain-Pattern l.fn.patterns ++ all_received l.span (declared_by (map plain-Stmt l.run)) (nth_name l.fn.row) 0 (held (map plain-Variable l.outs))
+    map plain-Pattern l.all ++ all_received l.span (declared_by (map plain-Stmt l.run)) (nth_name l.row) 0 (variables_held (map plain-Variable (drop l.out-index l.outs)))
+    ≡ map plain-Pattern l.fn.patterns ++ all_received l.span (declared_by (map plain-Stmt l.run)) (nth_name l.fn.row) 0 (variables_held (map plain-Variable l.outs))

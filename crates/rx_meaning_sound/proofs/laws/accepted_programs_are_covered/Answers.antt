@@ -1,7 +1,7 @@
 use Rattle.std.proofs.Common.{◌≡◌, ℕ, List, sym, subst}
 use Rattle.rx_typed.specs.Types.{Declarations}
 use Rattle.rx_typed.specs.PlainTypes.{declarations}
-use Rattle.rx_typed_declarations.specs.Held.{held}
+use Rattle.rx_typed_declarations.specs.Held.{held_by_each}
 use Rattle.rx_typed_declarations.specs.Sizes.{Sized, told}
 use Rattle.rx_typed_declarations.proofs.Polarities.{same_declared}
 use Rattle.rx_graph_cycles.specs.Reaches.{NoCycle}
@@ -21,7 +21,7 @@ returns c = λ p t few front free m.
     (λ g a. (c.typed_functions_are_ready.ensures p names t few meant typed (told typed.sizes) sized g a).makes)
     (text_means p names typed.declared few meant typed.declares.items) (fields_apart p names typed.declared meant typed.declares.items)
     (subst (λ (d : Declarations). ItemsPlain d d) same free.declared) (subst (λ (d : Declarations). FunctionsPlain d t.functions) same free.functions)
-    (finite (declarations typed.declared) (subst (λ (d : Declarations). NoCycle (held d)) same (c.typed_declarations_are_finite.ensures.finite p names t typed)))
+    (finite (declarations typed.declared) (subst (λ (d : Declarations). NoCycle (held_by_each d)) same (c.typed_declarations_are_finite.ensures.finite p names t typed)))
     front.covered
     (λ g a. c.typed_functions_stand_fresh.ensures.stands p names t few meant typed g a)
     (λ g a. c.typed_functions_stand_fresh.ensures.begun p names t few meant typed g a)

@@ -9,7 +9,7 @@ pub returns-in-Ok-clause-step : goal.returns-in-Ok-clause-step
 returns-in-Ok-clause-step c = learnt_new c.args.arena.now.entries.items c.args.tables.now c.put.new.self c.args.of c.args.entry c.shape.result c.shape.ensures c.in-None.is c.in-Ok.ensures.here c.in-Ok.ensures.other c.in-Ok.ensures.classes
 
 pub returns-in-Ok-clause-fits : goal.returns-in-Ok-clause-fits
-returns-in-Ok-clause-fits c = put_fits c.args.arena.now.entries.items c.args.tables.now c.put.new.self c.args.of c.args.entry c.requires.fits c.requires.term c.in-Ok.ensures.here c.in-Ok.ensures.other c.in-Ok.ensures.classes
+returns-in-Ok-clause-fits c = put_fits c.args.arena.now.entries.items c.args.tables.now c.put.new.self c.args.of c.args.entry c.requires.fits c.requires.term c.in-Ok.ensures.here c.in-Ok.ensures.other c.in-Ok.ensures.classes c.in-Ok.ensures.trimmed
 
 pub returns-in-Some-clause-step : goal.returns-in-Some-clause-step
 returns-in-Some-clause-step c = learnt_known c.args.arena.now.entries.items c.args.tables.now c.args.of c.args.entry c.in-Some.known c.shape.result _ c.requires.fits c.requires.term c.shape.ensures c.in-Some.is

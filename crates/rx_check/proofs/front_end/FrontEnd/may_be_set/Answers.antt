@@ -4,7 +4,7 @@ use Rattle.rx_typed_declarations.specs.Sizes.{told}
 use Rattle.rx_lower_walks.specs.PlainFlow.{plain-Place}
 use Rattle.rx_facts_tables.specs.Places.{Frame}
 use Rattle.rx_facts_tables.specs.Layouts.{plain-Frame, IsLayout}
-use Rattle.rx_facts_tables.specs.Answer.{IsTable}
+use Rattle.rx_facts_tables.specs.Answer.{IsInitTable}
 use Rattle.rx_facts_tables.specs.Initialised.{MayBeSet}
 use Rattle.rx_facts.specs.Functions.{sites_of, frame_of}
 use Rattle.rx_check.proofs.ReaderLemmas.{some_found}
@@ -17,4 +17,4 @@ may_be_set-requires-clause-layout c = let f = some_found c.args.self.now.typed.f
 pub returns : goal.returns
 returns c f is within = let same = c.frame-frame.ensures.frame f is in
     subst (λ (F : Frame). (c.may_be_set.result ≡ true) ↔ MayBeSet F (sites_of f) (plain-Place c.args.place.now) c.args.site) same
-    (c.may_be_set.ensures (sites_of f) (subst (λ (F : Frame). IsTable F (sites_of f) c.init.result.now) (sym same) (c.init.ensures f is)) within)
+    (c.may_be_set.ensures (sites_of f) (subst (λ (F : Frame). IsInitTable F (sites_of f) c.init.result.now) (sym same) (c.init.ensures f is)) within)

@@ -19,3 +19,12 @@ returns-in-Expected-clause-here c = on_ok_weaker c.write-in-Expected.result (λ 
 
 pub returns-in-Expected-clause-other : goal.returns-in-Expected-clause-other
 returns-in-Expected-clause-other c = on_ok_weaker c.write-in-Expected.result (λ h. put_expected_other c.args.self.now c.write-in-Expected.new.table c.in-Expected.node c.args.of c.in-Expected.is h) c.write-in-Expected.ensures.other
+
+pub returns-in-Variable-clause-trimmed : goal.returns-in-Variable-clause-trimmed
+returns-in-Variable-clause-trimmed c = on_ok_weaker c.write.result (λ h z. (h z.0, z.1, z.2)) c.write.ensures.trimmed
+
+pub returns-in-Node-clause-trimmed : goal.returns-in-Node-clause-trimmed
+returns-in-Node-clause-trimmed c = on_ok_weaker c.write-in-Node.result (λ h z. (z.0, h z.1, z.2)) c.write-in-Node.ensures.trimmed
+
+pub returns-in-Expected-clause-trimmed : goal.returns-in-Expected-clause-trimmed
+returns-in-Expected-clause-trimmed c = on_ok_weaker c.write-in-Expected.result (λ h z. (z.0, z.1, h z.2)) c.write-in-Expected.ensures.trimmed

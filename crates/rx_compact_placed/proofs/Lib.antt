@@ -1,0 +1,4 @@
+mod Within
+mod Lets
+mod Angles
+mod Placed

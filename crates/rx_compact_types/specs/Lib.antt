@@ -1,0 +1,4 @@
+pub mod Positions
+pub mod MergedNumbers
+pub mod ShortTypes
+pub mod ShortTyped

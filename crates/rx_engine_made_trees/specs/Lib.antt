@@ -1,0 +1,11 @@
+pub mod Nodes
+pub mod Seen
+pub mod Arguments
+pub mod Statements
+pub mod Handing
+pub mod Entering
+pub mod Giving
+pub mod Standing
+pub mod Arms
+pub mod Tails
+pub mod Leaving

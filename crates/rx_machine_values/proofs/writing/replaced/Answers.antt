@@ -1,0 +1,7 @@
+use Rattle.std.proofs.Common.{ap, ◌∙◌}
+use Rattle.rx_machine_values.specs.Rows.{values_in}
+use Rattle.rx_machine_values.specs.PlainValues.{plain-Parts, parts_is}
+use Rattle.rx_machine_values.proofs.writing.replaced.Goals as goal
+
+pub returns : goal.returns
+returns c = ap plain-Parts c.in_ok-parts.ensures ∙ parts_is (record { nodes = c.in_ok-row.row }) ∙ ap values_in c.in_ok-row.ensures
