@@ -1,0 +1,5 @@
+mod BlanksBehind
+mod Cuts
+mod Ending
+mod AllFound
+mod Writing
