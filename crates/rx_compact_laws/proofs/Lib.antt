@@ -1,5 +1,5 @@
-mod Merging
-mod MergedSets
+pub mod Merging
+pub mod MergedSets
 mod Numbering
 mod Expressions
 mod Functions

@@ -1,5 +1,5 @@
 -- What a signature says of lifetimes under other numbers is what it says of them by their old ones.
-use Rattle.std.proofs.Common.{◌≡◌, ◌↔◌, ◌⊎◌, inl, inr, ℕ, zero, suc, List, [], ◌∷◌, ◌++◌, map, Option, Some, slice_get, refl, sym, ap, subst, ◌∙◌}
+use Rattle.std.proofs.Common.{◌≡◌, ◌↔◌, ◌⊎◌, inl, inr, ℕ, zero, suc, Bool, true, List, [], ◌∷◌, ◌++◌, map, Option, Some, slice_get, refl, sym, ap, subst, ◌∙◌}
 use Rattle.rx_core.specs.declared.types.Bound.{Bound}
 use Rattle.rx_core.specs.declared.types.Ty.{Ty}
 use Rattle.rx_typed.specs.declared.declarations.Decl.{Decl}
@@ -9,7 +9,7 @@ use Rattle.rx_typed.specs.Renaming.{renamed, all_renamed}
 use Rattle.rx_graph_cycles.specs.Reaches.{IsIn}
 use Rattle.rx_region_outlives.specs.Implied.{Implied, in_tuple, behind, pointed_to, by_fields, ImpliedAmong, in_first, in_rest}
 use Rattle.rx_compact.specs.Outliving.{Says, Outlives, itself, by}
-use Rattle.rx_compact_laws.specs.MergedSignatures.{AreBoundsUnder, IsUnder, MergesEqual}
+use Rattle.rx_compact_laws.specs.MergedSignatures.{AreBoundsUnder, IsUnder, MergesKnown, MergesAll}
 
 module _ (H : List (List RegionTyp)) (f : ℕ → ℕ) where
   in_renamed : (ls : List ℕ) (l : ℕ) → IsIn ls l → IsIn (map f ls) (f l)
@@ -36,7 +36,7 @@ module _ (H : List (List RegionTyp)) (f : ℕ → ℕ) where
 
   -- a lifetime of a type under the new numbers is one of the old, and back
   mutual
-    type_there : (t : RegionTyp) (l : ℕ) → IsIn (lifetimes_in t) l → IsIn (lifetimes_in (renamed f t)) (f l)
+    pub type_there : (t : RegionTyp) (l : ℕ) → IsIn (lifetimes_in t) l → IsIn (lifetimes_in (renamed f t)) (f l)
     type_there (region_integer k) l h = absurd h
     type_there region_boolean l h = absurd h
     type_there (region_tuple ts) l h = types_there ts l h
@@ -57,7 +57,7 @@ module _ (H : List (List RegionTyp)) (f : ℕ → ℕ) where
   listed_back (k ∷ ks) x (inr h) = let r = listed_back ks x h in (r.0, inr r.1, r.2)
 
   mutual
-    type_back : (t : RegionTyp) (x : ℕ) → IsIn (lifetimes_in (renamed f t)) x → (l : ℕ) × IsIn (lifetimes_in t) l × (x ≡ f l)
+    pub type_back : (t : RegionTyp) (x : ℕ) → IsIn (lifetimes_in (renamed f t)) x → (l : ℕ) × IsIn (lifetimes_in t) l × (x ≡ f l)
     type_back (region_integer k) x h = absurd h
     type_back region_boolean x h = absurd h
     type_back (region_tuple ts) x h = types_back ts x h
@@ -159,16 +159,16 @@ module _ (D E : List Decl) (f : ℕ → ℕ) (same : regions E ≡ regions D) (n
       let r = says_back x z s in
       goes_on l r.0 k (known l r.0 (sym a ∙ r.3)) (by r.1 r.2 (back known z y rest r.1 k r.4 b))
 
-pub knows_the_same : (D E : List Decl) (d e : Option Decl) (f : ℕ → ℕ) → regions E ≡ regions D → IsUnder f d e → MergesEqual D d f
+pub knows_the_same : (D E : List Decl) (d e : Option Decl) (f : ℕ → ℕ) → regions E ≡ regions D → IsUnder f d e → MergesKnown D d f
     → (l k : ℕ) → Outlives E e (f l) (f k) ↔ Outlives D d l k
 knows_the_same D E d e f same u merges l k =
-    let known : (a b : ℕ) → f a ≡ f b → Outlives D (Some (decl.Func u.count u.params u.answer u.bounds)) a b = λ a b q. subst (λ o. Outlives D o a b) u.old (merges.known a b q) in (
+    let known : (a b : ℕ) → f a ≡ f b → Outlives D (Some (decl.Func u.count u.params u.answer u.bounds)) a b = λ a b q. subst (λ o. Outlives D o a b) u.old (merges a b q) in (
       λ h. subst (λ o. Outlives D o l k) (sym u.old) (back D E f same u.count u.new_count u.params u.new_params u.answer u.new_answer u.bounds u.new_bounds u.params_are u.answer_is u.bounds_are known
           (f l) (f k) (subst (λ o. Outlives E o (f l) (f k)) u.new h) l k refl refl),
       λ h. subst (λ o. Outlives E o (f l) (f k)) (sym u.new) (there D E f same u.count u.new_count u.params u.new_params u.answer u.new_answer u.bounds u.new_bounds u.params_are u.answer_is u.bounds_are
           l k (subst (λ o. Outlives D o l k) u.old h)),
     )
 
-pub are_apart : (D E : List Decl) (d e : Option Decl) (f : ℕ → ℕ) → regions E ≡ regions D → IsUnder f d e → MergesEqual D d f
-    → (l k : ℕ) → Outlives E e (f l) (f k) → Outlives E e (f k) (f l) → f l ≡ f k
-are_apart D E d e f same u merges l k a b = merges.one l k ((knows_the_same D E d e f same u merges l k).0 a) ((knows_the_same D E d e f same u merges k l).0 b)
+pub are_apart : (D E : List Decl) (d e : Option Decl) (f : ℕ → ℕ) → regions E ≡ regions D → IsUnder f d e → MergesKnown D d f → (these : ℕ → Bool) → MergesAll D d f these
+    → (l k : ℕ) → these l ≡ true → these k ≡ true → Outlives E e (f l) (f k) → Outlives E e (f k) (f l) → f l ≡ f k
+are_apart D E d e f same u merges these all l k x y a b = all l k x y ((knows_the_same D E d e f same u merges l k).0 a) ((knows_the_same D E d e f same u merges k l).0 b)

@@ -1,6 +1,6 @@
 -- The signature of a function by other numbers of its lifetimes, of which several may be one (Rust Reference, "Lifetime bounds"). A bound
 -- of a lifetime on itself may be missing.
-use Rattle.std.specs.Prelude.{◌≡◌, ◌⊎◌, ℕ, List, map, Option, Some}
+use Rattle.std.specs.Prelude.{◌≡◌, ◌⊎◌, ℕ, Bool, true, List, map, Option, Some}
 use Rattle.rx_core.specs.declared.types.Bound.{Bound}
 use Rattle.rx_core.specs.declared.types.Ty.{Ty}
 use Rattle.rx_typed.specs.declared.declarations.Decl.{Decl}
@@ -30,7 +30,10 @@ pub record IsUnder (f : ℕ → ℕ) (d e : Option Decl) : Type 0 where
   pub answer_is : region-Ty new_answer ≡ renamed f (region-Ty answer)
   pub bounds_are : AreBoundsUnder f bounds new_bounds
 
--- lifetimes are one exactly where they are known to outlive each other
-pub record MergesEqual (D : List Decl) (d : Option Decl) (f : ℕ → ℕ) : Type 0 where
-  pub known : (l k : ℕ) → f l ≡ f k → Outlives D d l k
-  pub one : (l k : ℕ) → Outlives D d l k → Outlives D d k l → f l ≡ f k
+-- lifetimes are one only where they are known to outlive each other
+abbrev pub MergesKnown : List Decl → Option Decl → (ℕ → ℕ) → Type 0
+MergesKnown D d f = (l k : ℕ) → f l ≡ f k → Outlives D d l k
+
+-- of these, those that are known to outlive each other are one
+abbrev pub MergesAll : List Decl → Option Decl → (ℕ → ℕ) → (ℕ → Bool) → Type 0
+MergesAll D d f these = (l k : ℕ) → these l ≡ true → these k ≡ true → Outlives D d l k → Outlives D d k l → f l ≡ f k

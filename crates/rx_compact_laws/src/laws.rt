@@ -27,20 +27,20 @@ ghost use Rattle.rx_compact_laws.specs.Alongside.{AllBecome, SameItems, StandsBe
 ghost use Rattle.rx_compact_laws.specs.Beside.{Beside, IsRewritten, Nothing};
 ghost use Rattle.rx_compact_laws.specs.Resolved.{IsElsewhere, StaysNumbered, inside};
 ghost use Rattle.rx_compact_laws.specs.ShortNames.{NamesStay};
-ghost use Rattle.rx_compact_laws.specs.MergedSignatures.{IsUnder, MergesEqual};
+ghost use Rattle.rx_compact_laws.specs.MergedSignatures.{IsUnder, MergesKnown, MergesAll};
 ghost use Rattle.rx_compact_laws.specs.MergedLifetimes.{AreMerged};
 
-/// Where lifetimes of a signature that are known to outlive each other become one, as much is known of them as before; and no two of
-/// the new ones are known to outlive each other.
+/// Where lifetimes of a signature become one only if they are known to outlive each other, as much is known of them as before; and of
+/// those that become one wherever they are, no two of the new ones are known to outlive each other.
 pub fn merged_signatures_know_the_same()
-    ensures same { (old new : List Decl) (d e : Option Decl) (f : ℕ → ℕ) → regions new ≡ regions old → IsUnder f d e → MergesEqual old d f
+    ensures same { (old new : List Decl) (d e : Option Decl) (f : ℕ → ℕ) → regions new ≡ regions old → IsUnder f d e → MergesKnown old d f
         → (l k : ℕ) → Outlives new e (f l) (f k) ↔ Outlives old d l k }
-    ensures apart { (old new : List Decl) (d e : Option Decl) (f : ℕ → ℕ) → regions new ≡ regions old → IsUnder f d e → MergesEqual old d f
-        → (l k : ℕ) → Outlives new e (f l) (f k) → Outlives new e (f k) (f l) → f l ≡ f k }
+    ensures apart { (old new : List Decl) (d e : Option Decl) (f : ℕ → ℕ) → regions new ≡ regions old → IsUnder f d e → MergesKnown old d f → (these : ℕ → Bool) → MergesAll old d f these
+        → (l k : ℕ) → these l ≡ true → these k ≡ true → Outlives new e (f l) (f k) → Outlives new e (f k) (f l) → f l ≡ f k }
 {}
 
-/// Where lifetimes of a function's own that are known to outlive each other become one, each has the sites that it had in the least
-/// sets, and each end that it has is of one which it is known to outlive, exactly where that was so.
+/// Where lifetimes become one that are asked to outlive each other, or of a function's own are known to, each has the sites that it had
+/// in the least sets, and each end that it has is of one which it is known to outlive, exactly where that was so.
 pub fn merged_lifetimes_stay()
     ensures sites { (f : ℕ → ℕ) (old new : Context) (g : List Site) → AreMerged f old new (actions_of g) → (l p : ℕ) → p < length g → Least old g l (site p) ↔ Least new g (f l) (site p) }
     ensures pairs { (f : ℕ → ℕ) (old new : Context) (g : List Site) → AreMerged f old new (actions_of g)

@@ -1,2 +1,2 @@
-mod Alike
-mod Passing
+pub mod Alike
+pub mod Passing

@@ -24,7 +24,7 @@ use Rattle.rx_facts.specs.Functions.{IsInitialised}
 use Rattle.rx_facts.specs.Passing.{AllAre, Each}
 use Rattle.rx_check.specs.Passes.{matches_of, FunctionsCovered}
 use Rattle.rx_compact.specs.Outliving.{is_single}
-use Rattle.rx_compact.specs.Compacted.{compacted, IsCompacted}
+use Rattle.rx_compact.specs.Compacted.{compacted, Tells, IsCompacted}
 use Rattle.rx_compact_laws.specs.ShortNames.{NamesStay}
 use Rattle.rx_compact_laws.proofs.ShortNames.{names_stay}
 use Rattle.rx_compact_types.specs.ShortTyped.{ShortProgram}
@@ -80,29 +80,34 @@ module _ (finite : (p : ProgramTree) (D : Declarations) → Fits p D → NoCycle
       same_list xs ys (x.whole ∙ sym y.whole) (λ i less. let within : i < length D = omega (arith, less, x.whole) in
       x.each s.0 s.1 i within ∙ sym (y.each s.0 s.1 i within))
 
-  made : (p : ProgramTree) (i : ℕ) (names : List ItemNames) (meant : Meant p names) (small : IsNumbered p) (ds : List Decl) (declares : Declares p names ds) (o : ℕ → ℕ → Bool)
-      (s : ShortProgram p i (compacted o (is_single (slice_get ds i)) p i) names ds) (t u : Typed) → IsTyped p names t → IsTyped (compacted o (is_single (slice_get ds i)) p i) s.news u → PassAlike t u
-  made p i names meant small ds declares o s t u a b =
-      let single = is_single (slice_get ds i) in
-      let q = compacted o single p i in
-      let N : NamesStay o single p i names = names_stay o single p i names meant in
-      let n : s.news ≡ N.news = ok_is s.news N.news (sym s.meant.names_are ∙ N.meant.names_are) in
-      let d : declarations b.declared ≡ declarations a.declared =
-      ap declarations (ok_is b.declared s.declares.new (sym b.declares.items ∙ s.declares.declares.items)) ∙ (s.declares.same ∙ ap declarations (ok_is ds a.declared (sym declares.items ∙ a.declares.items))) in
-      let z : b.sizes ≡ a.sizes = one_table (declarations a.declared) b.sizes a.sizes (finite p (declarations a.declared) a.declares.fits) (subst (λ D. IsSizes D b.sizes) d b.is_sizes) a.is_sizes in
-      let k : known b.declared b.sizes ≡ known a.declared a.sizes = λ j. record { items = d j; sizes = sizes_of (z j) } in
-      let G : Given = record { program = p; declared = a.declared; sizes = a.sizes } in
-      let H : Given = record { program = q; declared = b.declared; sizes = b.sizes } in
-      let each : Each FunctionAlike t.functions u.functions =
-      all_alike G H k o single names N.news i N.others 0 p i (omega arith) (short_tables p i names meant small ds declares o) t.functions u.functions a.functions (subst (λ ns. FunctionsTyped H ns 0 q u.functions) n b.functions) in
-      let e : declarations u.decls.items ≡ declarations t.decls.items = same_declared u.decls.items b.declared b.same ∙ (d ∙ sym (same_declared t.decls.items a.declared a.same)) in
-      record {
-        declared = e;
-        covered = covered_same (declarations t.decls.items) (declarations u.decls.items) e t.functions u.functions each;
-        sites = sites_same t.functions u.functions each;
-        initialised = λ parts. initialised_same (declarations t.decls.items) (declarations u.decls.items) e parts t.functions u.functions each;
-      }
+  module _ (p : ProgramTree) (i : ℕ) (names : List ItemNames) (meant : Meant p names) (small : IsNumbered p) (ds : List Decl) (declares : Declares p names ds) (o : ℕ → ℕ → Bool) (tells : Tells ds i o)
+      (s : ShortProgram p i (compacted o (is_single (slice_get ds i)) p i) names ds) (t u : Typed) (a : IsTyped p names t) (b : IsTyped (compacted o (is_single (slice_get ds i)) p i) s.news u) where
+    same_plain : declarations b.declared ≡ declarations a.declared
+    same_plain = ap declarations (ok_is b.declared s.declares.new (sym b.declares.items ∙ s.declares.declares.items)) ∙ (s.declares.same ∙ ap declarations (ok_is ds a.declared (sym declares.items ∙ a.declares.items)))
+
+    pub functions_alike : Each FunctionAlike t.functions u.functions
+    functions_alike =
+        let single = is_single (slice_get ds i) in
+        let q = compacted o single p i in
+        let N : NamesStay o single p i names = names_stay o single p i names meant in
+        let n : s.news ≡ N.news = ok_is s.news N.news (sym s.meant.names_are ∙ N.meant.names_are) in
+        let z : b.sizes ≡ a.sizes = one_table (declarations a.declared) b.sizes a.sizes (finite p (declarations a.declared) a.declares.fits) (subst (λ D. IsSizes D b.sizes) same_plain b.is_sizes) a.is_sizes in
+        let k : known b.declared b.sizes ≡ known a.declared a.sizes = λ j. record { items = same_plain j; sizes = sizes_of (z j) } in
+        let G : Given = record { program = p; declared = a.declared; sizes = a.sizes } in
+        let H : Given = record { program = q; declared = b.declared; sizes = b.sizes } in
+        all_alike G H k o single names N.news i N.others 0 p i (omega arith) (short_tables p i names meant small ds declares o tells) t.functions u.functions a.functions (subst (λ ns. FunctionsTyped H ns 0 q u.functions) n b.functions)
+
+    pub plain_alike : declarations u.decls.items ≡ declarations t.decls.items
+    plain_alike = same_declared u.decls.items b.declared b.same ∙ (same_plain ∙ sym (same_declared t.decls.items a.declared a.same))
+
+    made : PassAlike t u
+    made = record {
+      declared = plain_alike;
+      covered = covered_same (declarations t.decls.items) (declarations u.decls.items) plain_alike t.functions u.functions functions_alike;
+      sites = sites_same t.functions u.functions functions_alike;
+      initialised = λ parts. initialised_same (declarations t.decls.items) (declarations u.decls.items) plain_alike parts t.functions u.functions functions_alike;
+    }
 
   pub pass_alike : (p : ProgramTree) (i : ℕ) (q : ProgramTree) (c : IsCompacted p i q) → IsNumbered p → (s : ShortProgram p i q c.names c.declared) (t u : Typed) → IsTyped p c.names t → IsTyped q s.news u → PassAlike t u
   pass_alike p i q c small s t u a b =
-      subst (λ q. (s : ShortProgram p i q c.names c.declared) → IsTyped q s.news u → PassAlike t u) (sym c.same) (λ s b. made p i c.names c.meant small c.declared c.declares c.outlives s t u a b) s b
+      subst (λ q. (s : ShortProgram p i q c.names c.declared) → IsTyped q s.news u → PassAlike t u) (sym c.same) (λ s b. made p i c.names c.meant small c.declared c.declares c.outlives c.tells s t u a b) s b

@@ -63,12 +63,14 @@ may_none (Some l) xs h = tt
 -- ---- a function and another
 
 -- the types of the second are those of the first under other numbers
-pub record TypesUnder (f : ℕ → ℕ) (old : Decl) (olds : List Bound) (g : Function) (at : List ℕ) (new : Outcome Decl) : Type 0 where
+pub record TypesUnder (n m : ℕ) (f : ℕ → ℕ) (old : Decl) (olds : List Bound) (g : Function) (at : List ℕ) (new : Outcome Decl) : Type 0 where
   pub count : ℕ
+  pub count_is : count ≡ n
   pub params : List Ty
   pub answer : Ty
   pub is : old ≡ decl.Func count params answer olds
   pub new_count : ℕ
+  pub new_count_is : new_count ≡ m
   pub new_params : List Ty
   pub new_answer : Ty
   pub declares : new ≡ Ok (decl.Func new_count new_params new_answer (bounds_of (bounded 0 g.lifetimes) at))
@@ -199,16 +201,18 @@ module _ (rs : List Rewriting) (F : ℕ → ℕ) (p q : ProgramTree) (same : Sam
         }
     answered (Some t) w y e = answered_some t w (the_only old) refl (S.result t w) y (sym (answer_is p t S.left old kk (the_only old) refl) ∙ e)
 
-    pub types_under : (d : Decl) → declared_function p as' f ≡ Ok d → TypesUnder F d (bounds_of (bounded 0 f.lifetimes) S.bound_at) g T.bound_at (declared_function q bs g)
+    pub types_under : (d : Decl) → declared_function p as' f ≡ Ok d → TypesUnder kk jj F d (bounds_of (bounded 0 f.lifetimes) S.bound_at) g T.bound_at (declared_function q bs g)
     types_under d e =
         let a = read_ok (answer_of p f.result (reading S.left old kk)) (λ a. Ok (decl.Func kk S.params a.0 (bounds_of (bounded 0 f.lifetimes) S.bound_at))) d (sym S.declares ∙ e) in
         let x = answered f.result refl a.0 a.1 in
         record {
           count = kk;
+          count_is = refl;
           params = S.params;
           answer = a.0.0;
           is = sym (ok_is (decl.Func kk S.params a.0.0 (bounds_of (bounded 0 f.lifetimes) S.bound_at)) d a.2);
           new_count = jj;
+          new_count_is = refl;
           new_params = T.params;
           new_answer = x.new_answer;
           declares = T.declares ∙ ap (λ o. on_ok o (λ a. Ok (decl.Func jj T.params a.0 (bounds_of (bounded 0 g.lifetimes) T.bound_at)))) x.reads;

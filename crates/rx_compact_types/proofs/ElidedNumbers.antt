@@ -26,7 +26,7 @@ abbrev pub looked : List (ℕ × ℕ) → ℕ → ℕ → ℕ
 looked [] a d = d
 looked (x ∷ xs) a d = if nat_eq x.0 a then x.1 else looked xs a d
 
-abbrev Absent : ℕ → List (ℕ × ℕ) → Type 0
+abbrev pub Absent : ℕ → List (ℕ × ℕ) → Type 0
 Absent a [] = Unit {0}
 Absent a (x ∷ xs) = (x.0 ≡ a → ⊥) × Absent a xs
 
@@ -34,11 +34,11 @@ absent_both : (a : ℕ) (xs ys : List (ℕ × ℕ)) → Absent a xs → Absent a
 absent_both a [] ys h g = g
 absent_both a (x ∷ xs) ys h g = (h.0, absent_both a xs ys h.1 g)
 
-looked_absent : (xs : List (ℕ × ℕ)) (a d : ℕ) → Absent a xs → looked xs a d ≡ d
+pub looked_absent : (xs : List (ℕ × ℕ)) (a d : ℕ) → Absent a xs → looked xs a d ≡ d
 looked_absent [] a d h = refl
 looked_absent (x ∷ xs) a d h = ap (λ b. if b then x.1 else looked xs a d) (ne_eqb x.0 a h.0) ∙ looked_absent xs a d h.1
 
-looked_at : (xs ys : List (ℕ × ℕ)) (a b d : ℕ) → Absent a xs → looked (xs ++ (a, b) ∷ ys) a d ≡ b
+pub looked_at : (xs ys : List (ℕ × ℕ)) (a b d : ℕ) → Absent a xs → looked (xs ++ (a, b) ∷ ys) a d ≡ b
 looked_at [] ys a b d h = ap (λ c. if c then b else looked ys a d) (eq-eqb a a refl)
 looked_at (x ∷ xs) ys a b d h = ap (λ c. if c then x.1 else looked (xs ++ (a, b) ∷ ys) a d) (ne_eqb x.0 a h.0) ∙ looked_at xs ys a b d h.1
 
@@ -95,19 +95,19 @@ module _ (single : Bool) (s : Span) (f : Function) (few : length f.lifetimes < 2
   abbrev pub IsMeant : List ℕ → Type 0
   IsMeant x = (n : ℕ) × (number_in L x ≡ Some n)
 
-  less : (x : List ℕ) → IsMeant x → number_of L x < n0
+  pub less : (x : List ℕ) → IsMeant x → number_of L x < n0
   less x m = subst (λ n. number_of L x < n) (sym (small (length f.lifetimes) few)) (subst (λ n. n < length f.lifetimes) (sym (ap or_zero m.1)) (place s f few x m.0 m.1).0)
 
-  name_at : (x : List ℕ) → IsMeant x → get_or (names f.lifetimes) (number_of L x) [] ≡ x
+  pub name_at : (x : List ℕ) → IsMeant x → get_or (names f.lifetimes) (number_of L x) [] ≡ x
   name_at x m = ap (λ n. get_or (names f.lifetimes) n []) (ap or_zero m.1) ∙ (place s f few x m.0 m.1).1
 
-  one_number : (x y : List ℕ) → IsMeant x → IsMeant y → number_of L x ≡ number_of L y → x ≡ y
+  pub one_number : (x y : List ℕ) → IsMeant x → IsMeant y → number_of L x ≡ number_of L y → x ≡ y
   one_number x y m n e = sym (name_at x m) ∙ (ap (λ k. get_or (names f.lifetimes) k []) e ∙ name_at y n)
 
-  goes_away : (x : List ℕ) → IsMeant x → G x ≡ true → becomes rs x ≡ None
+  pub goes_away : (x : List ℕ) → IsMeant x → G x ≡ true → becomes rs x ≡ None
   goes_away x m h = left_gone G f.lifetimes x (meant_declared s f x m.0 m.1) h
 
-  stays_here : (x : List ℕ) → G x ≡ false → becomes rs x ≡ Some x
+  pub stays_here : (x : List ℕ) → G x ≡ false → becomes rs x ≡ Some x
   stays_here x h = left_stays G f.lifetimes x h
 
   -- a lifetime that stays isn't in the table

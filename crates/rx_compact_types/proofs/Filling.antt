@@ -57,7 +57,7 @@ module _ (f : ℕ → ℕ) where
   list_unnumbered (l ∷ ls) = ap (λ ns. 0 ∷ ns) (list_unnumbered ls)
 
   mutual
-    unnumbered_same : (t : RegionTyp) → renamed no_number (renamed f t) ≡ renamed no_number t
+    pub unnumbered_same : (t : RegionTyp) → renamed no_number (renamed f t) ≡ renamed no_number t
     unnumbered_same (region_integer k) = refl
     unnumbered_same region_boolean = refl
     unnumbered_same (region_tuple ts) = ap region_tuple (all_unnumbered_same ts)
@@ -69,7 +69,7 @@ module _ (f : ℕ → ℕ) where
     all_unnumbered_same (region_and t ts) = ap₂ region_and (unnumbered_same t) (all_unnumbered_same ts)
 
   mutual
-    lifetimes_renamed : (t : RegionTyp) → lifetimes_in (renamed f t) ≡ map f (lifetimes_in t)
+    pub lifetimes_renamed : (t : RegionTyp) → lifetimes_in (renamed f t) ≡ map f (lifetimes_in t)
     lifetimes_renamed (region_integer k) = refl
     lifetimes_renamed region_boolean = refl
     lifetimes_renamed (region_tuple ts) = all_lifetimes_renamed ts

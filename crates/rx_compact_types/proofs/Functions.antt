@@ -1,5 +1,5 @@
 -- A function with a short signature declares the types of before under other numbers of its lifetimes.
-use Rattle.std.proofs.Common.{◌≡◌, ℕ, suc, ◌<◌, ◌≤◌, ◌^◌, Bool, true, false, List, [], ◌∷◌, ◌++◌, length, map, Option, Some, None, Ok, refl, sym, ap, ◌∙◌, arith, if◌then◌else◌, filter}
+use Rattle.std.proofs.Common.{◌≡◌, ℕ, ◌<◌, ◌≤◌, ◌^◌, Bool, true, List, [], ◌∷◌, length, map, Option, Some, None, Ok, refl, sym, ap, subst, ◌∙◌, arith}
 use Rattle.std.proofs.lemmas.List.{length-map}
 use Rattle.rx_core.specs.declared.types.Bound.{Bound}
 use Rattle.rx_core.specs.declared.types.Span.{Span}
@@ -14,52 +14,28 @@ use Rattle.rx_typed.specs.declared.declarations.Decl.{Decl}
 use Rattle.rx_typed.specs.declared.declarations.Decl.TheVariants as decl
 use Rattle.rx_typed.specs.Regions.{regions_of, region-Ty, lifetimes_among}
 use Rattle.rx_typed.specs.Renaming.{renamed, all_renamed}
-use Rattle.rx_hoist_extraction.specs.Names.{Names, is_among}
 use Rattle.rx_typeck_typed.specs.Steps.{Outcome}
 use Rattle.rx_typeck_typed.specs.Items.{bounded, bounds_of, the_only, answer_of, declared_function}
 use Rattle.rx_compact_lifetimes.specs.Rewritten.{renamed_bound}
-use Rattle.rx_compact_lifetimes.specs.Merged.{joined_lifetime, joined, merged, mergings_of}
-use Rattle.rx_compact_lifetimes.specs.Elided.{stays, elided, elisions, in_body}
-use Rattle.rx_compact_laws.specs.Resolved.{declared}
+use Rattle.rx_compact_lifetimes.specs.Merged.{merged, mergings_of, IsPreorder}
+use Rattle.rx_compact_lifetimes.specs.Elided.{elided, elisions, in_body}
+use Rattle.rx_compact_laws.specs.Resolved.{declared, inside}
+use Rattle.rx_compact_laws.proofs.Declaring.{listed}
 use Rattle.rx_compact_types.specs.Positions.{as_parameter, number_of, numbers, ends, parameter_positions, positions}
-use Rattle.rx_compact_types.proofs.Renamed.{RenamedFunction}
+use Rattle.rx_compact_types.proofs.Renamed.{Related, RenamedFunction}
 use Rattle.rx_compact_types.proofs.Roles.{reading}
 use Rattle.rx_compact_types.proofs.Signature.{SignatureTold, signature_told}
-use Rattle.rx_compact_types.proofs.Turning.{SameDeclared}
+use Rattle.rx_compact_types.proofs.Turning.{SameDeclared, turn, parameters_turned}
 use Rattle.rx_compact_types.proofs.Filling.{renamed_twice, all_renamed_twice}
 use Rattle.rx_compact_types.proofs.Declared.{read_ok, TypesUnder, ResultFits, types_under, news_are}
 use Rattle.rx_compact_types.proofs.MergedNumbers.{merged_number, first_left_out, parameters_fit, answer_fits, none_left_out}
 use Rattle.rx_compact_types.proofs.BoundsUnder.{bounds_twice, merged_bounds, elided_bounds}
+use Rattle.rx_compact_types.proofs.Fewer.{few_merged, few_elided}
+use Rattle.rx_compact_types.proofs.MergedEqual.{one_number_known}
+use Rattle.rx_compact_types.proofs.MergedApart.{merged_within, merged_fewer}
+use Rattle.rx_compact_types.proofs.ElidedApart.{number_within, numbers_apart}
+use Rattle.rx_compact_types.proofs.ElidedFewer.{no_more_numbers}
 use Rattle.rx_compact_types.proofs.ElidedNumbers.{elided_number, elided_parameters_fit, elided_answer_fits, elided_none_left_out, goes_once, only_goes}
-
--- ---- no more lifetimes
-
-fewer_joined : (all : List BoundLifetime) (found : Names) (ls : List BoundLifetime) → length (joined all found ls) ≤ length ls
-fewer_joined all found [] = omega arith
-fewer_joined all found (l ∷ ls) = by (is_among l.name.name found) (fewer_joined all found ls) (fewer_joined all (found ++ l.name.name ∷ []) ls)
-  where
-    by : (b : Bool) → length (joined all found ls) ≤ length ls → length (joined all (found ++ l.name.name ∷ []) ls) ≤ length ls
-        → length (if b then joined all found ls else joined_lifetime all l.name ∷ joined all (found ++ l.name.name ∷ []) ls) ≤ suc (length ls)
-    by true h g = omega (arith, h)
-    by false h g = omega (arith, g)
-
-pub few_merged : (o : ℕ → ℕ → Bool) (f : Function) → length f.lifetimes < 2 ^ 32 → length (merged o f).lifetimes < 2 ^ 32
-few_merged o f few =
-    let ks : List BoundLifetime = map (renamed_bound (mergings_of o f)) f.lifetimes in
-    let a = fewer_joined ks [] ks in
-    let b = length-map f.lifetimes (renamed_bound (mergings_of o f)) in
-    omega (arith, a, b, few)
-
-fewer_kept : (keep : BoundLifetime → Bool) (ls : List BoundLifetime) → length (filter keep ls) ≤ length ls
-fewer_kept keep [] = omega arith
-fewer_kept keep (l ∷ ls) = by (keep l) (fewer_kept keep ls)
-  where
-    by : (b : Bool) → length (filter keep ls) ≤ length ls → length (if b then l ∷ filter keep ls else filter keep ls) ≤ suc (length ls)
-    by true h = omega (arith, h)
-    by false h = omega (arith, h)
-
-few_elided : (single : Bool) (f : Function) → length f.lifetimes < 2 ^ 32 → length (elided single f).lifetimes < 2 ^ 32
-few_elided single f few = let a = fewer_kept (stays single (in_body f.body) f) f.lifetimes in omega (arith, a, few)
 
 -- ---- what is declared
 
@@ -89,11 +65,11 @@ one_some ns a e h = let g : ◌≡◌ {A = Option ℕ} (Some a) None = sym (ap t
 abbrev pub OneIf : Bool → Decl → Type 0
 OneIf single d = single ≡ true → (k : ℕ) (ps : List Ty) (t : Ty) (bs : List Bound) → d ≡ decl.Func k ps t bs → length (lifetimes_among (regions_of (map region-Ty ps))) ≡ 1
 
-pub function_under : (o : ℕ → ℕ → Bool) (single : Bool) (p q : ProgramTree) → SameDeclared p q → SameDeclared q q → (n : ℕ) (s : Span) (f : Function) → length f.lifetimes < 2 ^ 32 → (a t b : ItemNames)
+pub function_under : (o : ℕ → ℕ → Bool) → IsPreorder o → (single : Bool) (p q : ProgramTree) → SameDeclared p q → SameDeclared q q → (n : ℕ) (s : Span) (f : Function) → length f.lifetimes < 2 ^ 32 → (a t b : ItemNames)
     → in_item p n (plain.function_item s f) ≡ Ok a → in_item q n (plain.function_item s (merged o f)) ≡ Ok t → in_item q n (plain.function_item s (elided single (merged o f))) ≡ Ok b
     → (d : Decl) → declared_function p a.names f ≡ Ok d → OneIf single d
-    → (e : Decl) × (declared_function q b.names (elided single (merged o f)) ≡ Ok e) × ((F : ℕ → ℕ) × RenamedFunction F d e)
-function_under o single p q same own n s f few a t b ea et eb d e one =
+    → (e : Decl) × (declared_function q b.names (elided single (merged o f)) ≡ Ok e) × ((F : ℕ → ℕ) × RenamedFunction (Related o) F d e)
+function_under o order single p q same own n s f few a t b ea et eb d e one =
     let h : Function = merged o f in
     let g : Function = elided single h in
     let S = signature_told p n s f a ea in
@@ -110,7 +86,7 @@ function_under o single p q same own n s f few a t b ea et eb d e one =
       one = λ l z. answer_fits o s f few l kk jj (positions p y) (S.result y w).told.meant;
       none = λ z none x. none_left_out o s f few x kk jj (positions p y) (S.result y w).told.meant none;
     } in
-    let A : TypesUnder FA d (bounds_of (bounded 0 f.lifetimes) S.bound_at) h T.bound_at (declared_function q t.names h) = types_under (mergings_of o f) FA p q same n s f h a.names t.names S T refl refl fits answers d e in
+    let A : TypesUnder kk jj FA d (bounds_of (bounded 0 f.lifetimes) S.bound_at) h T.bound_at (declared_function q t.names h) = types_under (mergings_of o f) FA p q same n s f h a.names t.names S T refl refl fits answers d e in
     let mid : Decl = decl.Func A.new_count A.new_params A.new_answer (bounds_of (bounded 0 h.lifetimes) T.bound_at) in
     let few' = few_merged o f few in
     let ys = parameter_positions q h.params in
@@ -128,8 +104,15 @@ function_under o single p q same own n s f few a t b ea et eb d e one =
       none = λ z none x. elided_none_left_out single s h few' ys T.meant x jj ll (positions q y) (T.result y w).told.meant none
           (λ x c v. one_some news (number_of (declared s h) x) (only_goes single s h few' q single_one y w x c v) z);
     } in
-    let B : TypesUnder FB mid (bounds_of (bounded 0 h.lifetimes) T.bound_at) g U.bound_at (declared_function q b.names g) =
+    let B : TypesUnder jj ll FB mid (bounds_of (bounded 0 h.lifetimes) T.bound_at) g U.bound_at (declared_function q b.names g) =
     types_under (elisions single (in_body h.body) h) FB q q own n s h g t.names b.names T U refl refl fits' answers' mid A.declares in
+    let once = (listed (inside p n s f) f.lifetimes [] 0 S.bound_at S.listed).once in
+    let once' = (listed (inside q n s h) h.lifetimes [] 0 T.bound_at T.listed).once in
+    let fewer = few_elided single h few' in
+    let first : jj ≡ ends as_parameter m0 (map (turn (mergings_of o f)) xs) = ap (ends as_parameter m0) (parameters_turned (mergings_of o f) p q same f.params) in
+    let last : B.new_count ≡ ends as_parameter (number (length g.lifetimes)) (map (turn (elisions single (in_body h.body) h)) ys) =
+    B.new_count_is ∙ ap (ends as_parameter (number (length g.lifetimes))) (parameters_turned (elisions single (in_body h.body) h) q q own h.params) in
+    let middle : (l : ℕ) → l < A.count → FA l < jj = λ l w. subst (λ m. FA l < m) (sym first) (merged_within o order s f few once xs l (subst (λ m. l < m) A.count_is w)) in
     let c = same_params mid mid A.new_count A.new_params A.new_answer (bounds_of (bounded 0 h.lifetimes) T.bound_at) B.count B.params B.answer (bounds_of (bounded 0 h.lifetimes) T.bound_at) refl B.is in (
       decl.Func B.new_count B.new_params B.new_answer (bounds_of (bounded 0 g.lifetimes) U.bound_at),
       B.declares,
@@ -150,6 +133,9 @@ function_under o single p q same own n s f few a t b ea et eb d e one =
           bounds_are = bounds_twice FA FB (bounds_of (bounded 0 f.lifetimes) S.bound_at) (bounds_of (bounded 0 h.lifetimes) T.bound_at) (bounds_of (bounded 0 g.lifetimes) U.bound_at)
               (merged_bounds p q n s o f few few' S.bound_at T.bound_at S.listed T.listed) (elided_bounds q q n s single h few' (few_elided single h few') ys T.meant T.bound_at U.bound_at T.listed U.listed);
           answer_is = B.answer_is ∙ (ap (λ z. renamed FB (region-Ty z)) (sym c.1) ∙ (ap (renamed FB) A.answer_is ∙ renamed_twice FA FB (region-Ty A.answer)));
+          within = λ l w. subst (λ m. FB (FA l) < m) (sym last) (number_within single s h few' q once' fewer T.meant (FA l) (middle l w));
+          known = λ l k w v x. one_number_known o order s f few few' once p q n l k (numbers_apart single s h few' q once' fewer T.meant (FA l) (FA k) (middle l w) (middle k v) x);
+          fewer = (let a = no_more_numbers single s h few' q fewer T.meant in let b = merged_fewer o order s f few once xs in let z = A.count_is in omega (arith, a, b, z, first, last));
         },
       ),
     )

@@ -3,16 +3,20 @@ mod Renamed
 mod Steps
 mod Reading
 mod Signature
-mod Filling
+pub mod Filling
 mod Turning
 mod Declared
 mod Places
 mod MergedNumbers
 mod Counts
 mod ElidedNumbers
-mod SameTypes
+mod Fewer
+mod MergedApart
+mod ElidedApart
+mod ElidedFewer
+pub mod SameTypes
 mod Functions
-mod ShortPrograms
+pub mod ShortPrograms
 pub mod ShortTyped
 pub mod Programs
 mod Bounds

@@ -17,7 +17,7 @@ use Rattle.rx_compact_laws.proofs.Elsewhere.{stands}
 use Rattle.rx_compact_laws.proofs.Lists.{turned, new_name}
 use Rattle.rx_compact_types.specs.MergedNumbers as numbers
 use Rattle.rx_compact_types.specs.MergedNumbers.{name_or}
-use Rattle.rx_compact_types.proofs.Functions.{few_merged}
+use Rattle.rx_compact_types.proofs.Fewer.{few_merged}
 use Rattle.rx_compact_types.specs.Positions.{or_zero, number_of}
 use Rattle.rx_compact_types.proofs.Places.{small, place}
 use Rattle.rx_compact_types.proofs.Bounds.{there, one_place, many_names}
@@ -104,11 +104,11 @@ module _ (o : ℕ → ℕ → Bool) (order : IsPreorder o) where
     F = merged_number o s f few
 
     -- a declared lifetime has the number of what it became, by its place in the new list
-    record Became (l : ℕ) : Type 0 where
-      within : F l < length (merged o f).lifetimes
-      name : get_or (names (merged o f).lifetimes) (F l) [] ≡ new_name (mergings_of o f) (get_or (names f.lifetimes) l [])
+    pub record Became (l : ℕ) : Type 0 where
+      pub within : F l < length (merged o f).lifetimes
+      pub name : get_or (names (merged o f).lifetimes) (F l) [] ≡ new_name (mergings_of o f) (get_or (names f.lifetimes) l [])
 
-    became : (p q : ProgramTree) (n l : ℕ) → l < length f.lifetimes → Became l
+    pub became : (p q : ProgramTree) (n l : ℕ) → l < length f.lifetimes → Became l
     became p q n l h =
         let many = many_names f.lifetimes in
         let x : List ℕ = get_or (names f.lifetimes) l [] in

@@ -1,5 +1,5 @@
 -- A program with a short signature: its names, what it declares, and its types.
-use Rattle.std.proofs.Common.{◌≡◌, ℕ, zero, suc, ◌+◌, ◌<◌, ◌≤◌, ◌^◌, Bool, List, [], ◌∷◌, ◌++◌, length, map, Option, Some, Ok, inr, refl, sym, ap, ap₂, subst, ◌∙◌, arith, slice_get}
+use Rattle.std.proofs.Common.{◌≡◌, ℕ, zero, suc, ◌+◌, ◌<◌, ◌≤◌, ◌^◌, Bool, List, [], ◌∷◌, ◌++◌, length, map, Option, Some, Ok, inl, inr, refl, sym, ap, ap₂, subst, ◌∙◌, arith, slice_get}
 use Rattle.std.proofs.lemmas.Bool.{eqb-true}
 use Rattle.rx_core.specs.declared.types.Bound.{Bound}
 use Rattle.rx_core.specs.declared.types.Span.{Span}
@@ -24,9 +24,11 @@ use Rattle.rx_typeck_solver.specs.Stepping.{known}
 use Rattle.rx_typeck_typed.specs.Steps.{Outcome, on_ok}
 use Rattle.rx_typeck_typed.specs.Items.{declared_item, declared_function, entries_of, declared_items}
 use Rattle.rx_typeck_typed.specs.Programs.{Fits, Declares}
-use Rattle.rx_compact_lifetimes.specs.Merged.{merged, mergings_of}
-use Rattle.rx_compact.specs.Outliving.{is_single}
-use Rattle.rx_compact.specs.Compacted.{compacted_function, compacted_item, compacted, IsCompacted}
+use Rattle.rx_typeck_typed.specs.Bindings.{lifetimes}
+use Rattle.rx_compact_lifetimes.specs.Merged.{merged, mergings_of, IsPreorder}
+use Rattle.rx_compact.specs.Outliving as outliving
+use Rattle.rx_compact.specs.Outliving.{Outlives, is_single}
+use Rattle.rx_compact.specs.Compacted.{compacted_function, compacted_item, compacted, Tells, IsCompacted}
 use Rattle.rx_compact_laws.specs.Alongside.{SameItems}
 use Rattle.rx_compact_laws.specs.MergedSignatures.{IsUnder}
 use Rattle.rx_compact_laws.specs.ShortNames.{NamesStay}
@@ -36,8 +38,9 @@ use Rattle.rx_compact_laws.proofs.Keeping.{same_items}
 use Rattle.rx_compact_laws.proofs.Elsewhere.{merged_elsewhere}
 use Rattle.rx_compact_laws.proofs.Staying.{stays}
 use Rattle.rx_compact_laws.proofs.ShortNames.{list_of, names_stay}
+use Rattle.rx_compact_types.specs.KnownNumbers.{AreKnownNumbers}
 use Rattle.rx_compact_types.specs.ShortTypes.{DeclaresAlike}
-use Rattle.rx_compact_types.proofs.Renamed.{RenamedFunction, under}
+use Rattle.rx_compact_types.proofs.Renamed.{Related, RenamedFunction, under}
 use Rattle.rx_compact_types.specs.ShortTyped.{TypedAlike, ShortProgram}
 use Rattle.rx_compact_types.proofs.Declared.{read_ok}
 use Rattle.rx_compact_types.proofs.Functions.{OneIf, function_under}
@@ -117,19 +120,19 @@ list_itself [] = refl
 list_itself (l ∷ ls) = ap (λ ns. l ∷ ns) (list_itself ls)
 
 mutual
-  renamed_itself : (t : RegionTyp) → renamed (λ l. l) t ≡ t
+  pub renamed_itself : (t : RegionTyp) → renamed (λ l. l) t ≡ t
   renamed_itself (region_integer k) = refl
   renamed_itself region_boolean = refl
   renamed_itself (region_tuple ts) = ap region_tuple (all_renamed_itself ts)
   renamed_itself (region_reference m l t) = ap (region_reference m l) (renamed_itself t)
   renamed_itself (region_named i ls) = ap (region_named i) (list_itself ls)
 
-  all_renamed_itself : (ts : RegionTyps) → all_renamed (λ l. l) ts ≡ ts
+  pub all_renamed_itself : (ts : RegionTyps) → all_renamed (λ l. l) ts ≡ ts
   all_renamed_itself no_region = refl
   all_renamed_itself (region_and t ts) = ap₂ region_and (renamed_itself t) (all_renamed_itself ts)
 
-same_function : (d : Decl) (n : ℕ) (ps : List Ty) (t : Ty) (bs : List Bound) → d ≡ decl.Func n ps t bs → RenamedFunction (λ l. l) d d
-same_function d n ps t bs e = record {
+same_function : (R : ℕ → ℕ → Type 0) → ((l k : ℕ) → l ≡ k → R l k) → (d : Decl) (n : ℕ) (ps : List Ty) (t : Ty) (bs : List Bound) → d ≡ decl.Func n ps t bs → RenamedFunction R (λ l. l) d d
+same_function R same d n ps t bs e = record {
   count = n;
   params = ps;
   answer = t;
@@ -143,6 +146,9 @@ same_function d n ps t bs e = record {
   params_are = sym (all_renamed_itself (regions_of (map region-Ty ps)));
   answer_is = sym (renamed_itself (region-Ty t));
   bounds_are = record { kept = λ l k h. inr h; only = λ x y h. (x, y, h, refl, refl) };
+  within = λ l w. w;
+  known = λ l k w v e. same l k e;
+  fewer = omega arith;
 }
 
 -- ---- the program
@@ -152,7 +158,7 @@ short_at o single [] k x h = absurd (cc)
 short_at o single (y ∷ ys) zero x h = ap (λ z. Some (compacted_item o single z)) (some_item y x h)
 short_at o single (y ∷ ys) (suc k) x h = short_at o single ys k x h
 
-module _ (p : ProgramTree) (i : ℕ) (names : List ItemNames) (meant : Meant p names) (small : IsNumbered p) (ds : List Decl) (declares : Declares p names ds) (o : ℕ → ℕ → Bool) where
+module _ (p : ProgramTree) (i : ℕ) (names : List ItemNames) (meant : Meant p names) (small : IsNumbered p) (ds : List Decl) (declares : Declares p names ds) (o : ℕ → ℕ → Bool) (tells : Tells ds i o) where
   abbrev single : Bool
   single = is_single (slice_get ds i)
 
@@ -175,6 +181,28 @@ module _ (p : ProgramTree) (i : ℕ) (names : List ItemNames) (meant : Meant p n
   one_lifetime d h e k ps t bs g =
       eqb-true (length (lifetimes_among (regions_of (map region-Ty ps)))) 1 (sym (ap is_single (h ∙ ap (λ z. Some z) g)) ∙ e)
 
+  -- what is known goes on
+  known_on : (l k m : ℕ) → Outlives ds (slice_get ds i) l k → Outlives ds (slice_get ds i) k m → Outlives ds (slice_get ds i) l m
+  known_on l k m outliving.itself h = h
+  known_on l k m (outliving.by n s rest) h = outliving.by n s (known_on n k m rest h)
+
+  order : IsPreorder o
+  order = record { itself = λ l. (tells l l).1 outliving.itself; on = λ l k m a b. (tells l m).1 (known_on l k m ((tells l k).0 a) ((tells k m).0 b)) }
+
+  related_known : (l k : ℕ) → Related o l k → Outlives ds (slice_get ds i) l k
+  related_known l k (inl e) = subst (λ m. Outlives ds (slice_get ds i) l m) e outliving.itself
+  related_known l k (inr e) = (tells l k).0 e
+
+  known_numbers : (d e : Decl) (f : ℕ → ℕ) → slice_get ds i ≡ Some d → RenamedFunction (Related o) f d e → AreKnownNumbers ds (Some d) (Some e) f
+  known_numbers d e f at r =
+      let a : lifetimes (Some d) ≡ r.count = ap (λ x. lifetimes (Some x)) r.was in
+      let b : lifetimes (Some e) ≡ r.new_count = ap (λ x. lifetimes (Some x)) r.is in
+      record {
+        within = λ l w. subst (λ m. f l < m) (sym b) (r.within l (subst (λ m. l < m) a w));
+        known = λ l k w v x. subst (λ o. Outlives ds o l k) at (related_known l k (r.known l k (subst (λ m. l < m) a w) (subst (λ m. k < m) a v) x));
+        fewer = subst (λ m. m ≤ lifetimes (Some d)) (sym b) (subst (λ m. r.new_count ≤ m) (sym a) r.fewer);
+      }
+
   -- what isn't a function declares the same
   unchanged : (x : ItemTree) → compacted_item o single x ≡ x → slice_get p i ≡ Some x → (d : Decl) → declared_item p (entries_of (slice_get names i)) x ≡ Ok d
       → ShortItem o single p q names N.news (all_lifetimes_same o single p i) i x d
@@ -188,7 +216,7 @@ module _ (p : ProgramTree) (i : ℕ) (names : List ItemNames) (meant : Meant p n
         new = d;
         declares = ap (λ y. declared_item q (entries_of (slice_get N.news i)) y) c ∙ (item_declared o single p q names N.news (all_lifetimes_same o single p i) i x s ∙ e);
         same = refl;
-        renamed = λ n ps t bs g. (λ l. l, same_function d n ps t bs g);
+        renamed = λ n ps t bs g. (λ l. l, same_function (Related o) (λ l k e. inl e) d n ps t bs g);
       }
 
   function_step : (s : Span) (f : Function) → slice_get p i ≡ Some (plain.function_item s f) → (d : Decl) → declared_item p (entries_of (slice_get names i)) (plain.function_item s f) ≡ Ok d
@@ -202,12 +230,12 @@ module _ (p : ProgramTree) (i : ℕ) (names : List ItemNames) (meant : Meant p n
       let few : length f.lifetimes ≤ total lifetimes_at (nodes p) = few_at p i x h in
       let less : total lifetimes_at (nodes p) < 2 ^ 32 = small.lifetimes in
       let at : slice_get ds i ≡ Some d = declared_at p names p 0 ds declares.items i x h d (let z : i ≡ 0 + i = omega arith in subst (λ m. declared_item p (entries_of (slice_get names m)) x ≡ Ok d) z e) in
-      let r = function_under o single p q (same_declared o single p i same) (record { item = λ y. refl; lifetimes = λ m. refl }) (0 + i) s f (omega (arith, few, less)) a.tables t.tables b.tables a.is t.resolves b.is
+      let r = function_under o order single p q (same_declared o single p i same) (record { item = λ y. refl; lifetimes = λ m. refl }) (0 + i) s f (omega (arith, few, less)) a.tables t.tables b.tables a.is t.resolves b.is
       d (ap (λ u. declared_function p (entries_of u) f) (sym a.at) ∙ e) (one_lifetime d at) in
       record {
         new = r.0;
         declares = ap (λ u. declared_function q (entries_of u) (compacted_function o single f)) b.at ∙ r.1;
-        same = renamed_plain r.2.0 d r.0 r.2.1;
+        same = renamed_plain (Related o) r.2.0 d r.0 r.2.1;
         renamed = λ n ps t bs g. r.2;
       }
 
@@ -227,8 +255,11 @@ module _ (p : ProgramTree) (i : ℕ) (names : List ItemNames) (meant : Meant p n
         others = D.others;
         function = λ n ps t bs h.
             let d : Decl = decl.Func n ps t bs in
-            let r = D.this d h n ps t bs refl in
-            (r.2.0, subst (λ x. IsUnder r.2.0 x (slice_get D.new i)) (sym h) (subst (λ y. IsUnder r.2.0 (Some d) y) (sym r.1) (under r.2.0 d r.0 r.2.1)));
+            let r = D.this d h n ps t bs refl in (
+              r.2.0,
+              subst (λ x. IsUnder r.2.0 x (slice_get D.new i)) (sym h) (subst (λ y. IsUnder r.2.0 (Some d) y) (sym r.1) (under (Related o) r.2.0 d r.0 r.2.1)),
+              subst (λ x. AreKnownNumbers ds x (slice_get D.new i) r.2.0) (sym h) (subst (λ y. AreKnownNumbers ds (Some d) y r.2.0) (sym r.1) (known_numbers d r.0 r.2.0 h r.2.1)),
+            );
       }
 
   pub short_tables : (x : ItemTree) → slice_get p i ≡ Some x → Short o single (record { program = p; declared = ds; sizes = [] }) (record { program = q; declared = ds; sizes = [] }) refl names N.news i N.others x
@@ -259,4 +290,4 @@ module _ (p : ProgramTree) (i : ℕ) (names : List ItemNames) (meant : Meant p n
   program = record { news = N.news; meant = N.meant; declares = alike; typed = typed }
 
 pub short_program : (p : ProgramTree) (i : ℕ) (q : ProgramTree) (c : IsCompacted p i q) → IsNumbered p → ShortProgram p i q c.names c.declared
-short_program p i q c small = subst (λ q. ShortProgram p i q c.names c.declared) (sym c.same) (program p i c.names c.meant small c.declared c.declares c.outlives)
+short_program p i q c small = subst (λ q. ShortProgram p i q c.names c.declared) (sym c.same) (program p i c.names c.meant small c.declared c.declares c.outlives c.tells)

@@ -1,5 +1,5 @@
 -- A function by other numbers of its lifetimes is under these (`IsUnder` of rx_compact_laws).
-use Rattle.std.proofs.Common.{◌≡◌, ℕ, List, map, Some, ap}
+use Rattle.std.proofs.Common.{◌≡◌, ◌⊎◌, ℕ, ◌<◌, ◌≤◌, Bool, true, List, map, Some, ap}
 use Rattle.rx_core.specs.declared.types.Bound.{Bound}
 use Rattle.rx_core.specs.declared.types.Ty.{Ty}
 use Rattle.rx_typed.specs.declared.declarations.Decl.{Decl}
@@ -8,8 +8,12 @@ use Rattle.rx_typed.specs.Regions.{regions_of, region-Ty}
 use Rattle.rx_typed.specs.Renaming.{renamed, all_renamed}
 use Rattle.rx_compact_laws.specs.MergedSignatures.{AreBoundsUnder, IsUnder}
 
--- a function by other numbers of its lifetimes
-pub record RenamedFunction (f : ℕ → ℕ) (old new : Decl) : Type 0 where
+-- lifetimes that are one, or of which this is known
+abbrev pub Related : (ℕ → ℕ → Bool) → ℕ → ℕ → Type 0
+Related o l k = (l ≡ k) ⊎ (o l k ≡ true)
+
+-- a function by other numbers of its lifetimes, which are one only where this relates them
+pub record RenamedFunction (R : ℕ → ℕ → Type 0) (f : ℕ → ℕ) (old new : Decl) : Type 0 where
   pub count : ℕ
   pub params : List Ty
   pub answer : Ty
@@ -24,9 +28,12 @@ pub record RenamedFunction (f : ℕ → ℕ) (old new : Decl) : Type 0 where
   pub answer_is : region-Ty new_answer ≡ renamed f (region-Ty answer)
   -- but for bounds between lifetimes that became one
   pub bounds_are : AreBoundsUnder f bounds new_bounds
+  pub within : (l : ℕ) → l < count → f l < new_count
+  pub known : (l k : ℕ) → l < count → k < count → f l ≡ f k → R l k
+  pub fewer : new_count ≤ count
 
-pub under : (f : ℕ → ℕ) (d e : Decl) → RenamedFunction f d e → IsUnder f (Some d) (Some e)
-under f d e r = record {
+pub under : (R : ℕ → ℕ → Type 0) (f : ℕ → ℕ) (d e : Decl) → RenamedFunction R f d e → IsUnder f (Some d) (Some e)
+under R f d e r = record {
   count = r.count;
   params = r.params;
   answer = r.answer;

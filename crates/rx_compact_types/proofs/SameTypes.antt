@@ -22,7 +22,7 @@ on_more m h = on_same {m = m} refl h
 
 module _ (p q : ProgramTree) (same : (n : ℕ) → lifetimes_of (slice_get q n) ≡ lifetimes_of (slice_get p n)) where
   mutual
-    type : (t : TypeTree) (e : Role) (r : Reading) → type_of q e t r ≡ type_of p e t r
+    pub type : (t : TypeTree) (e : Role) (r : Reading) → type_of q e t r ≡ type_of p e t r
     type (plain.kind_type s k) e r = refl
     type (plain.bool_type s) e r = refl
     type (plain.tuple_type s ts) e r = on_same (types ts e r) (λ x. refl)

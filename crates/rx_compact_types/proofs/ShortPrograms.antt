@@ -30,7 +30,7 @@ use Rattle.rx_compact_lifetimes.specs.Elided.{in_body, stays, elisions}
 use Rattle.rx_compact.specs.Compacted.{compacted_function, compacted_item, compacted}
 use Rattle.rx_compact_laws.specs.Alongside.{SameItems}
 use Rattle.rx_compact_types.specs.Positions.{or_zero}
-use Rattle.rx_compact_types.proofs.Renamed.{RenamedFunction}
+use Rattle.rx_compact_types.proofs.Renamed.{Related, RenamedFunction}
 use Rattle.rx_compact_types.proofs.Declared.{read_ok}
 use Rattle.rx_compact_types.proofs.Filling.{erased_same, all_erased_same}
 use Rattle.rx_compact_types.proofs.SameTypes.{on_more, item}
@@ -42,8 +42,8 @@ types_erased : (ts : List Ty) → shapes_listed (all_erased (regions_of (map reg
 types_erased [] = refl
 types_erased (t ∷ ts) = ap₂ (λ x xs. x ∷ xs) (is_erased t) (types_erased ts)
 
-pub renamed_plain : (f : ℕ → ℕ) (d e : Decl) → RenamedFunction f d e → plain-Decl e ≡ plain-Decl d
-renamed_plain f d e r =
+pub renamed_plain : (R : ℕ → ℕ → Type 0) (f : ℕ → ℕ) (d e : Decl) → RenamedFunction R f d e → plain-Decl e ≡ plain-Decl d
+renamed_plain R f d e r =
     let ps : map plain-Ty r.new_params ≡ map plain-Ty r.params =
     sym (types_erased r.new_params) ∙ (ap (λ ts. shapes_listed (all_erased ts)) r.params_are ∙ (ap shapes_listed (all_erased_same f (regions_of (map region-Ty r.params))) ∙ types_erased r.params)) in
     let t : plain-Ty r.new_answer ≡ plain-Ty r.answer = sym (is_erased r.new_answer) ∙ (ap erased r.answer_is ∙ (erased_same f (region-Ty r.answer) ∙ is_erased r.answer)) in
@@ -97,7 +97,7 @@ module _ (o : ℕ → ℕ → Bool) (single : Bool) where
       pub new : Decl
       pub declares : declared_item q (entries_of (slice_get news j)) (compacted_item o single x) ≡ Ok new
       pub same : plain-Decl new ≡ plain-Decl d
-      pub renamed : (n : ℕ) (ps : List Ty) (t : Ty) (bs : List Bound) → d ≡ decl.Func n ps t bs → (f : ℕ → ℕ) × RenamedFunction f d new
+      pub renamed : (n : ℕ) (ps : List Ty) (t : Ty) (bs : List Bound) → d ≡ decl.Func n ps t bs → (f : ℕ → ℕ) × RenamedFunction (Related o) f d new
 
     -- of items from number n on; the one with the short signature has number m among them, and number j
     pub record Done (n : ℕ) (xs : ProgramTree) (m j : ℕ) (ds : List Decl) : Type 0 where
@@ -106,7 +106,7 @@ module _ (o : ℕ → ℕ → Bool) (single : Bool) where
       pub same : declarations new ≡ declarations ds
       pub others : (k : ℕ) → (k ≡ m → ⊥) → slice_get new k ≡ slice_get ds k
       pub this : (d : Decl) → slice_get ds m ≡ Some d → (n : ℕ) (ps : List Ty) (t : Ty) (bs : List Bound) → d ≡ decl.Func n ps t bs
-          → (e : Decl) × (slice_get new m ≡ Some e) × ((f : ℕ → ℕ) × RenamedFunction f d e)
+          → (e : Decl) × (slice_get new m ≡ Some e) × ((f : ℕ → ℕ) × RenamedFunction (Related o) f d e)
 
     module _ (j : ℕ) (others : (k : ℕ) → (k ≡ j → ⊥) → slice_get news k ≡ slice_get names k) where
       pub done : (xs : ProgramTree) (n m : ℕ) → j ≡ n + m → ((x : ItemTree) → slice_get xs m ≡ Some x → (d : Decl) → declared_item p (entries_of (slice_get names j)) x ≡ Ok d → ShortItem j x d)
@@ -134,7 +134,7 @@ module _ (o : ℕ → ℕ → Bool) (single : Bool) where
             this = λ d h n ps y bs g.
                 let i : a.0 ≡ d = some_decl a.0 d (ap (λ us. slice_get us 0) t ∙ h) in
                 let r = c.renamed n ps y bs (i ∙ g) in
-                (c.new, refl, (r.0, subst (λ d. RenamedFunction r.0 d c.new) i r.1));
+                (c.new, refl, (r.0, subst (λ d. RenamedFunction (Related o) r.0 d c.new) i r.1));
           }
         where
           other : (k : ℕ) → (k ≡ 0 → ⊥) → (v u : Decl) (us : List Decl) → slice_get (v ∷ us) k ≡ slice_get (u ∷ us) k

@@ -1,4 +1,5 @@
 pub mod Positions
 pub mod MergedNumbers
+pub mod KnownNumbers
 pub mod ShortTypes
 pub mod ShortTyped

@@ -11,13 +11,13 @@ use Rattle.rx_cover.specs.declared.matrix.Column.{Column}
 use Rattle.rx_cover.specs.PlainCells.{plain-Head, plain-Row, plain-Column}
 use Rattle.rx_cover.specs.Values.{InKind, greatest, below_zero}
 use Rattle.rx_cover.specs.Heads as head
-use Rattle.rx_cover.specs.Heads.{whole, composed, chosen, pointed, in_kind, is_head, head_in}
+use Rattle.rx_cover.specs.Heads.{whole, truth, composed, chosen, pointed, in_kind, is_head, head_in}
 use Rattle.rx_cover.specs.Matrices.{rows_weight, gather, with_head_in, row_head, is_it, column_heads, add_head_in}
 use Rattle.rx_cover.proofs.HeadLemmas.{both_true, same_head_is, same_head_refl}
 use Rattle.rx_cover.proofs.WeightLemmas.{under_less}
 use Rattle.rx_cover.specs.Values as plain
 use Rattle.rx_cover.specs.Values.{Values, no_value, value_and, AreOfTypes}
-use Rattle.rx_cover.specs.Heads.{Head, has, same_head, IsHead, types_under, with_head, pointed_value}
+use Rattle.rx_cover.specs.Heads.{Head, has, same_head, IsHead, IsNear, types_under, with_head, pointed_value}
 use Rattle.rx_cover.specs.Matrices.{Row, CoversAll, Misses, MissesHead, CoversRange, MissesRange, CoversHeads, Distinct, rows_within, AreHeads, kept_types, kept_values, rows_under, rows_beside, mark_rows}
 use Rattle.rx_cover.specs.declared.value.Value.{Value}
 use Rattle.rx_cover.specs.PlainValue.{plain-Value, plain_values}
@@ -32,6 +32,27 @@ onto_push ws (x ∷ l) v = onto_push (value_and (plain-Value x) ws) l v
 
 pub stacked_push : (l : List Value) (v : Value) → stacked (l ++ v ∷ []) ≡ value_and (plain-Value v) (stacked l)
 stacked_push l v = onto_push no_value l v
+
+-- ---- no integer of a kind is far below 0
+
+kind_near : (k : Kind) (n : ℕ) → n < below_zero k → n < 18446744073709551615
+kind_near Kind.U8 n l = absurd (omega (arith, l))
+kind_near Kind.U32 n l = absurd (omega (arith, l))
+kind_near Kind.U64 n l = absurd (omega (arith, l))
+kind_near Kind.I32 n l = omega (arith, l)
+kind_near Kind.I64 n l = omega (arith, l)
+
+pub head_near : (D : Declarations) (t : Typ) (h : Head) → IsHead D t h → IsNear h
+head_near D (integer k) (whole (pos n)) f = tt
+head_near D (integer k) (whole (negsuc n)) f = kind_near k n f
+head_near D boolean (whole i) f = elim f [ ]
+head_near D (tuple_of ts) (whole i) f = elim f [ ]
+head_near D (reference m t) (whole i) f = elim f [ ]
+head_near D (named i) (whole j) f = elim f [ ]
+head_near D t (truth b) f = tt
+head_near D t composed f = tt
+head_near D t (chosen i k) f = tt
+head_near D t pointed f = tt
 
 -- ---- parts are filled in
 

@@ -63,6 +63,11 @@ IsHead D (named i) composed = is_struct (slice_get D i) ≡ true
 IsHead D (named i) (chosen j k) = (i ≡ j) × (k < length (variants_declared (slice_get D i)))
 IsHead D _ _ = ⊥
 
+-- not so far below 0 that the magnitude has no 64 bits
+abbrev pub IsNear : Head → Type 0
+IsNear (whole (negsuc n)) = n < 18446744073709551615
+IsNear _ = Unit {0}
+
 -- the types of its parts
 abbrev pub item_types : Option Declared → Head → List Typ
 item_types o (chosen j k) = parts_declared (slice_get (variants_declared o) k)

@@ -50,18 +50,17 @@ fn pointing(alloc: Global, parts: List<Value>) -> Result<Value, AllocError>
     }
 }
 
-/// The integer below 0 at this distance from -1. No kind of integers goes so far that its magnitude has no 64 bits.
+/// The integer below 0 at this distance from -1.
 fn below_zero(alloc: Global, distance: u64) -> Result<Value, AllocError>
+    requires near { distance < 18446744073709551615 }
     ensures { IfOk result (λ v. plain-Value v ≡ plain.number (negsuc distance)) }
 {
-    match distance.checked_add(1) {
-        Some(magnitude) => integer(alloc, true, magnitude),
-        None => Err(AllocError),
-    }
+    integer(alloc, true, distance + 1)
 }
 
 /// The value of a type with this head and these parts.
 fn with_head(alloc: Global, ty: &Ty, head: Head, parts: List<Value>) -> Result<Value, AllocError>
+    requires near { heads_spec.IsNear (plain-Head head) }
     ensures { IfOk result (λ v. plain-Value v
         ≡ heads_spec.with_head (plain-Ty ty.now) (plain-Head head) (plain_values parts)) }
 {
@@ -157,6 +156,7 @@ fn finished(
     parts: List<Value>,
     stack: List<Value>,
 ) -> Result<List<Value>, AllocError>
+    requires near { heads_spec.IsNear (plain-Head head) }
     ensures { IfOk result (λ it. spec.Finished stack
         (heads_spec.with_head (plain-Ty ty.now) (plain-Head head) (plain_values parts)) it) }
 {
@@ -179,6 +179,7 @@ fn rebuilt(
     requires numbered { spec.Numbered (declarations decls.now.items) }
     requires inhabited { Inhabited (declarations decls.now.items) inhabited.now }
     requires long { length mask.now ≡ length columns.now }
+    requires near { heads_spec.IsNear (plain-Head head) }
     ensures { IfOk result (λ o. (ts : List Typ) → spec.Stacked (declarations decls.now.items)
         (matrices.kept_types mask.now (map plain-Column columns.now) ts) stack
         → spec.Rebuilds (declarations decls.now.items) (plain-Ty ty.now) (plain-Head head) mask.now

@@ -1,5 +1,5 @@
 -- Statements and a tail that are copied, numbered beside themselves.
-use Rattle.std.proofs.Common.{◌≡◌, ℕ, Bool, [], Option, ap, subst}
+use Rattle.std.proofs.Common.{◌≡◌, ℕ, Bool, List, [], Option, ap, subst}
 use Rattle.rx_core.specs.declared.types.Span.{Span}
 use Rattle.rx_tree.specs.Erase.{nowhere}
 use Rattle.rx_tree.specs.Plain as plain
@@ -15,7 +15,8 @@ use Rattle.rx_engine_names.specs.LikeNamed as alike
 use Rattle.rx_engine_names.specs.LikeNamed.{LikeElse, LikeBody, LikeStatements}
 use Rattle.rx_engine_names.proofs.NoClaims.{no_claims, optional_within, statements_within}
 use Rattle.rx_engine_typing.specs.Renumbered as ren
-use Rattle.rx_engine_changed.specs.Beside.{Instead, Numbers, IsOneToOne}
+use Rattle.rx_engine_changed.specs.Beside.{Instead, Piece, Numbers, IsOneToOne}
+use Rattle.rx_engine_changed.specs.Comes.{Placed}
 use Rattle.rx_engine_changed.specs.Stages.{Mutability}
 use Rattle.rx_engine_changed.proofs.Parts.{OnlySpecial, KeptHoles}
 use Rattle.rx_engine_changed.proofs.Counts.{none_such}
@@ -39,7 +40,7 @@ pub body_cases : {H : alike.Holes} {R : Renaming} {n n' : Node} {ss ss' : named.
 body_cases w (alike.like_other_block h) = absurd (w h)
 body_cases w (alike.like_body f s h g) = (h, g)
 
-module _ (R : Renaming) (W : Mutability) (apart : IsOneToOne R) (even : (n m : ℕ) (b : Bool) → W n m b b) (P : Instead → Type 0) (same : (n m : ℕ) (a b : Bool) → W n m a b → b ≡ a) (base : Numbers → ren.Holes) (returns : (q : Numbers) → (base q).returns) where
+module _ (R : Renaming) (W : Mutability) (apart : IsOneToOne R) (even : (n m : ℕ) (b : Bool) → W n m b b) (P : List Piece → Instead → Type 0) (same : (n m : ℕ) (a b : Bool) → W n m a b → b ≡ a) (base : Numbers → ren.Holes) (returns : (q : Numbers) → (base q).returns) (A A' : Placed) where
   abbrev pub none_returned : (R : Renaming) (n : Node) (o : Else) (e' : Exp) → alike.no_holes.returned R n o e' → ⊥
   none_returned R n o e' h = h
 
@@ -52,14 +53,14 @@ module _ (R : Renaming) (W : Mutability) (apart : IsOneToOne R) (even : (n m : �
   abbrev copies : KeptHoles alike.no_holes
   copies = record { no_variable = λ R n n' u u' h. h; no_break = λ R n n' l l' h. h; no_continue = λ R n n' l l' h. h }
 
-  places : Places R W apart even P none_such alike.no_holes only_copies untyped base (blocks_alone (λ b c. c)) no_claims
-  places = kept_places R W apart even P none_such same alike.no_holes only_copies copies untyped base none_returned returns no_claims (λ b c. c)
-      (λ own ls s t ss ss' o o' n ks ko made c c' st h. let g = body_cases {H = alike.no_holes} (λ x. x) h in parts_kept R W apart even P none_such same alike.no_holes only_copies copies untyped base s t ss ss' o o' ks ko made c c' st g.0 g.1)
+  places : Places R W apart even P none_such A A' alike.no_holes only_copies untyped base (blocks_alone (λ b c. c)) no_claims
+  places = kept_places R W apart even P none_such A A' same alike.no_holes only_copies copies untyped base none_returned returns no_claims (λ b c. c)
+      (λ own ls s t ss ss' o o' n ks ko made c c' come come' st h. let g = body_cases {H = alike.no_holes} (λ x. x) h in parts_kept R W apart even P none_such A A' same alike.no_holes only_copies copies untyped base s t ss ss' o o' ks ko made c c' come come' st g.0 g.1)
 
-  pub copied_statements : (ss : Statements) → StatementsKept R W apart even P none_such alike.no_holes only_copies untyped base ss ss
-  copied_statements ss = subst (λ (z : Statements). StatementsKept R W apart even P none_such alike.no_holes only_copies untyped base ss z) (same_statements ss)
-      (statements_kept R W apart even P none_such alike.no_holes only_copies untyped base (blocks_alone (λ b c. c)) no_claims places [] [] ss (statements_within [] [] ss))
+  pub copied_statements : (ss : Statements) → StatementsKept R W apart even P none_such A A' alike.no_holes only_copies untyped base ss ss
+  copied_statements ss = subst (λ (z : Statements). StatementsKept R W apart even P none_such A A' alike.no_holes only_copies untyped base ss z) (same_statements ss)
+      (statements_kept R W apart even P none_such A A' alike.no_holes only_copies untyped base (blocks_alone (λ b c. c)) no_claims places [] [] ss (statements_within [] [] ss))
 
-  pub copied_tail : (t : Site) (o : OptionalExpression) → OptionalKept R W apart even P none_such alike.no_holes only_copies untyped base t o o
-  copied_tail t o = subst (λ (z : OptionalExpression). OptionalKept R W apart even P none_such alike.no_holes only_copies untyped base t o z) (same_tail o)
-      (optional_kept R W apart even P none_such alike.no_holes only_copies untyped base (blocks_alone (λ b c. c)) no_claims places [] [] t o (optional_within [] [] o))
+  pub copied_tail : (t : Site) (o : OptionalExpression) → OptionalKept R W apart even P none_such A A' alike.no_holes only_copies untyped base t o o
+  copied_tail t o = subst (λ (z : OptionalExpression). OptionalKept R W apart even P none_such A A' alike.no_holes only_copies untyped base t o z) (same_tail o)
+      (optional_kept R W apart even P none_such A A' alike.no_holes only_copies untyped base (blocks_alone (λ b c. c)) no_claims places [] [] t o (optional_within [] [] o))

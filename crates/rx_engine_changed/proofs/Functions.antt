@@ -19,6 +19,7 @@ use Rattle.rx_engine_blocks.specs.DemandsLike.Is.{itself}
 use Rattle.rx_engine_typing.specs.Renumbered as ren
 use Rattle.rx_engine_typing.specs.Renumbered.{RenumberedParameters, RenumberedNodes, RenumberedFunction}
 use Rattle.rx_engine_changed.specs.Beside.{Instead, Piece, Grows, Numbers, AllCorrespond, Follows, IsOneToOne}
+use Rattle.rx_engine_changed.specs.Comes.{body_of, the_whole}
 use Rattle.rx_engine_changed.specs.Stages.{is_waiting, waits_there, Mutability, InStep, LikeDeclared, known, given, not_yet, waits}
 use Rattle.rx_engine_changed.proofs.Lists.{grows_on, before, begins_later}
 use Rattle.rx_engine_changed.proofs.Steps.{alike_declared, next_node, next_entry, entry_number, one_node}
@@ -53,7 +54,7 @@ none_waiting (v ∷ vs) h = ap (λ (l : List Node). l ++ numbering.all_waiting v
     by Stage.Known e = refl
     by Stage.Given e = refl
 
-module _ (R : Renaming) (W : Mutability) (apart : IsOneToOne R) (even : (n m : ℕ) (b : Bool) → W n m b b) (P : Instead → Type 0) (such : Body → Bool) where
+module _ (R : Renaming) (W : Mutability) (apart : IsOneToOne R) (even : (n m : ℕ) (b : Bool) → W n m b b) (P : List Piece → Instead → Type 0) (such : Body → Bool) where
   abbrev ParametersLike : Numbers → List named.Parameter → List named.Parameter → Type 0
   ParametersLike q xs xs' = RenumberedParameters q.by xs xs'
 
@@ -111,7 +112,7 @@ module _ (R : Renaming) (W : Mutability) (apart : IsOneToOne R) (even : (n m : �
       pub adds : Adds P (count_body such f.body) [] pieces
       pub like : (q : Numbers) → Follows R q → AllCorrespond q pieces → RenumberedFunction q.by q.loops (holes q) (numbering.function_named i s f ns) (numbering.function_named i' s g ns')
 
-    pub function_kept : (i i' : ℕ) (s : Span) (f : Function) (b : Body) (ns ns' : List NodeNames) → R.item i ≡ i' → BodyKept R W apart even P such H only untyped holes Site.Expects f.body b
+    pub function_kept : (i i' : ℕ) (s : Span) (f : Function) (b : Body) (ns ns' : List NodeNames) → R.item i ≡ i' → BodyKept R W apart even P such (body_of s f ns) (body_of s (with_body b f) ns') H only untyped holes Site.Expects f.body b
         → LikeFunction H R (numbering.function_named i s f ns) (numbering.function_named i' s (with_body b f) ns') → (numbering.function_named i s f ns).never_given ≡ []
         → FunctionKept i i' s f (with_body b f) ns ns'
     function_kept i i' s f b ns ns' e kb h u =
@@ -123,7 +124,7 @@ module _ (R : Renaming) (W : Mutability) (apart : IsOneToOne R) (even : (n m : �
         let y = (numbering.of_parameters f.params x).1 in let y' = (numbering.of_parameters f.params x').1 in
         let B = optional_type_kept R W apart even P f.result y y' A.step h.result in
         let z = (numbering.of_optional_type f.result y).1 in let z' = (numbering.of_optional_type f.result y').1 in
-        let K = kb B.now z z' B.step h.body in record {
+        let K = kb B.now z z' the_whole the_whole B.step h.body in record {
           pieces = K.now;
           last = (numbering.of_body Site.Expects f.body z).1.number;
           last' = (numbering.of_body Site.Expects b z').1.number;

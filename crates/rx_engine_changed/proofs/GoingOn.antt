@@ -29,17 +29,17 @@ use Rattle.rx_engine_changed.proofs.Deeds.{does_on, from_same, optional_does, st
 
 -- ---- lists
 
-beyond : {A : Type 0} (vs : List A) (n : ℕ) → length vs ≤ n → slice_get vs n ≡ None
+pub beyond : {A : Type 0} (vs : List A) (n : ℕ) → length vs ≤ n → slice_get vs n ≡ None
 beyond [] n h = refl
 beyond (v ∷ vs) zero h = absurd (omega (arith, h))
 beyond (v ∷ vs) (suc n) h = beyond vs n (omega (arith, h))
 
-none_beyond : {A : Type 0} (vs : List A) (n : ℕ) → slice_get vs n ≡ None → length vs ≤ n
+pub none_beyond : {A : Type 0} (vs : List A) (n : ℕ) → slice_get vs n ≡ None → length vs ≤ n
 none_beyond [] n e = omega arith
 none_beyond (v ∷ vs) zero e = absurd (cc)
 none_beyond (v ∷ vs) (suc n) e = let h = none_beyond vs n e in omega (arith, h)
 
-below_or : (n d : ℕ) → (n < d) ⊎ (d ≤ n)
+pub below_or : (n d : ℕ) → (n < d) ⊎ (d ≤ n)
 below_or n d = by (nat_lt n d) refl
   where
     by : (b : Bool) → nat_lt n d ≡ b → (n < d) ⊎ (d ≤ n)
@@ -54,7 +54,7 @@ like_none (known w) e = absurd (cc)
 like_none (given w) e = absurd (cc)
 like_none (waits w i) e = absurd (cc)
 
-like_none_back : {made : List Piece} {X : Bool → Bool → Type 0} {o o' : Option Declaration} → LikeDeclared made X o o' → o' ≡ None → o ≡ None
+pub like_none_back : {made : List Piece} {X : Bool → Bool → Type 0} {o o' : Option Declaration} → LikeDeclared made X o o' → o' ≡ None → o ≡ None
 like_none_back not_yet e = refl
 like_none_back (known w) e = absurd (cc)
 like_none_back (given w) e = absurd (cc)
@@ -73,7 +73,7 @@ like_waiting (known w) = refl
 like_waiting (given w) = refl
 like_waiting (waits w i) = refl
 
-true_false : true ≡ false → ⊥
+pub true_false : true ≡ false → ⊥
 true_false e = cc
 
 unless : (b : Bool) → (b ≡ true → ⊥) → b ≡ false
@@ -104,7 +104,7 @@ module _ (R : Renaming) (W : Mutability) (made : List Piece) (c c' d d' : Cursor
   settles_alike n m r h h' = by (waits_there (slice_get c.variables n)) refl
     where
       by : (b : Bool) → waits_there (slice_get c.variables n) ≡ b → f.settles n ≡ f'.settles m
-      by true e = same.settled n m r h h' e
+      by true e = k.assigned n h e ∙ same.assigned n m r h h' e ∙ sym (k'.assigned m h' (like_waiting (st.variables n m r) ∙ e))
       by false e = unless (f.settles n) (λ w. true_false (sym (k.waited n h w) ∙ e)) ∙ sym (unless (f'.settles m) (λ w. true_false (sym (k'.waited m h' w) ∙ like_waiting (st.variables n m r) ∙ e)))
 
   in_front : (n m : ℕ) → R.variable n m ≡ true → n < c.declared → m < c'.declared → LikeDeclared made (W n m) (slice_get d.variables n) (slice_get d'.variables m)
@@ -189,9 +189,9 @@ module _ {Named : ℕ → ℕ → Type 0} (R : Renaming) (W : Mutability) (made 
     (loops : Tied (length c.loops) (length d.loops) (length t.loops) (length t1.loops)) (loops' : Tied (length c'.loops) (length d'.loops) (length u.loops) (length u1.loops)) where
   sorted_behind : ((n m : ℕ) → R.variable n m ≡ true → ((n < length t.vars) × (m < length u.vars)) ⊎ (Named n m ⊎ ((length t1.vars ≤ n) × (length u1.vars ≤ m))))
       → ((n m : ℕ) → R.loop n m ≡ true → ((n < length t.loops) × (m < length u.loops)) ⊎ ((length t1.loops ≤ n) × (length u1.loops ≤ m)))
-      → ((n m : ℕ) → R.variable n m ≡ true → Named n m → LikeDeclared made (W n m) (slice_get d.variables n) (slice_get d'.variables m)) → BehindAlike R W made c c' d d'
+      → ((n m : ℕ) → R.variable n m ≡ true → c.declared ≤ n → c'.declared ≤ m → Named n m → LikeDeclared made (W n m) (slice_get d.variables n) (slice_get d'.variables m)) → BehindAlike R W made c c' d d'
   sorted_behind vs ls named = (
-    λ n m r h h'. variable n m r (sorted _ _ _ _ _ _ _ _ vars vars' n m h h' (vs n m r)),
+    λ n m r h h'. variable n m r h h' (sorted _ _ _ _ _ _ _ _ vars vars' n m h h' (vs n m r)),
     λ n m r h h'. loop n m (sorted {Else = ⊥} _ _ _ _ _ _ _ _ loops loops' n m h h' (or_nothing (ls n m r))),
   )
     where
@@ -201,9 +201,9 @@ module _ {Named : ℕ → ℕ → Type 0} (R : Renaming) (W : Mutability) (made 
       counted' : length d'.variables ≡ d'.declared
       counted' = (x'.kept (record { counted = st.counted'; above = omega arith })).counted
 
-      variable : (n m : ℕ) → R.variable n m ≡ true → Named n m ⊎ ((d.declared ≤ n) × (d'.declared ≤ m)) → LikeDeclared made (W n m) (slice_get d.variables n) (slice_get d'.variables m)
-      variable n m r (inl y) = named n m r y
-      variable n m r (inr y) =
+      variable : (n m : ℕ) → R.variable n m ≡ true → c.declared ≤ n → c'.declared ≤ m → Named n m ⊎ ((d.declared ≤ n) × (d'.declared ≤ m)) → LikeDeclared made (W n m) (slice_get d.variables n) (slice_get d'.variables m)
+      variable n m r h h' (inl y) = named n m r h h' y
+      variable n m r h h' (inr y) =
           subst (λ (o : Option Declaration). LikeDeclared made (W n m) o (slice_get d'.variables m)) (sym (beyond d.variables n (let e = counted in let q = y.0 in omega (arith, e, q))))
           (subst (λ (o : Option Declaration). LikeDeclared made (W n m) None o) (sym (beyond d'.variables m (let e = counted' in let q = y.1 in omega (arith, e, q)))) not_yet)
 
@@ -256,28 +256,28 @@ last_tied I sc ls at front run o k t c s =
 
 -- ---- a run and what stands for it
 
-pub run_goes_on : (R : Renaming) (W : Mutability) (T : Told) (I I' : Inside) (front run call : List Statement) → RunDoesAlike R W T I I' front run call → GoesOn R W T I I' front run call
-run_goes_on R W T I I' front run call alike made c c' p st s =
-    let y = alike made c c' p st s in
+pub run_goes_on : (R : Renaming) (W : Mutability) (T : Told) (I I' : Inside) (C : Cursor → Cursor → Type 0) (front run call : List Statement) → RunDoesAlike R W T I I' C front run call → GoesOn R W T I I' C front run call
+run_goes_on R W T I I' C front run call alike made c c' p come st s =
+    let y = alike made c c' p come st s in
     let d = (of_statements (as_statements run) c).1 in let d' = (of_statements (as_statements call) c').1 in
     let f = deeds.of_statements (of_statements (as_statements run) c).0 in let f' = deeds.of_statements (of_statements (as_statements call) c').0 in
     let x = statements_does c.declared (as_statements run) c in let x' = statements_does c'.declared (as_statements call) c' in
     let a = run_tied I p.scope p.around p.way front run p.tables c s.text in let b = run_tied I' p.start p.round p.way' front call p.tables' c' s.made in (
       in_step R W made c c' d d' f f' st x x' y.0
-          (sorted_behind {Named = NamedByBoth run call s.text.end.scope s.made.end.scope} R W made c c' d d' f f' st x x' s.text.middle.tables s.text.end.tables s.made.middle.tables s.made.end.tables a.vars b.vars a.loops b.loops s.variables s.loops (λ n m r z. y.1 n m r z)),
+          (sorted_behind {Named = NamedByBoth run call s.text.end.scope s.made.end.scope} R W made c c' d d' f f' st x x' s.text.middle.tables s.text.end.tables s.made.middle.tables s.made.end.tables a.vars b.vars a.loops b.loops s.variables s.loops (λ n m r h h' z. y.1 n m r h h' z)),
       y.2,
     )
 
-pub end_goes_on : (R : Renaming) (W : Mutability) (T : ToldLast) (I I' : Inside) (front run call : List Statement) (tail last : OptionalExpression) → EndDoesAlike R W T I I' front run call tail last → GoesOnLast R W T I I' front run call tail last
-end_goes_on R W T I I' front run call tail last alike made c c' p k st s =
-    let y = alike made c c' p k st s in
+pub end_goes_on : (R : Renaming) (W : Mutability) (T : ToldLast) (I I' : Inside) (C : Cursor → Cursor → Type 0) (front run call : List Statement) (tail last : OptionalExpression) → EndDoesAlike R W T I I' C front run call tail last → GoesOnLast R W T I I' C front run call tail last
+end_goes_on R W T I I' C front run call tail last alike made c c' p k come st s =
+    let y = alike made c c' p k come st s in
     let X = of_statements (as_statements run) c in let X' = of_statements (as_statements call) c' in
     let O = of_optional k tail X.1 in let O' = of_optional k last X'.1 in
     let f = also (deeds.of_statements X.0) (of_else O.0) in let f' = also (deeds.of_statements X'.0) (of_else O'.0) in
     let x = does_on c.declared (statements_does c.declared (as_statements run) c) (optional_does c.declared tail k X.1) in let x' = does_on c'.declared (statements_does c'.declared (as_statements call) c') (optional_does c'.declared last k X'.1) in
     let a = last_tied I p.scope p.around p.way front run tail k p.tables c s.text in let b = last_tied I' p.start p.round p.way' front call last k p.tables' c' s.made in (
       in_step R W made c c' O.1 O'.1 f f' st x x' y.0
-          (sorted_behind {Named = λ n m. ⊥} R W made c c' O.1 O'.1 f f' st x x' s.text.middle.tables s.text.resolves.tables s.made.middle.tables s.made.resolves.tables a.vars b.vars a.loops b.loops (λ n m r. none_named (s.variables n m r)) s.loops (λ n m r z. absurd z)),
+          (sorted_behind {Named = λ n m. ⊥} R W made c c' O.1 O'.1 f f' st x x' s.text.middle.tables s.text.resolves.tables s.made.middle.tables s.made.resolves.tables a.vars b.vars a.loops b.loops (λ n m r. none_named (s.variables n m r)) s.loops (λ n m r h h' z. absurd z)),
       y.1,
     )
   where

@@ -13,7 +13,7 @@ use Rattle.rx_hoist_extraction.specs.Names.{Names}
 use Rattle.rx_hoist_extraction.specs.Values.{held_by, next_values, result_of, types_of, value_type, values_at, values_of, Value}
 use Rattle.rx_typeck_solver.specs.declared.facts.Subject.TheVariants as subject
 use Rattle.rx_typeck_solver.specs.Facts.{KnownItems}
-use Rattle.rx_typeck_typed.specs.Asking.{expected, type_of}
+use Rattle.rx_typeck_typed.specs.Asking.{type_of}
 use Rattle.rx_engine_names.specs.Renaming.{Renaming}
 use Rattle.rx_engine_names.specs.WrittenOut.{SayAll, Says}
 use Rattle.rx_engine_names.specs.WrittenOut.Says.{says_kind, says_bool, says_tuple, says_reference, says_item}

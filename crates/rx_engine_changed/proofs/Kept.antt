@@ -9,7 +9,7 @@ use Rattle.rx_typed.specs.Naming as numbering
 use Rattle.rx_typed.specs.Naming.{Cursor, a_node, an_entry}
 use Rattle.rx_engine_names.specs.Renaming.{Renaming}
 use Rattle.rx_engine_blocks.specs.Renumbering.{node_at}
-use Rattle.rx_engine_changed.specs.Beside.{Instead, Piece, paired, unpaired, replaced, IsPiece, Grows, stays, and_pair, newest, older, Numbers, AllCorrespond, Follows}
+use Rattle.rx_engine_changed.specs.Beside.{Instead, Piece, paired, unpaired, replaced, IsPiece, Grows, stays, and_pair, newest, older, Later, no_later, one_later, Numbers, AllCorrespond, Follows}
 use Rattle.rx_engine_changed.specs.Stages.{Mutability, InStep}
 use Rattle.rx_engine_changed.proofs.Lists.{grows_on, still_piece, before, begins_later}
 use Rattle.rx_engine_changed.proofs.Steps.{entry_number, one_node}
@@ -21,13 +21,20 @@ insteads (paired n n' ∷ ps) = insteads ps
 insteads (unpaired n m n' m' ∷ ps) = insteads ps
 insteads (replaced i ∷ ps) = 1 + insteads ps
 
+-- one thing is such, behind pieces that were made before
+pub record Such (P : List Piece → Instead → Type 0) (now : List Piece) (i : Instead) : Type 0 where
+  pub made : List Piece
+  pub still : Later (replaced i ∷ made) now
+  pub such : P made i
+
 -- so many things more stand for parts, and each is such
-pub record Adds (P : Instead → Type 0) (n : ℕ) (made now : List Piece) : Type 0 where
+pub record Adds (P : List Piece → Instead → Type 0) (n : ℕ) (made now : List Piece) : Type 0 where
   pub many : insteads now ≡ n + insteads made
-  pub each : (i : Instead) → IsPiece (replaced i) now → IsPiece (replaced i) made ⊎ P i
+  pub still : Later made now
+  pub each : (i : Instead) → IsPiece (replaced i) now → IsPiece (replaced i) made ⊎ Such P now i
 
 -- `n` things stand for parts, each such as `P` says
-pub record Kept (R : Renaming) (W : Mutability) (P : Instead → Type 0) (n : ℕ) (made : List Piece) {A A' : Type 0} (T : A → A' → Type 0) (S : Numbers → A → A' → Type 0) (c c' : Cursor) (x : A × Cursor) (x' : A' × Cursor) : Type 0 where
+pub record Kept (R : Renaming) (W : Mutability) (P : List Piece → Instead → Type 0) (n : ℕ) (made : List Piece) {A A' : Type 0} (T : A → A' → Type 0) (S : Numbers → A → A' → Type 0) (c c' : Cursor) (x : A × Cursor) (x' : A' × Cursor) : Type 0 where
   pub now : List Piece
   pub adds : Adds P n made now
   pub grows : Grows made c.number c'.number now x.1.number x'.1.number
@@ -76,38 +83,46 @@ same_and {a} {a'} {b} {b'} e f = ap (λ (x : Bool). x && b') e ∙ ap (λ (x : B
 
 -- ---- parts are put together
 
-pub adds_none : {P : Instead → Type 0} {made : List Piece} → Adds P 0 made made
-adds_none = record { many = omega arith; each = λ i z. inl z }
+pub later_on : {a b c : List Piece} → Later a b → Later b c → Later a c
+later_on h no_later = h
+later_on h (one_later k) = one_later (later_on h k)
 
-pub adds_pair : {P : Instead → Type 0} {n : ℕ} {k k' : ℕ} {made now : List Piece} → Adds P n (paired k k' ∷ made) now → Adds P n made now
-adds_pair {P = P} {k = k} {k' = k'} {made = made} {now = now} h = record { many = h.many; each = λ i z. by i (h.each i z) }
+pub adds_none : {P : List Piece → Instead → Type 0} {made : List Piece} → Adds P 0 made made
+adds_none = record { many = omega arith; still = no_later; each = λ i z. inl z }
+
+pub adds_pair : {P : List Piece → Instead → Type 0} {n : ℕ} {k k' : ℕ} {made now : List Piece} → Adds P n (paired k k' ∷ made) now → Adds P n made now
+adds_pair {P = P} {k = k} {k' = k'} {made = made} {now = now} h = record { many = h.many; still = later_on (one_later no_later) h.still; each = λ i z. by i (h.each i z) }
   where
-    by : (i : Instead) → IsPiece (replaced i) (paired k k' ∷ made) ⊎ P i → IsPiece (replaced i) made ⊎ P i
+    by : (i : Instead) → IsPiece (replaced i) (paired k k' ∷ made) ⊎ Such P now i → IsPiece (replaced i) made ⊎ Such P now i
     by i (inl (older z)) = inl z
     by i (inr z) = inr z
 
-pub adds_on : {P : Instead → Type 0} {n m : ℕ} {made now later : List Piece} → Adds P n made now → Adds P m now later → Adds P (n + m) made later
-adds_on {P = P} {n = n} {m = m} {made = made} {now = now} h g = record { many = let a = h.many in let b = g.many in omega (arith, a, b); each = λ i z. by i (g.each i z) }
+pub adds_on : {P : List Piece → Instead → Type 0} {n m : ℕ} {made now later : List Piece} → Adds P n made now → Adds P m now later → Adds P (n + m) made later
+adds_on {P = P} {n = n} {m = m} {made = made} {now = now} {later = later} h g = record { many = let a = h.many in let b = g.many in omega (arith, a, b); still = later_on h.still g.still; each = λ i z. by i (g.each i z) }
   where
-    by : (i : Instead) → IsPiece (replaced i) now ⊎ P i → IsPiece (replaced i) made ⊎ P i
-    by i (inl z) = h.each i z
+    before_it : (i : Instead) → IsPiece (replaced i) made ⊎ Such P now i → IsPiece (replaced i) made ⊎ Such P later i
+    before_it i (inl z) = inl z
+    before_it i (inr x) = inr (record { made = x.made; still = later_on x.still g.still; such = x.such })
+
+    by : (i : Instead) → IsPiece (replaced i) now ⊎ Such P later i → IsPiece (replaced i) made ⊎ Such P later i
+    by i (inl z) = before_it i (h.each i z)
     by i (inr z) = inr z
 
 pub none_more : (m : ℕ) → 0 + m ≡ m
 none_more m = omega arith
 
-pub adds_so : {P : Instead → Type 0} {n m : ℕ} {made now : List Piece} → n ≡ m → Adds P n made now → Adds P m made now
-adds_so e h = record { many = let a = h.many in omega (arith, a, e); each = h.each }
+pub adds_so : {P : List Piece → Instead → Type 0} {n m : ℕ} {made now : List Piece} → n ≡ m → Adds P n made now → Adds P m made now
+adds_so e h = record { many = let a = h.many in omega (arith, a, e); still = h.still; each = h.each }
 
 -- what stands for a part
-pub adds_other : {P : Instead → Type 0} {now : List Piece} (i : Instead) → P i → Adds P 1 now (replaced i ∷ now)
-adds_other {P = P} {now = now} i p = record { many = refl; each = λ j z. by j z }
+pub adds_other : {P : List Piece → Instead → Type 0} {now : List Piece} (i : Instead) → P now i → Adds P 1 now (replaced i ∷ now)
+adds_other {P = P} {now = now} i p = record { many = refl; still = one_later no_later; each = λ j z. by j z }
   where
-    by : (j : Instead) → IsPiece (replaced j) (replaced i ∷ now) → IsPiece (replaced j) now ⊎ P j
-    by j newest = inr p
+    by : (j : Instead) → IsPiece (replaced j) (replaced i ∷ now) → IsPiece (replaced j) now ⊎ Such P (replaced i ∷ now) j
+    by j newest = inr (record { made = now; still = no_later; such = p })
     by j (older z) = inl z
 
-module _ {R : Renaming} {W : Mutability} {P : Instead → Type 0} where
+module _ {R : Renaming} {W : Mutability} {P : List Piece → Instead → Type 0} where
   abbrev pub gives : {made : List Piece} {A A' : Type 0} {T : A → A' → Type 0} {S : Numbers → A → A' → Type 0} (c c' : Cursor) (a : A) (a' : A') → InStep R W made c c' → T a a' → ((q : Numbers) → Follows R q → AllCorrespond q made → S q a a') → Kept R W P 0 made T S c c' (a, c) (a', c')
   gives {made = made} c c' a a' st t s = record { now = made; adds = adds_none; grows = stays (omega arith) (omega arith); step = st; same = t; like = s }
 
@@ -168,7 +183,7 @@ pub data WholeLike (R : Renaming) : Option ℕ → Option ℕ → Type 0 where
 
 -- ---- one node
 
-module _ {R : Renaming} {W : Mutability} {P : Instead → Type 0} where
+module _ {R : Renaming} {W : Mutability} {P : List Piece → Instead → Type 0} where
   -- alone
   abbrev pub a_leaf : {made : List Piece} {A A' : Type 0} {T : A → A' → Type 0} {S : Numbers → A → A' → Type 0} (s s' : Span) (t t' : Site) (c c' : Cursor) (a : A) (a' : A') → InStep R W (paired c.number c'.number ∷ made) (a_node s t c).1 (a_node s' t' c').1 → T a a'
       → ((q : Numbers) → Follows R q → q.by.nodes c.number ≡ c'.number → S q a a') → Kept R W P 0 made T S c c' (a, (a_node s t c).1) (a', (a_node s' t' c').1)

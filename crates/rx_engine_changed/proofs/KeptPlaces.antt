@@ -23,6 +23,7 @@ use Rattle.rx_engine_names.specs.Within.{Claims}
 use Rattle.rx_engine_typing.specs.Renumbered as ren
 use Rattle.rx_engine_typing.specs.Renumbered.{RenumberedExp, use_at}
 use Rattle.rx_engine_changed.specs.Beside.{Instead, Piece, paired, IsPiece, Numbers, Follows, IsOneToOne}
+use Rattle.rx_engine_changed.specs.Comes.{a_body, an_expression, assigned_at, goes_in, Comes, Placed}
 use Rattle.rx_engine_changed.specs.Stages.{Mutability, LikeDeclared, not_yet, known, given, waits, InStep}
 use Rattle.rx_engine_changed.proofs.Steps.{alike_led, alike_settled, declared_alike, next_node, next_entry}
 use Rattle.rx_engine_changed.proofs.Parts.{OnlySpecial, KeptHoles, var_part, break_part, continue_part, return_part, assign_parts, gives_parts, given_parts, giving_parts}
@@ -67,7 +68,7 @@ like_stages {made = made} {X = X} o o' d d' (waits {m = m} {m' = m'} {p = p} {p'
     subst (λ (d : Declaration). X d.mutable d'.mutable × (is_known d'.stage ≡ is_known d.stage) × ((x x' : ℕ) → Waitings made x x' (numbering.waiting x d.stage) (numbering.waiting x' d'.stage))) a
     (subst (λ (d' : Declaration). X m d'.mutable × (is_known d'.stage ≡ false) × ((x x' : ℕ) → Waitings made x x' (Some (x, p)) (numbering.waiting x' d'.stage))) b (w, refl, λ x x'. both_wait i))
 
-module _ (R : Renaming) (W : Mutability) (apart : IsOneToOne R) (even : (n m : ℕ) (b : Bool) → W n m b b) (P : Instead → Type 0) (such : Body → Bool) where
+module _ (R : Renaming) (W : Mutability) (apart : IsOneToOne R) (even : (n m : ℕ) (b : Bool) → W n m b b) (P : List Piece → Instead → Type 0) (such : Body → Bool) (whole whole' : Placed) where
   -- the declarations of two variables that correspond
   pub record Alikes (made : List Piece) (c c' : Cursor) (x x' : ℕ) : Type 0 where
     pub mutable : W x x' (declaration c x).mutable (declaration c' x').mutable
@@ -88,10 +89,10 @@ module _ (R : Renaming) (W : Mutability) (apart : IsOneToOne R) (even : (n m : �
 
     module _ (H : alike.Holes) (only : OnlySpecial H) (plain_holes : KeptHoles H) (untyped : (R : Renaming) (s : Span) (t t' : Option Written) → H.annotation R s t t' → ⊥) (holes : Numbers → ren.Holes) where
       abbrev Like : Numbers → Exp → Exp → Type 0
-      Like = ExpLike R W apart even P such H only untyped holes
+      Like = ExpLike R W apart even P such whole whole' H only untyped holes
 
       abbrev EKept : Bool → Site → Expression → Expression → Type 0
-      EKept = ExpKept R W apart even P such H only untyped holes
+      EKept = ExpKept R W apart even P such whole whole' H only untyped holes
 
       var_at : (q : Numbers) (n : Node) (u u' : Use) (k : ℕ) (s : Span) (t : Site) → use_at q.by u ≡ u' → q.by.nodes n.number ≡ k → n.site ≡ t → Like q (named.var n u) (named.var (record { number = k; span = s; site = t }) u')
       var_at q n u u' k s t e d g =
@@ -115,28 +116,28 @@ module _ (R : Renaming) (W : Mutability) (apart : IsOneToOne R) (even : (n m : �
       next s t c c' st = next_node R W apart even s s t t c c' st
 
       pub variable_kept : (s : Span) (x : List ℕ) (m : Bool) (t : Site) → EKept m t (plain.var s x) (plain.var s x)
-      variable_kept s x m t made c c' st h =
+      variable_kept s x m t made c c' come come' st h =
           let d = (a_node s t c).1 in let d' = (a_node s t c').1 in let e = (an_entry d).1 in let e' = (an_entry d').1 in
           let st1 = next_entry R W d d' (next s t c c' st) in let j = first (an_entry d).0.0 in let j' = first (an_entry d').0.0 in
           a_leaf_with_entry s s t t c c' (named.var (a_node s t c).0 (use_of j (declaration e j))) (named.var (a_node s t c').0 (use_of j' (declaration e' j'))) st1 (refl, refl)
           (λ q f w. var_at q (a_node s t c).0 _ _ c'.number s t (used_alike e e' j j' st1 (var_part plain_holes h) q f) w refl)
 
       pub break_kept : (s : Span) (l : Option Ident) (m : Bool) (t : Site) → EKept m t (plain.break s l) (plain.break s l)
-      break_kept s l m t made c c' st h =
+      break_kept s l m t made c c' come come' st h =
           let d = (a_node s t c).1 in let d' = (a_node s t c').1 in let e = (an_entry d).1 in let e' = (an_entry d').1 in
           let st1 = next_entry R W d d' (next s t c c' st) in let j = first (an_entry d).0.0 in let j' = first (an_entry d').0.0 in let r = break_part plain_holes h in
           in_front_of (a_leaf_with_entry {T = SameExp} {S = Like} s s t t c c' (named.break (a_node s t c).0 j) (named.break (a_node s t c').0 j') st1 (refl, refl) (λ q f w. break_at q (a_node s t c).0 _ _ c'.number s t (f.loops j j' r) w refl))
           (numbering.led_to j e) (numbering.led_to j' e') refl refl (alike_led R W apart even st1 j j' r)
 
       pub continue_kept : (s : Span) (l : Option Ident) (m : Bool) (t : Site) → EKept m t (plain.continue s l) (plain.continue s l)
-      continue_kept s l m t made c c' st h =
+      continue_kept s l m t made c c' come come' st h =
           let d = (a_node s t c).1 in let d' = (a_node s t c').1 in
           let st1 = next_entry R W d d' (next s t c c' st) in let j = first (an_entry d).0.0 in let j' = first (an_entry d').0.0 in
           a_leaf_with_entry s s t t c c' (named.continue (a_node s t c).0 j) (named.continue (a_node s t c').0 j') st1 (refl, refl) (λ q f w. continue_at q (a_node s t c).0 _ _ c'.number s t (f.loops j j' (continue_part plain_holes h)) w refl)
 
-      pub return_kept : ((R : Renaming) (n : Node) (o : named.Else) (e' : Exp) → H.returned R n o e' → ⊥) → ((q : Numbers) → (holes q).returns) → (s : Span) (o o' : OptionalExpression) (m : Bool) (t : Site) → OptionalKept R W apart even P such H only untyped holes Site.Expects o o' → EKept m t (plain.return s o) (plain.return s o')
-      return_kept none_returned returns s o o' m t k made c c' st h =
-          becomes (λ x. named.return (a_node s t c).0 x) (λ x. named.return (a_node s t c').0 x) (behind_node s s t t c c' (k _ (a_node s t c).1 (a_node s t c').1 (next s t c c' st) (return_part only none_returned h))) (λ z. (refl, refl))
+      pub return_kept : ((R : Renaming) (n : Node) (o : named.Else) (e' : Exp) → H.returned R n o e' → ⊥) → ((q : Numbers) → (holes q).returns) → (s : Span) (o o' : OptionalExpression) (m : Bool) (t : Site) → OptionalKept R W apart even P such whole whole' H only untyped holes Site.Expects o o' → EKept m t (plain.return s o) (plain.return s o')
+      return_kept none_returned returns s o o' m t k made c c' come come' st h =
+          becomes (λ x. named.return (a_node s t c).0 x) (λ x. named.return (a_node s t c').0 x) (behind_node s s t t c c' (k _ (a_node s t c).1 (a_node s t c').1 (goes_in come 0 refl) (goes_in come' 0 refl) (next s t c c' st) (return_part only none_returned h))) (λ z. (refl, refl))
           (λ q a a' f w. at_node q (λ n. Like q (named.return (a_node s t c).0 a) (named.return n a')) c.number c'.number s s t w.0 (ren.RenumberedExp.return (returns q) w.1))
 
       -- ---- an assignment of a variable, which may give it its type
@@ -170,7 +171,7 @@ module _ (R : Renaming) (W : Mutability) (apart : IsOneToOne R) (even : (n m : �
           (ren.RenumberedExp.gives {n = n} {p = p} {s = s} {t = z} h))))))
 
       pub assign_kept_alike : (s z : Span) (y : List ℕ) (e e' : Expression) (m : Bool) (t : Site) → ((i : Site) → EKept false i e e') → EKept m t (plain.assign s (plain.var z y) e) (plain.assign s (plain.var z y) e')
-      assign_kept_alike s z y e e' m t ke made c c' st h = by (numbering.waiting j (declaration E j).stage) (numbering.waiting j' (declaration E' j').stage) refl refl h
+      assign_kept_alike s z y e e' m t ke made c c' come come' st h = by (numbering.waiting j (declaration E j).stage) (numbering.waiting j' (declaration E' j').stage) refl refl h
         where
           D : Cursor
           D = (a_node s t c).1
@@ -242,13 +243,13 @@ module _ (R : Renaming) (W : Mutability) (apart : IsOneToOne R) (even : (n m : �
 
           by : (w w' : Option (ℕ × ℕ)) → w ≡ numbering.waiting j (declaration E j).stage → w' ≡ numbering.waiting j' (declaration E' j').stage → Given w w' → Goal w w'
           by None None a a' h =
-              let g = assign_parts only h in let x = variable_kept z y false Site.Place _ D D' (next s t c c' st) g.0 in let v = ke Site.Expects _ E E' x.step g.1 in
+              let g = assign_parts only h in let x = variable_kept z y false Site.Place _ D D' (goes_in come 0 refl) (goes_in come' 0 refl) (next s t c c' st) g.0 in let v = ke Site.Expects _ E E' (subst (λ (o : Option (ℕ × ℕ)). Comes whole (an_expression false (assigned_at o) e) E) (sym a) (goes_in come 1 refl)) (subst (λ (o : Option (ℕ × ℕ)). Comes whole' (an_expression false (assigned_at o) e') E') (sym a') (goes_in come' 1 refl)) x.step g.1 in
               becomes (λ x. named.assign (a_node s t c).0 x.0 x.1) (λ x. named.assign (a_node s t c').0 x.0 x.1) (behind_node s s t t c c' (both x v)) (λ x. (refl, same_or x.0.1 x.1.1))
               (λ q a a' f w. at_node q (λ n. Like q (named.assign (a_node s t c).0 a.0 a.1) (named.assign n a'.0 a'.1)) c.number c'.number s s t w.0 (ren.RenumberedExp.assign w.1.0 w.1.1))
           by (Some w) (Some w') a a' h =
               let g = gives_parts only h in
               let r : R.variable w.0 w'.0 ≡ true = whole_alike g.left g.left' _ _ _ _ g.like g.is g.is' in
-              let x = ke Site.Reborrows _ E E' st1 g.value in
+              let x = ke Site.Reborrows _ E E' (subst (λ (o : Option (ℕ × ℕ)). Comes whole (an_expression false (assigned_at o) e) E) (sym a) (goes_in come 1 refl)) (subst (λ (o : Option (ℕ × ℕ)). Comes whole' (an_expression false (assigned_at o) e') E') (sym a') (goes_in come' 1 refl)) st1 g.value in
               let v = give_it w.0 w'.0 r x _ _ (alikes (of_expression false Site.Reborrows e E).1 (of_expression false Site.Reborrows e' E').1 w.0 w'.0 x.step r).waiting in
               becomes (λ x. x) (λ x. x) (behind_node s s t t c c' (behind_node z z Site.Place Site.Place D D' (behind_entry A A' v))) (λ x. x) (λ q a a' f k. k.1.1 k.0 k.1.0)
           by None (Some w') a a' h =
@@ -267,9 +268,9 @@ module _ (R : Renaming) (W : Mutability) (apart : IsOneToOne R) (even : (n m : �
       -- ---- all of these; a block is a parameter
 
       pub kept_places : ((R : Renaming) (n : Node) (o : named.Else) (e' : Exp) → H.returned R n o e' → ⊥) → ((q : Numbers) → (holes q).returns) → (N : Claims) (b : Body → Body → Body)
-          → ((own : Names) (ls : List Around) (s : Span) (t : Site) (ss ss' : plain.Statements) (o o' : OptionalExpression) → N.block own ls (plain.body s ss o) → StatementsKept R W apart even P such H only untyped holes ss ss' → OptionalKept R W apart even P such H only untyped holes t o o'
-          → BodyKept R W apart even P such H only untyped holes t (plain.body s ss o) (b (plain.body s ss o) (plain.body s ss' o')))
-          → Places R W apart even P such H only untyped holes (blocks_alone b) N
+          → ((own : Names) (ls : List Around) (s : Span) (t : Site) (ss ss' : plain.Statements) (o o' : OptionalExpression) → N.block own ls (plain.body s ss o) → StatementsKept R W apart even P such whole whole' H only untyped holes ss ss' → OptionalKept R W apart even P such whole whole' H only untyped holes t o o'
+          → BodyKept R W apart even P such whole whole' H only untyped holes t (plain.body s ss o) (b (plain.body s ss o) (plain.body s ss' o')))
+          → Places R W apart even P such whole whole' H only untyped holes (blocks_alone b) N
       kept_places none_returned returns N b k = record {
         variable = λ own s x n m t. variable_kept s x m t;
         broken = λ own ls s l n m t. break_kept s l m t;
@@ -285,11 +286,11 @@ module _ (R : Renaming) (W : Mutability) (apart : IsOneToOne R) (even : (n m : �
       }
 
       -- a block whose parts are alike
-      pub parts_kept : (s : Span) (t : Site) (ss ss' : plain.Statements) (o o' : OptionalExpression) → StatementsKept R W apart even P such H only untyped holes ss ss' → OptionalKept R W apart even P such H only untyped holes t o o' → (made : List Piece) (c c' : Cursor) → InStep R W made c c'
+      pub parts_kept : (s : Span) (t : Site) (ss ss' : plain.Statements) (o o' : OptionalExpression) → StatementsKept R W apart even P such whole whole' H only untyped holes ss ss' → OptionalKept R W apart even P such whole whole' H only untyped holes t o o' → (made : List Piece) (c c' : Cursor) → Comes whole (a_body t (plain.body s ss o)) c → Comes whole' (a_body t (plain.body s ss' o')) c' → InStep R W made c c'
           → alike.LikeStatements H R (numbering.of_statements ss (a_node s t c).1).0 (numbering.of_statements ss' (a_node s t c').1).0
           → alike.LikeElse H R (numbering.of_optional t o (numbering.of_statements ss (a_node s t c).1).1).0 (numbering.of_optional t o' (numbering.of_statements ss' (a_node s t c').1).1).0
-          → Kept R W P (count_statements such ss + count_optional such o) made SameBody (BodyLike R W apart even P such H only untyped holes) c c' (numbering.of_body t (plain.body s ss o) c) (numbering.of_body t (plain.body s ss' o') c')
-      parts_kept s t ss ss' o o' ks ko made c c' st h g =
-          let y = ks _ (a_node s t c).1 (a_node s t c').1 (next s t c c' st) h in let z = ko _ (numbering.of_statements ss (a_node s t c).1).1 (numbering.of_statements ss' (a_node s t c').1).1 y.step g in
+          → Kept R W P (count_statements such ss + count_optional such o) made SameBody (BodyLike R W apart even P such whole whole' H only untyped holes) c c' (numbering.of_body t (plain.body s ss o) c) (numbering.of_body t (plain.body s ss' o') c')
+      parts_kept s t ss ss' o o' ks ko made c c' come come' st h g =
+          let y = ks _ (a_node s t c).1 (a_node s t c').1 (goes_in come 0 refl) (goes_in come' 0 refl) (next s t c c' st) h in let z = ko _ (numbering.of_statements ss (a_node s t c).1).1 (numbering.of_statements ss' (a_node s t c').1).1 (goes_in come 1 refl) (goes_in come' 1 refl) y.step g in
           becomes (λ x. named.body (a_node s t c).0 x.0 x.1) (λ x. named.body (a_node s t c').0 x.0 x.1) (behind_node s s t t c c' (both y z)) (λ x. (tails (numbering.of_optional t o (numbering.of_statements ss (a_node s t c).1).1).0 (numbering.of_optional t o' (numbering.of_statements ss' (a_node s t c').1).1).0 x.0 x.1, same_or x.0 x.1.1))
-          (λ q a a' f w. at_node q (λ n. BodyLike R W apart even P such H only untyped holes q (named.body (a_node s t c).0 a.0 a.1) (named.body n a'.0 a'.1)) c.number c'.number s s t w.0 (ren.RenumberedBody.body w.1.0 w.1.1))
+          (λ q a a' f w. at_node q (λ n. BodyLike R W apart even P such whole whole' H only untyped holes q (named.body (a_node s t c).0 a.0 a.1) (named.body n a'.0 a'.1)) c.number c'.number s s t w.0 (ren.RenumberedBody.body w.1.0 w.1.1))

@@ -29,4 +29,16 @@ mod Whole
 mod Handed
 pub mod Deeds
 pub mod GoingOn
+mod PlannedDeeds
+pub mod PlannedRuns
+pub mod TextStands
+pub mod CallFits
+mod Asked
+mod Occurring
+pub mod RunAsked
+pub mod Quiet
+pub mod ToldLets
+pub mod Declared
+pub mod HandedOn
+pub mod Few
 pub mod NoneWaiting

@@ -12,7 +12,7 @@ use Rattle.rx_typed.specs.Named.{diverges, is_place, never, some_diverges, state
 use Rattle.rx_hoist_extraction.specs.Plan.{by_mut, names_of, to_next, to_return, Exit, Mode, Param, Variable}
 use Rattle.rx_hoist_extraction.specs.Names.{Names}
 use Rattle.rx_hoist_extraction.specs.Values.{types_of, value_type, variables_held, Value}
-use Rattle.rx_hoist_extraction.specs.NewFunction.{passed, passed_types}
+use Rattle.rx_hoist_extraction.specs.NewFunction.{passed_types}
 use Rattle.rx_typeck_solver.specs.declared.facts.Subject.TheVariants as subject
 use Rattle.rx_typeck_solver.specs.Facts.{KnownItems}
 use Rattle.rx_typeck_typed.specs.Asking.{type_of}

@@ -25,7 +25,7 @@ use Rattle.rx_engine_changed.proofs.Steps.{Ranges, none_ranges, more_range, rang
 use Rattle.rx_engine_changed.proofs.Parts.{reference_part, item_part, bind_part, variant_pattern_parts, field_pattern_parts}
 use Rattle.rx_engine_changed.proofs.Kept.{Kept, Anything, SameAnnotation, WholeLike, no_whole, a_whole, gives, becomes, both, behind_node, behind_entry, in_front_of, at_node, a_leaf, a_leaf_with_entry}
 
-module _ (R : Renaming) (W : Mutability) (apart : IsOneToOne R) (even : (n m : ℕ) (b : Bool) → W n m b b) (P : Instead → Type 0) where
+module _ (R : Renaming) (W : Mutability) (apart : IsOneToOne R) (even : (n m : ℕ) (b : Bool) → W n m b b) (P : List Piece → Instead → Type 0) where
   -- ---- types
 
   abbrev TypeLike : Numbers → Written → Written → Type 0

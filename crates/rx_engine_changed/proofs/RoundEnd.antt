@@ -26,8 +26,9 @@ use Rattle.rx_engine_typing.specs.Renumbered.{RenumberedBody, RenumberedElse, Re
 use Rattle.rx_engine_holes.specs.Run.{append}
 use Rattle.rx_engine_holes.specs.Tail.TailBlock.{a_tail}
 use Rattle.rx_engine_changed.specs.Beside.{Instead, for_a_run, for_an_end, Piece, paired, replaced, Grows, stays, and_instead, newest, Numbers, IsOneToOne}
+use Rattle.rx_engine_changed.specs.Comes.{a_body, some_statements, the_whole, Comes, Placed, RunComes}
 use Rattle.rx_engine_changed.specs.Stages.{Mutability, InStep}
-use Rattle.rx_engine_changed.specs.Once.{IsLastCall}
+use Rattle.rx_engine_changed.specs.Once.{IsToldLast}
 use Rattle.rx_engine_changed.specs.Round.{block_ending, round, with_others, GoesOnLast, OneBlock, SameEnd}
 use Rattle.rx_engine_changed.proofs.Lists.{grows_on, before}
 use Rattle.rx_engine_changed.proofs.Steps.{alike_later, next_node, one_node}
@@ -42,12 +43,16 @@ use Rattle.rx_engine_changed.proofs.Rows.{many_numbered, many_alike, row, number
 use Rattle.rx_engine_changed.proofs.RoundRun.{BodyCases, a_hole, a_copy, cases_of, other_place}
 
 module _ (R : Renaming) (W : Mutability) (apart : IsOneToOne R) (even : (n m : ℕ) (b : Bool) → W n m b b) (same : (n m : ℕ) (a b : Bool) → W n m a b → b ≡ a)
-    (I I' : Inside) (s0 : Span) (front run call : List Statement) (o0 o1 : OptionalExpression) (labels : List (Option Ident)) (T : ToldLast) (base : Numbers → ren.Holes) (returns0 : (q : Numbers) → (base q).returns) where
+    (I I' : Inside) (s0 : Span) (front run call : List Statement) (o0 o1 : OptionalExpression) (labels : List (Option Ident)) (T : ToldLast) (base : Numbers → ren.Holes) (returns0 : (q : Numbers) → (base q).returns) (A A' : Placed) where
   abbrev pub old : Body
   old = block_ending s0 front run o0
 
   abbrev pub new : Body
   new = block_ending s0 front call o1
+
+  -- both texts come to their blocks
+  abbrev pub Both : Cursor → Cursor → Type 0
+  Both c c' = RunComes A old front c × RunComes A' new front c'
 
   abbrev pub H : alike.Holes
   H = put_in I I' old new labels (by_an_end T I I' front run call o0 o1)
@@ -75,11 +80,11 @@ module _ (R : Renaming) (W : Mutability) (apart : IsOneToOne R) (even : (n m : �
   copies = record { no_variable = λ R n n' u u' h. h; no_break = λ R n n' l l' h. h; no_continue = λ R n n' l l' h. h }
 
   abbrev BKept : Site → Body → Body → Type 0
-  BKept = BodyKept R W apart even (IsLastCall R W run call o0 o1) (at_place s0) H none_else untyped holes
+  BKept = BodyKept R W apart even (IsToldLast R W T I I' Both front run call o0 o1) (at_place s0) A A' H none_else untyped holes
 
-  module _ (goes_on : GoesOnLast R W T I I' front run call o0 o1) where
+  module _ (goes_on : GoesOnLast R W T I I' Both front run call o0 o1) where
     -- where the parts are told
-    module _ (made : List Piece) (t : Site) (c c' : Cursor) (st : InStep R W made c c') where
+    module _ (made : List Piece) (t : Site) (c c' : Cursor) (come : Comes A (a_body t old) c) (come' : Comes A' (a_body t new) c') (st : InStep R W made c c') where
       abbrev D : Cursor
       D = (a_node s0 t c).1
 
@@ -125,7 +130,7 @@ module _ (R : Renaming) (W : Mutability) (apart : IsOneToOne R) (even : (n m : �
 
       -- rows as the rules have them
       an_end : (q : Numbers) (k l : ℕ) (a a' x x' : named.Statements) (o o' : Else) → q.instead ≡ for_an_end N s0 (some_diverges a) x o x' o' k l → q.by.nodes c.number ≡ c'.number → RenumberedStatements q.by q.loops (base q) a a'
-          → BodyLike R W apart even (IsLastCall R W run call o0 o1) (at_place s0) H none_else untyped holes q (named.body N (joined a x) o) (named.body N' (joined a' x') o')
+          → BodyLike R W apart even (IsToldLast R W T I I' Both front run call o0 o1) (at_place s0) A A' H none_else untyped holes q (named.body N (joined a x) o) (named.body N' (joined a' x') o')
       an_end q k l a a' x x' o o' e d h =
           let i = for_an_end N s0 (some_diverges a) x o x' o' k l in
           subst (λ (i : Instead). RenumberedBody q.by q.loops (with_others q.by q.loops (base q) i) (named.body N (joined a x) o) (named.body N' (joined a' x') o')) (sym e)
@@ -139,20 +144,21 @@ module _ (R : Renaming) (W : Mutability) (apart : IsOneToOne R) (even : (n m : �
       one_more = let x = no_statements_count (as_statements front) in omega (arith, x)
 
       filled : (p : Place) (h : EndsOf R (length front) (EndFor T I I' front run call o0 o1 p R) N N' (joined F.0 G.0) (joined F'.0 G'.0) O.0 O'.0)
-          → Kept R W (IsLastCall R W run call o0 o1) 1 made SameBody (BodyLike R W apart even (IsLastCall R W run call o0 o1) (at_place s0) H none_else untyped holes) c c' (named.body N (joined F.0 G.0) O.0, O.1) (named.body N' (joined F'.0 G'.0) O'.0, O'.1)
+          → Kept R W (IsToldLast R W T I I' Both front run call o0 o1) 1 made SameBody (BodyLike R W apart even (IsToldLast R W T I I' Both front run call o0 o1) (at_place s0) A A' H none_else untyped holes) c c' (named.body N (joined F.0 G.0) O.0, O.1) (named.body N' (joined F'.0 G'.0) O'.0, O'.1)
       filled p h =
           let a = same_front h.front F.0 h.run G.0 (h.so_many ∙ sym (many_numbered front D)) (sym h.is) in
           let a' = same_front h.front' F'.0 h.call G'.0 (many_alike h.fronts ∙ h.so_many ∙ sym (many_numbered front D')) (sym h.is') in
           let l = subst (λ (z : named.Statements). alike.LikeStatements alike.no_holes R z F'.0) a.0 (subst (λ (z : named.Statements). alike.LikeStatements alike.no_holes R h.front z) a'.0 h.fronts) in
           let s = subst (λ (z : named.Statements). EndFor T I I' front run call o0 o1 p R z O.0 G'.0 O'.0) a.1 (subst (λ (z : named.Statements). EndFor T I I' front run call o0 o1 p R h.run O.0 z O'.0) a'.1 h.stands) in
-          let Y = copied_statements R W apart even (IsLastCall R W run call o0 o1) same base returns0 (as_statements front) _ D D' (next_node R W apart even s0 s0 t t c c' st) l in
-          let g = goes_on Y.now F.1 F'.1 p t Y.step s in
+          let Y = copied_statements R W apart even (IsToldLast R W T I I' Both front run call o0 o1) same base returns0 (some_statements (as_statements front), D) (some_statements (as_statements front), D') (as_statements front) _ D D' the_whole the_whole (next_node R W apart even s0 s0 t t c c' st) l in
+          let there : Both F.1 F'.1 = (record { site = t; start = c; comes = come; is = refl }, record { site = t; start = c'; comes = come'; is = refl }) in
+          let g = goes_on Y.now F.1 F'.1 p t there Y.step s in
           let up = (rises_on (statements_rises (as_statements run) F.1) (optional_rises o0 t G.1)).grows in let up' = (rises_on (statements_rises (as_statements call) F'.1) (optional_rises o1 t G'.1)).grows in
           let i = for_an_end N s0 (some_diverges F.0) G.0 O.0 G'.0 O'.0 F'.1.number O'.1.number in
           let own : Grows Y.now F.1.number F'.1.number (replaced i ∷ Y.now) O.1.number O'.1.number
           = and_instead {n = F.1.number} {n' = F'.1.number} (stays (omega arith) (omega arith)) up (omega arith) up' (omega arith) in record {
             now = replaced i ∷ Y.now;
-            adds = adds_so one_more (adds_pair (adds_on Y.adds (adds_other i (record { made = Y.now; cursor = F.1; cursor' = F'.1; step = Y.step; node = N; front = F.0; site = t; is = refl; ends = g.1 }))));
+            adds = adds_so one_more (adds_pair (adds_on Y.adds (adds_other i (record { is_call = record { cursor = F.1; cursor' = F'.1; step = Y.step; node = N; front = F.0; site = t; sited = refl; is = refl; ends = g.1 }; comes = there; place = p; stands = s }))));
             grows = grows_on (grows_on (one_node c c') Y.grows) own;
             step = alike_later R W apart even g.0 own;
             same = (end_never F.0 F'.0 G.0 G'.0 O.0 O'.0 Y.same g.1, end_diverges F.0 F'.0 G.0 G'.0 O.0 O'.0 Y.same g.1);
@@ -162,10 +168,10 @@ module _ (R : Renaming) (W : Mutability) (apart : IsOneToOne R) (even : (n m : �
           }
 
     the_block : (t : Site) → BKept t old new
-    the_block t made c c' st h = subst (λ (n : ℕ). Kept R W (IsLastCall R W run call o0 o1) n made SameBody (BodyLike R W apart even (IsLastCall R W run call o0 o1) (at_place s0) H none_else untyped holes) c c' (of_body t old c) (of_body t new c'))
+    the_block t made c c' come come' st h = subst (λ (n : ℕ). Kept R W (IsToldLast R W T I I' Both front run call o0 o1) n made SameBody (BodyLike R W apart even (IsToldLast R W T I I' Both front run call o0 o1) (at_place s0) A A' H none_else untyped holes) c c' (of_body t old c) (of_body t new c'))
         (sym (one_there (at_place s0) old (same_itself s0))) (by (cases_of h))
       where
-        by : BodyCases H R s0 (of_body t old c).0 (of_body t new c').0 → Kept R W (IsLastCall R W run call o0 o1) 1 made SameBody (BodyLike R W apart even (IsLastCall R W run call o0 o1) (at_place s0) H none_else untyped holes) c c' (of_body t old c) (of_body t new c')
+        by : BodyCases H R s0 (of_body t old c).0 (of_body t new c').0 → Kept R W (IsToldLast R W T I I' Both front run call o0 o1) 1 made SameBody (BodyLike R W apart even (IsToldLast R W T I I' Both front run call o0 o1) (at_place s0) A A' H none_else untyped holes) c c' (of_body t old c) (of_body t new c')
         by (a_copy f) = absurd (other_place s0 s0 f refl)
         by (a_hole z) = go (of_statements (as_statements (front ++ run)) (a_node s0 t c).1) (of_statements (as_statements (front ++ call)) (a_node s0 t c').1)
             (numbered_row front run (a_node s0 t c).1) (numbered_row front call (a_node s0 t c').1)
@@ -173,30 +179,30 @@ module _ (R : Renaming) (W : Mutability) (apart : IsOneToOne R) (even : (n m : �
           where
             go : (x x' : named.Statements × Cursor) → x ≡ row front run (a_node s0 t c).1 → x' ≡ row front call (a_node s0 t c').1
                 → EndsOf R (length front) (EndFor T I I' front run call o0 o1 z.place R) (a_node s0 t c).0 (a_node s0 t c').0 x.0 x'.0 (of_optional t o0 x.1).0 (of_optional t o1 x'.1).0
-                → Kept R W (IsLastCall R W run call o0 o1) 1 made SameBody (BodyLike R W apart even (IsLastCall R W run call o0 o1) (at_place s0) H none_else untyped holes) c c' (named.body (a_node s0 t c).0 x.0 (of_optional t o0 x.1).0, (of_optional t o0 x.1).1) (named.body (a_node s0 t c').0 x'.0 (of_optional t o1 x'.1).0, (of_optional t o1 x'.1).1)
+                → Kept R W (IsToldLast R W T I I' Both front run call o0 o1) 1 made SameBody (BodyLike R W apart even (IsToldLast R W T I I' Both front run call o0 o1) (at_place s0) A A' H none_else untyped holes) c c' (named.body (a_node s0 t c).0 x.0 (of_optional t o0 x.1).0, (of_optional t o0 x.1).1) (named.body (a_node s0 t c').0 x'.0 (of_optional t o1 x'.1).0, (of_optional t o1 x'.1).1)
             go x x' e e' =
                 subst (λ (y : named.Statements × Cursor). EndsOf R (length front) (EndFor T I I' front run call o0 o1 z.place R) (a_node s0 t c).0 (a_node s0 t c').0 y.0 x'.0 (of_optional t o0 y.1).0 (of_optional t o1 x'.1).0
-                → Kept R W (IsLastCall R W run call o0 o1) 1 made SameBody (BodyLike R W apart even (IsLastCall R W run call o0 o1) (at_place s0) H none_else untyped holes) c c' (named.body (a_node s0 t c).0 y.0 (of_optional t o0 y.1).0, (of_optional t o0 y.1).1) (named.body (a_node s0 t c').0 x'.0 (of_optional t o1 x'.1).0, (of_optional t o1 x'.1).1)) (sym e)
+                → Kept R W (IsToldLast R W T I I' Both front run call o0 o1) 1 made SameBody (BodyLike R W apart even (IsToldLast R W T I I' Both front run call o0 o1) (at_place s0) A A' H none_else untyped holes) c c' (named.body (a_node s0 t c).0 y.0 (of_optional t o0 y.1).0, (of_optional t o0 y.1).1) (named.body (a_node s0 t c').0 x'.0 (of_optional t o1 x'.1).0, (of_optional t o1 x'.1).1)) (sym e)
                 (subst (λ (y : named.Statements × Cursor). EndsOf R (length front) (EndFor T I I' front run call o0 o1 z.place R) (a_node s0 t c).0 (a_node s0 t c').0 (row front run (a_node s0 t c).1).0 y.0 (of_optional t o0 (row front run (a_node s0 t c).1).1).0 (of_optional t o1 y.1).0
-                → Kept R W (IsLastCall R W run call o0 o1) 1 made SameBody (BodyLike R W apart even (IsLastCall R W run call o0 o1) (at_place s0) H none_else untyped holes) c c' (named.body (a_node s0 t c).0 (row front run (a_node s0 t c).1).0 (of_optional t o0 (row front run (a_node s0 t c).1).1).0, (of_optional t o0 (row front run (a_node s0 t c).1).1).1) (named.body (a_node s0 t c').0 y.0 (of_optional t o1 y.1).0, (of_optional t o1 y.1).1)) (sym e')
-                (filled made t c c' st z.place))
+                → Kept R W (IsToldLast R W T I I' Both front run call o0 o1) 1 made SameBody (BodyLike R W apart even (IsToldLast R W T I I' Both front run call o0 o1) (at_place s0) A A' H none_else untyped holes) c c' (named.body (a_node s0 t c).0 (row front run (a_node s0 t c).1).0 (of_optional t o0 (row front run (a_node s0 t c).1).1).0, (of_optional t o0 (row front run (a_node s0 t c).1).1).1) (named.body (a_node s0 t c').0 y.0 (of_optional t o1 y.1).0, (of_optional t o1 y.1).1)) (sym e')
+                (filled made t c c' come come' st z.place))
 
     -- the function round it, where each block with its place is it
     module _ (N : Claims) (placed : OneBlock N old) where
-      blocks : (own : Names) (ls : List Around) (s : Span) (t : Site) (ss ss' : Statements) (o o' : OptionalExpression) → N.block own ls (plain.body s ss o) → StatementsKept R W apart even (IsLastCall R W run call o0 o1) (at_place s0) H none_else untyped holes ss ss' → OptionalKept R W apart even (IsLastCall R W run call o0 o1) (at_place s0) H none_else untyped holes t o o'
+      blocks : (own : Names) (ls : List Around) (s : Span) (t : Site) (ss ss' : Statements) (o o' : OptionalExpression) → N.block own ls (plain.body s ss o) → StatementsKept R W apart even (IsToldLast R W T I I' Both front run call o0 o1) (at_place s0) A A' H none_else untyped holes ss ss' → OptionalKept R W apart even (IsToldLast R W T I I' Both front run call o0 o1) (at_place s0) A A' H none_else untyped holes t o o'
           → BKept t (plain.body s ss o) (if same_place s0 s then new else plain.body s ss' o')
       blocks own ls s t ss ss' o o' claim ks ko = by (same_place s0 s) refl
         where
           copy : same_place s0 s ≡ false → BKept t (plain.body s ss o) (plain.body s ss' o')
-          copy e made c c' st h =
-              subst (λ (n : ℕ). Kept R W (IsLastCall R W run call o0 o1) n made SameBody (BodyLike R W apart even (IsLastCall R W run call o0 o1) (at_place s0) H none_else untyped holes) c c' (of_body t (plain.body s ss o) c) (of_body t (plain.body s ss' o') c'))
+          copy e made c c' come come' st h =
+              subst (λ (n : ℕ). Kept R W (IsToldLast R W T I I' Both front run call o0 o1) n made SameBody (BodyLike R W apart even (IsToldLast R W T I I' Both front run call o0 o1) (at_place s0) A A' H none_else untyped holes) c c' (of_body t (plain.body s ss o) c) (of_body t (plain.body s ss' o') c'))
               (sym (those_inside (at_place s0) s ss o e)) (
               let g = body_cases {H = H} (λ z. other_place s0 s e (ap (λ (b : named.Body). (named.body_node b).span) z.first.is)) h in
-              parts_kept R W apart even (IsLastCall R W run call o0 o1) (at_place s0) same H none_else copies untyped holes s t ss ss' o o' ks ko made c c' st g.0 g.1)
+              parts_kept R W apart even (IsToldLast R W T I I' Both front run call o0 o1) (at_place s0) A A' same H none_else copies untyped holes s t ss ss' o o' ks ko made c c' come come' st g.0 g.1)
 
           by : (z : Bool) → same_place s0 s ≡ z → BKept t (plain.body s ss o) (if z then new else plain.body s ss' o')
           by false e = copy e
           by true e = subst (λ (b : Body). BKept t b new) (sym (placed own ls (plain.body s ss o) claim e)) (the_block t)
 
-      pub round_places : Places R W apart even (IsLastCall R W run call o0 o1) (at_place s0) H none_else untyped holes (blocks_alone (λ b changed. if same_place s0 (body_span b) then new else changed)) N
-      round_places = kept_places R W apart even (IsLastCall R W run call o0 o1) (at_place s0) same H none_else copies untyped holes none_returned returns N (λ b changed. if same_place s0 (body_span b) then new else changed) blocks
+      pub round_places : Places R W apart even (IsToldLast R W T I I' Both front run call o0 o1) (at_place s0) A A' H none_else untyped holes (blocks_alone (λ b changed. if same_place s0 (body_span b) then new else changed)) N
+      round_places = kept_places R W apart even (IsToldLast R W T I I' Both front run call o0 o1) (at_place s0) A A' same H none_else copies untyped holes none_returned returns N (λ b changed. if same_place s0 (body_span b) then new else changed) blocks

@@ -27,7 +27,7 @@ still_on (now_known m k) (now_known n l) = now_known (n ∙ m) l
 read_same : (vs ws : List Declaration) (n m : ℕ) (d : Declaration) → slice_get vs n ≡ slice_get ws m → get_or vs n d ≡ get_or ws m d
 read_same vs ws n m d e = read vs n d ∙ (ap (or_else d) e ∙ sym (read ws m d))
 
-there_is : (vs : List Declaration) (n : ℕ) → n < length vs → (x : Declaration) × (slice_get vs n ≡ Some x)
+pub there_is : (vs : List Declaration) (n : ℕ) → n < length vs → (x : Declaration) × (slice_get vs n ≡ Some x)
 there_is [] n h = absurd (omega (arith, h))
 there_is (v ∷ vs) zero h = (v, refl)
 there_is (v ∷ vs) (suc n) h = there_is vs n (omega (arith, h))
@@ -113,7 +113,7 @@ mutual
   types_keep named.no_written p q h = keeps_so (keeps_itself p) h
   types_keep (named.written_and t ts) p q h = keeps_on (type_keeps t p h.0 h.1) (types_keep ts h.0 q h.2)
 
-optional_type_keeps : (w : Option Written) (p q : Spot) → NumberedOptionalType p w q → Keeps p q
+pub optional_type_keeps : (w : Option Written) (p q : Spot) → NumberedOptionalType p w q → Keeps p q
 optional_type_keeps None p q h = keeps_so (keeps_itself p) h
 optional_type_keeps (Some w) p q h = type_keeps w p q h
 

@@ -110,7 +110,7 @@ row_later d ts a h = record {
 abbrev pub RowFew : ℕ → ℕ → Type 0
 RowFew d k = (i : ℕ) → i < k → number (d + i) ≡ d + i
 
-next_number : (d i : ℕ) → d + suc i ≡ suc d + i
+pub next_number : (d i : ℕ) → d + suc i ≡ suc d + i
 next_number d i = omega arith
 
 pub row_behind : {B : Context} {p : Spot} (d : ℕ) (t : Typ) (ts : List Typ) → RowStands B p d (t ∷ ts) → RowStands B p (suc d) ts

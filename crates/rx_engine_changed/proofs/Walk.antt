@@ -23,6 +23,7 @@ use Rattle.rx_engine_typing.specs.Renumbered as ren
 use Rattle.rx_engine_typing.specs.Renumbered.{RenumberedPattern, RenumberedExp, RenumberedExps, RenumberedElse, RenumberedFields, RenumberedArms, RenumberedBody, RenumberedStatement, RenumberedStatements}
 use Rattle.rx_engine_changed.specs.Beside.{Instead, Piece, paired, IsPiece, Numbers, IsOneToOne}
 use Rattle.rx_engine_changed.specs.Stages.{Mutability, InStep}
+use Rattle.rx_engine_changed.specs.Comes.{arguments_at, assigned_at, a_body, a_statement, an_expression, an_optional, goes_in, some_arguments, some_arms, some_expressions, some_fields, some_statements, Comes, Placed}
 use Rattle.rx_engine_changed.proofs.Lists.{still_piece}
 use Rattle.rx_engine_changed.proofs.Steps.{alike_known, alike_loop, alike_waiting, left_alike, next_node, next_entry, annotation_number, next_annotation}
 use Rattle.rx_engine_changed.proofs.Parts.{OnlySpecial, tuple_part, field_part, part_part, deref_part, negate_part, invert_part, borrow_part, binary_parts, assign_parts, update_parts, call_parts, hidden_part, not_hidden, not_called, variant_parts, make_parts, field_parts, print_part, block_part, if_parts, if_let_parts, match_parts, loop_parts, while_parts, while_let_parts, evaluated_part}
@@ -42,7 +43,7 @@ waiting_number true p c = by (named.whole_binding p)
     by None = refl
     by (Some x) = refl
 
-module _ (R : Renaming) (W : Mutability) (apart : IsOneToOne R) (even : (n m : ℕ) (b : Bool) → W n m b b) (P : Instead → Type 0) (such : Body → Bool) where
+module _ (R : Renaming) (W : Mutability) (apart : IsOneToOne R) (even : (n m : ℕ) (b : Bool) → W n m b b) (P : List Piece → Instead → Type 0) (such : Body → Bool) (A A' : Placed) where
   next : {made : List Piece} (s : Span) (t : Site) (c c' : Cursor) → InStep R W made c c' → InStep R W (paired c.number c'.number ∷ made) (a_node s t c).1 (a_node s t c').1
   next s t c c' st = next_node R W apart even s s t t c c' st
 
@@ -86,31 +87,31 @@ module _ (R : Renaming) (W : Mutability) (apart : IsOneToOne R) (even : (n m : �
     -- ---- what is claimed of each kind of part, from wherever both have come to in step
 
     abbrev pub ExpKept : Bool → Site → Expression → Expression → Type 0
-    ExpKept m t e e' = (made : List Piece) (c c' : Cursor) → InStep R W made c c' → LikeExp H R (of_expression m t e c).0 (of_expression m t e' c').0 → Kept R W P (count such e) made SameExp ExpLike c c' (of_expression m t e c) (of_expression m t e' c')
+    ExpKept m t e e' = (made : List Piece) (c c' : Cursor) → Comes A (an_expression m t e) c → Comes A' (an_expression m t e') c' → InStep R W made c c' → LikeExp H R (of_expression m t e c).0 (of_expression m t e' c').0 → Kept R W P (count such e) made SameExp ExpLike c c' (of_expression m t e c) (of_expression m t e' c')
 
     abbrev pub AllKept : Site → Expressions → Expressions → Type 0
-    AllKept t e e' = (made : List Piece) (c c' : Cursor) → InStep R W made c c' → LikeExps H R (of_expressions t e c).0 (of_expressions t e' c').0 → Kept R W P (count_all such e) made SameExps ExpsLike c c' (of_expressions t e c) (of_expressions t e' c')
+    AllKept t e e' = (made : List Piece) (c c' : Cursor) → Comes A (some_expressions t e) c → Comes A' (some_expressions t e') c' → InStep R W made c c' → LikeExps H R (of_expressions t e c).0 (of_expressions t e' c').0 → Kept R W P (count_all such e) made SameExps ExpsLike c c' (of_expressions t e c) (of_expressions t e' c')
 
     abbrev pub OptionalKept : Site → OptionalExpression → OptionalExpression → Type 0
-    OptionalKept t e e' = (made : List Piece) (c c' : Cursor) → InStep R W made c c' → LikeElse H R (of_optional t e c).0 (of_optional t e' c').0 → Kept R W P (count_optional such e) made SameElse ElseLike c c' (of_optional t e c) (of_optional t e' c')
+    OptionalKept t e e' = (made : List Piece) (c c' : Cursor) → Comes A (an_optional t e) c → Comes A' (an_optional t e') c' → InStep R W made c c' → LikeElse H R (of_optional t e c).0 (of_optional t e' c').0 → Kept R W P (count_optional such e) made SameElse ElseLike c c' (of_optional t e c) (of_optional t e' c')
 
     abbrev pub ArgumentsKept : OptionalExpressions → OptionalExpressions → Type 0
-    ArgumentsKept e e' = (made : List Piece) (c c' : Cursor) → InStep R W made c c' → LikeExps H R (of_arguments e c).0 (of_arguments e' c').0 → Kept R W P (count_arguments such e) made SameExps ExpsLike c c' (of_arguments e c) (of_arguments e' c')
+    ArgumentsKept e e' = (made : List Piece) (c c' : Cursor) → Comes A (some_arguments e) c → Comes A' (some_arguments e') c' → InStep R W made c c' → LikeExps H R (of_arguments e c).0 (of_arguments e' c').0 → Kept R W P (count_arguments such e) made SameExps ExpsLike c c' (of_arguments e c) (of_arguments e' c')
 
     abbrev pub FieldsKept : FieldExpressions → FieldExpressions → Type 0
-    FieldsKept e e' = (made : List Piece) (c c' : Cursor) → InStep R W made c c' → LikeFields H R (of_fields e c).0 (of_fields e' c').0 → Kept R W P (count_fields such e) made SameFields FieldsLike c c' (of_fields e c) (of_fields e' c')
+    FieldsKept e e' = (made : List Piece) (c c' : Cursor) → Comes A (some_fields e) c → Comes A' (some_fields e') c' → InStep R W made c c' → LikeFields H R (of_fields e c).0 (of_fields e' c').0 → Kept R W P (count_fields such e) made SameFields FieldsLike c c' (of_fields e c) (of_fields e' c')
 
     abbrev pub ArmsKept : Site → Arms → Arms → Type 0
-    ArmsKept t e e' = (made : List Piece) (c c' : Cursor) → InStep R W made c c' → LikeArms H R (of_arms t e c).0 (of_arms t e' c').0 → Kept R W P (count_arms such e) made SameArms ArmsLike c c' (of_arms t e c) (of_arms t e' c')
+    ArmsKept t e e' = (made : List Piece) (c c' : Cursor) → Comes A (some_arms t e) c → Comes A' (some_arms t e') c' → InStep R W made c c' → LikeArms H R (of_arms t e c).0 (of_arms t e' c').0 → Kept R W P (count_arms such e) made SameArms ArmsLike c c' (of_arms t e c) (of_arms t e' c')
 
     abbrev pub BodyKept : Site → Body → Body → Type 0
-    BodyKept t e e' = (made : List Piece) (c c' : Cursor) → InStep R W made c c' → LikeBody H R (of_body t e c).0 (of_body t e' c').0 → Kept R W P (count_body such e) made SameBody BodyLike c c' (of_body t e c) (of_body t e' c')
+    BodyKept t e e' = (made : List Piece) (c c' : Cursor) → Comes A (a_body t e) c → Comes A' (a_body t e') c' → InStep R W made c c' → LikeBody H R (of_body t e c).0 (of_body t e' c').0 → Kept R W P (count_body such e) made SameBody BodyLike c c' (of_body t e c) (of_body t e' c')
 
     abbrev pub StatementKept : Statement → Statement → Type 0
-    StatementKept e e' = (made : List Piece) (c c' : Cursor) → InStep R W made c c' → LikeStatement H R (of_statement e c).0 (of_statement e' c').0 → Kept R W P (count_statement such e) made SameStatement StatementLike c c' (of_statement e c) (of_statement e' c')
+    StatementKept e e' = (made : List Piece) (c c' : Cursor) → Comes A (a_statement e) c → Comes A' (a_statement e') c' → InStep R W made c c' → LikeStatement H R (of_statement e c).0 (of_statement e' c').0 → Kept R W P (count_statement such e) made SameStatement StatementLike c c' (of_statement e c) (of_statement e' c')
 
     abbrev pub StatementsKept : Statements → Statements → Type 0
-    StatementsKept e e' = (made : List Piece) (c c' : Cursor) → InStep R W made c c' → LikeStatements H R (of_statements e c).0 (of_statements e' c').0 → Kept R W P (count_statements such e) made SameStatements StatementsLike c c' (of_statements e c) (of_statements e' c')
+    StatementsKept e e' = (made : List Piece) (c c' : Cursor) → Comes A (some_statements e) c → Comes A' (some_statements e') c' → InStep R W made c c' → LikeStatements H R (of_statements e c).0 (of_statements e' c').0 → Kept R W P (count_statements such e) made SameStatements StatementsLike c c' (of_statements e c) (of_statements e' c')
 
     -- ---- one form by others
 
@@ -159,14 +160,18 @@ module _ (R : Renaming) (W : Mutability) (apart : IsOneToOne R) (even : (n m : �
     abbrev IfNode : ℕ → ℕ → Numbers → Exp → Exp → Type 0
     IfNode k k' q e e' = q.by.nodes k ≡ k' → ExpLike q e e'
 
-    called_kept : {k : ℕ} {made : List Piece} (s : Span) (t : Site) (b b' c c' : Cursor) (a a' : List ℕ × Bool) (f f' : Site → Numbering Exps) → ((i : Site) → LikeExps H R (f i c).0 (f' i c').0 → Kept R W P k made SameExps ExpsLike c c' (f i c) (f' i c'))
+    -- operands at a site
+    abbrev Operands : ℕ → List Piece → Cursor → Cursor → (Site → Numbering Exps) → (Site → Numbering Exps) → Site → Type 0
+    Operands k made c c' f f' i = LikeExps H R (f i c).0 (f' i c').0 → Kept R W P k made SameExps ExpsLike c c' (f i c) (f' i c')
+
+    called_kept : {k : ℕ} {made : List Piece} (s : Span) (t : Site) (b b' c c' : Cursor) (a a' : List ℕ × Bool) (f f' : Site → Numbering Exps) → (a'.1 ≡ a.1 → Operands k made c c' f f' (arguments_at a.1))
         → LikeExp H R (numbering.called (a_node s t b).0 a f c).0 (numbering.called (a_node s t b').0 a' f' c').0 → Kept R W P k made SameExp (IfNode b.number b'.number) c c' (numbering.called (a_node s t b).0 a f c) (numbering.called (a_node s t b').0 a' f' c')
     called_kept s t b b' c c' (xs, true) (xs', true) f f' k h =
-        becomes (λ es. named.hidden_call (a_node s t b).0 es) (λ es. named.hidden_call (a_node s t b').0 es) (k Site.Value (hidden_part only h)) (λ z. (refl, z))
+        becomes (λ es. named.hidden_call (a_node s t b).0 es) (λ es. named.hidden_call (a_node s t b').0 es) (k refl (hidden_part only h)) (λ z. (refl, z))
         (λ q a a' g w e. at_node q (λ n. ExpLike q (named.hidden_call (a_node s t b).0 a) (named.hidden_call n a')) b.number b'.number s s t e (ren.RenumberedExp.hidden_call w))
     called_kept s t b b' c c' (xs, false) (xs', false) f f' k h =
         let g = call_parts only h in
-        becomes (λ es. named.call (a_node s t b).0 (first xs) es) (λ es. named.call (a_node s t b').0 (first xs') es) (k Site.Expects g.1) (λ z. (refl, z))
+        becomes (λ es. named.call (a_node s t b).0 (first xs) es) (λ es. named.call (a_node s t b').0 (first xs') es) (k refl g.1) (λ z. (refl, z))
         (λ q a a' i w e. call_at q (a_node s t b).0 _ _ b'.number s t (i.items (first xs) ∙ g.0) e refl w)
     called_kept s t b b' c c' (xs, true) (xs', false) f f' k h = absurd (not_called only h)
     called_kept s t b b' c c' (xs, false) (xs', true) f f' k h = absurd (not_hidden only h)
@@ -174,7 +179,7 @@ module _ (R : Renaming) (W : Mutability) (apart : IsOneToOne R) (even : (n m : �
     -- ---- an assignment to what is no variable
 
     assign_kept : (s : Span) (m : Bool) (t : Site) (p p' e e' : Expression) → NoVariable p → NoVariable p' → ExpKept false Site.Place p p' → ExpKept false Site.Expects e e' → ExpKept m t (plain.assign s p e) (plain.assign s p' e')
-    assign_kept s m t p p' e e' v v' kp ke made c c' st h =
+    assign_kept s m t p p' e e' v v' kp ke made c c' come come' st h =
         subst (Goal (numbering.waits_in p (named.root Q).number E)) (sym (v' (named.root Q').number E')) (subst (λ (w : Option (ℕ × ℕ)). Goal w None) (sym (v (named.root Q).number E)) none_waits) h
       where
         N : Node
@@ -201,7 +206,7 @@ module _ (R : Renaming) (W : Mutability) (apart : IsOneToOne R) (even : (n m : �
 
         none_waits : Goal None None
         none_waits h =
-            let g = assign_parts only h in let y = kp _ (a_node s t c).1 (a_node s t c').1 (next s t c c' st) g.0 in let z = ke _ E E' y.step g.1 in
+            let g = assign_parts only h in let y = kp _ (a_node s t c).1 (a_node s t c').1 (goes_in come 0 refl) (goes_in come' 0 refl) (next s t c c' st) g.0 in let z = ke _ E E' (subst (λ (o : Option (ℕ × ℕ)). Comes A (an_expression false (assigned_at o) e) E) (v (named.root Q).number E) (goes_in come 1 refl)) (subst (λ (o : Option (ℕ × ℕ)). Comes A' (an_expression false (assigned_at o) e') E') (v' (named.root Q').number E') (goes_in come' 1 refl)) y.step g.1 in
             becomes (λ x. named.assign N x.0 x.1) (λ x. named.assign N' x.0 x.1) (behind_node s s t t c c' (both y z)) (λ x. (refl, same_or x.0.1 x.1.1))
             (λ q a a' f w. at_node q (λ n. ExpLike q (named.assign N a.0 a.1) (named.assign n a'.0 a'.1)) c.number c'.number s s t w.0 (ren.RenumberedExp.assign w.1.0 w.1.1))
 
@@ -256,7 +261,7 @@ module _ (R : Renaming) (W : Mutability) (apart : IsOneToOne R) (even : (n m : �
 
         -- a `let`
         declared : (s : Span) (p : PatternTree) (y : Option TypeTree) → StatementKept (plain.let_statement s p y plain.absent) (plain.let_statement s p y plain.absent)
-        declared s p y made c c' st (alike.like_declares e o k) =
+        declared s p y made c c' come come' st (alike.like_declares e o k) =
             let d = (a_node s Site.Value c).1 in let d' = (a_node s Site.Value c').1 in
             let f = (numbering.annotates p y d).1 in let f' = (numbering.annotates p y d').1 in
             let a = pattern_kept R W apart even P p f f' (next_annotation R W p y d d' (next s Site.Value c c' st)) o in
@@ -271,7 +276,7 @@ module _ (R : Renaming) (W : Mutability) (apart : IsOneToOne R) (even : (n m : �
             (λ q a a' f w. at_node q (λ n. StatementLike q (named.declares (a_node s Site.Value c).0 a.0 a.1) (named.declares n a'.0 a'.1)) c.number c'.number s s Site.Value w.0 (ren.RenumberedStatement.declares w.1.0 w.1.1))
 
         initialised : (s : Span) (p : PatternTree) (y : Option TypeTree) (e e' : Expression) → ((i : Site) → ExpKept false i e e') → StatementKept (plain.let_statement s p y (plain.present e)) (plain.let_statement s p y (plain.present e'))
-        initialised s p y e e' ke made c c' st (alike.like_lets r o k h) =
+        initialised s p y e e' ke made c c' come come' st (alike.like_lets r o k h) =
             let d = (a_node s Site.Value c).1 in let d' = (a_node s Site.Value c').1 in
             let f = (numbering.annotates p y d).1 in let f' = (numbering.annotates p y d').1 in
             let a = pattern_kept R W apart even P p f f' (next_annotation R W p y d d' (next s Site.Value c c' st)) o in
@@ -280,7 +285,7 @@ module _ (R : Renaming) (W : Mutability) (apart : IsOneToOne R) (even : (n m : �
             let u = numbering.of_optional_type y g.1 in let u' = numbering.of_optional_type y g'.1 in
             let i = numbering.initialiser_site u.0 in let i' = numbering.initialiser_site u'.0 in
             let X : LikeExp H R (of_expression false i e u.1).0 (of_expression false i' e' u'.1).0 → Kept R W P (count such e) w.now SameExp ExpLike u.1 u'.1 (of_expression false i e u.1) (of_expression false i' e' u'.1)
-            = subst (λ (j : Site). LikeExp H R (of_expression false i e u.1).0 (of_expression false j e' u'.1).0 → Kept R W P (count such e) w.now SameExp ExpLike u.1 u'.1 (of_expression false i e u.1) (of_expression false j e' u'.1)) (sym (same_site u.0 u'.0 w.same)) (ke i w.now u.1 u'.1 w.step) in
+            = subst (λ (j : Site). LikeExp H R (of_expression false i e u.1).0 (of_expression false j e' u'.1).0 → Kept R W P (count such e) w.now SameExp ExpLike u.1 u'.1 (of_expression false i e u.1) (of_expression false j e' u'.1)) (sym (same_site u.0 u'.0 w.same)) (ke i w.now u.1 u'.1 (goes_in come 0 refl) (subst (λ (j : Site). Comes A' (an_expression false j e') u'.1) (same_site u.0 u'.0 w.same) (goes_in come' 0 refl)) w.step) in
             let x = X h in
             let l = of_expression false i e u.1 in let l' = of_expression false i' e' u'.1 in
             let v = (numbering.known_between f.declared g.1.declared l.1).1 in let v' = (numbering.known_between f'.declared g'.1.declared l'.1).1 in
@@ -293,180 +298,181 @@ module _ (R : Renaming) (W : Mutability) (apart : IsOneToOne R) (even : (n m : �
 
         mutual
           pub exp_kept : (own : Names) (ls : List Around) (m : Bool) (t : Site) (e : Expression) → Within N own ls e → ExpKept m t e (changed C own ls e)
-          exp_kept own ls m t (plain.int s v k) holds made c c' st h =
+          exp_kept own ls m t (plain.int s v k) holds made c c' come come' st h =
               subst (λ (l : Option Kind). Kept R W P 0 made SameExp ExpLike c c' (of_expression m t (plain.int s v k) c) (of_expression m t (plain.int s v l) c')) (sym (places.kinds s k))
               (a_leaf s s t t c c' (named.int (a_node s t c).0 m v k) (named.int (a_node s t c').0 m v k) (next s t c c' st) (refl, refl) (λ q f w. at_node q (λ n. ExpLike q (named.int (a_node s t c).0 m v k) (named.int n m v k)) c.number c'.number s s t w ren.RenumberedExp.int))
-          exp_kept own ls m t (plain.bool s b) holds made c c' st h = a_leaf s s t t c c' (named.bool (a_node s t c).0 b) (named.bool (a_node s t c').0 b) (next s t c c' st) (refl, refl) (λ q f w. at_node q (λ n. ExpLike q (named.bool (a_node s t c).0 b) (named.bool n b)) c.number c'.number s s t w ren.RenumberedExp.bool)
-          exp_kept own ls m t (plain.var s x) holds made c c' st h = places.variable own s x holds m t made c c' st h
-          exp_kept own ls m t (plain.break s l) holds made c c' st h = places.broken own ls s l holds m t made c c' st h
-          exp_kept own ls m t (plain.continue s l) holds made c c' st h = places.continued own ls s l holds m t made c c' st h
-          exp_kept own ls m t (plain.return s o) holds made c c' st h = places.returned s o (changed_optional C own ls o) holds.0 m t (optional_kept own ls Site.Expects o holds.1) made c c' st h
-          exp_kept own ls m t (plain.assign s p e) holds made c c' st h = assigning own ls s m t p e holds.0 (exp_kept own ls false Site.Place p holds.0) (λ i. exp_kept own ls false i e holds.1) made c c' st h
-          exp_kept own ls m t (plain.tuple s es) holds made c c' st h =
-              becomes (λ x. named.tuple (a_node s t c).0 x) (λ x. named.tuple (a_node s t c').0 x) (behind_node s s t t c c' (all_kept own ls Site.Value es holds _ (a_node s t c).1 (a_node s t c').1 (next s t c c' st) (tuple_part only h))) (λ z. (refl, z))
+          exp_kept own ls m t (plain.bool s b) holds made c c' come come' st h = a_leaf s s t t c c' (named.bool (a_node s t c).0 b) (named.bool (a_node s t c').0 b) (next s t c c' st) (refl, refl) (λ q f w. at_node q (λ n. ExpLike q (named.bool (a_node s t c).0 b) (named.bool n b)) c.number c'.number s s t w ren.RenumberedExp.bool)
+          exp_kept own ls m t (plain.var s x) holds made c c' come come' st h = places.variable own s x holds m t made c c' come come' st h
+          exp_kept own ls m t (plain.break s l) holds made c c' come come' st h = places.broken own ls s l holds m t made c c' come come' st h
+          exp_kept own ls m t (plain.continue s l) holds made c c' come come' st h = places.continued own ls s l holds m t made c c' come come' st h
+          exp_kept own ls m t (plain.return s o) holds made c c' come come' st h = places.returned s o (changed_optional C own ls o) holds.0 m t (optional_kept own ls Site.Expects o holds.1) made c c' come come' st h
+          exp_kept own ls m t (plain.assign s p e) holds made c c' come come' st h = assigning own ls s m t p e holds.0 (exp_kept own ls false Site.Place p holds.0) (λ i. exp_kept own ls false i e holds.1) made c c' come come' st h
+          exp_kept own ls m t (plain.tuple s es) holds made c c' come come' st h =
+              becomes (λ x. named.tuple (a_node s t c).0 x) (λ x. named.tuple (a_node s t c').0 x) (behind_node s s t t c c' (all_kept own ls Site.Value es holds _ (a_node s t c).1 (a_node s t c').1 (goes_in come 0 refl) (goes_in come' 0 refl) (next s t c c' st) (tuple_part only h))) (λ z. (refl, z))
               (λ q a a' f w. at_node q (λ n. ExpLike q (named.tuple (a_node s t c).0 a) (named.tuple n a')) c.number c'.number s s t w.0 (ren.RenumberedExp.tuple w.1))
-          exp_kept own ls m t (plain.field s e x) holds made c c' st h =
-              becomes (λ z. named.field (a_node s t c).0 z x.name) (λ z. named.field (a_node s t c').0 z x.name) (behind_node s s t t c c' (exp_kept own ls false Site.Place e holds _ (a_node s t c).1 (a_node s t c').1 (next s t c c' st) (field_part only h))) (λ z. (refl, z.1))
+          exp_kept own ls m t (plain.field s e x) holds made c c' come come' st h =
+              becomes (λ z. named.field (a_node s t c).0 z x.name) (λ z. named.field (a_node s t c').0 z x.name) (behind_node s s t t c c' (exp_kept own ls false Site.Place e holds _ (a_node s t c).1 (a_node s t c').1 (goes_in come 0 refl) (goes_in come' 0 refl) (next s t c c' st) (field_part only h))) (λ z. (refl, z.1))
               (λ q a a' f w. at_node q (λ n. ExpLike q (named.field (a_node s t c).0 a x.name) (named.field n a' x.name)) c.number c'.number s s t w.0 (ren.RenumberedExp.field w.1))
-          exp_kept own ls m t (plain.part s e i) holds made c c' st h =
-              becomes (λ x. named.part (a_node s t c).0 x i) (λ x. named.part (a_node s t c').0 x i) (behind_node s s t t c c' (exp_kept own ls false Site.Place e holds _ (a_node s t c).1 (a_node s t c').1 (next s t c c' st) (part_part only h))) (λ z. (refl, z.1))
+          exp_kept own ls m t (plain.part s e i) holds made c c' come come' st h =
+              becomes (λ x. named.part (a_node s t c).0 x i) (λ x. named.part (a_node s t c').0 x i) (behind_node s s t t c c' (exp_kept own ls false Site.Place e holds _ (a_node s t c).1 (a_node s t c').1 (goes_in come 0 refl) (goes_in come' 0 refl) (next s t c c' st) (part_part only h))) (λ z. (refl, z.1))
               (λ q a a' f w. at_node q (λ n. ExpLike q (named.part (a_node s t c).0 a i) (named.part n a' i)) c.number c'.number s s t w.0 (ren.RenumberedExp.part w.1))
-          exp_kept own ls m t (plain.deref s e) holds made c c' st h =
-              becomes (λ x. named.deref (a_node s t c).0 x) (λ x. named.deref (a_node s t c').0 x) (behind_node s s t t c c' (exp_kept own ls false Site.Place e holds _ (a_node s t c).1 (a_node s t c').1 (next s t c c' st) (deref_part only h))) (λ z. (refl, z.1))
+          exp_kept own ls m t (plain.deref s e) holds made c c' come come' st h =
+              becomes (λ x. named.deref (a_node s t c).0 x) (λ x. named.deref (a_node s t c').0 x) (behind_node s s t t c c' (exp_kept own ls false Site.Place e holds _ (a_node s t c).1 (a_node s t c').1 (goes_in come 0 refl) (goes_in come' 0 refl) (next s t c c' st) (deref_part only h))) (λ z. (refl, z.1))
               (λ q a a' f w. at_node q (λ n. ExpLike q (named.deref (a_node s t c).0 a) (named.deref n a')) c.number c'.number s s t w.0 (ren.RenumberedExp.deref w.1))
-          exp_kept own ls m t (plain.negate s e) holds made c c' st h =
-              becomes (λ x. named.negate (a_node s t c).0 x) (λ x. named.negate (a_node s t c').0 x) (behind_node s s t t c c' (exp_kept own ls true Site.Value e holds _ (a_node s t c).1 (a_node s t c').1 (next s t c c' st) (negate_part only h))) (λ z. (refl, z.1))
+          exp_kept own ls m t (plain.negate s e) holds made c c' come come' st h =
+              becomes (λ x. named.negate (a_node s t c).0 x) (λ x. named.negate (a_node s t c').0 x) (behind_node s s t t c c' (exp_kept own ls true Site.Value e holds _ (a_node s t c).1 (a_node s t c').1 (goes_in come 0 refl) (goes_in come' 0 refl) (next s t c c' st) (negate_part only h))) (λ z. (refl, z.1))
               (λ q a a' f w. at_node q (λ n. ExpLike q (named.negate (a_node s t c).0 a) (named.negate n a')) c.number c'.number s s t w.0 (ren.RenumberedExp.negate w.1))
-          exp_kept own ls m t (plain.invert s e) holds made c c' st h =
-              becomes (λ x. named.invert (a_node s t c).0 x) (λ x. named.invert (a_node s t c').0 x) (behind_node s s t t c c' (exp_kept own ls false Site.Value e holds _ (a_node s t c).1 (a_node s t c').1 (next s t c c' st) (invert_part only h))) (λ z. (refl, z.1))
+          exp_kept own ls m t (plain.invert s e) holds made c c' come come' st h =
+              becomes (λ x. named.invert (a_node s t c).0 x) (λ x. named.invert (a_node s t c').0 x) (behind_node s s t t c c' (exp_kept own ls false Site.Value e holds _ (a_node s t c).1 (a_node s t c').1 (goes_in come 0 refl) (goes_in come' 0 refl) (next s t c c' st) (invert_part only h))) (λ z. (refl, z.1))
               (λ q a a' f w. at_node q (λ n. ExpLike q (named.invert (a_node s t c).0 a) (named.invert n a')) c.number c'.number s s t w.0 (ren.RenumberedExp.invert w.1))
-          exp_kept own ls m t (plain.borrow s b e) holds made c c' st h =
-              becomes (λ x. named.borrow (a_node s t c).0 b x) (λ x. named.borrow (a_node s t c').0 b x) (behind_node s s t t c c' (exp_kept own ls false Site.Place e holds _ (a_node s t c).1 (a_node s t c').1 (next s t c c' st) (borrow_part only h))) (λ z. (refl, z.1))
+          exp_kept own ls m t (plain.borrow s b e) holds made c c' come come' st h =
+              becomes (λ x. named.borrow (a_node s t c).0 b x) (λ x. named.borrow (a_node s t c').0 b x) (behind_node s s t t c c' (exp_kept own ls false Site.Place e holds _ (a_node s t c).1 (a_node s t c').1 (goes_in come 0 refl) (goes_in come' 0 refl) (next s t c c' st) (borrow_part only h))) (λ z. (refl, z.1))
               (λ q a a' f w. at_node q (λ n. ExpLike q (named.borrow (a_node s t c).0 b a) (named.borrow n b a')) c.number c'.number s s t w.0 (ren.RenumberedExp.borrow w.1))
-          exp_kept own ls m t (plain.print s e) holds made c c' st h =
-              becomes (λ x. named.print (a_node s t c).0 x) (λ x. named.print (a_node s t c').0 x) (behind_node s s t t c c' (exp_kept own ls false Site.Value e holds _ (a_node s t c).1 (a_node s t c').1 (next s t c c' st) (print_part only h))) (λ z. (refl, z.1))
+          exp_kept own ls m t (plain.print s e) holds made c c' come come' st h =
+              becomes (λ x. named.print (a_node s t c).0 x) (λ x. named.print (a_node s t c').0 x) (behind_node s s t t c c' (exp_kept own ls false Site.Value e holds _ (a_node s t c).1 (a_node s t c').1 (goes_in come 0 refl) (goes_in come' 0 refl) (next s t c c' st) (print_part only h))) (λ z. (refl, z.1))
               (λ q a a' f w. at_node q (λ n. ExpLike q (named.print (a_node s t c).0 a) (named.print n a')) c.number c'.number s s t w.0 (ren.RenumberedExp.print w.1))
-          exp_kept own ls m t (plain.block s b) holds made c c' st h =
-              becomes (λ x. named.block (a_node s t c).0 x) (λ x. named.block (a_node s t c').0 x) (behind_node s s t t c c' (body_kept own ls (numbering.passed_on t) b holds _ (a_node s t c).1 (a_node s t c').1 (next s t c c' st) (block_part only h))) (λ z. z)
+          exp_kept own ls m t (plain.block s b) holds made c c' come come' st h =
+              becomes (λ x. named.block (a_node s t c).0 x) (λ x. named.block (a_node s t c').0 x) (behind_node s s t t c c' (body_kept own ls (numbering.passed_on t) b holds _ (a_node s t c).1 (a_node s t c').1 (goes_in come 0 refl) (goes_in come' 0 refl) (next s t c c' st) (block_part only h))) (λ z. z)
               (λ q a a' f w. at_node q (λ n. ExpLike q (named.block (a_node s t c).0 a) (named.block n a')) c.number c'.number s s t w.0 (ren.RenumberedExp.block w.1))
-          exp_kept own ls m t (plain.binary s o a b) holds made c c' st h =
-              let g = binary_parts only h in let y = exp_kept own ls false Site.Value a holds.0 _ (a_node s t c).1 (a_node s t c').1 (next s t c c' st) g.0 in let z = exp_kept own ls false Site.Value b holds.1 _ (of_expression false Site.Value a (a_node s t c).1).1 (of_expression false Site.Value (changed C own ls a) (a_node s t c').1).1 y.step g.1 in
+          exp_kept own ls m t (plain.binary s o a b) holds made c c' come come' st h =
+              let g = binary_parts only h in let y = exp_kept own ls false Site.Value a holds.0 _ (a_node s t c).1 (a_node s t c').1 (goes_in come 0 refl) (goes_in come' 0 refl) (next s t c c' st) g.0 in let z = exp_kept own ls false Site.Value b holds.1 _ (of_expression false Site.Value a (a_node s t c).1).1 (of_expression false Site.Value (changed C own ls a) (a_node s t c').1).1 (goes_in come 1 refl) (goes_in come' 1 refl) y.step g.1 in
               becomes (λ x. named.binary (a_node s t c).0 o x.0 x.1) (λ x. named.binary (a_node s t c').0 o x.0 x.1) (behind_node s s t t c c' (both y z)) (λ x. (refl, same_or x.0.1 (ap (λ (d : Bool). is_strict o && d) x.1.1)))
               (λ q a a' f w. at_node q (λ n. ExpLike q (named.binary (a_node s t c).0 o a.0 a.1) (named.binary n o a'.0 a'.1)) c.number c'.number s s t w.0 (ren.RenumberedExp.binary w.1.0 w.1.1))
-          exp_kept own ls m t (plain.update s o a b) holds made c c' st h =
-              let g = update_parts only h in let y = exp_kept own ls false Site.Place a holds.0 _ (a_node s t c).1 (a_node s t c').1 (next s t c c' st) g.0 in let z = exp_kept own ls false Site.Value b holds.1 _ (of_expression false Site.Place a (a_node s t c).1).1 (of_expression false Site.Place (changed C own ls a) (a_node s t c').1).1 y.step g.1 in
+          exp_kept own ls m t (plain.update s o a b) holds made c c' come come' st h =
+              let g = update_parts only h in let y = exp_kept own ls false Site.Place a holds.0 _ (a_node s t c).1 (a_node s t c').1 (goes_in come 0 refl) (goes_in come' 0 refl) (next s t c c' st) g.0 in let z = exp_kept own ls false Site.Value b holds.1 _ (of_expression false Site.Place a (a_node s t c).1).1 (of_expression false Site.Place (changed C own ls a) (a_node s t c').1).1 (goes_in come 1 refl) (goes_in come' 1 refl) y.step g.1 in
               becomes (λ x. named.update (a_node s t c).0 o x.0 x.1) (λ x. named.update (a_node s t c').0 o x.0 x.1) (behind_node s s t t c c' (both y z)) (λ x. (refl, same_or x.0.1 x.1.1))
               (λ q a a' f w. at_node q (λ n. ExpLike q (named.update (a_node s t c).0 o a.0 a.1) (named.update n o a'.0 a'.1)) c.number c'.number s s t w.0 (ren.RenumberedExp.update w.1.0 w.1.1))
-          exp_kept own ls m t (plain.match s e l) holds made c c' st h =
-              let g = match_parts only h in let y = exp_kept own ls false Site.Scrutinee e holds.0 _ (a_node s t c).1 (a_node s t c').1 (next s t c c' st) g.0 in let z = arms_kept own ls (numbering.passed_on t) l holds.1 _ (of_expression false Site.Scrutinee e (a_node s t c).1).1 (of_expression false Site.Scrutinee (changed C own ls e) (a_node s t c').1).1 y.step g.1 in
+          exp_kept own ls m t (plain.match s e l) holds made c c' come come' st h =
+              let g = match_parts only h in let y = exp_kept own ls false Site.Scrutinee e holds.0 _ (a_node s t c).1 (a_node s t c').1 (goes_in come 0 refl) (goes_in come' 0 refl) (next s t c c' st) g.0 in let z = arms_kept own ls (numbering.passed_on t) l holds.1 _ (of_expression false Site.Scrutinee e (a_node s t c).1).1 (of_expression false Site.Scrutinee (changed C own ls e) (a_node s t c').1).1 (goes_in come 1 refl) (goes_in come' 1 refl) y.step g.1 in
               becomes (λ x. named.match (a_node s t c).0 x.0 x.1) (λ x. named.match (a_node s t c').0 x.0 x.1) (behind_node s s t t c c' (both y z)) (λ x. (x.1.0, same_or x.0.1 x.1.1))
               (λ q a a' f w. at_node q (λ n. ExpLike q (named.match (a_node s t c).0 a.0 a.1) (named.match n a'.0 a'.1)) c.number c'.number s s t w.0 (ren.RenumberedExp.match w.1.0 w.1.1))
-          exp_kept own ls m t (plain.call s f es) holds made c c' st h =
+          exp_kept own ls m t (plain.call s f es) holds made c c' come come' st h =
               let d = (a_node s t c).1 in let d' = (a_node s t c').1 in
               becomes (λ x. x) (λ x. x) (behind_node s s t t c c' (behind_entry d d' (called_kept s t c c' (an_entry d).1 (an_entry d').1 (an_entry d).0 (an_entry d').0 (λ i. of_expressions i es) (λ i. of_expressions i (changed_all C own ls es))
-              (λ i k. all_kept own ls i es holds.1 _ (an_entry d).1 (an_entry d').1 (next_entry R W d d' (next s t c c' st)) k) h))) (λ z. z) (λ q a a' f w. w.1 w.0)
-          exp_kept own ls m t (plain.next_input s) holds made c c' st h =
+              (λ same k. all_kept own ls (arguments_at (an_entry d).0.1) es holds.1 _ (an_entry d).1 (an_entry d').1 (goes_in come 0 refl)
+              (subst (λ (b : Bool). Comes A' (some_expressions (arguments_at b) (changed_all C own ls es)) (an_entry d').1) same (goes_in come' 0 refl)) (next_entry R W d d' (next s t c c' st)) k) h))) (λ z. z) (λ q a a' f w. w.1 w.0)
+          exp_kept own ls m t (plain.next_input s) holds made c c' come come' st h =
               a_leaf_with_entry s s t t c c' (named.next_input (a_node s t c).0) (named.next_input (a_node s t c').0) (next_entry R W (a_node s t c).1 (a_node s t c').1 (next s t c c' st)) (refl, refl) (λ q f w. at_node q (λ n. ExpLike q (named.next_input (a_node s t c).0) (named.next_input n)) c.number c'.number s s t w ren.RenumberedExp.next_input)
-          exp_kept own ls m t (plain.variant s a v es) holds made c c' st h =
+          exp_kept own ls m t (plain.variant s a v es) holds made c c' come come' st h =
               let g = variant_parts only h in let d = (a_node s t c).1 in let d' = (a_node s t c').1 in
-              let x = arguments_kept own ls es holds _ (an_entry d).1 (an_entry d').1 (next_entry R W d d' (next s t c c' st)) g.2 in
+              let x = arguments_kept own ls es holds _ (an_entry d).1 (an_entry d').1 (goes_in come 0 refl) (goes_in come' 0 refl) (next_entry R W d d' (next s t c c' st)) g.2 in
               becomes (λ z. named.variant (a_node s t c).0 (first (an_entry d).0.0) (second (an_entry d).0.0) z) (λ z. named.variant (a_node s t c').0 (first (an_entry d').0.0) (second (an_entry d').0.0) z) (behind_node s s t t c c' (behind_entry d d' x)) (λ z. (refl, z))
               (λ q a a' f w. variant_at q (a_node s t c).0 _ _ _ _ c'.number s t (f.items (first (an_entry d).0.0) ∙ g.0) g.1 w.0 refl w.1)
-          exp_kept own ls m t (plain.make s y fs) holds made c c' st h =
+          exp_kept own ls m t (plain.make s y fs) holds made c c' come come' st h =
               let g = make_parts only h in let d = (a_node s t c).1 in let d' = (a_node s t c').1 in
-              let x = fields_kept own ls fs holds _ (an_entry d).1 (an_entry d').1 (next_entry R W d d' (next s t c c' st)) g.1 in
+              let x = fields_kept own ls fs holds _ (an_entry d).1 (an_entry d').1 (goes_in come 0 refl) (goes_in come' 0 refl) (next_entry R W d d' (next s t c c' st)) g.1 in
               becomes (λ z. named.make (a_node s t c).0 (first (an_entry d).0.0) z) (λ z. named.make (a_node s t c').0 (first (an_entry d').0.0) z) (behind_node s s t t c c' (behind_entry d d' x)) (λ z. (refl, z))
               (λ q a a' f w. make_at q (a_node s t c).0 _ _ c'.number s t (f.items (first (an_entry d).0.0) ∙ g.0) w.0 refl w.1)
-          exp_kept own ls m t (plain.if s e b plain.absent) holds made c c' st h =
+          exp_kept own ls m t (plain.if s e b plain.absent) holds made c c' come come' st h =
               let g = if_parts only h in
               let d = of_expression false Site.Value e (a_node s t c).1 in let d' = of_expression false Site.Value (changed C own ls e) (a_node s t c').1 in
-              let y = exp_kept own ls false Site.Value e holds.0 _ (a_node s t c).1 (a_node s t c').1 (next s t c c' st) g.0 in
-              let z = body_kept own ls Site.Value b holds.1 _ d.1 d'.1 y.step g.1 in
-              let v = optional_kept own ls (numbering.passed_on t) plain.absent holds.2 _ (of_body Site.Value b d.1).1 (of_body Site.Value (changed_body C own ls b) d'.1).1 z.step g.2 in
+              let y = exp_kept own ls false Site.Value e holds.0 _ (a_node s t c).1 (a_node s t c').1 (goes_in come 0 refl) (goes_in come' 0 refl) (next s t c c' st) g.0 in
+              let z = body_kept own ls Site.Value b holds.1 _ d.1 d'.1 (goes_in come 1 refl) (goes_in come' 1 refl) y.step g.1 in
+              let v = optional_kept own ls (numbering.passed_on t) plain.absent holds.2 _ (of_body Site.Value b d.1).1 (of_body Site.Value (changed_body C own ls b) d'.1).1 (goes_in come 2 refl) (goes_in come' 2 refl) z.step g.2 in
               becomes (λ x. named.if (a_node s t c).0 x.0 x.1.0 x.1.1) (λ x. named.if (a_node s t c').0 x.0 x.1.0 x.1.1) (behind_node s s t t c c' (both y (both z v))) (λ x. (same_and x.1.0.0 x.1.1.0, same_or x.0.1 (same_and x.1.0.1 x.1.1.1)))
               (λ q a a' f w. at_node q (λ n. ExpLike q (named.if (a_node s t c).0 a.0 a.1.0 a.1.1) (named.if n a'.0 a'.1.0 a'.1.1)) c.number c'.number s s t w.0 (ren.RenumberedExp.if w.1.0 w.1.1.0 w.1.1.1))
-          exp_kept own ls m t (plain.if_let s p e b plain.absent) holds made c c' st h =
+          exp_kept own ls m t (plain.if_let s p e b plain.absent) holds made c c' come come' st h =
               let g = if_let_parts only h in
               let d = numbering.of_pattern p (a_node s t c).1 in let d' = numbering.of_pattern p (a_node s t c').1 in
               let a = pattern_kept R W apart even P p (a_node s t c).1 (a_node s t c').1 (next s t c c' st) g.0 in
               let e1 = of_expression false Site.Scrutinee e d.1 in let e2 = of_expression false Site.Scrutinee (changed C own ls e) d'.1 in
-              let y = exp_kept own ls false Site.Scrutinee e holds.0 _ d.1 d'.1 a.kept.step g.1 in
+              let y = exp_kept own ls false Site.Scrutinee e holds.0 _ d.1 d'.1 (goes_in come 0 refl) (goes_in come' 0 refl) a.kept.step g.1 in
               let k = (numbering.known_between (a_node s t c).1.declared d.1.declared e1.1).1 in let k' = (numbering.known_between (a_node s t c').1.declared d'.1.declared e2.1).1 in
               let u = in_front_of y k k' refl refl (alike_known R W apart even y.step a.ranges) in
-              let z = body_kept (bound p ++ own) ls Site.Value b holds.1 _ k k' u.step g.2 in
-              let v = optional_kept own ls (numbering.passed_on t) plain.absent holds.2 _ (of_body Site.Value b k).1 (of_body Site.Value (changed_body C (bound p ++ own) ls b) k').1 z.step g.3 in
+              let z = body_kept (bound p ++ own) ls Site.Value b holds.1 _ k k' (goes_in come 1 refl) (goes_in come' 1 refl) u.step g.2 in
+              let v = optional_kept own ls (numbering.passed_on t) plain.absent holds.2 _ (of_body Site.Value b k).1 (of_body Site.Value (changed_body C (bound p ++ own) ls b) k').1 (goes_in come 2 refl) (goes_in come' 2 refl) z.step g.3 in
               becomes (λ x. named.if_let (a_node s t c).0 x.0 x.1.0 x.1.1.0 x.1.1.1) (λ x. named.if_let (a_node s t c').0 x.0 x.1.0 x.1.1.0 x.1.1.1) (behind_node s s t t c c' (both_plainly a.kept (both u (both z v)))) (λ x. (same_and x.1.1.0.0 x.1.1.1.0, same_or x.1.0.1 (same_and x.1.1.0.1 x.1.1.1.1)))
               (λ q a a' f w. at_node q (λ n. ExpLike q (named.if_let (a_node s t c).0 a.0 a.1.0 a.1.1.0 a.1.1.1) (named.if_let n a'.0 a'.1.0 a'.1.1.0 a'.1.1.1)) c.number c'.number s s t w.0 (ren.RenumberedExp.if_let w.1.0 w.1.1.0 w.1.1.1.0 w.1.1.1.1))
-          exp_kept own ls m t (plain.if s e b (plain.present x)) holds made c c' st h =
+          exp_kept own ls m t (plain.if s e b (plain.present x)) holds made c c' come come' st h =
               let g = if_parts only h in
               let d = of_expression false Site.Value e (a_node s t c).1 in let d' = of_expression false Site.Value (changed C own ls e) (a_node s t c').1 in
-              let y = exp_kept own ls false Site.Value e holds.0 _ (a_node s t c).1 (a_node s t c').1 (next s t c c' st) g.0 in
-              let z = body_kept own ls (numbering.passed_on t) b holds.1 _ d.1 d'.1 y.step g.1 in
-              let v = optional_kept own ls (numbering.passed_on t) (plain.present x) holds.2 _ (of_body (numbering.passed_on t) b d.1).1 (of_body (numbering.passed_on t) (changed_body C own ls b) d'.1).1 z.step g.2 in
+              let y = exp_kept own ls false Site.Value e holds.0 _ (a_node s t c).1 (a_node s t c').1 (goes_in come 0 refl) (goes_in come' 0 refl) (next s t c c' st) g.0 in
+              let z = body_kept own ls (numbering.passed_on t) b holds.1 _ d.1 d'.1 (goes_in come 1 refl) (goes_in come' 1 refl) y.step g.1 in
+              let v = optional_kept own ls (numbering.passed_on t) (plain.present x) holds.2 _ (of_body (numbering.passed_on t) b d.1).1 (of_body (numbering.passed_on t) (changed_body C own ls b) d'.1).1 (goes_in come 2 refl) (goes_in come' 2 refl) z.step g.2 in
               becomes (λ x. named.if (a_node s t c).0 x.0 x.1.0 x.1.1) (λ x. named.if (a_node s t c').0 x.0 x.1.0 x.1.1) (behind_node s s t t c c' (both y (both z v))) (λ x. (same_and x.1.0.0 x.1.1.0, same_or x.0.1 (same_and x.1.0.1 x.1.1.1)))
               (λ q a a' f w. at_node q (λ n. ExpLike q (named.if (a_node s t c).0 a.0 a.1.0 a.1.1) (named.if n a'.0 a'.1.0 a'.1.1)) c.number c'.number s s t w.0 (ren.RenumberedExp.if w.1.0 w.1.1.0 w.1.1.1))
-          exp_kept own ls m t (plain.if_let s p e b (plain.present x)) holds made c c' st h =
+          exp_kept own ls m t (plain.if_let s p e b (plain.present x)) holds made c c' come come' st h =
               let g = if_let_parts only h in
               let d = numbering.of_pattern p (a_node s t c).1 in let d' = numbering.of_pattern p (a_node s t c').1 in
               let a = pattern_kept R W apart even P p (a_node s t c).1 (a_node s t c').1 (next s t c c' st) g.0 in
               let e1 = of_expression false Site.Scrutinee e d.1 in let e2 = of_expression false Site.Scrutinee (changed C own ls e) d'.1 in
-              let y = exp_kept own ls false Site.Scrutinee e holds.0 _ d.1 d'.1 a.kept.step g.1 in
+              let y = exp_kept own ls false Site.Scrutinee e holds.0 _ d.1 d'.1 (goes_in come 0 refl) (goes_in come' 0 refl) a.kept.step g.1 in
               let k = (numbering.known_between (a_node s t c).1.declared d.1.declared e1.1).1 in let k' = (numbering.known_between (a_node s t c').1.declared d'.1.declared e2.1).1 in
               let u = in_front_of y k k' refl refl (alike_known R W apart even y.step a.ranges) in
-              let z = body_kept (bound p ++ own) ls (numbering.passed_on t) b holds.1 _ k k' u.step g.2 in
-              let v = optional_kept own ls (numbering.passed_on t) (plain.present x) holds.2 _ (of_body (numbering.passed_on t) b k).1 (of_body (numbering.passed_on t) (changed_body C (bound p ++ own) ls b) k').1 z.step g.3 in
+              let z = body_kept (bound p ++ own) ls (numbering.passed_on t) b holds.1 _ k k' (goes_in come 1 refl) (goes_in come' 1 refl) u.step g.2 in
+              let v = optional_kept own ls (numbering.passed_on t) (plain.present x) holds.2 _ (of_body (numbering.passed_on t) b k).1 (of_body (numbering.passed_on t) (changed_body C (bound p ++ own) ls b) k').1 (goes_in come 2 refl) (goes_in come' 2 refl) z.step g.3 in
               becomes (λ x. named.if_let (a_node s t c).0 x.0 x.1.0 x.1.1.0 x.1.1.1) (λ x. named.if_let (a_node s t c').0 x.0 x.1.0 x.1.1.0 x.1.1.1) (behind_node s s t t c c' (both_plainly a.kept (both u (both z v)))) (λ x. (same_and x.1.1.0.0 x.1.1.1.0, same_or x.1.0.1 (same_and x.1.1.0.1 x.1.1.1.1)))
               (λ q a a' f w. at_node q (λ n. ExpLike q (named.if_let (a_node s t c).0 a.0 a.1.0 a.1.1.0 a.1.1.1) (named.if_let n a'.0 a'.1.0 a'.1.1.0 a'.1.1.1)) c.number c'.number s s t w.0 (ren.RenumberedExp.if_let w.1.0 w.1.1.0 w.1.1.1.0 w.1.1.1.1))
-          exp_kept own ls m t (plain.loop s l b) holds made c c' st h =
+          exp_kept own ls m t (plain.loop s l b) holds made c c' come come' st h =
               let g = loop_parts only h in let d = (numbering.a_loop (a_node s t c).1).1 in let d' = (numbering.a_loop (a_node s t c').1).1 in
-              let y = body_kept own (meant.a_loop l 0 ∷ ls) Site.Value b holds _ d d' (alike_loop R W apart even (next s t c c' st) g.0) g.1 in
+              let y = body_kept own (meant.a_loop l 0 ∷ ls) Site.Value b holds _ d d' (goes_in come 0 refl) (goes_in come' 0 refl) (alike_loop R W apart even (next s t c c' st) g.0) g.1 in
               let k = get_or (of_body Site.Value b d).1.loops (length (a_node s t c).1.loops) false in let k' = get_or (of_body Site.Value (changed_body C own (meant.a_loop l 0 ∷ ls) b) d').1.loops (length (a_node s t c').1.loops) false in
               let e : k' ≡ k = left_alike R W apart even y.step (length (a_node s t c).1.loops) (length (a_node s t c').1.loops) g.0 in
               becomes (λ x. named.loop (a_node s t c).0 (length (a_node s t c).1.loops) k x) (λ x. named.loop (a_node s t c').0 (length (a_node s t c').1.loops) k' x) (behind_node s s t t c c' (behind_step (a_node s t c).1 (a_node s t c').1 d d' refl refl y)) (λ x. (ap not e, ap not e))
               (λ q a a' f w. loop_at q (a_node s t c).0 _ _ _ _ c'.number s t (f.loops _ _ g.0) e w.0 refl w.1)
-          exp_kept own ls m t (plain.while s l e b) holds made c c' st h =
+          exp_kept own ls m t (plain.while s l e b) holds made c c' come come' st h =
               let g = while_parts only h in let d = (numbering.a_loop (a_node s t c).1).1 in let d' = (numbering.a_loop (a_node s t c').1).1 in
-              let y = exp_kept own (a_test ∷ meant.a_loop l 0 ∷ ls) false Site.Value e holds.0 _ d d' (alike_loop R W apart even (next s t c c' st) g.0) g.1 in
-              let z = body_kept own (meant.a_loop l 0 ∷ ls) Site.Value b holds.1 _ (of_expression false Site.Value e d).1 (of_expression false Site.Value (changed C own (a_test ∷ meant.a_loop l 0 ∷ ls) e) d').1 y.step g.2 in
+              let y = exp_kept own (a_test ∷ meant.a_loop l 0 ∷ ls) false Site.Value e holds.0 _ d d' (goes_in come 0 refl) (goes_in come' 0 refl) (alike_loop R W apart even (next s t c c' st) g.0) g.1 in
+              let z = body_kept own (meant.a_loop l 0 ∷ ls) Site.Value b holds.1 _ (of_expression false Site.Value e d).1 (of_expression false Site.Value (changed C own (a_test ∷ meant.a_loop l 0 ∷ ls) e) d').1 (goes_in come 1 refl) (goes_in come' 1 refl) y.step g.2 in
               becomes (λ x. named.while (a_node s t c).0 (length (a_node s t c).1.loops) x.0 x.1) (λ x. named.while (a_node s t c').0 (length (a_node s t c').1.loops) x.0 x.1) (behind_node s s t t c c' (behind_step (a_node s t c).1 (a_node s t c').1 d d' refl refl (both y z))) (λ x. (refl, x.0.1))
               (λ q a a' f w. while_at q (a_node s t c).0 _ _ c'.number s t (f.loops _ _ g.0) w.0 refl w.1.0 w.1.1)
-          exp_kept own ls m t (plain.while_let s l p e b) holds made c c' st h =
+          exp_kept own ls m t (plain.while_let s l p e b) holds made c c' come come' st h =
               let g = while_let_parts only h in let d = (numbering.a_loop (a_node s t c).1).1 in let d' = (numbering.a_loop (a_node s t c').1).1 in
               let a = pattern_kept R W apart even P p d d' (alike_loop R W apart even (next s t c c' st) g.0) g.1 in
               let f = numbering.of_pattern p d in let f' = numbering.of_pattern p d' in
               let e1 = of_expression false Site.Scrutinee e f.1 in let e2 = of_expression false Site.Scrutinee (changed C own (a_test ∷ meant.a_loop l 0 ∷ ls) e) f'.1 in
-              let y = exp_kept own (a_test ∷ meant.a_loop l 0 ∷ ls) false Site.Scrutinee e holds.0 _ f.1 f'.1 a.kept.step g.2 in
+              let y = exp_kept own (a_test ∷ meant.a_loop l 0 ∷ ls) false Site.Scrutinee e holds.0 _ f.1 f'.1 (goes_in come 0 refl) (goes_in come' 0 refl) a.kept.step g.2 in
               let k = (numbering.known_between d.declared f.1.declared e1.1).1 in let k' = (numbering.known_between d'.declared f'.1.declared e2.1).1 in
               let u = in_front_of y k k' refl refl (alike_known R W apart even y.step a.ranges) in
-              let z = body_kept (bound p ++ own) (meant.a_loop l 0 ∷ ls) Site.Value b holds.1 _ k k' u.step g.3 in
+              let z = body_kept (bound p ++ own) (meant.a_loop l 0 ∷ ls) Site.Value b holds.1 _ k k' (goes_in come 1 refl) (goes_in come' 1 refl) u.step g.3 in
               becomes (λ x. named.while_let (a_node s t c).0 (length (a_node s t c).1.loops) x.0 x.1.0 x.1.1) (λ x. named.while_let (a_node s t c').0 (length (a_node s t c').1.loops) x.0 x.1.0 x.1.1) (behind_node s s t t c c' (behind_step (a_node s t c).1 (a_node s t c').1 d d' refl refl (both_plainly a.kept (both u z)))) (λ x. (refl, x.1.0.1))
               (λ q a a' f w. while_let_at q (a_node s t c).0 _ _ c'.number s t (f.loops _ _ g.0) w.0 refl w.1.0 w.1.1.0 w.1.1.1)
 
           all_kept : (own : Names) (ls : List Around) (t : Site) (es : Expressions) → AllWithin N own ls es → AllKept t es (changed_all C own ls es)
-          all_kept own ls t plain.no_expression holds made c c' st h = gives c c' named.no_exp named.no_exp st refl (λ q f w. ren.RenumberedExps.no_exp)
-          all_kept own ls t (plain.expression_and e es) holds made c c' st (alike.like_more_exps h hs) =
-              let y = exp_kept own ls false t e holds.0 _ c c' st h in let z = all_kept own ls t es holds.1 _ (of_expression false t e c).1 (of_expression false t (changed C own ls e) c').1 y.step hs in
+          all_kept own ls t plain.no_expression holds made c c' come come' st h = gives c c' named.no_exp named.no_exp st refl (λ q f w. ren.RenumberedExps.no_exp)
+          all_kept own ls t (plain.expression_and e es) holds made c c' come come' st (alike.like_more_exps h hs) =
+              let y = exp_kept own ls false t e holds.0 _ c c' (goes_in come 0 refl) (goes_in come' 0 refl) st h in let z = all_kept own ls t es holds.1 _ (of_expression false t e c).1 (of_expression false t (changed C own ls e) c').1 (goes_in come 1 refl) (goes_in come' 1 refl) y.step hs in
               becomes (λ x. named.exp_and x.0 x.1) (λ x. named.exp_and x.0 x.1) (both y z) (λ x. same_or x.0.1 x.1) (λ q a a' f w. ren.RenumberedExps.exp_and w.0 w.1)
 
           pub optional_kept : (own : Names) (ls : List Around) (t : Site) (o : OptionalExpression) → OptionalWithin N own ls o → OptionalKept t o (changed_optional C own ls o)
-          optional_kept own ls t plain.absent holds made c c' st h = gives c c' named.absent named.absent st (refl, refl, λ d. refl) (λ q f w. ren.RenumberedElse.absent)
-          optional_kept own ls t (plain.present e) holds made c c' st (alike.like_present h) = becomes (λ x. named.present x) (λ x. named.present x) (exp_kept own ls false t e holds _ c c' st h) (λ x. (x.0, x.1, λ d. x.0)) (λ q a a' f w. ren.RenumberedElse.present w)
+          optional_kept own ls t plain.absent holds made c c' come come' st h = gives c c' named.absent named.absent st (refl, refl, λ d. refl) (λ q f w. ren.RenumberedElse.absent)
+          optional_kept own ls t (plain.present e) holds made c c' come come' st (alike.like_present h) = becomes (λ x. named.present x) (λ x. named.present x) (exp_kept own ls false t e holds _ c c' (goes_in come 0 refl) (goes_in come' 0 refl) st h) (λ x. (x.0, x.1, λ d. x.0)) (λ q a a' f w. ren.RenumberedElse.present w)
 
           arguments_kept : (own : Names) (ls : List Around) (o : OptionalExpressions) → ArgumentsWithin N own ls o → ArgumentsKept o (changed_arguments C own ls o)
-          arguments_kept own ls plain.no_list holds made c c' st h = gives c c' named.no_exp named.no_exp st refl (λ q f w. ren.RenumberedExps.no_exp)
-          arguments_kept own ls (plain.a_list es) holds made c c' st h = all_kept own ls Site.Expects es holds _ c c' st h
+          arguments_kept own ls plain.no_list holds made c c' come come' st h = gives c c' named.no_exp named.no_exp st refl (λ q f w. ren.RenumberedExps.no_exp)
+          arguments_kept own ls (plain.a_list es) holds made c c' come come' st h = all_kept own ls Site.Expects es holds _ c c' (goes_in come 0 refl) (goes_in come' 0 refl) st h
 
           fields_kept : (own : Names) (ls : List Around) (fs : FieldExpressions) → FieldsWithin N own ls fs → FieldsKept fs (changed_fields C own ls fs)
-          fields_kept own ls plain.no_field holds made c c' st h = gives c c' named.no_field named.no_field st refl (λ q f w. ren.RenumberedFields.no_field)
-          fields_kept own ls (plain.field_and y e fs) holds made c c' st h =
-              let g = field_parts only h in let x = exp_kept own ls false Site.Expects e holds.0 _ c c' st g.0 in let z = fields_kept own ls fs holds.1 _ (of_expression false Site.Expects e c).1 (of_expression false Site.Expects (changed C own ls e) c').1 x.step g.1 in
+          fields_kept own ls plain.no_field holds made c c' come come' st h = gives c c' named.no_field named.no_field st refl (λ q f w. ren.RenumberedFields.no_field)
+          fields_kept own ls (plain.field_and y e fs) holds made c c' come come' st h =
+              let g = field_parts only h in let x = exp_kept own ls false Site.Expects e holds.0 _ c c' (goes_in come 0 refl) (goes_in come' 0 refl) st g.0 in let z = fields_kept own ls fs holds.1 _ (of_expression false Site.Expects e c).1 (of_expression false Site.Expects (changed C own ls e) c').1 (goes_in come 1 refl) (goes_in come' 1 refl) x.step g.1 in
               becomes (λ x. named.field_and y.name x.0 x.1) (λ x. named.field_and y.name x.0 x.1) (both x z) (λ x. same_or x.0.1 x.1) (λ q a a' f w. ren.RenumberedFields.field_and w.0 w.1)
 
           arms_kept : (own : Names) (ls : List Around) (t : Site) (l : Arms) → ArmsWithin N own ls l → ArmsKept t l (changed_arms C own ls l)
-          arms_kept own ls t plain.no_arm holds made c c' st h = gives c c' named.no_arm named.no_arm st (refl, refl) (λ q f w. ren.RenumberedArms.no_arm)
-          arms_kept own ls t (plain.arm_and p e l) holds made c c' st (alike.like_more_arms o h hs) =
+          arms_kept own ls t plain.no_arm holds made c c' come come' st h = gives c c' named.no_arm named.no_arm st (refl, refl) (λ q f w. ren.RenumberedArms.no_arm)
+          arms_kept own ls t (plain.arm_and p e l) holds made c c' come come' st (alike.like_more_arms o h hs) =
               let d = numbering.of_pattern p c in let d' = numbering.of_pattern p c' in
               let a = pattern_kept R W apart even P p c c' st o in
               let k = (numbering.known_between c.declared d.1.declared d.1).1 in let k' = (numbering.known_between c'.declared d'.1.declared d'.1).1 in
               let u = in_front_of a.kept k k' refl refl (alike_known R W apart even a.kept.step a.ranges) in
-              let y = exp_kept (bound p ++ own) ls false t e holds.0 _ k k' u.step h in
-              let z = arms_kept own ls t l holds.1 _ (of_expression false t e k).1 (of_expression false t (changed C (bound p ++ own) ls e) k').1 y.step hs in
+              let y = exp_kept (bound p ++ own) ls false t e holds.0 _ k k' (goes_in come 0 refl) (goes_in come' 0 refl) u.step h in
+              let z = arms_kept own ls t l holds.1 _ (of_expression false t e k).1 (of_expression false t (changed C (bound p ++ own) ls e) k').1 (goes_in come 1 refl) (goes_in come' 1 refl) y.step hs in
               becomes (λ x. named.arm_and x.0 x.1.0 x.1.1) (λ x. named.arm_and x.0 x.1.0 x.1.1) (both_plainly u (both y z)) (λ x. (same_and x.1.0.0 x.1.1.0, same_and x.1.0.1 x.1.1.1)) (λ q a a' f w. ren.RenumberedArms.arm_and w.0 w.1.0 w.1.1)
 
           pub body_kept : (own : Names) (ls : List Around) (t : Site) (b : Body) → BodyWithin N own ls b → BodyKept t b (changed_body C own ls b)
-          body_kept own ls t (plain.body s ss o) holds made c c' st h = places.blocks own ls s t ss (changed_statements C own ls ss) o (changed_optional C (behind_all own ss) ls o) holds.0 (statements_kept own ls ss holds.1) (optional_kept (behind_all own ss) ls t o holds.2) made c c' st h
+          body_kept own ls t (plain.body s ss o) holds made c c' come come' st h = places.blocks own ls s t ss (changed_statements C own ls ss) o (changed_optional C (behind_all own ss) ls o) holds.0 (statements_kept own ls ss holds.1) (optional_kept (behind_all own ss) ls t o holds.2) made c c' come come' st h
 
           pub statements_kept : (own : Names) (ls : List Around) (ss : Statements) → StatementsWithin N own ls ss → StatementsKept ss (changed_statements C own ls ss)
-          statements_kept own ls plain.no_statement holds made c c' st h = gives c c' named.no_statement named.no_statement st refl (λ q f w. ren.RenumberedStatements.no_statement)
-          statements_kept own ls (plain.statement_and a ss) holds made c c' st (alike.like_more_statements h hs) =
-              let y = statement_kept own ls a holds.0 _ c c' st h in let z = statements_kept (bound_by a ++ own) ls ss holds.1 _ (of_statement a c).1 (of_statement (changed_statement C own ls a) c').1 y.step hs in
+          statements_kept own ls plain.no_statement holds made c c' come come' st h = gives c c' named.no_statement named.no_statement st refl (λ q f w. ren.RenumberedStatements.no_statement)
+          statements_kept own ls (plain.statement_and a ss) holds made c c' come come' st (alike.like_more_statements h hs) =
+              let y = statement_kept own ls a holds.0 _ c c' (goes_in come 0 refl) (goes_in come' 0 refl) st h in let z = statements_kept (bound_by a ++ own) ls ss holds.1 _ (of_statement a c).1 (of_statement (changed_statement C own ls a) c').1 (goes_in come 1 refl) (goes_in come' 1 refl) y.step hs in
               becomes (λ x. named.statement_and x.0 x.1) (λ x. named.statement_and x.0 x.1) (both y z) (λ x. same_or x.0 x.1) (λ q a a' f w. ren.RenumberedStatements.statement_and w.0 w.1)
 
           statement_kept : (own : Names) (ls : List Around) (a : Statement) → StatementWithin N own ls a → StatementKept a (changed_statement C own ls a)
-          statement_kept own ls (plain.expression_statement s e b) holds made c c' st h =
-              becomes (λ x. named.evaluates (a_node s Site.Value c).0 x b) (λ x. named.evaluates (a_node s Site.Value c').0 x b) (behind_node s s Site.Value Site.Value c c' (exp_kept own ls false Site.Value e holds _ (a_node s Site.Value c).1 (a_node s Site.Value c').1 (next s Site.Value c c' st) (evaluated_part only h))) (λ x. x.1)
+          statement_kept own ls (plain.expression_statement s e b) holds made c c' come come' st h =
+              becomes (λ x. named.evaluates (a_node s Site.Value c).0 x b) (λ x. named.evaluates (a_node s Site.Value c').0 x b) (behind_node s s Site.Value Site.Value c c' (exp_kept own ls false Site.Value e holds _ (a_node s Site.Value c).1 (a_node s Site.Value c').1 (goes_in come 0 refl) (goes_in come' 0 refl) (next s Site.Value c c' st) (evaluated_part only h))) (λ x. x.1)
               (λ q a a' f w. at_node q (λ n. StatementLike q (named.evaluates (a_node s Site.Value c).0 a b) (named.evaluates n a' b)) c.number c'.number s s Site.Value w.0 (ren.RenumberedStatement.evaluates w.1))
-          statement_kept own ls (plain.let_statement s p y plain.absent) holds made c c' st h =
-              subst (λ (y' : Option TypeTree). StatementKept (plain.let_statement s p y plain.absent) (plain.let_statement s p y' plain.absent)) (sym (places.types p y)) (declared s p y) made c c' st h
-          statement_kept own ls (plain.let_statement s p y (plain.present e)) holds made c c' st h =
-              subst (λ (y' : Option TypeTree). StatementKept (plain.let_statement s p y (plain.present e)) (plain.let_statement s p y' (plain.present (changed C own ls e)))) (sym (places.types p y)) (initialised s p y e (changed C own ls e) (λ i. exp_kept own ls false i e holds.1)) made c c' st h
+          statement_kept own ls (plain.let_statement s p y plain.absent) holds made c c' come come' st h =
+              subst (λ (y' : Option TypeTree). StatementKept (plain.let_statement s p y plain.absent) (plain.let_statement s p y' plain.absent)) (sym (places.types p y)) (declared s p y) made c c' come come' st h
+          statement_kept own ls (plain.let_statement s p y (plain.present e)) holds made c c' come come' st h =
+              subst (λ (y' : Option TypeTree). StatementKept (plain.let_statement s p y (plain.present e)) (plain.let_statement s p y' (plain.present (changed C own ls e)))) (sym (places.types p y)) (initialised s p y e (changed C own ls e) (λ i. exp_kept own ls false i e holds.1)) made c c' come come' st h

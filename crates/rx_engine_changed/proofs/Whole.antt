@@ -12,7 +12,6 @@ use Rattle.rx_hoist_extraction.specs.Plan.{has_enum, has_exit, is_unit, names_of
 use Rattle.rx_hoist_extraction.specs.Names.{Names}
 use Rattle.rx_hoist_extraction.specs.Values.{next_values, result_of, value_type, values_at, values_of, variables_held, Value}
 use Rattle.rx_typeck_solver.specs.Facts.{coerced, KnownItems}
-use Rattle.rx_typeck_typed.specs.Asking.{expected}
 use Rattle.rx_typeck_typed.specs.Demands.{count}
 use Rattle.rx_engine_names.specs.Renaming.{Renaming}
 use Rattle.rx_engine_names.specs.HandedOut.{not_mutable, AreArms, AreAssigned, AreJoined, Handing, IsArm, IsJump, IsWhole, OneDone}

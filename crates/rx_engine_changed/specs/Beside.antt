@@ -41,6 +41,11 @@ pub data IsPiece (p : Piece) : List Piece → Type 0 where
   newest : {ps : List Piece} → IsPiece p (p ∷ ps)
   older : {o : Piece} {ps : List Piece} → IsPiece p ps → IsPiece p (o ∷ ps)
 
+-- pieces that were made behind others
+pub data Later (made : List Piece) : List Piece → Type 0 where
+  no_later : Later made made
+  one_later : {o : Piece} {ps : List Piece} → Later made ps → Later made (o ∷ ps)
+
 -- a numbering of the first in the other, which can be undone there for what corresponds; and what stands in the other for a part
 pub record Numbers : Type 0 where
   pub by : Renumbering

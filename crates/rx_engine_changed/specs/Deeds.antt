@@ -1,36 +1,60 @@
 -- What a part of a function does where it is numbered (Rust Reference, "let statements", "Type inference", "Loop expressions"): the variables and the
--- loops that it declares, in order; which variables that wait get their types in it; to which loops a `break` in it leads.
-use Rattle.std.specs.Prelude.{ℕ, Bool, true, false, ◌==◌, ◌||◌, List, [], ◌∷◌, ◌++◌, Option, Some, None, option_map}
+-- loops that it declares, in order; which variables that wait get their types in it; to which loops a `break` in it leads; which variables are the
+-- whole left side of an `=` in it; and which wait for their types from a `let` in it on.
+use Rattle.std.specs.Prelude.{ℕ, Bool, true, false, ◌==◌, ◌&&◌, ◌||◌, List, [], ◌∷◌, ◌++◌, Option, Some, None, option_map}
 use Rattle.rx_typed.specs.declared.nodes.Declaration.{Declaration}
-use Rattle.rx_typed.specs.declared.nodes.Use.{Use}
 use Rattle.rx_typed.specs.Named as named
-use Rattle.rx_typed.specs.Named.{Pattern, Patterns, FieldPatterns, Exp, Exps, Else, Fields, Arms, Body, Statement, Statements}
-use Rattle.rx_typed.specs.Naming.{as_known}
+use Rattle.rx_typed.specs.Named.{Pattern, Patterns, FieldPatterns, Exp, Exps, Else, Fields, Arms, Body, Statement, Statements, never, whole_binding}
+use Rattle.rx_typed.specs.Naming.{as_known, has_no_type}
 
 pub record Deeds : Type 0 where
   pub variables : List ℕ
   pub loops : List ℕ
   pub settles : ℕ → Bool
   pub leaves : ℕ → Bool
+  pub assigns : ℕ → Bool
+  pub awaits : ℕ → Bool
+
+abbrev pub no_number : ℕ → Bool
+no_number n = false
 
 abbrev pub nothing : Deeds
-nothing = record { variables = []; loops = []; settles = λ n. false; leaves = λ n. false }
+nothing = record { variables = []; loops = []; settles = no_number; leaves = no_number; assigns = no_number; awaits = no_number }
 
 abbrev pub declares : ℕ → Deeds
-declares x = record { variables = x ∷ []; loops = []; settles = λ n. false; leaves = λ n. false }
+declares x = record nothing { variables = x ∷ [] }
 
 abbrev pub begins : ℕ → Deeds
-begins l = record { variables = []; loops = l ∷ []; settles = λ n. false; leaves = λ n. false }
+begins l = record nothing { loops = l ∷ [] }
 
 abbrev pub gives_type : ℕ → Option ℕ → Deeds
-gives_type x None = nothing
-gives_type x (Some p) = record { variables = []; loops = []; settles = λ n. n == x; leaves = λ n. false }
+gives_type x None = record nothing { assigns = λ n. n == x }
+gives_type x (Some p) = record nothing { settles = λ n. n == x; assigns = λ n. n == x }
 
 abbrev pub leads_to : ℕ → Deeds
-leads_to l = record { variables = []; loops = []; settles = λ n. false; leaves = λ n. n == l }
+leads_to l = record nothing { leaves = λ n. n == l }
+
+abbrev pub assigned : Exp → Deeds
+assigned (named.var n x) = record nothing { assigns = λ n. n == x.number }
+assigned _ = nothing
+
+abbrev pub awaited : Option ℕ → Deeds
+awaited None = nothing
+awaited (Some x) = record nothing { awaits = λ n. n == x }
+
+abbrev pub awaited_if : Bool → Pattern → Deeds
+awaited_if false p = nothing
+awaited_if true p = awaited (whole_binding p)
 
 abbrev pub also : Deeds → Deeds → Deeds
-also f g = record { variables = f.variables ++ g.variables; loops = f.loops ++ g.loops; settles = λ n. f.settles n || g.settles n; leaves = λ n. f.leaves n || g.leaves n }
+also f g = record {
+  variables = f.variables ++ g.variables;
+  loops = f.loops ++ g.loops;
+  settles = λ n. f.settles n || g.settles n;
+  leaves = λ n. f.leaves n || g.leaves n;
+  assigns = λ n. f.assigns n || g.assigns n;
+  awaits = λ n. f.awaits n || g.awaits n;
+}
 
 abbrev mutual
   pub of_pattern : Pattern → Deeds
@@ -63,7 +87,7 @@ abbrev mutual
   of_exp (named.invert n e) = of_exp e
   of_exp (named.borrow n m e) = of_exp e
   of_exp (named.binary n o a b) = also (of_exp a) (of_exp b)
-  of_exp (named.assign n a b) = also (of_exp a) (of_exp b)
+  of_exp (named.assign n a b) = also (of_exp a) (also (assigned a) (of_exp b))
   of_exp (named.gives n p x d e) = also (of_exp e) (gives_type x.number d)
   of_exp (named.update n o a b) = also (of_exp a) (of_exp b)
   of_exp (named.call n f es) = of_exps es
@@ -103,8 +127,8 @@ abbrev mutual
   of_body (named.body n ss o) = also (of_statements ss) (of_else o)
 
   pub of_statement : Statement → Deeds
-  of_statement (named.declares n p t) = of_pattern p
-  of_statement (named.lets n p t e) = also (of_pattern p) (of_exp e)
+  of_statement (named.declares n p t) = also (of_pattern p) (awaited_if (has_no_type t) p)
+  of_statement (named.lets n p t e) = also (also (of_pattern p) (of_exp e)) (awaited_if (has_no_type t && never e) p)
   of_statement (named.evaluates n e b) = of_exp e
 
   pub of_statements : Statements → Deeds

@@ -15,27 +15,32 @@ use Rattle.rx_engine_changed.specs.Deeds as deeds
 use Rattle.rx_engine_changed.specs.Round.{SameEnd}
 use Rattle.rx_engine_changed.specs.Stages.{waits_there, InStep, LikeDeclared, Mutability}
 
--- From these cursors to those: a variable in front that waits gets its type in both or in neither, a loop round them is left by both or by neither;
--- and no variable that is declared in the second and stands for none waits.
+-- From these cursors to those: a variable in front that waits is assigned in both or in neither, a loop round them is left by both or by neither; and
+-- no variable that is declared in the second and stands for none waits.
 pub record DoAlike (R : Renaming) (f f' : Deeds) (c c' d' : Cursor) : Type 0 where
-  pub settled : (n m : ℕ) → R.variable n m ≡ true → n < c.declared → m < c'.declared → waits_there (slice_get c.variables n) ≡ true → f.settles n ≡ f'.settles m
+  pub assigned : (n m : ℕ) → R.variable n m ≡ true → n < c.declared → m < c'.declared → waits_there (slice_get c.variables n) ≡ true → f.assigns n ≡ f'.assigns m
   pub left : (n m : ℕ) → R.loop n m ≡ true → n < length c.loops → m < length c'.loops → f.leaves n ≡ f'.leaves m
   pub alone : (m : ℕ) → c'.declared ≤ m → ((n : ℕ) → R.variable n m ≡ true → ⊥) → waits_there (slice_get d'.variables m) ≡ false
 
--- what both hand on, by a name that both bind, is known alike behind them
-abbrev pub HandedAlike : Renaming → Mutability → List Piece → List Statement → List Statement → Variables → Variables → Cursor → Cursor → Type 0
-HandedAlike R W made run call sc sc' d d' = (n m : ℕ) → R.variable n m ≡ true → NamedByBoth run call sc sc' n m → LikeDeclared made (W n m) (slice_get d.variables n) (slice_get d'.variables m)
+-- what both declare and hand on, by a name that both bind, is known alike behind them
+abbrev pub HandedAlike : Renaming → Mutability → List Piece → List Statement → List Statement → Variables → Variables → Cursor → Cursor → Cursor → Cursor → Type 0
+HandedAlike R W made run call sc sc' c c' d d' = (n m : ℕ) → R.variable n m ≡ true → c.declared ≤ n → c'.declared ≤ m → NamedByBoth run call sc sc' n m → LikeDeclared made (W n m) (slice_get d.variables n) (slice_get d'.variables m)
 
 -- wherever both are come to in step
-abbrev pub RunDoesAlike : Renaming → Mutability → Told → Inside → Inside → List Statement → List Statement → List Statement → Type 0
-RunDoesAlike R W T I I' front run call = (made : List Piece) (c c' : Cursor) (p : Place) → InStep R W made c c' → (s : StandFor T I I' front run call p R (of_statements (as_statements run) c).0 (of_statements (as_statements call) c').0)
+-- where the text comes to the run
+abbrev pub HandsOnAlike : Renaming → Mutability → Told → Inside → Inside → (Cursor → Cursor → Type 0) → List Statement → List Statement → List Statement → Type 0
+HandsOnAlike R W T I I' C front run call = (made : List Piece) (c c' : Cursor) (p : Place) → C c c' → InStep R W made c c' → (s : StandFor T I I' front run call p R (of_statements (as_statements run) c).0 (of_statements (as_statements call) c').0)
+    → HandedAlike R W made run call s.text.end.scope s.made.end.scope c c' (of_statements (as_statements run) c).1 (of_statements (as_statements call) c').1
+
+abbrev pub RunDoesAlike : Renaming → Mutability → Told → Inside → Inside → (Cursor → Cursor → Type 0) → List Statement → List Statement → List Statement → Type 0
+RunDoesAlike R W T I I' C front run call = (made : List Piece) (c c' : Cursor) (p : Place) → C c c' → InStep R W made c c' → (s : StandFor T I I' front run call p R (of_statements (as_statements run) c).0 (of_statements (as_statements call) c').0)
     → DoAlike R (deeds.of_statements (of_statements (as_statements run) c).0) (deeds.of_statements (of_statements (as_statements call) c').0) c c' (of_statements (as_statements call) c').1
-    × HandedAlike R W made run call s.text.end.scope s.made.end.scope (of_statements (as_statements run) c).1 (of_statements (as_statements call) c').1
+    × HandedAlike R W made run call s.text.end.scope s.made.end.scope c c' (of_statements (as_statements run) c).1 (of_statements (as_statements call) c').1
     × (some_diverges (of_statements (as_statements call) c').0 ≡ some_diverges (of_statements (as_statements run) c).0)
 
 -- with a tail; nothing is handed on
-abbrev pub EndDoesAlike : Renaming → Mutability → ToldLast → Inside → Inside → List Statement → List Statement → List Statement → OptionalExpression → OptionalExpression → Type 0
-EndDoesAlike R W T I I' front run call tail last = (made : List Piece) (c c' : Cursor) (p : Place) (t : Site) → InStep R W made c c'
+abbrev pub EndDoesAlike : Renaming → Mutability → ToldLast → Inside → Inside → (Cursor → Cursor → Type 0) → List Statement → List Statement → List Statement → OptionalExpression → OptionalExpression → Type 0
+EndDoesAlike R W T I I' C front run call tail last = (made : List Piece) (c c' : Cursor) (p : Place) (t : Site) → C c c' → InStep R W made c c'
     → EndFor T I I' front run call tail last p R (of_statements (as_statements run) c).0 (of_optional t tail (of_statements (as_statements run) c).1).0 (of_statements (as_statements call) c').0 (of_optional t last (of_statements (as_statements call) c').1).0
     → DoAlike R (also (deeds.of_statements (of_statements (as_statements run) c).0) (of_else (of_optional t tail (of_statements (as_statements run) c).1).0))
     (also (deeds.of_statements (of_statements (as_statements call) c').0) (of_else (of_optional t last (of_statements (as_statements call) c').1).0)) c c' (of_optional t last (of_statements (as_statements call) c').1).1

@@ -1,4 +1,5 @@
 pub mod Beside
+pub mod Comes
 pub mod Stages
 pub mod Round
 pub mod Numbered
@@ -12,3 +13,7 @@ pub mod Inside
 pub mod HandedTypes
 pub mod Deeds
 pub mod DoAlike
+pub mod PlannedDeeds
+pub mod Quiet
+pub mod Declared
+pub mod TextStands

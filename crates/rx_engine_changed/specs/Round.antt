@@ -45,14 +45,15 @@ as_mutable n m a b = b ≡ a
 abbrev pub SameEnd : Statements → Else → Statements → Else → Type 0
 SameEnd xs o ys o' = ((some_diverges ys || else_diverges o') ≡ (some_diverges xs || else_diverges o)) × ((d : Bool) → tail_never (d || some_diverges ys) o' ≡ tail_never (d || some_diverges xs) o)
 
--- wherever both are come to in step, a run and what stands for it go on in step, and both diverge or neither does
-abbrev pub GoesOn : Renaming → Mutability → Told → Inside → Inside → List Statement → List Statement → List Statement → Type 0
-GoesOn R W T I I' front run call = (made : List Piece) (c c' : Cursor) (p : Place) → InStep R W made c c' → StandFor T I I' front run call p R (of_statements (as_statements run) c).0 (of_statements (as_statements call) c').0
+-- Wherever both are come to in step, and `C` says that both numberings come there, of the text to the run: a run and what stands for it go on in step, and both diverge or
+-- neither does.
+abbrev pub GoesOn : Renaming → Mutability → Told → Inside → Inside → (Cursor → Cursor → Type 0) → List Statement → List Statement → List Statement → Type 0
+GoesOn R W T I I' C front run call = (made : List Piece) (c c' : Cursor) (p : Place) → C c c' → InStep R W made c c' → StandFor T I I' front run call p R (of_statements (as_statements run) c).0 (of_statements (as_statements call) c').0
     → InStep R W made (of_statements (as_statements run) c).1 (of_statements (as_statements call) c').1 × (some_diverges (of_statements (as_statements call) c').0 ≡ some_diverges (of_statements (as_statements run) c).0)
 
 -- the same where a tail is behind them, wherever it stands: both blocks diverge or neither does, and both have a value or neither has
-abbrev pub GoesOnLast : Renaming → Mutability → ToldLast → Inside → Inside → List Statement → List Statement → List Statement → OptionalExpression → OptionalExpression → Type 0
-GoesOnLast R W T I I' front run call tail last = (made : List Piece) (c c' : Cursor) (p : Place) (t : Site) → InStep R W made c c'
+abbrev pub GoesOnLast : Renaming → Mutability → ToldLast → Inside → Inside → (Cursor → Cursor → Type 0) → List Statement → List Statement → List Statement → OptionalExpression → OptionalExpression → Type 0
+GoesOnLast R W T I I' C front run call tail last = (made : List Piece) (c c' : Cursor) (p : Place) (t : Site) → C c c' → InStep R W made c c'
     → EndFor T I I' front run call tail last p R (of_statements (as_statements run) c).0 (of_optional t tail (of_statements (as_statements run) c).1).0 (of_statements (as_statements call) c').0 (of_optional t last (of_statements (as_statements call) c').1).0
     → InStep R W made (of_optional t tail (of_statements (as_statements run) c).1).1 (of_optional t last (of_statements (as_statements call) c').1).1
     × SameEnd (of_statements (as_statements run) c).0 (of_optional t tail (of_statements (as_statements run) c).1).0 (of_statements (as_statements call) c').0 (of_optional t last (of_statements (as_statements call) c').1).0

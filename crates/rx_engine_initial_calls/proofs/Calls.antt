@@ -36,11 +36,11 @@ use Rattle.rx_engine_initial.proofs.Handing.{good_front, handing_in_order}
 use Rattle.rx_engine_initial.proofs.Calls.{call_so, closes_by}
 use Rattle.rx_engine_initial.proofs.Fates.{fates_kept}
 use Rattle.rx_engine_initial_calls.specs.Received.{IsWay}
-use Rattle.rx_engine_initial_calls.specs.Becoming.{Becomes, is_unnamed, is_lent, is_handed, is_gone, is_again}
+use Rattle.rx_engine_initial_calls.specs.Becoming.{Becomes, is_unnamed, is_lent, is_handed, is_gone, is_spent, is_again}
 use Rattle.rx_engine_initial_calls.specs.GoneThrough.{IsGoneThrough}
 use Rattle.rx_engine_initial_calls.specs.CallOf.{IsCallOf}
 use Rattle.rx_engine_initial_calls.specs.MatchOf.{IsFront, LeavesSo, by_return, by_jump, GoesOn, IsMatchOf, HasWays}
-use Rattle.rx_engine_initial_calls.proofs.Entry.{entry, param_set, param_stands, param_was, param_ahead, out_was, not_needed, local_not}
+use Rattle.rx_engine_initial_calls.proofs.Entry.{entry, param_set, param_stands, param_was, param_ahead, out_was, not_needed, not_live_there, local_not}
 use Rattle.rx_engine_initial_calls.proofs.Receiving.{handing_leaves, receives_good, no_variable}
 
 -- a walk through pieces is one of what they stand in front of, cut off
@@ -72,6 +72,7 @@ module _ (A : Asked) (k : Plan) (plan : IsPlan A k) (S : Sides) (acc : Accepted 
           (param_was A S.muts_there acc k plan whole e exits w u there g y p)
       fate m us x y (is_handed i b c n t ss q f) = handed_out b c n t ss q f (out_was A S.muts_there acc k plan whole e exits w u there g y i)
       fate m us x y (is_gone i s d n f) = needless i (not_live m y s n) f (λ a j. g.declared a j y d)
+      fate m us x y (is_spent i d n f) = needless i (λ ws c. not_live_there A S.muts_there acc k plan whole e exits w u there g y n ws (subst (λ (f : Function). IsWalk f ((w ++ u) ++ ws)) o.text c)) f (λ a j. g.declared a j y d)
       fate m us x y (is_again s n b c l q f) = begins_again (not_live m y s n) b c l q f
 
       pub fates : e ≢ returns → (T : KnownVariables S) (us : List Action) → ((x y : ℕ) → Among (as_itself x y) T.variables → Becomes S A k e R us x y) → ((x : ℕ) → Among (by_reference x) T.variables → ⊥)

@@ -12,7 +12,7 @@ use Rattle.rx_facts_tables.specs.Initialised.{IsFixed}
 use Rattle.rx_facts_tables.specs.Live.{living, has_root}
 use Rattle.rx_exits_plan.specs.Points.{Exit, returns, enters, leaves}
 use Rattle.rx_exits_plan.specs.Marked.{shown}
-use Rattle.rx_exits_plan.specs.Asked.{Asked}
+use Rattle.rx_exits_plan.specs.Asked.{Asked, IsLiveAt}
 use Rattle.rx_exits_plan.specs.Plan.{Plan, IsPlan, variables_of}
 use Rattle.rx_exits_plan.specs.PartlyMoved.{PartlyMoved}
 use Rattle.rx_meaning_keeping.proofs.Parts.{parted}
@@ -171,6 +171,13 @@ module _ (A : Asked) (muts : List Bool) (acc : Accepted A muts) (k : Plan) (plan
 
   pub not_needed : e ≢ returns → (y : ℕ) → In y (special_of A k) → (Among y (k.outs e) → ⊥) → (ws : List Action) → IsWalk (text_of A k) ((w ++ u) ++ ws) → ahead (living (variable y)) ws ≡ false
   not_needed n y s f ws d = sym (ends_ahead y g.ends ws g.ended) ∙ not_live A muts acc k plan e y exits n s f (w ++ g.inner) (g.ends ++ ws) (to_mark ws d)
+
+  pub not_live_there : (y : ℕ) → ¬ (IsLiveAt A k.params e y) → (ws : List Action) → IsWalk (text_of A k) ((w ++ u) ++ ws) → ahead (living (variable y)) ws ≡ false
+  not_live_there y f ws d = sym (ends_ahead y g.ends ws g.ended) ∙ by (ahead (living (variable y)) (g.ends ++ ws)) refl
+    where
+      by : (b : Bool) → ahead (living (variable y)) (g.ends ++ ws) ≡ b → ahead (living (variable y)) (g.ends ++ ws) ≡ false
+      by false q = q
+      by true q = absurd (f (w ++ g.inner, g.ends ++ ws, to_mark ws d, q))
 
   -- a local that is handed out, and not declared `mut`, is assigned in the run, so it was not before
   pub local_not : (y : ℕ) → Among y k.locals → Among y (k.outs e) → IsFixed muts y → was_assigned w y ≡ false

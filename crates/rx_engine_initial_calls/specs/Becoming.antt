@@ -7,7 +7,7 @@ use Rattle.rx_lower_walks.specs.Actions.{Declare, Write, Action, does}
 use Rattle.rx_lower_walks.specs.Walks.{Among}
 use Rattle.rx_facts_tables.specs.Wholes.{assigns, begins}
 use Rattle.rx_exits_plan.specs.Points.{Exit}
-use Rattle.rx_exits_plan.specs.Asked.{Asked}
+use Rattle.rx_exits_plan.specs.Asked.{Asked, IsLiveAt}
 use Rattle.rx_exits_plan.specs.Plan.{Plan, variables_of, foreign_of}
 use Rattle.rx_engine_simulation.specs.Sights.{In}
 use Rattle.rx_engine_related.specs.AboutRun.{special_of}
@@ -26,6 +26,8 @@ pub data Becomes (S : Sides) (A : Asked) (k : Plan) (e : Exit) (R : KnownVariabl
   -- a param that moves, or a local, which is not handed out
   is_gone : Among (as_itself x y) R.variables → In y (special_of A k) → Among y (foreign_of A) → (Among y (k.outs e) → ⊥)
       → ((a : Action) → Among a us → (assigns x a.act ≡ false) × (begins x a.act ≡ false)) → Becomes S A k e R us x y
+  -- what is passed by value moves, and no walk needs it on from the exit
+  is_spent : Among (as_itself x y) R.variables → Among y (foreign_of A) → ¬ (IsLiveAt A k.params e y) → ((a : Action) → Among a us → (assigns x a.act ≡ false) × (begins x a.act ≡ false)) → Becomes S A k e R us x y
   -- the run declares it, and so does the caller again
   is_again : In y (special_of A k) → (Among y (k.outs e) → ⊥) → (before behind : List Action) (n : ℕ) → us ≡ before ++ does n (Declare x) ∷ behind
       → AllLeave behind x → Becomes S A k e R us x y

@@ -5,6 +5,7 @@ pub mod Coming
 pub mod Receiving
 pub mod PuttingBack
 pub mod Lists
+pub mod InBlocks
 pub mod HandingBack
 pub mod Becoming
 pub mod Called
@@ -27,3 +28,6 @@ pub mod Widening
 pub mod NewFunctions
 pub mod CallerTrees
 pub mod Callers
+pub mod NeverMarked
+pub mod NeverOn
+pub mod OtherEnds

@@ -70,7 +70,7 @@ abbrev Leaving : Asked → Plan → Order → Type 0
 Leaving A k t = (n : ℕ) (b : Bool) → Among (jump_exit n b) k.exits → (m : ℕ) × (u : List Action) × Walk t u (leaves (orders.exit m n b)) × IsGoneThrough A k (jump_exit n b) u
 
 module _ (S : Sides) (A : Asked) (k : Plan) (plan : IsPlan A k) (R : Renaming) (K : KnownVariables S) (g : Agrees S R K) (all : AllSlots R) (Rn : Renaming) (asked : CallerAsked S A k R Rn)
-    (J : Jumping) (loops : AgreesOnLoops S J K) {again : Bool} {cold : List ℕ} {modes : List Mode} (es : Operands) {ps : List Parameter} {Rp : Renaming} (to : GivenTo again R cold [] k.params modes es ps Rp) (so : GivenSo to)
+    (J : Jumping) (loops : AgreesOnLoops S J K) {again : Bool} {cold : List ℕ} {modes : List Mode} (es : Operands) {ps : List Parameter} {Rp : Renaming} (to : GivenTo again R cold [] k.params modes es ps Rp) (so : GivenSo A k to)
     {ls : List (ℕ × ℕ)} {Rl : Renaming} (locals : LocalsOf R Rp k.locals ls Rl) (mc : Mark) (i : ℕ) (mm : Mark) (p : Pattern) (e : Exp) (l : Arms)
     (Rs Rr Rd Rb : Renaming) (h f : Body → Body) (within : Within Rs R) (not_handed : NotHanded A k next Rs)
     (hb : HandsBack A S.muts_there k R (tree.choose mm (tree.of_value (tree.call mc i es)) (tree.arm_and p e l)) Rs (k.outs next) Rr h) (rd : Redeclared Rb Rr k.redeclared f Rd) (fewer : Within Rn Rd) (wider : Within R Rn)
@@ -108,7 +108,7 @@ module _ (S : Sides) (A : Asked) (k : Plan) (plan : IsPlan A k) (R : Renaming) (
       by_first unit (subst (λ u. ArmsOf A S.muts_there k unit J R u) (arms_are eq) back) (λ x y q o. absurd (nothing_out A k plan none x o)) (λ v j r ts d found. absurd (none j)) only
 
 pub match_stands : (S : Sides) (A : Asked) (k : Plan) → IsPlan A k → {again : Bool} {modes : List Mode} {R Ra Rb Rn : Renaming} {es : Operands} {ps : List Parameter} {ls : List (ℕ × ℕ)} {mc mm : Mark} {i : ℕ} {f : Body → Body} {J Ji : Jumping} {w : Way}
-    {p : Pattern} {e : Exp} {l : Arms} (given : EntersWith again k modes R es ps ls Ra) → EntersSo given → CallOf A S.muts_there k J R (tree.call mc i es) Ji w (tree.choose mm (tree.of_value (tree.call mc i es)) (tree.arm_and p e l))
+    {p : Pattern} {e : Exp} {l : Arms} (given : EntersWith again k modes R es ps ls Ra) → EntersSo A given → CallOf A S.muts_there k J R (tree.call mc i es) Ji w (tree.choose mm (tree.of_value (tree.call mc i es)) (tree.arm_and p e l))
     → OnlyExits k (tree.arm_and p e l) (tree.arm_and p e l) → Handed A S.muts_there k R Rb (tree.choose mm (tree.of_value (tree.call mc i es)) (tree.arm_and p e l)) Rn f → CallerAsked S A k R Rn
     → (K : KnownVariables S) → Agrees S R K → AgreesOnLoops S J K → (t : Order) → Leaving A k t
     → (T : KnownVariables S) × Agrees S Rn T × (T.loops ≡ K.loops) × ((n : ℕ) → (H : List Piece) × ((b : Body) (d : Temporary) → order_body (f b) n d ≡ fill H (order_body b n d)) × IsMatchOf S A k K T H t)
@@ -119,7 +119,7 @@ match_stands S A k plan {R = R} {Rb = Rb} {Rn = Rn} {es = es} {mc = mc} {mm = mm
 -- it matches a run that is reached
 pub match_matches_run : (S : Sides) (A : Asked) (k : Plan) → Had A S.muts_there k → IsItself (Some (Some A.function)) → ((q : At) → Unreachable A q → ⊥) → Sized S.frame.declared S.frame.sizes → IsTextOf S A k
     → {again : Bool} {modes : List Mode} {R Ra Rb Rn : Renaming} {es : Operands} {ps : List Parameter} {ls : List (ℕ × ℕ)} {mc mm : Mark} {i : ℕ} {f : Body → Body} {J Ji : Jumping} {w : Way}
-    {p : Pattern} {e : Exp} {l : Arms} (given : EntersWith again k modes R es ps ls Ra) → EntersSo given → CallOf A S.muts_there k J R (tree.call mc i es) Ji w (tree.choose mm (tree.of_value (tree.call mc i es)) (tree.arm_and p e l))
+    {p : Pattern} {e : Exp} {l : Arms} (given : EntersWith again k modes R es ps ls Ra) → EntersSo A given → CallOf A S.muts_there k J R (tree.call mc i es) Ji w (tree.choose mm (tree.of_value (tree.call mc i es)) (tree.arm_and p e l))
     → OnlyExits k (tree.arm_and p e l) (tree.arm_and p e l) → Handed A S.muts_there k R Rb (tree.choose mm (tree.of_value (tree.call mc i es)) (tree.arm_and p e l)) Rn f → CallerAsked S A k R Rn
     → (K : KnownVariables S) → Agrees S R K → AgreesOnLoops S J K → (r : Order)
     → (T : KnownVariables S) × Agrees S Rn T × (T.loops ≡ K.loops)

@@ -65,7 +65,7 @@ not_returned n true q = cc
 not_returned n false q = cc
 
 module _ (S : Sides) (A : Asked) (k : Plan) (plan : IsPlan A k) (R : Renaming) (K : KnownVariables S) (g : Agrees S R K) (all : AllSlots R) (Rn : Renaming) (asked : CallerAsked S A k R Rn)
-    (J : Jumping) (loops : AgreesOnLoops S J K) {again : Bool} {cold : List ℕ} {modes : List Mode} (es : Operands) {ps : List Parameter} {Rp : Renaming} (to : GivenTo again R cold [] k.params modes es ps Rp) (so : GivenSo to)
+    (J : Jumping) (loops : AgreesOnLoops S J K) {again : Bool} {cold : List ℕ} {modes : List Mode} (es : Operands) {ps : List Parameter} {Rp : Renaming} (to : GivenTo again R cold [] k.params modes es ps Rp) (so : GivenSo A k to)
     {ls : List (ℕ × ℕ)} {Rl : Renaming} (locals : LocalsOf R Rp k.locals ls Rl) (mc : Mark) (i : ℕ) (mm : Mark) (l : Arms) where
   abbrev Does : Exit → List Action → Out → Type 0
   Does = ArmDoes S A k plan R K g all Rn asked J loops
@@ -184,13 +184,13 @@ module _ (S : Sides) (A : Asked) (k : Plan) (plan : IsPlan A k) (R : Renaming) (
           becomes y w q =
               let s = g.no_others w y q in
               subst (λ v. Becomes S A k (jump_exit n b) K v y w) (joined (args S A k plan R K g all Rn asked es to so locals mc i).actions (call S A k plan R K g all Rn asked es to so locals mc i ∷ pre) us)
-              (becomes_so S A k plan R K g all Rn asked es to so locals mc i (jump_exit n b) [] (λ v o. elim o [ ]) Rs within apart pre us (tests_leave R h) w _ (came w _ s.1))
+              (becomes_so S A k plan R K g all Rn asked es to so locals mc i (jump_exit n b) taken [] (λ v o. elim o [ ]) Rs within apart pre us (tests_leave R h) w _ (came w _ s.1))
       left_so t leaving (match_all x j pre h (returns_on m r)) = by_return
 
 -- ---- all of it
 
 module _ (S : Sides) (A : Asked) (k : Plan) (plan : IsPlan A k) (R : Renaming) (K : KnownVariables S) (g : Agrees S R K) (all : AllSlots R) (Rn : Renaming) (asked : CallerAsked S A k R Rn)
-    (J : Jumping) (loops : AgreesOnLoops S J K) {again : Bool} {cold : List ℕ} {modes : List Mode} (es : Operands) {ps : List Parameter} {Rp : Renaming} (to : GivenTo again R cold [] k.params modes es ps Rp) (so : GivenSo to)
+    (J : Jumping) (loops : AgreesOnLoops S J K) {again : Bool} {cold : List ℕ} {modes : List Mode} (es : Operands) {ps : List Parameter} {Rp : Renaming} (to : GivenTo again R cold [] k.params modes es ps Rp) (so : GivenSo A k to)
     {ls : List (ℕ × ℕ)} {Rl : Renaming} (locals : LocalsOf R Rp k.locals ls Rl) (mc : Mark) (i : ℕ) (mm : Mark) (l : Arms)
     (x₀ : Exit) (there₀ : Among x₀ k.exits) (l₀ : List Action) (o₀ : Out) (p₀ : ArmDoes S A k plan R K g all Rn asked J loops x₀ l₀ o₀)
     (says : (x : Exit) (v : ℕ) (qs : Subpatterns) (e : Exp) → Among x k.exits → variant_for k x ≡ Some v → Picks l v qs e → Says (temporary_of (tree.call mc i es)) (ArmDoes S A k plan R K g all Rn asked J loops) (temporary_of (tree.choose mm (tree.of_value (tree.call mc i es)) l)) v qs e x)
@@ -237,19 +237,19 @@ module _ (S : Sides) (A : Asked) (k : Plan) (plan : IsPlan A k) (R : Renaming) (
   fronts_of (goes_behind ws ts w front q) =
       subst (λ u. IsFront S k K u) (sym q) (front_behind S A k plan R K g all Rn asked J loops es to so locals mc i mm l x₀ there₀ l₀ o₀ p₀ (temporary_of given) says only here_behind received (took w) front)
 
-  becomes_behind : (pre us : List Action) → Tests pre → LeavesAll R us → (y x : ℕ) → Among (as_itself y x) here_scope.variables
+  becomes_behind : Among next k.exits → (pre us : List Action) → Tests pre → LeavesAll R us → (y x : ℕ) → Among (as_itself y x) here_scope.variables
       → Becomes S A k next K (in_front S A k plan R K g all Rn asked es to so locals mc i (pre ++ us) ++ here_behind) y x
-  becomes_behind pre us tests leave y x j =
+  becomes_behind nexts pre us tests leave y x j =
       let z = what_is_in_scope S Rn K.loops asked.slots one_for_each asked.types x y j in
       subst (λ v. Becomes S A k next K (in_front S A k plan R K g all Rn asked es to so locals mc i (pre ++ us) ++ here_behind) v x) z.2
-      (becomes_so S A k plan R K g all Rn asked es to so locals mc i next k.redeclared (λ w o. (again_special A k w o, again_not_out A k plan w o)) Rs within not_handed (pre ++ us) here_behind
+      (becomes_so S A k plan R K g all Rn asked es to so locals mc i next nexts k.redeclared (λ w o. (again_special A k w o, again_not_out A k plan w o)) Rs within not_handed (pre ++ us) here_behind
       (leaves_both R pre us (tests_leave R tests) leave) x z.0 (comes S A k plan R K g all Rn asked mays Rs Rr Rd Rb h f given within hb rd fewer wider x z.0 (fewer x z.0 z.1)))
 
   goes_behind_it : {us : List Action} → TookIt us on → GoesOn S A k K here_scope (us ++ here_behind)
   goes_behind_it (match_all {us = us} x j pre tests (goes_on leave f)) = record {
     exits = j;
     way = end_way S A k plan R K g all Rn asked J loops es to so locals mc i mm l x₀ there₀ l₀ o₀ p₀ (temporary_of given) says only here_behind pre us here_behind tests f received;
-    becomes = becomes_behind pre us tests leave;
+    becomes = becomes_behind j pre us tests leave;
   }
 
   is_match : (n : ℕ) → IsMatchOf S A k K here_scope (pieces_of n here_stands) t

@@ -76,6 +76,16 @@ exit_there i e (x ∷ xs) {v} f h = by (same_exit e x) refl h (λ q. exit_there 
     by true q p rest = subst (λ y. Among e (y ∷ xs)) (sym (f x q)) here
     by false q p rest = there (rest p)
 
+same_end : (x : Exit) → same_exit next x ≡ true → x ≡ next
+same_end next e = refl
+same_end (breaks n) e = not_so e
+same_end (continues n) e = not_so e
+same_end returns e = not_so e
+
+-- an end with a variant is an exit
+pub next_there : (k : Plan) {v : ℕ} → variant_for k next ≡ Some v → Among next k.exits
+next_there k h = exit_there 0 next k.exits same_end h
+
 pack_is : (xs : List ℕ) (o : Option ℕ) (p : Pack) → pack_if xs o ≡ Some p → (v : ℕ) × (o ≡ Some v) × (p.outs ≡ xs)
 pack_is xs None p h = none_is h
 pack_is xs (Some v) p h = (v, refl, ap (λ (q : Pack). q.outs) (sym (some_is h)))
@@ -150,19 +160,30 @@ module _ (S : Sides) (A : Asked) (k : Plan) (had : Had A S.muts_there k) (self :
   moved_stretch (moved_read m) s v w R g j b b' f = absurd s
   moved_stretch (moved_look x h a m) s v w R g j b b' f = absurd s
 
-  -- the new function, from where the run is entered
+  -- the new function, from where the run is entered, in front of statements of the text that what it does is alike
+  pub entered_function_matches : Initialised S.frame_there S.muts_there S.text
+      → {again : Bool} {modes : List Mode} {R Ra : Renaming} {es : Operands} {ps : List Parameter} {ls : List (ℕ × ℕ)} → EntersWith again k modes R es ps ls Ra → ((x : ℕ) (e : Sight) → sight_of Ra x ≡ Some e → IsDirect e.how → LikeVariable S e.to x)
+      → (J : Jumping) → J.loops ≡ [] → (b' b : Body) → ((T : KnownVariables S) → Agrees S Ra T → AgreesOnLoops S J T → AlikeBody S T b' b) → (T : KnownVariables S) → T.variables ≡ [] → T.loops ≡ []
+      → (f : Function) (mb : Mark) → f.params ≡ ps → f.body ≡ tree.block mb (with_locals ls b') → (n : ℕ) (t : Temporary) → Matches (world S) T (order_function f) (order_body (block.before (entering k.params) b) n t)
+  entered_function_matches initialised {ps = ps} {ls = ls} given types J none b' b h T nothing no_loops f mb params body n t =
+      let z = entry_matches S A k had.plan had.accepted text sized sized_there initialised given types T nothing (order_body (block.before (entering k.params) b) n t) (enters_met S k.params b n t) in
+      subst (λ p. Matches (world S) T (beginning p (mark_of f.body).node (order f.body (temporary_of f.body))) (order_body (block.before (entering k.params) b) n t)) (sym params)
+      (subst (λ c. Matches (world S) T (beginning ps (mark_of c).node (order c (temporary_of c))) (order_body (block.before (entering k.params) b) n t)) (sym body)
+      (z.3 mb.node mb.node b' (temporary_of (tree.block mb (with_locals ls b')))
+      (entered_passed S sized sized_there z.0 (order_body b' mb.node (temporary_of (tree.block mb (with_locals ls b')))) k.params b n t
+      (body_matches S (h z.0 z.1 (loops_agree J z.0 none (z.2 ∙ no_loops))) mb.node n (temporary_of (tree.block mb (with_locals ls b'))) t))))
+
+  -- so where it gives what the run's end hands out
+  pub gives_what_is_handed_out : Among next k.exits → {items : ℕ → ℕ} {gain : Allowance} {U : List ℕ} {J : Jumping} {Ra Rb : Renaming} {r r' : Stretch} (m : Moved items gain U (special_of A k) J Ra r r' Rb) → StretchMoves S m → LeavesBy k J → {x : Stretch} → AlsoMarkedStretch r x
+      → {w : Way} {zs : List ℕ} {g : Exp} → HaveThere Rb (k.outs next) zs → Gives w zs g → (mg : Mark) (rest : Body) (T : KnownVariables S) → Agrees S Ra T → AgreesOnLoops S J T
+      → AlikeBody S T (before r' (tree.ends (tree.give mg g))) (before x (tree.runs (mark (leaves next)) rest))
+  gives_what_is_handed_out nexts m s v u {g = g} have gives mg rest T a j = moved_stretch m s v u T a j (tree.runs (mark (leaves next)) rest) (tree.ends (tree.give mg g))
+      (λ Q a j. alike.is_opened_body (λ i c d e. new_exit_matches A k S had self next nexts next_goes_on sized text _ Q a have gives (order_body (tree.runs (mark (leaves next)) rest) c e) (end_met S (leaves next) rest c e) mg d))
+
   pub new_function_matches : Initialised S.frame_there S.muts_there S.text → Among next k.exits
       → {again : Bool} {modes : List Mode} {R Ra Rb : Renaming} {es : Operands} {ps : List Parameter} {ls : List (ℕ × ℕ)} → EntersWith again k modes R es ps ls Ra → ((x : ℕ) (e : Sight) → sight_of Ra x ≡ Some e → IsDirect e.how → LikeVariable S e.to x)
       → {items : ℕ → ℕ} {gain : Allowance} {U : List ℕ} {J : Jumping} {r r' : Stretch} (m : Moved items gain U (special_of A k) J Ra r r' Rb) → StretchMoves S m → LeavesBy k J → J.loops ≡ [] → {x : Stretch} → AlsoMarkedStretch r x
       → {w : Way} {zs : List ℕ} {g : Exp} → HaveThere Rb (k.outs next) zs → Gives w zs g → (T : KnownVariables S) → T.variables ≡ [] → T.loops ≡ [] → (f : Function) (mb mg : Mark) → f.params ≡ ps → f.body ≡ body_of mb ls r' (tree.ends (tree.give mg g))
       → (rest : Body) (n : ℕ) (t : Temporary) → Matches (world S) T (order_function f) (order_body (block.before (entering k.params) (before x (tree.runs (mark (leaves next)) rest))) n t)
-  new_function_matches initialised nexts {ps = ps} {ls = ls} given types {J = J} {r' = r'} m s v none {x = x} u {g = g} have gives T nothing no_loops f mb mg params body rest n t =
-      let z = entry_matches S A k had.plan had.accepted text sized sized_there initialised given types T nothing (order_body (block.before (entering k.params) (before x (tree.runs (mark (leaves next)) rest))) n t)
-      (enters_met S k.params (before x (tree.runs (mark (leaves next)) rest)) n t) in
-      subst (λ p. Matches (world S) T (beginning p (mark_of f.body).node (order f.body (temporary_of f.body))) (order_body (block.before (entering k.params) (before x (tree.runs (mark (leaves next)) rest))) n t)) (sym params)
-      (subst (λ b. Matches (world S) T (beginning ps (mark_of b).node (order b (temporary_of b))) (order_body (block.before (entering k.params) (before x (tree.runs (mark (leaves next)) rest))) n t)) (sym body)
-      (z.3 mb.node mb.node (before r' (tree.ends (tree.give mg g))) (temporary_of (tree.block mb (with_locals ls (before r' (tree.ends (tree.give mg g))))))
-      (entered_passed S sized sized_there z.0 (order_body (before r' (tree.ends (tree.give mg g))) mb.node (temporary_of (tree.block mb (with_locals ls (before r' (tree.ends (tree.give mg g))))))) k.params (before x (tree.runs (mark (leaves next)) rest)) n t
-      (body_matches S (moved_stretch m s v u z.0 z.1 (loops_agree J z.0 none (z.2 ∙ no_loops)) (tree.runs (mark (leaves next)) rest) (tree.ends (tree.give mg g))
-      (λ Q a j. alike.is_opened_body (λ i c d e. new_exit_matches A k S had self next nexts next_goes_on sized text _ Q a have gives (order_body (tree.runs (mark (leaves next)) rest) c e) (end_met S (leaves next) rest c e) mg d))) mb.node n
-      (temporary_of (tree.block mb (with_locals ls (before r' (tree.ends (tree.give mg g)))))) t))))
+  new_function_matches initialised nexts given types {J = J} {r' = r'} m s v none {x = x} u {g = g} have gives T nothing no_loops f mb mg params body rest n t =
+      entered_function_matches initialised given types J none (before r' (tree.ends (tree.give mg g))) (before x (tree.runs (mark (leaves next)) rest)) (λ Q a j. gives_what_is_handed_out nexts m s v u have gives mg rest Q a j) T nothing no_loops f mb params body n t

@@ -29,7 +29,7 @@ use Rattle.rx_engine_initial_related.proofs.NoFails.{body_stays}
 
 pub call_matches_run : (S : Sides) (A : Asked) (k : Plan) → Had A S.muts_there k → ((q : At) → Unreachable A q → ⊥) → Sized S.frame.declared S.frame.sizes → IsTextOf S A k → Among next k.exits
     → {again : Bool} {modes : List Mode} {R Ra Rb Rn : Renaming} {es : Operands} {ps : List Parameter} {ls : List (ℕ × ℕ)} {mc : Mark} {i : ℕ} {f : Body → Body}
-    (given : EntersWith again k modes R es ps ls Ra) → EntersSo given → Handed A S.muts_there k R Rb (tree.call mc i es) Rn f → CallerAsked S A k R Rn → (K : KnownVariables S) → Agrees S R K
+    (given : EntersWith again k modes R es ps ls Ra) → EntersSo A given → Handed A S.muts_there k R Rb (tree.call mc i es) Rn f → CallerAsked S A k R Rn → (K : KnownVariables S) → Agrees S R K
     → (T : KnownVariables S) × Agrees S Rn T × (T.loops ≡ K.loops)
     × ((n : ℕ) (b : Body) (d : Temporary) (r : Order) → Matches (world S) T (order_body b n d) r → Matches (world S) K (order_body (f b) n d) (fill (run_pieces A k) r))
 call_matches_run S A k had reached sized text nexts given so handed asked K g =

@@ -1,12 +1,13 @@
 -- What is asked besides of a call that the relation of trees puts in place of a run (rx_engine_related): how the caller has its variables, their
--- types, which of them the plan speaks of, and which may be assigned; and that a variable which is copied to the new function does not move there.
+-- types, which of them the plan speaks of, and which may be assigned; and that a variable which is copied to the new function does not move there,
+-- unless it is needed no more.
 -- (REM: "Adventures in refactoring Rust: extract function", OOPSLA 2023; Rust Reference, "Moved and copied types".)
 use Rattle.std.specs.Prelude.{◌≡◌, ◌⊎◌, ℕ, Bool, false, true, List, Some, slice_get}
 use Rattle.rx_typed.specs.Tree.{Parameter, Operands}
 use Rattle.rx_lower_walks.specs.Walks.{Among}
 use Rattle.rx_exits_plan.specs.Occurrences.{is_declared_in_run}
 use Rattle.rx_exits_plan.specs.Points.{Exit}
-use Rattle.rx_exits_plan.specs.Asked.{Asked}
+use Rattle.rx_exits_plan.specs.Asked.{Asked, IsLiveAt}
 use Rattle.rx_exits_plan.specs.Plan.{Plan, foreign_of}
 use Rattle.rx_modes_policy.specs.declared.uses.Mode.{Mode}
 use Rattle.rx_engine_simulation.specs.Sights.{How, plain, special, Sight, Renaming, sight_of}
@@ -19,19 +20,23 @@ IsSlot (plain w) = Unit {0}
 IsSlot special = Unit {0}
 IsSlot _ = ⊥
 
--- what is copied to the new function is read without a move
-abbrev pub GivenSo : {again : Bool} {R : Renaming} {cold : List ℕ} {Rp Rf : Renaming} {xs : List ℕ} {ms : List Mode} {es : Operands} {ps : List Parameter} → GivenTo again R cold Rp xs ms es ps Rf → Type 0
-GivenSo given_all = Unit {0}
-GivenSo (moves_in h n f g) = GivenSo g
-GivenSo (moves_again a h n f g) = GivenSo g
-GivenSo (is_copied {moves = v} h i n f g) = (v ≡ false) × GivenSo g
-GivenSo (is_shared w h n f g) = GivenSo g
-GivenSo (is_lent w h c n f g) = GivenSo g
-GivenSo (is_reborrowed a h i n f g) = GivenSo g
-GivenSo (is_viewed a h i n f g) = GivenSo g
+-- on from none of the plan's exits
+abbrev pub NeededNoMore : Asked → Plan → ℕ → Type 0
+NeededNoMore A k x = (e : Exit) → Among e k.exits → ¬ (IsLiveAt A k.params e x)
 
-abbrev pub EntersSo : {again : Bool} {k : Plan} {modes : List Mode} {R : Renaming} {es : Operands} {ps : List Parameter} {ls : List (ℕ × ℕ)} {Ra : Renaming} → EntersWith again k modes R es ps ls Ra → Type 0
-EntersSo (enters_with cold Rp Rl s g l a c p) = GivenSo g
+-- what is copied to the new function is read without a move, or no walk needs it behind the run
+abbrev pub GivenSo : (A : Asked) (k : Plan) {again : Bool} {R : Renaming} {cold : List ℕ} {Rp Rf : Renaming} {xs : List ℕ} {ms : List Mode} {es : Operands} {ps : List Parameter} → GivenTo again R cold Rp xs ms es ps Rf → Type 0
+GivenSo A k given_all = Unit {0}
+GivenSo A k (moves_in h n f g) = GivenSo A k g
+GivenSo A k (moves_again a h n f g) = GivenSo A k g
+GivenSo A k (is_copied {x = x} {moves = v} h i n f g) = ((v ≡ false) ⊎ NeededNoMore A k x) × GivenSo A k g
+GivenSo A k (is_shared w h n f g) = GivenSo A k g
+GivenSo A k (is_lent w h c n f g) = GivenSo A k g
+GivenSo A k (is_reborrowed a h i n f g) = GivenSo A k g
+GivenSo A k (is_viewed a h i n f g) = GivenSo A k g
+
+abbrev pub EntersSo : (A : Asked) {again : Bool} {k : Plan} {modes : List Mode} {R : Renaming} {es : Operands} {ps : List Parameter} {ls : List (ℕ × ℕ)} {Ra : Renaming} → EntersWith again k modes R es ps ls Ra → Type 0
+EntersSo A {k = k} (enters_with cold Rp Rl s g l a c p) = GivenSo A k g
 
 -- with the variables in front of the call, and behind it
 pub record CallerAsked (S : Sides) (A : Asked) (k : Plan) (R Rn : Renaming) : Type 0 where

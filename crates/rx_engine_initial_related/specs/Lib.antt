@@ -4,3 +4,4 @@ pub mod AlsoMarked
 pub mod Moving
 pub mod FrontAlike
 pub mod Calling
+pub mod Ending

@@ -29,9 +29,11 @@ ghost use Rattle.rx_engine_simulation.specs.Blocks.{before as in_front};
 ghost use Rattle.rx_engine_simulation.specs.Statements.{body_of};
 ghost use Rattle.rx_engine_related.specs.AboutRun.{special_of};
 ghost use Rattle.rx_engine_related.specs.Running.{passing};
-ghost use Rattle.rx_engine_related.specs.Moved.{Moved};
+ghost use Rattle.rx_engine_related.specs.Moved.{Moved, Ended};
+ghost use Rattle.rx_engine_related.specs.Never.{NeverEnds};
 ghost use Rattle.rx_engine_simulation.specs.Jumps.{Jumping};
-ghost use Rattle.rx_engine_simulation.specs.Packing.{Way, Gives};
+ghost use Rattle.rx_engine_simulation.specs.Packing.{Way, no_way, Gives};
+ghost use Rattle.rx_engine_simulation.specs.Endings.{Last};
 ghost use Rattle.rx_engine_related.specs.Accepted.{Accepted};
 ghost use Rattle.rx_engine_related.specs.Leaving.{HaveThere, jumps_of};
 ghost use Rattle.rx_engine_related.specs.ByForm.{RelatedFunction, IsItself};
@@ -56,13 +58,14 @@ ghost use Rattle.rx_engine_initial_related.specs.Calling.{ExpCalls};
 ghost use Rattle.rx_engine_initial_related.specs.FrontAlike.{FrontAlike};
 ghost use Rattle.rx_engine_initial_related.specs.AlsoMarked.{AlsoMarked, AlsoMarkedStretch};
 ghost use Rattle.rx_engine_initial_related.specs.Moving.{LeavesBy, StretchMoves, stretch_of};
+ghost use Rattle.rx_engine_initial_related.specs.Ending.{with_left, EndMoves};
 
 /// The call that the relation of trees puts in place of a run, without a match, with what is done with what it gives, is the call of the plan: the
 /// statements around it are pieces of the block's order, and each variable behind becomes what the plan says of it. The scope behind agrees with the
 /// relation's.
 pub fn related_calls_are_calls()
     ensures { (S : Sides) (A : Asked) (k : Plan) → IsPlan A k → Among next k.exits → (again : Bool) (modes : ListOf Mode) (R Ra Rb Rn : Renaming) (es : Operands) (ps : ListOf Parameter)
-        (ls : ListOf (ℕ × ℕ)) (mc : Mark) (i : ℕ) (f : Body → Body) (given : EntersWith again k modes R es ps ls Ra) → EntersSo given → Handed A S.muts_there k R Rb (tree.call mc i es) Rn f
+        (ls : ListOf (ℕ × ℕ)) (mc : Mark) (i : ℕ) (f : Body → Body) (given : EntersWith again k modes R es ps ls Ra) → EntersSo A given → Handed A S.muts_there k R Rb (tree.call mc i es) Rn f
         → CallerAsked S A k R Rn → (K : KnownVariables S) → Agrees S R K
         → (T : KnownVariables S) × Agrees S Rn T × (T.loops ≡ K.loops)
         × ((n : ℕ) → (H : ListOf Piece) × ((b : Body) (d : Temporary) → order_body (f b) n d ≡ fill H (order_body b n d)) × IsCallOf S A k K T H) }
@@ -72,7 +75,7 @@ pub fn related_calls_are_calls()
 pub fn related_calls_match()
     ensures { (S : Sides) (A : Asked) (k : Plan) → Had A S.muts_there k → ((q : At) → ¬ (Unreachable A q)) → Sized S.frame.declared S.frame.sizes → IsTextOf S A k → Among next k.exits
         → (again : Bool) (modes : ListOf Mode) (R Ra Rb Rn : Renaming) (es : Operands) (ps : ListOf Parameter) (ls : ListOf (ℕ × ℕ)) (mc : Mark) (i : ℕ) (f : Body → Body)
-        (given : EntersWith again k modes R es ps ls Ra) → EntersSo given → Handed A S.muts_there k R Rb (tree.call mc i es) Rn f → CallerAsked S A k R Rn → (K : KnownVariables S) → Agrees S R K
+        (given : EntersWith again k modes R es ps ls Ra) → EntersSo A given → Handed A S.muts_there k R Rb (tree.call mc i es) Rn f → CallerAsked S A k R Rn → (K : KnownVariables S) → Agrees S R K
         → (T : KnownVariables S) × Agrees S Rn T × (T.loops ≡ K.loops)
         × ((n : ℕ) (b : Body) (d : Temporary) (r : Order) → Matches (world S) T (order_body b n d) r → Matches (world S) K (order_body (f b) n d) (fill (run_pieces A k) r)) }
 {}
@@ -81,7 +84,7 @@ pub fn related_calls_match()
 /// jumps or returns as the run does there.
 pub fn related_matches_are_matches()
     ensures { (S : Sides) (A : Asked) (k : Plan) → IsPlan A k → (again : Bool) (modes : ListOf Mode) (R Ra Rb Rn : Renaming) (es : Operands) (ps : ListOf Parameter) (ls : ListOf (ℕ × ℕ)) (mc mm : Mark)
-        (i : ℕ) (f : Body → Body) (J Ji : Jumping) (w : Way) (p : Pattern) (e : Exp) (l : Arms) (given : EntersWith again k modes R es ps ls Ra) → EntersSo given
+        (i : ℕ) (f : Body → Body) (J Ji : Jumping) (w : Way) (p : Pattern) (e : Exp) (l : Arms) (given : EntersWith again k modes R es ps ls Ra) → EntersSo A given
         → CallOf A S.muts_there k J R (tree.call mc i es) Ji w (tree.choose mm (tree.of_value (tree.call mc i es)) (tree.arm_and p e l)) → OnlyExits k (tree.arm_and p e l) (tree.arm_and p e l)
         → Handed A S.muts_there k R Rb (tree.choose mm (tree.of_value (tree.call mc i es)) (tree.arm_and p e l)) Rn f → CallerAsked S A k R Rn → (K : KnownVariables S) → Agrees S R K → AgreesOnLoops S J K
         → (t : Order) → ((n : ℕ) (b : Bool) → Among (jump_exit n b) k.exits → (m : ℕ) × (u : ListOf Action) × Walk t u (left_by (exit m n b)) × IsGoneThrough A k (jump_exit n b) u)
@@ -93,7 +96,7 @@ pub fn related_matches_are_matches()
 pub fn related_matches_match()
     ensures { (S : Sides) (A : Asked) (k : Plan) → Had A S.muts_there k → IsItself (Some (Some A.function)) → ((q : At) → ¬ (Unreachable A q)) → Sized S.frame.declared S.frame.sizes → IsTextOf S A k
         → (again : Bool) (modes : ListOf Mode) (R Ra Rb Rn : Renaming) (es : Operands) (ps : ListOf Parameter) (ls : ListOf (ℕ × ℕ)) (mc mm : Mark) (i : ℕ) (f : Body → Body) (J Ji : Jumping) (w : Way)
-        (p : Pattern) (e : Exp) (l : Arms) (given : EntersWith again k modes R es ps ls Ra) → EntersSo given
+        (p : Pattern) (e : Exp) (l : Arms) (given : EntersWith again k modes R es ps ls Ra) → EntersSo A given
         → CallOf A S.muts_there k J R (tree.call mc i es) Ji w (tree.choose mm (tree.of_value (tree.call mc i es)) (tree.arm_and p e l)) → OnlyExits k (tree.arm_and p e l) (tree.arm_and p e l)
         → Handed A S.muts_there k R Rb (tree.choose mm (tree.of_value (tree.call mc i es)) (tree.arm_and p e l)) Rn f → CallerAsked S A k R Rn → (K : KnownVariables S) → Agrees S R K → AgreesOnLoops S J K
         → (r : Order) → (T : KnownVariables S) × Agrees S Rn T × (T.loops ≡ K.loops)
@@ -159,6 +162,17 @@ pub fn related_functions_are_initialised()
         (m : Moved items gain U (special_of A k) J Ra (stretch_of (map (changed_statement (passing A.home.around.loops)) (inside A.run A.home.body))) q Rb) → StretchMoves S m → LeavesBy k J → J.loops ≡ []
         → (w : Way) (zs : ListOf ℕ) (g : Exp) → HaveThere Rb (k.outs next) zs → Gives w zs g → (f : Function) (mb mg : Mark) → f.params ≡ ps → f.body ≡ body_of mb ls q (tree.ends (tree.give mg g))
         → Initialised S.frame S.muts f }
+{}
+
+/// So is one that ends otherwise: with the run's last statement as its tail, also where that never goes on; or with anything, where a statement in
+/// front never goes on.
+pub fn ended_functions_are_initialised()
+    ensures { (S : Sides) (A : Asked) (k : Plan) → Had A S.muts_there k → IsItself (Some (Some A.function)) → ((q : At) → ¬ (Unreachable A q)) → Sized S.frame.declared S.frame.sizes
+        → Sized S.frame_there.declared S.frame_there.sizes → IsTextOf S A k → Initialised S.frame_there S.muts_there S.text → (again : Bool) (modes : ListOf Mode) (R Ra Rb : Renaming)
+        (es : Operands) (ps : ListOf Parameter) (ls : ListOf (ℕ × ℕ)) → EntersWith again k modes R es ps ls Ra → ((x : ℕ) (e : Sight) → sight_of Ra x ≡ Some e → IsDirect e.how → LikeVariable S e.to x)
+        → (items : ℕ → ℕ) (gain : Allowance) (U : ListOf ℕ) (J : Jumping) (r q : Stretch) (l : Last) → stretch_of (map (changed_statement (passing A.home.around.loops)) (inside A.run A.home.body)) ≡ with_left r l
+        → (m : Moved items gain U (special_of A k) J Ra r q Rb) → StretchMoves S m → LeavesBy k J → J.loops ≡ [] → (w : Way) (end : Body) (d : Ended items gain U (special_of A k) J Rb l w (k.outs next) end) → EndMoves S d
+        → (w ≢ no_way → Among next k.exits) → (w ≡ no_way → NeverEnds l r) → (f : Function) (mb : Mark) → f.params ≡ ps → f.body ≡ body_of mb ls q end → Initialised S.frame S.muts f }
 {}
 
 /// And the caller is initialised, where the relation has it alike but for the run's block, and what is asked besides holds along it: where the block is,

@@ -42,8 +42,8 @@ impl Row {
         (self.word(number / 64) >> (number % 64)) & 1 == 1
     }
 
-    /// The word at a place, which is 0 where there is none.
-    fn word(&self, at: usize) -> u64
+    /// The word at a place: its lowest bit stands for 64 times the place. It is 0 where the row has none.
+    pub fn word(&self, at: usize) -> u64
         ensures { result ≡ get_or self.now at 0 }
     {
         if at == 0 {

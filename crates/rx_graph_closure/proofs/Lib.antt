@@ -1,3 +1,4 @@
 pub mod Joining
 pub mod Tables
+pub mod Chunks
 pub mod Listed

@@ -14,6 +14,7 @@ use Rattle.rx_cert.specs.declared.fault.VerifyFault.TheVariants as verify
 use Rattle.rx_cert.specs.Verified.{IsVerified, VerifyCauses}
 use Rattle.rx_cert.specs.Verdicts.{AreOne as AreOneVerdict}
 use Rattle.rx_cert_least.specs.Least.{IsCertificateOf}
+use Rattle.rx_compact_call.specs.Shortened.{IsShortened, IsUnnamed}
 use Rattle.rx_engine_extraction.specs.declared.refusal.Refusal.{Refusal}
 use Rattle.rx_engine_extraction.specs.Alike.{AreOne as AreOneRefusal}
 use Rattle.rx_engine_extraction.specs.Source.{Wish}
@@ -28,10 +29,11 @@ use Rattle.rx_rem_command.specs.declared.status.Status.TheVariants.{Done, NotAcc
 use Rattle.rx_rem_command.specs.Alike.{AreCheckLines, AreExtractionLines, AreRefusalLines, AreLines}
 use Rattle.rx_rem_generated.specs.Generated.{generated, input, turns, twice}
 use Rattle.rx_rem_generated.specs.Summary.{summary}
-use Rattle.rx_rem_command.specs.Forms.{Command, extracts, checks, certifies, verifies, runs, generates, command_of}
+use Rattle.rx_rem_command.specs.Forms.{Command, extracts, checks, certifies, verifies, compacts, runs, generates, command_of}
 use Rattle.rx_rem_command.specs.Defined.{Choices, Defined, AnswersTo, IsAccepted, Judged, passed, faulty, Checked, no_program, program, wish, Drawn, unaccepted, extracted, unmet, generated_wish, Summarised, undrawn, summarised}
 use Rattle.rx_rem_command.specs.ExtractionLines.{line_of_refusal}
 use Rattle.rx_rem_command.proofs.CertificateAgreement.{certified_agree, verdicts_agree}
+use Rattle.rx_rem_command.proofs.Shorts.{shorts_agree}
 use Rattle.rx_rem_command.proofs.CheckLemmas.{not_accepted}
 use Rattle.rx_rem_command.proofs.Extractions.{kept, extracted_accepted, unmet_accepted, refusal_lines}
 use Rattle.rx_rem_command.proofs.Reading.{unread_lines, unread_none}
@@ -78,7 +80,9 @@ module _ (excluded : (p : ProgramTree) (e : CheckFault) → Accepted p → Cause
       (one_certificate : (text a b : List ℕ) → IsCertificateOf text a → IsCertificateOf text b → a ≡ b)
       (verified_once : (bytes : List ℕ) (e : VerifyFault) → e ≢ verify.OutOfMemory → IsVerified bytes → VerifyCauses e bytes → ⊥)
       (one_verdict : (bytes : List ℕ) (e f : VerifyFault) → e ≢ verify.OutOfMemory → f ≢ verify.OutOfMemory → VerifyCauses e bytes → VerifyCauses f bytes
-      → AreOneVerdict e f) where
+      → AreOneVerdict e f)
+      (one_short : (text name a b : List ℕ) → IsShortened text name a → IsShortened text name b → a ≡ b)
+      (no_short : (text name a : List ℕ) → IsShortened text name a → IsUnnamed text name → ⊥) where
     unmet_lines : (text : List ℕ) (w : Wish) (b d : List ℕ) → (b ≡ d) ⊎ AreRefusalLines text w b d → AreExtractionLines text w b d
     unmet_lines text w b d (inl e) = inl (inl (inl e))
     unmet_lines text w b d (inr x) = inr x
@@ -132,6 +136,7 @@ module _ (excluded : (p : ProgramTree) (e : CheckFault) → Accepted p → Cause
     answers_agree C (Some checks) text s t a b c d x y = checks_agree text s t a b c d x y
     answers_agree C (Some certifies) text s t a b c d x y = certified_agree excluded one_certificate text (checks_agree text) s t a b c d x y
     answers_agree C (Some verifies) text s t a b c d x y = verdicts_agree verified_once one_verdict text s t a b c d x y
+    answers_agree C (Some (compacts name)) text s t a b c d x y = shorts_agree excluded one_short no_short text name (checks_agree text) s t a b c d x y
     answers_agree C (Some (runs turns input)) text s t a b c d x y =
         runs_agree text turns input (checks_agree text) (λ p o q. one_does p turns input o q) s t a b c d x y
     answers_agree C (Some (generates n)) text s t a b c d x y = told_agree (generated n) n (generated_wish C n) s t a b c d x y

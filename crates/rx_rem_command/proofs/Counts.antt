@@ -4,7 +4,7 @@ use Rattle.std.proofs.Common.{ℕ, ℤ, ◌≡◌, ◌≤◌, Bool, true, false,
 use Rattle.std.proofs.lemmas.Bool.{leb-true, and_parts}
 use Rattle.rx_core.specs.Bytes.{same_bytes}
 use Rattle.rx_rem_command.specs.Numbers.{number_of, integers_of, count_among, count_of}
-use Rattle.rx_rem_command.specs.Forms.{Preference, by_copy, Command, checks, certifies, verifies, generates, extracts_of, runs_of, generates_of, alone_of, extract_of, run_of, generate_of, preference_of, command_of}
+use Rattle.rx_rem_command.specs.Forms.{Preference, by_copy, Command, checks, certifies, verifies, generates, extracts_of, runs_of, generates_of, alone_of, compact_of, extract_of, run_of, generate_of, preference_of, command_of}
 
 abbrev IsFew : ℕ → Type 0
 IsFew n = (1 ≤ n) × (n ≤ 1000)
@@ -55,6 +55,11 @@ not_run : (words : List (List ℕ)) (n : ℕ) → run_of words ≡ Some (generat
 not_run [] n e = absurd (cc)
 not_run (t ∷ words) n e = not_runs (number_of t) (integers_of words) n e
 
+not_compact : (words : List (List ℕ)) (n : ℕ) → compact_of words ≡ Some (generates n) → IsFew n
+not_compact [] n e = absurd (cc)
+not_compact (a ∷ []) n e = absurd (cc)
+not_compact (a ∷ (b ∷ words)) n e = absurd (cc)
+
 -- ---- by the verb
 
 generate_few : (words : List (List ℕ)) (n : ℕ) → generate_of words ≡ Some (generates n) → IsFew n
@@ -78,4 +83,5 @@ counts_few (verb ∷ words) n e =
     (chosen (same_bytes verb (codes "run")) (run_of words) _ n (not_run words n)
     (chosen (same_bytes verb (codes "gen")) (generate_of words) _ n (generate_few words n)
     (chosen (same_bytes verb (codes "certify")) (alone_of certifies words) _ n (not_alone certifies words n (λ e. absurd (cc)))
-    (chosen (same_bytes verb (codes "verify")) (alone_of verifies words) None n (not_alone verifies words n (λ e. absurd (cc))) (none_few n)))))) e
+    (chosen (same_bytes verb (codes "verify")) (alone_of verifies words) _ n (not_alone verifies words n (λ e. absurd (cc)))
+    (chosen (same_bytes verb (codes "compact")) (compact_of words) None n (not_compact words n) (none_few n))))))) e

@@ -6,6 +6,7 @@ pub mod CheckLemmas
 pub mod Extractions
 pub mod Certificates
 pub mod CertificateAgreement
+pub mod Shorts
 pub mod RunLemmas
 pub mod Agreement
 pub mod Statuses

@@ -11,9 +11,9 @@ use Rattle.rx_rem_command.specs.declared.status.Status.TheVariants.{ReadFault, W
 use Rattle.rx_tree.specs.Plain.{ProgramTree}
 use Rattle.rx_engine_extraction.specs.Source.{Wish}
 use Rattle.rx_rem_generated.specs.Generated.{generated}
-use Rattle.rx_rem_command.specs.Forms.{Command, extracts, checks, certifies, verifies, runs, generates, command_of, Reads}
+use Rattle.rx_rem_command.specs.Forms.{Command, extracts, checks, certifies, verifies, compacts, runs, generates, command_of, Reads}
 use Rattle.rx_rem_command.specs.RunLines.{end_status}
-use Rattle.rx_rem_command.specs.Defined.{Choices, Defined, AnswersTo, Judged, passed, faulty, Checked, no_program, program, wish, Drawn, unaccepted, extracted, unmet, Certified, uncertified, certified, too_large, Verdict, good, bad, Ran, refused, ran, generated_wish, Summarised, undrawn, summarised}
+use Rattle.rx_rem_command.specs.Defined.{Choices, Defined, AnswersTo, Judged, passed, faulty, Checked, no_program, program, wish, Drawn, unaccepted, extracted, unmet, Certified, uncertified, certified, too_large, Shortened, unshortened, shortened, unnamed, too_long as too_long_short, Verdict, good, bad, Ran, refused, ran, generated_wish, Summarised, undrawn, summarised}
 use Rattle.rx_rem_command.specs.Replies.{Stream, IsForm, IsReader, HasFailed, IsSound, HasAll, IsCut, IsRead, TakesAtMost, TakesOneMore, most_for, Due, answered, not_read, too_long, no_memory, Ending, whole, out_cut, both_cut, err_cut, IsComplete, Replies, Reports, Delivers, Found, defined, no_room}
 
 -- the statuses that a text's answer has
@@ -48,6 +48,12 @@ certified_answers text _ _ _ (uncertified c) = tt
 certified_answers text _ _ _ (certified b x l) = tt
 certified_answers text _ _ _ (too_large b x l) = tt
 
+shortened_answers : (text name : List ℕ) (status : Status) (outs errs : List ℕ) → Shortened text name status outs errs → IsAnswer status
+shortened_answers text name _ _ _ (unshortened c) = tt
+shortened_answers text name _ _ _ (shortened b x l) = tt
+shortened_answers text name _ _ _ (unnamed x) = tt
+shortened_answers text name _ _ _ (too_long_short b x l) = tt
+
 verdict_answers : (bytes : List ℕ) (status : Status) (outs errs : List ℕ) → Verdict bytes status outs errs → IsAnswer status
 verdict_answers bytes _ _ _ (good v) = tt
 verdict_answers bytes _ _ _ (bad e n c s) = tt
@@ -69,6 +75,7 @@ module _ (C : Choices) where
   asked_answers (Some checks) text status outs errs a = checked_answers text status outs errs a
   asked_answers (Some certifies) text status outs errs a = certified_answers text status outs errs a
   asked_answers (Some verifies) text status outs errs a = verdict_answers text status outs errs a
+  asked_answers (Some (compacts name)) text status outs errs a = shortened_answers text name status outs errs a
   asked_answers (Some (runs turns input)) text status outs errs a = ran_answers text turns input status outs errs a
   asked_answers (Some (generates n)) text status outs errs a = told_answers (generated n) n (generated_wish C n) status outs errs a
 
@@ -86,6 +93,7 @@ module _ (C : Choices) where
   of_its_text (Some checks) t text status outs errs h d = subst (λ (x : List ℕ). Checked x status outs errs) (h tt) d
   of_its_text (Some certifies) t text status outs errs h d = subst (λ (x : List ℕ). Certified x status outs errs) (h tt) d
   of_its_text (Some verifies) t text status outs errs h d = subst (λ (x : List ℕ). Verdict x status outs errs) (h tt) d
+  of_its_text (Some (compacts name)) t text status outs errs h d = subst (λ (x : List ℕ). Shortened x name status outs errs) (h tt) d
   of_its_text (Some (runs turns input)) t text status outs errs h d = subst (λ (x : List ℕ). Ran x turns input status outs errs) (h tt) d
 
   -- a source from which one byte more was taken than a text may have had more left

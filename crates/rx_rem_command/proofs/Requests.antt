@@ -1,7 +1,7 @@
 -- What is asked for of a text is asked for where the text is read.
 use Rattle.std.proofs.Common.{ℕ, ◌≡◌, List, Some, subst}
 use Rattle.rx_rem_command.specs.declared.words.Command.{Command}
-use Rattle.rx_rem_command.specs.declared.words.Command.TheVariants.{Extract, Check, Certify, Verify, Run}
+use Rattle.rx_rem_command.specs.declared.words.Command.TheVariants.{Extract, Check, Certify, Verify, Compact, Run}
 use Rattle.rx_rem_command.specs.Forms.{command_of, Reads}
 use Rattle.rx_rem_command.specs.Asked.{asked}
 
@@ -10,6 +10,7 @@ command_reads (Extract name selection way) = tt
 command_reads Check = tt
 command_reads Certify = tt
 command_reads Verify = tt
+command_reads (Compact name) = tt
 command_reads (Run turns numbers) = tt
 
 pub words_read : (words : List (List ℕ)) (c : Command) → Some (asked c) ≡ command_of words → Reads (command_of words)

@@ -22,14 +22,16 @@ use Rattle.rx_engine_extraction.specs.Verdict.{IsRefused}
 use Rattle.rx_rem_command.specs.declared.status.Status.{Status}
 use Rattle.rx_rem_command.specs.declared.status.Status.TheVariants as status
 use Rattle.rx_rem_generated.specs.Generated.{generated, run_start, run_end}
-use Rattle.rx_rem_command.specs.Forms.{Preference, by_copy, Command, extracts, checks, certifies, verifies, runs, generates, command_of, Reads, most_bytes}
-use Rattle.rx_rem_command.specs.Defined.{Choices, AnswersTo, IsAccepted, Checked, program, passed, Judged, faulty, no_program, wish, Certified, uncertified, certified, too_large, Verdict, good, bad, Drawn, unaccepted, extracted, unmet, Ran, refused, ran, generated_wish, Summarised, undrawn, summarised}
+use Rattle.rx_rem_command.specs.Forms.{Preference, by_copy, Command, extracts, checks, certifies, verifies, compacts, runs, generates, command_of, Reads, most_bytes}
+use Rattle.rx_rem_command.specs.Defined.{Choices, AnswersTo, IsAccepted, Checked, program, passed, Judged, faulty, no_program, wish, Certified, uncertified, certified, too_large, Shortened, unshortened, shortened, unnamed, too_long as too_long_short, Verdict, good, bad, Drawn, unaccepted, extracted, unmet, Ran, refused, ran, generated_wish, Summarised, undrawn, summarised}
 use Rattle.rx_rem_command.specs.RunLines.{end_status}
 use Rattle.rx_engine.specs.Runs.{Does}
 use Rattle.rx_rem_command.specs.Replies.{Stream, IsReader, IsRead, most_for, Due, answered, not_read, too_long, no_memory, Ending, whole, out_cut, both_cut, err_cut, Replies}
-use Rattle.rx_rem_command.specs.Statuses.{EndsWith, IsCertified, Comes, Cause}
+use Rattle.rx_rem_command.specs.Statuses.{EndsWith, IsCertified, IsShort, Comes, Cause}
 use Rattle.rx_rem_command.proofs.CheckLemmas.{not_accepted}
 use Rattle.rx_rem_command.proofs.Certificates.{certificate_accepted}
+use Rattle.rx_compact_call.specs.Shortened.{IsShortened, IsUnnamed}
+use Rattle.rx_rem_command.proofs.Shorts.{short_accepted, unnamed_accepted, one_short_size}
 use Rattle.rx_rem_command.proofs.CertificateAgreement.{one_size}
 use Rattle.rx_rem_command.proofs.Extractions.{kept, extracted_accepted, unmet_accepted}
 
@@ -76,6 +78,12 @@ module _ (excluded : (p : ProgramTree) (e : CheckFault) → Accepted p → Cause
   certified_comes text _ _ _ (certified b x l) = record { bytes = b; certificate = x; long = l }
   certified_comes text _ _ _ (too_large b x l) = record { bytes = b; certificate = x; long = l }
 
+  shortened_comes : (text name : List ℕ) (s : Status) (out err : List ℕ) → Shortened text name s out err → Comes C (compacts name) text s
+  shortened_comes text name _ out err (unshortened x) = λ a. not_accepted excluded text a status.NotAccepted out err refl x
+  shortened_comes text name _ _ _ (shortened b x l) = record { bytes = b; shortened = x; long = l }
+  shortened_comes text name _ _ _ (unnamed x) = inl x
+  shortened_comes text name _ _ _ (too_long_short b x l) = inr (record { bytes = b; shortened = x; long = l })
+
   verdict_comes : (bytes : List ℕ) (s : Status) (out err : List ℕ) → Verdict bytes s out err → Comes C verifies bytes s
   verdict_comes bytes _ _ _ (good v) = v
   verdict_comes bytes _ _ _ (bad e n c s) = λ v. verified_once bytes e n v c
@@ -95,6 +103,7 @@ module _ (excluded : (p : ProgramTree) (e : CheckFault) → Accepted p → Cause
   answer_comes checks text s out err d = checked_comes text s out err d
   answer_comes certifies text s out err d = certified_comes text s out err d
   answer_comes verifies text s out err d = verdict_comes text s out err d
+  answer_comes (compacts name) text s out err d = shortened_comes text name s out err d
   answer_comes (runs turns input) text s out err d = ran_comes text turns input s out err d
   answer_comes (generates n) text s out err d = told_comes text n s out err d
 
@@ -145,7 +154,9 @@ module _ (excluded : (p : ProgramTree) (e : CheckFault) → Accepted p → Cause
 module _ (none : (bytes : List ℕ) (w : Wish) (r : Refusal) → IsRefused bytes w r → Extracts bytes w → ⊥)
     (one_does : (p : ProgramTree) (turns : ℕ) (input : List ℤ) (o q : Outcome) → Does p turns input o → Does p turns input q → o ≡ q)
     (excluded : (p : ProgramTree) (e : CheckFault) → Accepted p → Causes e p → e ≡ check.OutOfMemory)
-    (one_certificate : (text a b : List ℕ) → IsCertificateOf text a → IsCertificateOf text b → a ≡ b) (C : Choices) where
+    (one_certificate : (text a b : List ℕ) → IsCertificateOf text a → IsCertificateOf text b → a ≡ b)
+    (one_short : (text name a b : List ℕ) → IsShortened text name a → IsShortened text name b → a ≡ b)
+    (no_short : (text name a : List ℕ) → IsShortened text name a → IsUnnamed text name → ⊥) (C : Choices) where
   one_end : (text : List ℕ) (turns : ℕ) (input : List ℤ) (s t : Status) → EndsWith text turns input s → EndsWith text turns input t → s ≡ t
   one_end text turns input s t x y =
       let d : Does x.program turns input y.outcome = subst (λ (p : ProgramTree). Does p turns input y.outcome) (one_text text y.program x.program y.parses x.parses) y.does in
@@ -262,6 +273,43 @@ module _ (none : (bytes : List ℕ) (w : Wish) (r : Refusal) → IsRefused bytes
   one_certify text s t (inr (inr x)) (inr (inl y)) = absurd (x.1 (certificate_accepted text y.1.bytes y.1.certificate))
   one_certify text s t (inr (inr x)) (inr (inr y)) = x.0 ∙ sym y.0
 
+  -- of a short signature: the text is not accepted, or it is and has no such function, or the text with it is short, or long
+  abbrev Shorter : List ℕ → List ℕ → Status → Type 0
+  Shorter text name s = ((s ≡ status.Done) × IsShort text name (λ n. n ≤ 1048576)) ⊎ ((s ≡ status.Refused) × (IsUnnamed text name ⊎ IsShort text name (λ n. 1048576 < n)))
+      ⊎ ((s ≡ status.NotAccepted) × (IsAccepted text → ⊥))
+
+  of_short : (text name : List ℕ) (s : Status) → Comes C (compacts name) text s → Shorter text name s
+  of_short text name status.Done x = inl (refl, x)
+  of_short text name status.Refused x = inr (inl (refl, x))
+  of_short text name status.NotAccepted x = inr (inr (refl, x))
+  of_short text name status.StillRunning x = absurd x
+  of_short text name status.Wrong x = absurd x
+  of_short text name status.Trapped x = absurd x
+  of_short text name status.Usage x = absurd x
+  of_short text name status.ReadFault x = absurd x
+  of_short text name status.WriteFault x = absurd x
+  of_short text name status.OutOfMemory x = absurd x
+  of_short text name status.TooLong x = absurd x
+
+  long_accepted : (text name : List ℕ) → IsUnnamed text name ⊎ IsShort text name (λ n. 1048576 < n) → IsAccepted text
+  long_accepted text name (inl x) = unnamed_accepted text name x
+  long_accepted text name (inr x) = short_accepted text name x.bytes x.shortened
+
+  short_or_not : (text name : List ℕ) → IsShort text name (λ n. n ≤ 1048576) → IsUnnamed text name ⊎ IsShort text name (λ n. 1048576 < n) → ⊥
+  short_or_not text name x (inl y) = no_short text name x.bytes x.shortened y
+  short_or_not text name x (inr y) = one_short_size excluded one_short no_short text name x.bytes y.bytes x.shortened y.shortened x.long y.long
+
+  one_compact : (text name : List ℕ) (s t : Status) → Shorter text name s → Shorter text name t → s ≡ t
+  one_compact text name s t (inl x) (inl y) = x.0 ∙ sym y.0
+  one_compact text name s t (inl x) (inr (inl y)) = absurd (short_or_not text name x.1 y.1)
+  one_compact text name s t (inl x) (inr (inr y)) = absurd (y.1 (short_accepted text name x.1.bytes x.1.shortened))
+  one_compact text name s t (inr (inl x)) (inl y) = absurd (short_or_not text name y.1 x.1)
+  one_compact text name s t (inr (inl x)) (inr (inl y)) = x.0 ∙ sym y.0
+  one_compact text name s t (inr (inl x)) (inr (inr y)) = absurd (y.1 (long_accepted text name x.1))
+  one_compact text name s t (inr (inr x)) (inl y) = absurd (x.1 (short_accepted text name y.1.bytes y.1.shortened))
+  one_compact text name s t (inr (inr x)) (inr (inl y)) = absurd (x.1 (long_accepted text name y.1))
+  one_compact text name s t (inr (inr x)) (inr (inr y)) = x.0 ∙ sym y.0
+
   of_verdict : (bytes : List ℕ) (s : Status) → Comes C verifies bytes s
       → ((s ≡ status.Done) × IsVerified bytes) ⊎ ((s ≡ status.NotAccepted) × (IsVerified bytes → ⊥))
   of_verdict bytes status.Done x = inl (refl, x)
@@ -288,6 +336,7 @@ module _ (none : (bytes : List ℕ) (w : Wish) (r : Refusal) → IsRefused bytes
   one_status checks text s t x y = one_check text s t x y
   one_status certifies text s t x y = one_certify text s t (of_certificate text s x) (of_certificate text t y)
   one_status verifies text s t x y = one_verify text s t (of_verdict text s x) (of_verdict text t y)
+  one_status (compacts name) text s t x y = one_compact text name s t (of_short text name s x) (of_short text name t y)
   one_status (runs turns input) text s t x y = one_run text turns input s t x y
   one_status (generates n) text s t x y =
       one_extraction (generated n) (codes "step") (run_start n) (run_end n) by_copy s t (to_extraction C text n s x) (to_extraction C text n t y)

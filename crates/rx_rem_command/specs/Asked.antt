@@ -2,7 +2,7 @@
 use Rattle.rx_rem_command.specs.declared.words.Preference.{Preference}
 use Rattle.rx_rem_command.specs.declared.words.Preference.TheVariants.{Copy, Reference}
 use Rattle.rx_rem_command.specs.declared.words.Command.{Command}
-use Rattle.rx_rem_command.specs.declared.words.Command.TheVariants.{Extract, Check, Certify, Verify, Run}
+use Rattle.rx_rem_command.specs.declared.words.Command.TheVariants.{Extract, Check, Certify, Verify, Compact, Run}
 use Rattle.rx_rem_command.specs.declared.words.Request.{Request}
 use Rattle.rx_rem_command.specs.declared.words.Request.TheVariants.{OfText, Generate}
 use Rattle.rx_rem_command.specs.Numbers.{integers_among}
@@ -17,6 +17,7 @@ asked (Extract name selection preference) = forms.extracts name.now selection.st
 asked Check = forms.checks
 asked Certify = forms.certifies
 asked Verify = forms.verifies
+asked (Compact name) = forms.compacts name.now
 asked (Run turns numbers) = forms.runs turns (integers_among numbers.now)
 
 abbrev pub requested : Request → forms.Command

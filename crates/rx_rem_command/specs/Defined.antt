@@ -13,6 +13,7 @@ use Rattle.rx_cert.specs.declared.fault.VerifyFault.{VerifyFault}
 use Rattle.rx_cert.specs.declared.fault.VerifyFault.TheVariants as verify
 use Rattle.rx_cert.specs.Verified.{IsVerified, VerifyCauses}
 use Rattle.rx_cert_least.specs.Least.{IsCertificateOf}
+use Rattle.rx_compact_call.specs.Shortened.{IsShortened, IsUnnamed}
 use Rattle.rx_modes_policy.specs.declared.uses.Mode.{Mode}
 use Rattle.rx_modes_policy.specs.declared.uses.Uses.{Uses}
 use Rattle.rx_engine_extraction.specs.declared.refusal.Refusal.{Refusal}
@@ -23,11 +24,12 @@ use Rattle.rx_rem_generated.specs.Generated.{generated, run_start, run_end, inpu
 use Rattle.rx_rem_generated.specs.Summary.{summary}
 use Rattle.rx_rem_command.specs.declared.status.Status.{Status}
 use Rattle.rx_rem_command.specs.declared.status.Status.TheVariants.{Done, Refused, Usage, NotAccepted}
-use Rattle.rx_rem_command.specs.Forms.{Preference, by_copy, by_reference, Command, extracts, checks, certifies, verifies, runs, generates, command_of}
+use Rattle.rx_rem_command.specs.Forms.{Preference, by_copy, by_reference, Command, extracts, checks, certifies, verifies, compacts, runs, generates, command_of}
 use Rattle.rx_rem_command.specs.Lines.{status_line, syntax_line}
 use Rattle.rx_rem_command.specs.CheckLines.{line_of_check}
 use Rattle.rx_rem_command.specs.ExtractionLines.{line_of_refusal}
 use Rattle.rx_rem_command.specs.CertificateLines.{large_line, SaysFault}
+use Rattle.rx_rem_command.specs.CompactLines.{unnamed_line}
 use Rattle.rx_rem_command.specs.RunLines.{end_status, end_line}
 use Rattle.rx_engine.specs.Runs.{Does}
 
@@ -61,6 +63,16 @@ pub data Certified (text : List ℕ) : Status → List ℕ → List ℕ → Type
 pub data Verdict (bytes : List ℕ) : Status → List ℕ → List ℕ → Type 0 where
   good : IsVerified bytes → Verdict bytes Done (codes "accepted\n") []
   bad : {line : List ℕ} (e : VerifyFault) → e ≢ verify.OutOfMemory → VerifyCauses e bytes → SaysFault bytes e line → Verdict bytes NotAccepted [] line
+
+-- ---- of a short signature
+
+-- these are of a text that is not accepted, as its check answers; or of the text with a short signature; or that it has no such function; or
+-- of how many bytes it would have, where it is too long
+pub data Shortened (text name : List ℕ) : Status → List ℕ → List ℕ → Type 0 where
+  unshortened : {out err : List ℕ} → Checked text NotAccepted out err → Shortened text name NotAccepted out err
+  shortened : (bytes : List ℕ) → IsShortened text name bytes → length bytes ≤ 1048576 → Shortened text name Done bytes []
+  unnamed : IsUnnamed text name → Shortened text name Refused [] unnamed_line
+  too_long : (bytes : List ℕ) → IsShortened text name bytes → 1048576 < length bytes → Shortened text name Refused [] (large_line (length bytes))
 
 -- ---- of an extraction
 
@@ -114,6 +126,7 @@ AnswersTo C (Some (extracts name start end w)) text = Drawn text (wish C name st
 AnswersTo C (Some checks) text = Checked text
 AnswersTo C (Some certifies) text = Certified text
 AnswersTo C (Some verifies) text = Verdict text
+AnswersTo C (Some (compacts name)) text = Shortened text name
 AnswersTo C (Some (runs turns input)) text = Ran text turns input
 AnswersTo C (Some (generates n)) text = Summarised (generated n) n (generated_wish C n)
 

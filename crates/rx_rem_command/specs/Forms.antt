@@ -16,6 +16,8 @@ pub data Command : Type 0 where
   -- the certificate of a text, and whether a certificate is good for its text
   certifies : Command
   verifies : Command
+  -- the text with a short signature of the function of a name
+  compacts : List ℕ → Command
   -- a number of turns, and the input of the program
   runs : ℕ → List ℤ → Command
   -- a number of functions of a text that is made
@@ -41,11 +43,15 @@ abbrev pub alone_of : Command → List (List ℕ) → Option Command
 alone_of command [] = Some command
 alone_of command _ = None
 
--- what the words behind `extract`, `run` and `gen` ask for
+-- what the words behind `extract`, `compact`, `run` and `gen` ask for
 abbrev pub extract_of : List (List ℕ) → Option Command
 extract_of (name ∷ start ∷ end ∷ []) = extracts_of name (number_of start) (number_of end) (Some by_copy)
 extract_of (name ∷ start ∷ end ∷ word ∷ []) = extracts_of name (number_of start) (number_of end) (preference_of word)
 extract_of _ = None
+
+abbrev pub compact_of : List (List ℕ) → Option Command
+compact_of (name ∷ []) = Some (compacts name)
+compact_of _ = None
 
 abbrev pub run_of : List (List ℕ) → Option Command
 run_of (turns ∷ numbers) = runs_of (number_of turns) (integers_of numbers)
@@ -63,7 +69,8 @@ command_of (verb ∷ words) =
     else (if same_bytes verb (codes "run") then run_of words
     else (if same_bytes verb (codes "gen") then generate_of words
     else (if same_bytes verb (codes "certify") then alone_of certifies words
-    else (if same_bytes verb (codes "verify") then alone_of verifies words else None)))))
+    else (if same_bytes verb (codes "verify") then alone_of verifies words
+    else (if same_bytes verb (codes "compact") then compact_of words else None))))))
 
 -- they ask for something of a text, which is read
 abbrev pub Reads : Option Command → Type 0

@@ -1,6 +1,7 @@
 pub mod Alike
 pub mod Asked
 pub mod CertificateLines
+pub mod CompactLines
 pub mod CheckLines
 pub mod Defined
 pub mod ExtractionLines

@@ -7,13 +7,14 @@ use Rattle.rx_meaning.specs.declared.outcome.Outcome.{Outcome}
 use Rattle.rx_check.specs.Passes.{Accepted}
 use Rattle.rx_cert.specs.Verified.{IsVerified}
 use Rattle.rx_cert_least.specs.Least.{IsCertificateOf}
+use Rattle.rx_compact_call.specs.Shortened.{IsShortened, IsUnnamed}
 use Rattle.rx_engine_extraction.specs.declared.refusal.Refusal.{Refusal}
 use Rattle.rx_engine_extraction.specs.Promise.{Extracts}
 use Rattle.rx_engine_extraction.specs.Verdict.{IsRefused}
 use Rattle.rx_rem_command.specs.declared.status.Status.{Status}
 use Rattle.rx_rem_command.specs.declared.status.Status.TheVariants.{Done, Refused, Usage, NotAccepted, ReadFault, WriteFault, OutOfMemory, TooLong, StillRunning, Wrong, Trapped}
 use Rattle.rx_rem_generated.specs.Generated.{generated}
-use Rattle.rx_rem_command.specs.Forms.{Command, extracts, checks, certifies, verifies, runs, generates, command_of, Reads, most_bytes}
+use Rattle.rx_rem_command.specs.Forms.{Command, extracts, checks, certifies, verifies, compacts, runs, generates, command_of, Reads, most_bytes}
 use Rattle.rx_rem_command.specs.Defined.{IsAccepted, Choices, wish, generated_wish}
 use Rattle.rx_rem_command.specs.RunLines.{end_status}
 use Rattle.rx_engine.specs.Runs.{Does}
@@ -34,21 +35,30 @@ pub record IsCertified (text : List ℕ) (Long : ℕ → Type 0) : Type 0 where
   pub certificate : IsCertificateOf text bytes
   pub long : Long (length bytes)
 
--- each condition of the extraction is met; the text is accepted, and its certificate is short; the certificate is good for its text; `main`
--- of the program ends
+-- the text is accepted, and with a short signature of its function of a name it is so long that this holds
+pub record IsShort (text name : List ℕ) (Long : ℕ → Type 0) : Type 0 where
+  pub bytes : List ℕ
+  pub shortened : IsShortened text name bytes
+  pub long : Long (length bytes)
+
+-- each condition of the extraction is met; the text is accepted, and its certificate is short, or the text with the short signature; the
+-- certificate is good for its text; `main` of the program ends
 abbrev pub IsDone : Choices → Command → List ℕ → Type 0
 IsDone C (extracts name start end w) text = Extracts text (wish C name start end w)
 IsDone C checks text = IsAccepted text
 IsDone C certifies text = IsCertified text (λ n. n ≤ 16777216)
 IsDone C verifies text = IsVerified text
+IsDone C (compacts name) text = IsShort text name (λ n. n ≤ 1048576)
 IsDone C (runs turns input) text = EndsWith text turns input Done
 IsDone C (generates n) text = Extracts (generated n) (generated_wish C n)
 
--- the text is accepted, and a condition of the extraction is not met: the refusal tells the first that is not; or its certificate is long
+-- the text is accepted, and a condition of the extraction is not met: the refusal tells the first that is not; or its certificate is long;
+-- or it has no function of the name, or is long with the short signature
 abbrev pub IsUnmet : Choices → Command → List ℕ → Type 0
 IsUnmet C (extracts name start end w) text = (r : Refusal) × IsRefused text (wish C name start end w) r
 IsUnmet C (generates n) text = (r : Refusal) × IsRefused (generated n) (generated_wish C n) r
 IsUnmet C certifies text = IsCertified text (λ n. 16777216 < n)
+IsUnmet C (compacts name) text = IsUnnamed text name ⊎ IsShort text name (λ n. 1048576 < n)
 IsUnmet C _ text = ⊥
 
 -- the text is not accepted: the one that is read, or that is made; or what is read is no certificate that is good for its text

@@ -25,7 +25,7 @@ use rx_parse::parse;
 use std::alloc::{AllocError, Global};
 
 /// Writes the line of words and numbers, or of want of memory.
-fn refuse_by<E: Sink>(
+pub(crate) fn refuse_by<E: Sink>(
     alloc: Global,
     err: &mut E,
     status: Status,
@@ -41,7 +41,12 @@ fn refuse_by<E: Sink>(
 }
 
 /// Writes the line of a fault of the program of a text, which is read once more for the names in it; or of want of memory.
-fn refuse_unaccepted<E: Sink>(alloc: Global, err: &mut E, text: &[u8], fault: &CheckFault) -> Status
+pub(crate) fn refuse_unaccepted<E: Sink>(
+    alloc: Global,
+    err: &mut E,
+    text: &[u8],
+    fault: &CheckFault,
+) -> Status
     ensures { (p : ProgramTree) → Parses text.now p → Refuses (sink_state E.contents E.faults E.standstills err.old) (sink_state E.contents E.faults E.standstills err.new)
         (lines.status_of_check fault.now) (lines.line_of_check p fault.now) result }
 {

@@ -14,7 +14,8 @@ ghost use Rattle.rx_rem_generated.specs.Summary.{summary};
 ghost use Rattle.rx_rem_command.specs.declared.status.Status.{Status};
 ghost use Rattle.rx_rem_command.specs.Alike.{AreLines};
 ghost use Rattle.rx_rem_command.specs.Defined.{Choices, Defined, IsAccepted, wish, generated_wish};
-ghost use Rattle.rx_rem_command.specs.Forms.{Preference, Command, command_of, extracts, checks, certifies, verifies, runs, generates};
+ghost use Rattle.rx_compact_call.specs.Shortened.{IsShortened};
+ghost use Rattle.rx_rem_command.specs.Forms.{Preference, Command, command_of, extracts, checks, certifies, verifies, compacts, runs, generates};
 ghost use Rattle.rx_rem_command.specs.RunLines.{end_status, end_line};
 ghost use Rattle.rx_engine.specs.Runs.{Does};
 ghost use Rattle.rx_rem_command.specs.Replies.{Stream, Replies};
@@ -24,6 +25,7 @@ ghost use Rattle.rx_rem_command.specs.UpTo.{IsUpTo};
 use rx_cert::{verdicts_are_one, verified_or_refused};
 use rx_cert_least::certificates_are_one;
 use rx_check::{causes_are_one, passed_or_faulty};
+use rx_compact_call::short_texts_are_one;
 use rx_engine::{
     answers_are_one, answers_run_alike, conditions_are_one, extractions_are_answers, one_outcome,
     refusals_are_one,
@@ -46,6 +48,7 @@ pub fn one_answer()
     certificates_are_one();
     verified_or_refused();
     verdicts_are_one();
+    short_texts_are_one();
 }
 
 /// A reply has its status for the cause that is told of it; and of a text one status comes at most, but for failures.
@@ -59,6 +62,7 @@ pub fn statuses_have_causes()
     one_outcome();
     certificates_are_one();
     verified_or_refused();
+    short_texts_are_one();
 }
 
 /// Where each condition of an extraction is met, its text is the defined answer; and an answer is one of such.
@@ -108,6 +112,15 @@ pub fn summaries_are_defined()
 pub fn acceptance_is_defined()
     ensures accepted { (C : Choices) (words : List (List ℕ)) (text : List ℕ) → command_of words ≡ Some checks → IsAccepted text → Defined C words text Status.Done (codes "accepted\n") [] }
     ensures only { (C : Choices) (words : List (List ℕ)) (text out err : List ℕ) → command_of words ≡ Some checks → Defined C words text Status.Done out err → IsAccepted text }
+{}
+
+/// The defined answer of `compact` is the text with a short signature of its function of the name, where the text is accepted and the
+/// answer is within the limit, and an answer is one of such.
+pub fn short_texts_are_defined()
+    ensures answer { (C : Choices) (words : List (List ℕ)) (text name bytes : List ℕ) → command_of words ≡ Some (compacts name) → IsShortened text name bytes → length bytes ≤ 1048576
+        → Defined C words text Status.Done bytes [] }
+    ensures only { (C : Choices) (words : List (List ℕ)) (text name out err : List ℕ) → command_of words ≡ Some (compacts name) → Defined C words text Status.Done out err
+        → IsShortened text name out × (length out ≤ 1048576) × (err ≡ []) }
 {}
 
 /// The defined answer of `certify` is the certificate of the text where that is accepted and the certificate is short, and an answer is one of

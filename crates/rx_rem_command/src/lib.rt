@@ -4,6 +4,7 @@
 mod certifying;
 mod check_line;
 mod checking;
+mod compacting;
 mod extracting;
 mod extraction_line;
 mod generating;
@@ -19,7 +20,8 @@ mod words;
 
 pub use crate::laws::{
     acceptance_is_defined, certificates_are_defined, extraction_is_defined, extractions_run_alike,
-    one_answer, runs_are_defined, statuses_have_causes, summaries_are_defined,
+    one_answer, runs_are_defined, short_texts_are_defined, statuses_have_causes,
+    summaries_are_defined,
 };
 pub use crate::reply::report_name;
 pub use crate::status::Status;

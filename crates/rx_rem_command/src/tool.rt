@@ -8,6 +8,7 @@ ghost use Rattle.rx_rem_command.specs.Replies.{Ending, Found, Replies, sink_stat
 
 use crate::certifying::{certify_text, verify_certificate};
 use crate::checking::check_text;
+use crate::compacting::compact_text;
 use crate::extracting::extract_text;
 use crate::generating::generate;
 use crate::reply::report_name;
@@ -31,9 +32,11 @@ fn limit_of(command: Command<'_>) -> usize
 {
     match command {
         Command::Verify => CERTIFICATE_LIMIT,
-        Command::Extract { .. } | Command::Check | Command::Certify | Command::Run { .. } => {
-            TEXT_LIMIT
-        }
+        Command::Extract { .. }
+        | Command::Check
+        | Command::Certify
+        | Command::Compact { .. }
+        | Command::Run { .. } => TEXT_LIMIT,
     }
 }
 
@@ -66,6 +69,7 @@ fn answer<O: Sink, E: Sink, C: Policy, R: Policy>(
         Command::Check => check_text(alloc, out, err, text),
         Command::Certify => certify_text(alloc, out, err, text),
         Command::Verify => verify_certificate(alloc, out, err, text),
+        Command::Compact { name } => compact_text(alloc, out, err, text, name),
         Command::Run { turns, numbers } => run_text(alloc, out, err, text, turns, numbers),
     }
 }

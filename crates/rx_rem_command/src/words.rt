@@ -2,7 +2,7 @@
 
 ghost use Rattle.std.specs.Prelude.{◌≡◌, ◌∷◌, option_map};
 ghost use Rattle.rx_rem_command.specs.Numbers.{integers_of};
-ghost use Rattle.rx_rem_command.specs.Forms.{command_of, alone_of, extract_of, extracts_of, preference_of, run_of, runs_of, generate_of, generates_of};
+ghost use Rattle.rx_rem_command.specs.Forms.{command_of, alone_of, compact_of, extract_of, extracts_of, preference_of, run_of, runs_of, generate_of, generates_of};
 ghost use Rattle.rx_rem_command.specs.Asked.{asked, preferred, requested};
 
 use crate::numbers::{are_integers, count, number};
@@ -31,6 +31,10 @@ pub enum Command<'w> {
     Certify,
     /// Whether the text is a certificate that is good for its text.
     Verify,
+    /// The text with a short signature of its function of this name.
+    Compact {
+        name: &'w str,
+    },
     /// What its program does in so many turns, where these integers are its input.
     Run {
         turns: u64,
@@ -107,6 +111,17 @@ fn extract_words<'w>(words: &'w [Text]) -> Option<Command<'w>>
     }
 }
 
+fn compact_words<'w>(words: &'w [Text]) -> Option<Command<'w>>
+    ensures { option_map asked result ≡ compact_of words.entry.now }
+{
+    match words {
+        [name] => Some(Command::Compact {
+            name: name.as_str(),
+        }),
+        _ => None,
+    }
+}
+
 /// A run of so many turns, where all words behind them are integers.
 fn run_with<'w>(turns: Option<u64>, numbers: &'w [Text]) -> Option<Command<'w>>
     ensures { option_map asked result ≡ runs_of turns (integers_of numbers.entry.now) }
@@ -168,6 +183,8 @@ fn verb_words<'w>(verb: &str, words: &'w [Text]) -> Option<Request<'w>>
         of_text(alone(Command::Certify, words))
     } else if verb == "verify" {
         of_text(alone(Command::Verify, words))
+    } else if verb == "compact" {
+        of_text(compact_words(words))
     } else {
         None
     }

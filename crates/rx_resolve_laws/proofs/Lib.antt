@@ -1,3 +1,3 @@
 mod Steps
 mod Erased
-mod Programs
+pub mod Programs

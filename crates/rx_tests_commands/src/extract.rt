@@ -10,5 +10,5 @@ mod limits;
 mod modes;
 mod others;
 mod plans;
-mod said;
+pub mod said;
 mod worked;

@@ -6,6 +6,8 @@ mod certificates;
 #[cfg(test)]
 mod check;
 #[cfg(test)]
+mod compact;
+#[cfg(test)]
 mod extract;
 #[cfg(test)]
 mod failing;

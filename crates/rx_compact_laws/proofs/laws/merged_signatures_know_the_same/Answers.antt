@@ -5,4 +5,4 @@ pub returns-clause-same : goal.returns-clause-same
 returns-clause-same c D E d e f same u merges l k = knows_the_same D E d e f same u merges l k
 
 pub returns-clause-apart : goal.returns-clause-apart
-returns-clause-apart c D E d e f same u merges l k a b = are_apart D E d e f same u merges l k a b
+returns-clause-apart c D E d e f same u merges these all l k x y a b = are_apart D E d e f same u merges these all l k x y a b

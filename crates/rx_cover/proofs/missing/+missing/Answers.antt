@@ -37,6 +37,9 @@ at_head-rebuilt-requires-clause-long t c =
     ∙ lemma.marks_length (plain-Head c.args.head) c.len.result (map plain-Cells c.args.rows.now)
     ∙ c.len.ensures ∙ ap length (sym c.as_slice-types.ensures)
 
+pub at_head-rebuilt-requires-clause-near : goal.at_head-rebuilt-requires-clause-near
+at_head-rebuilt-requires-clause-near t c = lemma.head_near (declarations c.args.decls.now.items) (plain-Ty c.args.ty.now) (plain-Head c.args.head) c.requires.fits
+
 pub at_head-returns-in-Some : goal.at_head-returns-in-Some
 at_head-returns-in-Some t c =
     let D = declarations c.args.decls.now.items in

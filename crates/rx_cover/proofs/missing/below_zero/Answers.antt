@@ -1,11 +1,10 @@
-use Rattle.std.proofs.Common.{◌≡◌, suc, true, subst, arith, IfOk}
+use Rattle.std.proofs.Common.{◌≡◌, ◌+◌, suc, true, subst, arith, IfOk}
 use Rattle.rx_typed.specs.Elaborated.{with_sign}
 use Rattle.rx_cover.specs.Values as plain
 use Rattle.rx_cover.specs.PlainValue.{plain-Value}
 use Rattle.rx_cover.proofs.missing.below_zero.Goals as goal
 
-pub returns-in-Some : goal.returns-in-Some
-returns-in-Some c =
-    let e = c.in-Some.ensures in
-    let f : c.in-Some.magnitude ≡ suc c.args.distance = grind (arith, e) in
+pub returns : goal.returns
+returns c =
+    let f : c.args.distance + 1 ≡ suc c.args.distance = omega arith in
     subst (λ m. IfOk c.integer.result (λ v. plain-Value v ≡ plain.number (with_sign true m))) f c.integer.ensures

@@ -6,4 +6,4 @@ pub returns : goal.returns
 returns c =
     defined_agree c.passed_or_faulty.ensures.accepted c.causes_are_one.ensures c.one_outcome.ensures.one
     c.conditions_are_one.ensures.none c.refusals_are_one.ensures c.answers_are_one.ensures
-    c.certificates_are_one.ensures c.verified_or_refused.ensures c.verdicts_are_one.ensures
+    c.certificates_are_one.ensures c.verified_or_refused.ensures c.verdicts_are_one.ensures c.short_texts_are_one.ensures.one c.short_texts_are_one.ensures.named

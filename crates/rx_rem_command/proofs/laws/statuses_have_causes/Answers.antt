@@ -7,3 +7,4 @@ returns-clause-cause c = status_cause c.passed_or_faulty.ensures.accepted c.veri
 
 pub returns-clause-one : goal.returns-clause-one
 returns-clause-one c = one_status c.conditions_are_one.ensures.none c.one_outcome.ensures.one c.passed_or_faulty.ensures.accepted c.certificates_are_one.ensures
+    c.short_texts_are_one.ensures.one c.short_texts_are_one.ensures.named

@@ -1,0 +1,10 @@
+mod Cursors
+mod Numbered
+mod Functions
+mod Asked
+mod Elaborated
+mod Declared
+mod Lets
+mod Fitting
+mod Typed
+mod Accepted

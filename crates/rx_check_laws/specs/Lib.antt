@@ -1,0 +1,2 @@
+pub mod ApartFromSpans
+pub mod SameTyped

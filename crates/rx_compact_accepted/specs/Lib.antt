@@ -1,0 +1,3 @@
+pub mod AreShort
+pub mod LetsUnder
+pub mod Alike

@@ -1,0 +1,10 @@
+//! Laws of acceptance of programs with short signatures.
+#![tactic(auto)]
+
+mod laws;
+
+pub use laws::{
+    callers_of_short_signatures_are_accepted_alike, merged_functions_are_accepted_alike,
+    short_programs_are_numbered, short_signatures_are_accepted_alike,
+    short_signatures_know_the_same,
+};

@@ -1,0 +1,4 @@
+mod Faults
+mod Finding
+mod One
+mod Writing

@@ -1,0 +1,4 @@
+mod Cuts
+mod Ending
+mod AllFound
+mod Writing

@@ -1,0 +1,5 @@
+use Rattle.rx_splice_walk.proofs.Written.{nothing}
+use Rattle.rx_compact_edits.proofs.body.LetsPlaces.continue_at.Goals as goal
+
+pub returns : goal.returns
+returns c = nothing c.args._out.now

@@ -1,0 +1,4 @@
+pub mod Marks
+pub mod Cutting
+pub mod RunBlocks
+pub mod NewCalls

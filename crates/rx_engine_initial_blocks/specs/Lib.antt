@@ -1,0 +1,2 @@
+pub mod AtBlock
+pub mod NewCall

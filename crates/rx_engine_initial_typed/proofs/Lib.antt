@@ -1,0 +1,13 @@
+pub mod Corresponding
+pub mod Moves
+pub mod Callers
+pub mod Around
+pub mod Moved
+pub mod Given
+pub mod Asking
+pub mod Wrong
+pub mod MarkedReads
+pub mod Functions
+pub mod Blocks
+pub mod Called
+pub mod Extracted

@@ -1,0 +1,5 @@
+pub mod SameTypes
+pub mod ByType
+pub mod OfTypes
+pub mod Wrong
+pub mod BlockOfTypes

@@ -1,0 +1,23 @@
+pub mod Telling
+pub mod Rising
+pub mod Types
+pub mod Assigning
+pub mod Arguments
+pub mod Arms
+pub mod Whole
+pub mod Handed
+pub mod Made
+pub mod Outs
+pub mod Ends
+pub mod Begins
+pub mod Jumps
+pub mod Asked
+pub mod Seeing
+pub mod TailEnds
+pub mod Modes
+pub mod Named
+pub mod Settled
+pub mod EndCases
+pub mod TailCases
+pub mod Returns
+mod Examples

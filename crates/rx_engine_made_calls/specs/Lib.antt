@@ -1,0 +1,9 @@
+pub mod Plans
+pub mod Contexts
+pub mod NewEnds
+pub mod MadeCalls
+pub mod RunNames
+pub mod Answers
+pub mod Seeing
+pub mod Named
+pub mod EndCases

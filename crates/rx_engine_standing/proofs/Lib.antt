@@ -1,0 +1,15 @@
+pub mod Lists
+pub mod Limits
+pub mod Exits
+pub mod Values
+pub mod Declaring
+pub mod Standing
+pub mod Earlier
+pub mod Fitting
+pub mod Ending
+pub mod Entries
+pub mod Declared
+pub mod Having
+pub mod Tied
+pub mod Behind
+pub mod Passed

@@ -1,0 +1,6 @@
+mod Slots
+mod Pieces
+mod Times
+mod Counting
+mod Once
+pub mod Singles
