@@ -9,19 +9,19 @@ use Rattle.rx_typed_declarations.specs.Sizes.{Sized}
 use Rattle.rx_typeck_typed.specs.HaveTypes.{EachTyped}
 use Rattle.rx_typeck_typed.specs.Typing.{IsTyped}
 use Rattle.rx_typeck_typed.specs.declared.typed.Typed.{Typed}
-use Rattle.rx_facts.specs.Passing.{Each}
 use Rattle.rx_compact.specs.Compacted.{IsCompacted}
 use Rattle.rx_compact_types.specs.ShortTyped.{ShortProgram}
 use Rattle.rx_compact_passes.specs.PassAlike.{PassAlike}
-use Rattle.rx_compact_accepted.specs.Alike.{LetsStayAt, AcceptedAlike}
+use Rattle.rx_compact_accepted.specs.Alike.{AcceptedAlike}
 use Rattle.rx_compact_accepted.proofs.Typed.{Laws}
+use Rattle.rx_compact_accepted.proofs.Staying.{lets_stay}
 use Rattle.rx_compact_accepted.proofs.Program.{accepts_alike}
 
 pub accepted_alike : Laws → (p : ProgramTree) (i : ℕ) (q : ProgramTree) (c : IsCompacted p i q) → IsNumbered p → IsNumbered q → (s : ShortProgram p i q c.names c.declared)
     → (n : ℕ) (ps : List Ty) (answer : Ty) (bs : List Bound) (at : slice_get c.declared i ≡ Some (decl.Func n ps answer bs)) (t u : Typed) → IsTyped p c.names t → IsTyped q s.news u → EachTyped c.names 0 p t.functions
-    → Each (LetsStayAt t.decls.items u.decls.items i (s.declares.function n ps answer bs at).0) t.functions u.functions → PassAlike t u → AcceptedAlike p q t u
-accepted_alike laws p i q c small new_small s n ps answer bs at t u a b every lets pass =
-    let alike = accepts_alike laws p i q c small new_small s n ps answer bs at t u a b every lets in
+    → PassAlike t u → AcceptedAlike p q t u
+accepted_alike laws p i q c small new_small s n ps answer bs at t u a b every pass =
+    let alike = accepts_alike laws p i q c small new_small s n ps answer bs at t u a b every (lets_stay laws p i q c small new_small s n ps answer bs at t u a b) in
     record {
       borrows = alike.0;
       there = λ x. record {

@@ -1,21 +1,18 @@
 -- As much is known of the lifetimes of a short signature as of those that they were: by numbers that go on behind them.
-use Rattle.std.proofs.Common.{◌≡◌, ◌↔◌, ◌⊎◌, inl, inr, ℕ, ◌-◌, ◌+◌, ◌<◌, ◌≤◌, List, map, Option, Some, slice_get, refl, sym, ap, subst, ◌∙◌, arith, if◌then◌else◌, lt-ltb, le-ltb}
+use Rattle.std.proofs.Common.{◌≡◌, ◌↔◌, ◌⊎◌, inl, inr, ℕ, ◌-◌, ◌+◌, ◌<◌, ◌≤◌, List, map, Some, slice_get, sym, ap, subst, ◌∙◌, arith, if◌then◌else◌, lt-ltb, le-ltb}
 use Rattle.std.proofs.lemmas.Bool.{cases_lt}
-use Rattle.rx_core.specs.declared.types.Bound.{Bound}
-use Rattle.rx_core.specs.declared.types.Ty.{Ty}
 use Rattle.rx_typed.specs.declared.declarations.Decl.{Decl}
 use Rattle.rx_typed.specs.declared.declarations.Decl.TheVariants as decl
 use Rattle.rx_typed.specs.PlainTypes.{declarations}
 use Rattle.rx_typed.specs.Regions.{regions_of, region-Ty}
 use Rattle.rx_region_outlives.specs.Implied.{HasPair}
-use Rattle.rx_lower_lifetimes.specs.Values.{lifetimes_of}
 use Rattle.rx_typeck_typed.specs.Bindings.{lifetimes}
 use Rattle.rx_repair.proofs.Parameters.{Fitting}
 use Rattle.rx_compact.specs.Outliving as outliving
 use Rattle.rx_compact.specs.Outliving.{Outlives}
 use Rattle.rx_compact_laws.specs.MergedSignatures.{IsUnder, MergesKnown}
 use Rattle.rx_compact_laws.proofs.Merging.{knows_the_same}
-use Rattle.rx_compact_accepted.specs.LetsUnder.{extended}
+use Rattle.rx_compact_types.specs.ShortLets.{extended}
 use Rattle.rx_compact_accepted.proofs.Below.{type_below, types_below, bounds_below, type_agrees, types_agree}
 use Rattle.rx_compact_accepted.proofs.Function.{BothFit}
 

@@ -30,7 +30,7 @@ module _ (i : ℕ) (f : ℕ → ℕ) (D E : List Decl) (S : IsShort i f D E) (pl
   part_same v k t = place_same i f D E S t (way v ++ step.Field k ∷ [])
 
   mutual
-    bindings_same : (p : Pattern) (r : Met) (t : RegionTyp) → bindings E free r p t ≡ bindings D free r p t
+    pub bindings_same : (p : Pattern) (r : Met) (t : RegionTyp) → bindings E free r p t ≡ bindings D free r p t
     bindings_same (named.wild n) r t = refl
     bindings_same (named.bind n x m) r t = refl
     bindings_same (named.whole_number n g v k) r t = refl

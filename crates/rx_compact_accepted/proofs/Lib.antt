@@ -23,6 +23,9 @@ mod Knowing
 mod Typed
 mod Longer
 mod Known
+mod WrittenLets
+mod LetsRenamed
+mod Staying
 mod Short
 mod Small
 mod Counting

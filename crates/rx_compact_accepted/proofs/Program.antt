@@ -1,6 +1,6 @@
 -- A program with a short signature is accepted exactly where it was, where the `let`s of the function write the types of before by the new
 -- numbers of its lifetimes: function by function.
-use Rattle.std.proofs.Common.{◌≡◌, ◌≢◌, ◌↔◌, inl, inr, ℕ, Bool, List, [], ◌∷◌, length, map, Some, slice_get, refl, sym, ap, subst, ◌∙◌}
+use Rattle.std.proofs.Common.{◌≡◌, ◌≢◌, ◌↔◌, inl, inr, ℕ, Bool, List, [], ◌∷◌, length, map, Some, slice_get, sym, ap, subst, ◌∙◌}
 use Rattle.rx_core.specs.declared.types.Bound.{Bound}
 use Rattle.rx_core.specs.declared.types.Ty.{Ty}
 use Rattle.rx_tree.specs.Plain.{ProgramTree}
@@ -32,7 +32,7 @@ use Rattle.rx_compact_types.specs.ShortTyped.{ShortProgram}
 use Rattle.rx_compact_types.proofs.ShortPrograms.{all_lifetimes_same}
 use Rattle.rx_compact_passes.proofs.Alike.{FunctionAlike}
 use Rattle.rx_compact_accepted.specs.Alike.{BorrowAlike, OthersAlike, LetsStay, LetsStayAt, KnowTheSame}
-use Rattle.rx_compact_accepted.specs.LetsUnder.{extended}
+use Rattle.rx_compact_types.specs.ShortLets.{extended}
 use Rattle.rx_compact_accepted.proofs.Both.{TypedBoth}
 use Rattle.rx_compact_accepted.proofs.Function.{BothFit, FunctionsFit}
 use Rattle.rx_compact_accepted.proofs.Known.{signature_known, variables_typed}

@@ -1,12 +1,10 @@
 -- The function that has the short signature: its own lifetimes go by the numbers of the signature, and what is known of the signature is known
 -- in its body.
-use Rattle.std.proofs.Common.{◌≡◌, inl, inr, ℕ, ◌-◌, ◌+◌, ◌<◌, ◌≤◌, List, length, map, Option, Some, slice_get, refl, sym, ap, subst, ◌∙◌, arith, if◌then◌else◌, lt-ltb, le-ltb}
+use Rattle.std.proofs.Common.{◌≡◌, inl, inr, ℕ, ◌-◌, ◌+◌, ◌<◌, ◌≤◌, List, length, map, slice_get, sym, ap, subst, ◌∙◌, arith, if◌then◌else◌, lt-ltb, le-ltb}
 use Rattle.rx_core.specs.declared.types.Bound.{Bound}
-use Rattle.rx_core.specs.declared.types.Ty.{Ty}
-use Rattle.rx_graph_cycles.specs.Reaches.{IsIn}
 use Rattle.rx_typed.specs.declared.declarations.Decl.{Decl}
 use Rattle.rx_typed.specs.PlainTypes.{declarations}
-use Rattle.rx_typed.specs.Regions.{RegionTyp, RegionTyps, regions_of, region-Ty}
+use Rattle.rx_typed.specs.Regions.{regions_of, region-Ty}
 use Rattle.rx_typed.specs.Renaming.{renamed, all_renamed}
 use Rattle.rx_region_outlives.specs.Implied.{HasPair}
 use Rattle.rx_lower_walks.specs.Text.{actions_of}
@@ -23,7 +21,8 @@ use Rattle.rx_compact.specs.Outliving.{Outlives}
 use Rattle.rx_compact_laws.specs.MergedSignatures.{AreBoundsUnder, IsUnder}
 use Rattle.rx_compact_types.specs.KnownNumbers.{AreKnownNumbers}
 use Rattle.rx_compact_passes.proofs.Alike.{FunctionAlike}
-use Rattle.rx_compact_accepted.specs.LetsUnder.{extended, LetsUnder}
+use Rattle.rx_compact_types.specs.ShortLets.{extended}
+use Rattle.rx_compact_accepted.specs.LetsUnder.{LetsUnder}
 use Rattle.rx_compact_accepted.proofs.Below.{type_below, types_below, bounds_below, type_agrees, types_agree}
 use Rattle.rx_compact_accepted.proofs.Function.{BothFit, FunctionsFit}
 use Rattle.rx_compact_accepted.proofs.Others.{told_own, old_open, new_open}

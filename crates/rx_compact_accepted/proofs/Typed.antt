@@ -1,5 +1,5 @@
 -- Two typed programs, of which the second has a short signature of one function: what they declare, and all functions but this one.
-use Rattle.std.proofs.Common.{◌≡◌, ◌≢◌, ◌↔◌, ◌⊎◌, inl, inr, ℕ, zero, suc, ◌+◌, Bool, List, [], ◌∷◌, length, map, Option, Some, None, Result, Ok, option_map, slice_get, refl, sym, ap, subst, ◌∙◌, arith}
+use Rattle.std.proofs.Common.{◌≡◌, ◌⊎◌, inl, inr, ℕ, suc, ◌+◌, Bool, List, [], ◌∷◌, map, Option, Some, None, Result, Ok, option_map, slice_get, refl, sym, ap, subst, ◌∙◌, arith}
 use Rattle.std.proofs.lemmas.Option.{slice_get-map}
 use Rattle.rx_core.specs.declared.types.Bound.{Bound}
 use Rattle.rx_core.specs.declared.types.Ty.{Ty}
@@ -41,7 +41,7 @@ use Rattle.rx_compact_types.specs.KnownNumbers.{AreKnownNumbers}
 use Rattle.rx_compact_types.specs.ShortTyped.{ShortProgram}
 use Rattle.rx_compact_passes.proofs.Alike.{FunctionAlike}
 use Rattle.rx_compact_passes.proofs.Passing.{functions_alike, plain_alike}
-use Rattle.rx_compact_accepted.specs.AreShort.{IsShort, AreShort}
+use Rattle.rx_compact_accepted.specs.AreShort.{IsShort}
 use Rattle.rx_compact_accepted.proofs.Both.{TypedBoth, all_both}
 use Rattle.rx_compact_accepted.proofs.Function.{BothFit}
 
@@ -149,16 +149,16 @@ module _ (laws : Laws) (p : ProgramTree) (i : ℕ) (names : List ItemNames) (mea
   abbrev pub f : ℕ → ℕ
   f = (s.declares.function n ps answer bs at).0
 
-  old_declared : ds ≡ a.declared
+  pub old_declared : ds ≡ a.declared
   old_declared = ok_is ds a.declared (sym declares.items ∙ a.declares.items)
 
-  new_declared : s.declares.new ≡ b.declared
+  pub new_declared : s.declares.new ≡ b.declared
   new_declared = ok_is s.declares.new b.declared (sym s.declares.declares.items ∙ b.declares.items)
 
   pub others : (k : ℕ) → (k ≡ i → ⊥) → slice_get b.declared k ≡ slice_get a.declared k
   others k ne = ap (λ (l : List Decl). slice_get l k) (sym new_declared) ∙ (s.declares.others k ne ∙ ap (λ (l : List Decl). slice_get l k) old_declared)
 
-  under : IsUnder f (slice_get a.declared i) (slice_get b.declared i)
+  pub under : IsUnder f (slice_get a.declared i) (slice_get b.declared i)
   under = subst (λ l. IsUnder f (slice_get l i) (slice_get b.declared i)) old_declared (subst (λ l. IsUnder f (slice_get ds i) (slice_get l i)) new_declared (s.declares.function n ps answer bs at).1)
 
   numbers : AreKnownNumbers a.declared (slice_get a.declared i) (slice_get b.declared i) f
@@ -194,7 +194,7 @@ module _ (laws : Laws) (p : ProgramTree) (i : ℕ) (names : List ItemNames) (mea
   pairs =
       let e : s.news ≡ N.news = ok_is s.news N.news (sym s.meant.names_are ∙ N.meant.names_are) in
       subst (λ ns. Each (TypedBoth G H names ns i) t.functions u.functions) (sym e)
-      (all_both G H o (is_single (slice_get ds i)) names N.news i N.others 0 p i (omega arith) t.functions u.functions a.functions (subst (λ ns. FunctionsTyped H ns 0 q u.functions) e b.functions))
+      (all_both G H o (is_single (slice_get ds i)) names N.news i N.others 0 p i (omega arith) (λ k. ap (slice_get p) (let z : 0 + k ≡ k = omega arith in z)) (λ k. ap (slice_get q) (let z : 0 + k ≡ k = omega arith in z)) t.functions u.functions a.functions (subst (λ ns. FunctionsTyped H ns 0 q u.functions) e b.functions))
 
   pub short_declared : IsShort i f a.declared b.declared
   short_declared = declared_short i f a.declared b.declared others under

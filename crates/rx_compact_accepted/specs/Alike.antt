@@ -12,7 +12,8 @@ use Rattle.rx_check.specs.Functions.{Borrows}
 use Rattle.rx_check.specs.Passes.{IsFront, IsAccepted}
 use Rattle.rx_typeck_typed.specs.Bindings.{lifetimes}
 use Rattle.rx_compact.specs.Outliving.{Outlives}
-use Rattle.rx_compact_accepted.specs.LetsUnder.{extended, LetsUnder}
+use Rattle.rx_compact_types.specs.ShortLets.{extended}
+use Rattle.rx_compact_accepted.specs.LetsUnder.{LetsUnder}
 
 -- by what is declared in both, and the pairs that the fields of each item ask
 abbrev pub BorrowAlike : List Decl → List Decl → (ℕ → List Bound) → TypedFn → TypedFn → Type 0

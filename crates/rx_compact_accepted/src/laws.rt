@@ -60,13 +60,25 @@ pub fn short_signatures_know_the_same()
     items_get_their_types();
 }
 
-/// A program with a short signature is accepted where the given one is, where the `let`s of the function write the types of before by
-/// the new numbers of its lifetimes; and back, where the passes up to initialisation accept the given one: it may pass the limit of
-/// lifetime positions, of which the other has fewer.
-pub fn short_signatures_are_accepted_alike()
+/// The `let`s of the function write the types of before by the new numbers of its lifetimes.
+pub fn lets_of_short_signatures_stay()
     ensures { (p : ProgramTree) (i : ℕ) (q : ProgramTree) (c : IsCompacted p i q) → IsNumbered p → (s : ShortProgram p i q c.names c.declared)
         → (n : ℕ) (ps : List Ty) (answer : Ty) (bs : List Bound) (at : slice_get c.declared i ≡ Some (decl.Func n ps answer bs)) (t u : Typed) → IsTyped p c.names t → IsTyped q s.news u
-        → Each (LetsStayAt t.decls.items u.decls.items i (s.declares.function n ps answer bs at).0) t.functions u.functions → AcceptedAlike p q t u }
+        → Each (LetsStayAt t.decls.items u.decls.items i (s.declares.function n ps answer bs at).0) t.functions u.functions }
+{
+    declared_are_finite();
+    one_size_each();
+    signatures_are_well_formed();
+    typed_functions_fit();
+    items_get_their_types();
+}
+
+/// A program with a short signature is accepted where the given one is; and back, where the passes up to initialisation accept the given
+/// one: it may pass the limit of lifetime positions, of which the other has fewer.
+pub fn short_signatures_are_accepted_alike()
+    ensures { (p : ProgramTree) (i : ℕ) (q : ProgramTree) (c : IsCompacted p i q) → IsNumbered p → (s : ShortProgram p i q c.names c.declared)
+        → (n : ℕ) (ps : List Ty) (answer : Ty) (bs : List Bound) → slice_get c.declared i ≡ Some (decl.Func n ps answer bs) → (t u : Typed) → IsTyped p c.names t → IsTyped q s.news u
+        → AcceptedAlike p q t u }
 {
     declared_are_finite();
     one_size_each();

@@ -2,3 +2,4 @@ mod Faults
 mod Finding
 mod One
 mod Writing
+mod Read

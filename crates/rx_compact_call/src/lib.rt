@@ -8,4 +8,4 @@ mod named;
 
 pub use compacting::compact;
 pub use fault::CompactFault;
-pub use laws::short_texts_are_one;
+pub use laws::{short_texts_are_one, short_texts_are_read};

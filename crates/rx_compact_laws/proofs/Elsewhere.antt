@@ -15,7 +15,7 @@ use Rattle.rx_hoist_extraction.specs.OwnLifetimes.{in_parameters, lifetimes_if_a
 use Rattle.rx_compact_lifetimes.specs.declared.rewriting.Rewriting.{Rewriting}
 use Rattle.rx_compact_lifetimes.specs.Rewritten.{becomes, renamed_bound, rewritten_parameter}
 use Rattle.rx_compact_lifetimes.specs.Merged.{merged, mergings_of}
-use Rattle.rx_compact_lifetimes.specs.Elided.{in_body, in_bounds, times, result_allows, may_go, goes, stays, left_out, elided, elisions}
+use Rattle.rx_compact_lifetimes.specs.Elided.{in_body, in_bounds, times, result_allows, may_go, stays, left_out, elided, elisions}
 use Rattle.rx_compact_lifetimes.specs.Steps.{names}
 use Rattle.rx_compact_laws.specs.Alongside.{SameItems, AllBecome}
 use Rattle.rx_compact_laws.specs.Resolved.{declared, inside, IsElsewhere}
@@ -130,7 +130,7 @@ module _ (single : Bool) (p q : ProgramTree) (n : ℕ) (s : Span) (f : Function)
   bound_stays x h = and_left (not (is_among x (in_bounds f.lifetimes)))
       (not (is_among x body) && ((times x (in_parameters f.params) == 1) && result_allows single (lifetimes_if_any f.result) x)) (not_from_true (is_among x (in_bounds f.lifetimes)) h)
 
-  body_stays : (x : List ℕ) → is_among x body ≡ true → G x ≡ false
+  pub body_stays : (x : List ℕ) → is_among x body ≡ true → G x ≡ false
   body_stays x h = and_right (not (is_among x (in_bounds f.lifetimes)))
       (not (is_among x body) && ((times x (in_parameters f.params) == 1) && result_allows single (lifetimes_if_any f.result) x))
       (and_left (not (is_among x body)) ((times x (in_parameters f.params) == 1) && result_allows single (lifetimes_if_any f.result) x) (not_from_true (is_among x body) h))

@@ -11,6 +11,7 @@ pub mod Keeping
 pub mod SameNames
 pub mod Declaring
 pub mod Lists
-mod Spared
+pub mod Spared
+pub mod Noted
 pub mod Elsewhere
 pub mod ShortNames

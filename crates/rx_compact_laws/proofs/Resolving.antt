@@ -12,13 +12,13 @@ use Rattle.rx_resolve_names.specs.Meant.{number, number_in, Around, a_loop, a_te
 use Rattle.rx_resolve_names.specs.Steps.{Outcome, and_then, Naming, nothing, Inside, known, one, both, declare, child, next, with_variable, with_loop, with_names, position, entry, names, numbered}
 use Rattle.rx_resolve_names.specs.Names as naming
 use Rattle.rx_tree.specs.Lists.{listed}
-use Rattle.rx_resolve_names.specs.Names.{initialiser_at, lifetime_in, lifetimes_in, type_in, written, Bound, Binding, binds, also, in_order, pattern_then, callee, in_loop, Scoped}
+use Rattle.rx_resolve_names.specs.Names.{initialiser_at, lifetime_in, lifetimes_in, type_in, written, Bound, binds, also, pattern_then, callee, in_loop, Scoped}
 use Rattle.rx_compact_lifetimes.specs.declared.rewriting.Rewriting.{Rewriting}
 use Rattle.rx_hoist_extraction.specs.Names as hoisting
 use Rattle.rx_hoist_extraction.specs.Changed.{Changes, changed, changed_all, changed_optional, changed_arguments, changed_fields, changed_arms, changed_body, changed_statement, changed_statements}
 use Rattle.rx_compact_lifetimes.specs.Rewritten.{retyping, becomes, lifetime_with, rewritten_lifetime, rewritten_list, rewritten_type, rewritten_types, rewritten_optional}
 use Rattle.rx_compact_laws.specs.Beside as beside
-use Rattle.rx_compact_laws.specs.Beside.{Left, Both, Old, Alike, SameItem, Any}
+use Rattle.rx_compact_laws.specs.Beside.{Left, InBoth, Both, Old, Alike, SameItem, Any}
 use Rattle.rx_compact_laws.specs.Alongside.{SameItems, AllBecome}
 
 pub read_ok : {A B : Type 0} (m : Outcome A) (f : A → Outcome B) (b : B) → and_then m f ≡ Ok b → (a : A) × (m ≡ Ok a) × (f a ≡ Ok b)
@@ -71,6 +71,9 @@ module _ (p q : ProgramTree) (i : ℕ) (L M : DeclaredNames) (spans : List Span)
 
   abbrev pub J : Inside
   J = record { program = q; item = i; lifetimes = M }
+
+  abbrev pub K : InBoth
+  K = record { by = rs; old = I; new = J }
 
   abbrev pub aside : ItemNames → List NodeNames → ItemNames
   aside t us = record { vars = t.vars; lifetimes = spans; loops = t.loops; names = us }
@@ -207,6 +210,28 @@ module _ (p q : ProgramTree) (i : ℕ) (L M : DeclaredNames) (spans : List Span)
   optional_type None at C = quiet C
   optional_type (Some t) at C = type t at C
 
+  -- of a `let`: the entries that are added stand first
+  let_type_runs : (t : TypeTree) (at : List ℕ) (C : Left) → Runs tables tables (beside.in_let K (Some t) C) C (naming.in_type I at t) (naming.in_type J at (rewritten_type rs t))
+  let_type_runs t at C u v us e =
+      let r = (type t at C).run u v us e in
+      record {
+        old = r.old;
+        new = r.new;
+        names = r.names;
+        is = r.is;
+        beside = λ ks js c. (
+          r.beside ks js c,
+          (
+            record { at = at; before = u; after = v; resolves = e; adds = r.old; are = r.names; rest = ks; stand = refl },
+            record { at = at; before = aside u us; after = aside v (us ++ r.new); resolves = r.is; adds = r.new; are = refl; rest = js; stand = refl },
+          ),
+        );
+      }
+
+  let_type : (y : Option TypeTree) (at : List ℕ) (C : Left) → Sim tables tables (beside.in_let K y C) C (naming.in_optional_type I at y) (naming.in_optional_type J at (rewritten_optional rs y))
+  let_type None at C = quiet C
+  let_type (Some t) at C = record { run = let_type_runs t at C }
+
   -- ---- patterns
 
   also_sim : {P Q : Left} {f g : Naming} → Sim tables tables P Q f g → Sim bound bound P Q (also f) (also g)
@@ -328,7 +353,7 @@ module _ (p q : ProgramTree) (i : ℕ) (L M : DeclaredNames) (spans : List Span)
 
   mutual
     pub expression : (e : Expression) (sc : Variables) (ls : List Around) (at : List ℕ) (o : hoisting.Names) (r : List Around) (C : Left)
-        → Sim tables tables (beside.in_expression rs e C) C (naming.in_expression I sc ls at e) (naming.in_expression J sc ls at (changed F o r e))
+        → Sim tables tables (beside.in_expression K e C) C (naming.in_expression I sc ls at e) (naming.in_expression J sc ls at (changed F o r e))
     expression (plain.int s v k) sc ls at o r C = quiet C
     expression (plain.bool s b) sc ls at o r C = quiet C
     expression (plain.tuple s es) sc ls at o r C = expressions es sc ls at 0 o r C
@@ -340,104 +365,104 @@ module _ (p q : ProgramTree) (i : ℕ) (L M : DeclaredNames) (spans : List Span)
     expression (plain.invert s e) sc ls at o r C = expression e sc ls (child at 0) o r C
     expression (plain.borrow s m e) sc ls at o r C = expression e sc ls (child at 0) o r C
     expression (plain.binary s w a b) sc ls at o r C =
-        then {A = tables} {D = tables} {E = tables} (expression a sc ls (child at 0) o r (beside.in_expression rs b C)) (expression b sc ls (child at 1) o r C)
+        then {A = tables} {D = tables} {E = tables} (expression a sc ls (child at 0) o r (beside.in_expression K b C)) (expression b sc ls (child at 1) o r C)
     expression (plain.assign s a b) sc ls at o r C =
-        then {A = tables} {D = tables} {E = tables} (expression a sc ls (child at 0) o r (beside.in_expression rs b C)) (expression b sc ls (child at 1) o r C)
+        then {A = tables} {D = tables} {E = tables} (expression a sc ls (child at 0) o r (beside.in_expression K b C)) (expression b sc ls (child at 1) o r C)
     expression (plain.update s w a b) sc ls at o r C =
-        then {A = tables} {D = tables} {E = tables} (expression a sc ls (child at 0) o r (beside.in_expression rs b C)) (expression b sc ls (child at 1) o r C)
+        then {A = tables} {D = tables} {E = tables} (expression a sc ls (child at 0) o r (beside.in_expression K b C)) (expression b sc ls (child at 1) o r C)
     expression (plain.call s f es) sc ls at o r C =
-        then {A = tables} {D = tables} {E = tables} (called at f (variable_named sc f.name) (beside.in_expressions rs es C)) (expressions es sc ls at 0 o r C)
+        then {A = tables} {D = tables} {E = tables} (called at f (variable_named sc f.name) (beside.in_expressions K es C)) (expressions es sc ls at 0 o r C)
     expression (plain.next_input s) sc ls at o r C = one_name at _ _ (ap (λ k. known k (naming.rt_span s)) (same.rt (codes "rt"))) C
-    expression (plain.variant s a v es) sc ls at o r C = then {A = tables} {D = tables} {E = tables} (variant_known at a v (beside.in_arguments rs es C)) (arguments es sc ls at o r C)
-    expression (plain.make s x fs) sc ls at o r C = then {A = tables} {D = tables} {E = tables} (struct_known at x (beside.in_fields rs fs C)) (fields fs sc ls at 0 o r C)
+    expression (plain.variant s a v es) sc ls at o r C = then {A = tables} {D = tables} {E = tables} (variant_known at a v (beside.in_arguments K es C)) (arguments es sc ls at o r C)
+    expression (plain.make s x fs) sc ls at o r C = then {A = tables} {D = tables} {E = tables} (struct_known at x (beside.in_fields K fs C)) (fields fs sc ls at 0 o r C)
     expression (plain.print s e) sc ls at o r C = expression e sc ls (child at 0) o r C
     expression (plain.block s b) sc ls at o r C = body b sc ls (child at 0) o r C
     expression (plain.if s c b x) sc ls at o r C =
-        then {A = tables} {D = tables} {E = tables} (expression c sc ls (child at 0) o r (beside.in_body rs b (beside.in_optional rs x C)))
-        (then {A = tables} {D = tables} {E = tables} (body b sc ls (child at 1) o r (beside.in_optional rs x C)) (optional x sc ls (child at 2) o r C))
+        then {A = tables} {D = tables} {E = tables} (expression c sc ls (child at 0) o r (beside.in_body K b (beside.in_optional K x C)))
+        (then {A = tables} {D = tables} {E = tables} (body b sc ls (child at 1) o r (beside.in_optional K x C)) (optional x sc ls (child at 2) o r C))
     expression (plain.if_let s g e b x) sc ls at o r C =
         pattern_next (child at 0) g
         (λ ds t. and_then (naming.in_expression I sc ls (child at 1) e t) (λ t. and_then (naming.in_block I (entered sc ds) ls (child at 2) b t) (naming.in_optional I sc ls (child at 3) x)))
         (λ ds t. and_then (naming.in_expression J sc ls (child at 1) (changed F o r e) t) (λ t. and_then (naming.in_block J (entered sc ds) ls (child at 2) (changed_body F (hoisting.bound g ++ o) r b) t) (naming.in_optional J sc ls (child at 3) (changed_optional F o r x))))
-        (pattern g (child at 0) (beside.in_expression rs e (beside.in_body rs b (beside.in_optional rs x C))))
-        (λ ds. then {A = tables} {D = tables} {E = tables} (expression e sc ls (child at 1) o r (beside.in_body rs b (beside.in_optional rs x C)))
-        (then {A = tables} {D = tables} {E = tables} (body b (entered sc ds) ls (child at 2) (hoisting.bound g ++ o) r (beside.in_optional rs x C)) (optional x sc ls (child at 3) o r C)))
+        (pattern g (child at 0) (beside.in_expression K e (beside.in_body K b (beside.in_optional K x C))))
+        (λ ds. then {A = tables} {D = tables} {E = tables} (expression e sc ls (child at 1) o r (beside.in_body K b (beside.in_optional K x C)))
+        (then {A = tables} {D = tables} {E = tables} (body b (entered sc ds) ls (child at 2) (hoisting.bound g ++ o) r (beside.in_optional K x C)) (optional x sc ls (child at 3) o r C)))
     expression (plain.match s e l) sc ls at o r C =
-        then {A = tables} {D = tables} {E = tables} (expression e sc ls (child at 0) o r (beside.in_arms rs l C)) (arms l sc ls at 1 o r C)
+        then {A = tables} {D = tables} {E = tables} (expression e sc ls (child at 0) o r (beside.in_arms K l C)) (arms l sc ls at 1 o r C)
     expression (plain.loop s x b) sc ls at o r C =
         looped at (λ n. naming.in_block I sc (a_loop x n ∷ ls) (child at 0) b) (λ n. naming.in_block J sc (a_loop x n ∷ ls) (child at 0) (changed_body F o (a_loop x 0 ∷ r) b))
         (λ n. body b sc (a_loop x n ∷ ls) (child at 0) o (a_loop x 0 ∷ r) C)
     expression (plain.while s x c b) sc ls at o r C =
         looped at (λ n t. and_then (naming.in_expression I sc (a_test ∷ a_loop x n ∷ ls) (child at 0) c t) (naming.in_block I sc (a_loop x n ∷ ls) (child at 1) b))
         (λ n t. and_then (naming.in_expression J sc (a_test ∷ a_loop x n ∷ ls) (child at 0) (changed F o (a_test ∷ a_loop x 0 ∷ r) c) t) (naming.in_block J sc (a_loop x n ∷ ls) (child at 1) (changed_body F o (a_loop x 0 ∷ r) b)))
-        (λ n. then {A = tables} {D = tables} {E = tables} (expression c sc (a_test ∷ a_loop x n ∷ ls) (child at 0) o (a_test ∷ a_loop x 0 ∷ r) (beside.in_body rs b C)) (body b sc (a_loop x n ∷ ls) (child at 1) o (a_loop x 0 ∷ r) C))
+        (λ n. then {A = tables} {D = tables} {E = tables} (expression c sc (a_test ∷ a_loop x n ∷ ls) (child at 0) o (a_test ∷ a_loop x 0 ∷ r) (beside.in_body K b C)) (body b sc (a_loop x n ∷ ls) (child at 1) o (a_loop x 0 ∷ r) C))
     expression (plain.while_let s x g e b) sc ls at o r C =
         looped at (λ n. pattern_then I (child at 0) g (λ ds t. and_then (naming.in_expression I sc (a_test ∷ a_loop x n ∷ ls) (child at 1) e t) (naming.in_block I (entered sc ds) (a_loop x n ∷ ls) (child at 2) b)))
         (λ n. pattern_then J (child at 0) g (λ ds t. and_then (naming.in_expression J sc (a_test ∷ a_loop x n ∷ ls) (child at 1) (changed F o (a_test ∷ a_loop x 0 ∷ r) e) t) (naming.in_block J (entered sc ds) (a_loop x n ∷ ls) (child at 2) (changed_body F (hoisting.bound g ++ o) (a_loop x 0 ∷ r) b))))
         (λ n. pattern_next (child at 0) g
         (λ ds t. and_then (naming.in_expression I sc (a_test ∷ a_loop x n ∷ ls) (child at 1) e t) (naming.in_block I (entered sc ds) (a_loop x n ∷ ls) (child at 2) b))
         (λ ds t. and_then (naming.in_expression J sc (a_test ∷ a_loop x n ∷ ls) (child at 1) (changed F o (a_test ∷ a_loop x 0 ∷ r) e) t) (naming.in_block J (entered sc ds) (a_loop x n ∷ ls) (child at 2) (changed_body F (hoisting.bound g ++ o) (a_loop x 0 ∷ r) b)))
-        (pattern g (child at 0) (beside.in_expression rs e (beside.in_body rs b C)))
-        (λ ds. then {A = tables} {D = tables} {E = tables} (expression e sc (a_test ∷ a_loop x n ∷ ls) (child at 1) o (a_test ∷ a_loop x 0 ∷ r) (beside.in_body rs b C))
+        (pattern g (child at 0) (beside.in_expression K e (beside.in_body K b C)))
+        (λ ds. then {A = tables} {D = tables} {E = tables} (expression e sc (a_test ∷ a_loop x n ∷ ls) (child at 1) o (a_test ∷ a_loop x 0 ∷ r) (beside.in_body K b C))
         (body b (entered sc ds) (a_loop x n ∷ ls) (child at 2) (hoisting.bound g ++ o) (a_loop x 0 ∷ r) C)))
     expression (plain.break s x) sc ls at o r C = one_name at _ _ refl C
     expression (plain.continue s x) sc ls at o r C = one_name at _ _ refl C
     expression (plain.return s x) sc ls at o r C = optional x sc ls (child at 0) o r C
 
     expressions : (es : Expressions) (sc : Variables) (ls : List Around) (at : List ℕ) (k : ℕ) (o : hoisting.Names) (r : List Around) (C : Left)
-        → Sim tables tables (beside.in_expressions rs es C) C (naming.in_expressions I sc ls at k es) (naming.in_expressions J sc ls at k (changed_all F o r es))
+        → Sim tables tables (beside.in_expressions K es C) C (naming.in_expressions I sc ls at k es) (naming.in_expressions J sc ls at k (changed_all F o r es))
     expressions plain.no_expression sc ls at k o r C = quiet C
     expressions (plain.expression_and e es) sc ls at k o r C =
-        then {A = tables} {D = tables} {E = tables} (expression e sc ls (child at k) o r (beside.in_expressions rs es C)) (expressions es sc ls at (next k) o r C)
+        then {A = tables} {D = tables} {E = tables} (expression e sc ls (child at k) o r (beside.in_expressions K es C)) (expressions es sc ls at (next k) o r C)
 
     optional : (x : OptionalExpression) (sc : Variables) (ls : List Around) (at : List ℕ) (o : hoisting.Names) (r : List Around) (C : Left)
-        → Sim tables tables (beside.in_optional rs x C) C (naming.in_optional I sc ls at x) (naming.in_optional J sc ls at (changed_optional F o r x))
+        → Sim tables tables (beside.in_optional K x C) C (naming.in_optional I sc ls at x) (naming.in_optional J sc ls at (changed_optional F o r x))
     optional plain.absent sc ls at o r C = quiet C
     optional (plain.present e) sc ls at o r C = expression e sc ls at o r C
 
     arguments : (es : OptionalExpressions) (sc : Variables) (ls : List Around) (at : List ℕ) (o : hoisting.Names) (r : List Around) (C : Left)
-        → Sim tables tables (beside.in_arguments rs es C) C (naming.in_arguments I sc ls at es) (naming.in_arguments J sc ls at (changed_arguments F o r es))
+        → Sim tables tables (beside.in_arguments K es C) C (naming.in_arguments I sc ls at es) (naming.in_arguments J sc ls at (changed_arguments F o r es))
     arguments plain.no_list sc ls at o r C = quiet C
     arguments (plain.a_list es) sc ls at o r C = expressions es sc ls at 0 o r C
 
     fields : (fs : FieldExpressions) (sc : Variables) (ls : List Around) (at : List ℕ) (k : ℕ) (o : hoisting.Names) (r : List Around) (C : Left)
-        → Sim tables tables (beside.in_fields rs fs C) C (naming.in_fields I sc ls at k fs) (naming.in_fields J sc ls at k (changed_fields F o r fs))
+        → Sim tables tables (beside.in_fields K fs C) C (naming.in_fields I sc ls at k fs) (naming.in_fields J sc ls at k (changed_fields F o r fs))
     fields plain.no_field sc ls at k o r C = quiet C
     fields (plain.field_and x e fs) sc ls at k o r C =
-        then {A = tables} {D = tables} {E = tables} (expression e sc ls (child at k) o r (beside.in_fields rs fs C)) (fields fs sc ls at (next k) o r C)
+        then {A = tables} {D = tables} {E = tables} (expression e sc ls (child at k) o r (beside.in_fields K fs C)) (fields fs sc ls at (next k) o r C)
 
     arms : (l : Arms) (sc : Variables) (ls : List Around) (at : List ℕ) (k : ℕ) (o : hoisting.Names) (r : List Around) (C : Left)
-        → Sim tables tables (beside.in_arms rs l C) C (naming.in_arms I sc ls at k l) (naming.in_arms J sc ls at k (changed_arms F o r l))
+        → Sim tables tables (beside.in_arms K l C) C (naming.in_arms I sc ls at k l) (naming.in_arms J sc ls at k (changed_arms F o r l))
     arms plain.no_arm sc ls at k o r C = quiet C
     arms (plain.arm_and g e l) sc ls at k o r C =
         then {A = tables} {D = tables} {E = tables}
         (pattern_next (child at k) g (λ ds. naming.in_expression I (entered sc ds) ls (child at (next k)) e) (λ ds. naming.in_expression J (entered sc ds) ls (child at (next k)) (changed F (hoisting.bound g ++ o) r e))
-        (pattern g (child at k) (beside.in_expression rs e (beside.in_arms rs l C))) (λ ds. expression e (entered sc ds) ls (child at (next k)) (hoisting.bound g ++ o) r (beside.in_arms rs l C)))
+        (pattern g (child at k) (beside.in_expression K e (beside.in_arms K l C))) (λ ds. expression e (entered sc ds) ls (child at (next k)) (hoisting.bound g ++ o) r (beside.in_arms K l C)))
         (arms l sc ls at (next (next k)) o r C)
 
     pub body : (b : Body) (sc : Variables) (ls : List Around) (at : List ℕ) (o : hoisting.Names) (r : List Around) (C : Left)
-        → Sim tables tables (beside.in_body rs b C) C (naming.in_block I sc ls at b) (naming.in_block J sc ls at (changed_body F o r b))
+        → Sim tables tables (beside.in_body K b C) C (naming.in_block I sc ls at b) (naming.in_block J sc ls at (changed_body F o r b))
     body (plain.body s ss x) sc ls at o r C =
         let n : ℕ = number (length (listed ss)) in
         let m : number (length (listed (changed_statements F o r ss))) ≡ n = ap number (listed_same o r ss) in
-        then {A = tables} {D = scoped} {E = tables} (statements ss sc ls at 0 o r (beside.in_optional rs x C))
+        then {A = tables} {D = scoped} {E = tables} (statements ss sc ls at 0 o r (beside.in_optional K x C))
         (in_scope (λ sc. naming.in_optional I sc ls (child at n) x) (λ sc. naming.in_optional J sc ls (child at (number (length (listed (changed_statements F o r ss))))) (changed_optional F (hoisting.behind_all o ss) r x))
-        (λ sc. subst (λ k. Sim tables tables (beside.in_optional rs x C) C (naming.in_optional I sc ls (child at n) x) (naming.in_optional J sc ls (child at k) (changed_optional F (hoisting.behind_all o ss) r x))) (sym m)
+        (λ sc. subst (λ k. Sim tables tables (beside.in_optional K x C) C (naming.in_optional I sc ls (child at n) x) (naming.in_optional J sc ls (child at k) (changed_optional F (hoisting.behind_all o ss) r x))) (sym m)
         (optional x sc ls (child at n) (hoisting.behind_all o ss) r C)))
 
     statements : (ss : Statements) (sc : Variables) (ls : List Around) (at : List ℕ) (k : ℕ) (o : hoisting.Names) (r : List Around) (C : Left)
-        → Sim tables scoped (beside.in_statements rs ss C) C (naming.in_statements I sc ls at k ss) (naming.in_statements J sc ls at k (changed_statements F o r ss))
+        → Sim tables scoped (beside.in_statements K ss C) C (naming.in_statements I sc ls at k ss) (naming.in_statements J sc ls at k (changed_statements F o r ss))
     statements plain.no_statement sc ls at k o r C = into sc C
     statements (plain.statement_and a ss) sc ls at k o r C =
-        then {A = tables} {D = scoped} {E = scoped} (statement a sc ls (child at k) o r (beside.in_statements rs ss C))
+        then {A = tables} {D = scoped} {E = scoped} (statement a sc ls (child at k) o r (beside.in_statements K ss C))
         (from_scope (λ sc. naming.in_statements I sc ls at (next k) ss) (λ sc. naming.in_statements J sc ls at (next k) (changed_statements F (hoisting.bound_by a ++ o) r ss))
         (λ sc. statements ss sc ls at (next k) (hoisting.bound_by a ++ o) r C))
 
     statement : (a : Statement) (sc : Variables) (ls : List Around) (at : List ℕ) (o : hoisting.Names) (r : List Around) (C : Left)
-        → Sim tables scoped (beside.in_statement rs a C) C (naming.in_statement I sc ls at a) (naming.in_statement J sc ls at (changed_statement F o r a))
+        → Sim tables scoped (beside.in_statement K a C) C (naming.in_statement I sc ls at a) (naming.in_statement J sc ls at (changed_statement F o r a))
     statement (plain.let_statement s g y x) sc ls at o r C =
         let_next (child at 0) g (λ ds t. and_then (and_then (naming.in_optional_type I (child at 1) y t) (naming.in_optional I sc ls (child at (initialiser_at y)) x)) (λ t. Ok (record { scope = entered sc ds; tables = t })))
         (λ ds t. and_then (and_then (naming.in_optional_type J (child at 1) (rewritten_optional rs y) t) (naming.in_optional J sc ls (child at (initialiser_at (rewritten_optional rs y))) (changed_optional F o r x))) (λ t. Ok (record { scope = entered sc ds; tables = t })))
-        (pattern g (child at 0) (beside.in_optional_type rs y (beside.in_optional rs x C)))
-        (λ ds. then {A = tables} {D = tables} {E = scoped} (then {A = tables} {D = tables} {E = tables} (optional_type y (child at 1) (beside.in_optional rs x C)) (subst (λ k. Sim tables tables (beside.in_optional rs x C) C (naming.in_optional I sc ls (child at (initialiser_at y)) x) (naming.in_optional J sc ls (child at k) (changed_optional F o r x))) (sym (initialiser_same y)) (optional x sc ls (child at (initialiser_at y)) o r C))) (into (entered sc ds) C))
+        (pattern g (child at 0) (beside.in_let K y (beside.in_optional K x C)))
+        (λ ds. then {A = tables} {D = tables} {E = scoped} (then {A = tables} {D = tables} {E = tables} (let_type y (child at 1) (beside.in_optional K x C)) (subst (λ k. Sim tables tables (beside.in_optional K x C) C (naming.in_optional I sc ls (child at (initialiser_at y)) x) (naming.in_optional J sc ls (child at k) (changed_optional F o r x))) (sym (initialiser_same y)) (optional x sc ls (child at (initialiser_at y)) o r C))) (into (entered sc ds) C))
     statement (plain.expression_statement s e b) sc ls at o r C = then {A = tables} {D = tables} {E = scoped} (expression e sc ls (child at 0) o r C) (into sc C)

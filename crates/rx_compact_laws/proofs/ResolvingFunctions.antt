@@ -17,8 +17,8 @@ use Rattle.rx_typed.specs.Naming.{is_nothing, has_bounds, has_entry}
 use Rattle.rx_compact_lifetimes.specs.declared.rewriting.Rewriting.{Rewriting}
 use Rattle.rx_compact_lifetimes.specs.Rewritten.{rewritten_type, rewritten_optional, rewritten_parameter, rewritten_body}
 use Rattle.rx_compact_laws.specs.Beside as beside
-use Rattle.rx_compact_laws.specs.Beside.{Left, Any, IsRewritten}
-use Rattle.rx_compact_laws.specs.Alongside.{SameItems, AllBecome}
+use Rattle.rx_compact_laws.specs.Beside.{Left, InBoth, Any, IsRewritten}
+use Rattle.rx_compact_laws.specs.Alongside.{SameItems, AllBecome, in_both}
 use Rattle.rx_compact_laws.proofs.Resolving as resolving
 use Rattle.rx_compact_laws.proofs.Resolving.{read_ok, ok_is, Carrier, Does, Runs, Sim, then}
 
@@ -73,6 +73,9 @@ module _ (p q : ProgramTree) (i : ℕ) (L M : DeclaredNames) (spans : List Span)
 
   abbrev J : Inside
   J = record { program = q; item = i; lifetimes = M }
+
+  abbrev K : List Rewriting → InBoth
+  K bs = in_both bs p q i L M
 
   abbrev aside : ItemNames → List NodeNames → ItemNames
   aside t us = record { vars = t.vars; lifetimes = spans; loops = t.loops; names = us }
@@ -132,38 +135,38 @@ module _ (p q : ProgramTree) (i : ℕ) (L M : DeclaredNames) (spans : List Span)
         and_then (in_optional_type K (child at (number (length xs))) t d.tables) (in_block K (entered sc d.bindings) ls (child at (body_at (number (length xs)) t)) b))
 
     behind_runs : (sc : Variables) (ls : List Around) (at : List ℕ) (xs : List Parameter) (t : Option TypeTree) (b : Body) (C : Left)
-        → Runs tables tables (beside.in_parameters rs xs (beside.in_optional_type rs t (beside.in_body bs b C))) C (behind sc ls at I xs t b) (behind sc ls at J (map (rewritten_parameter rs) xs) (rewritten_optional rs t) (rewritten_body bs b))
+        → Runs tables tables (beside.in_parameters rs xs (beside.in_optional_type rs t (beside.in_body (K bs) b C))) C (behind sc ls at I xs t b) (behind sc ls at J (map (rewritten_parameter rs) xs) (rewritten_optional rs t) (rewritten_body bs b))
     behind_runs sc ls at xs t b C u v us e =
         let n : number (length (map (rewritten_parameter rs) xs)) ≡ number (length xs) = ap number (length-map xs (rewritten_parameter rs)) in
-        let r : Does bound tables (beside.in_parameters rs xs (beside.in_optional_type rs t (beside.in_body bs b C))) C (record { bindings = []; tables = u }) v us
+        let r : Does bound tables (beside.in_parameters rs xs (beside.in_optional_type rs t (beside.in_body (K bs) b C))) C (record { bindings = []; tables = u }) v us
         (and_then (in_parameters J at 0 (map (rewritten_parameter rs) xs) (record { bindings = []; tables = aside u us })) (λ d.
         and_then (in_optional_type J (child at (number (length xs))) (rewritten_optional rs t) d.tables) (in_block J (entered sc d.bindings) ls (child at (body_at (number (length xs)) t)) (rewritten_body bs b)))) =
-        (then {A = bound} {D = bound} {E = tables} (parameters xs at 0 (beside.in_optional_type rs t (beside.in_body bs b C))) (from_bound (λ ds u. and_then (in_optional_type I (child at (number (length xs))) t u) (in_block I (entered sc ds) ls (child at (body_at (number (length xs)) t)) b))
+        (then {A = bound} {D = bound} {E = tables} (parameters xs at 0 (beside.in_optional_type rs t (beside.in_body (K bs) b C))) (from_bound (λ ds u. and_then (in_optional_type I (child at (number (length xs))) t u) (in_block I (entered sc ds) ls (child at (body_at (number (length xs)) t)) b))
         (λ ds u. and_then (in_optional_type J (child at (number (length xs))) (rewritten_optional rs t) u) (in_block J (entered sc ds) ls (child at (body_at (number (length xs)) t)) (rewritten_body bs b)))
-        (λ ds. then {A = tables} {D = tables} {E = tables} (resolving.optional_type p q i L M spans rs same all t (child at (number (length xs))) (beside.in_body bs b C))
+        (λ ds. then {A = tables} {D = tables} {E = tables} (resolving.optional_type p q i L M spans rs same all t (child at (number (length xs))) (beside.in_body (K bs) b C))
         (resolving.body p q i L M spans bs same inner b (entered sc ds) ls (child at (body_at (number (length xs)) t)) [] [] C)))).run (record { bindings = []; tables = u }) v us e in
-        let made : Does tables tables (beside.in_parameters rs xs (beside.in_optional_type rs t (beside.in_body bs b C))) C u v us
+        let made : Does tables tables (beside.in_parameters rs xs (beside.in_optional_type rs t (beside.in_body (K bs) b C))) C u v us
         (and_then (in_parameters J at 0 (map (rewritten_parameter rs) xs) (record { bindings = []; tables = aside u us })) (λ d.
         and_then (in_optional_type J (child at (number (length xs))) (rewritten_optional rs t) d.tables) (in_block J (entered sc d.bindings) ls (child at (body_at (number (length xs)) t)) (rewritten_body bs b)))) =
         record { old = r.old; new = r.new; names = r.names; is = r.is; beside = r.beside } in
-        subst (λ k. Does tables tables (beside.in_parameters rs xs (beside.in_optional_type rs t (beside.in_body bs b C))) C u v us
+        subst (λ k. Does tables tables (beside.in_parameters rs xs (beside.in_optional_type rs t (beside.in_body (K bs) b C))) C u v us
         (and_then (in_parameters J at 0 (map (rewritten_parameter rs) xs) (record { bindings = []; tables = aside u us })) (λ d.
         and_then (in_optional_type J (child at k) (rewritten_optional rs t) d.tables) (in_block J (entered sc d.bindings) ls (child at (body_at k (rewritten_optional rs t))) (rewritten_body bs b))))) (sym n)
-        (subst (λ k. Does tables tables (beside.in_parameters rs xs (beside.in_optional_type rs t (beside.in_body bs b C))) C u v us
+        (subst (λ k. Does tables tables (beside.in_parameters rs xs (beside.in_optional_type rs t (beside.in_body (K bs) b C))) C u v us
         (and_then (in_parameters J at 0 (map (rewritten_parameter rs) xs) (record { bindings = []; tables = aside u us })) (λ d.
         and_then (in_optional_type J (child at (number (length xs))) (rewritten_optional rs t) d.tables) (in_block J (entered sc d.bindings) ls (child at k) (rewritten_body bs b))))) (sym (body_at_same rs (number (length xs)) t)) made)
 
     behind_same : (sc : Variables) (ls : List Around) (at : List ℕ) (xs : List Parameter) (t : Option TypeTree) (b : Body) (C : Left)
-        → Sim tables tables (beside.in_parameters rs xs (beside.in_optional_type rs t (beside.in_body bs b C))) C (behind sc ls at I xs t b) (behind sc ls at J (map (rewritten_parameter rs) xs) (rewritten_optional rs t) (rewritten_body bs b))
+        → Sim tables tables (beside.in_parameters rs xs (beside.in_optional_type rs t (beside.in_body (K bs) b C))) C (behind sc ls at I xs t b) (behind sc ls at J (map (rewritten_parameter rs) xs) (rewritten_optional rs t) (rewritten_body bs b))
     behind_same sc ls at xs t b C = record { run = behind_runs sc ls at xs t b C }
 
     whole : (f : Function) (ns ms : List ℕ) (b : Bool) → lifetimes_of I [] 0 f.lifetimes ≡ Ok ns → some (ms ++ numbers_from 0 (map (rewritten_parameter rs) f.params)) ≡ b → (b ≡ true → has_entry f ≡ true)
         → (sc : Variables) (ls : List Around) (at : List ℕ) (C : Left)
-        → Runs tables tables (beside.own_entry (has_entry f) b (beside.in_parameters rs f.params (beside.in_optional_type rs f.result (beside.in_body bs f.body C)))) C
+        → Runs tables tables (beside.own_entry (has_entry f) b (beside.in_parameters rs f.params (beside.in_optional_type rs f.result (beside.in_body (K bs) f.body C)))) C
         (λ t. and_then (numbered I at (ns ++ numbers_from 0 f.params) t) (behind sc ls at I f.params f.result f.body))
         (λ t. and_then (numbered J at (ms ++ numbers_from 0 (map (rewritten_parameter rs) f.params)) t) (behind sc ls at J (map (rewritten_parameter rs) f.params) (rewritten_optional rs f.result) (rewritten_body bs f.body)))
     whole f ns ms b e k w sc ls at C t u us h =
-        let Q = beside.in_parameters rs f.params (beside.in_optional_type rs f.result (beside.in_body bs f.body C)) in
+        let Q = beside.in_parameters rs f.params (beside.in_optional_type rs f.result (beside.in_body (K bs) f.body C)) in
         let as' = ns ++ numbers_from 0 f.params in
         let cs = ms ++ numbers_from 0 (map (rewritten_parameter rs) f.params) in
         let x : some as' ≡ has_entry f = entry_is I f ns e in
@@ -173,12 +176,12 @@ module _ (p q : ProgramTree) (i : ℕ) (L M : DeclaredNames) (spans : List Span)
 
     pub function : (f g : Function) (ns ms : List ℕ) → IsRewritten rs bs f g → lifetimes_of I [] 0 f.lifetimes ≡ Ok ns → lifetimes_of J [] 0 g.lifetimes ≡ Ok ms → (has_entry g ≡ true → has_entry f ≡ true)
         → (sc : Variables) (ls : List Around) (at : List ℕ) (C : Left)
-        → Runs tables tables (beside.own_entry (has_entry f) (has_entry g) (beside.in_parameters rs f.params (beside.in_optional_type rs f.result (beside.in_body bs f.body C)))) C
+        → Runs tables tables (beside.own_entry (has_entry f) (has_entry g) (beside.in_parameters rs f.params (beside.in_optional_type rs f.result (beside.in_body (K bs) f.body C)))) C
         (in_function I sc ls at f) (in_function J sc ls at g)
     function f g ns ms r e h w sc ls at C t u us k =
         let a : and_then (numbered I at (ns ++ numbers_from 0 f.params) t) (behind sc ls at I f.params f.result f.body) ≡ Ok u =
         sym (ap (λ o. and_then o (λ ns. and_then (numbered I at (ns ++ numbers_from 0 f.params) t) (behind sc ls at I f.params f.result f.body))) e) ∙ k in
-        let P = beside.own_entry (has_entry f) (has_entry g) (beside.in_parameters rs f.params (beside.in_optional_type rs f.result (beside.in_body bs f.body C))) in
+        let P = beside.own_entry (has_entry f) (has_entry g) (beside.in_parameters rs f.params (beside.in_optional_type rs f.result (beside.in_body (K bs) f.body C))) in
         let x : some (ms ++ numbers_from 0 (map (rewritten_parameter rs) f.params)) ≡ has_entry g = ap (λ xs. some (ms ++ numbers_from 0 xs)) (sym r.params) ∙ entry_is J g ms h in
         subst (λ o. Does tables tables P C t u us (and_then o (λ ms. and_then (numbered J at (ms ++ numbers_from 0 g.params) (aside t us)) (behind sc ls at J g.params g.result g.body)))) (sym h)
         (subst (λ xs. Does tables tables P C t u us (and_then (numbered J at (ms ++ numbers_from 0 xs) (aside t us)) (behind sc ls at J xs g.result g.body))) (sym r.params)

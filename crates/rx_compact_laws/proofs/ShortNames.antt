@@ -51,10 +51,10 @@ module _ (o : ℕ → ℕ → Bool) (single : Bool) (p q : ProgramTree) (same : 
   function_stays : (n : ℕ) (s : Span) (f : Function) (a : ItemNames) → in_item p n (plain.function_item s f) ≡ Ok a → Stays n s f a
   function_stays n s f a e =
       let ls = list_of p n s f a e in
-      let x : StaysNumbered q n s f (merged o f) a = stays (mergings_of o f) (mergings_of o f) p q n s f (merged o f) (merged_elsewhere o p q n s f same ls.0 ls.1) a e in
+      let x : StaysNumbered (mergings_of o f) p q n s f (merged o f) a = stays (mergings_of o f) (mergings_of o f) p q n s f (merged o f) (merged_elsewhere o p q n s f same ls.0 ls.1) a e in
       let ks = list_of q n s (merged o f) x.tables x.resolves in
       let rs = elisions single (in_body (merged o f).body) (merged o f) in
-      let y : StaysNumbered q n s (merged o f) (short f) x.tables =
+      let y : StaysNumbered rs q q n s (merged o f) (short f) x.tables =
       stays rs rs q q n s (merged o f) (short f) (elided_elsewhere single q q n s (merged o f) (own_items q) ks.0 ks.1) x.tables x.resolves in
       record {
         tables = y.tables;

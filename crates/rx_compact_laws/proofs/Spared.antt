@@ -23,20 +23,20 @@ use Rattle.rx_compact_laws.proofs.Lists.{first_among, among_more}
 use Rattle.rx_compact_laws.proofs.Declaring.{same_name, itself}
 
 module _ (rs : List Rewriting) where
-  abbrev Stays : Ident → Type 0
+  abbrev pub Stays : Ident → Type 0
   Stays l = becomes rs l.name ≡ Some l.name
 
-  abbrev Spared : List NodeTree → Type 0
+  abbrev pub Spared : List NodeTree → Type 0
   Spared ns = Every Stays (lifetimes_at_all ns)
 
   at_both : (ns ms : List NodeTree) → lifetimes_at_all (ns ++ ms) ≡ lifetimes_at_all ns ++ lifetimes_at_all ms
   at_both [] ms = refl
   at_both (n ∷ ns) ms = ap (λ ls. lifetimes_at n ++ ls) (at_both ns ms) ∙ sym (append_assoc (lifetimes_at n) (lifetimes_at_all ns) (lifetimes_at_all ms))
 
-  front : (ns ms : List NodeTree) → Spared (ns ++ ms) → Spared ns
+  pub front : (ns ms : List NodeTree) → Spared (ns ++ ms) → Spared ns
   front ns ms h = every_front Stays (lifetimes_at_all ns) (lifetimes_at_all ms) (subst (Every Stays) (at_both ns ms) h)
 
-  behind : (ns ms : List NodeTree) → Spared (ns ++ ms) → Spared ms
+  pub behind : (ns ms : List NodeTree) → Spared (ns ++ ms) → Spared ms
   behind ns ms h = every_behind Stays (lifetimes_at_all ns) (lifetimes_at_all ms) (subst (Every Stays) (at_both ns ms) h)
 
   -- ---- types
@@ -50,7 +50,7 @@ module _ (rs : List Rewriting) where
   all_stay (Some x ∷ ls) h = ap₂ (λ k ks. k ∷ ks) (one_stays x h.0) (all_stay ls h.1)
 
   mutual
-    type : (t : TypeTree) → Spared (a_type t ∷ below_type t) → rewritten_type rs t ≡ t
+    pub type : (t : TypeTree) → Spared (a_type t ∷ below_type t) → rewritten_type rs t ≡ t
     type (plain.kind_type s k) h = refl
     type (plain.bool_type s) h = refl
     type (plain.tuple_type s ts) h = ap (plain.tuple_type s) (types ts h)
@@ -179,7 +179,11 @@ module _ (rs : List Rewriting) where
   as_listed plain.no_statement = refl
   as_listed (plain.statement_and a ss) = ap (plain.statement_and a) (as_listed ss)
 
+  -- so the body is spared
+  pub spared_in : (b : Body) → ((x : List ℕ) → is_among x (in_body b) ≡ true → becomes rs x ≡ Some x) → Spared (below_block b)
+  spared_in (plain.body s ss o) h =
+      subst (λ z. Spared (within_statements z ++ within_optional o)) (as_listed ss)
+      (firsts_stay [] (lifetimes_at_all (within_statements (as_statements (listed ss)) ++ within_optional o)) h (λ x e. absurd (false≢true e)))
+
   pub body_spared : (b : Body) → ((x : List ℕ) → is_among x (in_body b) ≡ true → becomes rs x ≡ Some x) → rewritten_body rs b ≡ b
-  body_spared (plain.body s ss o) h = same_body [] [] (plain.body s ss o)
-      (subst (λ z. Spared (within_statements z ++ within_optional o)) (as_listed ss)
-      (firsts_stay [] (lifetimes_at_all (within_statements (as_statements (listed ss)) ++ within_optional o)) h (λ x e. absurd (false≢true e))))
+  body_spared b h = same_body [] [] b (spared_in b h)

@@ -10,7 +10,7 @@ use Rattle.rx_resolve_names.specs.Steps.{Outcome}
 use Rattle.rx_resolve_names.specs.Meant.{type_name, function_name, item_named, as_type, as_struct, as_enum, as_rt, as_function, number_in, variants_of}
 use Rattle.rx_compact_lifetimes.specs.declared.rewriting.Rewriting.{Rewriting}
 use Rattle.rx_compact_lifetimes.specs.Rewritten.{becomes}
-use Rattle.rx_compact_laws.specs.Beside.{Left}
+use Rattle.rx_compact_laws.specs.Beside.{Left, InBoth}
 
 -- each name means in the second what it means in the first
 pub record SameItems (p q : ProgramTree) : Type 0 where
@@ -24,6 +24,10 @@ pub record SameItems (p q : ProgramTree) : Type 0 where
 -- each lifetime of the first list becomes one of the second, or none
 abbrev pub AllBecome : List Rewriting → DeclaredNames → DeclaredNames → Type 0
 AllBecome rs old new = (x y : List ℕ) (n : ℕ) → number_in old x ≡ Some n → becomes rs x ≡ Some y → (m : ℕ) × (number_in new y ≡ Some m)
+
+-- a body of an item with these lifetimes, and with those in the second
+abbrev pub in_both : List Rewriting → ProgramTree → ProgramTree → ℕ → DeclaredNames → DeclaredNames → InBoth
+in_both body p q i old new = record { by = body; old = record { program = p; item = i; lifetimes = old }; new = record { program = q; item = i; lifetimes = new } }
 
 -- tables of an item of the second, with these places of its lifetimes and these entries
 abbrev pub aside : List Span → ItemNames → List NodeNames → ItemNames

@@ -9,9 +9,9 @@ use Rattle.rx_resolve_names.specs.Scopes.{DeclaredNames}
 use Rattle.rx_resolve_names.specs.Meant.{number, firsts, lifetimes_declared}
 use Rattle.rx_resolve_names.specs.Steps.{Inside}
 use Rattle.rx_resolve_names.specs.Items.{lifetimes_of, in_item}
-use Rattle.rx_typed.specs.Naming.{has_entry, function_named, function_spans, function_variables}
+use Rattle.rx_typed.specs.Naming.{has_entry, function_named, function_spans, function_variables, function_annotations}
 use Rattle.rx_compact_lifetimes.specs.declared.rewriting.Rewriting.{Rewriting}
-use Rattle.rx_compact_laws.specs.Beside.{IsRewritten}
+use Rattle.rx_compact_laws.specs.Beside.{IsRewritten, LetsBeside}
 use Rattle.rx_compact_laws.specs.Alongside.{SameItems, AllBecome}
 
 -- the lifetimes that a function declares, by their numbers
@@ -32,11 +32,13 @@ pub record IsElsewhere (signature body : List Rewriting) (p q : ProgramTree) (n 
   pub bounds : List ℕ
   pub meant : lifetimes_of (inside q n s g) [] 0 g.lifetimes ≡ Ok bounds
 
--- what is had, where the first resolves: the other does, with the same variables and the same tree with numbers
-pub record StaysNumbered (q : ProgramTree) (n : ℕ) (s : Span) (f g : Function) (a : ItemNames) : Type 0 where
+-- what is had, where the first resolves: the other does, with the same variables and the same tree with numbers, and its `let`s beside those
+-- of the first
+pub record StaysNumbered (body : List Rewriting) (p q : ProgramTree) (n : ℕ) (s : Span) (f g : Function) (a : ItemNames) : Type 0 where
   pub tables : ItemNames
   pub resolves : in_item q n (plain.function_item s g) ≡ Ok tables
   pub vars : tables.vars ≡ a.vars
   pub tree : function_named n s g tables.names ≡ function_named n s f a.names
   pub spans : function_spans s g tables.names ≡ function_spans s f a.names
   pub variables : function_variables s g tables.names ≡ function_variables s f a.names
+  pub lets : LetsBeside (record { by = body; old = inside p n s f; new = inside q n s g }) (function_annotations s f a.names) (function_annotations s g tables.names)

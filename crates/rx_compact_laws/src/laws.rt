@@ -11,7 +11,7 @@ ghost use Rattle.rx_resolve_names.specs.Meant.{Around};
 ghost use Rattle.rx_resolve_names.specs.Causes.{Meant};
 ghost use Rattle.rx_resolve_names.specs.Items.{in_function, in_item, lifetimes_of};
 ghost use Rattle.rx_typed.specs.declared.declarations.Decl.{Decl};
-ghost use Rattle.rx_typed.specs.Naming.{has_entry, function_named, function_spans, function_variables};
+ghost use Rattle.rx_typed.specs.Naming.{has_entry, function_named, function_spans, function_variables, function_annotations};
 ghost use Rattle.rx_typed.specs.Regions.{regions};
 ghost use Rattle.rx_lower_walks.specs.Graph.{Site};
 ghost use Rattle.rx_lower_walks.specs.Text.{actions_of};
@@ -23,8 +23,8 @@ ghost use Rattle.rx_compact_lifetimes.specs.Merged.{merged, mergings_of};
 ghost use Rattle.rx_compact_lifetimes.specs.Elided.{elided, elisions, in_body};
 ghost use Rattle.rx_compact.specs.Compacted.{compacted};
 ghost use Rattle.rx_compact.specs.Outliving.{Outlives};
-ghost use Rattle.rx_compact_laws.specs.Alongside.{AllBecome, SameItems, StandsBeside, aside};
-ghost use Rattle.rx_compact_laws.specs.Beside.{Beside, IsRewritten, Nothing};
+ghost use Rattle.rx_compact_laws.specs.Alongside.{AllBecome, SameItems, StandsBeside, aside, in_both};
+ghost use Rattle.rx_compact_laws.specs.Beside.{InBoth, Beside, IsRewritten, LetsBeside, Nothing};
 ghost use Rattle.rx_compact_laws.specs.Resolved.{IsElsewhere, StaysNumbered, inside};
 ghost use Rattle.rx_compact_laws.specs.ShortNames.{NamesStay};
 ghost use Rattle.rx_compact_laws.specs.MergedSignatures.{IsUnder, MergesKnown, MergesAll};
@@ -49,14 +49,17 @@ pub fn merged_lifetimes_stay()
 {}
 
 /// A function whose lifetimes are written otherwise has the same tree with numbers, with the same spans and variables, where its entries
-/// of names stand beside those of before. So with the same types it has the same typed tree.
+/// of names stand beside those of before. So with the same types it has the same typed tree. And its `let`s with a type stand beside
+/// those of before.
 pub fn rewritten_functions_are_numbered()
-    ensures tree { (signature body : List Rewriting) (i : ℕ) (s : Span) (f g : Function) (old new : List NodeNames) → IsRewritten signature body f g → Beside signature body f g old new
+    ensures tree { (signature : List Rewriting) (body : InBoth) (i : ℕ) (s : Span) (f g : Function) (old new : List NodeNames) → IsRewritten signature body.by f g → Beside signature body f g old new
         → function_named i s g new ≡ function_named i s f old }
-    ensures spans { (signature body : List Rewriting) (s : Span) (f g : Function) (old new : List NodeNames) → IsRewritten signature body f g → Beside signature body f g old new
+    ensures spans { (signature : List Rewriting) (body : InBoth) (s : Span) (f g : Function) (old new : List NodeNames) → IsRewritten signature body.by f g → Beside signature body f g old new
         → function_spans s g new ≡ function_spans s f old }
-    ensures variables { (signature body : List Rewriting) (s : Span) (f g : Function) (old new : List NodeNames) → IsRewritten signature body f g → Beside signature body f g old new
+    ensures variables { (signature : List Rewriting) (body : InBoth) (s : Span) (f g : Function) (old new : List NodeNames) → IsRewritten signature body.by f g → Beside signature body f g old new
         → function_variables s g new ≡ function_variables s f old }
+    ensures lets { (signature : List Rewriting) (body : InBoth) (s : Span) (f g : Function) (old new : List NodeNames) → IsRewritten signature body.by f g → Beside signature body f g old new
+        → LetsBeside body (function_annotations s f old) (function_annotations s g new) }
 {}
 
 /// The function of which lifetimes become one is rewritten so, and then that of which some are left out, whose body stays.
@@ -72,13 +75,14 @@ pub fn rewritten_functions_resolve()
         → (f g : Function) → IsRewritten signature body f g → (has_entry g ≡ true → has_entry f ≡ true)
         → (ns ms : List ℕ) → lifetimes_of (record { program = p; item = i; lifetimes = old }) [] 0 f.lifetimes ≡ Ok ns → lifetimes_of (record { program = q; item = i; lifetimes = new }) [] 0 g.lifetimes ≡ Ok ms
         → (scope : Variables) (around : List Around) (at : List ℕ) (t u : ItemNames) (names : List NodeNames) → in_function (record { program = p; item = i; lifetimes = old }) scope around at f t ≡ Ok u
-        → StandsBeside (Beside signature body f g) Nothing t u names spans (in_function (record { program = q; item = i; lifetimes = new }) scope around at g (aside spans t names)) }
+        → StandsBeside (Beside signature (in_both body p q i old new) f g) Nothing t u names spans (in_function (record { program = q; item = i; lifetimes = new }) scope around at g (aside spans t names)) }
 {}
 
-/// So where a function resolves, the same with lifetimes written otherwise does, with the same variables and the same tree with numbers.
+/// So where a function resolves, the same with lifetimes written otherwise does, with the same variables and the same tree with numbers,
+/// and with `let`s that stand beside those of before.
 pub fn rewritten_functions_stay()
     ensures { (signature body : List Rewriting) (p q : ProgramTree) (n : ℕ) (s : Span) (f g : Function) → IsElsewhere signature body p q n s f g → (a : ItemNames) → in_item p n (plain.function_item s f) ≡ Ok a
-        → StaysNumbered q n s f g a }
+        → StaysNumbered body p q n s f g a }
 {}
 
 /// A program with a short signature has the items of before by their names.

@@ -80,7 +80,7 @@ pub record ListEnds (us : List Tok) (end : ℕ) : Type 0 where
 behind_comma : {us : List Tok} {end : ℕ} (c : Tok) → IsMark (codes ",") c → Ends us end [] → Ends (us ++ c ∷ []) end (c ∷ [])
 behind_comma c s e = record { front = e.front; last = e.last; is = ap (λ x. x ++ c ∷ []) e.is ∙ append_assoc e.front (e.last ∷ []) (c ∷ []); ends = e.ends }
 
-abbrev AllEnd : List Tok → List BoundLifetime → Type 0
+abbrev pub AllEnd : List Tok → List BoundLifetime → Type 0
 AllEnd us [] = us ≡ []
 AllEnd us (l ∷ ls) = ListEnds us (list_end l ls)
 
@@ -97,7 +97,7 @@ with_more vs ws c x (k ∷ ks) m d s is q = record {
   ends = subst (λ y. Ends y (list_end k ks) q.rest) (sym (is ∙ sym (append_assoc vs (c ∷ []) ws))) (longer (vs ++ c ∷ []) q.ends);
 }
 
-list_ends : {us : List Tok} {ls : List BoundLifetime} {h : ℕ} → IsListOf IsBoundLifetime us ls h → AllEnd us ls
+pub list_ends : {us : List Tok} {ls : List BoundLifetime} {h : ℕ} → IsListOf IsBoundLifetime us ls h → AllEnd us ls
 list_ends no_element = refl
 list_ends (last_element d) = record { rest = []; few = nothing; ends = lifetime_ends d }
 list_ends (element vs ws c x xs m n d s r is) = with_more vs ws c x xs m d s is (list_ends r)
@@ -112,14 +112,14 @@ closes at rest more c nothing s = closes_here at more c s
 closes at rest more c (comma d k) s = ap (λ (w : List ℕ). if same_bytes w (codes ">") then d.span.end else closed_at at (c ∷ more)) k.1 ∙ closes_here at more c s
 
 module _ (from to : ℕ) (all pre us post : List Tok) (n o c : Tok) (is : all ≡ (pre ++ n ∷ []) ++ ((o ∷ (us ++ c ∷ [])) ++ post)) (order : Ordered from to all) where
-  begins : first_start n.span.end (tokens_from n.span.end all) ≡ o.span.start
+  pub begins : first_start n.span.end (tokens_from n.span.end all) ≡ o.span.start
   begins = ap (λ ts. first_start n.span.end (tokens_from n.span.end ts)) together
       ∙ ap (first_start n.span.end) (tokens_behind from to pre n (o ∷ ((us ++ c ∷ []) ++ post)) (subst (Ordered from to) together order))
     where
       together : all ≡ pre ++ (n ∷ (o ∷ ((us ++ c ∷ []) ++ post)))
       together = is ∙ append_assoc pre (n ∷ []) (o ∷ ((us ++ c ∷ []) ++ post))
 
-  ends : (end : ℕ) → IsMark (codes ">") c → ListEnds us end → closed_at end (tokens_from end all) ≡ c.span.end
+  pub ends : (end : ℕ) → IsMark (codes ">") c → ListEnds us end → closed_at end (tokens_from end all) ≡ c.span.end
   ends end s q = subst (λ e. closed_at e (tokens_from e all) ≡ c.span.end) (sym q.ends.ends)
       (ap (λ ts. closed_at q.ends.last.span.end (tokens_from q.ends.last.span.end ts)) together
       ∙ ap (closed_at q.ends.last.span.end) (tokens_behind from to ahead q.ends.last (q.rest ++ (c ∷ post)) (subst (Ordered from to) together order))

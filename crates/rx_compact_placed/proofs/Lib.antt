@@ -1,4 +1,4 @@
 mod Within
 mod Lets
-mod Angles
-mod Placed
+pub mod Angles
+pub mod Placed

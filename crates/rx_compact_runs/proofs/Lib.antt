@@ -1,1 +1,1 @@
-mod Running
+pub mod Running

@@ -24,7 +24,7 @@ use Rattle.rx_compact_types.specs.ShortTyped.{SameFunctions, ShortProgram}
 
 -- ---- trees
 
-abbrev SameTrees : List TypedFn → List TypedFn → Type 0
+abbrev pub SameTrees : List TypedFn → List TypedFn → Type 0
 SameTrees [] [] = Unit {0}
 SameTrees (t ∷ ts) (u ∷ us) = (plain-TypedTree u.tree ≡ plain-TypedTree t.tree) × SameTrees ts us
 SameTrees _ _ = ⊥
@@ -53,7 +53,7 @@ behind_same true [] (u ∷ us) s = absurd s
 behind_same true (t ∷ ts) [] s = absurd s
 behind_same false ts us s = s
 
-functions_same : (D : Declarations) (ts us : List TypedFn) → SameTrees ts us → typed_functions D us ≡ typed_functions D ts
+pub functions_same : (D : Declarations) (ts us : List TypedFn) → SameTrees ts us → typed_functions D us ≡ typed_functions D ts
 functions_same [] ts us s = refl
 functions_same (d ∷ ds) ts us s = ap₂ (λ f fs. f ∷ fs) (first_same (is_function d) ts us s)
     (functions_same ds (behind (is_function d) ts) (behind (is_function d) us) (behind_same (is_function d) ts us s))
@@ -67,21 +67,21 @@ module _ (o : ℕ → ℕ → Bool) (single : Bool) where
   main_same (plain.struct_item s d) = refl
   main_same (plain.enum_item s d) = refl
 
-  main_stays : (xs : ProgramTree) (m n : ℕ) → main_in (compacted o single xs m) n ≡ main_in xs n
+  pub main_stays : (xs : ProgramTree) (m n : ℕ) → main_in (compacted o single xs m) n ≡ main_in xs n
   main_stays [] m n = refl
   main_stays (x ∷ xs) zero n = ap (λ b. if b then n else main_in xs (suc n)) (main_same x)
   main_stays (x ∷ xs) (suc m) n = ap (λ k. if is_main x then n else k) (main_stays xs m (suc n))
 
 -- ---- programs
 
-ok_is : {A E : Type 0} (a b : A) → ◌≡◌ {A = Result A E} (Ok a) (Ok b) → a ≡ b
+pub ok_is : {A E : Type 0} (a b : A) → ◌≡◌ {A = Result A E} (Ok a) (Ok b) → a ≡ b
 ok_is a b e = cc
 
 -- a typed program is well-typed, and its functions are those of each way to see it
-abbrev Typings : Type 0
+abbrev pub Typings : Type 0
 Typings = (p : ProgramTree) (names : List ItemNames) (t : Typed) → IsTyped p names t → WellTyped p names
 
-abbrev Ones : Type 0
+abbrev pub Ones : Type 0
 Ones = (p : ProgramTree) (names : List ItemNames) (t : Typed) → IsTyped p names t → (w : WellTyped p names)
     → (map unrecorded t.decls.items ≡ map unrecorded w.declared) × EachIsOf (known w.declared w.sizes) t.functions (functions_of p names w)
 

@@ -1,10 +1,9 @@
 -- A function with a short signature declares the types of before under other numbers of its lifetimes.
-use Rattle.std.proofs.Common.{◌≡◌, ℕ, ◌<◌, ◌≤◌, ◌^◌, Bool, true, List, [], ◌∷◌, length, map, Option, Some, None, Ok, refl, sym, ap, subst, ◌∙◌, arith}
+use Rattle.std.proofs.Common.{◌≡◌, ℕ, ◌<◌, ◌^◌, Bool, true, List, [], ◌∷◌, length, map, Option, Some, None, Ok, refl, sym, ap, subst, ◌∙◌, arith}
 use Rattle.std.proofs.lemmas.List.{length-map}
 use Rattle.rx_core.specs.declared.types.Bound.{Bound}
 use Rattle.rx_core.specs.declared.types.Span.{Span}
 use Rattle.rx_core.specs.declared.types.Ty.{Ty}
-use Rattle.rx_tree.specs.declared.tree.BoundLifetime.{BoundLifetime}
 use Rattle.rx_tree.specs.Plain as plain
 use Rattle.rx_tree.specs.Plain.{TypeTree, Function, ProgramTree}
 use Rattle.rx_resolve_names.specs.declared.resolved.ItemNames.{ItemNames}
@@ -14,9 +13,9 @@ use Rattle.rx_typed.specs.declared.declarations.Decl.{Decl}
 use Rattle.rx_typed.specs.declared.declarations.Decl.TheVariants as decl
 use Rattle.rx_typed.specs.Regions.{regions_of, region-Ty, lifetimes_among}
 use Rattle.rx_typed.specs.Renaming.{renamed, all_renamed}
+use Rattle.rx_typeck_typed.specs.Bindings.{lifetimes}
 use Rattle.rx_typeck_typed.specs.Steps.{Outcome}
 use Rattle.rx_typeck_typed.specs.Items.{bounded, bounds_of, the_only, answer_of, declared_function}
-use Rattle.rx_compact_lifetimes.specs.Rewritten.{renamed_bound}
 use Rattle.rx_compact_lifetimes.specs.Merged.{merged, mergings_of, IsPreorder}
 use Rattle.rx_compact_lifetimes.specs.Elided.{elided, elisions, in_body}
 use Rattle.rx_compact_laws.specs.Resolved.{declared, inside}
@@ -32,7 +31,9 @@ use Rattle.rx_compact_types.proofs.MergedNumbers.{merged_number, first_left_out,
 use Rattle.rx_compact_types.proofs.BoundsUnder.{bounds_twice, merged_bounds, elided_bounds}
 use Rattle.rx_compact_types.proofs.Fewer.{few_merged, few_elided}
 use Rattle.rx_compact_types.proofs.MergedEqual.{one_number_known}
-use Rattle.rx_compact_types.proofs.MergedApart.{merged_within, merged_fewer}
+use Rattle.rx_compact_types.proofs.Places.{small}
+use Rattle.rx_compact_types.proofs.ByName.{ByName, number_by_name}
+use Rattle.rx_compact_types.proofs.MergedApart.{ends_turned, merged_within, merged_fewer}
 use Rattle.rx_compact_types.proofs.ElidedApart.{number_within, numbers_apart}
 use Rattle.rx_compact_types.proofs.ElidedFewer.{no_more_numbers}
 use Rattle.rx_compact_types.proofs.ElidedNumbers.{elided_number, elided_parameters_fit, elided_answer_fits, elided_none_left_out, goes_once, only_goes}
@@ -68,7 +69,7 @@ OneIf single d = single ≡ true → (k : ℕ) (ps : List Ty) (t : Ty) (bs : Lis
 pub function_under : (o : ℕ → ℕ → Bool) → IsPreorder o → (single : Bool) (p q : ProgramTree) → SameDeclared p q → SameDeclared q q → (n : ℕ) (s : Span) (f : Function) → length f.lifetimes < 2 ^ 32 → (a t b : ItemNames)
     → in_item p n (plain.function_item s f) ≡ Ok a → in_item q n (plain.function_item s (merged o f)) ≡ Ok t → in_item q n (plain.function_item s (elided single (merged o f))) ≡ Ok b
     → (d : Decl) → declared_function p a.names f ≡ Ok d → OneIf single d
-    → (e : Decl) × (declared_function q b.names (elided single (merged o f)) ≡ Ok e) × ((F : ℕ → ℕ) × RenamedFunction (Related o) F d e)
+    → (e : Decl) × (declared_function q b.names (elided single (merged o f)) ≡ Ok e) × ((F : ℕ → ℕ) × RenamedFunction (Related o) F d e × ByName o single s f F d)
 function_under o order single p q same own n s f few a t b ea et eb d e one =
     let h : Function = merged o f in
     let g : Function = elided single h in
@@ -136,6 +137,10 @@ function_under o order single p q same own n s f few a t b ea et eb d e one =
           within = λ l w. subst (λ m. FB (FA l) < m) (sym last) (number_within single s h few' q once' fewer T.meant (FA l) (middle l w));
           known = λ l k w v x. one_number_known o order s f few few' once p q n l k (numbers_apart single s h few' q once' fewer T.meant (FA l) (FA k) (middle l w) (middle k v) x);
           fewer = (let a = no_more_numbers single s h few' q fewer T.meant in let b = merged_fewer o order s f few once xs in let z = A.count_is in omega (arith, a, b, z, first, last));
+        },
+        record {
+          many = (let a = ap (λ x. lifetimes (Some x)) A.is in let b = A.count_is in let c = (ends_turned o f n0 0 xs).0 in let z = small (length f.lifetimes) few in omega (arith, a, b, c, z));
+          same = λ x y l k u v w. number_by_name o single s f few q T.meant x y l k u v w;
         },
       ),
     )

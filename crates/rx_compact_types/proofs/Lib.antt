@@ -15,6 +15,8 @@ mod MergedApart
 mod ElidedApart
 mod ElidedFewer
 pub mod SameTypes
+mod ByName
+mod LetTypes
 mod Functions
 pub mod ShortPrograms
 pub mod ShortTyped
@@ -22,3 +24,4 @@ pub mod Programs
 mod Bounds
 mod BoundsUnder
 mod MergedEqual
+mod Examples

@@ -1,11 +1,10 @@
 -- Where some lifetimes become one, those of a signature have numbers of the new signature's, of which there are no more.
-use Rattle.std.proofs.Common.{◌≡◌, ◌⊎◌, inl, inr, ℕ, suc, ◌+◌, ◌-◌, ◌<◌, ◌≤◌, ◌^◌, Bool, List, [], ◌∷◌, length, map, Option, Some, None, refl, sym, ap, ap₂, subst, ◌∙◌, arith}
+use Rattle.std.proofs.Common.{◌≡◌, inl, inr, ℕ, suc, ◌+◌, ◌<◌, ◌≤◌, ◌^◌, Bool, List, [], ◌∷◌, length, map, Some, None, sym, ap, subst, ◌∙◌, arith}
 use Rattle.std.proofs.lemmas.Bool.{cases_lt}
 use Rattle.rx_core.specs.declared.types.Span.{Span}
 use Rattle.rx_tree.specs.Plain.{Function}
 use Rattle.rx_resolve_names.specs.Meant.{number}
 use Rattle.rx_hoist_extraction.specs.Names.{Distinct}
-use Rattle.rx_compact_lifetimes.specs.Rewritten.{becomes}
 use Rattle.rx_compact_lifetimes.specs.Merged.{mergings_of, merged, IsPreorder}
 use Rattle.rx_compact_lifetimes.specs.Steps.{names}
 use Rattle.rx_compact_types.specs.Positions.{Position, as_parameter, ends}
@@ -16,7 +15,7 @@ use Rattle.rx_compact_types.proofs.MergedNumbers.{some_becomes, merged_number, o
 use Rattle.rx_compact_types.proofs.MergedEqual.{became}
 
 -- no place is left out that was written
-ends_turned : (o : ℕ → ℕ → Bool) (f : Function) (k j : ℕ) (xs : List Position) → k ≤ ends as_parameter k xs
+pub ends_turned : (o : ℕ → ℕ → Bool) (f : Function) (k j : ℕ) (xs : List Position) → k ≤ ends as_parameter k xs
     × (ends as_parameter j (map (turn (mergings_of o f)) xs) + k ≡ ends as_parameter k xs + j)
 ends_turned o f k j [] = (omega arith, omega arith)
 ends_turned o f k j (None ∷ xs) =

@@ -15,6 +15,7 @@ use Rattle.rx_resolve_names.specs.Items.{in_item, in_items, apart}
 use Rattle.rx_resolve_names.specs.Causes.{Meant}
 use Rattle.rx_typed.specs.declared.declarations.Decl.{Decl}
 use Rattle.rx_typed.specs.declared.declarations.Decl.TheVariants as decl
+use Rattle.rx_typed.specs.Naming.{function_annotations}
 use Rattle.rx_typed.specs.PlainTypes.{declarations}
 use Rattle.rx_typed.specs.Regions.{RegionTyp, region_integer, region_boolean, region_tuple, region_reference, region_named, RegionTyps, no_region, region_and, regions_of, region-Ty, lifetimes_among}
 use Rattle.rx_typed.specs.Renaming.{renamed, all_renamed}
@@ -24,8 +25,10 @@ use Rattle.rx_typeck_solver.specs.Stepping.{known}
 use Rattle.rx_typeck_typed.specs.Steps.{Outcome, on_ok}
 use Rattle.rx_typeck_typed.specs.Items.{declared_item, declared_function, entries_of, declared_items}
 use Rattle.rx_typeck_typed.specs.Programs.{Fits, Declares}
+use Rattle.rx_typeck_typed.specs.Typing.{entries}
 use Rattle.rx_typeck_typed.specs.Bindings.{lifetimes}
 use Rattle.rx_compact_lifetimes.specs.Merged.{merged, mergings_of, IsPreorder}
+use Rattle.rx_compact_lifetimes.specs.Elided.{elisions, in_body, may_go}
 use Rattle.rx_compact.specs.Outliving as outliving
 use Rattle.rx_compact.specs.Outliving.{Outlives, is_single}
 use Rattle.rx_compact.specs.Compacted.{compacted_function, compacted_item, compacted, Tells, IsCompacted}
@@ -35,16 +38,21 @@ use Rattle.rx_compact_laws.specs.ShortNames.{NamesStay}
 use Rattle.rx_compact_laws.proofs.Resolving as resolving
 use Rattle.rx_compact_laws.proofs.SameNames.{item_same}
 use Rattle.rx_compact_laws.proofs.Keeping.{same_items}
-use Rattle.rx_compact_laws.proofs.Elsewhere.{merged_elsewhere}
+use Rattle.rx_compact_laws.proofs.Elsewhere.{merged_elsewhere, left_stays, body_stays, elided_elsewhere}
+use Rattle.rx_compact_laws.proofs.Spared.{spared_in}
+use Rattle.rx_compact_laws.proofs.Noted.{notes_spared}
 use Rattle.rx_compact_laws.proofs.Staying.{stays}
-use Rattle.rx_compact_laws.proofs.ShortNames.{list_of, names_stay}
+use Rattle.rx_compact_laws.proofs.ShortNames.{own_items, list_of, names_stay}
 use Rattle.rx_compact_types.specs.KnownNumbers.{AreKnownNumbers}
 use Rattle.rx_compact_types.specs.ShortTypes.{DeclaresAlike}
+use Rattle.rx_compact_types.specs.ShortLets.{LetsAlike}
 use Rattle.rx_compact_types.proofs.Renamed.{Related, RenamedFunction, under}
 use Rattle.rx_compact_types.specs.ShortTyped.{TypedAlike, ShortProgram}
 use Rattle.rx_compact_types.proofs.Declared.{read_ok}
 use Rattle.rx_compact_types.proofs.Functions.{OneIf, function_under}
-use Rattle.rx_compact_types.proofs.ShortPrograms.{renamed_plain, all_lifetimes_same, same_declared, ShortItem, item_declared, done, fits_still}
+use Rattle.rx_compact_types.proofs.ShortPrograms.{renamed_plain, all_lifetimes_same, same_declared, ShortItem, item_declared, Done, done, fits_still}
+use Rattle.rx_compact_types.proofs.ByName.{ByName}
+use Rattle.rx_compact_types.proofs.LetTypes.{all_alike}
 use Rattle.rx_compact_types.proofs.ShortTyped.{SameTables, Short, all_there, all_back}
 
 -- ---- what stands at a number
@@ -203,10 +211,18 @@ module _ (p : ProgramTree) (i : ℕ) (names : List ItemNames) (meant : Meant p n
         fewer = subst (λ m. m ≤ lifetimes (Some d)) (sym b) (subst (λ m. r.new_count ≤ m) (sym a) r.fewer);
       }
 
+  -- by numbers that go by names
+  abbrev OfFunction : (ℕ → ℕ) → Decl → ItemTree → Type 0
+  OfFunction F d (plain.function_item s f) = ByName o single s f F d
+  OfFunction F d _ = Unit {0}
+
+  abbrev Holds : (ℕ → ℕ) → Decl → Type 0
+  Holds F d = (x : ItemTree) → slice_get p i ≡ Some x → OfFunction F d x
+
   -- what isn't a function declares the same
-  unchanged : (x : ItemTree) → compacted_item o single x ≡ x → slice_get p i ≡ Some x → (d : Decl) → declared_item p (entries_of (slice_get names i)) x ≡ Ok d
-      → ShortItem o single p q names N.news (all_lifetimes_same o single p i) i x d
-  unchanged x c h d e =
+  unchanged : (x : ItemTree) → compacted_item o single x ≡ x → ((F : ℕ → ℕ) (d : Decl) → OfFunction F d x) → slice_get p i ≡ Some x → (d : Decl) → declared_item p (entries_of (slice_get names i)) x ≡ Ok d
+      → ShortItem o single p q names N.news (all_lifetimes_same o single p i) Holds i x d
+  unchanged x c none h d e =
       let a = there x h in
       let b = here x h in
       let z : 0 + i ≡ i = omega arith in
@@ -216,11 +232,11 @@ module _ (p : ProgramTree) (i : ℕ) (names : List ItemNames) (meant : Meant p n
         new = d;
         declares = ap (λ y. declared_item q (entries_of (slice_get N.news i)) y) c ∙ (item_declared o single p q names N.news (all_lifetimes_same o single p i) i x s ∙ e);
         same = refl;
-        renamed = λ n ps t bs g. (λ l. l, same_function (Related o) (λ l k e. inl e) d n ps t bs g);
+        renamed = λ n ps t bs g. (λ l. l, same_function (Related o) (λ l k e. inl e) d n ps t bs g, λ y k. subst (OfFunction (λ l. l) d) (some_item x y (sym h ∙ k)) (none (λ l. l) d));
       }
 
   function_step : (s : Span) (f : Function) → slice_get p i ≡ Some (plain.function_item s f) → (d : Decl) → declared_item p (entries_of (slice_get names i)) (plain.function_item s f) ≡ Ok d
-      → ShortItem o single p q names N.news (all_lifetimes_same o single p i) i (plain.function_item s f) d
+      → ShortItem o single p q names N.news (all_lifetimes_same o single p i) Holds i (plain.function_item s f) d
   function_step s f h d e =
       let x : ItemTree = plain.function_item s f in
       let a = there x h in
@@ -236,18 +252,20 @@ module _ (p : ProgramTree) (i : ℕ) (names : List ItemNames) (meant : Meant p n
         new = r.0;
         declares = ap (λ u. declared_function q (entries_of u) (compacted_function o single f)) b.at ∙ r.1;
         same = renamed_plain (Related o) r.2.0 d r.0 r.2.1;
-        renamed = λ n ps t bs g. r.2;
+        renamed = λ n ps t bs g. (r.2.0, r.2.1, λ y k. subst (OfFunction r.2.0 d) (some_item x y (sym h ∙ k)) r.2.2);
       }
 
-  step : (x : ItemTree) → slice_get p i ≡ Some x → (d : Decl) → declared_item p (entries_of (slice_get names i)) x ≡ Ok d → ShortItem o single p q names N.news (all_lifetimes_same o single p i) i x d
+  step : (x : ItemTree) → slice_get p i ≡ Some x → (d : Decl) → declared_item p (entries_of (slice_get names i)) x ≡ Ok d → ShortItem o single p q names N.news (all_lifetimes_same o single p i) Holds i x d
   step (plain.function_item s f) h d e = function_step s f h d e
-  step (plain.rt_item s r) h d e = unchanged (plain.rt_item s r) refl h d e
-  step (plain.struct_item s y) h d e = unchanged (plain.struct_item s y) refl h d e
-  step (plain.enum_item s y) h d e = unchanged (plain.enum_item s y) refl h d e
+  step (plain.rt_item s r) h d e = unchanged (plain.rt_item s r) refl (λ F d. tt) h d e
+  step (plain.struct_item s y) h d e = unchanged (plain.struct_item s y) refl (λ F d. tt) h d e
+  step (plain.enum_item s y) h d e = unchanged (plain.enum_item s y) refl (λ F d. tt) h d e
+
+  abbrev D : Done o single p q names N.news (all_lifetimes_same o single p i) Holds 0 p i i ds
+  D = done o single p q names N.news (all_lifetimes_same o single p i) Holds i N.others p 0 i (omega arith) step ds declares.items
 
   alike : DeclaresAlike q i N.news ds
   alike =
-      let D = done o single p q names N.news (all_lifetimes_same o single p i) i N.others p 0 i (omega arith) step ds declares.items in
       record {
         new = D.new;
         declares = record { items = D.is; fits = subst (Fits q) (sym D.same) (fits_still o single p i (declarations ds) declares.fits) };
@@ -286,8 +304,54 @@ module _ (p : ProgramTree) (i : ℕ) (names : List ItemNames) (meant : Meant p n
         (record { declared = ds; declares = declares; sizes = v.sizes; is_sizes = subst (λ D. IsSizes D v.sizes) e v.is_sizes; functions = r.0 }, r.1);
   }
 
+  -- ---- the `let`s of the function
+
+  -- by the names of both
+  tables_alike : (s : Span) (f : Function) (h : slice_get p i ≡ Some (plain.function_item s f)) (F : ℕ → ℕ) (d : Decl) → ByName o single s f F d → (m : ℕ)
+      → LetsAlike p q (lifetimes (Some d)) m F (function_annotations s f (there (plain.function_item s f) h).tables.names) (function_annotations s (compacted_function o single f) (here (plain.function_item s f) h).tables.names)
+  tables_alike s f h F d named m =
+      let a = there (plain.function_item s f) h in
+      let b = here (plain.function_item s f) h in
+      let g : Function = merged o f in
+      let rs = elisions single (in_body g.body) g in
+      let ls = list_of p (0 + i) s f a.tables a.is in
+      let x = stays (mergings_of o f) (mergings_of o f) p q (0 + i) s f g (merged_elsewhere o p q (0 + i) s f same ls.0 ls.1) a.tables a.is in
+      let ks = list_of q (0 + i) s g x.tables x.resolves in
+      let y = stays rs rs q q (0 + i) s g (compacted_function o single f) (elided_elsewhere single q q (0 + i) s g (own_items q) ks.0 ks.1) x.tables x.resolves in
+      let t : y.tables ≡ b.tables = resolving.ok_is y.tables b.tables (sym y.resolves ∙ b.is) in
+      let few : length f.lifetimes ≤ total lifetimes_at (nodes p) = few_at p i (plain.function_item s f) h in
+      let less : total lifetimes_at (nodes p) < 2 ^ 32 = small.lifetimes in
+      subst (λ (ts : ItemNames). LetsAlike p q (lifetimes (Some d)) m F (function_annotations s f a.tables.names) (function_annotations s (compacted_function o single f) ts.names)) t
+      (all_alike o single s f (omega (arith, few, less)) F d named m p q (same_declared o single p i same) (0 + i)
+      (function_annotations s f a.tables.names) (function_annotations s g x.tables.names) (function_annotations s (compacted_function o single f) y.tables.names) x.lets y.lets
+      (notes_spared rs s g x.tables.names (spared_in rs g.body (λ z e. left_stays (λ w. may_go single (in_body g.body) g w) g.lifetimes z (body_stays single q q (0 + i) s g z e)))))
+
+  abbrev IsFunction : (Function → Type 0) → ItemTree → Type 0
+  IsFunction P (plain.function_item s f) = P f
+  IsFunction P _ = Unit {0}
+
+  lets_alike : (n : ℕ) (ps : List Ty) (t : Ty) (bs : List Bound) (at : slice_get ds i ≡ Some (decl.Func n ps t bs)) (s : Span) (f g : Function)
+      → slice_get p i ≡ Some (plain.function_item s f) → slice_get q i ≡ Some (plain.function_item s g)
+      → LetsAlike p q (lifetimes (slice_get ds i)) (lifetimes (slice_get alike.new i)) (alike.function n ps t bs at).0
+      (function_annotations s f (entries (slice_get names i))) (function_annotations s g (entries (slice_get N.news i)))
+  unfolding alike
+  lets_alike n ps t bs at s f g h k =
+      let x : ItemTree = plain.function_item s f in
+      let d : Decl = decl.Func n ps t bs in
+      let m = lifetimes (slice_get alike.new i) in
+      let r = D.this d at n ps t bs refl in
+      let a = there x h in
+      let b = here x h in
+      let made : LetsAlike p q (lifetimes (Some d)) m r.2.0 (function_annotations s f a.tables.names) (function_annotations s (compacted_function o single f) b.tables.names) = tables_alike s f h r.2.0 d (r.2.2 x h) m in
+      let short : LetsAlike p q (lifetimes (Some d)) m r.2.0 (function_annotations s f a.tables.names) (function_annotations s g b.tables.names) =
+      subst (IsFunction (λ y. LetsAlike p q (lifetimes (Some d)) m r.2.0 (function_annotations s f a.tables.names) (function_annotations s y b.tables.names)))
+      (some_item (compacted_item o single x) (plain.function_item s g) (sym (short_at o single p i x h) ∙ k)) made in
+      subst (λ w. LetsAlike p q (lifetimes w) m r.2.0 (function_annotations s f (entries (slice_get names i))) (function_annotations s g (entries (slice_get N.news i)))) (sym at)
+      (subst (λ w. LetsAlike p q (lifetimes (Some d)) m r.2.0 (function_annotations s f (entries w)) (function_annotations s g (entries (slice_get N.news i)))) (sym a.at)
+      (subst (λ w. LetsAlike p q (lifetimes (Some d)) m r.2.0 (function_annotations s f a.tables.names) (function_annotations s g (entries w))) (sym b.at) short))
+
   pub program : ShortProgram p i q names ds
-  program = record { news = N.news; meant = N.meant; declares = alike; typed = typed }
+  program = record { news = N.news; meant = N.meant; declares = alike; typed = typed; lets = lets_alike }
 
 pub short_program : (p : ProgramTree) (i : ℕ) (q : ProgramTree) (c : IsCompacted p i q) → IsNumbered p → ShortProgram p i q c.names c.declared
 short_program p i q c small = subst (λ q. ShortProgram p i q c.names c.declared) (sym c.same) (program p i c.names c.meant small c.declared c.declares c.outlives c.tells)

@@ -92,25 +92,25 @@ module _ (o : ℕ → ℕ → Bool) (single : Bool) where
         ap (λ r. on_ok r (λ d. on_ok (declared_items q news (suc n) xs) (λ ds. Ok (d ∷ ds)))) (item_declared n x (h n (omega arith)))
         ∙ on_more (declared_item p (entries_of (slice_get names n)) x) (λ d. ap (λ r. on_ok r (λ ds. Ok (d ∷ ds))) (behind_declared (suc n) xs (λ k g. h k (omega (arith, g)))))
 
-    -- what the item with the short signature declares
-    pub record ShortItem (j : ℕ) (x : ItemTree) (d : Decl) : Type 0 where
+    -- what the item with the short signature declares, by numbers of which this holds
+    pub record ShortItem (Holds : (ℕ → ℕ) → Decl → Type 0) (j : ℕ) (x : ItemTree) (d : Decl) : Type 0 where
       pub new : Decl
       pub declares : declared_item q (entries_of (slice_get news j)) (compacted_item o single x) ≡ Ok new
       pub same : plain-Decl new ≡ plain-Decl d
-      pub renamed : (n : ℕ) (ps : List Ty) (t : Ty) (bs : List Bound) → d ≡ decl.Func n ps t bs → (f : ℕ → ℕ) × RenamedFunction (Related o) f d new
+      pub renamed : (n : ℕ) (ps : List Ty) (t : Ty) (bs : List Bound) → d ≡ decl.Func n ps t bs → (f : ℕ → ℕ) × RenamedFunction (Related o) f d new × Holds f d
 
     -- of items from number n on; the one with the short signature has number m among them, and number j
-    pub record Done (n : ℕ) (xs : ProgramTree) (m j : ℕ) (ds : List Decl) : Type 0 where
+    pub record Done (Holds : (ℕ → ℕ) → Decl → Type 0) (n : ℕ) (xs : ProgramTree) (m j : ℕ) (ds : List Decl) : Type 0 where
       pub new : List Decl
       pub is : declared_items q news n (compacted o single xs m) ≡ Ok new
       pub same : declarations new ≡ declarations ds
       pub others : (k : ℕ) → (k ≡ m → ⊥) → slice_get new k ≡ slice_get ds k
       pub this : (d : Decl) → slice_get ds m ≡ Some d → (n : ℕ) (ps : List Ty) (t : Ty) (bs : List Bound) → d ≡ decl.Func n ps t bs
-          → (e : Decl) × (slice_get new m ≡ Some e) × ((f : ℕ → ℕ) × RenamedFunction (Related o) f d e)
+          → (e : Decl) × (slice_get new m ≡ Some e) × ((f : ℕ → ℕ) × RenamedFunction (Related o) f d e × Holds f d)
 
-    module _ (j : ℕ) (others : (k : ℕ) → (k ≡ j → ⊥) → slice_get news k ≡ slice_get names k) where
-      pub done : (xs : ProgramTree) (n m : ℕ) → j ≡ n + m → ((x : ItemTree) → slice_get xs m ≡ Some x → (d : Decl) → declared_item p (entries_of (slice_get names j)) x ≡ Ok d → ShortItem j x d)
-          → (ds : List Decl) → declared_items p names n xs ≡ Ok ds → Done n xs m j ds
+    module _ (Holds : (ℕ → ℕ) → Decl → Type 0) (j : ℕ) (others : (k : ℕ) → (k ≡ j → ⊥) → slice_get news k ≡ slice_get names k) where
+      pub done : (xs : ProgramTree) (n m : ℕ) → j ≡ n + m → ((x : ItemTree) → slice_get xs m ≡ Some x → (d : Decl) → declared_item p (entries_of (slice_get names j)) x ≡ Ok d → ShortItem Holds j x d)
+          → (ds : List Decl) → declared_items p names n xs ≡ Ok ds → Done Holds n xs m j ds
       done [] n m w step ds e = record {
         new = [];
         is = refl;
@@ -123,7 +123,7 @@ module _ (o : ℕ → ℕ → Bool) (single : Bool) where
           let b = read_ok (declared_items p names (suc n) xs) (λ ds. Ok (a.0 ∷ ds)) ds a.2 in
           let t : a.0 ∷ b.0 ≡ ds = ok_is (a.0 ∷ b.0) ds b.2 in
           let at : n ≡ j = omega (arith, w) in
-          let c : ShortItem j x a.0 = step x refl a.0 (subst (λ k. declared_item p (entries_of (slice_get names k)) x ≡ Ok a.0) at a.1) in
+          let c : ShortItem Holds j x a.0 = step x refl a.0 (subst (λ k. declared_item p (entries_of (slice_get names k)) x ≡ Ok a.0) at a.1) in
           let rest = behind_declared (suc n) xs (λ k g. others k (λ h. omega (arith, g, h, at))) in
           record {
             new = c.new ∷ b.0;
@@ -134,7 +134,7 @@ module _ (o : ℕ → ℕ → Bool) (single : Bool) where
             this = λ d h n ps y bs g.
                 let i : a.0 ≡ d = some_decl a.0 d (ap (λ us. slice_get us 0) t ∙ h) in
                 let r = c.renamed n ps y bs (i ∙ g) in
-                (c.new, refl, (r.0, subst (λ d. RenamedFunction (Related o) r.0 d c.new) i r.1));
+                (c.new, refl, (r.0, subst (λ d. RenamedFunction (Related o) r.0 d c.new) i r.1, subst (λ d. Holds r.0 d) i r.2));
           }
         where
           other : (k : ℕ) → (k ≡ 0 → ⊥) → (v u : Decl) (us : List Decl) → slice_get (v ∷ us) k ≡ slice_get (u ∷ us) k

@@ -12,7 +12,8 @@ ghost use Rattle.rx_compact_types.specs.MergedNumbers.{merged_number};
 ghost use Rattle.rx_compact_types.specs.ShortTyped.{ShortProgram};
 
 /// A program in which a function has a short signature has a meaning, declares what it did, and the function by other numbers of its
-/// lifetimes; and it is well-typed exactly where it was, with the same trees, types and places.
+/// lifetimes; and it is well-typed exactly where it was, with the same trees, types and places. The function's `let`s write what they did,
+/// by these numbers.
 pub fn short_signatures_are_typed()
     ensures { (p : ProgramTree) (i : ℕ) (q : ProgramTree) (c : IsCompacted p i q) → IsNumbered p → ShortProgram p i q c.names c.declared }
 {}

@@ -28,7 +28,7 @@ use Rattle.rx_engine_extraction.specs.Source.{Text, IsText, Wish}
 use Rattle.rx_engine_extraction.specs.Case.{Case}
 use Rattle.rx_engine_extraction.specs.Made.{named, new_item}
 use Rattle.rx_engine_extraction.specs.Confirmed.{is_unit_if, is_of_unit, Confirmed, told_by, whole_of, is_extracted, is_found}
-use Rattle.rx_engine_extraction.specs.Conditions.{Condition, reached, whole, unmoved, few_bytes, confirmed}
+use Rattle.rx_engine_extraction.specs.Conditions.{Condition, reached, whole, passable, unmoved, few_bytes, confirmed}
 use Rattle.rx_engine_extraction.specs.Meeting.{Holds}
 use Rattle.rx_engine_extraction.specs.Promise.{Extracts}
 use Rattle.rx_engine_extraction.proofs.Orders.{number, earlier}
@@ -145,7 +145,7 @@ module _ (finite : (p : ProgramTree) (names : List ItemNames) (t : Typed) → Is
         plan = d.plan;
         is_plan = settled.0;
         told_plan = refl;
-        kept = record { whole = settled.1; unaliased = passed.0 };
+        kept = record { whole = settled.1; passed = held_at passable (omega arith); unaliased = passed.0 };
         around = refl;
         elsewhere = refl;
         muts = refl;

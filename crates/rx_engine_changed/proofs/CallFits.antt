@@ -1,8 +1,9 @@
 -- The statements of the call that stand in a function by one numbering fit, where the text's variables stand where it comes to the run.
-use Rattle.std.proofs.Common.{◌≡◌, ◌<◌, ℕ, List, sym, subst}
+use Rattle.std.proofs.Common.{◌≡◌, ◌<◌, ℕ, Bool, List, sym, subst}
 use Rattle.rx_tree.specs.Plain.{OptionalExpression, Statement}
 use Rattle.rx_resolve_names.specs.Meant.{number}
 use Rattle.rx_resolve_names.specs.Steps.{Inside}
+use Rattle.rx_typed.specs.declared.nodes.Node.{Node}
 use Rattle.rx_typed.specs.declared.nodes.Site.{Site}
 use Rattle.rx_typed.specs.Named.{some_diverges, Function}
 use Rattle.rx_typed.specs.Naming.{of_optional, of_statements, Cursor}
@@ -26,7 +27,7 @@ use Rattle.rx_engine_changed.proofs.Handed.{end_fits, run_fits}
 use Rattle.rx_engine_changed.proofs.Spots.{optional_numbered, statements_numbered}
 use Rattle.rx_engine_changed.proofs.TextStands.{call_stands}
 
-module _ (R : Renaming) (G : Handing) (I I' : Inside) (C : Cursor → Cursor → Type 0) (front run call : List Statement) (f g : Function) where
+module _ (R : Renaming) (G : Handing) (I I' : Inside) (C : Cursor → Cursor → Type 0) (D : Node → Bool → Cursor → Cursor → Type 0) (front run call : List Statement) (f g : Function) where
   pub call_fits : (x : ByOneNumbering R (IsToldCall R as_mutable (told_handed G) I I' C front run call) (λ q. round no_holes q) f g) → (E : KnownItems) (A : Assignment)
       → ItemsDeclare E x.numbers.by (handing_here G x.such) (x.numbers.by.items f.item) → NextAgrees (handing_here G x.such) → ((k : ℕ) → k < (of_statements (as_statements call) x.such.is_call.cursor').1.declared → number k ≡ k)
       → TextStands A E x.numbers.by (handing_here G x.such) x.such.is_call.cursor
@@ -37,7 +38,7 @@ module _ (R : Renaming) (G : Handing) (I I' : Inside) (C : Cursor → Cursor →
       run_fits E (x.numbers.by.items f.item) x.numbers.by (handing_here G y) R items agrees x.follows.items _ y.stands.told.0 (of_text x.numbers.by x.numbers.back A) (spot c') (spot (of_statements (as_statements call) c').1)
       (call_stands R x.numbers x.follows A x.made y.is_call.cursor c' y.is_call.step x.correspond in_front E (handing_here G y) (spot (of_statements (as_statements call) c').1) few there) y.stands.told.2 (statements_numbered (as_statements call) c')
 
-  pub last_call_fits : (tail last : OptionalExpression) (x : ByOneNumbering R (IsToldLast R as_mutable (told_last G) I I' C front run call tail last) (λ q. round no_holes q) f g) → (E : KnownItems) (A : Assignment)
+  pub last_call_fits : (tail last : OptionalExpression) (x : ByOneNumbering R (IsToldLast R as_mutable (told_last G) I I' D front run call tail last) (λ q. round no_holes q) f g) → (E : KnownItems) (A : Assignment)
       → ItemsDeclare E x.numbers.by (handing_last G x.such) (x.numbers.by.items f.item) → NextAgrees (handing_last G x.such)
       → ((k : ℕ) → k < (of_optional x.such.is_call.site last (of_statements (as_statements call) x.such.is_call.cursor').1).1.declared → number k ≡ k) → TextStands A E x.numbers.by (handing_last G x.such) x.such.is_call.cursor
       → EndStands E x.numbers.by (of_text x.numbers.by x.numbers.back A) (node_at x.numbers.by x.such.is_call.node x.such.is_call.node.span) (some_diverges x.such.is_call.front) (of_statements (as_statements call) x.such.is_call.cursor').0 (next_values G.call.plan)

@@ -7,6 +7,7 @@ use Rattle.rx_tree.specs.Lists.{listed, statements, tail}
 use Rattle.rx_tree.specs.Plain as plain
 use Rattle.rx_tree.specs.Plain.{Body, Function, OptionalExpression, ProgramTree, Statements}
 use Rattle.rx_resolve_names.specs.declared.resolved.NodeNames.{NodeNames}
+use Rattle.rx_typed.specs.declared.nodes.Node.{Node}
 use Rattle.rx_typed.specs.Naming.{function_named, Cursor}
 use Rattle.rx_hoist_extraction.specs.Run.{Run, as_statements, run_block, in_front, chosen, behind, goes_past, rest_tail, with_parts, labels_round}
 use Rattle.rx_hoist_extraction.specs.Plan.{Plan}
@@ -21,7 +22,7 @@ use Rattle.rx_engine_names.proofs.CallsFit.{run_splits}
 use Rattle.rx_engine_names.proofs.PlacedBlocks.{placed, stands_within}
 use Rattle.rx_engine_typing.specs.Renumbered.{Holes}
 use Rattle.rx_engine_changed.specs.Beside.{Instead, IsOneToOne, Numbers, Piece}
-use Rattle.rx_engine_changed.specs.Comes.{body_of, RunComes}
+use Rattle.rx_engine_changed.specs.Comes.{body_of, RunComes, RunComesAt, RunEnds}
 use Rattle.rx_engine_changed.specs.Once.{IsToldCall, IsToldLast, NumberedOnce}
 use Rattle.rx_engine_changed.specs.Round.{as_mutable, block_ending, block_with, round, GoesOn, GoesOnLast}
 use Rattle.rx_engine_changed.specs.Called.{with_other_block, EndGoesOn, EndHoleOf, HoleOf, RunGoesOn}
@@ -33,11 +34,14 @@ module _ (p q : ProgramTree) (n m : ℕ) (s : Span) (f : Function) (r : Run) (pl
   abbrev There : Body → Cursor → Cursor → Type 0
   There b c c' = RunComes (body_of s f ns) b (in_front r (statements b)) c × RunComes (body_of s (with_other_block b (with_parts r (call_parts p r pl f) b) f) ns') (with_parts r (call_parts p r pl f) b) (in_front r (statements b)) c'
 
+  abbrev ThereLast : Body → Node → Bool → Cursor → Cursor → Type 0
+  ThereLast b k d c c' = RunEnds (body_of s f ns) b (in_front r (statements b)) k d c × RunComesAt (body_of s (with_other_block b (with_parts r (call_parts p r pl f) b) f) ns') (with_parts r (call_parts p r pl f) b) (in_front r (statements b)) k.site c'
+
   abbrev Its : Body → List Piece → Instead → Type 0
   Its b = IsToldCall R as_mutable (told_handed G) (inside_of p n s f) (inside_of q m s f) (There b) (in_front r (statements b)) (chosen r (statements b)) (call_parts p r pl f).statements
 
   abbrev ItsLast : Body → List Piece → Instead → Type 0
-  ItsLast b = IsToldLast R as_mutable (told_last G) (inside_of p n s f) (inside_of q m s f) (There b) (in_front r (statements b)) (chosen r (statements b)) (call_parts p r pl f).statements (tail b) (call_parts p r pl f).tail
+  ItsLast b = IsToldLast R as_mutable (told_last G) (inside_of p n s f) (inside_of q m s f) (ThereLast b) (in_front r (statements b)) (chosen r (statements b)) (call_parts p r pl f).statements (tail b) (call_parts p r pl f).tail
 
   abbrev Claim : Body → Body → Type 0
   Claim b b' = LikeFunction (HoleOf p q n m s f r pl G b b') R (function_named n s f ns) (function_named m s (with_other_block b b' f) ns') → (function_named n s f ns).never_given ≡ []
@@ -71,7 +75,7 @@ module _ (p q : ProgramTree) (n m : ℕ) (s : Span) (f : Function) (r : Run) (pl
 
   -- where the run goes to its block's end
   in_ending : (b : Body) → StandsAlone b r.way f.body → goes_past r (statements b) ≡ true
-      → GoesOnLast R as_mutable (told_last G) (inside_of p n s f) (inside_of q m s f) (There b) (in_front r (statements b)) (chosen r (statements b)) (call_parts p r pl f).statements (tail b) (call_parts p r pl f).tail
+      → GoesOnLast R as_mutable (told_last G) (inside_of p n s f) (inside_of q m s f) (ThereLast b) (in_front r (statements b)) (chosen r (statements b)) (call_parts p r pl f).statements (tail b) (call_parts p r pl f).tail
       → LikeFunction (put_in (inside_of p n s f) (inside_of q m s f) b (with_parts r (call_parts p r pl f) b) (labels_round r f) (by_an_end (told_last G) (inside_of p n s f) (inside_of q m s f) (in_front r (statements b)) (chosen r (statements b)) (call_parts p r pl f).statements (tail b) (call_parts p r pl f).tail)) R
       (function_named n s f ns) (function_named m s (with_other_block b (with_parts r (call_parts p r pl f) b) f) ns') → (function_named n s f ns).never_given ≡ []
       → NumberedOnce R (ItsLast b) (λ q. round (base q) q) (function_named n s f ns) (function_named m s (with_other_block b (with_parts r (call_parts p r pl f) b) f) ns')
@@ -93,9 +97,9 @@ module _ (p q : ProgramTree) (n m : ℕ) (s : Span) (f : Function) (r : Run) (pl
       Ends sp ss o front run call row last z =
           let I = inside_of p n s f in let I' = inside_of q m s f in
           let old = plain.body sp ss o in let new = plain.body sp (as_statements (front ++ row)) z in
-          GoesOnLast R as_mutable (told_last G) I I' (λ c c'. RunComes (body_of s f ns) old front c × RunComes (body_of s (with_other_block old new f) ns') new front c') front run call o last
+          GoesOnLast R as_mutable (told_last G) I I' (λ k d c c'. RunEnds (body_of s f ns) old front k d c × RunComesAt (body_of s (with_other_block old new f) ns') new front k.site c') front run call o last
           → LikeFunction (put_in I I' old new (labels_round r f) (by_an_end (told_last G) I I' front run call o last)) R (function_named n s f ns) (function_named m s (with_other_block old new f) ns') → (function_named n s f ns).never_given ≡ []
-          → NumberedOnce R (IsToldLast R as_mutable (told_last G) I I' (λ c c'. RunComes (body_of s f ns) old front c × RunComes (body_of s (with_other_block old new f) ns') new front c') front run call o last) (λ q. round (base q) q) (function_named n s f ns) (function_named m s (with_other_block old new f) ns')
+          → NumberedOnce R (IsToldLast R as_mutable (told_last G) I I' (λ k d c c'. RunEnds (body_of s f ns) old front k d c × RunComesAt (body_of s (with_other_block old new f) ns') new front k.site c') front run call o last) (λ q. round (base q) q) (function_named n s f ns) (function_named m s (with_other_block old new f) ns')
 
   pub called_last_beside : goes_past r (statements (run_block r f)) ≡ true → EndGoesOn p q n m s f r pl G ns ns' R
       → LikeFunction (EndHoleOf p q n m s f r pl G (run_block r f) (with_parts r (call_parts p r pl f) (run_block r f))) R (function_named n s f ns) (function_named m s (with_other_block (run_block r f) (with_parts r (call_parts p r pl f) (run_block r f)) f) ns')

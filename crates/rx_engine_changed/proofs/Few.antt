@@ -1,6 +1,8 @@
 -- Where a numbering comes to a part, no more variables are declared behind it than where the whole ends; and a function's are as many as its
 -- tables have.
 use Rattle.std.proofs.Math.Nat.{min-eq_left}
+use Rattle.std.proofs.Math.ListN.{drop_of_length-le}
+use Rattle.std.proofs.lemmas.Bool.{leb-true}
 use Rattle.std.proofs.Common.{◌≡◌, ◌≤◌, ◌<◌, ℕ, zero, suc, Bool, true, false, ◌&&◌, List, [], ◌∷◌, ◌++◌, length, map, Option, Some, None, Ok, refl, sym, ap, ◌∙◌, subst, arith}
 use Rattle.rx_core.specs.declared.types.Span.{Span}
 use Rattle.rx_tree.specs.declared.tree.Ident.{Ident}
@@ -30,7 +32,7 @@ use Rattle.rx_typed.specs.Naming.{Cursor, Numbering, a_node, an_entry, function_
 use Rattle.rx_hoist_extraction.specs.Run.{as_statements, behind as statements_behind, goes_past, in_front, rest_tail, run_block, with_parts, Parts, Run}
 use Rattle.rx_hoist_extraction.specs.Plan.{Plan}
 use Rattle.rx_engine_names.specs.CalledRuns.{call_parts}
-use Rattle.rx_engine_changed.specs.Called.{with_other_block, CallIsFew}
+use Rattle.rx_engine_changed.specs.Called.{with_other_block, CallIsFew, EndIsFew}
 use Rattle.rx_engine_changed.specs.Comes.{a_body, a_statement, an_expression, an_optional, arguments_at, assigned_at, behind, body_of, goes_in, in_arm, in_let, in_loop, in_part, matched, over, some_arguments, some_arms, some_expressions, some_fields, some_statements, the_whole, waits_left, Comes, Part, Placed}
 use Rattle.rx_engine_changed.specs.Deeds as deeds
 use Rattle.rx_engine_changed.proofs.Deeds.{arms_does, body_does, exp_does, exps_does, fields_does, from_above, optional_does, statements_does}
@@ -162,7 +164,7 @@ below (a_statement (plain.expression_statement s e b)) c = (itself _, tt)
 below (some_statements plain.no_statement) c = tt
 below (some_statements (plain.statement_and a ss)) c = (statements_rise ss (of_statement a c).1, (itself _, tt))
 
-at_nth : (P : Placed → Type 0) (xs : List Placed) (n : ℕ) (y : Placed) → Every P xs → nth xs n ≡ Some y → P y
+pub at_nth : (P : Placed → Type 0) (xs : List Placed) (n : ℕ) (y : Placed) → Every P xs → nth xs n ≡ Some y → P y
 at_nth P [] n y h e = absurd (let k : None ≡ Some y = e in cc)
 at_nth P (x ∷ xs) zero y h e = subst P (some_same x y e) h.0
   where
@@ -187,6 +189,18 @@ block_below r ps (plain.body sp ss o) t d c e =
     subst (λ (z : Cursor). (of_statements (as_statements ps.statements) z).1.declared ≤ (of_body t (with_parts r ps (plain.body sp ss o)) d).1.declared) (sym e)
     (same (on (statements_rise (as_statements (statements_behind r l)) G.1) k) whole)
 
+-- so it is behind the tail where nothing follows the run
+end_below : (r : Run) (ps : Parts) (b : Body) (t : Site) (d c : Cursor) → goes_past r (statements b) ≡ true → c ≡ (of_statements (as_statements (in_front r (statements b))) (behind (body_span (with_parts r ps b)) t d)).1
+    → (of_optional t ps.tail (of_statements (as_statements ps.statements) c).1).1.declared ≤ (of_body t (with_parts r ps b) d).1.declared
+end_below r ps (plain.body sp ss o) t d c past e =
+    let l = listed ss in let F = of_statements (as_statements (in_front r l)) (behind sp t d) in let G = of_statements (as_statements ps.statements) F.1 in let B = of_statements (as_statements (statements_behind r l)) G.1 in
+    let row = ap (λ (z : named.Statements × Cursor). z.1) (numbered_row3 (in_front r l) ps.statements (statements_behind r l) (behind sp t d)) in
+    let nothing : statements_behind r l ≡ [] = drop_of_length-le l (omega (arith, leb-true (length l) r.last past)) in
+    let none : G.1 ≡ B.1 = ap (λ (z : List Statement). (of_statements (as_statements z) G.1).1) (sym nothing) in
+    let whole : (of_optional t ps.tail G.1).1.declared ≡ (of_optional t (rest_tail (goes_past r l) o ps.tail) (of_statements (as_statements (in_front r l ++ (ps.statements ++ statements_behind r l))) (behind sp t d)).1).1.declared
+    = ap (λ (z : Cursor). (of_optional t ps.tail z).1.declared) (none ∙ sym row) ∙ ap (λ (x : Bool). (of_optional t (rest_tail x o ps.tail) (of_statements (as_statements (in_front r l ++ (ps.statements ++ statements_behind r l))) (behind sp t d)).1).1.declared) (sym past) in
+    subst (λ (z : Cursor). (of_optional t ps.tail (of_statements (as_statements ps.statements) z).1).1.declared ≤ (of_body t (with_parts r ps (plain.body sp ss o)) d).1.declared) (sym e) (same (itself _) whole)
+
 call_few : (p : ProgramTree) (s : Span) (f : Function) (r : Run) (pl : Plan) (ms : List NodeNames)
     → ((k : ℕ) → k < length (function_variables s (with_other_block (run_block r f) (with_parts r (call_parts p r pl f) (run_block r f)) f) ms) → number k ≡ k) → CallIsFew p s f r pl ms
 call_few p s f r pl ms few c x k l =
@@ -195,6 +209,17 @@ call_few p s f r pl ms few c x k l =
     let b = comes_below x.comes in
     let counted = ((body_does 0 g.body Site.Expects z).kept (record { counted = (body_begins s g ms).counted; above = omega arith })).counted in
     few k (omega (arith, l, a, b, counted))
+
+end_few : (p : ProgramTree) (s : Span) (f : Function) (r : Run) (pl : Plan) (ms : List NodeNames) → goes_past r (statements (run_block r f)) ≡ true
+    → ((k : ℕ) → k < length (function_variables s (with_other_block (run_block r f) (with_parts r (call_parts p r pl f) (run_block r f)) f) ms) → number k ≡ k) → EndIsFew p s f r pl ms
+end_few p s f r pl ms past few t c y k l =
+    let g = with_other_block (run_block r f) (with_parts r (call_parts p r pl f) (run_block r f)) f in let z = (body_of s g ms).1 in let x = y.0 in
+    let a = end_below r (call_parts p r pl f) (run_block r f) x.site x.start c past x.is in
+    let at : (of_optional t (call_parts p r pl f).tail (of_statements (as_statements (call_parts p r pl f).statements) c).1).1.declared ≡ (of_optional x.site (call_parts p r pl f).tail (of_statements (as_statements (call_parts p r pl f).statements) c).1).1.declared
+    = ap (λ (u : Site). (of_optional u (call_parts p r pl f).tail (of_statements (as_statements (call_parts p r pl f).statements) c).1).1.declared) (sym y.1) in
+    let b = comes_below x.comes in
+    let counted = ((body_does 0 g.body Site.Expects z).kept (record { counted = (body_begins s g ms).counted; above = omega arith })).counted in
+    few k (omega (arith, l, at, a, b, counted))
 
 -- ---- as many as the tables have
 
@@ -225,3 +250,9 @@ pub tables_few : (p q : ProgramTree) (m : ℕ) (s : Span) (f : Function) (r : Ru
 tables_few p q m s f r pl u e l =
     let g = with_other_block (run_block r f) (with_parts r (call_parts p r pl f) (run_block r f)) f in let h = as_many q m s g u e in
     call_few p s f r pl u.names (λ k w. let below : k ≤ 4294967295 = omega (arith, w, h, l) in min-eq_left below)
+
+pub ends_few : (p q : ProgramTree) (m : ℕ) (s : Span) (f : Function) (r : Run) (pl : Plan) (u : ItemNames) → goes_past r (statements (run_block r f)) ≡ true
+    → in_item q m (plain.function_item s (with_other_block (run_block r f) (with_parts r (call_parts p r pl f) (run_block r f)) f)) ≡ Ok u → Few (length u.vars) → EndIsFew p s f r pl u.names
+ends_few p q m s f r pl u past e l =
+    let g = with_other_block (run_block r f) (with_parts r (call_parts p r pl f) (run_block r f)) f in let h = as_many q m s g u e in
+    end_few p s f r pl u.names past (λ k w. let below : k ≤ 4294967295 = omega (arith, w, h, l) in min-eq_left below)

@@ -9,6 +9,7 @@ use Rattle.rx_resolve_names.specs.Meant.{Around}
 use Rattle.rx_resolve_names.specs.Steps.{Inside}
 use Rattle.rx_resolve_names.specs.declared.resolved.ItemNames.{ItemNames}
 use Rattle.rx_resolve_names.specs.declared.resolved.NodeNames.{NodeNames}
+use Rattle.rx_typed.specs.declared.nodes.Node.{Node}
 use Rattle.rx_typed.specs.declared.nodes.Declaration.{Declaration}
 use Rattle.rx_typed.specs.declared.nodes.Site.{Site}
 use Rattle.rx_typed.specs.Named.{Else, Statements}
@@ -268,9 +269,9 @@ run_goes_on R W T I I' C front run call alike made c c' p come st s =
       y.2,
     )
 
-pub end_goes_on : (R : Renaming) (W : Mutability) (T : ToldLast) (I I' : Inside) (C : Cursor → Cursor → Type 0) (front run call : List Statement) (tail last : OptionalExpression) → EndDoesAlike R W T I I' C front run call tail last → GoesOnLast R W T I I' C front run call tail last
-end_goes_on R W T I I' C front run call tail last alike made c c' p k come st s =
-    let y = alike made c c' p k come st s in
+pub end_goes_on : (R : Renaming) (W : Mutability) (T : ToldLast) (I I' : Inside) (C : Node → Bool → Cursor → Cursor → Type 0) (front run call : List Statement) (tail last : OptionalExpression) → EndDoesAlike R W T I I' C front run call tail last → GoesOnLast R W T I I' C front run call tail last
+end_goes_on R W T I I' C front run call tail last alike made c c' p n d come st s =
+    let y = alike made c c' p n d come st s in let k = n.site in
     let X = of_statements (as_statements run) c in let X' = of_statements (as_statements call) c' in
     let O = of_optional k tail X.1 in let O' = of_optional k last X'.1 in
     let f = also (deeds.of_statements X.0) (of_else O.0) in let f' = also (deeds.of_statements X'.0) (of_else O'.0) in

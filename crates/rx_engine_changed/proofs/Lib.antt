@@ -19,10 +19,10 @@ pub mod CalledFunctions
 pub mod OneCall
 pub mod MovedRuns
 pub mod Arguments
-mod Spots
+pub mod Spots
 mod Inside
 mod Staging
-mod Standing
+pub mod Standing
 mod Handing
 mod Matched
 mod Whole

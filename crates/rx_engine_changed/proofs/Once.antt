@@ -83,6 +83,7 @@ by_one_numbering items M a b c d fa fb fc fd vs bs ls bl P holes f g o =
       follows = x.follows;
       variables_apart = x.variables_apart;
       loops_apart = x.loops_apart;
+      comes_back = x.comes_back;
       made = o.made;
       correspond = λ p z. x.correspond p (later_piece o.still (older z));
       in_front = λ n n' z. subst (λ (i : Instead). n' < first_own i) (sym (x.correspond (replaced o.instead) o.there).0) (pair_in_front o.beside.grows o.still z);

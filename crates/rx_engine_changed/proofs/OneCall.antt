@@ -12,7 +12,7 @@ use Rattle.rx_engine_names.specs.CalledRuns.{LikeCalled, LikeCalledLast, RunStan
 use Rattle.rx_engine_typing.specs.Renumbered.{no_holes}
 use Rattle.rx_engine_names.specs.HandsOver.{told_handed, told_last}
 use Rattle.rx_engine_names.specs.Placed.{inside_of}
-use Rattle.rx_engine_changed.specs.Called.{BothCome, CallIsNumbered, EndIsNumbered}
+use Rattle.rx_engine_changed.specs.Called.{BothCome, BothEnd, CallIsNumbered, EndIsNumbered}
 use Rattle.rx_engine_changed.specs.Chosen.{least}
 use Rattle.rx_engine_changed.specs.Round.{as_mutable}
 use Rattle.rx_engine_changed.proofs.CalledFunctions.{called_beside, called_last_beside}
@@ -41,6 +41,6 @@ module _ (p q : ProgramTree) (c : Inserted p q) (n m : ℕ) (s : Span) (f : Func
     numbered = λ a b d g asked given.
         let v = h.3 a b in let l = h.4 d g in
         by_one_numbering (number_there c) h.2 _ _ _ _ a b d g v.0 v.1 l.0 l.1 _ _ _ _
-        (called_last_beside p q n m s f r pl G stands (least (number_there c) h.2) (one_to_one (number_there c) h.2 _ _ _ _ a b d g v.0 v.1 l.0 l.1) t.names h.0.names e (λ x. no_holes) (λ x. tt) past (end_goes_on (least (number_there c) h.2) as_mutable (told_last G) (inside_of p n s f) (inside_of q m s f) (BothCome p s f r pl t.names h.0.names) _ _ _ _ _ asked)
+        (called_last_beside p q n m s f r pl G stands (least (number_there c) h.2) (one_to_one (number_there c) h.2 _ _ _ _ a b d g v.0 v.1 l.0 l.1) t.names h.0.names e (λ x. no_holes) (λ x. tt) past (end_goes_on (least (number_there c) h.2) as_mutable (told_last G) (inside_of p n s f) (inside_of q m s f) (BothEnd p s f r pl t.names h.0.names) _ _ _ _ _ asked)
         (h.6 (least (number_there c) h.2) (least_serves (number_there c) h.2 _ _ _ _ a b d g (h.5))) given);
   }

@@ -192,6 +192,15 @@ apart_back (p ∷ ps) h n m e = by (same_or_not p.1 m) (apart_back ps h.1 n m)
     by (so d) w = first_is p.0 p.1 ps n (some_is p.0 n (sym (first_back p.0 p.1 ps m d) ∙ e)) ∙ ap (λ (x : ℕ). Some x) d
     by (not_so d) w = let f = sym (later_back p.0 p.1 ps m d) ∙ e in later_is p.0 p.1 ps n (every_first (Unlike p) ps n m h.0 f).0 ∙ w f
 
+-- what is found back is related
+paired_true : (ps : Pairs) (n m : ℕ) → first_of_pair ps m ≡ Some n → has_pair ps n m ≡ true
+paired_true [] n m e = absurd (none_some n e)
+paired_true (p ∷ ps) n m e = by (same_or_not p.1 m) (paired_true ps n m)
+  where
+    by : Decided (p.1 ≡ m) → (first_of_pair ps m ≡ Some n → has_pair ps n m ≡ true) → has_pair (p ∷ ps) n m ≡ true
+    by (so d) w = or_left ((n == p.0) && (m == p.1)) _ (pair_true n m p.0 p.1 (sym (some_is p.0 n (sym (first_back p.0 p.1 ps m d) ∙ e))) (sym d))
+    by (not_so d) w = or_right ((n == p.0) && (m == p.1)) _ (or_right ((n == number p.0) && (m == number p.1)) _ (w (sym (later_back p.0 p.1 ps m d) ∙ e)))
+
 -- in few, what is related is a pair
 has_second : (ps : Pairs) (a b : ℕ) → Few a → Few b → Apart ps → Below ps a b → (n m : ℕ) → has_pair ps n m ≡ true → second_of ps n ≡ Some m
 has_second [] a b f g h k n m e = absurd (cc)
@@ -245,7 +254,7 @@ module _ (items : ℕ → ℕ) (M : Made) (a b c d : ℕ) (fa : Few a) (fb : Few
 
   module _ (ps : List Piece) (last last' : ℕ) (g : FromNothing ps last last') (i : Instead) (one : OneInstead i ps) where
     abbrev big : ℕ
-    big = last' + (b + d)
+    big = last' + (b + d) + 4294967296
 
     nodes_once : OneToOne (node_pairs ps) big
     nodes_once = record { there = λ n m. there_and_back n m g; back = λ n m. back_and_there n m g; small = λ n m e. let x = (second_below n m g e).1 in omega (arith, x) }
@@ -288,6 +297,18 @@ module _ (items : ℕ → ℕ) (M : Made) (a b c d : ℕ) (fa : Few a) (fb : Few
     corresponds (unpaired n m n' m') h = λ k x y. from_none k (own_found n m n' m' k g h x y) (let z = own_below n m n' m' g h in omega (arith, y, z))
     corresponds (replaced j) h = (one j h, λ k x y. from_none k (instead_found j k g h x y) (let z = instead_below j g h in omega (arith, y, z)))
 
+    -- a variable that comes back from a small number is in a pair with it
+    variable_comes_back : (x y : ℕ) → numbered_back M.variables big y ≡ Some x → Few y → R.variable x y ≡ true
+    variable_comes_back x y e few = by (first_of_pair M.variables y) refl e
+      where
+        greater : (c : Bool) → nat_eq ((y - big) + big) y ≡ c → less c M.variables (y - big) ≡ Some x → R.variable x y ≡ true
+        greater true h w = let k = eqb-true ((y - big) + big) y h in absurd (omega (arith, k, few))
+        greater false h w = absurd (none_some x w)
+
+        by : (o : Option ℕ) → first_of_pair M.variables y ≡ o → or_less o M.variables big y ≡ Some x → R.variable x y ≡ true
+        by None h w = greater (nat_eq ((y - big) + big) y) refl w
+        by (Some n) h w = paired_true M.variables x y (h ∙ w)
+
     back_apart : (f : ℕ → ℕ) (u : ℕ → Option ℕ) → ((n : ℕ) → u (f n) ≡ Some n) → StayApart f
     back_apart f u w m n e = some_is m n (sym (w m) ∙ ap u e ∙ w n)
 
@@ -298,4 +319,5 @@ module _ (items : ℕ → ℕ) (M : Made) (a b c d : ℕ) (fa : Few a) (fb : Few
       correspond = corresponds;
       variables_apart = back_apart (numbered M.variables big) (numbered_back M.variables big) (numbered_there M.variables big variables_once);
       loops_apart = back_apart (numbered M.loops big) (numbered_back M.loops big) (numbered_there M.loops big loops_once);
+      comes_back = variable_comes_back;
     }

@@ -2,6 +2,7 @@
 use Rattle.std.proofs.Common.{◌≡◌, ◌≤◌, ℕ, Bool, true, false, ◌||◌, List, length, None, slice_get, refl, sym, ap, ◌∙◌, arith}
 use Rattle.rx_tree.specs.Plain.{OptionalExpression, Statement}
 use Rattle.rx_resolve_names.specs.Steps.{Inside}
+use Rattle.rx_typed.specs.declared.nodes.Node.{Node}
 use Rattle.rx_typed.specs.Named as named
 use Rattle.rx_typed.specs.Named.{Else, Statements, some_diverges}
 use Rattle.rx_typed.specs.Naming.{Cursor, of_optional, of_statements}
@@ -56,9 +57,9 @@ module _ (R : Renaming) (apart : IsOneToOne R) (W : Mutability) where
         sym (or_false (some_diverges (of_statements (as_statements call) c').0)) ∙ z.0 ∙ sym x.1,
       )
 
-  pub end_does : (G : Handing) (I I' : Inside) (C : Cursor → Type 0) (B : Cursor → Cursor → Type 0) (there : (c c' : Cursor) → B c c' → C c) (front run call : List Statement) (tail last : OptionalExpression) → EndAsPlanned G I C front run tail → EndDoesAlike R W (told_last G) I I' B front run call tail last
-  end_does G I I' C B there front run call tail last planned made c c' p t come st s =
-      let x = planned c p t (there c c' come) s.text in let H = at_place G s.text.middle.scope p.around in let a = s.told.0.2 in
+  pub end_does : (G : Handing) (I I' : Inside) (C : Node → Bool → Cursor → Type 0) (B : Node → Bool → Cursor → Cursor → Type 0) (there : (n : Node) (d : Bool) (c c' : Cursor) → B n d c c' → C n d c) (front run call : List Statement) (tail last : OptionalExpression) → EndAsPlanned G I C front run tail → EndDoesAlike R W (told_last G) I I' B front run call tail last
+  end_does G I I' C B there front run call tail last planned made c c' p n d come st s =
+      let t = n.site in let x = planned c p n d (there n d c c' come) s.text in let H = at_place G s.text.middle.scope p.around in let a = s.told.0.2 in
       let y = planned_does R apart H {d = length s.made.middle.tables.vars} {later = s.told.0.0} {ss = (of_statements (as_statements call) c').0} {o = (of_optional t last (of_statements (as_statements call) c').1).0} a s.told.1 in
       let z = planned_diverges R apart H {d = length s.made.middle.tables.vars} {later = s.told.0.0} {ss = (of_statements (as_statements call) c').0} {o = (of_optional t last (of_statements (as_statements call) c').1).0} a s.told.1 in (
         alike {G = H} made c c' (of_optional t last (of_statements (as_statements call) c').1).1 st (does_on c'.declared (statements_does c'.declared (as_statements call) c') (optional_does c'.declared last t (of_statements (as_statements call) c').1)) x.0 y,

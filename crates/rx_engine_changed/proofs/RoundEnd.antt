@@ -26,7 +26,7 @@ use Rattle.rx_engine_typing.specs.Renumbered.{RenumberedBody, RenumberedElse, Re
 use Rattle.rx_engine_holes.specs.Run.{append}
 use Rattle.rx_engine_holes.specs.Tail.TailBlock.{a_tail}
 use Rattle.rx_engine_changed.specs.Beside.{Instead, for_a_run, for_an_end, Piece, paired, replaced, Grows, stays, and_instead, newest, Numbers, IsOneToOne}
-use Rattle.rx_engine_changed.specs.Comes.{a_body, some_statements, the_whole, Comes, Placed, RunComes}
+use Rattle.rx_engine_changed.specs.Comes.{a_body, some_statements, the_whole, Comes, Placed, RunComesAt, RunEnds}
 use Rattle.rx_engine_changed.specs.Stages.{Mutability, InStep}
 use Rattle.rx_engine_changed.specs.Once.{IsToldLast}
 use Rattle.rx_engine_changed.specs.Round.{block_ending, round, with_others, GoesOnLast, OneBlock, SameEnd}
@@ -51,8 +51,8 @@ module _ (R : Renaming) (W : Mutability) (apart : IsOneToOne R) (even : (n m : �
   new = block_ending s0 front call o1
 
   -- both texts come to their blocks
-  abbrev pub Both : Cursor → Cursor → Type 0
-  Both c c' = RunComes A old front c × RunComes A' new front c'
+  abbrev pub Both : Node → Bool → Cursor → Cursor → Type 0
+  Both n d c c' = RunEnds A old front n d c × RunComesAt A' new front n.site c'
 
   abbrev pub H : alike.Holes
   H = put_in I I' old new labels (by_an_end T I I' front run call o0 o1)
@@ -151,8 +151,8 @@ module _ (R : Renaming) (W : Mutability) (apart : IsOneToOne R) (even : (n m : �
           let l = subst (λ (z : named.Statements). alike.LikeStatements alike.no_holes R z F'.0) a.0 (subst (λ (z : named.Statements). alike.LikeStatements alike.no_holes R h.front z) a'.0 h.fronts) in
           let s = subst (λ (z : named.Statements). EndFor T I I' front run call o0 o1 p R z O.0 G'.0 O'.0) a.1 (subst (λ (z : named.Statements). EndFor T I I' front run call o0 o1 p R h.run O.0 z O'.0) a'.1 h.stands) in
           let Y = copied_statements R W apart even (IsToldLast R W T I I' Both front run call o0 o1) same base returns0 (some_statements (as_statements front), D) (some_statements (as_statements front), D') (as_statements front) _ D D' the_whole the_whole (next_node R W apart even s0 s0 t t c c' st) l in
-          let there : Both F.1 F'.1 = (record { site = t; start = c; comes = come; is = refl }, record { site = t; start = c'; comes = come'; is = refl }) in
-          let g = goes_on Y.now F.1 F'.1 p t there Y.step s in
+          let there : Both N (some_diverges F.0) F.1 F'.1 = ((record { site = t; start = c; comes = come; is = refl }, refl, refl), (record { site = t; start = c'; comes = come'; is = refl }, refl)) in
+          let g = goes_on Y.now F.1 F'.1 p N (some_diverges F.0) there Y.step s in
           let up = (rises_on (statements_rises (as_statements run) F.1) (optional_rises o0 t G.1)).grows in let up' = (rises_on (statements_rises (as_statements call) F'.1) (optional_rises o1 t G'.1)).grows in
           let i = for_an_end N s0 (some_diverges F.0) G.0 O.0 G'.0 O'.0 F'.1.number O'.1.number in
           let own : Grows Y.now F.1.number F'.1.number (replaced i ∷ Y.now) O.1.number O'.1.number

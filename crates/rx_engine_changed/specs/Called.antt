@@ -10,7 +10,9 @@ use Rattle.rx_resolve_names.specs.declared.resolved.ItemNames.{ItemNames}
 use Rattle.rx_resolve_names.specs.Items.{in_item}
 use Rattle.rx_resolve_names.specs.declared.resolved.NodeNames.{NodeNames}
 use Rattle.rx_resolve_names.specs.Meant.{number}
-use Rattle.rx_typed.specs.Naming.{function_named, of_statements, Cursor}
+use Rattle.rx_typed.specs.declared.nodes.Node.{Node}
+use Rattle.rx_typed.specs.declared.nodes.Site.{Site}
+use Rattle.rx_typed.specs.Naming.{function_named, of_optional, of_statements, Cursor}
 use Rattle.rx_hoist_extraction.specs.Run.{Run, as_statements, run_block, in_front, chosen, labels_round, with_parts}
 use Rattle.rx_hoist_extraction.specs.Plan.{Plan}
 use Rattle.rx_hoist_extraction.specs.Changed.{changed_body}
@@ -28,7 +30,7 @@ use Rattle.rx_engine_names.specs.CalledRuns.{call_parts}
 use Rattle.rx_engine_typing.specs.Renumbered.{no_holes}
 use Rattle.rx_engine_changed.specs.Beside.{Instead, Piece}
 use Rattle.rx_engine_changed.specs.Chosen.{least}
-use Rattle.rx_engine_changed.specs.Comes.{body_of, RunComes}
+use Rattle.rx_engine_changed.specs.Comes.{body_of, RunComes, RunComesAt, RunEnds}
 use Rattle.rx_engine_changed.specs.Declared.{RunHandsOn}
 use Rattle.rx_engine_changed.specs.DoAlike.{EndDoesAlike, HandsOnAlike, RunDoesAlike}
 use Rattle.rx_engine_changed.specs.Once.{ByOneNumbering, IsToldCall, IsToldLast}
@@ -55,6 +57,16 @@ ComesToCall p s f r pl ms = RunComes (body_of s (with_other_block (run_block r f
 abbrev pub BothCome : ProgramTree → Span → Function → Run → Plan → List NodeNames → List NodeNames → Cursor → Cursor → Type 0
 BothCome p s f r pl ns ms c c' = ComesToRun s f r ns c × ComesToCall p s f r pl ms c'
 
+-- the same where the run goes to its block's end: the block's node, and whether what stands in front diverges
+abbrev pub ComesToEnd : Span → Function → Run → List NodeNames → Node → Bool → Cursor → Type 0
+ComesToEnd s f r ns = RunEnds (body_of s f ns) (run_block r f) (in_front r (statements (run_block r f)))
+
+abbrev pub ComesToLastCall : ProgramTree → Span → Function → Run → Plan → List NodeNames → Site → Cursor → Type 0
+ComesToLastCall p s f r pl ms = RunComesAt (body_of s (with_other_block (run_block r f) (with_parts r (call_parts p r pl f) (run_block r f)) f) ms) (with_parts r (call_parts p r pl f) (run_block r f)) (in_front r (statements (run_block r f)))
+
+abbrev pub BothEnd : ProgramTree → Span → Function → Run → Plan → List NodeNames → List NodeNames → Node → Bool → Cursor → Cursor → Type 0
+BothEnd p s f r pl ns ms n d c c' = ComesToEnd s f r ns n d c × ComesToLastCall p s f r pl ms n.site c'
+
 -- the run and what stands for it go on in step
 abbrev pub RunGoesOn : (p q : ProgramTree) (n m : ℕ) (s : Span) (f : Function) (r : Run) (pl : Plan) (G : Handing) → List NodeNames → List NodeNames → Renaming → Type 0
 RunGoesOn p q n m s f r pl G ns ms R = GoesOn R as_mutable (told_handed G) (inside_of p n s f) (inside_of q m s f) (BothCome p s f r pl ns ms) (in_front r (statements (run_block r f))) (chosen r (statements (run_block r f))) (call_parts p r pl f).statements
@@ -65,21 +77,21 @@ EndHoleOf p q n m s f r pl G old new = put_in (inside_of p n s f) (inside_of q m
     (by_an_end (told_last G) (inside_of p n s f) (inside_of q m s f) (in_front r (statements (run_block r f))) (chosen r (statements (run_block r f))) (call_parts p r pl f).statements (tail (run_block r f)) (call_parts p r pl f).tail)
 
 abbrev pub EndGoesOn : (p q : ProgramTree) (n m : ℕ) (s : Span) (f : Function) (r : Run) (pl : Plan) (G : Handing) → List NodeNames → List NodeNames → Renaming → Type 0
-EndGoesOn p q n m s f r pl G ns ms R = GoesOnLast R as_mutable (told_last G) (inside_of p n s f) (inside_of q m s f) (BothCome p s f r pl ns ms) (in_front r (statements (run_block r f))) (chosen r (statements (run_block r f))) (call_parts p r pl f).statements (tail (run_block r f)) (call_parts p r pl f).tail
+EndGoesOn p q n m s f r pl G ns ms R = GoesOnLast R as_mutable (told_last G) (inside_of p n s f) (inside_of q m s f) (BothEnd p s f r pl ns ms) (in_front r (statements (run_block r f))) (chosen r (statements (run_block r f))) (call_parts p r pl f).statements (tail (run_block r f)) (call_parts p r pl f).tail
 
 -- the run and what stands for it do the same to what both know: so they go on in step
 abbrev pub RunDoes : (p q : ProgramTree) (n m : ℕ) (s : Span) (f : Function) (r : Run) (pl : Plan) (G : Handing) → List NodeNames → List NodeNames → Renaming → Type 0
 RunDoes p q n m s f r pl G ns ms R = RunDoesAlike R as_mutable (told_handed G) (inside_of p n s f) (inside_of q m s f) (BothCome p s f r pl ns ms) (in_front r (statements (run_block r f))) (chosen r (statements (run_block r f))) (call_parts p r pl f).statements
 
 abbrev pub EndDoes : (p q : ProgramTree) (n m : ℕ) (s : Span) (f : Function) (r : Run) (pl : Plan) (G : Handing) → List NodeNames → List NodeNames → Renaming → Type 0
-EndDoes p q n m s f r pl G ns ms R = EndDoesAlike R as_mutable (told_last G) (inside_of p n s f) (inside_of q m s f) (BothCome p s f r pl ns ms) (in_front r (statements (run_block r f))) (chosen r (statements (run_block r f))) (call_parts p r pl f).statements (tail (run_block r f)) (call_parts p r pl f).tail
+EndDoes p q n m s f r pl G ns ms R = EndDoesAlike R as_mutable (told_last G) (inside_of p n s f) (inside_of q m s f) (BothEnd p s f r pl ns ms) (in_front r (statements (run_block r f))) (chosen r (statements (run_block r f))) (call_parts p r pl f).statements (tail (run_block r f)) (call_parts p r pl f).tail
 
 -- the run does as its plan says, where the text comes to it
 abbrev pub RunPlanned : (p : ProgramTree) (n : ℕ) (s : Span) (f : Function) (r : Run) (G : Handing) → List NodeNames → Type 0
 RunPlanned p n s f r G ns = RunAsPlanned G (inside_of p n s f) (ComesToRun s f r ns) (in_front r (statements (run_block r f))) (chosen r (statements (run_block r f)))
 
 abbrev pub EndPlanned : (p : ProgramTree) (n : ℕ) (s : Span) (f : Function) (r : Run) (G : Handing) → List NodeNames → Type 0
-EndPlanned p n s f r G ns = EndAsPlanned G (inside_of p n s f) (ComesToRun s f r ns) (in_front r (statements (run_block r f))) (chosen r (statements (run_block r f))) (tail (run_block r f))
+EndPlanned p n s f r G ns = EndAsPlanned G (inside_of p n s f) (ComesToEnd s f r ns) (in_front r (statements (run_block r f))) (chosen r (statements (run_block r f))) (tail (run_block r f))
 
 -- what both hand on is known alike
 abbrev pub HandsOn : (p q : ProgramTree) (n m : ℕ) (s : Span) (f : Function) (r : Run) (pl : Plan) (G : Handing) → List NodeNames → List NodeNames → Renaming → Type 0
@@ -94,12 +106,16 @@ RunDeclares p n s f r G ns = (c : Cursor) (x : Place) → ComesToRun s f r ns c
 abbrev pub CallIsFew : ProgramTree → Span → Function → Run → Plan → List NodeNames → Type 0
 CallIsFew p s f r pl ms = (c : Cursor) → ComesToCall p s f r pl ms c → (k : ℕ) → k < (of_statements (as_statements (call_parts p r pl f).statements) c).1.declared → number k ≡ k
 
+-- so are they behind the tail where the run goes to its block's end
+abbrev pub EndIsFew : ProgramTree → Span → Function → Run → Plan → List NodeNames → Type 0
+EndIsFew p s f r pl ms = (t : Site) (c : Cursor) → ComesToLastCall p s f r pl ms t c → (k : ℕ) → k < (of_optional t (call_parts p r pl f).tail (of_statements (as_statements (call_parts p r pl f).statements) c).1).1.declared → number k ≡ k
+
 -- the statements of the call, for those of the run
 abbrev pub IsItsCall : (p q : ProgramTree) (n m : ℕ) (s : Span) (f : Function) (r : Run) (pl : Plan) (G : Handing) → List NodeNames → List NodeNames → Renaming → List Piece → Instead → Type 0
 IsItsCall p q n m s f r pl G ns ms R = IsToldCall R as_mutable (told_handed G) (inside_of p n s f) (inside_of q m s f) (BothCome p s f r pl ns ms) (in_front r (statements (run_block r f))) (chosen r (statements (run_block r f))) (call_parts p r pl f).statements
 
 abbrev pub IsItsLastCall : (p q : ProgramTree) (n m : ℕ) (s : Span) (f : Function) (r : Run) (pl : Plan) (G : Handing) → List NodeNames → List NodeNames → Renaming → List Piece → Instead → Type 0
-IsItsLastCall p q n m s f r pl G ns ms R = IsToldLast R as_mutable (told_last G) (inside_of p n s f) (inside_of q m s f) (BothCome p s f r pl ns ms) (in_front r (statements (run_block r f))) (chosen r (statements (run_block r f)))
+IsItsLastCall p q n m s f r pl G ns ms R = IsToldLast R as_mutable (told_last G) (inside_of p n s f) (inside_of q m s f) (BothEnd p s f r pl ns ms) (in_front r (statements (run_block r f))) (chosen r (statements (run_block r f)))
     (call_parts p r pl f).statements (tail (run_block r f)) (call_parts p r pl f).tail
 
 -- Such a function, which is this one and resolves: where this is asked of the renaming in which what was made corresponds, and no variable of the

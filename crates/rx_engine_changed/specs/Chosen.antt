@@ -1,7 +1,8 @@
 -- Numberings by what was made side by side (Rust Reference, "Expressions", "Scopes", "Loop labels"): the pairs among pieces of nodes; the renaming
 -- in which what was made corresponds and nothing else; a numbering in which all of this corresponds.
-use Rattle.std.specs.Prelude.{◌≡◌, ℕ, Bool, false, ◌==◌, ◌&&◌, ◌||◌, List, [], ◌∷◌}
+use Rattle.std.specs.Prelude.{◌≡◌, ℕ, Bool, true, false, ◌==◌, ◌&&◌, ◌||◌, List, [], ◌∷◌, Some}
 use Rattle.rx_resolve_names.specs.Meant.{number}
+use Rattle.rx_engine_names.specs.Apart.{Few}
 use Rattle.rx_engine_names.specs.Renaming.{Made, Pairs, Renaming}
 use Rattle.rx_engine_typing.specs.Corresponding.{StayApart}
 use Rattle.rx_engine_changed.specs.Beside.{Piece, paired, unpaired, replaced, Instead, IsPiece, Numbers, AllCorrespond, Follows}
@@ -30,3 +31,5 @@ pub record Chosen (R : Renaming) (pieces : List Piece) : Type 0 where
   pub correspond : AllCorrespond numbers pieces
   pub variables_apart : StayApart numbers.by.variables
   pub loops_apart : StayApart numbers.loops
+  -- a variable that comes back from a number of the second corresponds
+  pub comes_back : (x y : ℕ) → numbers.back.variable y ≡ Some x → Few y → R.variable x y ≡ true

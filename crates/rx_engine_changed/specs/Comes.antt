@@ -7,8 +7,9 @@ use Rattle.rx_tree.specs.Plain as plain
 use Rattle.rx_tree.specs.Plain.{Arms, Body, Expression, Expressions, FieldExpressions, Function, OptionalExpression, OptionalExpressions, PatternTree, Statement, Statements, TypeTree}
 use Rattle.rx_tree.specs.Spans.{body_span}
 use Rattle.rx_resolve_names.specs.declared.resolved.NodeNames.{NodeNames}
+use Rattle.rx_typed.specs.declared.nodes.Node.{Node}
 use Rattle.rx_typed.specs.declared.nodes.Site.{Site}
-use Rattle.rx_typed.specs.Named.{root}
+use Rattle.rx_typed.specs.Named.{root, some_diverges}
 use Rattle.rx_typed.specs.Naming.{a_loop, a_node, an_entry, annotates, begins, branch_site, entry_if, has_entry, initialiser_site, known_between, of_body, of_expression, of_optional_type, of_parameters, of_pattern, of_statement, of_statements, passed_on, waits_in, Cursor}
 use Rattle.rx_hoist_extraction.specs.Run.{as_statements}
 
@@ -132,3 +133,11 @@ pub record RunComes (whole : Placed) (block : Body) (front : List plain.Statemen
   pub start : Cursor
   pub comes : Comes whole (a_body site block) start
   pub is : c ≡ (of_statements (as_statements front) (behind (body_span block) site start)).1
+
+-- its block stands there at this site
+abbrev pub RunComesAt : Placed → Body → List plain.Statement → Site → Cursor → Type 0
+RunComesAt whole block front t c = (x : RunComes whole block front c) × (x.site ≡ t)
+
+-- its block has this node there, and what stands in front of the run in it diverges or not
+abbrev pub RunEnds : Placed → Body → List plain.Statement → Node → Bool → Cursor → Type 0
+RunEnds whole block front n d c = (x : RunComes whole block front c) × ((a_node (body_span block) x.site x.start).0 ≡ n) × (some_diverges (of_statements (as_statements front) (behind (body_span block) x.site x.start)).0 ≡ d)

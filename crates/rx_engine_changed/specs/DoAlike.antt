@@ -1,9 +1,9 @@
 -- A run and what stands for it that do the same to what both know (REM, "Extract function"; Rust Reference, "Type inference", "Loop expressions").
-use Rattle.std.specs.Prelude.{◌≡◌, ◌≤◌, ◌<◌, ℕ, true, false, List, length, slice_get}
+use Rattle.std.specs.Prelude.{◌≡◌, ◌≤◌, ◌<◌, ℕ, Bool, true, false, List, length, slice_get}
 use Rattle.rx_tree.specs.Plain.{OptionalExpression, Statement}
 use Rattle.rx_resolve_names.specs.Scopes.{Variables}
 use Rattle.rx_resolve_names.specs.Steps.{Inside}
-use Rattle.rx_typed.specs.declared.nodes.Site.{Site}
+use Rattle.rx_typed.specs.declared.nodes.Node.{Node}
 use Rattle.rx_typed.specs.Named.{some_diverges}
 use Rattle.rx_typed.specs.Naming.{Cursor, of_optional, of_statements}
 use Rattle.rx_hoist_extraction.specs.Run.{as_statements}
@@ -39,9 +39,9 @@ RunDoesAlike R W T I I' C front run call = (made : List Piece) (c c' : Cursor) (
     × (some_diverges (of_statements (as_statements call) c').0 ≡ some_diverges (of_statements (as_statements run) c).0)
 
 -- with a tail; nothing is handed on
-abbrev pub EndDoesAlike : Renaming → Mutability → ToldLast → Inside → Inside → (Cursor → Cursor → Type 0) → List Statement → List Statement → List Statement → OptionalExpression → OptionalExpression → Type 0
-EndDoesAlike R W T I I' C front run call tail last = (made : List Piece) (c c' : Cursor) (p : Place) (t : Site) → C c c' → InStep R W made c c'
-    → EndFor T I I' front run call tail last p R (of_statements (as_statements run) c).0 (of_optional t tail (of_statements (as_statements run) c).1).0 (of_statements (as_statements call) c').0 (of_optional t last (of_statements (as_statements call) c').1).0
-    → DoAlike R (also (deeds.of_statements (of_statements (as_statements run) c).0) (of_else (of_optional t tail (of_statements (as_statements run) c).1).0))
-    (also (deeds.of_statements (of_statements (as_statements call) c').0) (of_else (of_optional t last (of_statements (as_statements call) c').1).0)) c c' (of_optional t last (of_statements (as_statements call) c').1).1
-    × SameEnd (of_statements (as_statements run) c).0 (of_optional t tail (of_statements (as_statements run) c).1).0 (of_statements (as_statements call) c').0 (of_optional t last (of_statements (as_statements call) c').1).0
+abbrev pub EndDoesAlike : Renaming → Mutability → ToldLast → Inside → Inside → (Node → Bool → Cursor → Cursor → Type 0) → List Statement → List Statement → List Statement → OptionalExpression → OptionalExpression → Type 0
+EndDoesAlike R W T I I' C front run call tail last = (made : List Piece) (c c' : Cursor) (p : Place) (n : Node) (d : Bool) → C n d c c' → InStep R W made c c'
+    → EndFor T I I' front run call tail last p R (of_statements (as_statements run) c).0 (of_optional n.site tail (of_statements (as_statements run) c).1).0 (of_statements (as_statements call) c').0 (of_optional n.site last (of_statements (as_statements call) c').1).0
+    → DoAlike R (also (deeds.of_statements (of_statements (as_statements run) c).0) (of_else (of_optional n.site tail (of_statements (as_statements run) c).1).0))
+    (also (deeds.of_statements (of_statements (as_statements call) c').0) (of_else (of_optional n.site last (of_statements (as_statements call) c').1).0)) c c' (of_optional n.site last (of_statements (as_statements call) c').1).1
+    × SameEnd (of_statements (as_statements run) c).0 (of_optional n.site tail (of_statements (as_statements run) c).1).0 (of_statements (as_statements call) c').0 (of_optional n.site last (of_statements (as_statements call) c').1).0

@@ -1,6 +1,6 @@
 -- Two functions of which the second is the first by each numbering in which the pieces that were made correspond, with one thing that stands for a
 -- part; and where a run and the call for it are come to (REM, "Extract function"; Rust Reference, "Block expressions").
-use Rattle.std.specs.Prelude.{◌≡◌, ◌≤◌, ◌<◌, ℕ, List, [], ◌∷◌, None}
+use Rattle.std.specs.Prelude.{◌≡◌, ◌≤◌, ◌<◌, ℕ, Bool, true, List, [], ◌∷◌, Some, None}
 use Rattle.rx_tree.specs.Plain.{OptionalExpression, Statement}
 use Rattle.rx_typed.specs.declared.nodes.Node.{Node}
 use Rattle.rx_typed.specs.declared.nodes.Site.{Site}
@@ -9,6 +9,7 @@ use Rattle.rx_typed.specs.Naming.{Cursor, of_optional, of_statements}
 use Rattle.rx_typeck_solver.specs.declared.facts.Demand.{Demand}
 use Rattle.rx_hoist_extraction.specs.Run.{as_statements}
 use Rattle.rx_resolve_names.specs.Steps.{Inside}
+use Rattle.rx_engine_names.specs.Apart.{Few}
 use Rattle.rx_engine_names.specs.Renaming.{Renaming}
 use Rattle.rx_engine_names.specs.Placed.{EndFor, Place, StandFor, Told, ToldLast}
 use Rattle.rx_engine_blocks.specs.Renumbering.{node_at, Renumbering}
@@ -37,6 +38,8 @@ pub record ByOneNumbering (R : Renaming) (P : List Piece → Instead → Type 0)
   pub follows : Follows R numbers
   pub variables_apart : StayApart numbers.by.variables
   pub loops_apart : StayApart numbers.loops
+  -- a variable that comes back from a number of the second corresponds
+  pub comes_back : (x y : ℕ) → numbers.back.variable y ≡ Some x → Few y → R.variable x y ≡ true
   -- behind these pieces, which correspond; those of the second stand in front
   pub made : List Piece
   pub correspond : AllCorrespond numbers made
@@ -77,9 +80,9 @@ pub record IsToldCall (R : Renaming) (W : Mutability) (T : Told) (I I' : Inside)
   pub place : Place
   pub stands : StandFor T I I' front run call place R (of_statements (as_statements run) is_call.cursor).0 (of_statements (as_statements call) is_call.cursor').0
 
-pub record IsToldLast (R : Renaming) (W : Mutability) (T : ToldLast) (I I' : Inside) (C : Cursor → Cursor → Type 0) (front run call : List Statement) (tail last : OptionalExpression) (made : List Piece) (i : Instead) : Type 0 where
+pub record IsToldLast (R : Renaming) (W : Mutability) (T : ToldLast) (I I' : Inside) (C : Node → Bool → Cursor → Cursor → Type 0) (front run call : List Statement) (tail last : OptionalExpression) (made : List Piece) (i : Instead) : Type 0 where
   pub is_call : IsLastCall R W run call tail last made i
-  pub comes : C is_call.cursor is_call.cursor'
+  pub comes : C is_call.node (some_diverges is_call.front) is_call.cursor is_call.cursor'
   pub place : Place
   pub stands : EndFor T I I' front run call tail last place R (of_statements (as_statements run) is_call.cursor).0 (of_optional is_call.site tail (of_statements (as_statements run) is_call.cursor).1).0
       (of_statements (as_statements call) is_call.cursor').0 (of_optional is_call.site last (of_statements (as_statements call) is_call.cursor').1).0
@@ -92,6 +95,7 @@ without_names x = record {
   follows = x.follows;
   variables_apart = x.variables_apart;
   loops_apart = x.loops_apart;
+  comes_back = x.comes_back;
   made = x.made;
   correspond = x.correspond;
   in_front = x.in_front;
@@ -100,13 +104,14 @@ without_names x = record {
   like = x.like;
 }
 
-abbrev pub last_without_names : {R : Renaming} {W : Mutability} {T : ToldLast} {I I' : Inside} {C : Cursor → Cursor → Type 0} {front run call : List Statement} {tail last : OptionalExpression} {holes : Numbers → Holes} {f g : Function}
+abbrev pub last_without_names : {R : Renaming} {W : Mutability} {T : ToldLast} {I I' : Inside} {C : Node → Bool → Cursor → Cursor → Type 0} {front run call : List Statement} {tail last : OptionalExpression} {holes : Numbers → Holes} {f g : Function}
     → ByOneNumbering R (IsToldLast R W T I I' C front run call tail last) holes f g → ByOneNumbering R (IsLastCall R W run call tail last) holes f g
 last_without_names x = record {
   numbers = x.numbers;
   follows = x.follows;
   variables_apart = x.variables_apart;
   loops_apart = x.loops_apart;
+  comes_back = x.comes_back;
   made = x.made;
   correspond = x.correspond;
   in_front = x.in_front;

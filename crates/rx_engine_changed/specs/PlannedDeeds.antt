@@ -5,7 +5,7 @@ use Rattle.rx_tree.specs.Lists.{nth}
 use Rattle.rx_tree.specs.Plain.{OptionalExpression, Statement}
 use Rattle.rx_resolve_names.specs.Scopes.{variable_named}
 use Rattle.rx_resolve_names.specs.Steps.{Inside}
-use Rattle.rx_typed.specs.declared.nodes.Site.{Site}
+use Rattle.rx_typed.specs.declared.nodes.Node.{Node}
 use Rattle.rx_typed.specs.Named.{else_diverges, some_diverges, tail_never}
 use Rattle.rx_typed.specs.Naming.{Cursor, of_optional, of_statements}
 use Rattle.rx_hoist_extraction.specs.Names.{Names}
@@ -92,9 +92,9 @@ RunAsPlanned G I C front run = (c : Cursor) (p : Place) → C c → (s : Numbere
     → DoesAsPlanned (at_place G s.middle.scope p.around) (deeds.of_statements (of_statements (as_statements run) c).0) c × (some_diverges (of_statements (as_statements run) c).0 ≡ planned_diverging (at_place G s.middle.scope p.around))
 
 -- the same with a tail, which has a value where one is handed out
-abbrev pub EndAsPlanned : Handing → Inside → (Cursor → Type 0) → List Statement → List Statement → OptionalExpression → Type 0
-EndAsPlanned G I C front run tail = (c : Cursor) (p : Place) (t : Site) → C c
-    → (s : NumberedLast I p.scope p.around p.way front run tail p.tables (of_statements (as_statements run) c).0 (of_optional t tail (of_statements (as_statements run) c).1).0)
-    → DoesAsPlanned (at_place G s.middle.scope p.around) (also (deeds.of_statements (of_statements (as_statements run) c).0) (of_else (of_optional t tail (of_statements (as_statements run) c).1).0)) c
-    × ((some_diverges (of_statements (as_statements run) c).0 || else_diverges (of_optional t tail (of_statements (as_statements run) c).1).0) ≡ planned_diverging (at_place G s.middle.scope p.around))
-    × ((d : Bool) → tail_never (d || some_diverges (of_statements (as_statements run) c).0) (of_optional t tail (of_statements (as_statements run) c).1).0 ≡ planned_ending (at_place G s.middle.scope p.around) d)
+abbrev pub EndAsPlanned : Handing → Inside → (Node → Bool → Cursor → Type 0) → List Statement → List Statement → OptionalExpression → Type 0
+EndAsPlanned G I C front run tail = (c : Cursor) (p : Place) (n : Node) (d : Bool) → C n d c
+    → (s : NumberedLast I p.scope p.around p.way front run tail p.tables (of_statements (as_statements run) c).0 (of_optional n.site tail (of_statements (as_statements run) c).1).0)
+    → DoesAsPlanned (at_place G s.middle.scope p.around) (also (deeds.of_statements (of_statements (as_statements run) c).0) (of_else (of_optional n.site tail (of_statements (as_statements run) c).1).0)) c
+    × ((some_diverges (of_statements (as_statements run) c).0 || else_diverges (of_optional n.site tail (of_statements (as_statements run) c).1).0) ≡ planned_diverging (at_place G s.middle.scope p.around))
+    × ((b : Bool) → tail_never (b || some_diverges (of_statements (as_statements run) c).0) (of_optional n.site tail (of_statements (as_statements run) c).1).0 ≡ planned_ending (at_place G s.middle.scope p.around) b)

@@ -7,7 +7,7 @@ use Rattle.rx_tree.specs.Plain.{Body, OptionalExpression, Statement}
 use Rattle.rx_tree.specs.Spans.{body_span}
 use Rattle.rx_resolve_names.specs.Meant.{Around}
 use Rattle.rx_resolve_names.specs.Steps.{Inside}
-use Rattle.rx_typed.specs.declared.nodes.Site.{Site}
+use Rattle.rx_typed.specs.declared.nodes.Node.{Node}
 use Rattle.rx_typed.specs.Named.{else_diverges, some_diverges, tail_never, Else, Statements}
 use Rattle.rx_typed.specs.Naming.{Cursor, of_optional, of_statements}
 use Rattle.rx_hoist_extraction.specs.Names.{Names}
@@ -51,12 +51,12 @@ abbrev pub GoesOn : Renaming → Mutability → Told → Inside → Inside → (
 GoesOn R W T I I' C front run call = (made : List Piece) (c c' : Cursor) (p : Place) → C c c' → InStep R W made c c' → StandFor T I I' front run call p R (of_statements (as_statements run) c).0 (of_statements (as_statements call) c').0
     → InStep R W made (of_statements (as_statements run) c).1 (of_statements (as_statements call) c').1 × (some_diverges (of_statements (as_statements call) c').0 ≡ some_diverges (of_statements (as_statements run) c).0)
 
--- the same where a tail is behind them, wherever it stands: both blocks diverge or neither does, and both have a value or neither has
-abbrev pub GoesOnLast : Renaming → Mutability → ToldLast → Inside → Inside → (Cursor → Cursor → Type 0) → List Statement → List Statement → List Statement → OptionalExpression → OptionalExpression → Type 0
-GoesOnLast R W T I I' C front run call tail last = (made : List Piece) (c c' : Cursor) (p : Place) (t : Site) → C c c' → InStep R W made c c'
-    → EndFor T I I' front run call tail last p R (of_statements (as_statements run) c).0 (of_optional t tail (of_statements (as_statements run) c).1).0 (of_statements (as_statements call) c').0 (of_optional t last (of_statements (as_statements call) c').1).0
-    → InStep R W made (of_optional t tail (of_statements (as_statements run) c).1).1 (of_optional t last (of_statements (as_statements call) c').1).1
-    × SameEnd (of_statements (as_statements run) c).0 (of_optional t tail (of_statements (as_statements run) c).1).0 (of_statements (as_statements call) c').0 (of_optional t last (of_statements (as_statements call) c').1).0
+-- the same where a tail is behind them, where `C` says that their blocks stand: both blocks diverge or neither does, and both have a value or neither has
+abbrev pub GoesOnLast : Renaming → Mutability → ToldLast → Inside → Inside → (Node → Bool → Cursor → Cursor → Type 0) → List Statement → List Statement → List Statement → OptionalExpression → OptionalExpression → Type 0
+GoesOnLast R W T I I' C front run call tail last = (made : List Piece) (c c' : Cursor) (p : Place) (n : Node) (d : Bool) → C n d c c' → InStep R W made c c'
+    → EndFor T I I' front run call tail last p R (of_statements (as_statements run) c).0 (of_optional n.site tail (of_statements (as_statements run) c).1).0 (of_statements (as_statements call) c').0 (of_optional n.site last (of_statements (as_statements call) c').1).0
+    → InStep R W made (of_optional n.site tail (of_statements (as_statements run) c).1).1 (of_optional n.site last (of_statements (as_statements call) c').1).1
+    × SameEnd (of_statements (as_statements run) c).0 (of_optional n.site tail (of_statements (as_statements run) c).1).0 (of_statements (as_statements call) c').0 (of_optional n.site last (of_statements (as_statements call) c').1).0
 
 -- what is claimed of a block says that it is this one, where it has its place
 abbrev pub OneBlock : Claims → Body → Type 0

@@ -1,10 +1,11 @@
 -- The text's variables where its run begins, with their types and stages, so that they stand where the call does (REM, "Extract function", inputs and outputs;
 -- Rust Reference, "Type inference", "let statements").
-use Rattle.std.specs.Prelude.{◌≡◌, ◌<◌, ℕ, true, false, IsTrue, Some, List}
+use Rattle.std.specs.Prelude.{◌≡◌, ◌<◌, ℕ, Bool, true, false, IsTrue, Some, List}
 use Rattle.rx_tree.specs.Lists.{Every}
 use Rattle.rx_tree.specs.Plain.{OptionalExpression, Statement}
 use Rattle.rx_resolve_names.specs.Scopes.{variable_named}
 use Rattle.rx_resolve_names.specs.Steps.{Inside}
+use Rattle.rx_typed.specs.declared.nodes.Node.{Node}
 use Rattle.rx_typed.specs.declared.nodes.Stage.{Stage}
 use Rattle.rx_typed.specs.Naming.{declaration, Cursor}
 use Rattle.rx_typed.specs.Types.{keeps_limits, outline, Typ}
@@ -65,5 +66,5 @@ pub record TextStands (A : Assignment) (E : KnownItems) (q : Renumbering) (G : H
 abbrev pub handing_here : (G : Handing) {R : Renaming} {W : Mutability} {I I' : Inside} {C : Cursor → Cursor → Type 0} {front run call : List Statement} {made : List Piece} {i : Instead} → IsToldCall R W (told_handed G) I I' C front run call made i → Handing
 handing_here G x = at_place G x.stands.text.middle.scope x.place.around
 
-abbrev pub handing_last : (G : Handing) {R : Renaming} {W : Mutability} {I I' : Inside} {C : Cursor → Cursor → Type 0} {front run call : List Statement} {tail last : OptionalExpression} {made : List Piece} {i : Instead} → IsToldLast R W (told_last G) I I' C front run call tail last made i → Handing
+abbrev pub handing_last : (G : Handing) {R : Renaming} {W : Mutability} {I I' : Inside} {C : Node → Bool → Cursor → Cursor → Type 0} {front run call : List Statement} {tail last : OptionalExpression} {made : List Piece} {i : Instead} → IsToldLast R W (told_last G) I I' C front run call tail last made i → Handing
 handing_last G x = at_place G x.stands.text.middle.scope x.place.around

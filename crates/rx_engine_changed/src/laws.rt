@@ -1,6 +1,6 @@
 //! Laws of the functions that change, each as the contract of a function that does nothing.
 
-ghost use Rattle.std.specs.Prelude.{◌≡◌, ◌≤◌, ◌<◌, ◌+◌, ◌^◌, length, true, false, ℕ, Bool, List as ListOf, [], ◌++◌, map, slice_get, None, Ok, Some};
+ghost use Rattle.std.specs.Prelude.{◌≡◌, ◌≤◌, ◌<◌, ◌+◌, ◌^◌, ◌||◌, length, true, false, ℕ, Bool, List as ListOf, [], ◌++◌, map, slice_get, None, Ok, Some};
 ghost use Rattle.rx_core.specs.declared.types.Span.{Span};
 ghost use Rattle.rx_tree.specs.Lists.{statements, tail, Every};
 ghost use Rattle.rx_tree.specs.Spans.{body_span};
@@ -9,7 +9,7 @@ ghost use Rattle.rx_resolve_names.specs.Meant.{number, Around};
 ghost use Rattle.rx_resolve_names.specs.Items.{in_item};
 ghost use Rattle.rx_resolve_names.specs.declared.resolved.ItemNames.{ItemNames};
 ghost use Rattle.rx_resolve_names.specs.declared.resolved.NodeNames.{NodeNames};
-ghost use Rattle.rx_typed.specs.Named.{some_diverges, Exp, Function as NamedFunction};
+ghost use Rattle.rx_typed.specs.Named.{some_diverges, tail_never, Exp, Function as NamedFunction};
 ghost use Rattle.rx_typed.specs.Types.{parameters_declared, result_declared, Typ};
 ghost use Rattle.rx_hoist_extraction.specs.NewFunction.{passed_types};
 ghost use Rattle.rx_engine_names.specs.Calls as calls;
@@ -49,9 +49,10 @@ ghost use Rattle.rx_engine_holes.specs.Named.{NamedIn};
 ghost use Rattle.rx_engine_holes.specs.Others.{OthersFit};
 ghost use Rattle.rx_engine_holes.specs.Returned.{returned_holes};
 ghost use Rattle.rx_engine_holes.specs.Special.{special_holes};
+ghost use Rattle.rx_engine_holes.specs.Tail.{of_end};
 ghost use Rattle.rx_engine_changed.specs.AsItStands.{as_it_stands, StatementsBeside};
 ghost use Rattle.rx_engine_changed.specs.Beside.{Grows, Instead, IsOneToOne, Piece};
-ghost use Rattle.rx_engine_changed.specs.Called.{with_other_block, CallIsFew, ComesToRun, RunDeclares, EndDoes, EndGoesOn, EndHoleOf, EndIsNumbered, EndPlanned, HandsOn, HoleOf, CallIsNumbered, IsItsCall, IsItsLastCall, RunDoes, RunGoesOn, RunPlanned};
+ghost use Rattle.rx_engine_changed.specs.Called.{with_other_block, CallIsFew, ComesToEnd, ComesToRun, RunDeclares, EndDoes, EndIsFew, EndGoesOn, EndHoleOf, EndIsNumbered, EndPlanned, HandsOn, HoleOf, CallIsNumbered, IsItsCall, IsItsLastCall, RunDoes, RunGoesOn, RunPlanned};
 ghost use Rattle.rx_engine_changed.specs.Chosen.{least, Chosen, OneInstead};
 ghost use Rattle.rx_engine_changed.specs.Once.{asked_last, given_last, ByOneNumbering, IsCall, IsLastCall, NumberedOnce};
 ghost use Rattle.rx_engine_changed.specs.HandedTypes.{CallStands, EndStands, ItemsDeclare, NextAgrees};
@@ -246,6 +247,14 @@ pub fn demands_of_a_run_stand_together()
         → (front : ListOf Demand) × (back : ListOf Demand) × (demands (function_named n s f ns) ≡ front ++ (rules.of_statements n (of_statements (as_statements (chosen r (statements (run_block r f)))) c).0 [] ++ back)) }
 {}
 
+/// So does what they ask of a run that goes to its block's end: of the run, of the tail, and of what the block's place makes of its value.
+pub fn demands_of_an_end_stand_together()
+    ensures { (n : ℕ) (s : Span) (f : Function) (r : Run) (pl : Plan) → RunStands r pl f → goes_past r (statements (run_block r f)) ≡ true → (ns : ListOf NodeNames) (k : Node) (d : Bool) (c : Cursor) → ComesToEnd s f r ns k d c
+        → (front : ListOf Demand) × (back : ListOf Demand) × (demands (function_named n s f ns) ≡ front
+        ++ (rules.join k (tail_never (d || some_diverges (of_statements (as_statements (chosen r (statements (run_block r f)))) c).0) (of_optional k.site (tail (run_block r f)) (of_statements (as_statements (chosen r (statements (run_block r f)))) c).1).0)
+        (of_end n k d (of_statements (as_statements (chosen r (statements (run_block r f)))) c).0 (of_optional k.site (tail (run_block r f)) (of_statements (as_statements (chosen r (statements (run_block r f)))) c).1).0 []) ++ back)) }
+{}
+
 /// Where a function's numbering comes to a part, and no `let` in front of it on the way leaves its variable waiting for its type, no variable waits there: so it
 /// is at a run, where none in front of it in its block does either. A part is quiet where each of its `let`s has its type written or a value that comes.
 pub fn nothing_waits_behind_quiet_parts()
@@ -301,4 +310,10 @@ pub fn calls_hand_on_what_their_runs_do()
 pub fn calls_are_few_where_their_tables_are()
     ensures { (p q : ProgramTree) (m : ℕ) (s : Span) (f : Function) (r : Run) (pl : Plan) (u : ItemNames)
         → in_item q m (function_item s (with_other_block (run_block r f) (with_parts r (call_parts p r pl f) (run_block r f)) f)) ≡ Ok u → Few (length u.vars) → CallIsFew p s f r pl u.names }
+{}
+
+/// So they are behind the tail of what stands for a run that goes to its block's end.
+pub fn ends_are_few_where_their_tables_are()
+    ensures { (p q : ProgramTree) (m : ℕ) (s : Span) (f : Function) (r : Run) (pl : Plan) (u : ItemNames) → goes_past r (statements (run_block r f)) ≡ true
+        → in_item q m (function_item s (with_other_block (run_block r f) (with_parts r (call_parts p r pl f) (run_block r f)) f)) ≡ Ok u → Few (length u.vars) → EndIsFew p s f r pl u.names }
 {}

@@ -6,7 +6,8 @@ mod laws;
 pub use laws::{
     calls_are_few_where_their_tables_are, calls_hand_on_what_their_runs_do,
     calls_in_one_numbering_fit, calls_of_a_plan_fit, copied_runs_are_renumbered,
-    demands_of_a_run_stand_together, functions_with_a_call_are_renumbered,
+    demands_of_a_run_stand_together, demands_of_an_end_stand_together,
+    ends_are_few_where_their_tables_are, functions_with_a_call_are_renumbered,
     functions_with_a_call_are_valid, functions_with_a_call_at_the_end_are_renumbered,
     functions_with_a_call_have_one_numbering, functions_with_a_call_of_a_plan_are_valid,
     functions_with_a_call_that_fits_are_valid, made_pairs_are_one_to_one,

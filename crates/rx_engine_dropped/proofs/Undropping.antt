@@ -1,6 +1,6 @@
 -- An answer in whose block the unit stands in place of what a call gives is related to the text, where that block gives what the call gives: so is the
 -- answer with such a block, and references read there as they are here. One induction on what relates them.
-use Rattle.std.proofs.Common.{◌≡◌, ℕ, ◌≤◌, ◌+◌, Bool, [], refl, sym, ap, subst, arith}
+use Rattle.std.proofs.Common.{◌≡◌, ℕ, ◌≤◌, ◌+◌, Bool, List, [], refl, sym, ap, subst, arith}
 use Rattle.rx_typed.specs.Tree as tree
 use Rattle.rx_typed.specs.Tree.{Mark, Pattern, Exp, Operands, Scrutinee, Arms, Body, Function, mark_of, temporary_at, own}
 use Rattle.rx_lower_walks.specs.Matching.{tests, bindings}
@@ -41,15 +41,15 @@ front_so (lets_then n q c r) (in_let {c = c0} y x) k = let z = front_so r x k in
 
 -- ---- all forms
 
-module _ (N : ℕ) (A : Asked) (k : Plan) (items : ℕ → ℕ) (O : Openings) (gain : Allowance) where
+module _ (N : ℕ) (A : Asked) (muts : List Bool) (k : Plan) (items : ℕ → ℕ) (O : Openings) (gain : Allowance) where
   abbrev V : Facts
-  V = by_form (special_of A k)
+  V = by_form (special_of A muts k)
 
   abbrev From : Openings
-  From = in_its_drop_block N A k items O gain
+  From = in_its_drop_block N A muts k items O gain
 
   abbrev To : Openings
-  To = in_its_tail_block A k items O gain
+  To = in_its_tail_block A muts k items O gain
 
   -- the tree for that of the answer, the one for that which is read, and what relates them
   abbrev ExpUndone : ℕ → Jumping → Renaming → Exp → Exp → Exp → Type 0
@@ -67,7 +67,7 @@ module _ (N : ℕ) (A : Asked) (k : Plan) (items : ℕ → ℕ) (O : Openings) (
   abbrev BodyUndone : ℕ → Jumping → Renaming → Body → Body → Type 0
   BodyUndone c J R b b0 = (b1 : Body) × (z1 : Body) × UndropsBody N b0 b1 × RereadsBody b1 z1 × LikeBody items To gain V c J R b z1
 
-  block_undone : {c a : ℕ} (i : ℕ) {J : Jumping} {R : Renaming} (e z0 : Exp) {e0 : Exp} (f f' : Exp → Exp) → a + i ≤ c → DropBlock N A k items O gain a J R f f' → Rereads e0 (f' z0) → ExpUndone c J R (f e) (f' z0) e0
+  block_undone : {c a : ℕ} (i : ℕ) {J : Jumping} {R : Renaming} (e z0 : Exp) {e0 : Exp} (f f' : Exp → Exp) → a + i ≤ c → DropBlock N A muts k items O gain a J R f f' → Rereads e0 (f' z0) → ExpUndone c J R (f e) (f' z0) e0
   block_undone i e z0 _ _ le (drop_block {a = a} {m = m} {m' = m'} {b = b} {d1 = d1} r is drops like) (in_block x) = let u = front_so r x drops in
       (_, _, u_block u.1, in_block u.2, refl, opens {e = tree.unit m} {e' = tree.unit m'} {f = λ e. tree.block m b} {f' = λ e. tree.block m' (before r d1)} a 0 (omega (arith, le)) (tail_block is like) units)
 
@@ -140,8 +140,8 @@ module _ (N : ℕ) (A : Asked) (k : Plan) (items : ℕ → ℕ) (O : Openings) (
 
   -- the function for the answer's, and the one for that which is read
   abbrev pub FunctionUndone : Function → Function → Type 0
-  FunctionUndone g g' = (g1 : Function) × (z1 : Function) × UndropsFunction N g' g1 × (g1.params ≡ z1.params) × Rereads g1.body z1.body × RelatedFunction items To gain (special_of A k) g z1
+  FunctionUndone g g' = (g1 : Function) × (z1 : Function) × UndropsFunction N g' g1 × (g1.params ≡ z1.params) × Rereads g1.body z1.body × RelatedFunction items To gain (special_of A muts k) g z1
 
-  pub function_so : (g g' z : Function) → g'.params ≡ z.params → Rereads g'.body z.body → RelatedFunction items From gain (special_of A k) g z → FunctionUndone g g'
+  pub function_so : (g g' z : Function) → g'.params ≡ z.params → Rereads g'.body z.body → RelatedFunction items From gain (special_of A muts k) g z → FunctionUndone g g'
   function_so g g' z same x r = let u = exp_so r.body x in
       (record { params = g'.params; body = u.0 }, record { params = z.params; body = u.1 }, record { params = refl; body = u.2 }, same, u.3, record { inside = r.inside; params = r.params; body = u.5 })

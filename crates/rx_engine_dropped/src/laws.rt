@@ -32,6 +32,6 @@ pub fn dropped_units_change_no_run()
 /// block gives it, and what is read of that is related to the text's as an extraction's is.
 pub fn functions_that_drop_are_related()
     ensures { (N : ℕ) (A : Asked) (muts : ListOf Bool) (k : Plan) (modes : ListOf Mode) (items : ℕ → ℕ) (gain : Allowance) (units : ListOf ℕ) (new : New) (g g' z : Function) → g'.params ≡ z.params → Rereads g'.body z.body
-        → RelatedFunction items (in_its_drop_block N A k items (the_tail_call A muts k modes items gain units new) gain) gain (special_of A k) g z
-        → (g1 : Function) × (z1 : Function) × UndropsFunction N g' g1 × (g1.params ≡ z1.params) × Rereads g1.body z1.body × RelatedFunction items (in_its_tail_block A k items (the_tail_call A muts k modes items gain units new) gain) gain (special_of A k) g z1 }
+        → RelatedFunction items (in_its_drop_block N A muts k items (the_tail_call A muts k modes items gain units new) gain) gain (special_of A muts k) g z
+        → (g1 : Function) × (z1 : Function) × UndropsFunction N g' g1 × (g1.params ≡ z1.params) × Rereads g1.body z1.body × RelatedFunction items (in_its_tail_block A muts k items (the_tail_call A muts k modes items gain units new) gain) gain (special_of A muts k) g z1 }
 {}

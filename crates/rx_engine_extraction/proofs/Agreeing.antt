@@ -216,7 +216,7 @@ module _ (T : Text) (u : Typed) (z : Twice T u) (w : Wish) (d e : Case) where
       around = (p.seats.home i).around.loops;
       plan = without_value (p.plan i);
       modes = p.modes i;
-      elsewhere = special_of (asked_alike p.seats i) (p.plan i);
+      elsewhere = special_of (asked_alike p.seats i) (p.seats.function.same.mutable i) (p.plan i);
       muts = p.seats.function.same.mutable i;
       new = record { number = n; function = body g };
       beyond = length g.names;

@@ -26,11 +26,11 @@ use Rattle.rx_machine.specs.Functions.{program_of}
 use Rattle.rx_exits_plan.specs.Points.{Exit}
 use Rattle.rx_exits_plan.specs.Asked.{Asked}
 use Rattle.rx_exits_plan.specs.Occurrences.{those}
-use Rattle.rx_exits_plan.specs.Plan.{is_moved}
 use Rattle.rx_exits_plan.specs.PlainPlan.{plain-Run, plain-Exit, plan_with, plan_of}
 use Rattle.rx_exits_plan.specs.declared.plan.ExitOuts.{ExitOuts}
 use Rattle.rx_exits_plan.specs.declared.plan.ExitPlan.{ExitPlan}
 use Rattle.rx_modes_policy.specs.declared.uses.Mode.{Mode}
+use Rattle.rx_modes_given.specs.GivenAway.{is_given_away}
 use Rattle.rx_engine_related.specs.AboutRun.{handed, special_of}
 use Rattle.rx_engine_alike.specs.Items.{items_with}
 use Rattle.rx_engine_extracted.specs.Told.{Told}
@@ -41,16 +41,16 @@ use Rattle.rx_engine_extraction.specs.declared.refusal.Fault.TheVariants as faul
 use Rattle.rx_engine_extraction.specs.Source.{Text, declared_in}
 use Rattle.rx_engine_extraction.specs.Case.{Case, asked}
 use Rattle.rx_engine_extraction.specs.Confirmed.{units_among, units_if, whole_of, told_by, is_found, IsConfirmed}
-use Rattle.rx_engine_extraction.specs.Confirming.{moved_among, handed_among, elsewhere_by, IsTold, found_in, IsFoundIn, unless_memory, lacks_memory, lacks_memory_read}
+use Rattle.rx_engine_extraction.specs.Confirming.{given_among, handed_among, elsewhere_by, IsTold, found_in, IsFoundIn, unless_memory, lacks_memory, lacks_memory_read}
 use Rattle.rx_engine_extraction.specs.Deciding.{place_in, case_of}
 use Rattle.rx_engine_extraction.proofs.AgreeingFound.{found_alike}
 use Rattle.rx_engine_extraction.proofs.AgreeingTypes.{one_meaning}
 
 -- ---- what is told
 
-moved_are : (f : ℕ → Bool) (xs : List ℕ) → moved_among xs (map f xs) ≡ those f xs
-moved_are f [] = refl
-moved_are f (x ∷ xs) = let r = moved_are f xs in λ i. if f x then x ∷ r i else r i
+given_are : (f : ℕ → Bool) (xs : List ℕ) → given_among xs (map f xs) ≡ those f xs
+given_are f [] = refl
+given_are f (x ∷ xs) = let r = given_are f xs in λ i. if f x then x ∷ r i else r i
 
 handed_are : (outs : Exit → List ℕ) (es : List ExitOuts) → ((e : ExitOuts) → Among e es → outs (plain-Exit e.exit) ≡ e.outs)
     → handed_among es ≡ handed (map (λ (e : ExitOuts). plain-Exit e.exit) es) outs
@@ -64,14 +64,14 @@ module _ (T : Text) (x : Decision) (told : IsTold T x) where
   abbrev k : ExitPlan
   k = x.plans.plan
 
-  elsewhere_are : elsewhere_by k x.plans.passed.moved ≡ special_of A (plan_of A k)
+  elsewhere_are : elsewhere_by k x.plans.passed.given_away ≡ special_of A x.function.now.mutable (plan_of A k)
   elsewhere_are =
-      (λ i. moved_among k.params (told.moved i) ++ (k.locals ++ (handed_among k.exits ++ k.redeclared)))
-      ∙ (λ i. moved_are (is_moved A) k.params i ++ (k.locals ++ (handed_are (plan_of A k).outs k.exits told.agree i ++ k.redeclared)))
+      (λ i. given_among k.params (told.given_away i) ++ (k.locals ++ (handed_among k.exits ++ k.redeclared)))
+      ∙ (λ i. given_are (is_given_away A x.function.now.mutable) k.params i ++ (k.locals ++ (handed_are (plan_of A k).outs k.exits told.agree i ++ k.redeclared)))
 
   -- by the lists that the code has
   pub told_is : (n made : ℕ) (g : TypedFn) → (loops : List ℕ) (modes : List Mode) (elsewhere : List ℕ) (muts : List Bool) (units : List ℕ) (beyond : ℕ) (unit given : Bool)
-      → loops ≡ x.seat.home.loops → modes ≡ x.plans.passed.modes → elsewhere ≡ elsewhere_by k x.plans.passed.moved → muts ≡ x.function.now.mutable
+      → loops ≡ x.seat.home.loops → modes ≡ x.plans.passed.modes → elsewhere ≡ elsewhere_by k x.plans.passed.given_away → muts ≡ x.function.now.mutable
       → units ≡ units_if (whole_of T.program T.types).functions (units_among (declared_in T) T.types.functions) → beyond ≡ length g.names → unit ≡ given
       → ◌≡◌ {A = Told} (record {
         run = plain-Run x.seat.run;

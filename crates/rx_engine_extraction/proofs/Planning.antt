@@ -121,4 +121,5 @@ module _ (T : Text) (r : RunPos) (f : TypedFn) (h : Home) (seated : Seated T r f
     passable = a.each_has_one;
     unmoved = (a.none_is_aliased, record { listed = p.listed; agree = p.agree; plan = refl; are_modes = a.modes; are_moved = a.moved });
     named = e;
+    given_away = a.given_away;
   }

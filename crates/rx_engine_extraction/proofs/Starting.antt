@@ -113,11 +113,11 @@ stopped_answer bytes T is w fault.OutOfMemory h = tt
 
 -- ---- what is decided, for the confirmation
 
--- a run that is hoisted hands out the same where an exit is listed again, and which params it moves is told
+-- a run that is hoisted hands out the same where an exit is listed again, and which params are given away is told
 pub is_told : (T : Text) (w : Wish) (x : Hoisting) → IsHoisting T w x → IsTold T x.decision
 is_told T w x h =
     let passes = (earlier (Holds T w (case_of T x.decision)) unmoved fits (omega arith) h.hoisted.stands).it.1 in
-    record { run = h.run; agree = passes.agree; moved = passes.are_moved }
+    record { run = h.run; agree = passes.agree; given_away = h.given_away }
 
 pub is_behind : (n f m : ℕ) → n ≡ f + m → f ≤ n
 is_behind n f m e = omega (arith, e)

@@ -67,7 +67,7 @@ told_by T d n made unit g = record {
   around = d.home.around.loops;
   plan = without_value d.plan;
   modes = d.modes;
-  elsewhere = special_of (asked T d) d.plan;
+  elsewhere = special_of (asked T d) d.function.mutable d.plan;
   muts = d.function.mutable;
   new = record { number = n; function = body g };
   beyond = length g.names;

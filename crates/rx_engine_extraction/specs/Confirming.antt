@@ -10,10 +10,10 @@ use Rattle.rx_check.specs.declared.fault.CheckFault.{CheckFault}
 use Rattle.rx_check.specs.declared.fault.CheckFault.TheVariants as check_fault
 use Rattle.rx_check.specs.Passes.{IsAccepted}
 use Rattle.rx_meaning.specs.Programs.{Program}
-use Rattle.rx_exits_plan.specs.Plan.{is_moved}
 use Rattle.rx_exits_plan.specs.PlainPlan.{plain-Run}
 use Rattle.rx_exits_plan.specs.declared.plan.ExitOuts.{ExitOuts}
 use Rattle.rx_exits_plan.specs.declared.plan.ExitPlan.{ExitPlan}
+use Rattle.rx_modes_given.specs.GivenAway.{is_given_away}
 use Rattle.rx_hoist_nodes.specs.TypedRun.{typed_run}
 use Rattle.rx_hoist_naming.specs.Words.{OutsAgree}
 use Rattle.rx_engine_extraction.specs.declared.given.Decision.{Decision}
@@ -28,25 +28,25 @@ use Rattle.rx_engine_extraction.specs.Deciding.{place_in}
 
 -- ---- the variables that may be elsewhere, by lists
 
--- params that the run moves
-abbrev pub moved_among : List ℕ → List Bool → List ℕ
-moved_among (x ∷ xs) (b ∷ bs) = if b then x ∷ moved_among xs bs else moved_among xs bs
-moved_among _ _ = []
+-- params that are given away
+abbrev pub given_among : List ℕ → List Bool → List ℕ
+given_among (x ∷ xs) (b ∷ bs) = if b then x ∷ given_among xs bs else given_among xs bs
+given_among _ _ = []
 
 abbrev pub handed_among : List ExitOuts → List ℕ
 handed_among [] = []
 handed_among (e ∷ es) = e.outs ++ handed_among es
 
 abbrev pub elsewhere_by : ExitPlan → List Bool → List ℕ
-elsewhere_by k moved = moved_among k.params moved ++ (k.locals ++ (handed_among k.exits ++ k.redeclared))
+elsewhere_by k given = given_among k.params given ++ (k.locals ++ (handed_among k.exits ++ k.redeclared))
 
 -- ---- what is decided
 
--- the run, whose exits hand out the same where they are listed again, and which params it moves
+-- the run, whose exits hand out the same where they are listed again, and which params are given away
 pub record IsTold (T : Text) (x : Decision) : Type 0 where
   pub run : plain-Run x.seat.run ≡ typed_run T.program x.run
   pub agree : OutsAgree x.plans.plan.exits
-  pub moved : x.plans.passed.moved ≡ map (is_moved (asked T (place_in x))) x.plans.plan.params
+  pub given_away : x.plans.passed.given_away ≡ map (is_given_away (asked T (place_in x)) x.function.now.mutable) x.plans.plan.params
 
 -- ---- what is found
 

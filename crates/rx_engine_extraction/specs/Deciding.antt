@@ -1,5 +1,5 @@
 -- What is answered of a run that is selected: its plan by names, or the condition that it fails.
-use Rattle.std.specs.Prelude.{◌≡◌, ℕ, Bool, List, [], ◌∷◌, ◌++◌, get_or}
+use Rattle.std.specs.Prelude.{◌≡◌, ℕ, Bool, List, [], ◌∷◌, ◌++◌, get_or, map}
 use Rattle.rx_core.specs.declared.types.Span.{Span}
 use Rattle.rx_lex.specs.Tok.{toks}
 use Rattle.rx_tree.specs.Plain.{ProgramTree}
@@ -47,6 +47,7 @@ use Rattle.rx_engine_extraction.specs.Made.{named}
 use Rattle.rx_engine_extraction.specs.Conditions as condition
 use Rattle.rx_engine_extraction.specs.Failing.{span_if, Fails}
 use Rattle.rx_engine_extraction.specs.Meeting.{Holds, Seated}
+use Rattle.rx_modes_given.specs.GivenAway.{is_given_away}
 
 abbrev pub text_of : Given → Text
 text_of g = record {
@@ -168,6 +169,7 @@ pub record IsDecided (T : Text) (d : Case) (name : List ℕ) (choice : Uses → 
   pub passable : Holds T (wish_by name choice) (with_plans T d x) condition.passable
   pub unmoved : Holds T (wish_by name choice) (with_plans T d x) condition.unmoved
   pub named : plain-Plan x.named ≡ named T (wish_by name choice) (with_plans T d x)
+  pub given_away : x.passed.given_away ≡ map (is_given_away (asked T d) d.function.mutable) x.plan.params
 
 -- why there is none
 abbrev pub IsNotDecided : Text → Case → Refusal → Type 0

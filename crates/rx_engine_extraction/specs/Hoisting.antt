@@ -1,5 +1,5 @@
 -- What is answered up to the program with the call: the program, or the first condition that is not met.
-use Rattle.std.specs.Prelude.{◌≡◌, ℕ, [], Some}
+use Rattle.std.specs.Prelude.{◌≡◌, ℕ, [], Some, map}
 use Rattle.rx_core.specs.declared.types.Span.{Span}
 use Rattle.rx_tree.specs.declared.tree.BoundLifetime.{BoundLifetime}
 use Rattle.rx_tree.specs.Lists.{nth, Every}
@@ -15,12 +15,13 @@ use Rattle.rx_engine_extraction.specs.declared.given.Hoisting.{Hoisting}
 use Rattle.rx_engine_extraction.specs.declared.refusal.Fault.{Fault}
 use Rattle.rx_engine_extraction.specs.declared.refusal.Fault.TheVariants as fault
 use Rattle.rx_engine_extraction.specs.Source.{Text, Wish}
-use Rattle.rx_engine_extraction.specs.Case.{Case}
+use Rattle.rx_engine_extraction.specs.Case.{Case, asked}
 use Rattle.rx_engine_extraction.specs.Made.{named, hoisted, new_item}
 use Rattle.rx_engine_extraction.specs.Conditions.{fits}
 use Rattle.rx_engine_extraction.specs.Promise.{Stands}
 use Rattle.rx_engine_extraction.specs.Verdict.{RefusedBy}
-use Rattle.rx_engine_extraction.specs.Deciding.{case_of}
+use Rattle.rx_engine_extraction.specs.Deciding.{case_of, place_in}
+use Rattle.rx_modes_given.specs.GivenAway.{is_given_away}
 
 -- a condition that is not met, or want of memory
 abbrev pub IsStopped : Text → Wish → Fault → Type 0
@@ -49,3 +50,4 @@ pub record IsHoisting (T : Text) (w : Wish) (x : Hoisting) : Type 0 where
   pub run : plain-Run x.decision.seat.run ≡ typed_run T.program x.decision.run
   pub plan : plain-Plan x.decision.plans.named ≡ named T w (case_of T x.decision)
   pub hoisted : IsHoisted T w (case_of T x.decision) (plain-Program x.made.program) x.made.new_fn
+  pub given_away : x.decision.plans.passed.given_away ≡ map (is_given_away (asked T (place_in x.decision)) x.decision.function.now.mutable) x.decision.plans.plan.params

@@ -63,7 +63,7 @@ fn compared(
     let item = decision.run.function;
     let plan = &decision.plans.plan;
     let passed = &decision.plans.passed;
-    let elsewhere = elsewhere(alloc, plan, passed.moved.as_slice())?;
+    let elsewhere = elsewhere(alloc, plan, passed.given_away.as_slice())?;
     let functions = trees(alloc, given.front)?;
     let others = trees(alloc, answer)?;
     let units = units_of(alloc, given.front.typed(), functions.as_slice())?;

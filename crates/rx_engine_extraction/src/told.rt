@@ -13,22 +13,22 @@ use rx_typeck_typed::{Typed, TypedFn};
 use rx_typed::{Decl, Decls, TypedTree};
 use std::alloc::{AllocError, Global};
 
-/// Params that the run moves.
-fn moved_among(alloc: Global, params: &[u32], moved: &[bool]) -> Result<Vec<u32>, AllocError>
-    ensures { IfOk result (λ it. it.items ≡ spec.moved_among params.now moved.now) }
+/// Params that are given away.
+fn given_among(alloc: Global, params: &[u32], given: &[bool]) -> Result<Vec<u32>, AllocError>
+    ensures { IfOk result (λ it. it.items ≡ spec.given_among params.now given.now) }
 {
     let mut numbers = Vec::new(alloc);
     let mut left = params;
-    let mut right = moved;
+    let mut right = given;
     while let [param, params_behind @ ..] = left {
-        let [is_moved, moved_behind @ ..] = right else {
+        let [is_given, given_behind @ ..] = right else {
             return Ok(numbers);
         };
-        if *is_moved {
+        if *is_given {
             numbers.push(*param)?;
         }
         left = params_behind;
-        right = moved_behind;
+        right = given_behind;
     }
     Ok(numbers)
 }
@@ -44,15 +44,15 @@ fn with_handed(exits: &[ExitOuts], numbers: Vec<u32>) -> Result<Vec<u32>, AllocE
     Ok(all)
 }
 
-/// The variables that may be elsewhere in the answer: params that the run moves, locals, what is handed out, and what is declared again.
+/// The variables that may be elsewhere in the answer: params that are given away, locals, what is handed out, and what is declared again.
 pub(crate) fn elsewhere(
     alloc: Global,
     plan: &ExitPlan,
-    moved: &[bool],
+    given: &[bool],
 ) -> Result<Vec<u32>, AllocError>
-    ensures { IfOk result (λ it. it.items ≡ spec.elsewhere_by plan.now moved.now) }
+    ensures { IfOk result (λ it. it.items ≡ spec.elsewhere_by plan.now given.now) }
 {
-    let mut first = moved_among(alloc, plan.params.as_slice(), moved)?;
+    let mut first = given_among(alloc, plan.params.as_slice(), given)?;
     first.extend_from_slice(plan.locals.as_slice())?;
     let mut all = with_handed(plan.exits.as_slice(), first)?;
     all.extend_from_slice(plan.redeclared.as_slice())?;

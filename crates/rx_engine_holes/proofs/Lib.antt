@@ -1,8 +1,8 @@
-mod Asking
-mod Around
+pub mod Asking
+pub mod Around
 mod Rounds
-mod Returned
-mod Tails
+pub mod Returned
+pub mod Tails
 mod Sited
 mod Initialised
 pub mod Themselves
@@ -10,6 +10,6 @@ mod Integers
 mod Naming
 mod Alone
 mod Adding
-mod Entering
+pub mod Entering
 mod Calling
 mod Fitted

@@ -27,7 +27,8 @@ use Rattle.rx_engine_related.specs.OneSite.{StandsOnce}
 use Rattle.rx_engine_related.specs.Accepted.{Accepted}
 use Rattle.rx_engine_related.proofs.Plainly.{without_reads, LastOf, held, read, last_wider, after_wider}
 use Rattle.rx_engine_related.proofs.Recombining.{recombined}
-use Rattle.rx_engine_related.proofs.Choosing.{param_named, local_named, out_is, not_chosen, elsewhere_offered, special_is}
+use Rattle.rx_engine_related.proofs.Choosing as choosing
+use Rattle.rx_engine_related.proofs.Choosing.{param_named, local_named, out_is, special_is}
 use Rattle.rx_engine_initial.specs.Matching.{Hist, Reach, Good, IsGone, Maps}
 use Rattle.rx_engine_initial.specs.Variables.{as_itself, Sides, both_end, LikePart, KnownVariables, set_view, part_set}
 use Rattle.rx_engine_initial.specs.Copies.{world}
@@ -41,6 +42,7 @@ use Rattle.rx_engine_initial.proofs.Straight.{giving_given, given_ended, given_f
 use Rattle.rx_engine_initial.proofs.Handing.{handing_in_order, good_front, good_more}
 use Rattle.rx_engine_initial.proofs.Known.{walk_front}
 use Rattle.rx_engine_initial.proofs.MarkedTexts.{marked_is_initialised}
+use Rattle.rx_modes_uses.specs.NotMut.{NotMut}
 
 -- ---- what stands was assigned
 
@@ -140,9 +142,9 @@ module _ (A : Asked) (muts : List Bool) (acc : Accepted A muts) (k : Plan) (plan
   out_live e x once i o w c = let l = (out_is A k plan e i x o).1 in (l.1, recombined (text_of A k) (shown (leaves e)) once l.0 w l.1 l.2 c, l.3)
 
   -- and on to no use of what it does not
-  pub not_live : (e : Exit) (x : ℕ) → Among e k.exits → e ≢ returns → In x (special_of A k) → (Among x (k.outs e) → ⊥) → (w ws : List Action) → IsWalk (text_of A k) (w ++ shown (leaves e) ∷ ws)
+  pub not_live : ((y : ℕ) → ¬ (NotMut A muts k y)) → (e : Exit) (x : ℕ) → Among e k.exits → e ≢ returns → In x (special_of A muts k) → (Among x (k.outs e) → ⊥) → (w ws : List Action) → IsWalk (text_of A k) (w ++ shown (leaves e) ∷ ws)
       → ahead (living (variable x)) ws ≡ false
-  not_live e x i n s f w ws c = is_false (ahead (living (variable x)) ws) (λ l. not_chosen (plan.outs e i n) (elsewhere_offered A k plan x (special_is A k plan x s)) f (w, ws, c, l))
+  not_live passed e x i n s f w ws c = is_false (ahead (living (variable x)) ws) (λ l. choosing.not_live A muts k plan passed e i n x (special_is A muts k plan x s) f (w, ws, c, l))
 
 -- ---- where the new function is left
 

@@ -16,6 +16,7 @@ ghost use Rattle.rx_exits_plan.specs.Marked.{shown};
 ghost use Rattle.rx_exits_plan.specs.Asked.{Asked};
 ghost use Rattle.rx_exits_plan.specs.Plan.{Plan, IsPlan};
 ghost use Rattle.rx_exits_plan.specs.PartlyMoved.{PartlyMoved};
+ghost use Rattle.rx_modes_uses.specs.NotMut.{NotMut};
 ghost use Rattle.rx_engine_simulation.specs.Sights.{In};
 ghost use Rattle.rx_engine_related.specs.AboutRun.{special_of, text_of};
 ghost use Rattle.rx_engine_related.specs.OneSite.{StandsOnce};
@@ -108,7 +109,7 @@ pub fn plans_tell_where_runs_are_entered_and_left()
     ensures live { (A : Asked) (muts : ListOf Bool) → Accepted A muts → (k : Plan) → IsPlan A k → (e : Exit) (x : ℕ) → StandsOnce (text_of A k) (shown (leaves e)) → Among e k.exits
         → Among x (k.outs e) → (w : ListOf Action) → IsWalk (text_of A k) (w ++ shown (leaves e) ∷ [])
         → (us : ListOf Action) × IsWalk (text_of A k) (w ++ shown (leaves e) ∷ us) × (ahead (living (variable x)) us ≡ true) }
-    ensures not_live { (A : Asked) (muts : ListOf Bool) → Accepted A muts → (k : Plan) → IsPlan A k → (e : Exit) (x : ℕ) → Among e k.exits → e ≢ returns → In x (special_of A k)
+    ensures not_live { (A : Asked) (muts : ListOf Bool) → Accepted A muts → (k : Plan) → IsPlan A k → ((y : ℕ) → ¬ (NotMut A muts k y)) → (e : Exit) (x : ℕ) → Among e k.exits → e ≢ returns → In x (special_of A muts k)
         → (Among x (k.outs e) → ⊥) → (w ws : ListOf Action) → IsWalk (text_of A k) (w ++ shown (leaves e) ∷ ws) → ahead (living (variable x)) ws ≡ false }
 {}
 

@@ -45,8 +45,8 @@ pub record Leaves (k : Plan) (J : Jumping) (w : Way) : Type 0 where
 
 pub leaves_so : {A : Asked} {muts : List Bool} {k : Plan} {J Ji : Jumping} {R : Renaming} {called e : Exp} {w : Way} → CallOf A muts k J R called Ji w e → Leaves k Ji w
 leaves_so {k = k} (call_alone e) = record { leaves = none_leave k; alone = refl; goes_on = λ n. subst (λ xs. Among next xs) (sym e) here }
-leaves_so {A = A} {k = k} (call_matched unit q a p r n g e) = record { leaves = jumps_leave A k unit; alone = refl; goes_on = λ n. next_there k q }
-leaves_so {A = A} {k = k} (call_left unit n a) = record { leaves = jumps_leave A k unit; alone = refl; goes_on = λ f. absurd (f refl) }
+leaves_so {A = A} {muts = muts} {k = k} (call_matched unit q a p r n g e) = record { leaves = jumps_leave A muts k unit; alone = refl; goes_on = λ n. next_there k q }
+leaves_so {A = A} {muts = muts} {k = k} (call_left unit n a) = record { leaves = jumps_leave A muts k unit; alone = refl; goes_on = λ f. absurd (f refl) }
 
 pub called_function_initialised : (S : Sides) (A : Asked) (k : Plan) (had : Had A S.muts_there k) → IsItself (Some (Some A.function)) → ((q : At) → Unreachable A q → ⊥) → Sized S.frame.declared S.frame.sizes → Sized S.frame_there.declared S.frame_there.sizes
     → IsTextOf S A k → Initialised S.frame_there S.muts_there S.text

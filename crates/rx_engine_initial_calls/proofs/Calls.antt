@@ -42,6 +42,7 @@ use Rattle.rx_engine_initial_calls.specs.CallOf.{IsCallOf}
 use Rattle.rx_engine_initial_calls.specs.MatchOf.{IsFront, LeavesSo, by_return, by_jump, GoesOn, IsMatchOf, HasWays}
 use Rattle.rx_engine_initial_calls.proofs.Entry.{entry, param_set, param_stands, param_was, param_ahead, out_was, not_needed, not_live_there, local_not}
 use Rattle.rx_engine_initial_calls.proofs.Receiving.{handing_leaves, receives_good, no_variable}
+use Rattle.rx_modes_uses.specs.NotMut.{NotMut}
 
 -- a walk through pieces is one of what they stand in front of, cut off
 runs_walk : {K : List Piece} {u : List Action} (r : Order) → Runs K u → Walk (fill K r) u stopped
@@ -49,7 +50,7 @@ runs_walk r done = rests
 runs_walk r (does_one a k) = both a (runs_walk r k)
 runs_walk r (begins k) = halts (runs_walk r k)
 
-module _ (A : Asked) (k : Plan) (plan : IsPlan A k) (S : Sides) (acc : Accepted A S.muts_there) (o : IsTextOf S A k) (whole : (x : ℕ) → ¬ (PartlyMoved A k x)) (new : Parted S.frame) where
+module _ (A : Asked) (k : Plan) (plan : IsPlan A k) (S : Sides) (acc : Accepted A S.muts_there) (o : IsTextOf S A k) (whole : (x : ℕ) → ¬ (PartlyMoved A k x)) (passed : (x : ℕ) → ¬ (NotMut A S.muts_there k x)) (new : Parted S.frame) where
   old : Parted S.frame_there
   old = subst (λ (F : Frame). Parted F) (sym o.types) (parted A.frame acc.sized)
 
@@ -61,18 +62,18 @@ module _ (A : Asked) (k : Plan) (plan : IsPlan A k) (S : Sides) (acc : Accepted 
       there = subst (λ (f : Function). IsWalk f (w ++ u)) o.text (reach u out walk)
 
       all_set : (y : ℕ) → Among y k.params → AllSet S.frame_there w (own y)
-      all_set y i = subst (λ (F : Frame). AllSet F w (own y)) (sym o.types) (param_set A S.muts_there acc k plan whole e exits w u there g y i)
+      all_set y i = subst (λ (F : Frame). AllSet F w (own y)) (sym o.types) (param_set A S.muts_there acc k plan whole passed e exits w u there g y i)
 
-      not_live : e ≢ returns → (y : ℕ) → In y (special_of A k) → (Among y (k.outs e) → ⊥) → NotLive S (w ++ u) y
-      not_live n y s f ws c = not_needed A S.muts_there acc k plan whole e exits w u there g n y s f ws (subst (λ (f : Function). IsWalk f ((w ++ u) ++ ws)) o.text c)
+      not_live : e ≢ returns → (y : ℕ) → In y (special_of A S.muts_there k) → (Among y (k.outs e) → ⊥) → NotLive S (w ++ u) y
+      not_live n y s f ws c = not_needed A S.muts_there acc k plan whole passed e exits w u there g n y s f ws (subst (λ (f : Function). IsWalk f ((w ++ u) ++ ws)) o.text c)
 
       fate : e ≢ returns → (us : List Action) (x y : ℕ) → Becomes S A k e R us x y → Fate S R w us u x y
       fate m us x y (is_unnamed i n f) = untouched i f (λ a j. g.named a j y n)
-      fate m us x y (is_lent i p f) = lent i f (all_set y p) (param_stands A S.muts_there acc k plan whole e exits w u there g y p) (param_ahead A S.muts_there acc k plan whole e exits w u there g y p)
-          (param_was A S.muts_there acc k plan whole e exits w u there g y p)
-      fate m us x y (is_handed i b c n t ss q f) = handed_out b c n t ss q f (out_was A S.muts_there acc k plan whole e exits w u there g y i)
+      fate m us x y (is_lent i p f) = lent i f (all_set y p) (param_stands A S.muts_there acc k plan whole passed e exits w u there g y p) (param_ahead A S.muts_there acc k plan whole passed e exits w u there g y p)
+          (param_was A S.muts_there acc k plan whole passed e exits w u there g y p)
+      fate m us x y (is_handed i b c n t ss q f) = handed_out b c n t ss q f (out_was A S.muts_there acc k plan whole passed e exits w u there g y i)
       fate m us x y (is_gone i s d n f) = needless i (not_live m y s n) f (λ a j. g.declared a j y d)
-      fate m us x y (is_spent i d n f) = needless i (λ ws c. not_live_there A S.muts_there acc k plan whole e exits w u there g y n ws (subst (λ (f : Function). IsWalk f ((w ++ u) ++ ws)) o.text c)) f (λ a j. g.declared a j y d)
+      fate m us x y (is_spent i d n f) = needless i (λ ws c. not_live_there A S.muts_there acc k plan whole passed e exits w u there g y n ws (subst (λ (f : Function). IsWalk f ((w ++ u) ++ ws)) o.text c)) f (λ a j. g.declared a j y d)
       fate m us x y (is_again s n b c l q f) = begins_again (not_live m y s n) b c l q f
 
       pub fates : e ≢ returns → (T : KnownVariables S) (us : List Action) → ((x y : ℕ) → Among (as_itself x y) T.variables → Becomes S A k e R us x y) → ((x : ℕ) → Among (by_reference x) T.variables → ⊥)
@@ -92,7 +93,7 @@ module _ (A : Asked) (k : Plan) (plan : IsPlan A k) (S : Sides) (acc : Accepted 
             right (a ∷ l) = ap (λ v. a ∷ v) (right l)
 
             ahead_there : ahead (living (variable y)) u ≡ true
-            ahead_there = subst (λ v. ahead (living (variable y)) v ≡ true) (right u) (param_ahead A S.muts_there acc k plan whole e exits w u there g y l [])
+            ahead_there = subst (λ v. ahead (living (variable y)) v ≡ true) (right u) (param_ahead A S.muts_there acc k plan whole passed e exits w u there g y l [])
 
             of : ((m : ℕ) × LikePart S x y n m) → is_set S.frame us n ≡ true
             of (m, d) = holds_here (IsWalk S.text) (set_view S n y m) (whole_gives S new old R (part_set x y n m j p d)) (H (set_view S n y m) (part_set x y n m j p d)) u
@@ -101,8 +102,8 @@ module _ (A : Asked) (k : Plan) (plan : IsPlan A k) (S : Sides) (acc : Accepted 
         -- a variable for a local that is handed out was not assigned here
         local_here : (x y : ℕ) → Among (as_itself x y) R.variables → Among y k.locals → Among y (k.outs e) → IsFixed S.muts x → was_assigned us x ≡ false
         local_here x y j l h f = not_true_is (was_assigned us x) (sym (all_turned x us false) ∙ holds_here (IsWalk S.text) (fresh_view x y) (λ a q. no q) (H (fresh_view x y) (not_assigned x y j)) (shown enters ∷ [])
-            (subst (λ (f : Function). IsWalk f (w ++ shown enters ∷ [])) (sym o.text) (entry A S.muts_there acc k plan whole e exits w u there g)) refl
-            (all_turned y w false ∙ ap not (local_not A S.muts_there acc k plan whole e exits w u there g y l h ((R.alike x y j).fixed f))))
+            (subst (λ (f : Function). IsWalk f (w ++ shown enters ∷ [])) (sym o.text) (entry A S.muts_there acc k plan whole passed e exits w u there g)) refl
+            (all_turned y w false ∙ ap not (local_not A S.muts_there acc k plan whole passed e exits w u there g y l h ((R.alike x y j).fixed f))))
 
         pub orderly : (vs : List Action) → IsWay S k e R vs → Good (world S) us vs
         orderly vs h = subst (λ l. Good (world S) us l) (sym h.is) (good_both (world S) us h.arguments h.received

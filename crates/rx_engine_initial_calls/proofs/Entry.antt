@@ -29,6 +29,7 @@ use Rattle.rx_engine_initial.proofs.Unset.{set_stands}
 use Rattle.rx_engine_initial.proofs.Planned.{set_assigned, all_set_at, text_initialised, param_assigned, local_unset, out_set, not_live}
 use Rattle.rx_engine_initial_calls.specs.GoneThrough.{all_read, IsGoneThrough}
 use Rattle.rx_engine_initial_calls.proofs.TextPlaces.{lent_stands}
+use Rattle.rx_modes_uses.specs.NotMut.{NotMut}
 
 -- ---- lists
 
@@ -125,7 +126,7 @@ among_front a b _ vs (there i) = there (among_front a b _ vs i)
 
 -- ---- what the plan says of the walk
 
-module _ (A : Asked) (muts : List Bool) (acc : Accepted A muts) (k : Plan) (plan : IsPlan A k) (whole : (x : ℕ) → ¬ (PartlyMoved A k x)) (e : Exit) (exits : Among e k.exits)
+module _ (A : Asked) (muts : List Bool) (acc : Accepted A muts) (k : Plan) (plan : IsPlan A k) (whole : (x : ℕ) → ¬ (PartlyMoved A k x)) (passed : (x : ℕ) → ¬ (NotMut A muts k x)) (e : Exit) (exits : Among e k.exits)
     (w u : List Action) (c : IsWalk (text_of A k) (w ++ u)) (g : IsGoneThrough A k e u) where
   front : IsWalk (text_of A k) w
   front = walk_front (text_of A k) w u c
@@ -169,8 +170,8 @@ module _ (A : Asked) (muts : List Bool) (acc : Accepted A muts) (k : Plan) (plan
       ∙ stays_assigned y g.ends (was_assigned (w ++ g.inner) y) (λ a j. ends_begin y a.act (g.ended a j))
       (set_assigned A.frame (parted A.frame acc.sized) muts (text_of A k) (text_initialised A muts acc k plan) y (acc.named y (out_named y o)) (w ++ g.inner) inner (out_there y o)))
 
-  pub not_needed : e ≢ returns → (y : ℕ) → In y (special_of A k) → (Among y (k.outs e) → ⊥) → (ws : List Action) → IsWalk (text_of A k) ((w ++ u) ++ ws) → ahead (living (variable y)) ws ≡ false
-  not_needed n y s f ws d = sym (ends_ahead y g.ends ws g.ended) ∙ not_live A muts acc k plan e y exits n s f (w ++ g.inner) (g.ends ++ ws) (to_mark ws d)
+  pub not_needed : e ≢ returns → (y : ℕ) → In y (special_of A muts k) → (Among y (k.outs e) → ⊥) → (ws : List Action) → IsWalk (text_of A k) ((w ++ u) ++ ws) → ahead (living (variable y)) ws ≡ false
+  not_needed n y s f ws d = sym (ends_ahead y g.ends ws g.ended) ∙ not_live A muts acc k plan passed e y exits n s f (w ++ g.inner) (g.ends ++ ws) (to_mark ws d)
 
   pub not_live_there : (y : ℕ) → ¬ (IsLiveAt A k.params e y) → (ws : List Action) → IsWalk (text_of A k) ((w ++ u) ++ ws) → ahead (living (variable y)) ws ≡ false
   not_live_there y f ws d = sym (ends_ahead y g.ends ws g.ended) ∙ by (ahead (living (variable y)) (g.ends ++ ws)) refl

@@ -23,11 +23,11 @@ pub data Becomes (S : Sides) (A : Asked) (k : Plan) (e : Exit) (R : KnownVariabl
   -- the exit hands it out: it is written, and not touched behind that
   is_handed : Among y (k.outs e) → (before behind : List Action) (n : ℕ) (t : Temporary) (ss : List Step) → us ≡ before ++ does n (Write (own x) t ss) ∷ behind
       → AllLeave behind x → Becomes S A k e R us x y
-  -- a param that moves, or a local, which is not handed out
-  is_gone : Among (as_itself x y) R.variables → In y (special_of A k) → Among y (foreign_of A) → (Among y (k.outs e) → ⊥)
+  -- a param that is given away, or a local, which is not handed out
+  is_gone : Among (as_itself x y) R.variables → In y (special_of A S.muts_there k) → Among y (foreign_of A) → (Among y (k.outs e) → ⊥)
       → ((a : Action) → Among a us → (assigns x a.act ≡ false) × (begins x a.act ≡ false)) → Becomes S A k e R us x y
   -- what is passed by value moves, and no walk needs it on from the exit
   is_spent : Among (as_itself x y) R.variables → Among y (foreign_of A) → ¬ (IsLiveAt A k.params e y) → ((a : Action) → Among a us → (assigns x a.act ≡ false) × (begins x a.act ≡ false)) → Becomes S A k e R us x y
   -- the run declares it, and so does the caller again
-  is_again : In y (special_of A k) → (Among y (k.outs e) → ⊥) → (before behind : List Action) (n : ℕ) → us ≡ before ++ does n (Declare x) ∷ behind
+  is_again : In y (special_of A S.muts_there k) → (Among y (k.outs e) → ⊥) → (before behind : List Action) (n : ℕ) → us ≡ before ++ does n (Declare x) ∷ behind
       → AllLeave behind x → Becomes S A k e R us x y

@@ -21,6 +21,7 @@ ghost use Rattle.rx_exits_plan.specs.Marked.{shown, ended_tail, marked_body};
 ghost use Rattle.rx_exits_plan.specs.Asked.{Asked};
 ghost use Rattle.rx_exits_plan.specs.Plan.{Plan, IsPlan, variables_of};
 ghost use Rattle.rx_exits_plan.specs.PartlyMoved.{PartlyMoved};
+ghost use Rattle.rx_modes_uses.specs.NotMut.{NotMut};
 ghost use Rattle.rx_engine_related.specs.AboutRun.{text_of};
 ghost use Rattle.rx_engine_related.specs.OneSite.{blocks_at};
 ghost use Rattle.rx_engine_related.specs.OnePlace.{LeadsToOnePlace};
@@ -55,7 +56,7 @@ pub fn runs_are_pieces()
 /// behind has its fate by the plan, and what the caller does is in order.
 pub fn calls_of_plans_match()
     ensures { (A : Asked) (k : Plan) → IsPlan A k → (S : Sides) → Sized S.frame.declared S.frame.sizes → Accepted A S.muts_there → IsTextOf S A k
-        → ((x : ℕ) → ¬ (PartlyMoved A k x)) → Among next k.exits → (R T : KnownVariables S) (H K : ListOf Piece) (q r : Order) → IsCallOf S A k R T H
+        → ((x : ℕ) → ¬ (PartlyMoved A k x)) → ((x : ℕ) → ¬ (NotMut A S.muts_there k x)) → Among next k.exits → (R T : KnownVariables S) (H K : ListOf Piece) (q r : Order) → IsCallOf S A k R T H
         → (u : ListOf Action) → Runs K u → IsGoneThrough A k next u → ((us : ListOf Action) → Walk q us fails → ⊥)
         → Matches (world S) T q r → Matches (world S) R (fill H q) (fill K r) }
 {}
@@ -64,7 +65,7 @@ pub fn calls_of_plans_match()
 /// returns as the run does there.
 pub fn matched_calls_match()
     ensures { (A : Asked) (k : Plan) → IsPlan A k → (S : Sides) → Sized S.frame.declared S.frame.sizes → Accepted A S.muts_there → IsTextOf S A k
-        → ((x : ℕ) → ¬ (PartlyMoved A k x)) → (R T : KnownVariables S) (H K : ListOf Piece) (q r : Order) → IsMatchOf S A k R T H (fill K r) → HasWays A k K (fill K r)
+        → ((x : ℕ) → ¬ (PartlyMoved A k x)) → ((x : ℕ) → ¬ (NotMut A S.muts_there k x)) → (R T : KnownVariables S) (H K : ListOf Piece) (q r : Order) → IsMatchOf S A k R T H (fill K r) → HasWays A k K (fill K r)
         → ((us : ListOf Action) → Walk q us fails → ⊥) → Matches (world S) T q r → Matches (world S) R (fill H q) (fill K r) }
 {}
 

@@ -82,7 +82,7 @@ module _ (D : Declarations) (P : ℕ → ℕ) (g : TypedFn) (E : Declarations) (
   reads_there : ReadsByType (frame_of D P g) (order_function A.function)
   reads_there = subst (λ (h : Function). ReadsByType (frame_of D P g) (order_function h)) (sym asked.function) there
 
-  pub caller_in_program : (items : ℕ → ℕ) (O : Openings) (gain : Allowance) (special : List ℕ) (l : RelatedFunction items (in_its_block A k items O gain) gain special A.function (plain-TypedTree f.tree))
+  pub caller_in_program : (items : ℕ → ℕ) (O : Openings) (gain : Allowance) (special : List ℕ) (l : RelatedFunction items (in_its_block A S.muts_there k items O gain) gain special A.function (plain-TypedTree f.tree))
       → SamePairs r S (variables_of_params A.function.params) (variables_of_params (plain-TypedTree f.tree).params) → ExpOfTypes r S (in_caller S A k) l.body → IsInitialised E Q f
   caller_in_program items O gain special l same so =
       caller_of_types_initialised r S alike A k sized sized_there text initialised items O gain special (plain-TypedTree f.tree) l same so reads_there here
@@ -90,7 +90,7 @@ module _ (D : Declarations) (P : ℕ → ℕ) (g : TypedFn) (E : Declarations) (
   pub new_in_program : IsItself (Some (Some A.function)) → ((q : At) → Unreachable A q → ⊥)
       → {again : Bool} {modes : List Mode} {R Ra Rb : Renaming} {es : Operands} {ps : List Parameter} {ls : List (ℕ × ℕ)} → EntersWith again k modes R es ps ls Ra → ((x : ℕ) (e : Sight) → sight_of Ra x ≡ Some e → IsDirect e.how → SameVariable r S x e.to)
       → {items : ℕ → ℕ} {gain : Allowance} {U : List ℕ} {J : Jumping} {q q' : Stretch} {l : Last} → stretch_of (map (changed_statement (passing A.home.around.loops)) (inside A.run A.home.body)) ≡ with_left q l
-      → (m : Moved items gain U (special_of A k) J Ra q q' Rb) → StretchOfTypes r S m → LeavesBy k J → J.loops ≡ [] → {w : Way} {end : Body} (d : Ended items gain U (special_of A k) J Rb l w (k.outs next) end) → EndOfTypes r S d
+      → (m : Moved items gain U (special_of A S.muts_there k) J Ra q q' Rb) → StretchOfTypes r S m → LeavesBy k J → J.loops ≡ [] → {w : Way} {end : Body} (d : Ended items gain U (special_of A S.muts_there k) J Rb l w (k.outs next) end) → EndOfTypes r S d
       → (w ≢ no_way → Among next k.exits) → (w ≡ no_way → NeverEnds l q) → (mb : Mark) → (plain-TypedTree f.tree).params ≡ ps → (plain-TypedTree f.tree).body ≡ body_of mb ls q' end → IsInitialised E Q f
   new_in_program self reached given same all m so v none d es nexts never mb params body =
       new_function_of_types_initialised r S alike A k had self reached sized sized_there text initialised given same all m so v none d es nexts never (plain-TypedTree f.tree) mb params body reads_there here
@@ -116,7 +116,7 @@ module _ (D : Declarations) (P : ℕ → ℕ) (g : TypedFn) (E : Declarations) (
 
   -- so the function with the call, where the relation opens at the run's block
   pub extracted_in_program : IsItself (Some (Some A.function)) → ((q : At) → Unreachable A q → ⊥) → ((x : ℕ) → ¬ (MixedInit A x)) → (choice : Uses → Mode) → ((u : Uses) → HasMember (allowed_by u) → IsMember (choice u) (allowed_by u)) → (modes : List Mode) → IsModes A g.mutable k choice modes
-      → {items : ℕ → ℕ} {gain : Allowance} {U : List ℕ} {new : New} {special : List ℕ} (l : RelatedFunction items (in_its_block A k items (the_call A g.mutable k modes items gain U new) gain) gain special A.function (plain-TypedTree f.tree))
+      → {items : ℕ → ℕ} {gain : Allowance} {U : List ℕ} {new : New} {special : List ℕ} (l : RelatedFunction items (in_its_block A S.muts_there k items (the_call A g.mutable k modes items gain U new) gain) gain special A.function (plain-TypedTree f.tree))
       → SamePairs r S (variables_of_params A.function.params) (variables_of_params (plain-TypedTree f.tree).params) → ExpOfTypes r S (in_caller_with S A k (block_of_types r S A k {modes = modes} {items = items} {gain = gain} {U = U} {N = new})) l.body
       → HasNoMark (order_function (plain-TypedTree f.tree)) → IsInitialised E Q f
   extracted_in_program self reached sure choice policy modes passed {special = special} l same so bare =

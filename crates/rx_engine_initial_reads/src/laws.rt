@@ -79,7 +79,7 @@ pub fn callers_in_typed_programs_are_initialised()
     ensures { (t u : Typed) (P Q : ℕ → ℕ) (g f : TypedFn) → IsOfTyped t P g → IsOfTyped u Q f → (A : Asked) (k : Plan) → IsAskedOf (declarations t.decls.items) P g A → Had A g.mutable k
         → (r : Renumbering) → DeclaresAlike r (frame_of (declarations t.decls.items) P g) (frame_of (declarations u.decls.items) Q f)
         → (modes : ListOf Mode) (items : ℕ → ℕ) (gain : Allowance) (U : ListOf ℕ) (new : New) (special : ListOf ℕ)
-        (l : RelatedFunction items (in_its_block A k items (the_call A g.mutable k modes items gain U new) gain) gain special A.function (plain-TypedTree f.tree))
+        (l : RelatedFunction items (in_its_block A g.mutable k items (the_call A g.mutable k modes items gain U new) gain) gain special A.function (plain-TypedTree f.tree))
         → SamePairs r (sides (declarations t.decls.items) P g (declarations u.decls.items) Q f A k) (variables_of_params A.function.params) (variables_of_params (plain-TypedTree f.tree).params)
         → ExpOfTypes r (sides (declarations t.decls.items) P g (declarations u.decls.items) Q f A k) (in_caller (sides (declarations t.decls.items) P g (declarations u.decls.items) Q f A k) A k) l.body
         → IsInitialised (declarations u.decls.items) Q f }
@@ -96,8 +96,8 @@ pub fn new_functions_in_typed_programs_are_initialised()
         → (again : Bool) (modes : ListOf Mode) (R Ra Rb : Renaming) (es : Operands) (ps : ListOf Parameter) (ls : ListOf (ℕ × ℕ)) → EntersWith again k modes R es ps ls Ra
         → ((x : ℕ) (e : Sight) → sight_of Ra x ≡ Some e → IsDirect e.how → SameVariable r (sides (declarations t.decls.items) P g (declarations u.decls.items) Q f A k) x e.to)
         → (items : ℕ → ℕ) (gain : Allowance) (U : ListOf ℕ) (J : Jumping) (s q : Stretch) (l : Last) → stretch_of (map (changed_statement (passing A.home.around.loops)) (inside A.run A.home.body)) ≡ with_left s l
-        → (m : Moved items gain U (special_of A k) J Ra s q Rb) → StretchOfTypes r (sides (declarations t.decls.items) P g (declarations u.decls.items) Q f A k) m → LeavesBy k J → J.loops ≡ []
-        → (w : Way) (end : Body) (d : Ended items gain U (special_of A k) J Rb l w (k.outs next) end) → EndOfTypes r (sides (declarations t.decls.items) P g (declarations u.decls.items) Q f A k) d
+        → (m : Moved items gain U (special_of A g.mutable k) J Ra s q Rb) → StretchOfTypes r (sides (declarations t.decls.items) P g (declarations u.decls.items) Q f A k) m → LeavesBy k J → J.loops ≡ []
+        → (w : Way) (end : Body) (d : Ended items gain U (special_of A g.mutable k) J Rb l w (k.outs next) end) → EndOfTypes r (sides (declarations t.decls.items) P g (declarations u.decls.items) Q f A k) d
         → (w ≢ no_way → Among next k.exits) → (w ≡ no_way → NeverEnds l s) → (b : Mark) → (plain-TypedTree f.tree).params ≡ ps → (plain-TypedTree f.tree).body ≡ body_of b ls q end
         → IsInitialised (declarations u.decls.items) Q f }
 {
@@ -144,7 +144,7 @@ pub fn extracted_callers_in_typed_programs_are_initialised()
         → (r : Renumbering) → DeclaresAlike r (frame_of (declarations t.decls.items) P g) (frame_of (declarations u.decls.items) Q f) → IsItself (Some (Some A.function)) → ((q : At) → ¬ (Unreachable A q)) → ((x : ℕ) → ¬ (MixedInit A x))
         → (choice : Uses → Mode) → ((v : Uses) → HasMember (allowed_by v) → IsMember (choice v) (allowed_by v)) → (modes : ListOf Mode) → IsModes A g.mutable k choice modes
         → (items : ℕ → ℕ) (gain : Allowance) (U : ListOf ℕ) (new : New) (special : ListOf ℕ)
-        (l : RelatedFunction items (in_its_block A k items (the_call A g.mutable k modes items gain U new) gain) gain special A.function (plain-TypedTree f.tree))
+        (l : RelatedFunction items (in_its_block A g.mutable k items (the_call A g.mutable k modes items gain U new) gain) gain special A.function (plain-TypedTree f.tree))
         → SamePairs r (sides (declarations t.decls.items) P g (declarations u.decls.items) Q f A k) (variables_of_params A.function.params) (variables_of_params (plain-TypedTree f.tree).params)
         → ExpOfTypes r (sides (declarations t.decls.items) P g (declarations u.decls.items) Q f A k) (in_caller_with (sides (declarations t.decls.items) P g (declarations u.decls.items) Q f A k) A k
         (block_of_types r (sides (declarations t.decls.items) P g (declarations u.decls.items) Q f A k) A k {modes = modes} {items = items} {gain = gain} {U = U} {N = new})) l.body

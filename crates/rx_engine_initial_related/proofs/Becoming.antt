@@ -15,7 +15,7 @@ use Rattle.rx_engine_simulation.specs.Arrivals.{Within}
 use Rattle.rx_engine_related.specs.AboutRun.{special_of}
 use Rattle.rx_engine_related.specs.Premises.{NotHanded}
 use Rattle.rx_engine_related.specs.Given.{GivenTo, LocalsOf}
-use Rattle.rx_engine_related.proofs.Choosing.{chosen_is, to_those, out_is, special_is, elsewhere_offered, offered_named}
+use Rattle.rx_engine_related.proofs.Choosing.{chosen_is, to_those, out_is, special_is, elsewhere_named, offered_named}
 use Rattle.rx_engine_initial.specs.Variables.{Sides, KnownVariables}
 use Rattle.rx_engine_initial.specs.Fates.{AllLeave}
 use Rattle.rx_engine_initial.proofs.Tracing.{joined}
@@ -55,7 +55,7 @@ module _ (S : Sides) (A : Asked) (k : Plan) (plan : IsPlan A k) (R : Renaming) (
     abbrev pub in_front : List Action → List Action
     in_front more = args.actions ++ (call ∷ more)
 
-    module _ (e : Exit) (exits : Among e k.exits) (agains : List ℕ) (again_special : (x : ℕ) → Among x agains → In x (special_of A k) × (Among x (k.outs e) → ⊥)) (Rs : Renaming) (within : Within Rs R) (not_handed : NotHanded A k e Rs)
+    module _ (e : Exit) (exits : Among e k.exits) (agains : List ℕ) (again_special : (x : ℕ) → Among x agains → In x (special_of A S.muts_there k) × (Among x (k.outs e) → ⊥)) (Rs : Renaming) (within : Within Rs R) (not_handed : NotHanded A S.muts_there k e Rs)
         (more behind : List Action) (left : (x : ℕ) (s : Sight) → sight_of R x ≡ Some s → AllLeave more s.to) where
       call_quiet : (y : ℕ) → AllLeave more y → (a : Action) → Among a (call ∷ more) → (assigns y a.act ≡ false) × (begins y a.act ≡ false)
       call_quiet y l _ here = (refl, refl)
@@ -75,7 +75,7 @@ module _ (S : Sides) (A : Asked) (k : Plan) (plan : IsPlan A k) (R : Renaming) (
       special_gone : (x : ℕ) (s : Sight) → sight_of R x ≡ Some s → sight_of Rs x ≡ Some (sight s.to special) → AllLeave behind s.to → Becomes S A k e K (in_front more ++ behind) s.to x
       special_gone x s p q l =
           let z = not_handed x s.to q in
-          is_gone (seen S R K g all x s p) z.0 (foreign x s p (offered_named A k plan x (elsewhere_offered A k plan x (special_is A k plan x z.0)))) z.1
+          is_gone (seen S R K g all x s p) z.0 (foreign x s p (elsewhere_named A S.muts_there k plan x (special_is A S.muts_there k plan x z.0))) z.1
           (λ a j. all_quiet s.to (left x s p) l a j)
 
       plain_stays : (x : ℕ) (s : Sight) (w : Hold) → sight_of R x ≡ Some s → sight_of R x ≡ Some (sight s.to (plain w)) → AllLeave behind s.to → Becomes S A k e K (in_front more ++ behind) s.to x

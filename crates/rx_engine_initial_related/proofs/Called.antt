@@ -98,7 +98,7 @@ module _ (S : Sides) (A : Asked) (k : Plan) (plan : IsPlan A k) (R : Renaming) (
 
 module _ (S : Sides) (A : Asked) (k : Plan) (plan : IsPlan A k) (nexts : Among next k.exits) (R : Renaming) (K : KnownVariables S) (g : Agrees S R K) (all : AllSlots R) (Rn : Renaming) (asked : CallerAsked S A k R Rn)
     {again : Bool} {cold : List ℕ} {modes : List Mode} (es : Operands) {ps : List Parameter} {Rp : Renaming} (to : GivenTo again R cold [] k.params modes es ps Rp) (so : GivenSo A k to)
-    {ls : List (ℕ × ℕ)} {Rl : Renaming} (locals : LocalsOf R Rp k.locals ls Rl) (Rs Rr Rd Rb : Renaming) (h f : Body → Body) (mc : Mark) (i : ℕ) (within : Within Rs R) (not_handed : NotHanded A k next Rs)
+    {ls : List (ℕ × ℕ)} {Rl : Renaming} (locals : LocalsOf R Rp k.locals ls Rl) (Rs Rr Rd Rb : Renaming) (h f : Body → Body) (mc : Mark) (i : ℕ) (within : Within Rs R) (not_handed : NotHanded A S.muts_there k next Rs)
     (hb : HandsBack A S.muts_there k R (tree.call mc i es) Rs (k.outs next) Rr h) (rd : Redeclared Rb Rr k.redeclared f Rd) (fewer : Within Rn Rd) (wider : Within R Rn) where
   abbrev handing : Hands S A k k.redeclared R K g all (may S A k plan R K g all Rn asked next nexts) (tree.call mc i es) Rs Rr h
   handing = hand S A k plan R K g all Rn asked (may S A k plan R K g all Rn asked next nexts) Rs Rr Rd Rb h f (tree.call mc i es) within hb rd fewer wider
@@ -139,7 +139,7 @@ module _ (S : Sides) (A : Asked) (k : Plan) (plan : IsPlan A k) (nexts : Among n
   becomes y x j =
       let z = what_is_in_scope S Rn K.loops asked.slots one_for_each asked.types x y j in
       subst (λ v. Becomes S A k next K (here_in_front ++ here_behind) v x) z.2
-      (becomes_so S A k plan R K g all Rn asked es to so locals mc i next nexts k.redeclared (λ w o. (again_special A k w o, again_not_out A k plan w o)) Rs within not_handed [] here_behind (λ w s q. none_left s.to) x z.0
+      (becomes_so S A k plan R K g all Rn asked es to so locals mc i next nexts k.redeclared (λ w o. (again_special A S.muts_there k w o, again_not_out A k plan w o)) Rs within not_handed [] here_behind (λ w s q. none_left s.to) x z.0
       (comes S A k plan R K g all Rn asked (may S A k plan R K g all Rn asked next nexts) Rs Rr Rd Rb h f (tree.call mc i es) within hb rd fewer wider x z.0 (fewer x z.0 z.1)))
 
   pub standing : (T : KnownVariables S) × Agrees S Rn T × (T.loops ≡ K.loops) × ((n : ℕ) → (H : List Piece) × ((b : Body) (d : Temporary) → order_body (h (f b)) n d ≡ fill H (order_body b n d)) × IsCallOf S A k K T H)

@@ -64,7 +64,7 @@ module _ (S : Sides) (A : Asked) (k : Plan) where
 
   module _ {items : ℕ → ℕ} {O : Openings} {gain : Allowance} {V : Facts} where
     mutual
-      pub caller : {i : ℕ} {J : Jumping} {N : Renaming} {e e' : Exp} (l : LikeExp items (in_its_block A k items O gain) gain V i J N e e') → ExpCalls S A k l → (R : KnownVariables S) → Agrees S N R → AgreesOnLoops S J R → AlikeExp S R e' (changed C e)
+      pub caller : {i : ℕ} {J : Jumping} {N : Renaming} {e e' : Exp} (l : LikeExp items (in_its_block A S.muts_there k items O gain) gain V i J N e e') → ExpCalls S A k l → (R : KnownVariables S) → Agrees S N R → AgreesOnLoops S J R → AlikeExp S R e' (changed C e)
       caller (opens a i h (run_block {m = m} {m' = m'} {b = b} {b' = b'} q t) l) s R g j = subst (λ c. AlikeExp S R (tree.block m' b') (tree.block m c)) (run_body (m.node == A.run.block) b q) (s R g j)
       caller {N = N} (reads {v = f} {v' = z} l) s R g j = alike.reads (λ d t. read_copy S N R g l f z s d t)
       caller {N = N} (borrows {b = b} l) s R g j = alike.borrows (λ d t. borrow_copy S N R g l b b d t)
@@ -87,22 +87,22 @@ module _ (S : Sides) (A : Asked) (k : Plan) where
       caller (stays {l = n} {l' = m} {again = b} h) s R g j = alike.jumps b (j.known n m h)
       caller (gives h l) s R g j = alike.gives (caller l s R g j)
 
-      caller_all : {i : ℕ} {J : Jumping} {N : Renaming} {es es' : Operands} (l : LikeAll items (in_its_block A k items O gain) gain V i J N es es') → AllCall S A k l → (R : KnownVariables S) → Agrees S N R → AgreesOnLoops S J R → AlikeAll S R es' (changed_all C es)
+      caller_all : {i : ℕ} {J : Jumping} {N : Renaming} {es es' : Operands} (l : LikeAll items (in_its_block A S.muts_there k items O gain) gain V i J N es es') → AllCall S A k l → (R : KnownVariables S) → Agrees S N R → AgreesOnLoops S J R → AlikeAll S R es' (changed_all C es)
       caller_all no_operands s R g j = alike.no_operands
       caller_all (operands_and i n h a l) s R g j = alike.operands_and (caller a s.0 R g j) (caller_all l s.1 R g j)
 
-      caller_matched : {i : ℕ} {J : Jumping} {N : Renaming} {c c' : Scrutinee} (l : LikeMatched items (in_its_block A k items O gain) gain V i J N c c') → MatchedCalls S A k l → (R : KnownVariables S) → Agrees S N R → AgreesOnLoops S J R → AlikeMatched S R c' (changed_matched C c)
+      caller_matched : {i : ℕ} {J : Jumping} {N : Renaming} {c c' : Scrutinee} (l : LikeMatched items (in_its_block A S.muts_there k items O gain) gain V i J N c c') → MatchedCalls S A k l → (R : KnownVariables S) → Agrees S N R → AgreesOnLoops S J R → AlikeMatched S R c' (changed_matched C c)
       caller_matched at_places s R g j = alike.at_places
       caller_matched (of_values l) s R g j = alike.of_values (caller l s R g j)
 
-      caller_arms : {i : ℕ} {J : Jumping} {N : Renaming} {c c' : Scrutinee} {l l' : Arms} (a : LikeArms items (in_its_block A k items O gain) gain V i J N c c' l l') → ArmsCall S A k a → {X : Subject} → subject c ≡ X → (R : KnownVariables S) → Agrees S N R → AgreesOnLoops S J R
+      caller_arms : {i : ℕ} {J : Jumping} {N : Renaming} {c c' : Scrutinee} {l l' : Arms} (a : LikeArms items (in_its_block A S.muts_there k items O gain) gain V i J N c c' l l') → ArmsCall S A k a → {X : Subject} → subject c ≡ X → (R : KnownVariables S) → Agrees S N R → AgreesOnLoops S J R
           → AlikeArms S (subject c') X R l' (changed_arms C l)
       caller_arms no_arms s q R g j = alike.no_arms
       caller_arms {J = J} {c' = c'} (arms_and {q = p} {q' = p'} M t b e l) s q R g j = let z = bindings_alike S V b s.0 R g in
           alike.arms_and (subst (λ X. AlikeTests R.variables (subject c') X (tests [] p') (tests [] p)) q (tests_alike S V t R g)) (subst (λ X. AlikeBindings S (subject c') X R (bindings [] p') (bindings [] p) z.0) q z.1)
           (caller e s.1 z.0 z.2 (same_loops S J R z.0 (bound_loops S z.1) j)) (caller_arms l s.2 q R g j)
 
-      caller_body : {i : ℕ} {J : Jumping} {N : Renaming} {b b' : Body} (l : LikeBody items (in_its_block A k items O gain) gain V i J N b b') → BodyCalls S A k l → (R : KnownVariables S) → Agrees S N R → AgreesOnLoops S J R → AlikeBody S R b' (changed_body C b)
+      caller_body : {i : ℕ} {J : Jumping} {N : Renaming} {b b' : Body} (l : LikeBody items (in_its_block A S.muts_there k items O gain) gain V i J N b b') → BodyCalls S A k l → (R : KnownVariables S) → Agrees S N R → AgreesOnLoops S J R → AlikeBody S R b' (changed_body C b)
       caller_body (opens_in a i h o l) s R g j = absurd o
       caller_body (ends_in l) s R g j = alike.ends_in (caller l s R g j)
       caller_body (runs_on i n h a l) s R g j = alike.runs_on (caller a s.0 R g j) (caller_body l s.1 R g j)

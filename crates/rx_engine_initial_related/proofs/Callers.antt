@@ -29,7 +29,7 @@ param_loops no_param = refl
 param_loops (param_and o d) = param_loops d ∙ o.loops
 
 pub caller_initialised : (S : Sides) (A : Asked) (k : Plan) → Sized S.frame.declared S.frame.sizes → Sized S.frame_there.declared S.frame_there.sizes → IsTextOf S A k → Initialised S.frame_there S.muts_there S.text
-    → (items : ℕ → ℕ) (O : Openings) (gain : Allowance) (special : List ℕ) (f : Function) (r : RelatedFunction items (in_its_block A k items O gain) gain special A.function f)
+    → (items : ℕ → ℕ) (O : Openings) (gain : Allowance) (special : List ℕ) (f : Function) (r : RelatedFunction items (in_its_block A S.muts_there k items O gain) gain special A.function f)
     → AllLike S (variables_of_params A.function.params) (variables_of_params f.params) → ExpCalls S A k r.body → Initialised S.frame S.muts f
 caller_initialised S A k sized sized_there text initialised items O gain special f r types s =
     let z = params_alike S (by_form special) r.params types (nothing_known S) (nothing_agrees S (nothing_known S) refl) in

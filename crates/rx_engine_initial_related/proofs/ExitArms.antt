@@ -81,7 +81,7 @@ module _ (S : Sides) (A : Asked) (k : Plan) (plan : IsPlan A k) (R : Renaming) (
     (J : Jumping) (loops : AgreesOnLoops S J K) where
   pub data ArmDoes : Exit → List Action → Out → Type 0 where
     goes_on : {l : List Action} → LeavesAll R l → ((rest : List Action) → ((hs : List ℕ) → Receives S k next K hs [] rest) → Receives S k next K [] [] (l ++ rest)) → ArmDoes next l on
-    jumps_on : {l : List Action} (n d m : ℕ) (again : Bool) → Among (jump_exit n again) k.exits → Among (d, n) K.loops → Receives S k (jump_exit n again) K [] [] l → (Rs : Renaming) → Within Rs R → NotHanded A k (jump_exit n again) Rs
+    jumps_on : {l : List Action} (n d m : ℕ) (again : Bool) → Among (jump_exit n again) k.exits → Among (d, n) K.loops → Receives S k (jump_exit n again) K [] [] l → (Rs : Renaming) → Within Rs R → NotHanded A S.muts_there k (jump_exit n again) Rs
         → ((x : ℕ) (s : Sight) → sight_of R x ≡ Some s → Came k (jump_exit n again) [] Rs l x s) → ArmDoes (jump_exit n again) l (leaves (orders.exit m d again))
     returns_on : {l : List Action} (m : ℕ) → Receives S k returns K [] [] l → ArmDoes returns l (leaves (orders.returns m))
 
@@ -132,7 +132,7 @@ module _ (S : Sides) (A : Asked) (k : Plan) (plan : IsPlan A k) (R : Renaming) (
       abbrev jump_acts : List Action
       jump_acts = parts.actions ++ (back.actions ++ jump_ends)
 
-      not_handed : NotHanded A k (jump_exit n again) Rs
+      not_handed : NotHanded A S.muts_there k (jump_exit n again) Rs
       not_handed x y h = (arms.all_special x y (within x (sight y special) h), λ o. none_is (sym (none_before recv x o) ∙ h))
 
       came : (x : ℕ) (s : Sight) → sight_of R x ≡ Some s → Came k (jump_exit n again) [] Rs jump_acts x s

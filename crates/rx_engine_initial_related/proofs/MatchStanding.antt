@@ -72,7 +72,7 @@ Leaving A k t = (n : ℕ) (b : Bool) → Among (jump_exit n b) k.exits → (m : 
 module _ (S : Sides) (A : Asked) (k : Plan) (plan : IsPlan A k) (R : Renaming) (K : KnownVariables S) (g : Agrees S R K) (all : AllSlots R) (Rn : Renaming) (asked : CallerAsked S A k R Rn)
     (J : Jumping) (loops : AgreesOnLoops S J K) {again : Bool} {cold : List ℕ} {modes : List Mode} (es : Operands) {ps : List Parameter} {Rp : Renaming} (to : GivenTo again R cold [] k.params modes es ps Rp) (so : GivenSo A k to)
     {ls : List (ℕ × ℕ)} {Rl : Renaming} (locals : LocalsOf R Rp k.locals ls Rl) (mc : Mark) (i : ℕ) (mm : Mark) (p : Pattern) (e : Exp) (l : Arms)
-    (Rs Rr Rd Rb : Renaming) (h f : Body → Body) (within : Within Rs R) (not_handed : NotHanded A k next Rs)
+    (Rs Rr Rd Rb : Renaming) (h f : Body → Body) (within : Within Rs R) (not_handed : NotHanded A S.muts_there k next Rs)
     (hb : HandsBack A S.muts_there k R (tree.choose mm (tree.of_value (tree.call mc i es)) (tree.arm_and p e l)) Rs (k.outs next) Rr h) (rd : Redeclared Rb Rr k.redeclared f Rd) (fewer : Within Rn Rd) (wider : Within R Rn)
     (t : Order) (leaving : Leaving A k t) (only : OnlyExits k (tree.arm_and p e l) (tree.arm_and p e l)) where
   abbrev arms : Arms
@@ -132,5 +132,5 @@ match_matches_run S A k had self reached sized text given so calling only handed
       λ n b d m.
           let w = z.3 n in
           subst (λ s. Matches (world S) K s (fill (run_pieces A k) r)) (sym (w.1 b d))
-          (match_matches A k had.plan S had.accepted text had.whole (parted S.frame sized) K z.0 w.0 (run_pieces A k) (order_body b n d) r w.2 (has_ways A S.muts_there k had reached r) (body_stays b n d) m),
+          (match_matches A k had.plan S had.accepted text had.whole had.passed (parted S.frame sized) K z.0 w.0 (run_pieces A k) (order_body b n d) r w.2 (has_ways A S.muts_there k had reached r) (body_stays b n d) m),
     )

@@ -195,7 +195,7 @@ module _ (S : Sides) (A : Asked) (k : Plan) (plan : IsPlan A k) (R : Renaming) (
     (x₀ : Exit) (there₀ : Among x₀ k.exits) (l₀ : List Action) (o₀ : Out) (p₀ : ArmDoes S A k plan R K g all Rn asked J loops x₀ l₀ o₀)
     (says : (x : Exit) (v : ℕ) (qs : Subpatterns) (e : Exp) → Among x k.exits → variant_for k x ≡ Some v → Picks l v qs e → Says (temporary_of (tree.call mc i es)) (ArmDoes S A k plan R K g all Rn asked J loops) (temporary_of (tree.choose mm (tree.of_value (tree.call mc i es)) l)) v qs e x)
     (only : OnlyExits k l l) (mays : (x y : ℕ) → sight_of R x ≡ Some (sight y special) → Among x (k.outs next) → MayTake S k next y x)
-    (Rs Rr Rd Rb : Renaming) (h f : Body → Body) (within : Within Rs R) (not_handed : NotHanded A k next Rs)
+    (Rs Rr Rd Rb : Renaming) (h f : Body → Body) (within : Within Rs R) (not_handed : NotHanded A S.muts_there k next Rs)
     (hb : HandsBack A S.muts_there k R (tree.choose mm (tree.of_value (tree.call mc i es)) l) Rs (k.outs next) Rr h) (rd : Redeclared Rb Rr k.redeclared f Rd) (fewer : Within Rn Rd) (wider : Within R Rn)
     (t : Order) (leaving : (n : ℕ) (b : Bool) → Among (jump_exit n b) k.exits → (m : ℕ) × (u : List Action) × Walk t u (leaves (orders.exit m n b)) × IsGoneThrough A k (jump_exit n b) u) where
   abbrev given : Exp
@@ -242,7 +242,7 @@ module _ (S : Sides) (A : Asked) (k : Plan) (plan : IsPlan A k) (R : Renaming) (
   becomes_behind nexts pre us tests leave y x j =
       let z = what_is_in_scope S Rn K.loops asked.slots one_for_each asked.types x y j in
       subst (λ v. Becomes S A k next K (in_front S A k plan R K g all Rn asked es to so locals mc i (pre ++ us) ++ here_behind) v x) z.2
-      (becomes_so S A k plan R K g all Rn asked es to so locals mc i next nexts k.redeclared (λ w o. (again_special A k w o, again_not_out A k plan w o)) Rs within not_handed (pre ++ us) here_behind
+      (becomes_so S A k plan R K g all Rn asked es to so locals mc i next nexts k.redeclared (λ w o. (again_special A S.muts_there k w o, again_not_out A k plan w o)) Rs within not_handed (pre ++ us) here_behind
       (leaves_both R pre us (tests_leave R tests) leave) x z.0 (comes S A k plan R K g all Rn asked mays Rs Rr Rd Rb h f given within hb rd fewer wider x z.0 (fewer x z.0 z.1)))
 
   goes_behind_it : {us : List Action} → TookIt us on → GoesOn S A k K here_scope (us ++ here_behind)

@@ -106,8 +106,8 @@ no_such_return true (Some v) q = cc
 no_such_return false (Some v) q = cc
 
 -- those of a new function with variants are
-pub jumps_leave : (A : Asked) (k : Plan) (unit : Bool) → LeavesBy k (jumps_of A k unit)
-jumps_leave A k unit = record {
+pub jumps_leave : (A : Asked) (muts : List Bool) (k : Plan) (unit : Bool) → LeavesBy k (jumps_of A muts k unit)
+jumps_leave A muts k unit = record {
   exits = λ l again p h. let z = pack_is (k.outs (jump_exit l again)) (variant_for k (jump_exit l again)) p h in exit_there 0 (jump_exit l again) k.exits (same_jump l again) z.1;
   outs = λ l again p h. (pack_is (k.outs (jump_exit l again)) (variant_for k (jump_exit l again)) p h).2;
   no_return = no_such_return unit (variant_for k returns);
@@ -174,7 +174,7 @@ module _ (S : Sides) (A : Asked) (k : Plan) (had : Had A S.muts_there k) (self :
       (body_matches S (h z.0 z.1 (loops_agree J z.0 none (z.2 ∙ no_loops))) mb.node n (temporary_of (tree.block mb (with_locals ls b'))) t))))
 
   -- so where it gives what the run's end hands out
-  pub gives_what_is_handed_out : Among next k.exits → {items : ℕ → ℕ} {gain : Allowance} {U : List ℕ} {J : Jumping} {Ra Rb : Renaming} {r r' : Stretch} (m : Moved items gain U (special_of A k) J Ra r r' Rb) → StretchMoves S m → LeavesBy k J → {x : Stretch} → AlsoMarkedStretch r x
+  pub gives_what_is_handed_out : Among next k.exits → {items : ℕ → ℕ} {gain : Allowance} {U : List ℕ} {J : Jumping} {Ra Rb : Renaming} {r r' : Stretch} (m : Moved items gain U (special_of A S.muts_there k) J Ra r r' Rb) → StretchMoves S m → LeavesBy k J → {x : Stretch} → AlsoMarkedStretch r x
       → {w : Way} {zs : List ℕ} {g : Exp} → HaveThere Rb (k.outs next) zs → Gives w zs g → (mg : Mark) (rest : Body) (T : KnownVariables S) → Agrees S Ra T → AgreesOnLoops S J T
       → AlikeBody S T (before r' (tree.ends (tree.give mg g))) (before x (tree.runs (mark (leaves next)) rest))
   gives_what_is_handed_out nexts m s v u {g = g} have gives mg rest T a j = moved_stretch m s v u T a j (tree.runs (mark (leaves next)) rest) (tree.ends (tree.give mg g))
@@ -182,7 +182,7 @@ module _ (S : Sides) (A : Asked) (k : Plan) (had : Had A S.muts_there k) (self :
 
   pub new_function_matches : Initialised S.frame_there S.muts_there S.text → Among next k.exits
       → {again : Bool} {modes : List Mode} {R Ra Rb : Renaming} {es : Operands} {ps : List Parameter} {ls : List (ℕ × ℕ)} → EntersWith again k modes R es ps ls Ra → ((x : ℕ) (e : Sight) → sight_of Ra x ≡ Some e → IsDirect e.how → LikeVariable S e.to x)
-      → {items : ℕ → ℕ} {gain : Allowance} {U : List ℕ} {J : Jumping} {r r' : Stretch} (m : Moved items gain U (special_of A k) J Ra r r' Rb) → StretchMoves S m → LeavesBy k J → J.loops ≡ [] → {x : Stretch} → AlsoMarkedStretch r x
+      → {items : ℕ → ℕ} {gain : Allowance} {U : List ℕ} {J : Jumping} {r r' : Stretch} (m : Moved items gain U (special_of A S.muts_there k) J Ra r r' Rb) → StretchMoves S m → LeavesBy k J → J.loops ≡ [] → {x : Stretch} → AlsoMarkedStretch r x
       → {w : Way} {zs : List ℕ} {g : Exp} → HaveThere Rb (k.outs next) zs → Gives w zs g → (T : KnownVariables S) → T.variables ≡ [] → T.loops ≡ [] → (f : Function) (mb mg : Mark) → f.params ≡ ps → f.body ≡ body_of mb ls r' (tree.ends (tree.give mg g))
       → (rest : Body) (n : ℕ) (t : Temporary) → Matches (world S) T (order_function f) (order_body (block.before (entering k.params) (before x (tree.runs (mark (leaves next)) rest))) n t)
   new_function_matches initialised nexts given types {J = J} {r' = r'} m s v none {x = x} u {g = g} have gives T nothing no_loops f mb mg params body rest n t =

@@ -97,7 +97,7 @@ entered_function_initialised S A k had self reached sized sized_there text initi
 pub new_function_initialised : (S : Sides) (A : Asked) (k : Plan) → Had A S.muts_there k → IsItself (Some (Some A.function)) → ((q : At) → Unreachable A q → ⊥) → Sized S.frame.declared S.frame.sizes → Sized S.frame_there.declared S.frame_there.sizes
     → IsTextOf S A k → Initialised S.frame_there S.muts_there S.text → Among next k.exits
     → {again : Bool} {modes : List Mode} {R Ra Rb : Renaming} {es : Operands} {ps : List Parameter} {ls : List (ℕ × ℕ)} → EntersWith again k modes R es ps ls Ra → ((x : ℕ) (e : Sight) → sight_of Ra x ≡ Some e → IsDirect e.how → LikeVariable S e.to x)
-    → {items : ℕ → ℕ} {gain : Allowance} {U : List ℕ} {J : Jumping} {q : Stretch} (m : Moved items gain U (special_of A k) J Ra (stretch_of (map (changed_statement (passing A.home.around.loops)) (inside A.run A.home.body))) q Rb)
+    → {items : ℕ → ℕ} {gain : Allowance} {U : List ℕ} {J : Jumping} {q : Stretch} (m : Moved items gain U (special_of A S.muts_there k) J Ra (stretch_of (map (changed_statement (passing A.home.around.loops)) (inside A.run A.home.body))) q Rb)
     → StretchMoves S m → LeavesBy k J → J.loops ≡ [] → {w : Way} {zs : List ℕ} {g : Exp} → HaveThere Rb (k.outs next) zs → Gives w zs g → (f : Function) (mb mg : Mark) → f.params ≡ ps → f.body ≡ body_of mb ls q (tree.ends (tree.give mg g))
     → Initialised S.frame S.muts f
 new_function_initialised S A k had self reached sized sized_there text initialised nexts given types {J = J} {q = q} m s v none {g = g} have gives f mb mg params body =

@@ -127,8 +127,8 @@ module _ (S : Sides) (A : Asked) (k : Plan) (had : Had A S.muts_there k) (self :
     stretch_never (moved_look x h a m) s v w n R g j b b' = absurd s
 
     -- what is left is alike the function's end
-    pub end_alike : {items : ℕ → ℕ} {gain : Allowance} {U : List ℕ} {J : Jumping} {Ra Rb : Renaming} {r r' : Stretch} {l : Last} {w : Way} {xs : List ℕ} {end : Body} (m : Moved items gain U (special_of A k) J Ra r r' Rb) → StretchMoves S m → LeavesBy k J
-        → (d : Ended items gain U (special_of A k) J Rb l w xs end) → EndMoves S d → xs ≡ k.outs next → ((w ≡ no_way → ⊥) → Among next k.exits) → (w ≡ no_way → NeverEnds l r) → {x : Stretch} → AlsoMarkedStretch r x → {y : Stretch} → AlsoMarkedStretch (left_of l) y
+    pub end_alike : {items : ℕ → ℕ} {gain : Allowance} {U : List ℕ} {J : Jumping} {Ra Rb : Renaming} {r r' : Stretch} {l : Last} {w : Way} {xs : List ℕ} {end : Body} (m : Moved items gain U (special_of A S.muts_there k) J Ra r r' Rb) → StretchMoves S m → LeavesBy k J
+        → (d : Ended items gain U (special_of A S.muts_there k) J Rb l w xs end) → EndMoves S d → xs ≡ k.outs next → ((w ≡ no_way → ⊥) → Among next k.exits) → (w ≡ no_way → NeverEnds l r) → {x : Stretch} → AlsoMarkedStretch r x → {y : Stretch} → AlsoMarkedStretch (left_of l) y
         → (rest : Body) (T : KnownVariables S) → Agrees S Ra T → AgreesOnLoops S J T → AlikeBody S T (before r' end) (before x (before y (tree.runs (mark (leaves next)) rest)))
     end_alike {Rb = Rb} m s v (gives_outs {zs = zs} {m = mg} have gives) e q nexts never u done_too rest T a j =
         gives_what_is_handed_out S A k had self sized sized_there text (nexts (λ h. is_come_to gives h)) m s v u (subst (λ l. HaveThere Rb l zs) q have) gives mg rest T a j
@@ -146,7 +146,7 @@ pub ended_function_initialised : (S : Sides) (A : Asked) (k : Plan) → Had A S.
     → IsTextOf S A k → Initialised S.frame_there S.muts_there S.text
     → {again : Bool} {modes : List Mode} {R Ra Rb : Renaming} {es : Operands} {ps : List Parameter} {ls : List (ℕ × ℕ)} → EntersWith again k modes R es ps ls Ra → ((x : ℕ) (e : Sight) → sight_of Ra x ≡ Some e → IsDirect e.how → LikeVariable S e.to x)
     → {items : ℕ → ℕ} {gain : Allowance} {U : List ℕ} {J : Jumping} {r r' : Stretch} {l : Last} → stretch_of (map (changed_statement (passing A.home.around.loops)) (inside A.run A.home.body)) ≡ with_left r l
-    → (m : Moved items gain U (special_of A k) J Ra r r' Rb) → StretchMoves S m → LeavesBy k J → J.loops ≡ [] → {w : Way} {end : Body} (d : Ended items gain U (special_of A k) J Rb l w (k.outs next) end) → EndMoves S d
+    → (m : Moved items gain U (special_of A S.muts_there k) J Ra r r' Rb) → StretchMoves S m → LeavesBy k J → J.loops ≡ [] → {w : Way} {end : Body} (d : Ended items gain U (special_of A S.muts_there k) J Rb l w (k.outs next) end) → EndMoves S d
     → ((w ≡ no_way → ⊥) → Among next k.exits) → (w ≡ no_way → NeverEnds l r) → (f : Function) (mb : Mark) → f.params ≡ ps → f.body ≡ body_of mb ls r' end → Initialised S.frame S.muts f
 ended_function_initialised S A k had self reached sized sized_there text initialised given types {J = J} {r = r} {r' = r'} {l = l} all m s v none {end = end} d e nexts never f mb params body =
     let z = parts r l (subst (λ x. AlsoMarkedStretch x (stretch_of (within A))) all (stretch_marked A.home.around.loops (inside A.run A.home.body))) in

@@ -41,5 +41,5 @@ call_matches_run S A k had reached sized text nexts given so handed asked K g =
           let w = z.3 n in
           let y = (has_ways A S.muts_there k had reached r).to_end nexts in
           subst (λ s. Matches (world S) K s (fill (run_pieces A k) r)) (sym (w.1 b d))
-          (call_matches A k had.plan S had.accepted text had.whole (parted S.frame sized) K z.0 w.0 (run_pieces A k) (order_body b n d) r nexts w.2 y.0 y.1 y.2 (body_stays b n d) m),
+          (call_matches A k had.plan S had.accepted text had.whole had.passed (parted S.frame sized) K z.0 w.0 (run_pieces A k) (order_body b n d) r nexts w.2 y.0 y.1 y.2 (body_stays b n d) m),
     )

@@ -22,7 +22,7 @@ use Rattle.rx_engine_initial_forms.specs.Following.{ExpAsked, BodyAsked}
 
 module _ (S : Sides) (A : Asked) (k : Plan) {items : ℕ → ℕ} {O : Openings} {gain : Allowance} {V : Facts} where
   abbrev mutual
-    pub ExpCalls : {i : ℕ} {J : Jumping} {N : Renaming} {e e' : Exp} → LikeExp items (in_its_block A k items O gain) gain V i J N e e' → Type 0
+    pub ExpCalls : {i : ℕ} {J : Jumping} {N : Renaming} {e e' : Exp} → LikeExp items (in_its_block A S.muts_there k items O gain) gain V i J N e e' → Type 0
     ExpCalls (opens {J = J} {R = N} a i h (run_block {m = m} {m' = m'} {b = b} {b' = b'} q t) l) = ExpAsked S J N (tree.block m' b') (tree.block m (marked_body A.run A.home.around.loops k.params b))
     ExpCalls (reads {v = v} {v' = z} l) = MovesSo l v z
     ExpCalls (borrows l) = Unit {0}
@@ -45,19 +45,19 @@ module _ (S : Sides) (A : Asked) (k : Plan) {items : ℕ → ℕ} {O : Openings}
     ExpCalls (stays h) = Unit {0}
     ExpCalls (gives h l) = ExpCalls l
 
-    pub AllCall : {i : ℕ} {J : Jumping} {N : Renaming} {es es' : Operands} → LikeAll items (in_its_block A k items O gain) gain V i J N es es' → Type 0
+    pub AllCall : {i : ℕ} {J : Jumping} {N : Renaming} {es es' : Operands} → LikeAll items (in_its_block A S.muts_there k items O gain) gain V i J N es es' → Type 0
     AllCall no_operands = Unit {0}
     AllCall (operands_and i j h a l) = ExpCalls a × AllCall l
 
-    pub MatchedCalls : {i : ℕ} {J : Jumping} {N : Renaming} {c c' : Scrutinee} → LikeMatched items (in_its_block A k items O gain) gain V i J N c c' → Type 0
+    pub MatchedCalls : {i : ℕ} {J : Jumping} {N : Renaming} {c c' : Scrutinee} → LikeMatched items (in_its_block A S.muts_there k items O gain) gain V i J N c c' → Type 0
     MatchedCalls at_places = Unit {0}
     MatchedCalls (of_values l) = ExpCalls l
 
-    pub ArmsCall : {i : ℕ} {J : Jumping} {N : Renaming} {c c' : Scrutinee} {l l' : Arms} → LikeArms items (in_its_block A k items O gain) gain V i J N c c' l l' → Type 0
+    pub ArmsCall : {i : ℕ} {J : Jumping} {N : Renaming} {c c' : Scrutinee} {l l' : Arms} → LikeArms items (in_its_block A S.muts_there k items O gain) gain V i J N c c' l l' → Type 0
     ArmsCall no_arms = Unit {0}
     ArmsCall (arms_and M t b e l) = BindingsSo S b × ExpCalls e × ArmsCall l
 
-    pub BodyCalls : {i : ℕ} {J : Jumping} {N : Renaming} {b b' : Body} → LikeBody items (in_its_block A k items O gain) gain V i J N b b' → Type 0
+    pub BodyCalls : {i : ℕ} {J : Jumping} {N : Renaming} {b b' : Body} → LikeBody items (in_its_block A S.muts_there k items O gain) gain V i J N b b' → Type 0
     BodyCalls (opens_in a i h o l) = Unit {0}
     BodyCalls (ends_in l) = ExpCalls l
     BodyCalls (runs_on i j h a l) = ExpCalls a × BodyCalls l

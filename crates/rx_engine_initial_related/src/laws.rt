@@ -136,11 +136,11 @@ pub fn related_runs_match()
     ensures function { (S : Sides) (A : Asked) (k : Plan) → Had A S.muts_there k → IsItself (Some (Some A.function)) → Sized S.frame.declared S.frame.sizes → Sized S.frame_there.declared S.frame_there.sizes
         → IsTextOf S A k → Initialised S.frame_there S.muts_there S.text → Among next k.exits → (again : Bool) (modes : ListOf Mode) (R Ra Rb : Renaming) (es : Operands) (ps : ListOf Parameter) (ls : ListOf (ℕ × ℕ))
         → EntersWith again k modes R es ps ls Ra → ((x : ℕ) (e : Sight) → sight_of Ra x ≡ Some e → IsDirect e.how → LikeVariable S e.to x)
-        → (items : ℕ → ℕ) (gain : Allowance) (U : ListOf ℕ) (J : Jumping) (r q : Stretch) (m : Moved items gain U (special_of A k) J Ra r q Rb) → StretchMoves S m → LeavesBy k J → J.loops ≡ [] → (x : Stretch) → AlsoMarkedStretch r x
+        → (items : ℕ → ℕ) (gain : Allowance) (U : ListOf ℕ) (J : Jumping) (r q : Stretch) (m : Moved items gain U (special_of A S.muts_there k) J Ra r q Rb) → StretchMoves S m → LeavesBy k J → J.loops ≡ [] → (x : Stretch) → AlsoMarkedStretch r x
         → (w : Way) (zs : ListOf ℕ) (g : Exp) → HaveThere Rb (k.outs next) zs → Gives w zs g → (T : KnownVariables S) → T.variables ≡ [] → T.loops ≡ [] → (f : Function) (mb mg : Mark) → f.params ≡ ps
         → f.body ≡ body_of mb ls q (tree.ends (tree.give mg g)) → (rest : Body) (n : ℕ) (t : Temporary)
         → Matches (world S) T (order_function f) (order_body (before (entering k.params) (in_front x (tree.runs (mark (leaves next)) rest))) n t) }
-    ensures jumps { (A : Asked) (k : Plan) (unit : Bool) → LeavesBy k (jumps_of A k unit) }
+    ensures jumps { (A : Asked) (muts : ListOf Bool) (k : Plan) (unit : Bool) → LeavesBy k (jumps_of A muts k unit) }
     ensures alone { (k : Plan) → LeavesBy k inner_jumps }
     ensures marks { (ls : ListOf ℕ) (e : Exp) → AlsoMarked (changed (passing ls) e) (changed (marking ls) e) }
 {}
@@ -159,7 +159,7 @@ pub fn related_functions_are_initialised()
         → Sized S.frame_there.declared S.frame_there.sizes → IsTextOf S A k → Initialised S.frame_there S.muts_there S.text → Among next k.exits → (again : Bool) (modes : ListOf Mode) (R Ra Rb : Renaming)
         (es : Operands) (ps : ListOf Parameter) (ls : ListOf (ℕ × ℕ)) → EntersWith again k modes R es ps ls Ra → ((x : ℕ) (e : Sight) → sight_of Ra x ≡ Some e → IsDirect e.how → LikeVariable S e.to x)
         → (items : ℕ → ℕ) (gain : Allowance) (U : ListOf ℕ) (J : Jumping) (q : Stretch)
-        (m : Moved items gain U (special_of A k) J Ra (stretch_of (map (changed_statement (passing A.home.around.loops)) (inside A.run A.home.body))) q Rb) → StretchMoves S m → LeavesBy k J → J.loops ≡ []
+        (m : Moved items gain U (special_of A S.muts_there k) J Ra (stretch_of (map (changed_statement (passing A.home.around.loops)) (inside A.run A.home.body))) q Rb) → StretchMoves S m → LeavesBy k J → J.loops ≡ []
         → (w : Way) (zs : ListOf ℕ) (g : Exp) → HaveThere Rb (k.outs next) zs → Gives w zs g → (f : Function) (mb mg : Mark) → f.params ≡ ps → f.body ≡ body_of mb ls q (tree.ends (tree.give mg g))
         → Initialised S.frame S.muts f }
 {}
@@ -171,7 +171,7 @@ pub fn ended_functions_are_initialised()
         → Sized S.frame_there.declared S.frame_there.sizes → IsTextOf S A k → Initialised S.frame_there S.muts_there S.text → (again : Bool) (modes : ListOf Mode) (R Ra Rb : Renaming)
         (es : Operands) (ps : ListOf Parameter) (ls : ListOf (ℕ × ℕ)) → EntersWith again k modes R es ps ls Ra → ((x : ℕ) (e : Sight) → sight_of Ra x ≡ Some e → IsDirect e.how → LikeVariable S e.to x)
         → (items : ℕ → ℕ) (gain : Allowance) (U : ListOf ℕ) (J : Jumping) (r q : Stretch) (l : Last) → stretch_of (map (changed_statement (passing A.home.around.loops)) (inside A.run A.home.body)) ≡ with_left r l
-        → (m : Moved items gain U (special_of A k) J Ra r q Rb) → StretchMoves S m → LeavesBy k J → J.loops ≡ [] → (w : Way) (end : Body) (d : Ended items gain U (special_of A k) J Rb l w (k.outs next) end) → EndMoves S d
+        → (m : Moved items gain U (special_of A S.muts_there k) J Ra r q Rb) → StretchMoves S m → LeavesBy k J → J.loops ≡ [] → (w : Way) (end : Body) (d : Ended items gain U (special_of A S.muts_there k) J Rb l w (k.outs next) end) → EndMoves S d
         → (w ≢ no_way → Among next k.exits) → (w ≡ no_way → NeverEnds l r) → (f : Function) (mb : Mark) → f.params ≡ ps → f.body ≡ body_of mb ls q end → Initialised S.frame S.muts f }
 {}
 
@@ -180,6 +180,6 @@ pub fn ended_functions_are_initialised()
 pub fn related_callers_are_initialised()
     ensures { (S : Sides) (A : Asked) (k : Plan) → Sized S.frame.declared S.frame.sizes → Sized S.frame_there.declared S.frame_there.sizes → IsTextOf S A k → Initialised S.frame_there S.muts_there S.text
         → (modes : ListOf Mode) (items : ℕ → ℕ) (gain : Allowance) (U : ListOf ℕ) (new : New) (special : ListOf ℕ) (f : Function)
-        (r : RelatedFunction items (in_its_block A k items (the_call A S.muts_there k modes items gain U new) gain) gain special A.function f)
+        (r : RelatedFunction items (in_its_block A S.muts_there k items (the_call A S.muts_there k modes items gain U new) gain) gain special A.function f)
         → AllLike S (variables_of_params A.function.params) (variables_of_params f.params) → ExpCalls S A k r.body → Initialised S.frame S.muts f }
 {}

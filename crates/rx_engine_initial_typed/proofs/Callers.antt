@@ -38,11 +38,11 @@ module _ (r : Renumbering) (S : Sides) (alike : DeclaresAlike r S.frame_there S.
   abbrev Typed : Renaming → Type 0
   Typed N = TypedScope r S N
 
-  module _ {items : ℕ → ℕ} {O : Openings} {gain : Allowance} {V : Facts} (W : AtBlock A k items O gain)
-      (at_opening : (a : ℕ) (J : Jumping) (N : Renaming) (b b' : Body) (m m' : Mark) (q : (m.node == A.run.block) ≡ true) (t : LikeBody items O gain (by_form (special_of A k)) a J N (running_body A.run A.home.around.loops k.params b) b') → W.asked (run_block {m = m} {m' = m'} q t)
+  module _ {items : ℕ → ℕ} {O : Openings} {gain : Allowance} {V : Facts} (W : AtBlock A S.muts_there k items O gain)
+      (at_opening : (a : ℕ) (J : Jumping) (N : Renaming) (b b' : Body) (m m' : Mark) (q : (m.node == A.run.block) ≡ true) (t : LikeBody items O gain (by_form (special_of A S.muts_there k)) a J N (running_body A.run A.home.around.loops k.params b) b') → W.asked (run_block {m = m} {m' = m'} q t)
       → TypedScope r S N → (u : Temporary) → Here (order_body b' m'.node u) → ExpAsked S J N (tree.block m' b') (tree.block m (marked_body A.run A.home.around.loops k.params b))) where
     mutual
-      pub exp_calls_with : {i : ℕ} {J : Jumping} {N : Renaming} {e e' : Exp} (l : LikeExp items (in_its_block A k items O gain) gain V i J N e e') → ExpOfTypes r S (in_caller_with S A k W) l → Typed N
+      pub exp_calls_with : {i : ℕ} {J : Jumping} {N : Renaming} {e e' : Exp} (l : LikeExp items (in_its_block A S.muts_there k items O gain) gain V i J N e e') → ExpOfTypes r S (in_caller_with S A k W) l → Typed N
           → (d t : Temporary) → There (order.order e d) → Here (order.order e' t) → ExpCalls S A k l
       exp_calls_with (opens a i h (run_block {J = J} {R = M} {m = m} {m' = m'} {b = b} {b' = b'} q t) l) s n d u f g = at_opening a J M b b' m m' q t s n u g
       exp_calls_with {N = N} (reads {m = m} {m' = m'} {v = v} {v' = z} {p = p} {p' = q} l) s n d u f g =
@@ -74,18 +74,18 @@ module _ (r : Renumbering) (S : Sides) (alike : DeclaresAlike r S.frame_there S.
       exp_calls_with (stays h) s n d u f g = tt
       exp_calls_with (gives {e = e} {e' = e'} h l) s n d u f g = exp_calls_with l s n (temporary_of e) (temporary_of e') (of_first f) (C.first g)
 
-      all_call : {i : ℕ} {J : Jumping} {N : Renaming} {es es' : Operands} (l : LikeAll items (in_its_block A k items O gain) gain V i J N es es') → AllOfTypes r S (in_caller_with S A k W) l → Typed N → There (order_all es) → Here (order_all es') → AllCall S A k l
+      all_call : {i : ℕ} {J : Jumping} {N : Renaming} {es es' : Operands} (l : LikeAll items (in_its_block A S.muts_there k items O gain) gain V i J N es es') → AllOfTypes r S (in_caller_with S A k W) l → Typed N → There (order_all es) → Here (order_all es') → AllCall S A k l
       all_call no_operands s n f g = tt
       all_call (operands_and {e = e} {e' = e'} {es = es} {es' = es'} i j h a l) s n f g = (
         exp_calls_with a s.0 n (temporary_of e) (temporary_of e') (of_first f) (C.first g),
         all_call l s.1 n (of_second f) (C.second g),
       )
 
-      matched_calls : {i : ℕ} {J : Jumping} {N : Renaming} {c c' : Scrutinee} (l : LikeMatched items (in_its_block A k items O gain) gain V i J N c c') → MatchedOfTypes r S (in_caller_with S A k W) l → Typed N → There (order_scrutinee c) → Here (order_scrutinee c') → MatchedCalls S A k l
+      matched_calls : {i : ℕ} {J : Jumping} {N : Renaming} {c c' : Scrutinee} (l : LikeMatched items (in_its_block A S.muts_there k items O gain) gain V i J N c c') → MatchedOfTypes r S (in_caller_with S A k W) l → Typed N → There (order_scrutinee c) → Here (order_scrutinee c') → MatchedCalls S A k l
       matched_calls at_places s n f g = tt
       matched_calls (of_values {e = e} {e' = e'} l) s n f g = exp_calls_with l s n (temporary_of e) (temporary_of e') f g
 
-      arms_call : {i : ℕ} {J : Jumping} {N : Renaming} {c c' : Scrutinee} {l l' : Arms} (a : LikeArms items (in_its_block A k items O gain) gain V i J N c c' l l') → ArmsOfTypes r S (in_caller_with S A k W) a → Typed N
+      arms_call : {i : ℕ} {J : Jumping} {N : Renaming} {c c' : Scrutinee} {l l' : Arms} (a : LikeArms items (in_its_block A S.muts_there k items O gain) gain V i J N c c' l l') → ArmsOfTypes r S (in_caller_with S A k W) a → Typed N
           → (d t : Temporary) → There (order_arms (subject c) l d) → Here (order_arms (subject c') l' t) → ArmsCall S A k a
       arms_call no_arms s n d u f g = tt
       arms_call {c = c} {c' = c'} (arms_and {q = p} {q' = p'} {e = e} {e' = e'} {l = l} {l' = l'} M t b h a) s n d u f g =
@@ -97,7 +97,7 @@ module _ (r : Renumbering) (S : Sides) (alike : DeclaresAlike r S.frame_there S.
             arms_call a s.2 n d u (of_next f) (C.next g),
           )
 
-      body_calls : {i : ℕ} {J : Jumping} {N : Renaming} {b b' : Body} (l : LikeBody items (in_its_block A k items O gain) gain V i J N b b') → BodyOfTypes r S (in_caller_with S A k W) l → Typed N
+      body_calls : {i : ℕ} {J : Jumping} {N : Renaming} {b b' : Body} (l : LikeBody items (in_its_block A S.muts_there k items O gain) gain V i J N b b') → BodyOfTypes r S (in_caller_with S A k W) l → Typed N
           → (n m : ℕ) (d t : Temporary) → There (order_body b n d) → Here (order_body b' m t) → BodyCalls S A k l
       body_calls (opens_in a x h o l) s n i j d u f g = absurd o
       body_calls (ends_in l) s n i j d u f g = exp_calls_with l s n d u f g
@@ -120,6 +120,6 @@ module _ (r : Renumbering) (S : Sides) (alike : DeclaresAlike r S.frame_there S.
 
 -- where it is asked that the run's block is alike the text's
 module _ (r : Renumbering) (S : Sides) (alike : DeclaresAlike r S.frame_there S.frame) (A : Asked) (k : Plan) {items : ℕ → ℕ} {O : Openings} {gain : Allowance} {V : Facts} where
-  pub exp_calls : {i : ℕ} {J : Jumping} {N : Renaming} {e e' : Exp} (l : LikeExp items (in_its_block A k items O gain) gain V i J N e e') → ExpOfTypes r S (in_caller S A k) l → TypedScope r S N
+  pub exp_calls : {i : ℕ} {J : Jumping} {N : Renaming} {e e' : Exp} (l : LikeExp items (in_its_block A S.muts_there k items O gain) gain V i J N e e') → ExpOfTypes r S (in_caller S A k) l → TypedScope r S N
       → (d t : Temporary) → ReadsByType S.frame_there (order.order e d) → ReadsByType S.frame (order.order e' t) → ExpCalls S A k l
   exp_calls l s n d t f g = exp_calls_with r S alike A k (ReadsByType S.frame) parts_read (λ s h. h) (alike_there S A k {items = items} {O = O} {gain = gain}) (λ a J N b c m m' q t s n u g. s) l s n d t f g

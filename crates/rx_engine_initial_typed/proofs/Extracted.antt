@@ -67,14 +67,14 @@ module _ (r : Renumbering) (S : Sides) (alike : DeclaresAlike r S.frame_there S.
     (passed : IsModes A S.muts_there k choice modes) (there : ReadsByType S.frame_there (order_function A.function)) where
   module _ {items : ℕ → ℕ} {gain : Allowance} {U : List ℕ} {F : New} where
     at_opening : {a : ℕ} {J : Jumping} {N : Renaming} {b b' : Body} (m m' : Mark) (q : (m.node == A.run.block) ≡ true)
-        (t : LikeBody items (the_call A S.muts_there k modes items gain U F) gain (by_form (special_of A k)) a J N (running_body A.run A.home.around.loops k.params b) b') → OpenedOfTypes r S (run_block {m = m} {m' = m'} q t)
+        (t : LikeBody items (the_call A S.muts_there k modes items gain U F) gain (by_form (special_of A S.muts_there k)) a J N (running_body A.run A.home.around.loops k.params b) b') → OpenedOfTypes r S (run_block {m = m} {m' = m'} q t)
         → TypedScope r S N → (u : Temporary) → Fair S.frame (order_body b' m'.node u) → ExpAsked S J N (tree.block m' b') (tree.block m (marked_body A.run A.home.around.loops k.params b))
     at_opening {a = a} {J = J} {N = N} {b' = b'} m m' q t s n u g =
-        subst (λ (c : Body). (l : LikeBody items (the_call A S.muts_there k modes items gain U F) gain (by_form (special_of A k)) a J N (running_body A.run A.home.around.loops k.params c) b') → BlockOfTypes r S l
+        subst (λ (c : Body). (l : LikeBody items (the_call A S.muts_there k modes items gain U F) gain (by_form (special_of A S.muts_there k)) a J N (running_body A.run A.home.around.loops k.params c) b') → BlockOfTypes r S l
         → ExpAsked S J N (tree.block m' b') (tree.block m (marked_body A.run A.home.around.loops k.params c))) (sym s.0)
         (λ l w. run_block_alike S A k had self reached sized text l (run_block_so r S alike A k had sure types choice policy modes passed l w n m'.node u g.bare there g.reads) m m' q u g.bare) t s.1
 
-    pub caller_with_block_initialised : (special : List ℕ) (f : Function) (l : RelatedFunction items (in_its_block A k items (the_call A S.muts_there k modes items gain U F) gain) gain special A.function f)
+    pub caller_with_block_initialised : (special : List ℕ) (f : Function) (l : RelatedFunction items (in_its_block A S.muts_there k items (the_call A S.muts_there k modes items gain U F) gain) gain special A.function f)
         → SamePairs r S (variables_of_params A.function.params) (variables_of_params f.params) → ExpOfTypes r S (in_caller_with S A k (block_of_types r S A k {modes = modes} {items = items} {gain = gain} {U = U} {N = F})) l.body
         → ReadsByType S.frame (order_function f) → NoMarks (order_function f) → Initialised S.frame S.muts f
     caller_with_block_initialised special f l same so here bare =

@@ -88,7 +88,7 @@ module _ (r : Renumbering) (S : Sides) (alike : DeclaresAlike r S.frame_there S.
       let z = params_so l s.1 (scope_and r S alike N t p.variable q.variable w s.0.typ) in ((like_variable r S alike p.variable q.variable s.0, z.0), z.1)
 
   pub caller_of_types_initialised : (A : Asked) (k : Plan) → Sized S.frame.declared S.frame.sizes → Sized S.frame_there.declared S.frame_there.sizes → IsTextOf S A k → Initialised S.frame_there S.muts_there S.text
-      → (items : ℕ → ℕ) (O : Openings) (gain : Allowance) (special : List ℕ) (f : Function) (l : RelatedFunction items (in_its_block A k items O gain) gain special A.function f)
+      → (items : ℕ → ℕ) (O : Openings) (gain : Allowance) (special : List ℕ) (f : Function) (l : RelatedFunction items (in_its_block A S.muts_there k items O gain) gain special A.function f)
       → SamePairs r S (variables_of_params A.function.params) (variables_of_params f.params) → ExpOfTypes r S (in_caller S A k) l.body → ReadsByType S.frame_there (order_function A.function) → ReadsByType S.frame (order_function f) → Initialised S.frame S.muts f
   caller_of_types_initialised A k sized sized_there text initialised items O gain special f l same so there here =
       let z = params_so l.params same nothing_typed in
@@ -106,7 +106,7 @@ module _ (r : Renumbering) (S : Sides) (alike : DeclaresAlike r S.frame_there S.
       → IsTextOf S A k → Initialised S.frame_there S.muts_there S.text
       → {again : Bool} {modes : List Mode} {R Ra Rb : Renaming} {es : Operands} {ps : List Parameter} {ls : List (ℕ × ℕ)} → EntersWith again k modes R es ps ls Ra → ((x : ℕ) (e : Sight) → sight_of Ra x ≡ Some e → IsDirect e.how → SameVariable r S x e.to)
       → {items : ℕ → ℕ} {gain : Allowance} {U : List ℕ} {J : Jumping} {q q' : Stretch} {l : Last} → stretch_of (map (changed_statement (passing A.home.around.loops)) (inside A.run A.home.body)) ≡ with_left q l
-      → (m : Moved items gain U (special_of A k) J Ra q q' Rb) → StretchOfTypes r S m → LeavesBy k J → J.loops ≡ [] → {w : Way} {end : Body} (d : Ended items gain U (special_of A k) J Rb l w (k.outs next) end) → EndOfTypes r S d
+      → (m : Moved items gain U (special_of A S.muts_there k) J Ra q q' Rb) → StretchOfTypes r S m → LeavesBy k J → J.loops ≡ [] → {w : Way} {end : Body} (d : Ended items gain U (special_of A S.muts_there k) J Rb l w (k.outs next) end) → EndOfTypes r S d
       → (w ≢ no_way → Among next k.exits) → (w ≡ no_way → NeverEnds l q) → (f : Function) (mb : Mark) → f.params ≡ ps → f.body ≡ body_of mb ls q' end
       → ReadsByType S.frame_there (order_function A.function) → ReadsByType S.frame (order_function f) → Initialised S.frame S.muts f
   new_function_of_types_initialised A k had self reached sized sized_there text initialised {Ra = Ra} {ls = ls} given same {q = q} {q' = q'} {l = l} all m so v none {end = end} d es nexts never f mb params body there here =

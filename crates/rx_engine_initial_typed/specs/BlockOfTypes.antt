@@ -63,8 +63,8 @@ CallsOfTypes r S (looks_behind x e a l) = ⊥
 
 -- so along the caller: where the relation opens is the run's block, and what is asked along it
 abbrev pub OpenedOfTypes : (r : Renumbering) (S : Sides) {A : Asked} {k : Plan} {modes : List Mode} {items : ℕ → ℕ} {gain : Allowance} {U : List ℕ} {N : New} {a : ℕ} {J : Jumping} {R : Renaming} {f g : Exp → Exp}
-    → RunBlock A k items (the_call A S.muts_there k modes items gain U N) gain a J R f g → Type 0
+    → RunBlock A S.muts_there k items (the_call A S.muts_there k modes items gain U N) gain a J R f g → Type 0
 OpenedOfTypes r S {A = A} (run_block {b = b} q t) = (b ≡ A.home.body) × BlockOfTypes r S t
 
-abbrev pub block_of_types : (r : Renumbering) (S : Sides) (A : Asked) (k : Plan) {modes : List Mode} {items : ℕ → ℕ} {gain : Allowance} {U : List ℕ} {N : New} → AtBlock A k items (the_call A S.muts_there k modes items gain U N) gain
+abbrev pub block_of_types : (r : Renumbering) (S : Sides) (A : Asked) (k : Plan) {modes : List Mode} {items : ℕ → ℕ} {gain : Allowance} {U : List ℕ} {N : New} → AtBlock A S.muts_there k items (the_call A S.muts_there k modes items gain U N) gain
 block_of_types r S A k = record { asked = λ o. OpenedOfTypes r S o }

@@ -95,14 +95,14 @@ module _ (r : Renumbering) (S : Sides) {items : ℕ → ℕ} {O : Openings} {gai
     BodyOfTypes (looks_behind {s' = s} {y = y} {J = J} {R = N} {m = m} {q' = q} {b = b} {b' = b'} x e a l) = B.statements J N b (tree.lets s q (tree.at_place m (tree.own y)) b')
 
 -- along the caller: where the run's block is, that it is alike the text's with all its marks; another block is not the run's
-abbrev pub BlockAsked : (S : Sides) (A : Asked) (k : Plan) {items : ℕ → ℕ} {O : Openings} {gain : Allowance} {a : ℕ} {J : Jumping} {N : Renaming} {f g : Exp → Exp} → RunBlock A k items O gain a J N f g → Type 0
+abbrev pub BlockAsked : (S : Sides) (A : Asked) (k : Plan) {items : ℕ → ℕ} {O : Openings} {gain : Allowance} {a : ℕ} {J : Jumping} {N : Renaming} {f g : Exp → Exp} → RunBlock A S.muts_there k items O gain a J N f g → Type 0
 BlockAsked S A k (run_block {J = J} {R = N} {m = m} {m' = n} {b = b} {b' = c} q t) = ExpAsked S J N (tree.block n c) (tree.block m (marked_body A.run A.home.around.loops k.params b))
 
 -- what is asked there, with what is asked elsewhere
-pub record AtBlock (A : Asked) (k : Plan) (items : ℕ → ℕ) (O : Openings) (gain : Allowance) : Type 1 where
-  pub asked : {a : ℕ} {J : Jumping} {N : Renaming} {f g : Exp → Exp} → RunBlock A k items O gain a J N f g → Type 0
+pub record AtBlock (A : Asked) (muts : List Bool) (k : Plan) (items : ℕ → ℕ) (O : Openings) (gain : Allowance) : Type 1 where
+  pub asked : {a : ℕ} {J : Jumping} {N : Renaming} {f g : Exp → Exp} → RunBlock A muts k items O gain a J N f g → Type 0
 
-abbrev pub in_caller_with : (S : Sides) (A : Asked) (k : Plan) {items : ℕ → ℕ} {O : Openings} {gain : Allowance} {V : Facts} → AtBlock A k items O gain → Besides (in_its_block A k items O gain) V
+abbrev pub in_caller_with : (S : Sides) (A : Asked) (k : Plan) {items : ℕ → ℕ} {O : Openings} {gain : Allowance} {V : Facts} → AtBlock A S.muts_there k items O gain → Besides (in_its_block A S.muts_there k items O gain) V
 in_caller_with S A k W = record {
   opened = λ o f t. W.asked o;
   within = λ o c. Unit {0};
@@ -110,10 +110,10 @@ in_caller_with S A k W = record {
   statements = λ J N b c. BodyAsked S J N c (changed_body (at_the_block A.run A.home.around.loops k.params) b);
 }
 
-abbrev pub alike_there : (S : Sides) (A : Asked) (k : Plan) {items : ℕ → ℕ} {O : Openings} {gain : Allowance} → AtBlock A k items O gain
+abbrev pub alike_there : (S : Sides) (A : Asked) (k : Plan) {items : ℕ → ℕ} {O : Openings} {gain : Allowance} → AtBlock A S.muts_there k items O gain
 alike_there S A k = record { asked = λ o. BlockAsked S A k o }
 
-abbrev pub in_caller : (S : Sides) (A : Asked) (k : Plan) {items : ℕ → ℕ} {O : Openings} {gain : Allowance} {V : Facts} → Besides (in_its_block A k items O gain) V
+abbrev pub in_caller : (S : Sides) (A : Asked) (k : Plan) {items : ℕ → ℕ} {O : Openings} {gain : Allowance} {V : Facts} → Besides (in_its_block A S.muts_there k items O gain) V
 in_caller S A k = in_caller_with S A k (alike_there S A k)
 
 -- along the run's statements in the new function: of a value that is returned, as of others; of a unit that is bound first, that what returns it is

@@ -68,7 +68,7 @@ pub fn variables_of_like_types_are_alike()
 /// in the text: so what is asked besides along the caller holds, but for what types don't say.
 pub fn callers_of_types_move_alike()
     ensures { (r : Renumbering) (S : Sides) → DeclaresAlike r S.frame_there S.frame → (A : Asked) (k : Plan) (muts : ListOf Bool) (modes : ListOf Mode) (items : ℕ → ℕ) (gain : Allowance) (U : ListOf ℕ) (new : New) (special : ListOf ℕ)
-        (i : ℕ) (J : Jumping) (N : Renaming) (e f : Exp) (l : LikeExp items (in_its_block A k items (the_call A muts k modes items gain U new) gain) gain (by_form special) i J N e f) → ExpOfTypes r S (in_caller S A k) l → TypedScope r S N → (d t : Temporary)
+        (i : ℕ) (J : Jumping) (N : Renaming) (e f : Exp) (l : LikeExp items (in_its_block A S.muts_there k items (the_call A muts k modes items gain U new) gain) gain (by_form special) i J N e f) → ExpOfTypes r S (in_caller S A k) l → TypedScope r S N → (d t : Temporary)
         → ReadsByType S.frame_there (order e d) → ReadsByType S.frame (order f t) → ExpCalls S A k l }
 {}
 
@@ -104,7 +104,7 @@ pub fn callers_of_types_are_asked_so()
 pub fn callers_of_types_are_initialised()
     ensures { (r : Renumbering) (S : Sides) → DeclaresAlike r S.frame_there S.frame → (A : Asked) (k : Plan) → Sized S.frame.declared S.frame.sizes → Sized S.frame_there.declared S.frame_there.sizes → IsTextOf S A k
         → Initialised S.frame_there S.muts_there S.text → (modes : ListOf Mode) (items : ℕ → ℕ) (gain : Allowance) (U : ListOf ℕ) (new : New) (special : ListOf ℕ) (f : Function)
-        (l : RelatedFunction items (in_its_block A k items (the_call A S.muts_there k modes items gain U new) gain) gain special A.function f)
+        (l : RelatedFunction items (in_its_block A S.muts_there k items (the_call A S.muts_there k modes items gain U new) gain) gain special A.function f)
         → SamePairs r S (variables_of_params A.function.params) (variables_of_params f.params) → ExpOfTypes r S (in_caller S A k) l.body
         → ReadsByType S.frame_there (order_function A.function) → ReadsByType S.frame (order_function f) → Initialised S.frame S.muts f }
 {}
@@ -115,7 +115,7 @@ pub fn new_functions_of_types_are_initialised()
         → Sized S.frame.declared S.frame.sizes → Sized S.frame_there.declared S.frame_there.sizes → IsTextOf S A k → Initialised S.frame_there S.muts_there S.text → (again : Bool) (modes : ListOf Mode) (R Ra Rb : Renaming)
         (es : Operands) (ps : ListOf Parameter) (ls : ListOf (ℕ × ℕ)) → EntersWith again k modes R es ps ls Ra → ((x : ℕ) (e : Sight) → sight_of Ra x ≡ Some e → IsDirect e.how → SameVariable r S x e.to)
         → (items : ℕ → ℕ) (gain : Allowance) (U : ListOf ℕ) (J : Jumping) (q t : Stretch) (l : Last) → stretch_of (map (changed_statement (passing A.home.around.loops)) (inside A.run A.home.body)) ≡ with_left q l
-        → (m : Moved items gain U (special_of A k) J Ra q t Rb) → StretchOfTypes r S m → LeavesBy k J → J.loops ≡ [] → (w : Way) (end : Body) (d : Ended items gain U (special_of A k) J Rb l w (k.outs next) end)
+        → (m : Moved items gain U (special_of A S.muts_there k) J Ra q t Rb) → StretchOfTypes r S m → LeavesBy k J → J.loops ≡ [] → (w : Way) (end : Body) (d : Ended items gain U (special_of A S.muts_there k) J Rb l w (k.outs next) end)
         → EndOfTypes r S d → (w ≢ no_way → Among next k.exits) → (w ≡ no_way → NeverEnds l q) → (f : Function) (mb : Mark) → f.params ≡ ps → f.body ≡ body_of mb ls t end
         → ReadsByType S.frame_there (order_function A.function) → ReadsByType S.frame (order_function f) → Initialised S.frame S.muts f }
 {}
@@ -146,7 +146,7 @@ pub fn extracted_callers_of_types_are_initialised()
         → Sized S.frame.declared S.frame.sizes → Sized S.frame_there.declared S.frame_there.sizes → IsTextOf S A k → Initialised S.frame_there S.muts_there S.text → ((x : ℕ) → ¬ (MixedInit A x)) → S.frame_there ≡ A.frame
         → (choice : Uses → Mode) → ((u : Uses) → HasMember (allowed_by u) → IsMember (choice u) (allowed_by u)) → (modes : ListOf Mode) → IsModes A S.muts_there k choice modes → ReadsByType S.frame_there (order_function A.function)
         → (items : ℕ → ℕ) (gain : Allowance) (U : ListOf ℕ) (new : New) (special : ListOf ℕ) (f : Function)
-        (l : RelatedFunction items (in_its_block A k items (the_call A S.muts_there k modes items gain U new) gain) gain special A.function f) → SamePairs r S (variables_of_params A.function.params) (variables_of_params f.params)
+        (l : RelatedFunction items (in_its_block A S.muts_there k items (the_call A S.muts_there k modes items gain U new) gain) gain special A.function f) → SamePairs r S (variables_of_params A.function.params) (variables_of_params f.params)
         → ExpOfTypes r S (in_caller_with S A k (block_of_types r S A k {modes = modes} {items = items} {gain = gain} {U = U} {N = new})) l.body → ReadsByType S.frame (order_function f) → HasNoMark (order_function f)
         → Initialised S.frame S.muts f }
 {}

@@ -34,7 +34,7 @@ use Rattle.rx_engine_made_calls.specs.RunNames.{RunNames}
 use Rattle.rx_engine_made_calls.specs.Answers.{answered, answered_tail, NewBody}
 
 module _ (T S : Assigned) (A : Asked) (muts : List Bool) (k : Plan) (modes : List Mode) (J : Jumping) (R : Renaming) (cold : List ℕ) (hows : List How) (g : ℕ) (enum unit : Bool) (items : ℕ → ℕ) (gain : Allowance) (U : List ℕ) (names : RunNames k R cold) (one : OneToOne R)
-    (all : (x y : ℕ) → sight_of R x ≡ Some (sight y special) → In x (special_of A k)) where
+    (all : (x y : ℕ) → sight_of R x ≡ Some (sight y special) → In x (special_of A muts k)) where
   entering_so : {es : Exps} {ps : List Parameter} {rest body : Statements} → ArgumentsFor T gain.strays R cold k.params modes es hows → (b : BeginsSo k.params k.locals ps rest body) → EnteringNames T gain.strays R cold k modes es hows ps b.locals
   entering_so a b = record {
     shut = names.shut;
@@ -51,7 +51,7 @@ module _ (T S : Assigned) (A : Asked) (muts : List Bool) (k : Plan) (modes : Lis
     specials_enter = names.specials_enter;
   }
 
-  handed_so : {received redeclared : List ℕ} {Rb : Renaming} → NewThere k R received redeclared → AllSpecial Rb k.redeclared → HandedNames A k R Rb received redeclared
+  handed_so : {received redeclared : List ℕ} {Rb : Renaming} → NewThere k R received redeclared → AllSpecial Rb k.redeclared → HandedNames A muts k R Rb received redeclared
   handed_so n inside = record {
     one_to_one = one;
     all_special = all;
@@ -66,13 +66,13 @@ module _ (T S : Assigned) (A : Asked) (muts : List Bool) (k : Plan) (modes : Lis
   }
 
   pub asks_so : {y : Statements} {r : Stretch} {l : Last} (m : MadeCall T A muts k modes gain.strays J R cold hows g enum unit y) (N : NewBody) (b : BeginsSo k.params k.locals N.params N.rest N.all) (after : Renaming → Renaming)
-      → ((inside : Renaming) → Entered gain.strays R k modes (operands T 0 m.es) hows N.params b.locals inside → MovedTo S items gain U (special_of A k) (jumps_with enum A k unit) inside r N.rest (after inside)
-      × EndsTo S items gain U (special_of A k) (jumps_with enum A k unit) (after inside) N.node N.end l (way_of enum (variant_for k next)) (k.outs next) × AllSpecial (after inside) k.redeclared)
+      → ((inside : Renaming) → Entered gain.strays R k modes (operands T 0 m.es) hows N.params b.locals inside → MovedTo S items gain U (special_of A muts k) (jumps_with enum A muts k unit) inside r N.rest (after inside)
+      × EndsTo S items gain U (special_of A muts k) (jumps_with enum A muts k unit) (after inside) N.node N.end l (way_of enum (variant_for k next)) (k.outs next) × AllSpecial (after inside) k.redeclared)
       → (way_of enum (variant_for k next) ≡ no_way → NeverEnds l r) → Asks A muts k modes items gain U J R r l (answered T S g m N b)
   asks_so m N b after new never = record {
     cold = cold;
     hows = hows;
-    jumps = jumps_with enum A k unit;
+    jumps = jumps_with enum A muts k unit;
     way = way_of enum (variant_for k next);
     after = after;
     received = m.received;
@@ -91,13 +91,13 @@ module _ (T S : Assigned) (A : Asked) (muts : List Bool) (k : Plan) (modes : Lis
   -- `lasts` are the last statements of the new function, behind the run's
   pub asks_tail_so : {y : Statements} {r : Stretch} {l : Last} {e : tree.Exp} {has : Bool} {o : Else} (m : MadeTail T A muts k modes gain.strays J R cold hows g enum unit has y o) (N : NewBody) (lasts rest : Statements) (b : BeginsSo k.params k.locals N.params rest N.all) (n : Node) (F : tree.Exp → tree.Exp)
       (after : Renaming → Renaming) → IsTail k l e → GivenBack J l F → Behind N.rest lasts rest
-      → ((inside : Renaming) → Entered gain.strays R k modes (operands T 0 m.es) hows N.params b.locals inside → MovedTo S items gain U (special_of A k) (jumps_with enum A k unit) inside r N.rest (after inside)
-      × TailEndsTo S items gain U (special_of A k) (jumps_with enum A k unit) (after inside) N.node e has (way_of enum (variant_for k next)) (k.outs next) lasts N.end × AllSpecial (after inside) k.redeclared)
+      → ((inside : Renaming) → Entered gain.strays R k modes (operands T 0 m.es) hows N.params b.locals inside → MovedTo S items gain U (special_of A muts k) (jumps_with enum A muts k unit) inside r N.rest (after inside)
+      × TailEndsTo S items gain U (special_of A muts k) (jumps_with enum A muts k unit) (after inside) N.node e has (way_of enum (variant_for k next)) (k.outs next) lasts N.end × AllSpecial (after inside) k.redeclared)
       → (way_of enum (variant_for k next) ≡ no_way → NeverEnds (a_marked e (leaves next)) r) → AsksTail A muts k modes items gain U J R r l e (answered_tail T S g m N b)
   asks_tail_so {has = has} {o = o} m N lasts rest b n F after tail back behind new never = record {
     cold = cold;
     hows = hows;
-    jumps = jumps_with enum A k unit;
+    jumps = jumps_with enum A muts k unit;
     way = way_of enum (variant_for k next);
     has = has;
     after = after;

@@ -21,7 +21,7 @@ use Rattle.rx_engine_names.specs.HandedOut.{Handing}
 use Rattle.rx_engine_blocks.specs.Renumbering.{Renumbering}
 use Rattle.rx_modes_policy.specs.Allowed.{allowed_by, IsMember}
 use Rattle.rx_typed.specs.Tree.{Place}
-use Rattle.rx_engine_simulation.specs.Places.{at_variable, behind, direct, sharing, LikePlace, NotCopied}
+use Rattle.rx_engine_simulation.specs.Places.{at_variable, behind, direct, sharing, LikePlace, NotCopied, no_steps}
 use Rattle.rx_engine_simulation.specs.Sights.{copied, free, plain, sight, special, through, Hold, How, Renaming, Sight, sight_of}
 use Rattle.rx_engine_simulation.specs.Jumps.{Jumping}
 use Rattle.rx_engine_made_trees.specs.Arguments.{ArgumentsFor, SeenAs}
@@ -41,6 +41,10 @@ use Rattle.rx_engine_made_calls.specs.Plans.ParamsAre.{more_params, no_params}
 use Rattle.rx_engine_made_calls.specs.Plans.Rows.{no_rows}
 use Rattle.rx_engine_made_calls.specs.Plans.ExitsAre.{more_exits, no_exits}
 use Rattle.rx_engine_made_calls.specs.Plans.ExitIs.{is_next}
+use Rattle.rx_modes_policy.specs.declared.uses.Uses.{Uses}
+use Rattle.rx_modes_uses.specs.Uses.{IsUses}
+use Rattle.rx_modes_given.proofs.Telling.{given_told}
+use Rattle.rx_engine_made_calls.specs.Seeing.{how_inside}
 
 same_sight : (y a : ℕ) (v w : How) → ◌≡◌ {A = Option Sight} (Some (sight y v)) (Some (sight a w)) → y ≡ a
 same_sight y a v w e = ap (λ (s : Sight). s.to) (one_some (sight y v) (sight a w) e)
@@ -130,11 +134,20 @@ module _ (E : KnownItems) (q : Renumbering) (s : Span) (A : Asked) (muts : List 
       only : (y z : ℕ) (e f : Sight) → sight_of outside y ≡ Some e → sight_of outside z ≡ Some f → y ≡ z
       only y z e f p q = seen_first (0, sight 0 (plain free)) [] y p (λ i a. seen_first (0, sight 0 (plain free)) [] z q (λ j b. i ∙ sym j) (λ r. absurd (none_some r))) (λ r. absurd (none_some r))
 
--- ---- what the relation on places has not: a param that is passed by value since it is written behind a reference in it, and is no param that moves, is copied in the
--- new function; where the run shares its own storage no place stands for that there (`let r = &p;` with `p: (&mut i32, i32)`, of which `*p.0` is assigned)
+-- ---- A param that is passed by value since the run changes something behind a reference in it, and that the run does not move, is given away (`*p.0 = 2; let r = &p;`
+-- with `p: (&mut i32, i32)`): the new function has it in a slot of its own, so what the run shares of it has a place there. Were it copied, no place would stand for that.
 
-pub by_value_and_lent : IsMember mode.Value (allowed_by (record { copy = false; mut_ref = false; moved = false; written = false; lent = true; through = true; mut_out = false; declared_mut = false; live_out = false; set_in = true }))
+abbrev lent_inside : Uses
+lent_inside = record { copy = false; mut_ref = false; moved = false; written = false; lent = true; through = true; mut_out = false; declared_mut = false; live_out = false; set_in = true }
+
+pub by_value_and_lent : IsMember mode.Value (allowed_by lent_inside)
 by_value_and_lent = inl refl
+
+pub has_its_own_slot : (A : Asked) (muts : List Bool) (k : Plan) (x : ℕ) → IsUses A muts k x lent_inside → how_inside A muts x mode.Value ≡ special
+has_its_own_slot A muts k x uses = ap (λ (b : Bool). if b then special else copied) (given_told A muts k x lent_inside uses)
+
+pub shared_there : {R : Renaming} {x y : ℕ} → sight_of R x ≡ Some (sight y special) → LikePlace R sharing (at_variable x []) (at_variable y [])
+shared_there seen = direct special seen tt (λ own. tt) no_steps
 
 pub shared_copy : {R : Renaming} {x : ℕ} {p : Place} → LikePlace R sharing (at_variable x []) p → (y : ℕ) → sight_of R x ≡ Some (sight y copied) → ⊥
 shared_copy (direct {y = z} w seen is allowed like) y s = by w (ap (λ (e : Sight). e.how) (one_some (sight z w) (sight y copied) (sym seen ∙ s))) allowed

@@ -37,17 +37,17 @@ use Rattle.rx_engine_made_calls.specs.Seeing.{has_here, has_there, HasMode, how_
 module _ (ns : Names) (t : TypedFn) where
   -- ---- params
 
-  pub params_named : (C : Calls) (N : Pairing) (q : Renumbering) (W : Assignment) (again : Bool) (R : Renaming) (cold : List ℕ) (A : Asked) (xs : List ℕ) (ms : List Mode) (vs : List Bool) → length ms ≡ length xs → length vs ≡ length xs
+  pub params_named : (C : Calls) (N : Pairing) (q : Renumbering) (W : Assignment) (again : Bool) (R : Renaming) (cold : List ℕ) (A : Asked) (muts : List Bool) (xs : List ℕ) (ms : List Mode) (vs : List Bool) → length ms ≡ length xs → length vs ≡ length xs
       → ((x : ℕ) → In x xs → variable_named C.scope (get_or ns x []) ≡ Some x) → ((x : ℕ) → In x xs → HasType N q W x (type_of_variable t x))
-      → ((x : ℕ) (m : Mode) → HasMode x m xs ms → (y : ℕ) → N.variable x y ≡ true → SeenAs again R cold x y (shape_at q (type_of_variable t x)) m (how_inside A x m)) → ParamsAre C N q W again R cold (named_params ns t xs ms vs) xs ms (hows_of A xs ms)
-  params_named C N q W again R cold A [] [] [] e g names types seen = no_params
-  params_named C N q W again R cold A [] (m ∷ ms) vs e g names types seen = absurd (omega (arith, e))
-  params_named C N q W again R cold A [] [] (v ∷ vs) e g names types seen = absurd (omega (arith, g))
-  params_named C N q W again R cold A (x ∷ xs) [] vs e g names types seen = absurd (omega (arith, e))
-  params_named C N q W again R cold A (x ∷ xs) (m ∷ ms) [] e g names types seen = absurd (omega (arith, g))
-  params_named C N q W again R cold A (x ∷ xs) (m ∷ ms) (v ∷ vs) e g names types seen =
+      → ((x : ℕ) (m : Mode) → HasMode x m xs ms → (y : ℕ) → N.variable x y ≡ true → SeenAs again R cold x y (shape_at q (type_of_variable t x)) m (how_inside A muts x m)) → ParamsAre C N q W again R cold (named_params ns t xs ms vs) xs ms (hows_of A muts xs ms)
+  params_named C N q W again R cold A muts [] [] [] e g names types seen = no_params
+  params_named C N q W again R cold A muts [] (m ∷ ms) vs e g names types seen = absurd (omega (arith, e))
+  params_named C N q W again R cold A muts [] [] (v ∷ vs) e g names types seen = absurd (omega (arith, g))
+  params_named C N q W again R cold A muts (x ∷ xs) [] vs e g names types seen = absurd (omega (arith, e))
+  params_named C N q W again R cold A muts (x ∷ xs) (m ∷ ms) [] e g names types seen = absurd (omega (arith, g))
+  params_named C N q W again R cold A muts (x ∷ xs) (m ∷ ms) (v ∷ vs) e g names types seen =
       more_params (record { named = names x (inl refl); mode = refl; typed = types x (inl refl); seen = seen x m has_here })
-      (params_named C N q W again R cold A xs ms vs (omega (arith, e)) (omega (arith, g)) (λ z i. names z (inr i)) (λ z i. types z (inr i)) (λ z n h. seen z n (has_there h)))
+      (params_named C N q W again R cold A muts xs ms vs (omega (arith, e)) (omega (arith, g)) (λ z i. names z (inr i)) (λ z i. types z (inr i)) (λ z n h. seen z n (has_there h)))
 
   -- ---- what is handed out
 

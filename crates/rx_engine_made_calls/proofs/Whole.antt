@@ -113,8 +113,8 @@ module _ (E : KnownItems) (f : ℕ) (q : Renumbering) (G : Handing) (N : Pairing
   pub record WholeSo (e : Exp) : Type 0 where
     pub es : Exps
     pub arguments : ArgumentsFor T again R cold k.params modes es hows
-    pub called : has ≡ false → Called T A muts k J R G.call.number es e (jumps_with enum A k unit) (way_of enum (variant_for k next))
-    pub tail_called : TailCalled T A muts k J R G.call.number es e has (jumps_with enum A k unit) (way_of enum (variant_for k next))
+    pub called : has ≡ false → Called T A muts k J R G.call.number es e (jumps_with enum A muts k unit) (way_of enum (variant_for k next))
+    pub tail_called : TailCalled T A muts k J R G.call.number es e has (jumps_with enum A muts k unit) (way_of enum (variant_for k next))
     pub no_place : is_place e ≡ false
 
   parts_are : (xs : List Leaving) → Every (λ (x : Leaving). variant_parts E.items G.enum (G.variant x.exit) ≡ types_there q (values_of G.call.plan x)) xs → Every (λ (x : Leaving). x.exit ≡ to_next → values_of G.call.plan x ≡ next_values G.call.plan) xs
@@ -137,19 +137,19 @@ module _ (E : KnownItems) (f : ℕ) (q : Renumbering) (G : Handing) (N : Pairing
       let keeps : KeepsItsType T n = keeps_at W E n s u t at (stands_wanted s n u t stands i) own in record {
         es = es;
         arguments = given_arguments is fits h tells;
-        called = λ e. subst (λ (b : Bool). Called T A muts k J R G.call.number es (named.call n G.call.number es) (jumps_with b A k unit) (way_of b (variant_for k next))) (sym none) (calls_itself T A muts k J R n G.call.number es (plans.alone none) keeps);
-        tail_called = subst (λ (b : Bool). TailCalled T A muts k J R G.call.number es (named.call n G.call.number es) has (jumps_with b A k unit) (way_of b (variant_for k next))) (sym none)
+        called = λ e. subst (λ (b : Bool). Called T A muts k J R G.call.number es (named.call n G.call.number es) (jumps_with b A muts k unit) (way_of b (variant_for k next))) (sym none) (calls_itself T A muts k J R n G.call.number es (plans.alone none) keeps);
+        tail_called = subst (λ (b : Bool). TailCalled T A muts k J R G.call.number es (named.call n G.call.number es) has (jumps_with b A muts k unit) (way_of b (variant_for k next))) (sym none)
             (tail_calls_itself T A muts k J R n G.call.number es has (plans.alone none) keeps);
         no_place = refl;
       }
 
   -- matched
   module _ (m c : Node) (es : Exps) (l : NamedArms) (keeps : KeepsItsType T c) where
-    matched_called : ArmsFor T A muts k R unit false J 0 k.exits l → (o : Option ℕ) → variant_for k next ≡ o → Called T A muts k J R G.call.number es (named.match m (named.call c G.call.number es) l) (jumps_with true A k unit) (way_of true o)
+    matched_called : ArmsFor T A muts k R unit false J 0 k.exits l → (o : Option ℕ) → variant_for k next ≡ o → Called T A muts k J R G.call.number es (named.match m (named.call c G.call.number es) l) (jumps_with true A muts k unit) (way_of true o)
     matched_called a None i = calls_left T A muts k R unit J m c G.call.number es l keeps plans.one_to_one plans.all_special (no_place 0 next k.exits i) a
     matched_called a (Some v) i = calls_matched T A muts k R unit J m c G.call.number es l keeps v plans.one_to_one plans.all_special i a
 
-    matched_tail : ArmsFor T A muts k R unit has J 0 k.exits l → (o : Option ℕ) → variant_for k next ≡ o → TailCalled T A muts k J R G.call.number es (named.match m (named.call c G.call.number es) l) has (jumps_with true A k unit) (way_of true o)
+    matched_tail : ArmsFor T A muts k R unit has J 0 k.exits l → (o : Option ℕ) → variant_for k next ≡ o → TailCalled T A muts k J R G.call.number es (named.match m (named.call c G.call.number es) l) has (jumps_with true A muts k unit) (way_of true o)
     matched_tail a None i = tail_calls_left T A muts k R unit J m c G.call.number es l keeps has plans.one_to_one plans.all_special (no_place 0 next k.exits i) a
     matched_tail a (Some v) i = tail_calls_matched T A muts k R unit J m c G.call.number es l keeps has v plans.one_to_one plans.all_special i a
 
@@ -157,9 +157,9 @@ module _ (E : KnownItems) (f : ℕ) (q : Renumbering) (G : Handing) (N : Pairing
     matched_so some args a = record {
       es = es;
       arguments = args;
-      called = λ e. subst (λ (b : Bool). Called T A muts k J R G.call.number es (named.match m (named.call c G.call.number es) l) (jumps_with b A k unit) (way_of b (variant_for k next))) (sym some)
+      called = λ e. subst (λ (b : Bool). Called T A muts k J R G.call.number es (named.match m (named.call c G.call.number es) l) (jumps_with b A muts k unit) (way_of b (variant_for k next))) (sym some)
           (matched_called (subst (λ (b : Bool). ArmsFor T A muts k R unit b J 0 k.exits l) e a) (variant_for k next) refl);
-      tail_called = subst (λ (b : Bool). TailCalled T A muts k J R G.call.number es (named.match m (named.call c G.call.number es) l) has (jumps_with b A k unit) (way_of b (variant_for k next))) (sym some) (matched_tail a (variant_for k next) refl);
+      tail_called = subst (λ (b : Bool). TailCalled T A muts k J R G.call.number es (named.match m (named.call c G.call.number es) l) has (jumps_with b A muts k unit) (way_of b (variant_for k next))) (sym some) (matched_tail a (variant_for k next) refl);
       no_place = refl;
     }
 

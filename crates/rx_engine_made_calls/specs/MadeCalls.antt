@@ -26,9 +26,9 @@ way_of true None = no_way
 way_of true (Some v) = as_variant v
 
 -- and its jumps, by whether the run's function gives the unit
-abbrev pub jumps_with : Bool → Asked → Plan → Bool → Jumping
-jumps_with false A k unit = inner_jumps
-jumps_with true A k unit = jumps_of A k unit
+abbrev pub jumps_with : Bool → Asked → List Bool → Plan → Bool → Jumping
+jumps_with false A muts k unit = inner_jumps
+jumps_with true A muts k unit = jumps_of A muts k unit
 
 -- what is made is new, and apart
 pub record NewThere (k : Plan) (R : Renaming) (received redeclared : List ℕ) : Type 0 where
@@ -47,7 +47,7 @@ pub record MadeCall (T : Assigned) (A : Asked) (muts : List Bool) (k : Plan) (mo
   pub redeclared : List ℕ
   pub is : y ≡ append ss ds
   pub arguments : ArgumentsFor T again R cold k.params modes es hows
-  pub called : Called T A muts k J R g es e (jumps_with enum A k unit) (way_of enum (variant_for k next))
+  pub called : Called T A muts k J R g es e (jumps_with enum A muts k unit) (way_of enum (variant_for k next))
   pub hands : HandsOver T A muts k R e (k.outs next) received ss
   pub declares : DeclaresAll redeclared ds
   pub made : NewThere k R received redeclared
@@ -62,6 +62,6 @@ pub record MadeTail (T : Assigned) (A : Asked) (muts : List Bool) (k : Plan) (mo
   pub redeclared : List ℕ
   pub is : y ≡ append ss ds
   pub arguments : ArgumentsFor T again R cold k.params modes es hows
-  pub called : TailCalled T A muts k J R g es e has (jumps_with enum A k unit) (way_of enum (variant_for k next))
+  pub called : TailCalled T A muts k J R g es e has (jumps_with enum A muts k unit) (way_of enum (variant_for k next))
   pub hands : HandsTail T A muts k R e has (k.outs next) received redeclared ss ds o
   pub made : NewThere k R received redeclared

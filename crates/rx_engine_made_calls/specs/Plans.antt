@@ -99,4 +99,4 @@ pub record PlansAgree (E : KnownItems) (q : Renumbering) (G : Handing) (N : Pair
   pub redeclared : length G.call.plan.redeclared ≡ length k.redeclared
   pub none_behind : has ≡ true → G.call.plan.redeclared ≡ []
   pub one_to_one : OneToOne R
-  pub all_special : (x y : ℕ) → sight_of R x ≡ Some (sight y special) → In x (special_of A k)
+  pub all_special : (x y : ℕ) → sight_of R x ≡ Some (sight y special) → In x (special_of A muts k)

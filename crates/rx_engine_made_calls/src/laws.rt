@@ -1,6 +1,6 @@
 //! Laws, each the contract of a function that does nothing.
 
-ghost use Rattle.std.specs.Prelude.{◌≡◌, ◌⊎◌, true, false, ℕ, Bool, List as ListOf, [], ◌∷◌, ◌+◌, get_or, length, map, slice_get, Option as OptionOf, None as NoneOf, Some as SomeOf};
+ghost use Rattle.std.specs.Prelude.{◌≡◌, ◌⊎◌, ◌&&◌, ◌||◌, not, true, false, ℕ, Bool, List as ListOf, [], ◌∷◌, ◌+◌, get_or, length, map, slice_get, Option as OptionOf, None as NoneOf, Some as SomeOf};
 ghost use Rattle.rx_tree.specs.Plain.{ProgramTree};
 ghost use Rattle.rx_resolve_names.specs.Meant.{number};
 ghost use Rattle.rx_resolve_names.specs.Scopes.{variable_named};
@@ -28,7 +28,7 @@ ghost use Rattle.rx_exits_plan.specs.PlainPlan.{plain-Exit};
 ghost use Rattle.rx_exits_plan.specs.Asked.{Asked};
 ghost use Rattle.rx_exits_plan.specs.MixedInit.{MixedInit};
 ghost use Rattle.rx_exits_plan.specs.PartlyMoved.{PartlyMoved};
-ghost use Rattle.rx_exits_plan.specs.Plan.{is_moved, IsPlan, Plan};
+ghost use Rattle.rx_exits_plan.specs.Plan.{IsPlan, Plan};
 ghost use Rattle.rx_lower_walks.specs.Walks.{Among};
 ghost use Rattle.rx_exits_plan.specs.Points.{jump_exit, leaves, next};
 ghost use Rattle.rx_modes_policy.specs.declared.uses.Mode.{Mode};
@@ -36,6 +36,7 @@ ghost use Rattle.rx_modes_policy.specs.declared.uses.Uses.{Uses};
 ghost use Rattle.rx_modes_policy.specs.Allowed.{allowed_by, HasMember, IsMember};
 ghost use Rattle.rx_modes_uses.specs.Modes.{IsModes};
 ghost use Rattle.rx_modes_uses.specs.Uses.{VariableHasType};
+ghost use Rattle.rx_modes_given.specs.GivenAway.{is_given_away};
 ghost use Rattle.rx_engine_names.specs.Renaming.{Renaming as Pairing};
 ghost use Rattle.rx_engine_names.specs.Calls.{Calls};
 ghost use Rattle.rx_engine_names.specs.HandedOut.{AreHanded, AreRedeclared, Handing, IsTail as TailIs, IsWhole};
@@ -142,39 +143,40 @@ pub fn new_functions_return_jumps()
 
 /// A renaming that is chosen where variables begin: any may begin so, by the form of the tree, and where it is chosen so each param is had as its mode asks.
 pub fn sights_are_chosen()
-    ensures begins { (A : Asked) (k : Plan) (modes : ListOf Mode) (x : ℕ) → NewHow (by_form (special_of A k)) x (how_outside A k modes x) }
-    ensures seen { (A : Asked) (k : Plan) (modes : ListOf Mode) (R : Renaming) → IsChosen A k modes R → (again : Bool) (m : Mode) (x y : ℕ) (w : How) (t : Typ) → Distinct k.params → HasMode x m k.params modes → ModeFits A k again x t m → sight_of R x ≡ SomeOf (sight y w)
-        → SeenAs again R (cold_of A k.params modes) x y t m (how_inside A x m) }
-    ensures elsewhere { (A : Asked) (k : Plan) (modes : ListOf Mode) (R : Renaming) → IsChosen A k modes R → (x y : ℕ) → sight_of R x ≡ SomeOf (sight y special) → In x (special_of A k) }
+    ensures begins { (A : Asked) (muts : ListOf Bool) (k : Plan) (modes : ListOf Mode) (x : ℕ) → NewHow (by_form (special_of A muts k)) x (how_outside A muts k modes x) }
+    ensures seen { (A : Asked) (muts : ListOf Bool) (k : Plan) (modes : ListOf Mode) (R : Renaming) → IsChosen A muts k modes R → (again : Bool) (m : Mode) (x y : ℕ) (w : How) (t : Typ) → Distinct k.params → HasMode x m k.params modes → ModeFits A muts k again x t m → sight_of R x ≡ SomeOf (sight y w)
+        → SeenAs again R (cold_of A muts k.params modes) x y t m (how_inside A muts x m) }
+    ensures elsewhere { (A : Asked) (muts : ListOf Bool) (k : Plan) (modes : ListOf Mode) (R : Renaming) → IsChosen A muts k modes R → (x y : ℕ) → sight_of R x ≡ SomeOf (sight y special) → In x (special_of A muts k) }
 {}
 
 /// All together: where the run's statements are alike in the new function, and its end gives what is handed out, all is had that is asked where the call stands
 /// for the run (`Asks`), or for a run with its block's tail (`AsksTail`).
 pub fn made_calls_meet_what_is_asked()
     ensures run { (T S : Assigned) (A : Asked) (muts : ListOf Bool) (k : Plan) (modes : ListOf Mode) (J : Jumping) (R : Renaming) (cold : ListOf ℕ) (hows : ListOf How) (g : ℕ) (enum unit : Bool) (items : ℕ → ℕ) (gain : Allowance) (U : ListOf ℕ) → RunNames k R cold → OneToOne R
-        → ((x y : ℕ) → sight_of R x ≡ SomeOf (sight y special) → In x (special_of A k)) → (y : Statements) (r : Stretch) (l : Last) (m : MadeCall T A muts k modes gain.strays J R cold hows g enum unit y) (N : NewBody) (b : BeginsSo k.params k.locals N.params N.rest N.all) (after : Renaming → Renaming)
-        → ((inside : Renaming) → Entered gain.strays R k modes (operands T 0 m.es) hows N.params b.locals inside → MovedTo S items gain U (special_of A k) (jumps_with enum A k unit) inside r N.rest (after inside)
-        × EndsTo S items gain U (special_of A k) (jumps_with enum A k unit) (after inside) N.node N.end l (way_of enum (variant_for k next)) (k.outs next) × AllSpecial (after inside) k.redeclared)
+        → ((x y : ℕ) → sight_of R x ≡ SomeOf (sight y special) → In x (special_of A muts k)) → (y : Statements) (r : Stretch) (l : Last) (m : MadeCall T A muts k modes gain.strays J R cold hows g enum unit y) (N : NewBody) (b : BeginsSo k.params k.locals N.params N.rest N.all) (after : Renaming → Renaming)
+        → ((inside : Renaming) → Entered gain.strays R k modes (operands T 0 m.es) hows N.params b.locals inside → MovedTo S items gain U (special_of A muts k) (jumps_with enum A muts k unit) inside r N.rest (after inside)
+        × EndsTo S items gain U (special_of A muts k) (jumps_with enum A muts k unit) (after inside) N.node N.end l (way_of enum (variant_for k next)) (k.outs next) × AllSpecial (after inside) k.redeclared)
         → (way_of enum (variant_for k next) ≡ no_way → NeverEnds l r) → Asks A muts k modes items gain U J R r l (answered T S g m N b) }
     ensures tail { (T S : Assigned) (A : Asked) (muts : ListOf Bool) (k : Plan) (modes : ListOf Mode) (J : Jumping) (R : Renaming) (cold : ListOf ℕ) (hows : ListOf How) (g : ℕ) (enum unit : Bool) (items : ℕ → ℕ) (gain : Allowance) (U : ListOf ℕ) → RunNames k R cold → OneToOne R
-        → ((x y : ℕ) → sight_of R x ≡ SomeOf (sight y special) → In x (special_of A k)) → (y : Statements) (r : Stretch) (l : Last) (e : TypedExp) (has : Bool) (o : Else) (m : MadeTail T A muts k modes gain.strays J R cold hows g enum unit has y o) (N : NewBody) (lasts rest : Statements)
+        → ((x y : ℕ) → sight_of R x ≡ SomeOf (sight y special) → In x (special_of A muts k)) → (y : Statements) (r : Stretch) (l : Last) (e : TypedExp) (has : Bool) (o : Else) (m : MadeTail T A muts k modes gain.strays J R cold hows g enum unit has y o) (N : NewBody) (lasts rest : Statements)
         (b : BeginsSo k.params k.locals N.params rest N.all) (n : Node) (F : TypedExp → TypedExp) (after : Renaming → Renaming) → IsTail k l e → GivenBack J l F → Behind N.rest lasts rest
-        → ((inside : Renaming) → Entered gain.strays R k modes (operands T 0 m.es) hows N.params b.locals inside → MovedTo S items gain U (special_of A k) (jumps_with enum A k unit) inside r N.rest (after inside)
-        × TailEndsTo S items gain U (special_of A k) (jumps_with enum A k unit) (after inside) N.node e has (way_of enum (variant_for k next)) (k.outs next) lasts N.end × AllSpecial (after inside) k.redeclared)
+        → ((inside : Renaming) → Entered gain.strays R k modes (operands T 0 m.es) hows N.params b.locals inside → MovedTo S items gain U (special_of A muts k) (jumps_with enum A muts k unit) inside r N.rest (after inside)
+        × TailEndsTo S items gain U (special_of A muts k) (jumps_with enum A muts k unit) (after inside) N.node e has (way_of enum (variant_for k next)) (k.outs next) lasts N.end × AllSpecial (after inside) k.redeclared)
         → (way_of enum (variant_for k next) ≡ no_way → NeverEnds (a_marked e (leaves next)) r) → AsksTail A muts k modes items gain U J R r l e (answered_tail T S g m N b) }
 {}
 
 /// A mode that the uses of a param allow fits, where references may be asked for again.
 pub fn allowed_modes_fit()
-    ensures { (A : Asked) (k : Plan) (x : ℕ) (t : Typ) (u : Uses) (m : Mode) → is_moved A x ≡ u.moved → is_unique t ≡ u.mut_ref → (is_moved A x ≡ false → In x (special_of A k) → ⊥) → IsMember m (allowed_by u) → ModeFits A k true x t m }
+    ensures { (A : Asked) (muts : ListOf Bool) (k : Plan) (x : ℕ) (t : Typ) (u : Uses) (m : Mode) → is_given_away A muts x ≡ (u.moved || (u.through && not (u.mut_ref || u.declared_mut))) → is_unique t ≡ u.mut_ref
+        → (is_given_away A muts x ≡ false → In x (special_of A muts k) → ⊥) → IsMember m (allowed_by u) → ModeFits A muts k true x t m }
 {}
 
 /// The plan by names that is made of a plan by numbers is that, row by row: where the names of its variables mean them, its params are these, in their modes, what it hands out
 /// are these, and its exits with their variants, by the loops round the run.
 pub fn named_plans_agree()
-    ensures params { (ns : Names) (t : TypedFn) (C : Calls) (N : Pairing) (q : Renumbering) (W : Assignment) (again : Bool) (R : Renaming) (cold : ListOf ℕ) (A : Asked) (xs : ListOf ℕ) (ms : ListOf Mode) (vs : ListOf Bool) → length ms ≡ length xs → length vs ≡ length xs
+    ensures params { (ns : Names) (t : TypedFn) (C : Calls) (N : Pairing) (q : Renumbering) (W : Assignment) (again : Bool) (R : Renaming) (cold : ListOf ℕ) (A : Asked) (muts : ListOf Bool) (xs : ListOf ℕ) (ms : ListOf Mode) (vs : ListOf Bool) → length ms ≡ length xs → length vs ≡ length xs
         → ((x : ℕ) → In x xs → variable_named C.scope (get_or ns x []) ≡ SomeOf x) → ((x : ℕ) → In x xs → HasType N q W x (type_of_variable t x))
-        → ((x : ℕ) (m : Mode) → HasMode x m xs ms → (y : ℕ) → N.variable x y ≡ true → SeenAs again R cold x y (shape_at q (type_of_variable t x)) m (how_inside A x m)) → ParamsAre C N q W again R cold (named_params ns t xs ms vs) xs ms (hows_of A xs ms) }
+        → ((x : ℕ) (m : Mode) → HasMode x m xs ms → (y : ℕ) → N.variable x y ≡ true → SeenAs again R cold x y (shape_at q (type_of_variable t x)) m (how_inside A muts x m)) → ParamsAre C N q W again R cold (named_params ns t xs ms vs) xs ms (hows_of A muts xs ms) }
     ensures outs { (ns : Names) (t : TypedFn) (G : Handing) (N : Pairing) (q : Renumbering) (W : Assignment) (A : Asked) (muts : ListOf Bool) (k : Plan) (R : Renaming) (xs : ListOf ℕ) → ((x : ℕ) → In x xs → OutIs G N q W A muts k R (named_variable ns t x) x)
         → Rows (OutIs G N q W A muts k R) (named_variables ns t xs) xs }
     ensures exits { (ns : Names) (t : TypedFn) (G : Handing) (N : Pairing) (q : Renumbering) (W : Assignment) (A : Asked) (muts : ListOf Bool) (k : Plan) (R : Renaming) (J : Jumping) (ls : ListOf ℕ) → numbers_of G.loops ≡ ls → (E : KnownItems) (v : ℕ) (es : ListOf ExitOuts)
@@ -186,9 +188,9 @@ pub fn named_plans_agree()
 /// begin serves, where it has params and locals and no variable that the run declares.
 pub fn chosen_renamings_serve()
     ensures modes { (A : Asked) (muts : ListOf Bool) (k : Plan) → IsPlan A k → ((x : ℕ) → Among x k.params → Among x k.locals → ⊥) → (choice : Uses → Mode) → ((u : Uses) → HasMember (allowed_by u) → IsMember (choice u) (allowed_by u)) → (ms : ListOf Mode) → IsModes A muts k choice ms
-        → (x : ℕ) (m : Mode) (t : Typ) → VariableHasType A x t → HasMode x m k.params ms → ModeFits A k true x t m }
+        → (x : ℕ) (m : Mode) (t : Typ) → VariableHasType A x t → HasMode x m k.params ms → ModeFits A muts k true x t m }
     ensures names { (A : Asked) (muts : ListOf Bool) (k : Plan) → IsPlan A k → ((x : ℕ) → Among x k.params → Among x k.locals → ⊥) → (choice : Uses → Mode) → ((u : Uses) → HasMember (allowed_by u) → IsMember (choice u) (allowed_by u)) → (ms : ListOf Mode) → IsModes A muts k choice ms
-        → (R : Renaming) → IsChosen A k ms R → IsOutside A k R → ((x : ℕ) → Among x k.params → (t : Typ) × VariableHasType A x t) → ((x : ℕ) → MixedInit A x → ⊥) → ((x : ℕ) → PartlyMoved A k x → ⊥) → RunNames k R (cold_of A k.params ms) }
+        → (R : Renaming) → IsChosen A muts k ms R → IsOutside A k R → ((x : ℕ) → Among x k.params → (t : Typ) × VariableHasType A x t) → ((x : ℕ) → MixedInit A x → ⊥) → ((x : ℕ) → PartlyMoved A k x → ⊥) → RunNames k R (cold_of A muts k.params ms) }
 {}
 
 /// The end of the new function of a run without its block's tail, in each shape: it gives what is handed out, never comes to it, or is the last of the run's statements.

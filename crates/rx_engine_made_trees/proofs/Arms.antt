@@ -228,5 +228,5 @@ module _ (T : Assigned) (A : Asked) (muts : List Bool) (k : Plan) (R : Renaming)
         by None i = none_returns unit l
         by (Some v) i = return_arm l v (pick 0 k.exits l returns v so i)
 
-    pub arms_of : (l : tree.Arms) → ((x y : ℕ) → sight_of R x ≡ Some (sight y special) → In x (special_of A k)) → ArmsSo 0 k.exits l → ArmsOf A muts k unit J R l
+    pub arms_of : (l : tree.Arms) → ((x y : ℕ) → sight_of R x ≡ Some (sight y special) → In x (special_of A muts k)) → ArmsSo 0 k.exits l → ArmsOf A muts k unit J R l
     arms_of l a so = record { all_special = a; jumps = jump_of l so; return = return_of l so }

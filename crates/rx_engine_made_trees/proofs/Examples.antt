@@ -90,7 +90,7 @@ module _ (s : Span) (T : Assigned) (typed : T.typ 2 ≡ reference false (integer
   nothing_special y z e = seen_first (0, sight 0 (plain free)) [] y e (λ i j. not_special (ap (λ s. s.how) j)) (λ q. none_some q)
 
   moves : (inside : Renaming) → Entered gain.strays outside plan (mode.Shared ∷ []) (operands T 0 arguments) (through free false ∷ []) (record { node = 0; variable = 0 } ∷ []) [] inside
-      → MovedTo S items gain [] (special_of A plan) inner_jumps inside run printed inside
+      → MovedTo S items gain [] (special_of A muts plan) inner_jumps inside run printed inside
   moves inside e = moved_to (does_then (value S (named.print (at 3 Site.Value) (named.deref (at 1 Site.Value) (named.var (at 2 Site.Place) x)))) done)
       (moved_statement (prints (reads (there (S.typ 2) again))) moved_all) (λ b b' r. in_run (self_exp (value S (named.print (at 3 Site.Value) (named.deref (at 1 Site.Value) (named.var (at 2 Site.Place) x))))) r)
     where

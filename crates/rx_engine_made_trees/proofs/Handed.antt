@@ -46,8 +46,8 @@ in_of : {x : ℕ} {xs : List ℕ} → Among x xs → In x xs
 in_of here = inl refl
 in_of (there a) = inr (in_of a)
 
-pub not_handed : (A : Asked) (k : Plan) (R : Renaming) → ((x y : ℕ) → sight_of R x ≡ Some (sight y special) → In x (special_of A k)) → NotHanded A k next (without (k.outs next) R)
-not_handed A k R s x y q = (s x y (without_within (k.outs next) R x (sight y special) q), λ a. none_some (sym (without_these (k.outs next) R x (in_of a)) ∙ q))
+pub not_handed : (A : Asked) (muts : List Bool) (k : Plan) (R : Renaming) → ((x y : ℕ) → sight_of R x ≡ Some (sight y special) → In x (special_of A muts k)) → NotHanded A muts k next (without (k.outs next) R)
+not_handed A muts k R s x y q = (s x y (without_within (k.outs next) R x (sight y special) q), λ a. none_some (sym (without_these (k.outs next) R x (in_of a)) ∙ q))
 
 pub unseen_all : (R : Renaming) (xs os zs : List ℕ) → AreUnseen R zs → ((z : ℕ) → In z zs → In z xs → ⊥) → AreUnseen (handed_back R xs os) zs
 unseen_all R xs os [] u a = tt
@@ -57,14 +57,14 @@ pub new_all : (R : Renaming) (xs os ys : List ℕ) → AreNew R ys → ((y : ℕ
 new_all R xs os [] n a = tt
 new_all R xs os (y ∷ ys) n a = (new_back R xs os y n.0 (a y (inl refl)), n.1, new_all R xs os ys n.2 (λ w i. a w (inr i)))
 
-module _ (T : Assigned) (A : Asked) (muts : List Bool) (k : Plan) (R Rb : Renaming) (os ys : List ℕ) (N : HandedNames A k R Rb os ys) where
+module _ (T : Assigned) (A : Asked) (muts : List Bool) (k : Plan) (R Rb : Renaming) (os ys : List ℕ) (N : HandedNames A muts k R Rb os ys) where
   abbrev handed_here : Renaming
   handed_here = handed_back R (k.outs next) os
 
   together : (z : tree.Exp) (ss ds : Statements) → HandsSo T A muts k R z (k.outs next) os ss handed_here → AgainSo T Rb handed_here k.redeclared ds (seen_so handed_here k.redeclared (specials k.redeclared) ys)
       → StandsForRun T A muts k R Rb z ss ds (seen_so handed_here k.redeclared (specials k.redeclared) ys)
   together z ss ds (hands_so g h l) (again_so f r d) = stands_so (λ b. g (f b))
-      (handed_on (without (k.outs next) R) handed_here (seen_so handed_here k.redeclared (specials k.redeclared) ys) (without_within (k.outs next) R) (not_handed A k R N.all_special) h r (λ x e s. s)
+      (handed_on (without (k.outs next) R) handed_here (seen_so handed_here k.redeclared (specials k.redeclared) ys) (without_within (k.outs next) R) (not_handed A muts k R N.all_special) h r (λ x e s. s)
       (λ x e s. seen_so_stays handed_here k.redeclared (specials k.redeclared) ys (unseen_all R (k.outs next) os k.redeclared N.unseen N.apart) x e (back_within R (k.outs next) os N.outs_distinct x e s)))
       (λ b b' h. l (around T ds b) (f b') (d b b' h))
 

@@ -77,8 +77,8 @@ body_is T n ls rest ss o r' end b f g = in_block (subst (λ c. RereadsBody c (wi
 -- ---- all
 
 module _ (A : Asked) (muts : List Bool) (k : Plan) (modes : List Mode) (items : ℕ → ℕ) (gain : Allowance) (U : List ℕ) (J : Jumping) (R : Renaming) (r : Stretch) (l : Last) (Q : Answered) (P : Asks A muts k modes items gain U J R r l Q) where
-  joined : (inside : Renaming) → Entered gain.strays R k modes (operands Q.T 0 Q.es) P.hows Q.params Q.locals inside → MovedTo Q.S items gain U (special_of A k) P.jumps inside r Q.rs (P.after inside)
-      → EndedSo Q.S items gain U (special_of A k) P.jumps (P.after inside) Q.node Q.end l P.way (k.outs next) → Called Q.T A muts k J R Q.g Q.es Q.e P.jumps P.way
+  joined : (inside : Renaming) → Entered gain.strays R k modes (operands Q.T 0 Q.es) P.hows Q.params Q.locals inside → MovedTo Q.S items gain U (special_of A muts k) P.jumps inside r Q.rs (P.after inside)
+      → EndedSo Q.S items gain U (special_of A muts k) P.jumps (P.after inside) Q.node Q.end l P.way (k.outs next) → Called Q.T A muts k J R Q.g Q.es Q.e P.jumps P.way
       → ((z : tree.Exp) → Rereads (value Q.T Q.e) z → StandsForRun Q.T A muts k R (P.after inside) z Q.ss Q.ds (behind_call k R P.received P.redeclared))
       → Stands A muts k modes items gain U J R (behind_call k R P.received P.redeclared) r l Q
   joined inside en (moved_to r' mv f) (ended_so end ed g) (called_so mc z c rc) h = by (h z rc)
@@ -91,5 +91,5 @@ module _ (A : Asked) (muts : List Bool) (k : Plan) (modes : List Mode) (items : 
   all_stands = by (enters_so Q.T gain.strays R P.cold k modes Q.es P.hows Q.params Q.locals P.entering)
     where
       by : (inside : Renaming) × Entered gain.strays R k modes (operands Q.T 0 Q.es) P.hows Q.params Q.locals inside → Stands A muts k modes items gain U J R (behind_call k R P.received P.redeclared) r l Q
-      by en = joined en.0 en.1 (P.moved en.0 en.1) (ends_so Q.S items gain U (special_of A k) P.jumps (P.after en.0) Q.node Q.end l P.way (k.outs next) (P.ends en.0 en.1)) P.called
+      by en = joined en.0 en.1 (P.moved en.0 en.1) (ends_so Q.S items gain U (special_of A muts k) P.jumps (P.after en.0) Q.node Q.end l P.way (k.outs next) (P.ends en.0 en.1)) P.called
           (λ z rc. handed_stands Q.T A muts k R (P.after en.0) P.received P.redeclared (P.names en.0 en.1) Q.e z Q.ss Q.ds P.hands P.declares rc)

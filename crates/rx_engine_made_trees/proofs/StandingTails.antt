@@ -51,8 +51,8 @@ body_with T n ls rs lasts rest all o r' end b h f g = in_block (subst (λ c. Rer
     (subst (λ c. RereadsBody c (before r' end)) (sym (behind_is T rs lasts rest (tree.give (no_mark n) (tail T n o)) h)) (f (nested T lasts (tree.give (no_mark n) (tail T n o))) end g))))
 
 module _ (A : Asked) (muts : List Bool) (k : Plan) (modes : List Mode) (items : ℕ → ℕ) (gain : Allowance) (U : List ℕ) (J : Jumping) (R : Renaming) (r : Stretch) (l : Last) (e : tree.Exp) (Q : Answered) (P : AsksTail A muts k modes items gain U J R r l e Q) where
-  joined : (inside : Renaming) → Entered gain.strays R k modes (operands Q.T 0 Q.es) P.hows Q.params Q.locals inside → MovedTo Q.S items gain U (special_of A k) P.jumps inside r Q.rs (P.after inside)
-      → TailEndedSo Q.S items gain U (special_of A k) P.jumps (P.after inside) Q.node e P.has P.way (k.outs next) P.lasts Q.end → TailCalled Q.T A muts k J R Q.g Q.es Q.e P.has P.jumps P.way
+  joined : (inside : Renaming) → Entered gain.strays R k modes (operands Q.T 0 Q.es) P.hows Q.params Q.locals inside → MovedTo Q.S items gain U (special_of A muts k) P.jumps inside r Q.rs (P.after inside)
+      → TailEndedSo Q.S items gain U (special_of A muts k) P.jumps (P.after inside) Q.node e P.has P.way (k.outs next) P.lasts Q.end → TailCalled Q.T A muts k J R Q.g Q.es Q.e P.has P.jumps P.way
       → ((z : tree.Exp) → Rereads (value Q.T Q.e) z → TailStands Q.T A muts k R J (P.after inside) l P.place z P.has P.way (k.outs next) Q.ss Q.ds P.o P.F)
       → StandsForTail A muts k modes items gain U J R r l Q P.place P.o P.F
   joined inside en (moved_to r' mv f) (tail_ended_so end ed g) (tail_called_so mc z c rc) h = by (h z rc)
@@ -66,5 +66,5 @@ module _ (A : Asked) (muts : List Bool) (k : Plan) (modes : List Mode) (items : 
   all_tails_stand = by (enters_so Q.T gain.strays R P.cold k modes Q.es P.hows Q.params Q.locals P.entering)
     where
       by : (inside : Renaming) × Entered gain.strays R k modes (operands Q.T 0 Q.es) P.hows Q.params Q.locals inside → StandsForTail A muts k modes items gain U J R r l Q P.place P.o P.F
-      by en = joined en.0 en.1 (P.moved en.0 en.1) (tail_ends_so Q.S items gain U (special_of A k) P.jumps (P.after en.0) Q.node e P.has P.way (k.outs next) P.lasts Q.end (P.ends en.0 en.1)) P.called
+      by en = joined en.0 en.1 (P.moved en.0 en.1) (tail_ends_so Q.S items gain U (special_of A muts k) P.jumps (P.after en.0) Q.node e P.has P.way (k.outs next) P.lasts Q.end (P.ends en.0 en.1)) P.called
           (λ z rc. tails_stand Q.T A muts k R (P.after en.0) J l P.place P.F P.back P.way P.received P.redeclared (k.outs next) P.has Q.e z Q.ss Q.ds P.o (P.names en.0 en.1) refl P.hands rc)

@@ -69,14 +69,14 @@ given_back : {J : Jumping} {l : Last} {F : tree.Exp → tree.Exp} {e z : tree.Ex
 given_back as_tail r = r
 given_back (as_end i) r = in_give r
 
-module _ (T : Assigned) (A : Asked) (muts : List Bool) (k : Plan) (R Rb : Renaming) (os ys : List ℕ) (N : HandedNames A k R Rb os ys) (J : Jumping) (l : Last) (n : Node) (F : tree.Exp → tree.Exp) (G : GivenBack J l F) (w : Way) where
+module _ (T : Assigned) (A : Asked) (muts : List Bool) (k : Plan) (R Rb : Renaming) (os ys : List ℕ) (N : HandedNames A muts k R Rb os ys) (J : Jumping) (l : Last) (n : Node) (F : tree.Exp → tree.Exp) (G : GivenBack J l F) (w : Way) where
   abbrev handed_now : Renaming
   handed_now = handed_back R (k.outs next) os
 
   unit_stands : (z : tree.Exp) (ss ds : Statements) → HandsSo T A muts k R z (k.outs next) os ss handed_now → AgainSo T Rb handed_now k.redeclared ds (seen_so handed_now k.redeclared (specials k.redeclared) ys)
       → TailStands T A muts k R J Rb l n z false w (k.outs next) ss ds named.absent F
   unit_stands z ss ds (hands_so g h r) (again_so f d q) = tail_stands (seen_so handed_now k.redeclared (specials k.redeclared) ys) (λ b. g (f (tree.ends (F (tree.unit (marked n.number (Some unit_shape)))))))
-      (unit_behind (without (k.outs next) R) handed_now (seen_so handed_now k.redeclared (specials k.redeclared) ys) (without_within (k.outs next) R) (not_handed A k R N.all_special) h d G (λ x e s. s)
+      (unit_behind (without (k.outs next) R) handed_now (seen_so handed_now k.redeclared (specials k.redeclared) ys) (without_within (k.outs next) R) (not_handed A muts k R N.all_special) h d G (λ x e s. s)
       (λ x e s. seen_so_stays handed_now k.redeclared (specials k.redeclared) ys (unseen_all R (k.outs next) os k.redeclared N.unseen N.apart) x e (back_within R (k.outs next) os N.outs_distinct x e s)))
       (λ b. r (around T ds (tree.ends (F (tree.unit (marked n.number (Some unit_shape)))))) (f (tree.ends (F (tree.unit (marked n.number (Some unit_shape))))))
       (q (tree.ends (F (tree.unit (marked n.number (Some unit_shape))))) (tree.ends (F (tree.unit (marked n.number (Some unit_shape))))) (in_end (given_back G same_unit))))
@@ -87,11 +87,11 @@ module _ (T : Assigned) (A : Asked) (muts : List Bool) (k : Plan) (R Rb : Renami
 
   -- the value, where nothing is handed out besides
   pub value_stands : (e : Exp) (z : tree.Exp) → k.outs next ≡ [] → Rereads (value T e) z → TailStands T A muts k R J Rb l n z true w [] named.no_statement named.no_statement (named.present e) F
-  value_stands e z i r = tail_stands R (λ b. tree.ends (F z)) (value_back (subst (λ xs. NotHanded A k next (without xs R)) i (not_handed A k R N.all_special)) G) (λ b. in_end (given_back G r))
+  value_stands e z i r = tail_stands R (λ b. tree.ends (F z)) (value_back (subst (λ xs. NotHanded A muts k next (without xs R)) i (not_handed A muts k R N.all_special)) G) (λ b. in_end (given_back G r))
 
 -- the value is bound with what is put back
 module _ (T : Assigned) (A : Asked) (muts : List Bool) (k : Plan) (R Rb : Renaming) (J : Jumping) (l : Last) (n : Node) (F : tree.Exp → tree.Exp) (G : GivenBack J l F) (w : Way) where
-  bound_stands : (e v : Exp) (z : tree.Exp) (x o : ℕ) (xs os : List ℕ) (j p : Node) (ps : named.Patterns) (t : Option named.Written) (ts : Shapes Kind) (ss : Statements) → Rereads (value T e) z → NotHanded A k next (without (x ∷ xs) R)
+  bound_stands : (e v : Exp) (z : tree.Exp) (x o : ℕ) (xs os : List ℕ) (j p : Node) (ps : named.Patterns) (t : Option named.Written) (ts : Shapes Kind) (ss : Statements) → Rereads (value T e) z → NotHanded A muts k next (without (x ∷ xs) R)
       → Distinct (x ∷ xs) → AreNew R os → IsNew R o → (In o os → ⊥) → T.typ p.number ≡ tuple_of ts → is_place e ≡ false → BindsAll (o ∷ os) ps → SameLength (x ∷ xs) os
       → PutSo T A muts k R (seen_so (without (x ∷ xs) R) (x ∷ xs) (specials (x ∷ xs)) os) (x ∷ xs) os ss (handed_back R (x ∷ xs) os) → Reread (λ y. Takes o y) (value T v)
       → TailStands T A muts k R J Rb l n z true w (x ∷ xs) (named.statement_and (named.lets j (named.tuple_pattern p ps) t e) ss) named.no_statement (named.present v) F
@@ -103,11 +103,11 @@ module _ (T : Assigned) (A : Asked) (muts : List Bool) (k : Plan) (R Rb : Renami
       (sym (tuple_is T A muts k R p ps (T.typ p.number) ts i))
       (let_read T A muts k R e z j.number (tree.parts (subpatterns T None 0 ps)) np r (around T ss (tree.ends (F (value T v)))) (f (tree.ends (F y))) (h (tree.ends (F (value T v))) (tree.ends (F y)) (in_end (given_back G ry)))))
 
-  pub tails_stand : (os ys xs : List ℕ) (has : Bool) (e : Exp) (z : tree.Exp) (ss ds : Statements) (o : Else) → HandedNames A k R Rb os ys → k.outs next ≡ xs → HandsTail T A muts k R e has xs os ys ss ds o → Rereads (value T e) z
+  pub tails_stand : (os ys xs : List ℕ) (has : Bool) (e : Exp) (z : tree.Exp) (ss ds : Statements) (o : Else) → HandedNames A muts k R Rb os ys → k.outs next ≡ xs → HandsTail T A muts k R e has xs os ys ss ds o → Rereads (value T e) z
       → TailStands T A muts k R J Rb l n z has w xs ss ds o F
   tails_stand os ys xs has e z ss ds o N q gives_value r = value_stands T A muts k R Rb [] [] N J l n F G w e z q r
   tails_stand os ys xs has e z ss ds o N q (value_first {x = x} {o = c} {xs = vs} {os = cs} {n = j} {p = p} {ps = ps} {t = t} {ts = ts} {ss = rest} {v = v} i np bs fresh apart put v_is) r =
-      bound_stands e v z x c vs cs j p ps t ts rest r (subst (λ xs. NotHanded A k next (without xs R)) q (not_handed A k R N.all_special)) (subst (λ xs. Distinct xs) q N.outs_distinct) N.received_new fresh apart i np bs
+      bound_stands e v z x c vs cs j p ps t ts rest r (subst (λ xs. NotHanded A muts k next (without xs R)) q (not_handed A muts k R N.all_special)) (subst (λ xs. Distinct xs) q N.outs_distinct) N.received_new fresh apart i np bs
       (same_length T A muts k R (x ∷ vs) cs rest put)
       (put_back_so T A muts k R (seen_so (without (x ∷ vs) R) (x ∷ vs) (specials (x ∷ vs)) cs) (x ∷ vs) cs rest put N.one_to_one (subst (λ xs. Distinct xs) q N.outs_distinct)
       (frees_received T A muts k R (x ∷ vs) (x ∷ vs) cs N.one_to_one N.received_new (λ y h. h))) (taken T c v v_is)

@@ -56,11 +56,11 @@ pub data DeclaresAll : List ℕ → Statements → Type 0 where
 
 -- What is asked of names where the call stands: of the variables outside, `R`, and those of the new function where the run ends there, `Rb`. What is
 -- handed out is received in `os`, what is declared again is in `ys`.
-pub record HandedNames (A : Asked) (k : Plan) (R Rb : Renaming) (os ys : List ℕ) : Type 0 where
+pub record HandedNames (A : Asked) (muts : List Bool) (k : Plan) (R Rb : Renaming) (os ys : List ℕ) : Type 0 where
   -- no variable of the answer stands for two: the renaming of rx_engine_names is one to one
   pub one_to_one : OneToOne R
   -- what may be elsewhere is the plan's: so the renaming is chosen where variables begin
-  pub all_special : (x y : ℕ) → sight_of R x ≡ Some (sight y special) → In x (special_of A k)
+  pub all_special : (x y : ℕ) → sight_of R x ≡ Some (sight y special) → In x (special_of A muts k)
   -- of the plan by numbers (rx_exits_plan): what is handed out is listed once, what is declared again once, and apart
   pub outs_distinct : Distinct (k.outs next)
   pub apart : (x : ℕ) → In x k.redeclared → In x (k.outs next) → ⊥

@@ -80,15 +80,15 @@ pub record Asks (A : Asked) (muts : List Bool) (k : Plan) (modes : List Mode) (i
   -- the body of the new function by its form (rx_hoist_extraction, numbered)
   pub begins : BeginsWith Q.locals Q.rs Q.all
   -- the run's statements are alike, from where the new function begins: by names and types of the copied run (rx_engine_typing, with holes)
-  pub moved : (inside : Renaming) → Entered gain.strays R k modes (operands Q.T 0 Q.es) hows Q.params Q.locals inside → MovedTo Q.S items gain U (special_of A k) jumps inside r Q.rs (after inside)
+  pub moved : (inside : Renaming) → Entered gain.strays R k modes (operands Q.T 0 Q.es) hows Q.params Q.locals inside → MovedTo Q.S items gain U (special_of A muts k) jumps inside r Q.rs (after inside)
   -- its end gives what is handed out, or is the last of them
-  pub ends : (inside : Renaming) → Entered gain.strays R k modes (operands Q.T 0 Q.es) hows Q.params Q.locals inside → EndsTo Q.S items gain U (special_of A k) jumps (after inside) Q.node Q.end l way (k.outs next)
+  pub ends : (inside : Renaming) → Entered gain.strays R k modes (operands Q.T 0 Q.es) hows Q.params Q.locals inside → EndsTo Q.S items gain U (special_of A muts k) jumps (after inside) Q.node Q.end l way (k.outs next)
   -- by the plan, what does not go on never does by its form (rx_engine_validated)
   pub never : way ≡ no_way → NeverEnds l r
   -- the call, alone or matched
   pub called : Called Q.T A muts k J R Q.g Q.es Q.e jumps way
   -- names behind the run, and the forms of what is done with what is handed out
-  pub names : (inside : Renaming) → Entered gain.strays R k modes (operands Q.T 0 Q.es) hows Q.params Q.locals inside → HandedNames A k R (after inside) received redeclared
+  pub names : (inside : Renaming) → Entered gain.strays R k modes (operands Q.T 0 Q.es) hows Q.params Q.locals inside → HandedNames A muts k R (after inside) received redeclared
   pub hands : HandsOver Q.T A muts k R Q.e (k.outs next) received Q.ss
   pub declares : DeclaresAll redeclared Q.ds
 

@@ -97,11 +97,11 @@ pub record AsksTail (A : Asked) (muts : List Bool) (k : Plan) (modes : List Mode
   pub entering : EnteringNames Q.T gain.strays R cold k modes Q.es hows Q.params Q.locals
   pub begins : BeginsWith Q.locals rest Q.all
   pub behind : Behind Q.rs lasts rest
-  pub moved : (inside : Renaming) → Entered gain.strays R k modes (operands Q.T 0 Q.es) hows Q.params Q.locals inside → MovedTo Q.S items gain U (special_of A k) jumps inside r Q.rs (after inside)
-  pub ends : (inside : Renaming) → Entered gain.strays R k modes (operands Q.T 0 Q.es) hows Q.params Q.locals inside → TailEndsTo Q.S items gain U (special_of A k) jumps (after inside) Q.node e has way (k.outs next) lasts Q.end
+  pub moved : (inside : Renaming) → Entered gain.strays R k modes (operands Q.T 0 Q.es) hows Q.params Q.locals inside → MovedTo Q.S items gain U (special_of A muts k) jumps inside r Q.rs (after inside)
+  pub ends : (inside : Renaming) → Entered gain.strays R k modes (operands Q.T 0 Q.es) hows Q.params Q.locals inside → TailEndsTo Q.S items gain U (special_of A muts k) jumps (after inside) Q.node e has way (k.outs next) lasts Q.end
   pub never : way ≡ no_way → NeverEnds (a_marked e (leaves next)) r
   pub called : TailCalled Q.T A muts k J R Q.g Q.es Q.e has jumps way
-  pub names : (inside : Renaming) → Entered gain.strays R k modes (operands Q.T 0 Q.es) hows Q.params Q.locals inside → HandedNames A k R (after inside) received redeclared
+  pub names : (inside : Renaming) → Entered gain.strays R k modes (operands Q.T 0 Q.es) hows Q.params Q.locals inside → HandedNames A muts k R (after inside) received redeclared
   pub hands : HandsTail Q.T A muts k R Q.e has (k.outs next) received redeclared Q.ss Q.ds o
 
 pub data StandsForTail (A : Asked) (muts : List Bool) (k : Plan) (modes : List Mode) (items : ℕ → ℕ) (gain : Allowance) (U : List ℕ) (J : Jumping) (R : Renaming) (r : Stretch) (l : Last) (Q : Answered) (n : Node) (o : Else) (F : tree.Exp → tree.Exp) : Type 0 where

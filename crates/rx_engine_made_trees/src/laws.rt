@@ -48,7 +48,7 @@ pub fn new_functions_are_entered()
 /// What the call's statements do with what it gives is what the plan says of the run's end: nothing, one value that is assigned or declared, or a
 /// tuple of several; and what is declared again. Asked is what rx_engine_names says of names there.
 pub fn calls_hand_over()
-    ensures { (T : Assigned) (A : Asked) (muts : ListOf Bool) (k : Plan) (R Rb : Renaming) (os ys : ListOf ℕ) → HandedNames A k R Rb os ys → (e : Exp) (z : TypedExp) (ss ds : Statements)
+    ensures { (T : Assigned) (A : Asked) (muts : ListOf Bool) (k : Plan) (R Rb : Renaming) (os ys : ListOf ℕ) → HandedNames A muts k R Rb os ys → (e : Exp) (z : TypedExp) (ss ds : Statements)
         → HandsOver T A muts k R e (k.outs next) os ss → DeclaresAll ys ds → Rereads (value T e) z → StandsForRun T A muts k R Rb z ss ds (behind_call k R os ys) }
 {}
 
@@ -61,15 +61,15 @@ pub fn calls_stand_alone()
 /// The match of what it gives, where the run's end is one of the exits: each arm does what the plan says of its exit.
 pub fn calls_are_matched()
     ensures { (T : Assigned) (A : Asked) (muts : ListOf Bool) (k : Plan) (R : Renaming) (unit : Bool) (J : Jumping) (m c : Node) (g : ℕ) (es : Exps) (l : Arms) → KeepsItsType T c → (v : ℕ) → OneToOne R
-        → ((x y : ℕ) → sight_of R x ≡ SomeOf (sight y special) → In x (special_of A k)) → variant_for k next ≡ SomeOf v → ArmsFor T A muts k R unit false J 0 k.exits l
-        → Called T A muts k J R g es (named.match m (named.call c g es) l) (jumps_of A k unit) (as_variant v) }
+        → ((x y : ℕ) → sight_of R x ≡ SomeOf (sight y special) → In x (special_of A muts k)) → variant_for k next ≡ SomeOf v → ArmsFor T A muts k R unit false J 0 k.exits l
+        → Called T A muts k J R g es (named.match m (named.call c g es) l) (jumps_of A muts k unit) (as_variant v) }
 {}
 
 /// The same where the run's end is none.
 pub fn calls_are_left()
     ensures { (T : Assigned) (A : Asked) (muts : ListOf Bool) (k : Plan) (R : Renaming) (unit : Bool) (J : Jumping) (m c : Node) (g : ℕ) (es : Exps) (l : Arms) → KeepsItsType T c → OneToOne R
-        → ((x y : ℕ) → sight_of R x ≡ SomeOf (sight y special) → In x (special_of A k)) → (Among next k.exits → ⊥) → ArmsFor T A muts k R unit false J 0 k.exits l
-        → Called T A muts k J R g es (named.match m (named.call c g es) l) (jumps_of A k unit) no_way }
+        → ((x y : ℕ) → sight_of R x ≡ SomeOf (sight y special) → In x (special_of A muts k)) → (Among next k.exits → ⊥) → ArmsFor T A muts k R unit false J 0 k.exits l
+        → Called T A muts k J R g es (named.match m (named.call c g es) l) (jumps_of A muts k unit) no_way }
 {}
 
 /// The new function's end gives what is handed out, alone, as a tuple or in a variant, or it is the last of the run's statements.
@@ -93,15 +93,15 @@ pub fn tail_calls_stand_alone()
 /// The match of what it gives, where the run's end is an exit.
 pub fn tail_calls_are_matched()
     ensures { (T : Assigned) (A : Asked) (muts : ListOf Bool) (k : Plan) (R : Renaming) (unit : Bool) (J : Jumping) (m c : Node) (g : ℕ) (es : Exps) (l : Arms) → KeepsItsType T c → (has : Bool) (v : ℕ) → OneToOne R
-        → ((x y : ℕ) → sight_of R x ≡ SomeOf (sight y special) → In x (special_of A k)) → variant_for k next ≡ SomeOf v → ArmsFor T A muts k R unit has J 0 k.exits l
-        → TailCalled T A muts k J R g es (named.match m (named.call c g es) l) has (jumps_of A k unit) (as_variant v) }
+        → ((x y : ℕ) → sight_of R x ≡ SomeOf (sight y special) → In x (special_of A muts k)) → variant_for k next ≡ SomeOf v → ArmsFor T A muts k R unit has J 0 k.exits l
+        → TailCalled T A muts k J R g es (named.match m (named.call c g es) l) has (jumps_of A muts k unit) (as_variant v) }
 {}
 
 /// The same where it is none.
 pub fn tail_calls_are_left()
     ensures { (T : Assigned) (A : Asked) (muts : ListOf Bool) (k : Plan) (R : Renaming) (unit : Bool) (J : Jumping) (m c : Node) (g : ℕ) (es : Exps) (l : Arms) → KeepsItsType T c → (has : Bool) → OneToOne R
-        → ((x y : ℕ) → sight_of R x ≡ SomeOf (sight y special) → In x (special_of A k)) → (Among next k.exits → ⊥) → ArmsFor T A muts k R unit has J 0 k.exits l
-        → TailCalled T A muts k J R g es (named.match m (named.call c g es) l) has (jumps_of A k unit) no_way }
+        → ((x y : ℕ) → sight_of R x ≡ SomeOf (sight y special) → In x (special_of A muts k)) → (Among next k.exits → ⊥) → ArmsFor T A muts k R unit has J 0 k.exits l
+        → TailCalled T A muts k J R g es (named.match m (named.call c g es) l) has (jumps_of A muts k unit) no_way }
 {}
 
 /// All together of such a run: its value is the block's, or the unit is.

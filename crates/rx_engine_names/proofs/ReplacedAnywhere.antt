@@ -18,7 +18,7 @@ use Rattle.rx_tree.specs.declared.tree.Ident.{Ident}
 use Rattle.rx_hoist_extraction.specs.Names.{Names, is_among, behind_all}
 use Rattle.rx_hoist_extraction.specs.Run.{as_statements}
 use Rattle.rx_hoist_extraction.specs.Changed.{kept}
-use Rattle.rx_engine_names.specs.Renaming.{Renaming, Has, HasPassage, Made, Passage, Serves}
+use Rattle.rx_engine_names.specs.Renaming.{Pairs, Renaming, Has, HasPassage, Made, Passage, Serves}
 use Rattle.rx_engine_names.specs.LikeNamed.{no_holes, LikeElse, LikeStatements, like_int, like_typed, like_return}
 use Rattle.rx_engine_names.specs.Within.{OptionalWithin, StatementsWithin}
 use Rattle.rx_engine_names.specs.Apart.{Below}
@@ -167,6 +167,9 @@ EndFits T name items I I' labels front run tail call last = (scope start : Varia
 
 pub by_renaming : (items : ℕ → ℕ) (M : Made) (R : Renaming) → Serves items M R → (o o' : Option ℕ) → Meet (Has M.variables) o o' → Meet (λ n m. R.variable n m ≡ true) o o'
 by_renaming items M R sv o o' h = meet_weaker (Has M.variables) (λ n m. R.variable n m ≡ true) sv.variables o o' h
+
+pub made_in_front : (ps : Pairs) (n m : ℕ) → Below ps n m → (o o' : Option ℕ) → Meet (Has ps) o o' → Meet (λ i j. (i < n) × (j < m)) o o'
+made_in_front ps n m b o o' h = meet_weaker (Has ps) (λ i j. (i < n) × (j < m)) (λ i j y. has_below ps n m i j b y) o o' h
 
 -- ---- what is made stays one to one
 
@@ -363,6 +366,7 @@ module _ (T : Told) (items : ℕ → ℕ) (P : ProgramTree) (a : ℕ) (L : Decla
                         text = record { middle = r; comes = comes; place = past_all 0 front; end = m; goes = goes; added = N.added; grown = N.grown; cursor = c; rest = rest; stands = (q.declared, q.loops); names = e; is = refl };
                         made = record { middle = m1; comes = A.answer.1; place = past_all 0 front; end = C.end; goes = C.resolves; added = D.added; grown = D.grown; cursor = c'; rest = rest'; stands = (q.declared', q.loops'); names = e'; is = refl };
                         names = λ z. by_renaming items A.made R sA (variable_named r.scope z) (variable_named A.answer.0 z) (A.answer.2 z);
+                        earlier = λ z. made_in_front A.made.variables (length r.tables.vars) (length A.table.vars) A.reached.passages.below (variable_named r.scope z) (variable_named A.answer.0 z) (A.answer.2 z);
                         behind = λ z d. by_renaming items G R sC (variable_named m.scope z) (variable_named C.end.scope z) (meet z d);
                         variables = λ n k w. either A.made m C.end r.tables A.table A.reached.passages.below (bound_below I ls at (past_all 0 front) (as_statements run) r.scope r.tables m goes) (bound_below I' ls' at' (past_all 0 front) (as_statements call) A.answer.0 A.table C.end C.resolves) n k ((sC.passages (passage_at A.made m C.end) here).variables n k w);
                         loops = λ n k w. either_loop A.made m C.end r.tables A.table A.reached.passages.below_loops n k ((sC.passages (passage_at A.made m C.end) here).loops n k w);

@@ -31,7 +31,7 @@ use Rattle.rx_engine_names.proofs.ResolvingGrows.{grown_then, statements_grow, o
 use Rattle.rx_engine_names.proofs.PairsApart.{below_wider, has_below, one_to_one, passed_on, widens}
 use Rattle.rx_engine_names.proofs.CopiedParts.{statements_kept, text_alone, tail_alone}
 use Rattle.rx_engine_names.proofs.ReplacedBlocks.{past_all, split, join, by_equal, many_numbered, in_parts, with_tail, body_in_parts, tails_alone}
-use Rattle.rx_engine_names.proofs.ReplacedAnywhere.{to_meet, Whole, whole_special, whole_stand, EndResolves, by_renaming}
+use Rattle.rx_engine_names.proofs.ReplacedAnywhere.{made_in_front, to_meet, Whole, whole_special, whole_stand, EndResolves, by_renaming}
 
 -- of pairs that were made in front
 in_front_or : (ps : Pairs) (n m n1 m1 : ℕ) → Below ps n m → (i j : ℕ) → Has ps i j ⊎ ((n1 ≤ i) × (m1 ≤ j)) → ((i < n) × (j < m)) ⊎ ((n1 ≤ i) × (m1 ≤ j))
@@ -109,6 +109,7 @@ module _ (T : ToldLast) (items : ℕ → ℕ) (P : ProgramTree) (a : ℕ) (L : D
                       text = record { middle = S.middle; comes = S.front; place = i1; way = child at k; resolves = text; added = N.added ++ T1.added; grown = grown_text; cursor = c; rest = rest; stands = (q.declared, q.loops); names = e; site = m; is = refl; is_last = refl };
                       made = record { middle = m1; comes = first; place = i1; way = child at' k'; resolves = C; added = D.added ++ G.added; grown = grown; cursor = c'; rest = rest'; stands = (q.declared', q.loops'); names = e'; site = m'; is = refl; is_last = refl };
                       names = λ z. by_renaming items A.made R sv (variable_named S.middle.scope z) (variable_named A.answer.0 z) (meet1 z);
+                      earlier = λ z. made_in_front A.made.variables (length S.middle.tables.vars) (length A.table.vars) A.reached.passages.below (variable_named S.middle.scope z) (variable_named A.answer.0 z) (meet1 z);
                       variables = λ n k w. in_front_or A.made.variables (length S.middle.tables.vars) (length A.table.vars) (length t'.vars) (length C.tables.vars) A.reached.passages.below n k ((sw.passages here (inl refl)).variables n k w);
                       loops = λ n k w. in_front_or A.made.loops (length S.middle.tables.loops) (length A.table.loops) (length t'.loops) (length C.tables.loops) A.reached.passages.below_loops n k ((sw.passages here (inl refl)).loops n k w);
                       told = Z.told (D.added ++ G.added) grown R sv m' c' rest' (q.declared', q.loops') e';

@@ -127,6 +127,8 @@ pub record StandFor (T : Told) (I I' : Inside) (front run call : List Statement)
   pub text : NumberedBehind I p.scope p.around p.way front run p.tables x
   pub made : NumberedBehind I' p.start p.round p.way' front call p.tables' y
   pub names : AllMeet (λ n m. R.variable n m ≡ true) text.middle.scope made.middle.scope
+  -- and they were declared there
+  pub earlier : AllMeet (λ n m. (n < length text.middle.tables.vars) × (m < length made.middle.tables.vars)) text.middle.scope made.middle.scope
   pub behind : (z : List ℕ) → Agree run call z → Meet (λ n m. R.variable n m ≡ true) (variable_named text.end.scope z) (variable_named made.end.scope z)
   -- variables that correspond stand both in front, or a name that both bind means them behind, or both come behind
   pub variables : (n m : ℕ) → R.variable n m ≡ true → ((n < length text.middle.tables.vars) × (m < length made.middle.tables.vars)) ⊎ (NamedByBoth run call text.end.scope made.end.scope n m ⊎ ((length text.end.tables.vars ≤ n) × (length made.end.tables.vars ≤ m)))
@@ -144,6 +146,7 @@ pub record EndFor (T : ToldLast) (I I' : Inside) (front run call : List Statemen
   pub text : NumberedLast I p.scope p.around p.way front run tail p.tables x o
   pub made : NumberedLast I' p.start p.round p.way' front call last p.tables' y o'
   pub names : AllMeet (λ n m. R.variable n m ≡ true) text.middle.scope made.middle.scope
+  pub earlier : AllMeet (λ n m. (n < length text.middle.tables.vars) × (m < length made.middle.tables.vars)) text.middle.scope made.middle.scope
   -- what corresponds stands both in front, or both behind
   pub variables : (n m : ℕ) → R.variable n m ≡ true → ((n < length text.middle.tables.vars) × (m < length made.middle.tables.vars)) ⊎ ((length text.resolves.tables.vars ≤ n) × (length made.resolves.tables.vars ≤ m))
   pub loops : (n m : ℕ) → R.loop n m ≡ true → ((n < length text.middle.tables.loops) × (m < length made.middle.tables.loops)) ⊎ ((length text.resolves.tables.loops ≤ n) × (length made.resolves.tables.loops ≤ m))

@@ -80,9 +80,9 @@ jump_no_end l false q = cc
 none_among : {x : ℕ} → Among x [] → ⊥
 none_among i = elim i [ ]
 
-module _ (A : Asked) (muts : List Bool) (k : Plan) (had : HeldTail A muts k) (u : Untouched (tailed_of A k.params) (about_run A k)) where
+module _ (A : Asked) (muts : List Bool) (k : Plan) (had : HeldTail A muts k) (u : Untouched (tailed_of A k.params) (about_run A muts k)) where
   abbrev V : Facts
-  V = facts_of (tailed_of A k.params) (about_run A k) u
+  V = facts_of (tailed_of A k.params) (about_run A muts k) u
 
   abbrev near : IsNear at_returns A (tailed_of A k.params) k.params
   near = tailed_near A had.tail k.params
@@ -90,7 +90,7 @@ module _ (A : Asked) (muts : List Bool) (k : Plan) (had : HeldTail A muts k) (u 
   -- ---- jumps
 
   jump_by_mark : (m : Mark) (l : ℕ) (again : Bool) (h : List Action) → Arrives V (at_marked (leaves (jump_exit l again)) (tree.jump m l again)) h → Newest (tailed_of A k.params) (shown (leaves (jump_exit l again))) h
-  jump_by_mark m l again h a = behind_jump (tailed_of A k.params) (about_run A k) u (leaves (jump_exit l again)) (tree.jump m l again) a
+  jump_by_mark m l again h a = behind_jump (tailed_of A k.params) (about_run A muts k) u (leaves (jump_exit l again)) (tree.jump m l again) a
 
   jump_ready : (m : Mark) (l : ℕ) (again : Bool) (p : Pack) → Among (jump_exit l again) k.exits → p.outs ≡ k.outs (jump_exit l again) → (x : ℕ) → Among x p.outs → IsReady V (at_marked (leaves (jump_exit l again)) (tree.jump m l again)) x
   jump_ready m l again p i same x o h arrives =
@@ -102,16 +102,16 @@ module _ (A : Asked) (muts : List Bool) (k : Plan) (had : HeldTail A muts k) (u 
         subst (λ h. Written h x) (sym n.1) (inr ((λ d. d), near_out_written at_returns A (tailed_of A k.params) k.params near muts had.accepted k had.plan (jump_exit l again) x (had.whole x) i out n.0 good)),
       )
 
-  jump_dead : (J : Jumping) → ByPlan A k J → (m : Mark) (l : ℕ) (again : Bool) (p : Pack) → Among (jump_exit l again) k.exits → p.outs ≡ k.outs (jump_exit l again)
+  jump_dead : (J : Jumping) → ByPlan A muts k J → (m : Mark) (l : ℕ) (again : Bool) (p : Pack) → Among (jump_exit l again) k.exits → p.outs ≡ k.outs (jump_exit l again)
       → DeadAt V J p.outs (at_marked (leaves (jump_exit l again)) (tree.jump m l again))
   jump_dead J ok m l again p i same h a x d none living =
       let n = jump_by_mark m l again h a in
-      near_others_dead at_returns A k had.plan (tailed_of A k.params) near u (jump_exit l again) x i (jump_no_return l again) (ok.dead x d) (λ o. none (in_list (subst (λ xs. Among x xs) (sym same) o))) n.0 (subst (λ h. Living V x h) n.1 living)
+      near_others_dead at_returns A k had.plan (tailed_of A k.params) near muts had.passed u (jump_exit l again) x i (jump_no_return l again) (ok.dead x d) (λ o. none (in_list (subst (λ xs. Among x xs) (sym same) o))) n.0 (subst (λ h. Living V x h) n.1 living)
 
   return_dead : (J : Jumping) (m : Mark) → DeadBehind V J m
-  return_dead J m n h c x d living = given_dead (tailed_of A k.params) (special_of A k) u m.node (temporary_at n 0) x h living
+  return_dead J m n h c x d living = given_dead (tailed_of A k.params) (special_of A muts k) u m.node (temporary_at n 0) x h living
 
-  left_so : {U : List ℕ} {a : ℕ} {J : Jumping} {R : Renaming} {e : Exp} {f f' : Exp → Exp} → ByPlan A k J → Left U a J R e f f' → Leaves U V a J R e f f'
+  left_so : {U : List ℕ} {a : ℕ} {J : Jumping} {R : Renaming} {e : Exp} {f f' : Exp → Exp} → ByPlan A muts k J → Left U a J R e f f' → Leaves U V a J R e f f'
   left_so {J = J} ok (left_by_jump {m = m} {l = l} {again = again} p leads have gives) =
       let z = ok.jumps l again p leads in
       leaves_marked (leaves (jump_exit l again)) p leads (ready_so (at_marked (leaves (jump_exit l again)) (tree.jump m l again)) have (jump_ready m l again p z.0 z.1)) gives (jump_dead J ok m l again p z.0 z.1)
@@ -135,7 +135,7 @@ module _ (A : Asked) (muts : List Bool) (k : Plan) (had : HeldTail A muts k) (u 
 
   unlent_so : (r : Stretch) (rest : Body) (e : Exit) (x : ℕ) → Among e k.exits → Among x (k.outs e) → MayBeAssigned A muts k x → IsUnlent V (before (with_mark enters k.params r) rest) x
   unlent_so r rest e x i o (is_mut m) n t h c b =
-      near_unlent at_returns A k had.plan (tailed_of A k.params) near muts had.accepted had.unaliased x (out_special A k e x i o) m h (comes_on (tailed_of A k.params) (order_body (before (with_mark enters k.params r) rest) n t) h [] c walk.rests) b
+      near_unlent at_returns A k had.plan (tailed_of A k.params) near muts had.accepted had.unaliased x (out_special A muts k e x i o) m h (comes_on (tailed_of A k.params) (order_body (before (with_mark enters k.params r) rest) n t) h [] c walk.rests) b
   unlent_so r rest e x i o (is_local l) n t h c b =
       let z = near_lent_there at_returns A (tailed_of A k.params) k.params near enters x h (comes_to_mark (tailed_of A k.params) enters (before (reading k.params r) rest) n t h c) b in
       never_lent A muts k premises x l e i o z.0 z.1 z.2
@@ -147,7 +147,7 @@ module _ (A : Asked) (muts : List Bool) (k : Plan) (had : HeldTail A muts k) (u 
 
   told : Told A muts k V
   told = record {
-    needed = λ r rest x m i t h c. living_entered (tailed_of A k.params) (special_of A k) u k.params x m (before r rest) i t h (subst (λ b. ComesTo (tailed_of A k.params) (order_body (tree.runs (mark enters) b) i t) h) (before_reads k.params r rest) c);
+    needed = λ r rest x m i t h c. living_entered (tailed_of A k.params) (special_of A muts k) u k.params x m (before r rest) i t h (subst (λ b. ComesTo (tailed_of A k.params) (order_body (tree.runs (mark enters) b) i t) h) (before_reads k.params r rest) c);
     written = written_there;
     unneeded = λ r rest x m i t h c l. near_local_dead at_returns A k had.plan (tailed_of A k.params) near muts had.accepted u x m (before (reading k.params r) rest) i t h c l;
     jumps = λ U. record { special = λ x i. i; into = λ J l n ok. record { jumps = ok.jumps; dead = ok.dead }; expression = λ a J R e f f' ok o. left_so ok o; statements = λ a J R S b f f' ok o. absurd o };
@@ -170,12 +170,12 @@ module _ (A : Asked) (muts : List Bool) (k : Plan) (had : HeldTail A muts k) (u 
 
   -- ---- in the new function
 
-  module _ (items : ℕ → ℕ) (gain : Allowance) (U : List ℕ) (Ji : Jumping) (ok : ByPlan A k Ji) where
-    as_passed : {R : Renaming} {e e' : Exp} → LikeExp items (left U) gain (by_form (special_of A k)) 0 Ji R e e' → LikeExp items (leaving U) gain V 0 Ji R (let_pass e) e'
-    as_passed {e = e} {e' = e'} l = opens {e = e} {e' = e'} {f = λ e. let_pass e} {f' = λ e. e} 0 0 (omega arith) leaves_passed (exp_so items gain U (special_of A k) V (ByPlan A k) (told.jumps U) Ji ok l)
+  module _ (items : ℕ → ℕ) (gain : Allowance) (U : List ℕ) (Ji : Jumping) (ok : ByPlan A muts k Ji) where
+    as_passed : {R : Renaming} {e e' : Exp} → LikeExp items (left U) gain (by_form (special_of A muts k)) 0 Ji R e e' → LikeExp items (leaving U) gain V 0 Ji R (let_pass e) e'
+    as_passed {e = e} {e' = e'} l = opens {e = e} {e' = e'} {f = λ e. let_pass e} {f' = λ e. e} 0 0 (omega arith) leaves_passed (exp_so items gain U (special_of A muts k) V (ByPlan A muts k) (told.jumps U) Ji ok l)
 
     end_so : {R : Renaming} {l : Last} {e : Exp} {has : Bool} {w : Way} {xs : List ℕ} {end : Body} (a : Aim) → ((b : Bool) → IsLeft l (let_pass e) b) → (GivesUnit U (let_pass e) → IsDropped U l (let_pass e))
-        → (w ≡ no_way → (h : List Action) → Arrives V a h → ⊥) → ((x : ℕ) → Among x xs → IsReady V a x) → TailEnded items gain U (special_of A k) Ji R e has w xs end → LikeEnd items gain U V Ji R a l has w xs end
+        → (w ≡ no_way → (h : List Action) → Arrives V a h → ⊥) → ((x : ℕ) → Among x xs → IsReady V a x) → TailEnded items gain U (special_of A muts k) Ji R e has w xs end → LikeEnd items gain U V Ji R a l has w xs end
     end_so a is drops never ready (tail_value l) = end_value (is true) (as_passed l)
     end_so a is drops never ready (tail_in_variant l have takes) = end_variant (is true) (as_passed l) (ready_so a have ready) takes
     end_so a is drops never ready (tail_in_tuple l new apart have gives) = end_tuple (is true) (bound_value (as_passed l)) new apart (ready_so a have ready) gives
@@ -198,7 +198,7 @@ module _ (A : Asked) (muts : List Bool) (k : Plan) (had : HeldTail A muts k) (u 
     drops : (U : List ℕ) → GivesUnit U (let_pass e) → IsDropped U l (let_pass e)
     placed : (f : Exp) → l ≡ a_tail f → IsPlaced V (block_with r l rest) f
     ready : Among next k.exits → (x : ℕ) → Among x (k.outs next) → IsReady V (aim_with r l rest) x
-    dead : Among next k.exits → (x : ℕ) → In x (special_of A k) → (Among x (k.outs next) → ⊥) → (h : List Action) → Arrives V (aim_with r l rest) h → Living V x h → ⊥
+    dead : Among next k.exits → (x : ℕ) → In x (special_of A muts k) → (Among x (k.outs next) → ⊥) → (h : List Action) → Arrives V (aim_with r l rest) h → Living V x h → ⊥
     unreached : NeverEnds (a_marked e (leaves next)) r → (h : List Action) → Arrives V (aim_with r l rest) h → ⊥
 
   part_on : {s : Order} {a : Action} {v : List Action} → Walk (orders.then (orders.then s orders.nothing) (orders.act a)) v walk.on → (us : List Action) × Walk s us walk.on
@@ -229,10 +229,10 @@ module _ (A : Asked) (muts : List Bool) (k : Plan) (had : HeldTail A muts k) (u 
           subst (λ h. Written h x) (sym n.1) (inr ((λ d. d), tail_out_written A had.tail k had.plan had.told_once muts had.accepted x (had.whole x) i o (mark_of e).node (temporary_of e) z.0 n.0 good)),
         )
 
-    dead_there : Among next k.exits → (x : ℕ) → In x (special_of A k) → (Among x (k.outs next) → ⊥) → (h : List Action) → Arrives V aim h → Living V x h → ⊥
+    dead_there : Among next k.exits → (x : ℕ) → In x (special_of A muts k) → (Among x (k.outs next) → ⊥) → (h : List Action) → Arrives V aim h → Living V x h → ⊥
     dead_there i x s none h c l =
         let z = newest h c in
-        tail_others_dead A had.tail k had.plan had.told_once u x i s none (mark_of e).node (temporary_of e) z.0 z.1.0 (subst (λ h. Living V x h) z.1.1 l)
+        tail_others_dead A had.tail k had.plan had.told_once muts had.passed u x i s none (mark_of e).node (temporary_of e) z.0 z.1.0 (subst (λ h. Living V x h) z.1.1 l)
 
     unreached_there : NeverEnds (a_marked e (leaves next)) r → (h : List Action) → Arrives V aim h → ⊥
     unreached_there (first_never n) _ (arrives_tail i t c th x) = never_passed (marked_never enters k.params n) th
@@ -254,7 +254,7 @@ module _ (A : Asked) (muts : List Bool) (k : Plan) (had : HeldTail A muts k) (u 
     end_aim = aim_with r (an_end m (let_pass e)) rest
 
     dead_behind : (x : ℕ) (h : List Action) → Arrives V end_aim h → Living V x h → ⊥
-    dead_behind x _ (arrives_then {h = h} c) l = given_dead (tailed_of A k.params) (special_of A k) u m.node (temporary_of (let_pass e)) x h l
+    dead_behind x _ (arrives_then {h = h} c) l = given_dead (tailed_of A k.params) (special_of A muts k) u m.node (temporary_of (let_pass e)) x h l
 
     unreached_end : NeverEnds (a_marked e (leaves next)) r → (h : List Action) → Arrives V end_aim h → ⊥
     unreached_end (first_never n) _ (arrives_then (arrives_past i t c th x)) = never_passed (marked_never enters k.params n) th
@@ -287,28 +287,28 @@ module _ (A : Asked) (muts : List Bool) (k : Plan) (had : HeldTail A muts k) (u 
     outs_ready (as_variant v) i x o = leads.ready i x o
     outs_ready no_way n x o = absurd (no_outs n x o)
 
-    others_dead : (w : Way) → Ends w → Unreached w → (x : ℕ) → In x (special_of A k) → (Among x (k.outs next) → ⊥) → (h : List Action) → Arrives V the_aim h → Living V x h → ⊥
+    others_dead : (w : Way) → Ends w → Unreached w → (x : ℕ) → In x (special_of A muts k) → (Among x (k.outs next) → ⊥) → (h : List Action) → Arrives V the_aim h → Living V x h → ⊥
     others_dead bare i never x s none h c l = leads.dead i x s none h c l
     others_dead (as_variant v) i never x s none h c l = leads.dead i x s none h c l
     others_dead no_way i never x s none h c l = never refl h c
 
-    all_dead : (w : Way) → Ends w → Unreached w → (R : Renaming) → NotHanded A k next R → AreDead V R the_aim
+    all_dead : (w : Way) → Ends w → Unreached w → (R : Renaming) → NotHanded A muts k next R → AreDead V R the_aim
     all_dead w i never R none x y seen h c l = let s = none x y seen in others_dead w i never x s.0 s.1 h c l
 
     again_dead : (w : Way) → Ends w → Unreached w → (x : ℕ) → Among x k.redeclared → (h : List Action) → Arrives V the_aim h → Living V x h → ⊥
-    again_dead w i never x m h c l = others_dead w i never x (again_special A k x m) (again_not_out A k had.plan x m) h c l
+    again_dead w i never x m h c l = others_dead w i never x (again_special A muts k x m) (again_not_out A k had.plan x m) h c l
 
     module _ (modes : List Mode) (items : ℕ → ℕ) (gain : Allowance) (U : List ℕ) (N : New) where
       becomes : {J Ji : Jumping} {R Rn Ra Rb : Renaming} {r' : Stretch} {has : Bool} {w : Way} {end : Body} {es : Operands} {mc : Mark} {called : Exp} {f' : Body → Body} (mb : Mark) (ls : List (ℕ × ℕ))
-          → N.function.body ≡ body_of mb ls r' end → EntersWith gain.strays k modes R es N.function.params ls Ra → Moved items gain U (special_of A k) Ji Ra r r' Rb
-          → TailEnded items gain U (special_of A k) Ji Rb e has w (k.outs next) end → (w ≡ no_way → NeverEnds (a_marked e (leaves next)) r) → Ends w → TailCallOf A muts k J R (tree.call mc N.number es) has Ji w called
+          → N.function.body ≡ body_of mb ls r' end → EntersWith gain.strays k modes R es N.function.params ls Ra → Moved items gain U (special_of A muts k) Ji Ra r r' Rb
+          → TailEnded items gain U (special_of A muts k) Ji Rb e has w (k.outs next) end → (w ≡ no_way → NeverEnds (a_marked e (leaves next)) r) → Ends w → TailCallOf A muts k J R (tree.call mc N.number es) has Ji w called
           → TailHanded A muts k J R Rb l called has w (k.outs next) Rn f' → StatementsBecomeCall items gain U N V 1 J R Rn rest (λ b. before (with_mark enters k.params r) (with_last l b)) f'
       becomes {Ji = Ji} {has = has} {w = w} {mc = mc} mb ls is en moved ended never i call handed =
           statements_become_call {r = with_mark enters k.params r} {l = l} {has = has} {mc = mc} _ _ mb ls is (entered_so A muts k V told r (with_last l rest) en)
           (stretch_so A muts k V told items gain U Ji ok moved) (end_so items gain U Ji ok the_aim leads.is_left (leads.drops U) far (outs_ready w i) ended) leads.placed (calling_so A muts k V told r (with_last l rest) call)
           (handed_so A muts k V told the_aim (all_dead w i far) (again_dead w i far) (block_with r l rest) (λ x o m. assigned_so r (with_last l rest) w i x o m) handed)
         where
-          ok : ByPlan A k Ji
+          ok : ByPlan A muts k Ji
           ok = by_plan A muts k V told call
 
           far : Unreached w

@@ -1,6 +1,6 @@
--- What a plan chooses: where it says no of a variable that it was asked of, nothing holds of it; and each variable that may be elsewhere
--- is one that may be handed out.
-use Rattle.std.proofs.Common.{◌≡◌, ◌⊎◌, inl, inr, ℕ, Bool, true, false, not, ◌&&◌, ◌||◌, ◌==◌, if◌then◌else◌, List, [], ◌∷◌, ◌++◌, refl, sym, ap, subst, true≢false}
+-- What a plan chooses: where it says no of a variable that it was asked of, nothing holds of it; and a variable that may be elsewhere
+-- is not live at an exit that doesn't hand it out.
+use Rattle.std.proofs.Common.{◌≡◌, ◌≢◌, ◌⊎◌, inl, inr, ℕ, Bool, true, false, not, ◌&&◌, ◌||◌, ◌==◌, if◌then◌else◌, List, [], ◌∷◌, ◌++◌, refl, sym, ap, subst, true≢false}
 use Rattle.std.proofs.lemmas.Bool.Decides.{Decides-eqb}
 use Rattle.rx_lower_walks.specs.Walks.{Among, here, there}
 use Rattle.rx_facts_tables.proofs.Fronts.{both_true}
@@ -8,6 +8,9 @@ use Rattle.rx_exits_plan.specs.Points.{Exit, next, breaks, continues, returns}
 use Rattle.rx_exits_plan.specs.Occurrences.{those, has_number, is_declared_in_run, is_direct, is_named_behind}
 use Rattle.rx_exits_plan.specs.Asked.{Asked, IsParam, IsLocal, IsLiveAt}
 use Rattle.rx_exits_plan.specs.Plan.{Plan, Chosen, none, taken, left, IsPlan, variables_of, is_moved, is_offered, offered, is_redeclared}
+use Rattle.rx_modes_uses.specs.NotMut.{NotMut}
+use Rattle.rx_modes_given.specs.GivenAway.{is_given_away}
+use Rattle.rx_modes_given.proofs.Needed.{unrefused_not_needed}
 use Rattle.rx_engine_simulation.specs.Sights.{In}
 use Rattle.rx_engine_related.specs.AboutRun.{handed, special_of}
 
@@ -76,7 +79,7 @@ not_chosen (taken q c) (there i) n = not_chosen c i (λ j. n (there j))
 not_chosen (left r c) here n = r
 not_chosen (left r c) (there i) n = not_chosen c i n
 
--- ---- what may be elsewhere
+-- ---- what it names
 
 module _ (A : Asked) (k : Plan) (p : IsPlan A k) where
   pub param_named : (x : ℕ) → Among x k.params → Among x (variables_of A) × IsParam A x
@@ -102,27 +105,6 @@ module _ (A : Asked) (k : Plan) (p : IsPlan A k) where
       by ih (inl j) = (e, f e here, in_list j)
       by ih (inr j) = ih j
 
-  pub data Elsewhere (x : ℕ) : Type 0 where
-    moved_param : Among x k.params → is_moved A x ≡ true → Elsewhere x
-    a_local : Among x k.locals → Elsewhere x
-    an_out : (e : Exit) → Among e k.exits → Among x (k.outs e) → Elsewhere x
-    again : Among x k.redeclared → Elsewhere x
-
-  pub special_is : (x : ℕ) → In x (special_of A k) → Elsewhere x
-  special_is x i = by (either_part x (those (is_moved A) k.params) (k.locals ++ (handed k.exits k.outs ++ k.redeclared)) i)
-    where
-      of_rest : In x (handed k.exits k.outs) ⊎ In x k.redeclared → Elsewhere x
-      of_rest (inl j) = let z = some_out k.exits (λ e q. q) x j in an_out z.0 z.1 z.2
-      of_rest (inr j) = again (in_list j)
-
-      of_more : In x k.locals ⊎ In x (handed k.exits k.outs ++ k.redeclared) → Elsewhere x
-      of_more (inl j) = a_local (in_list j)
-      of_more (inr j) = of_rest (either_part x (handed k.exits k.outs) k.redeclared j)
-
-      by : In x (those (is_moved A) k.params) ⊎ In x (k.locals ++ (handed k.exits k.outs ++ k.redeclared)) → Elsewhere x
-      by (inl j) = let z = of_those (is_moved A) k.params (in_list j) in moved_param z.0 z.1
-      by (inr j) = of_more (either_part x k.locals (handed k.exits k.outs ++ k.redeclared) j)
-
   offers : (x : ℕ) → Among x (variables_of A) → is_offered A k.locals x ≡ true → Among x (offered A k.locals)
   offers x i e = to_those (is_offered A k.locals) (variables_of A) i e
 
@@ -140,14 +122,59 @@ module _ (A : Asked) (k : Plan) (p : IsPlan A k) where
   third_of false true c e = refl
   third_of false false c e = e
 
-  pub elsewhere_offered : (x : ℕ) → Elsewhere x → Among x (offered A k.locals)
-  elsewhere_offered x (moved_param i e) = offers x (param_named x i).0 (first_of (is_moved A x) (has_number x k.locals) _ e)
-  elsewhere_offered x (a_local i) = offers x (local_named x i).0 (second_of (is_moved A x) (has_number x k.locals) _ (number_there x k.locals i))
-  elsewhere_offered x (an_out e i o) = (out_is e i x o).0
-  elsewhere_offered x (again i) =
+  moved_offered : (x : ℕ) → Among x k.params → is_moved A x ≡ true → Among x (offered A k.locals)
+  moved_offered x i e = offers x (param_named x i).0 (first_of (is_moved A x) (has_number x k.locals) _ e)
+
+  local_offered : (x : ℕ) → Among x k.locals → Among x (offered A k.locals)
+  local_offered x i = offers x (local_named x i).0 (second_of (is_moved A x) (has_number x k.locals) _ (number_there x k.locals i))
+
+  again_offered : (x : ℕ) → Among x k.redeclared → Among x (offered A k.locals)
+  again_offered x i =
       let z = of_those (is_redeclared A (k.outs next)) (variables_of A) (subst (λ l. Among x l) p.redeclared i) in
       let q = both_true (is_direct A.run A.home.body x && is_named_behind A.run A.home.body x) (not (has_number x (k.outs next))) z.1 in
       offers x z.0 (third_of (is_moved A x) (has_number x k.locals) (is_direct A.run A.home.body x) (both_true (is_direct A.run A.home.body x) (is_named_behind A.run A.home.body x) q.0).0)
 
   pub offered_named : (x : ℕ) → Among x (offered A k.locals) → Among x (variables_of A)
   offered_named x i = (of_those (is_offered A k.locals) (variables_of A) i).0
+
+-- ---- what may be elsewhere
+
+module _ (A : Asked) (muts : List Bool) (k : Plan) (p : IsPlan A k) where
+  pub data Elsewhere (x : ℕ) : Type 0 where
+    given_param : Among x k.params → is_given_away A muts x ≡ true → Elsewhere x
+    a_local : Among x k.locals → Elsewhere x
+    an_out : (e : Exit) → Among e k.exits → Among x (k.outs e) → Elsewhere x
+    again : Among x k.redeclared → Elsewhere x
+
+  pub special_is : (x : ℕ) → In x (special_of A muts k) → Elsewhere x
+  special_is x i = by (either_part x (those (is_given_away A muts) k.params) (k.locals ++ (handed k.exits k.outs ++ k.redeclared)) i)
+    where
+      of_rest : In x (handed k.exits k.outs) ⊎ In x k.redeclared → Elsewhere x
+      of_rest (inl j) = let z = some_out A k p k.exits (λ e q. q) x j in an_out z.0 z.1 z.2
+      of_rest (inr j) = again (in_list j)
+
+      of_more : In x k.locals ⊎ In x (handed k.exits k.outs ++ k.redeclared) → Elsewhere x
+      of_more (inl j) = a_local (in_list j)
+      of_more (inr j) = of_rest (either_part x (handed k.exits k.outs) k.redeclared j)
+
+      by : In x (those (is_given_away A muts) k.params) ⊎ In x (k.locals ++ (handed k.exits k.outs ++ k.redeclared)) → Elsewhere x
+      by (inl j) = let z = of_those (is_given_away A muts) k.params (in_list j) in given_param z.0 z.1
+      by (inr j) = of_more (either_part x k.locals (handed k.exits k.outs ++ k.redeclared) j)
+
+  pub elsewhere_named : (x : ℕ) → Elsewhere x → Among x (variables_of A)
+  elsewhere_named x (given_param i e) = (param_named A k p x i).0
+  elsewhere_named x (a_local i) = (local_named A k p x i).0
+  elsewhere_named x (an_out e i o) = offered_named A k p x (out_is A k p e i x o).0
+  elsewhere_named x (again i) = offered_named A k p x (again_offered A k p x i)
+
+  -- What an exit doesn't hand out is not live there, where no param is refused: it was asked of what may be handed out, and what is given away and
+  -- not moved would have no mode.
+  pub not_live : ((y : ℕ) → ¬ (NotMut A muts k y)) → (e : Exit) → Among e k.exits → e ≢ returns → (x : ℕ) → Elsewhere x → (Among x (k.outs e) → ⊥) → ¬ (IsLiveAt A k.params e x)
+  not_live passed e i n x (given_param j g) absent = by (is_moved A x) refl
+    where
+      by : (b : Bool) → is_moved A x ≡ b → ¬ (IsLiveAt A k.params e x)
+      by true m = not_chosen (p.outs e i n) (moved_offered A k p x j m) absent
+      by false m = λ l. unrefused_not_needed A muts k x passed j g m (e, i, l)
+  not_live passed e i n x (a_local j) absent = not_chosen (p.outs e i n) (local_offered A k p x j) absent
+  not_live passed e i n x (an_out c j o) absent = not_chosen (p.outs e i n) (out_is A k p c j x o).0 absent
+  not_live passed e i n x (again j) absent = not_chosen (p.outs e i n) (again_offered A k p x j) absent

@@ -1,5 +1,5 @@
 -- How the new function ends, where the run does: the mark at its end tells what is needed there.
-use Rattle.std.proofs.Common.{◌≡◌, ℕ, false, List, refl, subst}
+use Rattle.std.proofs.Common.{◌≡◌, ℕ, Bool, false, List, refl, subst}
 use Rattle.rx_typed.specs.Tree.{Exp, Body}
 use Rattle.rx_lower_walks.specs.Actions.{Action}
 use Rattle.rx_lower_walks.specs.Walks.{Among, here, there}
@@ -41,12 +41,12 @@ module _ (items : ℕ → ℕ) (gain : Allowance) (U : List ℕ) (special : List
   ended_so a never ready gives_never = end_never (never refl)
   ended_so a never ready (gives_left l) = end_left {b = false} left_marked (never refl) (exp_so items gain U special V Ok jumps J ok l)
 
-module _ (A : Asked) (k : Plan) (u : Untouched (running_of A k.params) (about_run A k)) where
+module _ (A : Asked) (muts : List Bool) (k : Plan) (u : Untouched (running_of A k.params) (about_run A muts k)) where
   -- behind the mark at the run's end
-  pub by_mark_behind : (r : Stretch) (rest : Body) → ByMark A k u next (to_rest (before (marked_run k none_left r) rest) (marked_run k none_left r))
+  pub by_mark_behind : (r : Stretch) (rest : Body) → ByMark A muts k u next (to_rest (before (marked_run k none_left r) rest) (marked_run k none_left r))
   by_mark_behind r rest =
-      subst (λ s. ByMark A k u next (to_rest (before (does_then (mark enters) s) rest) (does_then (mark enters) s))) (closed_reading k.params r (leaves next))
-      (λ h a. behind_closed (running_of A k.params) (about_run A k) u (with_mark enters k.params r) (leaves next) rest a)
+      subst (λ s. ByMark A muts k u next (to_rest (before (does_then (mark enters) s) rest) (does_then (mark enters) s))) (closed_reading k.params r (leaves next))
+      (λ h a. behind_closed (running_of A k.params) (about_run A muts k) u (with_mark enters k.params r) (leaves next) rest a)
 
-  pub by_mark_last : (r : Stretch) (e : Exp) (rest : Body) → ByMark A k u next (aim_of (a_marked e (leaves next)) (before (with_mark enters k.params r) (with_last (a_marked e (leaves next)) rest)) (with_mark enters k.params r))
-  by_mark_last r e rest h a = behind_statement (running_of A k.params) (about_run A k) u (with_mark enters k.params r) e (leaves next) rest a
+  pub by_mark_last : (r : Stretch) (e : Exp) (rest : Body) → ByMark A muts k u next (aim_of (a_marked e (leaves next)) (before (with_mark enters k.params r) (with_last (a_marked e (leaves next)) rest)) (with_mark enters k.params r))
+  by_mark_last r e rest h a = behind_statement (running_of A k.params) (about_run A muts k) u (with_mark enters k.params r) e (leaves next) rest a

@@ -66,12 +66,12 @@ module _ (again : Bool) (V : Facts) (R : Renaming) (part : Order) (cold : List �
 
 -- ---- where the run is entered
 
-module _ (A : Asked) (k : Plan) (u : Untouched (running_of A k.params) (about_run A k)) (short : A.run.tail ≡ false) (plan : IsPlan A k) (muts : List Bool) (accepted : Accepted A muts) where
+module _ (A : Asked) (muts : List Bool) (k : Plan) (u : Untouched (running_of A k.params) (about_run A muts k)) (short : A.run.tail ≡ false) (plan : IsPlan A k) (accepted : Accepted A muts) where
   pub entered : {again : Bool} {modes : List Mode} {R Ra : Renaming} {es : Operands} {ps : List Parameter} {ls : List (ℕ × ℕ)} (r : Stretch) (rest : Body) → EntersWith again k modes R es ps ls Ra
-      → Entered again (known_of A k u) R (before (with_mark enters k.params r) rest) es ps ls Ra
+      → Entered again (known_of A muts k u) R (before (with_mark enters k.params r) rest) es ps ls Ra
   entered {again} {R = R} r rest (enters_with cold Rp Rl all_shut given local absents covers specials) =
       statements.enters cold Rp Rl all_shut
-      (λ i t. passes again (known_of A k u) R (order_body (before (with_mark enters k.params r) rest) i t) cold all_shut
-      (λ x m h c. param_lives A k u r rest x h m (i, t, c)) (λ x m h c. param_written A k u short plan muts accepted r rest x h m (i, t, c)) given)
-      (λ i t. locals_so again (known_of A k u) R (order_body (before (with_mark enters k.params r) rest) i t) cold all_shut (λ x m h c l. local_dead A k u short plan muts accepted r rest x h m (i, t, c) l) local)
+      (λ i t. passes again (known_of A muts k u) R (order_body (before (with_mark enters k.params r) rest) i t) cold all_shut
+      (λ x m h c. param_lives A muts k u r rest x h m (i, t, c)) (λ x m h c. param_written A muts k u short plan accepted r rest x h m (i, t, c)) given)
+      (λ i t. locals_so again (known_of A muts k u) R (order_body (before (with_mark enters k.params r) rest) i t) cold all_shut (λ x m h c l. local_dead A muts k u short plan accepted r rest x h m (i, t, c) l) local)
       absents covers specials

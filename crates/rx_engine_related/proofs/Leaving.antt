@@ -84,15 +84,15 @@ pack_has xs (Some v) q = (v, refl, sym (ap outs_if q))
 -- ---- jumps by the plan
 
 -- what leaves is an exit, with what this hands out; and what would be dead is elsewhere
-pub record ByPlan (A : Asked) (k : Plan) (J : Jumping) : Type 0 where
+pub record ByPlan (A : Asked) (muts : List Bool) (k : Plan) (J : Jumping) : Type 0 where
   pub jumps : (l : ℕ) (again : Bool) (p : Pack) → J.leaving l again ≡ Some p → Among (jump_exit l again) k.exits × (p.outs ≡ k.outs (jump_exit l again))
-  pub dead : (x : ℕ) → In x J.dead → In x (special_of A k)
+  pub dead : (x : ℕ) → In x J.dead → In x (special_of A muts k)
 
-pub inner_by_plan : (A : Asked) (k : Plan) → ByPlan A k inner_jumps
-inner_by_plan A k = record { jumps = λ l again p e. absurd (cc); dead = λ x i. absurd i }
+pub inner_by_plan : (A : Asked) (muts : List Bool) (k : Plan) → ByPlan A muts k inner_jumps
+inner_by_plan A muts k = record { jumps = λ l again p e. absurd (cc); dead = λ x i. absurd i }
 
-pub jumps_by_plan : (A : Asked) (k : Plan) (unit : Bool) → ByPlan A k (jumps_of A k unit)
-jumps_by_plan A k unit = record {
+pub jumps_by_plan : (A : Asked) (muts : List Bool) (k : Plan) (unit : Bool) → ByPlan A muts k (jumps_of A muts k unit)
+jumps_by_plan A muts k unit = record {
   jumps = λ l again p e. let z = pack_has (k.outs (jump_exit l again)) (variant_for k (jump_exit l again)) e in (variant_among k (jump_exit l again) z.1, z.2);
   dead = λ x i. i;
 }
@@ -101,27 +101,27 @@ jump_no_return : (l : ℕ) (again : Bool) → jump_exit l again ≢ returns
 jump_no_return l true q = cc
 jump_no_return l false q = cc
 
-module _ (A : Asked) (muts : List Bool) (k : Plan) (had : Held A muts k) (u : Untouched (running_of A k.params) (about_run A k)) where
+module _ (A : Asked) (muts : List Bool) (k : Plan) (had : Held A muts k) (u : Untouched (running_of A k.params) (about_run A muts k)) where
   -- ---- in the new function
 
-  jump_by_mark : (m : Mark) (l : ℕ) (again : Bool) → ByMark A k u (jump_exit l again) (at_marked (leaves (jump_exit l again)) (tree.jump m l again))
-  jump_by_mark m l again h a = behind_jump (running_of A k.params) (about_run A k) u (leaves (jump_exit l again)) (tree.jump m l again) a
+  jump_by_mark : (m : Mark) (l : ℕ) (again : Bool) → ByMark A muts k u (jump_exit l again) (at_marked (leaves (jump_exit l again)) (tree.jump m l again))
+  jump_by_mark m l again h a = behind_jump (running_of A k.params) (about_run A muts k) u (leaves (jump_exit l again)) (tree.jump m l again) a
 
-  jump_ready : (m : Mark) (l : ℕ) (again : Bool) (p : Pack) → Among (jump_exit l again) k.exits → p.outs ≡ k.outs (jump_exit l again) → (x : ℕ) → Among x p.outs → IsReady (known_of A k u) (at_marked (leaves (jump_exit l again)) (tree.jump m l again)) x
+  jump_ready : (m : Mark) (l : ℕ) (again : Bool) (p : Pack) → Among (jump_exit l again) k.exits → p.outs ≡ k.outs (jump_exit l again) → (x : ℕ) → Among x p.outs → IsReady (known_of A muts k u) (at_marked (leaves (jump_exit l again)) (tree.jump m l again)) x
   jump_ready m l again p i same x o =
-      out_ready A k u had.short had.plan muts had.accepted (jump_exit l again) (at_marked (leaves (jump_exit l again)) (tree.jump m l again)) x (jump_by_mark m l again) (jump_no_return l again)
+      out_ready A muts k u had.short had.plan had.accepted (jump_exit l again) (at_marked (leaves (jump_exit l again)) (tree.jump m l again)) x (jump_by_mark m l again) (jump_no_return l again)
       (had.one_place (jump_exit l again) i (jump_no_return l again)) (had.whole x) i (subst (λ xs. Among x xs) same o)
 
-  jump_dead : (J : Jumping) → ByPlan A k J → (m : Mark) (l : ℕ) (again : Bool) (p : Pack) → Among (jump_exit l again) k.exits → p.outs ≡ k.outs (jump_exit l again)
-      → DeadAt (known_of A k u) J p.outs (at_marked (leaves (jump_exit l again)) (tree.jump m l again))
+  jump_dead : (J : Jumping) → ByPlan A muts k J → (m : Mark) (l : ℕ) (again : Bool) (p : Pack) → Among (jump_exit l again) k.exits → p.outs ≡ k.outs (jump_exit l again)
+      → DeadAt (known_of A muts k u) J p.outs (at_marked (leaves (jump_exit l again)) (tree.jump m l again))
   jump_dead J ok m l again p i same h a x d none living =
       let n = jump_by_mark m l again h a in
-      running_others_dead A had.short k had.plan u (jump_exit l again) x i (jump_no_return l again) (ok.dead x d) (λ o. none (in_list (subst (λ xs. Among x xs) (sym same) o))) n.0 (subst (λ h. Living (known_of A k u) x h) n.1 living)
+      running_others_dead A had.short k had.plan muts had.passed u (jump_exit l again) x i (jump_no_return l again) (ok.dead x d) (λ o. none (in_list (subst (λ xs. Among x xs) (sym same) o))) n.0 (subst (λ h. Living (known_of A muts k u) x h) n.1 living)
 
-  return_dead : (J : Jumping) (m : Mark) → DeadBehind (known_of A k u) J m
-  return_dead J m n h c x d living = given_dead (running_of A k.params) (special_of A k) u m.node (temporary_at n 0) x h living
+  return_dead : (J : Jumping) (m : Mark) → DeadBehind (known_of A muts k u) J m
+  return_dead J m n h c x d living = given_dead (running_of A k.params) (special_of A muts k) u m.node (temporary_at n 0) x h living
 
-  left_so : {U : List ℕ} {a : ℕ} {J : Jumping} {R : Renaming} {e : Exp} {f f' : Exp → Exp} → ByPlan A k J → Left U a J R e f f' → Leaves U (known_of A k u) a J R e f f'
+  left_so : {U : List ℕ} {a : ℕ} {J : Jumping} {R : Renaming} {e : Exp} {f f' : Exp → Exp} → ByPlan A muts k J → Left U a J R e f f' → Leaves U (known_of A muts k u) a J R e f f'
   left_so {J = J} ok (left_by_jump {m = m} {l = l} {again = again} p leads have gives) =
       let z = ok.jumps l again p leads in
       leaves_marked (leaves (jump_exit l again)) p leads (ready_so (at_marked (leaves (jump_exit l again)) (tree.jump m l again)) have (jump_ready m l again p z.0 z.1)) gives (jump_dead J ok m l again p z.0 z.1)
@@ -129,7 +129,7 @@ module _ (A : Asked) (muts : List Bool) (k : Plan) (had : Held A muts k) (u : Un
   left_so {J = J} ok (left_with_value {m = m} is) = leaves_value is (return_dead J m)
   left_so {J = J} ok (left_with_unit {m = m} is unit new gives) = leaves_unit is unit (return_dead J m) new gives
 
-  pub all_left : (U : List ℕ) → Opens (left U) (leaving U) (by_form (special_of A k)) (known_of A k u) (ByPlan A k)
+  pub all_left : (U : List ℕ) → Opens (left U) (leaving U) (by_form (special_of A muts k)) (known_of A muts k u) (ByPlan A muts k)
   all_left U = record {
     special = λ x i. i;
     into = λ J l n ok. record { jumps = ok.jumps; dead = ok.dead };
@@ -152,26 +152,26 @@ module _ (A : Asked) (muts : List Bool) (k : Plan) (had : Held A muts k) (u : Un
   }
 
   -- what is handed out and may be assigned was not lent where the run is entered
-  pub assigned_unlent : (b : Body) (e : Exit) (x : ℕ) → Among e k.exits → Among x (k.outs e) → MayBeAssigned A muts k x → IsUnlent (known_of A k u) (tree.runs (mark enters) b) x
-  assigned_unlent b e x i o (is_mut m) = whole_unlent A k u had.short had.plan muts had.accepted had.unaliased (tree.runs (mark enters) b) x (out_special A k e x i o) m
+  pub assigned_unlent : (b : Body) (e : Exit) (x : ℕ) → Among e k.exits → Among x (k.outs e) → MayBeAssigned A muts k x → IsUnlent (known_of A muts k u) (tree.runs (mark enters) b) x
+  assigned_unlent b e x i o (is_mut m) = whole_unlent A muts k u had.short had.plan had.accepted had.unaliased (tree.runs (mark enters) b) x (out_special A muts k e x i o) m
   assigned_unlent b e x i o (is_local l) = λ n t h c w.
       let z = running_lent_there A had.short k.params x (shown enters) h (comes_to_mark (running_of A k.params) enters b n t h c) w in
       never_lent A muts k premises x l e i o z.0 z.1 z.2
   assigned_unlent b e x i o (not_lent none) =
       λ n t h c w. none (running_lent A had.short k.params muts had.accepted x h (comes_on (running_of A k.params) (order_body (tree.runs (mark enters) b) n t) h [] c walk.rests) w)
 
-  arm_so : {R : Renaming} {l : Arms} {p : Pack} {jump : Exp} (b : Body) (e : Exit) → Among e k.exits → p.outs ≡ k.outs e → BackArm A muts k R l p jump → JumpArm (known_of A k u) R (tree.runs (mark enters) b) l p jump
+  arm_so : {R : Renaming} {l : Arms} {p : Pack} {jump : Exp} (b : Body) (e : Exit) → Among e k.exits → p.outs ≡ k.outs e → BackArm A muts k R l p jump → JumpArm (known_of A muts k u) R (tree.runs (mark enters) b) l p jump
   arm_so b e i same (back_arm Rs Rr Rd all within received receives picks put back jumps) =
       jump_arm Rs Rr Rd all within received receives picks
-      (back_so A (known_of A k u) muts k _ (tree.runs (mark enters) b) (λ x o m. assigned_unlent b e x i (subst (λ xs. Among x xs) same o) m) put) back jumps
+      (back_so A (known_of A muts k u) muts k _ (tree.runs (mark enters) b) (λ x o m. assigned_unlent b e x i (subst (λ xs. Among x xs) same o) m) put) back jumps
 
-  pub arms_so : {unit : Bool} {J : Jumping} {R : Renaming} {l : Arms} (b : Body) → ArmsOf A muts k unit J R l → JumpOn (known_of A k u) J (jumps_of A k unit) R (tree.runs (mark enters) b) l
+  pub arms_so : {unit : Bool} {J : Jumping} {R : Renaming} {l : Arms} (b : Body) → ArmsOf A muts k unit J R l → JumpOn (known_of A muts k u) J (jumps_of A muts k unit) R (tree.runs (mark enters) b) l
   arms_so {unit} b arms = record {
     all_dead = arms.all_special;
     no_loops = refl;
     jumps_on = λ n again p e.
         let z = arms.jumps n again p e in
-        let q = (jumps_by_plan A k unit).jumps n again p e in
+        let q = (jumps_by_plan A muts k unit).jumps n again p e in
         (z.0, z.1, z.2, arm_so b (jump_exit n again) q.0 q.1 z.3);
     returns_on = arms.return;
   }

@@ -95,7 +95,7 @@ living_ahead f l u x h (later a n k) =
     let z = living_ahead f l u x (a ∷ h) k in
     record { list = a ∷ z.list; walk = z.walk; live = goes_by (has_root (used a.act) (variable x)) (has_root (roots_of (written a.act)) (variable x)) (ahead (living (variable x)) z.list) (λ e. n (inr (kills_whole a.act x e))) z.live }
 
-pub dead_behind : (A : Asked) (k : Plan) (u : Untouched (text_of A k) (about_run A k)) (e : Exit) (x : ℕ) → ¬ (IsLiveAt A k.params e x) → (h : List Action) → Living (facts_of (text_of A k) (about_run A k) u) x (shown (leaves e) ∷ h) → ⊥
-dead_behind A k u e x none h l =
-    let z = living_ahead (text_of A k) (about_run A k).special u x (shown (leaves e) ∷ h) l in
+pub dead_behind : (A : Asked) (muts : List Bool) (k : Plan) (u : Untouched (text_of A k) (about_run A muts k)) (e : Exit) (x : ℕ) → ¬ (IsLiveAt A k.params e x) → (h : List Action) → Living (facts_of (text_of A k) (about_run A muts k) u) x (shown (leaves e) ∷ h) → ⊥
+dead_behind A muts k u e x none h l =
+    let z = living_ahead (text_of A k) (about_run A muts k).special u x (shown (leaves e) ∷ h) l in
     none (back h [], z.list, subst (λ l. IsWalk (text_of A k) l) (back_both h (shown (leaves e) ∷ z.list)) z.walk, z.live)

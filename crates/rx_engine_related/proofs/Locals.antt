@@ -157,7 +157,7 @@ module _ (A : Asked) (muts : List Bool) (k : Plan) (had : Premises A muts k) (x 
     stands_not (and_then {a = a} {g = g} undeclared f) q s = by (λ r. stands_not f (older text a g q) r) (either (regains x [] a.act) (not (loses x [] a.act) && since (standing x []) g) s)
       where
         by : (since (standing x []) g ≡ true → ⊥) → (regains x [] a.act ≡ true) ⊎ ((not (loses x [] a.act) && since (standing x []) g) ≡ true) → ⊥
-        by ih (inl r) = untouched A muts had.accepted k had.plan had.unaliased k.params a g x (out_special A k e x exits out) q (written_own a.act x (regained x a.act r)) (still_lent f)
+        by ih (inl r) = untouched A muts had.accepted k had.plan had.unaliased k.params a g x (out_special A muts k e x exits out) q (written_own a.act x (regained x a.act r)) (still_lent f)
         by ih (inr r) = ih (still_standing (loses x [] a.act) (since (standing x []) g) r)
 
     pub never_lent : ⊥

@@ -44,6 +44,7 @@ use Rattle.rx_engine_related.specs.ByForm.{by_form, RelatedFunction, IsItself, i
 use Rattle.rx_engine_related.specs.Had.{Had}
 use Rattle.rx_engine_related.specs.ExtractsTail.{HadTail}
 use Rattle.rx_engine_related.proofs.Inside.{has_some}
+use Rattle.rx_modes_uses.specs.NotMut.{NotMut}
 
 -- ---- numbers that are not in a list
 
@@ -394,6 +395,7 @@ pub record Held (A : Asked) (muts : List Bool) (k : Plan) : Type 0 where
   pub one_block : blocks_at A.run.block (spots_of_function A.function) ≤ 1
   pub whole : (x : ℕ) → ¬ (PartlyMoved A k x)
   pub unaliased : (x : ℕ) → ¬ (Aliased A muts k x)
+  pub passed : (x : ℕ) → ¬ (NotMut A muts k x)
   pub one_place : (e : Exit) → Among e k.exits → e ≢ returns → LeadsToOnePlace (running_of A k.params) (shown (leaves e))
 
 pub held_of : (A : Asked) (muts : List Bool) (k : Plan) → Had A muts k → IsItself (Some (Some A.function)) → Held A muts k
@@ -407,6 +409,7 @@ held_of A muts k had (is_itself self) = record {
   one_block = had.one_block;
   whole = had.whole;
   unaliased = had.unaliased;
+  passed = had.passed;
   one_place = one_place;
 }
   where
@@ -448,6 +451,7 @@ pub record HeldTail (A : Asked) (muts : List Bool) (k : Plan) : Type 0 where
   pub one_block : blocks_at A.run.block (spots_of_function A.function) ≤ 1
   pub whole : (x : ℕ) → ¬ (PartlyMoved A k x)
   pub unaliased : (x : ℕ) → ¬ (Aliased A muts k x)
+  pub passed : (x : ℕ) → ¬ (NotMut A muts k x)
   pub told_once : TellsOnce A k.params
   pub one_place : (e : Exit) → Among e k.exits → e ≢ returns → e ≢ next → LeadsToOnePlace (tailed_of A k.params) (shown (leaves e))
 
@@ -463,6 +467,7 @@ held_tail_of A muts k had (is_itself self) = record {
   one_block = had.one_block;
   whole = had.whole;
   unaliased = had.unaliased;
+  passed = had.passed;
   told_once = tells_once A k.params had.unmarked had.unpassed had.one_block;
   one_place = one_place;
 }

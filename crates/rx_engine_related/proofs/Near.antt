@@ -29,10 +29,11 @@ use Rattle.rx_engine_related.proofs.Setting.{stands_written}
 use Rattle.rx_engine_related.proofs.Beside.{Beside, Alike, alike_mark, alike_uses, alike_writes, cut_beside, parted, beside_history, Deaf, after_beside, ahead_beside, borrowed_beside}
 use Rattle.rx_engine_related.proofs.Points.{comes_to_mark, shorter, walk_back, stands_at, lost_at}
 use Rattle.rx_engine_related.proofs.Living.{living_ahead}
-use Rattle.rx_engine_related.proofs.Choosing.{param_named, local_named, out_is, not_chosen, special_is, elsewhere_offered, offered_named}
+use Rattle.rx_engine_related.proofs.Choosing.{param_named, local_named, out_is, not_live, special_is, offered_named}
 use Rattle.rx_engine_related.proofs.Untouched.{borrowed_done, unlent, untouched}
 use Rattle.rx_engine_related.proofs.Lasting.{found_standing, lost_not_ahead}
 use Rattle.rx_engine_related.proofs.Left.{out_set}
+use Rattle.rx_modes_uses.specs.NotMut.{NotMut}
 
 pub standing_deaf : (x : ℕ) → Deaf (standing x [])
 standing_deaf x = record { gives_none = λ p. refl; kills_none = λ p. refl; gives_no_value = λ n q d. refl; kills_no_value = λ n q d. refl }
@@ -102,22 +103,22 @@ module _ (Put : Point → Type 0) (A : Asked) (text : Function) (xs : List ℕ) 
 
 module _ (Put : Point → Type 0) (A : Asked) (k : Plan) (p : IsPlan A k) (text : Function) (near : IsNear Put A text k.params) where
   -- behind an exit's mark
-  pub near_others_dead : (u : Untouched text (about_run A k)) (e : Exit) (x : ℕ) → Among e k.exits → e ≢ returns → In x (special_of A k) → (Among x (k.outs e) → ⊥)
-      → (h : List Action) → Living (facts_of text (about_run A k) u) x (shown (leaves e) ∷ h) → ⊥
-  near_others_dead u e x i n s none h l =
-      let z = living_ahead text (special_of A k) u x (shown (leaves e) ∷ h) l in
+  pub near_others_dead : (muts : List Bool) → ((y : ℕ) → ¬ (NotMut A muts k y)) → (u : Untouched text (about_run A muts k)) (e : Exit) (x : ℕ) → Among e k.exits → e ≢ returns → In x (special_of A muts k) → (Among x (k.outs e) → ⊥)
+      → (h : List Action) → Living (facts_of text (about_run A muts k) u) x (shown (leaves e) ∷ h) → ⊥
+  near_others_dead muts passed u e x i n s none h l =
+      let z = living_ahead text (special_of A muts k) u x (shown (leaves e) ∷ h) l in
       let w = near (back h (shown (leaves e) ∷ z.list)) z.walk in
       let c = cut_beside (back h []) (shown (leaves e)) z.list (back_both h (shown (leaves e) ∷ z.list)) w.2 in
-      not_chosen (p.outs e i n) (elsewhere_offered A k p x (special_is A k p x s)) none
+      not_live A muts k p passed e i n x (special_is A muts k p x s) none
       (c.front, c.rest, subst (λ l. IsWalk (text_of A k) l) (c.is ∙ ap (λ b. c.front ++ b ∷ c.rest) (alike_mark (leaves e) c.alike refl)) w.1, ahead_beside x c.behind z.live)
 
   module _ (muts : List Bool) (acc : Accepted A muts) where
-    pub near_untouched : ((x : ℕ) → ¬ (Aliased A muts k x)) → Untouched text (about_run A k)
+    pub near_untouched : ((x : ℕ) → ¬ (Aliased A muts k x)) → Untouched text (about_run A muts k)
     near_untouched none a h x i q w b =
         let z = marked_there Put A text k.params near a h q in
         untouched A muts acc k p none k.params z.action (put z.front []) x i z.history (alike_writes x z.alike w) (borrowed_beside x (beside_history h z.more) b)
 
-    pub near_unlent : ((x : ℕ) → ¬ (Aliased A muts k x)) → (x : ℕ) → In x (special_of A k) → slice_get muts x ≡ Some true → (h : List Action) → IsHistory text h → Borrowed h x → ⊥
+    pub near_unlent : ((x : ℕ) → ¬ (Aliased A muts k x)) → (x : ℕ) → In x (special_of A muts k) → slice_get muts x ≡ Some true → (h : List Action) → IsHistory text h → Borrowed h x → ⊥
     near_unlent none x i m h q b =
         let z = near (back h []) (history_walk text h q) in
         unlent A muts acc k p none k.params x i m (put z.0 []) (walk_history (text_of A k) (put z.0 []) (subst (λ l. IsWalk (text_of A k) l) (sym (walk_back z.0)) z.1)) (borrowed_beside x (beside_history h z.2) b)
@@ -128,10 +129,10 @@ module _ (Put : Point → Type 0) (A : Asked) (k : Plan) (p : IsPlan A k) (text 
         let z = marked_there Put A text k.params near a h q in
         sym (same_since Put A text k.params near (standing x []) (standing_deaf x) h z.front z.more) ∙ found_standing A muts acc k p x z.action (put z.front []) z.history (alike_uses x z.alike u)
 
-    pub near_local_dead : (u : Untouched text (about_run A k)) (x : ℕ) → Among x k.locals → (b : Body) (i : ℕ) (t : Temporary) (h : List Action)
-        → programs.ComesTo text (order_body (runs (mark enters) b) i t) h → Living (facts_of text (about_run A k) u) x h → ⊥
+    pub near_local_dead : (u : Untouched text (about_run A muts k)) (x : ℕ) → Among x k.locals → (b : Body) (i : ℕ) (t : Temporary) (h : List Action)
+        → programs.ComesTo text (order_body (runs (mark enters) b) i t) h → Living (facts_of text (about_run A muts k) u) x h → ⊥
     near_local_dead u x m b i t h c l =
-        let z = living_ahead text (special_of A k) u x h l in
+        let z = living_ahead text (special_of A muts k) u x h l in
         let q = marked_there Put A text k.params near (shown enters) h (comes_to_mark text enters b i t h c) in
         let e = sym (same_since Put A text k.params near (standing x []) (standing_deaf x) h q.front q.more) ∙ lost_at A muts acc k.params enters x (put q.front []) (subst (λ b. IsHistory (text_of A k) (b ∷ put q.front [])) (alike_mark enters q.alike refl) q.history) (λ w r. (local_named A k p x m).1 w r) in
         let w = near (back h z.list) z.walk in

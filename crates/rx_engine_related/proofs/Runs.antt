@@ -37,10 +37,11 @@ use Rattle.rx_engine_related.proofs.Nearer.{without_returns, cut_back, ahead_les
 use Rattle.rx_engine_related.proofs.Recombining.{ahead_meets}
 use Rattle.rx_engine_related.proofs.Points.{comes_to_mark, shorter, walk_back, stands_at, lost_at}
 use Rattle.rx_engine_related.proofs.Living.{living_ahead}
-use Rattle.rx_engine_related.proofs.Choosing.{param_named, local_named, out_is, not_chosen, special_is, elsewhere_offered, offered_named}
+use Rattle.rx_engine_related.proofs.Choosing.{param_named, local_named, out_is, not_live, special_is, offered_named}
 use Rattle.rx_engine_related.proofs.Untouched.{borrowed_done, unlent, untouched}
 use Rattle.rx_engine_related.proofs.Lasting.{found_standing, lost_not_ahead, ahead_living}
 use Rattle.rx_engine_related.proofs.Left.{out_set}
+use Rattle.rx_modes_uses.specs.NotMut.{NotMut}
 
 -- ---- lists with such marks
 
@@ -168,22 +169,22 @@ module _ (A : Asked) (short : A.run.tail ≡ false) (k : Plan) (p : IsPlan A k) 
   text = running_of A k.params
 
   -- behind an exit's mark
-  pub running_others_dead : (u : Untouched text (about_run A k)) (e : Exit) (x : ℕ) → Among e k.exits → e ≢ returns → In x (special_of A k) → (Among x (k.outs e) → ⊥)
-      → (h : List Action) → Living (facts_of text (about_run A k) u) x (shown (leaves e) ∷ h) → ⊥
-  running_others_dead u e x i n s none h l =
-      let z = living_ahead text (special_of A k) u x (shown (leaves e) ∷ h) l in
+  pub running_others_dead : (muts : List Bool) → ((y : ℕ) → ¬ (NotMut A muts k y)) → (u : Untouched text (about_run A muts k)) (e : Exit) (x : ℕ) → Among e k.exits → e ≢ returns → In x (special_of A muts k) → (Among x (k.outs e) → ⊥)
+      → (h : List Action) → Living (facts_of text (about_run A muts k) u) x (shown (leaves e) ∷ h) → ⊥
+  running_others_dead muts passed u e x i n s none h l =
+      let z = living_ahead text (special_of A muts k) u x (shown (leaves e) ∷ h) l in
       let w = in_marked A short k.params (back h (shown (leaves e) ∷ z.list)) z.walk in
       let c = cut_more (back h []) (shown (leaves e)) z.list (back_both h (shown (leaves e) ∷ z.list)) w.2 in
-      not_chosen (p.outs e i n) (elsewhere_offered A k p x (special_is A k p x s)) none
+      not_live A muts k p passed e i n x (special_is A muts k p x s) none
       (c.front, c.rest, subst (λ l. IsWalk (text_of A k) l) c.is w.1, ahead_more x c.behind z.live)
 
   module _ (muts : List Bool) (acc : Accepted A muts) where
-    pub running_untouched : ((x : ℕ) → ¬ (Aliased A muts k x)) → Untouched text (about_run A k)
+    pub running_untouched : ((x : ℕ) → ¬ (Aliased A muts k x)) → Untouched text (about_run A muts k)
     running_untouched none a h x i q w b =
         let z = there A short k.params a h q in
         untouched A muts acc k p none k.params a (put z.front []) x i z.history w (borrowed_more x (more_history h z.more) b)
 
-    pub running_unlent : ((x : ℕ) → ¬ (Aliased A muts k x)) → (x : ℕ) → In x (special_of A k) → slice_get muts x ≡ Some true → (h : List Action) → IsHistory text h → Borrowed h x → ⊥
+    pub running_unlent : ((x : ℕ) → ¬ (Aliased A muts k x)) → (x : ℕ) → In x (special_of A muts k) → slice_get muts x ≡ Some true → (h : List Action) → IsHistory text h → Borrowed h x → ⊥
     running_unlent none x i m h q b =
         let z = in_marked A short k.params (back h []) (history_walk text h q) in
         unlent A muts acc k p none k.params x i m (put z.0 []) (walk_history (text_of A k) (put z.0 []) (subst (λ l. IsWalk (text_of A k) l) (sym (walk_back z.0)) z.1)) (borrowed_more x (more_history h z.2) b)
@@ -194,10 +195,10 @@ module _ (A : Asked) (short : A.run.tail ≡ false) (k : Plan) (p : IsPlan A k) 
         let z = there A short k.params a h q in
         sym (same_since A short k.params (standing x []) refl refl h z.front z.more) ∙ found_standing A muts acc k p x a (put z.front []) z.history u
 
-    pub running_local_dead : (u : Untouched text (about_run A k)) (x : ℕ) → Among x k.locals → (b : Body) (i : ℕ) (t : Temporary) (h : List Action)
-        → programs.ComesTo text (order_body (runs (mark enters) b) i t) h → Living (facts_of text (about_run A k) u) x h → ⊥
+    pub running_local_dead : (u : Untouched text (about_run A muts k)) (x : ℕ) → Among x k.locals → (b : Body) (i : ℕ) (t : Temporary) (h : List Action)
+        → programs.ComesTo text (order_body (runs (mark enters) b) i t) h → Living (facts_of text (about_run A muts k) u) x h → ⊥
     running_local_dead u x m b i t h c l =
-        let z = living_ahead text (special_of A k) u x h l in
+        let z = living_ahead text (special_of A muts k) u x h l in
         let q = there A short k.params (shown enters) h (comes_to_mark text enters b i t h c) in
         let e = sym (same_since A short k.params (standing x []) refl refl h q.front q.more) ∙ lost_at A muts acc k.params enters x (put q.front []) q.history (λ w r. (local_named A k p x m).1 w r) in
         let w = in_marked A short k.params (back h z.list) z.walk in
@@ -206,12 +207,12 @@ module _ (A : Asked) (short : A.run.tail ≡ false) (k : Plan) (p : IsPlan A k) 
         (same_since A short k.params (standing x []) refl refl h y.front y.in_front ∙ e) (ahead_more x y.behind z.live)
 
     -- what is handed out is living behind the exit's mark, where its marks lead to one place
-    pub running_out_living : (u : Untouched text (about_run A k)) (e : Exit) (x : ℕ) → e ≢ returns → LeadsToOnePlace text (shown (leaves e)) → Among e k.exits → Among x (k.outs e)
-        → (h : List Action) → IsHistory text (shown (leaves e) ∷ h) → Living (facts_of text (about_run A k) u) x (shown (leaves e) ∷ h)
+    pub running_out_living : (u : Untouched text (about_run A muts k)) (e : Exit) (x : ℕ) → e ≢ returns → LeadsToOnePlace text (shown (leaves e)) → Among e k.exits → Among x (k.outs e)
+        → (h : List Action) → IsHistory text (shown (leaves e) ∷ h) → Living (facts_of text (about_run A muts k) u) x (shown (leaves e) ∷ h)
     running_out_living u e x n once i o h c =
         let l = (out_is A k p e i x o).1 in
         let z = without_returns (running_further A.run A.home.around.loops k.params short A.function) (fronts l.2.2 (l.0 ++ shown (leaves e) ∷ l.1) l.2.0 refl) in
         let y = cut_back (shown (leaves e)) (λ q. n (not_returned e q)) l.0 l.1 refl z.more in
         let v : IsWalk text (y.front ++ shown (leaves e) ∷ y.behind) = ([], stopped, subst (λ l. Walk (order_function text) l stopped) (y.is ∙ sym (append-nil (y.front ++ shown (leaves e) ∷ y.behind))) z.walk) in
         let w = once y.front (back h []) y.behind v (next_walk text (shown (leaves e)) h c) in
-        ahead_living text x (λ a g q r. running_found x a g q r) (special_of A k) u w.0 (shown (leaves e) ∷ h) (subst (λ v. IsWalk text v) (sym (back_both h (shown (leaves e) ∷ w.0))) w.2) (ahead_meets x w.1 (ahead_less x y.more l.3))
+        ahead_living text x (λ a g q r. running_found x a g q r) (special_of A muts k) u w.0 (shown (leaves e) ∷ h) (subst (λ v. IsWalk text v) (sym (back_both h (shown (leaves e) ∷ w.0))) w.2) (ahead_meets x w.1 (ahead_less x y.more l.3))

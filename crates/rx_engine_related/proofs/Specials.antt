@@ -5,7 +5,8 @@ use Rattle.rx_facts_tables.proofs.Fronts.{both_true}
 use Rattle.rx_exits_plan.specs.Points.{Exit, next}
 use Rattle.rx_exits_plan.specs.Occurrences.{those, has_number, is_direct, is_named_behind}
 use Rattle.rx_exits_plan.specs.Asked.{Asked}
-use Rattle.rx_exits_plan.specs.Plan.{Plan, IsPlan, variables_of, is_moved, is_redeclared}
+use Rattle.rx_exits_plan.specs.Plan.{Plan, IsPlan, variables_of, is_redeclared}
+use Rattle.rx_modes_given.specs.GivenAway.{is_given_away}
 use Rattle.rx_engine_simulation.specs.Sights.{In}
 use Rattle.rx_engine_related.specs.AboutRun.{handed, special_of}
 use Rattle.rx_engine_related.proofs.Choosing.{of_those, number_there}
@@ -28,17 +29,18 @@ handed_by [] outs e x i o = elim i [ ]
 handed_by (_ ∷ es) outs e x here o = in_front x (outs e) (handed es outs) (in_list o)
 handed_by (c ∷ es) outs e x (there i) o = in_rest x (outs c) (handed es outs) (handed_by es outs e x i o)
 
-module _ (A : Asked) (k : Plan) where
-  pub out_special : (e : Exit) (x : ℕ) → Among e k.exits → Among x (k.outs e) → In x (special_of A k)
+module _ (A : Asked) (muts : List Bool) (k : Plan) where
+  pub out_special : (e : Exit) (x : ℕ) → Among e k.exits → Among x (k.outs e) → In x (special_of A muts k)
   out_special e x i o =
-      in_rest x (those (is_moved A) k.params) (k.locals ++ (handed k.exits k.outs ++ k.redeclared))
+      in_rest x (those (is_given_away A muts) k.params) (k.locals ++ (handed k.exits k.outs ++ k.redeclared))
       (in_rest x k.locals (handed k.exits k.outs ++ k.redeclared) (in_front x (handed k.exits k.outs) k.redeclared (handed_by k.exits k.outs e x i o)))
 
-  pub again_special : (x : ℕ) → Among x k.redeclared → In x (special_of A k)
+  pub again_special : (x : ℕ) → Among x k.redeclared → In x (special_of A muts k)
   again_special x i =
-      in_rest x (those (is_moved A) k.params) (k.locals ++ (handed k.exits k.outs ++ k.redeclared))
+      in_rest x (those (is_given_away A muts) k.params) (k.locals ++ (handed k.exits k.outs ++ k.redeclared))
       (in_rest x k.locals (handed k.exits k.outs ++ k.redeclared) (in_rest x (handed k.exits k.outs) k.redeclared (in_list i)))
 
+module _ (A : Asked) (k : Plan) where
   none_not : (b : Bool) → b ≡ true → not b ≡ true → ⊥
   none_not true e f = true≢false (sym f)
   none_not false e f = true≢false (sym e)

@@ -39,7 +39,7 @@ use Rattle.rx_engine_related.proofs.Plainly as plainly
 use Rattle.rx_engine_related.proofs.Points.{shorter, standing_unturned, stands_at}
 use Rattle.rx_engine_related.proofs.Living.{living_ahead}
 use Rattle.rx_engine_related.proofs.Lasting.{ahead_living}
-use Rattle.rx_engine_related.proofs.Choosing.{out_is, not_chosen, special_is, elsewhere_offered, offered_named}
+use Rattle.rx_engine_related.proofs.Choosing.{out_is, not_live, special_is, offered_named}
 use Rattle.rx_engine_related.proofs.Left.{out_set}
 use Rattle.rx_engine_related.proofs.Recombining.{ahead_meets}
 use Rattle.rx_engine_related.proofs.Beside as beside
@@ -50,6 +50,7 @@ use Rattle.rx_engine_related.proofs.Tailing.{tailed_extended}
 use Rattle.rx_engine_related.proofs.Near.{IsNear, marked_there, same_since, standing_deaf, near_found}
 use Rattle.rx_engine_related.proofs.MarkedRun.{in_three}
 use Rattle.rx_engine_related.proofs.ReadingRun.{Marks, entered, changed_marked, statements_marked, statements_itself, passing_marks}
+use Rattle.rx_modes_uses.specs.NotMut.{NotMut}
 
 -- only marks behind what is returned are put in
 abbrev pub at_returns : Point → Type 0
@@ -211,15 +212,15 @@ module _ (A : Asked) (has : A.run.tail ≡ true) (k : Plan) (p : IsPlan A k) (on
       by (inr e) = e
 
   -- nothing else is living there
-  pub tail_others_dead : (u : Untouched text (about_run A k)) (x : ℕ) → Among points.next k.exits → In x (special_of A k) → (Among x (k.outs points.next) → ⊥)
-      → (n : ℕ) (q d : Temporary) (h : List Action) → Living (facts_of text (about_run A k) u) x (lets n q d ∷ h) → ⊥
-  tail_others_dead u x i s none n q d h l =
-      let z = living_ahead text (special_of A k) u x (lets n q d ∷ h) l in
+  pub tail_others_dead : (muts : List Bool) → ((y : ℕ) → ¬ (NotMut A muts k y)) → (u : Untouched text (about_run A muts k)) (x : ℕ) → Among points.next k.exits → In x (special_of A muts k) → (Among x (k.outs points.next) → ⊥)
+      → (n : ℕ) (q d : Temporary) (h : List Action) → Living (facts_of text (about_run A muts k) u) x (lets n q d ∷ h) → ⊥
+  tail_others_dead muts passed u x i s none n q d h l =
+      let z = living_ahead text (special_of A muts k) u x (lets n q d ∷ h) l in
       let w = near (back h (lets n q d ∷ z.list)) z.walk in
       let c = cut_beside (back h []) (lets n q d) z.list (back_both h (lets n q d ∷ z.list)) w.2 in
       let y : IsWalk (text_of A k) (c.front ++ c.action ∷ c.rest) = subst (λ l. IsWalk (text_of A k) l) c.is w.1 in
       let e = at_end n q d c.action (put c.front []) c.alike (history c.front c.action c.rest y) in
-      not_chosen (p.outs points.next i (λ e. cc)) (elsewhere_offered A k p x (special_is A k p x s)) none
+      not_live A muts k p passed points.next i (λ e. cc) x (special_is A muts k p x s) none
       (c.front, c.rest, subst (λ b. IsWalk (text_of A k) (c.front ++ b ∷ c.rest)) e y, ahead_beside x c.behind z.live)
     where
       history : (front : List Action) (a : Action) (rest : List Action) → IsWalk (text_of A k) (front ++ a ∷ rest) → IsHistory (text_of A k) (a ∷ put front [])
@@ -237,19 +238,19 @@ module _ (A : Asked) (has : A.run.tail ≡ true) (k : Plan) (p : IsPlan A k) (on
         ∙ stands_at A muts acc k.params (leaves points.next) x has_part (λ w r. out_set A k points.next x whole i o w r) (put z.front []) (subst (λ b. IsHistory (text_of A k) (b ∷ put z.front [])) e z.history))
 
     -- and is living
-    pub tail_out_living : (u : Untouched text (about_run A k)) (x : ℕ) → Among points.next k.exits → Among x (k.outs points.next) → (n : ℕ) (q d : Temporary) (h : List Action) → IsHistory text (lets n q d ∷ h)
-        → Living (facts_of text (about_run A k) u) x (lets n q d ∷ h)
+    pub tail_out_living : (u : Untouched text (about_run A muts k)) (x : ℕ) → Among points.next k.exits → Among x (k.outs points.next) → (n : ℕ) (q d : Temporary) (h : List Action) → IsHistory text (lets n q d ∷ h)
+        → Living (facts_of text (about_run A muts k) u) x (lets n q d ∷ h)
     tail_out_living u x i o n q d h c =
         let l = (out_is A k p points.next i x o).1 in
         let z = without_marks (tailed_extended at_returns refl A.home.around.loops A.run k.params has A.function) (fronts l.2.2 (l.0 ++ shown (leaves points.next) ∷ l.1) l.2.0 refl) in
         let y = cut_back (shown (leaves points.next)) not_put l.0 l.1 refl z.more in
         let v : IsWalk text (y.front ++ y.action ∷ y.behind) = ([], stopped, subst (λ l. Walk (order_function text) l stopped) (y.is ∙ sym (append-nil (y.front ++ y.action ∷ y.behind))) z.walk) in
         let w = goes_on_as tells_end (λ n x. refl) text once.once y.action (lets n q d) (alike_end y.alike refl) refl y.front (back h []) y.behind v (next_walk text (lets n q d) h c) in
-        ahead_living text x (λ a g r s. near_found at_returns A k p text near muts acc x a g r s) (special_of A k) u y.behind (lets n q d ∷ h) (subst (λ v. IsWalk text v) (sym (back_both h (lets n q d ∷ y.behind))) w) (ahead_less x y.more l.3)
+        ahead_living text x (λ a g r s. near_found at_returns A k p text near muts acc x a g r s) (special_of A muts k) u y.behind (lets n q d ∷ h) (subst (λ v. IsWalk text v) (sym (back_both h (lets n q d ∷ y.behind))) w) (ahead_less x y.more l.3)
 
     -- so is what a jump hands out, where its marks lead to one place
-    pub tail_jump_living : (u : Untouched text (about_run A k)) (e : Exit) (x : ℕ) → e ≢ returns → e ≢ points.next → LeadsToOnePlace text (shown (leaves e)) → Among e k.exits → Among x (k.outs e)
-        → (h : List Action) → IsHistory text (shown (leaves e) ∷ h) → Living (facts_of text (about_run A k) u) x (shown (leaves e) ∷ h)
+    pub tail_jump_living : (u : Untouched text (about_run A muts k)) (e : Exit) (x : ℕ) → e ≢ returns → e ≢ points.next → LeadsToOnePlace text (shown (leaves e)) → Among e k.exits → Among x (k.outs e)
+        → (h : List Action) → IsHistory text (shown (leaves e) ∷ h) → Living (facts_of text (about_run A muts k) u) x (shown (leaves e) ∷ h)
     tail_jump_living u e x n m place i o h c =
         let l = (out_is A k p e i x o).1 in
         let z = without_marks (tailed_extended at_returns refl A.home.around.loops A.run k.params has A.function) (fronts l.2.2 (l.0 ++ shown (leaves e) ∷ l.1) l.2.0 refl) in
@@ -257,7 +258,7 @@ module _ (A : Asked) (has : A.run.tail ≡ true) (k : Plan) (p : IsPlan A k) (on
         let b : y.action ≡ shown (leaves e) = alike_jump y.alike refl in
         let v : IsWalk text (y.front ++ shown (leaves e) ∷ y.behind) = subst (λ b. IsWalk text (y.front ++ b ∷ y.behind)) b ([], stopped, subst (λ l. Walk (order_function text) l stopped) (y.is ∙ sym (append-nil (y.front ++ y.action ∷ y.behind))) z.walk) in
         let w = place y.front (back h []) y.behind v (next_walk text (shown (leaves e)) h c) in
-        ahead_living text x (λ a g r s. near_found at_returns A k p text near muts acc x a g r s) (special_of A k) u w.0 (shown (leaves e) ∷ h) (subst (λ v. IsWalk text v) (sym (back_both h (shown (leaves e) ∷ w.0))) w.2) (ahead_meets x w.1 (ahead_less x y.more l.3))
+        ahead_living text x (λ a g r s. near_found at_returns A k p text near muts acc x a g r s) (special_of A muts k) u w.0 (shown (leaves e) ∷ h) (subst (λ v. IsWalk text v) (sym (back_both h (shown (leaves e) ∷ w.0))) w.2) (ahead_meets x w.1 (ahead_less x y.more l.3))
       where
         number_of : (p q : Point) → shown p ≡ shown q → number p ≡ number q
         number_of p q f = ap (λ (a : Action). a.node) f

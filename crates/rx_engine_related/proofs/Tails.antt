@@ -43,7 +43,7 @@ pub record Told (A : Asked) (muts : List Bool) (k : Plan) (V : Facts) : Type 0 w
   pub needed : (r : Stretch) (rest : Body) (x : ℕ) → Among x k.params → (i : ℕ) (t : Temporary) (h : List Action) → V.Comes (order_body (before (with_mark enters k.params r) rest) i t) h → Living V x h
   pub written : AreWritten V enters k.params
   pub unneeded : (r : Stretch) (rest : Body) (x : ℕ) → Among x k.locals → (i : ℕ) (t : Temporary) (h : List Action) → V.Comes (order_body (before (with_mark enters k.params r) rest) i t) h → Living V x h → ⊥
-  pub jumps : (U : List ℕ) → Opens (left U) (leaving U) (by_form (special_of A k)) V (ByPlan A k)
+  pub jumps : (U : List ℕ) → Opens (left U) (leaving U) (by_form (special_of A muts k)) V (ByPlan A muts k)
   pub unlent : (r : Stretch) (rest : Body) (e : Exit) (x : ℕ) → Among e k.exits → Among x (k.outs e) → MayBeAssigned A muts k x → IsUnlent V (before (with_mark enters k.params r) rest) x
 
 module _ (A : Asked) (muts : List Bool) (k : Plan) (V : Facts) (told : Told A muts k V) where
@@ -63,13 +63,13 @@ module _ (A : Asked) (muts : List Bool) (k : Plan) (V : Facts) (told : Told A mu
   arm_so r rest e i same (back_arm Rs Rr Rd all within received receives picks put back jumps) =
       jump_arm Rs Rr Rd all within received receives picks (back_so A V muts k _ (before (with_mark enters k.params r) rest) (λ x o m. told.unlent r rest e x i (subst (λ xs. Among x xs) same o) m) put) back jumps
 
-  pub arms_so : {unit : Bool} {J : Jumping} {R : Renaming} {l : Arms} (r : Stretch) (rest : Body) → ArmsOf A muts k unit J R l → JumpOn V J (jumps_of A k unit) R (before (with_mark enters k.params r) rest) l
+  pub arms_so : {unit : Bool} {J : Jumping} {R : Renaming} {l : Arms} (r : Stretch) (rest : Body) → ArmsOf A muts k unit J R l → JumpOn V J (jumps_of A muts k unit) R (before (with_mark enters k.params r) rest) l
   arms_so {unit} r rest arms = record {
     all_dead = arms.all_special;
     no_loops = refl;
     jumps_on = λ n again p e.
         let z = arms.jumps n again p e in
-        let q = (jumps_by_plan A k unit).jumps n again p e in
+        let q = (jumps_by_plan A muts k unit).jumps n again p e in
         (z.0, z.1, z.2, arm_so r rest (jump_exit n again) q.0 q.1 z.3);
     returns_on = arms.return;
   }
@@ -80,14 +80,14 @@ module _ (A : Asked) (muts : List Bool) (k : Plan) (V : Facts) (told : Told A mu
   calling_so r rest (tail_call_matched unit is arms picks receives new gives many) = matches (arms_so r rest arms) picks receives new gives many
   calling_so r rest (tail_call_left unit none arms) = matches_jumps (arms_so r rest arms)
 
-  pub by_plan : {J Ji : Jumping} {R : Renaming} {e called : Exp} {has : Bool} {w : Way} → TailCallOf A muts k J R e has Ji w called → ByPlan A k Ji
-  by_plan (tail_call_alone only) = inner_by_plan A k
-  by_plan (tail_call_matched unit is arms picks receives new gives many) = jumps_by_plan A k unit
-  by_plan (tail_call_left unit none arms) = jumps_by_plan A k unit
+  pub by_plan : {J Ji : Jumping} {R : Renaming} {e called : Exp} {has : Bool} {w : Way} → TailCallOf A muts k J R e has Ji w called → ByPlan A muts k Ji
+  by_plan (tail_call_alone only) = inner_by_plan A muts k
+  by_plan (tail_call_matched unit is arms picks receives new gives many) = jumps_by_plan A muts k unit
+  by_plan (tail_call_left unit none arms) = jumps_by_plan A muts k unit
 
   -- ---- what the caller does
 
-  module _ (a : Aim) (dead : (R : Renaming) → NotHanded A k next R → AreDead V R a) (again_dead : (x : ℕ) → Among x k.redeclared → (h : List Action) → Arrives V a h → Living V x h → ⊥) where
+  module _ (a : Aim) (dead : (R : Renaming) → NotHanded A muts k next R → AreDead V R a) (again_dead : (x : ℕ) → Among x k.redeclared → (h : List Action) → Arrives V a h → Living V x h → ⊥) where
     pub handed_so : {J : Jumping} {R Rb Rn : Renaming} {e : Exp} {l : Last} {has : Bool} {w : Way} {xs : List ℕ} {f' : Body → Body} (block : Body) → ((x : ℕ) → Among x xs → MayBeAssigned A muts k x → IsUnlent V block x)
         → TailHanded A muts k J R Rb l e has w xs Rn f' → Handing V J R Rb block a e l has w xs Rn f'
     handed_so {R = R} block unlent (value_back none given) = hands_value (dead R none) given
@@ -99,6 +99,6 @@ module _ (A : Asked) (muts : List Bool) (k : Plan) (V : Facts) (told : Told A mu
 
   -- ---- in the new function
 
-  module _ (items : ℕ → ℕ) (gain : Allowance) (U : List ℕ) (Ji : Jumping) (ok : ByPlan A k Ji) where
-    pub stretch_so : {R Rb : Renaming} {r r' : Stretch} → Moved items gain U (special_of A k) Ji R r r' Rb → LikeStretch items gain U V Ji R (with_mark enters k.params r) r' Rb
-    stretch_so m = only_marks enters k.params told.written (moved_so items gain U (special_of A k) V (ByPlan A k) (told.jumps U) Ji ok m)
+  module _ (items : ℕ → ℕ) (gain : Allowance) (U : List ℕ) (Ji : Jumping) (ok : ByPlan A muts k Ji) where
+    pub stretch_so : {R Rb : Renaming} {r r' : Stretch} → Moved items gain U (special_of A muts k) Ji R r r' Rb → LikeStretch items gain U V Ji R (with_mark enters k.params r) r' Rb
+    stretch_so m = only_marks enters k.params told.written (moved_so items gain U (special_of A muts k) V (ByPlan A muts k) (told.jumps U) Ji ok m)

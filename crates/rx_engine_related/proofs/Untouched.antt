@@ -15,7 +15,8 @@ use Rattle.rx_facts_tables.proofs.Fronts.{both_true, not_so}
 use Rattle.rx_facts_tables.specs.Wholes.{is_variable, assigns, begins, assigning, standing}
 use Rattle.rx_exits_plan.specs.Unmarked.{is_mark, unfilled}
 use Rattle.rx_exits_plan.specs.Asked.{Asked}
-use Rattle.rx_exits_plan.specs.Plan.{Plan, IsPlan, moves, some_moves, variables_of}
+use Rattle.rx_exits_plan.specs.Plan.{Plan, IsPlan, moves, some_moves, is_moved, variables_of}
+use Rattle.rx_modes_given.specs.GivenAway.{is_changed_behind, is_mutable_reference, is_mut, is_given_away}
 use Rattle.rx_modes_uses.specs.Paths.{OwnPath}
 use Rattle.rx_modes_uses.specs.Deeds as deeds
 use Rattle.rx_modes_uses.specs.Deeds.{Done}
@@ -36,7 +37,7 @@ use Rattle.rx_engine_related.proofs.Plainly.{Unturned, Acts, acts}
 use Rattle.rx_engine_related.proofs.Unset.{uses_bare, bare_act, used_stands}
 use Rattle.rx_engine_related.proofs.Assigning.{assigns_same, assigning_blind, stands_assigned, whole_assigns, begins_declares}
 use Rattle.rx_engine_related.proofs.Setting.{either}
-use Rattle.rx_engine_related.proofs.Choosing.{Elsewhere, moved_param, a_local, an_out, again, special_is, elsewhere_offered, offered_named}
+use Rattle.rx_engine_related.proofs.Choosing.{Elsewhere, given_param, a_local, an_out, again, special_is, elsewhere_named}
 
 -- ---- what an action borrows or writes, whichever temporaries it fills
 
@@ -281,11 +282,21 @@ module _ (A : Asked) (muts : List Bool) (acc : Accepted A muts) (xs : List ℕ) 
 
 -- ---- of a plan
 
-gets_other : (A : Asked) (k : Plan) (p : IsPlan A k) (x : ℕ) → Elsewhere A k p x → GetsOther A k x
-gets_other A k p x (moved_param i e) = aliased.moved i (moved_done x (in_run A) e)
-gets_other A k p x (a_local i) = aliased.local i
-gets_other A k p x (an_out e i o) = aliased.out e i o
-gets_other A k p x (again i) = aliased.redeclared i
+-- what is declared `mut` and given away, the run moves
+mut_is_moved : (A : Asked) (muts : List Bool) (x : ℕ) → slice_get muts x ≡ Some true → is_given_away A muts x ≡ true → is_moved A x ≡ true
+mut_is_moved A muts x m g = by (is_moved A x) (is_changed_behind A x) (is_mutable_reference (slice_get A.frame.types x)) (subst (λ o. (is_moved A x || (is_changed_behind A x && not (is_mutable_reference (slice_get A.frame.types x) || is_mut o))) ≡ true) m g)
+  where
+    by : (v t r : Bool) → (v || (t && not (r || true))) ≡ true → v ≡ true
+    by true t r e = refl
+    by false true true e = e
+    by false true false e = e
+    by false false r e = e
+
+gets_other : (A : Asked) (muts : List Bool) (k : Plan) (p : IsPlan A k) (x : ℕ) → slice_get muts x ≡ Some true → Elsewhere A muts k p x → GetsOther A k x
+gets_other A muts k p x m (given_param i g) = aliased.moved i (moved_done x (in_run A) (mut_is_moved A muts x m g))
+gets_other A muts k p x m (a_local i) = aliased.local i
+gets_other A muts k p x m (an_out e i o) = aliased.out e i o
+gets_other A muts k p x m (again i) = aliased.redeclared i
 
 -- where no variable is the first of which something holds, it holds of none
 first_none : {Q : ℕ → Type 0} (l : List ℕ) → ((x : ℕ) → First Q l x → ⊥) → (x : ℕ) → Among x l → Q x → ⊥
@@ -295,12 +306,12 @@ first_none (y ∷ l) n x (there i) q = first_none l (λ z f. n z (later (λ r. n
 
 module _ (A : Asked) (muts : List Bool) (acc : Accepted A muts) (k : Plan) (p : IsPlan A k) (unaliased : (x : ℕ) → ¬ (Aliased A muts k x)) where
   -- what may be elsewhere and is declared `mut` is borrowed nowhere
-  pub unlent : (xs : List ℕ) (x : ℕ) → In x (special_of A k) → slice_get muts x ≡ Some true → (h : List Action) → IsHistory (marked_with A xs) h → Borrowed h x → ⊥
+  pub unlent : (xs : List ℕ) (x : ℕ) → In x (special_of A muts k) → slice_get muts x ≡ Some true → (h : List Action) → IsHistory (marked_with A xs) h → Borrowed h x → ⊥
   unlent xs x i m h q b =
-      first_none (variables_of A) unaliased x (offered_named A k p x (elsewhere_offered A k p x (special_is A k p x i))) (record { declared_mut = m; borrowed = borrowed_done A muts acc xs x h q b; gets_other = gets_other A k p x (special_is A k p x i) })
+      first_none (variables_of A) unaliased x (elsewhere_named A muts k p x (special_is A muts k p x i)) (record { declared_mut = m; borrowed = borrowed_done A muts acc xs x h q b; gets_other = gets_other A muts k p x m (special_is A muts k p x i) })
 
-  pub untouched : (xs : List ℕ) → Untouched (marked_with A xs) (record { special = special_of A k; asked = [] })
-  untouched xs a h x i q w b = by (acc.declared x (offered_named A k p x (elsewhere_offered A k p x (special_is A k p x i))))
+  pub untouched : (xs : List ℕ) → Untouched (marked_with A xs) (record { special = special_of A muts k; asked = [] })
+  untouched xs a h x i q w b = by (acc.declared x (elsewhere_named A muts k p x (special_is A muts k p x i)))
     where
       by : (c : Bool) × (slice_get muts x ≡ Some c) → ⊥
       by (true, m) = unlent xs x i m h (older (marked_with A xs) a h q) b

@@ -35,7 +35,7 @@ module _ (A : Asked) (muts : List Bool) (k : Plan) (had : HeldTail A muts k) whe
   abbrev text : Function
   text = tailed_of A k.params
 
-  abbrev never_touched : Untouched text (about_run A k)
+  abbrev never_touched : Untouched text (about_run A muts k)
   never_touched = near_untouched at_returns A k had.plan text (tailed_near A had.tail k.params) muts had.accepted had.unaliased
 
   written_alone : AreWritten (facts_alone text) enters k.params
@@ -72,14 +72,14 @@ module _ (A : Asked) (muts : List Bool) (k : Plan) (had : HeldTail A muts k) whe
     opened = calls_of x.items (a_turn x.again) x.units x.new
 
     -- the call stands in its block
-    module _ (related : RelatedFunction x.items (the_tail_call A muts k modes x.items (a_turn x.again) x.units x.new) (a_turn x.again) (special_of A k) text x.calling) where
+    module _ (related : RelatedFunction x.items (the_tail_call A muts k modes x.items (a_turn x.again) x.units x.new) (a_turn x.again) (special_of A muts k) text x.calling) where
       calling_function : LikeFunction x.items opened (a_turn x.again) text x.calling
       calling_function = record {
-        about = about_run A k;
+        about = about_run A muts k;
         untouched = never_touched;
         inside = related.inside;
-        params = weaker_params (by_form (special_of A k)) (facts_of text (about_run A k) never_touched) (λ x i. i) related.params;
-        body = weaker_exp x.items (the_tail_call A muts k modes x.items (a_turn x.again) x.units x.new) opened (a_turn x.again) (a_turn x.again) (omega arith) (by_form (special_of A k)) (facts_of text (about_run A k) never_touched) (λ J. Unit {0})
+        params = weaker_params (by_form (special_of A muts k)) (facts_of text (about_run A muts k) never_touched) (λ x i. i) related.params;
+        body = weaker_exp x.items (the_tail_call A muts k modes x.items (a_turn x.again) x.units x.new) opened (a_turn x.again) (a_turn x.again) (omega arith) (by_form (special_of A muts k)) (facts_of text (about_run A muts k) never_touched) (λ J. Unit {0})
             (record {
               special = λ x i. i;
               into = λ J l k ok. ok;
@@ -112,13 +112,13 @@ module _ (A : Asked) (muts : List Bool) (k : Plan) (had : HeldTail A muts k) whe
       without_call = record { items = x.items; units = []; are_units = λ f i. absurd i; strays = x.again; alike = record { all = plain_entries; mains = x.main }; stands = x.new_is_there }
 
     abbrev ByCall : Type 0
-    ByCall = RelatedFunction x.items (the_tail_call A muts k modes x.items (a_turn x.again) x.units x.new) (a_turn x.again) (special_of A k) text x.calling
+    ByCall = RelatedFunction x.items (the_tail_call A muts k modes x.items (a_turn x.again) x.units x.new) (a_turn x.again) (special_of A muts k) text x.calling
 
     abbrev ByNone : Type 0
     ByNone = RelatedFunction x.items no_openings (a_turn x.again) [] A.function x.calling
 
     met_or_not : ByCall ⊎ ByNone
-    met_or_not = tailed_or_plain A k x.items (the_tail_call A muts k modes x.items (a_turn x.again) x.units x.new) (a_turn x.again)
+    met_or_not = tailed_or_plain A muts k x.items (the_tail_call A muts k modes x.items (a_turn x.again) x.units x.new) (a_turn x.again)
         (record { special = λ x i. i; into = λ J l k ok. ok; expression = λ a J R e f f' ok o. o; statements = λ a J R S b f f' ok o. o }) x.calling had.one_block x.related
 
     module _ (each : EachIsItself P) where

@@ -1,13 +1,14 @@
 -- What a plan says of its run's variables: which would have another storage in a function of their own, and the text that is asked, the
 -- function with marks at the points of the run, where the params are used as a call that stands for the run uses them (REM, "Extract
 -- method").
-use Rattle.std.specs.Prelude.{ℕ, List, [], ◌∷◌, ◌++◌}
+use Rattle.std.specs.Prelude.{ℕ, Bool, List, [], ◌∷◌, ◌++◌}
 use Rattle.rx_typed.specs.Tree.{Function}
 use Rattle.rx_exits_plan.specs.Points.{Exit}
 use Rattle.rx_exits_plan.specs.Marked.{marked}
 use Rattle.rx_exits_plan.specs.Occurrences.{those}
 use Rattle.rx_exits_plan.specs.Asked.{Asked}
-use Rattle.rx_exits_plan.specs.Plan.{Plan, is_moved}
+use Rattle.rx_exits_plan.specs.Plan.{Plan}
+use Rattle.rx_modes_given.specs.GivenAway.{is_given_away}
 use Rattle.rx_engine_simulation.specs.Programs.{About}
 
 -- what some exit hands out
@@ -15,12 +16,12 @@ abbrev pub handed : List Exit → (Exit → List ℕ) → List ℕ
 handed [] outs = []
 handed (e ∷ es) outs = outs e ++ handed es outs
 
--- params that the run moves, locals, what is handed out, and what is declared again behind the call
-abbrev pub special_of : Asked → Plan → List ℕ
-special_of A k = those (is_moved A) k.params ++ (k.locals ++ (handed k.exits k.outs ++ k.redeclared))
+-- params that are given away, locals, what is handed out, and what is declared again behind the call
+abbrev pub special_of : Asked → List Bool → Plan → List ℕ
+special_of A muts k = those (is_given_away A muts) k.params ++ (k.locals ++ (handed k.exits k.outs ++ k.redeclared))
 
-abbrev pub about_run : Asked → Plan → About
-about_run A k = record { special = special_of A k; asked = [] }
+abbrev pub about_run : Asked → List Bool → Plan → About
+about_run A muts k = record { special = special_of A muts k; asked = [] }
 
 -- where these variables are used on entry
 abbrev pub marked_with : Asked → List ℕ → Function

@@ -43,4 +43,4 @@ pub record Extracts (A : Asked) (muts : List Bool) (k : Plan) (modes : List Mode
   -- the run's function there
   pub calling : Function
   pub calling_is_there : element read.functions (items item) ≡ Some (Some calling)
-  pub related : RelatedFunction items (in_its_block A k items (the_call A muts k modes items (a_turn again) units new) (a_turn again)) (a_turn again) (special_of A k) A.function calling
+  pub related : RelatedFunction items (in_its_block A muts k items (the_call A muts k modes items (a_turn again) units new) (a_turn again)) (a_turn again) (special_of A muts k) A.function calling

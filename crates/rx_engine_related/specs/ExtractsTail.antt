@@ -14,6 +14,7 @@ use Rattle.rx_exits_plan.specs.Asked.{Asked}
 use Rattle.rx_exits_plan.specs.Plan.{Plan, IsPlan}
 use Rattle.rx_exits_plan.specs.PartlyMoved.{PartlyMoved}
 use Rattle.rx_modes_policy.specs.declared.uses.Mode.{Mode}
+use Rattle.rx_modes_uses.specs.NotMut.{NotMut}
 use Rattle.rx_modes_uses.specs.Aliased.{Aliased}
 use Rattle.rx_engine_simulation.specs.Turns.{Allowance}
 use Rattle.rx_engine_simulation.specs.Sights.{Renaming}
@@ -43,15 +44,16 @@ pub record HadTail (A : Asked) (muts : List Bool) (k : Plan) : Type 0 where
   pub one_block : blocks_at A.run.block (spots_of_function A.function) ≤ 1
   pub whole : (x : ℕ) → ¬ (PartlyMoved A k x)
   pub unaliased : (x : ℕ) → ¬ (Aliased A muts k x)
+  pub passed : (x : ℕ) → ¬ (NotMut A muts k x)
 
 -- the run's function in the answer is the text's by other numbers but for the run's block, with such openings in that
-pub data TailBlock (A : Asked) (k : Plan) (items : ℕ → ℕ) (O : Openings) (gain : Allowance) : ℕ → Jumping → Renaming → (Exp → Exp) → (Exp → Exp) → Type 0 where
-  tail_block : {a : ℕ} {J : Jumping} {R : Renaming} {m m' : Mark} {b b' : Body} → (m.node == A.run.block) ≡ true → LikeBody items O gain (by_form (special_of A k)) a J R (tailed_body A.run A.home.around.loops k.params b) b'
-      → TailBlock A k items O gain a J R (λ e. tree.block m b) (λ e. tree.block m' b')
+pub data TailBlock (A : Asked) (muts : List Bool) (k : Plan) (items : ℕ → ℕ) (O : Openings) (gain : Allowance) : ℕ → Jumping → Renaming → (Exp → Exp) → (Exp → Exp) → Type 0 where
+  tail_block : {a : ℕ} {J : Jumping} {R : Renaming} {m m' : Mark} {b b' : Body} → (m.node == A.run.block) ≡ true → LikeBody items O gain (by_form (special_of A muts k)) a J R (tailed_body A.run A.home.around.loops k.params b) b'
+      → TailBlock A muts k items O gain a J R (λ e. tree.block m b) (λ e. tree.block m' b')
 
-abbrev pub in_its_tail_block : Asked → Plan → (ℕ → ℕ) → Openings → Allowance → Openings
-in_its_tail_block A k items O gain = record {
-  expression = λ V a J R e f g. TailBlock A k items O gain a J R f g;
+abbrev pub in_its_tail_block : Asked → List Bool → Plan → (ℕ → ℕ) → Openings → Allowance → Openings
+in_its_tail_block A muts k items O gain = record {
+  expression = λ V a J R e f g. TailBlock A muts k items O gain a J R f g;
   statements = λ V a J R S b f g. ⊥;
 }
 
@@ -75,4 +77,4 @@ pub record ExtractsTail (A : Asked) (muts : List Bool) (k : Plan) (modes : List 
   pub are_units : UnitFunctions (with_tail_marks P item A k).functions units
   pub calling : Function
   pub calling_is_there : element read.functions (items item) ≡ Some (Some calling)
-  pub related : RelatedFunction items (in_its_tail_block A k items (the_tail_call A muts k modes items (a_turn again) units new) (a_turn again)) (a_turn again) (special_of A k) A.function calling
+  pub related : RelatedFunction items (in_its_tail_block A muts k items (the_tail_call A muts k modes items (a_turn again) units new) (a_turn again)) (a_turn again) (special_of A muts k) A.function calling

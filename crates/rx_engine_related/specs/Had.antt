@@ -7,6 +7,7 @@ use Rattle.rx_exits_plan.specs.Spots.{spots_of_function}
 use Rattle.rx_exits_plan.specs.Asked.{Asked}
 use Rattle.rx_exits_plan.specs.Plan.{Plan, IsPlan}
 use Rattle.rx_exits_plan.specs.PartlyMoved.{PartlyMoved}
+use Rattle.rx_modes_uses.specs.NotMut.{NotMut}
 use Rattle.rx_modes_uses.specs.Aliased.{Aliased}
 use Rattle.rx_engine_related.specs.OneSite.{blocks_at}
 use Rattle.rx_engine_related.specs.Accepted.{Accepted}
@@ -23,3 +24,4 @@ pub record Had (A : Asked) (muts : List Bool) (k : Plan) : Type 0 where
   -- it isn't refused
   pub whole : (x : ℕ) → ¬ (PartlyMoved A k x)
   pub unaliased : (x : ℕ) → ¬ (Aliased A muts k x)
+  pub passed : (x : ℕ) → ¬ (NotMut A muts k x)

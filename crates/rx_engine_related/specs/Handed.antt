@@ -51,5 +51,5 @@ pub data Redeclared (Rb : Renaming) : Renaming → List ℕ → (Body → Body) 
 -- In place of the run, in front of the rest of the block, with the variables of that rest. Of those outside, what is handed out is left
 -- out meanwhile.
 pub data Handed (A : Asked) (muts : List Bool) (k : Plan) (R Rb : Renaming) (e : Exp) : Renaming → (Body → Body) → Type 0 where
-  handed_on : {Rn : Renaming} {f g : Body → Body} (Rs Rr Rd : Renaming) → Within Rs R → NotHanded A k next Rs → HandsBack A muts k R e Rs (k.outs next) Rr g → Redeclared Rb Rr k.redeclared f Rd → Within Rn Rd → Within R Rn
+  handed_on : {Rn : Renaming} {f g : Body → Body} (Rs Rr Rd : Renaming) → Within Rs R → NotHanded A muts k next Rs → HandsBack A muts k R e Rs (k.outs next) Rr g → Redeclared Rb Rr k.redeclared f Rd → Within Rn Rd → Within R Rn
       → Handed A muts k R Rb e Rn (λ b. g (f b))

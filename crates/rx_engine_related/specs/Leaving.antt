@@ -42,8 +42,8 @@ returning_if true (Some v) = with_unit v
 returning_if false (Some v) = with_value v
 
 -- the jumps of the new function, by whether the run's function gives the unit
-abbrev pub jumps_of : Asked → Plan → Bool → Jumping
-jumps_of A k unit = record { loops = []; leaving = λ l again. packed k l again; returning = returning_if unit (variant_for k returns); dead = special_of A k }
+abbrev pub jumps_of : Asked → List Bool → Plan → Bool → Jumping
+jumps_of A muts k unit = record { loops = []; leaving = λ l again. packed k l again; returning = returning_if unit (variant_for k returns); dead = special_of A muts k }
 
 -- ---- in the new function
 
@@ -74,6 +74,6 @@ pub data BackArm (A : Asked) (muts : List Bool) (k : Plan) (R : Renaming) (l : A
 
 -- under the jumps there
 pub record ArmsOf (A : Asked) (muts : List Bool) (k : Plan) (unit : Bool) (J : Jumping) (R : Renaming) (l : Arms) : Type 0 where
-  pub all_special : (x y : ℕ) → sight_of R x ≡ Some (sight y special) → In x (special_of A k)
+  pub all_special : (x y : ℕ) → sight_of R x ≡ Some (sight y special) → In x (special_of A muts k)
   pub jumps : (n : ℕ) (again : Bool) (p : Pack) → packed k n again ≡ Some p → (mj : Mark) × (d : ℕ) × (loop_of J.loops n ≡ Some d) × BackArm A muts k R l p (tree.jump mj d again)
   pub return : ReturnsOn J R l (returning_if unit (variant_for k returns))

@@ -34,13 +34,13 @@ marked_run k _ r = with_mark enters k.params r
 pub data CallOf (A : Asked) (muts : List Bool) (k : Plan) (J : Jumping) (R : Renaming) (called : Exp) : Jumping → Way → Exp → Type 0 where
   call_alone : k.exits ≡ next ∷ [] → CallOf A muts k J R called inner_jumps bare called
   call_matched : {v : ℕ} {m : Mark} {l : Arms} {qs : List ℕ} {ps : Subpatterns} {e : Exp} (unit : Bool) → variant_for k next ≡ Some v → ArmsOf A muts k unit J R l → Picks l v ps e → Receives 0 qs ps → AreNew R qs → Gives bare qs e → length qs ≡ length (k.outs next)
-      → CallOf A muts k J R called (jumps_of A k unit) (as_variant v) (tree.choose m (tree.of_value called) l)
-  call_left : {m : Mark} {l : Arms} (unit : Bool) → (Among next k.exits → ⊥) → ArmsOf A muts k unit J R l → CallOf A muts k J R called (jumps_of A k unit) no_way (tree.choose m (tree.of_value called) l)
+      → CallOf A muts k J R called (jumps_of A muts k unit) (as_variant v) (tree.choose m (tree.of_value called) l)
+  call_left : {m : Mark} {l : Arms} (unit : Bool) → (Among next k.exits → ⊥) → ArmsOf A muts k unit J R l → CallOf A muts k J R called (jumps_of A muts k unit) no_way (tree.choose m (tree.of_value called) l)
 
 pub data RunBecomesCall (A : Asked) (muts : List Bool) (k : Plan) (modes : List Mode) (items : ℕ → ℕ) (gain : Allowance) (U : List ℕ) (N : New) : ℕ → Jumping → Renaming → Renaming → Body → (Body → Body) → (Body → Body) → Type 0 where
   run_becomes_call : {J Ji : Jumping} {R Rn : Renaming} {r r' : Stretch} {l : Last} {w : Way} {rest end : Body} {es : Operands} {mc : Mark} {called : Exp} {f' : Body → Body} (Ra Rb : Renaming) (mb : Mark) (ls : List (ℕ × ℕ))
       → N.function.body ≡ body_of mb ls r' end → EntersWith gain.strays k modes R es N.function.params ls Ra
-      → Moved items gain U (special_of A k) Ji Ra r r' Rb → Ended items gain U (special_of A k) Ji Rb l w (k.outs next) end
+      → Moved items gain U (special_of A muts k) Ji Ra r r' Rb → Ended items gain U (special_of A muts k) Ji Rb l w (k.outs next) end
       → (w ≡ no_way → NeverEnds l r) → CallOf A muts k J R (tree.call mc N.number es) Ji w called → Handed A muts k R Rb called Rn f'
       → RunBecomesCall A muts k modes items gain U N 1 J R Rn rest (λ b. before (marked_run k l r) (with_last l b)) f'
 

@@ -58,19 +58,19 @@ pub data TailEnded (items : ℕ → ℕ) (gain : Allowance) (U : List ℕ) (spec
 pub data TailCallOf (A : Asked) (muts : List Bool) (k : Plan) (J : Jumping) (R : Renaming) (called : Exp) (has : Bool) : Jumping → Way → Exp → Type 0 where
   tail_call_alone : k.exits ≡ next ∷ [] → TailCallOf A muts k J R called has inner_jumps bare called
   tail_call_matched : {v : ℕ} {m : Mark} {l : Arms} {qs : List ℕ} {ps : Subpatterns} {e : Exp} (unit : Bool) → variant_for k next ≡ Some v → ArmsOf A muts k unit J R l → Picks l v ps e → Receives 0 qs ps → AreNew R qs → Gives bare qs e → length qs ≡ count has (k.outs next)
-      → TailCallOf A muts k J R called has (jumps_of A k unit) (as_variant v) (tree.choose m (tree.of_value called) l)
-  tail_call_left : {m : Mark} {l : Arms} (unit : Bool) → (Among next k.exits → ⊥) → ArmsOf A muts k unit J R l → TailCallOf A muts k J R called has (jumps_of A k unit) no_way (tree.choose m (tree.of_value called) l)
+      → TailCallOf A muts k J R called has (jumps_of A muts k unit) (as_variant v) (tree.choose m (tree.of_value called) l)
+  tail_call_left : {m : Mark} {l : Arms} (unit : Bool) → (Among next k.exits → ⊥) → ArmsOf A muts k unit J R l → TailCallOf A muts k J R called has (jumps_of A muts k unit) no_way (tree.choose m (tree.of_value called) l)
 
 -- what stands in place of the run and the tail, with the variables of what follows, which is nothing
 pub data TailHanded (A : Asked) (muts : List Bool) (k : Plan) (J : Jumping) (R Rb : Renaming) (l : Last) (called : Exp) : Bool → Way → List ℕ → Renaming → (Body → Body) → Type 0 where
   -- the value
-  value_back : {w : Way} {Rn : Renaming} {f : Exp → Exp} → NotHanded A k next R → GivenBack J l f → TailHanded A muts k J R Rb l called true w [] Rn (λ b. tree.ends (f called))
+  value_back : {w : Way} {Rn : Renaming} {f : Exp → Exp} → NotHanded A muts k next R → GivenBack J l f → TailHanded A muts k J R Rb l called true w [] Rn (λ b. tree.ends (f called))
   -- behind what is done with the others
-  value_behind : {w : Way} {n x o : ℕ} {xs os : List ℕ} {ps : Subpatterns} {e : Exp} {Rn : Renaming} {g : Body → Body} {f : Exp → Exp} (Rs Rr Rd : Renaming) → Within Rs R → NotHanded A k next Rs → IsNew R o → (In o os → ⊥)
+  value_behind : {w : Way} {n x o : ℕ} {xs os : List ℕ} {ps : Subpatterns} {e : Exp} {Rn : Renaming} {g : Body → Body} {f : Exp → Exp} (Rs Rr Rd : Renaming) → Within Rs R → NotHanded A muts k next Rs → IsNew R o → (In o os → ⊥)
       → Receiving R Rs (x ∷ xs) os Rr → Receives 0 (o ∷ os) ps → PutBack A muts k R Rr (x ∷ xs) os g Rd → Within R Rd → Takes o e → GivenBack J l f
       → TailHanded A muts k J R Rb l called true w (x ∷ xs) Rn (λ b. tree.lets n (tree.parts ps) (tree.of_value called) (g (tree.ends (f e))))
   -- the unit again
-  unit_behind : {w : Way} {xs : List ℕ} {Rn : Renaming} {g h : Body → Body} {f : Exp → Exp} {m : Mark} (Rs Rr Rd : Renaming) → Within Rs R → NotHanded A k next Rs → HandsBack A muts k R called Rs xs Rr g
+  unit_behind : {w : Way} {xs : List ℕ} {Rn : Renaming} {g h : Body → Body} {f : Exp → Exp} {m : Mark} (Rs Rr Rd : Renaming) → Within Rs R → NotHanded A muts k next Rs → HandsBack A muts k R called Rs xs Rr g
       → Redeclared Rb Rr k.redeclared h Rd → GivenBack J l f → Within Rn Rd → Within R Rn → TailHanded A muts k J R Rb l called false w xs Rn (λ b. g (h (tree.ends (f (tree.unit m)))))
   -- what follows is not come to
   nothing_behind : {Rn : Renaming} {g : Body → Body} → TailHanded A muts k J R Rb l called false no_way [] Rn (λ b. tree.runs called (g b))
@@ -85,7 +85,7 @@ pub data IsTail (k : Plan) : Last → Exp → Type 0 where
 pub data TailBecomesCall (A : Asked) (muts : List Bool) (k : Plan) (modes : List Mode) (items : ℕ → ℕ) (gain : Allowance) (U : List ℕ) (N : New) : ℕ → Jumping → Renaming → Renaming → Body → (Body → Body) → (Body → Body) → Type 0 where
   tail_becomes_call : {J Ji : Jumping} {R Rn : Renaming} {r r' : Stretch} {l : Last} {e : Exp} {has : Bool} {w : Way} {rest end : Body} {es : Operands} {mc : Mark} {called : Exp} {f' : Body → Body} (Ra Rb : Renaming) (mb : Mark) (ls : List (ℕ × ℕ))
       → IsTail k l e → N.function.body ≡ body_of mb ls r' end → EntersWith gain.strays k modes R es N.function.params ls Ra
-      → Moved items gain U (special_of A k) Ji Ra r r' Rb → TailEnded items gain U (special_of A k) Ji Rb e has w (k.outs next) end
+      → Moved items gain U (special_of A muts k) Ji Ra r r' Rb → TailEnded items gain U (special_of A muts k) Ji Rb e has w (k.outs next) end
       → (w ≡ no_way → NeverEnds (a_marked e (leaves next)) r) → TailCallOf A muts k J R (tree.call mc N.number es) has Ji w called → TailHanded A muts k J R Rb l called has w (k.outs next) Rn f'
       → TailBecomesCall A muts k modes items gain U N 1 J R Rn rest (λ b. before (with_mark enters k.params r) (with_last l b)) f'
 

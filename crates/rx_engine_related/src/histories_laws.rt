@@ -21,6 +21,7 @@ ghost use Rattle.rx_exits_plan.specs.Plan.{Plan, IsPlan};
 ghost use Rattle.rx_exits_plan.specs.PartlyMoved.{PartlyMoved};
 ghost use Rattle.rx_meaning.specs.Values.{element};
 ghost use Rattle.rx_meaning.specs.Programs.{Program, run};
+ghost use Rattle.rx_modes_uses.specs.NotMut.{NotMut};
 ghost use Rattle.rx_modes_uses.specs.Aliased.{Aliased};
 ghost use Rattle.rx_engine_simulation.specs.Histories.{Written, Borrowed, Living};
 ghost use Rattle.rx_engine_simulation.specs.Sights.{In, sight, special, Renaming};
@@ -66,14 +67,14 @@ pub fn entry_reads_change_no_walk()
 pub fn params_are_written_and_living()
     ensures written { (A : Asked) (muts : ListOf Bool) → Accepted A muts → (k : Plan) → IsPlan A k → (xs : ListOf ℕ) (x : ℕ) → Among x k.params → (b : Body) (i : ℕ) (t : Temporary) (h : ListOf Action)
         → ComesTo (marked_with A xs) (order_body (runs (mark enters) b) i t) h → Written h x }
-    ensures living { (A : Asked) (k : Plan) (u : Untouched (text_of A k) (about_run A k)) (x : ℕ) → Among x k.params → (b : Body) (i : ℕ) (t : Temporary) (h : ListOf Action)
-        → ComesTo (text_of A k) (order_body (before (entering k.params) b) i t) h → Living (facts_of (text_of A k) (about_run A k) u) x h }
+    ensures living { (A : Asked) (muts : ListOf Bool) (k : Plan) (u : Untouched (text_of A k) (about_run A muts k)) (x : ℕ) → Among x k.params → (b : Body) (i : ℕ) (t : Temporary) (h : ListOf Action)
+        → ComesTo (text_of A k) (order_body (before (entering k.params) b) i t) h → Living (facts_of (text_of A k) (about_run A muts k) u) x h }
 {}
 
 /// A local is not living there.
 pub fn locals_are_not_living()
-    ensures { (A : Asked) (muts : ListOf Bool) → Accepted A muts → (k : Plan) → IsPlan A k → (u : Untouched (text_of A k) (about_run A k)) (x : ℕ) → Among x k.locals
-        → (b : Body) (i : ℕ) (t : Temporary) (h : ListOf Action) → ComesTo (text_of A k) (order_body (runs (mark enters) b) i t) h → Living (facts_of (text_of A k) (about_run A k) u) x h → ⊥ }
+    ensures { (A : Asked) (muts : ListOf Bool) → Accepted A muts → (k : Plan) → IsPlan A k → (u : Untouched (text_of A k) (about_run A muts k)) (x : ℕ) → Among x k.locals
+        → (b : Body) (i : ℕ) (t : Temporary) (h : ListOf Action) → ComesTo (text_of A k) (order_body (runs (mark enters) b) i t) h → Living (facts_of (text_of A k) (about_run A muts k) u) x h → ⊥ }
 {}
 
 /// Where the run is left by an exit, what the exit hands out was written.
@@ -84,9 +85,9 @@ pub fn outs_are_written()
 
 /// It is living behind each mark of the exit, where these lead to one place.
 pub fn outs_are_living()
-    ensures { (A : Asked) (muts : ListOf Bool) → Accepted A muts → (k : Plan) → IsPlan A k → (u : Untouched (text_of A k) (about_run A k)) (e : Exit) (x : ℕ)
+    ensures { (A : Asked) (muts : ListOf Bool) → Accepted A muts → (k : Plan) → IsPlan A k → (u : Untouched (text_of A k) (about_run A muts k)) (e : Exit) (x : ℕ)
         → LeadsToOnePlace (text_of A k) (shown (leaves e)) → Among e k.exits → Among x (k.outs e)
-        → (h : ListOf Action) → IsHistory (text_of A k) (shown (leaves e) ∷ h) → Living (facts_of (text_of A k) (about_run A k) u) x (shown (leaves e) ∷ h) }
+        → (h : ListOf Action) → IsHistory (text_of A k) (shown (leaves e) ∷ h) → Living (facts_of (text_of A k) (about_run A muts k) u) x (shown (leaves e) ∷ h) }
 {}
 
 /// Behind an action that stands at one place, a walk may go on as any other does that holds the action.
@@ -132,8 +133,8 @@ pub fn histories_come_to_marks()
 
 /// And of the variables that may be elsewhere the others are not living behind the exit's mark.
 pub fn what_is_not_handed_out_is_not_living()
-    ensures { (A : Asked) (k : Plan) → IsPlan A k → (u : Untouched (text_of A k) (about_run A k)) (e : Exit) (x : ℕ) → Among e k.exits → e ≢ returns → In x (special_of A k)
-        → (Among x (k.outs e) → ⊥) → (h : ListOf Action) → Living (facts_of (text_of A k) (about_run A k) u) x (shown (leaves e) ∷ h) → ⊥ }
+    ensures { (A : Asked) (muts : ListOf Bool) (k : Plan) → IsPlan A k → ((y : ℕ) → ¬ (NotMut A muts k y)) → (u : Untouched (text_of A k) (about_run A muts k)) (e : Exit) (x : ℕ) → Among e k.exits → e ≢ returns → In x (special_of A muts k)
+        → (Among x (k.outs e) → ⊥) → (h : ListOf Action) → Living (facts_of (text_of A k) (about_run A muts k) u) x (shown (leaves e) ∷ h) → ⊥ }
 {}
 
 /// Behind what a function gives nothing is living: variables end there, and nothing else is done.
@@ -145,8 +146,8 @@ pub fn nothing_is_living_behind_what_is_given()
 /// Where no variable would be aliased, one that may be elsewhere is not written once its own storage was borrowed; nor is it borrowed at all
 /// if it is declared `mut`.
 pub fn special_variables_are_untouched()
-    ensures untouched { (A : Asked) (muts : ListOf Bool) → Accepted A muts → (k : Plan) → IsPlan A k → ((x : ℕ) → ¬ (Aliased A muts k x)) → Untouched (text_of A k) (about_run A k) }
-    ensures unlent { (A : Asked) (muts : ListOf Bool) → Accepted A muts → (k : Plan) → IsPlan A k → ((x : ℕ) → ¬ (Aliased A muts k x)) → (x : ℕ) → In x (special_of A k) → slice_get muts x ≡ Some true
+    ensures untouched { (A : Asked) (muts : ListOf Bool) → Accepted A muts → (k : Plan) → IsPlan A k → ((x : ℕ) → ¬ (Aliased A muts k x)) → Untouched (text_of A k) (about_run A muts k) }
+    ensures unlent { (A : Asked) (muts : ListOf Bool) → Accepted A muts → (k : Plan) → IsPlan A k → ((x : ℕ) → ¬ (Aliased A muts k x)) → (x : ℕ) → In x (special_of A muts k) → slice_get muts x ≡ Some true
         → (h : ListOf Action) → IsHistory (text_of A k) h → Borrowed h x → ⊥ }
 {}
 
@@ -155,11 +156,11 @@ pub fn special_variables_are_untouched()
 pub fn running_texts_are_entered_so()
     ensures written { (A : Asked) → A.run.tail ≡ false → (xs : ListOf ℕ) (muts : ListOf Bool) → Accepted A muts → (k : Plan) → IsPlan A k → (x : ℕ) → Among x k.params
         → (b : Body) (i : ℕ) (t : Temporary) (h : ListOf Action) → ComesTo (running_of A xs) (order_body (runs (mark enters) b) i t) h → Written h x }
-    ensures living { (A : Asked) (k : Plan) (u : Untouched (running_of A k.params) (about_run A k)) (x : ℕ) → Among x k.params → (b : Body) (i : ℕ) (t : Temporary) (h : ListOf Action)
-        → ComesTo (running_of A k.params) (order_body (before (entering k.params) b) i t) h → Living (facts_of (running_of A k.params) (about_run A k) u) x h }
-    ensures locals { (A : Asked) → A.run.tail ≡ false → (k : Plan) → IsPlan A k → (muts : ListOf Bool) → Accepted A muts → (u : Untouched (running_of A k.params) (about_run A k)) (x : ℕ) → Among x k.locals
+    ensures living { (A : Asked) (muts : ListOf Bool) (k : Plan) (u : Untouched (running_of A k.params) (about_run A muts k)) (x : ℕ) → Among x k.params → (b : Body) (i : ℕ) (t : Temporary) (h : ListOf Action)
+        → ComesTo (running_of A k.params) (order_body (before (entering k.params) b) i t) h → Living (facts_of (running_of A k.params) (about_run A muts k) u) x h }
+    ensures locals { (A : Asked) → A.run.tail ≡ false → (k : Plan) → IsPlan A k → (muts : ListOf Bool) → Accepted A muts → (u : Untouched (running_of A k.params) (about_run A muts k)) (x : ℕ) → Among x k.locals
         → (b : Body) (i : ℕ) (t : Temporary) (h : ListOf Action) → ComesTo (running_of A k.params) (order_body (runs (mark enters) b) i t) h
-        → Living (facts_of (running_of A k.params) (about_run A k) u) x h → ⊥ }
+        → Living (facts_of (running_of A k.params) (about_run A muts k) u) x h → ⊥ }
 {}
 
 /// And where the run is left by its end or by a `break` or a `continue`: what is handed out was written, and is living
@@ -167,14 +168,14 @@ pub fn running_texts_are_entered_so()
 pub fn running_texts_are_left_so()
     ensures written { (A : Asked) → A.run.tail ≡ false → (xs : ListOf ℕ) (muts : ListOf Bool) → Accepted A muts → (k : Plan) → IsPlan A k → (e : Exit) (x : ℕ) → ¬ (PartlyMoved A k x)
         → Among e k.exits → Among x (k.outs e) → (h : ListOf Action) → IsHistory (running_of A xs) (shown (leaves e) ∷ h) → Written h x }
-    ensures others { (A : Asked) → A.run.tail ≡ false → (k : Plan) → IsPlan A k → (u : Untouched (running_of A k.params) (about_run A k)) (e : Exit) (x : ℕ) → Among e k.exits → e ≢ returns
-        → In x (special_of A k) → (Among x (k.outs e) → ⊥) → (h : ListOf Action) → Living (facts_of (running_of A k.params) (about_run A k) u) x (shown (leaves e) ∷ h) → ⊥ }
-    ensures living { (A : Asked) → A.run.tail ≡ false → (k : Plan) → IsPlan A k → (muts : ListOf Bool) → Accepted A muts → (u : Untouched (running_of A k.params) (about_run A k)) (e : Exit) (x : ℕ)
+    ensures others { (A : Asked) → A.run.tail ≡ false → (k : Plan) → IsPlan A k → (muts : ListOf Bool) → ((y : ℕ) → ¬ (NotMut A muts k y)) → (u : Untouched (running_of A k.params) (about_run A muts k)) (e : Exit) (x : ℕ) → Among e k.exits → e ≢ returns
+        → In x (special_of A muts k) → (Among x (k.outs e) → ⊥) → (h : ListOf Action) → Living (facts_of (running_of A k.params) (about_run A muts k) u) x (shown (leaves e) ∷ h) → ⊥ }
+    ensures living { (A : Asked) → A.run.tail ≡ false → (k : Plan) → IsPlan A k → (muts : ListOf Bool) → Accepted A muts → (u : Untouched (running_of A k.params) (about_run A muts k)) (e : Exit) (x : ℕ)
         → e ≢ returns → LeadsToOnePlace (running_of A k.params) (shown (leaves e)) → Among e k.exits → Among x (k.outs e)
-        → (h : ListOf Action) → IsHistory (running_of A k.params) (shown (leaves e) ∷ h) → Living (facts_of (running_of A k.params) (about_run A k) u) x (shown (leaves e) ∷ h) }
+        → (h : ListOf Action) → IsHistory (running_of A k.params) (shown (leaves e) ∷ h) → Living (facts_of (running_of A k.params) (about_run A muts k) u) x (shown (leaves e) ∷ h) }
     ensures untouched { (A : Asked) → A.run.tail ≡ false → (k : Plan) → IsPlan A k → (muts : ListOf Bool) → Accepted A muts → ((x : ℕ) → ¬ (Aliased A muts k x))
-        → Untouched (running_of A k.params) (about_run A k) }
-    ensures unlent { (A : Asked) → A.run.tail ≡ false → (k : Plan) → IsPlan A k → (muts : ListOf Bool) → Accepted A muts → ((x : ℕ) → ¬ (Aliased A muts k x)) → (x : ℕ) → In x (special_of A k)
+        → Untouched (running_of A k.params) (about_run A muts k) }
+    ensures unlent { (A : Asked) → A.run.tail ≡ false → (k : Plan) → IsPlan A k → (muts : ListOf Bool) → Accepted A muts → ((x : ℕ) → ¬ (Aliased A muts k x)) → (x : ℕ) → In x (special_of A muts k)
         → slice_get muts x ≡ Some true → (h : ListOf Action) → IsHistory (running_of A k.params) h → Borrowed h x → ⊥ }
 {}
 
@@ -183,14 +184,14 @@ pub fn running_texts_are_left_so()
 pub fn tailed_texts_are_entered_so()
     ensures written { (A : Asked) → A.run.tail ≡ true → (xs : ListOf ℕ) (muts : ListOf Bool) → Accepted A muts → (k : Plan) → IsPlan A k → (x : ℕ) → Among x k.params
         → (b : Body) (i : ℕ) (t : Temporary) (h : ListOf Action) → ComesTo (tailed_of A xs) (order_body (runs (mark enters) b) i t) h → Written h x }
-    ensures living { (A : Asked) (k : Plan) (u : Untouched (tailed_of A k.params) (about_run A k)) (x : ℕ) → Among x k.params → (b : Body) (i : ℕ) (t : Temporary) (h : ListOf Action)
-        → ComesTo (tailed_of A k.params) (order_body (before (entering k.params) b) i t) h → Living (facts_of (tailed_of A k.params) (about_run A k) u) x h }
-    ensures locals { (A : Asked) → A.run.tail ≡ true → (k : Plan) → IsPlan A k → (muts : ListOf Bool) → Accepted A muts → (u : Untouched (tailed_of A k.params) (about_run A k)) (x : ℕ) → Among x k.locals
+    ensures living { (A : Asked) (muts : ListOf Bool) (k : Plan) (u : Untouched (tailed_of A k.params) (about_run A muts k)) (x : ℕ) → Among x k.params → (b : Body) (i : ℕ) (t : Temporary) (h : ListOf Action)
+        → ComesTo (tailed_of A k.params) (order_body (before (entering k.params) b) i t) h → Living (facts_of (tailed_of A k.params) (about_run A muts k) u) x h }
+    ensures locals { (A : Asked) → A.run.tail ≡ true → (k : Plan) → IsPlan A k → (muts : ListOf Bool) → Accepted A muts → (u : Untouched (tailed_of A k.params) (about_run A muts k)) (x : ℕ) → Among x k.locals
         → (b : Body) (i : ℕ) (t : Temporary) (h : ListOf Action) → ComesTo (tailed_of A k.params) (order_body (runs (mark enters) b) i t) h
-        → Living (facts_of (tailed_of A k.params) (about_run A k) u) x h → ⊥ }
+        → Living (facts_of (tailed_of A k.params) (about_run A muts k) u) x h → ⊥ }
     ensures untouched { (A : Asked) → A.run.tail ≡ true → (k : Plan) → IsPlan A k → (muts : ListOf Bool) → Accepted A muts → ((x : ℕ) → ¬ (Aliased A muts k x))
-        → Untouched (tailed_of A k.params) (about_run A k) }
-    ensures unlent { (A : Asked) → A.run.tail ≡ true → (k : Plan) → IsPlan A k → (muts : ListOf Bool) → Accepted A muts → ((x : ℕ) → ¬ (Aliased A muts k x)) → (x : ℕ) → In x (special_of A k)
+        → Untouched (tailed_of A k.params) (about_run A muts k) }
+    ensures unlent { (A : Asked) → A.run.tail ≡ true → (k : Plan) → IsPlan A k → (muts : ListOf Bool) → Accepted A muts → ((x : ℕ) → ¬ (Aliased A muts k x)) → (x : ℕ) → In x (special_of A muts k)
         → slice_get muts x ≡ Some true → (h : ListOf Action) → IsHistory (tailed_of A k.params) h → Borrowed h x → ⊥ }
 {}
 
@@ -199,12 +200,12 @@ pub fn tailed_texts_are_entered_so()
 pub fn tailed_texts_are_left_so()
     ensures written { (A : Asked) → A.run.tail ≡ true → (k : Plan) → IsPlan A k → TellsOnce A k.params → (muts : ListOf Bool) → Accepted A muts → (x : ℕ) → ¬ (PartlyMoved A k x)
         → Among next k.exits → Among x (k.outs next) → (e : Exp) (d : Temporary) (h : ListOf Action) → IsHistory (tailed_of A k.params) (passage e d ∷ h) → Written h x }
-    ensures living { (A : Asked) → A.run.tail ≡ true → (k : Plan) → IsPlan A k → TellsOnce A k.params → (muts : ListOf Bool) → Accepted A muts → (u : Untouched (tailed_of A k.params) (about_run A k)) (x : ℕ)
+    ensures living { (A : Asked) → A.run.tail ≡ true → (k : Plan) → IsPlan A k → TellsOnce A k.params → (muts : ListOf Bool) → Accepted A muts → (u : Untouched (tailed_of A k.params) (about_run A muts k)) (x : ℕ)
         → Among next k.exits → Among x (k.outs next) → (e : Exp) (d : Temporary) (h : ListOf Action) → IsHistory (tailed_of A k.params) (passage e d ∷ h)
-        → Living (facts_of (tailed_of A k.params) (about_run A k) u) x (passage e d ∷ h) }
-    ensures others { (A : Asked) → A.run.tail ≡ true → (k : Plan) → IsPlan A k → TellsOnce A k.params → (u : Untouched (tailed_of A k.params) (about_run A k)) (x : ℕ)
-        → Among next k.exits → In x (special_of A k) → (Among x (k.outs next) → ⊥) → (e : Exp) (d : Temporary) (h : ListOf Action)
-        → Living (facts_of (tailed_of A k.params) (about_run A k) u) x (passage e d ∷ h) → ⊥ }
+        → Living (facts_of (tailed_of A k.params) (about_run A muts k) u) x (passage e d ∷ h) }
+    ensures others { (A : Asked) → A.run.tail ≡ true → (k : Plan) → IsPlan A k → TellsOnce A k.params → (muts : ListOf Bool) → ((y : ℕ) → ¬ (NotMut A muts k y)) → (u : Untouched (tailed_of A k.params) (about_run A muts k)) (x : ℕ)
+        → Among next k.exits → In x (special_of A muts k) → (Among x (k.outs next) → ⊥) → (e : Exp) (d : Temporary) (h : ListOf Action)
+        → Living (facts_of (tailed_of A k.params) (about_run A muts k) u) x (passage e d ∷ h) → ⊥ }
     ensures marked { (A : Asked) (xs : ListOf ℕ) (l : LikeFunction (λ f. f) no_openings without_turns A.function A.function) → l.about.special ≡ []
         → AreWritten (facts_alone (tailed_of A xs)) enters xs → TreeEntry (Some (Some A.function)) (Some (Some (tailed_of A xs))) }
     ensures once { (A : Asked) (xs : ListOf ℕ) → HasNoMark (order_function A.function) → HasNoPass (order_function A.function) → blocks_at A.run.block (spots_of_function A.function) ≤ 1 → TellsOnce A xs }
@@ -228,17 +229,17 @@ pub fn entry_reads_change_no_run()
 /// living, and locals are not; where it is left by an exit, with its mark as the newest action, nothing is living that is not handed out, and what
 /// is handed out is ready; and what is put back was not lent.
 pub fn plans_give_what_calls_ask()
-    ensures living { (A : Asked) (k : Plan) (u : Untouched (running_of A k.params) (about_run A k)) (r : Stretch) (rest : Body) (x : ℕ) (h : ListOf Action) → Among x k.params → InFront A k u r rest h
-        → Living (known_of A k u) x h }
-    ensures written { (A : Asked) (k : Plan) (u : Untouched (running_of A k.params) (about_run A k)) → A.run.tail ≡ false → IsPlan A k → (muts : ListOf Bool) → Accepted A muts
-        → (r : Stretch) (rest : Body) (x : ℕ) (h : ListOf Action) → Among x k.params → InFront A k u r rest h → Written h x }
-    ensures locals { (A : Asked) (k : Plan) (u : Untouched (running_of A k.params) (about_run A k)) → A.run.tail ≡ false → IsPlan A k → (muts : ListOf Bool) → Accepted A muts
-        → (r : Stretch) (rest : Body) (x : ℕ) (h : ListOf Action) → Among x k.locals → InFront A k u r rest h → Living (known_of A k u) x h → ⊥ }
-    ensures dead { (A : Asked) (k : Plan) (u : Untouched (running_of A k.params) (about_run A k)) → A.run.tail ≡ false → IsPlan A k → (e : Exit) (a : Aim) (R : Renaming)
-        → ByMark A k u e a → e ≢ returns → Among e k.exits → NotHanded A k e R → AreDead (known_of A k u) R a }
-    ensures ready { (A : Asked) (k : Plan) (u : Untouched (running_of A k.params) (about_run A k)) → A.run.tail ≡ false → IsPlan A k → (muts : ListOf Bool) → Accepted A muts
-        → (e : Exit) (a : Aim) (x : ℕ) → ByMark A k u e a → e ≢ returns → LeadsToOnePlace (running_of A k.params) (shown (leaves e)) → ¬ (PartlyMoved A k x) → Among e k.exits → Among x (k.outs e)
-        → IsReady (known_of A k u) a x }
-    ensures unlent { (A : Asked) (k : Plan) (u : Untouched (running_of A k.params) (about_run A k)) → A.run.tail ≡ false → IsPlan A k → (muts : ListOf Bool) → Accepted A muts
-        → ((x : ℕ) → ¬ (Aliased A muts k x)) → (b : Body) (x : ℕ) → In x (special_of A k) → slice_get muts x ≡ Some true → IsUnlent (known_of A k u) b x }
+    ensures living { (A : Asked) (muts : ListOf Bool) (k : Plan) (u : Untouched (running_of A k.params) (about_run A muts k)) (r : Stretch) (rest : Body) (x : ℕ) (h : ListOf Action) → Among x k.params → InFront A muts k u r rest h
+        → Living (known_of A muts k u) x h }
+    ensures written { (A : Asked) (muts : ListOf Bool) (k : Plan) (u : Untouched (running_of A k.params) (about_run A muts k)) → A.run.tail ≡ false → IsPlan A k → Accepted A muts
+        → (r : Stretch) (rest : Body) (x : ℕ) (h : ListOf Action) → Among x k.params → InFront A muts k u r rest h → Written h x }
+    ensures locals { (A : Asked) (muts : ListOf Bool) (k : Plan) (u : Untouched (running_of A k.params) (about_run A muts k)) → A.run.tail ≡ false → IsPlan A k → Accepted A muts
+        → (r : Stretch) (rest : Body) (x : ℕ) (h : ListOf Action) → Among x k.locals → InFront A muts k u r rest h → Living (known_of A muts k u) x h → ⊥ }
+    ensures dead { (A : Asked) (muts : ListOf Bool) (k : Plan) (u : Untouched (running_of A k.params) (about_run A muts k)) → A.run.tail ≡ false → IsPlan A k → ((y : ℕ) → ¬ (NotMut A muts k y)) → (e : Exit) (a : Aim) (R : Renaming)
+        → ByMark A muts k u e a → e ≢ returns → Among e k.exits → NotHanded A muts k e R → AreDead (known_of A muts k u) R a }
+    ensures ready { (A : Asked) (muts : ListOf Bool) (k : Plan) (u : Untouched (running_of A k.params) (about_run A muts k)) → A.run.tail ≡ false → IsPlan A k → Accepted A muts
+        → (e : Exit) (a : Aim) (x : ℕ) → ByMark A muts k u e a → e ≢ returns → LeadsToOnePlace (running_of A k.params) (shown (leaves e)) → ¬ (PartlyMoved A k x) → Among e k.exits → Among x (k.outs e)
+        → IsReady (known_of A muts k u) a x }
+    ensures unlent { (A : Asked) (muts : ListOf Bool) (k : Plan) (u : Untouched (running_of A k.params) (about_run A muts k)) → A.run.tail ≡ false → IsPlan A k → Accepted A muts
+        → ((x : ℕ) → ¬ (Aliased A muts k x)) → (b : Body) (x : ℕ) → In x (special_of A muts k) → slice_get muts x ≡ Some true → IsUnlent (known_of A muts k u) b x }
 {}

@@ -21,7 +21,7 @@ use Rattle.rx_typeck_solver.specs.Facts.{Assignment, KnownItems}
 use Rattle.rx_engine_names.specs.Renaming.{Renaming}
 use Rattle.rx_engine_names.specs.HandedOut.{Handing}
 use Rattle.rx_engine_names.specs.HandsOver.{at_place, declared_from, handed_names, received_names, told_handed}
-use Rattle.rx_engine_names.specs.Placed.{EndFor, NamedByBoth, Place, StandFor, ToldLast}
+use Rattle.rx_engine_names.specs.Placed.{EndFor, Meet, NamedByBoth, Place, StandFor, ToldLast}
 use Rattle.rx_engine_names.proofs.NewScopes.{is_name}
 use Rattle.rx_engine_blocks.specs.Renumbering.{shape_at, Renumbering}
 use Rattle.rx_engine_blocks.specs.Along.{PartialInverse}
@@ -112,6 +112,12 @@ module _ (q : Renumbering) (A : Assignment) (made : Entries) (sc : Variables) wh
       by (inl o) = inl o
       by (inr k) = here (bytes_eq z x) refl k
 
+second_in_front : (n m : ℕ) (o o' : Option ℕ) → Meet (λ i j. (i < n) × (j < m)) o o' → (y : ℕ) → o' ≡ Some y → y < m
+second_in_front n m None None h y e = absurd (cc)
+second_in_front n m (Some i) None h y e = absurd h
+second_in_front n m None (Some j) h y e = absurd h
+second_in_front n m (Some i) (Some j) h y e = let l = h.1 in let k = some_number j y e in omega (arith, l, k)
+
 -- ---- of a call
 
 module _ (E : KnownItems) (f : ℕ) (N : Numbers) (R : Renaming) (follows : (n : ℕ) → N.by.items n ≡ R.item n) (G : Handing) (I I' : Inside) (front run call : List Statement) (p : Place) (x : Statements) (c : Cursor)
@@ -151,7 +157,7 @@ module _ (E : KnownItems) (f : ℕ) (N : Numbers) (R : Renaming) (follows : (n :
 
       first_found : Bound N.by A made s.text.end.scope z y ⊎ (variable_named s.made.middle.scope z ≡ Some y) → shape_at N.by (A (subject.Variable k)) ≡ t
       first_found (inl o) = typed z k y t h v o
-      first_found (inr e) = let b = (entry_between c.declared last.declared inside h).0 in let l = binds.below z y e in let m = (counted y t h).0 in absurd (omega (arith, b, l, m))
+      first_found (inr e) = let b = (entry_between c.declared last.declared inside h).0 in let l = second_in_front _ _ (variable_named s.text.middle.scope z) (variable_named s.made.middle.scope z) (s.earlier z) y e in let m = (counted y t h).0 in absurd (omega (arith, b, l, m))
 
       last_found : Bound N.by A made s.text.end.scope z y ⊎ (variable_named inner z ≡ Some y) → shape_at N.by (A (subject.Variable k)) ≡ t
       last_found (inl o) = typed z k y t h v o

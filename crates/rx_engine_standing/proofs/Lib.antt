@@ -13,3 +13,5 @@ pub mod Having
 pub mod Tied
 pub mod Behind
 pub mod Passed
+pub mod Blocks
+pub mod Joined

@@ -7,8 +7,10 @@ use Rattle.rx_typeck_solver.specs.declared.facts.Subject.TheVariants as subject
 use Rattle.rx_typeck_solver.specs.Facts.{Assignment}
 use Rattle.rx_hoist_extraction.specs.Call.{is_own}
 use Rattle.rx_hoist_extraction.specs.Names.{Names}
-use Rattle.rx_hoist_extraction.specs.Plan.{Variable}
-use Rattle.rx_hoist_extraction.specs.Values.{held_by, result_of, types_of, Value}
+use Rattle.rx_hoist_extraction.specs.Plan.{names_of, Variable}
+use Rattle.rx_hoist_extraction.specs.Values.{held_by, next_values, result_of, types_of, Value}
+use Rattle.rx_engine_names.specs.HandedOut.{Handing}
+use Rattle.rx_engine_names.specs.HandsOver.{handed_names}
 
 -- those that are bound where the values are handed out (`handed_names` of rx_engine_names), and those that are redeclared
 abbrev pub one_bound : Names → Value → List Typ
@@ -27,3 +29,8 @@ variable_types vs = map (λ (v : Variable). v.typ) vs
 abbrev pub TypedBehind : Assignment → Variables → Names → List Typ → Type 0
 TypedBehind A sc (x ∷ xs) (t ∷ ts) = ((j : ℕ) → variable_named sc x ≡ Some j → A (subject.Variable j) ≡ t) × TypedBehind A sc xs ts
 TypedBehind A sc _ _ = Unit {0}
+
+-- so have those that a plan hands out and redeclares
+pub record BehindAsPlanned (A : Assignment) (G : Handing) (sc : Variables) : Type 0 where
+  pub handed : TypedBehind A sc (handed_names G.call.plan G.own (next_values G.call.plan)) (bound_types G.own (next_values G.call.plan))
+  pub redeclared : TypedBehind A sc (names_of G.call.plan.redeclared) (variable_types G.call.plan.redeclared)

@@ -1,8 +1,7 @@
--- What is asked of the variables that a call binds, where it is told that it stands for a run: what comes back from a number corresponds, names in front are
--- declared there, and a text's variable that such a name means behind the run has the type that the plan tells (REM, "Extract function"; Rust Reference, "Scopes").
-use Rattle.std.specs.Prelude.{◌≡◌, ◌≤◌, ◌<◌, ℕ, true, List, length, Some}
+-- What is asked of the variables that a call binds, where it is told that it stands for a run: what comes back from a number corresponds,
+-- and a text's variable that such a name means behind the run has the type that the plan tells (REM, "Extract function"; Rust Reference, "Scopes").
+use Rattle.std.specs.Prelude.{◌≡◌, ◌≤◌, ◌<◌, ℕ, true, List, Some}
 use Rattle.rx_tree.specs.Plain.{Statement}
-use Rattle.rx_resolve_names.specs.Scopes.{variable_named}
 use Rattle.rx_resolve_names.specs.Steps.{Inside}
 use Rattle.rx_typed.specs.Named.{Statements}
 use Rattle.rx_typed.specs.Naming.{Cursor}
@@ -23,8 +22,6 @@ ComesBack N R many = (x y : ℕ) → N.back.variable y ≡ Some x → y < many �
 -- up to this cursor, behind the call
 pub record CallBinds (N : Numbers) (R : Renaming) (A : Assignment) (G : Handing) (I I' : Inside) (front run call : List Statement) (p : Place) (x y : Statements) (s : StandFor (told_handed G) I I' front run call p R x y) (last : Cursor) : Type 0 where
   pub few : last.declared ≤ 4294967296
-  -- names in front mean variables that were declared there
-  pub below : (z : List ℕ) (n : ℕ) → variable_named s.made.middle.scope z ≡ Some n → n < length s.made.middle.tables.vars
   pub back : ComesBack N R last.declared
   pub handed : TypedBehind A s.text.end.scope (handed_names G.call.plan G.own (next_values G.call.plan)) (bound_types G.own (next_values G.call.plan))
   pub redeclared : TypedBehind A s.text.end.scope (names_of G.call.plan.redeclared) (variable_types G.call.plan.redeclared)

@@ -2,15 +2,16 @@
 
 ghost use Rattle.std.specs.Prelude.{◌≡◌, ◌≤◌, ◌||◌, ◌++◌, ℕ, Bool, true, List, [], map, slice_get, Some};
 ghost use Rattle.rx_core.specs.declared.types.Span.{Span};
-ghost use Rattle.rx_tree.specs.Lists.{Every};
+ghost use Rattle.rx_tree.specs.Lists.{statements, tail, Every};
 ghost use Rattle.rx_tree.specs.Plain.{Function, OptionalExpression, ProgramTree, Statement};
 ghost use Rattle.rx_resolve_names.specs.Meant.{Around};
+ghost use Rattle.rx_resolve_names.specs.declared.resolved.NodeNames.{NodeNames};
 ghost use Rattle.rx_resolve_names.specs.Scopes.{variable_named, Variables};
 ghost use Rattle.rx_resolve_names.specs.Steps.{Inside};
 ghost use Rattle.rx_typed.specs.declared.nodes.Node.{Node};
 ghost use Rattle.rx_typed.specs.declared.nodes.Site.{Site};
 ghost use Rattle.rx_typed.specs.Named.{some_diverges, tail_never, Else, Exp, Function as NamedFunction, Statements};
-ghost use Rattle.rx_typed.specs.Naming.{of_optional, of_statements, Cursor};
+ghost use Rattle.rx_typed.specs.Naming.{function_named, of_optional, of_statements, Cursor};
 ghost use Rattle.rx_typed.specs.Types.{parameters_declared};
 ghost use Rattle.rx_typeck_solver.specs.declared.facts.Demand.{Demand};
 ghost use Rattle.rx_typeck_solver.specs.declared.facts.Subject.TheVariants as subject;
@@ -20,13 +21,14 @@ ghost use Rattle.rx_typeck_solver.specs.Valid.{Valid};
 ghost use Rattle.rx_typeck_typed.specs.Demands as rules;
 ghost use Rattle.rx_typeck_typed.specs.Demands.{demands, join, task};
 ghost use Rattle.rx_hoist_extraction.specs.Names.{Distinct};
-ghost use Rattle.rx_hoist_extraction.specs.Run.{as_statements, Run};
+ghost use Rattle.rx_hoist_extraction.specs.Run.{as_statements, chosen, goes_past, run_block, Run};
 ghost use Rattle.rx_hoist_extraction.specs.Plan.{Bounds, Param, Plan};
 ghost use Rattle.rx_hoist_extraction.specs.Values.{next_values, Value};
 ghost use Rattle.rx_hoist_extraction.specs.NewFunction.{passed_types};
 ghost use Rattle.rx_hoist_extraction.specs.Extraction.{added};
 ghost use Rattle.rx_engine_names.specs.Calls as calls;
 ghost use Rattle.rx_engine_names.specs.Calls.{Calls};
+ghost use Rattle.rx_engine_names.specs.CalledRuns.{RunStands};
 ghost use Rattle.rx_engine_names.specs.Extractions.{handing_there};
 ghost use Rattle.rx_engine_names.specs.HandedOut.{Handing};
 ghost use Rattle.rx_engine_names.specs.HandsOver.{at_place, told_handed, told_last};
@@ -46,12 +48,15 @@ ghost use Rattle.rx_engine_holes.specs.Tail.{of_end};
 ghost use Rattle.rx_engine_typing.specs.Renumbered.{no_holes};
 ghost use Rattle.rx_engine_changed.specs.Arguments.{PassesOn};
 ghost use Rattle.rx_engine_changed.specs.Beside.{Follows, IsOneToOne, Numbers, Piece};
+ghost use Rattle.rx_engine_changed.specs.Called.{CallIsFew, EndIsFew, IsItsCall, IsItsLastCall};
 ghost use Rattle.rx_engine_changed.specs.HandedTypes.{CallStands, EndStands, ItemsDeclare, NextAgrees};
 ghost use Rattle.rx_engine_changed.specs.Inside.{VariablesStand};
 ghost use Rattle.rx_engine_changed.specs.Once.{asked_last, ByOneNumbering, IsCall, IsLastCall};
 ghost use Rattle.rx_engine_changed.specs.Round.{as_mutable, round, SameEnd};
 ghost use Rattle.rx_engine_changed.specs.Spots.{spot, Spot};
 ghost use Rattle.rx_engine_changed.specs.Stages.{InStep};
+ghost use Rattle.rx_engine_changed.specs.TextStands.{handing_here, handing_last};
+ghost use Rattle.rx_engine_standing.specs.Bound.{BehindAsPlanned};
 ghost use Rattle.rx_engine_standing.specs.CallBinds.{CallBinds, ComesBack};
 ghost use Rattle.rx_engine_standing.specs.EndGives.{EndGives, HasNoTail, IsBlockSite, TailStands};
 ghost use Rattle.rx_engine_standing.specs.InFront.{InFront};
@@ -61,8 +66,8 @@ ghost use Rattle.rx_engine_standing.specs.TwoPrograms as two;
 ghost use Rattle.rx_engine_standing.specs.TwoPrograms.{TwoPrograms};
 
 use rx_engine_changed::{
-    functions_with_a_call_that_fits_are_valid, what_stands_for_a_run_fits,
-    what_stands_for_an_end_fits,
+    demands_of_an_end_stand_together, functions_with_a_call_that_fits_are_valid,
+    what_stands_for_a_run_fits, what_stands_for_an_end_fits,
 };
 use rx_engine_declared::{extractions_declare_what_stays, new_items_declare_by_the_plan};
 
@@ -171,6 +176,28 @@ pub fn functions_with_a_call_have_types()
     calls_fit_where_runs_begin();
     ends_fit_where_runs_begin();
     functions_with_a_call_that_fits_are_valid();
+}
+
+/// So it has, where it is the text's by one numbering as it is told of its names: nothing more is asked of names and numbers, nor of the block's end but that this gives
+/// what the plan hands out.
+pub fn numbered_functions_with_a_call_have_types()
+    ensures within { (p : ProgramTree) (r : Run) (plan : Plan) (bounds : Bounds) (t : TwoPrograms p r plan bounds) (R : Renaming) → ((n : ℕ) → R.item n ≡ past r.item (added plan) n)
+        → (q : ProgramTree) (s : Span) (h : Function) (ns ms : List NodeNames) (g : NamedFunction)
+        → (x : ByOneNumbering R (IsItsCall p q r.item r.item s h r plan (handing_there r plan h) ns ms R) (λ o. round no_holes o) (function_named r.item s h ns) g) → CallIsFew p s h r plan ms → Orderly (task g)
+        → (A : Assignment) → Valid (two.of_text t) (task (function_named r.item s h ns)) A
+        → Fixes x.numbers.by none_viewed (NamedIn (rules.of_statements r.item (of_statements (as_statements (chosen r (statements (run_block r h)))) x.such.is_call.cursor).0 [])) (two.of_extraction t) A (demands g)
+        → RunBegins (handing_here (handing_there r plan h) x.such) A x.such.is_call.cursor → BehindAsPlanned A (handing_there r plan h) x.such.stands.text.end.scope → (W : Assignment) × Valid (two.of_extraction t) (task g) W }
+    ensures at_the_end { (p : ProgramTree) (r : Run) (plan : Plan) (bounds : Bounds) (t : TwoPrograms p r plan bounds) (R : Renaming) → ((n : ℕ) → R.item n ≡ past r.item (added plan) n)
+        → (q : ProgramTree) (s : Span) (h : Function) (ns ms : List NodeNames) (g : NamedFunction)
+        → (x : ByOneNumbering R (IsItsLastCall p q r.item r.item s h r plan (handing_there r plan h) ns ms R) (λ o. round no_holes o) (function_named r.item s h ns) g) → RunStands r plan h → goes_past r (statements (run_block r h)) ≡ true
+        → EndIsFew p s h r plan ms → Orderly (task g) → (A : Assignment) → Valid (two.of_text t) (task (function_named r.item s h ns)) A
+        → Fixes x.numbers.by none_viewed (NamedIn (asked_last x.such.is_call r.item)) (two.of_extraction t) A (demands g)
+        → RunBegins (handing_last (handing_there r plan h) x.such) A x.such.is_call.cursor
+        → EndGives A (of_optional x.such.is_call.node.site (tail (run_block r h)) (of_statements (as_statements (chosen r (statements (run_block r h)))) x.such.is_call.cursor).1).0 (next_values plan)
+        → (W : Assignment) × Valid (two.of_extraction t) (task g) W }
+{
+    functions_with_a_call_have_types();
+    demands_of_an_end_stand_together();
 }
 
 /// What a call of the new function passes is settled in a part that asks what the call asks (`Settles` of rx_engine_blocks): the variable of each param has the plan's type.

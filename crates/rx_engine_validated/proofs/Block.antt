@@ -80,7 +80,7 @@ pub with_locals_read : (ls : List (ℕ × ℕ)) {b c : Body} → RereadsBody b c
 with_locals_read [] z = z
 with_locals_read (l ∷ ls) z = in_declare (with_locals_read ls z)
 
-module _ (A : Asked) (T : Told) (parts : Parts A T) (same : T.elsewhere ≡ special_of A T.plan) (no_outs : (Among next T.plan.exits → ⊥) → T.plan.outs next ≡ []) where
+module _ (A : Asked) (T : Told) (parts : Parts A T) (same : T.elsewhere ≡ special_of A T.muts T.plan) (no_outs : (Among next T.plan.exits → ⊥) → T.plan.outs next ≡ []) where
   abbrev gain : Allowance
   gain = a_turn true
 
@@ -102,8 +102,8 @@ module _ (A : Asked) (T : Told) (parts : Parts A T) (same : T.elsewhere ≡ spec
   -- it does what the run does, with a body that is read
   data RunsSo (J : Jumping) (R : Renaming) (text : Body) (K : Called) (e : Exp) (Rb : Renaming) : Type 0 where
     runs_so : {called : Exp} {mc mb : Mark} {l : Last} {r r' : Stretch} {end : Body} {ls : List (ℕ × ℕ)} {es : Operands} (Ra : Renaming) → Rereads T.new.function.body (body_of mb ls r' end)
-        → EntersWith true k T.modes R es T.new.function.params ls Ra → Divided (marked text) l r → Moved T.items gain T.units (special_of A k) K.jumping Ra r r' Rb
-        → Ended T.items gain T.units (special_of A k) K.jumping Rb l K.way (k.outs next) end
+        → EntersWith true k T.modes R es T.new.function.params ls Ra → Divided (marked text) l r → Moved T.items gain T.units (special_of A T.muts k) K.jumping Ra r r' Rb
+        → Ended T.items gain T.units (special_of A T.muts k) K.jumping Rb l K.way (k.outs next) end
         → Rereads e called → CallOf A T.muts k J R (tree.call mc T.new.number es) K.jumping K.way called → RunsSo J R text K e Rb
 
   module _ (J : Jumping) (R : Renaming) (text : Body) (e : Exp) (K : Called) where
@@ -138,14 +138,14 @@ module _ (A : Asked) (T : Told) (parts : Parts A T) (same : T.elsewhere ≡ spec
   abbrev NeverRun : Body → Type 0
   NeverRun text = (Among next k.exits → ⊥) → NeverEnds none_left (stretch_of (marked text))
 
-  module _ (J : Jumping) (p : Passed) (never : NeverRun p.text) (apart : NotHanded A k next (without (k.outs next) p.inside)) where
+  module _ (J : Jumping) (p : Passed) (never : NeverRun p.text) (apart : NotHanded A T.muts k next (without (k.outs next) p.inside)) where
     abbrev Rs : Renaming
     Rs = without (k.outs next) p.inside
 
     stood_with : {called : Exp} {mc mb : Mark} {l : Last} {r r' : Stretch} {end : Body} {ls : List (ℕ × ℕ)} {es : Operands} {Rb : Renaming} {Ji : Jumping} {w : Way} (S : Stood) (D : Put)
         (Ra : Renaming) → Rereads T.new.function.body (body_of mb ls r' end)
-        → EntersWith true k T.modes p.inside es T.new.function.params ls Ra → Divided (marked p.text) l r → Moved T.items gain T.units (special_of A k) Ji Ra r r' Rb
-        → Ended T.items gain T.units (special_of A k) Ji Rb l w (k.outs next) end
+        → EntersWith true k T.modes p.inside es T.new.function.params ls Ra → Divided (marked p.text) l r → Moved T.items gain T.units (special_of A T.muts k) Ji Ra r r' Rb
+        → Ended T.items gain T.units (special_of A T.muts k) Ji Rb l w (k.outs next) end
         → CallOf A T.muts k J p.inside (tree.call mc T.new.number es) Ji w called → HandedSo A T p.inside Rs (k.outs next) p.answer S called → RedeclaredSo Rb S.inside k.redeclared S.rest D
         → Within p.inside D.inside → StandsSo J p D
     stood_with {mb = mb} {ls = ls} {Rb = Rb} S D Ra x ent div moved ended call (handed_so {g = g} back y) (redeclared_so {f = f} again z) within =
@@ -175,7 +175,7 @@ module _ (A : Asked) (T : Told) (parts : Parts A T) (same : T.elsewhere ≡ spec
   -- its statements, with the marks of the run; of the answer's, those of a body that is read
   pub data BlockSo (J : Jumping) (R : Renaming) (text answer : Body) : Type 0 where
     block_is : {f : Exp} {d : Body} → Rereads T.new.function.body f → RereadsBody answer d
-        → LikeBody T.items (The f) gain (by_form (special_of A k)) 1 J R (running_body T.run T.around k.params text) d → BlockSo J R text answer
+        → LikeBody T.items (The f) gain (by_form (special_of A T.muts k)) 1 J R (running_body T.run T.around k.params text) d → BlockSo J R text answer
 
   -- the run and what is behind it, by the statements from there on
   abbrev from_run : List Statement → Exp → Body

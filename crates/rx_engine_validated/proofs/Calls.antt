@@ -80,7 +80,7 @@ pack_is : (xs : List ℕ) (o : Option ℕ) {p : Pack} → pack_if xs o ≡ Some 
 pack_is xs None q = absurd (none_some q)
 pack_is xs (Some v) q = (v, refl, sym (some_same q))
 
-module _ (A : Asked) (T : Told) (elsewhere : T.elsewhere ≡ special_of A T.plan) (has : Bool) where
+module _ (A : Asked) (T : Told) (elsewhere : T.elsewhere ≡ special_of A T.muts T.plan) (has : Bool) where
   -- ---- the match
 
   module _ (unit : Bool) (J : Jumping) (R : Renaming) (l : Arms) where
@@ -201,14 +201,14 @@ module _ (A : Asked) (T : Told) (elsewhere : T.elsewhere ≡ special_of A T.plan
     ends_there (end_by u q t) v p = subst (λ v. There next v) (some_same (sym q ∙ p)) t
 
     call_by : {w : Way} {m : Mark} {called : Exp} (k : Arms) → EndsBy w → AllPicked k → ArmsOf A T.muts T.plan unit J R k
-        → TailCallOf A T.muts T.plan J R called has (jumps_of A T.plan unit) w (tree.choose m (tree.of_value called) k)
+        → TailCallOf A T.muts T.plan J R called has (jumps_of A T.muts T.plan unit) w (tree.choose m (tree.of_value called) k)
     call_by k (no_end q) all arms = tail_call_left unit (λ i. not_placed 0 T.plan.exits q i) arms
     call_by {m = m} {called = called} k (end_by v q t) all arms = by (all next v q)
       where
-        by : PickedFor k next v → TailCallOf A T.muts T.plan J R called has (jumps_of A T.plan unit) (as_variant v) (tree.choose m (tree.of_value called) k)
+        by : PickedFor k next v → TailCallOf A T.muts T.plan J R called has (jumps_of A T.muts T.plan unit) (as_variant v) (tree.choose m (tree.of_value called) k)
         by (picked_for p (ends_so c w g n)) = tail_call_matched unit q arms p c w g n
 
-    same_jumps : jumps_of A T.plan unit ≡ jumps_in T unit
+    same_jumps : jumps_of A T.muts T.plan unit ≡ jumps_in T unit
     same_jumps = ap (λ dead. record { loops = []; leaving = λ l again. packed T.plan l again; returning = returning_if unit (variant_for T.plan returns); dead = dead }) (sym elsewhere)
 
     abbrev EndsThere : Type 0
@@ -299,6 +299,6 @@ without_value (tail_call_left unit none arms) = call_left unit none arms
 called_without : {A : Asked} {T : Told} {J : Jumping} {R : Renaming} {e : Exp} {K : Called} {fs : Operands} → TailCalledSo A T false J R e K fs → CalledSo A T J R e K fs
 called_without (tail_called_so z call) = called_so z (without_value call)
 
-module _ (A : Asked) (T : Told) (elsewhere : T.elsewhere ≡ special_of A T.plan) where
+module _ (A : Asked) (T : Told) (elsewhere : T.elsewhere ≡ special_of A T.muts T.plan) where
   pub calls_so : (J : Jumping) (R : Renaming) (e : Exp) → Promised (λ K. CallsSo A T J R e K) (called_by T J R e)
   calls_so J R e = map_so (λ K calls. λ fs r. called_without (calls fs r)) (tail_calls_so A T elsewhere false J R e)

@@ -57,4 +57,4 @@ pub record Parts (A : Asked) (T : Told) : Type 0 where
   pub within : (R S : Renaming) → Says (Within R S) (is_within R S)
   -- what is handed out is left out of the variables outside
   pub less : (xs : List ℕ) (R : Renaming) → Within (without xs R) R
-  pub not_handed : (R : Renaming) → Says (NotHanded A T.plan next (without (T.plan.outs next) R)) (specials_among R T.elsewhere)
+  pub not_handed : (R : Renaming) → Says (NotHanded A T.muts T.plan next (without (T.plan.outs next) R)) (specials_among R T.elsewhere)

@@ -44,7 +44,7 @@ module _ (A : Asked) (T : Told) (item made : ℕ) (P Q : Program) (told : ToldOf
   calls f = the_call A T.muts T.plan T.modes T.items (a_turn true) T.units (read_new T f)
 
   abbrev Related : Exp → Function → Type 0
-  Related f z = RelatedFunction T.items (in_its_block A T.plan T.items (calls f) (a_turn true)) (a_turn true) (special_of A T.plan) A.function z
+  Related f z = RelatedFunction T.items (in_its_block A T.muts T.plan T.items (calls f) (a_turn true)) (a_turn true) (special_of A T.muts T.plan) A.function z
 
   -- its body, the answer's function with the call, both read
   data CallThere (g' : Function) : Type 0 where
@@ -61,20 +61,20 @@ module _ (A : Asked) (T : Told) (item made : ℕ) (P Q : Program) (told : ToldOf
         (subst (λ b. NeverAt A.home.around.loops A.run b) text_is (told.never n)))
 
     -- the block is filled by what stands for the run
-    filled : {f : Exp} {d : Body} → RereadsBody h.answer d → LikeBody T.items (calls f) (a_turn true) (by_form (special_of A T.plan)) 1 (loops_in h) h.inside
+    filled : {f : Exp} {d : Body} → RereadsBody h.answer d → LikeBody T.items (calls f) (a_turn true) (by_form (special_of A T.muts T.plan)) 1 (loops_in h) h.inside
         (running_body T.run T.around T.plan.params h.text) d
         → (z : Function) × RereadsFunction g' z × Related f z
-    filled {f} {d} y like = by (function_if (between_but_run T) (in_its_block A T.plan T.items (calls f) (a_turn true)) (a_turn true) refl A.function g' h q
-        (filled_by (between_but_run T) (in_its_block A T.plan T.items (calls f) (a_turn true)) (a_turn true) refl (omega arith) h d y
+    filled {f} {d} y like = by (function_if (between_but_run T) (in_its_block A T.muts T.plan T.items (calls f) (a_turn true)) (a_turn true) refl A.function g' h q
+        (filled_by (between_but_run T) (in_its_block A T.muts T.plan T.items (calls f) (a_turn true)) (a_turn true) refl (omega arith) h d y
         (λ m m' o e. run_block (subst (λ (r : Run). (m.node == r.block) ≡ true) told.run o) there)))
       where
-        there : LikeBody T.items (calls f) (a_turn true) (by_form (special_of A T.plan)) 1 (loops_in h) h.inside (running_body A.run A.home.around.loops T.plan.params h.text) d
-        there = subst (λ ls. LikeBody T.items (calls f) (a_turn true) (by_form (special_of A T.plan)) 1 (loops_in h) h.inside (running_body A.run ls T.plan.params h.text) d) told.around
-            (subst (λ r. LikeBody T.items (calls f) (a_turn true) (by_form (special_of A T.plan)) 1 (loops_in h) h.inside (running_body r T.around T.plan.params h.text) d) told.run like)
+        there : LikeBody T.items (calls f) (a_turn true) (by_form (special_of A T.muts T.plan)) 1 (loops_in h) h.inside (running_body A.run A.home.around.loops T.plan.params h.text) d
+        there = subst (λ ls. LikeBody T.items (calls f) (a_turn true) (by_form (special_of A T.muts T.plan)) 1 (loops_in h) h.inside (running_body A.run ls T.plan.params h.text) d) told.around
+            (subst (λ r. LikeBody T.items (calls f) (a_turn true) (by_form (special_of A T.muts T.plan)) 1 (loops_in h) h.inside (running_body r T.around T.plan.params h.text) d) told.run like)
 
-        by : (z : Function) × RereadsFunction g' z × RelatedFunction T.items (in_its_block A T.plan T.items (calls f) (a_turn true)) (a_turn true) T.elsewhere A.function z
+        by : (z : Function) × RereadsFunction g' z × RelatedFunction T.items (in_its_block A T.muts T.plan T.items (calls f) (a_turn true)) (a_turn true) T.elsewhere A.function z
             → (z : Function) × RereadsFunction g' z × Related f z
-        by t = (t.0, t.1, subst (λ s. RelatedFunction T.items (in_its_block A T.plan T.items (calls f) (a_turn true)) (a_turn true) s A.function t.0) told.elsewhere t.2)
+        by t = (t.0, t.1, subst (λ s. RelatedFunction T.items (in_its_block A T.muts T.plan T.items (calls f) (a_turn true)) (a_turn true) s A.function t.0) told.elsewhere t.2)
 
     call_is : block_has_call T h ≡ true → CallThere g'
     call_is e = by (said (block_has_call T h) (block_found A T parts told.elsewhere (λ n. told.had.plan.none_elsewhere next n) (loops_in h) nothing_leaves h.inside h.text h.answer never_there) e)

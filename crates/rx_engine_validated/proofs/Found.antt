@@ -13,11 +13,11 @@ use Rattle.rx_engine_validated.proofs.Entering.{enters_so}
 use Rattle.rx_engine_validated.proofs.Handing.{hands_so, declares_so, within_so}
 use Rattle.rx_engine_validated.proofs.Calls.{calls_so}
 
-module _ (A : Asked) (T : Told) (elsewhere : T.elsewhere ≡ special_of A T.plan) where
-  pub not_handed_so : (R : Renaming) → Says (NotHanded A T.plan next (without (T.plan.outs next) R)) (specials_among R T.elsewhere)
+module _ (A : Asked) (T : Told) (elsewhere : T.elsewhere ≡ special_of A T.muts T.plan) where
+  pub not_handed_so : (R : Renaming) → Says (NotHanded A T.muts T.plan next (without (T.plan.outs next) R)) (specials_among R T.elsewhere)
   not_handed_so R = so (λ f x y s. by f x y s) (specials_among_so R T.elsewhere)
     where
-      by : ((x y : ℕ) → sight_of R x ≡ Some (sight y special) → In x T.elsewhere) → NotHanded A T.plan next (without (T.plan.outs next) R)
+      by : ((x y : ℕ) → sight_of R x ≡ Some (sight y special) → In x T.elsewhere) → NotHanded A T.muts T.plan next (without (T.plan.outs next) R)
       by f x y s = (subst (λ l. In x l) elsewhere (f x y (without_within (T.plan.outs next) R x (sight y special) s)), not_there (T.plan.outs next) R x s)
 
   pub found_parts : Parts A T

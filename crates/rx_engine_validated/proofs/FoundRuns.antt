@@ -24,8 +24,8 @@ module _ {p q : ProgramTree} {t u : Typed} {main other : ℕ} (x : IsFound p q t
   abbrev NoEnd : Plan → Type 0
   NoEnd k = Among next k.exits → ⊥
 
-  elsewhere_in : x.told.elsewhere ≡ special_of asked_in x.told.plan
-  elsewhere_in = x.elsewhere ∙ ap (λ k. special_of asked_in k) (sym x.told_plan)
+  elsewhere_in : x.told.elsewhere ≡ special_of asked_in x.told.muts x.told.plan
+  elsewhere_in = x.elsewhere ∙ ap (λ k. special_of asked_in x.function.mutable k) (sym x.told_plan) ∙ ap (λ l. special_of asked_in l x.told.plan) (sym x.muts)
 
   -- ---- without its block's tail it has no value
 

@@ -27,6 +27,7 @@ had_if A muts k short plan kept sits accepted unmarked one_block = record {
   one_block = one_block;
   whole = kept.whole;
   unaliased = kept.unaliased;
+  passed = kept.passed;
 }
 
 -- ---- with the block's tail
@@ -71,4 +72,5 @@ had_tail_if A muts k tail plan kept sits accepted unmarked unpassed one_block = 
   one_block = one_block;
   whole = kept.whole;
   unaliased = kept.unaliased;
+  passed = kept.passed;
 }

@@ -87,7 +87,7 @@ last_is : {k : Plan} {e z : Exp} {own : Bool} {l : Last} (b : Body) → PassedAs
 last_is b passed_tail = refl
 last_is b (passed_end none) = refl
 
-module _ (A : Asked) (T : Told) (value : Option Typ) (same : T.elsewhere ≡ special_of A T.plan) where
+module _ (A : Asked) (T : Told) (value : Option Typ) (same : T.elsewhere ≡ special_of A T.muts T.plan) where
   abbrev gain : Allowance
   gain = a_turn true
 
@@ -118,8 +118,8 @@ module _ (A : Asked) (T : Told) (value : Option Typ) (same : T.elsewhere ≡ spe
 
   data RunsSo (has : Bool) (J : Jumping) (R : Renaming) (text : Body) (e : Exp) (Rb : Renaming) : Type 0 where
     runs_so : {Ji : Jumping} {w : Way} {called : Exp} {mc mb : Mark} {r' : Stretch} {end : Body} {ls : List (ℕ × ℕ)} {es : Operands} (Ra : Renaming) → Rereads T.new.function.body (body_of mb ls r' end)
-        → EntersWith true h T.modes R es T.new.function.params ls Ra → Moved T.items gain T.units (special_of A h) Ji Ra (stretch_of (marked text)) r' Rb
-        → TailEnded T.items gain T.units (special_of A h) Ji Rb (tail_of text) has w (h.outs next) end
+        → EntersWith true h T.modes R es T.new.function.params ls Ra → Moved T.items gain T.units (special_of A T.muts h) Ji Ra (stretch_of (marked text)) r' Rb
+        → TailEnded T.items gain T.units (special_of A T.muts h) Ji Rb (tail_of text) has w (h.outs next) end
         → Rereads e called → TailCallOf A T.muts h J R (tree.call mc T.new.number es) has Ji w called → RunsSo has J R text e Rb
 
   module _ (has : Bool) (J : Jumping) (R : Renaming) (text : Body) (e : Exp) (K : Called) where
@@ -176,11 +176,11 @@ module _ (A : Asked) (T : Told) (value : Option Typ) (same : T.elsewhere ≡ spe
         → ((rest : Body) → TailBecomesCall A T.muts h T.modes T.items gain T.units (tail_new f) 1 J p.inside Rn rest (λ b. stretch.before (with_mark enters h.params (stretch_of (marked p.text))) (with_last l b)) g)
         → RereadsBody p.answer (g no_rest) → StandsSo J p l
 
-  module _ (J : Jumping) (whole : Whole J) (p : Passed) (never : NeverRun p.text) (apart : NotHanded A h next (without (h.outs next) p.inside))
+  module _ (J : Jumping) (whole : Whole J) (p : Passed) (never : NeverRun p.text) (apart : NotHanded A T.muts h next (without (h.outs next) p.inside))
       {own : Bool} {z : Exp} {l : Last} (passed : PassedAs h (tail_of p.text) own z l) where
     stood_with : {has : Bool} {Ji : Jumping} {w : Way} {called : Exp} {mc mb : Mark} {r' : Stretch} {end : Body} {ls : List (ℕ × ℕ)} {es : Operands} {Rb Rn : Renaming} (Ra : Renaming)
         → Rereads T.new.function.body (body_of mb ls r' end) → EntersWith true h T.modes p.inside es T.new.function.params ls Ra
-        → Moved T.items gain T.units (special_of A h) Ji Ra (stretch_of (marked p.text)) r' Rb → TailEnded T.items gain T.units (special_of A h) Ji Rb (tail_of p.text) has w (h.outs next) end
+        → Moved T.items gain T.units (special_of A T.muts h) Ji Ra (stretch_of (marked p.text)) r' Rb → TailEnded T.items gain T.units (special_of A T.muts h) Ji Rb (tail_of p.text) has w (h.outs next) end
         → TailCallOf A T.muts h J p.inside (tree.call mc T.new.number es) has Ji w called → HandedAs A T J whole.1 (h.outs next) l p.inside Rb has Rn p.answer called → StandsSo J p l
     stood_with {w = w} {mb = mb} {ls = ls} {Rb = Rb} Ra x ent moved ended call (handed_as {g = g} handed y) = stands_so {g = g} x
         (λ rest. tail_becomes_call {f' = g} Ra Rb mb ls (is_tail passed) refl ent moved ended (λ q. never (not_next call q)) call (handed w)) y
@@ -217,7 +217,7 @@ module _ (A : Asked) (T : Told) (value : Option Typ) (same : T.elsewhere ≡ spe
 
     drops_with : {called : Exp} {Ji : Jumping} {w : Way} {mc mb : Mark} {r' : Stretch} {end : Body} {ls : List (ℕ × ℕ)} {es : Operands} {Rb : Renaming} (Ra : Renaming) → T.gives_unit ≡ true → h.outs next ≡ []
         → Rereads T.new.function.body (body_of mb ls r' end) → EntersWith true h T.modes p.inside es T.new.function.params ls Ra
-        → Moved T.items gain T.units (special_of A h) Ji Ra (stretch_of (marked p.text)) r' Rb → TailEnded T.items gain T.units (special_of A h) Ji Rb (tail_of p.text) true w (h.outs next) end
+        → Moved T.items gain T.units (special_of A T.muts h) Ji Ra (stretch_of (marked p.text)) r' Rb → TailEnded T.items gain T.units (special_of A T.muts h) Ji Rb (tail_of p.text) true w (h.outs next) end
         → TailCallOf A T.muts h J p.inside (tree.call mc T.new.number es) true Ji w called → DropsAs A T J whole.1 l p.inside Rb p.answer called → DropsSo J p l
     drops_with {called = called} {w = w} {mb = mb} {ls = ls} {Rb = Rb} Ra unit none x ent moved ended call (drops_as {g = g} handed y d) = drops_so {g = g} unit x
         (λ rest. tail_becomes_call {f' = g} Ra Rb mb ls (is_tail passed) refl ent moved ended (λ q. never (not_next call q)) call
@@ -227,7 +227,7 @@ module _ (A : Asked) (T : Told) (value : Option Typ) (same : T.elsewhere ≡ spe
     drop_made {Rb = Rb} unit none drops (the_call {m = m} {es = es0}) (runs_so Ra x ent moved ended (in_call {es' = es} y) call) = drops_with Ra unit none x ent moved ended call (drops Rb m es0 es refl y)
 
     drop_found : T.gives_unit ≡ true → is_only_next h.exits ≡ true → h.outs next ≡ [] → Says (DropsSo J p l) (call_is_dropped T J own p)
-    drop_found unit only none = given_so (dropped_found A T J whole.1 passed p.inside (subst (λ xs. NotHanded A h next (without xs p.inside)) none apart) p.answer)
+    drop_found unit only none = given_so (dropped_found A T J whole.1 passed p.inside (subst (λ xs. NotHanded A T.muts h next (without xs p.inside)) none apart) p.answer)
         (λ e drops. some_so (call_found J p.inside p.text e only) (λ Rb x. drop_made unit none drops x.0 x.1))
 
     self_so : (b : Bool) → Says (b ≡ true) b
@@ -250,10 +250,10 @@ module _ (A : Asked) (T : Told) (value : Option Typ) (same : T.elsewhere ≡ spe
   -- its statements, with the marks of the run; of the answer's, those of a body that is read
   pub data TailSo (J : Jumping) (R : Renaming) (text answer : Body) : Type 0 where
     tail_is : {f : Exp} {d : Body} → Rereads T.new.function.body f → RereadsBody answer d
-        → LikeBody T.items (TheTail f) gain (by_form (special_of A h)) 1 J R (tailed_body T.run T.around h.params text) d → TailSo J R text answer
+        → LikeBody T.items (TheTail f) gain (by_form (special_of A T.muts h)) 1 J R (tailed_body T.run T.around h.params text) d → TailSo J R text answer
     -- or of one that drops what the call gives, where it gives that
     tail_drops : {f : Exp} {d d1 : Body} (r : Stretch) → T.gives_unit ≡ true → Rereads T.new.function.body f → RereadsBody answer (stretch.before r d) → DropsCall T.new.number d d1
-        → LikeBody T.items (TheTail f) gain (by_form (special_of A h)) 1 J R (tailed_body T.run T.around h.params text) (stretch.before r d1) → TailSo J R text answer
+        → LikeBody T.items (TheTail f) gain (by_form (special_of A T.muts h)) 1 J R (tailed_body T.run T.around h.params text) (stretch.before r d1) → TailSo J R text answer
 
   -- the run and its tail
   abbrev to_end : List Statement → List Statement → Exp → Body
@@ -271,7 +271,7 @@ module _ (A : Asked) (T : Told) (value : Option Typ) (same : T.elsewhere ≡ spe
       → Moved T.items gain T.units T.elsewhere J R (stretch_of (map (changed_statement (passing [])) (take T.run.first (statements text)))) r p.inside → statements p.text ≡ drop T.run.first (statements text) → tail p.text ≡ tail text
       → PassedAs h (tail_of p.text) own (passing_value T.run.block T.around (tail p.text)) l
       → ((rest : Body) → TailBecomesCall A T.muts h T.modes T.items gain T.units (tail_new f) 1 J p.inside Rn rest (λ b. stretch.before (with_mark enters h.params (stretch_of (marked p.text))) (with_last l b)) g)
-      → LikeBody T.items (TheTail f) gain (by_form (special_of A h)) 1 J R (tailed_body T.run T.around h.params text) (stretch.before r (g no_rest))
+      → LikeBody T.items (TheTail f) gain (by_form (special_of A T.muts h)) 1 J R (tailed_body T.run T.around h.params text) (stretch.before r (g no_rest))
   whole_like {J} {R} text p {f = f} {r = r} g all whole m s t passed call =
       (subst (λ l. LikeBody T.items (TheTail f) gain (by_form l) 1 J R (tailed_body T.run T.around h.params text) (stretch.before r (g no_rest))) same
       (subst (λ c. LikeBody T.items (TheTail f) gain (by_form T.elsewhere) 1 J R c (stretch.before r (g no_rest))) there
@@ -309,7 +309,7 @@ module _ (A : Asked) (T : Told) (value : Option Typ) (same : T.elsewhere ≡ spe
     tail_run nothing = silent
     tail_run (kept {a = p} first) = and_with (not_handed_so A T same p.inside) (λ apart. and_with (may_so (gives_at T.run.block (tail p.text))) (λ may. by apart (passed_as h T.run.block T.around (tail p.text) may)))
       where
-        by : NotHanded A h next (without (h.outs next) p.inside)
+        by : NotHanded A T.muts h next (without (h.outs next) p.inside)
             → (l : Last) × PassedAs h (tail_of p.text) (gives_at T.run.block (tail p.text)) (passing_value T.run.block T.around (tail p.text)) l
             → Says (TailSo J R text answer) (tail_stands T J (gives_at T.run.block (tail p.text)) p)
         by apart q = so (λ s. whole_block all whole first q.1 s) (tail_found J whole p (never_there first) apart q.1)

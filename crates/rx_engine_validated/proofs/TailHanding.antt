@@ -130,10 +130,10 @@ module _ (A : Asked) (T : Told) (J : Jumping) (returning : J.returning ≡ as_re
 
   -- ---- a value
 
-  value_alone : {l : Last} {R : Renaming} {c a : Exp} → NotHanded A T.plan next R → BackIn l c a → (Rb : Renaming) (d : Exp) → Rereads c d → HandedAs [] l R Rb true R (tree.ends a) d
+  value_alone : {l : Last} {R : Renaming} {c a : Exp} → NotHanded A T.muts T.plan next R → BackIn l c a → (Rb : Renaming) (d : Exp) → Rereads c d → HandedAs [] l R Rb true R (tree.ends a) d
   value_alone apart (back_in {f = f} back y) Rb d x = handed_as {g = λ b. tree.ends (f d)} (λ w. value_back apart back) (in_end (y d x))
 
-  ended_value : {e z c : Exp} {own : Bool} {l : Last} {R : Renaming} {b : Body} → PassedAs T.plan e own z l → NotHanded A T.plan next R → EndsGiven c own b → (Rb : Renaming) (d : Exp) → Rereads c d
+  ended_value : {e z c : Exp} {own : Bool} {l : Last} {R : Renaming} {b : Body} → PassedAs T.plan e own z l → NotHanded A T.muts T.plan next R → EndsGiven c own b → (Rb : Renaming) (d : Exp) → Rereads c d
       → HandedAs [] l R Rb true R b d
   ended_value passed apart (ends_given g) Rb d x = value_alone apart (back_so passed g) Rb d x
 
@@ -167,7 +167,7 @@ module _ (A : Asked) (T : Told) (J : Jumping) (returning : J.returning ≡ as_re
     received_beside_so : (R : Renaming) (xs : List ℕ) (ps : Subpatterns) (b : Body) → Says (Beside l R xs ps b) (received_beside T own R (without xs R) xs ps b)
     received_beside_so R xs ps b = is_first_so (then_so (received_in_so 0 ps) (λ qs c. first_of_so qs c)) (λ r c. put_beside_so R xs r c b)
 
-    value_behind_so : {R : Renaming} {x n : ℕ} {xs : List ℕ} {c : Exp} {ps : Subpatterns} {b : Body} → NotHanded A T.plan next (without (x ∷ xs) R) → Beside l R (x ∷ xs) ps b → (Rb : Renaming) (d : Exp) → Rereads c d
+    value_behind_so : {R : Renaming} {x n : ℕ} {xs : List ℕ} {c : Exp} {ps : Subpatterns} {b : Body} → NotHanded A T.muts T.plan next (without (x ∷ xs) R) → Beside l R (x ∷ xs) ps b → (Rb : Renaming) (d : Exp) → Rereads c d
         → HandedAs (x ∷ xs) l R Rb true R (tree.lets n (tree.parts ps) (tree.of_value c) b) d
     value_behind_so {R} {x} {n} {xs} {ps = ps} none (beside {g = g} {f = f} {t = t} Rr Rd new apart r c p within k back y) Rb d z =
         handed_as {g = λ b. tree.lets n (tree.parts ps) (tree.of_value d) (g (tree.ends (f t)))}
@@ -177,13 +177,13 @@ module _ (A : Asked) (T : Told) (J : Jumping) (returning : J.returning ≡ as_re
     data BesideIn (R : Renaming) (xs : List ℕ) (q : Pattern) (b : Body) : Type 0 where
       beside_in : {ps : Subpatterns} → q ≡ tree.parts ps → Beside l R xs ps b → BesideIn R xs q b
 
-    value_there : {R : Renaming} {x n : ℕ} {xs : List ℕ} {c : Exp} {q : Pattern} {b b0 : Body} → NotHanded A T.plan next (without (x ∷ xs) R) → tree.lets n q (tree.of_value c) b ≡ b0 → BesideIn R (x ∷ xs) q b
+    value_there : {R : Renaming} {x n : ℕ} {xs : List ℕ} {c : Exp} {q : Pattern} {b b0 : Body} → NotHanded A T.muts T.plan next (without (x ∷ xs) R) → tree.lets n q (tree.of_value c) b ≡ b0 → BesideIn R (x ∷ xs) q b
         → (Rb : Renaming) (d : Exp) → Rereads c d → HandedAs (x ∷ xs) l R Rb true R b0 d
     value_there {R} {x} {n} {xs} {c} {b = b} none at (beside_in q s) Rb d z = subst (λ b. HandedAs (x ∷ xs) l R Rb true R b d) at
         (subst (λ q. HandedAs (x ∷ xs) l R Rb true R (tree.lets n q (tree.of_value c) b) d) (sym q) (value_behind_so none s Rb d z))
 
     -- the expression that gives it
-    pub value_given : (R : Renaming) (xs : List ℕ) → NotHanded A T.plan next (without xs R) → (b : Body)
+    pub value_given : (R : Renaming) (xs : List ℕ) → NotHanded A T.muts T.plan next (without xs R) → (b : Body)
         → Promised (λ c. (Rb : Renaming) (d : Exp) → Rereads c d → HandedAs xs l R Rb true R b d) (gives_value T own R (without xs R) xs b)
     value_given R [] none b = map_so (λ c g. ended_value passed (λ x y s. none x y (within_without R x (sight y special) s)) g) (ends_given_back_so own b)
     value_given R (x ∷ xs) none b = then_so (binds_first_so b) (λ r at. where_so
@@ -199,7 +199,7 @@ module _ (A : Asked) (T : Told) (J : Jumping) (returning : J.returning ≡ as_re
   abbrev pub DropsEach : Last → Renaming → Body → Exp → Type 0
   DropsEach l R b e = (Rb : Renaming) (m : Mark) (es0 es : Operands) → e ≡ tree.call m T.new.number es0 → RereadsAll es0 es → DropsAs l R Rb b (tree.call m T.new.number es)
 
-  unit_back : {e z a : Exp} {own : Bool} {l : Last} {R : Renaming} → PassedAs T.plan e own z l → NotHanded A T.plan next R → (mu : Mark) → GivenIn (tree.unit mu) own a → (Rb : Renaming) (m : Mark) {es0 es : Operands} → RereadsAll es0 es
+  unit_back : {e z a : Exp} {own : Bool} {l : Last} {R : Renaming} → PassedAs T.plan e own z l → NotHanded A T.muts T.plan next R → (mu : Mark) → GivenIn (tree.unit mu) own a → (Rb : Renaming) (m : Mark) {es0 es : Operands} → RereadsAll es0 es
       → DropsAs l R Rb (tree.runs (tree.call m T.new.number es0) (tree.ends a)) (tree.call m T.new.number es)
   unit_back passed_tail apart mu in_tail Rb m {es = es} x = drops_as {d = tree.runs (tree.call m T.new.number es) (tree.ends (tree.unit mu))} {g = λ b. tree.ends (tree.call m T.new.number es)} (λ w. value_back apart as_tail) (in_run (in_call x) (in_end same_unit)) drops_call
   unit_back (passed_end none) apart mu (in_body {m = mg}) Rb m {es = es} x =
@@ -219,10 +219,10 @@ module _ (A : Asked) (T : Told) (J : Jumping) (returning : J.returning ≡ as_re
   runs_first_so (tree.runs e b) = kept refl
   runs_first_so _ = nothing
 
-  drops_each : {e z c : Exp} {own : Bool} {l : Last} {R : Renaming} {b b0 : Body} → PassedAs T.plan e own z l → NotHanded A T.plan next R → tree.runs c b ≡ b0 → UnitEnd own b → DropsEach l R b0 c
+  drops_each : {e z c : Exp} {own : Bool} {l : Last} {R : Renaming} {b b0 : Body} → PassedAs T.plan e own z l → NotHanded A T.muts T.plan next R → tree.runs c b ≡ b0 → UnitEnd own b → DropsEach l R b0 c
   drops_each {own = own} {l = l} {R = R} passed apart at (unit_end {a = a} mu g u) Rb m es0 es q x = subst (λ b. DropsAs l R Rb b (tree.call m T.new.number es)) (ap (λ c. tree.runs c (tree.ends a)) (sym q) ∙ at) (unit_back passed apart mu (subst (λ c. GivenIn c own a) u g) Rb m x)
 
-  pub dropped_found : {e z : Exp} {own : Bool} {l : Last} → PassedAs T.plan e own z l → (R : Renaming) → NotHanded A T.plan next (without [] R) → (b : Body) → Promised (λ c. DropsEach l R b c) (dropped own b)
+  pub dropped_found : {e z : Exp} {own : Bool} {l : Last} → PassedAs T.plan e own z l → (R : Renaming) → NotHanded A T.muts T.plan next (without [] R) → (b : Body) → Promised (λ c. DropsEach l R b c) (dropped own b)
   dropped_found {own = own} passed R none b = then_so (runs_first_so b) (λ r at. where_so (unit_end_so own r.1) (λ u. kept (drops_each passed (λ x y s. none x y (within_without R x (sight y special) s)) at u)))
 
   -- ---- a unit
@@ -239,7 +239,7 @@ module _ (A : Asked) (T : Told) (J : Jumping) (returning : J.returning ≡ as_re
   pub unit_last_so : {e z : Exp} {own : Bool} {l : Last} → PassedAs T.plan e own z l → (b : Body) → Says (UnitLast l b) (ends_in_unit_back own b)
   unit_last_so {own = own} passed b = given_so (ends_given_back_so own b) (λ f g. so (λ q. unit_ended passed g q) (unit_so f))
 
-  pub unit_given : {l : Last} {R Rb : Renaming} {xs : List ℕ} {b : Body} {called : Exp} (S : Stood) (D : Put) → NotHanded A T.plan next (without xs R) → HandedSo A T R (without xs R) xs b S called
+  pub unit_given : {l : Last} {R Rb : Renaming} {xs : List ℕ} {b : Body} {called : Exp} (S : Stood) (D : Put) → NotHanded A T.muts T.plan next (without xs R) → HandedSo A T R (without xs R) xs b S called
       → RedeclaredSo Rb S.inside T.plan.redeclared S.rest D → Within R D.inside → UnitLast l D.rest → HandedAs xs l R Rb false D.inside b called
   unit_given {R = R} {xs = xs} S D none (handed_so {g = g} back y) (redeclared_so {f = h} again z) within (unit_last {f = f} m given u) =
       handed_as {g = λ b. g (h (tree.ends (f (tree.unit m))))}

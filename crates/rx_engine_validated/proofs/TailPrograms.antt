@@ -66,7 +66,7 @@ module _ (A : Asked) (T : Told) (value : Option Typ) (item made : ℕ) (P Q : Pr
   calls f = the_tail_call A T.muts (with_value value T.plan) T.modes T.items (a_turn true) T.units (read_new T f)
 
   abbrev Related : Exp → Function → Type 0
-  Related f z = RelatedFunction T.items (in_its_tail_block A (with_value value T.plan) T.items (calls f) (a_turn true)) (a_turn true) (special_of A T.plan) A.function z
+  Related f z = RelatedFunction T.items (in_its_tail_block A T.muts (with_value value T.plan) T.items (calls f) (a_turn true)) (a_turn true) (special_of A T.muts T.plan) A.function z
 
   -- its body, the answer's function with the call, both read
   data CallThere (g' : Function) : Type 0 where
@@ -94,37 +94,37 @@ module _ (A : Asked) (T : Told) (value : Option Typ) (item made : ℕ) (P Q : Pr
     whole_there = subst (λ r. IsWhole r h.text) (sym told.run) (subst (λ b. IsWhole A.run b) text_is (all_dropped A.run.first A.run.count (statements A.home.body) (told.had.sits.whole told.had.tail)))
 
     -- the block is filled by what stands for the run
-    filled : {f : Exp} {d : Body} → RereadsBody h.answer d → LikeBody T.items (calls f) (a_turn true) (by_form (special_of A T.plan)) 1 (loops_in h) h.inside
+    filled : {f : Exp} {d : Body} → RereadsBody h.answer d → LikeBody T.items (calls f) (a_turn true) (by_form (special_of A T.muts T.plan)) 1 (loops_in h) h.inside
         (tailed_body T.run T.around T.plan.params h.text) d
         → (z : Function) × RereadsFunction g' z × Related f z
-    filled {f} {d} y like = by (function_if (between_but_run T) (in_its_tail_block A (with_value value T.plan) T.items (calls f) (a_turn true)) (a_turn true) refl A.function g' h q
-        (filled_by (between_but_run T) (in_its_tail_block A (with_value value T.plan) T.items (calls f) (a_turn true)) (a_turn true) refl (omega arith) h d y
+    filled {f} {d} y like = by (function_if (between_but_run T) (in_its_tail_block A T.muts (with_value value T.plan) T.items (calls f) (a_turn true)) (a_turn true) refl A.function g' h q
+        (filled_by (between_but_run T) (in_its_tail_block A T.muts (with_value value T.plan) T.items (calls f) (a_turn true)) (a_turn true) refl (omega arith) h d y
         (λ m m' o e. tail_block (subst (λ (r : Run). (m.node == r.block) ≡ true) told.run o) there)))
       where
-        there : LikeBody T.items (calls f) (a_turn true) (by_form (special_of A T.plan)) 1 (loops_in h) h.inside (tailed_body A.run A.home.around.loops T.plan.params h.text) d
-        there = subst (λ ls. LikeBody T.items (calls f) (a_turn true) (by_form (special_of A T.plan)) 1 (loops_in h) h.inside (tailed_body A.run ls T.plan.params h.text) d) told.around
-            (subst (λ r. LikeBody T.items (calls f) (a_turn true) (by_form (special_of A T.plan)) 1 (loops_in h) h.inside (tailed_body r T.around T.plan.params h.text) d) told.run like)
+        there : LikeBody T.items (calls f) (a_turn true) (by_form (special_of A T.muts T.plan)) 1 (loops_in h) h.inside (tailed_body A.run A.home.around.loops T.plan.params h.text) d
+        there = subst (λ ls. LikeBody T.items (calls f) (a_turn true) (by_form (special_of A T.muts T.plan)) 1 (loops_in h) h.inside (tailed_body A.run ls T.plan.params h.text) d) told.around
+            (subst (λ r. LikeBody T.items (calls f) (a_turn true) (by_form (special_of A T.muts T.plan)) 1 (loops_in h) h.inside (tailed_body r T.around T.plan.params h.text) d) told.run like)
 
-        by : (z : Function) × RereadsFunction g' z × RelatedFunction T.items (in_its_tail_block A (with_value value T.plan) T.items (calls f) (a_turn true)) (a_turn true) T.elsewhere A.function z
+        by : (z : Function) × RereadsFunction g' z × RelatedFunction T.items (in_its_tail_block A T.muts (with_value value T.plan) T.items (calls f) (a_turn true)) (a_turn true) T.elsewhere A.function z
             → (z : Function) × RereadsFunction g' z × Related f z
-        by t = (t.0, t.1, subst (λ s. RelatedFunction T.items (in_its_tail_block A (with_value value T.plan) T.items (calls f) (a_turn true)) (a_turn true) s A.function t.0) told.elsewhere t.2)
+        by t = (t.0, t.1, subst (λ s. RelatedFunction T.items (in_its_tail_block A T.muts (with_value value T.plan) T.items (calls f) (a_turn true)) (a_turn true) s A.function t.0) told.elsewhere t.2)
 
     -- or by what drops what the call gives
     abbrev dropping : Exp → Openings
-    dropping f = in_its_drop_block T.new.number A (with_value value T.plan) T.items (calls f) (a_turn true)
+    dropping f = in_its_drop_block T.new.number A T.muts (with_value value T.plan) T.items (calls f) (a_turn true)
 
     filled_dropping : {f : Exp} {d d1 : Body} (r : Stretch) → T.gives_unit ≡ true → Rereads T.new.function.body f → RereadsBody h.answer (before r d) → DropsCall T.new.number d d1
-        → LikeBody T.items (calls f) (a_turn true) (by_form (special_of A T.plan)) 1 (loops_in h) h.inside (tailed_body T.run T.around T.plan.params h.text) (before r d1) → CallThere g'
+        → LikeBody T.items (calls f) (a_turn true) (by_form (special_of A T.muts T.plan)) 1 (loops_in h) h.inside (tailed_body T.run T.around T.plan.params h.text) (before r d1) → CallThere g'
     filled_dropping {f} {d} {d1} r unit x y drops like = by (function_if (between_but_run T) (dropping f) (a_turn true) refl A.function g' h q
         (filled_by (between_but_run T) (dropping f) (a_turn true) refl (omega arith) h (before r d) y
         (λ m m' o e. drop_block r (subst (λ (r : Run). (m.node == r.block) ≡ true) told.run o) drops there)))
       where
-        there : LikeBody T.items (calls f) (a_turn true) (by_form (special_of A T.plan)) 1 (loops_in h) h.inside (tailed_body A.run A.home.around.loops T.plan.params h.text) (before r d1)
-        there = subst (λ ls. LikeBody T.items (calls f) (a_turn true) (by_form (special_of A T.plan)) 1 (loops_in h) h.inside (tailed_body A.run ls T.plan.params h.text) (before r d1)) told.around
-            (subst (λ z. LikeBody T.items (calls f) (a_turn true) (by_form (special_of A T.plan)) 1 (loops_in h) h.inside (tailed_body z T.around T.plan.params h.text) (before r d1)) told.run like)
+        there : LikeBody T.items (calls f) (a_turn true) (by_form (special_of A T.muts T.plan)) 1 (loops_in h) h.inside (tailed_body A.run A.home.around.loops T.plan.params h.text) (before r d1)
+        there = subst (λ ls. LikeBody T.items (calls f) (a_turn true) (by_form (special_of A T.muts T.plan)) 1 (loops_in h) h.inside (tailed_body A.run ls T.plan.params h.text) (before r d1)) told.around
+            (subst (λ z. LikeBody T.items (calls f) (a_turn true) (by_form (special_of A T.muts T.plan)) 1 (loops_in h) h.inside (tailed_body z T.around T.plan.params h.text) (before r d1)) told.run like)
 
-        undone : (z : Function) → RereadsFunction g' z → RelatedFunction T.items (dropping f) (a_turn true) (special_of A T.plan) A.function z → CallThere g'
-        undone z (rereads_function p b) related = let u = function_so T.new.number A (with_value value T.plan) T.items (calls f) (a_turn true) A.function g' z p b related in
+        undone : (z : Function) → RereadsFunction g' z → RelatedFunction T.items (dropping f) (a_turn true) (special_of A T.muts T.plan) A.function z → CallThere g'
+        undone z (rereads_function p b) related = let u = function_so T.new.number A T.muts (with_value value T.plan) T.items (calls f) (a_turn true) A.function g' z p b related in
             call_undropped {g1 = u.0} unit x u.2 (rereads_function u.3 u.4) u.5
 
         by : (z : Function) × RereadsFunction g' z × RelatedFunction T.items (dropping f) (a_turn true) T.elsewhere A.function z → CallThere g'

@@ -41,7 +41,7 @@ pub record IsFound (p q : ProgramTree) (t u : Typed) (main other : ℕ) : Type 0
   pub kept : NotRefused (asked_of (declarations t.decls.items) front.parts function told.run home) function.mutable plan
   pub told_plan : told.plan ≡ with_value None plan
   pub around : told.around ≡ home.around.loops
-  pub elsewhere : told.elsewhere ≡ special_of (asked_of (declarations t.decls.items) front.parts function told.run home) plan
+  pub elsewhere : told.elsewhere ≡ special_of (asked_of (declarations t.decls.items) front.parts function told.run home) function.mutable plan
   pub muts : told.muts ≡ function.mutable
   -- the new function is declared to give the unit where this is told
   pub unit : told.gives_unit ≡ true → result_declared (slice_get (declarations u.decls.items) told.new.number) ≡ Some unit_shape

@@ -28,7 +28,7 @@ NeverRuns A = NeverEnds none_left (stretch_of (map (changed_statement (passing A
 pub record ToldOf (A : Asked) (T : Told) (item made : ℕ) (P Q : Program) : Type 0 where
   pub run : T.run ≡ A.run
   pub around : T.around ≡ A.home.around.loops
-  pub elsewhere : T.elsewhere ≡ special_of A T.plan
+  pub elsewhere : T.elsewhere ≡ special_of A T.muts T.plan
   -- what is had of the text, with its plan
   pub had : Had A T.muts T.plan
   pub never : (Among next T.plan.exits → ⊥) → NeverRuns A
@@ -52,7 +52,7 @@ with_value t k = record k { value = t }
 pub record ToldOfTail (A : Asked) (T : Told) (value : Option Typ) (item made : ℕ) (P Q : Program) : Type 0 where
   pub run : T.run ≡ A.run
   pub around : T.around ≡ A.home.around.loops
-  pub elsewhere : T.elsewhere ≡ special_of A T.plan
+  pub elsewhere : T.elsewhere ≡ special_of A T.muts T.plan
   pub had : HadTail A T.muts (with_value value T.plan)
   pub never : (Among next T.plan.exits → ⊥) → NeverRunsWhole A
   pub is_there : element P.functions item ≡ Some (Some A.function)

@@ -19,7 +19,7 @@ use Rattle.rx_modes.specs.declared.plan.ModeFault.{ModeFault}
 use Rattle.rx_modes.specs.declared.plan.ModeFault.TheVariants as fault
 use Rattle.rx_modes.specs.Answer.{HasModes, IsRefused, IsAnswer}
 use Rattle.rx_modes.specs.Told.{IsKnown, Each, AllPass, PassedBy, first_without, first_such, is_aliased}
-use Rattle.rx_modes.proofs.Passing.{modes_passed, first_refused, moved_told}
+use Rattle.rx_modes.proofs.Passing.{modes_passed, first_refused, moved_told, all_given_away}
 use Rattle.rx_modes.proofs.Aliasing.{aliased_told, first_told, none_told}
 
 module _ (A : Asked) (muts : List Bool) (known : Known) (K : IsKnown A muts known) (choice : Uses → Mode) (us : List Uses)
@@ -34,9 +34,10 @@ module _ (A : Asked) (muts : List Bool) (known : Known) (K : IsKnown A muts know
   answered xs are all (Ok it) p = record {
     modes = has_modes;
     moved = p.1 ∙ moved_told A muts (plan_of A known.plan.now) choice (same_moves A muts (plan_of A known.plan.now)) uses;
+    given_away = p.2 ∙ all_given_away A muts (plan_of A known.plan.now) choice uses;
     each_has_one = λ x n. no_modes A muts (plan_of A known.plan.now) choice x it.modes n has_modes;
     none_is_aliased = λ x. none_told (is_aliased known) (IsAliased A muts (plan_of A known.plan.now)) (aliased_told A muts known K) (variables_of A)
-        (ap (first_such (is_aliased known)) (sym are) ∙ p.2) x;
+        (ap (first_such (is_aliased known)) (sym are) ∙ p.3) x;
   }
     where
       has_modes : IsModes A muts (plan_of A known.plan.now) choice it.modes

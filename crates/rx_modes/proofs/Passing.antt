@@ -14,7 +14,9 @@ use Rattle.rx_modes_uses.specs.Modes as modes
 use Rattle.rx_modes_uses.specs.Modes.{PassedIn}
 use Rattle.rx_modes_uses.specs.NotMut.{HasNoMode}
 use Rattle.rx_modes_uses.proofs.One.{none_and_one}
-use Rattle.rx_modes.specs.Told.{Each, no_more, with, passes, first_without, AllPass}
+use Rattle.rx_modes_given.specs.GivenAway.{is_given_away}
+use Rattle.rx_modes_given.proofs.Telling.{given_told}
+use Rattle.rx_modes.specs.Told.{Each, no_more, with, passes, first_without, gives_away, AllPass}
 
 never : {P : Type 0} → false ≡ true → P
 never e = absurd (true≢false (sym e))
@@ -117,3 +119,8 @@ module _ (A : Asked) (muts : List Bool) (k : Plan) (choice : Uses → Mode) wher
       → map (λ (u : Uses). u.moved) us ≡ map (is_moved A) xs
   moved_told f no_more = refl
   moved_told f (with {x = x} {u = u} {xs = xs} {us = us} q c) = ap (λ b. b ∷ map (λ (v : Uses). v.moved) us) (f x u q) ∙ ap (λ l. is_moved A x ∷ l) (moved_told f c)
+
+  pub all_given_away : {xs : List ℕ} {us : List Uses} → Each (IsUses A muts k) xs us → map gives_away us ≡ map (is_given_away A muts) xs
+  all_given_away no_more = refl
+  all_given_away (with {x = x} {u = u} {xs = xs} {us = us} q c) =
+      ap (λ b. b ∷ map gives_away us) (sym (given_told A muts k x u q)) ∙ ap (λ l. is_given_away A muts x ∷ l) (all_given_away c)

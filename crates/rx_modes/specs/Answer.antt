@@ -8,6 +8,7 @@ use Rattle.rx_modes_policy.specs.declared.uses.Uses.{Uses}
 use Rattle.rx_modes_uses.specs.Modes.{IsModes}
 use Rattle.rx_modes_uses.specs.NotMut.{NotMut}
 use Rattle.rx_modes_uses.specs.Aliased.{Aliased}
+use Rattle.rx_modes_given.specs.GivenAway.{is_given_away}
 use Rattle.rx_modes.specs.declared.plan.ModePlan.{ModePlan}
 use Rattle.rx_modes.specs.declared.plan.ModeFault.{ModeFault}
 use Rattle.rx_modes.specs.declared.plan.ModeFault.TheVariants as fault
@@ -16,6 +17,7 @@ use Rattle.rx_modes.specs.declared.plan.ModeFault.TheVariants as fault
 pub record HasModes (A : Asked) (muts : List Bool) (k : Plan) (choice : Uses → Mode) (it : ModePlan) : Type 0 where
   pub modes : IsModes A muts k choice it.modes
   pub moved : it.moved ≡ map (is_moved A) k.params
+  pub given_away : it.given_away ≡ map (is_given_away A muts) k.params
   pub each_has_one : (x : ℕ) → ¬ (NotMut A muts k x)
   pub none_is_aliased : (x : ℕ) → ¬ (Aliased A muts k x)
 

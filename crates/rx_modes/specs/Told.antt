@@ -1,5 +1,5 @@
 -- What the uses of a run's params are told by, and what is told of them. (Rust Reference, "Moved and copied types", "Mutability".)
-use Rattle.std.specs.Prelude.{◌≡◌, ◌<◌, ℕ, Bool, true, false, ◌||◌, ◌&&◌, if◌then◌else◌, List, [], ◌∷◌, length, get_or, slice_get, map, option_map, Option, Some, None, Result, Ok, Err}
+use Rattle.std.specs.Prelude.{◌≡◌, ◌<◌, ℕ, Bool, true, false, not, ◌||◌, ◌&&◌, if◌then◌else◌, List, [], ◌∷◌, length, get_or, slice_get, map, option_map, Option, Some, None, Result, Ok, Err}
 use Rattle.std.specs.Bool.{Decides}
 use Rattle.std.specs.Option.{is_some}
 use Rattle.rx_typed.specs.Types.{Typ, reference, Declarations, copies}
@@ -81,6 +81,11 @@ first_without (x ∷ xs) (u ∷ us) = if passes u then first_without xs us else 
 pub record AllPass (us : List Uses) : Type 0 where
   pub each : (i : ℕ) (u : Uses) → i < length us → u ≡ get_or us i u → HasMember (allowed_by u)
 
+-- ---- what is given away, by its uses
+
+abbrev pub gives_away : Uses → Bool
+gives_away u = u.moved || (u.through && not (u.mut_ref || u.declared_mut))
+
 -- ---- another storage
 
 -- what the exits hand out, each by the first entry of its kind
@@ -111,7 +116,7 @@ first_such f (x ∷ xs) = if f x then Some x else first_such f xs
 -- ---- what a private function answers
 
 abbrev pub PassedBy : Known → List Uses → List ℕ → (Uses → Mode) → Result ModePlan ModeFault → Type 0
-PassedBy known us xs choice (Ok it) = (it.modes ≡ map choice us) × (it.moved ≡ map (λ (u : Uses). u.moved) us) × (first_such (is_aliased known) xs ≡ None)
+PassedBy known us xs choice (Ok it) = (it.modes ≡ map choice us) × (it.moved ≡ map (λ (u : Uses). u.moved) us) × (it.given_away ≡ map gives_away us) × (first_such (is_aliased known) xs ≡ None)
 PassedBy known us xs choice (Err (fault.NotMut x)) = ⊥
 PassedBy known us xs choice (Err (fault.Aliased x)) = first_such (is_aliased known) xs ≡ Some x
 PassedBy known us xs choice (Err fault.OutOfMemory) = Unit {0}

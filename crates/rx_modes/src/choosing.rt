@@ -54,3 +54,14 @@ pub(crate) fn moved(alloc: Global, uses: &[Uses]) -> Result<List<bool>, AllocErr
     }
     Ok(List::from_vec(all))
 }
+
+/// Whether each is given away.
+pub(crate) fn given_away(alloc: Global, uses: &[Uses]) -> Result<List<bool>, AllocError>
+    ensures { IfOk result (λ it. it ≡ map spec.gives_away uses.now) }
+{
+    let mut all = Vec::new(alloc);
+    for one in uses {
+        all.push(one.moved || one.through && !(one.mut_ref || one.declared_mut))?;
+    }
+    Ok(List::from_vec(all))
+}

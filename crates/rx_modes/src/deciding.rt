@@ -16,7 +16,7 @@ ghost use Rattle.rx_modes.specs.Answer as answer;
 ghost use Rattle.rx_modes.specs.Told as spec;
 
 use crate::aliased::first_aliased;
-use crate::choosing::{chosen, first_without, moved};
+use crate::choosing::{chosen, first_without, given_away, moved};
 use crate::known::Known;
 use crate::plan::{ModeFault, ModePlan};
 use crate::tables::{function_deeds, outside_deeds, run_deeds};
@@ -46,7 +46,12 @@ fn passed<P: Policy>(
         None => {
             let modes = chosen(alloc, uses, policy)?;
             let moved = moved(alloc, uses)?;
-            Ok(ModePlan { modes, moved })
+            let given_away = given_away(alloc, uses)?;
+            Ok(ModePlan {
+                modes,
+                moved,
+                given_away,
+            })
         }
     }
 }

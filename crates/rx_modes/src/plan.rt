@@ -14,6 +14,8 @@ pub struct ModePlan {
     pub modes: List<Mode>,
     /// Whether the run moves it, or a part of its own storage.
     pub moved: List<bool>,
+    /// Whether it is given away: passed by value, and not copied.
+    pub given_away: List<bool>,
 }
 
 /// Why a run's params can't be passed, by the number of a variable.

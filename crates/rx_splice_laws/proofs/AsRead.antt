@@ -32,7 +32,7 @@ skips_shorter : {t r : List ℕ} → Skips t r → length r < length t + 1
 skips_shorter skipped = omega arith
 skips_shorter (skip g k) = let h = gap_shorter g in let l = skips_shorter k in omega (arith, h, l)
 
-skips_then : {t r : List ℕ} → Skips t r → (at n : ℕ) (ts : List Tok) → length t ≡ n + length r → Tokens (at + n) r ts → Tokens at t ts
+pub skips_then : {t r : List ℕ} → Skips t r → (at n : ℕ) (ts : List Tok) → length t ≡ n + length r → Tokens (at + n) r ts → Tokens at t ts
 skips_then (skipped {r = r}) at n ts e d = subst (λ k. Tokens k r ts) (omega (arith, e)) d
 skips_then (skip {t = t} {q = q} {r = r} g k) at n ts e d =
     let h = gap_shorter g in

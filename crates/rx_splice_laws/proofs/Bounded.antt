@@ -11,7 +11,7 @@ use Rattle.rx_lex.proofs.Names.{rest_text}
 use Rattle.rx_parse_grammar.specs.grammar.Words.{span_of}
 use Rattle.rx_splice.specs.Edits.{OnBoundaries, InOrder}
 use Rattle.rx_splice_laws.specs.Edits.{Edit, put, written, Ordered, no_edit, edit_and}
-use Rattle.rx_splice_laws.proofs.Edited.{Edited, kept, instead, behind, next, between, joined}
+use Rattle.rx_splice_laws.proofs.Edited.{Edited, kept, instead, renamed, behind, next, between, joined}
 
 -- ---- tokens
 
@@ -70,6 +70,7 @@ edits_bounded text (next ts z ps n c) b = let s = span_bounded text ts n (bounde
 edits_bounded text (behind {es = es} {ts = ts} ps n c e) b =
     let s = span_bounded text ts n b in
     boundaries-append text es (put (span_of ts).end ps ∷ []) (edits_bounded text e b) (s.1, s.1, tt)
+edits_bounded text (renamed t w l i) b = (b.0, b.1, tt)
 edits_bounded text (between t u ps o e) b = (b.2.0, b.2.0, edits_bounded text e b.2)
 edits_bounded text (joined {es = es} {fs = fs} {ts = ts} {vs = vs} e f) b =
     boundaries-append text es fs (edits_bounded text e (bounded_left text ts vs b)) (edits_bounded text f (bounded_right text ts vs b))

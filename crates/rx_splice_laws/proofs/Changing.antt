@@ -31,7 +31,7 @@ use Rattle.rx_splice_laws.specs.EditsOf.{EditsAt, is_short, edits, all_edits, fi
 use Rattle.rx_splice_laws.proofs.Beside.{runs_class, ends_class, begins_run, ends_run}
 use Rattle.rx_splice_laws.proofs.Edited.{Edited, kept, joined, one_kept, then_kept, and_none, regrouped, moved, some_left, begins_kept}
 use Rattle.rx_splice_laws.specs.SplicedRun.{Part}
-use Rattle.rx_splice_laws.proofs.Kept.{Kept, keep, one, recast, Low, low_more, low_both, left, right, tail, at, Place, At, placed, within, Suits, field_view}
+use Rattle.rx_splice_laws.proofs.Kept.{Widening, KeptBy, keep, one, recast, left, right, tail, at, Place, At, placed, within, SuitsBy, field_view}
 
 -- a part that begins no Like still begins none
 still : {es : List Edit} {ts us : List Tok} → Edited es ts us → (BeginsLike ts → ⊥) → BeginsLike us → ⊥
@@ -50,12 +50,6 @@ run_ends k is = ap ends_run is ∙ ap ends_class k
 
 run_ends_behind : {t l : Tok} {ts : List Tok} → l.class ≡ Lifetime → ts ≡ t ∷ l ∷ [] → ends_run ts ≡ true
 run_ends_behind k is = ap ends_run is ∙ ap ends_class k
-
-low_zero : Low 0 0
-low_zero = omega arith
-
-low_one : Low 1 1
-low_one = omega arith
 
 other : (w : List ℕ) (t u : Tok) (us vs : List Tok) → second_ampersand t ∷ us ≡ u ∷ vs → IsMark w u → (codes "&" ≡ w → ⊥) → ⊥
 other w t u us vs e s n = let h : second_ampersand t ≡ u = cc in n (ap (λ (x : Tok). x.text) h ∙ s.1)
@@ -102,36 +96,8 @@ joined_view a w p v e f = ap (λ (z : Statement). (plain.statement_and z (erase_
 as_place : (b : Bool) {f : Bool} (us : List Tok) (y : Expression) (k : ℕ) → IsPrimary f us y k → At b f us y k
 as_place b us y k d = placed b us y k (g.primary d)
 
-low_same : (h : ℕ) → Low h h
-low_same h = omega arith
-
 eq_self : (n : ℕ) → (n == n) ≡ true
 eq_self n = grind (arith, nat_tests)
-
-variant_case : (b f : Bool) (ts us : List Tok) (e p v o c : Tok) (h : ℕ) (es : List Edit) (a : Expression) (more : plain.Expressions) → IsName e → IsMark (codes "::") p → IsName v → IsMark (codes "(") o → IsMark (codes ")") c
-    → ts ≡ e ∷ p ∷ v ∷ o ∷ (us ++ c ∷ []) → Kept AreArguments arguments_view us h es (plain.expression_and a more)
-    → Kept (At b f) erase ts (suc h) es (plain.variant nowhere (erase_ident (ident e)) (erase_ident (ident v)) (plain.a_list (plain.expression_and a more)))
-variant_case b f ts us e p v o c h es a more se sp sv so sc is r = by r.tree r.derived r.same
-  where
-    by : (zs : List Expression) → AreArguments r.tokens zs r.height → arguments_view zs ≡ plain.expression_and a more
-        → Kept (At b f) erase ts (suc h) es (plain.variant nowhere (erase_ident (ident e)) (erase_ident (ident v)) (plain.a_list (plain.expression_and a more)))
-    by [] d k = absurd (cc)
-    by (z ∷ zs) d k =
-        keep _ _ _ (moved is (one_kept e (one_kept p (one_kept v (one_kept o (then_kept r.edited (c ∷ [])))))))
-        (as_place b _ _ _ (g.variant_with e p v o c r.tokens z zs r.height se sp sv so sc d refl)) (ap (λ (l : plain.Expressions). plain.variant nowhere (erase_ident (ident e)) (erase_ident (ident v)) (plain.a_list l)) k) (low_more _ _ r.low)
-
-match_case : (ts us vs : List Tok) (t o c : Tok) (m n : ℕ) (es fs : List Edit) (w : Expression) (p : PatternTree) (a : Expression) (more : plain.Arms) → IsKeyword (codes "match") t → IsMark (codes "{") o → IsMark (codes "}") c
-    → ts ≡ t ∷ (us ++ (o ∷ (vs ++ c ∷ []))) → Kept (IsOperand false strength.disjunction) erase us m es w → Kept AreArms arms_view vs n fs (plain.arm_and p a more)
-    → Kept IsLike erase ts (suc (max m n)) (es ++ fs) (plain.match nowhere w (plain.arm_and p a more))
-match_case ts us vs t o c m n es fs w p a more st so sc is x r = by r.tree r.derived r.same
-  where
-    by : (zs : List (PatternTree × Expression)) → AreArms r.tokens zs r.height → arms_view zs ≡ plain.arm_and p a more
-        → Kept IsLike erase ts (suc (max m n)) (es ++ fs) (plain.match nowhere w (plain.arm_and p a more))
-    by [] d k = absurd (cc)
-    by (z ∷ zs) d k =
-        keep _ _ _ (moved is (one_kept t (joined x.edited (one_kept o (then_kept r.edited (c ∷ []))))))
-        (g.match t o c x.tokens r.tokens x.tree z zs x.height r.height st so sc x.derived d refl) (ap (λ (l : Expression). plain.match nowhere l (arms_view (z ∷ zs))) x.same ∙ ap (λ (l : plain.Arms). plain.match nowhere w l) k)
-        (low_more _ _ (low_both _ _ _ _ x.low r.low))
 
 -- behind a pattern and a type and the token that follows them
 regroup_one : (ps ys : List Tok) (q : Tok) (r : List Tok) → (ps ++ (ys ++ q ∷ [])) ++ r ≡ ps ++ (ys ++ (q ∷ r))
@@ -147,19 +113,51 @@ bound_pattern : (ms : List Tok) (n : Tok) (m : Bool) → IsMutability ms m → I
 bound_pattern ms n m immutable s = pattern.binding n s refl
 bound_pattern ms n m (mutable t k) s = pattern.mutable_binding t n k s refl
 
-module _ (A : EditsAt) (C : Changes) (all : List Tok) (S : Suits A C all) where
+module _ (L : ℕ → ℕ → Type 0) (W : Widening L) (A : EditsAt) (C : Changes) (all : List Tok) (S : SuitsBy L A C all) where
+  open W use {low_same, low_more, low_both}
   open S use {int, variable, before_dot, short, long, break, continue, return, return_with, blocks_stay, typed}
+
+  low_zero : L 0 0
+  low_zero = low_same 0
+
+  low_one : L 1 1
+  low_one = low_same 1
+
+  variant_case : (b f : Bool) (ts us : List Tok) (e p v o c : Tok) (h : ℕ) (es : List Edit) (a : Expression) (more : plain.Expressions) → IsName e → IsMark (codes "::") p → IsName v → IsMark (codes "(") o → IsMark (codes ")") c
+      → ts ≡ e ∷ p ∷ v ∷ o ∷ (us ++ c ∷ []) → KeptBy L AreArguments arguments_view us h es (plain.expression_and a more)
+      → KeptBy L (At b f) erase ts (suc h) es (plain.variant nowhere (erase_ident (ident e)) (erase_ident (ident v)) (plain.a_list (plain.expression_and a more)))
+  variant_case b f ts us e p v o c h es a more se sp sv so sc is r = by r.tree r.derived r.same
+    where
+      by : (zs : List Expression) → AreArguments r.tokens zs r.height → arguments_view zs ≡ plain.expression_and a more
+          → KeptBy L (At b f) erase ts (suc h) es (plain.variant nowhere (erase_ident (ident e)) (erase_ident (ident v)) (plain.a_list (plain.expression_and a more)))
+      by [] d k = absurd (cc)
+      by (z ∷ zs) d k =
+          keep _ _ _ (moved is (one_kept e (one_kept p (one_kept v (one_kept o (then_kept r.edited (c ∷ [])))))))
+          (as_place b _ _ _ (g.variant_with e p v o c r.tokens z zs r.height se sp sv so sc d refl)) (ap (λ (l : plain.Expressions). plain.variant nowhere (erase_ident (ident e)) (erase_ident (ident v)) (plain.a_list l)) k) (low_more _ _ r.low)
+
+  match_case : (ts us vs : List Tok) (t o c : Tok) (m n : ℕ) (es fs : List Edit) (w : Expression) (p : PatternTree) (a : Expression) (more : plain.Arms) → IsKeyword (codes "match") t → IsMark (codes "{") o → IsMark (codes "}") c
+      → ts ≡ t ∷ (us ++ (o ∷ (vs ++ c ∷ []))) → KeptBy L (IsOperand false strength.disjunction) erase us m es w → KeptBy L AreArms arms_view vs n fs (plain.arm_and p a more)
+      → KeptBy L IsLike erase ts (suc (max m n)) (es ++ fs) (plain.match nowhere w (plain.arm_and p a more))
+  match_case ts us vs t o c m n es fs w p a more st so sc is x r = by r.tree r.derived r.same
+    where
+      by : (zs : List (PatternTree × Expression)) → AreArms r.tokens zs r.height → arms_view zs ≡ plain.arm_and p a more
+          → KeptBy L IsLike erase ts (suc (max m n)) (es ++ fs) (plain.match nowhere w (plain.arm_and p a more))
+      by [] d k = absurd (cc)
+      by (z ∷ zs) d k =
+          keep _ _ _ (moved is (one_kept t (joined x.edited (one_kept o (then_kept r.edited (c ∷ []))))))
+          (g.match t o c x.tokens r.tokens x.tree z zs x.height r.height st so sc x.derived d refl) (ap (λ (l : Expression). plain.match nowhere l (arms_view (z ∷ zs))) x.same ∙ ap (λ (l : plain.Arms). plain.match nowhere w l) k)
+          (low_more _ _ (low_both _ _ _ _ x.low r.low))
 
   -- what is claimed of an expression, behind these names and within these loops
   pub record Claim (J : List Tok → Expression → ℕ → Type 0) (ts : List Tok) (x : Expression) (h : ℕ) (own : Names) (ls : List Around) : Type 0 where
-    pub kept_so : Kept J erase ts h (edits A own ls false x) (erase (changed C own ls x))
+    pub kept_so : KeptBy L J erase ts h (edits A own ls false x) (erase (changed C own ls x))
 
   claim : {J : List Tok → Expression → ℕ → Type 0} {ts : List Tok} {x : Expression} {h : ℕ} {own : Names} {ls : List Around}
-      → Kept J erase ts h (edits A own ls false x) (erase (changed C own ls x)) → Claim J ts x h own ls
+      → KeptBy L J erase ts h (edits A own ls false x) (erase (changed C own ls x)) → Claim J ts x h own ls
   claim k = record { kept_so = k }
 
   so : {J : List Tok → Expression → ℕ → Type 0} {ts : List Tok} {x : Expression} {h : ℕ} {own : Names} {ls : List Around}
-      → Claim J ts x h own ls → Kept J erase ts h (edits A own ls false x) (erase (changed C own ls x))
+      → Claim J ts x h own ls → KeptBy L J erase ts h (edits A own ls false x) (erase (changed C own ls x))
   so c = c.kept_so
 
   reclaim : {J K : List Tok → Expression → ℕ → Type 0} {ts : List Tok} {x : Expression} {h : ℕ} {own : Names} {ls : List Around}
@@ -167,23 +165,23 @@ module _ (A : EditsAt) (C : Changes) (all : List Tok) (S : Suits A C all) where
   reclaim f c = claim (recast f c.kept_so)
 
   sub : {R : Type 0} {J : List Tok → Expression → ℕ → Type 0} {ts : List Tok} {x : Expression} {h : ℕ} {own : Names} {ls : List Around} → Claim J ts x h own ls
-      → ((us : List Tok) (y : Expression) (k : ℕ) → J us y k → Edited (edits A own ls false x) ts us → erase y ≡ erase (changed C own ls x) → Low h k → R) → R
+      → ((us : List Tok) (y : Expression) (k : ℕ) → J us y k → Edited (edits A own ls false x) ts us → erase y ≡ erase (changed C own ls x) → L h k → R) → R
   sub c f = one c.kept_so f
 
   claimed : {J : List Tok → Expression → ℕ → Type 0} {ts : List Tok} {x : Expression} {h : ℕ} {own : Names} {ls : List Around} (us : List Tok) (y : Expression) (k : ℕ)
-      → Edited (edits A own ls false x) ts us → J us y k → erase y ≡ erase (changed C own ls x) → Low h k → Claim J ts x h own ls
+      → Edited (edits A own ls false x) ts us → J us y k → erase y ≡ erase (changed C own ls x) → L h k → Claim J ts x h own ls
   claimed us y k e d m l = claim (keep us y k e d m l)
 
   return_claim : {ts : List Tok} (t : Tok) (us : List Tok) (x : Expression) (h : ℕ) → IsKeyword (codes "return") t → ts ≡ t ∷ us → us ≢ [] → (own : Names) (ls : List Around) → Part all (t ∷ us)
       → Claim IsExpression us x h own ls → Claim IsExpression ts (plain.return (span_of ts) (plain.present x)) (suc h) own ls
   return_claim t us x h s is n own ls q c =
-      claim (subst (λ l. Kept IsExpression erase l (suc h) (A.at_return_with (span_of l) (edits A own ls false x)) (erase (C.at_return (span_of l) (plain.present (changed C own ls x))))) (sym is)
+      claim (subst (λ l. KeptBy L IsExpression erase l (suc h) (A.at_return_with (span_of l) (edits A own ls false x)) (erase (C.at_return (span_of l) (plain.present (changed C own ls x))))) (sym is)
       (return_with t us h (edits A own ls false x) (changed C own ls x) s n q c.kept_so))
 
   match_claim : {ts : List Tok} (t o c : Tok) (us vs : List Tok) (x : Expression) (a : PatternTree × Expression) (more : List (PatternTree × Expression)) (m n : ℕ)
       → IsKeyword (codes "match") t → IsMark (codes "{") o → IsMark (codes "}") c → ts ≡ t ∷ (us ++ (o ∷ (vs ++ c ∷ []))) → (own : Names) (ls : List Around)
       → Claim (IsOperand false strength.disjunction) us x m own ls
-      → Kept AreArms arms_view vs n (arm_edits A own ls (arms_of (a ∷ more))) (erase_arms (changed_arms C own ls (arms_of (a ∷ more))))
+      → KeptBy L AreArms arms_view vs n (arm_edits A own ls (arms_of (a ∷ more))) (erase_arms (changed_arms C own ls (arms_of (a ∷ more))))
       → Claim IsLike ts (plain.match (span_of ts) x (arms_of (a ∷ more))) (suc (max m n)) own ls
   match_claim {ts} t o c us vs x a more m n st so sc is own ls y z =
       claim (match_case ts us vs t o c m n (edits A own ls false x) (arm_edits A own ls (arms_of (a ∷ more))) (erase (changed C own ls x)) (erase_pattern a.0) (erase (changed C (bound a.0 ++ own) ls a.1)) (erase_arms (changed_arms C own ls (arms_of more)))
@@ -196,7 +194,7 @@ module _ (A : EditsAt) (C : Changes) (all : List Tok) (S : Suits A C all) where
       claimed _ _ _ (moved (behind_second t u us (ms ++ vs) (sym e ∙ is)) (joined (kept ms) ed)) (g.borrow (second_ampersand t) ms ws m y k (refl, refl) sm d refl) (rw same refl) (low_more _ _ low))
 
   variable_kept : (b f : Bool) (own : Names) (t : Tok) → IsName t → Place b all (t ∷ [])
-      → Kept (At b f) erase (t ∷ []) 1 (A.at_variable own false t.span t.text) (erase (C.at_variable own t.span t.text))
+      → KeptBy L (At b f) erase (t ∷ []) 1 (A.at_variable own false t.span t.text) (erase (C.at_variable own t.span t.text))
   variable_kept true f own t s p = before_dot f own t p.0 s p.1 p.2
   variable_kept false f own t s p = variable f own t s p
 
@@ -217,7 +215,7 @@ module _ (A : EditsAt) (C : Changes) (all : List Tok) (S : Suits A C all) where
         claimed _ _ _ (moved is (joined x_edited (one_kept t y_edited))) (g.update x_tokens y_tokens t o x_tree y_tree x_height y_height s x_derived y_derived refl) (rw (x_same, y_same) refl)
         (low_more _ _ (low_both _ _ _ _ x_low y_low))))
     expression_kept (g.return t s is) own ls p =
-        claim (subst (λ l. Kept IsExpression erase l 1 (A.at_return (span_of l)) (erase (C.at_return (span_of l) plain.absent))) (sym is) (return t s))
+        claim (subst (λ l. KeptBy L IsExpression erase l 1 (A.at_return (span_of l)) (erase (C.at_return (span_of l) plain.absent))) (sym is) (return t s))
     expression_kept (g.return_with t us x h s d is) own ls p =
         return_claim t us x h s is (expression_some d) own ls (at is p) (expression_kept d own ls (tail (at is p)))
     expression_kept {ts = ts} (g.break t s is) own ls p = claim (break ls ts None (λ e. absurd (cc)) (run_begins s.0 is) (run_ends s.0 is) (g.break t s is))
@@ -284,11 +282,11 @@ module _ (A : EditsAt) (C : Changes) (all : List Tok) (S : Suits A C all) where
     primary_kept : {f : Bool} (b : Bool) {ts : List Tok} {x : Expression} {h : ℕ} → IsPrimary f ts x h → (own : Names) (ls : List Around) → Place b all ts
         → Claim (At b f) ts x h own ls
     primary_kept {f} b (g.number t v k s is) own ls p =
-        claim (subst (λ l. Kept (At b f) erase l 1 (A.at_int (span_of l) k) (erase (plain.int (span_of l) v (C.at_int (span_of l) k)))) (sym is) (recast (as_place b) (int f t v k s (at is (within b p)))))
+        claim (subst (λ l. KeptBy L (At b f) erase l 1 (A.at_int (span_of l) k) (erase (plain.int (span_of l) v (C.at_int (span_of l) k)))) (sym is) (recast (as_place b) (int f t v k s (at is (within b p)))))
     primary_kept b (g.true_is t s is) own ls p = claimed _ _ _ (moved is (kept (t ∷ []))) (as_place b _ _ _ (g.true_is t s refl)) refl low_one
     primary_kept b (g.false_is t s is) own ls p = claimed _ _ _ (moved is (kept (t ∷ []))) (as_place b _ _ _ (g.false_is t s refl)) refl low_one
     primary_kept {f} b (g.variable t s is) own ls p =
-        claim (subst (λ l. Kept (At b f) erase l 1 (A.at_variable own false (span_of l) t.text) (erase (C.at_variable own (span_of l) t.text))) (sym is)
+        claim (subst (λ l. KeptBy L (At b f) erase l 1 (A.at_variable own false (span_of l) t.text) (erase (C.at_variable own (span_of l) t.text))) (sym is)
         (variable_kept b f own t s (subst (λ l. Place b all l) is p)))
     primary_kept b (g.call t o c us xs h s so sc d is) own ls p =
         one (arguments_kept d own ls (left (c ∷ []) (tail (tail (at is (within b p)))))) (λ y_tokens y_tree y_height y_derived y_edited y_same y_low.
@@ -318,7 +316,7 @@ module _ (A : EditsAt) (C : Changes) (all : List Tok) (S : Suits A C all) where
     primary_kept b (g.like d) own ls p = reclaim (λ us y k e. as_place b us y k (g.like e)) (like_kept d own ls (within b p))
 
     arguments_kept : {ts : List Tok} {xs : List Expression} {h : ℕ} → AreArguments ts xs h → (own : Names) (ls : List Around) → Part all ts
-        → Kept AreArguments arguments_view ts h (all_edits A own ls (expressions_of xs)) (erase_all (changed_all C own ls (expressions_of xs)))
+        → KeptBy L AreArguments arguments_view ts h (all_edits A own ls (expressions_of xs)) (erase_all (changed_all C own ls (expressions_of xs)))
     arguments_kept g.no_argument own ls p = keep _ _ _ (kept []) g.no_argument refl low_zero
     arguments_kept (g.last_argument d) own ls p =
         sub (expression_kept d own ls p) (λ x_tokens x_tree x_height x_derived x_edited x_same x_low. keep _ _ _ (and_none x_edited) (g.last_argument x_derived) (rw x_same refl) x_low)
@@ -329,18 +327,18 @@ module _ (A : EditsAt) (C : Changes) (all : List Tok) (S : Suits A C all) where
         keep _ _ _ (moved is (joined y_edited (one_kept c z_edited))) (g.argument_and y_tokens z_tokens c y_tree z_tree y_height z_height y_derived s z_derived refl) (rw (y_same, z_same) refl) (low_both _ _ _ _ y_low z_low)))
 
     field_kept : {ts : List Tok} {x : Ident × Expression} {h : ℕ} → IsField ts x h → (own : Names) (ls : List Around) → Part all ts
-        → Kept IsField field_view ts h (edits A own ls (is_short x.0 x.1) x.1) (erase_ident x.0, erase (changed C own ls x.1))
+        → KeptBy L IsField field_view ts h (edits A own ls (is_short x.0 x.1) x.1) (erase_ident x.0, erase (changed C own ls x.1))
     field_kept {ts = ts} (g.long_field n c us x h sn sc d is) own ls p =
         let q = at is p in
         sub (expression_kept d own ls (tail (tail q))) (λ y_tokens y_tree y_height y_derived y_edited y_same y_low.
-        subst (λ b. Kept IsField field_view ts h (edits A own ls b x) (erase_ident (ident n), erase (changed C own ls x))) (sym (long n c us x h d q))
+        subst (λ b. KeptBy L IsField field_view ts h (edits A own ls b x) (erase_ident (ident n), erase (changed C own ls x))) (sym (long n c us x h d q))
         (keep _ _ _ (moved is (one_kept n (one_kept c y_edited))) (g.long_field n c y_tokens y_tree y_height sn sc y_derived refl) (ap (λ (z : Expression). (erase_ident (ident n), z)) y_same) y_low))
     field_kept (g.short_field n sn is) own ls p =
-        subst (λ l. Kept IsField field_view l 1 (A.at_variable own (n.span.start == (span_of l).start) (span_of l) n.text) (erase_ident (ident n), erase (C.at_variable own (span_of l) n.text))) (sym is)
-        (subst (λ b. Kept IsField field_view (n ∷ []) 1 (A.at_variable own b n.span n.text) (erase_ident (ident n), erase (C.at_variable own n.span n.text))) (sym (eq_self n.span.start)) (short own n sn (at is p)))
+        subst (λ l. KeptBy L IsField field_view l 1 (A.at_variable own (n.span.start == (span_of l).start) (span_of l) n.text) (erase_ident (ident n), erase (C.at_variable own (span_of l) n.text))) (sym is)
+        (subst (λ b. KeptBy L IsField field_view (n ∷ []) 1 (A.at_variable own b n.span n.text) (erase_ident (ident n), erase (C.at_variable own n.span n.text))) (sym (eq_self n.span.start)) (short own n sn (at is p)))
 
     fields_kept : {ts : List Tok} {xs : List (Ident × Expression)} {h : ℕ} → AreFields ts xs h → (own : Names) (ls : List Around) → Part all ts
-        → Kept AreFields fields_view ts h (field_edits A own ls (field_expressions_of xs)) (erase_fields (changed_fields C own ls (field_expressions_of xs)))
+        → KeptBy L AreFields fields_view ts h (field_edits A own ls (field_expressions_of xs)) (erase_fields (changed_fields C own ls (field_expressions_of xs)))
     fields_kept g.no_field own ls p = keep _ _ _ (kept []) g.no_field refl low_zero
     fields_kept (g.last_field d) own ls p =
         one (field_kept d own ls p) (λ x_tokens x_tree x_height x_derived x_edited x_same x_low.
@@ -415,7 +413,7 @@ module _ (A : EditsAt) (C : Changes) (all : List Tok) (S : Suits A C all) where
     else_kept (g.else_if d) own ls p = reclaim (λ us y k. g.else_if) (if_kept d own ls p)
 
     arms_kept : {ts : List Tok} {xs : List (PatternTree × Expression)} {h : ℕ} → AreArms ts xs h → (own : Names) (ls : List Around) → Part all ts
-        → Kept AreArms arms_view ts h (arm_edits A own ls (arms_of xs)) (erase_arms (changed_arms C own ls (arms_of xs)))
+        → KeptBy L AreArms arms_view ts h (arm_edits A own ls (arms_of xs)) (erase_arms (changed_arms C own ls (arms_of xs)))
     arms_kept g.no_arm own ls p = keep _ _ _ (kept []) g.no_arm refl low_zero
     arms_kept (g.like_arm a ps us vs w x more m n k sp sa d r is) own ls p =
         let q = tail (right ps (at is p)) in
@@ -442,14 +440,14 @@ module _ (A : EditsAt) (C : Changes) (all : List Tok) (S : Suits A C all) where
         (low_both _ _ _ _ (low_same m) y_low))
 
     pub block_kept : {ts : List Tok} {x : Body} {h : ℕ} → IsBlock ts x h → (own : Names) (ls : List Around) → Part all ts
-        → Kept IsBlock erase_body ts h (body_edits A own ls x) (erase_body (changed_body C own ls x))
+        → KeptBy L IsBlock erase_body ts h (body_edits A own ls x) (erase_body (changed_body C own ls x))
     block_kept {ts = ts} (g.braces o c us ss y h so sc d is) own ls p =
         one (statements_kept d own ls (left (c ∷ []) (tail (at is p)))) (λ x_tokens x_tree x_height x_derived x_edited x_same x_low.
         keep _ _ _ (moved is (one_kept o (then_kept x_edited (c ∷ [])))) (g.braces o c x_tokens x_tree.0 x_tree.1 x_height so sc x_derived refl) (ap (λ (z : plain.Statements × OptionalExpression). plain.body nowhere z.0 z.1) x_same
         ∙ sym (ap erase_body (blocks_stay (plain.body (span_of ts) (statements_of ss) y) (plain.body (span_of ts) (changed_statements C own ls (statements_of ss)) (changed_optional C (behind_all own (statements_of ss)) ls y))))) (low_more _ _ x_low))
 
     pub statement_kept : {ts : List Tok} {x : Statement} {h : ℕ} → IsStatement ts x h → (own : Names) (ls : List Around) → Part all ts
-        → Kept IsStatement erase_statement ts h (statement_edits A own ls x) (erase_statement (changed_statement C own ls x))
+        → KeptBy L IsStatement erase_statement ts h (statement_edits A own ls x) (erase_statement (changed_statement C own ls x))
     statement_kept (g.let_with t q z ps ys us w y x m n k st sq sz sp sy d is) own ls p =
         let r = tail (at is p) in
         let a = typed ps ys w y m n sp sy q (ap (λ w. same_bytes w (codes ")")) sq.1) (λ x. ap (λ w. goes_on (w ++ x)) sq.1) (typed_part ps ys q (us ++ z ∷ []) r) in
@@ -470,7 +468,7 @@ module _ (A : EditsAt) (C : Changes) (all : List Tok) (S : Suits A C all) where
         keep _ _ _ (moved is (then_kept y_edited (z ∷ []))) (g.done_like z y_tokens y_tree y_height sz y_derived refl) (rw y_same refl) y_low)
 
     pub statements_kept : {ts : List Tok} {ss : List Statement} {y : OptionalExpression} {h : ℕ} → AreStatements ts ss y h → (own : Names) (ls : List Around) → Part all ts
-        → Kept AreAll erased_within ts h (all_statement_edits A own ls (statements_of ss) ++ optional_edits A (behind_all own (statements_of ss)) ls y)
+        → KeptBy L AreAll erased_within ts h (all_statement_edits A own ls (statements_of ss) ++ optional_edits A (behind_all own (statements_of ss)) ls y)
         (erase_statements (changed_statements C own ls (statements_of ss)), erase_optional (changed_optional C (behind_all own (statements_of ss)) ls y))
     statements_kept g.end own ls p = keep _ ([], plain.absent) _ (kept []) g.end refl low_zero
     statements_kept (g.tail d nb) own ls p =

@@ -2,8 +2,10 @@
 use Rattle.std.proofs.Common.{◌≡◌, ℕ, Bool, true, false, List, [], ◌∷◌, ◌++◌, refl, ◌+◌, length, append-nil, append_assoc, sym, subst, ap, ◌∙◌}
 use Rattle.std.specs.Prelude.{◌≢◌, not}
 use Rattle.std.proofs.lemmas.Bool.{false≢true}
+use Rattle.rx_lex.specs.declared.token.Class.TheVariants.{Lifetime}
+use Rattle.rx_lex.specs.Words.{IsWord}
 use Rattle.rx_lex.specs.Tok.{Tok}
-use Rattle.rx_parse_grammar.specs.grammar.Words.{span_of}
+use Rattle.rx_parse_grammar.specs.grammar.Words.{span_of, IsLifetime}
 use Rattle.rx_print_spelling.specs.Pieces.{Piece, word, blanks}
 use Rattle.rx_print_spelling.proofs.Pieces.{places}
 use Rattle.rx_print_spelling.proofs.FirstWords.{word_begins, tokens_begin}
@@ -27,6 +29,8 @@ pub data Edited : List Edit → List Tok → List Tok → Type 0 where
   kept : (ts : List Tok) → Edited [] ts ts
   -- in place of all of them: with words that begin nothing that ends in a block
   instead : (ts : List Tok) (ps : List Piece) → ts ≢ [] → begins_plain ps ≡ true → InPlace ts ps → Edited (replaced (span_of ts) ps ∷ []) ts (made ps)
+  -- in place of a lifetime: another
+  renamed : (t : Tok) (w : List ℕ) → IsLifetime t → IsWord Lifetime w → Edited (replaced t.span (word Lifetime w ∷ []) ∷ []) (t ∷ []) (made (word Lifetime w ∷ []))
   -- directly behind the last, before anything
   behind : {es : List Edit} {ts us : List Tok} (ps : List Piece) → ts ≢ [] → Closing ps → Edited es ts us
       → Edited (es ++ put (span_of ts).end ps ∷ []) ts (us ++ made ps)
@@ -73,6 +77,7 @@ append_last (u ∷ us) ws n e = absurd (cc)
 pub some_left : {es : List Edit} {ts us : List Tok} → Edited es ts us → ts ≢ [] → us ≢ []
 some_left (kept ts) n = n
 some_left (instead ts ps m b i) n = made_some 0 ps b
+some_left (renamed t w l i) n = λ z. absurd (cc)
 some_left (between t u ps o e) n = λ z. absurd (cc)
 some_left (behind {us = us} ps m c e) n = append_some us (made ps) (some_left e m)
 some_left (next ts z ps m c) n = append_some ts (made ps ++ z ∷ []) m
@@ -82,6 +87,7 @@ some_left (joined {ts = t ∷ ts} {us = us} {ws = ws} e f) n = append_some us ws
 pub none_left : {es : List Edit} {ts us : List Tok} → Edited es ts us → ts ≡ [] → us ≡ []
 none_left (kept ts) n = n
 none_left (instead ts ps m b i) n = absurd (m n)
+none_left (renamed t w l i) n = absurd (cc)
 none_left (between t u ps o e) n = absurd (cc)
 none_left (behind ps m c e) n = absurd (m n)
 none_left (next ts z ps m c) n = absurd (append_some ts (z ∷ []) m n)
@@ -124,6 +130,7 @@ front_begins (u ∷ us) ws n d = same_first d
 pub begins_kept : {es : List Edit} {ts us : List Tok} → Edited es ts us → BeginsLike us → BeginsLike ts
 begins_kept (kept ts) d = d
 begins_kept (instead ts ps m b i) d = absurd (made_begins 0 ps [] b (subst BeginsLike (sym (append-nil (made ps))) d))
+begins_kept (renamed t w l i) d = g.with_label l
 begins_kept (between t u ps o e) d = same_first d
 begins_kept (behind {us = us} ps m c e) d = begins_kept e (front_begins us (made ps) (some_left e m) d)
 begins_kept (next ts z ps m c) d = longer_begins ts (z ∷ []) (front_begins ts (made ps ++ z ∷ []) m d)

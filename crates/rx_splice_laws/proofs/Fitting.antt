@@ -30,7 +30,7 @@ use Rattle.rx_splice_laws.proofs.InPlaces.{EndsBare, type_next, enum_spells}
 use Rattle.rx_splice_laws.proofs.Edited as calculus
 use Rattle.rx_splice_laws.proofs.Edited.{Edited, made}
 use Rattle.rx_splice_laws.specs.SplicedRun.{Part}
-use Rattle.rx_splice_laws.proofs.Kept.{Kept, Low, Suits, Typed}
+use Rattle.rx_splice_laws.proofs.Kept.{Kept, Low, widens, Suits, Typed}
 use Rattle.rx_splice_laws.proofs.Leaves.{Rising, variable_fits, before_dot_fits, short_fits, jump_fits, leaving_fits, number_fits, return_fits}
 use Rattle.rx_parse_laws.specs.Parts.{erased_within}
 use Rattle.rx_splice_laws.proofs.Changing.{statements_kept, AreAll}
@@ -97,4 +97,4 @@ module _ (M : Moving) (all : List Tok) (F : Spelt M) (T : Settled all) where
       → Kept AreAll erased_within ts h
       (all_statement_edits (run_edits M all) [] ls (statements_of ss) ++ optional_edits (run_edits M all) (behind_all [] (statements_of ss)) ls y)
       (erase_statements (changed_statements (run_changes M) [] ls (statements_of ss)), erase_optional (changed_optional (run_changes M) (behind_all [] (statements_of ss)) ls y))
-  run_kept ts ss y h d ls p = statements_kept (run_edits M all) (run_changes M) all run_suits d [] ls p
+  run_kept ts ss y h d ls p = statements_kept Low widens (run_edits M all) (run_changes M) all run_suits d [] ls p

@@ -16,7 +16,7 @@ use Rattle.rx_splice_laws.specs.EditsOf.{EditsAt, all_statement_edits}
 use Rattle.rx_splice_laws.specs.SplicedRun.{Part}
 use Rattle.rx_splice_laws.specs.Fronts.{Fronts, none_in_front, statement_in_front, like_in_front}
 use Rattle.rx_splice_laws.proofs.Edited.{kept, joined, moved}
-use Rattle.rx_splice_laws.proofs.Kept.{Kept, keep, one, low_both, left, right, at, Suits}
+use Rattle.rx_splice_laws.proofs.Kept.{Kept, keep, one, Low, widens, low_both, left, right, at, Suits}
 use Rattle.rx_splice_laws.proofs.Changing.{like_kept, statement_kept}
 
 -- something follows
@@ -117,13 +117,13 @@ module _ (A : EditsAt) (C : Changes) (all : List Tok) (S : Suits A C all) where
   fronts_kept none_in_front own ls p = keep _ _ _ (kept []) none_in_front refl (omega arith)
   fronts_kept (statement_in_front us vs a ss m n d r is) own ls p =
       let q = at is p in
-      one (statement_kept A C all S d own ls (left vs q)) (λ x_tokens x_tree x_height x_derived x_edited x_same x_low.
+      one (statement_kept Low widens A C all S d own ls (left vs q)) (λ x_tokens x_tree x_height x_derived x_edited x_same x_low.
       one (fronts_kept r (bound_by a ++ own) ls (right us q)) (λ z_tokens z_tree z_height z_derived z_edited z_same z_low.
       keep _ (x_tree ∷ z_tree) _ (moved is (joined x_edited z_edited)) (statement_in_front x_tokens z_tokens x_tree z_tree x_height z_height x_derived z_derived refl)
       (ap (λ (w : Statement). plain.statement_and w (fronts_view z_tree)) x_same ∙ ap (λ (w : Statements). plain.statement_and (erase_statement (changed_statement C own ls a)) w) z_same) (low_both _ _ _ _ x_low z_low)))
   fronts_kept (like_in_front us vs x ss m n d r is) own ls p =
       let q = at is p in
-      one (like_kept A C all S d own ls (left vs q)).kept_so (λ w_tokens w_tree w_height w_derived w_edited w_same w_low.
+      one (like_kept Low widens A C all S d own ls (left vs q)).kept_so (λ w_tokens w_tree w_height w_derived w_edited w_same w_low.
       one (fronts_kept r own ls (right us q)) (λ z_tokens z_tree z_height z_derived z_edited z_same z_low.
       keep _ (plain.expression_statement (span_of w_tokens) w_tree false ∷ z_tree) _ (moved is (joined w_edited z_edited)) (like_in_front w_tokens z_tokens w_tree z_tree w_height z_height w_derived z_derived refl)
       (ap (λ (e : Expression). plain.statement_and (plain.expression_statement nowhere e false) (fronts_view z_tree)) w_same ∙ ap (λ (w : Statements). plain.statement_and (plain.expression_statement nowhere (erase (changed C own ls x)) false) w) z_same) (low_both _ _ _ _ w_low z_low)))

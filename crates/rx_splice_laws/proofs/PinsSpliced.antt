@@ -24,7 +24,7 @@ use Rattle.rx_splice_laws.specs.SplicedRun.{Part}
 use Rattle.rx_splice_laws.specs.PinnedBody.{edits_of_pins, PinnedBody, SplicedBody}
 use Rattle.rx_splice_laws.proofs.Edited as calculus
 use Rattle.rx_splice_laws.proofs.Edited.{one_kept}
-use Rattle.rx_splice_laws.proofs.Kept.{Low, Suits, keep, low_more}
+use Rattle.rx_splice_laws.proofs.Kept.{Low, widens, Suits, keep, low_more}
 use Rattle.rx_splice_laws.proofs.Leaves.{number_fits, kept_short}
 use Rattle.rx_splice_laws.proofs.Changing.{block_kept}
 use Rattle.rx_splice_laws.proofs.Fitting.{Spelt, Settled, typed_fits}
@@ -96,7 +96,7 @@ module _ (P : ProgramTree) (pl : Plan) (r : Span) where
       → SplicedBody P pl r text all ts b h
   of_part F L text all ts b h d p i w =
       let M = moved_by P pl r in
-      let k = block_kept (pin_edits M all) (pin_changes M) all (pins_suit M all (plan_spelt P pl r F L) (text_settled 0 text all d.tokens)) i [] [] p in
+      let k = block_kept Low widens (pin_edits M all) (pin_changes M) all (pins_suit M all (plan_spelt P pl r F L) (text_settled 0 text all d.tokens)) i [] [] p in
       let at = (span_of ts).start in
       let s = spells all k.edited (body_stars (pin_edits M all) all (pins_unslashed M all) [] [] b) (part_seen all ts p) at w.pieces w.placed in
       let o = subst (λ n. Ordered at (edits_of_pins P pl r all b) n) (sym w.end) s.pieced.ordered in record {
@@ -120,7 +120,7 @@ module _ (P : ProgramTree) (pl : Plan) (r : Span) where
       → ReadBody P pl r text all ts b h k
   read_part F L text all ts b h d p n i w j =
       let M = moved_by P pl r in
-      let k = block_kept (pin_edits M all) (pin_changes M) all (pins_suit M all (plan_spelt P pl r F L) (text_settled 0 text all d.tokens)) i [] [] p in
+      let k = block_kept Low widens (pin_edits M all) (pin_changes M) all (pins_suit M all (plan_spelt P pl r F L) (text_settled 0 text all d.tokens)) i [] [] p in
       let s = spells all k.edited (body_stars (pin_edits M all) all (pins_unslashed M all) [] [] b) (part_seen all ts p) (span_of ts).start w.pieces w.placed in
       let e : flat s.pieces ≡ body_bytes P pl r text all ts b = s.pieced.text ∙ ap (λ x. spliced (span_of ts).start x (edits_of_pins P pl r all b)) w.is in record {
         tokens = places j s.pieces;

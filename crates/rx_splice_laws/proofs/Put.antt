@@ -29,7 +29,7 @@ read_words at (word c w ∷ ps) r a = (a.0, read_words (at + length w) ps r a.2)
 read_words at (blanks b ∷ ps) r a = read_words (at + length b) ps r a.1
 
 -- the last of them ends before what follows
-last_ends : (ps : List Piece) (l : Left) (r : List ℕ) → Reads ps r → Before l (onto ps r) → Before (left_of l ps) r
+pub last_ends : (ps : List Piece) (l : Left) (r : List ℕ) → Reads ps r → Before l (onto ps r) → Before (left_of l ps) r
 last_ends [] l r a b = b
 last_ends (word c w ∷ ps) l r a b = last_ends ps (word_left c w) r a.2 a.1
 last_ends (blanks [] ∷ ps) l r a b = last_ends ps l r a.1 b
@@ -147,7 +147,7 @@ behind_seam all at ts ps front gap new n c e g w = record {
 }
 
 -- before a token that goes on no name
-quiet_token : (at : ℕ) (ps : List Piece) (z : Tok) (zs : List Tok) (s : List ℕ) → places at ps ≡ z ∷ zs → Reads ps s → ((r : List ℕ) → goes_on (z.text ++ r) ≡ false) → goes_on (onto ps s) ≡ false
+pub quiet_token : (at : ℕ) (ps : List Piece) (z : Tok) (zs : List Tok) (s : List ℕ) → places at ps ≡ z ∷ zs → Reads ps s → ((r : List ℕ) → goes_on (z.text ++ r) ≡ false) → goes_on (onto ps s) ≡ false
 quiet_token at [] z zs s e a f = absurd (cc)
 quiet_token at (word c w ∷ ps) z zs s e a f =
     let h : token_at at c w ≡ z = cc in
@@ -187,10 +187,10 @@ bare_left at (blanks (b ∷ bs) ∷ ps) l e = inl (gap_stays (at + length (b ∷
     gap_stays at (blanks (b ∷ bs) ∷ ps) e = gap_stays (at + length (b ∷ bs)) ps e
 
 -- behind the only token: a gap, or its word, which ends here
-abbrev Only : Left → ℕ → Tok → Type 0
+abbrev pub Only : Left → ℕ → Tok → Type 0
 Only l end t = (l ≡ gap_left) ⊎ ((l ≡ word_left t.class t.text) × (end ≡ t.span.start + length t.text))
 
-only_left : (at : ℕ) (ps : List Piece) (t : Tok) (l : Left) → places at ps ≡ t ∷ [] → Only (left_of l ps) (at + length (flat ps)) t
+pub only_left : (at : ℕ) (ps : List Piece) (t : Tok) (l : Left) → places at ps ≡ t ∷ [] → Only (left_of l ps) (at + length (flat ps)) t
 only_left at [] t l e = absurd (cc)
 only_left at (blanks [] ∷ ps) t l e = subst (λ n. Only (left_of l ps) n t) (let h : (at + 0) + length (flat ps) ≡ at + length (flat ps) = omega arith in h) (only_left (at + 0) ps t l e)
 only_left at (blanks (b ∷ bs) ∷ ps) t l e =

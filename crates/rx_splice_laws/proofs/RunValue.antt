@@ -46,7 +46,7 @@ use Rattle.rx_splice_laws.proofs.AsRead.{Reads}
 use Rattle.rx_splice_laws.proofs.Beside.{Closing, starred}
 use Rattle.rx_splice_laws.proofs.Edited as calculus
 use Rattle.rx_splice_laws.proofs.Edited.{made}
-use Rattle.rx_splice_laws.proofs.Kept.{left, right}
+use Rattle.rx_splice_laws.proofs.Kept.{Low, widens, left, right}
 use Rattle.rx_splice_laws.proofs.Changing.{expression_kept}
 use Rattle.rx_splice_laws.proofs.Fitting.{run_suits}
 use Rattle.rx_splice_laws.proofs.Settling.{Sooner, skipped, tokens_behind, from_rest, text_settled}
@@ -208,7 +208,7 @@ module _ (P : ProgramTree) (pl : Plan) (r : Span) (F : FormedPlan P pl) (L : Pin
       let A = run_edits M all in
       let U = run_suits M all (plan_spelt P pl r F L) (text_settled 0 text all d.tokens) in
       let kf = fronts_kept A (run_changes M) all U f [] ls (left (v ∷ vs) p) in
-      let kt = (expression_kept A (run_changes M) all U t (behind_all [] S) ls (right us p)).kept_so in
+      let kt = (expression_kept Low widens A (run_changes M) all U t (behind_all [] S) ls (right us p)).kept_so in
       let es = all_statement_edits A [] ls S in
       let fs = edits A (behind_all [] S) ls false x in
       let et = calculus.behind e.behind (λ z. absurd (cc)) O.closes kt.edited in

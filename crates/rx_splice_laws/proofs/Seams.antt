@@ -9,7 +9,7 @@ use Rattle.std.proofs.lemmas.Str.{chars-append}
 use Rattle.rx_core.specs.Bytes.{same_bytes, is_one_of}
 use Rattle.rx_lex.specs.declared.token.Class.{Class}
 use Rattle.rx_lex.specs.declared.token.Class.TheVariants.{Identifier, Keyword, Lifetime, Number, Format, Mark}
-use Rattle.rx_lex.specs.Words.{IsWord, keyword, marks, goes_on, begins_continue}
+use Rattle.rx_lex.specs.Words.{IsWord, keyword, lifetime, marks, goes_on, begins_continue}
 use Rattle.rx_lex.specs.Tok.{Tok}
 use Rattle.rx_lex.specs.Tokens.{Gap, blank, line_comment, block_comment, is_blank, at_line_end, token_at}
 use Rattle.rx_lex.specs.Stands.{stands, stands_alone, makes_longer, makes_comment}
@@ -188,6 +188,16 @@ pub record Read (l : Left) (src new : List Piece) (r s : List ℕ) : Type 0 wher
 
 pub record Seamed (all : List Tok) (at : ℕ) (src new : List Piece) : Type 0 where
   pub so : (l : Left) (r s : List ℕ) → Seen all at l → Reads src r → Fits (left_of l src) r s → Read l src new r s
+
+-- another lifetime
+lifetimes_begin : {v w : List ℕ} (r s : List ℕ) → IsWord Lifetime v → IsWord Lifetime w → Alike (v ++ r) (w ++ s)
+lifetimes_begin r s (lifetime {w = v} {name = n} i e) (lifetime {w = w} {name = m} j f) =
+    subst (λ x. Alike (x ++ r) (w ++ s)) (sym e) (subst (λ x. Alike ((codes "'" ++ n) ++ r) (x ++ s)) (sym f) (alike_low 39 (n ++ r) (m ++ s) (omega arith)))
+
+pub lifetime_seam : (all : List Tok) (at : ℕ) (v w : List ℕ) → IsWord Lifetime w → Seamed all at (word Lifetime v ∷ []) (word Lifetime w ∷ [])
+lifetime_seam all at v w i = record {
+  so = λ l r s k a f. record { reads = (i, f a.1, tt); fits = fits_alike l (v ++ r) (w ++ s) (lifetimes_begin r s a.0 i) };
+}
 
 -- kept
 kept_word : (l : Left) (c : Class) (w : List ℕ) (ps : List Piece) (r s : List ℕ) → IsWord c w → stands c w (onto ps r) ≡ true → Read (word_left c w) ps ps r s → Read l (word c w ∷ ps) (word c w ∷ ps) r s

@@ -3,24 +3,34 @@
 use Rattle.std.proofs.Common.{◌≡◌, ℕ, ◌+◌, ◌-◌, true, false, List, [], ◌∷◌, ◌++◌, length, length-append, take, drop, refl, sym, ap, subst, ◌∙◌, arith, append-nil, append_assoc}
 use Rattle.std.specs.Prelude.{◌≢◌, ⊤}
 use Rattle.rx_lex.specs.Tok.{Tok}
-use Rattle.rx_parse_grammar.specs.grammar.Words.{span_of}
-use Rattle.rx_print_spelling.specs.Pieces.{Piece, word, bytes_of, flat}
+use Rattle.rx_lex.specs.declared.token.Class.{Class}
+use Rattle.rx_lex.specs.declared.token.Class.TheVariants.{Lifetime}
+use Rattle.rx_lex.specs.Words.{IsWord}
+use Rattle.rx_lex.specs.Tokens.{token_at}
+use Rattle.rx_parse_grammar.specs.grammar.Words.{span_of, IsLifetime}
+use Rattle.rx_print_spelling.specs.Pieces.{Piece, word, blanks, bytes_of, flat}
 use Rattle.rx_print_spelling.proofs.Pieces.{places, past, places-append, flat-append}
 use Rattle.rx_splice_laws.specs.Edits.{Edit, spliced, replaced, put, Ordered, no_edit, edit_and}
 use Rattle.rx_splice_laws.specs.Places.{after_slash}
 use Rattle.rx_splice_laws.proofs.Splicing.{spliced-append, ordered-append}
 use Rattle.rx_parse_laws.specs.Words.{words}
 use Rattle.rx_splice_laws.specs.SplicedRun.{piece_words}
-use Rattle.rx_splice_laws.proofs.Edited.{Edited, kept, instead, between, behind, next, joined, made}
-use Rattle.rx_splice_laws.proofs.Seams.{Left, left_of, EachSeen, seen_left, seen_right, Seamed, kept_seam, two_seams}
+use Rattle.rx_splice_laws.proofs.Edited.{Edited, kept, instead, renamed, between, behind, next, joined, made}
+use Rattle.rx_splice_laws.proofs.Seams.{Left, left_of, EachSeen, seen_left, seen_right, Seamed, kept_seam, lifetime_seam, two_seams}
 use Rattle.rx_splice_laws.proofs.Beside.{left_at, starred, InPlace}
 use Rattle.rx_splice_laws.proofs.Put.{replaced_seam, behind_seam, next_seam, between_seam}
 use Rattle.rx_splice_laws.proofs.Cut.{bare_places, words_placed, words_joined, words-append, split, lead, trail}
 
--- no edit that begins with `*` stands directly behind a `/`
+abbrev pub EachEdit : (Edit → Type 0) → List Edit → Type 0
+EachEdit P [] = ⊤
+EachEdit P (e ∷ es) = P e × EachEdit P es
+
+-- an edit that begins with `*` doesn't stand directly behind a `/`
+abbrev pub IsUnslashed : List Tok → Edit → Type 0
+IsUnslashed all e = starred e.by ≡ true → after_slash all e.from ≡ false
+
 abbrev pub Unslashed : List Tok → List Edit → Type 0
-Unslashed all [] = ⊤
-Unslashed all (e ∷ es) = (starred e.by ≡ true → after_slash all e.from ≡ false) × Unslashed all es
+Unslashed all es = EachEdit (IsUnslashed all) es
 
 pub unslashed_left : (all : List Tok) (es fs : List Edit) → Unslashed all (es ++ fs) → Unslashed all es
 unslashed_left all [] fs u = tt
@@ -77,7 +87,7 @@ pub nothing_edited : (at : ℕ) (src : List Piece) (ts : List Tok) → piece_wor
 nothing_edited at src ts e = record { text = refl; words = e; ordered = no_edit (omega arith) }
 
 -- all of it is replaced
-all_replaced : (at end : ℕ) (src ps : List Piece) → end ≡ at + length (flat src) → Pieced at src ps (record { from = at; to = end; by = ps } ∷ []) (made ps)
+pub all_replaced : (at end : ℕ) (src ps : List Piece) → end ≡ at + length (flat src) → Pieced at src ps (record { from = at; to = end; by = ps } ∷ []) (made ps)
 all_replaced at end src ps m =
     let z : at - at ≡ 0 = omega arith in
     let l : end - at ≡ length (flat src) = omega (arith, m) in record {
@@ -91,7 +101,7 @@ past_is : (at : ℕ) (ps : List Piece) → past at ps ≡ at + length (flat ps)
 past_is at [] = omega arith
 past_is at (p ∷ ps) = let h = past_is (at + length (bytes_of p)) ps in omega (arith, h, length-append (bytes_of p) (flat ps))
 
-gap_places : (at : ℕ) (g ps : List Piece) → ((k : ℕ) → places k g ≡ []) → places at (g ++ ps) ≡ places (at + length (flat g)) ps
+pub gap_places : (at : ℕ) (g ps : List Piece) → ((k : ℕ) → places k g ≡ []) → places at (g ++ ps) ≡ places (at + length (flat g)) ps
 gap_places at g ps b = places-append at g ps ∙ ap (λ x. x ++ places (past at g) ps) (b at) ∙ ap (λ n. places n ps) (past_is at g)
 
 pub places_then : (at : ℕ) (ps g : List Piece) → ((k : ℕ) → places k g ≡ []) → places at (ps ++ g) ≡ places at ps
@@ -135,10 +145,31 @@ module _ (all : List Tok) where
       let c = gap_in_front at t.span.start l.gap (r.front ++ r.gap) (replaced (span_of (t ∷ ts)) ps ∷ []) (made ps ++ []) l.bare (bare_places l.gap l.bare at) l.start b in
       such (sym (l.is ∙ ap (λ x. l.gap ++ x) r.is)) (append-nil (made ps)) c
 
+  one_lifetime : (at : ℕ) (t : Tok) (c : Class) (v w : List ℕ) → c ≡ Lifetime → IsWord Lifetime w → token_at at c v ≡ t → Spelled all at (word c v ∷ []) (replaced t.span (word Lifetime w ∷ []) ∷ []) (made (word Lifetime w ∷ []))
+  one_lifetime at t c v w k i h =
+      subst (λ (x : Tok). Spelled all at (word c v ∷ []) (replaced x.span (word Lifetime w ∷ []) ∷ []) (made (word Lifetime w ∷ []))) h
+      (subst (λ d. Spelled all at (word d v ∷ []) (replaced (token_at at c v).span (word Lifetime w ∷ []) ∷ []) (made (word Lifetime w ∷ []))) (sym k) (record {
+        pieces = word Lifetime w ∷ [];
+        pieced = all_replaced at (at + length v) (word Lifetime v ∷ []) (word Lifetime w ∷ []) (omega (arith, length-append v []));
+        seamed = lifetime_seam all at v w i;
+      }))
+
+  lifetime_of : (at : ℕ) (src : List Piece) (t : Tok) (w : List ℕ) → IsLifetime t → IsWord Lifetime w → EachSeen all (t ∷ []) → places at src ≡ t ∷ []
+      → Spelled all at src (replaced t.span (word Lifetime w ∷ []) ∷ []) (made (word Lifetime w ∷ []))
+  lifetime_of at [] t w l i y e = absurd (cc)
+  lifetime_of at (blanks b ∷ src) t w l i y e =
+      gap_in_front at (at + length b) (blanks b ∷ []) src (replaced t.span (word Lifetime w ∷ []) ∷ []) (made (word Lifetime w ∷ [])) refl refl (omega (arith, length-append b [])) (lifetime_of (at + length b) src t w l i y e)
+  lifetime_of at (word c v ∷ src) t w l i y e =
+      let h : token_at at c v ≡ t = cc in
+      let k : places (at + length v) src ≡ [] = cc in
+      parts at (at + length v) (word c v ∷ []) src (replaced t.span (word Lifetime w ∷ []) ∷ []) [] (t ∷ []) (made (word Lifetime w ∷ [])) [] (omega (arith, length-append v []))
+      (ap (λ x. x ∷ []) h) y (one_lifetime at t c v w (ap (λ (x : Tok). x.class) h ∙ l.0) i h) (kept_part (at + length v) src [] (sym (words_placed (at + length v) src) ∙ ap words k))
+
   pub spells : {es : List Edit} {ts us : List Tok} → Edited es ts us → Unslashed all es → EachSeen all ts → (at : ℕ) (src : List Piece) → places at src ≡ ts → Spelled all at src es us
   spells (kept ts) u y at src e = kept_part at src ts (sym (words_placed at src) ∙ ap words e)
   spells (instead [] ps n b i) u y at src e = absurd (n refl)
   spells (instead (t ∷ ts) ps n b i) u y at src e = instead_of at src t ts ps i u.0 y e
+  spells (renamed t w l i) u y at src e = lifetime_of at src t w l i y e
   spells (next ts z ps n c) u y at src e =
       let k = split at src ts (z ∷ []) e in
       let r = trail at k.front ts k.first n in

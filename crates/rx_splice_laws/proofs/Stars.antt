@@ -1,4 +1,5 @@
--- No edit that begins with `*` stands directly behind a `/`: by the walk that makes the edits.
+-- What holds of the edits at the special places holds of all of a part: by the walk that makes them. So no edit that begins with `*`
+-- stands directly behind a `/`.
 use Rattle.std.proofs.Common.{◌≡◌, ℕ, suc, Bool, true, false, List, [], ◌∷◌, ◌++◌, Option, Some, None, codes, refl, sym, ap, ◌∙◌, append_assoc, arith}
 use Rattle.std.specs.Prelude.{⊤, ◌||◌, ◌&&◌, ◌==◌, if◌then◌else◌}
 use Rattle.std.proofs.lemmas.Bool.{or_parts, false≢true}
@@ -20,98 +21,116 @@ use Rattle.rx_splice_laws.specs.Moving.{Moving, Jump, star, star_at, enclosed_st
 use Rattle.rx_splice_laws.specs.SplicedRun.{Part}
 use Rattle.rx_splice_laws.proofs.Seams.{EachSeen}
 use Rattle.rx_splice_laws.proofs.Beside.{starred}
-use Rattle.rx_splice_laws.proofs.Spelled.{Unslashed}
+use Rattle.rx_splice_laws.proofs.Spelled.{EachEdit, IsUnslashed, Unslashed}
+
+pub each-append : (P : Edit → Type 0) (es fs : List Edit) → EachEdit P es → EachEdit P fs → EachEdit P (es ++ fs)
+each-append P [] fs u v = v
+each-append P (e ∷ es) fs u v = (u.0, each-append P es fs u.1 v)
 
 pub unslashed-append : (all : List Tok) (es fs : List Edit) → Unslashed all es → Unslashed all fs → Unslashed all (es ++ fs)
-unslashed-append all [] fs u v = v
-unslashed-append all (e ∷ es) fs u v = (u.0, unslashed-append all es fs u.1 v)
+unslashed-append all es fs u v = each-append (IsUnslashed all) es fs u v
 
 -- what is asked of the special forms
-pub record Unslashes (A : EditsAt) (all : List Tok) : Type 0 where
-  pub int : (s : Span) (k : Option Kind) → Unslashed all (A.at_int s k)
-  pub variable : (own : Names) (b : Bool) (s : Span) (x : List ℕ) → Unslashed all (A.at_variable own b s x)
-  pub break : (ls : List Around) (s : Span) (l : Option Ident) → Unslashed all (A.at_break ls s l)
-  pub continue : (ls : List Around) (s : Span) (l : Option Ident) → Unslashed all (A.at_continue ls s l)
-  pub return : (s : Span) → Unslashed all (A.at_return s)
-  pub return_with : (s : Span) (es : List Edit) → Unslashed all es → Unslashed all (A.at_return_with s es)
-  pub typing : (p : PatternTree) (y : Option TypeTree) → Unslashed all (A.at_let p y)
+pub record Holds (P : Edit → Type 0) (A : EditsAt) : Type 0 where
+  pub int : (s : Span) (k : Option Kind) → EachEdit P (A.at_int s k)
+  pub variable : (own : Names) (b : Bool) (s : Span) (x : List ℕ) → EachEdit P (A.at_variable own b s x)
+  pub break : (ls : List Around) (s : Span) (l : Option Ident) → EachEdit P (A.at_break ls s l)
+  pub continue : (ls : List Around) (s : Span) (l : Option Ident) → EachEdit P (A.at_continue ls s l)
+  pub return : (s : Span) → EachEdit P (A.at_return s)
+  pub return_with : (s : Span) (es : List Edit) → EachEdit P es → EachEdit P (A.at_return_with s es)
+  pub typing : (p : PatternTree) (y : Option TypeTree) → EachEdit P (A.at_let p y)
 
-module _ (A : EditsAt) (all : List Tok) (U : Unslashes A all) where
-  both : (es fs : List Edit) → Unslashed all es → Unslashed all fs → Unslashed all (es ++ fs)
-  both es fs u v = unslashed-append all es fs u v
+abbrev pub Unslashes : EditsAt → List Tok → Type 0
+Unslashes A all = Holds (IsUnslashed all) A
+
+module _ (P : Edit → Type 0) (A : EditsAt) (U : Holds P A) where
+  both : (es fs : List Edit) → EachEdit P es → EachEdit P fs → EachEdit P (es ++ fs)
+  both es fs u v = each-append P es fs u v
 
   mutual
-    pub stars : (own : Names) (ls : List Around) (b : Bool) (e : Expression) → Unslashed all (edits A own ls b e)
-    stars own ls b (plain.int s v k) = U.int s k
-    stars own ls b (plain.bool s c) = tt
-    stars own ls b (plain.tuple s es) = all_stars own ls es
-    stars own ls b (plain.var s x) = U.variable own b s x
-    stars own ls b (plain.field s e x) = stars own ls false e
-    stars own ls b (plain.part s e i) = stars own ls false e
-    stars own ls b (plain.deref s e) = stars own ls false e
-    stars own ls b (plain.negate s e) = stars own ls false e
-    stars own ls b (plain.invert s e) = stars own ls false e
-    stars own ls b (plain.borrow s m e) = stars own ls false e
-    stars own ls b (plain.binary s o e f) = both (edits A own ls false e) (edits A own ls false f) (stars own ls false e) (stars own ls false f)
-    stars own ls b (plain.assign s e f) = both (edits A own ls false e) (edits A own ls false f) (stars own ls false e) (stars own ls false f)
-    stars own ls b (plain.update s o e f) = both (edits A own ls false e) (edits A own ls false f) (stars own ls false e) (stars own ls false f)
-    stars own ls b (plain.call s f es) = all_stars own ls es
-    stars own ls b (plain.next_input s) = tt
-    stars own ls b (plain.variant s a v es) = argument_stars own ls es
-    stars own ls b (plain.make s x fs) = field_stars own ls fs
-    stars own ls b (plain.print s e) = stars own ls false e
-    stars own ls b (plain.block s c) = body_stars own ls c
-    stars own ls b (plain.if s c d o) =
-        both (edits A own ls false c) (body_edits A own ls d ++ optional_edits A own ls o) (stars own ls false c)
-        (both (body_edits A own ls d) (optional_edits A own ls o) (body_stars own ls d) (optional_stars own ls o))
-    stars own ls b (plain.if_let s p e d o) =
-        both (edits A own ls false e) (body_edits A (bound p ++ own) ls d ++ optional_edits A own ls o) (stars own ls false e)
-        (both (body_edits A (bound p ++ own) ls d) (optional_edits A own ls o) (body_stars (bound p ++ own) ls d) (optional_stars own ls o))
-    stars own ls b (plain.match s e as') = both (edits A own ls false e) (arm_edits A own ls as') (stars own ls false e) (arm_stars own ls as')
-    stars own ls b (plain.loop s l d) = body_stars own (a_loop l 0 ∷ ls) d
-    stars own ls b (plain.while s l c d) =
-        both (edits A own (a_test ∷ a_loop l 0 ∷ ls) false c) (body_edits A own (a_loop l 0 ∷ ls) d) (stars own (a_test ∷ a_loop l 0 ∷ ls) false c) (body_stars own (a_loop l 0 ∷ ls) d)
-    stars own ls b (plain.while_let s l p e d) =
-        both (edits A own (a_test ∷ a_loop l 0 ∷ ls) false e) (body_edits A (bound p ++ own) (a_loop l 0 ∷ ls) d) (stars own (a_test ∷ a_loop l 0 ∷ ls) false e) (body_stars (bound p ++ own) (a_loop l 0 ∷ ls) d)
-    stars own ls b (plain.break s l) = U.break ls s l
-    stars own ls b (plain.continue s l) = U.continue ls s l
-    stars own ls b (plain.return s o) = return_stars own ls s o
+    pub each : (own : Names) (ls : List Around) (b : Bool) (e : Expression) → EachEdit P (edits A own ls b e)
+    each own ls b (plain.int s v k) = U.int s k
+    each own ls b (plain.bool s c) = tt
+    each own ls b (plain.tuple s es) = each_all own ls es
+    each own ls b (plain.var s x) = U.variable own b s x
+    each own ls b (plain.field s e x) = each own ls false e
+    each own ls b (plain.part s e i) = each own ls false e
+    each own ls b (plain.deref s e) = each own ls false e
+    each own ls b (plain.negate s e) = each own ls false e
+    each own ls b (plain.invert s e) = each own ls false e
+    each own ls b (plain.borrow s m e) = each own ls false e
+    each own ls b (plain.binary s o e f) = both (edits A own ls false e) (edits A own ls false f) (each own ls false e) (each own ls false f)
+    each own ls b (plain.assign s e f) = both (edits A own ls false e) (edits A own ls false f) (each own ls false e) (each own ls false f)
+    each own ls b (plain.update s o e f) = both (edits A own ls false e) (edits A own ls false f) (each own ls false e) (each own ls false f)
+    each own ls b (plain.call s f es) = each_all own ls es
+    each own ls b (plain.next_input s) = tt
+    each own ls b (plain.variant s a v es) = each_argument own ls es
+    each own ls b (plain.make s x fs) = each_field own ls fs
+    each own ls b (plain.print s e) = each own ls false e
+    each own ls b (plain.block s c) = each_body own ls c
+    each own ls b (plain.if s c d o) =
+        both (edits A own ls false c) (body_edits A own ls d ++ optional_edits A own ls o) (each own ls false c)
+        (both (body_edits A own ls d) (optional_edits A own ls o) (each_body own ls d) (each_optional own ls o))
+    each own ls b (plain.if_let s p e d o) =
+        both (edits A own ls false e) (body_edits A (bound p ++ own) ls d ++ optional_edits A own ls o) (each own ls false e)
+        (both (body_edits A (bound p ++ own) ls d) (optional_edits A own ls o) (each_body (bound p ++ own) ls d) (each_optional own ls o))
+    each own ls b (plain.match s e as') = both (edits A own ls false e) (arm_edits A own ls as') (each own ls false e) (each_arm own ls as')
+    each own ls b (plain.loop s l d) = each_body own (a_loop l 0 ∷ ls) d
+    each own ls b (plain.while s l c d) =
+        both (edits A own (a_test ∷ a_loop l 0 ∷ ls) false c) (body_edits A own (a_loop l 0 ∷ ls) d) (each own (a_test ∷ a_loop l 0 ∷ ls) false c) (each_body own (a_loop l 0 ∷ ls) d)
+    each own ls b (plain.while_let s l p e d) =
+        both (edits A own (a_test ∷ a_loop l 0 ∷ ls) false e) (body_edits A (bound p ++ own) (a_loop l 0 ∷ ls) d) (each own (a_test ∷ a_loop l 0 ∷ ls) false e) (each_body (bound p ++ own) (a_loop l 0 ∷ ls) d)
+    each own ls b (plain.break s l) = U.break ls s l
+    each own ls b (plain.continue s l) = U.continue ls s l
+    each own ls b (plain.return s o) = each_return own ls s o
 
-    return_stars : (own : Names) (ls : List Around) (s : Span) (o : OptionalExpression) → Unslashed all (return_edits A own ls s o)
-    return_stars own ls s plain.absent = U.return s
-    return_stars own ls s (plain.present e) = U.return_with s (edits A own ls false e) (stars own ls false e)
+    each_return : (own : Names) (ls : List Around) (s : Span) (o : OptionalExpression) → EachEdit P (return_edits A own ls s o)
+    each_return own ls s plain.absent = U.return s
+    each_return own ls s (plain.present e) = U.return_with s (edits A own ls false e) (each own ls false e)
 
-    all_stars : (own : Names) (ls : List Around) (es : Expressions) → Unslashed all (all_edits A own ls es)
-    all_stars own ls plain.no_expression = tt
-    all_stars own ls (plain.expression_and e es) = both (edits A own ls false e) (all_edits A own ls es) (stars own ls false e) (all_stars own ls es)
+    each_all : (own : Names) (ls : List Around) (es : Expressions) → EachEdit P (all_edits A own ls es)
+    each_all own ls plain.no_expression = tt
+    each_all own ls (plain.expression_and e es) = both (edits A own ls false e) (all_edits A own ls es) (each own ls false e) (each_all own ls es)
 
-    pub optional_stars : (own : Names) (ls : List Around) (o : OptionalExpression) → Unslashed all (optional_edits A own ls o)
-    optional_stars own ls plain.absent = tt
-    optional_stars own ls (plain.present e) = stars own ls false e
+    pub each_optional : (own : Names) (ls : List Around) (o : OptionalExpression) → EachEdit P (optional_edits A own ls o)
+    each_optional own ls plain.absent = tt
+    each_optional own ls (plain.present e) = each own ls false e
 
-    argument_stars : (own : Names) (ls : List Around) (es : OptionalExpressions) → Unslashed all (argument_edits A own ls es)
-    argument_stars own ls plain.no_list = tt
-    argument_stars own ls (plain.a_list es) = all_stars own ls es
+    each_argument : (own : Names) (ls : List Around) (es : OptionalExpressions) → EachEdit P (argument_edits A own ls es)
+    each_argument own ls plain.no_list = tt
+    each_argument own ls (plain.a_list es) = each_all own ls es
 
-    field_stars : (own : Names) (ls : List Around) (fs : FieldExpressions) → Unslashed all (field_edits A own ls fs)
-    field_stars own ls plain.no_field = tt
-    field_stars own ls (plain.field_and x e fs) = both (edits A own ls (is_short x e) e) (field_edits A own ls fs) (stars own ls (is_short x e) e) (field_stars own ls fs)
+    each_field : (own : Names) (ls : List Around) (fs : FieldExpressions) → EachEdit P (field_edits A own ls fs)
+    each_field own ls plain.no_field = tt
+    each_field own ls (plain.field_and x e fs) = both (edits A own ls (is_short x e) e) (field_edits A own ls fs) (each own ls (is_short x e) e) (each_field own ls fs)
 
-    arm_stars : (own : Names) (ls : List Around) (as' : Arms) → Unslashed all (arm_edits A own ls as')
-    arm_stars own ls plain.no_arm = tt
-    arm_stars own ls (plain.arm_and p e rest) = both (edits A (bound p ++ own) ls false e) (arm_edits A own ls rest) (stars (bound p ++ own) ls false e) (arm_stars own ls rest)
+    each_arm : (own : Names) (ls : List Around) (as' : Arms) → EachEdit P (arm_edits A own ls as')
+    each_arm own ls plain.no_arm = tt
+    each_arm own ls (plain.arm_and p e rest) = both (edits A (bound p ++ own) ls false e) (arm_edits A own ls rest) (each (bound p ++ own) ls false e) (each_arm own ls rest)
 
-    pub body_stars : (own : Names) (ls : List Around) (b : Body) → Unslashed all (body_edits A own ls b)
-    body_stars own ls (plain.body s ss o) = both (all_statement_edits A own ls ss) (optional_edits A (behind_all own ss) ls o) (all_statement_stars own ls ss) (optional_stars (behind_all own ss) ls o)
+    pub each_body : (own : Names) (ls : List Around) (b : Body) → EachEdit P (body_edits A own ls b)
+    each_body own ls (plain.body s ss o) = both (all_statement_edits A own ls ss) (optional_edits A (behind_all own ss) ls o) (each_all_statement own ls ss) (each_optional (behind_all own ss) ls o)
 
-    statement_stars : (own : Names) (ls : List Around) (a : Statement) → Unslashed all (statement_edits A own ls a)
-    statement_stars own ls (plain.let_statement s p y o) = both (A.at_let p y) (optional_edits A own ls o) (U.typing p y) (optional_stars own ls o)
-    statement_stars own ls (plain.expression_statement s e b) = stars own ls false e
+    each_statement : (own : Names) (ls : List Around) (a : Statement) → EachEdit P (statement_edits A own ls a)
+    each_statement own ls (plain.let_statement s p y o) = both (A.at_let p y) (optional_edits A own ls o) (U.typing p y) (each_optional own ls o)
+    each_statement own ls (plain.expression_statement s e b) = each own ls false e
 
-    pub all_statement_stars : (own : Names) (ls : List Around) (ss : Statements) → Unslashed all (all_statement_edits A own ls ss)
-    all_statement_stars own ls plain.no_statement = tt
-    all_statement_stars own ls (plain.statement_and a ss) =
-        both (statement_edits A own ls a) (all_statement_edits A (bound_by a ++ own) ls ss) (statement_stars own ls a) (all_statement_stars (bound_by a ++ own) ls ss)
+    pub each_all_statement : (own : Names) (ls : List Around) (ss : Statements) → EachEdit P (all_statement_edits A own ls ss)
+    each_all_statement own ls plain.no_statement = tt
+    each_all_statement own ls (plain.statement_and a ss) =
+        both (statement_edits A own ls a) (all_statement_edits A (bound_by a ++ own) ls ss) (each_statement own ls a) (each_all_statement (bound_by a ++ own) ls ss)
+
+pub stars : (A : EditsAt) (all : List Tok) → Unslashes A all → (own : Names) (ls : List Around) (b : Bool) (e : Expression) → Unslashed all (edits A own ls b e)
+stars A all U own ls b e = each (IsUnslashed all) A U own ls b e
+
+pub optional_stars : (A : EditsAt) (all : List Tok) → Unslashes A all → (own : Names) (ls : List Around) (o : OptionalExpression) → Unslashed all (optional_edits A own ls o)
+optional_stars A all U own ls o = each_optional (IsUnslashed all) A U own ls o
+
+pub body_stars : (A : EditsAt) (all : List Tok) → Unslashes A all → (own : Names) (ls : List Around) (b : Body) → Unslashed all (body_edits A own ls b)
+body_stars A all U own ls b = each_body (IsUnslashed all) A U own ls b
+
+pub all_statement_stars : (A : EditsAt) (all : List Tok) → Unslashes A all → (own : Names) (ls : List Around) (ss : Statements) → Unslashed all (all_statement_edits A own ls ss)
+all_statement_stars A all U own ls ss = each_all_statement (IsUnslashed all) A U own ls ss
 
 -- ---- the special forms
 

@@ -11,5 +11,5 @@ returns c =
       finite = c.declared_are_finite.ensures;
       some = c.one_size_each.ensures.some;
     } in
-    λ p i q short small s n ps answer bs at t u a b lets.
-    accepted_alike laws p i q short small (short_numbered p i q short small) s n ps answer bs at t u a b (c.all_have_types.ensures p short.names t a) lets (c.short_signatures_pass_alike.ensures p i q short small s t u a b)
+    λ p i q short small s n ps answer bs at t u a b.
+    accepted_alike laws p i q short small (short_numbered p i q short small) s n ps answer bs at t u a b (c.all_have_types.ensures p short.names t a) (c.short_signatures_pass_alike.ensures p i q short small s t u a b)

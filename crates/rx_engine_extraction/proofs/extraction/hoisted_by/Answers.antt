@@ -76,6 +76,7 @@ returns-in-Ok-moved-clause-found g c = let q = c.args.request.now in let x = c.i
       hoisted = moved_is_hoisted (text_of c.args.given.now) (record { start = q.selection.start; end = q.selection.end; name = q.name.now; choice = g.P.Policy.choice c.args.policy.now })
           x.run x.function.now (plain-Home x.seat.home) x.plans (chosen_too c.in-Ok-decided.ensures.run c.in-Ok.ensures.found) is.decided
           (plain-Program m.program) m.new_fn c.in-Ok-moved.ensures.found;
+      given_away = let decided = is.decided in decided.given_away;
     }
 
 pub returns-clause-fault : goal.returns-clause-fault

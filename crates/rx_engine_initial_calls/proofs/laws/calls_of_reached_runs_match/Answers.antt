@@ -7,4 +7,4 @@ use Rattle.rx_engine_initial_calls.proofs.laws.calls_of_reached_runs_match.Goals
 pub returns : goal.returns
 returns c = λ A k S had f a o i R T H q r h n m.
     let z = (has_ways A S.muts_there k had f r).to_end i in
-    call_matches A k had.plan S had.accepted o had.whole (parted S.frame a) R T H (run_pieces A k) q r i h z.0 z.1 z.2 n m
+    call_matches A k had.plan S had.accepted o had.whole had.passed (parted S.frame a) R T H (run_pieces A k) q r i h z.0 z.1 z.2 n m

@@ -6,4 +6,4 @@ use Rattle.rx_engine_initial_calls.proofs.laws.matched_calls_of_reached_runs_mat
 
 pub returns : goal.returns
 returns c = λ A k S had f a o R T H q r h n m.
-    match_matches A k had.plan S had.accepted o had.whole (parted S.frame a) R T H (run_pieces A k) q r h (has_ways A S.muts_there k had f r) n m
+    match_matches A k had.plan S had.accepted o had.whole had.passed (parted S.frame a) R T H (run_pieces A k) q r h (has_ways A S.muts_there k had f r) n m

@@ -6,4 +6,4 @@ pub returns-clause-written : goal.returns-clause-written
 returns-clause-written c A muts acc k p xs x m b i t h q = param_written A muts acc k p xs x m b i t h q
 
 pub returns-clause-living : goal.returns-clause-living
-returns-clause-living c A k u x m b i t h q = living_entered (text_of A k) (special_of A k) u k.params x m b i t h q
+returns-clause-living c A muts k u x m b i t h q = living_entered (text_of A k) (special_of A muts k) u k.params x m b i t h q

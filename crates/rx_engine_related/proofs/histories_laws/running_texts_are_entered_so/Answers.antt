@@ -8,7 +8,7 @@ pub returns-clause-written : goal.returns-clause-written
 returns-clause-written c = running_param_written
 
 pub returns-clause-living : goal.returns-clause-living
-returns-clause-living c A k u x m b i t h q = living_entered (running_of A k.params) (special_of A k) u k.params x m b i t h q
+returns-clause-living c A muts k u x m b i t h q = living_entered (running_of A k.params) (special_of A muts k) u k.params x m b i t h q
 
 pub returns-clause-locals : goal.returns-clause-locals
 returns-clause-locals c = running_local_dead

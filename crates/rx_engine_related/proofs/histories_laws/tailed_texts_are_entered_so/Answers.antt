@@ -9,7 +9,7 @@ pub returns-clause-written : goal.returns-clause-written
 returns-clause-written c A has xs muts acc k p x m b i t h w = near_param_written at_returns A (tailed_of A xs) xs (tailed_near A has xs) muts acc k p x m b i t h w
 
 pub returns-clause-living : goal.returns-clause-living
-returns-clause-living c A k u x m b i t h w = living_entered (tailed_of A k.params) (special_of A k) u k.params x m b i t h w
+returns-clause-living c A muts k u x m b i t h w = living_entered (tailed_of A k.params) (special_of A muts k) u k.params x m b i t h w
 
 pub returns-clause-locals : goal.returns-clause-locals
 returns-clause-locals c A has k p muts acc u x m b i t h w l = near_local_dead at_returns A k p (tailed_of A k.params) (tailed_near A has k.params) muts acc u x m b i t h w l

@@ -11,7 +11,7 @@ pub returns-clause-living : goal.returns-clause-living
 returns-clause-living c A has k p once muts acc u x i o e d h q = tail_out_living A has k p once muts acc u x i o (mark_of e).node (temporary_of e) d h q
 
 pub returns-clause-others : goal.returns-clause-others
-returns-clause-others c A has k p once u x i s none e d h l = tail_others_dead A has k p once u x i s none (mark_of e).node (temporary_of e) d h l
+returns-clause-others c A has k p once muts passed u x i s none e d h l = tail_others_dead A has k p once muts passed u x i s none (mark_of e).node (temporary_of e) d h l
 
 pub returns-clause-marked : goal.returns-clause-marked
 returns-clause-marked c A xs l none written = tailed_entry A.function A.run A.home.around.loops xs l none written

@@ -1,0 +1,16 @@
+mod Types
+mod Halves
+mod Meeting
+mod SignatureSeams
+mod SignatureEdits
+mod Names
+mod Each
+mod Bodies
+mod Lists
+mod Textual
+mod Ends
+mod Parted
+mod Joining
+mod Item
+mod File
+mod Examples
